@@ -1,0 +1,2 @@
+pub mod FlagComputation
+pub mod TypeFlags

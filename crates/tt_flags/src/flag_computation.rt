@@ -1,0 +1,81 @@
+//! What is kept beside a term, computed from what is kept beside its parts.
+
+ghost use Rattle.std.specs.Prelude.{◌≡◌, ◌+◌, ◌-◌, ◌<◌, max};
+ghost use Rattle.std.specs.Int.RustNames.{bit_or};
+ghost use Rattle.tt_index.specs.Greatest.{greatest};
+ghost use Rattle.tt_flags.specs.FlagComputation.{computed};
+
+use crate::type_flags::TypeFlags;
+use tt_index::DebruijnIndex;
+
+/// The flags of a term and how far its bound variables reach. Both are computed from those of the
+/// term's parts alone, so a term that is built from stored parts needs no walk.
+#[derive(Clone, Copy, Debug, PartialEq, Eq)]
+pub struct FlagComputation {
+    /// The union of the flags of all parts.
+    pub flags: TypeFlags,
+    /// The least index above those of all bound variables that escape the term, so that the binder
+    /// of this index is the innermost one that binds nothing of it. It is 0 where none escapes.
+    pub outer_exclusive_binder: DebruijnIndex,
+}
+
+impl FlagComputation {
+    /// What is computed of no parts.
+    pub fn new() -> FlagComputation
+        ensures { result ≡ computed 0 0 }
+    {
+        FlagComputation::leaf(TypeFlags::empty())
+    }
+
+    /// What is computed of a part with these flags from which no bound variable escapes.
+    pub fn leaf(flags: TypeFlags) -> FlagComputation
+        ensures { result ≡ computed flags.bits 0 }
+    {
+        FlagComputation {
+            flags,
+            outer_exclusive_binder: DebruijnIndex::INNERMOST,
+        }
+    }
+
+    /// What is computed of a variable with these flags that the binder `index` binds.
+    /// [`DebruijnIndex::can_shift_in`] of 1 tests the condition.
+    pub fn bound_at(flags: TypeFlags, index: DebruijnIndex) -> FlagComputation
+        requires { index < greatest }
+        ensures { result ≡ computed flags.bits (index + 1) }
+    {
+        FlagComputation {
+            flags,
+            outer_exclusive_binder: index.shifted_in(1),
+        }
+    }
+
+    /// What is computed of two parts together.
+    pub fn joined(self, other: FlagComputation) -> FlagComputation
+        ensures { result
+            ≡ computed (bit_or self.flags.bits other.flags.bits) (max self.outer_exclusive_binder other.outer_exclusive_binder) }
+    {
+        FlagComputation {
+            flags: self.flags.union(other.flags),
+            outer_exclusive_binder: self
+                .outer_exclusive_binder
+                .max(other.outer_exclusive_binder),
+        }
+    }
+
+    /// What is computed of these parts under one binder, whose list of variables has the flags
+    /// `list_flags`. Outside the binder every index that still escapes is one less.
+    pub fn under_binder(self, list_flags: TypeFlags) -> FlagComputation
+        ensures { result
+            ≡ computed (bit_or list_flags.bits self.flags.bits) (self.outer_exclusive_binder - 1) }
+    {
+        let reach = self.outer_exclusive_binder;
+        FlagComputation {
+            flags: list_flags.union(self.flags),
+            outer_exclusive_binder: if reach.can_shift_out(1) {
+                reach.shifted_out(1)
+            } else {
+                reach
+            },
+        }
+    }
+}

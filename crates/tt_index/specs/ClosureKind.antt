@@ -1,0 +1,16 @@
+-- The closure traits in order.
+use Rattle.std.specs.Prelude.{ℕ, List, codes}
+use Rattle.tt_index.specs.declared.closure_kind.ClosureKind.{ClosureKind}
+use Rattle.tt_index.specs.declared.closure_kind.ClosureKind.TheVariants.{Fn, FnMut, FnOnce}
+
+-- how much a call demands of the environment: to share it, to hold it alone, to use it up
+abbrev pub demand : ClosureKind → ℕ
+demand Fn = 0
+demand FnMut = 1
+demand FnOnce = 2
+
+-- the trait's name, in bytes
+abbrev pub name_of : ClosureKind → List ℕ
+name_of Fn = codes "Fn"
+name_of FnMut = codes "FnMut"
+name_of FnOnce = codes "FnOnce"

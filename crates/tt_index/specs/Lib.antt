@@ -1,0 +1,4 @@
+pub mod Abi
+pub mod ClosureKind
+pub mod Greatest
+pub mod Variance

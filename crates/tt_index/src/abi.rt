@@ -1,0 +1,62 @@
+//! Calling conventions.
+
+ghost use Rattle.std.specs.Prelude.{◌≡◌, ◌≤◌};
+ghost use Rattle.tt_index.specs.Abi.{abi_number, abi_of};
+
+/// The calling convention of a function: the text that `extern "C"` and its like name.
+#[derive(Clone, Copy, Debug, PartialEq, Eq, PartialOrd, Ord, Hash)]
+pub enum ExternAbi {
+    /// Rust's own.
+    Rust,
+    /// The platform's convention of C.
+    C {
+        /// Whether a panic may leave the call: `extern "C-unwind"`.
+        unwind: bool,
+    },
+    /// The convention of the platform's system calls.
+    System {
+        /// Whether a panic may leave the call: `extern "system-unwind"`.
+        unwind: bool,
+    },
+    /// Rust's own, with the arguments in a tuple, as the closure traits pass them.
+    RustCall,
+    /// That of intrinsics before the platform's adjustments.
+    Unadjusted,
+}
+
+impl ExternAbi {
+    /// The convention's number, from 0 to 6 in the order of the variants, with `unwind` false before true.
+    pub fn as_packed(self) -> u8
+        ensures number { result ≡ abi_number self }
+        ensures within { result ≤ 6 }
+        ensures back { abi_of result ≡ self }
+    {
+        match self {
+            ExternAbi::Rust => 0,
+            ExternAbi::C { unwind: false } => 1,
+            ExternAbi::C { unwind: true } => 2,
+            ExternAbi::System { unwind: false } => 3,
+            ExternAbi::System { unwind: true } => 4,
+            ExternAbi::RustCall => 5,
+            ExternAbi::Unadjusted => 6,
+        }
+    }
+
+    /// The convention that has this number. Its test is the comparison: the number is at most 6.
+    pub fn from_packed(packed: u8) -> ExternAbi
+        requires { packed ≤ 6 }
+        ensures abi { result ≡ abi_of packed }
+        ensures back { abi_number result ≡ packed }
+    {
+        match packed {
+            0 => ExternAbi::Rust,
+            1 => ExternAbi::C { unwind: false },
+            2 => ExternAbi::C { unwind: true },
+            3 => ExternAbi::System { unwind: false },
+            4 => ExternAbi::System { unwind: true },
+            5 => ExternAbi::RustCall,
+            6 => ExternAbi::Unadjusted,
+            _ => unreachable!(),
+        }
+    }
+}

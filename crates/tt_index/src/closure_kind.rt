@@ -1,0 +1,48 @@
+//! The closure traits.
+
+ghost use Rattle.std.specs.Prelude.{◌≡◌, ◌≤◌, ◌↔◌, IsTrue};
+ghost use Rattle.tt_index.specs.ClosureKind.{demand, name_of};
+
+/// A closure trait: how the trait's call takes the closure's environment.
+#[derive(Clone, Copy, Debug, PartialEq, Eq, Hash)]
+pub enum ClosureKind {
+    /// By shared reference.
+    Fn,
+    /// By exclusive reference.
+    FnMut,
+    /// By value.
+    FnOnce,
+}
+
+impl ClosureKind {
+    /// The kind that demands the least of the environment, from which inference starts.
+    pub const LATTICE_BOTTOM: ClosureKind = ClosureKind::Fn;
+
+    /// The trait's name.
+    pub fn as_str(self) -> &'static str
+        ensures { result.now ≡ name_of self }
+    {
+        match self {
+            ClosureKind::Fn => "Fn",
+            ClosureKind::FnMut => "FnMut",
+            ClosureKind::FnOnce => "FnOnce",
+        }
+    }
+
+    /// Whether a type that implements this trait must also implement `other`.
+    pub fn extends(self, other: ClosureKind) -> bool
+        ensures { IsTrue result ↔ (demand self ≤ demand other) }
+    {
+        match (self, other) {
+            (ClosureKind::Fn, _)
+            | (ClosureKind::FnMut, ClosureKind::FnMut | ClosureKind::FnOnce)
+            | (ClosureKind::FnOnce, ClosureKind::FnOnce) => true,
+            _ => false,
+        }
+    }
+}
+
+/// The bottom of the lattice extends every kind.
+pub fn lattice_bottom_extends(kind: ClosureKind)
+    ensures { demand ClosureKind.LATTICE_BOTTOM ≤ demand kind }
+{}

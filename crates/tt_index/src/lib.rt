@@ -1,0 +1,33 @@
+//! Indices, tags and refusals of the layer of type terms.
+#![tactic(auto)]
+
+pub mod abi;
+pub mod bound_var;
+pub mod closure_kind;
+pub mod debruijn;
+pub mod field;
+pub mod idx;
+pub mod index_vec;
+pub mod numeric;
+pub mod qualifier;
+pub mod refusal;
+pub mod universe;
+pub mod variance;
+pub mod vid;
+
+pub use abi::ExternAbi;
+pub use bound_var::BoundVar;
+pub use closure_kind::ClosureKind;
+pub use debruijn::{DebruijnIndex, INNERMOST};
+pub use field::{FieldIdx, FieldInfo, VariantIdx};
+pub use idx::Idx;
+pub use index_vec::IndexVec;
+pub use numeric::{FloatTy, IntTy, UintTy};
+pub use qualifier::{Mutability, Safety};
+pub use refusal::Refusal;
+pub use universe::UniverseIndex;
+pub use variance::Variance;
+pub use vid::{ConstVid, FloatVid, IntVid, RegionVid, TyVid};
+
+/// The greatest number that an index may have. The 255 numbers above it in a `u32` are no index's.
+pub const GREATEST_INDEX: u32 = 4_294_967_040;

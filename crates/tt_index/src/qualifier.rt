@@ -1,0 +1,19 @@
+//! What qualifies a reference, a pointer or a function.
+
+/// Whether what a reference or a pointer leads to can be written through it.
+#[derive(Clone, Copy, Debug, PartialEq, Eq, PartialOrd, Ord, Hash)]
+pub enum Mutability {
+    /// Shared: `&T` and `*const T`.
+    Not,
+    /// To be written: `&mut T` and `*mut T`.
+    Mut,
+}
+
+/// Whether calling a function needs an `unsafe` block.
+#[derive(Clone, Copy, Debug, PartialEq, Eq, PartialOrd, Ord, Hash)]
+pub enum Safety {
+    /// Any code can call it.
+    Safe,
+    /// The caller promises that the function's conditions hold.
+    Unsafe,
+}

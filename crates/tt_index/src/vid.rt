@@ -1,0 +1,333 @@
+//! Inference variables, each kind numbered from 0 in the order in which inference makes them.
+
+ghost use Rattle.std.specs.Prelude.{◌≡◌, ◌≤◌, ◌↔◌, IsTrue, ℕ};
+ghost use Rattle.tt_index.specs.Greatest.{greatest};
+
+use crate::GREATEST_INDEX;
+use crate::idx::Idx;
+use std::marker::Model;
+
+/// A region variable.
+///
+/// The number is at most [`GREATEST_INDEX`].
+#[derive(Clone, Copy, Debug, PartialEq, Eq, PartialOrd, Ord, Hash)]
+pub struct RegionVid {
+    value: u32,
+}
+
+impl Model for RegionVid {
+    ghost Value = { ℕ };
+
+    ghost view = { λ index. index.value };
+
+    ghost invariant = { λ index. index.value ≤ greatest };
+
+    ghost inverse = { λ number. record { value = number } };
+}
+
+impl RegionVid {
+    /// Whether `value` is the number of a region variable: at most [`GREATEST_INDEX`].
+    pub fn fits(value: u32) -> bool
+        ensures { IsTrue result ↔ (value ≤ greatest) }
+    {
+        value <= GREATEST_INDEX
+    }
+
+    /// A region variable of this number. [`RegionVid::fits`] tests the condition.
+    pub fn from_u32(value: u32) -> RegionVid
+        requires { value ≤ greatest }
+        ensures { result ≡ value }
+    {
+        RegionVid { value }
+    }
+
+    /// The number.
+    pub fn as_u32(self) -> u32
+        ensures number { result ≡ self }
+        ensures fits { result ≤ greatest }
+    {
+        self.value
+    }
+
+    /// The number, for use as a position in a list.
+    pub fn as_usize(self) -> usize
+        ensures number { result ≡ self }
+        ensures fits { result ≤ greatest }
+    {
+        self.value as usize
+    }
+}
+
+impl Idx for RegionVid {
+    ghost number = { λ index. index };
+
+    fn from_usize(position: usize) -> RegionVid {
+        RegionVid {
+            value: position as u32,
+        }
+    }
+
+    fn as_usize(self) -> usize {
+        self.value as usize
+    }
+}
+
+/// A type variable.
+///
+/// The number is at most [`GREATEST_INDEX`].
+#[derive(Clone, Copy, Debug, PartialEq, Eq, PartialOrd, Ord, Hash)]
+pub struct TyVid {
+    value: u32,
+}
+
+impl Model for TyVid {
+    ghost Value = { ℕ };
+
+    ghost view = { λ index. index.value };
+
+    ghost invariant = { λ index. index.value ≤ greatest };
+
+    ghost inverse = { λ number. record { value = number } };
+}
+
+impl TyVid {
+    /// Whether `value` is the number of a type variable: at most [`GREATEST_INDEX`].
+    pub fn fits(value: u32) -> bool
+        ensures { IsTrue result ↔ (value ≤ greatest) }
+    {
+        value <= GREATEST_INDEX
+    }
+
+    /// A type variable of this number. [`TyVid::fits`] tests the condition.
+    pub fn from_u32(value: u32) -> TyVid
+        requires { value ≤ greatest }
+        ensures { result ≡ value }
+    {
+        TyVid { value }
+    }
+
+    /// The number.
+    pub fn as_u32(self) -> u32
+        ensures number { result ≡ self }
+        ensures fits { result ≤ greatest }
+    {
+        self.value
+    }
+
+    /// The number, for use as a position in a list.
+    pub fn as_usize(self) -> usize
+        ensures number { result ≡ self }
+        ensures fits { result ≤ greatest }
+    {
+        self.value as usize
+    }
+}
+
+impl Idx for TyVid {
+    ghost number = { λ index. index };
+
+    fn from_usize(position: usize) -> TyVid {
+        TyVid {
+            value: position as u32,
+        }
+    }
+
+    fn as_usize(self) -> usize {
+        self.value as usize
+    }
+}
+
+/// A variable for the type of an integer literal: one of the integer types.
+///
+/// The number is at most [`GREATEST_INDEX`].
+#[derive(Clone, Copy, Debug, PartialEq, Eq, PartialOrd, Ord, Hash)]
+pub struct IntVid {
+    value: u32,
+}
+
+impl Model for IntVid {
+    ghost Value = { ℕ };
+
+    ghost view = { λ index. index.value };
+
+    ghost invariant = { λ index. index.value ≤ greatest };
+
+    ghost inverse = { λ number. record { value = number } };
+}
+
+impl IntVid {
+    /// Whether `value` is the number of an integer variable: at most [`GREATEST_INDEX`].
+    pub fn fits(value: u32) -> bool
+        ensures { IsTrue result ↔ (value ≤ greatest) }
+    {
+        value <= GREATEST_INDEX
+    }
+
+    /// An integer variable of this number. [`IntVid::fits`] tests the condition.
+    pub fn from_u32(value: u32) -> IntVid
+        requires { value ≤ greatest }
+        ensures { result ≡ value }
+    {
+        IntVid { value }
+    }
+
+    /// The number.
+    pub fn as_u32(self) -> u32
+        ensures number { result ≡ self }
+        ensures fits { result ≤ greatest }
+    {
+        self.value
+    }
+
+    /// The number, for use as a position in a list.
+    pub fn as_usize(self) -> usize
+        ensures number { result ≡ self }
+        ensures fits { result ≤ greatest }
+    {
+        self.value as usize
+    }
+}
+
+impl Idx for IntVid {
+    ghost number = { λ index. index };
+
+    fn from_usize(position: usize) -> IntVid {
+        IntVid {
+            value: position as u32,
+        }
+    }
+
+    fn as_usize(self) -> usize {
+        self.value as usize
+    }
+}
+
+/// A variable for the type of a floating point literal: one of the floating point types.
+///
+/// The number is at most [`GREATEST_INDEX`].
+#[derive(Clone, Copy, Debug, PartialEq, Eq, PartialOrd, Ord, Hash)]
+pub struct FloatVid {
+    value: u32,
+}
+
+impl Model for FloatVid {
+    ghost Value = { ℕ };
+
+    ghost view = { λ index. index.value };
+
+    ghost invariant = { λ index. index.value ≤ greatest };
+
+    ghost inverse = { λ number. record { value = number } };
+}
+
+impl FloatVid {
+    /// Whether `value` is the number of a floating point variable: at most [`GREATEST_INDEX`].
+    pub fn fits(value: u32) -> bool
+        ensures { IsTrue result ↔ (value ≤ greatest) }
+    {
+        value <= GREATEST_INDEX
+    }
+
+    /// A floating point variable of this number. [`FloatVid::fits`] tests the condition.
+    pub fn from_u32(value: u32) -> FloatVid
+        requires { value ≤ greatest }
+        ensures { result ≡ value }
+    {
+        FloatVid { value }
+    }
+
+    /// The number.
+    pub fn as_u32(self) -> u32
+        ensures number { result ≡ self }
+        ensures fits { result ≤ greatest }
+    {
+        self.value
+    }
+
+    /// The number, for use as a position in a list.
+    pub fn as_usize(self) -> usize
+        ensures number { result ≡ self }
+        ensures fits { result ≤ greatest }
+    {
+        self.value as usize
+    }
+}
+
+impl Idx for FloatVid {
+    ghost number = { λ index. index };
+
+    fn from_usize(position: usize) -> FloatVid {
+        FloatVid {
+            value: position as u32,
+        }
+    }
+
+    fn as_usize(self) -> usize {
+        self.value as usize
+    }
+}
+
+/// A variable for a constant.
+///
+/// The number is at most [`GREATEST_INDEX`].
+#[derive(Clone, Copy, Debug, PartialEq, Eq, PartialOrd, Ord, Hash)]
+pub struct ConstVid {
+    value: u32,
+}
+
+impl Model for ConstVid {
+    ghost Value = { ℕ };
+
+    ghost view = { λ index. index.value };
+
+    ghost invariant = { λ index. index.value ≤ greatest };
+
+    ghost inverse = { λ number. record { value = number } };
+}
+
+impl ConstVid {
+    /// Whether `value` is the number of a constant variable: at most [`GREATEST_INDEX`].
+    pub fn fits(value: u32) -> bool
+        ensures { IsTrue result ↔ (value ≤ greatest) }
+    {
+        value <= GREATEST_INDEX
+    }
+
+    /// A constant variable of this number. [`ConstVid::fits`] tests the condition.
+    pub fn from_u32(value: u32) -> ConstVid
+        requires { value ≤ greatest }
+        ensures { result ≡ value }
+    {
+        ConstVid { value }
+    }
+
+    /// The number.
+    pub fn as_u32(self) -> u32
+        ensures number { result ≡ self }
+        ensures fits { result ≤ greatest }
+    {
+        self.value
+    }
+
+    /// The number, for use as a position in a list.
+    pub fn as_usize(self) -> usize
+        ensures number { result ≡ self }
+        ensures fits { result ≤ greatest }
+    {
+        self.value as usize
+    }
+}
+
+impl Idx for ConstVid {
+    ghost number = { λ index. index };
+
+    fn from_usize(position: usize) -> ConstVid {
+        ConstVid {
+            value: position as u32,
+        }
+    }
+
+    fn as_usize(self) -> usize {
+        self.value as usize
+    }
+}

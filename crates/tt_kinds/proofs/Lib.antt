@@ -1,0 +1,13 @@
+pub mod RebuildLaws
+pub mod ReadingLaws
+pub mod PutLaws
+pub mod OuterLaws
+pub mod ParamLaws
+pub mod ScanLaws
+pub mod MatchedLaws
+pub mod FitsLaws
+pub mod CauseLaws
+pub mod MetLaws
+pub mod ChildLaws
+pub mod PlainLaws
+pub mod FlagLaws

@@ -1,0 +1,17 @@
+pub mod Label
+pub mod Tree
+pub mod Reading
+pub mod Argument
+pub mod Plain
+pub mod Param
+pub mod Cause
+pub mod Matched
+pub mod Met
+pub mod Scan
+pub mod Count
+pub mod Bound
+pub mod RegionKind
+pub mod FnSig
+pub mod Shape
+pub mod Parts
+pub mod Kinds

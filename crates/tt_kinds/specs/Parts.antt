@@ -1,0 +1,82 @@
+-- The children of kinds and lists, by their sorts.
+use Rattle.std.specs.Prelude.{◌≡◌, ℕ}
+use Rattle.tt_kinds.specs.declared.table.Table.{Table}
+use Rattle.tt_kinds.specs.declared.table.Table.TheVariants.{Types, TypeLists, ArgLists}
+use Rattle.tt_kinds.specs.declared.parts.Node.{Node}
+use Rattle.tt_kinds.specs.declared.parts.Node.TheVariants as node
+use Rattle.tt_kinds.specs.declared.parts.List.{List}
+use Rattle.tt_kinds.specs.declared.parts.List.TheVariants as list
+use Rattle.tt_kinds.specs.declared.parts.ListSort.{ListSort}
+use Rattle.tt_kinds.specs.declared.parts.ListSort.TheVariants as sort
+use Rattle.tt_kinds.specs.declared.parts.Child.{Child}
+use Rattle.tt_kinds.specs.declared.parts.Child.TheVariants as child
+use Rattle.tt_kinds.specs.declared.parts.Parts.{Parts}
+
+-- what a child is: nothing, a region, a stored term of a table, or a list
+pub data ChildSort : Type 0 where
+  absent : ChildSort
+  a_region : ChildSort
+  a_node : Table → ChildSort
+  a_list : ListSort → ChildSort
+
+-- the table of a stored term
+abbrev pub node_table : Node → Table
+node_table (node.Ty t) = Types
+
+-- the number of a stored term in its table
+abbrev pub node_number : Node → ℕ
+node_number (node.Ty t) = t.number
+
+-- what a list holds
+abbrev pub list_sort : List → ListSort
+list_sort (list.Tys l) = sort.Tys
+list_sort (list.Args l) = sort.Args
+
+-- the table of the lists of a sort
+abbrev pub sort_list_table : ListSort → Table
+sort_list_table sort.Tys = TypeLists
+sort_list_table sort.Args = ArgLists
+
+-- the table of a list
+abbrev pub list_table : List → Table
+list_table l = sort_list_table (list_sort l)
+
+-- the number of a list in its table
+abbrev pub list_number : List → ℕ
+list_number (list.Tys l) = l.number
+list_number (list.Args l) = l.number
+
+-- what a child is
+abbrev pub child_sort : Child → ChildSort
+child_sort child.Absent = absent
+child_sort (child.Region r) = a_region
+child_sort (child.Node n) = a_node (node_table n)
+child_sort (child.List l) = a_list (list_sort l)
+
+-- the new parts are of the same sorts
+pub record AreLike (old new : Parts) : Type 0 where
+  pub first : child_sort new.first ≡ child_sort old.first
+  pub second : child_sort new.second ≡ child_sort old.second
+
+-- no children
+abbrev pub no_parts : Parts
+no_parts = record { first = child.Absent; second = child.Absent }
+
+-- one child
+abbrev pub one_part : Child → Parts
+one_part c = record { first = c; second = child.Absent }
+
+-- two children
+abbrev pub two_parts : Child → Child → Parts
+two_parts c d = record { first = c; second = d }
+
+-- which children a list of a sort may hold
+abbrev pub IsItem : ListSort → ChildSort → Type 0
+IsItem sort.Tys absent = ⊥
+IsItem sort.Tys a_region = ⊥
+IsItem sort.Tys (a_node t) = t ≡ Types
+IsItem sort.Tys (a_list s) = ⊥
+IsItem sort.Args absent = ⊥
+IsItem sort.Args a_region = Unit {0}
+IsItem sort.Args (a_node t) = t ≡ Types
+IsItem sort.Args (a_list s) = ⊥

@@ -1,0 +1,198 @@
+-- Shapes: what a value holds, as a tree with handles in the places of stored terms and numbers in the places of names.
+use Rattle.std.specs.Prelude.{ℕ, ◌<◌, ◌≤◌, ◌≡◌, List, [], ◌∷◌, map, Option, Some, None, ⊤}
+use Rattle.tt_index.specs.Greatest.{greatest}
+use Rattle.tt_kinds.specs.Label.{Name, Sort, region_sort, type_sort, const_sort, RegionName, anonymous, printed, named, environment, VarKind, region_variable, type_variable, const_variable, Entry, FreeRegion, static_region, erased_region, region_var, error_region, late_param_region, placeholder_region, Label, type_label, list_label, var_list_label, text_label, record_label, label_table}
+use Rattle.tt_kinds.specs.Tree as tree
+use Rattle.tt_kinds.specs.Tree.{Depth, at, canonical, Tree, Forest}
+use Rattle.tt_kinds.specs.declared.table.Table.{Table}
+use Rattle.tt_kinds.specs.declared.table.Table.TheVariants.{Types, Consts, VarLists, Symbols}
+
+mutual
+  -- what a value holds
+  pub data Shape : Type 0 where
+    -- the name is a number in the table of symbols
+    param : Sort → ℕ → ℕ → Shape
+    bound : Sort → Depth → Entry ℕ → Shape
+    region : FreeRegion ℕ → Shape
+    term : Label ℕ → Shapes → Shape
+    node : Label ℕ → Shapes → Shape
+    -- the variables are a number in the table of their lists
+    binder : ℕ → Shape → Shape
+    -- the handle of this number in the table
+    stored : Table → ℕ → Shape
+
+  -- shapes in order
+  pub data Shapes : Type 0 where
+    none : Shapes
+    also : Shape → Shapes → Shapes
+
+-- the trees of the handles
+abbrev pub Meaning : Type 0
+Meaning = Table → ℕ → Tree Depth
+
+-- the text of a symbol's tree
+abbrev pub text_of : Tree Depth → Name
+text_of (tree.node (text_label bytes) ts) = bytes
+text_of _ = []
+
+-- the variables of a list's tree
+abbrev pub vars_of : Tree Depth → List (VarKind Name)
+vars_of (tree.node (var_list_label vs) ts) = vs
+vars_of _ = []
+
+module _ {N M : Type 0} (name : N → M) where
+  -- what a bound region is called, with its name replaced
+  abbrev pub rename_region : RegionName N → RegionName M
+  rename_region anonymous = anonymous
+  rename_region (printed n) = printed (name n)
+  rename_region (named d) = named d
+  rename_region environment = environment
+
+  -- a variable with its name replaced
+  abbrev pub rename_kind : VarKind N → VarKind M
+  rename_kind (region_variable r) = region_variable (rename_region r)
+  rename_kind (type_variable k) = type_variable k
+  rename_kind const_variable = const_variable
+
+  -- what a variable says of itself with the name replaced
+  abbrev pub rename_entry : Entry N → Entry M
+  rename_entry e = record { var = e.var; kind = rename_kind e.kind }
+
+  -- a free region with its name replaced
+  abbrev pub rename_free : FreeRegion N → FreeRegion M
+  rename_free static_region = static_region
+  rename_free erased_region = erased_region
+  rename_free (region_var x) = region_var x
+  rename_free (error_region e) = error_region e
+  rename_free (late_param_region d r) = late_param_region d (rename_region r)
+  rename_free (placeholder_region u v r) = placeholder_region u v (rename_region r)
+
+  -- a label with its names replaced
+  abbrev pub rename_label : Label N → Label M
+  rename_label (type_label l) = type_label l
+  rename_label (list_label t) = list_label t
+  rename_label (var_list_label vs) = var_list_label (map rename_kind vs)
+  rename_label (text_label bytes) = text_label bytes
+  rename_label (record_label l) = record_label l
+
+-- the text of the symbol of this number
+abbrev pub name_of : Meaning → ℕ → Name
+name_of f n = text_of (f Symbols n)
+
+-- a shape's tree
+unfoldable mutual
+  pub fill : Meaning → Shape → Tree Depth
+  fill f (param s i name) = tree.param s i (name_of f name)
+  fill f (bound s d e) = tree.bound s d (rename_entry (name_of f) e)
+  fill f (region r) = tree.region (rename_free (name_of f) r)
+  fill f (term l ss) = tree.term (rename_label (name_of f) l) (fill_all f ss)
+  fill f (node l ss) = tree.node (rename_label (name_of f) l) (fill_all f ss)
+  fill f (binder n s) = tree.binder (vars_of (f VarLists n)) (fill f s)
+  fill f (stored t n) = f t n
+
+  -- the trees of shapes, in order
+  pub fill_all : Meaning → Shapes → Forest Depth
+  fill_all f none = tree.none
+  fill_all f (also s ss) = tree.also (fill f s) (fill_all f ss)
+
+-- how many rows each table has
+abbrev pub Sizes : Type 0
+Sizes = Table → ℕ
+
+module _ (size : Sizes) where
+  -- the name is in the table of symbols
+  abbrev pub IsNamed : RegionName ℕ → Type 0
+  IsNamed anonymous = ⊤
+  IsNamed (printed n) = n < size Symbols
+  IsNamed (named d) = ⊤
+  IsNamed environment = ⊤
+
+  -- the variable's name is in the table of symbols
+  abbrev pub IsNamedKind : VarKind ℕ → Type 0
+  IsNamedKind (region_variable r) = IsNamed r
+  IsNamedKind (type_variable k) = ⊤
+  IsNamedKind const_variable = ⊤
+
+  -- the names of the variables are in the table of symbols
+  abbrev pub AreNamedKinds : List (VarKind ℕ) → Type 0
+  AreNamedKinds [] = ⊤
+  AreNamedKinds (v ∷ vs) = IsNamedKind v × AreNamedKinds vs
+
+  -- the region's name is in the table of symbols
+  abbrev pub IsNamedFree : FreeRegion ℕ → Type 0
+  IsNamedFree static_region = ⊤
+  IsNamedFree erased_region = ⊤
+  IsNamedFree (region_var x) = ⊤
+  IsNamedFree (error_region e) = ⊤
+  IsNamedFree (late_param_region d r) = IsNamed r
+  IsNamedFree (placeholder_region u v r) = IsNamed r
+
+  -- the label's names are in the table of symbols
+  abbrev pub IsNamedLabel : Label ℕ → Type 0
+  IsNamedLabel (type_label l) = ⊤
+  IsNamedLabel (list_label t) = ⊤
+  IsNamedLabel (var_list_label vs) = AreNamedKinds vs
+  IsNamedLabel (text_label bytes) = ⊤
+  IsNamedLabel (record_label l) = ⊤
+
+-- the table that parameters and bound variables of a sort are stored in
+abbrev pub sort_table : Sort → Option Table
+sort_table region_sort = None
+sort_table type_sort = Some Types
+sort_table const_sort = Some Consts
+
+-- the table that a row of this shape stands in
+abbrev pub shape_table : Shape → Option Table
+shape_table (param s i name) = sort_table s
+shape_table (bound s d e) = sort_table s
+shape_table (region r) = None
+shape_table (term l ss) = label_table l
+shape_table (node l ss) = label_table l
+shape_table (binder n s) = None
+shape_table (stored t n) = None
+
+-- a shape that is no row: what is stored stands in it as handles in range
+unfoldable mutual
+  pub IsPart : Sizes → Shape → Type 0
+  IsPart size (param s i name) = (sort_table s ≡ None) × (name < size Symbols)
+  IsPart size (bound s d e) = (sort_table s ≡ None) × IsNamedKind size e.kind
+  IsPart size (region r) = IsNamedFree size r
+  IsPart size (term l ss) = ⊥
+  IsPart size (node l ss) = (label_table l ≡ None) × IsNamedLabel size l × AreParts size ss
+  IsPart size (binder n s) = (n < size VarLists) × IsPart size s
+  IsPart size (stored t n) = n < size t
+
+  -- the same of shapes in order
+  pub AreParts : Sizes → Shapes → Type 0
+  AreParts size none = ⊤
+  AreParts size (also s ss) = IsPart size s × AreParts size ss
+
+-- what stands in a row of this shape is in range
+abbrev pub HasParts : Sizes → Shape → Type 0
+HasParts size (param s i name) = name < size Symbols
+HasParts size (bound s d e) = IsNamedKind size e.kind
+HasParts size (region r) = ⊥
+HasParts size (term l ss) = IsNamedLabel size l × AreParts size ss
+HasParts size (node l ss) = IsNamedLabel size l × AreParts size ss
+HasParts size (binder n s) = ⊥
+HasParts size (stored t n) = ⊥
+
+-- no bound variable may have the index
+abbrev pub IsGreatest : Depth → Type 0
+IsGreatest (at d) = greatest ≤ d
+IsGreatest canonical = ⊥
+
+-- the row is a bound variable whose index is the greatest
+abbrev pub IsTooDeep : Shape → Type 0
+IsTooDeep (bound s d e) = IsGreatest d
+IsTooDeep _ = ⊥
+
+-- the shapes, one after another
+abbrev pub append : Shapes → Shapes → Shapes
+append none us = us
+append (also s ss) us = also s (append ss us)
+
+-- the shapes of items
+abbrev pub item_shapes : {T : Type 0} → (T → Shape) → List T → Shapes
+item_shapes shape [] = none
+item_shapes shape (x ∷ xs) = also (shape x) (item_shapes shape xs)

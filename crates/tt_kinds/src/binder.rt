@@ -1,0 +1,83 @@
+//! Binders: values with variables of their own.
+
+ghost use Rattle.std.specs.Prelude.{◌≡◌};
+
+use crate::handle::BoundVarKinds;
+
+/// A value under a binder: the variables that it binds have the index 0 directly inside.
+///
+/// Binding checks nothing: whether the value's variables match the list is the caller's affair.
+#[derive(Clone, Copy, Debug, PartialEq, Eq, Hash)]
+pub struct Binder<T> {
+    value: T,
+    bound_vars: BoundVarKinds,
+}
+
+impl<T: Copy> Binder<T> {
+    /// The value under a binder of these variables.
+    pub fn bind_with_vars(value: T, bound_vars: BoundVarKinds) -> Binder<T>
+        ensures { result ≡ record { value = value; bound_vars = bound_vars } }
+    {
+        Binder { value, bound_vars }
+    }
+
+    /// The value as it stands inside, with the binder gone. Its variables of index 0 are the binder's, and mean nothing
+    /// outside of it.
+    pub fn skip_binder(self) -> T
+        ensures { result ≡ self.value }
+    {
+        self.value
+    }
+
+    /// The variables that the binder binds.
+    pub fn bound_vars(self) -> BoundVarKinds
+        ensures { result ≡ self.bound_vars }
+    {
+        self.bound_vars
+    }
+}
+
+/// A value of an item as it is declared: its parameters are the item's, and have to be replaced by arguments before it is
+/// used elsewhere.
+#[derive(Clone, Copy, Debug, PartialEq, Eq, Hash)]
+pub struct EarlyBinder<T> {
+    value: T,
+}
+
+impl<T: Copy> EarlyBinder<T> {
+    /// The value, with its parameters still to be replaced.
+    pub fn bind(value: T) -> EarlyBinder<T>
+        ensures { result ≡ record { value = value } }
+    {
+        EarlyBinder { value }
+    }
+
+    /// The value as it is declared.
+    pub fn skip_binder(self) -> T
+        ensures { result ≡ self.value }
+    {
+        self.value
+    }
+}
+
+/// A value in which aliases may stand that still have to be normalized.
+#[derive(Clone, Copy, Debug, PartialEq, Eq, Hash)]
+pub struct Unnormalized<T> {
+    value: T,
+}
+
+impl<T: Copy> Unnormalized<T> {
+    /// The value, marked as not normalized.
+    pub fn new(value: T) -> Unnormalized<T>
+        ensures { result ≡ record { value = value } }
+    {
+        Unnormalized { value }
+    }
+
+    /// The value, taken as it is.
+    pub fn skip_norm_wip(self) -> T
+        ensures { result ≡ self.value }
+    {
+        self.value
+    }
+}

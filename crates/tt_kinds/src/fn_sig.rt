@@ -1,0 +1,54 @@
+//! Signatures of functions.
+
+ghost use Rattle.std.specs.Prelude.{◌≡◌, ◌+◌};
+ghost use Rattle.tt_index.specs.Abi.{abi_number};
+ghost use Rattle.tt_kinds.specs.FnSig.{safety_bits, variadic_bits};
+
+use crate::handle::Tys;
+use tt_index::{ExternAbi, Safety};
+
+/// The types of a signature: those of the inputs, and last that of the output.
+#[derive(Clone, Copy, Debug, PartialEq, Eq, Hash)]
+pub struct FnSigTys {
+    /// The inputs in order, then the output.
+    pub inputs_and_output: Tys,
+}
+
+/// What a signature says beside its types: its calling convention, whether it is safe, and whether it is variadic.
+///
+/// It is kept in one byte: bits 0 to 5 are the number of the convention, bit 6 is set where it is safe, and bit 7 where it
+/// takes further arguments as C's `printf` does.
+#[derive(Clone, Copy, Debug, PartialEq, Eq, Hash)]
+pub struct FnSigKind {
+    flags: u8,
+}
+
+impl FnSigKind {
+    /// Unsafe, of Rust's convention and not variadic.
+    pub fn default() -> FnSigKind
+        ensures { result ≡ record { flags = 0 } }
+    {
+        FnSigKind { flags: 0 }
+    }
+
+    /// Of this convention, safe or not, and variadic or not.
+    pub fn new(abi: ExternAbi, safety: Safety, c_variadic: bool) -> FnSigKind
+        ensures { result ≡ record { flags = abi_number abi + safety_bits safety + variadic_bits c_variadic } }
+    {
+        let safe = match safety {
+            Safety::Safe => 64,
+            Safety::Unsafe => 0,
+        };
+        let variadic = if c_variadic { 128 } else { 0 };
+        FnSigKind {
+            flags: abi.as_packed() + safe + variadic,
+        }
+    }
+}
+
+/// What a function pointer says beside its types.
+#[derive(Clone, Copy, Debug, PartialEq, Eq, Hash)]
+pub struct FnHeader {
+    /// Its calling convention, whether it is safe, and whether it is variadic.
+    pub fn_sig_kind: FnSigKind,
+}

@@ -1,0 +1,73 @@
+//! Generic arguments.
+
+ghost use Rattle.std.specs.Prelude.{◌≡◌};
+
+use crate::handle::Ty;
+use crate::region_kind::Region;
+use std::marker::Model;
+
+/// What a generic argument is.
+#[derive(Clone, Copy, Debug, PartialEq, Eq, Hash)]
+pub enum GenericArgKind {
+    /// A region.
+    Lifetime(Region),
+    /// A type.
+    Type(Ty),
+}
+
+/// What replaces a generic parameter.
+#[derive(Clone, Copy, Debug, PartialEq, Eq, Hash)]
+pub struct GenericArg {
+    kind: GenericArgKind,
+}
+
+impl Model for GenericArg {
+    ghost use Rattle.tt_kinds.specs.declared.generic_arg.GenericArgKind.{GenericArgKind};
+
+    ghost Value = { GenericArgKind };
+
+    ghost view = { λ arg. arg.kind };
+
+    ghost inverse = { λ kind. record { kind = kind } };
+}
+
+impl GenericArg {
+    /// What the argument is.
+    pub fn kind(self) -> GenericArgKind
+        ensures { result ≡ self }
+    {
+        self.kind
+    }
+}
+
+impl From<GenericArgKind> for GenericArg {
+    ghost from_gives = { λ kind arg. arg ≡ kind };
+
+    fn from(kind: GenericArgKind) -> GenericArg {
+        GenericArg { kind }
+    }
+}
+
+impl From<Ty> for GenericArg {
+    ghost use Rattle.tt_kinds.specs.declared.generic_arg.GenericArgKind.TheVariants.{«Type» as TypeArg};
+
+    ghost from_gives = { λ ty arg. arg ≡ TypeArg ty };
+
+    fn from(ty: Ty) -> GenericArg {
+        GenericArg {
+            kind: GenericArgKind::Type(ty),
+        }
+    }
+}
+
+impl From<Region> for GenericArg {
+    ghost use Rattle.tt_kinds.specs.declared.generic_arg.GenericArgKind.TheVariants.{Lifetime};
+
+    ghost from_gives = { λ region arg. arg ≡ Lifetime region };
+
+    fn from(region: Region) -> GenericArg {
+        GenericArg {
+            kind: GenericArgKind::Lifetime(region),
+        }
+    }
+}

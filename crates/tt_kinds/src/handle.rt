@@ -1,0 +1,332 @@
+//! Handles: small values that name a row of one interner's tables.
+//!
+//! Two handles of one interner and one type are equal exactly when what they name is the same term. Handles of two
+//! interners aren't told apart.
+
+ghost use Rattle.std.specs.Prelude.{◌≡◌};
+
+/// A type: the name of a stored [`TyKind`](crate::TyKind).
+#[derive(Clone, Copy, Debug, PartialEq, Eq, Hash)]
+pub struct Ty {
+    number: u32,
+}
+
+impl Ty {
+    /// The handle of this number in its table.
+    pub fn from_number(number: u32) -> Ty
+        ensures { result ≡ record { number = number } }
+    {
+        Ty { number }
+    }
+
+    /// The number of the row in its table, counted from 0 in the order in which rows were added.
+    pub fn number(self) -> u32
+        ensures { result ≡ self.number }
+    {
+        self.number
+    }
+}
+
+/// A constant of the type level, such as the length of an array.
+#[derive(Clone, Copy, Debug, PartialEq, Eq, Hash)]
+pub struct Const {
+    number: u32,
+}
+
+impl Const {
+    /// The handle of this number in its table.
+    pub fn from_number(number: u32) -> Const
+        ensures { result ≡ record { number = number } }
+    {
+        Const { number }
+    }
+
+    /// The number of the row in its table, counted from 0 in the order in which rows were added.
+    pub fn number(self) -> u32
+        ensures { result ≡ self.number }
+    {
+        self.number
+    }
+}
+
+/// A pattern that restricts a type.
+#[derive(Clone, Copy, Debug, PartialEq, Eq, Hash)]
+pub struct Pat {
+    number: u32,
+}
+
+impl Pat {
+    /// The handle of this number in its table.
+    pub fn from_number(number: u32) -> Pat
+        ensures { result ≡ record { number = number } }
+    {
+        Pat { number }
+    }
+
+    /// The number of the row in its table, counted from 0 in the order in which rows were added.
+    pub fn number(self) -> u32
+        ensures { result ≡ self.number }
+    {
+        self.number
+    }
+}
+
+/// What has to hold of terms, such as that a type implements a trait.
+#[derive(Clone, Copy, Debug, PartialEq, Eq, Hash)]
+pub struct Predicate {
+    number: u32,
+}
+
+impl Predicate {
+    /// The handle of this number in its table.
+    pub fn from_number(number: u32) -> Predicate
+        ensures { result ≡ record { number = number } }
+    {
+        Predicate { number }
+    }
+
+    /// The number of the row in its table, counted from 0 in the order in which rows were added.
+    pub fn number(self) -> u32
+        ensures { result ≡ self.number }
+    {
+        self.number
+    }
+}
+
+/// A predicate that may stand in a list of assumptions.
+#[derive(Clone, Copy, Debug, PartialEq, Eq, Hash)]
+pub struct Clause {
+    number: u32,
+}
+
+impl Clause {
+    /// The handle of this number in its table.
+    pub fn from_number(number: u32) -> Clause
+        ensures { result ≡ record { number = number } }
+    {
+        Clause { number }
+    }
+
+    /// The number of the row in its table, counted from 0 in the order in which rows were added.
+    pub fn number(self) -> u32
+        ensures { result ≡ self.number }
+    {
+        self.number
+    }
+}
+
+/// A list of clauses.
+///
+/// The default is the empty list, which every interner has from the start.
+#[derive(Clone, Copy, Debug, Default, PartialEq, Eq, Hash)]
+pub struct Clauses {
+    number: u32,
+}
+
+impl Clauses {
+    /// The handle of this number in its table.
+    pub fn from_number(number: u32) -> Clauses
+        ensures { result ≡ record { number = number } }
+    {
+        Clauses { number }
+    }
+
+    /// The number of the row in its table, counted from 0 in the order in which rows were added.
+    pub fn number(self) -> u32
+        ensures { result ≡ self.number }
+    {
+        self.number
+    }
+}
+
+/// A list of generic arguments: types, regions and constants.
+///
+/// The default is the empty list, which every interner has from the start.
+#[derive(Clone, Copy, Debug, Default, PartialEq, Eq, Hash)]
+pub struct GenericArgs {
+    number: u32,
+}
+
+impl GenericArgs {
+    /// The handle of this number in its table.
+    pub fn from_number(number: u32) -> GenericArgs
+        ensures { result ≡ record { number = number } }
+    {
+        GenericArgs { number }
+    }
+
+    /// The number of the row in its table, counted from 0 in the order in which rows were added.
+    pub fn number(self) -> u32
+        ensures { result ≡ self.number }
+    {
+        self.number
+    }
+}
+
+/// A list of types.
+///
+/// The default is the empty list, which every interner has from the start.
+#[derive(Clone, Copy, Debug, Default, PartialEq, Eq, Hash)]
+pub struct Tys {
+    number: u32,
+}
+
+impl Tys {
+    /// The handle of this number in its table.
+    pub fn from_number(number: u32) -> Tys
+        ensures { result ≡ record { number = number } }
+    {
+        Tys { number }
+    }
+
+    /// The number of the row in its table, counted from 0 in the order in which rows were added.
+    pub fn number(self) -> u32
+        ensures { result ≡ self.number }
+    {
+        self.number
+    }
+}
+
+/// A list of constants.
+///
+/// The default is the empty list, which every interner has from the start.
+#[derive(Clone, Copy, Debug, Default, PartialEq, Eq, Hash)]
+pub struct Consts {
+    number: u32,
+}
+
+impl Consts {
+    /// The handle of this number in its table.
+    pub fn from_number(number: u32) -> Consts
+        ensures { result ≡ record { number = number } }
+    {
+        Consts { number }
+    }
+
+    /// The number of the row in its table, counted from 0 in the order in which rows were added.
+    pub fn number(self) -> u32
+        ensures { result ≡ self.number }
+    {
+        self.number
+    }
+}
+
+/// A list of patterns.
+///
+/// The default is the empty list, which every interner has from the start.
+#[derive(Clone, Copy, Debug, Default, PartialEq, Eq, Hash)]
+pub struct PatList {
+    number: u32,
+}
+
+impl PatList {
+    /// The handle of this number in its table.
+    pub fn from_number(number: u32) -> PatList
+        ensures { result ≡ record { number = number } }
+    {
+        PatList { number }
+    }
+
+    /// The number of the row in its table, counted from 0 in the order in which rows were added.
+    pub fn number(self) -> u32
+        ensures { result ≡ self.number }
+    {
+        self.number
+    }
+}
+
+/// The list of the variables that a binder binds, in order.
+///
+/// The default is the empty list, which every interner has from the start.
+#[derive(Clone, Copy, Debug, Default, PartialEq, Eq, Hash)]
+pub struct BoundVarKinds {
+    number: u32,
+}
+
+impl BoundVarKinds {
+    /// The handle of this number in its table.
+    pub fn from_number(number: u32) -> BoundVarKinds
+        ensures { result ≡ record { number = number } }
+    {
+        BoundVarKinds { number }
+    }
+
+    /// The number of the row in its table, counted from 0 in the order in which rows were added.
+    pub fn number(self) -> u32
+        ensures { result ≡ self.number }
+    {
+        self.number
+    }
+}
+
+/// The list of the predicates of a trait object, each under its own binder.
+///
+/// The default is the empty list, which every interner has from the start.
+#[derive(Clone, Copy, Debug, Default, PartialEq, Eq, Hash)]
+pub struct BoundExistentialPredicates {
+    number: u32,
+}
+
+impl BoundExistentialPredicates {
+    /// The handle of this number in its table.
+    pub fn from_number(number: u32) -> BoundExistentialPredicates
+        ensures { result ≡ record { number = number } }
+    {
+        BoundExistentialPredicates { number }
+    }
+
+    /// The number of the row in its table, counted from 0 in the order in which rows were added.
+    pub fn number(self) -> u32
+        ensures { result ≡ self.number }
+    {
+        self.number
+    }
+}
+
+/// A list of what is assumed of regions.
+///
+/// The default is the empty list, which every interner has from the start.
+#[derive(Clone, Copy, Debug, Default, PartialEq, Eq, Hash)]
+pub struct RegionAssumptions {
+    number: u32,
+}
+
+impl RegionAssumptions {
+    /// The handle of this number in its table.
+    pub fn from_number(number: u32) -> RegionAssumptions
+        ensures { result ≡ record { number = number } }
+    {
+        RegionAssumptions { number }
+    }
+
+    /// The number of the row in its table, counted from 0 in the order in which rows were added.
+    pub fn number(self) -> u32
+        ensures { result ≡ self.number }
+    {
+        self.number
+    }
+}
+
+/// A name: an interned text.
+///
+/// The default is the anonymous name `'_`, which every interner has from the start.
+#[derive(Clone, Copy, Debug, Default, PartialEq, Eq, Hash)]
+pub struct Symbol {
+    number: u32,
+}
+
+impl Symbol {
+    /// The handle of this number in its table.
+    pub fn from_number(number: u32) -> Symbol
+        ensures { result ≡ record { number = number } }
+    {
+        Symbol { number }
+    }
+
+    /// The number of the row in its table, counted from 0 in the order in which rows were added.
+    pub fn number(self) -> u32
+        ensures { result ≡ self.number }
+    {
+        self.number
+    }
+}

@@ -1,0 +1,148 @@
+//! Regions.
+
+ghost use Rattle.std.specs.Prelude.{◌≡◌, ◌↔◌, ◌<◌, ◌≤◌, IsTrue};
+ghost use Rattle.tt_index.specs.Greatest.{greatest};
+ghost use Rattle.tt_kinds.specs.RegionKind.{IsShallow};
+
+use crate::bound::{BoundRegion, BoundVarIndexKind};
+use crate::error_guaranteed::ErrorGuaranteed;
+use crate::handle::Symbol;
+use std::marker::Model;
+use tt_flags::TypeFlags;
+use tt_index::{DebruijnIndex, Refusal, RegionVid};
+
+/// A region parameter of an item, which is replaced when the item is instantiated.
+#[derive(Clone, Copy, Debug, PartialEq, Eq, Hash)]
+pub struct EarlyParamRegion {
+    /// Its place among the item's generic parameters.
+    pub index: u32,
+    /// Its name.
+    pub name: Symbol,
+}
+
+/// What a region is.
+#[derive(Clone, Copy, Debug, PartialEq, Eq, Hash)]
+pub enum RegionKind {
+    /// A region parameter of an item.
+    ReEarlyParam(EarlyParamRegion),
+    /// A region that a binder binds.
+    ReBound(BoundVarIndexKind, BoundRegion),
+    /// `'static`.
+    ReStatic,
+    /// A region variable of inference.
+    ReVar(RegionVid),
+    /// A region of which nothing is kept.
+    ReErased,
+    /// A region of which an error was reported.
+    ReError(ErrorGuaranteed),
+}
+
+impl RegionKind {
+    // A bound region has an index below the greatest.
+    fn is_shallow(&self) -> bool
+        ensures { IsTrue result ↔ IsShallow self.now }
+    {
+        match self {
+            RegionKind::ReBound(index, _) => index.is_shallow(),
+            _ => true,
+        }
+    }
+}
+
+/// A region. Unlike types, regions are small and so are kept in place.
+///
+/// A bound region's index is below [`GREATEST_INDEX`](tt_index::GREATEST_INDEX), so that one more than it is an index too.
+#[derive(Clone, Copy, Debug, PartialEq, Eq, Hash)]
+pub struct Region {
+    kind: RegionKind,
+}
+
+impl Model for Region {
+    ghost use Rattle.tt_kinds.specs.declared.region_kind.RegionKind.{RegionKind};
+
+    ghost Value = { RegionKind };
+
+    ghost use Rattle.tt_kinds.specs.RegionKind.{IsShallow};
+
+    ghost view = { λ region. region.kind };
+
+    ghost invariant = { λ region. IsShallow region.kind };
+
+    ghost inverse = { λ kind. record { kind = kind } };
+}
+
+impl Region {
+    ghost use Rattle.tt_kinds.specs.RegionKind.{IsShallow, bound_at};
+    ghost use Rattle.tt_kinds.specs.Shape.{Meaning, fill};
+    ghost use Rattle.tt_kinds.specs.Kinds.{region_shape};
+    ghost use Rattle.tt_kinds.specs.Scan.{scan};
+    ghost use Rattle.tt_kinds.specs.Reading.{outer_binder};
+
+    /// The region of this kind. It is refused with `GreatestIndex` where a bound region's index is the greatest, and
+    /// never otherwise.
+    pub fn new(kind: RegionKind) -> Result<Region, Refusal>
+        ensures ok { IsShallow kind → result ≡ Ok kind }
+        ensures deep { (IsShallow kind → ⊥) → result ≡ Err Refusal.GreatestIndex }
+    {
+        if kind.is_shallow() {
+            Ok(Region { kind })
+        } else {
+            Err(Refusal::GreatestIndex)
+        }
+    }
+
+    /// The bound region of this index. It is refused with `GreatestIndex` where the index is the greatest, and never
+    /// otherwise.
+    pub fn new_bound(index: DebruijnIndex, bound_region: BoundRegion) -> Result<Region, Refusal>
+        ensures ok { index < greatest → result ≡ Ok (bound_at index bound_region) }
+        ensures deep { greatest ≤ index → result ≡ Err Refusal.GreatestIndex }
+    {
+        Region::new(RegionKind::ReBound(BoundVarIndexKind::Bound(index), bound_region))
+    }
+
+    /// What the region is.
+    pub fn kind(self) -> RegionKind
+        ensures kind { result ≡ self }
+        ensures shallow { IsShallow result }
+    {
+        self.kind
+    }
+
+    /// Every region in hand is one that can be built: a bound region's index is below the greatest, and the numbers lie in
+    /// the ranges of their types. So the answer is always true; the contract gives callers the fact.
+    pub fn in_range(self) -> bool
+        ensures holds { IsTrue result }
+        ensures shallow { IsShallow self }
+    {
+        self.kind.is_shallow()
+    }
+
+    /// The flags of the region.
+    #[tactic(auto, unfolding(crate::specs::Shape::fill))]
+    pub fn flags(self) -> TypeFlags
+        ensures { (f : Meaning) → result.bits ≡ scan (fill f (region_shape self)) }
+    {
+        match self.kind {
+            RegionKind::ReEarlyParam(_) => TypeFlags::from_bits_retain(0x20202),
+            RegionKind::ReBound(index, _) => match index {
+                BoundVarIndexKind::Bound(_) => TypeFlags::HAS_RE_BOUND,
+                BoundVarIndexKind::Canonical => TypeFlags::from_bits_retain(0x404_0000),
+            },
+            RegionKind::ReStatic => TypeFlags::HAS_FREE_REGIONS,
+            RegionKind::ReVar(_) => TypeFlags::from_bits_retain(0x20210),
+            RegionKind::ReErased => TypeFlags::HAS_RE_ERASED,
+            RegionKind::ReError(_) => TypeFlags::from_bits_retain(0x30000),
+        }
+    }
+
+    #[tactic(auto, unfolding(crate::specs::Shape::fill))]
+    /// One more than the index of a region that is bound by the binder at that index, and 0 for every other region.
+    pub fn outer_exclusive_binder(self) -> DebruijnIndex
+        ensures { (f : Meaning) → result ≡ outer_binder (fill f (region_shape self)) }
+    {
+        match self.kind {
+            RegionKind::ReBound(index, _) => index.outer_exclusive_binder(),
+            _ => DebruijnIndex::INNERMOST,
+        }
+    }
+}
