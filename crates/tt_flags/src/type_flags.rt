@@ -11,7 +11,7 @@ use std::ops::{BitAnd, BitAndAssign, BitOr, BitOrAssign};
 /// What occurs somewhere in a term, as a set of flags. The flags of a term are the union over its
 /// parts, so that one look at them answers whether a part of some form occurs, without a walk.
 ///
-/// A contract sees a set as the record of the number of its bits.
+/// In a contract `flags.bits` is the number of the bits of `flags`.
 #[derive(Clone, Copy, Debug, PartialEq, Eq, Hash)]
 pub struct TypeFlags {
     bits: u32,
