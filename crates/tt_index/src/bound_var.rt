@@ -33,7 +33,7 @@ impl BoundVar {
         value <= GREATEST_INDEX
     }
 
-    /// A bound variable of this number. [`BoundVar::fits`] tests the condition.
+    /// The bound variable with this number. [`BoundVar::fits`] tests the condition.
     pub fn from_u32(value: u32) -> BoundVar
         requires { value ≤ greatest }
         ensures { result ≡ value }

@@ -43,7 +43,7 @@ impl DebruijnIndex {
         value <= GREATEST_INDEX
     }
 
-    /// A De Bruijn index of this number. [`DebruijnIndex::fits`] tests the condition.
+    /// The De Bruijn index with this number. [`DebruijnIndex::fits`] tests the condition.
     pub fn from_u32(value: u32) -> DebruijnIndex
         requires { value ≤ greatest }
         ensures { result ≡ value }

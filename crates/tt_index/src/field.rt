@@ -33,7 +33,7 @@ impl FieldIdx {
         value <= GREATEST_INDEX
     }
 
-    /// A field of this number. [`FieldIdx::fits`] tests the condition.
+    /// The field with this number. [`FieldIdx::fits`] tests the condition.
     pub fn from_u32(value: u32) -> FieldIdx
         requires { value ≤ greatest }
         ensures { result ≡ value }
@@ -72,8 +72,8 @@ impl Idx for FieldIdx {
     }
 }
 
-/// The position of a variant in its data type, in the order of the declaration, from 0. A struct or union has one variant, with
-/// position 0.
+/// The position of a variant in its data type, in the order of the declaration, from 0. A struct or union has one
+/// variant, with position 0.
 ///
 /// The number is at most [`GREATEST_INDEX`].
 #[derive(Clone, Copy, Debug, PartialEq, Eq, PartialOrd, Ord, Hash)]
@@ -99,7 +99,7 @@ impl VariantIdx {
         value <= GREATEST_INDEX
     }
 
-    /// A variant of this number. [`VariantIdx::fits`] tests the condition.
+    /// The variant with this number. [`VariantIdx::fits`] tests the condition.
     pub fn from_u32(value: u32) -> VariantIdx
         requires { value ≤ greatest }
         ensures { result ≡ value }

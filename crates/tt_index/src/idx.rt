@@ -7,7 +7,8 @@ ghost use Rattle.tt_index.specs.Greatest.{greatest};
 pub trait Idx: Copy {
     ghost number: { Self → ℕ };
 
-    /// The index of this number, as of a position in a list. Its test is the comparison with [`GREATEST_INDEX`](crate::GREATEST_INDEX).
+    /// The index with this number, as of a position in a list. Its test is the comparison with
+    /// [`GREATEST_INDEX`](crate::GREATEST_INDEX).
     fn from_usize(position: usize) -> Self
         requires { position ≤ greatest }
         ensures { number result ≡ position };

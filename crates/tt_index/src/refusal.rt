@@ -14,8 +14,9 @@ pub enum Refusal {
     Memory,
     /// The term or declaration is a new one, and its table already holds as many rows as its limit allows.
     TableFull,
-    /// The result would need a bound variable's index at or above the greatest one, which leaves its binder's
-    /// successor no index, or a walk would pass more binders than the greatest index counts.
+    /// The result would need a bound variable whose index is the greatest one or above, so that no index is left for
+    /// the binder just outside; or one of the layer's own folders would pass more binders than the greatest index
+    /// counts.
     GreatestIndex,
     /// The list of arguments is empty, and the value has a parameter to replace.
     NoArguments,

@@ -9,8 +9,8 @@ use std::default::Default;
 use std::marker::Model;
 
 /// The place of a universe in the order in which each extends the one before. The root universe has the names that
-/// are always visible. Each next one adds the names of a `for<..>` binder that was entered: a placeholder belongs to the
-/// universe that was made for its binder.
+/// are always visible. Each next one adds the names of a `for<..>` binder that was entered: a placeholder belongs to
+/// the universe that was made for its binder.
 ///
 /// The number is at most [`GREATEST_INDEX`].
 #[derive(Clone, Copy, Debug, PartialEq, Eq, PartialOrd, Ord, Hash)]
@@ -39,7 +39,7 @@ impl UniverseIndex {
         value <= GREATEST_INDEX
     }
 
-    /// A universe of this number. [`UniverseIndex::fits`] tests the condition.
+    /// The universe with this number. [`UniverseIndex::fits`] tests the condition.
     pub fn from_u32(value: u32) -> UniverseIndex
         requires { value ≤ greatest }
         ensures { result ≡ value }

@@ -33,7 +33,7 @@ impl RegionVid {
         value <= GREATEST_INDEX
     }
 
-    /// A region variable of this number. [`RegionVid::fits`] tests the condition.
+    /// The region variable with this number. [`RegionVid::fits`] tests the condition.
     pub fn from_u32(value: u32) -> RegionVid
         requires { value ≤ greatest }
         ensures { result ≡ value }
@@ -98,7 +98,7 @@ impl TyVid {
         value <= GREATEST_INDEX
     }
 
-    /// A type variable of this number. [`TyVid::fits`] tests the condition.
+    /// The type variable with this number. [`TyVid::fits`] tests the condition.
     pub fn from_u32(value: u32) -> TyVid
         requires { value ≤ greatest }
         ensures { result ≡ value }
@@ -163,7 +163,7 @@ impl IntVid {
         value <= GREATEST_INDEX
     }
 
-    /// An integer variable of this number. [`IntVid::fits`] tests the condition.
+    /// The integer variable with this number. [`IntVid::fits`] tests the condition.
     pub fn from_u32(value: u32) -> IntVid
         requires { value ≤ greatest }
         ensures { result ≡ value }
@@ -228,7 +228,7 @@ impl FloatVid {
         value <= GREATEST_INDEX
     }
 
-    /// A floating point variable of this number. [`FloatVid::fits`] tests the condition.
+    /// The floating point variable with this number. [`FloatVid::fits`] tests the condition.
     pub fn from_u32(value: u32) -> FloatVid
         requires { value ≤ greatest }
         ensures { result ≡ value }
@@ -293,7 +293,7 @@ impl ConstVid {
         value <= GREATEST_INDEX
     }
 
-    /// A constant variable of this number. [`ConstVid::fits`] tests the condition.
+    /// The constant variable with this number. [`ConstVid::fits`] tests the condition.
     pub fn from_u32(value: u32) -> ConstVid
         requires { value ≤ greatest }
         ensures { result ≡ value }
