@@ -1,5 +1,5 @@
 -- The laws of the walks, from which every law of readings follows at single leaves.
-use Rattle.std.proofs.Common.{◌≡◌, ℕ, suc, ◌+◌, List, refl, ap, sym, ◌∙◌, subst, add-suc}
+use Rattle.std.proofs.Common.{◌≡◌, ℕ, suc, ◌+◌, refl, ap, sym, ◌∙◌, subst, add-suc}
 use Rattle.tt_kinds.specs.Label.{Name, Sort}
 use Rattle.tt_kinds.specs.Tree.{Tree, param, bound, region, term, node, binder, Forest, none, also, rebuild, rebuild_all, replace, replace_all, Each, Each_all}
 use Rattle.tt_kinds.specs.Reading.{keep}

@@ -1,5 +1,5 @@
 -- What walks do to flags.
-use Rattle.std.proofs.Common.{inl, inr, ◌≡◌, ℕ, suc, List, refl, ap}
+use Rattle.std.proofs.Common.{inl, inr, ◌≡◌, ℕ, suc, refl, ap}
 use Rattle.std.specs.Prelude.{bit_or}
 use Rattle.std.proofs.lemmas.Bool.{cases_lt}
 use Rattle.tt_kinds.specs.Label.{Name, Sort, list_flags, flags_of_label}

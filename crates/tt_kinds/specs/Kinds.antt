@@ -5,9 +5,9 @@ use Rattle.tt_kinds.specs.Tree.{Depth}
 use Rattle.tt_kinds.specs.Bound.{depth, region_entry, ty_entry, var_kind}
 use Rattle.tt_kinds.specs.Shape as shape
 use Rattle.tt_kinds.specs.Shape.{Shape, Shapes, append, item_shapes}
-use Rattle.tt_kinds.specs.Parts.{node_table, node_number, list_table, list_number, sort_list_table, no_parts, one_part, two_parts}
+use Rattle.tt_kinds.specs.Parts.{node_table, node_number, list_table, list_number, no_parts, one_part, two_parts}
 use Rattle.tt_kinds.specs.declared.table.Table.{Table}
-use Rattle.tt_kinds.specs.declared.table.Table.TheVariants.{Types, TypeLists, ArgLists, VarLists}
+use Rattle.tt_kinds.specs.declared.table.Table.TheVariants.{Types, TypeLists, ArgLists}
 use Rattle.tt_kinds.specs.declared.handle.Ty.{Ty}
 use Rattle.tt_kinds.specs.declared.handle.Tys.{Tys}
 use Rattle.tt_kinds.specs.declared.handle.BoundVarKinds.{BoundVarKinds}
@@ -25,7 +25,6 @@ use Rattle.tt_kinds.specs.declared.parts.Node.{Node}
 use Rattle.tt_kinds.specs.declared.parts.Node.TheVariants as node
 use Rattle.tt_kinds.specs.declared.parts.List.TheVariants as list
 use Rattle.tt_kinds.specs.declared.parts.List.{List as StoredList}
-use Rattle.tt_kinds.specs.declared.parts.ListSort.{ListSort}
 use Rattle.tt_kinds.specs.declared.parts.Child.{Child}
 use Rattle.tt_kinds.specs.declared.parts.Child.TheVariants as child
 use Rattle.tt_kinds.specs.declared.parts.Parts.{Parts}

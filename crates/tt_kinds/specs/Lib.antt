@@ -9,6 +9,7 @@ pub mod Matched
 pub mod Met
 pub mod Scan
 pub mod Count
+pub mod Laws
 pub mod Bound
 pub mod RegionKind
 pub mod FnSig

@@ -1,5 +1,5 @@
 -- Readings: a variable bound outside of a term has one number at every depth.
-use Rattle.std.specs.Prelude.{ℕ, suc, List, ◌+◌, ◌-◌, ◌<◌, max, nat_lt, if◌then◌else◌, ⊤}
+use Rattle.std.specs.Prelude.{ℕ, suc, ◌+◌, ◌-◌, ◌<◌, max, nat_lt, if◌then◌else◌, ⊤}
 use Rattle.tt_index.specs.Greatest.{greatest}
 use Rattle.tt_kinds.specs.Label.{Name, Sort}
 use Rattle.tt_kinds.specs.Tree.{Depth, at, canonical, Place, own, outer, apart, Tree, param, bound, region, term, node, binder, Forest, none, also, rebuild, rebuild_all, replace, replace_all}

@@ -7,6 +7,7 @@ pub mod error_guaranteed;
 pub mod fn_sig;
 pub mod generic_arg;
 pub mod handle;
+pub mod laws;
 pub mod parts;
 pub mod placeholder;
 pub mod region_kind;
@@ -14,13 +15,15 @@ pub mod table;
 pub mod ty_kind;
 
 pub use binder::{Binder, EarlyBinder, Unnormalized};
-pub use bound::{BoundRegion, BoundRegionKind, BoundTy, BoundTyKind, BoundVarIndexKind, BoundVariableKind};
+pub use bound::{
+    BoundRegion, BoundRegionKind, BoundTy, BoundTyKind, BoundVarIndexKind, BoundVariableKind,
+};
 pub use error_guaranteed::ErrorGuaranteed;
 pub use fn_sig::{FnHeader, FnSigKind, FnSigTys};
 pub use generic_arg::{GenericArg, GenericArgKind};
 pub use handle::{
-    BoundExistentialPredicates, BoundVarKinds, Clause, Clauses, Const, Consts, GenericArgs, Pat, PatList, Predicate,
-    RegionAssumptions, Symbol, Ty, Tys,
+    BoundExistentialPredicates, BoundVarKinds, Clause, Clauses, Const, Consts, GenericArgs, Pat,
+    PatList, Predicate, RegionAssumptions, Symbol, Ty, Tys,
 };
 pub use parts::{Child, Kind, List, ListSort, Node, Parts};
 pub use placeholder::{Placeholder, PlaceholderType};

@@ -3,19 +3,19 @@
 //! No kind has more than two children that are regions, stored terms or stored lists, perhaps under one binder. So all that
 //! walks over kinds do goes over a pair of parts, and only this module tells one kind from another.
 
-ghost use Rattle.std.specs.Prelude.{◌≡◌};
+ghost use Rattle.std.specs.Prelude.{◌≡◌, ◌↔◌, IsTrue};
 ghost use Rattle.tt_kinds.specs.Parts.{AreLike, a_region, a_node, a_list, child_sort, node_table, list_sort, no_parts, one_part, two_parts};
 ghost use Rattle.tt_kinds.specs.Kinds.{form_binder, form_parts, kind_form, kind_table, refilled, ty_form};
 ghost use Rattle.tt_kinds.specs.declared.parts.Node.TheVariants as node;
 ghost use Rattle.tt_kinds.specs.declared.parts.List.TheVariants as list;
 ghost use Rattle.tt_kinds.specs.declared.parts.Child.TheVariants as child;
 
+use crate::binder::Binder;
 use crate::fn_sig::FnSigTys;
 use crate::handle::{BoundVarKinds, GenericArgs, Ty, Tys};
 use crate::region_kind::Region;
 use crate::table::Table;
 use crate::ty_kind::TyKind;
-use crate::binder::Binder;
 
 /// A stored term that has a kind.
 #[derive(Clone, Copy, Debug, PartialEq, Eq)]
@@ -98,6 +98,13 @@ impl Parts {
     {
         Parts { first, second }
     }
+
+    /// Whether the new children are of the same sorts, each in its place.
+    pub fn are_like(&self, new: &Parts) -> bool
+        ensures { IsTrue result ↔ AreLike self.now new.now }
+    {
+        self.first.is_like(&new.first) && self.second.is_like(&new.second)
+    }
 }
 
 impl Node {
@@ -129,6 +136,21 @@ impl List {
         match self {
             List::Tys(_) => ListSort::Tys,
             List::Args(_) => ListSort::Args,
+        }
+    }
+}
+
+impl Child {
+    /// Whether the other child is of the same sort: absent, a region, a term of the same table, or a list of the same sort.
+    pub fn is_like(&self, other: &Child) -> bool
+        ensures { IsTrue result ↔ (child_sort other.now ≡ child_sort self.now) }
+    {
+        match self {
+            Child::Absent => matches!(other, Child::Absent),
+            Child::Region(_) => matches!(other, Child::Region(_)),
+            Child::Node(Node::Ty(_)) => matches!(other, Child::Node(Node::Ty(_))),
+            Child::List(List::Tys(_)) => matches!(other, Child::List(List::Tys(_))),
+            Child::List(List::Args(_)) => matches!(other, Child::List(List::Args(_))),
         }
     }
 }
@@ -199,7 +221,8 @@ impl Kind {
         }
     }
 
-    /// The same kind with other children in the places of its own. They have to be of the same sorts.
+    /// The same kind with other children in the places of its own. They have to be of the same sorts;
+    /// [`Parts::are_like`] tests it.
     pub fn with_parts(&self, new: Parts) -> Kind
         requires { AreLike (form_parts (kind_form self.now)) new }
         ensures table { kind_table result ≡ kind_table self.now }
@@ -239,20 +262,30 @@ impl TyKind {
             | TyKind::Placeholder(_)
             | TyKind::Infer(_)
             | TyKind::Error(_) => Parts::none(),
-            TyKind::Ref(region, ty, _) => Parts::two(Child::Region(*region), Child::Node(Node::Ty(*ty))),
+            TyKind::Ref(region, ty, _) => Parts::two(
+                Child::Region(*region),
+                Child::Node(Node::Ty(*ty)),
+            ),
             TyKind::RawPtr(ty, _) | TyKind::Slice(ty) => Parts::one(Child::Node(Node::Ty(*ty))),
             TyKind::Tuple(tys) => Parts::one(Child::List(List::Tys(*tys))),
-            TyKind::FnPtr(types, _) => Parts::one(Child::List(List::Tys(types.skip_binder().inputs_and_output))),
+            TyKind::FnPtr(types, _) => Parts::one(Child::List(List::Tys(
+                types.skip_binder().inputs_and_output,
+            ))),
         }
     }
 
-    /// The same kind with other children in the places of its own. They have to be of the same sorts.
+    /// The same kind with other children in the places of its own. They have to be of the same sorts;
+    /// [`Parts::are_like`] tests it.
     pub fn with_parts(&self, new: Parts) -> TyKind
         requires { AreLike (form_parts (ty_form self.now)) new }
         ensures { ty_form result ≡ refilled new (ty_form self.now) }
     {
         match self {
-            TyKind::Ref(_, _, mutability) => TyKind::Ref(new.first.region(), new.second.ty(), *mutability),
+            TyKind::Ref(_, _, mutability) => TyKind::Ref(
+                new.first.region(),
+                new.second.ty(),
+                *mutability,
+            ),
             TyKind::RawPtr(_, mutability) => TyKind::RawPtr(new.first.ty(), *mutability),
             TyKind::Slice(_) => TyKind::Slice(new.first.ty()),
             TyKind::Tuple(_) => TyKind::Tuple(new.first.tys()),

@@ -1,5 +1,7 @@
 //! Placeholders: what stands in for a bound variable once its binder is gone.
 
+ghost use Rattle.std.specs.Prelude.{◌≡◌};
+
 use crate::bound::BoundTy;
 use tt_index::UniverseIndex;
 
@@ -10,6 +12,15 @@ pub struct Placeholder<T> {
     pub universe: UniverseIndex,
     /// The variable that it stands for.
     pub bound: T,
+}
+
+impl<T: Copy> Placeholder<T> {
+    /// The placeholder of this universe for this variable.
+    pub fn new(universe: UniverseIndex, bound: T) -> Placeholder<T>
+        ensures { result ≡ record { universe = universe; bound = bound } }
+    {
+        Placeholder { universe, bound }
+    }
 }
 
 /// A placeholder for a type.

@@ -117,7 +117,7 @@ impl Region {
         self.kind.is_shallow()
     }
 
-    /// The flags of the region.
+    /// The flags of the region: those of its kind, and one more where it is a variable of a canonical query.
     #[tactic(auto, unfolding(crate::specs::Shape::fill))]
     pub fn flags(self) -> TypeFlags
         ensures { (f : Meaning) → result.bits ≡ scan (fill f (region_shape self)) }
@@ -135,8 +135,8 @@ impl Region {
         }
     }
 
-    #[tactic(auto, unfolding(crate::specs::Shape::fill))]
     /// One more than the index of a region that is bound by the binder at that index, and 0 for every other region.
+    #[tactic(auto, unfolding(crate::specs::Shape::fill))]
     pub fn outer_exclusive_binder(self) -> DebruijnIndex
         ensures { (f : Meaning) → result ≡ outer_binder (fill f (region_shape self)) }
     {

@@ -1,0 +1,287 @@
+-- Small terms, and what the definitions say of them.
+use Rattle.std.proofs.Common.{inl, inr, ◌≡◌, ℕ, List, [], ◌∷◌, refl, arith}
+use Rattle.tt_index.specs.declared.numeric.IntTy.TheVariants as int
+use Rattle.tt_index.specs.declared.numeric.UintTy.TheVariants as uint
+use Rattle.tt_index.specs.declared.qualifier.Mutability.TheVariants as mutability
+use Rattle.tt_index.specs.declared.refusal.Refusal.TheVariants.{NoArguments, ArgOutOfRange, ArgKind, RegionVariable}
+use Rattle.tt_kinds.specs.declared.bound.BoundTyKind.TheVariants as bound_ty
+use Rattle.tt_kinds.specs.declared.ty_kind.InferTy.TheVariants.{TyVar, FreshIntTy}
+use Rattle.tt_kinds.specs.declared.table.Table.TheVariants.{TypeLists}
+use Rattle.tt_kinds.specs.Label.{Name, region_sort, type_sort, const_sort, anonymous, VarKind, region_variable, type_variable, Entry, static_region, erased_region, region_var, error_region, late_param_region, placeholder_region, TypeLabel, char_type, int_type, uint_type, placeholder_type, infer_type, error_type, ref_type, tuple_type, fn_ptr_type, fn_sig_tys_record, type_label, list_label, record_label}
+use Rattle.tt_kinds.specs.Tree.{Depth, at, canonical, own, outer, Tree, param, bound, region, term, node, binder, Forest, none, also}
+use Rattle.tt_kinds.specs.Reading.{read, move, outer_binder, Fits}
+use Rattle.tt_kinds.specs.Argument.{Argument, put, readings}
+use Rattle.tt_kinds.specs.Plain.{shift_tree, inst_tree}
+use Rattle.tt_kinds.specs.Matched.{MatchedUnder}
+use Rattle.tt_kinds.specs.Met.{met, placed}
+use Rattle.tt_kinds.specs.Scan.{scan}
+use Rattle.tt_kinds.specs.Cause.{Cause}
+
+-- types without parts
+abbrev type_leaf : {I : Type 0} → TypeLabel → Tree I
+type_leaf l = term (type_label l) none
+
+abbrev u32 : {I : Type 0} → Tree I
+u32 = type_leaf (uint_type uint.U32)
+
+abbrev i32 : {I : Type 0} → Tree I
+i32 = type_leaf (int_type int.I32)
+
+abbrev isize : {I : Type 0} → Tree I
+isize = type_leaf (int_type int.Isize)
+
+abbrev char : {I : Type 0} → Tree I
+char = type_leaf char_type
+
+-- the type parameter of an index, without a name
+abbrev parameter : {I : Type 0} → ℕ → Tree I
+parameter i = param type_sort i []
+
+-- what an unnamed bound variable of number 0 says of itself
+abbrev a_region : Entry Name
+a_region = record { var = 0; kind = region_variable anonymous }
+
+abbrev a_type : Entry Name
+a_type = record { var = 0; kind = type_variable bound_ty.Anon }
+
+-- the region bound by the binder of this index
+abbrev region_at : {I : Type 0} → I → Tree I
+region_at d = bound region_sort d a_region
+
+-- a shared reference
+abbrev reference : {I : Type 0} → Tree I → Tree I → Tree I
+reference r t = term (type_label (ref_type mutability.«Not»)) (also r (also t none))
+
+-- a tuple
+abbrev tuple : {I : Type 0} → Forest I → Tree I
+tuple ts = term (type_label tuple_type) (also (node (list_label TypeLists) ts) none)
+
+-- one binder over a region
+abbrev one_region : List (VarKind Name)
+one_region = region_variable anonymous ∷ []
+
+-- a function pointer under a binder of these variables, of these inputs and output
+abbrev fn_ptr : {I : Type 0} → List (VarKind Name) → Forest I → Tree I
+fn_ptr vs ts = term (type_label (fn_ptr_type (record { fn_sig_kind = record { flags = 0 } })))
+    (also (binder vs (node (record_label fn_sig_tys_record) (also (node (list_label TypeLists) ts) none))) none)
+
+-- `for<'a> fn(&'a u32, &'b u32)`, where 'b is bound at this index
+abbrev two_references : Depth → Tree Depth
+two_references d = fn_ptr one_region (also (reference (region_at (at 0)) u32) (also (reference (region_at d) u32) (also (tuple none) none)))
+
+-- a reference whose region is bound three binders further out
+far_reference : (scan (reference (region_at (at 2)) u32) ≡ 0x40000) × (outer_binder (reference (region_at (at 2)) u32) ≡ 3)
+far_reference = (refl, refl)
+
+-- the pointer's own binder counts among its flags, and its other region reaches one binder further
+pointer_flags : (scan (two_references (at 1)) ≡ 0x1040000) × (outer_binder (two_references (at 1)) ≡ 1)
+pointer_flags = (refl, refl)
+
+-- a shift moves the region that points outward, and leaves the pointer's own
+pointer_shifted : (shift_tree 0 2 (two_references (at 1)) ≡ two_references (at 3)) × (outer_binder (two_references (at 3)) ≡ 3)
+pointer_shifted = (refl, refl)
+
+-- so does a move of its reading, in which the region outside has the number 0
+pointer_read : read 0 (two_references (at 1))
+    ≡ fn_ptr one_region (also (reference (region_at (own 0)) u32) (also (reference (region_at (outer 0)) u32) (also (tuple none) none)))
+pointer_read = refl
+
+pointer_moved : move 2 (read 0 (two_references (at 1))) ≡ read 0 (two_references (at 3))
+pointer_moved = refl
+
+-- the pointer's own region is the variable of its list
+pointer_matches : MatchedUnder [] (read 0 (two_references (at 1)))
+pointer_matches = ((((refl, (tt, tt)), ((tt, (tt, tt)), ((tt, tt), tt))), tt), tt)
+
+-- under the same list no variable has the number 1
+abbrev second_region : Tree Depth
+second_region = bound region_sort (at 0) (record { var = 1; kind = region_variable anonymous })
+
+second_unmatched : MatchedUnder (one_region ∷ []) (read 1 second_region) → ⊥
+second_unmatched h = cc
+
+-- a pointer in a pointer: the inner one's other region is the outer one's own
+abbrev inner_pointer : Tree Depth
+inner_pointer = fn_ptr one_region
+    (also (reference (region_at (at 0)) isize) (also (reference (region_at (at 1)) isize) (also (tuple none) none)))
+
+abbrev nested_pointer : Tree Depth
+nested_pointer = fn_ptr one_region (also inner_pointer (also (reference (region_at (at 0)) char) (also (tuple none) none)))
+
+inner_escapes : (scan inner_pointer ≡ 0x1040000) × (outer_binder inner_pointer ≡ 1)
+inner_escapes = (refl, refl)
+
+nested_closed : (scan nested_pointer ≡ 0x1040000) × (outer_binder nested_pointer ≡ 0)
+nested_closed = (refl, refl)
+
+-- an argument with a region bound outside, put beside a binder and under one
+abbrev beside_and_under : Tree Depth → Tree Depth → Tree Depth
+beside_and_under t u = tuple (also t (also (fn_ptr [] (also u (also (tuple none) none))) none))
+
+abbrev outward : List (Argument Depth)
+outward = record { sort = type_sort; value = reference (region_at (at 0)) i32 } ∷ []
+
+abbrev put_outward : Tree Depth
+put_outward = beside_and_under (reference (region_at (at 0)) i32) (reference (region_at (at 1)) i32)
+
+-- it is shifted where it comes under the binder
+instance_shifted : inst_tree 0 outward (beside_and_under (parameter 0) (parameter 0)) ≡ put_outward
+instance_shifted = refl
+
+instance_flags : (scan put_outward ≡ 0x40000) × (outer_binder put_outward ≡ 1)
+instance_flags = (refl, refl)
+
+-- read, it is the same at both places
+instance_read : read 0 put_outward ≡ put (readings outward) (read 0 (beside_and_under (parameter 0) (parameter 0)))
+instance_read = refl
+
+-- two instantiations in turn, and one by arguments that were instantiated
+abbrev type_arg : Tree Depth → Argument Depth
+type_arg t = record { sort = type_sort; value = t }
+
+abbrev pair : Tree Depth → Tree Depth → Tree Depth
+pair t u = tuple (also t (also u none))
+
+instances_in_turn : inst_tree 0 (type_arg u32 ∷ type_arg char ∷ []) (inst_tree 0 (type_arg (parameter 1) ∷ type_arg i32 ∷ []) (pair (parameter 0) (parameter 1)))
+    ≡ pair char i32
+instances_in_turn = refl
+
+instances_as_one : inst_tree 0 (type_arg char ∷ type_arg i32 ∷ []) (pair (parameter 0) (parameter 1)) ≡ pair char i32
+instances_as_one = refl
+
+-- a canonical variable is moved by no shift, and points to no binder
+abbrev canonical_reference : Tree Depth
+canonical_reference = reference (region_at canonical) u32
+
+canonical_stays : shift_tree 0 5 canonical_reference ≡ canonical_reference
+canonical_stays = refl
+
+canonical_flags : (scan canonical_reference ≡ 0x4040000) × (outer_binder canonical_reference ≡ 0)
+canonical_flags = (refl, refl)
+
+-- the last index that is not the greatest: it fits, and shifted it does not
+abbrev last_bound : Tree Depth
+last_bound = bound type_sort (at 4294967039) a_type
+
+last_flags : (scan last_bound ≡ 0x80000) × (outer_binder last_bound ≡ 4294967040)
+last_flags = (refl, refl)
+
+last_fits : Fits (read 0 last_bound)
+last_fits = omega arith
+
+last_shifted : Fits (read 0 (shift_tree 0 1 last_bound)) → ⊥
+last_shifted h = omega arith
+
+-- why an instantiation is refused: no arguments, too few, one of another sort
+no_arguments : Cause (parameter 0) [] NoArguments
+no_arguments = (refl, tt)
+
+too_few : Cause (parameter 1) (type_arg i32 ∷ []) (ArgOutOfRange 1)
+too_few = ((λ e. cc), refl, omega arith)
+
+other_sort : Cause (parameter 0) (record { sort = region_sort; value = region static_region } ∷ []) (ArgKind 0)
+other_sort = (refl, refl)
+
+-- a region variable beside a parameter in one type
+abbrev exposed : Tree Depth
+exposed = reference (region (region_var 0)) (parameter 0)
+
+exposed_variable : Cause exposed (type_arg i32 ∷ []) (RegionVariable 0)
+exposed_variable = ((λ e. cc), (inr (inl tt), inl refl))
+
+exposed_flags : (scan exposed ≡ 0x20211) × (outer_binder exposed ≡ 0)
+exposed_flags = (refl, refl)
+
+-- the regions met in a pointer: not its own
+abbrev three_references : Tree Depth → Tree Depth → Tree Depth → Tree Depth
+three_references p q r = fn_ptr one_region
+    (also (reference p u32) (also (reference q u32) (also (reference r u32) (also (tuple none) none))))
+
+abbrev met_pointer : Tree Depth
+met_pointer = three_references (region_at (at 0)) (region_at (at 1)) (region static_region)
+
+met_flags : (scan met_pointer ≡ 0x1060000) × (outer_binder met_pointer ≡ 1)
+met_flags = (refl, refl)
+
+met_regions : met 0 met_pointer
+    ≡ record { standing = region_at (at 1); under = 1 } ∷ record { standing = region static_region; under = 1 } ∷ []
+met_regions = refl
+
+-- erased regions in their places, and the pointer's own region in their places
+abbrev erased_pointer : Tree Depth
+erased_pointer = three_references (region_at (at 0)) (region erased_region) (region erased_region)
+
+regions_erased : placed 0 met_pointer (region erased_region ∷ region erased_region ∷ []) ≡ erased_pointer
+regions_erased = refl
+
+erased_flags : (scan erased_pointer ≡ 0x1240000) × (outer_binder erased_pointer ≡ 0)
+erased_flags = (refl, refl)
+
+abbrev captured_pointer : Tree Depth
+captured_pointer = three_references (region_at (at 0)) (region_at (at 0)) (region_at (at 0))
+
+regions_captured : placed 0 met_pointer (region_at (at 0) ∷ region_at (at 0) ∷ []) ≡ captured_pointer
+regions_captured = refl
+
+captured_flags : (scan captured_pointer ≡ 0x1040000) × (outer_binder captured_pointer ≡ 0)
+captured_flags = (refl, refl)
+
+-- a leaf, by its flags and how far it reaches
+abbrev Says : Tree Depth → ℕ → ℕ → Type 0
+Says t flags reach = (scan t ≡ flags) × (outer_binder t ≡ reach)
+
+-- regions of each kind
+param_region_says : Says (param region_sort 0 []) 0x20202 0
+param_region_says = (refl, refl)
+
+bound_region_says : Says (region_at (at 4)) 0x40000 5
+bound_region_says = (refl, refl)
+
+canonical_region_says : Says (region_at canonical) 0x4040000 0
+canonical_region_says = (refl, refl)
+
+static_region_says : Says (region static_region) 0x20000 0
+static_region_says = (refl, refl)
+
+region_var_says : Says (region (region_var 6)) 0x20210 0
+region_var_says = (refl, refl)
+
+late_param_region_says : Says (region (late_param_region 2 anonymous)) 0x20200 0
+late_param_region_says = (refl, refl)
+
+placeholder_region_says : Says (region (placeholder_region 1 0 anonymous)) 0x20280 0
+placeholder_region_says = (refl, refl)
+
+erased_region_says : Says (region erased_region) 0x200000 0
+erased_region_says = (refl, refl)
+
+error_region_says : Says (region (error_region 3)) 0x30000 0
+error_region_says = (refl, refl)
+
+-- types and constants that are leaves
+number_says : Says u32 0 0
+number_says = (refl, refl)
+
+param_type_says : Says (parameter 0) 0x1 0
+param_type_says = (refl, refl)
+
+param_const_says : Says (param const_sort 0 []) 0x4 0
+param_const_says = (refl, refl)
+
+bound_type_says : Says (bound type_sort (at 4) a_type) 0x80000 5
+bound_type_says = (refl, refl)
+
+canonical_type_says : Says (bound type_sort canonical a_type) 0x4080000 0
+canonical_type_says = (refl, refl)
+
+placeholder_type_says : Says (type_leaf (placeholder_type (record { universe = 1; bound = record { var = 0; kind = bound_ty.Anon } }))) 0x40 0
+placeholder_type_says = (refl, refl)
+
+infer_type_says : Says (type_leaf (infer_type (TyVar 6))) 0x8 0
+infer_type_says = (refl, refl)
+
+fresh_type_says : Says (type_leaf (infer_type (FreshIntTy 6))) 0x400000 0
+fresh_type_says = (refl, refl)
+
+error_type_says : Says (type_leaf (error_type 3)) 0x8000 0
+error_type_says = (refl, refl)
