@@ -1,0 +1,184 @@
+-- More rows change nothing that a shape means.
+use Rattle.std.proofs.Common.{◌≡◌, ℕ, zero, suc, ◌<◌, ◌≤◌, List, [], ◌∷◌, ◌++◌, refl, ap, sym, ◌∙◌, arith, append_assoc}
+use Rattle.std.specs.Prelude.{map}
+use Rattle.tt_kinds.specs.declared.table.Table.{Table}
+use Rattle.tt_kinds.specs.declared.table.Table.TheVariants.{VarLists, Symbols}
+use Rattle.tt_kinds.specs.Label.{RegionName, anonymous, printed, named, environment, VarKind, region_variable, type_variable, const_variable, FreeRegion, static_region, erased_region, region_var, error_region, late_param_region, placeholder_region, Label, type_label, list_label, var_list_label, text_label, record_label}
+use Rattle.tt_kinds.specs.Tree as tree
+use Rattle.tt_kinds.specs.Tree.{Tree, Depth}
+use Rattle.tt_kinds.specs.Shape.{Shape, Shapes, param, bound, region, term, node, binder, stored, none, also, Meaning, Sizes, text_of, name_of, rename_region, rename_kind, rename_free, rename_label, fill, fill_all, IsNamed, IsNamedKind, AreNamedKinds, IsNamedFree, IsNamedLabel, IsPart, AreParts, HasParts}
+use Rattle.tt_kinds.specs.Parts.{list_table, list_number}
+use Rattle.tt_kinds.specs.declared.parts.List.{List as StoredList}
+use Rattle.tt_interner.specs.Rows.{Row, text_row, size, meaning, age, Grows}
+use Rattle.tt_interner.specs.Children.{children_of, children_at}
+use Rattle.tt_interner.specs.Stored.{Terms, Extends}
+use Rattle.tt_interner.proofs.RowLaws.{keeps, keeps_age, get_or-keeps}
+
+-- parts in range stay in range where tables grow
+module _ (small large : Sizes) (more : (t : Table) → small t ≤ large t) where
+  IsNamed-more : (r : RegionName ℕ) → IsNamed small r → IsNamed large r
+  IsNamed-more anonymous h = tt
+  IsNamed-more (printed n) h = let m = more Symbols in omega arith
+  IsNamed-more (named d) h = tt
+  IsNamed-more environment h = tt
+
+  IsNamedKind-more : (v : VarKind ℕ) → IsNamedKind small v → IsNamedKind large v
+  IsNamedKind-more (region_variable r) h = IsNamed-more r h
+  IsNamedKind-more (type_variable k) h = tt
+  IsNamedKind-more const_variable h = tt
+
+  AreNamedKinds-more : (vs : List (VarKind ℕ)) → AreNamedKinds small vs → AreNamedKinds large vs
+  AreNamedKinds-more [] h = tt
+  AreNamedKinds-more (v ∷ vs) h = (IsNamedKind-more v h.0, AreNamedKinds-more vs h.1)
+
+  IsNamedFree-more : (r : FreeRegion ℕ) → IsNamedFree small r → IsNamedFree large r
+  IsNamedFree-more static_region h = tt
+  IsNamedFree-more erased_region h = tt
+  IsNamedFree-more (region_var x) h = tt
+  IsNamedFree-more (error_region e) h = tt
+  IsNamedFree-more (late_param_region d r) h = IsNamed-more r h
+  IsNamedFree-more (placeholder_region u v r) h = IsNamed-more r h
+
+  IsNamedLabel-more : (l : Label ℕ) → IsNamedLabel small l → IsNamedLabel large l
+  IsNamedLabel-more (type_label l) h = tt
+  IsNamedLabel-more (list_label t) h = tt
+  IsNamedLabel-more (var_list_label vs) h = AreNamedKinds-more vs h
+  IsNamedLabel-more (text_label bytes) h = tt
+  IsNamedLabel-more (record_label l) h = tt
+
+  mutual
+    unfolding IsPart
+
+    pub IsPart-more : (s : Shape) → IsPart small s → IsPart large s
+    IsPart-more (param s i name) h = let m = more Symbols in (h.0, omega (arith, h.1))
+    IsPart-more (bound s d e) h = (h.0, IsNamedKind-more e.kind h.1)
+    IsPart-more (region r) h = IsNamedFree-more r h
+    IsPart-more (term l ss) h = h
+    IsPart-more (node l ss) h = (h.0, IsNamedLabel-more l h.1, AreParts-more ss h.2)
+    IsPart-more (binder n s) h = let m = more VarLists in (omega (arith, h.0), IsPart-more s h.1)
+    IsPart-more (stored t n) h = let m = more t in omega arith
+
+    pub AreParts-more : (ss : Shapes) → AreParts small ss → AreParts large ss
+    AreParts-more none h = tt
+    AreParts-more (also s ss) h = (IsPart-more s h.0, AreParts-more ss h.1)
+
+  pub HasParts-more : (s : Shape) → HasParts small s → HasParts large s
+  HasParts-more (param s i name) h = let m = more Symbols in omega arith
+  HasParts-more (bound s d e) h = IsNamedKind-more e.kind h
+  HasParts-more (region r) h = h
+  HasParts-more (term l ss) h = (IsNamedLabel-more l h.0, AreParts-more ss h.1)
+  HasParts-more (node l ss) h = (IsNamedLabel-more l h.0, AreParts-more ss h.1)
+  HasParts-more (binder n s) h = h
+  HasParts-more (stored t n) h = h
+
+-- parts keep their trees where handles in range do
+module _ (f g : Meaning) (bounds : Sizes) (same : (t : Table) (n : ℕ) → n < bounds t → f t n ≡ g t n) where
+  region-same : (r : RegionName ℕ) → IsNamed bounds r → rename_region (name_of f) r ≡ rename_region (name_of g) r
+  region-same anonymous h = refl
+  region-same (printed n) h = ap (λ t. printed (text_of t)) (same Symbols n h)
+  region-same (named d) h = refl
+  region-same environment h = refl
+
+  kind-same : (v : VarKind ℕ) → IsNamedKind bounds v → rename_kind (name_of f) v ≡ rename_kind (name_of g) v
+  kind-same (region_variable r) h = ap region_variable (region-same r h)
+  kind-same (type_variable k) h = refl
+  kind-same const_variable h = refl
+
+  kinds-same : (vs : List (VarKind ℕ)) → AreNamedKinds bounds vs → map (rename_kind (name_of f)) vs ≡ map (rename_kind (name_of g)) vs
+  kinds-same [] h = refl
+  kinds-same (v ∷ vs) h = rw (kind-same v h.0, kinds-same vs h.1) refl
+
+  free-same : (r : FreeRegion ℕ) → IsNamedFree bounds r → rename_free (name_of f) r ≡ rename_free (name_of g) r
+  free-same static_region h = refl
+  free-same erased_region h = refl
+  free-same (region_var x) h = refl
+  free-same (error_region e) h = refl
+  free-same (late_param_region d r) h = ap (late_param_region d) (region-same r h)
+  free-same (placeholder_region u v r) h = ap (placeholder_region u v) (region-same r h)
+
+  label-same : (l : Label ℕ) → IsNamedLabel bounds l → rename_label (name_of f) l ≡ rename_label (name_of g) l
+  label-same (type_label l) h = refl
+  label-same (list_label t) h = refl
+  label-same (var_list_label vs) h = ap var_list_label (kinds-same vs h)
+  label-same (text_label bytes) h = refl
+  label-same (record_label l) h = refl
+
+  mutual
+    unfolding fill IsPart
+
+    pub fill-same : (s : Shape) → IsPart bounds s → fill f s ≡ fill g s
+    fill-same (param s i name) h = ap (λ t. tree.param s i (text_of t)) (same Symbols name h.1)
+    fill-same (bound s d e) h = ap (λ k. tree.bound s d (record { var = e.var; kind = k })) (kind-same e.kind h.1)
+    fill-same (region r) h = ap tree.region (free-same r h)
+    fill-same (term l ss) h = absurd h
+    fill-same (node l ss) h = rw (label-same l h.1, fill_all-same ss h.2) refl
+    fill-same (binder n s) h = rw (same VarLists n h.0, fill-same s h.1) refl
+    fill-same (stored t n) h = same t n h
+
+    pub fill_all-same : (ss : Shapes) → AreParts bounds ss → fill_all f ss ≡ fill_all g ss
+    fill_all-same none h = refl
+    fill_all-same (also s ss) h = rw (fill-same s h.0, fill_all-same ss h.1) refl
+
+  pub row-same : (s : Shape) → HasParts bounds s → fill f s ≡ fill g s
+  unfolding fill
+  row-same (param s i name) h = ap (λ t. tree.param s i (text_of t)) (same Symbols name h)
+  row-same (bound s d e) h = ap (λ k. tree.bound s d (record { var = e.var; kind = k })) (kind-same e.kind h)
+  row-same (region r) h = absurd h
+  row-same (term l ss) h = rw (label-same l h.0, fill_all-same ss h.1) refl
+  row-same (node l ss) h = rw (label-same l h.0, fill_all-same ss h.1) refl
+  row-same (binder n s) h = absurd h
+  row-same (stored t n) h = absurd h
+
+pub Grows-refl : (rows : List Row) → Grows rows rows
+Grows-refl rows = record { more = []; kept = refl }
+
+pub Grows-trans : {a b c : List Row} → Grows a b → Grows b c → Grows a c
+Grows-trans {a} g h = record { more = h.more ++ g.more; kept = h.kept ∙ ap (λ x. h.more ++ x) g.kept ∙ sym (append_assoc h.more g.more a) }
+
+pub Extends-refl : (terms : Terms) → Extends terms terms
+Extends-refl terms = record { rows = Grows-refl terms.rows; limit = refl }
+
+pub Extends-trans : {a b c : Terms} → Extends a b → Extends b c → Extends a c
+Extends-trans g h = record { rows = Grows-trans g.rows h.rows; limit = h.limit ∙ g.limit }
+
+-- where rows grow, all of this stays
+module _ (old new : List Row) (g : Grows old new) where
+  pub in_range-grows : (t : Table) (n : ℕ) → n < size old t → n < size new t
+  in_range-grows t n h = rw g.kept (keeps g.more old t n h).0
+
+  pub size-grows : (t : Table) → size old t ≤ size new t
+  size-grows t = by (size old t) refl
+    where
+      by : (n : ℕ) → n ≡ size old t → n ≤ size new t
+      by zero e = omega arith
+      by (suc n) e = let h = in_range-grows t n (omega (arith, e)) in omega (arith, h)
+
+  pub meaning-grows : (t : Table) (n : ℕ) → n < size old t → meaning new t n ≡ meaning old t n
+  meaning-grows t n h = rw g.kept (keeps g.more old t n h).1
+
+  pub age-grows : (t : Table) (n : ℕ) → n < size old t → age new t n ≡ age old t n
+  age-grows t n h = rw g.kept (keeps_age g.more old t n h)
+
+  pub IsPart-grows : (s : Shape) → IsPart (size old) s → IsPart (size new) s
+  IsPart-grows s h = IsPart-more (size old) (size new) size-grows s h
+
+  pub AreParts-grows : (ss : Shapes) → AreParts (size old) ss → AreParts (size new) ss
+  AreParts-grows ss h = AreParts-more (size old) (size new) size-grows ss h
+
+  pub HasParts-grows : (s : Shape) → HasParts (size old) s → HasParts (size new) s
+  HasParts-grows s h = HasParts-more (size old) (size new) size-grows s h
+
+  pub fill-grows : (s : Shape) → IsPart (size old) s → fill (meaning new) s ≡ fill (meaning old) s
+  fill-grows s h = fill-same (meaning new) (meaning old) (size old) meaning-grows s h
+
+  pub fill_all-grows : (ss : Shapes) → AreParts (size old) ss → fill_all (meaning new) ss ≡ fill_all (meaning old) ss
+  fill_all-grows ss h = fill_all-same (meaning new) (meaning old) (size old) meaning-grows ss h
+
+  -- the same of what a row holds
+  pub row-grows : (s : Shape) → HasParts (size old) s → fill (meaning new) s ≡ fill (meaning old) s
+  row-grows s h = row-same (meaning new) (meaning old) (size old) meaning-grows s h
+
+-- a list keeps its children
+pub children_at-grows : (old new : List Row) → Grows old new → (l : StoredList) → list_number l < size old (list_table l) → children_at new l ≡ children_at old l
+unfolding children_at
+children_at-grows old new g l h = ap children_of (rw g.kept (get_or-keeps g.more old (list_table l) (list_number l) (text_row []) h))

@@ -1,0 +1,11 @@
+pub mod RowLaws
+pub mod Growth
+pub mod Fill
+pub mod Trees
+pub mod KeyLemmas
+pub mod FoundLemmas
+pub mod StoresLemmas
+pub mod InfoLemmas
+pub mod TableLemmas
+pub mod Keys
+pub mod NodeLemmas

@@ -1,0 +1,40 @@
+-- the new row is the newest
+use Rattle.std.proofs.Common.{sym, ap, refl, subst, ◌∙◌}
+use Rattle.tt_kinds.specs.declared.table.Table.TheVariants.{VarLists}
+use Rattle.tt_interner.specs.Rows.{vars_row, size, IsNew}
+use Rattle.tt_interner.specs.Tables.{with_entries, entries_by}
+use Rattle.tt_interner.specs.Kept.{tables}
+use Rattle.std.specs.Prelude.{map}
+use Rattle.tt_kinds.specs.Label.{var_list_label}
+use Rattle.tt_kinds.specs.Bound.{var_kind}
+use Rattle.tt_kinds.specs.Shape.{IsPart}
+use Rattle.tt_interner.proofs.InfoLemmas.{info_node, named_vars}
+use Rattle.tt_interner.proofs.TableLemmas.{count, not_there, entries_by-added, kept, added, refused}
+use Rattle.tt_interner.proofs.Keys.{vars_key}
+use Rattle.tt_interner.proofs.interner.Interner.add_bound_vars.Goals as goal
+
+pub add_list-requires : goal.add_list-requires
+add_list-requires c = not_there _ _ _ c.self.invariant.tables VarLists (λ k. vars_row k.items) (λ v. v) c.self.inside.var_lists.entries refl _ (vars_row c.args.items.now) refl (vars_key (λ k. k.items) c.args.items.now)
+    (subst (λ v. IsNew (vars_row c.args.items.now) v.rows) (sym c.self.view_is) c.requires.is_new)
+
+pub invariant_of-self-2 : goal.invariant_of-self-2
+unfolding IsPart
+invariant_of-self-2 c =
+    let many = count _ _ _ c.self.invariant.tables VarLists (λ k. vars_row k.items) (λ v. v) c.self.inside.var_lists.entries refl in
+    let is = ap (with_entries (tables c.self.inside) VarLists) (entries_by-added (λ k. k.items) vars_row (λ v. v) c.self.inside.var_lists.entries _ c.args.items.now c.vars_info-info.result c.in-Ok.ensures.entries) in
+    kept c.self.inside.order.items _ (tables c.self.inside) _ _ _ _ c.self.view_is c.self.invariant _ is c.in-Ok.ensures.order _ (c.in-Ok.ensures.number.0 ∙ many) c.in-Ok.ensures.number.1
+    (named_vars (size c.args.self.now.rows) c.args.items.now, tt) (λ deep. deep) c.requires.is_new (info_node _ _ (var_list_label (map var_kind c.args.items.now)) c.vars_info-info.ensures)
+
+pub returns : goal.returns
+returns c =
+    let many = count _ _ _ c.self.invariant.tables VarLists (λ k. vars_row k.items) (λ v. v) c.self.inside.var_lists.entries refl in
+    let is = ap (with_entries (tables c.self.inside) VarLists) (entries_by-added (λ k. k.items) vars_row (λ v. v) c.self.inside.var_lists.entries _ c.args.items.now c.vars_info-info.result c.in-Ok.ensures.entries) in
+    added c.self.inside.order.items _ (tables c.self.inside) _ _ _ _ c.self.view_is c.self.invariant _ is c.in-Ok.ensures.order _ (c.in-Ok.ensures.number.0 ∙ many) c.in-Ok.ensures.number.1
+    (λ list. list.number) c.from_number.result (ap (λ list. list.number) c.from_number.ensures)
+
+pub returns-in-Err : goal.returns-in-Err
+returns-in-Err c =
+    let many = count _ _ _ c.self.invariant.tables VarLists (λ k. vars_row k.items) (λ v. v) c.self.inside.var_lists.entries refl in
+    let same = ap (λ es. with_entries (tables c.self.inside) VarLists (entries_by (λ k. vars_row k.items) (λ v. v) es)) c.in-Err.ensures.entries_stay in
+    refused c.self.inside.order.items _ (tables c.self.inside) _ _ _ _ c.self.view_is c.self.invariant c.in-Err.ensures.order_stays same
+    (λ list. list.number) (vars_row c.args.items.now) _ _ _ refl many c.in-Err.ensures.cause c.in-Err.ensures.full c.requires.is_new

@@ -1,0 +1,6 @@
+-- what was there from the start is there
+use Rattle.tt_interner.proofs.TableLemmas.{has_first}
+use Rattle.tt_interner.proofs.interner.Interner.are_rows.Goals as goal
+
+pub returns-clause-first : goal.returns-clause-first
+returns-clause-first c = rw (← c.self.view_is) (has_first _ _ _ c.self.invariant)

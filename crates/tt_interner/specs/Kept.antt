@@ -1,0 +1,38 @@
+-- What an interner's fields hold.
+use Rattle.std.specs.Prelude.{[]}
+use Rattle.std.specs.String.{string_bytes}
+use Rattle.tt_interner.specs.declared.interner.Interner.TheInside.{Inside}
+use Rattle.tt_interner.specs.Rows.{type_row, tys_row, args_row, vars_row, text_row}
+use Rattle.tt_interner.specs.Stored.{Terms}
+use Rattle.tt_interner.specs.Tables.{Tables, no_info, entries_by, rows_in_order, Keeps}
+
+-- the tables, of which those without a map are empty
+abbrev pub tables : Inside → Tables
+tables i = record {
+  types = entries_by type_row (λ v. v) i.types.entries;
+  consts = [];
+  patterns = [];
+  predicates = [];
+  existentials = [];
+  clause_lists = [];
+  type_lists = entries_by (λ k. tys_row k.items) (λ v. v) i.type_lists.entries;
+  const_lists = [];
+  arg_lists = entries_by (λ k. args_row k.items) (λ v. v) i.arg_lists.entries;
+  pattern_lists = [];
+  var_lists = entries_by (λ k. vars_row k.items) (λ v. v) i.var_lists.entries;
+  existential_lists = [];
+  assumption_lists = [];
+  symbols = entries_by (λ k. text_row (string_bytes k)) (λ v. no_info) i.symbols.entries;
+}
+
+-- what contracts see of the fields
+abbrev pub terms : Inside → Terms
+terms i = record {
+  rows = rows_in_order i.order.items (tables i);
+  limit = i.limit;
+  counters = record { descents = i.descents; shift_descents = i.shift_descents };
+}
+
+-- the fields keep to each other
+abbrev pub AreKept : Inside → Type 0
+AreKept i = Keeps i.order.items (tables i) i.limit

@@ -1,0 +1,16 @@
+-- What holds of all rows that an interner may have.
+use Rattle.std.specs.Prelude.{◌≡◌, ◌↔◌, ℕ, ◌<◌, List}
+use Rattle.tt_kinds.specs.declared.table.Table.{Table}
+use Rattle.tt_interner.specs.Rows.{Row, size, meaning, AreRows, Grows}
+
+-- handles in range are equal exactly when their trees are
+abbrev pub AreInterned : List Row → Type 0
+AreInterned rows = (t : Table) (n m : ℕ) → n < size rows t → m < size rows t → (meaning rows t n ≡ meaning rows t m) ↔ (n ≡ m)
+
+-- the same of all rows that an interner may have
+abbrev pub EqualTrees : Type 0
+EqualTrees = (rows : List Row) → AreRows rows → AreInterned rows
+
+-- handles in range stay in range and keep their trees, whatever rows come
+abbrev pub KeepsTrees : Type 0
+KeepsTrees = (old new : List Row) → Grows old new → (t : Table) (n : ℕ) → n < size old t → (n < size new t) × (meaning new t n ≡ meaning old t n)

@@ -1,0 +1,115 @@
+-- What contracts see of an interner, and what its calls promise.
+use Rattle.std.specs.Prelude.{◌≡◌, ℕ, ◌+◌, ◌<◌, ◌≤◌, List, [], ◌∷◌, Result, Ok, Err, IfOk, OnErr, IfErr, Some, ◌⊎◌, ⊤, slice_get, nat_lt, cond}
+use Rattle.tt_flags.specs.declared.flag_computation.FlagComputation.{FlagComputation}
+use Rattle.tt_index.specs.declared.refusal.Refusal.{Refusal}
+use Rattle.tt_index.specs.declared.refusal.Refusal.TheVariants.{Memory, TableFull, GreatestIndex}
+use Rattle.tt_kinds.specs.Label.{list_label}
+use Rattle.tt_kinds.specs.Tree.{Tree, Depth, node}
+use Rattle.tt_kinds.specs.Parts.{list_number, list_sort, sort_list_table}
+use Rattle.tt_kinds.specs.Kinds.{children_shapes}
+use Rattle.tt_kinds.specs.declared.parts.List.{List as StoredList}
+use Rattle.tt_kinds.specs.declared.parts.ListSort.{ListSort}
+use Rattle.tt_kinds.specs.declared.parts.Child.{Child}
+use Rattle.tt_kinds.specs.Scan.{scan}
+use Rattle.tt_kinds.specs.Reading.{outer_binder}
+use Rattle.tt_kinds.specs.Shape.{fill, fill_all, IsTooDeep}
+use Rattle.tt_interner.specs.Rows.{Row, tys_row, args_row, vars_row, text_row, row_table, row_shape, table, size, meaning, IsNew, Grows}
+
+-- how often a folder took a type apart: the argument folder, and the shifter
+pub record Counters : Type 0 where
+  pub descents : ℕ
+  pub shift_descents : ℕ
+
+-- what contracts see of an interner: all rows, newest first, how many each table may have, and the counts
+pub record Terms : Type 0 where
+  pub rows : List Row
+  pub limit : ℕ
+  pub counters : Counters
+
+-- the new terms are the old ones, and perhaps more; the limit stays
+pub record Extends (old new : Terms) : Type 0 where
+  pub rows : Grows old.rows new.rows
+  pub limit : new.limit ≡ old.limit
+
+-- the greatest count
+abbrev pub most_descents : ℕ
+most_descents = 18446744073709551615
+
+-- one more, which is not counted at the end
+abbrev pub counted : ℕ → ℕ
+counted n = cond (nat_lt n most_descents) (n + 1) n
+
+-- what is kept beside a term is what its tree has
+pub record IsInfo (info : FlagComputation) (t : Tree Depth) : Type 0 where
+  pub flags : info.flags.bits ≡ scan t
+  pub outer : info.outer_exclusive_binder ≡ outer_binder t
+
+-- the row r is stored under the number
+abbrev pub IsAt : List Row → Row → ℕ → Type 0
+IsAt rows r n = slice_get (table (row_table r) rows) n ≡ Some r
+
+-- what an interner has from the start, newest first: the empty lists, and the name `'_`
+abbrev pub first_rows : List Row
+first_rows = text_row (39 ∷ 95 ∷ []) ∷ vars_row [] ∷ args_row [] ∷ tys_row [] ∷ []
+
+-- the rows that the defaults of the handles name
+pub record HasFirst (rows : List Row) : Type 0 where
+  pub types : IsAt rows (tys_row []) 0
+  pub args : IsAt rows (args_row []) 0
+  pub vars : IsAt rows (vars_row []) 0
+  pub text : IsAt rows (text_row (39 ∷ 95 ∷ [])) 0
+
+-- r was stored under the number, or is now the newest row
+pub record Stores (old new : List Row) (r : Row) (n : ℕ) : Type 0 where
+  pub stored : IsAt new r n
+  pub grown : (new ≡ old) ⊎ ((new ≡ r ∷ old) × IsNew r old)
+
+-- why r was not stored
+abbrev pub IsCause : Terms → Row → Refusal → Type 0
+IsCause terms r Memory = ⊤
+IsCause terms r TableFull = IsNew r terms.rows × (terms.limit ≤ size terms.rows (row_table r))
+IsCause terms r GreatestIndex = IsTooDeep (row_shape r)
+IsCause terms r _ = ⊥
+
+-- the row r was added as the last of its table, or refused
+pub record Adds {H : Type 0} (result : Result H Refusal) (number : H → ℕ) (old new : Terms) (r : Row) : Type 0 where
+  pub rows : IfOk result (λ h. new.rows ≡ r ∷ old.rows)
+  pub last : IfOk result (λ h. number h ≡ size old.rows (row_table r))
+  pub limit : new.limit ≡ old.limit
+  pub counters : new.counters ≡ old.counters
+  pub err : OnErr result (new ≡ old)
+  pub cause : IfErr result (IsCause old r)
+  pub full : old.limit ≤ size old.rows (row_table r) → result ≡ Err TableFull
+
+-- the result is the handle of the row r, which is added if it is new
+pub record Builds {H : Type 0} (result : Result H Refusal) (number : H → ℕ) (old new : Terms) (r : Row) : Type 0 where
+  pub in_range : IfOk result (λ h. number h < size new.rows (row_table r))
+  pub means : IfOk result (λ h. meaning new.rows (row_table r) (number h) ≡ fill (meaning old.rows) (row_shape r))
+  pub grows : Grows old.rows new.rows
+  pub stored : IfOk result (λ h. Stores old.rows new.rows r (number h))
+  pub limit : new.limit ≡ old.limit
+  pub counters : new.counters ≡ old.counters
+  -- what is there is found, and nothing changes
+  pub found : (n : ℕ) → IsAt old.rows r n → ((h : H) × (result ≡ Ok h) × (number h ≡ n)) × (new ≡ old)
+  -- only a new row is refused, and then nothing changes
+  pub err : OnErr result (new ≡ old)
+  pub absent : OnErr result (IsNew r old.rows)
+  pub cause : IfErr result (IsCause old r)
+  pub deep : IsTooDeep (row_shape r) → result ≡ Err GreatestIndex
+  pub full : IsNew r old.rows → (IsTooDeep (row_shape r) → ⊥) → old.limit ≤ size old.rows (row_table r) → result ≡ Err TableFull
+
+-- why the term of this tree was not stored: want of memory, or it is new and its table holds its limit
+abbrev pub IsUnbuilt : Terms → Tree Depth → Refusal → Type 0
+IsUnbuilt terms u Memory = ⊤
+IsUnbuilt terms u TableFull = (r : Row) × (fill (meaning terms.rows) (row_shape r) ≡ u) × IsNew r terms.rows × (terms.limit ≤ size terms.rows (row_table r))
+IsUnbuilt terms u _ = ⊥
+
+-- the result is the list of these children, which is added if it is new
+pub record StoresList (result : Result StoredList Refusal) (old new : Terms) (sort : ListSort) (items : List Child) : Type 0 where
+  pub in_range : IfOk result (λ l. list_number l < size new.rows (sort_list_table sort))
+  pub means : IfOk result (λ l. meaning new.rows (sort_list_table sort) (list_number l) ≡ node (list_label (sort_list_table sort)) (fill_all (meaning old.rows) (children_shapes items)))
+  pub extends : Extends old new
+  pub counters : new.counters ≡ old.counters
+  pub err : OnErr result (new ≡ old)
+  pub cause : IfErr result (IsUnbuilt old (node (list_label (sort_list_table sort)) (fill_all (meaning old.rows) (children_shapes items))))
+  pub of_sort : IfOk result (λ l. list_sort l ≡ sort)

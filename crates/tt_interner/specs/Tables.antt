@@ -1,0 +1,157 @@
+-- What the tables hold, and how they are seen as one list of rows.
+use Rattle.std.specs.Prelude.{◌≡◌, ℕ, ◌≤◌, List, [], ◌∷◌, ◌++◌, length, map, reverse, slice_get, max, bit_or, Some}
+use Rattle.tt_flags.specs.FlagComputation.{computed}
+use Rattle.tt_flags.specs.declared.flag_computation.FlagComputation.{FlagComputation}
+use Rattle.tt_kinds.specs.Tree.{Forest, Depth}
+use Rattle.tt_kinds.specs.Scan.{scan_all}
+use Rattle.tt_kinds.specs.Reading.{read_all, greatest_reach_all}
+use Rattle.tt_kinds.specs.declared.table.Table.{Table}
+use Rattle.tt_kinds.specs.declared.table.Table.TheVariants.{Types, Consts, Patterns, Predicates, Existentials, ClauseLists, TypeLists, ConstLists, ArgLists, PatternLists, VarLists, ExistentialLists, AssumptionLists, Symbols}
+use Rattle.tt_interner.specs.Rows.{Row, text_row, table, size, meaning, AreRows}
+use Rattle.tt_interner.specs.Stored.{IsInfo, first_rows}
+
+-- what is kept beside children is what their trees have
+pub record AreInfosOf (info : FlagComputation) (ts : Forest Depth) : Type 0 where
+  pub flags : info.flags.bits ≡ scan_all ts
+  pub outer : info.outer_exclusive_binder ≡ greatest_reach_all (read_all 0 ts)
+
+-- what is joined so far and the rest of the children make what all have
+pub record AreJoined (info : FlagComputation) (rest whole : Forest Depth) : Type 0 where
+  pub flags : bit_or info.flags.bits (scan_all rest) ≡ scan_all whole
+  pub outer : max info.outer_exclusive_binder (greatest_reach_all (read_all 0 rest)) ≡ greatest_reach_all (read_all 0 whole)
+
+-- a row, and what is kept beside it
+pub record Entry : Type 0 where
+  pub row : Row
+  pub info : FlagComputation
+
+-- what is kept beside a term of no flags
+abbrev pub no_info : FlagComputation
+no_info = computed 0 0
+
+-- the entries of each table
+pub record Tables : Type 0 where
+  pub types : List Entry
+  pub consts : List Entry
+  pub patterns : List Entry
+  pub predicates : List Entry
+  pub existentials : List Entry
+  pub clause_lists : List Entry
+  pub type_lists : List Entry
+  pub const_lists : List Entry
+  pub arg_lists : List Entry
+  pub pattern_lists : List Entry
+  pub var_lists : List Entry
+  pub existential_lists : List Entry
+  pub assumption_lists : List Entry
+  pub symbols : List Entry
+
+-- the entries of one table
+abbrev pub entries_of : Tables → Table → List Entry
+entries_of ts Types = ts.types
+entries_of ts Consts = ts.consts
+entries_of ts Patterns = ts.patterns
+entries_of ts Predicates = ts.predicates
+entries_of ts Existentials = ts.existentials
+entries_of ts ClauseLists = ts.clause_lists
+entries_of ts TypeLists = ts.type_lists
+entries_of ts ConstLists = ts.const_lists
+entries_of ts ArgLists = ts.arg_lists
+entries_of ts PatternLists = ts.pattern_lists
+entries_of ts VarLists = ts.var_lists
+entries_of ts ExistentialLists = ts.existential_lists
+entries_of ts AssumptionLists = ts.assumption_lists
+entries_of ts Symbols = ts.symbols
+
+-- the tables with other entries in one
+abbrev pub with_entries : Tables → Table → List Entry → Tables
+with_entries ts Types es = record ts { types = es }
+with_entries ts Consts es = record ts { consts = es }
+with_entries ts Patterns es = record ts { patterns = es }
+with_entries ts Predicates es = record ts { predicates = es }
+with_entries ts Existentials es = record ts { existentials = es }
+with_entries ts ClauseLists es = record ts { clause_lists = es }
+with_entries ts TypeLists es = record ts { type_lists = es }
+with_entries ts ConstLists es = record ts { const_lists = es }
+with_entries ts ArgLists es = record ts { arg_lists = es }
+with_entries ts PatternLists es = record ts { pattern_lists = es }
+with_entries ts VarLists es = record ts { var_lists = es }
+with_entries ts ExistentialLists es = record ts { existential_lists = es }
+with_entries ts AssumptionLists es = record ts { assumption_lists = es }
+with_entries ts Symbols es = record ts { symbols = es }
+
+-- the tables with one entry more
+abbrev pub push : Table → Entry → Tables → Tables
+push t e ts = with_entries ts t (entries_of ts t ++ e ∷ [])
+
+-- the rows of one table
+abbrev pub rows_of : Tables → Table → List Row
+rows_of ts t = map (λ e. e.row) (entries_of ts t)
+
+-- what is kept beside the rows of one table
+abbrev pub infos_of : Tables → Table → List FlagComputation
+infos_of ts t = map (λ e. e.info) (entries_of ts t)
+
+-- each table newest first
+abbrev pub reversed : Tables → Tables
+reversed ts = record {
+  types = reverse ts.types;
+  consts = reverse ts.consts;
+  patterns = reverse ts.patterns;
+  predicates = reverse ts.predicates;
+  existentials = reverse ts.existentials;
+  clause_lists = reverse ts.clause_lists;
+  type_lists = reverse ts.type_lists;
+  const_lists = reverse ts.const_lists;
+  arg_lists = reverse ts.arg_lists;
+  pattern_lists = reverse ts.pattern_lists;
+  var_lists = reverse ts.var_lists;
+  existential_lists = reverse ts.existential_lists;
+  assumption_lists = reverse ts.assumption_lists;
+  symbols = reverse ts.symbols;
+}
+
+-- the row of the newest entry
+abbrev pub newest : List Entry → Row
+newest [] = text_row []
+newest (e ∷ es) = e.row
+
+-- the entries before the newest
+abbrev pub older : List Entry → List Entry
+older [] = []
+older (e ∷ es) = es
+
+-- the rows of all tables in the order that is given, newest first
+unfoldable pub merged : List Table → Tables → List Row
+merged [] ts = []
+merged (t ∷ order) ts = newest (entries_of ts t) ∷ merged order (with_entries ts t (older (entries_of ts t)))
+
+-- the same of tables and an order that are kept oldest first
+unfoldable pub rows_in_order : List Table → Tables → List Row
+rows_in_order order ts = merged (reverse order) (reversed ts)
+
+-- the entries of a map
+abbrev pub entries_by : {K V : Type 0} → (K → Row) → (V → FlagComputation) → List (K × V) → List Entry
+entries_by row info es = map (λ e. record { row = row e.0; info = info e.1 }) es
+
+-- the entries of a map whose keys own memory, by what the keys hold
+abbrev pub listed_by : {K X V : Type 0} → (K → X) → List (K × V) → List (X × V)
+listed_by hold es = map (λ e. (hold e.0, e.1)) es
+
+-- the infos are those of the table's trees
+pub record AreInfos (rows : List Row) (t : Table) (infos : List FlagComputation) : Type 0 where
+  pub as_many : length infos ≡ size rows t
+  pub each : (n : ℕ) (info : FlagComputation) → slice_get infos n ≡ Some info → IsInfo info (meaning rows t n)
+
+-- the tables have the rows and their trees' infos, and no table has more than its limit
+pub record AreTables (rows : List Row) (ts : Tables) (limit : ℕ) : Type 0 where
+  pub are : AreRows rows
+  pub has : (t : Table) → table t rows ≡ rows_of ts t
+  pub infos : (t : Table) → AreInfos rows t (infos_of ts t)
+  pub within : (t : Table) → size rows t ≤ limit
+  pub small : limit ≤ 4294967040
+
+-- what is kept: the tables that the order makes, with what was there from the start as their first rows
+pub record Keeps (order : List Table) (ts : Tables) (limit : ℕ) : Type 0 where
+  pub tables : AreTables (rows_in_order order ts) ts limit
+  pub first : (added : List Row) × (rows_in_order order ts ≡ added ++ first_rows)

@@ -1,0 +1,307 @@
+//! The flags of terms: those of a new term from what is kept beside its parts, and those of a stored one as they are kept.
+
+ghost use Rattle.std.specs.Prelude.{◌≡◌, ◌↔◌, ◌<◌, ℕ, map, IsTrue};
+ghost use Rattle.tt_kinds.specs.Bound.{var_kind};
+ghost use Rattle.tt_kinds.specs.Parts.{node_number, node_table, list_number, list_table};
+ghost use Rattle.tt_kinds.specs.Label.{Sort, type_sort, Label, type_label, list_flags};
+ghost use Rattle.tt_kinds.specs.Shape.{Shape, Meaning, fill, fill_all, item_shapes, stored, IsPart, AreParts, HasParts, IsTooDeep};
+ghost use Rattle.tt_kinds.specs.Kinds.{Form, form_shape, relabelled, ty_form, ty_kind_shape, region_shape, child_shapes, parts_shapes};
+ghost use Rattle.tt_kinds.specs.Reading.{outer_binder};
+ghost use Rattle.tt_kinds.specs.Scan.{scan};
+ghost use Rattle.tt_flags.specs.FlagComputation.{computed};
+ghost use Rattle.tt_interner.specs.Rows.{size, meaning};
+ghost use Rattle.tt_interner.specs.Stored.{IsInfo};
+ghost use Rattle.tt_interner.specs.Tables.{AreInfosOf};
+ghost use Rattle.tt_interner.specs.OwnFlags.{own_flags, own_reach};
+
+use crate::interner::Interner;
+use tt_flags::{FlagComputation, TypeFlags};
+use tt_index::DebruijnIndex;
+use tt_kinds::{
+    BoundVarIndexKind, BoundVarKinds, BoundVariableKind, Child, GenericArg, GenericArgKind,
+    GenericArgs, InferTy, List, Node, Parts, Region, Ty, TyKind, Tys,
+};
+
+/// What has its flags and its outer exclusive binder at hand. What stands in it has to be of the interner.
+pub trait Flags {
+    // What the value holds.
+    ghost flags_shape: { Self → Shape };
+
+    /// The flags of the term.
+    fn flags(&self, cx: &Interner) -> TypeFlags
+        requires { IsPart (size cx.now.rows) (flags_shape self.now) }
+        ensures { result.bits ≡ scan (fill (meaning cx.now.rows) (flags_shape self.now)) };
+
+    /// The least index above those of all bound variables that escape the term, and 0 where none does.
+    fn outer_exclusive_binder(&self, cx: &Interner) -> DebruijnIndex
+        requires { IsPart (size cx.now.rows) (flags_shape self.now) }
+        ensures { result ≡ outer_binder (fill (meaning cx.now.rows) (flags_shape self.now)) };
+}
+
+impl Flags for Ty {
+    ghost use Rattle.tt_kinds.specs.Kinds.{ty_shape};
+
+    ghost flags_shape = { ty_shape };
+
+    #[tactic(auto, unfolding(tt_kinds::specs::Shape::IsPart, tt_kinds::specs::Shape::fill))]
+    fn flags(&self, cx: &Interner) -> TypeFlags {
+        cx.ty_info(*self).flags
+    }
+
+    #[tactic(auto, unfolding(tt_kinds::specs::Shape::IsPart, tt_kinds::specs::Shape::fill))]
+    fn outer_exclusive_binder(&self, cx: &Interner) -> DebruijnIndex {
+        cx.ty_info(*self).outer_exclusive_binder
+    }
+}
+
+impl Flags for Tys {
+    ghost use Rattle.tt_kinds.specs.Kinds.{tys_shape};
+
+    ghost flags_shape = { tys_shape };
+
+    #[tactic(auto, unfolding(tt_kinds::specs::Shape::IsPart, tt_kinds::specs::Shape::fill))]
+    fn flags(&self, cx: &Interner) -> TypeFlags {
+        cx.tys_info(*self).flags
+    }
+
+    #[tactic(auto, unfolding(tt_kinds::specs::Shape::IsPart, tt_kinds::specs::Shape::fill))]
+    fn outer_exclusive_binder(&self, cx: &Interner) -> DebruijnIndex {
+        cx.tys_info(*self).outer_exclusive_binder
+    }
+}
+
+impl Flags for GenericArgs {
+    ghost use Rattle.tt_kinds.specs.Kinds.{args_shape};
+
+    ghost flags_shape = { args_shape };
+
+    #[tactic(auto, unfolding(tt_kinds::specs::Shape::IsPart, tt_kinds::specs::Shape::fill))]
+    fn flags(&self, cx: &Interner) -> TypeFlags {
+        cx.args_info(*self).flags
+    }
+
+    #[tactic(auto, unfolding(tt_kinds::specs::Shape::IsPart, tt_kinds::specs::Shape::fill))]
+    fn outer_exclusive_binder(&self, cx: &Interner) -> DebruijnIndex {
+        cx.args_info(*self).outer_exclusive_binder
+    }
+}
+
+impl Flags for BoundVarKinds {
+    ghost use Rattle.tt_kinds.specs.declared.table.Table.TheVariants.{VarLists};
+
+    ghost flags_shape = { λ vars. stored VarLists vars.number };
+
+    #[tactic(auto, unfolding(tt_kinds::specs::Shape::IsPart, tt_kinds::specs::Shape::fill))]
+    fn flags(&self, cx: &Interner) -> TypeFlags {
+        cx.bound_vars_info(*self).flags
+    }
+
+    #[tactic(auto, unfolding(tt_kinds::specs::Shape::IsPart, tt_kinds::specs::Shape::fill))]
+    fn outer_exclusive_binder(&self, cx: &Interner) -> DebruijnIndex {
+        cx.bound_vars_info(*self).outer_exclusive_binder
+    }
+}
+
+impl Flags for Region {
+    ghost use Rattle.tt_kinds.specs.Kinds.{region_shape};
+
+    ghost flags_shape = { region_shape };
+
+    fn flags(&self, cx: &Interner) -> TypeFlags {
+        let _cx = cx;
+        region_info(*self).flags
+    }
+
+    fn outer_exclusive_binder(&self, cx: &Interner) -> DebruijnIndex {
+        let _cx = cx;
+        region_info(*self).outer_exclusive_binder
+    }
+}
+
+impl Flags for GenericArg {
+    ghost use Rattle.tt_kinds.specs.Kinds.{arg_shape};
+
+    ghost flags_shape = { arg_shape };
+
+    fn flags(&self, cx: &Interner) -> TypeFlags {
+        match self.kind() {
+            GenericArgKind::Lifetime(region) => region_info(region).flags,
+            GenericArgKind::Type(ty) => ty.flags(cx),
+        }
+    }
+
+    fn outer_exclusive_binder(&self, cx: &Interner) -> DebruijnIndex {
+        match self.kind() {
+            GenericArgKind::Lifetime(region) => region_info(region).outer_exclusive_binder,
+            GenericArgKind::Type(ty) => ty.outer_exclusive_binder(cx),
+        }
+    }
+}
+
+/// What a kind has of its own, beside what stands in it.
+pub trait OwnFlags {
+    ghost form: { Self → Form (Label ℕ) };
+
+    ghost sort: { Sort };
+
+    /// Whether the kind is a bound variable with the greatest index, of which no term is made.
+    fn is_too_deep(&self) -> bool
+        ensures { IsTrue result ↔ IsTooDeep (form_shape sort (form self.now)) };
+
+    /// The flags that the kind has beside those of its parts.
+    fn own_flags(&self) -> TypeFlags
+        ensures { result.bits ≡ own_flags sort (form self.now) };
+
+    /// One more than the index of a bound variable, and 0 for every other kind. [`OwnFlags::is_too_deep`] tests the
+    /// condition.
+    fn own_outer_exclusive_binder(&self) -> DebruijnIndex
+        requires { IsTooDeep (form_shape sort (form self.now)) → ⊥ }
+        ensures { result ≡ own_reach (form self.now) };
+}
+
+impl OwnFlags for TyKind {
+    ghost form = { λ k. relabelled type_label (ty_form k) };
+
+    ghost sort = { type_sort };
+
+    fn is_too_deep(&self) -> bool {
+        match self {
+            TyKind::Bound(index, _) => !index.is_shallow(),
+            _ => false,
+        }
+    }
+
+    fn own_flags(&self) -> TypeFlags {
+        match self {
+            TyKind::Param(_) => TypeFlags::HAS_TY_PARAM,
+            TyKind::Bound(index, _) => match index {
+                BoundVarIndexKind::Bound(_) => TypeFlags::HAS_TY_BOUND,
+                BoundVarIndexKind::Canonical => TypeFlags::HAS_TY_BOUND.union(
+                    TypeFlags::HAS_CANONICAL_BOUND,
+                ),
+            },
+            TyKind::Placeholder(_) => TypeFlags::HAS_TY_PLACEHOLDER,
+            TyKind::Infer(variable) => match variable {
+                InferTy::TyVar(_) | InferTy::IntVar(_) | InferTy::FloatVar(_) =>
+                    TypeFlags::HAS_TY_INFER,
+                InferTy::FreshTy(_) | InferTy::FreshIntTy(_) | InferTy::FreshFloatTy(_) =>
+                    TypeFlags::HAS_TY_FRESH,
+            },
+            TyKind::Error(_) => TypeFlags::HAS_NON_REGION_ERROR,
+            _ => TypeFlags::empty(),
+        }
+    }
+
+    fn own_outer_exclusive_binder(&self) -> DebruijnIndex {
+        match self {
+            TyKind::Bound(index, _) => index.outer_exclusive_binder(),
+            _ => DebruijnIndex::INNERMOST,
+        }
+    }
+}
+
+/// What is computed of a term that isn't stored yet.
+pub trait ForKind {
+    /// The flags of a type of this kind, and how far its bound variables reach. What stands in the kind has to be of the
+    /// interner, and [`OwnFlags::is_too_deep`] must not hold.
+    fn for_kind(cx: &Interner, kind: &TyKind) -> FlagComputation
+        requires parts { HasParts (size cx.now.rows) (ty_kind_shape kind.now) }
+        requires shallow { IsTooDeep (ty_kind_shape kind.now) → ⊥ }
+        ensures { IsInfo result (fill (meaning cx.now.rows) (ty_kind_shape kind.now)) };
+}
+
+impl ForKind for FlagComputation {
+    fn for_kind(cx: &Interner, kind: &TyKind) -> FlagComputation {
+        cx.are_rows();
+        let own = FlagComputation {
+            flags: kind.own_flags(),
+            outer_exclusive_binder: kind.own_outer_exclusive_binder(),
+        };
+        let parts = kind.parts();
+        let inside = parts_info(cx, &parts);
+        match kind.bound_vars() {
+            Some(vars) => own.joined(inside.under_binder(cx.bound_vars_info(vars).flags)),
+            None => own.joined(inside),
+        }
+    }
+}
+
+// What is computed of a region.
+fn region_info(region: Region) -> FlagComputation
+    ensures flags { (f : Meaning) → result.flags.bits ≡ scan (fill f (region_shape region)) }
+    ensures outer { (f : Meaning) → result.outer_exclusive_binder ≡ outer_binder (fill f (region_shape region)) }
+{
+    FlagComputation {
+        flags: region.flags(),
+        outer_exclusive_binder: region.outer_exclusive_binder(),
+    }
+}
+
+// What is computed of a child, and of none nothing.
+#[tactic(auto, unfolding(tt_kinds::specs::Shape::IsPart, tt_kinds::specs::Shape::fill))]
+fn child_info(cx: &Interner, child: &Child) -> FlagComputation
+    requires { AreParts (size cx.now.rows) (child_shapes child.now) }
+    ensures { AreInfosOf result (fill_all (meaning cx.now.rows) (child_shapes child.now)) }
+{
+    match child {
+        Child::Absent => FlagComputation::new(),
+        Child::Region(region) => region_info(*region),
+        Child::Node(node) => node_info(cx, *node),
+        Child::List(list) => list_info(cx, *list),
+    }
+}
+
+// What is kept beside a stored term.
+fn node_info(cx: &Interner, node: Node) -> FlagComputation
+    requires { node_number node < size cx.now.rows (node_table node) }
+    ensures { IsInfo result (meaning cx.now.rows (node_table node) (node_number node)) }
+{
+    match node {
+        Node::Ty(ty) => cx.ty_info(ty),
+    }
+}
+
+// What is kept beside a stored list.
+fn list_info(cx: &Interner, list: List) -> FlagComputation
+    requires { list_number list < size cx.now.rows (list_table list) }
+    ensures { IsInfo result (meaning cx.now.rows (list_table list) (list_number list)) }
+{
+    match list {
+        List::Tys(tys) => cx.tys_info(tys),
+        List::Args(args) => cx.args_info(args),
+    }
+}
+
+// What is computed of the children of a kind.
+fn parts_info(cx: &Interner, parts: &Parts) -> FlagComputation
+    requires { AreParts (size cx.now.rows) (parts_shapes parts.now) }
+    ensures { AreInfosOf result (fill_all (meaning cx.now.rows) (parts_shapes parts.now)) }
+{
+    child_info(cx, &parts.first).joined(child_info(cx, &parts.second))
+}
+
+// What is computed of a list of these items.
+pub(crate) fn items_info<T: Flags>(cx: &Interner, items: &[T]) -> FlagComputation
+    requires { AreParts (size cx.now.rows) (item_shapes T.flags_shape items.now) }
+    ensures { AreInfosOf result (fill_all (meaning cx.now.rows) (item_shapes T.flags_shape items.now)) }
+{
+    let mut all = FlagComputation::new();
+    for item in items {
+        let next = FlagComputation {
+            flags: item.flags(cx),
+            outer_exclusive_binder: item.outer_exclusive_binder(cx),
+        };
+        all = all.joined(next);
+    }
+    all
+}
+
+// What is computed of a list of a binder's variables.
+pub(crate) fn vars_info(vars: &[BoundVariableKind]) -> FlagComputation
+    ensures { result ≡ computed (list_flags (map var_kind vars.now)) 0 }
+{
+    match vars {
+        [] => FlagComputation::new(),
+        [_, ..] => FlagComputation::leaf(TypeFlags::HAS_BINDER_VARS),
+    }
+}

@@ -1,0 +1,157 @@
+//! The interner.
+
+ghost use Rattle.std.specs.Prelude.{◌≡◌, ◌<◌, IfOk, IfErr, min};
+ghost use Rattle.tt_interner.specs.Rows.{AreRows};
+ghost use Rattle.tt_interner.specs.Stored.{counted, first_rows, HasFirst};
+ghost use Rattle.tt_interner.specs.Laws.{AreInterned};
+
+mod lists;
+mod owns;
+mod symbols;
+mod types;
+
+use crate::tables::{first_list, first_text};
+use indexmap::IndexMap;
+use std::alloc::Global;
+use std::marker::Model;
+use tt_flags::FlagComputation;
+use tt_index::{GREATEST_INDEX, Refusal};
+use tt_kinds::{BoundVariableKind, GenericArg, Table, Ty, TyKind};
+
+/// Keeps each type, list and text once, so that equal handles of one table stand for the same term.
+///
+/// A table has at most as many rows as the interner's limit says; what is stored is never removed.
+#[derive(Drop)]
+pub struct Interner {
+    types: IndexMap<TyKind, FlagComputation>,
+    type_lists: IndexMap<Vec<Ty>, FlagComputation>,
+    arg_lists: IndexMap<Vec<GenericArg>, FlagComputation>,
+    var_lists: IndexMap<Vec<BoundVariableKind>, FlagComputation>,
+    symbols: IndexMap<String, ()>,
+    // the table of each row, in the order in which rows came
+    order: Vec<Table>,
+    limit: u32,
+    descents: u64,
+    shift_descents: u64,
+}
+
+impl Model for Interner {
+    ghost use Rattle.tt_interner.specs.Stored.{Terms};
+
+    ghost Value = { Terms };
+
+    ghost use Rattle.tt_interner.specs.Kept.{terms, AreKept};
+
+    ghost view = { terms };
+
+    ghost invariant = { AreKept };
+}
+
+impl Interner {
+    /// An interner of the empty lists and of the symbol `'_`, with room for as many rows as handles can name.
+    pub fn new(alloc: Global) -> Result<Interner, Refusal>
+        ensures rows { IfOk result (λ cx. cx.rows ≡ first_rows) }
+        ensures limit { IfOk result (λ cx. cx.limit ≡ 4294967040) }
+        ensures counters { IfOk result (λ cx. cx.counters ≡ record { descents = 0; shift_descents = 0 }) }
+        ensures cause { IfErr result (λ e. e ≡ Refusal.Memory) }
+    {
+        Interner::with_limit(alloc, GREATEST_INDEX)
+    }
+
+    /// The same, with at most `limit` rows in a table. A limit of 0 is refused with `TableFull`, as there is no room for
+    /// the rows from the start.
+    pub fn with_limit(alloc: Global, limit: u32) -> Result<Interner, Refusal>
+        ensures rows { IfOk result (λ cx. cx.rows ≡ first_rows) }
+        ensures limit { IfOk result (λ cx. cx.limit ≡ min limit 4294967040) }
+        ensures counters { IfOk result (λ cx. cx.counters ≡ record { descents = 0; shift_descents = 0 }) }
+        ensures full { limit ≡ 0 → result ≡ Err Refusal.TableFull }
+        ensures cause { 0 < limit → IfErr result (λ e. e ≡ Refusal.Memory) }
+    {
+        if limit == 0 {
+            return Err(Refusal::TableFull);
+        }
+        let mut order = Vec::new(alloc);
+        let type_lists = match first_list(alloc, &mut order, Table::TypeLists) {
+            Ok(lists) => lists,
+            Err(_) => return Err(Refusal::Memory),
+        };
+        let arg_lists = match first_list(alloc, &mut order, Table::ArgLists) {
+            Ok(lists) => lists,
+            Err(_) => return Err(Refusal::Memory),
+        };
+        let var_lists = match first_list(alloc, &mut order, Table::VarLists) {
+            Ok(lists) => lists,
+            Err(_) => return Err(Refusal::Memory),
+        };
+        let symbols = match first_text(alloc, &mut order, Table::Symbols) {
+            Ok(symbols) => symbols,
+            Err(_) => return Err(Refusal::Memory),
+        };
+        Ok(Interner {
+            types: IndexMap::new(alloc),
+            type_lists,
+            arg_lists,
+            var_lists,
+            symbols,
+            order,
+            limit: limit.min(GREATEST_INDEX),
+            descents: 0,
+            shift_descents: 0,
+        })
+    }
+
+    /// What holds of all rows. It does nothing; the contract gives callers the facts.
+    pub fn are_rows(&self)
+        ensures are { AreRows self.now.rows }
+        ensures first { HasFirst self.now.rows }
+    {
+        let _order = &self.order;
+    }
+
+    /// That handles of one table are equal exactly where what they stand for is equal. It does nothing; the contract gives
+    /// callers the fact.
+    pub fn are_interned(&self)
+        ensures { AreInterned self.now.rows }
+    {
+        self.are_rows();
+    }
+
+    /// The allocator of the tables.
+    pub fn allocator(&self) -> Global {
+        *self.types.allocator()
+    }
+
+    /// How often an argument folder has taken a type apart. The count stays at its greatest number.
+    pub fn descents(&self) -> u64
+        ensures { result ≡ self.now.counters.descents }
+    {
+        self.descents
+    }
+
+    /// How often a shifter has taken a type apart. The count stays at its greatest number.
+    pub fn shift_descents(&self) -> u64
+        ensures { result ≡ self.now.counters.shift_descents }
+    {
+        self.shift_descents
+    }
+
+    /// Counts that an argument folder takes a type apart.
+    pub fn count_descent(&mut self)
+        ensures rows { self.new.rows ≡ self.old.rows }
+        ensures limit { self.new.limit ≡ self.old.limit }
+        ensures descents { self.new.counters.descents ≡ counted self.old.counters.descents }
+        ensures shift_descents { self.new.counters.shift_descents ≡ self.old.counters.shift_descents }
+    {
+        self.descents = self.descents.saturating_add(1);
+    }
+
+    /// Counts that a shifter takes a type apart.
+    pub fn count_shift_descent(&mut self)
+        ensures rows { self.new.rows ≡ self.old.rows }
+        ensures limit { self.new.limit ≡ self.old.limit }
+        ensures descents { self.new.counters.descents ≡ self.old.counters.descents }
+        ensures shift_descents { self.new.counters.shift_descents ≡ counted self.old.counters.shift_descents }
+    {
+        self.shift_descents = self.shift_descents.saturating_add(1);
+    }
+}

@@ -1,0 +1,62 @@
+//! Symbols.
+
+ghost use Rattle.std.specs.Prelude.{◌≡◌, ◌<◌, MatchOption};
+ghost use Rattle.tt_interner.specs.Rows.{text_row, size, IsNew};
+ghost use Rattle.tt_interner.specs.Stored.{IsAt, Adds, Builds};
+
+use super::Interner;
+use crate::tables::{add_text, key_at};
+use tt_index::Refusal;
+use tt_kinds::{Symbol, Table};
+
+impl Interner {
+    // The symbol of this text, if it is stored.
+    fn find_symbol(&self, text: &str) -> Option<Symbol>
+        ensures { MatchOption result (IsNew (text_row text.now) self.now.rows) (λ symbol. IsAt self.now.rows (text_row text.now) symbol.number) }
+    {
+        match self.symbols.get_index_of(text) {
+            Some(number) => Some(Symbol::from_number(number as u32)),
+            None => None,
+        }
+    }
+
+    // Stores a new text.
+    fn add_symbol(&mut self, text: &str) -> Result<Symbol, Refusal>
+        requires { IsNew (text_row text.now) self.old.rows }
+        ensures { Adds result (λ symbol. symbol.number) self.old self.new (text_row text.now) }
+    {
+        let number = match add_text(
+            &mut self.order,
+            self.limit,
+            Table::Symbols,
+            &mut self.symbols,
+            text,
+        ) {
+            Ok(number) => number,
+            Err(e) => return Err(e),
+        };
+        Ok(Symbol::from_number(number))
+    }
+
+    /// The symbol of this text.
+    ///
+    /// It is refused with `TableFull` where the text is new and the table has as many rows as it may have, and with
+    /// `Memory`.
+    pub fn symbol(&mut self, text: &str) -> Result<Symbol, Refusal>
+        ensures { Builds result (λ symbol. symbol.number) self.old self.new (text_row text.now) }
+    {
+        self.are_rows();
+        match self.find_symbol(text) {
+            Some(symbol) => Ok(symbol),
+            None => self.add_symbol(text),
+        }
+    }
+
+    /// A symbol's text, in the interner's memory. The symbol has to be of this interner; [`Interner::owns_symbol`] tests it.
+    pub fn text(&self, symbol: Symbol) -> &str
+        requires { symbol.number < size self.now.rows Table.Symbols }
+        ensures { IsAt self.now.rows (text_row result.now) symbol.number }
+    {
+        key_at(&self.symbols, symbol.number()).as_str()
+    }
+}

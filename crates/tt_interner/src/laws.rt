@@ -1,0 +1,13 @@
+//! What holds of all rows that an interner may have, and so of its handles after any calls.
+
+ghost use Rattle.tt_interner.specs.Laws.{EqualTrees, KeepsTrees};
+
+/// Two handles of one table have equal trees exactly when they are equal.
+pub fn equal_handles_for_equal_trees()
+    ensures { EqualTrees }
+{}
+
+/// New rows leave each handle its tree.
+pub fn growth_keeps_trees()
+    ensures { KeepsTrees }
+{}

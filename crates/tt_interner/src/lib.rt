@@ -1,0 +1,17 @@
+//! The interner: each type, list and text is kept once, with its flags beside it.
+#![tactic(auto)]
+
+mod children;
+pub mod flags;
+pub mod handle;
+mod interner;
+mod laws;
+pub mod node;
+mod tables;
+pub mod ty_info;
+
+pub use flags::{Flags, ForKind, OwnFlags};
+pub use handle::{InternedKind, InternedList, InternedText};
+pub use interner::Interner;
+pub use laws::{equal_handles_for_equal_trees, growth_keeps_trees};
+pub use ty_info::WithCachedTypeInfo;

@@ -1,0 +1,183 @@
+//! The tables, and the order in which their entries came.
+ghost use Rattle.std.specs.Prelude.{◌≡◌, ◌⊎◌, ◌<◌, ◌≤◌, [], ◌∷◌, ◌++◌, None, Some, IfOk, OnOk, OnErr, IfErr, slice_get, length};
+ghost use Rattle.std.specs.Map.{lookup};
+ghost use Rattle.std.specs.Cmp.Lexicographic.{pointwise};
+ghost use Rattle.std.specs.Str.{bytes_eq};
+ghost use Rattle.std.specs.String.{string_bytes};
+ghost use Rattle.tt_interner.specs.Tables.{listed_by, no_info};
+ghost use Rattle.indexmap.specs.IndexMap.{get, keys, values, index_map_len};
+
+use indexmap::IndexMap;
+use std::alloc::Global;
+use std::hash::Hash;
+use tt_flags::FlagComputation;
+use tt_index::Refusal;
+use tt_kinds::Table;
+
+/// Adds a new entry to a table that has less than `limit`, and notes the table in the order. Answers the entry's number. Where it is refused, both stay.
+pub(crate) fn add<K: Eq + Hash + Drop, V: Drop>(
+    order: &mut Vec<Table>,
+    limit: u32,
+    table: Table,
+    entries: &mut IndexMap<K, V>,
+    key: K,
+    value: V,
+) -> Result<u32, Refusal>
+    requires { get K.eq entries.old key ≡ None }
+    ensures order { OnOk result (order.new.items ≡ order.old.items ++ table ∷ []) }
+    ensures entries { OnOk result (entries.new.entries ≡ entries.old.entries ++ (key, value) ∷ []) }
+    ensures number { IfOk result (λ n. (n ≡ length entries.old.entries) × (n < limit)) }
+    ensures order_stays { OnErr result (order.new.items ≡ order.old.items) }
+    ensures entries_stay { OnErr result (entries.new.entries ≡ entries.old.entries) }
+    ensures cause { IfErr result (λ e. (e ≡ Refusal.Memory) ⊎ ((e ≡ Refusal.TableFull) × (limit ≤ length entries.old.entries))) }
+    ensures full { limit ≤ length entries.old.entries → result ≡ Err Refusal.TableFull }
+{
+    let number = entries.len();
+    if number >= limit as usize {
+        return Err(Refusal::TableFull);
+    }
+    match order.reserve(1) {
+        Ok(()) => {}
+        Err(_) => return Err(Refusal::Memory),
+    }
+    match entries.insert(key, value) {
+        Ok(_) => {}
+        Err(_) => return Err(Refusal::Memory),
+    }
+    match order.push(table) {
+        Ok(()) => Ok(number as u32),
+        Err(_) => unreachable!(),
+    }
+}
+
+/// Adds a new kind to a table of kinds, as `add`.
+pub(crate) fn add_kind<K: Copy + Eq + Hash + Drop>(
+    order: &mut Vec<Table>,
+    limit: u32,
+    table: Table,
+    entries: &mut IndexMap<K, FlagComputation>,
+    kind: &K,
+    info: FlagComputation,
+) -> Result<u32, Refusal>
+    requires { get K.eq entries.old kind.now ≡ None }
+    ensures order { OnOk result (order.new.items ≡ order.old.items ++ table ∷ []) }
+    ensures entries { OnOk result (entries.new.entries ≡ entries.old.entries ++ (kind.now, info) ∷ []) }
+    ensures number { IfOk result (λ n. (n ≡ length entries.old.entries) × (n < limit)) }
+    ensures order_stays { OnErr result (order.new.items ≡ order.old.items) }
+    ensures entries_stay { OnErr result (entries.new.entries ≡ entries.old.entries) }
+    ensures cause { IfErr result (λ e. (e ≡ Refusal.Memory) ⊎ ((e ≡ Refusal.TableFull) × (limit ≤ length entries.old.entries))) }
+    ensures full { limit ≤ length entries.old.entries → result ≡ Err Refusal.TableFull }
+{
+    add(order, limit, table, entries, *kind, info)
+}
+
+/// Adds a new list to a table of lists, as `add`.
+pub(crate) fn add_list<T: Copy + Eq + Hash + Drop>(
+    order: &mut Vec<Table>,
+    limit: u32,
+    table: Table,
+    entries: &mut IndexMap<Vec<T>, FlagComputation>,
+    items: &[T],
+    info: FlagComputation,
+) -> Result<u32, Refusal>
+    requires { lookup (λ k. pointwise T.eq items.now k.items) entries.old.entries ≡ None }
+    ensures order { OnOk result (order.new.items ≡ order.old.items ++ table ∷ []) }
+    ensures entries { OnOk result (listed_by (λ k. k.items) entries.new.entries ≡ listed_by (λ k. k.items) entries.old.entries ++ (items.now, info) ∷ []) }
+    ensures number { IfOk result (λ n. (n ≡ length entries.old.entries) × (n < limit)) }
+    ensures order_stays { OnErr result (order.new.items ≡ order.old.items) }
+    ensures entries_stay { OnErr result (entries.new.entries ≡ entries.old.entries) }
+    ensures cause { IfErr result (λ e. (e ≡ Refusal.Memory) ⊎ ((e ≡ Refusal.TableFull) × (limit ≤ length entries.old.entries))) }
+    ensures full { limit ≤ length entries.old.entries → result ≡ Err Refusal.TableFull }
+{
+    if entries.len() >= limit as usize {
+        return Err(Refusal::TableFull);
+    }
+    match Vec::from_slice(*entries.allocator(), items) {
+        Ok(key) => add(order, limit, table, entries, key, info),
+        Err(_) => Err(Refusal::Memory),
+    }
+}
+
+/// Adds a new text to the table of texts, as `add`.
+pub(crate) fn add_text(
+    order: &mut Vec<Table>,
+    limit: u32,
+    table: Table,
+    entries: &mut IndexMap<String, ()>,
+    text: &str,
+) -> Result<u32, Refusal>
+    requires { lookup (λ k. bytes_eq text.now (string_bytes k)) entries.old.entries ≡ None }
+    ensures order { OnOk result (order.new.items ≡ order.old.items ++ table ∷ []) }
+    ensures entries { OnOk result (listed_by (λ k. string_bytes k) entries.new.entries ≡ listed_by (λ k. string_bytes k) entries.old.entries ++ (text.now, tt) ∷ []) }
+    ensures number { IfOk result (λ n. (n ≡ length entries.old.entries) × (n < limit)) }
+    ensures order_stays { OnErr result (order.new.items ≡ order.old.items) }
+    ensures entries_stay { OnErr result (entries.new.entries ≡ entries.old.entries) }
+    ensures cause { IfErr result (λ e. (e ≡ Refusal.Memory) ⊎ ((e ≡ Refusal.TableFull) × (limit ≤ length entries.old.entries))) }
+    ensures full { limit ≤ length entries.old.entries → result ≡ Err Refusal.TableFull }
+{
+    if entries.len() >= limit as usize {
+        return Err(Refusal::TableFull);
+    }
+    match String::from_str(*entries.allocator(), text) {
+        Ok(key) => add(order, limit, table, entries, key, ()),
+        Err(_) => Err(Refusal::Memory),
+    }
+}
+
+/// A table of the empty list alone.
+pub(crate) fn first_list<T: Copy + Eq + Hash + Drop>(
+    alloc: Global,
+    order: &mut Vec<Table>,
+    table: Table,
+) -> Result<IndexMap<Vec<T>, FlagComputation>, Refusal>
+    ensures order { OnOk result (order.new.items ≡ order.old.items ++ table ∷ []) }
+    ensures entries { IfOk result (λ map. listed_by (λ k. k.items) map.entries ≡ ([], no_info) ∷ []) }
+{
+    let mut entries = IndexMap::new(alloc);
+    let info = FlagComputation::new();
+    match add_list(order, 1, table, &mut entries, &[], info) {
+        Ok(_) => Ok(entries),
+        Err(e) => Err(e),
+    }
+}
+
+/// The table of the text `'_` alone.
+pub(crate) fn first_text(
+    alloc: Global,
+    order: &mut Vec<Table>,
+    table: Table,
+) -> Result<IndexMap<String, ()>, Refusal>
+    ensures order { OnOk result (order.new.items ≡ order.old.items ++ table ∷ []) }
+    ensures entries { IfOk result (λ map. listed_by (λ k. string_bytes k) map.entries ≡ (39 ∷ 95 ∷ [], tt) ∷ []) }
+{
+    let mut entries = IndexMap::new(alloc);
+    match add_text(order, 1, table, &mut entries, "'_") {
+        Ok(_) => Ok(entries),
+        Err(e) => Err(e),
+    }
+}
+
+/// The key of this number.
+pub(crate) fn key_at<K: Eq + Hash, V>(entries: &IndexMap<K, V>, number: u32) -> &K
+    requires { number < index_map_len entries.now }
+    ensures { slice_get (keys entries.now) number ≡ Some result.now }
+{
+    match entries.get_index(number as usize) {
+        Some((key, _)) => key,
+        None => unreachable!(),
+    }
+}
+
+/// What is kept beside the entry of this number.
+pub(crate) fn info_at<K: Eq + Hash>(
+    entries: &IndexMap<K, FlagComputation>,
+    number: u32,
+) -> FlagComputation
+    requires { number < index_map_len entries.now }
+    ensures { slice_get (values entries.now) number ≡ Some result }
+{
+    match entries.get_index(number as usize) {
+        Some((_, info)) => *info,
+        None => unreachable!(),
+    }
+}
