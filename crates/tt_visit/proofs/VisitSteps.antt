@@ -1,0 +1,185 @@
+-- One step of a visit over plain variables.
+use Rattle.std.proofs.Common.{◌≡◌, ℕ, ◌+◌, ◌<◌, ◌≤◌, List, [], ◌∷◌, ◌++◌, length, take, drop, get_or, ControlFlow, Continue, Break, refl, ap, sym, ◌∙◌, arith}
+use Rattle.std.specs.Prelude.{Some, slice_get}
+use Rattle.std.specs.ControlFlow.{MatchControlFlow}
+use Rattle.std.proofs.lemmas.Grind.{common_steps}
+use Rattle.std.proofs.lemmas.Option.{slice_get_within, get_or_from_slice_get}
+use Rattle.tt_kinds.specs.Label.{Sort, type_sort, TypeLabel, Label, type_label, list_label, var_list_label, text_label, record_label}
+use Rattle.tt_kinds.specs.Tree as tree
+use Rattle.tt_kinds.specs.Tree.{Depth, Tree, Forest}
+use Rattle.tt_kinds.specs.Shape.{Shapes, none, also, append, rename_label, Meaning, Sizes, IsPart, AreParts, HasParts, fill, fill_all, name_of}
+use Rattle.tt_kinds.specs.Kinds.{Form, param, bound, plain, under, ty_form, kind_form, relabelled, form_binder, form_parts, form_shape, kind_sort, kind_shape, region_shape, child_shapes, parts_shapes, children_shapes}
+use Rattle.tt_kinds.specs.declared.parts.Kind.{Kind}
+use Rattle.tt_kinds.specs.declared.parts.Kind.TheVariants as kind
+use Rattle.tt_kinds.specs.declared.parts.Child.{Child}
+use Rattle.tt_kinds.specs.declared.region_kind.RegionKind.{RegionKind}
+use Rattle.tt_kinds.specs.declared.region_kind.RegionKind.TheVariants.{ReEarlyParam, ReBound, ReStatic, ReVar, ReErased, ReError}
+use Rattle.tt_visit.specs.Root.{root, a_region, a_type, error_of}
+use Rattle.tt_visit.specs.Visit.{Visits, Tells, TellingBreaks, GoesInside, GoesOverAll, term_seen, param_seen, bound_seen, all_seen, one_seen, BreaksInside, BreaksAll, error_broke, term_inside_broke, first_broke, later_broke}
+use Rattle.tt_visit.specs.Steps.{form_error, kind_error, AreStored, GoesUnder, BreaksUnder}
+
+pub flow-weaker : {B C : Type 0} (r : ControlFlow B C) {P P' : C → Type 0} {Q Q' : B → Type 0}
+    → MatchControlFlow r P Q → ((c : C) → P c → P' c) → ((b : B) → Q b → Q' b) → MatchControlFlow r P' Q'
+flow-weaker (Continue c) h f g = f c h
+flow-weaker (Break b) h f g = g b h
+
+-- a type's row is a type
+root-form : (f : Meaning) (x : Form TypeLabel) → root (fill f (form_shape type_sort (relabelled type_label x))) ≡ a_type
+unfolding fill
+root-form f (param i name) = refl
+root-form f (bound d e) = refl
+root-form f (plain l p) = refl
+root-form f (under l vars m p) = refl
+
+pub root-kind : (f : Meaning) (k : Kind) → root (fill f (kind_shape k)) ≡ a_type
+root-kind f (kind.Ty k) = root-form f (ty_form k)
+
+-- what stands in a kind
+parts-form : (size : Sizes) (s : Sort) (x : Form (Label ℕ)) → HasParts size (form_shape s x) → AreStored size (form_binder x) × AreParts size (parts_shapes (form_parts x))
+unfolding IsPart AreParts
+parts-form size s (param i name) h = (tt, tt)
+parts-form size s (bound d e) h = (tt, tt)
+parts-form size s (plain l p) h = (tt, h.1)
+parts-form size s (under l vars m p) h = (h.1.0.0, h.1.0.1.2)
+
+pub parts-kind : (size : Sizes) (k : Kind) → HasParts size (kind_shape k) → AreStored size (form_binder (kind_form k)) × AreParts size (parts_shapes (form_parts (kind_form k)))
+parts-kind size k h = parts-form size (kind_sort k) (kind_form k) h
+
+-- a name does not hide an error
+error_of-rename : {N M : Type 0} (name : N → M) (l : Label N) → error_of (rename_label name l) ≡ error_of l
+error_of-rename name (type_label l) = refl
+error_of-rename name (list_label t) = refl
+error_of-rename name (var_list_label vs) = refl
+error_of-rename name (text_label bytes) = refl
+error_of-rename name (record_label l) = refl
+
+-- nothing is seen, and nothing breaks, where there is nothing
+unseen : {M B : Type 0} (V : Visits M B) (s s' : M) → GoesOverAll V s tree.none s' → s' ≡ s
+unseen V s s' all_seen = refl
+
+unbroken : {M B : Type 0} (V : Visits M B) (s s' : M) (b : B) → BreaksAll V s tree.none b s' → ⊥
+unbroken V s s' b h = elim h [ ]
+
+module _ {M B : Type 0} (V : Visits M B) (f : Meaning) where
+  inside-form : (sort : Sort) (x : Form (Label ℕ)) (s s1 s' : M) → Tells V s (form_error x) s1
+      → GoesUnder V f s1 (form_binder x) (fill_all f (parts_shapes (form_parts x))) s' → GoesInside V s (fill f (form_shape sort x)) s'
+  unfolding fill
+  inside-form sort (param i name) s s1 s' e h = rw (unseen V s1 s' h, e) param_seen
+  inside-form sort (bound d y) s s1 s' e h = rw (unseen V s1 s' h, e) bound_seen
+  inside-form sort (plain l p) s s1 s' e h = term_seen (rw (error_of-rename (name_of f) l) e) h
+  inside-form sort (under l vars m p) s s1 s' e h = term_seen (rw (error_of-rename (name_of f) l) e) (one_seen (h m) all_seen)
+
+  told-form : (sort : Sort) (x : Form (Label ℕ)) (s s' : M) (b : B) → TellingBreaks V s (form_error x) b s' → BreaksInside V s (fill f (form_shape sort x)) b s'
+  unfolding fill
+  told-form sort (param i name) s s' b e = absurd e
+  told-form sort (bound d y) s s' b e = absurd e
+  told-form sort (plain l p) s s' b e = error_broke (rw (error_of-rename (name_of f) l) e)
+  told-form sort (under l vars m p) s s' b e = error_broke (rw (error_of-rename (name_of f) l) e)
+
+  broke-form : (sort : Sort) (x : Form (Label ℕ)) (s s1 s' : M) (b : B) → Tells V s (form_error x) s1
+      → BreaksUnder V f s1 (form_binder x) (fill_all f (parts_shapes (form_parts x))) b s' → BreaksInside V s (fill f (form_shape sort x)) b s'
+  unfolding fill
+  broke-form sort (param i name) s s1 s' b e h = absurd (unbroken V s1 s' b h)
+  broke-form sort (bound d y) s s1 s' b e h = absurd (unbroken V s1 s' b h)
+  broke-form sort (plain l p) s s1 s' b e h = term_inside_broke (rw (error_of-rename (name_of f) l) e) h
+  broke-form sort (under l vars m p) s s1 s' b e h = term_inside_broke (rw (error_of-rename (name_of f) l) e) (first_broke (h m))
+
+  -- a kind's error and its parts
+  pub inside-kind : (k : Kind) (s s1 s' : M) → Tells V s (kind_error k) s1
+      → GoesUnder V f s1 (form_binder (kind_form k)) (fill_all f (parts_shapes (form_parts (kind_form k)))) s' → GoesInside V s (fill f (kind_shape k)) s'
+  inside-kind k s s1 s' e h = inside-form (kind_sort k) (kind_form k) s s1 s' e h
+
+  pub told-kind : (k : Kind) (s s' : M) (b : B) → TellingBreaks V s (kind_error k) b s' → BreaksInside V s (fill f (kind_shape k)) b s'
+  told-kind k s s' b e = told-form (kind_sort k) (kind_form k) s s' b e
+
+  pub broke-kind : (k : Kind) (s s1 s' : M) (b : B) → Tells V s (kind_error k) s1
+      → BreaksUnder V f s1 (form_binder (kind_form k)) (fill_all f (parts_shapes (form_parts (kind_form k)))) b s' → BreaksInside V s (fill f (kind_shape k)) b s'
+  broke-kind k s s1 s' b e h = broke-form (kind_sort k) (kind_form k) s s1 s' b e h
+
+  -- some shapes, and then others
+  pub seen-append : (ss us : Shapes) (s s1 s' : M) → GoesOverAll V s (fill_all f ss) s1 → GoesOverAll V s1 (fill_all f us) s' → GoesOverAll V s (fill_all f (append ss us)) s'
+  unfolding fill_all
+  seen-append none us s s1 s' a b = rw (← unseen V s s1 a) b
+  seen-append (also x ss) us s s1 s' (one_seen {s1 = m} a more) b = one_seen a (seen-append ss us m s1 s' more b)
+
+  pub broke-before : (ss us : Shapes) (s s' : M) (b : B) → BreaksAll V s (fill_all f ss) b s' → BreaksAll V s (fill_all f (append ss us)) b s'
+  unfolding fill_all
+  broke-before none us s s' b h = absurd (unbroken V s s' b h)
+  broke-before (also x ss) us s s' b (first_broke h) = first_broke h
+  broke-before (also x ss) us s s' b (later_broke {s1 = m} a h) = later_broke a (broke-before ss us m s' b h)
+
+  pub broke-after : (ss us : Shapes) (s s1 s' : M) (b : B) → GoesOverAll V s (fill_all f ss) s1 → BreaksAll V s1 (fill_all f us) b s' → BreaksAll V s (fill_all f (append ss us)) b s'
+  unfolding fill_all
+  broke-after none us s s1 s' b a h = rw (← unseen V s s1 a) h
+  broke-after (also x ss) us s s1 s' b (one_seen {s1 = m} a more) h = later_broke a (broke-after ss us m s1 s' b more h)
+
+nothing-seen : {M B : Type 0} (V : Visits M B) (f : Meaning) (s : M) → GoesOverAll V s (fill_all f none) s
+unfolding fill_all
+nothing-seen V f s = all_seen
+
+-- parts of some shapes, and then of others
+pub parts-before : (size : Sizes) (ss us : Shapes) → AreParts size (append ss us) → AreParts size ss
+unfolding AreParts
+parts-before size none us h = tt
+parts-before size (also x ss) us h = (h.0, parts-before size ss us h.1)
+
+pub parts-after : (size : Sizes) (ss us : Shapes) → AreParts size (append ss us) → AreParts size us
+unfolding AreParts
+parts-after size none us h = h
+parts-after size (also x ss) us h = parts-after size ss us h.1
+
+-- the children of a list, up to one of them
+append-assoc : (ss us vs : Shapes) → append (append ss us) vs ≡ append ss (append us vs)
+append-assoc none us vs = refl
+append-assoc (also x ss) us vs = ap (also x) (append-assoc ss us vs)
+
+children-append : (xs ys : List Child) → children_shapes (xs ++ ys) ≡ append (children_shapes xs) (children_shapes ys)
+children-append [] ys = refl
+children-append (x ∷ xs) ys = ap (append (child_shapes x)) (children-append xs ys) ∙ sym (append-assoc (child_shapes x) (children_shapes xs) (children_shapes ys))
+
+take-more : {A : Type 0} (list : List A) (n : ℕ) (x : A) → x ≡ get_or list n x → n < length list → take (n + 1) list ≡ take n list ++ x ∷ []
+take-more list n x is_x lt = grind (arith, common_steps)
+
+take-rest : {A : Type 0} (list : List A) (n : ℕ) (x : A) → x ≡ get_or list n x → n < length list → list ≡ take n list ++ (x ∷ drop (n + 1) list)
+take-rest list n x is_x lt = grind (arith, common_steps)
+
+is-read : {A : Type 0} (list : List A) (n : ℕ) (x : A) → slice_get list n ≡ Some x → x ≡ get_or list n x
+is-read list n x h = sym (get_or_from_slice_get list n x x h)
+
+pub children-from : (list : List Child) (n : ℕ) (x : Child) → slice_get list n ≡ Some x
+    → children_shapes list ≡ append (children_shapes (take n list)) (append (child_shapes x) (children_shapes (drop (n + 1) list)))
+children-from list n x h =
+    ap children_shapes (take-rest list n x (is-read list n x h) (slice_get_within list n x h)) ∙ children-append (take n list) (x ∷ drop (n + 1) list)
+
+pub parts-child : (size : Sizes) (list : List Child) (n : ℕ) (x : Child) → slice_get list n ≡ Some x → AreParts size (children_shapes list) → AreParts size (child_shapes x)
+parts-child size list n x h are =
+    parts-before size (child_shapes x) (children_shapes (drop (n + 1) list))
+    (parts-after size (children_shapes (take n list)) (append (child_shapes x) (children_shapes (drop (n + 1) list))) (rw (children-from list n x h) at are))
+
+module _ {M B : Type 0} (V : Visits M B) (f : Meaning) (list : List Child) (n : ℕ) where
+  pub child-seen : (x : Child) (s s1 s' : M) → slice_get list n ≡ Some x → GoesOverAll V s (fill_all f (children_shapes (take n list))) s1
+      → GoesOverAll V s1 (fill_all f (child_shapes x)) s' → GoesOverAll V s (fill_all f (children_shapes (take (n + 1) list))) s'
+  child-seen x s s1 s' h before now =
+      let e = ap children_shapes (take-more list n x (is-read list n x h) (slice_get_within list n x h)) ∙ children-append (take n list) (x ∷ []) in
+      rw e (seen-append V f (children_shapes (take n list)) (append (child_shapes x) none) s s1 s' before (seen-append V f (child_shapes x) none s1 s' s' now (nothing-seen V f s')))
+
+  pub child-broke : (x : Child) (s s1 s' : M) (b : B) → slice_get list n ≡ Some x → GoesOverAll V s (fill_all f (children_shapes (take n list))) s1
+      → BreaksAll V s1 (fill_all f (child_shapes x)) b s' → BreaksAll V s (fill_all f (children_shapes list)) b s'
+  child-broke x s s1 s' b h before now =
+      rw (children-from list n x h) (broke-after V f (children_shapes (take n list)) (append (child_shapes x) (children_shapes (drop (n + 1) list))) s s1 s' b before
+      (broke-before V f (child_shapes x) (children_shapes (drop (n + 1) list)) s1 s' b now))
+
+  pub children-seen : (s s' : M) → length list ≤ n → GoesOverAll V s (fill_all f (children_shapes (take n list))) s' → GoesOverAll V s (fill_all f (children_shapes list)) s'
+  children-seen s s' all w =
+      let whole : take n list ≡ list = grind (arith, common_steps) in
+      rw whole at w
+
+-- a region is a region
+pub root-region : (f : Meaning) (r : RegionKind) → root (fill f (region_shape r)) ≡ a_region
+unfolding fill
+root-region f (ReEarlyParam p) = refl
+root-region f (ReBound i b) = refl
+root-region f ReStatic = refl
+root-region f (ReVar v) = refl
+root-region f ReErased = refl
+root-region f (ReError e) = refl

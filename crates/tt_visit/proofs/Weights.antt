@@ -1,0 +1,71 @@
+-- How deep a visit may go: the ages of what stands in a kind or a list.
+use Rattle.std.proofs.Common.{ℕ, suc, ◌+◌, ◌<◌, ◌≤◌, List, take, drop, max, arith}
+use Rattle.std.specs.Prelude.{slice_get, Some, ◌≡◌}
+use Rattle.tt_kinds.specs.Label.{Sort, Label}
+use Rattle.tt_kinds.specs.Shape.{Shapes, append, none, also}
+use Rattle.tt_kinds.specs.Parts.{node_table, node_number, list_table, list_number}
+use Rattle.tt_kinds.specs.Kinds.{Form, param, bound, plain, under, form_parts, form_shape, kind_form, kind_sort, kind_shape, child_shapes, parts_shapes, children_shapes}
+use Rattle.tt_kinds.specs.declared.parts.Node.{Node}
+use Rattle.tt_kinds.specs.declared.parts.List.{List as StoredList}
+use Rattle.tt_kinds.specs.declared.parts.Child.{Child}
+use Rattle.tt_kinds.specs.declared.parts.Child.TheVariants as child
+use Rattle.tt_kinds.specs.declared.parts.Parts.{Parts}
+use Rattle.tt_kinds.specs.declared.parts.Kind.{Kind}
+use Rattle.tt_visit.proofs.VisitSteps.{children-from}
+use Rattle.tt_interner.specs.Rows.{Row, age, IsOlder, AreOlder}
+
+-- how many rows came before a stored term
+abbrev pub node_age : List Row → Node → ℕ
+node_age rows n = age rows (node_table n) (node_number n)
+
+-- how many rows came before a stored list
+abbrev pub list_age : List Row → StoredList → ℕ
+list_age rows l = age rows (list_table l) (list_number l)
+
+-- how many rows there have to be for a child
+abbrev pub child_height : List Row → Child → ℕ
+child_height rows child.Absent = 0
+child_height rows (child.Region r) = 0
+child_height rows (child.Node n) = suc (node_age rows n)
+child_height rows (child.List l) = suc (list_age rows l)
+
+-- the same for parts
+abbrev pub parts_height : List Row → Parts → ℕ
+parts_height rows p = max (child_height rows p.first) (child_height rows p.second)
+
+older-before : (rows : List Row) (a : ℕ) (ss us : Shapes) → AreOlder rows a (append ss us) → AreOlder rows a ss
+older-before rows a none us h = tt
+older-before rows a (also x ss) us h = (h.0, older-before rows a ss us h.1)
+
+older-after : (rows : List Row) (a : ℕ) (ss us : Shapes) → AreOlder rows a (append ss us) → AreOlder rows a us
+older-after rows a none us h = h
+older-after rows a (also x ss) us h = older-after rows a ss us h.1
+
+-- a child that came before so many rows
+low-child : (rows : List Row) (a : ℕ) (c : Child) → AreOlder rows a (child_shapes c) → child_height rows c ≤ a
+low-child rows a child.Absent h = omega arith
+low-child rows a (child.Region r) h = omega arith
+low-child rows a (child.Node n) h = let older : node_age rows n < a = h.0 in omega arith
+low-child rows a (child.List l) h = let older : list_age rows l < a = h.0 in omega arith
+
+low-parts : (rows : List Row) (a : ℕ) (p : Parts) → AreOlder rows a (parts_shapes p) → parts_height rows p ≤ a
+low-parts rows a p h =
+    let first = low-child rows a p.first (older-before rows a (child_shapes p.first) (child_shapes p.second) h) in
+    let second = low-child rows a p.second (older-after rows a (child_shapes p.first) (child_shapes p.second) h) in
+    omega arith
+
+low-form : (rows : List Row) (a : ℕ) (s : Sort) (x : Form (Label ℕ)) → IsOlder rows a (form_shape s x) → parts_height rows (form_parts x) ≤ a
+low-form rows a s (param i name) h = omega arith
+low-form rows a s (bound d e) h = omega arith
+low-form rows a s (plain l p) h = low-parts rows a p h
+low-form rows a s (under l vars m p) h = low-parts rows a p h.0
+
+-- what stands in a kind came before its row
+pub low-kind : (rows : List Row) (a : ℕ) (k : Kind) → IsOlder rows a (kind_shape k) → parts_height rows (form_parts (kind_form k)) ≤ a
+low-kind rows a k h = low-form rows a (kind_sort k) (kind_form k) h
+
+-- what stands in a list came before its row
+pub low-item : (rows : List Row) (a : ℕ) (list : List Child) (n : ℕ) (x : Child) → slice_get list n ≡ Some x → AreOlder rows a (children_shapes list) → child_height rows x ≤ a
+low-item rows a list n x h older =
+    low-child rows a x (older-before rows a (child_shapes x) (children_shapes (drop (n + 1) list))
+    (older-after rows a (children_shapes (take n list)) (append (child_shapes x) (children_shapes (drop (n + 1) list))) (rw (children-from list n x h) at older)))

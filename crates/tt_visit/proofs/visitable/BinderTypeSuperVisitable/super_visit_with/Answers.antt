@@ -1,0 +1,9 @@
+use Rattle.tt_kinds.specs.Shape.{fill}
+use Rattle.tt_visit.specs.Visit.{value_seen, value_broke}
+use Rattle.tt_visit.proofs.VisitSteps.{flow-weaker}
+use Rattle.tt_visit.proofs.visitable.BinderTypeSuperVisitable.super_visit_with.Goals as goal
+
+pub returns : goal.returns
+unfolding fill
+returns g c =
+    flow-weaker c.visit_with.result (rw c.skip_binder.ensures at c.visit_with.ensures) (λ _ h. value_seen h) (λ b h. value_broke h)

@@ -1,0 +1,61 @@
+-- What the visitors do that look how far out variables are bound.
+use Rattle.std.specs.Prelude.{◌≡◌, ℕ, ◌+◌, ◌-◌, ◌<◌, ◌≤◌, Bool, true, ⊤}
+use Rattle.tt_index.specs.Greatest.{greatest}
+use Rattle.tt_kinds.specs.Tree.{Depth, Tree, Forest, param, bound, region, term, node, binder, none, also}
+use Rattle.tt_kinds.specs.Reading.{outer_binder}
+use Rattle.tt_visit.specs.Visit.{Visits}
+use Rattle.tt_visit.specs.declared.visitor.Next.{Next}
+use Rattle.tt_visit.specs.declared.visitor.Next.TheVariants.{Skip, Descend}
+use Rattle.tt_visit.specs.declared.has_escaping_vars.FoundEscapingVars.{FoundEscapingVars}
+
+-- a search for variables of the binder of this index, or further out: where it stands, and whether it passed over a value
+pub record Search : Type 0 where
+  pub outer_index : ℕ
+  pub skipped : Bool
+
+-- a binder is entered with one more binder to count, and passed over where there is no index for it
+abbrev pub Enters : Search → Next → Search → Type 0
+Enters s Descend s' = s' ≡ record { outer_index = s.outer_index + 1; skipped = s.skipped }
+Enters s Skip s' = (greatest ≤ s.outer_index) × (s' ≡ record { outer_index = s.outer_index; skipped = true })
+
+-- what reaches far enough out breaks, and no type is descended into
+abbrev pub search_hooks : Visits Search FoundEscapingVars
+search_hooks = record {
+  on_region = λ s t s'. (s' ≡ s) × (outer_binder t ≤ s.outer_index);
+  region_breaks = λ s t b s'. (s' ≡ s) × (s.outer_index < outer_binder t);
+  on_error = λ s e s'. s' ≡ s;
+  error_breaks = λ s e b s'. ⊥;
+  on_term = λ s t next s'. (s' ≡ s) × (next ≡ Skip) × (outer_binder t ≤ s.outer_index);
+  term_breaks = λ s t b s'. (s' ≡ s) × (s.outer_index < outer_binder t);
+  enter = λ s vs next s'. Enters s next s';
+  enter_breaks = λ s vs b s'. ⊥;
+  leave = λ s vs s'. s' ≡ record { outer_index = s.outer_index - 1; skipped = s.skipped };
+}
+
+-- nothing breaks, and each index is in range
+abbrev pub range_hooks : Visits ⊤ FoundEscapingVars
+range_hooks = record {
+  on_region = λ s t s'. outer_binder t ≤ greatest;
+  region_breaks = λ s t b s'. ⊥;
+  on_error = λ s e s'. ⊤;
+  error_breaks = λ s e b s'. ⊥;
+  on_term = λ s t next s'. (next ≡ Skip) × (outer_binder t ≤ greatest);
+  term_breaks = λ s t b s'. ⊥;
+  enter = λ s vs next s'. next ≡ Descend;
+  enter_breaks = λ s vs b s'. ⊥;
+  leave = λ s vs s'. ⊤;
+}
+
+abbrev mutual
+  -- no region and no type of the tree reaches past the greatest index
+  pub InRange : Tree Depth → Type 0
+  InRange (param s i name) = ⊤
+  InRange (bound s d e) = outer_binder (bound s d e) ≤ greatest
+  InRange (region r) = ⊤
+  InRange (term l ts) = outer_binder (term l ts) ≤ greatest
+  InRange (node l ts) = InRange_all ts
+  InRange (binder vs t) = InRange t
+
+  pub InRange_all : Forest Depth → Type 0
+  InRange_all none = ⊤
+  InRange_all (also t ts) = InRange t × InRange_all ts

@@ -1,0 +1,5 @@
+pub mod Root
+pub mod Visit
+pub mod Steps
+pub mod HasTypeFlags
+pub mod HasEscapingVars

@@ -1,0 +1,160 @@
+//! The visitor that looks for variables that are bound far out.
+
+ghost use Rattle.std.specs.Prelude.{IsTrue, false, ◌<◌, ◌≡◌, ◌↔◌};
+
+use crate::visitor::{Next, TypeVisitor};
+use std::ops::ControlFlow;
+use tt_index::DebruijnIndex;
+use tt_interner::{Flags, Interner};
+use tt_kinds::{BoundVarKinds, ErrorGuaranteed, Region, Ty};
+
+/// What a visit breaks with where it finds a variable.
+#[derive(Clone, Copy, Debug, PartialEq, Eq)]
+pub struct FoundEscapingVars;
+
+/// Breaks at the first region or type that holds a variable bound by the binder `outer_index` or further out, where that index
+/// is counted from outside the visited value. No type is taken apart: its outer exclusive binder is kept beside it.
+///
+/// Inside binders that are too many for an index no variable reaches so far out, since each has an index below the greatest. So
+/// such a binder's value is passed over, and the visitor keeps in mind that it was.
+#[derive(Clone, Copy, Debug)]
+pub struct HasEscapingVarsVisitor {
+    // the index of the same binder, as counted from where the visit stands
+    outer_index: DebruijnIndex,
+    skipped: bool,
+}
+
+impl HasEscapingVarsVisitor {
+    /// The visitor that looks for variables of the binder of this index and of those further out.
+    pub fn new(outer_index: DebruijnIndex) -> HasEscapingVarsVisitor
+        ensures { result ≡ record { outer_index = outer_index; skipped = false } }
+    {
+        HasEscapingVarsVisitor {
+            outer_index,
+            skipped: false,
+        }
+    }
+
+    /// Whether a binder's value was passed over.
+    pub fn has_skipped(self) -> bool
+        ensures { result ≡ self.skipped }
+    {
+        self.skipped
+    }
+
+    // The answer to a region or a type whose outer exclusive binder this is.
+    fn found(self, outer_exclusive_binder: DebruijnIndex) -> bool
+        ensures { IsTrue result ↔ (self.outer_index < outer_exclusive_binder) }
+    {
+        outer_exclusive_binder > self.outer_index
+    }
+}
+
+impl TypeVisitor for HasEscapingVarsVisitor {
+    type Break = FoundEscapingVars;
+
+    ghost use Rattle.tt_visit.specs.HasEscapingVars.{Search, search_hooks};
+
+    ghost Meaning = { Search };
+
+    ghost meaning = { λ _ s. record { outer_index = s.outer_index; skipped = s.skipped } };
+
+    ghost hooks = { search_hooks };
+
+    fn visit_region(
+        &mut self,
+        _cx: &Interner,
+        region: Region,
+    ) -> ControlFlow<FoundEscapingVars, ()> {
+        if self.found(region.outer_exclusive_binder()) {
+            ControlFlow::Break(FoundEscapingVars)
+        } else {
+            ControlFlow::Continue(())
+        }
+    }
+
+    fn visit_error(
+        &mut self,
+        _cx: &Interner,
+        _error: ErrorGuaranteed,
+    ) -> ControlFlow<FoundEscapingVars, ()> {
+        ControlFlow::Continue(())
+    }
+
+    fn visit_ty(&mut self, cx: &Interner, ty: Ty) -> ControlFlow<FoundEscapingVars, Next> {
+        if self.found(ty.outer_exclusive_binder(cx)) {
+            ControlFlow::Break(FoundEscapingVars)
+        } else {
+            ControlFlow::Continue(Next::Skip)
+        }
+    }
+
+    fn visit_binder(
+        &mut self,
+        _cx: &Interner,
+        _vars: BoundVarKinds,
+    ) -> ControlFlow<FoundEscapingVars, Next> {
+        if self.outer_index.can_shift_in(1) {
+            self.outer_index.shift_in(1);
+            ControlFlow::Continue(Next::Descend)
+        } else {
+            self.skipped = true;
+            ControlFlow::Continue(Next::Skip)
+        }
+    }
+
+    fn leave_binder(&mut self, _cx: &Interner, _vars: BoundVarKinds) {
+        if self.outer_index.can_shift_out(1) {
+            self.outer_index.shift_out(1);
+        }
+    }
+}
+
+/// Goes over a value only to learn of each region and type that its indices are in range.
+#[derive(Clone, Copy, Debug)]
+pub struct InRangeVisitor;
+
+impl TypeVisitor for InRangeVisitor {
+    type Break = FoundEscapingVars;
+
+    ghost use Rattle.std.specs.Prelude.{⊤};
+    ghost use Rattle.tt_visit.specs.HasEscapingVars.{range_hooks};
+
+    ghost Meaning = { ⊤ };
+
+    ghost meaning = { λ _ s. tt };
+
+    ghost hooks = { range_hooks };
+
+    fn visit_region(
+        &mut self,
+        _cx: &Interner,
+        region: Region,
+    ) -> ControlFlow<FoundEscapingVars, ()> {
+        let _fits = region.outer_exclusive_binder().as_u32();
+        ControlFlow::Continue(())
+    }
+
+    fn visit_error(
+        &mut self,
+        _cx: &Interner,
+        _error: ErrorGuaranteed,
+    ) -> ControlFlow<FoundEscapingVars, ()> {
+        ControlFlow::Continue(())
+    }
+
+    fn visit_ty(&mut self, cx: &Interner, ty: Ty) -> ControlFlow<FoundEscapingVars, Next> {
+        let _fits = ty.outer_exclusive_binder(cx).as_u32();
+        ControlFlow::Continue(Next::Skip)
+    }
+
+    fn visit_binder(
+        &mut self,
+        _cx: &Interner,
+        _vars: BoundVarKinds,
+    ) -> ControlFlow<FoundEscapingVars, Next> {
+        ControlFlow::Continue(Next::Descend)
+    }
+
+    fn leave_binder(&mut self, _cx: &Interner, _vars: BoundVarKinds) {}
+}

@@ -1,0 +1,196 @@
+//! The visit of stored terms and lists.
+
+ghost use Rattle.std.specs.Prelude.{◌<◌};
+ghost use Rattle.std.specs.ControlFlow.{MatchControlFlow};
+ghost use Rattle.tt_kinds.specs.Shape.{AreParts, HasParts, IsPart, fill, fill_all};
+ghost use Rattle.tt_kinds.specs.Kinds.{child_shapes, kind_shape, list_shape, node_shape, parts_shapes};
+ghost use Rattle.tt_kinds.specs.declared.table.Table.TheVariants.{VarLists};
+ghost use Rattle.tt_interner.specs.Rows.{meaning, size};
+ghost use Rattle.tt_visit.specs.Visit.{Breaks, BreaksAll, BreaksInside, GoesInside, GoesOver, GoesOverAll, Tells, TellingBreaks};
+ghost use Rattle.tt_visit.specs.Steps.{AreStored, BreaksUnder, GoesUnder, kind_error};
+ghost use Rattle.std.specs.Prelude.{Some};
+
+use crate::visitor::{Next, TypeVisitor};
+use std::ops::ControlFlow;
+use tt_interner::Interner;
+use tt_kinds::{BoundVarKinds, Child, Kind, List, Node, Parts, TyKind};
+
+/// The visit of a stored term.
+#[cycle(visit)]
+pub fn visit_node<V: TypeVisitor>(
+    cx: &Interner,
+    visitor: &mut V,
+    node: Node,
+) -> ControlFlow<V::Break, ()>
+    requires { IsPart (size cx.now.rows) (node_shape node) }
+    ensures { MatchControlFlow
+        result
+        (λ _. GoesOver V.hooks (V.meaning cx.now.rows visitor.old) (fill (meaning cx.now.rows) (node_shape node)) (V.meaning cx.now.rows visitor.new))
+        (λ b. Breaks V.hooks (V.meaning cx.now.rows visitor.old) (fill (meaning cx.now.rows) (node_shape node)) b (V.meaning cx.now.rows visitor.new)) }
+{
+    let kind = cx.node_kind(node);
+    match ask(cx, visitor, node) {
+        ControlFlow::Break(b) => ControlFlow::Break(b),
+        ControlFlow::Continue(Next::Skip) => ControlFlow::Continue(()),
+        ControlFlow::Continue(Next::Descend) => visit_kind(cx, visitor, &kind),
+    }
+}
+
+/// The visit of what stands inside a kind.
+#[cycle(visit)]
+pub fn visit_kind<V: TypeVisitor>(
+    cx: &Interner,
+    visitor: &mut V,
+    kind: &Kind,
+) -> ControlFlow<V::Break, ()>
+    requires { HasParts (size cx.now.rows) (kind_shape kind.now) }
+    ensures { MatchControlFlow
+        result
+        (λ _. GoesInside V.hooks (V.meaning cx.now.rows visitor.old) (fill (meaning cx.now.rows) (kind_shape kind.now)) (V.meaning cx.now.rows visitor.new))
+        (λ b. BreaksInside V.hooks (V.meaning cx.now.rows visitor.old) (fill (meaning cx.now.rows) (kind_shape kind.now)) b (V.meaning cx.now.rows visitor.new)) }
+{
+    match tell_error(cx, visitor, kind) {
+        ControlFlow::Break(b) => ControlFlow::Break(b),
+        ControlFlow::Continue(_) => visit_contents(cx, visitor, kind.bound_vars(), kind.parts()),
+    }
+}
+
+// The visit of parts, under their binder if they have one.
+#[cycle(visit)]
+fn visit_contents<V: TypeVisitor>(
+    cx: &Interner,
+    visitor: &mut V,
+    bound_vars: Option<BoundVarKinds>,
+    parts: Parts,
+) -> ControlFlow<V::Break, ()>
+    requires vars { AreStored (size cx.now.rows) bound_vars }
+    requires parts { AreParts (size cx.now.rows) (parts_shapes parts) }
+    ensures { MatchControlFlow
+        result
+        (λ _. GoesUnder V.hooks (meaning cx.now.rows) (V.meaning cx.now.rows visitor.old) bound_vars (fill_all (meaning cx.now.rows) (parts_shapes parts)) (V.meaning cx.now.rows visitor.new))
+        (λ b. BreaksUnder V.hooks (meaning cx.now.rows) (V.meaning cx.now.rows visitor.old) bound_vars (fill_all (meaning cx.now.rows) (parts_shapes parts)) b (V.meaning cx.now.rows visitor.new)) }
+{
+    match bound_vars {
+        None => visit_parts(cx, visitor, parts),
+        Some(vars) => visit_under(cx, visitor, vars, parts),
+    }
+}
+
+// The visit of parts under a binder.
+#[cycle(visit)]
+fn visit_under<V: TypeVisitor>(
+    cx: &Interner,
+    visitor: &mut V,
+    vars: BoundVarKinds,
+    parts: Parts,
+) -> ControlFlow<V::Break, ()>
+    requires vars { vars.number < size cx.now.rows VarLists }
+    requires parts { AreParts (size cx.now.rows) (parts_shapes parts) }
+    ensures { MatchControlFlow
+        result
+        (λ _. GoesUnder V.hooks (meaning cx.now.rows) (V.meaning cx.now.rows visitor.old) (Some vars) (fill_all (meaning cx.now.rows) (parts_shapes parts)) (V.meaning cx.now.rows visitor.new))
+        (λ b. BreaksUnder V.hooks (meaning cx.now.rows) (V.meaning cx.now.rows visitor.old) (Some vars) (fill_all (meaning cx.now.rows) (parts_shapes parts)) b (V.meaning cx.now.rows visitor.new)) }
+{
+    match visitor.visit_binder(cx, vars) {
+        ControlFlow::Break(b) => ControlFlow::Break(b),
+        ControlFlow::Continue(Next::Skip) => ControlFlow::Continue(()),
+        ControlFlow::Continue(Next::Descend) => {
+            let outcome = visit_parts(cx, visitor, parts);
+            visitor.leave_binder(cx, vars);
+            outcome
+        }
+    }
+}
+
+// The visit of parts in order.
+#[cycle(visit)]
+fn visit_parts<V: TypeVisitor>(
+    cx: &Interner,
+    visitor: &mut V,
+    parts: Parts,
+) -> ControlFlow<V::Break, ()>
+    requires { AreParts (size cx.now.rows) (parts_shapes parts) }
+    ensures { MatchControlFlow
+        result
+        (λ _. GoesOverAll V.hooks (V.meaning cx.now.rows visitor.old) (fill_all (meaning cx.now.rows) (parts_shapes parts)) (V.meaning cx.now.rows visitor.new))
+        (λ b. BreaksAll V.hooks (V.meaning cx.now.rows visitor.old) (fill_all (meaning cx.now.rows) (parts_shapes parts)) b (V.meaning cx.now.rows visitor.new)) }
+{
+    match visit_child(cx, visitor, &parts.first) {
+        ControlFlow::Break(b) => ControlFlow::Break(b),
+        ControlFlow::Continue(_) => visit_child(cx, visitor, &parts.second),
+    }
+}
+
+// The visit of one part or item.
+#[cycle(visit)]
+fn visit_child<V: TypeVisitor>(
+    cx: &Interner,
+    visitor: &mut V,
+    child: &Child,
+) -> ControlFlow<V::Break, ()>
+    requires { AreParts (size cx.now.rows) (child_shapes child.now) }
+    ensures { MatchControlFlow
+        result
+        (λ _. GoesOverAll V.hooks (V.meaning cx.now.rows visitor.old) (fill_all (meaning cx.now.rows) (child_shapes child.now)) (V.meaning cx.now.rows visitor.new))
+        (λ b. BreaksAll V.hooks (V.meaning cx.now.rows visitor.old) (fill_all (meaning cx.now.rows) (child_shapes child.now)) b (V.meaning cx.now.rows visitor.new)) }
+{
+    match child {
+        Child::Absent => ControlFlow::Continue(()),
+        Child::Region(region) => visitor.visit_region(cx, *region),
+        Child::Node(node) => visit_node(cx, visitor, *node),
+        Child::List(list) => visit_list(cx, visitor, *list),
+    }
+}
+
+/// The visit of a stored list.
+#[cycle(visit)]
+pub fn visit_list<V: TypeVisitor>(
+    cx: &Interner,
+    visitor: &mut V,
+    list: List,
+) -> ControlFlow<V::Break, ()>
+    requires { IsPart (size cx.now.rows) (list_shape list) }
+    ensures { MatchControlFlow
+        result
+        (λ _. GoesOver V.hooks (V.meaning cx.now.rows visitor.old) (fill (meaning cx.now.rows) (list_shape list)) (V.meaning cx.now.rows visitor.new))
+        (λ b. Breaks V.hooks (V.meaning cx.now.rows visitor.old) (fill (meaning cx.now.rows) (list_shape list)) b (V.meaning cx.now.rows visitor.new)) }
+{
+    for index in 0..cx.list_len(list) {
+        let child = cx.list_child(list, index);
+        match visit_child(cx, visitor, &child) {
+            ControlFlow::Break(b) => return ControlFlow::Break(b),
+            ControlFlow::Continue(_) => {}
+        }
+    }
+    ControlFlow::Continue(())
+}
+
+// What the hook of a stored term answers.
+fn ask<V: TypeVisitor>(cx: &Interner, visitor: &mut V, node: Node) -> ControlFlow<V::Break, Next>
+    requires { IsPart (size cx.now.rows) (node_shape node) }
+    ensures { MatchControlFlow
+        result
+        (λ next. V.hooks.on_term (V.meaning cx.now.rows visitor.old) (fill (meaning cx.now.rows) (node_shape node)) next (V.meaning cx.now.rows visitor.new))
+        (λ b. V.hooks.term_breaks (V.meaning cx.now.rows visitor.old) (fill (meaning cx.now.rows) (node_shape node)) b (V.meaning cx.now.rows visitor.new)) }
+{
+    match node {
+        Node::Ty(ty) => visitor.visit_ty(cx, ty),
+    }
+}
+
+// The visitor is told of the error of a kind, if it has one.
+fn tell_error<V: TypeVisitor>(
+    cx: &Interner,
+    visitor: &mut V,
+    kind: &Kind,
+) -> ControlFlow<V::Break, ()>
+    ensures { MatchControlFlow
+        result
+        (λ _. Tells V.hooks (V.meaning cx.now.rows visitor.old) (kind_error kind.now) (V.meaning cx.now.rows visitor.new))
+        (λ b. TellingBreaks V.hooks (V.meaning cx.now.rows visitor.old) (kind_error kind.now) b (V.meaning cx.now.rows visitor.new)) }
+{
+    match kind {
+        Kind::Ty(TyKind::Error(error)) => visitor.visit_error(cx, *error),
+        Kind::Ty(_) => ControlFlow::Continue(()),
+    }
+}
