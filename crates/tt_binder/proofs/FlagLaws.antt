@@ -1,0 +1,78 @@
+-- What the flags say of a type's parameters.
+use Rattle.std.proofs.Common.{◌≡◌, ℕ, zero, suc, ◌%◌, [], ◌∷◌, refl, sym, ap, ◌∙◌, arith, Bool, true, false}
+use Rattle.std.specs.Prelude.{IsTrue, ◌≢◌, bit_and}
+use Rattle.std.proofs.lemmas.Nat.{and_mask}
+use Rattle.tt_kinds.specs.Label.{Name, TypeLabel, placeholder_type, infer_type, error_type, Label, type_label, list_label, var_list_label, text_label, record_label, infer_flags, flags_of_type, flags_of_label}
+use Rattle.tt_kinds.specs.Tree.{Depth, Tree, param, bound, region, term, node, binder}
+use Rattle.tt_kinds.specs.Scan.{scan}
+use Rattle.tt_kinds.specs.Param.{holds_param}
+use Rattle.tt_kinds.specs.Cause.{HidesRegionVars}
+use Rattle.tt_kinds.specs.declared.ty_kind.InferTy.{InferTy}
+use Rattle.tt_kinds.specs.declared.ty_kind.InferTy.TheVariants.{TyVar, IntVar, FloatVar, FreshTy, FreshIntTy, FreshFloatTy}
+use Rattle.tt_kinds.proofs.FlagLaws.{param_bit, as_number, param_bit-scan}
+use Rattle.tt_kinds.proofs.ParamLaws.{IsGeneric-never}
+use Rattle.tt_kinds.proofs.ChildLaws.{HidesRegionVars-stored}
+use Rattle.tt_fold.specs.Walk.{IsTerm}
+
+-- no label sets a flag for parameters
+infer_sets_none : (i : InferTy) → param_bit (infer_flags i) ≡ 0
+infer_sets_none (TyVar v) = refl
+infer_sets_none (IntVar v) = refl
+infer_sets_none (FloatVar v) = refl
+infer_sets_none (FreshTy n) = refl
+infer_sets_none (FreshIntTy n) = refl
+infer_sets_none (FreshFloatTy n) = refl
+
+type_sets_none : (l : TypeLabel) → param_bit (flags_of_type l) ≡ 0
+type_sets_none (placeholder_type p) = refl
+type_sets_none (infer_type i) = infer_sets_none i
+type_sets_none (error_type e) = refl
+type_sets_none _ = refl
+
+label_sets_none : (l : Label Name) → param_bit (flags_of_label l) ≡ 0
+label_sets_none (type_label l) = type_sets_none l
+label_sets_none (list_label t) = refl
+label_sets_none (var_list_label []) = refl
+label_sets_none (var_list_label (v ∷ vs)) = refl
+label_sets_none (text_label bytes) = refl
+label_sets_none (record_label l) = refl
+
+-- the three flags for parameters together
+meets_none : (n : ℕ) → n % 8 ≡ 0 → param_bit n ≡ 0
+meets_none n h = omega arith
+
+meets_some : (n : ℕ) → (n % 8 ≡ 0 → ⊥) → param_bit n ≡ 1
+meets_some n h = omega arith
+
+as_number-one : (b : Bool) → as_number b ≡ 1 → b ≡ true
+as_number-one true h = refl
+as_number-one false h = absurd (omega (arith, h))
+
+as_number-zero : (b : Bool) → as_number b ≡ 0 → b ≡ false
+as_number-zero true h = absurd (omega (arith, h))
+as_number-zero false h = refl
+
+-- the flags meet those for parameters exactly where one stands
+pub meets_param : (t : Tree Depth) (n : ℕ) → n ≡ scan t → (bit_and n 7 ≢ 0) → holds_param t ≡ true
+meets_param t n e h = as_number-one (holds_param t) (sym (param_bit-scan label_sets_none t) ∙ ap param_bit (sym e) ∙ meets_some n (λ none. h (and_mask n 3 ∙ none)))
+
+is_zero : (n : ℕ) (b : Bool) → b ≡ false → (n ≢ 0 → IsTrue b) → n ≡ 0
+is_zero zero b e h = refl
+is_zero (suc n) b e h = let never = h (λ z. omega (arith, z)) in cc
+
+pub misses_param : (t : Tree Depth) (n : ℕ) (b : Bool) → n ≡ scan t → b ≡ false → (bit_and n 7 ≢ 0 → IsTrue b) → holds_param t ≡ false
+misses_param t n b e none h =
+    as_number-zero (holds_param t) (sym (param_bit-scan label_sets_none t) ∙ ap param_bit (sym e) ∙ meets_none n (sym (and_mask n 3) ∙ is_zero (bit_and n 7) b none h))
+
+-- a type without parameters hides its region variables
+pub hides_none : (t : Tree Depth) → IsTerm t → holds_param t ≡ false → HidesRegionVars t
+hides_none (param s i name) is h = cc
+hides_none (bound s d e) is h = λ x g. g
+hides_none (region r) is h = absurd is
+hides_none (term (type_label l) ts) is h = HidesRegionVars-stored (type_label l) ts refl (IsGeneric-never (term (type_label l) ts) h)
+hides_none (term (list_label t) ts) is h = absurd (cc)
+hides_none (term (var_list_label vs) ts) is h = absurd (cc)
+hides_none (term (text_label bytes) ts) is h = absurd (cc)
+hides_none (term (record_label l) ts) is h = absurd (cc)
+hides_none (node l ts) is h = absurd is
+hides_none (binder vs t) is h = absurd is

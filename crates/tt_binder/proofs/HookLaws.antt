@@ -1,0 +1,224 @@
+-- The steps of the argument folder's hooks.
+use Rattle.std.proofs.Common.{inl, inr, ◌≡◌, ℕ, zero, suc, ◌<◌, List, [], ◌∷◌, refl, sym, ap, subst, ◌∙◌, arith, true, false}
+use Rattle.std.specs.Prelude.{◌≢◌, Option, Some, None, slice_get, option_map, Result, Ok, Err}
+use Rattle.std.proofs.lemmas.Option.{slice_get-map, slice_get_cases}
+use Rattle.std.proofs.lemmas.List.{length-map}
+use Rattle.tt_index.specs.declared.refusal.Refusal.{Refusal}
+use Rattle.tt_index.specs.declared.refusal.Refusal.TheVariants.{Memory, TableFull, GreatestIndex, NoArguments, ArgOutOfRange, ArgKind, RegionVariable, NotAClause, NoSuchAnswer}
+use Rattle.tt_kinds.specs.Label.{Name, Sort, region_sort, type_sort, Label}
+use Rattle.tt_kinds.specs.Tree.{Depth, at, canonical, Tree, Forest, param, bound, region, term, node, binder}
+use Rattle.tt_kinds.specs.Reading.{place, read, moved, move, FitsAt, Fits}
+use Rattle.tt_kinds.specs.Argument.{Argument, same_sort, argument}
+use Rattle.tt_kinds.specs.Plain.{shift_tree}
+use Rattle.tt_kinds.specs.Param.{holds_param, IsGeneric_among}
+use Rattle.tt_kinds.specs.Cause.{Cause}
+use Rattle.tt_kinds.specs.Shape.{AreParts, IsPart, Meaning, fill, name_of}
+use Rattle.tt_kinds.specs.Kinds.{arg_shape, region_shape, ty_kind_shape}
+use Rattle.tt_kinds.specs.declared.generic_arg.GenericArgKind.{GenericArgKind}
+use Rattle.tt_kinds.specs.Bound.{depth, IsBelowGreatest}
+use Rattle.tt_kinds.specs.RegionKind.{IsShallow}
+use Rattle.tt_kinds.proofs.ReadingLaws.{place-outer}
+use Rattle.tt_kinds.proofs.FitsLaws.{FitsUnder-past}
+use Rattle.tt_kinds.proofs.ParamLaws.{IsGeneric_among-from_test}
+use Rattle.tt_kinds.specs.declared.region_kind.EarlyParamRegion.{EarlyParamRegion}
+use Rattle.tt_kinds.specs.declared.region_kind.RegionKind.{RegionKind}
+use Rattle.tt_kinds.specs.declared.region_kind.RegionKind.TheVariants.{ReEarlyParam, ReBound, ReStatic, ReVar, ReErased, ReError}
+use Rattle.tt_kinds.specs.declared.ty_kind.ParamTy.{ParamTy}
+use Rattle.tt_kinds.specs.declared.ty_kind.TyKind.{TyKind}
+use Rattle.tt_kinds.specs.declared.ty_kind.TyKind.TheVariants as ty
+use Rattle.tt_interner.specs.Rows.{Row, row_shape, size, meaning}
+use Rattle.tt_interner.specs.Stored.{counted, Terms}
+use Rattle.tt_fold.specs.Shift.{IsShiftRefusal}
+use Rattle.tt_fold.specs.Steps.{IsRefused}
+use Rattle.tt_fold.specs.Counts.{Standing}
+use Rattle.tt_fold.specs.Walk.{IsTerm, replace, descend}
+use Rattle.tt_binder.specs.Arguments.{arg_sort, argument_of, arguments, AreArguments}
+use Rattle.tt_binder.specs.Instantiation.{Instantiation, Instantiates, without, too_far, LeafRefuses, unshifted, IsTypeParam, OnTerm, given_argument, taken_apart, after_shift, one_more}
+use Rattle.tt_binder.specs.Untouched.{IsUntouched}
+
+-- the arguments aren't none
+some_arguments : (rows : List Row) (items : List GenericArgKind) → items ≢ [] → arguments rows items ≢ []
+some_arguments rows [] h e = h refl
+some_arguments rows (x ∷ items) h e = cc
+
+-- what the list of arguments has at an index
+argument_at : (rows : List Row) (items : List GenericArgKind) (i : ℕ) (o : Option GenericArgKind) → slice_get items i ≡ o → slice_get (arguments rows items) i ≡ option_map (argument_of rows) o
+argument_at rows items i o e = slice_get-map (argument_of rows) items i ∙ ap (option_map (argument_of rows)) e
+
+-- there is none at the parameter's index
+pub out_of_range : (rows : List Row) (items : List GenericArgKind) (s : Sort) (i : ℕ) (name : Name) → items ≢ [] → slice_get items i ≡ None
+    → Cause (param s i name) (arguments rows items) (ArgOutOfRange i)
+out_of_range rows items s i name some e = (
+  some_arguments rows items some,
+  refl,
+  elim (slice_get_cases items i).1 [
+    | inl within ↦ absurd (none_some _ (sym e ∙ within.2))
+    | inr past ↦ omega (arith, past.0, length-map items (argument_of rows))
+  ],
+)
+  where
+    none_some : (x : GenericArgKind) → None ≡ Some x → ⊥
+    none_some x h = cc
+
+-- the one there is of another sort
+pub of_other_sort : (rows : List Row) (items : List GenericArgKind) (s : Sort) (i : ℕ) (name : Name) (a : GenericArgKind) → slice_get items i ≡ Some a → same_sort s (arg_sort a) ≡ false
+    → Cause (param s i name) (arguments rows items) (ArgKind i)
+of_other_sort rows items s i name a e other = (refl, rw (argument_at rows items i (Some a) e, other) refl)
+
+-- the one there is of the sort
+pub argument_given : (rows : List Row) (items : List GenericArgKind) (s : Sort) (i : ℕ) (a : GenericArgKind) → slice_get items i ≡ Some a → same_sort s (arg_sort a) ≡ true
+    → argument (arguments rows items) s i ≡ Some (argument_of rows a).value
+argument_given rows items s i a e same = rw (argument_at rows items i (Some a) e, same) refl
+
+-- an argument is among the rows
+pub argument_part : (rows : List Row) (items : List GenericArgKind) (i : ℕ) (a : GenericArgKind) → AreArguments rows items → slice_get items i ≡ Some a → IsPart (size rows) (arg_shape a)
+unfolding AreParts
+argument_part rows [] i a are e = cc
+argument_part rows (x ∷ items) zero a are e = let same : x ≡ a = cc in rw same at are.0
+argument_part rows (x ∷ items) (suc i) a are e = argument_part rows items i a are.1 e
+
+-- a parameter's argument, shifted past the binders above it
+pub given_done : (args : List (Argument Depth)) (k : ℕ) (s : Sort) (i : ℕ) (name : Name) (t r : Tree Depth) → argument args s i ≡ Some t → r ≡ shift_tree 0 k t → Instantiates args k (param s i name) r
+given_done args k s i name t r a h = record { plain = h ∙ rw a refl; answered = rw a refl; hides = λ x g. g }
+
+-- a shift that needs too great an index is past some binders
+pub given_refused : (unbuilt : Tree Depth → Refusal → Type 0) (args : List (Argument Depth)) (k : ℕ) (s : Sort) (i : ℕ) (name : Name) (t : Tree Depth) (e : Refusal) → argument args s i ≡ Some t
+    → 0 < k → e ≡ GreatestIndex → (Fits (move k (read 0 t)) → ⊥) → LeafRefuses unbuilt args k (param s i name) e
+given_refused unbuilt args k s i name t e a below is h = unshifted below (too_far (record { is = is; unfit = λ fits. h (FitsUnder-past k t (rw a at fits)) }))
+
+-- a region in range fits where it stands
+shallow_fits : (f : Meaning) (r : RegionKind) → IsShallow r → Fits (move 0 (read 0 (fill f (region_shape r))))
+unfolding fill
+shallow_fits f (ReEarlyParam p) h = tt
+shallow_fits f (ReBound i b) h = index_fits (depth i) h
+  where
+    index_fits : (d : Depth) → IsBelowGreatest d → FitsAt 0 (moved 0 (place 0 d))
+    index_fits (at d) low = rw (place-outer 0 d (omega arith)) (omega (arith, low))
+    index_fits canonical low = tt
+shallow_fits f ReStatic h = tt
+shallow_fits f (ReVar v) h = tt
+shallow_fits f ReErased h = tt
+shallow_fits f (ReError e) h = tt
+
+-- so a shift of it that is refused is past some binders
+pub region_past : (f : Meaning) (r : RegionKind) (k : ℕ) → IsShallow r → (Fits (move k (read 0 (fill f (region_shape r)))) → ⊥) → 0 < k
+region_past f r k shallow unfit = by k refl
+  where
+    by : (n : ℕ) → n ≡ k → 0 < k
+    by zero e = absurd (unfit (rw (← e) (shallow_fits f r shallow)))
+    by (suc n) e = omega (arith, e)
+
+-- a refused shift past some binders
+pub given_unshifted : (terms : Terms) (args : List (Argument Depth)) (k : ℕ) (s : Sort) (i : ℕ) (name : Name) (t : Tree Depth) (e : Refusal) → argument args s i ≡ Some t → 0 < k → IsShiftRefusal terms k t e
+    → LeafRefuses (IsRefused terms) args k (param s i name) e
+given_unshifted terms args k s i name t Memory a below h = unshifted below (without (param s i name) (Memory, (refl, tt)))
+given_unshifted terms args k s i name t TableFull a below h =
+    unshifted below (without (fill (meaning terms.rows) (row_shape h.0)) (TableFull, (refl, (h.0, refl, h.1.0, h.1.1))))
+given_unshifted terms args k s i name t GreatestIndex a below h = given_refused (IsRefused terms) args k s i name t GreatestIndex a below refl h
+given_unshifted terms args k s i name t NotAClause a below h = absurd h
+given_unshifted terms args k s i name t NoSuchAnswer a below h = absurd h
+given_unshifted terms args k s i name t NoArguments a below h = absurd h
+given_unshifted terms args k s i name t (ArgOutOfRange index) a below h = absurd h
+given_unshifted terms args k s i name t (ArgKind index) a below h = absurd h
+given_unshifted terms args k s i name t (RegionVariable x) a below h = absurd h
+
+-- a type parameter by its index
+pub type_param : (index : ℕ) (t : Tree Depth) → IsTypeParam index t → (name : Name) × (t ≡ param type_sort index name)
+type_param index (param s i name) h = (name, rw (h.0, h.1) refl)
+type_param index (bound s d e) h = absurd h
+type_param index (region r) h = absurd h
+type_param index (term l ts) h = absurd h
+type_param index (node l ts) h = absurd h
+type_param index (binder vs t) h = absurd h
+
+-- a type that holds a parameter and is none
+pub record Inner (t : Tree Depth) : Type 0 where
+  pub label : Label Name
+  pub children : Forest Depth
+  pub is : t ≡ term label children
+  pub generic : IsGeneric_among children
+
+pub inner_type : (t : Tree Depth) → IsTerm t → holds_param t ≡ true → ((i : ℕ) → IsTypeParam i t → ⊥) → Inner t
+inner_type (param s i name) is h no_param = absurd (no_param i (by_sort s is, refl))
+  where
+    by_sort : (s : Sort) → IsTerm (param s i name) → s ≡ type_sort
+    by_sort type_sort is = refl
+    by_sort _ is = absurd is
+inner_type (bound s d e) is h no_param = cc
+inner_type (region r) is h no_param = absurd is
+inner_type (term l ts) is h no_param = record { label = l; children = ts; is = refl; generic = IsGeneric_among-from_test ts h }
+inner_type (node l ts) is h no_param = absurd is
+inner_type (binder vs t) is h no_param = absurd is
+
+-- the kind of a type that is a parameter, and of one that is none
+pub param_found : (f : Meaning) (p : ParamTy) → IsTypeParam p.index (fill f (ty_kind_shape (ty.Param p)))
+unfolding fill
+param_found f p = (refl, refl)
+
+pub param_none : (f : Meaning) (k : TyKind) → ((p : ParamTy) → k ≡ ty.Param p → ⊥) → (i : ℕ) → IsTypeParam i (fill f (ty_kind_shape k)) → ⊥
+unfolding fill
+param_none f (ty.Param p) other i h = other p refl
+param_none f _ other i h = h
+
+-- a region that is neither a parameter nor a variable is left as it is
+pub region_untouched : (f : Meaning) (r : RegionKind) → ((p : EarlyParamRegion) → r ≡ ReEarlyParam p → ⊥) → ((v : ℕ) → r ≡ ReVar v → ⊥) → IsUntouched (fill f (region_shape r))
+unfolding fill
+region_untouched f (ReEarlyParam p) no_param no_var = absurd (no_param p refl)
+region_untouched f (ReBound i b) no_param no_var = (refl, λ x h. h)
+region_untouched f ReStatic no_param no_var = (refl, λ x h. h)
+region_untouched f (ReVar v) no_param no_var = absurd (no_var v refl)
+region_untouched f ReErased no_param no_var = (refl, λ x h. h)
+region_untouched f (ReError e) no_param no_var = (refl, λ x h. h)
+
+-- one that is a parameter or a variable isn't
+pub param_touched : (f : Meaning) (r : RegionKind) (p : EarlyParamRegion) → r ≡ ReEarlyParam p → IsUntouched (fill f (region_shape r)) → ⊥
+unfolding fill
+param_touched f r p e h = let left = rw e at h in let both = left.0 in cc
+
+pub var_touched : (f : Meaning) (r : RegionKind) (v : ℕ) → r ≡ ReVar v → IsUntouched (fill f (region_shape r)) → ⊥
+unfolding fill
+var_touched f r v e h = let left = rw e at h in left.1 v refl
+
+-- a region variable is refused where there are arguments
+pub var_refused : (f : Meaning) (rows : List Row) (items : List GenericArgKind) (r : RegionKind) (v : ℕ) → r ≡ ReVar v → items ≢ [] → Cause (fill f (region_shape r)) (arguments rows items) (RegionVariable v)
+unfolding fill
+var_refused f rows items r v e some = rw e (some_arguments rows items some, refl)
+
+-- a region parameter's tree
+pub param_region : (f : Meaning) (r : RegionKind) (p : EarlyParamRegion) → r ≡ ReEarlyParam p → fill f (region_shape r) ≡ param region_sort p.index (name_of f p.name.number)
+unfolding fill
+param_region f r p e = rw e refl
+
+-- the same of a tree that is another
+pub leaf_at : (unbuilt : Tree Depth → Refusal → Type 0) (args : List (Argument Depth)) (k : ℕ) (t u : Tree Depth) (e : Refusal) → t ≡ u → LeafRefuses unbuilt args k u e → LeafRefuses unbuilt args k t e
+leaf_at unbuilt args k t u e same h = subst (λ x. LeafRefuses unbuilt args k x e) (sym same) h
+
+pub done_at : (args : List (Argument Depth)) (k : ℕ) (t u r : Tree Depth) → t ≡ u → Instantiates args k u r → Instantiates args k t r
+done_at args k t u r same h = subst (λ x. Instantiates args k x r) (sym same) h
+
+ap3 : {A B C D : Type 0} (f : A → B → C → D) {a a' : A} {b b' : B} {c c' : C} → a ≡ a' → b ≡ b' → c ≡ c' → f a b c ≡ f a' b' c'
+ap3 f p q r = cc
+
+-- the steps before a term's children
+same_standing : (s s' : Standing Instantiation) (d n : ℕ) → s'.state ≡ s.state → s'.counters.descents ≡ d → s'.counters.shift_descents ≡ n
+    → s' ≡ record { state = s.state; counters = record { descents = d; shift_descents = n } }
+same_standing s s' d n state descents shifts = ap3 (λ q x y. record { state = q; counters = record { descents = x; shift_descents = y } }) state descents shifts
+
+pub given_step : (s s' : Standing Instantiation) (t r : Tree Depth) (o : Sort) (i : ℕ) (name : Name) → t ≡ param o i name → s'.state ≡ s.state → s'.counters.descents ≡ s.counters.descents
+    → Instantiates s.state.args s.state.binders_passed (param o i name) r → OnTerm s t (replace r) s'
+given_step s s' t r o i name is state descents done =
+    let same = same_standing s s' s.counters.descents s'.counters.shift_descents state descents refl in
+    subst (λ q. OnTerm s t (replace r) q) (sym same) (subst (λ u. OnTerm s u (replace r) (after_shift s s'.counters.shift_descents)) (sym is) (given_argument s'.counters.shift_descents done))
+
+pub taken_step : (s s' : Standing Instantiation) (t : Tree Depth) → Inner t → s'.state ≡ s.state → s'.counters.descents ≡ counted s.counters.descents
+    → s'.counters.shift_descents ≡ s.counters.shift_descents → OnTerm s t descend s'
+taken_step s s' t inner state descents shifts =
+    let same = same_standing s s' (counted s.counters.descents) s.counters.shift_descents state descents shifts in
+    subst (λ q. OnTerm s t descend q) (sym same) (subst (λ u. OnTerm s u descend (one_more s)) (sym inner.is) (taken_apart inner.generic))
+
+-- a refused shift is past some binders
+pub past_some : {T E : Type 0} (k : ℕ) (r : Result T E) (x : T) (e : E) → r ≡ Err e → (k ≡ 0 → r ≡ Ok x) → 0 < k
+past_some k r x e refused still = omega (arith, zero_never)
+  where
+    zero_never : k ≡ 0 → ⊥
+    zero_never z = let ok = still z in cc

@@ -1,0 +1,152 @@
+-- What the argument folder's walk from outside of each binder gives.
+use Rattle.std.proofs.Common.{◌≡◌, ℕ, ◌<◌, inl, inr, List, [], refl, sym, ap, subst, ◌∙◌, arith, Bool, false, true}
+use Rattle.std.specs.Prelude.{Result, Ok, Err, IfErr, MatchResult}
+use Rattle.tt_index.specs.declared.refusal.Refusal.{Refusal}
+use Rattle.tt_index.specs.declared.refusal.Refusal.TheVariants.{Memory, TableFull, GreatestIndex, NoArguments, ArgOutOfRange, ArgKind, RegionVariable, NotAClause, NoSuchAnswer}
+use Rattle.tt_kinds.specs.Label.{Name, Sort}
+use Rattle.tt_kinds.specs.Tree.{Depth, Tree, param}
+use Rattle.tt_kinds.specs.Reading.{read}
+use Rattle.tt_kinds.specs.Argument.{Argument, readings}
+use Rattle.tt_kinds.specs.Param.{holds_param, IsAnswered}
+use Rattle.tt_kinds.specs.Cause.{Cause}
+use Rattle.tt_kinds.specs.Shape.{Shape, stored, IsPart, fill}
+use Rattle.tt_kinds.specs.declared.table.Table.TheVariants.{Types}
+use Rattle.tt_kinds.proofs.PutLaws.{read-inst_tree, put-put, move-put, IsAnswered-read}
+use Rattle.tt_kinds.proofs.MatchedLaws.{MatchedUnder-put}
+use Rattle.tt_kinds.proofs.ParamLaws.{inst_tree-none, holds_param-put, EachParam-none, IsGeneric-from_test}
+use Rattle.tt_kinds.proofs.CauseLaws.{Cause-never, Cause-no_arguments, Cause-out_of_range, Cause-kind}
+use Rattle.tt_interner.specs.Rows.{Row, size}
+use Rattle.tt_interner.specs.Stored.{Terms, IsUnbuilt}
+use Rattle.tt_fold.specs.Counts.{Standing}
+use Rattle.tt_fold.specs.Steps.{IsPartOf, IsRefused, tree_in}
+use Rattle.tt_fold.specs.Walk.{IsTerm, Walks, Fails, region_failed, term_failed, descent_failed, enter_failed, under_failed, leave_failed, node_failed, node_not_built}
+use Rattle.tt_binder.specs.Instantiation.{Instantiation, Instantiates, Refuses, without, too_far, caused, LeafRefuses, for_cause, unshifted, taken_apart, arg_hooks}
+use Rattle.tt_binder.specs.Instance.{HasNoCause, Composes, Commutes, StaysMatched, LeavesNoParam, IsInstance, IsReason, ComesBack}
+use Rattle.tt_binder.proofs.FlagLaws.{hides_none}
+use Rattle.tt_binder.proofs.RowArguments.{type_term}
+use Rattle.tt_binder.proofs.WalkLaws.{does, refuses, left_done}
+
+-- the laws of an instance
+module _ (args : List (Argument Depth)) (t r : Tree Depth) (is : IsInstance args t r) where
+  pub composes : Composes args t r
+  composes later = rw is.plain (put-put later (readings args) (read 0 t) (IsAnswered-read args 0 t is.answered))
+
+  pub commutes : Commutes args t r
+  commutes n = rw is.plain (move-put n (readings args) (read 0 t))
+
+  pub stays_matched : StaysMatched args t r
+  stays_matched h_args h = rw is.plain (MatchedUnder-put (readings args) h_args [] (read 0 t) h)
+
+  pub leaves_no_param : LeavesNoParam args r
+  leaves_no_param h_args = rw is.plain (holds_param-put (readings args) (read 0 t) (IsAnswered-read args 0 t is.answered) h_args)
+
+-- what the folder does outside of each binder is an instance
+instance_done : (args : List (Argument Depth)) (t r : Tree Depth) → Instantiates args 0 t r → IsInstance args t r
+instance_done args t r d = record {
+  plain = ap (read 0) d.plain ∙ read-inst_tree 0 args t;
+  answered = d.answered;
+  no_cause = Cause-never args t d.answered d.hides;
+}
+
+pub instance_walked : (args : List (Argument Depth)) (s s' : Standing Instantiation) (t r : Tree Depth) → s.state ≡ record { args = args; binders_passed = 0 } → Walks arg_hooks s t r s' → IsInstance args t r
+instance_walked args s s' t r is w = instance_done args t r (subst (λ q. Instantiates q.args q.binders_passed t r) is (does w).does)
+
+-- without arguments no region variable is a cause
+empty_never : (args : List (Argument Depth)) (t : Tree Depth) → args ≡ [] → IsAnswered args t → HasNoCause args t
+empty_never args t none answered Memory h = h
+empty_never args t none answered TableFull h = h
+empty_never args t none answered GreatestIndex h = h
+empty_never args t none answered NotAClause h = h
+empty_never args t none answered NoSuchAnswer h = h
+empty_never args t none answered NoArguments h = Cause-no_arguments args t answered h
+empty_never args t none answered (ArgOutOfRange index) h = Cause-out_of_range args t answered index h
+empty_never args t none answered (ArgKind index) h = Cause-kind args t answered index h
+empty_never args t none answered (RegionVariable x) h = h.0 none
+
+-- what is untouched is its own instance
+pub instance_back : (args : List (Argument Depth)) (t : Tree Depth) → ComesBack args t → IsInstance args t t
+instance_back args t h = elim h.hides [ inl none ↦ empty none | inr hides ↦ instance_done args t t (left_done args 0 t h.no_param hides) ]
+  where
+    empty : args ≡ [] → IsInstance args t t
+    empty none =
+        let answered : IsAnswered args t = EachParam-none _ t h.no_param in
+        record {
+          plain = ap (read 0) (sym (inst_tree-none 0 args t h.no_param)) ∙ read-inst_tree 0 args t;
+          answered = answered;
+          no_cause = empty_never args t none answered;
+        }
+
+-- a cause that stands is a reason
+reason_caused : (terms : Terms) (args : List (Argument Depth)) (t : Tree Depth) (e : Refusal) → Cause t args e → IsReason terms args t e
+reason_caused terms args t Memory h = absurd h
+reason_caused terms args t TableFull h = absurd h
+reason_caused terms args t GreatestIndex h = absurd h
+reason_caused terms args t NotAClause h = h
+reason_caused terms args t NoSuchAnswer h = h
+reason_caused terms args t NoArguments h = h
+reason_caused terms args t (ArgOutOfRange index) h = h
+reason_caused terms args t (ArgKind index) h = h
+reason_caused terms args t (RegionVariable x) h = h
+
+-- a value with parameters is refused where there are no arguments
+pub reason_empty : (terms : Terms) (args : List (Argument Depth)) (t : Tree Depth) → args ≡ [] → holds_param t ≡ true → IsReason terms args t NoArguments
+reason_empty terms args t none h = (none, IsGeneric-from_test t h)
+
+-- a tree that isn't built is one for want of room
+reason_unbuilt : (terms : Terms) (u : Tree Depth) (args : List (Argument Depth)) (t : Tree Depth) (e : Refusal) → IsUnbuilt terms u e → IsReason terms args t e
+reason_unbuilt terms u args t Memory h = tt
+reason_unbuilt terms u args t TableFull h = (h.0, (h.2, h.3))
+reason_unbuilt terms u args t GreatestIndex h = absurd h
+reason_unbuilt terms u args t NotAClause h = absurd h
+reason_unbuilt terms u args t NoSuchAnswer h = absurd h
+reason_unbuilt terms u args t NoArguments h = absurd h
+reason_unbuilt terms u args t (ArgOutOfRange index) h = absurd h
+reason_unbuilt terms u args t (ArgKind index) h = absurd h
+reason_unbuilt terms u args t (RegionVariable x) h = absurd h
+
+-- why the folder's walk from outside of each binder is refused
+pub reason_refused : (terms : Terms) (args : List (Argument Depth)) (s s' : Standing Instantiation) (t : Tree Depth) (e : Refusal) → s.state ≡ record { args = args; binders_passed = 0 }
+    → Fails arg_hooks (IsRefused terms) s t e s' → IsReason terms args t e
+reason_refused terms args s s' t e is f = at_root (subst (λ q. Refuses (IsRefused terms) q.args q.binders_passed t e) is (refuses (IsRefused terms) f))
+  where
+    at_root : Refuses (IsRefused terms) args 0 t e → IsReason terms args t e
+    at_root (without u h) = rw h.1.0 (reason_unbuilt terms u args t h.0 h.1.1)
+    at_root (too_far h) = rw h.is (λ fits. h.unfit (rw (read-inst_tree 0 args t) fits))
+    at_root (caused h) = reason_caused terms args t e h
+
+-- outside of each binder a leaf is refused only for a cause
+leaf_caused : (unbuilt : Tree Depth → Refusal → Type 0) (args : List (Argument Depth)) (t : Tree Depth) (e : Refusal) → LeafRefuses unbuilt args 0 t e → Cause t args e
+leaf_caused unbuilt args t e (for_cause h) = h
+leaf_caused unbuilt args t e (unshifted below h) = absurd (omega (arith, below))
+
+module _ (unbuilt : Tree Depth → Refusal → Type 0) (args : List (Argument Depth)) where
+  -- a value that is itself a parameter is refused only for a cause
+  pub param_refused : {s s' : Standing Instantiation} {t : Tree Depth} {e : Refusal} → Fails arg_hooks unbuilt s t e s' → s.state ≡ record { args = args; binders_passed = 0 }
+      → (o : Sort) (i : ℕ) (name : Name) → t ≡ param o i name → Cause (param o i name) args e
+  param_refused {t} {e} (region_failed is h) state o i name same = rw same at (leaf_caused unbuilt args t e (subst (λ q. LeafRefuses unbuilt q.args q.binders_passed t e) state h.1))
+  param_refused {t} {e} (term_failed is h) state o i name same = rw same at (leaf_caused unbuilt args t e (subst (λ q. LeafRefuses unbuilt q.args q.binders_passed t e) state h.1))
+  param_refused (descent_failed is (taken_apart g) d) state o i name same = absurd (cc)
+  param_refused (enter_failed h) state o i name same = absurd (cc)
+  param_refused (under_failed enter d) state o i name same = absurd (cc)
+  param_refused (leave_failed enter w h) state o i name same = absurd h
+  param_refused (node_failed d) state o i name same = absurd (cc)
+  param_refused (node_not_built w b) state o i name same = absurd (cc)
+
+-- what is said of a value where there are no arguments
+pub empty_outcome : {T : Type 0} (result : Result T Refusal) (value : T) (b : Bool) (P : T → Type 0) (E : Refusal → Type 0)
+    → (b ≡ true → result ≡ Err NoArguments) → (b ≡ false → result ≡ Ok value) → (b ≡ true → E NoArguments) → (b ≡ false → P value) → MatchResult result P E
+empty_outcome result value true P E some none refused given = rw (some refl) (refused refl)
+empty_outcome result value false P E some none refused given = rw (none refl) (given refl)
+
+pub empty_err : {T : Type 0} (result : Result T Refusal) (value : T) (b : Bool) (E : Refusal → Type 0)
+    → (b ≡ true → result ≡ Err NoArguments) → (b ≡ false → result ≡ Ok value) → (b ≡ true → E NoArguments) → IfErr result E
+empty_err result value true E some none refused = rw (some refl) (refused refl)
+empty_err result value false E some none refused = rw (none refl) tt
+
+-- a type without parameters is untouched
+pub type_back : (rows : List Row) (args : List (Argument Depth)) (s : Shape) (n : ℕ) → s ≡ stored Types n → IsPartOf rows s → holds_param (tree_in rows s) ≡ false → ComesBack args (tree_in rows s)
+unfolding fill IsPart
+type_back rows args s n is part none =
+    let within : n < size rows Types = rw is at part in
+    let term : IsTerm (tree_in rows s) = rw is (type_term rows n within) in
+    record { no_param = none; hides = inr (hides_none (tree_in rows s) term none) }

@@ -1,0 +1,6 @@
+pub mod RowArguments
+pub mod FlagLaws
+pub mod UntouchedLaws
+pub mod HookLaws
+pub mod WalkLaws
+pub mod InstanceLaws

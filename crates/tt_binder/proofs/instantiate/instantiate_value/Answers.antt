@@ -1,0 +1,50 @@
+use Rattle.std.proofs.Common.{ap, inl, inr, refl}
+use Rattle.std.proofs.lemmas.List.{nil_from_length}
+use Rattle.std.proofs.lemmas.Result.{err_from_is_err_and}
+use Rattle.tt_kinds.specs.Param.{holds_param}
+use Rattle.tt_fold.specs.Steps.{IsRefused, tree_by}
+use Rattle.tt_binder.specs.Arguments.{arguments}
+use Rattle.tt_binder.proofs.WalkLaws.{does, fails_up}
+use Rattle.tt_binder.proofs.InstanceLaws.{empty_err, empty_outcome, instance_back, instance_walked, param_refused, reason_empty, reason_refused}
+use Rattle.tt_binder.proofs.instantiate.instantiate_value.Goals as goal
+
+pub returns-then-is_empty-clause-result : goal.returns-then-is_empty-clause-result
+returns-then-is_empty-clause-result g c =
+    let none = ap (arguments c.args.cx.now.rows) (nil_from_length _ (c.is_empty.ensures.empty.0 c.if-is_empty.true)) in
+    empty_outcome c.without_arguments.result c.args.value (holds_param (tree_by g.T.TypeVisitable.shape c.args.cx.now.rows c.args.value)) _ _ c.without_arguments.ensures.some c.without_arguments.ensures.none
+    (λ held. reason_empty c.args.cx.now (arguments c.args.cx.now.rows (g.S.SliceLike.items c.args.cx.now.rows c.args.args)) (tree_by g.T.TypeVisitable.shape c.args.cx.now.rows c.args.value) none held)
+    (λ none_held. (c.requires.value, instance_back (arguments c.args.cx.now.rows (g.S.SliceLike.items c.args.cx.now.rows c.args.args)) (tree_by g.T.TypeVisitable.shape c.args.cx.now.rows c.args.value) (record { no_param = none_held; hides = inl none })))
+
+pub returns-then-is_empty-clause-same : goal.returns-then-is_empty-clause-same
+returns-then-is_empty-clause-same g c = λ h. (c.without_arguments.ensures.none h.no_param, refl)
+
+pub returns-then-is_empty-clause-parameter : goal.returns-then-is_empty-clause-parameter
+returns-then-is_empty-clause-parameter g c =
+    let none = ap (arguments c.args.cx.now.rows) (nil_from_length _ (c.is_empty.ensures.empty.0 c.if-is_empty.true)) in
+    λ s i name is. empty_err c.without_arguments.result c.args.value (holds_param (tree_by g.T.TypeVisitable.shape c.args.cx.now.rows c.args.value)) _ c.without_arguments.ensures.some c.without_arguments.ensures.none (λ held. (none, tt))
+
+pub returns-then-is_untouched-clause-result : goal.returns-then-is_untouched-clause-result
+returns-then-is_untouched-clause-result g c =
+    let left = c.is_untouched.ensures.0 c.if-is_untouched.true in
+    (c.requires.value, instance_back (arguments c.args.cx.now.rows (g.S.SliceLike.items c.args.cx.now.rows c.args.args)) (tree_by g.T.TypeVisitable.shape c.args.cx.now.rows c.args.value) (record { no_param = left.0; hides = inr left.1 }))
+
+pub returns-in_err-folded-clause-descents : goal.returns-in_err-folded-clause-descents
+returns-in_err-folded-clause-descents g c = fails_up _ c.in_err-folded.ensures.outcome
+
+pub returns-in_err-folded-clause-result : goal.returns-in_err-folded-clause-result
+returns-in_err-folded-clause-result g c =
+    let p = err_from_is_err_and c.from_residual.result c.from_residual.ensures.1 in
+    rw (p.1, p.2) (reason_refused c.fold_with.new.cx (arguments c.args.cx.now.rows (g.S.SliceLike.items c.args.cx.now.rows c.args.args)) _ _ (tree_by g.T.TypeVisitable.shape c.args.cx.now.rows c.args.value) _ (ap (λ folder. record { args = arguments c.args.cx.now.rows (g.S.SliceLike.items c.args.cx.now.rows folder.args); binders_passed = folder.binders_passed }) c.new-folder.ensures) c.in_err-folded.ensures.outcome)
+
+pub returns-in_err-folded-clause-parameter : goal.returns-in_err-folded-clause-parameter
+returns-in_err-folded-clause-parameter g c =
+    let p = err_from_is_err_and c.from_residual.result c.from_residual.ensures.1 in
+    λ s i name is. rw (p.1, p.2) (param_refused (IsRefused c.fold_with.new.cx) (arguments c.args.cx.now.rows (g.S.SliceLike.items c.args.cx.now.rows c.args.args)) c.in_err-folded.ensures.outcome (ap (λ folder. record { args = arguments c.args.cx.now.rows (g.S.SliceLike.items c.args.cx.now.rows folder.args); binders_passed = folder.binders_passed }) c.new-folder.ensures) s i name is)
+
+pub returns-clause-descents : goal.returns-clause-descents
+returns-clause-descents g c = (does c.in_ok-folded.ensures.outcome.2).stays.descents
+
+pub returns-clause-result : goal.returns-clause-result
+returns-clause-result g c =
+    let o = c.in_ok-folded.ensures.outcome in
+    (o.1, instance_walked (arguments c.args.cx.now.rows (g.S.SliceLike.items c.args.cx.now.rows c.args.args)) _ _ (tree_by g.T.TypeVisitable.shape c.args.cx.now.rows c.args.value) _ (ap (λ folder. record { args = arguments c.args.cx.now.rows (g.S.SliceLike.items c.args.cx.now.rows folder.args); binders_passed = folder.binders_passed }) c.new-folder.ensures) o.2)

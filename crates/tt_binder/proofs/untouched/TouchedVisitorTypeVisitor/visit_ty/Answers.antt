@@ -1,0 +1,12 @@
+use Rattle.std.proofs.Common.{refl}
+use Rattle.tt_kinds.specs.Kinds.{ty_shape}
+use Rattle.tt_fold.specs.Steps.{tree_in}
+use Rattle.tt_binder.proofs.FlagLaws.{meets_param, misses_param}
+use Rattle.tt_binder.proofs.untouched.TouchedVisitorTypeVisitor.visit_ty.Goals as goal
+
+pub returns-then-intersects : goal.returns-then-intersects
+returns-then-intersects c = meets_param (tree_in c.args.cx.now.rows (ty_shape c.args.ty)) c.flags.result.bits c.flags.ensures (c.intersects.ensures.0 c.if-intersects.true)
+
+pub returns-else-intersects : goal.returns-else-intersects
+returns-else-intersects c =
+    (refl, misses_param (tree_in c.args.cx.now.rows (ty_shape c.args.ty)) c.flags.result.bits c.intersects.result c.flags.ensures c.if-intersects.false c.intersects.ensures.1)

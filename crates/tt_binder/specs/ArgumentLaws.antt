@@ -1,0 +1,44 @@
+-- More rows change no argument.
+use Rattle.std.proofs.Common.{◌≡◌, ℕ, ◌<◌, List, [], ◌∷◌, ◌++◌, refl, sym, ap, ◌∙◌, arith}
+use Rattle.std.specs.Prelude.{◌≢◌, slice_get}
+use Rattle.tt_kinds.specs.Shape.{item_shapes, IsPart}
+use Rattle.tt_kinds.specs.Kinds.{arg_shape}
+use Rattle.tt_kinds.specs.declared.table.Table.{Table}
+use Rattle.tt_kinds.specs.declared.table.Table.TheVariants.{ArgLists}
+use Rattle.tt_kinds.specs.declared.handle.GenericArgs.{GenericArgs}
+use Rattle.tt_kinds.specs.declared.generic_arg.GenericArgKind.{GenericArgKind}
+use Rattle.tt_interner.specs.Rows.{Row, table, size, Grows}
+use Rattle.tt_interner.proofs.RowLaws.{row-old, size-more}
+use Rattle.tt_interner.proofs.Growth.{AreParts-grows, fill-grows}
+use Rattle.tt_binder.specs.Arguments.{arguments, AreArguments, row_args, args_at}
+use Rattle.tt_binder.specs.Instantiation.{Instantiation}
+
+-- rows that come leave those of a table in their places
+slice_get-more : (more rows : List Row) (t : Table) (n : ℕ) → n < size rows t → (n < size (more ++ rows) t) × (slice_get (table t (more ++ rows)) n ≡ slice_get (table t rows) n)
+slice_get-more [] rows t n h = (h, refl)
+slice_get-more (r ∷ more) rows t n h =
+    let older = slice_get-more more rows t n h in
+    (omega (arith, older.0, size-more r (more ++ rows) t), row-old r (more ++ rows) t n older.0 ∙ older.1)
+
+pub args_at-grows : (old new : List Row) (args : GenericArgs) → Grows old new → args.number < size old ArgLists → args_at new args ≡ args_at old args
+args_at-grows old new args g h =
+    let same : slice_get (table ArgLists new) args.number ≡ slice_get (table ArgLists old) args.number = rw g.kept (slice_get-more g.more old ArgLists args.number h).1 in
+    ap row_args same
+
+pub AreArguments-still : (old new : List Row) (xs ys : List GenericArgKind) → Grows old new → ys ≡ xs → AreArguments old xs → AreArguments new ys
+AreArguments-still old new xs ys g same h = rw same (AreParts-grows old new g (item_shapes arg_shape xs) h)
+
+pub some-still : (xs ys : List GenericArgKind) → ys ≡ xs → xs ≢ [] → ys ≢ []
+some-still xs ys same h = λ e. h (sym same ∙ e)
+
+arguments-grows : (old new : List Row) (xs : List GenericArgKind) → Grows old new → AreArguments old xs → arguments new xs ≡ arguments old xs
+unfolding IsPart
+arguments-grows old new [] g h = refl
+arguments-grows old new (x ∷ xs) g h = rw (fill-grows old new g (arg_shape x) h.0, arguments-grows old new xs g h.1) refl
+
+pub arguments-still : (old new : List Row) (xs ys : List GenericArgKind) → Grows old new → ys ≡ xs → AreArguments old xs → arguments new ys ≡ arguments old xs
+arguments-still old new xs ys g same h = rw same (arguments-grows old new xs g h)
+
+pub state-still : (old new : List Row) (xs ys : List GenericArgKind) (k : ℕ) → Grows old new → ys ≡ xs → AreArguments old xs
+    → (let state : Instantiation = record { args = arguments new ys; binders_passed = k } in state) ≡ record { args = arguments old xs; binders_passed = k }
+state-still old new xs ys k g same h = ap (λ args. record { args = args; binders_passed = k }) (arguments-still old new xs ys g same h)

@@ -1,0 +1,55 @@
+-- What an instantiation promises: of the result, and of a refusal.
+use Rattle.std.specs.Prelude.{ℕ, List, [], false, ◌≡◌, ◌≤◌, ◌⊎◌, ⊤}
+use Rattle.tt_index.specs.declared.refusal.Refusal.{Refusal}
+use Rattle.tt_index.specs.declared.refusal.Refusal.TheVariants.{Memory, TableFull, GreatestIndex}
+use Rattle.tt_kinds.specs.Tree.{Depth, Place, Tree}
+use Rattle.tt_kinds.specs.Reading.{read, move, Fits}
+use Rattle.tt_kinds.specs.Argument.{Argument, put, readings, change_values}
+use Rattle.tt_kinds.specs.Matched.{MatchedUnder, ArgumentsMatched}
+use Rattle.tt_kinds.specs.Param.{holds_param, IsAnswered, ArgumentsHoldNone}
+use Rattle.tt_kinds.specs.Cause.{HidesRegionVars, Cause}
+use Rattle.tt_interner.specs.Rows.{Row, row_table, size, IsNew}
+use Rattle.tt_interner.specs.Stored.{Terms}
+
+-- the result reads as the value does, with each parameter replaced by its argument's reading
+abbrev pub IsPlain : List (Argument Depth) → Tree Depth → Tree Depth → Type 0
+IsPlain args t r = read 0 r ≡ put (readings args) (read 0 t)
+
+-- no cause of a refusal stands
+abbrev pub HasNoCause : List (Argument Depth) → Tree Depth → Type 0
+HasNoCause args t = (e : Refusal) → Cause t args e → ⊥
+
+-- replacing in the result by further arguments is replacing in the value by arguments in which those replace
+abbrev pub Composes : List (Argument Depth) → Tree Depth → Tree Depth → Type 0
+Composes args t r = (later : List (Argument Place)) → put later (read 0 r) ≡ put (change_values (put later) (readings args)) (read 0 t)
+
+-- the result, moved, is the moved value with moved arguments
+abbrev pub Commutes : List (Argument Depth) → Tree Depth → Tree Depth → Type 0
+Commutes args t r = (n : ℕ) → move n (read 0 r) ≡ put (change_values (move n) (readings args)) (move n (read 0 t))
+
+-- where the value and the arguments agree with their binders, the result does
+abbrev pub StaysMatched : List (Argument Depth) → Tree Depth → Tree Depth → Type 0
+StaysMatched args t r = ArgumentsMatched (readings args) → MatchedUnder [] (read 0 t) → MatchedUnder [] (read 0 r)
+
+-- where no argument holds a parameter, the result holds none
+abbrev pub LeavesNoParam : List (Argument Depth) → Tree Depth → Type 0
+LeavesNoParam args r = ArgumentsHoldNone (readings args) → holds_param (read 0 r) ≡ false
+
+-- r is an instance of t: what is said of a result
+pub record IsInstance (args : List (Argument Depth)) (t r : Tree Depth) : Type 0 where
+  pub plain : IsPlain args t r
+  pub answered : IsAnswered args t
+  pub no_cause : HasNoCause args t
+
+-- why an instantiation is refused, as its call ends: memory was refused, a new row's table is full, the plain result doesn't
+-- fit, or a cause stands
+abbrev pub IsReason : Terms → List (Argument Depth) → Tree Depth → Refusal → Type 0
+IsReason terms args t Memory = ⊤
+IsReason terms args t TableFull = (row : Row) × (IsNew row terms.rows × (terms.limit ≤ size terms.rows (row_table row)))
+IsReason terms args t GreatestIndex = Fits (put (readings args) (read 0 t)) → ⊥
+IsReason terms args t e = Cause t args e
+
+-- there is nothing to replace and nothing to refuse: no parameter, and no exposed region variable unless there are no arguments
+pub record ComesBack (args : List (Argument Depth)) (t : Tree Depth) : Type 0 where
+  pub no_param : holds_param t ≡ false
+  pub hides : (args ≡ []) ⊎ HidesRegionVars t

@@ -1,0 +1,5 @@
+pub mod Arguments
+pub mod ArgumentLaws
+pub mod Instantiation
+pub mod Instance
+pub mod Untouched

@@ -1,0 +1,194 @@
+//! The folder that puts arguments in the places of parameters.
+
+ghost use Rattle.std.specs.Prelude.{◌≡◌, ◌≢◌, [], List, ℕ, MatchOption, MatchResult, IfOk, IfErr, Some, slice_get};
+ghost use Rattle.tt_kinds.specs.Label.{Name, region_sort, type_sort};
+ghost use Rattle.tt_kinds.specs.Tree.{param};
+ghost use Rattle.tt_kinds.specs.Kinds.{region_shape, ty_shape};
+ghost use Rattle.tt_kinds.specs.Cause.{Cause};
+ghost use Rattle.tt_interner.specs.Rows.{Row};
+ghost use Rattle.tt_interner.specs.Stored.{Extends};
+ghost use Rattle.tt_fold.specs.Steps.{IsPartOf, IsRefused, tree_in};
+ghost use Rattle.tt_binder.specs.Arguments.{AreArguments, arguments};
+ghost use Rattle.tt_binder.specs.Instantiation.{Instantiation, Instantiates, LeafRefuses, IsTypeParam, arg_hooks};
+
+use crate::slice_like::SliceLike;
+use tt_flags::TypeFlags;
+use tt_fold::{Step, TypeFolder, shift_region, shift_vars};
+use tt_index::{GREATEST_INDEX, Refusal};
+use tt_interner::{Flags, InternedKind, Interner};
+use tt_kinds::{BoundVarKinds, GenericArgKind, Region, RegionKind, Ty, TyKind};
+
+// The region at the index.
+fn region_at<S: SliceLike>(cx: &Interner, args: S, index: u32) -> Result<Region, Refusal>
+    requires owned { S.owned cx.now.rows args }
+    requires some { S.items cx.now.rows args ≢ [] }
+    ensures ok { IfOk result (λ r. slice_get (S.items cx.now.rows args) index ≡ Some (GenericArgKind.Lifetime r)) }
+    ensures err { IfErr result (λ e. (name : Name) → Cause (param region_sort index name) (arguments cx.now.rows (S.items cx.now.rows args)) e) }
+{
+    match args.get(cx, index as usize) {
+        None => Err(Refusal::ArgOutOfRange { index }),
+        Some(argument) => match argument.kind() {
+            GenericArgKind::Lifetime(region) => Ok(region),
+            GenericArgKind::Type(_) => Err(Refusal::ArgKind { index }),
+        },
+    }
+}
+
+// The type at the index.
+fn type_at<S: SliceLike>(cx: &Interner, args: S, index: u32) -> Result<Ty, Refusal>
+    requires owned { S.owned cx.now.rows args }
+    requires some { S.items cx.now.rows args ≢ [] }
+    ensures ok { IfOk result (λ ty. slice_get (S.items cx.now.rows args) index ≡ Some (GenericArgKind.Type ty)) }
+    ensures err { IfErr result (λ e. (name : Name) → Cause (param type_sort index name) (arguments cx.now.rows (S.items cx.now.rows args)) e) }
+{
+    match args.get(cx, index as usize) {
+        None => Err(Refusal::ArgOutOfRange { index }),
+        Some(argument) => match argument.kind() {
+            GenericArgKind::Type(ty) => Ok(ty),
+            GenericArgKind::Lifetime(_) => Err(Refusal::ArgKind { index }),
+        },
+    }
+}
+
+// The region that stands under some binders for the region parameter of the index.
+fn region_argument<S: SliceLike>(
+    cx: &Interner,
+    args: S,
+    binders_passed: u32,
+    index: u32,
+) -> Result<Region, Refusal>
+    requires owned { S.owned cx.now.rows args }
+    requires are { AreArguments cx.now.rows (S.items cx.now.rows args) }
+    requires some { S.items cx.now.rows args ≢ [] }
+    ensures { (name : Name) → MatchResult
+        result
+        (λ r. IsPartOf cx.now.rows (region_shape r) × Instantiates (arguments cx.now.rows (S.items cx.now.rows args)) binders_passed (param region_sort index name) (tree_in cx.now.rows (region_shape r)))
+        (λ e. LeafRefuses (IsRefused cx.now) (arguments cx.now.rows (S.items cx.now.rows args)) binders_passed (param region_sort index name) e) }
+{
+    let argument = region_at(cx, args, index)?;
+    // No shift of 0 binders is refused, since the region is in range.
+    let _in_range = argument.in_range();
+    let shifted = shift_region(argument, binders_passed)?;
+    Ok(shifted)
+}
+
+// The type that stands under some binders for the type parameter of the index.
+fn type_argument<S: SliceLike>(
+    cx: &mut Interner,
+    args: S,
+    binders_passed: u32,
+    index: u32,
+) -> Result<Ty, Refusal>
+    requires owned { S.owned cx.old.rows args }
+    requires are { AreArguments cx.old.rows (S.items cx.old.rows args) }
+    requires some { S.items cx.old.rows args ≢ [] }
+    ensures extends { Extends cx.old cx.new }
+    ensures descents { cx.new.counters.descents ≡ cx.old.counters.descents }
+    ensures result { (name : Name) → MatchResult
+        result
+        (λ ty. IsPartOf cx.new.rows (ty_shape ty) × Instantiates (arguments cx.old.rows (S.items cx.old.rows args)) binders_passed (param type_sort index name) (tree_in cx.new.rows (ty_shape ty)))
+        (λ e. LeafRefuses (IsRefused cx.new) (arguments cx.old.rows (S.items cx.old.rows args)) binders_passed (param type_sort index name) e) }
+{
+    let argument = type_at(cx, args, index)?;
+    let shifted = shift_vars(cx, argument, binders_passed)?;
+    Ok(shifted)
+}
+
+// The index of the parameter that the type is, if it is one.
+fn parameter_index(cx: &Interner, ty: Ty) -> Option<u32>
+    requires { IsPartOf cx.now.rows (ty_shape ty) }
+    ensures { MatchOption
+        result
+        ((i : ℕ) → IsTypeParam i (tree_in cx.now.rows (ty_shape ty)) → ⊥)
+        (λ index. IsTypeParam index (tree_in cx.now.rows (ty_shape ty))) }
+{
+    cx.are_rows();
+    match ty.kind(cx) {
+        TyKind::Param(parameter) => Some(parameter.index),
+        _ => None,
+    }
+}
+
+/// Puts arguments in the places of parameters, and counts the binders that it passes. There has to be an argument.
+#[derive(Drop)]
+pub struct ArgFolder<S> {
+    args: S,
+    binders_passed: u32,
+}
+
+impl<S: Copy> ArgFolder<S> {
+    /// The folder outside of each binder.
+    pub fn new(args: S) -> ArgFolder<S>
+        ensures { result ≡ record { args = args; binders_passed = 0 } }
+    {
+        ArgFolder {
+            args,
+            binders_passed: 0,
+        }
+    }
+}
+
+impl<S: SliceLike> TypeFolder for ArgFolder<S> {
+    ghost Meaning = { Instantiation };
+
+    ghost meaning = { λ rows s. record { args = arguments rows (S.items rows s.args); binders_passed = s.binders_passed } };
+
+    ghost owned = { λ rows s. S.owned rows s.args × AreArguments rows (S.items rows s.args) × (S.items rows s.args ≢ []) };
+
+    ghost hooks = { arg_hooks };
+
+    fn fold_region(&mut self, cx: &mut Interner, region: Region) -> Result<Region, Refusal> {
+        match region.kind() {
+            RegionKind::ReEarlyParam(parameter) => {
+                let new = region_argument(cx, self.args, self.binders_passed, parameter.index)?;
+                Ok(new)
+            }
+            RegionKind::ReVar(vid) => Err(Refusal::RegionVariable(vid)),
+            _ => Ok(region),
+        }
+    }
+
+    fn fold_ty(&mut self, cx: &mut Interner, ty: Ty) -> Result<Step, Refusal> {
+        if !ty.flags(cx).intersects(TypeFlags::HAS_PARAM) {
+            return Ok(Step::Keep);
+        }
+        match parameter_index(cx, ty) {
+            Some(index) => {
+                let new = type_argument(cx, self.args, self.binders_passed, index)?;
+                Ok(Step::Replace(new))
+            }
+            None => {
+                cx.count_descent();
+                Ok(Step::Descend)
+            }
+        }
+    }
+
+    fn after_ty(&mut self, _cx: &mut Interner, _before: Ty, rebuilt: Ty) -> Result<Ty, Refusal> {
+        Ok(rebuilt)
+    }
+
+    fn fold_binder(&mut self, _cx: &mut Interner, _vars: BoundVarKinds) -> Result<(), Refusal> {
+        if self.binders_passed < GREATEST_INDEX {
+            self.binders_passed += 1;
+            Ok(())
+        } else {
+            Err(Refusal::GreatestIndex)
+        }
+    }
+
+    fn after_binder(&mut self, _cx: &mut Interner, _vars: BoundVarKinds) -> Result<(), Refusal> {
+        self.binders_passed = self.binders_passed.saturating_sub(1);
+        Ok(())
+    }
+
+    ghost use Rattle.tt_binder.specs.ArgumentLaws.{AreArguments-still, state-still, some-still};
+
+    ghost still_owned = { λ old new s g h. (
+      S.still_owned old new s.args g h.0,
+      AreArguments-still old new (S.items old s.args) (S.items new s.args) g (S.still_items old new s.args g h.0) h.1,
+      some-still (S.items old s.args) (S.items new s.args) (S.still_items old new s.args g h.0) h.2,
+    ) };
+
+    ghost still_means = { λ old new s g h. state-still old new (S.items old s.args) (S.items new s.args) s.binders_passed g (S.still_items old new s.args g h.0) h.1 };
+}

@@ -1,0 +1,116 @@
+//! Instantiation.
+
+ghost use Rattle.std.specs.Prelude.{◌≡◌, ◌≤◌, ◌⊎◌, [], ℕ, List, true, false, MatchResult, IfOk, IfErr, OnOk};
+ghost use Rattle.tt_index.specs.declared.refusal.Refusal.{Refusal};
+ghost use Rattle.tt_kinds.specs.Label.{Name, Sort};
+ghost use Rattle.tt_kinds.specs.Tree.{param};
+ghost use Rattle.tt_kinds.specs.Param.{holds_param};
+ghost use Rattle.tt_kinds.specs.Cause.{Cause};
+ghost use Rattle.tt_kinds.specs.Shape.{stored};
+ghost use Rattle.tt_kinds.specs.declared.table.Table.TheVariants.{Types};
+ghost use Rattle.tt_interner.specs.Rows.{Row};
+ghost use Rattle.tt_interner.specs.Stored.{Extends};
+ghost use Rattle.tt_fold.specs.Steps.{IsPartBy, tree_by};
+ghost use Rattle.tt_binder.specs.Arguments.{arguments};
+ghost use Rattle.tt_binder.specs.Instance.{IsPlain, HasNoCause, Composes, Commutes, StaysMatched, LeavesNoParam, IsInstance, IsReason, ComesBack};
+
+use crate::arg_folder::ArgFolder;
+use crate::slice_like::SliceLike;
+use crate::untouched::is_untouched;
+use tt_fold::TypeFoldable;
+use tt_index::Refusal;
+use tt_interner::Interner;
+use tt_kinds::{EarlyBinder, Unnormalized};
+use tt_visit::TypeVisitableExt;
+
+/// A value of an item as it is declared, which arguments turn into one that is used elsewhere.
+pub trait Instantiate<T: TypeFoldable + Copy>: Copy {
+    // The value as it is declared.
+    ghost declared: { Self → T };
+
+    /// The value with each of its parameters replaced by the argument at the parameter's index, so that no variable of an
+    /// argument is captured by a binder of the value.
+    ///
+    /// It is refused where there are no arguments and the value has a parameter (`NoArguments`); where there are some, but
+    /// none for a parameter (`ArgOutOfRange`), or one of another kind (`ArgKind`); where there are some and a region
+    /// variable of inference stands in the value outside of the types without parameters (`RegionVariable`); where the
+    /// result would have an index or binders that are too great (`GreatestIndex`); and for want of room (`Memory`,
+    /// `TableFull`). Of several such reasons it names one.
+    ///
+    /// A value without parameters in which no such region variable stands comes back as it is, and nothing is built; so
+    /// does every type without parameters. Where there are no arguments, region variables aren't looked for.
+    fn instantiate<S: SliceLike>(
+        self,
+        cx: &mut Interner,
+        args: S,
+    ) -> Result<Unnormalized<T>, Refusal>
+        requires args { S.owned cx.old.rows args }
+        requires value { IsPartBy T.shape cx.old.rows (declared self) }
+        ensures extends { Extends cx.old cx.new }
+        ensures descents { cx.old.counters.descents ≤ cx.new.counters.descents }
+        ensures in_range { IfOk result (λ u. IsPartBy T.shape cx.new.rows u.value) }
+        ensures plain { IfOk result (λ u. IsPlain (arguments cx.old.rows (S.items cx.old.rows args)) (tree_by T.shape cx.old.rows (declared self)) (tree_by T.shape cx.new.rows u.value)) }
+        ensures composes { IfOk result (λ u. Composes (arguments cx.old.rows (S.items cx.old.rows args)) (tree_by T.shape cx.old.rows (declared self)) (tree_by T.shape cx.new.rows u.value)) }
+        ensures commutes { IfOk result (λ u. Commutes (arguments cx.old.rows (S.items cx.old.rows args)) (tree_by T.shape cx.old.rows (declared self)) (tree_by T.shape cx.new.rows u.value)) }
+        ensures matched { IfOk result (λ u. StaysMatched (arguments cx.old.rows (S.items cx.old.rows args)) (tree_by T.shape cx.old.rows (declared self)) (tree_by T.shape cx.new.rows u.value)) }
+        ensures closed { IfOk result (λ u. LeavesNoParam (arguments cx.old.rows (S.items cx.old.rows args)) (tree_by T.shape cx.new.rows u.value)) }
+        ensures no_cause { OnOk result (HasNoCause (arguments cx.old.rows (S.items cx.old.rows args)) (tree_by T.shape cx.old.rows (declared self))) }
+        ensures err { IfErr result (IsReason cx.new (arguments cx.old.rows (S.items cx.old.rows args)) (tree_by T.shape cx.old.rows (declared self))) }
+        ensures same { ComesBack (arguments cx.old.rows (S.items cx.old.rows args)) (tree_by T.shape cx.old.rows (declared self)) → (result ≡ Ok (record { value = declared self })) × (cx.new ≡ cx.old) }
+        ensures same_type { (n : ℕ) → T.shape (declared self) ≡ stored Types n → holds_param (tree_by T.shape cx.old.rows (declared self)) ≡ false → (result ≡ Ok (record { value = declared self })) × (cx.new ≡ cx.old) }
+        ensures parameter { (s : Sort) (i : ℕ) (name : Name) → tree_by T.shape cx.old.rows (declared self) ≡ param s i name → IfErr result (Cause (param s i name) (arguments cx.old.rows (S.items cx.old.rows args))) };
+}
+
+// The value where there are no arguments.
+fn without_arguments<T: TypeFoldable + Copy>(cx: &Interner, value: T) -> Result<T, Refusal>
+    requires { IsPartBy T.shape cx.now.rows value }
+    ensures some { holds_param (tree_by T.shape cx.now.rows value) ≡ true → result ≡ Err Refusal.NoArguments }
+    ensures none { holds_param (tree_by T.shape cx.now.rows value) ≡ false → result ≡ Ok value }
+{
+    if value.has_param(cx) {
+        Err(Refusal::NoArguments)
+    } else {
+        Ok(value)
+    }
+}
+
+// The value instantiated.
+fn instantiate_value<T: TypeFoldable + Copy, S: SliceLike>(
+    cx: &mut Interner,
+    args: S,
+    value: T,
+) -> Result<T, Refusal>
+    requires args { S.owned cx.old.rows args }
+    requires value { IsPartBy T.shape cx.old.rows value }
+    ensures extends { Extends cx.old cx.new }
+    ensures descents { cx.old.counters.descents ≤ cx.new.counters.descents }
+    ensures result { MatchResult
+        result
+        (λ r. IsPartBy T.shape cx.new.rows r × IsInstance (arguments cx.old.rows (S.items cx.old.rows args)) (tree_by T.shape cx.old.rows value) (tree_by T.shape cx.new.rows r))
+        (λ e. IsReason cx.new (arguments cx.old.rows (S.items cx.old.rows args)) (tree_by T.shape cx.old.rows value) e) }
+    ensures same { ComesBack (arguments cx.old.rows (S.items cx.old.rows args)) (tree_by T.shape cx.old.rows value) → (result ≡ Ok value) × (cx.new ≡ cx.old) }
+    ensures parameter { (s : Sort) (i : ℕ) (name : Name) → tree_by T.shape cx.old.rows value ≡ param s i name → IfErr result (Cause (param s i name) (arguments cx.old.rows (S.items cx.old.rows args))) }
+{
+    if args.is_empty(cx) {
+        return without_arguments(cx, value);
+    }
+    if is_untouched(cx, &value) {
+        return Ok(value);
+    }
+    let mut folder = ArgFolder::new(args);
+    let folded = value.fold_with(cx, &mut folder)?;
+    Ok(folded)
+}
+
+impl<T: TypeFoldable + Copy> Instantiate<T> for EarlyBinder<T> {
+    ghost declared = { λ binder. binder.value };
+
+    fn instantiate<S: SliceLike>(
+        self,
+        cx: &mut Interner,
+        args: S,
+    ) -> Result<Unnormalized<T>, Refusal> {
+        let value = instantiate_value(cx, args, self.skip_binder())?;
+        Ok(Unnormalized::new(value))
+    }
+}

@@ -1,0 +1,10 @@
+//! Instantiation: a value of an item as it is declared, with arguments in the places of the item's parameters.
+#![tactic(auto)]
+
+mod arg_folder;
+pub mod instantiate;
+pub mod slice_like;
+mod untouched;
+
+pub use instantiate::Instantiate;
+pub use slice_like::SliceLike;

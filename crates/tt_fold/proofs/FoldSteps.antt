@@ -1,0 +1,459 @@
+-- One step of a fold over plain variables: what the parts promise makes what the whole promises.
+use Rattle.std.proofs.Common.{◌≡◌, ℕ, zero, suc, ◌+◌, ◌<◌, ◌≤◌, ◌⊎◌, inl, inr, [], ◌∷◌, ◌++◌, length, take, drop, slice_get, get_or, All, Result, Ok, Err, Option, Some, None, refl, ap, sym, ◌∙◌, arith}
+use Rattle.std.proofs.Common.{List as Listed}
+use Rattle.std.proofs.lemmas.Grind.{common_steps}
+use Rattle.std.proofs.lemmas.List.Elements.{All-append}
+use Rattle.std.proofs.lemmas.List.{take-append-drop}
+use Rattle.std.proofs.lemmas.Option.{slice_get_within, get_or_from_slice_get}
+use Rattle.std.proofs.lemmas.Result.{MatchResult-weaker}
+use Rattle.tt_index.specs.declared.refusal.Refusal.{Refusal}
+use Rattle.tt_index.specs.declared.refusal.Refusal.TheVariants.{Memory, TableFull, GreatestIndex}
+use Rattle.tt_kinds.specs.Tree as tree
+use Rattle.tt_kinds.specs.Tree.{Depth, Tree}
+use Rattle.tt_kinds.specs.Label.{list_label}
+use Rattle.tt_kinds.specs.Parts as sorts
+use Rattle.tt_kinds.specs.Parts.{AreLike, node_table, node_number, sort_list_table, list_sort, list_table, list_number, child_sort, IsItem}
+use Rattle.tt_kinds.specs.Kinds.{Form, form_binder, form_parts, refilled, kind_form, kind_sort, kind_shape, kind_table, ty_shape, node_shape, list_shape, region_shape, child_shapes, parts_shapes, children_shapes}
+use Rattle.tt_kinds.specs.Shape.{append, fill, IsTooDeep}
+use Rattle.tt_kinds.specs.declared.handle.Ty.{Ty}
+use Rattle.tt_kinds.specs.declared.handle.BoundVarKinds.{BoundVarKinds}
+use Rattle.tt_kinds.specs.declared.region_kind.RegionKind.{RegionKind}
+use Rattle.tt_kinds.specs.declared.region_kind.RegionKind.TheVariants.{ReEarlyParam, ReBound, ReStatic, ReVar, ReErased, ReError}
+use Rattle.tt_kinds.specs.declared.parts.Node.{Node}
+use Rattle.tt_kinds.specs.declared.parts.Node.TheVariants as node_is
+use Rattle.tt_kinds.specs.declared.parts.List.{List}
+use Rattle.tt_kinds.specs.declared.parts.ListSort.{ListSort}
+use Rattle.tt_kinds.specs.declared.parts.Child.{Child}
+use Rattle.tt_kinds.specs.declared.parts.Child.TheVariants as child
+use Rattle.tt_kinds.specs.declared.parts.Parts.{Parts}
+use Rattle.tt_kinds.specs.declared.parts.Kind.{Kind}
+use Rattle.tt_kinds.specs.declared.parts.Kind.TheVariants as kind
+use Rattle.tt_interner.specs.Rows.{Row, row_table, row_shape, kind_row, size, meaning}
+use Rattle.tt_interner.specs.Stored.{Terms, Extends, IsCause, IsUnbuilt}
+use Rattle.tt_fold.specs.Walk.{IsRegion, IsTerm, Hooks, descend, Walks, Descends, WalksInside, WalksAll, WalksUnder, descended, rebuilt, done, at_region, at_node, in_open, in_binder, Fails, DescentFails, FailsInside, FailsAll, FailsUnder, descent_failed, inside_failed, not_built, after_failed, region_failed, node_failed, node_not_built, here, stopped, in_open_failed, in_enter_failed, in_under_failed, in_leave_failed}
+use Rattle.tt_fold.specs.Counts.{Standing, stands}
+use Rattle.tt_fold.specs.Steps.{Goes, Folds, IsPartOf, tree_in, HasVars, vars_in, answer_of, OwnsStep}
+use Rattle.tt_fold.specs.Parts.{ArePartsOf, trees_in, node_tree, list_tree, child_trees, parts_trees, children_trees, IsNodeFor, IsListFor, IsChildFor, ArePartsFor, IsStepFor, node_answer_of, as_node_step, HasBinder, binder_in, FoldsSoFar}
+use Rattle.tt_fold.specs.declared.folder.Step.{Step}
+use Rattle.tt_fold.specs.declared.folder.Step.TheVariants as step
+use Rattle.tt_interner.proofs.Growth.{Extends-trans}
+use Rattle.tt_fold.proofs.Growth.{part-grows, parts-grow, tree-grows, trees-grow}
+use Rattle.tt_fold.proofs.PartLaws.{is_part, stored_tree, one_part, only_part, one_tree, no_parts, no_trees, append_parts, left_parts, right_parts, append_trees, joined, joined-none, children-append, children-one, vars-grow, binder-grows}
+use Rattle.tt_fold.proofs.FormLaws.{IsInner, HasNoName, kind-term}
+use Rattle.tt_fold.proofs.WalkLaws.{WalksAll-append, FailsAll-append, FailsAll-before, WalksAll-one, walks_form, fails_form}
+
+-- the hook before a term
+pub ask_is_step : (rows : Listed Row) (n : Node) (t : Ty) (p : Step) → n ≡ node_is.Ty t → OwnsStep rows p → IsStepFor n rows (as_node_step p)
+ask_is_step rows n t (step.Replace u) same h = record { owned = h; like = rw same refl }
+ask_is_step rows n t step.Keep same h = tt
+ask_is_step rows n t step.Descend same h = tt
+
+pub ask_answer : (rows : Listed Row) (p : Step) → node_answer_of rows (as_node_step p) ≡ answer_of rows p
+ask_answer rows (step.Replace u) = refl
+ask_answer rows step.Keep = refl
+ask_answer rows step.Descend = refl
+
+-- what a region is
+pub region-is : (rows : Listed Row) (r : RegionKind) → IsRegion (tree_in rows (region_shape r))
+unfolding fill
+region-is rows (ReEarlyParam p) = tt
+region-is rows (ReBound i b) = tt
+region-is rows ReStatic = tt
+region-is rows (ReVar v) = tt
+region-is rows ReErased = tt
+region-is rows (ReError e) = tt
+
+-- what a stored term is
+pub node_is_kind : (rows : Listed Row) (n : Node) (k : Kind) → meaning rows (node_table n) (node_number n) ≡ fill (meaning rows) (kind_shape k) → node_tree rows n ≡ tree_in rows (kind_shape k)
+node_is_kind rows n k h = stored_tree rows (node_table n) (node_number n) ∙ h
+
+pub node_is_term : (rows : Listed Row) (n : Node) (k : Kind) → meaning rows (node_table n) (node_number n) ≡ fill (meaning rows) (kind_shape k) → IsTerm (node_tree rows n)
+node_is_term rows n k h = rw (node_is_kind rows n k h) (kind-term (meaning rows) k)
+
+-- a term that was stored
+kind_row-table : (k : Kind) → row_table (kind_row k) ≡ kind_table k
+kind_row-table (kind.Ty k) = refl
+
+kind_row-shape : (k : Kind) → row_shape (kind_row k) ≡ kind_shape k
+kind_row-shape (kind.Ty k) = refl
+
+pub stored_node : (rows : Listed Row) (n u : Node) (k : Kind) → node_number u < size rows (row_table (kind_row k)) → node_table u ≡ kind_table k → kind_table k ≡ node_table n → IsNodeFor n rows u
+stored_node rows n u k h t like =
+    record { owned = is_part rows (node_table u) (node_number u) (rw t (rw (kind_row-table k) at h)); like = t ∙ like }
+
+pub stored_node_tree : (rows rows1 : Listed Row) (u : Node) (k : Kind) → meaning rows1 (row_table (kind_row k)) (node_number u) ≡ fill (meaning rows) (row_shape (kind_row k)) → node_table u ≡ kind_table k
+    → node_tree rows1 u ≡ tree_in rows (kind_shape k)
+stored_node_tree rows rows1 u k h t =
+    let m = rw (kind_row-table k, kind_row-shape k) at h in
+    stored_tree rows1 (node_table u) (node_number u) ∙ ap (λ x. meaning rows1 x (node_number u)) t ∙ m
+
+-- why a term was not stored
+pub not_stored : (terms : Terms) (k : Kind) (r : Refusal) → (IsTooDeep (kind_shape k) → ⊥) → IsCause terms (kind_row k) r → IsUnbuilt terms (tree_in terms.rows (kind_shape k)) r
+not_stored terms k Memory shallow h = tt
+not_stored terms k TableFull shallow h = (kind_row k, ap (tree_in terms.rows) (kind_row-shape k), h.0, h.1)
+not_stored terms k GreatestIndex shallow h = absurd (shallow (rw (kind_row-shape k) at h))
+not_stored terms k _ shallow h = absurd h
+
+-- a list that was stored
+pub stored_list : (rows : Listed Row) (u : List) (sort : ListSort) → list_sort u ≡ sort → list_number u < size rows (sort_list_table sort) → IsPartOf rows (list_shape u)
+stored_list rows u sort same h = is_part rows (list_table u) (list_number u) (rw same h)
+
+pub stored_list_tree : (rows : Listed Row) (u : List) (sort : ListSort) → list_sort u ≡ sort → list_tree rows u ≡ meaning rows (sort_list_table sort) (list_number u)
+stored_list_tree rows u sort same = stored_tree rows (list_table u) (list_number u) ∙ ap (λ x. meaning rows (sort_list_table x) (list_number u)) same
+
+pub list_is_node : (rows : Listed Row) (l : List) (cs : Listed Child) → meaning rows (list_table l) (list_number l) ≡ tree.node (list_label (list_table l)) (children_trees rows cs)
+    → list_tree rows l ≡ tree.node (list_label (list_table l)) (children_trees rows cs)
+list_is_node rows l cs h = stored_tree rows (list_table l) (list_number l) ∙ h
+
+pub memory_unbuilt : (terms : Terms) (u : Tree Depth) (r : Refusal) → r ≡ Memory → IsUnbuilt terms u r
+memory_unbuilt terms u r same = rw same tt
+
+-- the state means what it meant, and the counts are the same
+pub stands-still : {M S : Type 0} (means : Listed Row → S → M) (terms terms1 : Terms) (s : S)
+    → means terms1.rows s ≡ means terms.rows s → terms1.counters ≡ terms.counters → stands means terms1 s ≡ stands means terms s
+stands-still means terms terms1 s m c = rw (m, c) refl
+
+-- items of lists
+pub All-one : {X : Type 0} (P : X → Type 0) (x : X) → P x → All P (x ∷ [])
+All-one P x h zero d lt = h
+All-one P x h (suc k) d lt = absurd (omega arith)
+
+trees-last : (rows : Listed Row) (cs : Listed Child) (c : Child) → children_trees rows (cs ++ c ∷ []) ≡ joined (children_trees rows cs) (child_trees rows c)
+trees-last rows cs c =
+    ap (trees_in rows) (children-append cs (c ∷ []) ∙ ap (append (children_shapes cs)) (children-one c)) ∙ append_trees rows (children_shapes cs) (child_shapes c)
+
+trees-split : (rows : Listed Row) (cs ds : Listed Child) → children_trees rows (cs ++ ds) ≡ joined (children_trees rows cs) (children_trees rows ds)
+trees-split rows cs ds = ap (trees_in rows) (children-append cs ds) ∙ append_trees rows (children_shapes cs) (children_shapes ds)
+
+last_part : (rows : Listed Row) (cs : Listed Child) (c : Child) → ArePartsOf rows (children_shapes cs) → ArePartsOf rows (child_shapes c) → ArePartsOf rows (children_shapes (cs ++ c ∷ []))
+last_part rows cs c h k = rw (children-append cs (c ∷ []), children-one c) (append_parts rows (children_shapes cs) (child_shapes c) h k)
+
+-- the first n + 1 items are the first n and one more
+trees-take_more : (rows : Listed Row) (list : Listed Child) (n : ℕ) (x : Child) → slice_get list n ≡ Some x
+    → children_trees rows (take (n + 1) list) ≡ joined (children_trees rows (take n list)) (child_trees rows x)
+trees-take_more rows list n x e =
+    let lt = slice_get_within list n x e in
+    let is_x : get_or list n x ≡ x = get_or_from_slice_get list n x x e in
+    let parts : take (n + 1) list ≡ take n list ++ x ∷ [] = grind (arith, common_steps) in
+    ap (children_trees rows) parts ∙ trees-last rows (take n list) x
+
+-- the list from the n-th item on
+trees-from : (rows : Listed Row) (list : Listed Child) (n : ℕ) (x : Child) → slice_get list n ≡ Some x
+    → children_trees rows list ≡ joined (children_trees rows (take n list)) (joined (child_trees rows x) (children_trees rows (drop (n + 1) list)))
+trees-from rows list n x e =
+    let lt = slice_get_within list n x e in
+    let is_x : get_or list n x ≡ x = get_or_from_slice_get list n x x e in
+    let parts : list ≡ take n list ++ (x ∷ drop (n + 1) list) = grind (arith, common_steps) in
+    ap (children_trees rows) parts ∙ trees-split rows (take n list) (x ∷ drop (n + 1) list)
+    ∙ ap (joined (children_trees rows (take n list))) (append_trees rows (child_shapes x) (children_shapes (drop (n + 1) list)))
+
+trees-cut : (rows : Listed Row) (list : Listed Child) (n : ℕ) → children_trees rows list ≡ joined (children_trees rows (take n list)) (children_trees rows (drop n list))
+trees-cut rows list n = ap (children_trees rows) (sym (take-append-drop n list)) ∙ trees-split rows (take n list) (drop n list)
+
+-- the rebuilt term is stored, and the hook after it follows
+pub rebuild_ends : {M E S : Type 0} {owned : Listed Row → S → Type 0} {means : Listed Row → S → M} (H : Hooks (Standing M) E) (unbuilt : Tree Depth → E → Type 0)
+    {terms terms1 terms2 : Terms} {s s2 : S} {n : Node} {r : Result Node E} (k : Kind) (u : Node)
+    → IsPartOf terms.rows (node_shape n) → Extends terms terms1 → stands means terms1 s ≡ stands means terms s
+    → node_tree terms1.rows u ≡ tree_in terms.rows (kind_shape k)
+    → Goes owned means
+    (λ now y m m'. IsNodeFor n now y × H.after_term m (node_tree terms1.rows n) (node_tree terms1.rows u) (node_tree now y) m')
+    (λ m e m'. H.after_fails unbuilt m (node_tree terms1.rows n) (node_tree terms1.rows u) e m')
+    terms1 s r terms2 s2
+    → Goes owned means
+    (λ now y m m'. IsNodeFor n now y × H.after_term m (node_tree terms.rows n) (tree_in terms.rows (kind_shape k)) (node_tree now y) m')
+    (λ m e m'. (unbuilt (tree_in terms.rows (kind_shape k)) e × (m' ≡ m)) ⊎ H.after_fails unbuilt m (node_tree terms.rows n) (tree_in terms.rows (kind_shape k)) e m')
+    terms s r terms2 s2
+rebuild_ends H unbuilt {n} {r} k u owns extends still new d =
+    let o = rw (still, tree-grows extends.rows (node_shape n) owns, new) at d.outcome in
+    record { extends = Extends-trans extends d.extends; outcome = MatchResult-weaker r o (λ y p. p) (λ e p. inr p) }
+
+module _ {M E S : Type 0} {owned : Listed Row → S → Type 0} {means : Listed Row → S → M} {H : Hooks (Standing M) E} where
+  -- the list so far
+  pub so_far_none : {terms : Terms} {s : S} {sort : ListSort} {list items : Listed Child}
+      → Extends terms terms → owned terms.rows s → items ≡ [] → FoldsSoFar owned means H terms s sort list 0 items terms s
+  so_far_none {terms} extends o empty = rw empty (record {
+    extends = extends;
+    is_owned = o;
+    are_items = no_parts terms.rows;
+    fit = λ k d lt. absurd (omega arith);
+    walked = rw (no_trees terms.rows) done;
+  })
+
+  pub so_far_more : {terms terms1 terms2 : Terms} {s s1 s2 : S} {sort : ListSort} {list items more : Listed Child} {n : ℕ} {x y : Child} {other : Tree Depth → E → Type 0}
+      → FoldsSoFar owned means H terms s sort list n items terms1 s1
+      → slice_get list n ≡ Some x → ArePartsOf terms.rows (child_shapes x) → IsItem sort (child_sort x)
+      → Folds owned means (IsChildFor x) child_trees (WalksAll H) (FailsAll H other) terms1 s1 x (Ok y) terms2 s2
+      → more ≡ items ++ y ∷ []
+      → FoldsSoFar owned means H terms s sort list (n + 1) more terms2 s2
+  so_far_more {terms} {terms2} {sort} {list} {items} {n} {x} {y} p is_x owns fit d added =
+      let o = rw (trees-grow p.extends.rows (child_shapes x) owns) at d.outcome in
+      let w = WalksAll-append (rw (← trees-grow d.extends.rows (children_shapes items) p.are_items) at p.walked) o.2 in
+      let fit_y : IsItem sort (child_sort y) = rw o.1.like fit in
+      rw added (record {
+        extends = Extends-trans p.extends d.extends;
+        is_owned = o.0;
+        are_items = last_part terms2.rows items y (parts-grow d.extends.rows (children_shapes items) p.are_items) o.1.owned;
+        fit = All-append (λ c. IsItem sort (child_sort c)) items (y ∷ []) p.fit (All-one (λ c. IsItem sort (child_sort c)) y fit_y);
+        walked = rw (trees-take_more terms.rows list n x is_x, trees-last terms2.rows items y) w;
+      })
+
+  module _ {unbuilt : Tree Depth → E → Type 0} where
+    -- a term without children stays as it is
+    pub descend_leaf : {terms terms1 : Terms} {s s1 : S} {n : Node} {r : Result Node E}
+        → WalksInside H (stands means terms s) (node_tree terms.rows n) (node_tree terms.rows n) (stands means terms s)
+        → Goes owned means
+        (λ now y m m'. IsNodeFor n now y × H.after_term m (node_tree terms.rows n) (node_tree terms.rows n) (node_tree now y) m')
+        (λ m e m'. H.after_fails unbuilt m (node_tree terms.rows n) (node_tree terms.rows n) e m')
+        terms s r terms1 s1
+        → Folds owned means (IsNodeFor n) node_tree (Descends H) (DescentFails H unbuilt) terms s n r terms1 s1
+    descend_leaf {r} w d = record {
+      extends = d.extends;
+      outcome = MatchResult-weaker r d.outcome (λ y h. (h.0, h.1.0, rebuilt w h.1.1)) (λ e h. after_failed w h);
+    }
+
+    -- the kind's parts were folded, and the rebuilding follows
+    pub descend_rebuilt : {terms terms1 terms2 : Terms} {s s1 s2 : S} {n : Node} {r : Result Node E} {q : Parts} {other : Tree Depth → E → Type 0} (k j : Kind)
+        → IsPartOf terms.rows (node_shape n) → node_tree terms.rows n ≡ tree_in terms.rows (kind_shape k)
+        → HasNoName (kind_form k) → IsInner (kind_form k) → HasBinder terms.rows (form_binder (kind_form k))
+        → kind_form j ≡ refilled q (kind_form k) → kind_sort j ≡ kind_sort k
+        → Folds owned means (ArePartsFor (form_parts (kind_form k))) parts_trees
+        (WalksUnder H (binder_in terms.rows (form_binder (kind_form k)))) (FailsUnder H other (binder_in terms.rows (form_binder (kind_form k))))
+        terms s (form_parts (kind_form k)) (Ok q) terms1 s1
+        → Goes owned means
+        (λ now y m m'. IsNodeFor n now y × H.after_term m (node_tree terms1.rows n) (tree_in terms1.rows (kind_shape j)) (node_tree now y) m')
+        (λ m e m'. (unbuilt (tree_in terms1.rows (kind_shape j)) e × (m' ≡ m)) ⊎ H.after_fails unbuilt m (node_tree terms1.rows n) (tree_in terms1.rows (kind_shape j)) e m')
+        terms1 s1 r terms2 s2
+        → Folds owned means (IsNodeFor n) node_tree (Descends H) (DescentFails H unbuilt) terms s n r terms2 s2
+    descend_rebuilt {terms} {terms1} {s} {s1} {n} {r} {q} k j owns tree n_n inner binder form sort f d =
+        let inside = walks_form terms.rows terms1.rows (kind_sort k) q (kind_form k) n_n inner (binder-grows f.extends.rows (form_binder (kind_form k)) binder) f.outcome.2 in
+        let whole : WalksInside H (stands means terms s) (node_tree terms.rows n) (tree_in terms1.rows (kind_shape j)) (stands means terms1 s1) = rw (tree, form, sort) inside in
+        let o = rw (tree-grows f.extends.rows (node_shape n) owns) at d.outcome in
+        record {
+          extends = Extends-trans f.extends d.extends;
+          outcome = MatchResult-weaker r o
+              (λ y h. (h.0, h.1.0, rebuilt whole h.1.1))
+              (λ e h. elim h [ inl a ↦ rw a.1 (not_built whole a.0) | inr a ↦ after_failed whole a ]);
+        }
+
+    pub descend_fails : {terms terms1 : Terms} {s s1 : S} {n : Node} {e : E} (k : Kind)
+        → node_tree terms.rows n ≡ tree_in terms.rows (kind_shape k) → IsInner (kind_form k)
+        → Folds owned means (ArePartsFor (form_parts (kind_form k))) parts_trees
+        (WalksUnder H (binder_in terms.rows (form_binder (kind_form k)))) (FailsUnder H unbuilt (binder_in terms.rows (form_binder (kind_form k))))
+        terms s (form_parts (kind_form k)) (Err e) terms1 s1
+        → Folds owned means (IsNodeFor n) node_tree (Descends H) (DescentFails H unbuilt) terms s n (Err e) terms1 s1
+    descend_fails {terms} k tree inner f =
+        record { extends = f.extends; outcome = rw tree (inside_failed (fails_form terms.rows (kind_sort k) (kind_form k) inner f.outcome)) }
+
+    -- a hook answered `descend`, and the descent follows
+    pub node_descends : {terms terms1 terms2 : Terms} {s s1 s2 : S} {n : Node} {r : Result Node E}
+        → Extends terms terms1 → IsPartOf terms.rows (node_shape n) → IsTerm (node_tree terms.rows n)
+        → H.on_term (stands means terms s) (node_tree terms.rows n) descend (stands means terms1 s1)
+        → Folds owned means (IsNodeFor n) node_tree (Descends H) (DescentFails H unbuilt) terms1 s1 n r terms2 s2
+        → Folds owned means (IsNodeFor n) node_tree (Walks H) (Fails H unbuilt) terms s n r terms2 s2
+    node_descends {n} {r} extends owns is asks d =
+        let o = rw (tree-grows extends.rows (node_shape n) owns) at d.outcome in
+        record {
+          extends = Extends-trans extends d.extends;
+          outcome = MatchResult-weaker r o (λ y h. (h.0, h.1, descended is asks h.2)) (λ e h. descent_failed is asks h);
+        }
+
+    -- parts with no binder
+    pub open_contents : {terms terms1 : Terms} {s s1 : S} {p : Parts} {r : Result Parts E} {b : Option BoundVarKinds}
+        → b ≡ None
+        → Folds owned means (ArePartsFor p) parts_trees (WalksAll H) (FailsAll H unbuilt) terms s p r terms1 s1
+        → Folds owned means (ArePartsFor p) parts_trees (WalksUnder H (binder_in terms.rows b)) (FailsUnder H unbuilt (binder_in terms.rows b)) terms s p r terms1 s1
+    open_contents {r} same d =
+        rw same (record { extends = d.extends; outcome = MatchResult-weaker r d.outcome (λ y h. (h.0, h.1, in_open h.2)) (λ e h. in_open_failed h) })
+
+    -- binders
+    pub under_parts_fail : {terms terms1 terms2 : Terms} {s s1 s2 : S} {p : Parts} {e : E} (vars : BoundVarKinds)
+        → ArePartsOf terms.rows (parts_shapes p) → Extends terms terms1 → H.enter (stands means terms s) (vars_in terms.rows vars) (stands means terms1 s1)
+        → Folds owned means (ArePartsFor p) parts_trees (WalksAll H) (FailsAll H unbuilt) terms1 s1 p (Err e) terms2 s2
+        → Folds owned means (ArePartsFor p) parts_trees (WalksUnder H (Some (vars_in terms.rows vars))) (FailsUnder H unbuilt (Some (vars_in terms.rows vars))) terms s p (Err e) terms2 s2
+    under_parts_fail {p} vars owns extends enter d =
+        let o = rw (trees-grow extends.rows (parts_shapes p) owns) at d.outcome in
+        record { extends = Extends-trans extends d.extends; outcome = in_under_failed enter o }
+
+    pub under_leave_fails : {terms terms1 terms2 terms3 : Terms} {s s1 s2 s3 : S} {p q : Parts} {e : E} (vars : BoundVarKinds) {other : Tree Depth → E → Type 0}
+        → HasVars terms.rows vars → ArePartsOf terms.rows (parts_shapes p) → Extends terms terms1
+        → H.enter (stands means terms s) (vars_in terms.rows vars) (stands means terms1 s1)
+        → Folds owned means (ArePartsFor p) parts_trees (WalksAll H) (FailsAll H other) terms1 s1 p (Ok q) terms2 s2
+        → Extends terms2 terms3 → H.leave_fails unbuilt (stands means terms2 s2) (vars_in terms2.rows vars) e (stands means terms3 s3)
+        → Folds owned means (ArePartsFor p) parts_trees (WalksUnder H (Some (vars_in terms.rows vars))) (FailsUnder H unbuilt (Some (vars_in terms.rows vars))) terms s p (Err e) terms3 s3
+    under_leave_fails {p} vars has owns extends enter d more leave =
+        let o = rw (trees-grow extends.rows (parts_shapes p) owns) at d.outcome in
+        let l = rw (vars-grow (Extends-trans extends d.extends).rows vars has) at leave in
+        record { extends = Extends-trans extends (Extends-trans d.extends more); outcome = in_leave_failed enter o.2 l }
+
+    pub under_folds : {terms terms1 terms2 terms3 : Terms} {s s1 s2 s3 : S} {p q : Parts} (vars : BoundVarKinds) {other : Tree Depth → E → Type 0}
+        → HasVars terms.rows vars → ArePartsOf terms.rows (parts_shapes p) → Extends terms terms1
+        → H.enter (stands means terms s) (vars_in terms.rows vars) (stands means terms1 s1)
+        → Folds owned means (ArePartsFor p) parts_trees (WalksAll H) (FailsAll H other) terms1 s1 p (Ok q) terms2 s2
+        → Extends terms2 terms3 → owned terms3.rows s3 → H.leave (stands means terms2 s2) (vars_in terms2.rows vars) (stands means terms3 s3)
+        → Folds owned means (ArePartsFor p) parts_trees (WalksUnder H (Some (vars_in terms.rows vars))) (FailsUnder H unbuilt (Some (vars_in terms.rows vars))) terms s p (Ok q) terms3 s3
+    under_folds {p} {q} vars has owns extends enter d more owned3 leave =
+        let o = rw (trees-grow extends.rows (parts_shapes p) owns) at d.outcome in
+        let l = rw (vars-grow (Extends-trans extends d.extends).rows vars has) at leave in
+        record {
+          extends = Extends-trans extends (Extends-trans d.extends more);
+          outcome = (owned3, record { owned = parts-grow more.rows (parts_shapes q) o.1.owned; like = o.1.like }, rw (trees-grow more.rows (parts_shapes q) o.1.owned) (in_binder enter o.2 l));
+        }
+
+    -- the two parts
+    pub parts_first_fails : {terms terms1 : Terms} {s s1 : S} {p : Parts} {e : E}
+        → Folds owned means (IsChildFor p.first) child_trees (WalksAll H) (FailsAll H unbuilt) terms s p.first (Err e) terms1 s1
+        → Folds owned means (ArePartsFor p) parts_trees (WalksAll H) (FailsAll H unbuilt) terms s p (Err e) terms1 s1
+    parts_first_fails {terms} {p} d =
+        record { extends = d.extends; outcome = rw (append_trees terms.rows (child_shapes p.first) (child_shapes p.second)) (FailsAll-before _ d.outcome) }
+
+    pub parts_second_fails : {terms terms1 terms2 : Terms} {s s1 s2 : S} {p : Parts} {x : Child} {e : E} {other : Tree Depth → E → Type 0}
+        → ArePartsOf terms.rows (parts_shapes p)
+        → Folds owned means (IsChildFor p.first) child_trees (WalksAll H) (FailsAll H other) terms s p.first (Ok x) terms1 s1
+        → Folds owned means (IsChildFor p.second) child_trees (WalksAll H) (FailsAll H unbuilt) terms1 s1 p.second (Err e) terms2 s2
+        → Folds owned means (ArePartsFor p) parts_trees (WalksAll H) (FailsAll H unbuilt) terms s p (Err e) terms2 s2
+    parts_second_fails {terms} {p} owns a b =
+        let second = right_parts terms.rows (child_shapes p.first) (child_shapes p.second) owns in
+        let o = rw (trees-grow a.extends.rows (child_shapes p.second) second) at b.outcome in
+        record {
+          extends = Extends-trans a.extends b.extends;
+          outcome = rw (append_trees terms.rows (child_shapes p.first) (child_shapes p.second)) (FailsAll-append a.outcome.2 o);
+        }
+
+    pub parts_fold : {terms terms1 terms2 : Terms} {s s1 s2 : S} {p : Parts} {x y : Child} {other : Tree Depth → E → Type 0}
+        → ArePartsOf terms.rows (parts_shapes p)
+        → Folds owned means (IsChildFor p.first) child_trees (WalksAll H) (FailsAll H other) terms s p.first (Ok x) terms1 s1
+        → Folds owned means (IsChildFor p.second) child_trees (WalksAll H) (FailsAll H unbuilt) terms1 s1 p.second (Ok y) terms2 s2
+        → Folds owned means (ArePartsFor p) parts_trees (WalksAll H) (FailsAll H unbuilt) terms s p (Ok (record { first = x; second = y })) terms2 s2
+    parts_fold {terms} {terms2} {p} {x} {y} owns a b =
+        let second = right_parts terms.rows (child_shapes p.first) (child_shapes p.second) owns in
+        let o = rw (trees-grow a.extends.rows (child_shapes p.second) second) at b.outcome in
+        let w = rw (← trees-grow b.extends.rows (child_shapes x) a.outcome.1.owned) at a.outcome.2 in
+        record {
+          extends = Extends-trans a.extends b.extends;
+          outcome = (
+            o.0,
+            record {
+              owned = append_parts terms2.rows (child_shapes x) (child_shapes y) (parts-grow b.extends.rows (child_shapes x) a.outcome.1.owned) o.1.owned;
+              like = record { first = a.outcome.1.like; second = o.1.like };
+            },
+            rw (append_trees terms.rows (child_shapes p.first) (child_shapes p.second), append_trees terms2.rows (child_shapes x) (child_shapes y)) (WalksAll-append w o.2),
+          );
+        }
+
+    -- the sorts of a child
+    pub child_absent : {terms : Terms} {s : S} {c : Child}
+        → c ≡ child.Absent → Extends terms terms → owned terms.rows s
+        → Folds owned means (IsChildFor c) child_trees (WalksAll H) (FailsAll H unbuilt) terms s c (Ok child.Absent) terms s
+    child_absent {terms} same extends o =
+        rw same (record { extends = extends; outcome = (o, record { owned = no_parts terms.rows; like = refl }, rw (no_trees terms.rows) done) })
+
+    pub child_region_fails : {terms terms1 : Terms} {s s1 : S} {c : Child} {x : RegionKind} {e : E}
+        → c ≡ child.Region x → Extends terms terms1 → H.region_fails unbuilt (stands means terms s) (tree_in terms.rows (region_shape x)) e (stands means terms1 s1)
+        → Folds owned means (IsChildFor c) child_trees (WalksAll H) (FailsAll H unbuilt) terms s c (Err e) terms1 s1
+    child_region_fails {terms} {x} same extends h =
+        rw same (record { extends = extends; outcome = rw (one_tree terms.rows (region_shape x)) (here (region_failed (region-is terms.rows x) h)) })
+
+    pub child_region : {terms terms1 : Terms} {s s1 : S} {c : Child} {x y : RegionKind}
+        → c ≡ child.Region x → Extends terms terms1 → owned terms1.rows s1 → IsPartOf terms1.rows (region_shape y)
+        → H.on_region (stands means terms s) (tree_in terms.rows (region_shape x)) (tree_in terms1.rows (region_shape y)) (stands means terms1 s1)
+        → Folds owned means (IsChildFor c) child_trees (WalksAll H) (FailsAll H unbuilt) terms s c (Ok (child.Region y)) terms1 s1
+    child_region {terms} {terms1} {x} {y} same extends o part h =
+        rw same (record {
+          extends = extends;
+          outcome = (
+            o,
+            record { owned = one_part terms1.rows (region_shape y) part; like = refl },
+            rw (one_tree terms.rows (region_shape x), one_tree terms1.rows (region_shape y)) (WalksAll-one (at_region (region-is terms.rows x) h)),
+          );
+        })
+
+    pub child_node_fails : {terms terms1 : Terms} {s s1 : S} {c : Child} {x : Node} {e : E}
+        → c ≡ child.Node x
+        → Folds owned means (IsNodeFor x) node_tree (Walks H) (Fails H unbuilt) terms s x (Err e) terms1 s1
+        → Folds owned means (IsChildFor c) child_trees (WalksAll H) (FailsAll H unbuilt) terms s c (Err e) terms1 s1
+    child_node_fails {terms} {x} same d = rw same (record { extends = d.extends; outcome = rw (one_tree terms.rows (node_shape x)) (here d.outcome) })
+
+    pub child_node : {terms terms1 : Terms} {s s1 : S} {c : Child} {x y : Node}
+        → c ≡ child.Node x
+        → Folds owned means (IsNodeFor x) node_tree (Walks H) (Fails H unbuilt) terms s x (Ok y) terms1 s1
+        → Folds owned means (IsChildFor c) child_trees (WalksAll H) (FailsAll H unbuilt) terms s c (Ok (child.Node y)) terms1 s1
+    child_node {terms} {terms1} {x} {y} same d =
+        let o = d.outcome in
+        rw same (record {
+          extends = d.extends;
+          outcome = (
+            o.0,
+            record { owned = one_part terms1.rows (node_shape y) o.1.owned; like = ap sorts.a_node o.1.like },
+            rw (one_tree terms.rows (node_shape x), one_tree terms1.rows (node_shape y)) (WalksAll-one o.2),
+          );
+        })
+
+    pub child_list_fails : {terms terms1 : Terms} {s s1 : S} {c : Child} {x : List} {e : E}
+        → c ≡ child.List x
+        → Folds owned means (IsListFor x) list_tree (Walks H) (Fails H unbuilt) terms s x (Err e) terms1 s1
+        → Folds owned means (IsChildFor c) child_trees (WalksAll H) (FailsAll H unbuilt) terms s c (Err e) terms1 s1
+    child_list_fails {terms} {x} same d = rw same (record { extends = d.extends; outcome = rw (one_tree terms.rows (list_shape x)) (here d.outcome) })
+
+    pub child_list : {terms terms1 : Terms} {s s1 : S} {c : Child} {x y : List}
+        → c ≡ child.List x
+        → Folds owned means (IsListFor x) list_tree (Walks H) (Fails H unbuilt) terms s x (Ok y) terms1 s1
+        → Folds owned means (IsChildFor c) child_trees (WalksAll H) (FailsAll H unbuilt) terms s c (Ok (child.List y)) terms1 s1
+    child_list {terms} {terms1} {x} {y} same d =
+        let o = d.outcome in
+        rw same (record {
+          extends = d.extends;
+          outcome = (
+            o.0,
+            record { owned = one_part terms1.rows (list_shape y) o.1.owned; like = ap sorts.a_list o.1.like },
+            rw (one_tree terms.rows (list_shape x), one_tree terms1.rows (list_shape y)) (WalksAll-one o.2),
+          );
+        })
+
+    -- lists
+    pub so_far_item_fails : {terms terms1 terms2 : Terms} {s s1 s2 : S} {l : List} {sort : ListSort} {items : Listed Child} {n : ℕ} {x : Child} {e : E} (list : Listed Child)
+        → list_tree terms.rows l ≡ tree.node (list_label (list_table l)) (children_trees terms.rows list)
+        → FoldsSoFar owned means H terms s sort list n items terms1 s1
+        → slice_get list n ≡ Some x → ArePartsOf terms.rows (child_shapes x)
+        → Folds owned means (IsChildFor x) child_trees (WalksAll H) (FailsAll H unbuilt) terms1 s1 x (Err e) terms2 s2
+        → Folds owned means (IsListFor l) list_tree (Walks H) (Fails H unbuilt) terms s l (Err e) terms2 s2
+    so_far_item_fails {terms} {n} {x} list tree p is_x owns d =
+        let o = rw (trees-grow p.extends.rows (child_shapes x) owns) at d.outcome in
+        record {
+          extends = Extends-trans p.extends d.extends;
+          outcome = rw (tree, trees-from terms.rows list n x is_x) (node_failed (FailsAll-append p.walked (FailsAll-before _ o)));
+        }
+
+    -- the memory for an item is refused
+    pub so_far_stops : {terms terms1 : Terms} {s s1 : S} {l : List} {sort : ListSort} {items : Listed Child} {n : ℕ} {e : E} (list : Listed Child)
+        → list_tree terms.rows l ≡ tree.node (list_label (list_table l)) (children_trees terms.rows list)
+        → FoldsSoFar owned means H terms s sort list n items terms1 s1
+        → ((u : Tree Depth) → unbuilt u e)
+        → Folds owned means (IsListFor l) list_tree (Walks H) (Fails H unbuilt) terms s l (Err e) terms1 s1
+    so_far_stops {terms} {n} list tree p b =
+        record { extends = p.extends; outcome = rw (tree, trees-cut terms.rows list n) (node_failed (FailsAll-append p.walked (stopped b))) }
+
+    -- the whole list was folded, and is not stored
+    pub so_far_not_stored : {terms terms1 terms2 : Terms} {s s1 : S} {items : Listed Child} {n : ℕ} {l : List} {e : E} (list : Listed Child)
+        → list_tree terms.rows l ≡ tree.node (list_label (list_table l)) (children_trees terms.rows list)
+        → FoldsSoFar owned means H terms s (list_sort l) list n items terms1 s1
+        → length list ≤ n → terms2 ≡ terms1
+        → unbuilt (tree.node (list_label (list_table l)) (children_trees terms1.rows items)) e
+        → Folds owned means (IsListFor l) list_tree (Walks H) (Fails H unbuilt) terms s l (Err e) terms2 s1
+    so_far_not_stored {terms} {n} list tree p all same b =
+        let whole : take n list ≡ list = grind (arith, common_steps) in
+        rw same (record { extends = p.extends; outcome = rw tree (node_not_built (rw whole at p.walked) b) })
+
+    -- the whole list was folded and stored
+    pub so_far_stored : {terms terms1 terms2 : Terms} {s s1 : S} {items : Listed Child} {n : ℕ} {l u : List} (list : Listed Child)
+        → list_tree terms.rows l ≡ tree.node (list_label (list_table l)) (children_trees terms.rows list)
+        → FoldsSoFar owned means H terms s (list_sort l) list n items terms1 s1
+        → length list ≤ n → Extends terms1 terms2 → owned terms2.rows s1 → stands means terms2 s1 ≡ stands means terms1 s1
+        → IsPartOf terms2.rows (list_shape u) → list_sort u ≡ list_sort l
+        → list_tree terms2.rows u ≡ tree.node (list_label (list_table l)) (children_trees terms1.rows items)
+        → Folds owned means (IsListFor l) list_tree (Walks H) (Fails H unbuilt) terms s l (Ok u) terms2 s1
+    so_far_stored {terms} {n} list tree p all extends o still owns sort new =
+        let whole : take n list ≡ list = grind (arith, common_steps) in
+        record {
+          extends = Extends-trans p.extends extends;
+          outcome = (o, record { owned = owns; like = sort }, rw (tree, new, still) (at_node (rw whole at p.walked)));
+        }

@@ -1,0 +1,123 @@
+-- Shapes of handles, of children and of parts.
+use Rattle.std.proofs.Common.{◌≡◌, ℕ, suc, ◌<◌, ◌≤◌, List, [], ◌∷◌, ◌++◌, max, Option, Some, None, refl, ap, sym, ◌∙◌, arith}
+use Rattle.tt_kinds.specs.Tree as tree
+use Rattle.tt_kinds.specs.Tree.{Depth, Forest}
+use Rattle.tt_kinds.specs.Shape.{Shape, Shapes, stored, none, also, append, Meaning, Sizes, IsPart, AreParts, fill, fill_all}
+use Rattle.tt_kinds.specs.Parts.{node_table, node_number, list_table, list_number}
+use Rattle.tt_kinds.specs.Kinds.{node_shape, list_shape, region_shape, child_shapes, parts_shapes, children_shapes}
+use Rattle.tt_kinds.specs.declared.table.Table.{Table}
+use Rattle.tt_kinds.specs.declared.table.Table.TheVariants.{VarLists}
+use Rattle.tt_kinds.specs.declared.handle.BoundVarKinds.{BoundVarKinds}
+use Rattle.tt_kinds.specs.declared.parts.Child.{Child}
+use Rattle.tt_kinds.specs.declared.parts.Child.TheVariants as child
+use Rattle.tt_kinds.specs.declared.parts.Parts.{Parts}
+use Rattle.tt_kinds.specs.Shape.{vars_of}
+use Rattle.tt_interner.specs.Rows.{Row, size, meaning, age, Grows}
+use Rattle.tt_fold.specs.Steps.{IsPartOf, tree_in, HasVars, vars_in}
+use Rattle.tt_fold.specs.Parts.{ArePartsOf, trees_in, HasBinder, binder_in, child_weight, parts_weight}
+use Rattle.tt_fold.proofs.Growth.{size-grows, meaning-grows, age-grows}
+
+-- a handle in range, its tree
+pub is_part : (rows : List Row) (t : Table) (n : ℕ) → n < size rows t → IsPartOf rows (stored t n)
+unfolding IsPart
+is_part rows t n h = h
+
+pub in_range : (rows : List Row) (t : Table) (n : ℕ) → IsPartOf rows (stored t n) → n < size rows t
+unfolding IsPart
+in_range rows t n h = h
+
+pub stored_tree : (rows : List Row) (t : Table) (n : ℕ) → tree_in rows (stored t n) ≡ meaning rows t n
+unfolding fill
+stored_tree rows t n = refl
+
+-- one shape, and several
+pub one_part : (rows : List Row) (s : Shape) → IsPartOf rows s → ArePartsOf rows (also s none)
+unfolding AreParts
+one_part rows s h = (h, tt)
+
+pub only_part : (rows : List Row) (s : Shape) → ArePartsOf rows (also s none) → IsPartOf rows s
+unfolding AreParts
+only_part rows s h = h.0
+
+pub one_tree : (rows : List Row) (s : Shape) → trees_in rows (also s none) ≡ tree.also (tree_in rows s) tree.none
+unfolding fill_all
+one_tree rows s = refl
+
+pub no_trees : (rows : List Row) → trees_in rows none ≡ tree.none
+unfolding fill_all
+no_trees rows = refl
+
+pub no_parts : (rows : List Row) → ArePartsOf rows none
+unfolding AreParts
+no_parts rows = tt
+
+pub append_parts : (rows : List Row) (ss us : Shapes) → ArePartsOf rows ss → ArePartsOf rows us → ArePartsOf rows (append ss us)
+unfolding AreParts
+append_parts rows none us h k = k
+append_parts rows (also s ss) us h k = (h.0, append_parts rows ss us h.1 k)
+
+pub left_parts : (rows : List Row) (ss us : Shapes) → ArePartsOf rows (append ss us) → ArePartsOf rows ss
+unfolding AreParts
+left_parts rows none us h = tt
+left_parts rows (also s ss) us h = (h.0, left_parts rows ss us h.1)
+
+pub right_parts : (rows : List Row) (ss us : Shapes) → ArePartsOf rows (append ss us) → ArePartsOf rows us
+unfolding AreParts
+right_parts rows none us h = h
+right_parts rows (also s ss) us h = right_parts rows ss us h.1
+
+-- the trees, one after another
+abbrev pub joined : Forest Depth → Forest Depth → Forest Depth
+joined tree.none us = us
+joined (tree.also t ts) us = tree.also t (joined ts us)
+
+pub joined-none : (ts : Forest Depth) → joined ts tree.none ≡ ts
+joined-none tree.none = refl
+joined-none (tree.also t ts) = ap (tree.also t) (joined-none ts)
+
+pub append_trees : (rows : List Row) (ss us : Shapes) → trees_in rows (append ss us) ≡ joined (trees_in rows ss) (trees_in rows us)
+unfolding fill_all
+append_trees rows none us = refl
+append_trees rows (also s ss) us = ap (tree.also (tree_in rows s)) (append_trees rows ss us)
+
+append-assoc : (ss us vs : Shapes) → append (append ss us) vs ≡ append ss (append us vs)
+append-assoc none us vs = refl
+append-assoc (also s ss) us vs = ap (also s) (append-assoc ss us vs)
+
+append-none : (ss : Shapes) → append ss none ≡ ss
+append-none none = refl
+append-none (also s ss) = ap (also s) (append-none ss)
+
+pub children-append : (cs ds : List Child) → children_shapes (cs ++ ds) ≡ append (children_shapes cs) (children_shapes ds)
+children-append [] ds = refl
+children-append (c ∷ cs) ds = ap (append (child_shapes c)) (children-append cs ds) ∙ sym (append-assoc (child_shapes c) (children_shapes cs) (children_shapes ds))
+
+pub children-one : (c : Child) → children_shapes (c ∷ []) ≡ child_shapes c
+children-one c = append-none (child_shapes c)
+
+module _ {old new : List Row} (g : Grows old new) where
+  pub vars-kept : (vars : BoundVarKinds) → HasVars old vars → HasVars new vars
+  vars-kept vars h = let more = size-grows g VarLists in omega (arith, more, h)
+
+  pub vars-grow : (vars : BoundVarKinds) → HasVars old vars → vars_in new vars ≡ vars_in old vars
+  vars-grow vars h = ap vars_of (meaning-grows g VarLists vars.number h)
+
+  pub binder-kept : (b : Option BoundVarKinds) → HasBinder old b → HasBinder new b
+  binder-kept None h = tt
+  binder-kept (Some vars) h = vars-kept vars h
+
+  pub binder-grows : (b : Option BoundVarKinds) → HasBinder old b → binder_in new b ≡ binder_in old b
+  binder-grows None h = refl
+  binder-grows (Some vars) h = ap Some (vars-grow vars h)
+
+  pub weight-grows : (c : Child) → ArePartsOf old (child_shapes c) → child_weight new c ≡ child_weight old c
+  weight-grows child.Absent h = refl
+  weight-grows (child.Region r) h = refl
+  weight-grows (child.Node n) h = ap suc (age-grows g (node_table n) (node_number n) (in_range old (node_table n) (node_number n) (only_part old (node_shape n) h)))
+  weight-grows (child.List l) h = ap suc (age-grows g (list_table l) (list_number l) (in_range old (list_table l) (list_number l) (only_part old (list_shape l) h)))
+
+  pub weights-grow : (p : Parts) → ArePartsOf old (parts_shapes p) → parts_weight new p ≡ parts_weight old p
+  weights-grow p h =
+      let first = weight-grows p.first (left_parts old (child_shapes p.first) (child_shapes p.second) h) in
+      let second = weight-grows p.second (right_parts old (child_shapes p.first) (child_shapes p.second) h) in
+      rw (first, second) refl

@@ -1,0 +1,79 @@
+-- The walks of two parts of a list make that of the whole, and the parts' walk that of the term that they make.
+use Rattle.std.proofs.Common.{◌≡◌, ℕ, List, Option, Some, None, refl, ap, sym, ◌∙◌}
+use Rattle.std.proofs.lemmas.Option.{same_Some}
+use Rattle.tt_kinds.specs.Label.{Name, Sort, VarKind, Label, record_label}
+use Rattle.tt_kinds.specs.Tree as tree
+use Rattle.tt_kinds.specs.Tree.{Depth, Tree, Forest}
+use Rattle.tt_kinds.specs.Shape.{name_of, fill, fill_all}
+use Rattle.tt_kinds.specs.Kinds.{Form, param, bound, plain, under, form_parts, form_binder, refilled, form_shape, parts_shapes, kind_form, kind_sort, kind_shape}
+use Rattle.tt_kinds.specs.declared.parts.Child.TheVariants as child
+use Rattle.tt_kinds.specs.declared.parts.Kind.{Kind}
+use Rattle.tt_kinds.specs.declared.parts.Parts.{Parts}
+use Rattle.tt_interner.specs.Rows.{Row, meaning}
+use Rattle.tt_fold.specs.Walk.{Hooks, Walks, WalksAll, done, next, Fails, FailsAll, here, later, stopped, WalksUnder, in_open, in_binder, FailsUnder, in_open_failed, in_enter_failed, in_under_failed, in_leave_failed, WalksInside, in_term, in_param, in_bound, FailsInside, in_term_failed, at_binder, at_node, enter_failed, under_failed, leave_failed, node_failed}
+use Rattle.tt_fold.specs.Steps.{tree_in, vars_in}
+use Rattle.tt_fold.specs.Parts.{trees_in, binder_in, IsLeaf}
+use Rattle.tt_fold.proofs.PartLaws.{joined}
+use Rattle.tt_fold.proofs.FormLaws.{HasNoName, IsInner}
+
+pub WalksAll-append : {M E : Type 0} {H : Hooks M E} {s s1 s2 : M} {ts us vs ws : Forest Depth}
+    → WalksAll H s ts us s1 → WalksAll H s1 vs ws s2 → WalksAll H s (joined ts vs) (joined us ws) s2
+WalksAll-append done b = b
+WalksAll-append (next a more) b = next a (WalksAll-append more b)
+
+module _ {M E : Type 0} {H : Hooks M E} {unbuilt : Tree Depth → E → Type 0} where
+  pub FailsAll-append : {s s1 s2 : M} {ts us vs : Forest Depth} {e : E}
+      → WalksAll H s ts us s1 → FailsAll H unbuilt s1 vs e s2 → FailsAll H unbuilt s (joined ts vs) e s2
+  FailsAll-append done b = b
+  FailsAll-append (next a more) b = later a (FailsAll-append more b)
+
+  -- a failure in a list is one of a longer list
+  pub FailsAll-before : {s s1 : M} {ts : Forest Depth} {e : E} (us : Forest Depth)
+      → FailsAll H unbuilt s ts e s1 → FailsAll H unbuilt s (joined ts us) e s1
+  FailsAll-before us (stopped b) = stopped b
+  FailsAll-before us (here f) = here f
+  FailsAll-before us (later w f) = later w (FailsAll-before us f)
+
+-- one tree
+pub WalksAll-one : {M E : Type 0} {H : Hooks M E} {s s' : M} {t u : Tree Depth} → Walks H s t u s' → WalksAll H s (tree.also t tree.none) (tree.also u tree.none) s'
+WalksAll-one w = next w done
+
+module _ {M E : Type 0} {H : Hooks M E} (rows rows1 : List Row) (o : Sort) (q : Parts) where
+  -- the parts' walk is that of the term that they make
+  pub walks_form : {s s' : M} (f : Form (Label ℕ)) → HasNoName f → IsInner f → binder_in rows1 (form_binder f) ≡ binder_in rows (form_binder f)
+      → WalksUnder H (binder_in rows (form_binder f)) s (trees_in rows (parts_shapes (form_parts f))) (trees_in rows1 (parts_shapes q)) s'
+      → WalksInside H s (tree_in rows (form_shape o f)) (tree_in rows1 (form_shape o (refilled q f))) s'
+  unfolding fill
+  walks_form (param i name) n is b w = absurd is
+  walks_form (bound d e) n is b w = absurd is
+  walks_form (plain l p) n is b (in_open w) = rw (n.same (name_of (meaning rows)) (name_of (meaning rows1))) (in_term w)
+  walks_form (under l vars m p) n is b (in_binder enter w leave) =
+      rw (n.same (name_of (meaning rows)) (name_of (meaning rows1)), same_vars b) (in_term (WalksAll-one (at_binder enter (at_node w) leave)))
+    where
+      same_vars : Some (vars_in rows1 vars) ≡ Some (vars_in rows vars) → vars_in rows1 vars ≡ vars_in rows vars
+      same_vars e = same_Some _ _ e
+
+pub fails_form : {M E : Type 0} {H : Hooks M E} {unbuilt : Tree Depth → E → Type 0} {s s1 : M} {e : E} (rows : List Row) (o : Sort) (f : Form (Label ℕ)) → IsInner f
+    → FailsUnder H unbuilt (binder_in rows (form_binder f)) s (trees_in rows (parts_shapes (form_parts f))) e s1
+    → FailsInside H unbuilt s (tree_in rows (form_shape o f)) e s1
+unfolding fill
+fails_form rows o (param i name) is h = absurd is
+fails_form rows o (bound d e) is h = absurd is
+fails_form rows o (plain l p) is (in_open_failed w) = in_term_failed w
+fails_form rows o (under l vars m p) is (in_enter_failed h) = in_term_failed (here (enter_failed h))
+fails_form rows o (under l vars m p) is (in_under_failed enter h) = in_term_failed (here (under_failed enter (node_failed h)))
+fails_form rows o (under l vars m p) is (in_leave_failed enter w h) = in_term_failed (here (leave_failed enter (at_node w) h))
+
+-- a term without children
+leaf_form : {M E : Type 0} (H : Hooks M E) (s : M) (rows : List Row) (o : Sort) (f : Form (Label ℕ))
+    → form_binder f ≡ None → (form_parts f).first ≡ child.Absent → (form_parts f).second ≡ child.Absent
+    → WalksInside H s (tree_in rows (form_shape o f)) (tree_in rows (form_shape o f)) s
+unfolding fill
+leaf_form H s rows o (param i name) b p q = in_param
+leaf_form H s rows o (bound d e) b p q = in_bound
+leaf_form H s rows o (plain l r) b p q = rw (p, q) (in_term done)
+leaf_form H s rows o (under l vars m r) b p q = absurd (cc)
+
+pub walks_leaf : {M E : Type 0} (H : Hooks M E) (s : M) (rows : List Row) (k : Kind) → IsLeaf k
+    → WalksInside H s (tree_in rows (kind_shape k)) (tree_in rows (kind_shape k)) s
+walks_leaf H s rows k h = leaf_form H s rows (kind_sort k) (kind_form k) h.binder h.first h.second

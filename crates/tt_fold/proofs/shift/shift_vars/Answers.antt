@@ -1,0 +1,35 @@
+use Rattle.std.proofs.Common.{refl, sym, ap, ◌∙◌, ◌≡◌, ◌⊎◌, inl, inr}
+use Rattle.tt_kinds.specs.Reading.{read, move, outer_binder}
+use Rattle.tt_kinds.specs.Plain.{shift_tree}
+use Rattle.tt_kinds.proofs.ReadingLaws.{read-shift_tree}
+use Rattle.tt_fold.specs.Steps.{tree_by}
+use Rattle.tt_fold.proofs.ShiftLaws.{shift_outcome, stays, closed}
+use Rattle.tt_fold.proofs.shift.shift_vars.Goals.{then-amount-eq0-via-then-amount-eq0, then-amount-eq0-via-else-amount-eq0+then-not-has_escaping_bound_vars}
+use Rattle.tt_fold.proofs.shift.shift_vars.Goals as goal
+
+pub returns-then-amount-eq0-clause-tree : goal.returns-then-amount-eq0-clause-tree
+returns-then-amount-eq0-clause-tree g c = sym (stays c.args.amount (tree_by g.T.TypeVisitable.shape c.args.cx.now.rows c.args.value) (elim c.then-amount-eq0.branch [
+  | then-amount-eq0-via-then-amount-eq0 w ↦ inl w.if-amount-eq0.true
+  | then-amount-eq0-via-else-amount-eq0+then-not-has_escaping_bound_vars w ↦ closed c.args.amount (outer_binder (tree_by g.T.TypeVisitable.shape c.args.cx.now.rows c.args.value)) w.if-not-has_escaping_bound_vars.ensures.1
+]))
+
+pub returns-then-amount-eq0-clause-plain : goal.returns-then-amount-eq0-clause-plain
+returns-then-amount-eq0-clause-plain g c =
+    let t = tree_by g.T.TypeVisitable.shape c.args.cx.now.rows c.args.value in
+    let same : t ≡ shift_tree 0 c.args.amount t = sym (stays c.args.amount t (elim c.then-amount-eq0.branch [
+      | then-amount-eq0-via-then-amount-eq0 w ↦ inl w.if-amount-eq0.true
+      | then-amount-eq0-via-else-amount-eq0+then-not-has_escaping_bound_vars w ↦ closed c.args.amount (outer_binder t) w.if-not-has_escaping_bound_vars.ensures.1
+    ])) in
+    ap (read 0) same ∙ read-shift_tree c.args.amount 0 t
+
+pub returns-clause-plain : goal.returns-clause-plain
+returns-clause-plain g c = (shift_outcome c.args.amount c.fold_with.result refl c.fold_with.ensures).plain
+
+pub returns-clause-tree : goal.returns-clause-tree
+returns-clause-tree g c = (shift_outcome c.args.amount c.fold_with.result refl c.fold_with.ensures).tree
+
+pub returns-clause-err : goal.returns-clause-err
+returns-clause-err g c = (shift_outcome c.args.amount c.fold_with.result refl c.fold_with.ensures).err
+
+pub returns-clause-descents : goal.returns-clause-descents
+returns-clause-descents g c = (shift_outcome c.args.amount c.fold_with.result refl c.fold_with.ensures).descents

@@ -1,0 +1,289 @@
+use Rattle.std.proofs.Common.{◌≡◌, ◌<◌, ◌≤◌, ◌+◌, ◌*◌, refl, ap, ◌∙◌, sym, arith}
+use Rattle.std.proofs.lemmas.Result.{err_from_is_err_and}
+use Rattle.tt_kinds.specs.Parts.{node_table, node_number, list_table, list_number, list_sort, child_sort, IsItem}
+use Rattle.tt_kinds.specs.Kinds.{form_binder, form_parts, kind_form, kind_sort, kind_shape, node_shape, list_shape, child_shapes, parts_shapes}
+use Rattle.tt_interner.specs.Children.{children_at}
+use Rattle.tt_interner.proofs.Growth.{Extends-refl, Extends-trans}
+use Rattle.tt_fold.specs.Parts.{child_weight, parts_weight}
+use Rattle.tt_fold.specs.Walk.{replaced, kept, term_failed, in_enter_failed}
+use Rattle.tt_fold.proofs.Growth.{age-grows, part-grows, parts-grow, tree-grows, children-grow}
+use Rattle.tt_fold.proofs.PartLaws.{is_part, in_range, stored_tree, only_part, left_parts, right_parts, vars-kept, binder-kept, weight-grows, weights-grow}
+use Rattle.tt_fold.proofs.FormLaws.{nameless, same-sort, is_inner, not-deep, form-parts, form-binder, form-older, refilled-parts, item-older, item-part, item-fits}
+use Rattle.tt_fold.proofs.WalkLaws.{walks_leaf}
+use Rattle.tt_fold.proofs.FoldSteps.{node_is_kind, node_is_term, stands-still, stored_list, stored_list_tree, list_is_node, memory_unbuilt, descend_leaf, descend_rebuilt, descend_fails, node_descends, open_contents, under_parts_fail, under_leave_fails, under_folds, parts_first_fails, parts_second_fails, parts_fold, child_absent, child_region_fails, child_region, child_node_fails, child_node, child_list_fails, child_list, so_far_none, so_far_more, so_far_item_fails, so_far_stops, so_far_not_stored, so_far_stored}
+use Rattle.tt_fold.proofs.walk.+fold.Goals as goal
+
+pub fold_node-node_kind-kind-requires : goal.fold_node-node_kind-kind-requires
+fold_node-node_kind-kind-requires g t c =
+    in_range _ _ _ c.requires.node
+
+pub fold_node-returns-in_err-step : goal.fold_node-returns-in_err-step
+fold_node-returns-in_err-step g t c =
+    let p = err_from_is_err_and c.from_residual.result c.from_residual.ensures.1 in
+    let is = node_is_term _ _ c.node_kind-kind.result c.node_kind-kind.ensures.means in
+    rw (p.1, p.2) (record { extends = c.in_err-step.ensures.extends; outcome = term_failed is c.in_err-step.ensures.outcome })
+
+pub fold_node-descend-requires : goal.fold_node-descend-requires
+fold_node-descend-requires g t c κs within =
+    let h = c.in_ok-step.ensures in
+    let same = age-grows h.extends.rows _ _ (in_range _ _ _ c.requires.node) in
+    (omega (arith, same), (within.0, (within.1.0, (within.1.1, (h.outcome.0, part-grows h.extends.rows _ c.requires.node)))))
+
+pub fold_node-returns-in-Replace : goal.fold_node-returns-in-Replace
+fold_node-returns-in-Replace g t c =
+    let is = node_is_term _ _ c.node_kind-kind.result c.node_kind-kind.ensures.means in
+    let h = rw c.in-Replace.is at c.in_ok-step.ensures.outcome in
+    record { extends = c.in_ok-step.ensures.extends; outcome = (h.0, h.1.0, replaced is h.1.1) }
+
+pub fold_node-returns-in-Keep : goal.fold_node-returns-in-Keep
+fold_node-returns-in-Keep g t c =
+    let is = node_is_term _ _ c.node_kind-kind.result c.node_kind-kind.ensures.means in
+    let h = rw c.in-Keep.is at c.in_ok-step.ensures.outcome in
+    let extends = c.in_ok-step.ensures.extends in
+    record {
+      extends = extends;
+      outcome = (h.0, record { owned = part-grows extends.rows _ c.requires.node; like = refl }, rw (tree-grows extends.rows _ c.requires.node) (kept is h.1.1));
+    }
+
+pub fold_node-returns-in-Descend : goal.fold_node-returns-in-Descend
+fold_node-returns-in-Descend g t c =
+    let is = node_is_term _ _ c.node_kind-kind.result c.node_kind-kind.ensures.means in
+    let h = rw c.in-Descend.is at c.in_ok-step.ensures.outcome in
+    node_descends c.in_ok-step.ensures.extends c.requires.node is h.1.1 c.descend.ensures
+
+pub descend-node_kind-kind-requires : goal.descend-node_kind-kind-requires
+descend-node_kind-kind-requires g t c =
+    in_range _ _ _ c.requires.node
+
+pub descend-returns-then-is_leaf : goal.descend-returns-then-is_leaf
+descend-returns-then-is_leaf g t c =
+    let tree = node_is_kind _ _ c.node_kind-kind.result c.node_kind-kind.ensures.means in
+    descend_leaf (rw tree (walks_leaf _ _ _ c.node_kind-kind.result (c.if-is_leaf.ensures.0 refl))) c.end.ensures
+
+pub descend-fold_contents-requires : goal.descend-fold_contents-requires
+descend-fold_contents-requires g t c κs within =
+    let parts = form-parts _ (kind_sort c.node_kind-kind.result) (kind_form c.node_kind-kind.result) c.node_kind-kind.ensures.parts in
+    let binder = form-binder _ (kind_sort c.node_kind-kind.result) (kind_form c.node_kind-kind.result) c.node_kind-kind.ensures.parts in
+    let older = form-older _ _ (kind_sort c.node_kind-kind.result) (kind_form c.node_kind-kind.result) c.node_kind-kind.ensures.older in
+    let low = rw (← c.parts.ensures) at older in
+    (omega (arith, low), (within.0, (within.1.0, (within.1.1, (c.requires.owned, (rw c.bound_vars.ensures binder, rw c.parts.ensures parts))))))
+
+pub descend-returns-in_err-parts : goal.descend-returns-in_err-parts
+descend-returns-in_err-parts g t c =
+    let p = err_from_is_err_and c.from_residual.result c.from_residual.ensures.1 in
+    let tree = node_is_kind _ _ c.node_kind-kind.result c.node_kind-kind.ensures.means in
+    let f = rw (c.bound_vars.ensures, c.parts.ensures) at c.in_err-parts.ensures in
+    rw (p.1, p.2) (descend_fails c.node_kind-kind.result tree (is_inner c.node_kind-kind.result c.if-is_leaf.ensures.1) f)
+
+pub descend-rebuild-requires-clause-before : goal.descend-rebuild-requires-clause-before
+descend-rebuild-requires-clause-before g t c =
+    part-grows c.fold_contents.ensures.extends.rows _ c.requires.node
+
+pub descend-rebuild-requires-clause-kind : goal.descend-rebuild-requires-clause-kind
+descend-rebuild-requires-clause-kind g t c =
+    let binder = form-binder _ (kind_sort c.node_kind-kind.result) (kind_form c.node_kind-kind.result) c.node_kind-kind.ensures.parts in
+    let still = binder-kept c.fold_contents.ensures.extends.rows _ binder in
+    let sort = same-sort c.with_parts.result c.node_kind-kind.result c.with_parts.ensures.table in
+    rw (sort, c.with_parts.ensures.form) (refilled-parts _ (kind_sort c.node_kind-kind.result) _ (kind_form c.node_kind-kind.result) (nameless c.node_kind-kind.result) (is_inner c.node_kind-kind.result c.if-is_leaf.ensures.1) still c.in_ok-parts.ensures.outcome.1.owned)
+
+pub descend-rebuild-requires-clause-shallow : goal.descend-rebuild-requires-clause-shallow
+descend-rebuild-requires-clause-shallow g t c =
+    let sort = same-sort c.with_parts.result c.node_kind-kind.result c.with_parts.ensures.table in
+    rw (sort, c.with_parts.ensures.form) (not-deep (kind_sort c.node_kind-kind.result) _ (kind_form c.node_kind-kind.result) (is_inner c.node_kind-kind.result c.if-is_leaf.ensures.1))
+
+pub descend-returns : goal.descend-returns
+descend-returns g t c =
+    let tree = node_is_kind _ _ c.node_kind-kind.result c.node_kind-kind.ensures.means in
+    let binder = form-binder _ (kind_sort c.node_kind-kind.result) (kind_form c.node_kind-kind.result) c.node_kind-kind.ensures.parts in
+    let sort = same-sort c.with_parts.result c.node_kind-kind.result c.with_parts.ensures.table in
+    let f = rw (c.bound_vars.ensures, c.parts.ensures) at c.in_ok-parts.ensures in
+    descend_rebuilt c.node_kind-kind.result c.with_parts.result c.requires.node tree (nameless c.node_kind-kind.result) (is_inner c.node_kind-kind.result c.if-is_leaf.ensures.1) binder c.with_parts.ensures.form sort f c.rebuild.ensures
+
+pub fold_contents-fold_parts-requires : goal.fold_contents-fold_parts-requires
+fold_contents-fold_parts-requires g t c κs within =
+    (omega arith, (within.0, (within.1.0, (within.1.1, (c.requires.owned, c.requires.parts)))))
+
+pub fold_contents-fold_under-requires : goal.fold_contents-fold_under-requires
+fold_contents-fold_under-requires g t c κs within =
+    (omega arith, (within.0, (within.1.0, (within.1.1, (c.requires.owned, (rw c.in-Some.is at c.requires.binder, c.requires.parts))))))
+
+pub fold_contents-returns-in-None : goal.fold_contents-returns-in-None
+fold_contents-returns-in-None g t c =
+    open_contents c.in-None.is c.fold_parts.ensures
+
+pub fold_under-returns-in_err-core_enter : goal.fold_under-returns-in_err-core_enter
+fold_under-returns-in_err-core_enter g t c =
+    let p = err_from_is_err_and c.from_residual.result c.from_residual.ensures.1 in
+    rw (p.1, p.2) (record { extends = c.in_err-core_enter.ensures.extends; outcome = in_enter_failed c.in_err-core_enter.ensures.result })
+
+pub fold_under-fold_parts-requires : goal.fold_under-fold_parts-requires
+fold_under-fold_parts-requires g t c κs within =
+    let h = c.in_ok-core_enter.ensures in
+    let same = weights-grow h.extends.rows _ c.requires.parts in
+    (omega (arith, same), (within.0, (within.1.0, (within.1.1, (h.result.0, parts-grow h.extends.rows _ c.requires.parts)))))
+
+pub fold_under-returns-in_err-new_parts : goal.fold_under-returns-in_err-new_parts
+fold_under-returns-in_err-new_parts g t c =
+    let p = err_from_is_err_and c.from_residual-in_err-new_parts.result c.from_residual-in_err-new_parts.ensures.1 in
+    let h = c.in_ok-core_enter.ensures in
+    rw (p.1, p.2) (under_parts_fail _ c.requires.parts h.extends h.result.1 c.in_err-new_parts.ensures)
+
+pub fold_under-core_leave-requires-clause-vars : goal.fold_under-core_leave-requires-clause-vars
+fold_under-core_leave-requires-clause-vars g t c =
+    vars-kept (Extends-trans c.in_ok-core_enter.ensures.extends c.fold_parts.ensures.extends).rows _ c.requires.vars
+
+pub fold_under-returns-in_err-core_leave : goal.fold_under-returns-in_err-core_leave
+fold_under-returns-in_err-core_leave g t c =
+    let p = err_from_is_err_and c.from_residual-in_err-core_leave.result c.from_residual-in_err-core_leave.ensures.1 in
+    let h = c.in_ok-core_enter.ensures in
+    let l = c.in_err-core_leave.ensures in
+    rw (p.1, p.2) (under_leave_fails _ c.requires.vars c.requires.parts h.extends h.result.1 c.in_ok-new_parts.ensures l.extends l.result)
+
+pub fold_under-returns : goal.fold_under-returns
+fold_under-returns g t c =
+    let h = c.in_ok-core_enter.ensures in
+    let l = c.in_ok-core_leave.ensures in
+    under_folds _ c.requires.vars c.requires.parts h.extends h.result.1 c.in_ok-new_parts.ensures l.extends l.result.0 l.result.1
+
+pub fold_parts-fold_child-requires : goal.fold_parts-fold_child-requires
+fold_parts-fold_child-requires g t c κs within =
+    (omega arith, (within.0, (within.1.0, (within.1.1, (c.requires.owned, left_parts _ (child_shapes c.args.parts.first) (child_shapes c.args.parts.second) c.requires.parts)))))
+
+pub fold_parts-returns-in_err-first : goal.fold_parts-returns-in_err-first
+fold_parts-returns-in_err-first g t c =
+    let p = err_from_is_err_and c.from_residual.result c.from_residual.ensures.1 in
+    rw (p.1, p.2) (parts_first_fails c.in_err-first.ensures)
+
+pub fold_parts-fold_child-requires-2 : goal.fold_parts-fold_child-requires-2
+fold_parts-fold_child-requires-2 g t c κs within =
+    let a = c.in_ok-first.ensures in
+    let second = right_parts _ (child_shapes c.args.parts.first) (child_shapes c.args.parts.second) c.requires.parts in
+    let same = weight-grows a.extends.rows _ second in
+    (omega (arith, same), (within.0, (within.1.0, (within.1.1, (a.outcome.0, parts-grow a.extends.rows _ second)))))
+
+pub fold_parts-returns-in_err-second : goal.fold_parts-returns-in_err-second
+fold_parts-returns-in_err-second g t c =
+    let p = err_from_is_err_and c.from_residual-in_err-second.result c.from_residual-in_err-second.ensures.1 in
+    rw (p.1, p.2) (parts_second_fails c.requires.parts c.in_ok-first.ensures c.in_err-second.ensures)
+
+pub fold_parts-returns : goal.fold_parts-returns
+fold_parts-returns g t c =
+    parts_fold c.requires.parts c.in_ok-first.ensures c.in_ok-second.ensures
+
+pub fold_child-returns-in-Absent : goal.fold_child-returns-in-Absent
+fold_child-returns-in-Absent g t c =
+    child_absent c.in-Absent.is (Extends-refl _) c.requires.owned
+
+pub fold_child-core_region-requires-clause-region : goal.fold_child-core_region-requires-clause-region
+fold_child-core_region-requires-clause-region g t c =
+    only_part _ _ (rw c.in-Region.is at c.requires.child)
+
+pub fold_child-returns-in_err-new_region-in-Region : goal.fold_child-returns-in_err-new_region-in-Region
+fold_child-returns-in_err-new_region-in-Region g t c =
+    let p = err_from_is_err_and c.from_residual.result c.from_residual.ensures.1 in
+    let h = c.in_err-new_region-in-Region.ensures in
+    rw (p.1, p.2) (child_region_fails c.in-Region.is h.extends h.result)
+
+pub fold_child-returns-in_ok-new_region-in-Region : goal.fold_child-returns-in_ok-new_region-in-Region
+fold_child-returns-in_ok-new_region-in-Region g t c =
+    let h = c.in_ok-new_region-in-Region.ensures in
+    child_region c.in-Region.is h.extends h.result.0 h.result.1 h.result.2
+
+pub fold_child-fold_node-requires : goal.fold_child-fold_node-requires
+fold_child-fold_node-requires g t c κs within =
+    let part = only_part _ _ (rw c.in-Node.is at c.requires.child) in
+    let weight = ap (child_weight c.args.cx.now.rows) c.in-Node.is in
+    (omega (arith, weight), (within.0, (within.1.0, (within.1.1, (c.requires.owned, part)))))
+
+pub fold_child-returns-in_err-new_node-in-Node : goal.fold_child-returns-in_err-new_node-in-Node
+fold_child-returns-in_err-new_node-in-Node g t c =
+    let p = err_from_is_err_and c.from_residual-in_err-new_node-in-Node.result c.from_residual-in_err-new_node-in-Node.ensures.1 in
+    rw (p.1, p.2) (child_node_fails c.in-Node.is c.in_err-new_node-in-Node.ensures)
+
+pub fold_child-returns-in_ok-new_node-in-Node : goal.fold_child-returns-in_ok-new_node-in-Node
+fold_child-returns-in_ok-new_node-in-Node g t c =
+    child_node c.in-Node.is c.in_ok-new_node-in-Node.ensures
+
+pub fold_child-fold_list-requires : goal.fold_child-fold_list-requires
+fold_child-fold_list-requires g t c κs within =
+    let part = only_part _ _ (rw c.in-List.is at c.requires.child) in
+    let weight = ap (child_weight c.args.cx.now.rows) c.in-List.is in
+    (omega (arith, weight), (within.0, (within.1.0, (within.1.1, (c.requires.owned, part)))))
+
+pub fold_child-returns-in_err-new_list-in-List : goal.fold_child-returns-in_err-new_list-in-List
+fold_child-returns-in_err-new_list-in-List g t c =
+    let p = err_from_is_err_and c.from_residual-in_err-new_list-in-List.result c.from_residual-in_err-new_list-in-List.ensures.1 in
+    rw (p.1, p.2) (child_list_fails c.in-List.is c.in_err-new_list-in-List.ensures)
+
+pub fold_child-returns-in_ok-new_list-in-List : goal.fold_child-returns-in_ok-new_list-in-List
+fold_child-returns-in_ok-new_list-in-List g t c =
+    child_list c.in-List.is c.in_ok-new_list-in-List.ensures
+
+pub fold_list-list_len-i-end-requires : goal.fold_list-list_len-i-end-requires
+fold_list-list_len-i-end-requires g t c =
+    in_range _ _ _ c.requires.list
+
+pub fold_list-loop-i-init : goal.fold_list-loop-i-init
+fold_list-loop-i-init g t c =
+    so_far_none (Extends-refl _) c.requires.owned c.new-items.ensures.items
+
+pub fold_list-list_child-item-requires-clause-owned : goal.fold_list-list_child-item-requires-clause-owned
+fold_list-list_child-item-requires-clause-owned g t c =
+    in_range _ _ _ (part-grows c.loop-i.invariant.extends.rows _ c.requires.list)
+
+pub fold_list-list_child-item-requires-clause-inside : goal.fold_list-list_child-item-requires-clause-inside
+fold_list-list_child-item-requires-clause-inside g t c =
+    let same = children-grow c.loop-i.invariant.extends.rows c.args.list (in_range _ _ _ c.requires.list) in
+    let lt = rw c.list_len-i-end.ensures.len at c.loop-i-test.true in
+    rw same lt
+
+pub fold_list-fold_child-requires : goal.fold_list-fold_child-requires
+fold_list-fold_child-requires g t c κs within =
+    let is_x = rw (children-grow c.loop-i.invariant.extends.rows c.args.list (in_range _ _ _ c.requires.list)) at c.list_child-item.ensures in
+    let part = item-part _ (children_at c.args.cx.now.rows c.args.list) c.loop-i.i _ is_x c.list_len-i-end.ensures.parts in
+    let low = item-older _ _ (children_at c.args.cx.now.rows c.args.list) c.loop-i.i _ is_x c.list_len-i-end.ensures.older in
+    let same = weight-grows c.loop-i.invariant.extends.rows _ part in
+    (omega (arith, low, same), (within.0, (within.1.0, (within.1.1, (c.loop-i.invariant.is_owned, parts-grow c.loop-i.invariant.extends.rows _ part)))))
+
+pub fold_list-returns-in_err-folded : goal.fold_list-returns-in_err-folded
+fold_list-returns-in_err-folded g t c =
+    let p = err_from_is_err_and c.from_residual.result c.from_residual.ensures.1 in
+    let is_x = rw (children-grow c.loop-i.invariant.extends.rows c.args.list (in_range _ _ _ c.requires.list)) at c.list_child-item.ensures in
+    let part = item-part _ (children_at c.args.cx.now.rows c.args.list) c.loop-i.i _ is_x c.list_len-i-end.ensures.parts in
+    let tree = list_is_node _ c.args.list (children_at c.args.cx.now.rows c.args.list) c.list_len-i-end.ensures.means in
+    rw (p.1, p.2) (so_far_item_fails (children_at c.args.cx.now.rows c.args.list) tree c.loop-i.invariant is_x part c.in_err-folded.ensures)
+
+pub fold_list-returns-in_err-push : goal.fold_list-returns-in_err-push
+fold_list-returns-in_err-push g t c =
+    let p = err_from_is_err_and c.from_residual-in_err-push.result c.from_residual-in_err-push.ensures.1 in
+    let is_x = rw (children-grow c.loop-i.invariant.extends.rows c.args.list (in_range _ _ _ c.requires.list)) at c.list_child-item.ensures in
+    let part = item-part _ (children_at c.args.cx.now.rows c.args.list) c.loop-i.i _ is_x c.list_len-i-end.ensures.parts in
+    let tree = list_is_node _ c.args.list (children_at c.args.cx.now.rows c.args.list) c.list_len-i-end.ensures.means in
+    let fit = item-fits (λ x. IsItem (list_sort c.args.list) (child_sort x)) (children_at c.args.cx.now.rows c.args.list) c.loop-i.i _ is_x c.list_len-i-end.ensures.fit in
+    rw p.1 (so_far_stops (children_at c.args.cx.now.rows c.args.list) tree (so_far_more c.loop-i.invariant is_x part fit c.in_ok-folded.ensures refl)
+    (λ u. (c.in_err-push.field-0.0, (p.2, memory_unbuilt c.fold_child.new.cx u _ c.in_err-push.ensures.memory))))
+
+pub fold_list-loop-i-preserved : goal.fold_list-loop-i-preserved
+fold_list-loop-i-preserved g t c =
+    let is_x = rw (children-grow c.loop-i.invariant.extends.rows c.args.list (in_range _ _ _ c.requires.list)) at c.list_child-item.ensures in
+    let part = item-part _ (children_at c.args.cx.now.rows c.args.list) c.loop-i.i _ is_x c.list_len-i-end.ensures.parts in
+    let fit = item-fits (λ x. IsItem (list_sort c.args.list) (child_sort x)) (children_at c.args.cx.now.rows c.args.list) c.loop-i.i _ is_x c.list_len-i-end.ensures.fit in
+    so_far_more c.loop-i.invariant is_x part fit c.in_ok-folded.ensures c.in_ok-push.ensures.ok
+
+pub fold_list-returns-in_err-new_list : goal.fold_list-returns-in_err-new_list
+fold_list-returns-in_err-new_list g t c =
+    let p = err_from_is_err_and c.from_residual-in_err-new_list.result c.from_residual-in_err-new_list.ensures.1 in
+    let tree = list_is_node _ c.args.list (children_at c.args.cx.now.rows c.args.list) c.list_len-i-end.ensures.means in
+    let all = rw c.list_len-i-end.ensures.len at c.loop-i-test.false in
+    let h = rw (c.sort.ensures, c.deref.ensures.value) at c.in_err-new_list.ensures in
+    rw p.1 (so_far_not_stored (children_at c.args.cx.now.rows c.args.list) tree c.loop-i.invariant all h.err (c.in_err-new_list.field-0.0, (p.2, rw h.err h.cause)))
+
+pub fold_list-returns : goal.fold_list-returns
+fold_list-returns g t c =
+    let tree = list_is_node _ c.args.list (children_at c.args.cx.now.rows c.args.list) c.list_len-i-end.ensures.means in
+    let all = rw c.list_len-i-end.ensures.len at c.loop-i-test.false in
+    let h = rw (c.sort.ensures, c.deref.ensures.value) at c.in_ok-new_list.ensures in
+    let o = c.loop-i.invariant.is_owned in
+    so_far_stored (children_at c.args.cx.now.rows c.args.list) tree c.loop-i.invariant all h.extends (g.met.F.Core.still_owned _ _ _ h.extends.rows o)
+    (stands-still g.F.Core.meaning c.loop-i.cx c.store_list.new.self c.loop-i.folder (g.met.F.Core.still_means _ _ _ h.extends.rows o) h.counters)
+    (stored_list _ _ _ h.sort h.in_range) h.sort (stored_list_tree _ _ _ h.sort ∙ h.means)

@@ -1,0 +1,5 @@
+pub mod Walk
+pub mod Counts
+pub mod Steps
+pub mod Shift
+pub mod Parts

@@ -1,0 +1,128 @@
+-- What the walk's own calls say of terms, lists and the parts of kinds.
+use Rattle.std.specs.Prelude.{◌≡◌, ℕ, suc, max, Option, Some, None, All, take, ⊤}
+use Rattle.std.specs.Prelude.{List as Listed}
+use Rattle.tt_kinds.specs.Label.{Name, VarKind}
+use Rattle.tt_kinds.specs.Tree.{Depth, Tree, Forest}
+use Rattle.tt_kinds.specs.Shape.{Shapes, AreParts, fill_all}
+use Rattle.tt_kinds.specs.Parts.{node_table, node_number, list_sort, list_table, list_number, child_sort, AreLike, IsItem}
+use Rattle.tt_kinds.specs.Kinds.{Form, form_parts, form_binder, kind_form, ty_shape, node_shape, list_shape, child_shapes, parts_shapes, children_shapes}
+use Rattle.tt_kinds.specs.declared.handle.BoundVarKinds.{BoundVarKinds}
+use Rattle.tt_kinds.specs.declared.parts.Node.{Node}
+use Rattle.tt_kinds.specs.declared.parts.Node.TheVariants as node
+use Rattle.tt_kinds.specs.declared.parts.List.{List}
+use Rattle.tt_kinds.specs.declared.parts.ListSort.{ListSort}
+use Rattle.tt_kinds.specs.declared.parts.Child.{Child}
+use Rattle.tt_kinds.specs.declared.parts.Child.TheVariants as child
+use Rattle.tt_kinds.specs.declared.parts.Kind.{Kind}
+use Rattle.tt_kinds.specs.declared.parts.Parts.{Parts}
+use Rattle.tt_interner.specs.Rows.{Row, size, meaning, age}
+use Rattle.tt_interner.specs.Stored.{Terms, Extends}
+use Rattle.tt_fold.specs.Walk.{Answer, replace, keep, descend, Hooks, WalksAll}
+use Rattle.tt_fold.specs.Counts.{Standing, stands}
+use Rattle.tt_fold.specs.Steps.{IsPartOf, tree_in, HasVars, vars_in}
+use Rattle.tt_fold.specs.declared.folder.Step.{Step}
+use Rattle.tt_fold.specs.declared.folder.Step.TheVariants as step
+use Rattle.tt_fold.specs.declared.walk.NodeStep.{NodeStep}
+use Rattle.tt_fold.specs.declared.walk.NodeStep.TheVariants as node_step
+
+-- the handles in the shapes are those of the rows
+abbrev pub ArePartsOf : Listed Row → Shapes → Type 0
+ArePartsOf rows ss = AreParts (size rows) ss
+
+-- what the shapes mean among the rows
+abbrev pub trees_in : Listed Row → Shapes → Forest Depth
+trees_in rows ss = fill_all (meaning rows) ss
+
+-- a stored term's tree
+abbrev pub node_tree : Listed Row → Node → Tree Depth
+node_tree rows n = tree_in rows (node_shape n)
+
+-- a stored list's tree
+abbrev pub list_tree : Listed Row → List → Tree Depth
+list_tree rows l = tree_in rows (list_shape l)
+
+-- a child's tree, if there is one
+abbrev pub child_trees : Listed Row → Child → Forest Depth
+child_trees rows c = trees_in rows (child_shapes c)
+
+-- the trees of parts, in order
+abbrev pub parts_trees : Listed Row → Parts → Forest Depth
+parts_trees rows p = trees_in rows (parts_shapes p)
+
+-- the trees of a list's children, in order
+abbrev pub children_trees : Listed Row → Listed Child → Forest Depth
+children_trees rows cs = trees_in rows (children_shapes cs)
+
+-- the result is the rows', and stored in the same table
+pub record IsNodeFor (x : Node) (rows : Listed Row) (y : Node) : Type 0 where
+  pub owned : IsPartOf rows (node_shape y)
+  pub like : node_table y ≡ node_table x
+
+-- the result is the rows', and a list of the same sort
+pub record IsListFor (x : List) (rows : Listed Row) (y : List) : Type 0 where
+  pub owned : IsPartOf rows (list_shape y)
+  pub like : list_sort y ≡ list_sort x
+
+-- the result is the rows', and of the same sort
+pub record IsChildFor (x : Child) (rows : Listed Row) (y : Child) : Type 0 where
+  pub owned : ArePartsOf rows (child_shapes y)
+  pub like : child_sort y ≡ child_sort x
+
+-- the results are the rows', and of the same sorts
+pub record ArePartsFor (x : Parts) (rows : Listed Row) (y : Parts) : Type 0 where
+  pub owned : ArePartsOf rows (parts_shapes y)
+  pub like : AreLike x y
+
+-- what a hook's answer at a stored term means
+abbrev pub node_answer_of : Listed Row → NodeStep → Answer
+node_answer_of rows (node_step.Replace n) = replace (node_tree rows n)
+node_answer_of rows node_step.Keep = keep
+node_answer_of rows node_step.Descend = descend
+
+-- the answer of a type's hook, as one of a stored term's
+abbrev pub as_node_step : Step → NodeStep
+as_node_step (step.Replace t) = node_step.Replace (node.Ty t)
+as_node_step step.Keep = node_step.Keep
+as_node_step step.Descend = node_step.Descend
+
+-- the handle in a hook's answer is the rows', and of the same table
+abbrev pub IsStepFor : Node → Listed Row → NodeStep → Type 0
+IsStepFor x rows (node_step.Replace n) = IsNodeFor x rows n
+IsStepFor x rows node_step.Keep = ⊤
+IsStepFor x rows node_step.Descend = ⊤
+
+-- the binder's list of variables, if there is one, is the rows'
+abbrev pub HasBinder : Listed Row → Option BoundVarKinds → Type 0
+HasBinder rows None = ⊤
+HasBinder rows (Some vars) = HasVars rows vars
+
+-- the variables of the binder, if there is one
+abbrev pub binder_in : Listed Row → Option BoundVarKinds → Option (Listed (VarKind Name))
+binder_in rows None = None
+binder_in rows (Some vars) = Some (vars_in rows vars)
+
+-- the kind has no children and no binder
+pub record IsLeaf (k : Kind) : Type 0 where
+  pub binder : form_binder (kind_form k) ≡ None
+  pub first : (form_parts (kind_form k)).first ≡ child.Absent
+  pub second : (form_parts (kind_form k)).second ≡ child.Absent
+
+-- one more than the age of what a child names, or 0
+abbrev pub child_weight : Listed Row → Child → ℕ
+child_weight rows child.Absent = 0
+child_weight rows (child.Region r) = 0
+child_weight rows (child.Node n) = suc (age rows (node_table n) (node_number n))
+child_weight rows (child.List l) = suc (age rows (list_table l) (list_number l))
+
+-- the greatest weight of the parts
+abbrev pub parts_weight : Listed Row → Parts → ℕ
+parts_weight rows p = max (child_weight rows p.first) (child_weight rows p.second)
+
+-- the first n items of the list were folded, from the terms and the state s to terms' and s', and gave the others
+pub record FoldsSoFar {M E S : Type 0} (owned : Listed Row → S → Type 0) (means : Listed Row → S → M) (H : Hooks (Standing M) E)
+    (terms : Terms) (s : S) (sort : ListSort) (list : Listed Child) (n : ℕ) (items : Listed Child) (terms' : Terms) (s' : S) : Type 0 where
+  pub extends : Extends terms terms'
+  pub is_owned : owned terms'.rows s'
+  pub are_items : ArePartsOf terms'.rows (children_shapes items)
+  pub fit : All (λ c. IsItem sort (child_sort c)) items
+  pub walked : WalksAll H (stands means terms s) (children_trees terms.rows (take n list)) (children_trees terms'.rows items) (stands means terms' s')

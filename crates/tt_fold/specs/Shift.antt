@@ -1,0 +1,141 @@
+-- The shifter's hooks.
+use Rattle.std.specs.Prelude.{◌≡◌, ℕ, suc, ◌+◌, ◌-◌, ◌≤◌, ◌<◌, ◌⊎◌, Option, Some, None, nat_lt, if◌then◌else◌, ⊤}
+use Rattle.tt_index.specs.Greatest.{greatest}
+use Rattle.tt_index.specs.declared.refusal.Refusal.{Refusal}
+use Rattle.tt_index.specs.declared.refusal.Refusal.TheVariants.{Memory, TableFull, GreatestIndex}
+use Rattle.tt_kinds.specs.Tree.{Depth, Tree, param, bound, region, term, node, binder}
+use Rattle.tt_kinds.specs.Reading.{read, move, outer_binder, Fits, FitsUnder}
+use Rattle.tt_kinds.specs.Shape.{Meaning, fill}
+use Rattle.tt_kinds.specs.Kinds.{region_shape}
+use Rattle.tt_kinds.specs.declared.bound.BoundTy.{BoundTy}
+use Rattle.tt_kinds.specs.declared.bound.BoundVarIndexKind.{BoundVarIndexKind}
+use Rattle.tt_kinds.specs.declared.bound.BoundVarIndexKind.TheVariants.{Bound, Canonical}
+use Rattle.tt_kinds.specs.declared.parts.Kind.{Kind}
+use Rattle.tt_kinds.specs.declared.parts.Kind.TheVariants as kind
+use Rattle.tt_kinds.specs.declared.ty_kind.TyKind.{TyKind}
+use Rattle.tt_kinds.specs.declared.ty_kind.TyKind.TheVariants as ty
+use Rattle.tt_kinds.specs.declared.region_kind.RegionKind.{RegionKind}
+use Rattle.tt_kinds.specs.declared.region_kind.RegionKind.TheVariants.{ReEarlyParam, ReBound, ReStatic, ReVar, ReErased, ReError}
+use Rattle.tt_kinds.specs.Plain.{shift_tree}
+use Rattle.tt_interner.specs.Rows.{Row, row_table, size, IsNew}
+use Rattle.tt_interner.specs.Stored.{Counters, Terms, counted}
+use Rattle.tt_fold.specs.Walk.{Hooks, Answer, replace, keep, descend}
+use Rattle.tt_fold.specs.Counts.{Standing}
+
+-- how much is added, and how many binders were passed
+pub record Shift : Type 0 where
+  pub amount : ℕ
+  pub under : ℕ
+
+-- the index of a variable under k binders, with n added if its binder is none of them
+abbrev pub moved_index : ℕ → ℕ → BoundVarIndexKind → BoundVarIndexKind
+moved_index n k (Bound d) = Bound (if nat_lt d k then d else n + d)
+moved_index n k Canonical = Canonical
+
+-- the bound variable that a kind is, if it is one
+abbrev pub bound_in : TyKind → Option (BoundVarIndexKind × BoundTy)
+bound_in (ty.Bound i b) = Some (i, b)
+bound_in _ = None
+
+-- the same of a kind of any table
+abbrev pub bound_variable_in : Kind → Option (BoundVarIndexKind × BoundTy)
+bound_variable_in (kind.Ty k) = bound_in k
+
+-- the variable's binder is none of the k
+abbrev pub IsOuter : ℕ → BoundVarIndexKind → Type 0
+IsOuter k (Bound d) = k ≤ d
+IsOuter k Canonical = ⊥
+
+-- the index with n added is above the greatest, and its binder is none of the k
+abbrev pub IsPast : ℕ → ℕ → BoundVarIndexKind → Type 0
+IsPast n k (Bound d) = (k ≤ d) × (greatest < d + n)
+IsPast n k Canonical = ⊥
+
+-- the region under k binders, with n added to its index if its binder is none of them
+abbrev pub moved_region : ℕ → ℕ → RegionKind → RegionKind
+moved_region n k (ReEarlyParam p) = ReEarlyParam p
+moved_region n k (ReBound i b) = ReBound (moved_index n k i) b
+moved_region n k ReStatic = ReStatic
+moved_region n k (ReVar v) = ReVar v
+moved_region n k ReErased = ReErased
+moved_region n k (ReError e) = ReError e
+
+-- the region is the other one, with its reading moved by n, which fits
+pub record IsShiftedRegion (f : Meaning) (n : ℕ) (region shifted : RegionKind) : Type 0 where
+  pub plain : read 0 (fill f (region_shape shifted)) ≡ move n (read 0 (fill f (region_shape region)))
+  pub tree : fill f (region_shape shifted) ≡ shift_tree 0 n (fill f (region_shape region))
+  pub fits : Fits (move n (read 0 (fill f (region_shape region))))
+
+-- the tree where the shifter stands, moved
+abbrev pub moved_tree : Shift → Tree Depth → Tree Depth
+moved_tree s t = shift_tree s.under s.amount t
+
+-- the moved tree needs the greatest index
+abbrev pub IsTooFar : Shift → Tree Depth → Type 0
+IsTooFar s t = FitsUnder s.under (read s.under (moved_tree s t)) → ⊥
+
+-- a bound variable is replaced, and what stands inside other terms is met
+abbrev pub answer_inside : Shift → Tree Depth → Answer
+answer_inside s (param o i name) = descend
+answer_inside s (bound o d e) = replace (moved_tree s (bound o d e))
+answer_inside s (region r) = descend
+answer_inside s (term l ts) = descend
+answer_inside s (node l ts) = descend
+answer_inside s (binder vs t) = descend
+
+-- a term of which nothing is bound outside of the binders that were passed is kept
+abbrev pub shift_answer : Shift → Tree Depth → Answer
+shift_answer s t = if nat_lt s.under (outer_binder t) then answer_inside s t else keep
+
+-- one descent more
+abbrev pub count_shift : Counters → Counters
+count_shift c = record { descents = c.descents; shift_descents = counted c.shift_descents }
+
+-- an answer that descends is counted
+abbrev pub count_answer : {M : Type 0} → Answer → Standing M → Standing M
+count_answer (replace t) s = s
+count_answer keep s = s
+count_answer descend s = record { state = s.state; counters = count_shift s.counters }
+
+-- the state one binder further in; the counts stay
+abbrev pub entered : Standing Shift → Standing Shift
+entered s = record { state = record { amount = s.state.amount; under = suc s.state.under }; counters = s.counters }
+
+-- the state one binder further out; the counts stay
+abbrev pub left : Standing Shift → Standing Shift
+left s = record { state = record { amount = s.state.amount; under = s.state.under - 1 }; counters = s.counters }
+
+-- the index of a variable, or of a binder, is too great
+abbrev pub IsTooGreat : Refusal → Type 0 → Type 0
+IsTooGreat e cause = (e ≡ GreatestIndex) × cause
+
+-- what the shifter's hooks do
+abbrev pub shift_hooks : Hooks (Standing Shift) Refusal
+shift_hooks = record {
+  on_region = λ s t r s'. (s' ≡ s) × (r ≡ moved_tree s.state t);
+  region_fails = λ unbuilt s t e s'. (s' ≡ s) × IsTooGreat e (IsTooFar s.state t);
+  on_term = λ s t a s'. (s' ≡ count_answer a s) × (a ≡ shift_answer s.state t);
+  term_fails = λ unbuilt s t e s'. (s' ≡ s) × (IsTooGreat e (IsTooFar s.state t) ⊎ unbuilt (moved_tree s.state t) e);
+  after_term = λ s t u r s'. (s' ≡ s) × (r ≡ u);
+  after_fails = λ unbuilt s t u e s'. ⊥;
+  enter = λ s vs s'. s' ≡ entered s;
+  enter_fails = λ unbuilt s vs e s'. (s' ≡ s) × IsTooGreat e (greatest ≤ s.state.under);
+  leave = λ s vs s'. s' ≡ left s;
+  leave_fails = λ unbuilt s vs e s'. ⊥;
+}
+
+-- Why a shift of the tree by n ends with a refusal: the memory for a new term was refused, a term would be a new row of a
+-- table that is full, or the moved reading does not fit.
+abbrev pub IsShiftRefusal : Terms → ℕ → Tree Depth → Refusal → Type 0
+IsShiftRefusal terms n t Memory = ⊤
+IsShiftRefusal terms n t TableFull = (row : Row) × (IsNew row terms.rows × (terms.limit ≤ size terms.rows (row_table row)))
+IsShiftRefusal terms n t GreatestIndex = Fits (move n (read 0 t)) → ⊥
+IsShiftRefusal terms n t _ = ⊥
+
+-- shifts in turn are one shift by the sum
+abbrev pub ShiftsAddUp : Type 0
+ShiftsAddUp = (m n : ℕ) (t : Tree Depth) → shift_tree 0 m (shift_tree 0 n t) ≡ shift_tree 0 (m + n) t
+
+-- different trees stay different when they are shifted
+abbrev pub ShiftsKeepApart : Type 0
+ShiftsKeepApart = (n : ℕ) (t u : Tree Depth) → shift_tree 0 n t ≡ shift_tree 0 n u → t ≡ u

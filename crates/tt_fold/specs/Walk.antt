@@ -1,0 +1,141 @@
+-- What a folder does to a tree.
+use Rattle.std.specs.Prelude.{ℕ, List, Option, Some, None, IsTrue, ⊤}
+use Rattle.tt_kinds.specs.Label.{Name, Sort, region_sort, type_sort, const_sort, VarKind, Entry, Label, is_type}
+use Rattle.tt_kinds.specs.Tree.{Depth, Tree, param, bound, region, term, node, binder, Forest, none, also}
+
+-- what a hook answers before a term's children
+pub data Answer : Type 0 where
+  replace : Tree Depth → Answer
+  keep : Answer
+  descend : Answer
+
+-- the sort is that of regions
+abbrev pub IsOfRegions : Sort → Type 0
+IsOfRegions region_sort = ⊤
+IsOfRegions type_sort = ⊥
+IsOfRegions const_sort = ⊥
+
+-- the sort is that of stored terms
+abbrev pub IsOfTerms : Sort → Type 0
+IsOfTerms region_sort = ⊥
+IsOfTerms type_sort = ⊤
+IsOfTerms const_sort = ⊥
+
+-- the tree is a region's
+abbrev pub IsRegion : Tree Depth → Type 0
+IsRegion (param s i name) = IsOfRegions s
+IsRegion (bound s d e) = IsOfRegions s
+IsRegion (region r) = ⊤
+IsRegion (term l ts) = ⊥
+IsRegion (node l ts) = ⊥
+IsRegion (binder vs t) = ⊥
+
+-- the tree is that of a stored term, which a hook meets: a type's
+abbrev pub IsTerm : Tree Depth → Type 0
+IsTerm (param s i name) = IsOfTerms s
+IsTerm (bound s d e) = IsOfTerms s
+IsTerm (region r) = ⊥
+IsTerm (term l ts) = IsTrue (is_type l)
+IsTerm (node l ts) = ⊥
+IsTerm (binder vs t) = ⊥
+
+-- What a folder's hooks may do: M is what its state means, and E its errors. What a hook fails with may be that a tree is
+-- not built: it is told which errors say so of which trees.
+pub record Hooks (M E : Type 0) : Type 1 where
+  -- state, region, answer, state
+  pub on_region : M → Tree Depth → Tree Depth → M → Type 0
+  pub region_fails : (Tree Depth → E → Type 0) → M → Tree Depth → E → M → Type 0
+  -- state, term, answer, state
+  pub on_term : M → Tree Depth → Answer → M → Type 0
+  pub term_fails : (Tree Depth → E → Type 0) → M → Tree Depth → E → M → Type 0
+  -- state, term, term with the children's results, answer, state
+  pub after_term : M → Tree Depth → Tree Depth → Tree Depth → M → Type 0
+  pub after_fails : (Tree Depth → E → Type 0) → M → Tree Depth → Tree Depth → E → M → Type 0
+  -- state, the binder's variables, state
+  pub enter : M → List (VarKind Name) → M → Type 0
+  pub enter_fails : (Tree Depth → E → Type 0) → M → List (VarKind Name) → E → M → Type 0
+  pub leave : M → List (VarKind Name) → M → Type 0
+  pub leave_fails : (Tree Depth → E → Type 0) → M → List (VarKind Name) → E → M → Type 0
+
+module _ {M E : Type 0} (H : Hooks M E) where
+  mutual
+    -- from a state the folder takes a tree to a tree, and ends in a state
+    pub data Walks : M → Tree Depth → Tree Depth → M → Type 0 where
+      at_region : {s s' : M} {t r : Tree Depth} → IsRegion t → H.on_region s t r s' → Walks s t r s'
+      replaced : {s s' : M} {t r : Tree Depth} → IsTerm t → H.on_term s t (replace r) s' → Walks s t r s'
+      kept : {s s' : M} {t : Tree Depth} → IsTerm t → H.on_term s t keep s' → Walks s t t s'
+      descended : {s s1 s' : M} {t r : Tree Depth} → IsTerm t → H.on_term s t descend s1 → Descends s1 t r s' → Walks s t r s'
+      at_node : {s s' : M} {l : Label Name} {ts us : Forest Depth} → WalksAll s ts us s' → Walks s (node l ts) (node l us) s'
+      at_binder : {s s1 s2 s' : M} {vs : List (VarKind Name)} {t u : Tree Depth}
+          → H.enter s vs s1 → Walks s1 t u s2 → H.leave s2 vs s' → Walks s (binder vs t) (binder vs u) s'
+
+    -- the same for a term whose hook answered `descend`
+    pub data Descends : M → Tree Depth → Tree Depth → M → Type 0 where
+      rebuilt : {s s1 s' : M} {t u r : Tree Depth} → WalksInside s t u s1 → H.after_term s1 t u r s' → Descends s t r s'
+
+    -- the same for the children of a term, whose label stays
+    pub data WalksInside : M → Tree Depth → Tree Depth → M → Type 0 where
+      in_term : {s s' : M} {l : Label Name} {ts us : Forest Depth} → WalksAll s ts us s' → WalksInside s (term l ts) (term l us) s'
+      in_param : {s : M} {o : Sort} {i : ℕ} {name : Name} → WalksInside s (param o i name) (param o i name) s
+      in_bound : {s : M} {o : Sort} {d : Depth} {e : Entry Name} → WalksInside s (bound o d e) (bound o d e) s
+
+    -- the same for trees in order
+    pub data WalksAll : M → Forest Depth → Forest Depth → M → Type 0 where
+      done : {s : M} → WalksAll s none none s
+      next : {s s1 s' : M} {t u : Tree Depth} {ts us : Forest Depth}
+          → Walks s t u s1 → WalksAll s1 ts us s' → WalksAll s (also t ts) (also u us) s'
+
+-- The walk ends with an error and in a state. The error is that of a hook, or says that a tree was not built: then
+-- `unbuilt u e` holds of the tree u that was to be stored, or of every tree where the memory for a list's items was refused.
+module _ {M E : Type 0} (H : Hooks M E) (unbuilt : Tree Depth → E → Type 0) where
+  mutual
+    pub data Fails : M → Tree Depth → E → M → Type 0 where
+      region_failed : {s s_end : M} {t : Tree Depth} {e : E} → IsRegion t → H.region_fails unbuilt s t e s_end → Fails s t e s_end
+      term_failed : {s s_end : M} {t : Tree Depth} {e : E} → IsTerm t → H.term_fails unbuilt s t e s_end → Fails s t e s_end
+      descent_failed : {s s1 s_end : M} {t : Tree Depth} {e : E}
+          → IsTerm t → H.on_term s t descend s1 → DescentFails s1 t e s_end → Fails s t e s_end
+      enter_failed : {s s_end : M} {vs : List (VarKind Name)} {t : Tree Depth} {e : E}
+          → H.enter_fails unbuilt s vs e s_end → Fails s (binder vs t) e s_end
+      under_failed : {s s1 s_end : M} {vs : List (VarKind Name)} {t : Tree Depth} {e : E}
+          → H.enter s vs s1 → Fails s1 t e s_end → Fails s (binder vs t) e s_end
+      leave_failed : {s s1 s2 s_end : M} {vs : List (VarKind Name)} {t u : Tree Depth} {e : E}
+          → H.enter s vs s1 → Walks H s1 t u s2 → H.leave_fails unbuilt s2 vs e s_end → Fails s (binder vs t) e s_end
+      node_failed : {s s_end : M} {l : Label Name} {ts : Forest Depth} {e : E} → FailsAll s ts e s_end → Fails s (node l ts) e s_end
+      node_not_built : {s s1 : M} {l : Label Name} {ts us : Forest Depth} {e : E}
+          → WalksAll H s ts us s1 → unbuilt (node l us) e → Fails s (node l ts) e s1
+
+    -- the same for a term whose hook answered `descend`
+    pub data DescentFails : M → Tree Depth → E → M → Type 0 where
+      inside_failed : {s s_end : M} {t : Tree Depth} {e : E} → FailsInside s t e s_end → DescentFails s t e s_end
+      not_built : {s s1 : M} {t u : Tree Depth} {e : E} → WalksInside H s t u s1 → unbuilt u e → DescentFails s t e s1
+      after_failed : {s s1 s_end : M} {t u : Tree Depth} {e : E}
+          → WalksInside H s t u s1 → H.after_fails unbuilt s1 t u e s_end → DescentFails s t e s_end
+
+    -- the same for the children of a term
+    pub data FailsInside : M → Tree Depth → E → M → Type 0 where
+      in_term_failed : {s s_end : M} {l : Label Name} {ts : Forest Depth} {e : E} → FailsAll s ts e s_end → FailsInside s (term l ts) e s_end
+
+    -- the same for trees in order
+    pub data FailsAll : M → Forest Depth → E → M → Type 0 where
+      stopped : {s : M} {ts : Forest Depth} {e : E} → ((u : Tree Depth) → unbuilt u e) → FailsAll s ts e s
+      here : {s s_end : M} {t : Tree Depth} {ts : Forest Depth} {e : E} → Fails s t e s_end → FailsAll s (also t ts) e s_end
+      later : {s s1 s_end : M} {t u : Tree Depth} {ts : Forest Depth} {e : E}
+          → Walks H s t u s1 → FailsAll s1 ts e s_end → FailsAll s (also t ts) e s_end
+
+-- the walk of trees under a binder of the variables, if there is one
+module _ {M E : Type 0} (H : Hooks M E) where
+  pub data WalksUnder : Option (List (VarKind Name)) → M → Forest Depth → Forest Depth → M → Type 0 where
+    in_open : {s s' : M} {ts us : Forest Depth} → WalksAll H s ts us s' → WalksUnder None s ts us s'
+    in_binder : {s s1 s2 s' : M} {vs : List (VarKind Name)} {ts us : Forest Depth}
+        → H.enter s vs s1 → WalksAll H s1 ts us s2 → H.leave s2 vs s' → WalksUnder (Some vs) s ts us s'
+
+-- the same where it ends with an error
+module _ {M E : Type 0} (H : Hooks M E) (unbuilt : Tree Depth → E → Type 0) where
+  pub data FailsUnder : Option (List (VarKind Name)) → M → Forest Depth → E → M → Type 0 where
+    in_open_failed : {s s_end : M} {ts : Forest Depth} {e : E} → FailsAll H unbuilt s ts e s_end → FailsUnder None s ts e s_end
+    in_enter_failed : {s s_end : M} {vs : List (VarKind Name)} {ts : Forest Depth} {e : E}
+        → H.enter_fails unbuilt s vs e s_end → FailsUnder (Some vs) s ts e s_end
+    in_under_failed : {s s1 s_end : M} {vs : List (VarKind Name)} {ts : Forest Depth} {e : E}
+        → H.enter s vs s1 → FailsAll H unbuilt s1 ts e s_end → FailsUnder (Some vs) s ts e s_end
+    in_leave_failed : {s s1 s2 s_end : M} {vs : List (VarKind Name)} {ts us : Forest Depth} {e : E}
+        → H.enter s vs s1 → WalksAll H s1 ts us s2 → H.leave_fails unbuilt s2 vs e s_end → FailsUnder (Some vs) s ts e s_end

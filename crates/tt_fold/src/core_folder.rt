@@ -1,0 +1,175 @@
+//! The trait under both traits of folders, so that one walk serves both.
+
+ghost use Rattle.std.specs.Prelude.{◌≡◌, List, MatchResult};
+ghost use Rattle.tt_index.specs.declared.refusal.Refusal.{Refusal};
+ghost use Rattle.tt_kinds.specs.Kinds.{ty_shape, region_shape};
+ghost use Rattle.tt_interner.specs.Rows.{Row, Grows};
+ghost use Rattle.tt_interner.specs.Stored.{Extends};
+ghost use Rattle.tt_fold.specs.Walk.{Hooks};
+ghost use Rattle.tt_fold.specs.Counts.{Standing, stands};
+ghost use Rattle.tt_fold.specs.Steps.{answer_of, HasVars, IsPartOf, IsErrorOfUnbuilt, OwnsStep, tree_in, vars_in};
+
+use crate::folder::{FallibleTypeFolder, Step, TypeFolder};
+use tt_index::Refusal;
+use tt_interner::Interner;
+use tt_kinds::{BoundVarKinds, Region, Ty};
+
+/// What the walk asks of a folder of either trait; `M` says of which.
+pub trait Core<M> {
+    /// What the folder fails with.
+    type Error: From<Refusal> + Drop;
+
+    // What a state means, with the handles in it as their trees.
+    ghost Meaning: { Type 0 };
+
+    ghost meaning: { List Row → Self → Self.Meaning };
+    // The state's handles are those of the rows.
+    ghost owned: { List Row → Self → Type 0 };
+
+    // What the hooks do.
+    ghost hooks: { Hooks (Standing Self.Meaning) Self.Error };
+
+    // At a region.
+    fn core_region(&mut self, cx: &mut Interner, region: Region) -> Result<Region, Self::Error>
+        requires owned { owned cx.old.rows self.old }
+        requires region { IsPartOf cx.old.rows (region_shape region) }
+        ensures extends { Extends cx.old cx.new }
+        ensures result { MatchResult
+            result
+            (λ r. owned cx.new.rows self.new × IsPartOf cx.new.rows (region_shape r) × hooks.on_region (stands meaning cx.old self.old) (tree_in cx.old.rows (region_shape region)) (tree_in cx.new.rows (region_shape r)) (stands meaning cx.new self.new))
+            (λ e. hooks.region_fails (IsErrorOfUnbuilt Self.Error.from_gives cx.new) (stands meaning cx.old self.old) (tree_in cx.old.rows (region_shape region)) e (stands meaning cx.new self.new)) };
+
+    // At a type, before what stands in it.
+    fn core_ty(&mut self, cx: &mut Interner, ty: Ty) -> Result<Step, Self::Error>
+        requires owned { owned cx.old.rows self.old }
+        requires ty { IsPartOf cx.old.rows (ty_shape ty) }
+        ensures extends { Extends cx.old cx.new }
+        ensures result { MatchResult
+            result
+            (λ step. owned cx.new.rows self.new × OwnsStep cx.new.rows step × hooks.on_term (stands meaning cx.old self.old) (tree_in cx.old.rows (ty_shape ty)) (answer_of cx.new.rows step) (stands meaning cx.new self.new))
+            (λ e. hooks.term_fails (IsErrorOfUnbuilt Self.Error.from_gives cx.new) (stands meaning cx.old self.old) (tree_in cx.old.rows (ty_shape ty)) e (stands meaning cx.new self.new)) };
+
+    // At a type, after what stands in it.
+    fn core_after_ty(
+        &mut self,
+        cx: &mut Interner,
+        before: Ty,
+        rebuilt: Ty,
+    ) -> Result<Ty, Self::Error>
+        requires owned { owned cx.old.rows self.old }
+        requires before { IsPartOf cx.old.rows (ty_shape before) }
+        requires rebuilt { IsPartOf cx.old.rows (ty_shape rebuilt) }
+        ensures extends { Extends cx.old cx.new }
+        ensures result { MatchResult
+            result
+            (λ r. owned cx.new.rows self.new × IsPartOf cx.new.rows (ty_shape r) × hooks.after_term (stands meaning cx.old self.old) (tree_in cx.old.rows (ty_shape before)) (tree_in cx.old.rows (ty_shape rebuilt)) (tree_in cx.new.rows (ty_shape r)) (stands meaning cx.new self.new))
+            (λ e. hooks.after_fails (IsErrorOfUnbuilt Self.Error.from_gives cx.new) (stands meaning cx.old self.old) (tree_in cx.old.rows (ty_shape before)) (tree_in cx.old.rows (ty_shape rebuilt)) e (stands meaning cx.new self.new)) };
+
+    // Before a binder's value.
+    fn core_enter(&mut self, cx: &mut Interner, vars: BoundVarKinds) -> Result<(), Self::Error>
+        requires owned { owned cx.old.rows self.old }
+        requires vars { HasVars cx.old.rows vars }
+        ensures extends { Extends cx.old cx.new }
+        ensures result { MatchResult
+            result
+            (λ _. owned cx.new.rows self.new × hooks.enter (stands meaning cx.old self.old) (vars_in cx.old.rows vars) (stands meaning cx.new self.new))
+            (λ e. hooks.enter_fails (IsErrorOfUnbuilt Self.Error.from_gives cx.new) (stands meaning cx.old self.old) (vars_in cx.old.rows vars) e (stands meaning cx.new self.new)) };
+
+    // After a binder's value.
+    fn core_leave(&mut self, cx: &mut Interner, vars: BoundVarKinds) -> Result<(), Self::Error>
+        requires owned { owned cx.old.rows self.old }
+        requires vars { HasVars cx.old.rows vars }
+        ensures extends { Extends cx.old cx.new }
+        ensures result { MatchResult
+            result
+            (λ _. owned cx.new.rows self.new × hooks.leave (stands meaning cx.old self.old) (vars_in cx.old.rows vars) (stands meaning cx.new self.new))
+            (λ e. hooks.leave_fails (IsErrorOfUnbuilt Self.Error.from_gives cx.new) (stands meaning cx.old self.old) (vars_in cx.old.rows vars) e (stands meaning cx.new self.new)) };
+
+    // More rows change no meaning.
+    ghost still_owned: { (old new : List Row) (s : Self) → Grows old new → owned old s → owned new s };
+
+    ghost still_means: { (old new : List Row) (s : Self) → Grows old new → owned old s → meaning new s ≡ meaning old s };
+}
+
+/// The mark of [`TypeFolder`].
+pub struct Plain;
+
+/// The mark of [`FallibleTypeFolder`].
+pub struct Fallible;
+
+impl<F: TypeFolder> Core<Plain> for F {
+    type Error = Refusal;
+
+    ghost Meaning = { F.TypeFolder.Meaning };
+
+    ghost meaning = { F.TypeFolder.meaning };
+
+    ghost owned = { F.TypeFolder.owned };
+
+    ghost hooks = { F.TypeFolder.hooks };
+
+    fn core_region(&mut self, cx: &mut Interner, region: Region) -> Result<Region, Refusal> {
+        self.fold_region(cx, region)
+    }
+
+    fn core_ty(&mut self, cx: &mut Interner, ty: Ty) -> Result<Step, Refusal> {
+        self.fold_ty(cx, ty)
+    }
+
+    fn core_after_ty(&mut self, cx: &mut Interner, before: Ty, rebuilt: Ty) -> Result<Ty, Refusal> {
+        self.after_ty(cx, before, rebuilt)
+    }
+
+    fn core_enter(&mut self, cx: &mut Interner, vars: BoundVarKinds) -> Result<(), Refusal> {
+        self.fold_binder(cx, vars)
+    }
+
+    fn core_leave(&mut self, cx: &mut Interner, vars: BoundVarKinds) -> Result<(), Refusal> {
+        self.after_binder(cx, vars)
+    }
+
+    ghost still_owned = { F.TypeFolder.still_owned };
+
+    ghost still_means = { F.TypeFolder.still_means };
+}
+
+impl<F: FallibleTypeFolder> Core<Fallible> for F {
+    type Error = F::Error;
+
+    ghost Meaning = { F.FallibleTypeFolder.Meaning };
+
+    ghost meaning = { F.FallibleTypeFolder.meaning };
+
+    ghost owned = { F.FallibleTypeFolder.owned };
+
+    ghost hooks = { F.FallibleTypeFolder.hooks };
+
+    fn core_region(&mut self, cx: &mut Interner, region: Region) -> Result<Region, F::Error> {
+        self.try_fold_region(cx, region)
+    }
+
+    fn core_ty(&mut self, cx: &mut Interner, ty: Ty) -> Result<Step, F::Error> {
+        self.try_fold_ty(cx, ty)
+    }
+
+    fn core_after_ty(
+        &mut self,
+        cx: &mut Interner,
+        before: Ty,
+        rebuilt: Ty,
+    ) -> Result<Ty, F::Error> {
+        self.after_ty(cx, before, rebuilt)
+    }
+
+    fn core_enter(&mut self, cx: &mut Interner, vars: BoundVarKinds) -> Result<(), F::Error> {
+        self.try_fold_binder(cx, vars)
+    }
+
+    fn core_leave(&mut self, cx: &mut Interner, vars: BoundVarKinds) -> Result<(), F::Error> {
+        self.after_binder(cx, vars)
+    }
+
+    ghost still_owned = { F.FallibleTypeFolder.still_owned };
+
+    ghost still_means = { F.FallibleTypeFolder.still_means };
+}

@@ -1,0 +1,221 @@
+//! Shifting: a value moved into new binders, so that its variables that are bound outside of it keep their binders.
+
+ghost use Rattle.std.specs.Prelude.{◌≡◌, ◌<◌, ◌↔◌, ◌⊎◌, IfOk, IfErr, IsTrue, MatchResult};
+ghost use Rattle.tt_kinds.specs.RegionKind.{IsShallow};
+ghost use Rattle.tt_kinds.specs.Shape.{fill, IsPart, Meaning, Sizes};
+ghost use Rattle.tt_kinds.specs.Reading.{Fits, move, outer_binder, read};
+ghost use Rattle.tt_kinds.specs.Plain.{shift_tree};
+ghost use Rattle.tt_kinds.specs.Kinds.{region_shape, ty_kind_shape, ty_shape};
+ghost use Rattle.tt_interner.specs.Stored.{Extends};
+ghost use Rattle.tt_fold.specs.Steps.{IsPartBy, IsPartOf, IsRefused, tree_by, tree_in};
+ghost use Rattle.tt_fold.specs.Shift.{bound_variable_in, IsOuter, IsTooFar, IsTooGreat, moved_tree, IsPast, IsShiftedRegion, IsShiftRefusal, moved_index, moved_region, Shift, ShiftsAddUp, ShiftsKeepApart};
+
+use crate::foldable::TypeFoldable;
+use crate::folder::{Step, TypeFolder};
+use tt_index::{DebruijnIndex, Refusal};
+use tt_interner::{Flags, Interner};
+use tt_kinds::{
+    BoundTy, BoundVarIndexKind, BoundVarKinds, Kind, Node, Region, RegionKind, Ty, TyKind,
+};
+use tt_visit::TypeVisitableExt;
+
+// Moves a value into new binders.
+#[derive(Clone, Copy)]
+struct Shifter {
+    amount: u32,
+    // how many binders of the value stand around the place that was reached
+    current_index: DebruijnIndex,
+}
+
+// The index moved past as many new binders as `amount` says, if its binder is none of the first `current_index`.
+fn shift_index(
+    index: BoundVarIndexKind,
+    current_index: DebruijnIndex,
+    amount: u32,
+) -> Result<BoundVarIndexKind, Refusal>
+    ensures { MatchResult
+        result
+        (λ shifted. shifted ≡ moved_index amount current_index index)
+        (λ e. (e ≡ Refusal.GreatestIndex) × IsPast amount current_index index) }
+{
+    match index {
+        BoundVarIndexKind::Bound(debruijn) => {
+            if debruijn < current_index {
+                Ok(BoundVarIndexKind::Bound(debruijn))
+            } else if debruijn.can_shift_in(amount) {
+                Ok(BoundVarIndexKind::Bound(debruijn.shifted_in(amount)))
+            } else {
+                Err(Refusal::GreatestIndex)
+            }
+        }
+        BoundVarIndexKind::Canonical => Ok(BoundVarIndexKind::Canonical),
+    }
+}
+
+// The region under as many binders as `current_index` says, moved past new binders around them.
+fn shift_region_under(
+    region: Region,
+    current_index: DebruijnIndex,
+    amount: u32,
+) -> Result<Region, Refusal>
+    ensures region { IsShallow region }
+    ensures result { MatchResult
+        result
+        (λ shifted. (shifted ≡ moved_region amount current_index region) × IsShallow shifted)
+        (λ e. (e ≡ Refusal.GreatestIndex) × (IsShallow (moved_region amount current_index region) → ⊥)) }
+{
+    match region.kind() {
+        RegionKind::ReBound(index, bound_region) => {
+            let shifted = shift_index(index, current_index, amount)?;
+            Region::new(RegionKind::ReBound(shifted, bound_region))
+        }
+        _ => Ok(region),
+    }
+}
+
+/// The region moved into `amount` new binders: if a binder outside binds it, its index grows by the amount. It is refused with
+/// `GreatestIndex` where the index would be the greatest or above, and never otherwise.
+pub fn shift_region(region: Region, amount: u32) -> Result<Region, Refusal>
+    ensures ok { (f : Meaning) → IfOk result (IsShiftedRegion f amount region) }
+    ensures in_range { (size : Sizes) → IsPart size (region_shape region) → IfOk result (λ shifted. IsPart size (region_shape shifted)) }
+    ensures err { (f : Meaning) → IfErr result (λ e. (e ≡ Refusal.GreatestIndex) × (Fits (move amount (read 0 (fill f (region_shape region)))) → ⊥)) }
+{
+    shift_region_under(region, DebruijnIndex::INNERMOST, amount)
+}
+
+// The bound variable that a kind is, if it is one.
+fn bound_variable(kind: &Kind) -> Option<(BoundVarIndexKind, BoundTy)>
+    ensures { result ≡ bound_variable_in kind.now }
+{
+    match kind {
+        Kind::Ty(kind) => match kind {
+            TyKind::Bound(index, bound_ty) => Some((*index, *bound_ty)),
+            _ => None,
+        },
+    }
+}
+
+impl Shifter {
+    // Whether a binder outside of the value binds something in a term of this outer exclusive binder.
+    fn moves(self, outer_exclusive_binder: DebruijnIndex) -> bool
+        ensures { IsTrue result ↔ (self.current_index < outer_exclusive_binder) }
+    {
+        outer_exclusive_binder > self.current_index
+    }
+
+    // The type of a bound variable, moved.
+    fn shift_bound_ty(
+        self,
+        cx: &mut Interner,
+        index: BoundVarIndexKind,
+        bound_ty: BoundTy,
+    ) -> Result<Ty, Refusal>
+        requires { IsOuter self.current_index index }
+        ensures extends { Extends cx.old cx.new }
+        ensures counters { cx.new.counters ≡ cx.old.counters }
+        ensures result { let shift : Shift = record { amount = self.amount; under = self.current_index } in
+            let tree = tree_in cx.old.rows (ty_kind_shape (TyKind.Bound index bound_ty)) in
+            MatchResult
+            result
+            (λ ty. IsPartOf cx.new.rows (ty_shape ty) × (tree_in cx.new.rows (ty_shape ty) ≡ moved_tree shift tree))
+            (λ e. IsTooGreat e (IsTooFar shift tree) ⊎ IsRefused cx.new (moved_tree shift tree) e) }
+    {
+        match shift_index(index, self.current_index, self.amount) {
+            Ok(shifted) => cx.mk_ty(TyKind::Bound(shifted, bound_ty)),
+            Err(e) => Err(e),
+        }
+    }
+}
+
+impl TypeFolder for Shifter {
+    ghost use Rattle.std.specs.Prelude.{⊤, refl};
+    ghost use Rattle.tt_fold.specs.Shift.{shift_hooks};
+
+    ghost Meaning = { Shift };
+
+    ghost meaning = { λ _ s. record { amount = s.amount; under = s.current_index } };
+
+    ghost owned = { λ _ _. ⊤ };
+
+    ghost hooks = { shift_hooks };
+
+    fn fold_region(&mut self, _cx: &mut Interner, region: Region) -> Result<Region, Refusal> {
+        shift_region_under(region, self.current_index, self.amount)
+    }
+
+    fn fold_ty(&mut self, cx: &mut Interner, ty: Ty) -> Result<Step, Refusal> {
+        if !self.moves(ty.outer_exclusive_binder(cx)) {
+            return Ok(Step::Keep);
+        }
+        let kind = cx.node_kind(Node::Ty(ty));
+        match bound_variable(&kind) {
+            Some((index, bound_ty)) => {
+                let shifted = self.shift_bound_ty(cx, index, bound_ty)?;
+                Ok(Step::Replace(shifted))
+            }
+            None => {
+                cx.count_shift_descent();
+                Ok(Step::Descend)
+            }
+        }
+    }
+
+    fn after_ty(&mut self, _cx: &mut Interner, _before: Ty, rebuilt: Ty) -> Result<Ty, Refusal> {
+        Ok(rebuilt)
+    }
+
+    fn fold_binder(&mut self, _cx: &mut Interner, _vars: BoundVarKinds) -> Result<(), Refusal> {
+        if self.current_index.can_shift_in(1) {
+            self.current_index.shift_in(1);
+            Ok(())
+        } else {
+            Err(Refusal::GreatestIndex)
+        }
+    }
+
+    fn after_binder(&mut self, _cx: &mut Interner, _vars: BoundVarKinds) -> Result<(), Refusal> {
+        if self.current_index.can_shift_out(1) {
+            self.current_index.shift_out(1);
+        }
+        Ok(())
+    }
+
+    ghost still_owned = { λ old new s g h. tt };
+
+    ghost still_means = { λ old new s g h. refl };
+}
+
+/// The value moved into `amount` new binders: each variable that a binder outside of the value binds keeps its binder.
+///
+/// It is refused with `GreatestIndex` where such a variable's index would be the greatest or above, or where more binders than
+/// the greatest index counts stand around one, and with `Memory` or `TableFull` where a term cannot be built. Where no such
+/// variable stands in the value, or the amount is 0, it is the value itself, and nothing is built.
+pub fn shift_vars<T: TypeFoldable>(cx: &mut Interner, value: T, amount: u32) -> Result<T, Refusal>
+    requires { IsPartBy T.shape cx.old.rows value }
+    ensures extends { Extends cx.old cx.new }
+    ensures in_range { IfOk result (λ shifted. IsPartBy T.shape cx.new.rows shifted) }
+    ensures plain { IfOk result (λ shifted. read 0 (tree_by T.shape cx.new.rows shifted) ≡ move amount (read 0 (tree_by T.shape cx.old.rows value))) }
+    ensures tree { IfOk result (λ shifted. tree_by T.shape cx.new.rows shifted ≡ shift_tree 0 amount (tree_by T.shape cx.old.rows value)) }
+    ensures err { IfErr result (IsShiftRefusal cx.new amount (tree_by T.shape cx.old.rows value)) }
+    ensures same { (amount ≡ 0) ⊎ (outer_binder (tree_by T.shape cx.old.rows value) ≡ 0) → (result ≡ Ok value) × (cx.new ≡ cx.old) }
+    ensures descents { cx.new.counters.descents ≡ cx.old.counters.descents }
+{
+    if amount == 0 || !value.has_escaping_bound_vars(cx) {
+        return Ok(value);
+    }
+    let mut shifter = Shifter {
+        amount,
+        current_index: DebruijnIndex::INNERMOST,
+    };
+    value.fold_with(cx, &mut shifter)
+}
+
+/// Moving a value twice is moving it once by the sum. It does nothing; the contract gives callers the fact.
+pub fn shifts_add_up()
+    ensures { ShiftsAddUp }
+{}
+
+/// Different values stay different when they are moved. It does nothing; the contract gives callers the fact.
+pub fn shifts_keep_apart()
+    ensures { ShiftsKeepApart }
+{}
