@@ -3,4 +3,5 @@ pub mod FlagLaws
 pub mod UntouchedLaws
 pub mod HookLaws
 pub mod WalkLaws
+pub mod PositionLaws
 pub mod InstanceLaws

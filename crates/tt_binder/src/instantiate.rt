@@ -1,11 +1,12 @@
 //! Instantiation.
 
-ghost use Rattle.std.specs.Prelude.{◌≡◌, ◌≤◌, ◌⊎◌, [], ℕ, List, true, false, MatchResult, IfOk, IfErr, OnOk};
+ghost use Rattle.std.specs.Prelude.{◌≡◌, ◌+◌, ◌≤◌, ◌⊎◌, [], ℕ, List, true, false, MatchResult, IfOk, IfErr, OnOk};
 ghost use Rattle.tt_index.specs.declared.refusal.Refusal.{Refusal};
 ghost use Rattle.tt_kinds.specs.Label.{Name, Sort};
 ghost use Rattle.tt_kinds.specs.Tree.{param};
 ghost use Rattle.tt_kinds.specs.Param.{holds_param};
 ghost use Rattle.tt_kinds.specs.Cause.{Cause};
+ghost use Rattle.tt_kinds.specs.Count.{positions};
 ghost use Rattle.tt_kinds.specs.Shape.{stored};
 ghost use Rattle.tt_kinds.specs.declared.table.Table.TheVariants.{Types};
 ghost use Rattle.tt_interner.specs.Rows.{Row};
@@ -38,7 +39,8 @@ pub trait Instantiate<T: TypeFoldable + Copy>: Copy {
     /// `TableFull`). Of several such reasons it names one.
     ///
     /// A value without parameters in which no such region variable stands comes back as it is, and nothing is built; so
-    /// does every type without parameters. Where there are no arguments, region variables aren't looked for.
+    /// does every type without parameters. Where there are no arguments, region variables aren't looked for. Each place of
+    /// the value where a type stands that holds a parameter and is none adds at most one to the interner's count of descents.
     fn instantiate<S: SliceLike>(
         self,
         cx: &mut Interner,
@@ -48,6 +50,7 @@ pub trait Instantiate<T: TypeFoldable + Copy>: Copy {
         requires value { IsPartBy T.shape cx.old.rows (declared self) }
         ensures extends { Extends cx.old cx.new }
         ensures descents { cx.old.counters.descents ≤ cx.new.counters.descents }
+        ensures positions { OnOk result (cx.new.counters.descents ≤ cx.old.counters.descents + positions (tree_by T.shape cx.old.rows (declared self))) }
         ensures in_range { IfOk result (λ u. IsPartBy T.shape cx.new.rows u.value) }
         ensures plain { IfOk result (λ u. IsPlain (arguments cx.old.rows (S.items cx.old.rows args)) (tree_by T.shape cx.old.rows (declared self)) (tree_by T.shape cx.new.rows u.value)) }
         ensures composes { IfOk result (λ u. Composes (arguments cx.old.rows (S.items cx.old.rows args)) (tree_by T.shape cx.old.rows (declared self)) (tree_by T.shape cx.new.rows u.value)) }
@@ -84,6 +87,7 @@ fn instantiate_value<T: TypeFoldable + Copy, S: SliceLike>(
     requires value { IsPartBy T.shape cx.old.rows value }
     ensures extends { Extends cx.old cx.new }
     ensures descents { cx.old.counters.descents ≤ cx.new.counters.descents }
+    ensures positions { OnOk result (cx.new.counters.descents ≤ cx.old.counters.descents + positions (tree_by T.shape cx.old.rows value)) }
     ensures result { MatchResult
         result
         (λ r. IsPartBy T.shape cx.new.rows r × IsInstance (arguments cx.old.rows (S.items cx.old.rows args)) (tree_by T.shape cx.old.rows value) (tree_by T.shape cx.new.rows r))

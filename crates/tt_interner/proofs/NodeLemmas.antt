@@ -27,7 +27,7 @@ use Rattle.tt_kinds.specs.Parts.{child_sort, IsItem, node_table, node_number, li
 use Rattle.tt_kinds.specs.Kinds.{ty_shape, arg_shape, children_shapes, kind_shape}
 use Rattle.tt_interner.specs.Rows.{Row, type_row, tys_row, args_row, text_row, row_table, row_shape, table, size, meaning, age, AreRows, IsOlder, AreOlder}
 use Rattle.tt_interner.specs.Stored.{Terms, IsAt, IsCause, IsUnbuilt, StoresList, Builds}
-use Rattle.tt_interner.specs.Children.{ty_child, arg_child, children_of, children_at}
+use Rattle.tt_interner.specs.Children.{ty_child, arg_child, children_of, children_at, child_ty, child_arg, items_row}
 use Rattle.tt_interner.proofs.RowLaws.{IsNewest, place_cases, row-old, row-new, age-old, age-new}
 use Rattle.tt_interner.proofs.Trees.{Means-row}
 
@@ -142,17 +142,27 @@ pub record IsRowOf (s : ListSort) (r : Row) (cs : List Child) : Type 0 where
   pub in_table : row_table r ≡ sort_list_table s
   pub shape : row_shape r ≡ node (list_label (sort_list_table s)) (children_shapes cs)
   pub children : children_of r ≡ cs
+  pub row : items_row s cs ≡ r
   pub fit : All (λ c. IsItem s (child_sort c)) cs
 
+tys_back : (tys : List Ty) → map child_ty (map ty_child tys) ≡ tys
+tys_back [] = refl
+tys_back (t ∷ tys) = ap (λ ts. t ∷ ts) (tys_back tys)
+
+args_back : (args : List GenericArgKind) → map child_arg (map arg_child args) ≡ args
+args_back [] = refl
+args_back (arg.Lifetime r ∷ args) = ap (λ as'. arg.Lifetime r ∷ as') (args_back args)
+args_back (arg.«Type» t ∷ args) = ap (λ as'. arg.«Type» t ∷ as') (args_back args)
+
 pub is_row_of_tys : (tys : List Ty) → IsRowOf sort.Tys (tys_row tys) (map ty_child tys)
-is_row_of_tys tys = record { in_table = refl; shape = ap (node (list_label TypeLists)) (sym (tys_shapes tys)); children = refl; fit = all tys }
+is_row_of_tys tys = record { in_table = refl; shape = ap (node (list_label TypeLists)) (sym (tys_shapes tys)); children = refl; row = ap tys_row (tys_back tys); fit = all tys }
   where
     all : (tys : List Ty) → All (λ c. IsItem sort.Tys (child_sort c)) (map ty_child tys)
     all [] = All-nil (λ c. IsItem sort.Tys (child_sort c))
     all (t ∷ tys) = All-cons (λ c. IsItem sort.Tys (child_sort c)) (ty_child t) (map ty_child tys) refl (all tys)
 
 pub is_row_of_args : (args : List GenericArgKind) → IsRowOf sort.Args (args_row args) (map arg_child args)
-is_row_of_args args = record { in_table = refl; shape = ap (node (list_label ArgLists)) (sym (arg_shapes args)); children = refl; fit = all args }
+is_row_of_args args = record { in_table = refl; shape = ap (node (list_label ArgLists)) (sym (arg_shapes args)); children = refl; row = ap args_row (args_back args); fit = all args }
   where
     item : (a : GenericArgKind) → IsItem sort.Args (child_sort (arg_child a))
     item (arg.Lifetime r) = tt
@@ -238,6 +248,7 @@ module _ {H : Type 0} (number : H → ℕ) (old new : Terms) (s : ListSort) (r :
     err = tt;
     cause = tt;
     of_sort = of_sort;
+    stored = rw (same, is.row) builds.stored;
   }
 
   pub StoresList-err : (e : Refusal) → Builds {H = H} (Err e) number old new r → StoresList (Err e) old new s cs
@@ -250,4 +261,5 @@ module _ {H : Type 0} (number : H → ℕ) (old new : Terms) (s : ListSort) (r :
     err = builds.err;
     cause = IsUnbuilt-from old r (list_label (sort_list_table s)) (children_shapes cs) is.shape e builds.cause;
     of_sort = tt;
+    stored = tt;
   }

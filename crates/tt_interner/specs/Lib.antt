@@ -1,7 +1,7 @@
 pub mod Rows
+pub mod Children
 pub mod Stored
 pub mod Tables
-pub mod Children
 pub mod OwnFlags
 pub mod Kept
 pub mod Laws

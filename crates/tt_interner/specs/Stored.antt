@@ -13,6 +13,7 @@ use Rattle.tt_kinds.specs.declared.parts.Child.{Child}
 use Rattle.tt_kinds.specs.Scan.{scan}
 use Rattle.tt_kinds.specs.Reading.{outer_binder}
 use Rattle.tt_kinds.specs.Shape.{fill, fill_all, IsTooDeep}
+use Rattle.tt_interner.specs.Children.{items_row}
 use Rattle.tt_interner.specs.Rows.{Row, tys_row, args_row, vars_row, text_row, row_table, row_shape, table, size, meaning, IsNew, Grows}
 
 -- how often a folder took a type apart: the argument folder, and the shifter
@@ -113,3 +114,4 @@ pub record StoresList (result : Result StoredList Refusal) (old new : Terms) (so
   pub err : OnErr result (new ≡ old)
   pub cause : IfErr result (IsUnbuilt old (node (list_label (sort_list_table sort)) (fill_all (meaning old.rows) (children_shapes items))))
   pub of_sort : IfOk result (λ l. list_sort l ≡ sort)
+  pub stored : IfOk result (λ l. Stores old.rows new.rows (items_row sort items) (list_number l))

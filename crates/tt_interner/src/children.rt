@@ -1,11 +1,13 @@
 //! Lists of children, and the typed lists that they stand for.
 
-ghost use Rattle.std.specs.Prelude.{◌≡◌, ◌<◌, length, slice_get, map, All, IfOk, Some};
+ghost use Rattle.std.specs.Prelude.{◌≡◌, ◌<◌, ◌≤◌, length, slice_get, take, map, All, IfOk, Some};
 ghost use Rattle.tt_kinds.specs.Parts.{child_sort, IsItem};
-ghost use Rattle.tt_interner.specs.Children.{ty_child, arg_child};
+ghost use Rattle.tt_kinds.specs.declared.parts.ListSort.{ListSort};
+ghost use Rattle.tt_kinds.specs.declared.parts.Child.{Child};
+ghost use Rattle.tt_interner.specs.Children.{arg_child};
 
 use std::alloc::{AllocError, Global};
-use tt_kinds::{Child, GenericArg, GenericArgKind, ListSort, Node, Ty};
+use tt_kinds::{Child, GenericArg, GenericArgKind, Node, Ty};
 
 /// The item at this place.
 pub(crate) fn item_at<T: Copy>(items: &[T], index: usize) -> T
@@ -25,38 +27,80 @@ pub(crate) fn arg_child(arg: GenericArg) -> Child
     }
 }
 
-/// The argument that stands as this child.
-pub(crate) fn child_arg(child: &Child) -> GenericArg
-    requires { IsItem ListSort.Args (child_sort child.now) }
-    ensures { arg_child result ≡ child.now }
-{
-    match child {
-        Child::Region(region) => GenericArg::from(*region),
-        Child::Node(Node::Ty(ty)) => GenericArg::from(*ty),
-        _ => unreachable!(),
+/// What a list of one sort holds.
+pub(crate) trait ListItem: Copy {
+    ghost sort: { ListSort };
+
+    ghost as_child: { Self → Child };
+
+    /// Some item, which stands in places that aren't used.
+    fn filler() -> Self;
+
+    /// The item that stands as this child.
+    fn from_child(child: &Child) -> Self
+        requires { IsItem sort (child_sort child.now) }
+        ensures { as_child result ≡ child.now };
+}
+
+impl ListItem for Ty {
+    ghost use Rattle.tt_kinds.specs.declared.parts.ListSort.TheVariants.{Tys};
+    ghost use Rattle.tt_interner.specs.Children.{ty_child};
+
+    ghost sort = { Tys };
+
+    ghost as_child = { ty_child };
+
+    fn filler() -> Ty {
+        Ty::from_number(0)
+    }
+
+    fn from_child(child: &Child) -> Ty {
+        child.ty()
     }
 }
 
-/// The types that stand as these children.
-pub(crate) fn collect_tys(alloc: Global, children: &[Child]) -> Result<Vec<Ty>, AllocError>
-    requires { All (λ c. IsItem ListSort.Tys (child_sort c)) children.now }
-    ensures { IfOk result (λ tys. map ty_child tys.items ≡ children.now) }
-{
-    let mut tys = Vec::with_capacity(alloc, children.len())?;
-    for child in children {
-        tys.push(child.ty())?;
+impl ListItem for GenericArg {
+    ghost use Rattle.tt_kinds.specs.declared.parts.ListSort.TheVariants.{Args};
+    ghost use Rattle.tt_interner.specs.Children.{arg_child};
+
+    ghost sort = { Args };
+
+    ghost as_child = { arg_child };
+
+    fn filler() -> GenericArg {
+        GenericArg::from(Ty::from_number(0))
     }
-    Ok(tys)
+
+    fn from_child(child: &Child) -> GenericArg {
+        match child {
+            Child::Region(region) => GenericArg::from(*region),
+            Child::Node(Node::Ty(ty)) => GenericArg::from(*ty),
+            _ => unreachable!(),
+        }
+    }
 }
 
-/// The arguments that stand as these children.
-pub(crate) fn collect_args(alloc: Global, children: &[Child]) -> Result<Vec<GenericArg>, AllocError>
-    requires { All (λ c. IsItem ListSort.Args (child_sort c)) children.now }
-    ensures { IfOk result (λ args. map arg_child args.items ≡ children.now) }
+/// The items that stand as these children, of which there are at most as many as the array has places.
+pub(crate) fn collect_few<T: ListItem>(children: &[Child]) -> [T; 8]
+    requires few { length children.now ≤ 8 }
+    requires fit { All (λ c. IsItem T.sort (child_sort c)) children.now }
+    ensures { map T.as_child (take (length children.now) result) ≡ children.now }
 {
-    let mut args = Vec::with_capacity(alloc, children.len())?;
-    for child in children {
-        args.push(child_arg(child))?;
+    let mut items = [T::filler(); 8];
+    for index in 0..children.len() {
+        items[index] = T::from_child(&children[index]);
     }
-    Ok(args)
+    items
+}
+
+/// The items that stand as these children.
+pub(crate) fn collect<T: ListItem>(alloc: Global, children: &[Child]) -> Result<Vec<T>, AllocError>
+    requires { All (λ c. IsItem T.sort (child_sort c)) children.now }
+    ensures { IfOk result (λ items. map T.as_child items.items ≡ children.now) }
+{
+    let mut items = Vec::with_capacity(alloc, children.len())?;
+    for child in children {
+        items.push(T::from_child(child))?;
+    }
+    Ok(items)
 }

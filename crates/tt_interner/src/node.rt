@@ -1,19 +1,19 @@
 //! Stored terms and lists of all tables, as walks see them: by their kinds, and by their children.
 
-ghost use Rattle.std.specs.Prelude.{◌≡◌, ◌<◌, IfOk, IfErr, OnErr, All, length, slice_get, Some};
+ghost use Rattle.std.specs.Prelude.{◌≡◌, ◌<◌, IfOk, IfErr, OnErr, All, length, map, slice_get, Some};
 ghost use Rattle.tt_kinds.specs.Label.{list_label};
 ghost use Rattle.tt_kinds.specs.Tree.{node};
-ghost use Rattle.tt_kinds.specs.Shape.{HasParts, AreParts, fill, fill_all};
+ghost use Rattle.tt_kinds.specs.Shape.{HasParts, AreParts, item_shapes, fill, fill_all};
 ghost use Rattle.tt_kinds.specs.Parts.{node_table, node_number, list_table, list_number, list_sort, sort_list_table, child_sort, IsItem};
-ghost use Rattle.tt_kinds.specs.Kinds.{kind_table, kind_shape, children_shapes};
+ghost use Rattle.tt_kinds.specs.Kinds.{kind_table, kind_shape, children_shapes, ty_shape, arg_shape};
 ghost use Rattle.tt_interner.specs.Rows.{kind_row, size, meaning, age, IsOlder, AreOlder};
-ghost use Rattle.tt_interner.specs.Stored.{Builds, Extends, IsUnbuilt, StoresList};
-ghost use Rattle.tt_interner.specs.Children.{children_at};
+ghost use Rattle.tt_interner.specs.Stored.{Builds, Extends, IsUnbuilt, Stores, StoresList};
+ghost use Rattle.tt_interner.specs.Children.{children_at, items_row, ty_child, arg_child};
 
-use crate::children::{arg_child, collect_args, collect_tys, item_at};
+use crate::children::{arg_child, collect, collect_few, item_at};
 use crate::interner::Interner;
 use tt_index::Refusal;
-use tt_kinds::{Child, Kind, List, ListSort, Node, Ty};
+use tt_kinds::{Child, GenericArg, Kind, List, ListSort, Node, Ty};
 
 impl Interner {
     /// What a stored term is. It has to be of this interner.
@@ -85,6 +85,7 @@ impl Interner {
         ensures err { OnErr result (self.new ≡ self.old) }
         ensures cause { IfErr result (IsUnbuilt self.old (node (list_label (sort_list_table sort)) (fill_all (meaning self.old.rows) (children_shapes items.now)))) }
         ensures sort { IfOk result (λ l. list_sort l ≡ sort) }
+        ensures stored { IfOk result (λ l. Stores self.old.rows self.new.rows (items_row sort items.now) (list_number l)) }
     {
         match sort {
             ListSort::Tys => self.store_tys(items),
@@ -94,32 +95,56 @@ impl Interner {
 }
 
 impl Interner {
-    // The list of types that stand as these children.
-    fn store_tys(&mut self, items: &[Child]) -> Result<List, Refusal>
-        requires parts { AreParts (size self.old.rows) (children_shapes items.now) }
-        requires fit { All (λ c. IsItem ListSort.Tys (child_sort c)) items.now }
-        ensures { StoresList result self.old self.new ListSort.Tys items.now }
+    // The list of these types.
+    fn list_of_tys(&mut self, items: &[Ty]) -> Result<List, Refusal>
+        requires { AreParts (size self.old.rows) (item_shapes ty_shape items.now) }
+        ensures { StoresList result self.old self.new ListSort.Tys (map ty_child items.now) }
     {
-        let tys = collect_tys(self.allocator(), items)?;
-        let list = match self.mk_tys(tys.as_slice()) {
+        let list = match self.mk_tys(items) {
             Ok(list) => list,
             Err(e) => return Err(e),
         };
         Ok(List::Tys(list))
     }
 
-    // The list of generic arguments that stand as these children.
-    fn store_args(&mut self, items: &[Child]) -> Result<List, Refusal>
-        requires parts { AreParts (size self.old.rows) (children_shapes items.now) }
-        requires fit { All (λ c. IsItem ListSort.Args (child_sort c)) items.now }
-        ensures { StoresList result self.old self.new ListSort.Args items.now }
+    // The list of types that stand as these children. Lists of few items are looked up from the stack.
+    fn store_tys(&mut self, children: &[Child]) -> Result<List, Refusal>
+        requires parts { AreParts (size self.old.rows) (children_shapes children.now) }
+        requires fit { All (λ c. IsItem ListSort.Tys (child_sort c)) children.now }
+        ensures { StoresList result self.old self.new ListSort.Tys children.now }
     {
-        let args = collect_args(self.allocator(), items)?;
-        let list = match self.mk_args(args.as_slice()) {
+        if children.len() <= 8 {
+            let few: [Ty; 8] = collect_few(children);
+            return self.list_of_tys(&few[..children.len()]);
+        }
+        let many: Vec<Ty> = collect(self.allocator(), children)?;
+        self.list_of_tys(many.as_slice())
+    }
+
+    // The list of these generic arguments.
+    fn list_of_args(&mut self, items: &[GenericArg]) -> Result<List, Refusal>
+        requires { AreParts (size self.old.rows) (item_shapes arg_shape items.now) }
+        ensures { StoresList result self.old self.new ListSort.Args (map arg_child items.now) }
+    {
+        let list = match self.mk_args(items) {
             Ok(list) => list,
             Err(e) => return Err(e),
         };
         Ok(List::Args(list))
+    }
+
+    // The list of generic arguments that stand as these children. Lists of few items are looked up from the stack.
+    fn store_args(&mut self, children: &[Child]) -> Result<List, Refusal>
+        requires parts { AreParts (size self.old.rows) (children_shapes children.now) }
+        requires fit { All (λ c. IsItem ListSort.Args (child_sort c)) children.now }
+        ensures { StoresList result self.old self.new ListSort.Args children.now }
+    {
+        if children.len() <= 8 {
+            let few: [GenericArg; 8] = collect_few(children);
+            return self.list_of_args(&few[..children.len()]);
+        }
+        let many: Vec<GenericArg> = collect(self.allocator(), children)?;
+        self.list_of_args(many.as_slice())
     }
 }
 

@@ -1,10 +1,12 @@
-use Rattle.std.proofs.Common.{ap, inl, inr, refl}
+use Rattle.std.proofs.Common.{ap, inl, inr, refl, arith}
+use Rattle.std.specs.Prelude.{Result, Ok, Err, OnOk}
 use Rattle.std.proofs.lemmas.List.{nil_from_length}
 use Rattle.std.proofs.lemmas.Result.{err_from_is_err_and}
 use Rattle.tt_kinds.specs.Param.{holds_param}
 use Rattle.tt_fold.specs.Steps.{IsRefused, tree_by}
 use Rattle.tt_binder.specs.Arguments.{arguments}
 use Rattle.tt_binder.proofs.WalkLaws.{does, fails_up}
+use Rattle.tt_binder.proofs.PositionLaws.{few}
 use Rattle.tt_binder.proofs.InstanceLaws.{empty_err, empty_outcome, instance_back, instance_walked, param_refused, reason_empty, reason_refused}
 use Rattle.tt_binder.proofs.instantiate.instantiate_value.Goals as goal
 
@@ -48,3 +50,13 @@ pub returns-clause-result : goal.returns-clause-result
 returns-clause-result g c =
     let o = c.in_ok-folded.ensures.outcome in
     (o.1, instance_walked (arguments c.args.cx.now.rows (g.S.SliceLike.items c.args.cx.now.rows c.args.args)) _ _ (tree_by g.T.TypeVisitable.shape c.args.cx.now.rows c.args.value) _ (ap (λ folder. record { args = arguments c.args.cx.now.rows (g.S.SliceLike.items c.args.cx.now.rows folder.args); binders_passed = folder.binders_passed }) c.new-folder.ensures) o.2)
+
+on_ok : {T E P : Type 0} (r : Result T E) → P → OnOk r P
+on_ok (Ok x) h = h
+on_ok (Err e) h = tt
+
+pub returns-then-is_empty-clause-positions : goal.returns-then-is_empty-clause-positions
+returns-then-is_empty-clause-positions g c = on_ok c.without_arguments.result (omega arith)
+
+pub returns-clause-positions : goal.returns-clause-positions
+returns-clause-positions g c = few c.in_ok-folded.ensures.outcome.2 0

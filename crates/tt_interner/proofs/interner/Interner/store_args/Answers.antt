@@ -1,25 +1,25 @@
--- by the typed list
-use Rattle.std.proofs.Common.{refl, sym, ap, subst, ◌∙◌}
+-- by the items
+use Rattle.std.proofs.Common.{length, take, sym, ap, subst, ◌∙◌}
 use Rattle.std.specs.Prelude.{map}
-use Rattle.tt_kinds.specs.declared.parts.List.TheVariants as stored_list
 use Rattle.tt_kinds.specs.declared.parts.ListSort.TheVariants as sort
 use Rattle.tt_kinds.specs.Shape.{AreParts}
 use Rattle.tt_kinds.specs.Kinds.{children_shapes}
-use Rattle.tt_interner.specs.Rows.{args_row, size}
+use Rattle.tt_interner.specs.Rows.{size}
+use Rattle.tt_interner.specs.Stored.{StoresList}
 use Rattle.tt_interner.specs.Children.{arg_child}
-use Rattle.tt_interner.proofs.NodeLemmas.{IsRowOf, arg_shapes, is_row_of_args, StoresList-ok, StoresList-err}
+use Rattle.tt_interner.proofs.NodeLemmas.{arg_shapes}
 use Rattle.tt_interner.proofs.interner.Interner.store_args.Goals as goal
 
-pub mk_args-requires : goal.mk_args-requires
-mk_args-requires c = rw c.as_slice.ensures.value
-    (subst (AreParts (size c.args.self.now.rows)) (ap children_shapes (sym c.in_ok-args.ensures) ∙ arg_shapes c.in_ok-args.args.items) c.requires.parts)
+pub list_of_args-requires : goal.list_of_args-requires
+list_of_args-requires c = subst (AreParts (size c.args.self.now.rows))
+    (ap children_shapes (sym c.collect_few-few.ensures) ∙ arg_shapes (take (length c.args.children.now) c.collect_few-few.result)) c.requires.parts
 
-pub returns-in-Err : goal.returns-in-Err
-returns-in-Err c =
-    let is = subst (IsRowOf sort.Args (args_row c.as_slice.result.now)) (ap (map arg_child) c.as_slice.ensures.value ∙ c.in_ok-args.ensures) (is_row_of_args c.as_slice.result.now) in
-    StoresList-err (λ list. list.number) _ _ sort.Args (args_row c.as_slice.result.now) _ is c.in-Err.e c.in-Err.ensures
+pub list_of_args-requires-2 : goal.list_of_args-requires-2
+list_of_args-requires-2 c = rw c.as_slice.ensures.value
+    (subst (AreParts (size c.args.self.now.rows)) (ap children_shapes (sym c.in_ok-many.ensures) ∙ arg_shapes c.in_ok-many.many.items) c.requires.parts)
+
+pub returns-then-children-le8 : goal.returns-then-children-le8
+returns-then-children-le8 c = subst (StoresList c.list_of_args.result _ _ sort.Args) c.collect_few-few.ensures c.list_of_args.ensures
 
 pub returns : goal.returns
-returns c =
-    let is = subst (IsRowOf sort.Args (args_row c.as_slice.result.now)) (ap (map arg_child) c.as_slice.ensures.value ∙ c.in_ok-args.ensures) (is_row_of_args c.as_slice.result.now) in
-    StoresList-ok (λ list. list.number) _ _ sort.Args (args_row c.as_slice.result.now) _ is c.in-Ok.list c.in-Ok.ensures (stored_list.Args c.in-Ok.list) refl refl
+returns c = subst (StoresList c.list_of_args-2.result _ _ sort.Args) (ap (map arg_child) c.as_slice.ensures.value ∙ c.in_ok-many.ensures) c.list_of_args-2.ensures

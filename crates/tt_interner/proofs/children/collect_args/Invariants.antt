@@ -1,8 +1,0 @@
--- the arguments so far are the children so far
-use Rattle.std.proofs.Common.{◌≡◌, take}
-use Rattle.std.specs.Prelude.{map}
-use Rattle.tt_interner.specs.Children.{arg_child}
-use Rattle.tt_interner.proofs.children.collect_args.Given as goal
-
-abbrev pub invariant-loop-child : goal.invariant-loop-child
-invariant-loop-child l = map arg_child l.args.items ≡ take l.child-index l.children

@@ -1,0 +1,8 @@
+mod NumberLaws
+pub mod RunLaws
+pub mod LookupLaws
+pub mod ResultLaws
+pub mod BuildLaws
+pub mod KindLaws
+pub mod FoldLaws
+pub mod QueryLaws

@@ -1,0 +1,23 @@
+-- A number that has passed its limit stays past it, whatever digits follow.
+use Rattle.std.proofs.Common.{◌≡◌, ℕ, ◌+◌, ◌-◌, ◌*◌, ◌<◌, Bool, true, false, List, [], ◌∷◌, None, Some, drop, length, get_or, cond, nat_le, suc, refl, arith, add-one, drop-cons}
+use Rattle.std.proofs.lemmas.Grind.{common_steps}
+use Rattle.type_terms.specs.Number.{is_digit, number_after, at_most}
+
+pub past : (limit n : ℕ) (bs : List ℕ) → limit < n → at_most limit (number_after n bs) ≡ None
+past limit n [] h = grind (arith, common_steps)
+past limit n (b ∷ bs) h =
+    elim (is_digit b) as (λ v. at_most limit (cond v (number_after (n * 10 + (b - 48)) bs) None) ≡ None) [
+      | true ↦ past limit (n * 10 + (b - 48)) bs (omega arith)
+      | false ↦ refl
+    ]
+
+pub past_digit : (limit n b : ℕ) (bs : List ℕ) → limit < n * 10 + (b - 48) → at_most limit (number_after n (b ∷ bs)) ≡ None
+past_digit limit n b bs h =
+    elim (is_digit b) as (λ v. at_most limit (cond v (number_after (n * 10 + (b - 48)) bs) None) ≡ None) [
+      | true ↦ past limit (n * 10 + (b - 48)) bs h
+      | false ↦ refl
+    ]
+
+pub past_word : (limit n i : ℕ) (word : List ℕ) → i < length word → limit < n * 10 + (get_or word i 0 - 48)
+    → at_most limit (number_after n (drop i word)) ≡ None
+past_word limit n i word inside h = rw (drop-cons word i 0) (past_digit limit n (get_or word i 0) (drop (suc i) word) h)

@@ -1,0 +1,34 @@
+use Rattle.std.proofs.Common.{◌≡◌, refl}
+use Rattle.tt_kinds.specs.Shape.{fill, IsPart}
+use Rattle.tt_kinds.specs.declared.region_kind.RegionKind.TheVariants.{ReStatic, ReVar, ReErased, ReError}
+use Rattle.type_terms.specs.CallForm.{region_tree}
+use Rattle.type_terms.proofs.BuildLaws.{region-shallow, region-bound}
+use Rattle.type_terms.proofs.run.build.build_region.Goals as goal
+
+pub returns-in-ReEarlyParam-clause-region : goal.returns-in-ReEarlyParam-clause-region
+returns-in-ReEarlyParam-clause-region c =
+    rw (c.in-ReEarlyParam.is) (rw (← c.as_str.ensures.value) c.build_early_param.ensures.region)
+
+pub returns-in-ReBound-clause-region : goal.returns-in-ReBound-clause-region
+returns-in-ReBound-clause-region c =
+    rw (c.in-ReBound.is) (region-bound c.args.cx.now _ _ c.new.result c.new.ensures.ok c.new.ensures.deep)
+
+pub returns-in-ReStatic-clause-region : goal.returns-in-ReStatic-clause-region
+unfolding fill IsPart
+returns-in-ReStatic-clause-region c =
+    rw (c.in-ReStatic.is) (region-shallow c.args.cx.now ReStatic _ ⊥ c.new-in-ReStatic.result c.new-in-ReStatic.ensures.ok tt (λ d. d) tt refl)
+
+pub returns-in-ReVar-clause-region : goal.returns-in-ReVar-clause-region
+unfolding fill IsPart
+returns-in-ReVar-clause-region c =
+    rw (c.in-ReVar.is) (region-shallow c.args.cx.now (ReVar c.in-ReVar.variable) _ ⊥ c.new-in-ReVar.result c.new-in-ReVar.ensures.ok tt (λ d. d) tt refl)
+
+pub returns-in-ReErased-clause-region : goal.returns-in-ReErased-clause-region
+unfolding fill IsPart
+returns-in-ReErased-clause-region c =
+    rw (c.in-ReErased.is) (region-shallow c.args.cx.now ReErased _ ⊥ c.new-in-ReErased.result c.new-in-ReErased.ensures.ok tt (λ d. d) tt refl)
+
+pub returns-in-ReError-clause-region : goal.returns-in-ReError-clause-region
+unfolding fill IsPart
+returns-in-ReError-clause-region c =
+    rw (c.in-ReError.is) (region-shallow c.args.cx.now (ReError c.in-ReError.token) _ ⊥ c.new-in-ReError.result c.new-in-ReError.ensures.ok tt (λ d. d) tt refl)

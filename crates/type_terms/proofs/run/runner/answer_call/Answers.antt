@@ -1,0 +1,21 @@
+use Rattle.std.proofs.Common.{◌≡◌, sym}
+use Rattle.type_terms.specs.declared.run.call.Call.TheVariants as call
+use Rattle.type_terms.proofs.QueryLaws.{answered-allowed, answered-owned}
+use Rattle.type_terms.proofs.run.runner.answer_call.Goals as goal
+
+pub returns-in-Shift-clause-allowed : goal.returns-in-Shift-clause-allowed
+returns-in-Shift-clause-allowed c =
+    rw (c.in-Shift.is)
+    (answered-allowed c.shift_at.new.cx c.args.earlier.now c.args.cx.now.rows (call.Shift c.in-Shift.position c.in-Shift.amount) c.shift_at.result
+    c.term_answer-in-Shift.result c.shift_at.ensures.answers c.term_answer-in-Shift.ensures)
+
+pub returns-in-Instantiate-clause-owned : goal.returns-in-Instantiate-clause-owned
+returns-in-Instantiate-clause-owned c =
+    answered-owned c.instantiate_at.new.cx c.args.earlier.now c.args.cx.now.rows (call.Instantiate c.in-Instantiate.position c.in-Instantiate.args) c.instantiate_at.result
+    c.term_answer-in-Instantiate.result (c.instantiate_at.ensures.answers c.in-Instantiate.args (sym c.as_slice.ensures.value)) c.term_answer-in-Instantiate.ensures
+
+pub returns-in-Instantiate-clause-allowed : goal.returns-in-Instantiate-clause-allowed
+returns-in-Instantiate-clause-allowed c =
+    rw (c.in-Instantiate.is)
+    (answered-allowed c.instantiate_at.new.cx c.args.earlier.now c.args.cx.now.rows (call.Instantiate c.in-Instantiate.position c.in-Instantiate.args) c.instantiate_at.result
+    c.term_answer-in-Instantiate.result (c.instantiate_at.ensures.answers c.in-Instantiate.args (sym c.as_slice.ensures.value)) c.term_answer-in-Instantiate.ensures)

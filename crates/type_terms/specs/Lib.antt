@@ -1,0 +1,5 @@
+pub mod Number
+pub mod CallForm
+pub mod Told
+pub mod Means
+pub mod Build

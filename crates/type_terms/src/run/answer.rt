@@ -1,0 +1,25 @@
+//! Answers to calls.
+
+use tt_flags::TypeFlags;
+use tt_index::{DebruijnIndex, Refusal};
+use tt_kinds::Ty;
+
+/// The answer to a [`Call`](crate::Call).
+#[derive(Clone, Copy, Debug, PartialEq, Eq)]
+pub enum Answer {
+    /// The type that was built, shifted or instantiated.
+    Ty(Ty),
+    /// Whether two terms are the same.
+    Truth(bool),
+    /// What is kept beside a term.
+    Info {
+        /// The union of the flags of all that stands in it.
+        flags: TypeFlags,
+        /// The innermost binder that none of its variables belong to or stand outside of.
+        outer: DebruijnIndex,
+    },
+    /// The call was refused.
+    Refused(Refusal),
+    /// The line was no call.
+    Bad,
+}

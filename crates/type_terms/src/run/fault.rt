@@ -1,0 +1,24 @@
+//! Why a script did not run to its end.
+
+use std::alloc::AllocError;
+use thiserror::Error;
+
+/// Why a script did not run to its end.
+#[derive(Clone, Copy, Debug, PartialEq, Eq, Drop, Error)]
+pub enum Fault {
+    /// A read failed, or 4294967295 reads did not reach the end of the input. Nothing was written.
+    #[error("the input could not be read")]
+    Input,
+    /// A write failed. How much went out is open.
+    #[error("the output could not be written")]
+    Output,
+    /// Memory was refused outside of the calls. The line `run refused Memory` alone was written.
+    #[error("the run was refused for want of memory")]
+    Memory,
+}
+
+impl From<AllocError> for Fault {
+    fn from(_: AllocError) -> Fault {
+        Fault::Memory
+    }
+}

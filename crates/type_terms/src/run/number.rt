@@ -1,0 +1,25 @@
+//! Numbers in scripts.
+
+ghost use Rattle.std.specs.Prelude.{◌≡◌};
+ghost use Rattle.type_terms.specs.Number.{number_of};
+
+/// The number that the word writes in the decimal system, leading zeros allowed, if it is at most `limit`. A word without
+/// a digit, or with anything but digits, writes none.
+pub fn parse_number(word: &[u8], limit: u32) -> Option<u32>
+    ensures { result ≡ number_of limit word.now }
+{
+    if word.is_empty() {
+        return None;
+    }
+    let mut value: u64 = 0;
+    for byte in word {
+        if !byte.is_ascii_digit() {
+            return None;
+        }
+        value = value * 10 + u64::from(*byte - b'0');
+        if value > u64::from(limit) {
+            return None;
+        }
+    }
+    Some(value as u32)
+}

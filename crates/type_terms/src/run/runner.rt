@@ -1,0 +1,64 @@
+//! The running of calls.
+
+ghost use Rattle.std.specs.Prelude.{◌≡◌, IfOk, IfErr, MatchResult, []};
+ghost use Rattle.tt_interner.specs.Stored.{Extends};
+ghost use Rattle.type_terms.specs.Told.{told, told_all, HasFullTable, IsOwned, AreOwned};
+ghost use Rattle.type_terms.specs.Means.{IsAllowed, Means};
+
+use crate::run::answer::Answer;
+use crate::run::build::build_ty;
+use crate::run::call::Call;
+use crate::run::fold::{instantiate_at, shift_at};
+use crate::run::query::{equal_at, info_at};
+use tt_index::Refusal;
+use tt_interner::Interner;
+use tt_kinds::Ty;
+
+/// Answers each call in order. A call's positions name the answers before it.
+///
+/// The run is refused with `Memory`, and never otherwise, where there is no memory for the list of answers.
+pub fn run_calls(cx: &mut Interner, calls: &[Call]) -> Result<Vec<Answer>, Refusal>
+    ensures extends { Extends cx.old cx.new }
+    ensures owned { IfOk result (λ answers. AreOwned cx.new.rows answers.items) }
+    ensures means { IfOk result (λ answers. Means (HasFullTable cx.new) [] calls.now (told_all cx.new.rows answers.items)) }
+    ensures cause { IfErr result (λ e. e ≡ Refusal.Memory) }
+{
+    let mut answers = Vec::with_capacity(cx.allocator(), calls.len())?;
+    for call in calls {
+        let answer = answer_call(cx, answers.as_slice(), call);
+        answers.push(answer)?;
+    }
+    Ok(answers)
+}
+
+// The answer to a call after these answers.
+fn answer_call(cx: &mut Interner, earlier: &[Answer], call: &Call) -> Answer
+    requires { AreOwned cx.old.rows earlier.now }
+    ensures extends { Extends cx.old cx.new }
+    ensures owned { IsOwned cx.new.rows result }
+    ensures allowed { IsAllowed (HasFullTable cx.new) (told_all cx.old.rows earlier.now) call.now (told cx.new.rows result) }
+{
+    match call {
+        Call::Ty(kind) => term_answer(build_ty(cx, earlier, kind)),
+        Call::Shift(position, amount) => term_answer(shift_at(cx, earlier, *position, *amount)),
+        Call::Instantiate(position, args) => term_answer(instantiate_at(
+            cx,
+            earlier,
+            *position,
+            args.as_slice(),
+        )),
+        Call::Equal(first, second) => equal_at(cx, earlier, *first, *second),
+        Call::Info(position) => info_at(cx, earlier, *position),
+        Call::Bad => Answer::Bad,
+    }
+}
+
+// The answer of a call that gives a type.
+fn term_answer(outcome: Result<Ty, Refusal>) -> Answer
+    ensures { MatchResult outcome (λ ty. result ≡ Answer.Ty ty) (λ e. result ≡ Answer.Refused e) }
+{
+    match outcome {
+        Ok(ty) => Answer::Ty(ty),
+        Err(refusal) => Answer::Refused(refusal),
+    }
+}

@@ -1,0 +1,94 @@
+//! Scripts: a call a line.
+
+use crate::run::answer::Answer;
+use crate::run::call::Call;
+use crate::run::fault::Fault;
+use crate::run::line::parse_line;
+use crate::run::print::print_answer;
+use crate::run::runner::run_calls;
+use std::alloc::{AllocError, Global};
+use std::io::{ErrorKind, Read, Write};
+use tt_interner::Interner;
+
+/// Runs a script: reads `input` to its end, then makes an interner and runs the calls on it, then writes a line for each
+/// answer to `output`.
+pub fn run_script<R: Read + Drop, W: Write + Drop>(
+    alloc: Global,
+    mut input: R,
+    mut output: W,
+) -> Result<(), Fault> {
+    match answer_script(alloc, &mut input) {
+        Ok(lines) => write_text(&mut output, lines.as_bytes()),
+        Err(Fault::Memory) => {
+            write_text(&mut output, b"run refused Memory\n")?;
+            Err(Fault::Memory)
+        }
+        Err(fault) => Err(fault),
+    }
+}
+
+// The lines that answer the script.
+fn answer_script<R: Read>(alloc: Global, input: &mut R) -> Result<String, Fault> {
+    let script = read_script(alloc, input)?;
+    let mut cx = Interner::new(alloc).map_err(|_| Fault::Memory)?;
+    let calls = parse_script(alloc, script.as_slice())?;
+    drop(script);
+    let answers = run_calls(&mut cx, calls.as_slice()).map_err(|_| Fault::Memory)?;
+    Ok(print_answers(alloc, answers.as_slice())?)
+}
+
+// How many bytes are asked for at once.
+const BLOCK: usize = 65536;
+
+// What the input gives up to its end.
+fn read_script<R: Read>(alloc: Global, input: &mut R) -> Result<Vec<u8>, Fault> {
+    let mut script = Vec::new(alloc);
+    let mut block = vec![in alloc; 0; BLOCK]?;
+    for _ in 0..u32::MAX {
+        match input.read(block.as_mut_slice()) {
+            Ok(0) => return Ok(script),
+            Ok(count) => script.extend_from_slice(&block[..count])?,
+            Err(error) => {
+                if error.kind() != ErrorKind::Interrupted {
+                    return Err(Fault::Input);
+                }
+            }
+        }
+    }
+    Err(Fault::Input)
+}
+
+// The calls of the lines.
+fn parse_script(alloc: Global, script: &[u8]) -> Result<Vec<Call>, AllocError> {
+    let mut calls = Vec::new(alloc);
+    for line in script.split_inclusive(|byte| *byte == b'\n') {
+        if let Some(call) = parse_line(alloc, without_end(line))? {
+            calls.push(call)?;
+        }
+    }
+    Ok(calls)
+}
+
+// The line without its line feed and the carriage return before it.
+fn without_end(line: &[u8]) -> &[u8] {
+    match line {
+        [content @ .., b'\r', b'\n'] => content,
+        [content @ .., b'\n'] => content,
+        _ => line,
+    }
+}
+
+// A line for each answer.
+fn print_answers(alloc: Global, answers: &[Answer]) -> Result<String, AllocError> {
+    let mut lines = String::new(alloc);
+    for (index, answer) in answers.iter().enumerate() {
+        print_answer(&mut lines, index + 1, answer)?;
+    }
+    Ok(lines)
+}
+
+// Writes all of the text.
+fn write_text<W: Write>(output: &mut W, text: &[u8]) -> Result<(), Fault> {
+    output.write_all(text).map_err(|_| Fault::Output)?;
+    output.flush().map_err(|_| Fault::Output)
+}

@@ -1,0 +1,31 @@
+//! What the contracts don't say: printed lines, reading and writing, and that calls succeed where memory is ample.
+
+mod faults;
+mod library;
+mod spelling;
+mod worked;
+
+use crate::run_script;
+use std::alloc::Global;
+use std::process::Abort;
+use std::test::Fail;
+
+// A script and what it prints.
+struct Example {
+    script: &'static str,
+    lines: &'static str,
+}
+
+// What the script prints.
+fn run(alloc: Global, script: &str) -> Result<String, Fail> {
+    let mut output = Vec::new(alloc);
+    run_script(alloc, script.as_bytes(), &mut output)?;
+    Ok(String::from_utf8(output)?)
+}
+
+// The script prints its lines.
+fn check(rt: &impl Abort, alloc: Global, worked: &Example) -> Result<(), Fail> {
+    let output = run(alloc, worked.script)?;
+    assert_eq!(rt; output.as_str(), worked.lines);
+    Ok(())
+}
