@@ -1,5 +1,5 @@
 -- One step of a fold over plain variables: what the parts promise makes what the whole promises.
-use Rattle.std.proofs.Common.{◌≡◌, ℕ, zero, suc, ◌+◌, ◌<◌, ◌≤◌, ◌⊎◌, inl, inr, [], ◌∷◌, ◌++◌, length, take, drop, slice_get, get_or, All, Result, Ok, Err, Option, Some, None, refl, ap, sym, ◌∙◌, arith}
+use Rattle.std.proofs.Common.{◌≡◌, ℕ, zero, suc, ◌+◌, ◌<◌, ◌≤◌, [], ◌∷◌, ◌++◌, length, take, drop, slice_get, get_or, All, Result, Ok, Err, Option, Some, None, refl, ap, sym, ◌∙◌, arith}
 use Rattle.std.proofs.Common.{List as Listed}
 use Rattle.std.proofs.lemmas.Grind.{common_steps}
 use Rattle.std.proofs.lemmas.List.Elements.{All-append}
@@ -13,7 +13,7 @@ use Rattle.tt_kinds.specs.Tree.{Depth, Tree}
 use Rattle.tt_kinds.specs.Label.{list_label}
 use Rattle.tt_kinds.specs.Parts as sorts
 use Rattle.tt_kinds.specs.Parts.{AreLike, node_table, node_number, sort_list_table, list_sort, list_table, list_number, child_sort, IsItem}
-use Rattle.tt_kinds.specs.Kinds.{Form, form_binder, form_parts, refilled, kind_form, kind_sort, kind_shape, kind_table, ty_shape, node_shape, list_shape, region_shape, child_shapes, parts_shapes, children_shapes}
+use Rattle.tt_kinds.specs.Kinds.{form_binder, form_parts, refilled, kind_form, kind_sort, kind_shape, kind_table, node_shape, list_shape, region_shape, child_shapes, parts_shapes, children_shapes}
 use Rattle.tt_kinds.specs.Shape.{append, fill, IsTooDeep}
 use Rattle.tt_kinds.specs.declared.handle.Ty.{Ty}
 use Rattle.tt_kinds.specs.declared.handle.BoundVarKinds.{BoundVarKinds}
@@ -30,17 +30,17 @@ use Rattle.tt_kinds.specs.declared.parts.Kind.{Kind}
 use Rattle.tt_kinds.specs.declared.parts.Kind.TheVariants as kind
 use Rattle.tt_interner.specs.Rows.{Row, row_table, row_shape, kind_row, size, meaning}
 use Rattle.tt_interner.specs.Stored.{Terms, Extends, IsCause, IsUnbuilt}
-use Rattle.tt_fold.specs.Walk.{IsRegion, IsTerm, Hooks, descend, Walks, Descends, WalksInside, WalksAll, WalksUnder, descended, rebuilt, done, at_region, at_node, in_open, in_binder, Fails, DescentFails, FailsInside, FailsAll, FailsUnder, descent_failed, inside_failed, not_built, after_failed, region_failed, node_failed, node_not_built, here, stopped, in_open_failed, in_enter_failed, in_under_failed, in_leave_failed}
+use Rattle.tt_fold.specs.Walk.{IsRegion, IsTerm, Hooks, descend, Walks, Descends, WalksInside, WalksAll, WalksUnder, descended, rebuilt, done, at_region, at_node, in_open, in_binder, Fails, DescentFails, FailsAll, FailsUnder, descent_failed, inside_failed, not_built, after_failed, InsideFails, in_failed, in_not_built, region_failed, node_failed, node_not_built, here, stopped, in_open_failed, in_under_failed, in_leave_failed}
 use Rattle.tt_fold.specs.Counts.{Standing, stands}
 use Rattle.tt_fold.specs.Steps.{Goes, Folds, IsPartOf, tree_in, HasVars, vars_in, answer_of, OwnsStep}
-use Rattle.tt_fold.specs.Parts.{ArePartsOf, trees_in, node_tree, list_tree, child_trees, parts_trees, children_trees, IsNodeFor, IsListFor, IsChildFor, ArePartsFor, IsStepFor, node_answer_of, as_node_step, HasBinder, binder_in, FoldsSoFar}
+use Rattle.tt_fold.specs.Parts.{ArePartsOf, trees_in, node_tree, list_tree, child_trees, parts_trees, children_trees, IsNodeFor, IsListFor, IsChildFor, ArePartsFor, IsStepFor, node_answer_of, as_node_step, HasBinder, binder_in, IsLeaf, FoldsSoFar}
 use Rattle.tt_fold.specs.declared.folder.Step.{Step}
 use Rattle.tt_fold.specs.declared.folder.Step.TheVariants as step
-use Rattle.tt_interner.proofs.Growth.{Extends-trans}
-use Rattle.tt_fold.proofs.Growth.{part-grows, parts-grow, tree-grows, trees-grow}
-use Rattle.tt_fold.proofs.PartLaws.{is_part, stored_tree, one_part, only_part, one_tree, no_parts, no_trees, append_parts, left_parts, right_parts, append_trees, joined, joined-none, children-append, children-one, vars-grow, binder-grows}
+use Rattle.tt_interner.proofs.Growth.{Extends-refl, Extends-trans}
+use Rattle.tt_fold.proofs.Growth.{parts-grow, tree-grows, trees-grow}
+use Rattle.tt_fold.proofs.PartLaws.{is_part, stored_tree, one_part, one_tree, no_parts, no_trees, append_parts, right_parts, append_trees, joined, children-append, children-one, vars-grow, binder-grows}
 use Rattle.tt_fold.proofs.FormLaws.{IsInner, HasNoName, kind-term}
-use Rattle.tt_fold.proofs.WalkLaws.{WalksAll-append, FailsAll-append, FailsAll-before, WalksAll-one, walks_form, fails_form}
+use Rattle.tt_fold.proofs.WalkLaws.{WalksAll-append, FailsAll-append, FailsAll-before, WalksAll-one, walks_leaf, walks_form, fails_form}
 
 -- the hook before a term
 pub ask_is_step : (rows : Listed Row) (n : Node) (t : Ty) (p : Step) → n ≡ node_is.Ty t → OwnsStep rows p → IsStepFor n rows (as_node_step p)
@@ -150,22 +150,9 @@ trees-from rows list n x e =
 trees-cut : (rows : Listed Row) (list : Listed Child) (n : ℕ) → children_trees rows list ≡ joined (children_trees rows (take n list)) (children_trees rows (drop n list))
 trees-cut rows list n = ap (children_trees rows) (sym (take-append-drop n list)) ∙ trees-split rows (take n list) (drop n list)
 
--- the rebuilt term is stored, and the hook after it follows
-pub rebuild_ends : {M E S : Type 0} {owned : Listed Row → S → Type 0} {means : Listed Row → S → M} (H : Hooks (Standing M) E) (unbuilt : Tree Depth → E → Type 0)
-    {terms terms1 terms2 : Terms} {s s2 : S} {n : Node} {r : Result Node E} (k : Kind) (u : Node)
-    → IsPartOf terms.rows (node_shape n) → Extends terms terms1 → stands means terms1 s ≡ stands means terms s
-    → node_tree terms1.rows u ≡ tree_in terms.rows (kind_shape k)
-    → Goes owned means
-    (λ now y m m'. IsNodeFor n now y × H.after_term m (node_tree terms1.rows n) (node_tree terms1.rows u) (node_tree now y) m')
-    (λ m e m'. H.after_fails unbuilt m (node_tree terms1.rows n) (node_tree terms1.rows u) e m')
-    terms1 s r terms2 s2
-    → Goes owned means
-    (λ now y m m'. IsNodeFor n now y × H.after_term m (node_tree terms.rows n) (tree_in terms.rows (kind_shape k)) (node_tree now y) m')
-    (λ m e m'. (unbuilt (tree_in terms.rows (kind_shape k)) e × (m' ≡ m)) ⊎ H.after_fails unbuilt m (node_tree terms.rows n) (tree_in terms.rows (kind_shape k)) e m')
-    terms s r terms2 s2
-rebuild_ends H unbuilt {n} {r} k u owns extends still new d =
-    let o = rw (still, tree-grows extends.rows (node_shape n) owns, new) at d.outcome in
-    record { extends = Extends-trans extends d.extends; outcome = MatchResult-weaker r o (λ y p. p) (λ e p. inr p) }
+inside_descent : {M E : Type 0} {H : Hooks M E} {unbuilt : Tree Depth → E → Type 0} {s s1 : M} {t : Tree Depth} {e : E} → InsideFails H unbuilt s t e s1 → DescentFails H unbuilt s t e s1
+inside_descent (in_failed h) = inside_failed h
+inside_descent (in_not_built w b) = not_built w b
 
 module _ {M E S : Type 0} {owned : Listed Row → S → Type 0} {means : Listed Row → S → M} {H : Hooks (Standing M) E} where
   -- the list so far
@@ -197,52 +184,85 @@ module _ {M E S : Type 0} {owned : Listed Row → S → Type 0} {means : Listed 
         walked = rw (trees-take_more terms.rows list n x is_x, trees-last terms2.rows items y) w;
       })
 
+  -- the kind's parts were folded
+  inside_walk : {terms terms1 : Terms} {s s1 : S} {q : Parts} {other : Tree Depth → E → Type 0} (n : Node) (k j : Kind)
+      → node_tree terms.rows n ≡ tree_in terms.rows (kind_shape k)
+      → HasNoName (kind_form k) → IsInner (kind_form k) → HasBinder terms.rows (form_binder (kind_form k))
+      → kind_form j ≡ refilled q (kind_form k) → kind_sort j ≡ kind_sort k
+      → Folds owned means (ArePartsFor (form_parts (kind_form k))) parts_trees
+      (WalksUnder H (binder_in terms.rows (form_binder (kind_form k)))) (FailsUnder H other (binder_in terms.rows (form_binder (kind_form k))))
+      terms s (form_parts (kind_form k)) (Ok q) terms1 s1
+      → WalksInside H (stands means terms s) (node_tree terms.rows n) (tree_in terms1.rows (kind_shape j)) (stands means terms1 s1)
+  inside_walk {terms} {terms1} {q} n k j tree n_n inner binder form sort f =
+      let inside = walks_form terms.rows terms1.rows (kind_sort k) q (kind_form k) n_n inner (binder-grows f.extends.rows (form_binder (kind_form k)) binder) f.outcome.2 in
+      rw (tree, form, sort) inside
+
   module _ {unbuilt : Tree Depth → E → Type 0} where
     -- a term without children stays as it is
-    pub descend_leaf : {terms terms1 : Terms} {s s1 : S} {n : Node} {r : Result Node E}
-        → WalksInside H (stands means terms s) (node_tree terms.rows n) (node_tree terms.rows n) (stands means terms s)
-        → Goes owned means
-        (λ now y m m'. IsNodeFor n now y × H.after_term m (node_tree terms.rows n) (node_tree terms.rows n) (node_tree now y) m')
-        (λ m e m'. H.after_fails unbuilt m (node_tree terms.rows n) (node_tree terms.rows n) e m')
-        terms s r terms1 s1
-        → Folds owned means (IsNodeFor n) node_tree (Descends H) (DescentFails H unbuilt) terms s n r terms1 s1
-    descend_leaf {r} w d = record {
-      extends = d.extends;
-      outcome = MatchResult-weaker r d.outcome (λ y h. (h.0, h.1.0, rebuilt w h.1.1)) (λ e h. after_failed w h);
+    pub inside_leaf : {terms : Terms} {s : S} {n : Node} (k : Kind)
+        → owned terms.rows s → IsPartOf terms.rows (node_shape n) → node_tree terms.rows n ≡ tree_in terms.rows (kind_shape k) → IsLeaf k
+        → Folds owned means (IsNodeFor n) node_tree (WalksInside H) (InsideFails H unbuilt) terms s n (Ok n) terms s
+    inside_leaf {terms} k o owns tree leaf = record {
+      extends = Extends-refl terms;
+      outcome = (o, record { owned = owns; like = refl }, rw tree (walks_leaf H _ terms.rows k leaf));
     }
 
-    -- the kind's parts were folded, and the rebuilding follows
-    pub descend_rebuilt : {terms terms1 terms2 : Terms} {s s1 s2 : S} {n : Node} {r : Result Node E} {q : Parts} {other : Tree Depth → E → Type 0} (k j : Kind)
-        → IsPartOf terms.rows (node_shape n) → node_tree terms.rows n ≡ tree_in terms.rows (kind_shape k)
+    pub inside_fails : {terms terms1 : Terms} {s s1 : S} {n : Node} {e : E} (k : Kind)
+        → node_tree terms.rows n ≡ tree_in terms.rows (kind_shape k) → IsInner (kind_form k)
+        → Folds owned means (ArePartsFor (form_parts (kind_form k))) parts_trees
+        (WalksUnder H (binder_in terms.rows (form_binder (kind_form k)))) (FailsUnder H unbuilt (binder_in terms.rows (form_binder (kind_form k))))
+        terms s (form_parts (kind_form k)) (Err e) terms1 s1
+        → Folds owned means (IsNodeFor n) node_tree (WalksInside H) (InsideFails H unbuilt) terms s n (Err e) terms1 s1
+    inside_fails {terms} k tree inner f =
+        record { extends = f.extends; outcome = rw tree (in_failed (fails_form terms.rows (kind_sort k) (kind_form k) inner f.outcome)) }
+
+    -- and the term is not stored
+    pub inside_not_built : {terms terms1 terms2 : Terms} {s s1 : S} {n : Node} {q : Parts} {e : E} {other : Tree Depth → E → Type 0} (k j : Kind)
+        → node_tree terms.rows n ≡ tree_in terms.rows (kind_shape k)
         → HasNoName (kind_form k) → IsInner (kind_form k) → HasBinder terms.rows (form_binder (kind_form k))
         → kind_form j ≡ refilled q (kind_form k) → kind_sort j ≡ kind_sort k
         → Folds owned means (ArePartsFor (form_parts (kind_form k))) parts_trees
         (WalksUnder H (binder_in terms.rows (form_binder (kind_form k)))) (FailsUnder H other (binder_in terms.rows (form_binder (kind_form k))))
         terms s (form_parts (kind_form k)) (Ok q) terms1 s1
+        → terms2 ≡ terms1 → unbuilt (tree_in terms1.rows (kind_shape j)) e
+        → Folds owned means (IsNodeFor n) node_tree (WalksInside H) (InsideFails H unbuilt) terms s n (Err e) terms2 s1
+    inside_not_built {n} k j tree n_n inner binder form sort f same b =
+        rw same (record { extends = f.extends; outcome = in_not_built (inside_walk n k j tree n_n inner binder form sort f) b })
+
+    -- or it is
+    pub inside_rebuilt : {terms terms1 terms2 : Terms} {s s1 : S} {n u : Node} {q : Parts} {other : Tree Depth → E → Type 0} (k j : Kind)
+        → node_tree terms.rows n ≡ tree_in terms.rows (kind_shape k)
+        → HasNoName (kind_form k) → IsInner (kind_form k) → HasBinder terms.rows (form_binder (kind_form k))
+        → kind_form j ≡ refilled q (kind_form k) → kind_sort j ≡ kind_sort k
+        → Folds owned means (ArePartsFor (form_parts (kind_form k))) parts_trees
+        (WalksUnder H (binder_in terms.rows (form_binder (kind_form k)))) (FailsUnder H other (binder_in terms.rows (form_binder (kind_form k))))
+        terms s (form_parts (kind_form k)) (Ok q) terms1 s1
+        → Extends terms1 terms2 → owned terms2.rows s1 → stands means terms2 s1 ≡ stands means terms1 s1
+        → IsNodeFor n terms2.rows u → node_tree terms2.rows u ≡ tree_in terms1.rows (kind_shape j)
+        → Folds owned means (IsNodeFor n) node_tree (WalksInside H) (InsideFails H unbuilt) terms s n (Ok u) terms2 s1
+    inside_rebuilt {n} k j tree n_n inner binder form sort f extends o still is new =
+        record { extends = Extends-trans f.extends extends; outcome = (o, is, rw (new, still) (inside_walk n k j tree n_n inner binder form sort f)) }
+
+    -- the hook after a term
+    pub descend_ends : {terms terms1 terms2 : Terms} {s s1 s2 : S} {n u : Node} {r : Result Node E} {other : Tree Depth → E → Type 0}
+        → IsPartOf terms.rows (node_shape n)
+        → Folds owned means (IsNodeFor n) node_tree (WalksInside H) (InsideFails H other) terms s n (Ok u) terms1 s1
         → Goes owned means
-        (λ now y m m'. IsNodeFor n now y × H.after_term m (node_tree terms1.rows n) (tree_in terms1.rows (kind_shape j)) (node_tree now y) m')
-        (λ m e m'. (unbuilt (tree_in terms1.rows (kind_shape j)) e × (m' ≡ m)) ⊎ H.after_fails unbuilt m (node_tree terms1.rows n) (tree_in terms1.rows (kind_shape j)) e m')
+        (λ now y m m'. IsNodeFor n now y × H.after_term m (node_tree terms1.rows n) (node_tree terms1.rows u) (node_tree now y) m')
+        (λ m e m'. H.after_fails unbuilt m (node_tree terms1.rows n) (node_tree terms1.rows u) e m')
         terms1 s1 r terms2 s2
         → Folds owned means (IsNodeFor n) node_tree (Descends H) (DescentFails H unbuilt) terms s n r terms2 s2
-    descend_rebuilt {terms} {terms1} {s} {s1} {n} {r} {q} k j owns tree n_n inner binder form sort f d =
-        let inside = walks_form terms.rows terms1.rows (kind_sort k) q (kind_form k) n_n inner (binder-grows f.extends.rows (form_binder (kind_form k)) binder) f.outcome.2 in
-        let whole : WalksInside H (stands means terms s) (node_tree terms.rows n) (tree_in terms1.rows (kind_shape j)) (stands means terms1 s1) = rw (tree, form, sort) inside in
+    descend_ends {n} {r} owns f d =
         let o = rw (tree-grows f.extends.rows (node_shape n) owns) at d.outcome in
         record {
           extends = Extends-trans f.extends d.extends;
-          outcome = MatchResult-weaker r o
-              (λ y h. (h.0, h.1.0, rebuilt whole h.1.1))
-              (λ e h. elim h [ inl a ↦ rw a.1 (not_built whole a.0) | inr a ↦ after_failed whole a ]);
+          outcome = MatchResult-weaker r o (λ y h. (h.0, h.1.0, rebuilt f.outcome.2 h.1.1)) (λ e h. after_failed f.outcome.2 h);
         }
 
-    pub descend_fails : {terms terms1 : Terms} {s s1 : S} {n : Node} {e : E} (k : Kind)
-        → node_tree terms.rows n ≡ tree_in terms.rows (kind_shape k) → IsInner (kind_form k)
-        → Folds owned means (ArePartsFor (form_parts (kind_form k))) parts_trees
-        (WalksUnder H (binder_in terms.rows (form_binder (kind_form k)))) (FailsUnder H unbuilt (binder_in terms.rows (form_binder (kind_form k))))
-        terms s (form_parts (kind_form k)) (Err e) terms1 s1
+    pub descend_fails : {terms terms1 : Terms} {s s1 : S} {n : Node} {e : E}
+        → Folds owned means (IsNodeFor n) node_tree (WalksInside H) (InsideFails H unbuilt) terms s n (Err e) terms1 s1
         → Folds owned means (IsNodeFor n) node_tree (Descends H) (DescentFails H unbuilt) terms s n (Err e) terms1 s1
-    descend_fails {terms} k tree inner f =
-        record { extends = f.extends; outcome = rw tree (inside_failed (fails_form terms.rows (kind_sort k) (kind_form k) inner f.outcome)) }
+    descend_fails f = record { extends = f.extends; outcome = inside_descent f.outcome }
 
     -- a hook answered `descend`, and the descent follows
     pub node_descends : {terms terms1 terms2 : Terms} {s s1 s2 : S} {n : Node} {r : Result Node E}

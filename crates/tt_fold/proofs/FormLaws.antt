@@ -1,8 +1,7 @@
 -- Kinds by their forms.
-use Rattle.std.proofs.Common.{true, false, All, [], ◌∷◌, zero, slice_get, ◌≡◌, ℕ, suc, ◌<◌, ◌≤◌, List, max, Option, Some, None, refl, ap, sym, ◌∙◌, arith}
+use Rattle.std.proofs.Common.{true, false, All, [], ◌∷◌, zero, slice_get, ◌≡◌, ℕ, suc, ◌≤◌, List, Some, None, refl, ap, arith}
 use Rattle.std.proofs.lemmas.Option.{slice_get_within, same_Some, none-some, get_or_from_slice_get}
-use Rattle.tt_kinds.specs.Label.{Name, Sort, type_sort, TypeLabel, Label, type_label, record_label}
-use Rattle.tt_kinds.specs.Tree as tree
+use Rattle.tt_kinds.specs.Label.{Name, Sort, type_sort, TypeLabel, Label, type_label}
 use Rattle.tt_kinds.specs.Shape as shape
 use Rattle.tt_kinds.specs.Shape.{Shape, Shapes, Meaning, Sizes, IsPart, AreParts, HasParts, IsTooDeep, fill, fill_all, rename_label, IsNamedLabel, append}
 use Rattle.tt_kinds.specs.Kinds.{Form, param, bound, plain, under, form_parts, form_binder, refilled, relabelled, form_shape, kind_form, kind_sort, kind_shape, kind_table, ty_form, child_shapes, parts_shapes, children_shapes}
@@ -11,10 +10,8 @@ use Rattle.tt_kinds.specs.declared.parts.Child.TheVariants as child
 use Rattle.tt_kinds.specs.declared.parts.Kind.{Kind}
 use Rattle.tt_kinds.specs.declared.parts.Kind.TheVariants as kind
 use Rattle.tt_kinds.specs.declared.parts.Parts.{Parts}
-use Rattle.tt_kinds.specs.declared.table.Table.TheVariants.{VarLists}
-use Rattle.tt_interner.specs.Rows.{Row, size, meaning, IsOlder, AreOlder}
+use Rattle.tt_interner.specs.Rows.{Row, size, IsOlder, AreOlder}
 use Rattle.tt_fold.specs.Walk.{IsTerm}
-use Rattle.tt_fold.specs.Steps.{tree_in, IsPartOf}
 use Rattle.tt_fold.proofs.PartLaws.{left_parts, right_parts}
 use Rattle.tt_fold.specs.Parts.{IsLeaf, ArePartsOf, HasBinder, child_weight, parts_weight}
 

@@ -1,23 +1,16 @@
 -- More rows change nothing that a handle means.
 use Rattle.std.proofs.Common.{◌≡◌, ℕ, ◌<◌, ◌≤◌, List, [], ◌∷◌, ◌++◌, slice_get, unwrap_or, refl, ap, sym, ◌∙◌}
 use Rattle.std.proofs.lemmas.Option.{unwrap_or-slice_get}
-use Rattle.tt_kinds.specs.Shape.{Shape, Shapes, IsPart, AreParts, fill, fill_all, vars_of}
-use Rattle.tt_kinds.specs.Parts.{node_table, node_number, list_table, list_number}
-use Rattle.tt_kinds.specs.Kinds.{node_shape, list_shape, child_shapes}
+use Rattle.tt_kinds.specs.Shape.{Shape, Shapes}
+use Rattle.tt_kinds.specs.Parts.{list_table, list_number}
 use Rattle.tt_kinds.specs.declared.table.Table.{Table}
-use Rattle.tt_kinds.specs.declared.table.Table.TheVariants.{VarLists}
-use Rattle.tt_kinds.specs.declared.handle.BoundVarKinds.{BoundVarKinds}
-use Rattle.tt_kinds.specs.declared.parts.Child.{Child}
-use Rattle.tt_kinds.specs.declared.parts.Child.TheVariants as child
-use Rattle.tt_kinds.specs.declared.parts.Parts.{Parts}
 use Rattle.tt_kinds.specs.declared.parts.List.{List as StoredList}
 use Rattle.tt_interner.specs.Rows.{Row, text_row, table, size, meaning, age, Grows}
-use Rattle.tt_interner.specs.Stored.{Terms, Extends}
 use Rattle.tt_interner.specs.Children.{children_at, children_of}
 use Rattle.tt_interner.proofs.RowLaws.{row-old, keeps}
 use Rattle.tt_interner.proofs.Growth as growth
-use Rattle.tt_fold.specs.Steps.{IsPartOf, tree_in, HasVars, vars_in}
-use Rattle.tt_fold.specs.Parts.{ArePartsOf, trees_in, HasBinder, binder_in, child_weight, parts_weight}
+use Rattle.tt_fold.specs.Steps.{IsPartOf, tree_in}
+use Rattle.tt_fold.specs.Parts.{ArePartsOf, trees_in}
 
 module _ {old new : List Row} (g : Grows old new) where
   pub size-grows : (t : Table) → size old t ≤ size new t

@@ -1,7 +1,8 @@
-mod Growth
-mod PartLaws
+pub mod Growth
+pub mod PartLaws
 mod FormLaws
 mod WalkLaws
 mod FoldSteps
 mod ValueSteps
-mod ShiftLaws
+pub mod ShiftLaws
+pub mod CounterLaws

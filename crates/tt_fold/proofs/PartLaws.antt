@@ -1,10 +1,10 @@
 -- Shapes of handles, of children and of parts.
-use Rattle.std.proofs.Common.{◌≡◌, ℕ, suc, ◌<◌, ◌≤◌, List, [], ◌∷◌, ◌++◌, max, Option, Some, None, refl, ap, sym, ◌∙◌, arith}
+use Rattle.std.proofs.Common.{◌≡◌, ℕ, suc, ◌<◌, List, [], ◌∷◌, ◌++◌, Option, Some, None, refl, ap, sym, ◌∙◌, arith}
 use Rattle.tt_kinds.specs.Tree as tree
 use Rattle.tt_kinds.specs.Tree.{Depth, Forest}
-use Rattle.tt_kinds.specs.Shape.{Shape, Shapes, stored, none, also, append, Meaning, Sizes, IsPart, AreParts, fill, fill_all}
+use Rattle.tt_kinds.specs.Shape.{Shape, Shapes, stored, none, also, append, IsPart, AreParts, fill, fill_all}
 use Rattle.tt_kinds.specs.Parts.{node_table, node_number, list_table, list_number}
-use Rattle.tt_kinds.specs.Kinds.{node_shape, list_shape, region_shape, child_shapes, parts_shapes, children_shapes}
+use Rattle.tt_kinds.specs.Kinds.{node_shape, list_shape, child_shapes, parts_shapes, children_shapes}
 use Rattle.tt_kinds.specs.declared.table.Table.{Table}
 use Rattle.tt_kinds.specs.declared.table.Table.TheVariants.{VarLists}
 use Rattle.tt_kinds.specs.declared.handle.BoundVarKinds.{BoundVarKinds}
@@ -12,7 +12,7 @@ use Rattle.tt_kinds.specs.declared.parts.Child.{Child}
 use Rattle.tt_kinds.specs.declared.parts.Child.TheVariants as child
 use Rattle.tt_kinds.specs.declared.parts.Parts.{Parts}
 use Rattle.tt_kinds.specs.Shape.{vars_of}
-use Rattle.tt_interner.specs.Rows.{Row, size, meaning, age, Grows}
+use Rattle.tt_interner.specs.Rows.{Row, size, meaning, Grows}
 use Rattle.tt_fold.specs.Steps.{IsPartOf, tree_in, HasVars, vars_in}
 use Rattle.tt_fold.specs.Parts.{ArePartsOf, trees_in, HasBinder, binder_in, child_weight, parts_weight}
 use Rattle.tt_fold.proofs.Growth.{size-grows, meaning-grows, age-grows}

@@ -1,5 +1,5 @@
 -- The shifter's walk shifts the tree.
-use Rattle.std.proofs.Common.{zero, List, Result, Ok, Err, IfOk, IfErr, MatchResult, Option, Some, None, ◌≡◌, ℕ, suc, ◌+◌, ◌-◌, ◌<◌, ◌≤◌, ◌⊎◌, inl, inr, true, false, ltb, refl, ap, sym, ◌∙◌, arith}
+use Rattle.std.proofs.Common.{zero, List, Result, Ok, Err, IfOk, IfErr, MatchResult, Some, None, ◌≡◌, ℕ, suc, ◌+◌, ◌-◌, ◌<◌, ◌≤◌, ◌⊎◌, inl, inr, true, false, ltb, refl, ap, sym, ◌∙◌, arith}
 use Rattle.std.proofs.lemmas.Bool.{cases_Bool, cases_lt, ltb-false, le-ltb, lt-ltb}
 use Rattle.std.specs.Prelude.{⊤}
 use Rattle.std.proofs.lemmas.Option.{same_Some}
@@ -7,7 +7,7 @@ use Rattle.tt_index.specs.Greatest.{greatest}
 use Rattle.tt_index.specs.declared.refusal.Refusal.{Refusal}
 use Rattle.tt_index.specs.declared.refusal.Refusal.TheVariants.{Memory, TableFull, GreatestIndex}
 use Rattle.tt_kinds.specs.Label.{static_region, TypeLabel, type_label, type_sort}
-use Rattle.tt_kinds.specs.Tree.{Depth, at, canonical, Tree, param, bound, region, term, node, binder, Forest, none, also}
+use Rattle.tt_kinds.specs.Tree.{Depth, at, canonical, Tree, param, bound, region, term, node, binder, Forest}
 use Rattle.tt_kinds.specs.Reading.{place, reach, read, read_all, move, outer_binder, Fits, FitsAt, FitsUnder, FitsUnder_all}
 use Rattle.tt_kinds.specs.Plain.{shifted, shift_tree, shift_forest}
 use Rattle.tt_kinds.proofs.OuterLaws.{shift_tree-low, shift_tree-zero}
@@ -32,10 +32,10 @@ use Rattle.tt_kinds.specs.declared.table.Table.TheVariants.{Types}
 use Rattle.tt_interner.specs.Rows.{Row, type_row, size, meaning}
 use Rattle.tt_interner.specs.Stored.{Terms, Counters, counted, Builds, IsCause, IsUnbuilt}
 use Rattle.tt_fold.proofs.PartLaws.{is_part, stored_tree}
-use Rattle.tt_fold.specs.Walk.{IsRegion, IsTerm, replace, keep, descend, Walks, Descends, WalksInside, WalksAll, at_region, replaced, kept, descended, rebuilt, at_node, at_binder, in_term, in_param, in_bound, done, next, Fails, DescentFails, FailsInside, FailsAll, region_failed, term_failed, descent_failed, enter_failed, under_failed, leave_failed, node_failed, node_not_built, inside_failed, not_built, after_failed, in_term_failed, stopped, here, later}
+use Rattle.tt_fold.specs.Walk.{replace, keep, descend, Walks, Descends, WalksInside, WalksAll, at_region, replaced, kept, descended, rebuilt, at_node, at_binder, in_term, in_param, in_bound, done, next, Fails, DescentFails, FailsInside, FailsAll, region_failed, term_failed, descent_failed, enter_failed, under_failed, leave_failed, node_failed, node_not_built, inside_failed, not_built, after_failed, in_term_failed, stopped, here, later}
 use Rattle.tt_fold.specs.Counts.{Standing}
 use Rattle.tt_fold.specs.Steps.{Folds, IsPartOf, tree_in, IsPartBy, tree_by, IsRefused}
-use Rattle.tt_fold.specs.Shift.{Shift, moved_tree, IsTooFar, answer_inside, shift_answer, count_answer, shift_hooks, count_shift, IsTooGreat, IsPast, IsOuter, bound_in, bound_variable_in, moved_index, moved_region, IsShiftedRegion, IsShiftRefusal}
+use Rattle.tt_fold.specs.Shift.{Shift, moved_tree, IsTooFar, answer_inside, shift_answer, shift_hooks, count_shift, IsTooGreat, IsPast, IsOuter, bound_in, bound_variable_in, moved_index, moved_region, IsShiftedRegion, IsShiftRefusal}
 
 -- the walk leaves the state and the other count, and shifts the tree
 record Shifts (s : Standing Shift) (t r : Tree Depth) (s' : Standing Shift) : Type 0 where

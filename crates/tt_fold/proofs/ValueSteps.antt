@@ -1,11 +1,13 @@
 -- The folds of values that are not stored, from those of what stands in them.
-use Rattle.std.proofs.Common.{◌≡◌, ℕ, ◌<◌, List, Result, Ok, Err, MatchResult, refl, arith}
+use Rattle.std.proofs.Common.{◌≡◌, List, Result, Ok, Err, MatchResult, refl}
 use Rattle.std.proofs.lemmas.Result.{MatchResult-weaker}
 use Rattle.tt_kinds.specs.Tree.{Depth, Tree}
 use Rattle.tt_kinds.specs.Shape.{Shape, IsPart, fill}
-use Rattle.tt_kinds.specs.Kinds.{tys_shape, region_shape, fn_sig_tys_shape, binder_shape}
+use Rattle.tt_kinds.specs.Kinds.{ty_shape, tys_shape, region_shape, fn_sig_tys_shape, binder_shape}
+use Rattle.tt_kinds.specs.declared.handle.Ty.{Ty}
 use Rattle.tt_kinds.specs.declared.handle.Tys.{Tys}
-use Rattle.tt_kinds.specs.declared.handle.BoundVarKinds.{BoundVarKinds}
+use Rattle.tt_kinds.specs.declared.parts.Node.{Node}
+use Rattle.tt_kinds.specs.declared.parts.Node.TheVariants as node_is
 use Rattle.tt_kinds.specs.declared.binder.Binder.{Binder}
 use Rattle.tt_kinds.specs.declared.fn_sig.FnSigTys.{FnSigTys}
 use Rattle.tt_kinds.specs.declared.region_kind.RegionKind.{RegionKind}
@@ -13,9 +15,10 @@ use Rattle.tt_interner.specs.Rows.{Row}
 use Rattle.tt_interner.specs.Stored.{Terms, Extends}
 use Rattle.tt_interner.proofs.Growth.{Extends-trans}
 use Rattle.tt_visit.specs.Steps.{pair_shape}
-use Rattle.tt_fold.specs.Walk.{Hooks, Walks, at_region, at_node, at_binder, done, next, Fails, region_failed, node_failed, enter_failed, under_failed, leave_failed, here, later}
+use Rattle.tt_fold.specs.Walk.{Hooks, Walks, at_region, at_node, at_binder, done, next, Fails, region_failed, node_failed, enter_failed, under_failed, leave_failed, here, later, WalksInside, InsideFails, SuperWalks, super_term, super_binder, SuperFails, super_term_failed, super_binder_failed}
 use Rattle.tt_fold.specs.Counts.{Standing, stands}
 use Rattle.tt_fold.specs.Steps.{Folds, IsPartOf, tree_in, IsPartBy, tree_by, HasVars, vars_in}
+use Rattle.tt_fold.specs.Parts.{node_tree, IsNodeFor}
 use Rattle.tt_fold.proofs.Growth.{part-grows, tree-grows}
 use Rattle.tt_fold.proofs.PartLaws.{vars-kept, vars-grow}
 use Rattle.tt_fold.proofs.FoldSteps.{region-is}
@@ -134,6 +137,42 @@ module _ {M E S : Type 0} {owned : List Row → S → Type 0} {means : List Row 
               rw (same, same_vars) (at_binder enter o.2 l),
             );
           }
+
+      -- without the binder's own hooks
+      pub super_binder_fails : {terms terms1 : Terms} {s s1 : S} {x : Binder T} {e : E}
+          → Folds owned means (IsPartBy of_value) (tree_by of_value) (Walks H) (Fails H unbuilt) terms s x.value (Err e) terms1 s1
+          → Folds owned means (IsPartBy (binder_shape of_value)) (tree_by (binder_shape of_value)) (SuperWalks H) (SuperFails H unbuilt) terms s x (Err e) terms1 s1
+      unfolding fill
+      super_binder_fails d = record { extends = d.extends; outcome = super_binder_failed d.outcome }
+
+      pub super_binder_folds : {terms terms1 : Terms} {s s1 : S} {x : Binder T} {y : T}
+          → HasVars terms.rows x.bound_vars
+          → Folds owned means (IsPartBy of_value) (tree_by of_value) (Walks H) (Fails H unbuilt) terms s x.value (Ok y) terms1 s1
+          → Folds owned means (IsPartBy (binder_shape of_value)) (tree_by (binder_shape of_value)) (SuperWalks H) (SuperFails H unbuilt) terms s x (Ok (record { value = y; bound_vars = x.bound_vars })) terms1 s1
+      unfolding fill
+      super_binder_folds {terms1} {x} {y} has d =
+          let o = d.outcome in
+          record {
+            extends = d.extends;
+            outcome = (
+              o.0,
+              binder-part of_value terms1.rows (record { value = y; bound_vars = x.bound_vars }) (vars-kept d.extends.rows x.bound_vars has) o.1,
+              rw (vars-grow d.extends.rows x.bound_vars has) (super_binder o.2),
+            );
+          }
+
+    -- a type without its own hook
+    pub super_ty_fails : {terms terms1 : Terms} {s s1 : S} {t : Ty} {e : E}
+        → Folds owned means (IsNodeFor (node_is.Ty t)) node_tree (WalksInside H) (InsideFails H unbuilt) terms s (node_is.Ty t) (Err e) terms1 s1
+        → Folds owned means (IsPartBy ty_shape) (tree_by ty_shape) (SuperWalks H) (SuperFails H unbuilt) terms s t (Err e) terms1 s1
+    super_ty_fails d = record { extends = d.extends; outcome = super_term_failed d.outcome }
+
+    pub super_ty_folds : {terms terms1 : Terms} {s s1 : S} {t u : Ty} {n : Node} → n ≡ node_is.Ty u
+        → Folds owned means (IsNodeFor (node_is.Ty t)) node_tree (WalksInside H) (InsideFails H unbuilt) terms s (node_is.Ty t) (Ok n) terms1 s1
+        → Folds owned means (IsPartBy ty_shape) (tree_by ty_shape) (SuperWalks H) (SuperFails H unbuilt) terms s t (Ok u) terms1 s1
+    super_ty_folds same d =
+        let o = rw same at d.outcome in
+        record { extends = d.extends; outcome = (o.0, o.1.owned, super_term o.2) }
 
     -- pairs
     module _ {A B : Type 0} (a : A → Shape) (b : B → Shape) where

@@ -1,16 +1,16 @@
 -- The walks of two parts of a list make that of the whole, and the parts' walk that of the term that they make.
-use Rattle.std.proofs.Common.{◌≡◌, ℕ, List, Option, Some, None, refl, ap, sym, ◌∙◌}
+use Rattle.std.proofs.Common.{◌≡◌, ℕ, List, Some, None}
 use Rattle.std.proofs.lemmas.Option.{same_Some}
-use Rattle.tt_kinds.specs.Label.{Name, Sort, VarKind, Label, record_label}
+use Rattle.tt_kinds.specs.Label.{Sort, Label}
 use Rattle.tt_kinds.specs.Tree as tree
 use Rattle.tt_kinds.specs.Tree.{Depth, Tree, Forest}
-use Rattle.tt_kinds.specs.Shape.{name_of, fill, fill_all}
+use Rattle.tt_kinds.specs.Shape.{name_of, fill}
 use Rattle.tt_kinds.specs.Kinds.{Form, param, bound, plain, under, form_parts, form_binder, refilled, form_shape, parts_shapes, kind_form, kind_sort, kind_shape}
 use Rattle.tt_kinds.specs.declared.parts.Child.TheVariants as child
 use Rattle.tt_kinds.specs.declared.parts.Kind.{Kind}
 use Rattle.tt_kinds.specs.declared.parts.Parts.{Parts}
 use Rattle.tt_interner.specs.Rows.{Row, meaning}
-use Rattle.tt_fold.specs.Walk.{Hooks, Walks, WalksAll, done, next, Fails, FailsAll, here, later, stopped, WalksUnder, in_open, in_binder, FailsUnder, in_open_failed, in_enter_failed, in_under_failed, in_leave_failed, WalksInside, in_term, in_param, in_bound, FailsInside, in_term_failed, at_binder, at_node, enter_failed, under_failed, leave_failed, node_failed}
+use Rattle.tt_fold.specs.Walk.{Hooks, Walks, WalksAll, done, next, FailsAll, here, later, stopped, WalksUnder, in_open, in_binder, FailsUnder, in_open_failed, in_enter_failed, in_under_failed, in_leave_failed, WalksInside, in_term, in_param, in_bound, FailsInside, in_term_failed, at_binder, at_node, enter_failed, under_failed, leave_failed, node_failed}
 use Rattle.tt_fold.specs.Steps.{tree_in, vars_in}
 use Rattle.tt_fold.specs.Parts.{trees_in, binder_in, IsLeaf}
 use Rattle.tt_fold.proofs.PartLaws.{joined}

@@ -1,5 +1,5 @@
 -- What the calls of a fold promise.
-use Rattle.std.specs.Prelude.{◌≡◌, ℕ, ◌<◌, ◌≤◌, List, Result, MatchResult, ⊤}
+use Rattle.std.specs.Prelude.{◌≡◌, ◌<◌, List, Result, MatchResult, ⊤}
 use Rattle.tt_index.specs.declared.refusal.Refusal.{Refusal}
 use Rattle.tt_kinds.specs.Label.{Name, VarKind}
 use Rattle.tt_kinds.specs.Tree.{Depth, Tree}
@@ -7,7 +7,7 @@ use Rattle.tt_kinds.specs.Shape.{Shape, IsPart, fill, vars_of}
 use Rattle.tt_kinds.specs.Kinds.{ty_shape}
 use Rattle.tt_kinds.specs.declared.handle.BoundVarKinds.{BoundVarKinds}
 use Rattle.tt_kinds.specs.declared.table.Table.TheVariants.{VarLists}
-use Rattle.tt_interner.specs.Rows.{Row, row_table, row_shape, size, meaning, IsNew}
+use Rattle.tt_interner.specs.Rows.{Row, size, meaning}
 use Rattle.tt_interner.specs.Stored.{Terms, Extends, IsUnbuilt}
 use Rattle.tt_fold.specs.Walk.{Answer, replace, keep, descend}
 use Rattle.tt_fold.specs.Counts.{Standing, stands}

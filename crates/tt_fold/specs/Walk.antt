@@ -139,3 +139,21 @@ module _ {M E : Type 0} (H : Hooks M E) (unbuilt : Tree Depth → E → Type 0) 
         → H.enter s vs s1 → FailsAll H unbuilt s1 ts e s_end → FailsUnder (Some vs) s ts e s_end
     in_leave_failed : {s s1 s2 s_end : M} {vs : List (VarKind Name)} {ts us : Forest Depth} {e : E}
         → H.enter s vs s1 → WalksAll H s1 ts us s2 → H.leave_fails unbuilt s2 vs e s_end → FailsUnder (Some vs) s ts e s_end
+
+-- what stands in a term was not folded, or the term was not built again from it
+module _ {M E : Type 0} (H : Hooks M E) (unbuilt : Tree Depth → E → Type 0) where
+  pub data InsideFails : M → Tree Depth → E → M → Type 0 where
+    in_failed : {s s_end : M} {t : Tree Depth} {e : E} → FailsInside H unbuilt s t e s_end → InsideFails s t e s_end
+    in_not_built : {s s1 : M} {t u : Tree Depth} {e : E} → WalksInside H s t u s1 → unbuilt u e → InsideFails s t e s1
+
+-- the walk of a term, or of a value under a binder, without its own hooks
+module _ {M E : Type 0} (H : Hooks M E) where
+  pub data SuperWalks : M → Tree Depth → Tree Depth → M → Type 0 where
+    super_term : {s s' : M} {t u : Tree Depth} → WalksInside H s t u s' → SuperWalks s t u s'
+    super_binder : {s s' : M} {vs : List (VarKind Name)} {t u : Tree Depth} → Walks H s t u s' → SuperWalks s (binder vs t) (binder vs u) s'
+
+-- the same where it ends with an error
+module _ {M E : Type 0} (H : Hooks M E) (unbuilt : Tree Depth → E → Type 0) where
+  pub data SuperFails : M → Tree Depth → E → M → Type 0 where
+    super_term_failed : {s s_end : M} {t : Tree Depth} {e : E} → InsideFails H unbuilt s t e s_end → SuperFails s t e s_end
+    super_binder_failed : {s s_end : M} {vs : List (VarKind Name)} {t : Tree Depth} {e : E} → Fails H unbuilt s t e s_end → SuperFails s (binder vs t) e s_end

@@ -29,7 +29,7 @@ pub trait Core<M> {
     // What the hooks do.
     ghost hooks: { Hooks (Standing Self.Meaning) Self.Error };
 
-    // At a region.
+    /// At a region.
     fn core_region(&mut self, cx: &mut Interner, region: Region) -> Result<Region, Self::Error>
         requires owned { owned cx.old.rows self.old }
         requires region { IsPartOf cx.old.rows (region_shape region) }
@@ -39,7 +39,7 @@ pub trait Core<M> {
             (λ r. owned cx.new.rows self.new × IsPartOf cx.new.rows (region_shape r) × hooks.on_region (stands meaning cx.old self.old) (tree_in cx.old.rows (region_shape region)) (tree_in cx.new.rows (region_shape r)) (stands meaning cx.new self.new))
             (λ e. hooks.region_fails (IsErrorOfUnbuilt Self.Error.from_gives cx.new) (stands meaning cx.old self.old) (tree_in cx.old.rows (region_shape region)) e (stands meaning cx.new self.new)) };
 
-    // At a type, before what stands in it.
+    /// At a type, before what stands in it.
     fn core_ty(&mut self, cx: &mut Interner, ty: Ty) -> Result<Step, Self::Error>
         requires owned { owned cx.old.rows self.old }
         requires ty { IsPartOf cx.old.rows (ty_shape ty) }
@@ -49,7 +49,7 @@ pub trait Core<M> {
             (λ step. owned cx.new.rows self.new × OwnsStep cx.new.rows step × hooks.on_term (stands meaning cx.old self.old) (tree_in cx.old.rows (ty_shape ty)) (answer_of cx.new.rows step) (stands meaning cx.new self.new))
             (λ e. hooks.term_fails (IsErrorOfUnbuilt Self.Error.from_gives cx.new) (stands meaning cx.old self.old) (tree_in cx.old.rows (ty_shape ty)) e (stands meaning cx.new self.new)) };
 
-    // At a type, after what stands in it.
+    /// At a type, after what stands in it.
     fn core_after_ty(
         &mut self,
         cx: &mut Interner,
@@ -65,7 +65,7 @@ pub trait Core<M> {
             (λ r. owned cx.new.rows self.new × IsPartOf cx.new.rows (ty_shape r) × hooks.after_term (stands meaning cx.old self.old) (tree_in cx.old.rows (ty_shape before)) (tree_in cx.old.rows (ty_shape rebuilt)) (tree_in cx.new.rows (ty_shape r)) (stands meaning cx.new self.new))
             (λ e. hooks.after_fails (IsErrorOfUnbuilt Self.Error.from_gives cx.new) (stands meaning cx.old self.old) (tree_in cx.old.rows (ty_shape before)) (tree_in cx.old.rows (ty_shape rebuilt)) e (stands meaning cx.new self.new)) };
 
-    // Before a binder's value.
+    /// Before a binder's value.
     fn core_enter(&mut self, cx: &mut Interner, vars: BoundVarKinds) -> Result<(), Self::Error>
         requires owned { owned cx.old.rows self.old }
         requires vars { HasVars cx.old.rows vars }
@@ -75,7 +75,7 @@ pub trait Core<M> {
             (λ _. owned cx.new.rows self.new × hooks.enter (stands meaning cx.old self.old) (vars_in cx.old.rows vars) (stands meaning cx.new self.new))
             (λ e. hooks.enter_fails (IsErrorOfUnbuilt Self.Error.from_gives cx.new) (stands meaning cx.old self.old) (vars_in cx.old.rows vars) e (stands meaning cx.new self.new)) };
 
-    // After a binder's value.
+    /// After a binder's value.
     fn core_leave(&mut self, cx: &mut Interner, vars: BoundVarKinds) -> Result<(), Self::Error>
         requires owned { owned cx.old.rows self.old }
         requires vars { HasVars cx.old.rows vars }

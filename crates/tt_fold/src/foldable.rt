@@ -3,12 +3,12 @@
 ghost use Rattle.std.specs.Prelude.{◌≡◌};
 ghost use Rattle.tt_kinds.specs.Parts.{list_sort};
 ghost use Rattle.tt_kinds.specs.declared.parts.List.TheVariants as stored_list;
-ghost use Rattle.tt_fold.specs.Walk.{Fails, Walks};
+ghost use Rattle.tt_fold.specs.Walk.{Fails, SuperFails, SuperWalks, Walks};
 ghost use Rattle.tt_fold.specs.Steps.{Folds, IsErrorOfUnbuilt, IsPartBy, IsRefused, tree_by};
 
 use crate::core_folder::{Core, Fallible, Plain};
 use crate::folder::{FallibleTypeFolder, TypeFolder};
-use crate::walk::{fold_list, fold_node};
+use crate::walk::{fold_inside, fold_list, fold_node};
 use tt_index::Refusal;
 use tt_interner::Interner;
 use tt_kinds::{
@@ -58,6 +58,53 @@ pub trait TypeFoldable: TypeVisitable + Drop + Sized {
             cx.old folder.old self result cx.new folder.new }
     {
         self.fold_core::<Fallible, F>(cx, folder)
+    }
+}
+
+/// A value at which a folder's own hooks are asked, and that can be folded without them.
+pub trait TypeSuperFoldable: TypeFoldable {
+    /// The fold of what stands in the value by a folder of either trait. Types implement it; callers call
+    /// [`TypeSuperFoldable::super_fold_with`] or [`TypeSuperFoldable::try_super_fold_with`].
+    fn super_fold_core<M, F: Core<M>>(
+        self,
+        cx: &mut Interner,
+        folder: &mut F,
+    ) -> Result<Self, F::Error>
+        requires state { F.owned cx.old.rows folder.old }
+        requires value { IsPartBy Self.shape cx.old.rows self }
+        ensures { Folds F.owned F.meaning (IsPartBy Self.shape) (tree_by Self.shape)
+            (SuperWalks F.hooks) (SuperFails F.hooks (IsErrorOfUnbuilt F.Error.from_gives cx.new))
+            cx.old folder.old self result cx.new folder.new };
+
+    /// The value with what stands in it folded, where the hooks at the value itself are not asked: those of a type, or those
+    /// before and after a binder's value.
+    final fn super_fold_with<F: TypeFolder>(
+        self,
+        cx: &mut Interner,
+        folder: &mut F,
+    ) -> Result<Self, Refusal>
+        requires state { F.owned cx.old.rows folder.old }
+        requires value { IsPartBy Self.shape cx.old.rows self }
+        ensures { Folds F.owned F.meaning (IsPartBy Self.shape) (tree_by Self.shape)
+            (SuperWalks F.hooks) (SuperFails F.hooks (IsRefused cx.new))
+            cx.old folder.old self result cx.new folder.new }
+    {
+        self.super_fold_core::<Plain, F>(cx, folder)
+    }
+
+    /// The same by a folder with errors of its own.
+    final fn try_super_fold_with<F: FallibleTypeFolder>(
+        self,
+        cx: &mut Interner,
+        folder: &mut F,
+    ) -> Result<Self, F::Error>
+        requires state { F.owned cx.old.rows folder.old }
+        requires value { IsPartBy Self.shape cx.old.rows self }
+        ensures { Folds F.owned F.meaning (IsPartBy Self.shape) (tree_by Self.shape)
+            (SuperWalks F.hooks) (SuperFails F.hooks (IsErrorOfUnbuilt F.Error.from_gives cx.new))
+            cx.old folder.old self result cx.new folder.new }
+    {
+        self.super_fold_core::<Fallible, F>(cx, folder)
     }
 }
 
@@ -172,5 +219,27 @@ impl<A: TypeFoldable, B: TypeFoldable> TypeFoldable for (A, B) {
         let new_first = first.fold_core::<M, F>(cx, folder)?;
         let new_second = second.fold_core::<M, F>(cx, folder)?;
         Ok((new_first, new_second))
+    }
+}
+
+impl TypeSuperFoldable for Ty {
+    fn super_fold_core<M, F: Core<M>>(
+        self,
+        cx: &mut Interner,
+        folder: &mut F,
+    ) -> Result<Ty, F::Error> {
+        let node = fold_inside::<M, F>(cx, folder, Node::Ty(self))?;
+        Ok(node.ty())
+    }
+}
+
+impl<T: TypeFoldable + Copy> TypeSuperFoldable for Binder<T> {
+    fn super_fold_core<M, F: Core<M>>(
+        self,
+        cx: &mut Interner,
+        folder: &mut F,
+    ) -> Result<Binder<T>, F::Error> {
+        let value = self.skip_binder().fold_core::<M, F>(cx, folder)?;
+        Ok(Binder::bind_with_vars(value, self.bound_vars()))
     }
 }

@@ -7,6 +7,6 @@ pub mod folder;
 pub mod shift;
 mod walk;
 
-pub use foldable::TypeFoldable;
+pub use foldable::{TypeFoldable, TypeSuperFoldable};
 pub use folder::{FallibleTypeFolder, Step, TypeFolder};
 pub use shift::{shift_region, shift_vars};

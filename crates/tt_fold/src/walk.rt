@@ -2,13 +2,10 @@
 //!
 //! It goes over the parts of kinds, so that it has no line for any kind.
 
-ghost use Rattle.std.specs.Prelude.{◌≡◌, ◌↔◌, ◌⊎◌, ◌++◌, ◌∷◌, [], IfOk, IfErr, IsTrue, Some};
+ghost use Rattle.std.specs.Prelude.{◌≡◌, ◌↔◌, ◌++◌, ◌∷◌, [], IfOk, IfErr, IsTrue, Some};
 ghost use Rattle.tt_index.specs.declared.refusal.Refusal.TheVariants.{Memory};
-ghost use Rattle.tt_kinds.specs.Shape.{HasParts, IsTooDeep, fill};
-ghost use Rattle.tt_kinds.specs.Parts.{node_table};
-ghost use Rattle.tt_kinds.specs.Kinds.{child_shapes, kind_shape, kind_table, list_shape, node_shape, parts_shapes};
-ghost use Rattle.tt_interner.specs.Rows.{size, meaning};
-ghost use Rattle.tt_fold.specs.Walk.{Descends, DescentFails, Fails, FailsAll, FailsUnder, Walks, WalksAll, WalksUnder};
+ghost use Rattle.tt_kinds.specs.Kinds.{child_shapes, list_shape, node_shape, parts_shapes};
+ghost use Rattle.tt_fold.specs.Walk.{Descends, DescentFails, Fails, FailsAll, FailsUnder, InsideFails, Walks, WalksAll, WalksInside, WalksUnder};
 ghost use Rattle.tt_fold.specs.Steps.{Folds, Goes, HasVars, IsPartOf, IsErrorOfUnbuilt, vars_in};
 ghost use Rattle.tt_fold.specs.Parts.{as_node_step, ArePartsFor, ArePartsOf, binder_in, child_trees, HasBinder, IsChildFor, IsLeaf, IsListFor, IsNodeFor, IsStepFor, list_tree, node_answer_of, node_tree, parts_trees};
 
@@ -39,7 +36,8 @@ pub(crate) fn fold_node<M, F: Core<M>>(
         (Walks F.hooks) (Fails F.hooks (IsErrorOfUnbuilt F.Error.from_gives cx.new))
         cx.old folder.old node result cx.new folder.new }
 {
-    let kind = cx.node_kind(node);
+    // only a stored term has a kind, so the hook is asked at one
+    let _kind = cx.node_kind(node);
     let step = ask::<M, F>(cx, folder, node)?;
     match step {
         NodeStep::Replace(new) => Ok(new),
@@ -57,12 +55,30 @@ fn descend<M, F: Core<M>>(cx: &mut Interner, folder: &mut F, node: Node) -> Resu
         (Descends F.hooks) (DescentFails F.hooks (IsErrorOfUnbuilt F.Error.from_gives cx.new))
         cx.old folder.old node result cx.new folder.new }
 {
+    let rebuilt = fold_inside::<M, F>(cx, folder, node)?;
+    end::<M, F>(cx, folder, node, rebuilt)
+}
+
+// The walk of what stands in a term, and the term with what came of it.
+#[cycle(fold)]
+pub(crate) fn fold_inside<M, F: Core<M>>(
+    cx: &mut Interner,
+    folder: &mut F,
+    node: Node,
+) -> Result<Node, F::Error>
+    requires owned { F.owned cx.old.rows folder.old }
+    requires node { IsPartOf cx.old.rows (node_shape node) }
+    ensures { Folds F.owned F.meaning (IsNodeFor node) node_tree
+        (WalksInside F.hooks) (InsideFails F.hooks (IsErrorOfUnbuilt F.Error.from_gives cx.new))
+        cx.old folder.old node result cx.new folder.new }
+{
     let kind = cx.node_kind(node);
     if is_leaf(&kind) {
-        return end::<M, F>(cx, folder, node, node);
+        return Ok(node);
     }
     let parts = fold_contents::<M, F>(cx, folder, kind.bound_vars(), kind.parts())?;
-    rebuild::<M, F>(cx, folder, node, kind.with_parts(parts))
+    let rebuilt = cx.store(kind.with_parts(parts))?;
+    Ok(rebuilt)
 }
 
 // Whether the kind has neither children nor a binder, so that it need not be built again.
@@ -256,27 +272,4 @@ fn end<M, F: Core<M>>(
             Ok(Node::Ty(new))
         }
     }
-}
-
-// Stores the rebuilt term and asks the hook that comes after it.
-fn rebuild<M, F: Core<M>>(
-    cx: &mut Interner,
-    folder: &mut F,
-    before: Node,
-    kind: Kind,
-) -> Result<Node, F::Error>
-    requires owned { F.owned cx.old.rows folder.old }
-    requires before { IsPartOf cx.old.rows (node_shape before) }
-    requires kind { HasParts (size cx.old.rows) (kind_shape kind) }
-    requires shallow { IsTooDeep (kind_shape kind) → ⊥ }
-    requires like { kind_table kind ≡ node_table before }
-    ensures { Goes F.owned F.meaning
-        (λ rows node s s'. IsNodeFor before rows node
-        × F.hooks.after_term s (node_tree cx.old.rows before) (fill (meaning cx.old.rows) (kind_shape kind)) (node_tree rows node) s')
-        (λ s e s'. (IsErrorOfUnbuilt F.Error.from_gives cx.new (fill (meaning cx.old.rows) (kind_shape kind)) e × (s' ≡ s))
-        ⊎ F.hooks.after_fails (IsErrorOfUnbuilt F.Error.from_gives cx.new) s (node_tree cx.old.rows before) (fill (meaning cx.old.rows) (kind_shape kind)) e s')
-        cx.old folder.old result cx.new folder.new }
-{
-    let rebuilt = cx.store(kind)?;
-    end::<M, F>(cx, folder, before, rebuilt)
 }

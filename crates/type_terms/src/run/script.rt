@@ -34,8 +34,13 @@ fn answer_script<R: Read>(alloc: Global, input: &mut R) -> Result<String, Fault>
     let calls = parse_script(alloc, script.as_slice())?;
     drop(script);
     let answers = run_calls(&mut cx, calls.as_slice()).map_err(|_| Fault::Memory)?;
+    drop(calls);
+    drop(cx);
     Ok(print_answers(alloc, answers.as_slice())?)
 }
+
+// About how many bytes an answer's line has.
+const LINE: usize = 12;
 
 // How many bytes are asked for at once.
 const BLOCK: usize = 65536;
@@ -60,7 +65,9 @@ fn read_script<R: Read>(alloc: Global, input: &mut R) -> Result<Vec<u8>, Fault> 
 
 // The calls of the lines.
 fn parse_script(alloc: Global, script: &[u8]) -> Result<Vec<Call>, AllocError> {
-    let mut calls = Vec::new(alloc);
+    // Room for all calls at once, so that their list isn't moved as it grows.
+    let lines = script.iter().filter(|byte| **byte == b'\n').count();
+    let mut calls = Vec::with_capacity(alloc, lines)?;
     for line in script.split_inclusive(|byte| *byte == b'\n') {
         if let Some(call) = parse_line(alloc, without_end(line))? {
             calls.push(call)?;
@@ -80,7 +87,7 @@ fn without_end(line: &[u8]) -> &[u8] {
 
 // A line for each answer.
 fn print_answers(alloc: Global, answers: &[Answer]) -> Result<String, AllocError> {
-    let mut lines = String::new(alloc);
+    let mut lines = String::with_capacity(alloc, answers.len().saturating_mul(LINE))?;
     for (index, answer) in answers.iter().enumerate() {
         print_answer(&mut lines, index + 1, answer)?;
     }

@@ -1,19 +1,11 @@
 //! Calls of the library.
 
 use crate::{
-    Answer, ArgCall, BoundRegionKind, BoundVariableKind, Call, EarlyBinder, GenericArg,
-    Instantiate, IntTy, Interner, Mutability, ParamTy, Refusal, RegionCall, RegionVid, Ty, TyCall,
-    TyKind, UintTy, run_calls,
+    Answer, ArgCall, Call, GenericArg, GenericArgs, IntTy, Interner, Mutability, Refusal, Region,
+    RegionCall, RegionKind, RegionVid, TyCall, UintTy, run_calls,
 };
 use std::alloc::Global;
-use std::process::Abort;
 use std::test::Fail;
-
-// The type of a kind that stands in the interner.
-fn make_ty(rt: &impl Abort, cx: &mut Interner, kind: TyKind) -> Result<Ty, Refusal> {
-    assert!(rt; cx.owns_kind(&kind));
-    cx.mk_ty(kind)
-}
 
 // A type parameter's call.
 fn param(alloc: Global, index: u32) -> Result<Call, Fail> {
@@ -93,28 +85,29 @@ fn region_variable(rt: HostRuntime) -> Result<(), Fail> {
     Ok(())
 }
 
-// Each call that may be refused for memory succeeds where memory is ample: an interner that refuses whatever is new is
-// wrong.
+// A runner that refuses whatever is new is wrong where memory is ample.
 #[test]
-#[tactic(auto, unfolding(tt_kinds::specs::Shape::IsPart))]
 fn memory_for_each_new_term(rt: HostRuntime) -> Result<(), Fail> {
     let mut cx = Interner::new(rt.alloc())?;
-    let name = cx.symbol("T")?;
-    let parameter = make_ty(&rt, &mut cx, TyKind::Param(ParamTy { index: 0, name }))?;
-    let byte = make_ty(&rt, &mut cx, TyKind::Uint(UintTy::U8))?;
-    assert!(rt; cx.owns_ty(parameter));
-    let tys = cx.mk_tys(&[parameter])?;
-    let single = make_ty(&rt, &mut cx, TyKind::Tuple(tys))?;
-    let _vars = cx.mk_bound_vars(&[BoundVariableKind::Region(BoundRegionKind::Anon)])?;
-    assert!(rt; cx.owns_ty(byte));
-    let args = cx.mk_args(&[GenericArg::from(byte)])?;
-    assert!(rt; cx.owns_ty(single) && cx.owns_args(args));
-    let instance = EarlyBinder::bind(single)
-        .instantiate(&mut cx, args)?
-        .skip_norm_wip();
-    assert!(rt; cx.owns_ty(byte));
-    let tys = cx.mk_tys(&[byte])?;
-    let wanted = make_ty(&rt, &mut cx, TyKind::Tuple(tys))?;
-    assert!(rt; instance == wanted);
+    let calls = vec![in rt.alloc();
+        param(rt.alloc(), 0)?,
+        Call::Ty(TyCall::Slice(1)),
+        Call::Ty(TyCall::Str),
+        Call::Instantiate(2, vec![in rt.alloc(); ArgCall::Type(3)]?),
+    ]?;
+    for answer in run_calls(&mut cx, calls.as_slice())? {
+        assert!(rt; matches!(answer, Answer::Ty(_)));
+    }
+    Ok(())
+}
+
+#[test]
+#[tactic(auto, unfolding(tt_kinds::specs::Shape::IsPart))]
+fn arguments_are_stored(rt: HostRuntime) -> Result<(), Fail> {
+    let mut cx = Interner::new(rt.alloc())?;
+    let arg = GenericArg::from(Region::new(RegionKind::ReStatic)?);
+    assert!(rt; cx.owns_arg(&arg));
+    let args = cx.mk_args(&[arg])?;
+    assert!(rt; args != GenericArgs::default());
     Ok(())
 }

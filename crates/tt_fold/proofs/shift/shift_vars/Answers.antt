@@ -1,5 +1,5 @@
-use Rattle.std.proofs.Common.{refl, sym, ap, ◌∙◌, ◌≡◌, ◌⊎◌, inl, inr}
-use Rattle.tt_kinds.specs.Reading.{read, move, outer_binder}
+use Rattle.std.proofs.Common.{refl, sym, ap, ◌∙◌, ◌≡◌, inl}
+use Rattle.tt_kinds.specs.Reading.{read, outer_binder}
 use Rattle.tt_kinds.specs.Plain.{shift_tree}
 use Rattle.tt_kinds.proofs.ReadingLaws.{read-shift_tree}
 use Rattle.tt_fold.specs.Steps.{tree_by}

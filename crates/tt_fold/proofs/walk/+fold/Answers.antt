@@ -1,16 +1,16 @@
-use Rattle.std.proofs.Common.{◌≡◌, ◌<◌, ◌≤◌, ◌+◌, ◌*◌, refl, ap, ◌∙◌, sym, arith}
+use Rattle.std.proofs.Common.{refl, ap, ◌∙◌, arith}
 use Rattle.std.proofs.lemmas.Result.{err_from_is_err_and}
-use Rattle.tt_kinds.specs.Parts.{node_table, node_number, list_table, list_number, list_sort, child_sort, IsItem}
-use Rattle.tt_kinds.specs.Kinds.{form_binder, form_parts, kind_form, kind_sort, kind_shape, node_shape, list_shape, child_shapes, parts_shapes}
+use Rattle.tt_kinds.specs.Parts.{list_sort, child_sort, IsItem}
+use Rattle.tt_kinds.specs.Shape.{IsTooDeep}
+use Rattle.tt_kinds.specs.Kinds.{kind_form, kind_sort, kind_shape, child_shapes}
 use Rattle.tt_interner.specs.Children.{children_at}
 use Rattle.tt_interner.proofs.Growth.{Extends-refl, Extends-trans}
-use Rattle.tt_fold.specs.Parts.{child_weight, parts_weight}
+use Rattle.tt_fold.specs.Parts.{child_weight}
 use Rattle.tt_fold.specs.Walk.{replaced, kept, term_failed, in_enter_failed}
 use Rattle.tt_fold.proofs.Growth.{age-grows, part-grows, parts-grow, tree-grows, children-grow}
-use Rattle.tt_fold.proofs.PartLaws.{is_part, in_range, stored_tree, only_part, left_parts, right_parts, vars-kept, binder-kept, weight-grows, weights-grow}
+use Rattle.tt_fold.proofs.PartLaws.{in_range, only_part, left_parts, right_parts, vars-kept, binder-kept, weight-grows, weights-grow}
 use Rattle.tt_fold.proofs.FormLaws.{nameless, same-sort, is_inner, not-deep, form-parts, form-binder, form-older, refilled-parts, item-older, item-part, item-fits}
-use Rattle.tt_fold.proofs.WalkLaws.{walks_leaf}
-use Rattle.tt_fold.proofs.FoldSteps.{node_is_kind, node_is_term, stands-still, stored_list, stored_list_tree, list_is_node, memory_unbuilt, descend_leaf, descend_rebuilt, descend_fails, node_descends, open_contents, under_parts_fail, under_leave_fails, under_folds, parts_first_fails, parts_second_fails, parts_fold, child_absent, child_region_fails, child_region, child_node_fails, child_node, child_list_fails, child_list, so_far_none, so_far_more, so_far_item_fails, so_far_stops, so_far_not_stored, so_far_stored}
+use Rattle.tt_fold.proofs.FoldSteps.{node_is_kind, node_is_term, stands-still, stored_list, stored_list_tree, list_is_node, memory_unbuilt, stored_node, stored_node_tree, not_stored, inside_leaf, inside_fails, inside_not_built, inside_rebuilt, descend_ends, descend_fails, node_descends, open_contents, under_parts_fail, under_leave_fails, under_folds, parts_first_fails, parts_second_fails, parts_fold, child_absent, child_region_fails, child_region, child_node_fails, child_node, child_list_fails, child_list, so_far_none, so_far_more, so_far_item_fails, so_far_stops, so_far_not_stored, so_far_stored}
 use Rattle.tt_fold.proofs.walk.+fold.Goals as goal
 
 pub fold_node-node_kind-kind-requires : goal.fold_node-node_kind-kind-requires
@@ -51,53 +51,81 @@ fold_node-returns-in-Descend g t c =
     let h = rw c.in-Descend.is at c.in_ok-step.ensures.outcome in
     node_descends c.in_ok-step.ensures.extends c.requires.node is h.1.1 c.descend.ensures
 
-pub descend-node_kind-kind-requires : goal.descend-node_kind-kind-requires
-descend-node_kind-kind-requires g t c =
+pub descend-fold_inside-requires : goal.descend-fold_inside-requires
+descend-fold_inside-requires g t c κs within =
+    (omega arith, (within.0, (within.1.0, (within.1.1, (c.requires.owned, c.requires.node)))))
+
+pub descend-returns-in_err-rebuilt : goal.descend-returns-in_err-rebuilt
+descend-returns-in_err-rebuilt g t c =
+    let p = err_from_is_err_and c.from_residual.result c.from_residual.ensures.1 in
+    rw (p.1, p.2) (descend_fails c.in_err-rebuilt.ensures)
+
+pub descend-end-requires-clause-before : goal.descend-end-requires-clause-before
+descend-end-requires-clause-before g t c =
+    part-grows c.in_ok-rebuilt.ensures.extends.rows _ c.requires.node
+
+pub descend-returns : goal.descend-returns
+descend-returns g t c =
+    descend_ends c.requires.node c.in_ok-rebuilt.ensures c.end.ensures
+
+pub fold_inside-node_kind-kind-requires : goal.fold_inside-node_kind-kind-requires
+fold_inside-node_kind-kind-requires g t c =
     in_range _ _ _ c.requires.node
 
-pub descend-returns-then-is_leaf : goal.descend-returns-then-is_leaf
-descend-returns-then-is_leaf g t c =
-    let tree = node_is_kind _ _ c.node_kind-kind.result c.node_kind-kind.ensures.means in
-    descend_leaf (rw tree (walks_leaf _ _ _ c.node_kind-kind.result (c.if-is_leaf.ensures.0 refl))) c.end.ensures
+pub fold_inside-returns-then-is_leaf : goal.fold_inside-returns-then-is_leaf
+fold_inside-returns-then-is_leaf g t c =
+    inside_leaf c.node_kind-kind.result c.requires.owned c.requires.node (node_is_kind _ _ c.node_kind-kind.result c.node_kind-kind.ensures.means) (c.if-is_leaf.ensures.0 refl)
 
-pub descend-fold_contents-requires : goal.descend-fold_contents-requires
-descend-fold_contents-requires g t c κs within =
+pub fold_inside-fold_contents-requires : goal.fold_inside-fold_contents-requires
+fold_inside-fold_contents-requires g t c κs within =
     let parts = form-parts _ (kind_sort c.node_kind-kind.result) (kind_form c.node_kind-kind.result) c.node_kind-kind.ensures.parts in
     let binder = form-binder _ (kind_sort c.node_kind-kind.result) (kind_form c.node_kind-kind.result) c.node_kind-kind.ensures.parts in
     let older = form-older _ _ (kind_sort c.node_kind-kind.result) (kind_form c.node_kind-kind.result) c.node_kind-kind.ensures.older in
     let low = rw (← c.parts.ensures) at older in
     (omega (arith, low), (within.0, (within.1.0, (within.1.1, (c.requires.owned, (rw c.bound_vars.ensures binder, rw c.parts.ensures parts))))))
 
-pub descend-returns-in_err-parts : goal.descend-returns-in_err-parts
-descend-returns-in_err-parts g t c =
+pub fold_inside-returns-in_err-parts : goal.fold_inside-returns-in_err-parts
+fold_inside-returns-in_err-parts g t c =
     let p = err_from_is_err_and c.from_residual.result c.from_residual.ensures.1 in
     let tree = node_is_kind _ _ c.node_kind-kind.result c.node_kind-kind.ensures.means in
     let f = rw (c.bound_vars.ensures, c.parts.ensures) at c.in_err-parts.ensures in
-    rw (p.1, p.2) (descend_fails c.node_kind-kind.result tree (is_inner c.node_kind-kind.result c.if-is_leaf.ensures.1) f)
+    rw (p.1, p.2) (inside_fails c.node_kind-kind.result tree (is_inner c.node_kind-kind.result c.if-is_leaf.ensures.1) f)
 
-pub descend-rebuild-requires-clause-before : goal.descend-rebuild-requires-clause-before
-descend-rebuild-requires-clause-before g t c =
-    part-grows c.fold_contents.ensures.extends.rows _ c.requires.node
-
-pub descend-rebuild-requires-clause-kind : goal.descend-rebuild-requires-clause-kind
-descend-rebuild-requires-clause-kind g t c =
+pub fold_inside-store-requires : goal.fold_inside-store-requires
+fold_inside-store-requires g t c =
     let binder = form-binder _ (kind_sort c.node_kind-kind.result) (kind_form c.node_kind-kind.result) c.node_kind-kind.ensures.parts in
     let still = binder-kept c.fold_contents.ensures.extends.rows _ binder in
     let sort = same-sort c.with_parts.result c.node_kind-kind.result c.with_parts.ensures.table in
     rw (sort, c.with_parts.ensures.form) (refilled-parts _ (kind_sort c.node_kind-kind.result) _ (kind_form c.node_kind-kind.result) (nameless c.node_kind-kind.result) (is_inner c.node_kind-kind.result c.if-is_leaf.ensures.1) still c.in_ok-parts.ensures.outcome.1.owned)
 
-pub descend-rebuild-requires-clause-shallow : goal.descend-rebuild-requires-clause-shallow
-descend-rebuild-requires-clause-shallow g t c =
-    let sort = same-sort c.with_parts.result c.node_kind-kind.result c.with_parts.ensures.table in
-    rw (sort, c.with_parts.ensures.form) (not-deep (kind_sort c.node_kind-kind.result) _ (kind_form c.node_kind-kind.result) (is_inner c.node_kind-kind.result c.if-is_leaf.ensures.1))
-
-pub descend-returns : goal.descend-returns
-descend-returns g t c =
+pub fold_inside-returns-in_err-rebuilt : goal.fold_inside-returns-in_err-rebuilt
+fold_inside-returns-in_err-rebuilt g t c =
+    let p = err_from_is_err_and c.from_residual-in_err-rebuilt.result c.from_residual-in_err-rebuilt.ensures.1 in
     let tree = node_is_kind _ _ c.node_kind-kind.result c.node_kind-kind.ensures.means in
     let binder = form-binder _ (kind_sort c.node_kind-kind.result) (kind_form c.node_kind-kind.result) c.node_kind-kind.ensures.parts in
     let sort = same-sort c.with_parts.result c.node_kind-kind.result c.with_parts.ensures.table in
+    let inner = is_inner c.node_kind-kind.result c.if-is_leaf.ensures.1 in
     let f = rw (c.bound_vars.ensures, c.parts.ensures) at c.in_ok-parts.ensures in
-    descend_rebuilt c.node_kind-kind.result c.with_parts.result c.requires.node tree (nameless c.node_kind-kind.result) (is_inner c.node_kind-kind.result c.if-is_leaf.ensures.1) binder c.with_parts.ensures.form sort f c.rebuild.ensures
+    let h = c.in_err-rebuilt.ensures.builds in
+    let shallow : IsTooDeep (kind_shape c.with_parts.result) → ⊥ = rw (sort, c.with_parts.ensures.form) (not-deep (kind_sort c.node_kind-kind.result) c.in_ok-parts.parts (kind_form c.node_kind-kind.result) inner) in
+    let cause = not_stored c.fold_contents.new.cx c.with_parts.result _ shallow h.cause in
+    rw p.1 (inside_not_built c.node_kind-kind.result c.with_parts.result tree (nameless c.node_kind-kind.result) inner binder c.with_parts.ensures.form sort f h.err (c.in_err-rebuilt.field-0.0, (p.2, rw h.err cause)))
+
+pub fold_inside-returns : goal.fold_inside-returns
+fold_inside-returns g t c =
+    let tree = node_is_kind _ _ c.node_kind-kind.result c.node_kind-kind.ensures.means in
+    let binder = form-binder _ (kind_sort c.node_kind-kind.result) (kind_form c.node_kind-kind.result) c.node_kind-kind.ensures.parts in
+    let sort = same-sort c.with_parts.result c.node_kind-kind.result c.with_parts.ensures.table in
+    let inner = is_inner c.node_kind-kind.result c.if-is_leaf.ensures.1 in
+    let f = rw (c.bound_vars.ensures, c.parts.ensures) at c.in_ok-parts.ensures in
+    let h = c.in_ok-rebuilt.ensures in
+    let o = c.in_ok-parts.ensures.outcome.0 in
+    let grows = h.builds.grows in
+    inside_rebuilt c.node_kind-kind.result c.with_parts.result tree (nameless c.node_kind-kind.result) inner binder c.with_parts.ensures.form sort f (record { rows = grows; limit = h.builds.limit })
+    (g.met.F.Core.still_owned _ _ _ grows o)
+    (stands-still g.F.Core.meaning c.fold_contents.new.cx c.store.new.self c.fold_contents.new.folder (g.met.F.Core.still_means _ _ _ grows o) h.builds.counters)
+    (stored_node _ _ _ c.with_parts.result h.builds.in_range h.table (c.with_parts.ensures.table ∙ c.node_kind-kind.ensures.table))
+    (stored_node_tree _ _ _ c.with_parts.result h.builds.means h.table)
 
 pub fold_contents-fold_parts-requires : goal.fold_contents-fold_parts-requires
 fold_contents-fold_parts-requires g t c κs within =

@@ -18,10 +18,13 @@ abbrev pub decreases-fold_contents : goal.decreases-fold_contents
 decreases-fold_contents g l = 8 * parts_weight l.cx.now.rows l.parts + 5
 
 abbrev pub decreases-descend : goal.decreases-descend
-decreases-descend g l = 8 * age l.cx.now.rows (node_table l.node) (node_number l.node) + 6
+decreases-descend g l = 8 * age l.cx.now.rows (node_table l.node) (node_number l.node) + 7
+
+abbrev pub decreases-fold_inside : goal.decreases-fold_inside
+decreases-fold_inside g l = 8 * age l.cx.now.rows (node_table l.node) (node_number l.node) + 6
 
 abbrev pub decreases-fold_node : goal.decreases-fold_node
-decreases-fold_node g l = 8 * age l.cx.now.rows (node_table l.node) (node_number l.node) + 7
+decreases-fold_node g l = 8 * age l.cx.now.rows (node_table l.node) (node_number l.node) + 8
 
 abbrev pub decreases-fold_list : goal.decreases-fold_list
 decreases-fold_list g l = 8 * age l.cx.now.rows (list_table l.list) (list_number l.list) + 7
