@@ -13,6 +13,7 @@ pub mod placeholder;
 pub mod region_kind;
 pub mod table;
 pub mod ty_kind;
+pub mod view;
 
 pub use binder::{Binder, EarlyBinder, Unnormalized};
 pub use bound::{
@@ -30,3 +31,4 @@ pub use placeholder::{Placeholder, PlaceholderType};
 pub use region_kind::{EarlyParamRegion, Region, RegionKind};
 pub use table::Table;
 pub use ty_kind::{InferTy, ParamTy, TyKind};
+pub use view::{FnInputTys, GenericArgsSlice};
