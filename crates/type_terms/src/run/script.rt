@@ -64,7 +64,7 @@ fn read_script<R: Read>(alloc: Global, input: &mut R) -> Result<Vec<u8>, Fault> 
 }
 
 // The calls of the lines.
-fn parse_script(alloc: Global, script: &[u8]) -> Result<Vec<Call>, AllocError> {
+pub(crate) fn parse_script(alloc: Global, script: &[u8]) -> Result<Vec<Call>, AllocError> {
     // Room for all calls at once, so that their list isn't moved as it grows.
     let lines = script.iter().filter(|byte| **byte == b'\n').count();
     let mut calls = Vec::with_capacity(alloc, lines)?;

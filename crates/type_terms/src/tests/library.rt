@@ -1,31 +1,30 @@
 //! Calls of the library.
 
+use crate::run::script::parse_script;
 use crate::{
-    Answer, ArgCall, Call, GenericArg, GenericArgs, IntTy, Interner, Mutability, Refusal, Region,
-    RegionCall, RegionKind, RegionVid, TyCall, UintTy, run_calls,
+    Answer, GenericArg, GenericArgs, Interner, Refusal, Region, RegionKind, RegionVid, run_calls,
 };
 use std::alloc::Global;
 use std::test::Fail;
 
-// A type parameter's call.
-fn param(alloc: Global, index: u32) -> Result<Call, Fail> {
-    let name = String::from_str(alloc, "'_")?;
-    Ok(Call::Ty(TyCall::Param { index, name }))
+// The answers to the calls of the lines.
+fn answer_all(alloc: Global, cx: &mut Interner, lines: &str) -> Result<Vec<Answer>, Fail> {
+    let calls = parse_script(alloc, lines.as_bytes())?;
+    Ok(run_calls(cx, calls.as_slice())?)
+}
+
+// The last answer to the calls of the lines, on a new interner.
+fn last_answer(alloc: Global, lines: &str) -> Result<Answer, Fail> {
+    let mut cx = Interner::new(alloc)?;
+    let answers = answer_all(alloc, &mut cx, lines)?;
+    Ok(*answers.last().ok_or("no line")?)
 }
 
 #[test]
 fn limit_of_rows(rt: HostRuntime) -> Result<(), Fail> {
     let mut cx = Interner::with_limit(rt.alloc(), 2)?;
-    let calls = vec![in rt.alloc();
-        Call::Ty(TyCall::Uint(UintTy::U8)),
-        Call::Ty(TyCall::Uint(UintTy::U16)),
-        Call::Ty(TyCall::Uint(UintTy::U32)),
-        Call::Ty(TyCall::Uint(UintTy::U8)),
-        Call::Equal(1, 4),
-    ]?;
-    let answers = run_calls(&mut cx, calls.as_slice())?;
+    let answers = answer_all(rt.alloc(), &mut cx, "u8\nu16\nu32\nu8\nequal %1 %4\n")?;
     assert_eq!(rt; answers.len(), 5);
-    assert!(rt; matches!(answers[0], Answer::Ty(_)));
     assert!(rt; matches!(answers[1], Answer::Ty(_)));
     assert!(rt; answers[2] == Answer::Refused(Refusal::TableFull));
     assert!(rt; answers[3] == answers[0]);
@@ -41,47 +40,22 @@ fn limit_of_no_row(rt: HostRuntime) -> Result<(), Fail> {
 
 #[test]
 fn index_out_of_range(rt: HostRuntime) -> Result<(), Fail> {
-    let mut cx = Interner::new(rt.alloc())?;
-    let calls = vec![in rt.alloc();
-        param(rt.alloc(), 1)?,
-        Call::Ty(TyCall::Int(IntTy::I32)),
-        Call::Instantiate(1, vec![in rt.alloc(); ArgCall::Type(2)]?),
-    ]?;
-    let answers = run_calls(&mut cx, calls.as_slice())?;
-    assert_eq!(rt; answers.len(), 3);
-    assert!(rt; answers[2] == Answer::Refused(Refusal::ArgOutOfRange { index: 1 }));
+    let answer = last_answer(rt.alloc(), "param 1\ni32\ninst %1 %2\n")?;
+    assert!(rt; answer == Answer::Refused(Refusal::ArgOutOfRange { index: 1 }));
     Ok(())
 }
 
 #[test]
 fn region_for_a_type(rt: HostRuntime) -> Result<(), Fail> {
-    let mut cx = Interner::new(rt.alloc())?;
-    let calls = vec![in rt.alloc();
-        param(rt.alloc(), 0)?,
-        Call::Instantiate(
-            1,
-            vec![in rt.alloc(); ArgCall::Lifetime(RegionCall::ReStatic)]?
-        ),
-    ]?;
-    let answers = run_calls(&mut cx, calls.as_slice())?;
-    assert_eq!(rt; answers.len(), 2);
-    assert!(rt; answers[1] == Answer::Refused(Refusal::ArgKind { index: 0 }));
+    let answer = last_answer(rt.alloc(), "param 0\ninst %1 'static\n")?;
+    assert!(rt; answer == Answer::Refused(Refusal::ArgKind { index: 0 }));
     Ok(())
 }
 
 #[test]
 fn region_variable(rt: HostRuntime) -> Result<(), Fail> {
-    let mut cx = Interner::new(rt.alloc())?;
-    let region = RegionCall::ReVar(RegionVid::from_u32(0));
-    let calls = vec![in rt.alloc();
-        param(rt.alloc(), 0)?,
-        Call::Ty(TyCall::Ref(region, 1, Mutability::Not)),
-        Call::Ty(TyCall::Int(IntTy::I32)),
-        Call::Instantiate(2, vec![in rt.alloc(); ArgCall::Type(3)]?),
-    ]?;
-    let answers = run_calls(&mut cx, calls.as_slice())?;
-    assert_eq!(rt; answers.len(), 4);
-    assert!(rt; answers[3] == Answer::Refused(Refusal::RegionVariable(RegionVid::from_u32(0))));
+    let answer = last_answer(rt.alloc(), "param 0\nref '?0 %1\ni32\ninst %2 %3\n")?;
+    assert!(rt; answer == Answer::Refused(Refusal::RegionVariable(RegionVid::from_u32(0))));
     Ok(())
 }
 
@@ -89,13 +63,11 @@ fn region_variable(rt: HostRuntime) -> Result<(), Fail> {
 #[test]
 fn memory_for_each_new_term(rt: HostRuntime) -> Result<(), Fail> {
     let mut cx = Interner::new(rt.alloc())?;
-    let calls = vec![in rt.alloc();
-        param(rt.alloc(), 0)?,
-        Call::Ty(TyCall::Slice(1)),
-        Call::Ty(TyCall::Str),
-        Call::Instantiate(2, vec![in rt.alloc(); ArgCall::Type(3)]?),
-    ]?;
-    for answer in run_calls(&mut cx, calls.as_slice())? {
+    for answer in answer_all(
+        rt.alloc(),
+        &mut cx,
+        "param 0\nslice %1\nbound 0 0\nshift %3 1\nstr\ninst %2 %5\nfn 1 %6\n",
+    )? {
         assert!(rt; matches!(answer, Answer::Ty(_)));
     }
     Ok(())
