@@ -2,17 +2,21 @@
 use Rattle.std.proofs.Common.{◌≡◌, ℕ, zero, suc, ◌%◌, [], ◌∷◌, refl, sym, ap, ◌∙◌, arith, Bool, true, false}
 use Rattle.std.specs.Prelude.{IsTrue, ◌≢◌, bit_and}
 use Rattle.std.proofs.lemmas.Nat.{and_mask}
-use Rattle.tt_kinds.specs.Label.{Name, TypeLabel, placeholder_type, infer_type, error_type, Label, type_label, list_label, var_list_label, text_label, record_label, infer_flags, flags_of_type, flags_of_label}
+use Rattle.tt_kinds.specs.Label.{Name, TypeLabel, placeholder_type, infer_type, error_type, coroutine_type, alias_type, ConstLabel, infer_const, placeholder_const, unevaluated_const, error_const, Label, type_label, const_label, pattern_label, predicate_label, existential_label, clause_list_label, list_label, var_list_label, text_label, record_label, infer_flags, alias_flags, flags_of_type, infer_const_flags, flags_of_const, flags_of_label}
 use Rattle.tt_kinds.specs.Tree.{Depth, Tree, param, bound, region, term, node, binder}
 use Rattle.tt_kinds.specs.Scan.{scan}
 use Rattle.tt_kinds.specs.Param.{holds_param}
 use Rattle.tt_kinds.specs.Cause.{HidesRegionVars}
 use Rattle.tt_kinds.specs.declared.ty_kind.InferTy.{InferTy}
 use Rattle.tt_kinds.specs.declared.ty_kind.InferTy.TheVariants.{TyVar, IntVar, FloatVar, FreshTy, FreshIntTy, FreshFloatTy}
+use Rattle.tt_kinds.specs.declared.const_kind.InferConst.{InferConst}
+use Rattle.tt_kinds.specs.declared.const_kind.InferConst.TheVariants.{Var, Fresh}
+use Rattle.tt_kinds.specs.declared.alias.AliasTyKind.{AliasTyKind}
+use Rattle.tt_kinds.specs.declared.alias.AliasTyKind.TheVariants as alias
 use Rattle.tt_kinds.proofs.FlagLaws.{param_bit, as_number, param_bit-scan}
 use Rattle.tt_kinds.proofs.ParamLaws.{IsGeneric-never}
 use Rattle.tt_kinds.proofs.ChildLaws.{HidesRegionVars-stored}
-use Rattle.tt_fold.specs.Walk.{IsTerm}
+use Rattle.tt_binder.specs.Instantiation.{IsTypeOrClause}
 
 -- no label sets a flag for parameters
 infer_sets_none : (i : InferTy) → param_bit (infer_flags i) ≡ 0
@@ -23,14 +27,38 @@ infer_sets_none (FreshTy n) = refl
 infer_sets_none (FreshIntTy n) = refl
 infer_sets_none (FreshFloatTy n) = refl
 
+alias_sets_none : (k : AliasTyKind) → param_bit (alias_flags k) ≡ 0
+alias_sets_none (alias.Projection d) = refl
+alias_sets_none (alias.Inherent d) = refl
+alias_sets_none (alias.Opaque d) = refl
+alias_sets_none (alias.Free d) = refl
+
 type_sets_none : (l : TypeLabel) → param_bit (flags_of_type l) ≡ 0
 type_sets_none (placeholder_type p) = refl
 type_sets_none (infer_type i) = infer_sets_none i
 type_sets_none (error_type e) = refl
+type_sets_none (coroutine_type d) = refl
+type_sets_none (alias_type k) = alias_sets_none k
 type_sets_none _ = refl
+
+infer_const_sets_none : (i : InferConst) → param_bit (infer_const_flags i) ≡ 0
+infer_const_sets_none (Var v) = refl
+infer_const_sets_none (Fresh n) = refl
+
+const_sets_none : (l : ConstLabel) → param_bit (flags_of_const l) ≡ 0
+const_sets_none (infer_const i) = infer_const_sets_none i
+const_sets_none (placeholder_const p) = refl
+const_sets_none (unevaluated_const d) = refl
+const_sets_none (error_const e) = refl
+const_sets_none _ = refl
 
 label_sets_none : (l : Label Name) → param_bit (flags_of_label l) ≡ 0
 label_sets_none (type_label l) = type_sets_none l
+label_sets_none (const_label l) = const_sets_none l
+label_sets_none (pattern_label l) = refl
+label_sets_none predicate_label = refl
+label_sets_none existential_label = refl
+label_sets_none clause_list_label = refl
 label_sets_none (list_label t) = refl
 label_sets_none (var_list_label []) = refl
 label_sets_none (var_list_label (v ∷ vs)) = refl
@@ -64,15 +92,11 @@ pub misses_param : (t : Tree Depth) (n : ℕ) (b : Bool) → n ≡ scan t → b 
 misses_param t n b e none h =
     as_number-zero (holds_param t) (sym (param_bit-scan label_sets_none t) ∙ ap param_bit (sym e) ∙ meets_none n (sym (and_mask n 3) ∙ is_zero (bit_and n 7) b none h))
 
--- a type without parameters hides its region variables
-pub hides_none : (t : Tree Depth) → IsTerm t → holds_param t ≡ false → HidesRegionVars t
+-- a type, a predicate or a clause list without parameters hides its region variables
+pub hides_none : (t : Tree Depth) → IsTypeOrClause t → holds_param t ≡ false → HidesRegionVars t
 hides_none (param s i name) is h = cc
 hides_none (bound s d e) is h = λ x g. g
 hides_none (region r) is h = absurd is
-hides_none (term (type_label l) ts) is h = HidesRegionVars-stored (type_label l) ts refl (IsGeneric-never (term (type_label l) ts) h)
-hides_none (term (list_label t) ts) is h = absurd (cc)
-hides_none (term (var_list_label vs) ts) is h = absurd (cc)
-hides_none (term (text_label bytes) ts) is h = absurd (cc)
-hides_none (term (record_label l) ts) is h = absurd (cc)
+hides_none (term l ts) is h = HidesRegionVars-stored l ts is (IsGeneric-never (term l ts) h)
 hides_none (node l ts) is h = absurd is
 hides_none (binder vs t) is h = absurd is

@@ -1,19 +1,22 @@
 -- The steps of the argument folder's hooks.
-use Rattle.std.proofs.Common.{inl, inr, ◌≡◌, ℕ, zero, suc, ◌<◌, List, [], ◌∷◌, refl, sym, ap, subst, ◌∙◌, arith, true, false}
-use Rattle.std.specs.Prelude.{◌≢◌, Option, Some, None, slice_get, option_map, Result, Ok, Err}
+use Rattle.std.proofs.Common.{inl, inr, ◌≡◌, ℕ, zero, suc, ◌<◌, ◌≤◌, List, [], ◌∷◌, refl, sym, ap, subst, ◌∙◌, arith, true, false}
+use Rattle.std.specs.Prelude.{◌≢◌, IsTrue, Option, Some, None, slice_get, option_map, Result, Ok, Err}
 use Rattle.std.proofs.lemmas.Option.{slice_get-map, slice_get_cases}
 use Rattle.std.proofs.lemmas.List.{length-map}
 use Rattle.tt_index.specs.declared.refusal.Refusal.{Refusal}
 use Rattle.tt_index.specs.declared.refusal.Refusal.TheVariants.{Memory, TableFull, GreatestIndex, NoArguments, ArgOutOfRange, ArgKind, RegionVariable, NotAClause, NoSuchAnswer}
-use Rattle.tt_kinds.specs.Label.{Name, Sort, region_sort, type_sort, Label}
+use Rattle.tt_kinds.specs.Label.{Name, Sort, region_sort, type_sort, const_sort, Label, const_label, is_type}
 use Rattle.tt_kinds.specs.Tree.{Depth, at, canonical, Tree, Forest, param, bound, region, term, node, binder}
 use Rattle.tt_kinds.specs.Reading.{place, read, moved, move, FitsAt, Fits}
 use Rattle.tt_kinds.specs.Argument.{Argument, same_sort, argument}
-use Rattle.tt_kinds.specs.Plain.{shift_tree}
+use Rattle.tt_kinds.specs.Plain.{shift_tree, inst_tree}
 use Rattle.tt_kinds.specs.Param.{holds_param, IsGeneric_among}
 use Rattle.tt_kinds.specs.Cause.{Cause}
 use Rattle.tt_kinds.specs.Shape.{AreParts, IsPart, Meaning, fill, name_of}
-use Rattle.tt_kinds.specs.Kinds.{arg_shape, region_shape, ty_kind_shape}
+use Rattle.tt_kinds.specs.Kinds.{arg_shape, region_shape, relabelled, form_shape, value_form, ty_kind_shape, const_kind_shape}
+use Rattle.tt_kinds.specs.declared.handle.Ty.{Ty}
+use Rattle.tt_kinds.specs.declared.const_kind.ValTreeKind.{ValTreeKind}
+use Rattle.tt_kinds.specs.declared.const_kind.ValTreeKind.TheVariants as valtree
 use Rattle.tt_kinds.specs.declared.generic_arg.GenericArgKind.{GenericArgKind}
 use Rattle.tt_kinds.specs.Bound.{depth, IsBelowGreatest}
 use Rattle.tt_kinds.specs.RegionKind.{IsShallow}
@@ -22,19 +25,24 @@ use Rattle.tt_kinds.proofs.FitsLaws.{FitsUnder-past}
 use Rattle.tt_kinds.proofs.ParamLaws.{IsGeneric_among-from_test}
 use Rattle.tt_kinds.specs.declared.region_kind.EarlyParamRegion.{EarlyParamRegion}
 use Rattle.tt_kinds.specs.declared.region_kind.RegionKind.{RegionKind}
-use Rattle.tt_kinds.specs.declared.region_kind.RegionKind.TheVariants.{ReEarlyParam, ReBound, ReStatic, ReVar, ReErased, ReError}
+use Rattle.tt_kinds.specs.declared.region_kind.RegionKind.TheVariants.{ReEarlyParam, ReBound, ReLateParam, ReStatic, ReVar, RePlaceholder, ReErased, ReError}
 use Rattle.tt_kinds.specs.declared.ty_kind.ParamTy.{ParamTy}
 use Rattle.tt_kinds.specs.declared.ty_kind.TyKind.{TyKind}
 use Rattle.tt_kinds.specs.declared.ty_kind.TyKind.TheVariants as ty
-use Rattle.tt_interner.specs.Rows.{Row, row_shape, size, meaning}
+use Rattle.tt_kinds.specs.declared.const_kind.ParamConst.{ParamConst}
+use Rattle.tt_kinds.specs.declared.const_kind.ConstKind.{ConstKind}
+use Rattle.tt_kinds.specs.declared.const_kind.ConstKind.TheVariants as const
+use Rattle.tt_interner.specs.Rows.{Row, size}
 use Rattle.tt_interner.specs.Stored.{counted, Terms}
 use Rattle.tt_fold.specs.Shift.{IsShiftRefusal}
 use Rattle.tt_fold.specs.Steps.{IsRefused}
+use Rattle.tt_fold.specs.Stands.{itself}
 use Rattle.tt_fold.specs.Counts.{Standing}
-use Rattle.tt_fold.specs.Walk.{IsTerm, replace, descend}
+use Rattle.tt_fold.specs.Walk.{replace, descend}
 use Rattle.tt_binder.specs.Arguments.{arg_sort, argument_of, arguments, AreArguments}
-use Rattle.tt_binder.specs.Instantiation.{Instantiation, Instantiates, without, too_far, LeafRefuses, unshifted, IsTypeParam, OnTerm, given_argument, taken_apart, after_shift, one_more}
+use Rattle.tt_binder.specs.Instantiation.{Instantiation, Instantiates, without, too_far, LeafRefuses, unshifted, IsParam, OnTerm, given_argument, taken_apart, gone_into, after_shift, one_more}
 use Rattle.tt_binder.specs.Untouched.{IsUntouched}
+use Rattle.tt_binder.proofs.RowArguments.{IsTypeTree, IsClauseTree}
 
 -- the arguments aren't none
 some_arguments : (rows : List Row) (items : List GenericArgKind) → items ≢ [] → arguments rows items ≢ []
@@ -95,8 +103,10 @@ shallow_fits f (ReBound i b) h = index_fits (depth i) h
     index_fits : (d : Depth) → IsBelowGreatest d → FitsAt 0 (moved 0 (place 0 d))
     index_fits (at d) low = rw (place-outer 0 d (omega arith)) (omega (arith, low))
     index_fits canonical low = tt
+shallow_fits f (ReLateParam p) h = tt
 shallow_fits f ReStatic h = tt
 shallow_fits f (ReVar v) h = tt
+shallow_fits f (RePlaceholder p) h = tt
 shallow_fits f ReErased h = tt
 shallow_fits f (ReError e) h = tt
 
@@ -111,9 +121,8 @@ region_past f r k shallow unfit = by k refl
 -- a refused shift past some binders
 pub given_unshifted : (terms : Terms) (args : List (Argument Depth)) (k : ℕ) (s : Sort) (i : ℕ) (name : Name) (t : Tree Depth) (e : Refusal) → argument args s i ≡ Some t → 0 < k → IsShiftRefusal terms k t e
     → LeafRefuses (IsRefused terms) args k (param s i name) e
-given_unshifted terms args k s i name t Memory a below h = unshifted below (without (param s i name) (Memory, (refl, tt)))
-given_unshifted terms args k s i name t TableFull a below h =
-    unshifted below (without (fill (meaning terms.rows) (row_shape h.0)) (TableFull, (refl, (h.0, refl, h.1.0, h.1.1))))
+given_unshifted terms args k s i name t Memory a below h = unshifted below (without (inst_tree k args (param s i name)) itself (Memory, (refl, tt)))
+given_unshifted terms args k s i name t TableFull a below h = unshifted below (without h.0 (rw a h.1) (TableFull, (refl, h.2)))
 given_unshifted terms args k s i name t GreatestIndex a below h = given_refused (IsRefused terms) args k s i name t GreatestIndex a below refl h
 given_unshifted terms args k s i name t NotAClause a below h = absurd h
 given_unshifted terms args k s i name t NoSuchAnswer a below h = absurd h
@@ -122,51 +131,65 @@ given_unshifted terms args k s i name t (ArgOutOfRange index) a below h = absurd
 given_unshifted terms args k s i name t (ArgKind index) a below h = absurd h
 given_unshifted terms args k s i name t (RegionVariable x) a below h = absurd h
 
--- a type parameter by its index
-pub type_param : (index : ℕ) (t : Tree Depth) → IsTypeParam index t → (name : Name) × (t ≡ param type_sort index name)
-type_param index (param s i name) h = (name, rw (h.0, h.1) refl)
-type_param index (bound s d e) h = absurd h
-type_param index (region r) h = absurd h
-type_param index (term l ts) h = absurd h
-type_param index (node l ts) h = absurd h
-type_param index (binder vs t) h = absurd h
+-- a parameter by its sort and its index
+pub param_by_index : (sort : Sort) (index : ℕ) (t : Tree Depth) → IsParam sort index t → (name : Name) × (t ≡ param sort index name)
+param_by_index sort index (param s i name) h = (name, rw (h.0, h.1) refl)
+param_by_index sort index (bound s d e) h = absurd h
+param_by_index sort index (region r) h = absurd h
+param_by_index sort index (term l ts) h = absurd h
+param_by_index sort index (node l ts) h = absurd h
+param_by_index sort index (binder vs t) h = absurd h
 
 -- a type that holds a parameter and is none
-pub record Inner (t : Tree Depth) : Type 0 where
+pub record InnerType (t : Tree Depth) : Type 0 where
   pub label : Label Name
   pub children : Forest Depth
   pub is : t ≡ term label children
+  pub kind : IsTrue (is_type label)
   pub generic : IsGeneric_among children
 
-pub inner_type : (t : Tree Depth) → IsTerm t → holds_param t ≡ true → ((i : ℕ) → IsTypeParam i t → ⊥) → Inner t
-inner_type (param s i name) is h no_param = absurd (no_param i (by_sort s is, refl))
-  where
-    by_sort : (s : Sort) → IsTerm (param s i name) → s ≡ type_sort
-    by_sort type_sort is = refl
-    by_sort _ is = absurd is
+pub inner_type : (t : Tree Depth) → IsTypeTree t → holds_param t ≡ true → ((i : ℕ) → IsParam type_sort i t → ⊥) → InnerType t
+inner_type (param s i name) is h no_param = absurd (no_param i (is, refl))
 inner_type (bound s d e) is h no_param = cc
 inner_type (region r) is h no_param = absurd is
-inner_type (term l ts) is h no_param = record { label = l; children = ts; is = refl; generic = IsGeneric_among-from_test ts h }
+inner_type (term l ts) is h no_param = record { label = l; children = ts; is = refl; kind = is; generic = IsGeneric_among-from_test ts h }
 inner_type (node l ts) is h no_param = absurd is
 inner_type (binder vs t) is h no_param = absurd is
 
--- the kind of a type that is a parameter, and of one that is none
-pub param_found : (f : Meaning) (p : ParamTy) → IsTypeParam p.index (fill f (ty_kind_shape (ty.Param p)))
+-- the kind of a term that is a parameter, and of one that is none
+pub type_param_found : (f : Meaning) (p : ParamTy) → IsParam type_sort p.index (fill f (ty_kind_shape (ty.Param p)))
 unfolding fill
-param_found f p = (refl, refl)
+type_param_found f p = (refl, refl)
 
-pub param_none : (f : Meaning) (k : TyKind) → ((p : ParamTy) → k ≡ ty.Param p → ⊥) → (i : ℕ) → IsTypeParam i (fill f (ty_kind_shape k)) → ⊥
+pub type_param_none : (f : Meaning) (k : TyKind) → ((p : ParamTy) → k ≡ ty.Param p → ⊥) → (i : ℕ) → IsParam type_sort i (fill f (ty_kind_shape k)) → ⊥
 unfolding fill
-param_none f (ty.Param p) other i h = other p refl
-param_none f _ other i h = h
+type_param_none f (ty.Param p) other i h = other p refl
+type_param_none f _ other i h = h
+
+pub const_param_found : (f : Meaning) (p : ParamConst) → IsParam const_sort p.index (fill f (const_kind_shape (const.Param p)))
+unfolding fill
+const_param_found f p = (refl, refl)
+
+value_none : (f : Meaning) (t : Ty) (v : ValTreeKind) (i : ℕ) → IsParam const_sort i (fill f (form_shape const_sort (relabelled const_label (value_form t v)))) → ⊥
+unfolding fill
+value_none f t (valtree.Leaf s) i h = h
+value_none f t (valtree.Branch cs) i h = h
+
+pub const_param_none : (f : Meaning) (k : ConstKind) → ((p : ParamConst) → k ≡ const.Param p → ⊥) → (i : ℕ) → IsParam const_sort i (fill f (const_kind_shape k)) → ⊥
+unfolding fill
+const_param_none f (const.Param p) other i h = other p refl
+const_param_none f (const.Value v) other i h = value_none f v.ty v.valtree.kind i h
+const_param_none f _ other i h = h
 
 -- a region that is neither a parameter nor a variable is left as it is
 pub region_untouched : (f : Meaning) (r : RegionKind) → ((p : EarlyParamRegion) → r ≡ ReEarlyParam p → ⊥) → ((v : ℕ) → r ≡ ReVar v → ⊥) → IsUntouched (fill f (region_shape r))
 unfolding fill
 region_untouched f (ReEarlyParam p) no_param no_var = absurd (no_param p refl)
 region_untouched f (ReBound i b) no_param no_var = (refl, λ x h. h)
+region_untouched f (ReLateParam p) no_param no_var = (refl, λ x h. h)
 region_untouched f ReStatic no_param no_var = (refl, λ x h. h)
 region_untouched f (ReVar v) no_param no_var = absurd (no_var v refl)
+region_untouched f (RePlaceholder p) no_param no_var = (refl, λ x h. h)
 region_untouched f ReErased no_param no_var = (refl, λ x h. h)
 region_untouched f (ReError e) no_param no_var = (refl, λ x h. h)
 
@@ -205,16 +228,20 @@ same_standing : (s s' : Standing Instantiation) (d n : ℕ) → s'.state ≡ s.s
 same_standing s s' d n state descents shifts = ap3 (λ q x y. record { state = q; counters = record { descents = x; shift_descents = y } }) state descents shifts
 
 pub given_step : (s s' : Standing Instantiation) (t r : Tree Depth) (o : Sort) (i : ℕ) (name : Name) → t ≡ param o i name → s'.state ≡ s.state → s'.counters.descents ≡ s.counters.descents
-    → Instantiates s.state.args s.state.binders_passed (param o i name) r → OnTerm s t (replace r) s'
-given_step s s' t r o i name is state descents done =
+    → s.counters.shift_descents ≤ s'.counters.shift_descents → Instantiates s.state.args s.state.binders_passed (param o i name) r → OnTerm s t (replace r) s'
+given_step s s' t r o i name is state descents more done =
     let same = same_standing s s' s.counters.descents s'.counters.shift_descents state descents refl in
-    subst (λ q. OnTerm s t (replace r) q) (sym same) (subst (λ u. OnTerm s u (replace r) (after_shift s s'.counters.shift_descents)) (sym is) (given_argument s'.counters.shift_descents done))
+    subst (λ q. OnTerm s t (replace r) q) (sym same) (subst (λ u. OnTerm s u (replace r) (after_shift s s'.counters.shift_descents)) (sym is) (given_argument s'.counters.shift_descents more done))
 
-pub taken_step : (s s' : Standing Instantiation) (t : Tree Depth) → Inner t → s'.state ≡ s.state → s'.counters.descents ≡ counted s.counters.descents
+pub taken_step : (s s' : Standing Instantiation) (t : Tree Depth) → InnerType t → s'.state ≡ s.state → s'.counters.descents ≡ counted s.counters.descents
     → s'.counters.shift_descents ≡ s.counters.shift_descents → OnTerm s t descend s'
 taken_step s s' t inner state descents shifts =
     let same = same_standing s s' (counted s.counters.descents) s.counters.shift_descents state descents shifts in
-    subst (λ q. OnTerm s t descend q) (sym same) (subst (λ u. OnTerm s u descend (one_more s)) (sym inner.is) (taken_apart inner.generic))
+    subst (λ q. OnTerm s t descend q) (sym same) (subst (λ u. OnTerm s u descend (one_more s)) (sym inner.is) (taken_apart inner.kind inner.generic))
+
+pub gone_step : (s : Standing Instantiation) (t : Tree Depth) → IsClauseTree t → holds_param t ≡ true → OnTerm s t descend s
+gone_step s (term l ts) is h = gone_into is.0 is.1 (IsGeneric_among-from_test ts h)
+gone_step s _ is h = absurd is
 
 -- a refused shift is past some binders
 pub past_some : {T E : Type 0} (k : ℕ) (r : Result T E) (x : T) (e : E) → r ≡ Err e → (k ≡ 0 → r ≡ Ok x) → 0 < k

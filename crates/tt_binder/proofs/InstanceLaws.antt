@@ -8,8 +8,10 @@ use Rattle.tt_kinds.specs.Tree.{Depth, Tree, param}
 use Rattle.tt_kinds.specs.Reading.{read}
 use Rattle.tt_kinds.specs.Argument.{Argument, readings}
 use Rattle.tt_kinds.specs.Param.{holds_param, IsAnswered}
+use Rattle.tt_kinds.specs.Plain.{inst_tree}
 use Rattle.tt_kinds.specs.Cause.{Cause}
 use Rattle.tt_kinds.specs.Shape.{Shape, stored, IsPart, fill}
+use Rattle.tt_kinds.specs.declared.table.Table.{Table}
 use Rattle.tt_kinds.specs.declared.table.Table.TheVariants.{Types}
 use Rattle.tt_kinds.proofs.PutLaws.{read-inst_tree, put-put, move-put, IsAnswered-read}
 use Rattle.tt_kinds.proofs.MatchedLaws.{MatchedUnder-put}
@@ -19,12 +21,14 @@ use Rattle.tt_interner.specs.Rows.{Row, size}
 use Rattle.tt_interner.specs.Stored.{Terms, IsUnbuilt}
 use Rattle.tt_fold.specs.Counts.{Standing}
 use Rattle.tt_fold.specs.Steps.{IsPartOf, IsRefused, tree_in}
-use Rattle.tt_fold.specs.Walk.{IsTerm, Walks, Fails, region_failed, term_failed, descent_failed, enter_failed, under_failed, leave_failed, node_failed, node_not_built}
-use Rattle.tt_binder.specs.Instantiation.{Instantiation, Instantiates, Refuses, without, too_far, caused, LeafRefuses, for_cause, unshifted, taken_apart, arg_hooks}
-use Rattle.tt_binder.specs.Instance.{HasNoCause, Composes, Commutes, StaysMatched, LeavesNoParam, IsInstance, IsReason, ComesBack}
+use Rattle.tt_fold.specs.Stands.{StandsIn}
+use Rattle.tt_fold.specs.Walk.{Walks, Fails, region_failed, term_failed, descent_failed, passed_failed, enter_failed, under_failed, leave_failed, node_failed, node_not_built}
+use Rattle.tt_binder.specs.Instantiation.{Instantiation, Instantiates, Refuses, without, too_far, caused, LeafRefuses, for_cause, unshifted, IsTypeOrClause, taken_apart, gone_into, const_gone_into, arg_hooks}
+use Rattle.tt_binder.specs.Instance.{HasNoCause, Composes, Commutes, StaysMatched, LeavesNoParam, IsInstance, IsReason, ComesBack, IsOfClauses}
 use Rattle.tt_binder.proofs.FlagLaws.{hides_none}
-use Rattle.tt_binder.proofs.RowArguments.{type_term}
-use Rattle.tt_binder.proofs.WalkLaws.{does, refuses, left_done}
+use Rattle.tt_binder.proofs.RowArguments.{type_stays, clause_stays}
+use Rattle.tt_fold.proofs.ClauseLaws.{KeepsClauses, never_bad}
+use Rattle.tt_binder.proofs.WalkLaws.{does, refuses, left_done, passed-gone}
 
 -- the laws of an instance
 module _ (args : List (Argument Depth)) (t r : Tree Depth) (is : IsInstance args t r) where
@@ -92,25 +96,26 @@ reason_caused terms args t (RegionVariable x) h = h
 pub reason_empty : (terms : Terms) (args : List (Argument Depth)) (t : Tree Depth) → args ≡ [] → holds_param t ≡ true → IsReason terms args t NoArguments
 reason_empty terms args t none h = (none, IsGeneric-from_test t h)
 
--- a tree that isn't built is one for want of room
-reason_unbuilt : (terms : Terms) (u : Tree Depth) (args : List (Argument Depth)) (t : Tree Depth) (e : Refusal) → IsUnbuilt terms u e → IsReason terms args t e
-reason_unbuilt terms u args t Memory h = tt
-reason_unbuilt terms u args t TableFull h = (h.0, (h.2, h.3))
-reason_unbuilt terms u args t GreatestIndex h = absurd h
-reason_unbuilt terms u args t NotAClause h = absurd h
-reason_unbuilt terms u args t NoSuchAnswer h = absurd h
-reason_unbuilt terms u args t NoArguments h = absurd h
-reason_unbuilt terms u args t (ArgOutOfRange index) h = absurd h
-reason_unbuilt terms u args t (ArgKind index) h = absurd h
-reason_unbuilt terms u args t (RegionVariable x) h = absurd h
+-- a part that isn't built is one for want of room
+reason_unbuilt : (terms : Terms) (u : Tree Depth) (args : List (Argument Depth)) (t : Tree Depth) (e : Refusal) → KeepsClauses (inst_tree 0 args t) → StandsIn u (inst_tree 0 args t)
+    → IsUnbuilt terms u e → IsReason terms args t e
+reason_unbuilt terms u args t Memory keeps stands h = tt
+reason_unbuilt terms u args t TableFull keeps stands h = (u, stands, h)
+reason_unbuilt terms u args t GreatestIndex keeps stands h = absurd h
+reason_unbuilt terms u args t NotAClause keeps stands h = never_bad stands keeps h
+reason_unbuilt terms u args t NoSuchAnswer keeps stands h = absurd h
+reason_unbuilt terms u args t NoArguments keeps stands h = absurd h
+reason_unbuilt terms u args t (ArgOutOfRange index) keeps stands h = absurd h
+reason_unbuilt terms u args t (ArgKind index) keeps stands h = absurd h
+reason_unbuilt terms u args t (RegionVariable x) keeps stands h = absurd h
 
 -- why the folder's walk from outside of each binder is refused
 pub reason_refused : (terms : Terms) (args : List (Argument Depth)) (s s' : Standing Instantiation) (t : Tree Depth) (e : Refusal) → s.state ≡ record { args = args; binders_passed = 0 }
-    → Fails arg_hooks (IsRefused terms) s t e s' → IsReason terms args t e
-reason_refused terms args s s' t e is f = at_root (subst (λ q. Refuses (IsRefused terms) q.args q.binders_passed t e) is (refuses (IsRefused terms) f))
+    → KeepsClauses (inst_tree 0 args t) → Fails arg_hooks (IsRefused terms) s t e s' → IsReason terms args t e
+reason_refused terms args s s' t e is keeps f = at_root (subst (λ q. Refuses (IsRefused terms) q.args q.binders_passed t e) is (refuses (IsRefused terms) f))
   where
     at_root : Refuses (IsRefused terms) args 0 t e → IsReason terms args t e
-    at_root (without u h) = rw h.1.0 (reason_unbuilt terms u args t h.0 h.1.1)
+    at_root (without u stands h) = rw h.1.0 (reason_unbuilt terms u args t h.0 keeps stands h.1.1)
     at_root (too_far h) = rw h.is (λ fits. h.unfit (rw (read-inst_tree 0 args t) fits))
     at_root (caused h) = reason_caused terms args t e h
 
@@ -124,8 +129,11 @@ module _ (unbuilt : Tree Depth → Refusal → Type 0) (args : List (Argument De
   pub param_refused : {s s' : Standing Instantiation} {t : Tree Depth} {e : Refusal} → Fails arg_hooks unbuilt s t e s' → s.state ≡ record { args = args; binders_passed = 0 }
       → (o : Sort) (i : ℕ) (name : Name) → t ≡ param o i name → Cause (param o i name) args e
   param_refused {t} {e} (region_failed is h) state o i name same = rw same at (leaf_caused unbuilt args t e (subst (λ q. LeafRefuses unbuilt q.args q.binders_passed t e) state h.1))
-  param_refused {t} {e} (term_failed is h) state o i name same = rw same at (leaf_caused unbuilt args t e (subst (λ q. LeafRefuses unbuilt q.args q.binders_passed t e) state h.1))
-  param_refused (descent_failed is (taken_apart g) d) state o i name same = absurd (cc)
+  param_refused {t} {e} (term_failed is h) state o i name same = rw same at (leaf_caused unbuilt args t e (subst (λ q. LeafRefuses unbuilt q.args q.binders_passed t e) state h.2))
+  param_refused (descent_failed is (taken_apart kind g) d) state o i name same = absurd (cc)
+  param_refused (descent_failed is (gone_into other kind g) d) state o i name same = absurd (cc)
+  param_refused (descent_failed is (const_gone_into kind) d) state o i name same = let never = rw same at kind in absurd never
+  param_refused {t} (passed_failed is d) state o i name same = let never = rw same at (passed-gone t is) in absurd never
   param_refused (enter_failed h) state o i name same = absurd (cc)
   param_refused (under_failed enter d) state o i name same = absurd (cc)
   param_refused (leave_failed enter w h) state o i name same = absurd h
@@ -143,10 +151,20 @@ pub empty_err : {T : Type 0} (result : Result T Refusal) (value : T) (b : Bool) 
 empty_err result value true E some none refused = rw (some refl) (refused refl)
 empty_err result value false E some none refused = rw (none refl) tt
 
--- a type without parameters is untouched
+-- a type, a predicate or a clause list without parameters is untouched
+kept_back : (rows : List Row) (args : List (Argument Depth)) (s : Shape) → IsTypeOrClause (tree_in rows s) → holds_param (tree_in rows s) ≡ false → ComesBack args (tree_in rows s)
+kept_back rows args s kind none = record { no_param = none; hides = inr (hides_none (tree_in rows s) kind none) }
+
 pub type_back : (rows : List Row) (args : List (Argument Depth)) (s : Shape) (n : ℕ) → s ≡ stored Types n → IsPartOf rows s → holds_param (tree_in rows s) ≡ false → ComesBack args (tree_in rows s)
 unfolding fill IsPart
 type_back rows args s n is part none =
     let within : n < size rows Types = rw is at part in
-    let term : IsTerm (tree_in rows s) = rw is (type_term rows n within) in
-    record { no_param = none; hides = inr (hides_none (tree_in rows s) term none) }
+    let kind : IsTypeOrClause (tree_in rows s) = rw is (type_stays rows n within) in
+    kept_back rows args s kind none
+
+pub clauses_back : (rows : List Row) (args : List (Argument Depth)) (s : Shape) (t : Table) (n : ℕ) → IsOfClauses t → s ≡ stored t n → IsPartOf rows s → holds_param (tree_in rows s) ≡ false → ComesBack args (tree_in rows s)
+unfolding fill IsPart
+clauses_back rows args s t n of is part none =
+    let within : n < size rows t = rw is at part in
+    let kind : IsTypeOrClause (tree_in rows s) = rw is (clause_stays rows t n of within) in
+    kept_back rows args s kind none

@@ -1,7 +1,8 @@
 pub mod RowArguments
 pub mod FlagLaws
-pub mod UntouchedLaws
 pub mod HookLaws
 pub mod WalkLaws
+pub mod UntouchedLaws
 pub mod PositionLaws
+pub mod ClauseLaws
 pub mod InstanceLaws

@@ -1,19 +1,15 @@
 -- The argument folder's walk takes apart each type that holds a parameter and is none, at most once for each of its places.
 use Rattle.std.proofs.Common.{◌≡◌, ℕ, suc, ◌+◌, ◌≤◌, length, refl, ap, ◌∙◌, arith, length-append, Bool, true, false}
-use Rattle.std.specs.Prelude.{IsTrue}
+use Rattle.std.specs.Prelude.{IsTrue, ◌&&◌}
 use Rattle.tt_kinds.specs.Label.{Name, Label, is_type}
 use Rattle.tt_kinds.specs.Tree.{Depth, Tree, Forest, term, node}
 use Rattle.tt_kinds.specs.Param.{holds_param_among, IsGeneric_among}
 use Rattle.tt_kinds.specs.Count.{type_if, generic_types, generic_types_among}
 use Rattle.tt_kinds.proofs.ParamLaws.{IsGeneric-never}
-use Rattle.tt_interner.specs.Stored.{counted}
 use Rattle.tt_fold.specs.Counts.{Standing}
-use Rattle.tt_fold.specs.Walk.{Walks, Descends, WalksInside, WalksAll, at_region, replaced, kept, descended, rebuilt, at_node, at_binder, in_term, in_param, in_bound, done, next}
-use Rattle.tt_binder.specs.Instantiation.{Instantiation, given_argument, left_alone, taken_apart, arg_hooks}
-
--- a count grows by one at most
-counted-one : (n : ℕ) → counted n ≤ suc n
-counted-one n = grind arith
+use Rattle.tt_fold.specs.Walk.{Walks, Descends, WalksInside, WalksAll, at_region, replaced, kept, descended, passed, rebuilt, at_node, at_binder, in_term, in_param, in_bound, done, next}
+use Rattle.tt_fold.proofs.MovingLaws.{counted-one}
+use Rattle.tt_binder.specs.Instantiation.{Instantiation, given_argument, left_alone, taken_apart, gone_into, const_gone_into, arg_hooks}
 
 -- a parameter among the children is found
 found : (l : Label Name) (ts : Forest Depth) → IsGeneric_among ts → holds_param_among ts ≡ true
@@ -32,14 +28,22 @@ abbrev inside : ℕ → Tree Depth → ℕ
 inside k (term l ts) = length (generic_types_among k ts)
 inside k _ = 0
 
+-- they are among all
+inside-fits : (k : ℕ) (t : Tree Depth) → inside k t ≤ length (generic_types k t)
+inside-fits k (term l ts) = let both = length-append (type_if (is_type l && holds_param_among ts) (term l ts) k) (generic_types_among k ts) in omega (arith, both)
+inside-fits k _ = omega arith
+
 mutual
   pub few : {s s' : Standing Instantiation} {t r : Tree Depth} → Walks arg_hooks s t r s' → (k : ℕ) → s'.counters.descents ≤ s.counters.descents + length (generic_types k t)
   few {s} {s'} (at_region is h) k = let same = ap (λ q. q.counters.descents) h.0 in omega arith
-  few (replaced is (given_argument n d)) k = omega arith
-  few (kept is (left_alone h hides)) k = omega arith
-  few {s} (descended is (taken_apart {l} {ts} g) d) k =
+  few (replaced is (given_argument n more d)) k = omega arith
+  few (kept is (left_alone kind h)) k = omega arith
+  few {s} (descended is (taken_apart {l} {ts} kind g) d) k =
       let rest = few_rebuilt d k in
-      omega (arith, rest, own_place k l ts is g, counted-one s.counters.descents)
+      omega (arith, rest, own_place k l ts kind g, counted-one s.counters.descents)
+  few {t} (descended is (gone_into other kind g) d) k = let rest = few_rebuilt d k in omega (arith, rest, inside-fits k t)
+  few {t} (descended is (const_gone_into kind) d) k = let rest = few_rebuilt d k in omega (arith, rest, inside-fits k t)
+  few {t} (passed is w) k = let rest = few_inside w k in omega (arith, rest, inside-fits k t)
   few (at_node w) k = few_all w k
   few {s} {s'} (at_binder {s1} {s2} enter w leave) k =
       let rest = few w (suc k) in

@@ -1,73 +1,162 @@
--- What rows say of the types and the arguments that stand in them.
-use Rattle.std.proofs.Common.{inl, inr, ◌≡◌, ℕ, ◌<◌, List, [], ◌∷◌, refl, arith}
-use Rattle.std.specs.Prelude.{Option, Some, None, slice_get}
-use Rattle.tt_kinds.specs.Label.{type_sort, TypeLabel, type_label}
-use Rattle.tt_kinds.specs.Shape.{Meaning, fill, IsPart, AreParts}
-use Rattle.tt_kinds.specs.Kinds.{Form, param, bound, plain, under, relabelled, form_shape, ty_form, ty_kind_shape, ty_shape}
-use Rattle.tt_kinds.specs.declared.table.Table.TheVariants.{Types, ArgLists}
+-- What rows say of the terms and the arguments that stand in them.
+use Rattle.std.proofs.Common.{inl, inr, ◌≡◌, ℕ, ◌<◌, List, [], ◌∷◌, refl, subst, arith, Bool, false}
+use Rattle.std.specs.Prelude.{Option, Some, None, slice_get, IsTrue, ⊤}
+use Rattle.tt_kinds.specs.Label.{Name, Sort, type_sort, const_sort, Label, type_label, const_label, is_type, is_type_or_clause}
+use Rattle.tt_kinds.specs.Tree as tree
+use Rattle.tt_kinds.specs.Tree.{Depth, Tree}
+use Rattle.tt_kinds.specs.Shape.{Meaning, fill, name_of, rename_label, IsPart, AreParts}
+use Rattle.tt_kinds.specs.Kinds.{Form, param, bound, plain, under, relabelled, form_shape, ty_form, const_form, ty_kind_shape, const_kind_shape, ty_shape, const_shape, predicate_shape, clauses_shape}
+use Rattle.tt_kinds.specs.declared.table.Table.{Table}
+use Rattle.tt_kinds.specs.declared.table.Table.TheVariants.{Types, Consts, Predicates, ClauseLists, ArgLists}
 use Rattle.tt_kinds.specs.declared.handle.Ty.{Ty}
-use Rattle.tt_kinds.specs.declared.ty_kind.TyKind.{TyKind}
+use Rattle.tt_kinds.specs.declared.handle.Const.{Const}
+use Rattle.tt_kinds.specs.declared.handle.Predicate.{Predicate}
+use Rattle.tt_kinds.specs.declared.handle.Clauses.{Clauses}
 use Rattle.tt_kinds.specs.declared.handle.GenericArgs.{GenericArgs}
-use Rattle.tt_interner.specs.Rows.{Row, type_row, tys_row, args_row, vars_row, text_row, row_table, row_shape, table, size, meaning, AreRows}
+use Rattle.tt_kinds.specs.declared.ty_kind.TyKind.{TyKind}
+use Rattle.tt_kinds.specs.declared.const_kind.ConstKind.{ConstKind}
+use Rattle.tt_interner.specs.Rows.{Row, type_row, const_row, pat_row, predicate_row, existential_row, clauses_row, tys_row, consts_row, args_row, pats_row, vars_row, existentials_row, text_row, row_table, row_shape, table, size, meaning, AreRows}
 use Rattle.tt_interner.proofs.RowLaws.{IsNewest, place_cases, meaning-old, meaning-new}
 use Rattle.tt_interner.proofs.Trees.{Means-row}
 use Rattle.tt_interner.specs.Stored.{IsAt}
-use Rattle.tt_fold.specs.Walk.{IsTerm}
 use Rattle.tt_fold.specs.Steps.{IsPartOf, tree_in}
 use Rattle.tt_binder.specs.Arguments.{AreArguments, row_args, args_at}
+use Rattle.tt_binder.specs.Instance.{IsOfClauses}
+use Rattle.tt_binder.specs.Instantiation.{IsTypeOrClause, is_const, IsInnerConst, IsParam}
 
 -- the arguments of a stored list are among the rows
 row_args_parts : (rows : List Row) → AreRows rows → (n : ℕ) (o : Option Row) → slice_get (table ArgLists rows) n ≡ o → AreArguments rows (row_args o)
 unfolding AreParts
 row_args_parts rows are n None e = tt
-row_args_parts rows are n (Some (type_row k)) e = tt
-row_args_parts rows are n (Some (tys_row tys)) e = tt
 row_args_parts rows are n (Some (args_row args)) e = (Means-row rows are ArgLists n (args_row args) e).parts.1
-row_args_parts rows are n (Some (vars_row vs)) e = tt
-row_args_parts rows are n (Some (text_row bytes)) e = tt
+row_args_parts rows are n (Some _) e = tt
 
 pub are_arguments_at : (rows : List Row) (args : GenericArgs) → AreRows rows → AreArguments rows (args_at rows args)
 are_arguments_at rows args are = row_args_parts rows are args.number (slice_get (table ArgLists rows) args.number) refl
 
--- the tree of a type's kind is a type's
-form_term : (f : Meaning) (k : Form TypeLabel) → IsTerm (fill f (form_shape type_sort (relabelled type_label k)))
+-- what a parameter, a variable or a term of a sort and of some labels is
+abbrev IsOfSort : Sort → (Label Name → Bool) → Tree Depth → Type 0
+IsOfSort sort of_label (tree.param s i name) = s ≡ sort
+IsOfSort sort of_label (tree.bound s d e) = s ≡ sort
+IsOfSort sort of_label (tree.term l ts) = IsTrue (of_label l)
+IsOfSort sort of_label _ = ⊥
+
+-- the tree is a type's; a constant's; a predicate's or a clause list's
+abbrev pub IsTypeTree : Tree Depth → Type 0
+IsTypeTree t = IsOfSort type_sort is_type t
+
+abbrev pub IsConstTree : Tree Depth → Type 0
+IsConstTree t = IsOfSort const_sort is_const t
+
+abbrev pub IsClauseTree : Tree Depth → Type 0
+IsClauseTree (tree.term l ts) = (is_type l ≡ false) × IsTrue (is_type_or_clause l)
+IsClauseTree _ = ⊥
+
+-- what the trees of a table are
+abbrev IsOf : Table → Tree Depth → Type 0
+IsOf Types t = IsTypeTree t
+IsOf Consts t = IsConstTree t
+IsOf Predicates t = IsClauseTree t
+IsOf ClauseLists t = IsClauseTree t
+IsOf _ t = ⊤
+
+form_is : {L : Type 0} (label : L → Label ℕ) (sort : Sort) (of_label : Label Name → Bool) (f : Meaning) → ((l : L) → IsTrue (of_label (rename_label (name_of f) (label l))))
+    → (k : Form L) → IsOfSort sort of_label (fill f (form_shape sort (relabelled label k)))
 unfolding fill
-form_term f (param i name) = tt
-form_term f (bound d e) = tt
-form_term f (plain l p) = refl
-form_term f (under l vs m p) = refl
+form_is label sort of_label f labels (param i name) = refl
+form_is label sort of_label f labels (bound d e) = refl
+form_is label sort of_label f labels (plain l p) = labels l
+form_is label sort of_label f labels (under l vars m p) = labels l
 
-row_term : (f : Meaning) (r : Row) → row_table r ≡ Types → IsTerm (fill f (row_shape r))
-row_term f (type_row k) e = form_term f (ty_form k)
-row_term f (tys_row tys) e = cc
-row_term f (args_row args) e = cc
-row_term f (vars_row vs) e = cc
-row_term f (text_row bytes) e = cc
+row_is : (f : Meaning) (r : Row) → IsOf (row_table r) (fill f (row_shape r))
+unfolding fill
+row_is f (type_row k) = form_is type_label type_sort is_type f (λ l. refl) (ty_form k)
+row_is f (const_row k) = form_is const_label const_sort is_const f (λ l. refl) (const_form k)
+row_is f (pat_row k) = tt
+row_is f (predicate_row b) = (refl, refl)
+row_is f (existential_row b) = tt
+row_is f (clauses_row cs) = (refl, refl)
+row_is f (tys_row tys) = tt
+row_is f (consts_row cs) = tt
+row_is f (args_row args) = tt
+row_is f (pats_row ps) = tt
+row_is f (vars_row vs) = tt
+row_is f (existentials_row ps) = tt
+row_is f (text_row bytes) = tt
 
-newest_term : (r : Row) (rows : List Row) (n : ℕ) → IsNewest r rows Types n → IsTerm (meaning (r ∷ rows) Types n)
-newest_term r rows n newest =
-    let same : meaning (r ∷ rows) Types n ≡ fill (meaning rows) (row_shape r) = rw (newest.last, ← newest.same_table) (meaning-new r rows) in
-    rw same (row_term (meaning rows) r newest.same_table)
+newest_is : (r : Row) (rows : List Row) (t : Table) (n : ℕ) → IsNewest r rows t n → IsOf t (meaning (r ∷ rows) t n)
+newest_is r rows t n newest =
+    let same : meaning (r ∷ rows) t n ≡ fill (meaning rows) (row_shape r) = rw (newest.last, ← newest.same_table) (meaning-new r rows) in
+    rw same (subst (λ u. IsOf u (fill (meaning rows) (row_shape r))) newest.same_table (row_is (meaning rows) r))
 
--- the tree of a type's handle is a type's
-pub type_term : (rows : List Row) (n : ℕ) → n < size rows Types → IsTerm (meaning rows Types n)
+stored_is : (rows : List Row) (t : Table) (n : ℕ) → n < size rows t → IsOf t (meaning rows t n)
 unfolding table
-type_term [] n h = absurd (omega (arith, h))
-type_term (r ∷ rows) n h = elim (place_cases r rows Types n h) [
-  | inl old ↦ rw (meaning-old r rows Types n old) (type_term rows n old)
-  | inr newest ↦ newest_term r rows n newest
+stored_is [] t n h = absurd (omega (arith, h))
+stored_is (r ∷ rows) t n h = elim (place_cases r rows t n h) [
+  | inl old ↦ rw (meaning-old r rows t n old) (stored_is rows t n old)
+  | inr newest ↦ newest_is r rows t n newest
 ]
 
--- the same of a type
+-- a type, a predicate and a clause list stay where they hold no parameter
+type_label_stays : (l : Label Name) → IsTrue (is_type l) → IsTrue (is_type_or_clause l)
+type_label_stays (type_label l) h = refl
+type_label_stays _ h = cc
+
+pub type_kept : (t : Tree Depth) → IsTypeTree t → IsTypeOrClause t
+type_kept (tree.param s i name) is = rw is refl
+type_kept (tree.bound s d e) is = rw is refl
+type_kept (tree.term l ts) is = type_label_stays l is
+type_kept _ is = absurd is
+
+pub clause_kept : (t : Tree Depth) → IsClauseTree t → IsTypeOrClause t
+clause_kept (tree.term l ts) is = is.1
+clause_kept _ is = absurd is
+
+pub type_stays : (rows : List Row) (n : ℕ) → n < size rows Types → IsTypeOrClause (meaning rows Types n)
+type_stays rows n h = type_kept (meaning rows Types n) (stored_is rows Types n h)
+
+pub clause_stays : (rows : List Row) (t : Table) (n : ℕ) → IsOfClauses t → n < size rows t → IsTypeOrClause (meaning rows t n)
+clause_stays rows Predicates n of h = clause_kept (meaning rows Predicates n) (stored_is rows Predicates n h)
+clause_stays rows ClauseLists n of h = clause_kept (meaning rows ClauseLists n) (stored_is rows ClauseLists n h)
+clause_stays rows _ n of h = absurd of
+
+-- a constant that is no parameter
+pub inner_const : (t : Tree Depth) → IsConstTree t → ((i : ℕ) → IsParam const_sort i t → ⊥) → IsInnerConst t
+inner_const (tree.param s i name) is other = absurd (other i (is, refl))
+inner_const (tree.bound s d e) is other = is
+inner_const (tree.term l ts) is other = is
+inner_const _ is other = absurd is
+
+-- the same of handles
 pub type_within : (rows : List Row) (ty : Ty) → IsPartOf rows (ty_shape ty) → ty.number < size rows Types
 unfolding IsPart
 type_within rows ty h = h
 
-pub term_of : (rows : List Row) (ty : Ty) → IsPartOf rows (ty_shape ty) → IsTerm (tree_in rows (ty_shape ty))
-unfolding fill
-term_of rows ty h = type_term rows ty.number (type_within rows ty h)
+pub const_within : (rows : List Row) (c : Const) → IsPartOf rows (const_shape c) → c.number < size rows Consts
+unfolding IsPart
+const_within rows c h = h
 
--- a type's tree is its kind's
+pub type_is : (rows : List Row) (ty : Ty) → IsPartOf rows (ty_shape ty) → IsTypeTree (tree_in rows (ty_shape ty))
+unfolding fill
+type_is rows ty h = stored_is rows Types ty.number (type_within rows ty h)
+
+pub const_is : (rows : List Row) (c : Const) → IsPartOf rows (const_shape c) → IsConstTree (tree_in rows (const_shape c))
+unfolding fill
+const_is rows c h = stored_is rows Consts c.number (const_within rows c h)
+
+pub predicate_is : (rows : List Row) (p : Predicate) → IsPartOf rows (predicate_shape p) → IsClauseTree (tree_in rows (predicate_shape p))
+unfolding fill IsPart
+predicate_is rows p h = stored_is rows Predicates p.number h
+
+pub clauses_is : (rows : List Row) (cs : Clauses) → IsPartOf rows (clauses_shape cs) → IsClauseTree (tree_in rows (clauses_shape cs))
+unfolding fill IsPart
+clauses_is rows cs h = stored_is rows ClauseLists cs.number h
+
+-- a type's tree is its kind's, and so with constants
 pub kind_tree : (rows : List Row) (ty : Ty) (kind : TyKind) → AreRows rows → IsAt rows (type_row kind) ty.number → tree_in rows (ty_shape ty) ≡ fill (meaning rows) (ty_kind_shape kind)
 unfolding fill
 kind_tree rows ty kind are at = (Means-row rows are Types ty.number (type_row kind) at).tree
+
+pub const_kind_tree : (rows : List Row) (c : Const) (kind : ConstKind) → AreRows rows → IsAt rows (const_row kind) c.number → tree_in rows (const_shape c) ≡ fill (meaning rows) (const_kind_shape kind)
+unfolding fill
+const_kind_tree rows c kind are at = (Means-row rows are Consts c.number (const_row kind) at).tree

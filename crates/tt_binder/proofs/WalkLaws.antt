@@ -1,29 +1,43 @@
 -- The argument folder's walk gives plain replacement, and is refused only for its reasons.
-use Rattle.std.proofs.Common.{◌≡◌, ℕ, suc, ◌-◌, ◌≤◌, inl, inr, List, refl, sym, ap, ◌∙◌, arith, false}
+use Rattle.std.proofs.Common.{◌≡◌, ℕ, suc, ◌-◌, ◌≤◌, inl, inr, List, refl, sym, ap, subst, ◌∙◌, arith, Bool, true, false}
 use Rattle.std.specs.Prelude.{IsSome, ⊤}
+use Rattle.std.specs.Bool.{OnTrue}
 use Rattle.tt_index.specs.Greatest.{greatest}
 use Rattle.tt_index.specs.declared.refusal.Refusal.{Refusal}
 use Rattle.tt_index.specs.declared.refusal.Refusal.TheVariants.{Memory, TableFull, GreatestIndex, NoArguments, ArgOutOfRange, ArgKind, RegionVariable, NotAClause, NoSuchAnswer}
-use Rattle.tt_kinds.specs.Label.{Name, VarKind, Label, record_label, sequence_record}
-use Rattle.tt_kinds.specs.Tree.{Depth, Tree, Forest, term, node, binder, also}
+use Rattle.tt_kinds.specs.Label.{Name, region_sort, type_sort, const_sort, VarKind, type_label, const_label, pattern_label, predicate_label, existential_label, clause_list_label, list_label, var_list_label, text_label, record_label, Label, is_type_or_clause}
+use Rattle.tt_kinds.specs.Tree.{Depth, Tree, Forest, param, bound, region, term, node, binder, also}
 use Rattle.tt_kinds.specs.Reading.{read_all, FitsUnder_all}
 use Rattle.tt_kinds.specs.Argument.{Argument, argument}
-use Rattle.tt_kinds.specs.Plain.{inst_forest}
+use Rattle.tt_kinds.specs.Plain.{inst_tree, inst_forest}
 use Rattle.tt_kinds.specs.Param.{holds_param, EachParam_among, IsGeneric_among}
 use Rattle.tt_kinds.specs.Cause.{HidesRegionVars, HasExposed_among, Cause}
 use Rattle.tt_kinds.proofs.ParamLaws.{inst_tree-none, EachParam-none}
-use Rattle.tt_kinds.proofs.ChildLaws.{Among, here as among_here, later as among_later, HasParam-among, HasExposed-among, Cause-child}
-use Rattle.tt_interner.specs.Stored.{counted}
+use Rattle.tt_kinds.proofs.ChildLaws.{Among, here as among_here, later as among_later, HasParam-among, HasExposed-among}
+use Rattle.tt_interner.specs.Stored.{Counters, counted}
 use Rattle.tt_fold.specs.Counts.{Standing}
-use Rattle.tt_fold.specs.Walk.{Walks, Descends, WalksInside, WalksAll, at_region, replaced, kept, descended, rebuilt, at_node, at_binder, in_term, in_param, in_bound, done, next, Fails, DescentFails, FailsInside, FailsAll, region_failed, term_failed, descent_failed, enter_failed, under_failed, leave_failed, node_failed, node_not_built, stopped, inside_failed, not_built, after_failed, in_term_failed, here, later}
-use Rattle.tt_binder.specs.Instantiation.{Instantiation, Instantiates, Refuses, without, too_far, caused, LeafRefuses, for_cause, unshifted, deeper, shallower, given_argument, left_alone, taken_apart, arg_hooks}
+use Rattle.tt_fold.specs.Stands.{itself, in_term as stands_in_term, in_node as stands_in_node, in_binder as stands_in_binder, StandsAmong, in_first, in_later}
+use Rattle.tt_fold.specs.Walk.{descend, IsPassed, Walks, Descends, WalksInside, WalksAll, at_region, replaced, kept, descended, passed, rebuilt, at_node, at_binder, in_term, in_param, in_bound, done, next, Fails, DescentFails, InsideFails, FailsAll, region_failed, term_failed, descent_failed, passed_failed, enter_failed, under_failed, leave_failed, node_failed, node_not_built, stopped, inside_failed, not_built, after_failed, in_term_failed, here, later}
+use Rattle.tt_fold.proofs.ShiftLaws.{counted-up}
+use Rattle.tt_binder.specs.Instantiation.{Instantiation, Instantiates, Refuses, without, too_far, caused, LeafRefuses, for_cause, unshifted, deeper, shallower, IsInnerConst, OnTerm, given_argument, left_alone, taken_apart, gone_into, const_gone_into, arg_hooks}
+use Rattle.tt_binder.proofs.FlagLaws.{hides_none}
 
 ap2 : {A B C : Type 0} (f : A → B → C) {a a' : A} {b b' : B} → a ≡ a' → b ≡ b' → f a b ≡ f a' b'
 ap2 f p q = cc
 
--- a count never falls
-counted-up : (n : ℕ) → n ≤ counted n
-counted-up n = grind arith
+-- neither count falls
+pub record Rises (c c' : Counters) : Type 0 where
+  pub descents : c.descents ≤ c'.descents
+  pub shift_descents : c.shift_descents ≤ c'.shift_descents
+
+rises-same : {c c' : Counters} → c' ≡ c → Rises c c'
+rises-same h = rw h (record { descents = omega arith; shift_descents = omega arith })
+
+rises-then : {a b c : Counters} → Rises a b → Rises b c → Rises a c
+rises-then m n = record { descents = omega (arith, m.descents, n.descents); shift_descents = omega (arith, m.shift_descents, n.shift_descents) }
+
+rises-more : {c c' : Counters} → Rises (record { descents = counted c.descents; shift_descents = c.shift_descents }) c' → Rises c c'
+rises-more {c} m = record { descents = omega (arith, m.descents, counted-up c.descents); shift_descents = m.shift_descents }
 
 -- the trees are the others instantiated, each parameter has an argument, and no region variable is exposed
 record InstantiatesAll (args : List (Argument Depth)) (k : ℕ) (ts us : Forest Depth) : Type 0 where
@@ -34,13 +48,13 @@ record InstantiatesAll (args : List (Argument Depth)) (k : ℕ) (ts us : Forest 
 -- what a walk does to the state
 pub record Stays (s s' : Standing Instantiation) : Type 0 where
   pub state : s'.state ≡ s.state
-  pub descents : s.counters.descents ≤ s'.counters.descents
+  pub rises : Rises s.counters s'.counters
 
 stays-still : (s : Standing Instantiation) → Stays s s
-stays-still s = record { state = refl; descents = omega arith }
+stays-still s = record { state = refl; rises = rises-same refl }
 
 stays-then : (s s1 s2 : Standing Instantiation) → Stays s s1 → Stays s1 s2 → Stays s s2
-stays-then s s1 s2 a b = record { state = b.state ∙ a.state; descents = omega (arith, a.descents, b.descents) }
+stays-then s s1 s2 a b = record { state = b.state ∙ a.state; rises = rises-then a.rises b.rises }
 
 -- a walk of a tree, and of trees
 pub record Does (s : Standing Instantiation) (t r : Tree Depth) (s' : Standing Instantiation) : Type 0 where
@@ -78,27 +92,78 @@ left_binder s s1 s2 s' enter m leave =
     let passed : s2.state.binders_passed ≡ suc s.state.binders_passed = ap (λ q. q.binders_passed) m.state ∙ ap (λ q. q.state.binders_passed) enter in
     let back : s2.state.binders_passed - 1 ≡ s.state.binders_passed = omega (arith, passed) in
     let same : s2.state.args ≡ s.state.args = ap (λ q. q.args) m.state ∙ ap (λ q. q.state.args) enter in
-    let before : s1.counters.descents ≡ s.counters.descents = ap (λ q. q.counters.descents) enter in
-    let after : s'.counters.descents ≡ s2.counters.descents = ap (λ q. q.counters.descents) leave in
+    let before : s1.counters ≡ s.counters = ap (λ q. q.counters) enter in
+    let after : s'.counters ≡ s2.counters = ap (λ q. q.counters) leave in
     record {
       state = ap (λ q. q.state) leave ∙ ap2 (λ args n. record { args = args; binders_passed = n }) same back;
-      descents = omega (arith, m.descents, before, after);
+      rises = rises-then (rises-same before) (rises-then m.rises (rises-same after));
     }
 
--- a term with children
-abbrev IsInner : Tree Depth → Type 0
-IsInner (term l ts) = ⊤
-IsInner _ = ⊥
+-- what is gone into: a variable, or a term that holds a parameter if it would hide its region variables else
+abbrev pub IsGoneInto : Tree Depth → Type 0
+IsGoneInto (bound s d e) = ⊤
+IsGoneInto (term l ts) = OnTrue (is_type_or_clause l) (IsGeneric_among ts)
+IsGoneInto _ = ⊥
+
+-- where the hook answers so, and where there is none
+on_true : (b : Bool) {P : Type 0} → P → OnTrue b P
+on_true true h = h
+on_true false h = tt
+
+pub const-gone : (t : Tree Depth) → IsInnerConst t → IsGoneInto t
+const-gone (bound s d e) is = tt
+const-gone (term (const_label l) ts) is = tt
+const-gone (term (type_label l) ts) is = cc
+const-gone (term predicate_label ts) is = cc
+const-gone (term clause_list_label ts) is = cc
+const-gone (term _ ts) is = tt
+const-gone _ is = absurd is
+
+descend-gone : {s s' : Standing Instantiation} (t : Tree Depth) → OnTerm s t descend s' → IsGoneInto t
+descend-gone (term l ts) (taken_apart kind g) = on_true (is_type_or_clause l) g
+descend-gone (term l ts) (gone_into other kind g) = on_true (is_type_or_clause l) g
+descend-gone t (const_gone_into is) = const-gone t is
+
+pub passed-gone : (t : Tree Depth) → IsPassed t → IsGoneInto t
+passed-gone (param region_sort i name) is = cc
+passed-gone (param type_sort i name) is = cc
+passed-gone (param const_sort i name) is = cc
+passed-gone (bound s d e) is = tt
+passed-gone (region r) is = cc
+passed-gone (term (type_label l) ts) is = cc
+passed-gone (term (const_label l) ts) is = cc
+passed-gone (term (pattern_label l) ts) is = tt
+passed-gone (term predicate_label ts) is = cc
+passed-gone (term existential_label ts) is = tt
+passed-gone (term clause_list_label ts) is = cc
+passed-gone (term (list_label t) ts) is = tt
+passed-gone (term (var_list_label vs) ts) is = tt
+passed-gone (term (text_label bytes) ts) is = tt
+passed-gone (term (record_label l) ts) is = tt
+passed-gone (node (type_label l) ts) is = cc
+passed-gone (node (const_label l) ts) is = cc
+passed-gone (node (pattern_label l) ts) is = cc
+passed-gone (node predicate_label ts) is = cc
+passed-gone (node existential_label ts) is = cc
+passed-gone (node clause_list_label ts) is = cc
+passed-gone (node (list_label t) ts) is = cc
+passed-gone (node (var_list_label vs) ts) is = cc
+passed-gone (node (text_label bytes) ts) is = cc
+passed-gone (node (record_label l) ts) is = cc
+passed-gone (binder vs t) is = cc
 
 mutual
   -- a walk instantiates, and leaves the state
   pub does : {s s' : Standing Instantiation} {t r : Tree Depth} → Walks arg_hooks s t r s' → Does s t r s'
   does {s} (at_region is h) = rw h.0 (record { stays = stays-still s; does = h.1 })
-  does {s} (replaced is (given_argument n d)) = record { stays = record { state = refl; descents = omega arith }; does = d }
-  does {s} (kept {t} is (left_alone h hides)) = record { stays = stays-still s; does = left_done s.state.args s.state.binders_passed t h hides }
-  does {s} {s'} (descended is (taken_apart g) d) =
-      let n = does_rebuilt d tt in
-      record { stays = record { state = n.stays.state; descents = omega (arith, n.stays.descents, counted-up s.counters.descents) }; does = n.does }
+  does {s} (replaced is (given_argument n more d)) = record { stays = record { state = refl; rises = record { descents = omega arith; shift_descents = more } }; does = d }
+  does {s} (kept {t} is (left_alone kind h)) = record { stays = stays-still s; does = left_done s.state.args s.state.binders_passed t h (hides_none t kind h) }
+  does {s} {s'} {t} (descended is (taken_apart kind g) d) =
+      let n = does_rebuilt d (descend-gone t (taken_apart {s = s} kind g)) in
+      record { stays = record { state = n.stays.state; rises = rises-more n.stays.rises }; does = n.does }
+  does {s} {s'} {t} (descended is (gone_into other kind g) d) = does_rebuilt d (descend-gone t (gone_into {s = s} other kind g))
+  does {s} {s'} {t} (descended is (const_gone_into kind) d) = does_rebuilt d (const-gone t kind)
+  does {t} (passed is w) = does_inside w (passed-gone t is)
   does {s} (at_node {l} {ts} {us} w) = let n = does_all w in record { stays = n.stays; does = node_done s.state.args s.state.binders_passed l ts us n.does }
   does {s} {s'} (at_binder {s1} {s2} {vs} {t} {u} enter w leave) =
       let n = does w in
@@ -107,17 +172,17 @@ mutual
         does = binder_done s.state.args s.state.binders_passed vs t u (rw enter at n.does);
       }
 
-  does_rebuilt : {s s' : Standing Instantiation} {t r : Tree Depth} → Descends arg_hooks s t r s' → IsInner t → Does s t r s'
-  does_rebuilt (rebuilt w after) inner =
-      let n = does_inside w inner in
+  does_rebuilt : {s s' : Standing Instantiation} {t r : Tree Depth} → Descends arg_hooks s t r s' → IsGoneInto t → Does s t r s'
+  does_rebuilt (rebuilt w after) gone =
+      let n = does_inside w gone in
       rw (after.0, after.1) (record { stays = n.stays; does = n.does })
 
-  does_inside : {s s' : Standing Instantiation} {t u : Tree Depth} → WalksInside arg_hooks s t u s' → IsInner t → Does s t u s'
-  does_inside {s} (in_term {l} {ts} {us} w) inner =
+  does_inside : {s s' : Standing Instantiation} {t u : Tree Depth} → WalksInside arg_hooks s t u s' → IsGoneInto t → Does s t u s'
+  does_inside {s} (in_term {l} {ts} {us} w) gone =
       let n = does_all w in
       record { stays = n.stays; does = term_done s.state.args s.state.binders_passed l ts us n.does }
-  does_inside in_param inner = absurd inner
-  does_inside in_bound inner = absurd inner
+  does_inside in_param gone = absurd gone
+  does_inside {s} {s'} {t} in_bound gone = record { stays = stays-still s; does = left_done s.state.args s.state.binders_passed t refl (λ x h. h) }
 
   does_all : {s s' : Standing Instantiation} {ts us : Forest Depth} → WalksAll arg_hooks s ts us s' → DoesAll s ts us s'
   does_all {s} done = record { stays = stays-still s; does = record { plain = refl; answered = tt; hides = λ x h. h } }
@@ -131,11 +196,24 @@ mutual
 
 -- trees under k binders are refused
 data RefusesAll (unbuilt : Tree Depth → Refusal → Type 0) (args : List (Argument Depth)) (k : ℕ) (ts : Forest Depth) (e : Refusal) : Type 0 where
-  without_all : (u : Tree Depth) → unbuilt u e → RefusesAll unbuilt args k ts e
+  without_any : ((u : Tree Depth) → unbuilt u e) → RefusesAll unbuilt args k ts e
+  without_one : (u : Tree Depth) → StandsAmong u (inst_forest k args ts) → unbuilt u e → RefusesAll unbuilt args k ts e
   too_far_all : e ≡ GreatestIndex → (FitsUnder_all k (read_all k (inst_forest k args ts)) → ⊥) → RefusesAll unbuilt args k ts e
   caused_among : (t : Tree Depth) → Among t ts → Cause t args e → RefusesAll unbuilt args k ts e
 
--- a cause that stands in a child of a node, or under a binder, stands in the whole
+-- a cause that stands in a child of a term or a node, or under a binder, stands in the whole
+Cause-term : (args : List (Argument Depth)) (l : Label Name) (t : Tree Depth) (ts : Forest Depth) → Among t ts → OnTrue (is_type_or_clause l) (IsGeneric_among ts)
+    → (e : Refusal) → Cause t args e → Cause (term l ts) args e
+Cause-term args l t ts m g Memory h = h
+Cause-term args l t ts m g TableFull h = h
+Cause-term args l t ts m g GreatestIndex h = h
+Cause-term args l t ts m g NotAClause h = h
+Cause-term args l t ts m g NoSuchAnswer h = h
+Cause-term args l t ts m g NoArguments h = (h.0, HasParam-among _ t ts m h.1)
+Cause-term args l t ts m g (ArgOutOfRange index) h = (h.0, HasParam-among _ t ts m h.1, h.2)
+Cause-term args l t ts m g (ArgKind index) h = HasParam-among _ t ts m h
+Cause-term args l t ts m g (RegionVariable x) h = (h.0, (g, HasExposed-among x t ts m h.1))
+
 Cause-node : (args : List (Argument Depth)) (l : Label Name) (t : Tree Depth) (ts : Forest Depth) → Among t ts → (e : Refusal) → Cause t args e → Cause (node l ts) args e
 Cause-node args l t ts m Memory h = h
 Cause-node args l t ts m TableFull h = h
@@ -161,43 +239,41 @@ Cause-binder args vs t (RegionVariable x) h = h
 -- a reason in a part is one in the whole
 module _ (unbuilt : Tree Depth → Refusal → Type 0) (args : List (Argument Depth)) (k : ℕ) where
   refuses_first : (t : Tree Depth) (ts : Forest Depth) (e : Refusal) → Refuses unbuilt args k t e → RefusesAll unbuilt args k (also t ts) e
-  refuses_first t ts e (without u h) = without_all u h
+  refuses_first t ts e (without u m h) = without_one u (in_first m) h
   refuses_first t ts e (too_far h) = too_far_all h.is (λ fits. h.unfit fits.0)
   refuses_first t ts e (caused h) = caused_among t among_here h
 
   refuses_later : (t : Tree Depth) (ts : Forest Depth) (e : Refusal) → RefusesAll unbuilt args k ts e → RefusesAll unbuilt args k (also t ts) e
-  refuses_later t ts e (without_all u h) = without_all u h
+  refuses_later t ts e (without_any h) = without_any h
+  refuses_later t ts e (without_one u m h) = without_one u (in_later m) h
   refuses_later t ts e (too_far_all is h) = too_far_all is (λ fits. h fits.1)
   refuses_later t ts e (caused_among u m h) = caused_among u (among_later m) h
 
-  refuses_term : (l : Label Name) (ts : Forest Depth) (e : Refusal) → IsGeneric_among ts → RefusesAll unbuilt args k ts e → Refuses unbuilt args k (term l ts) e
-  refuses_term l ts e g (without_all u h) = without u h
+  refuses_term : (l : Label Name) (ts : Forest Depth) (e : Refusal) → OnTrue (is_type_or_clause l) (IsGeneric_among ts) → RefusesAll unbuilt args k ts e → Refuses unbuilt args k (term l ts) e
+  refuses_term l ts e g (without_any h) = without (inst_tree k args (term l ts)) itself (h (inst_tree k args (term l ts)))
+  refuses_term l ts e g (without_one u m h) = without u (stands_in_term m) h
   refuses_term l ts e g (too_far_all is h) = too_far (record { is = is; unfit = h })
-  refuses_term l ts e g (caused_among u m h) = caused (Cause-child args l u ts m g e h)
+  refuses_term l ts e g (caused_among u m h) = caused (Cause-term args l u ts m g e h)
 
   refuses_node : (l : Label Name) (ts : Forest Depth) (e : Refusal) → RefusesAll unbuilt args k ts e → Refuses unbuilt args k (node l ts) e
-  refuses_node l ts e (without_all u h) = without u h
+  refuses_node l ts e (without_any h) = without (inst_tree k args (node l ts)) itself (h (inst_tree k args (node l ts)))
+  refuses_node l ts e (without_one u m h) = without u (stands_in_node m) h
   refuses_node l ts e (too_far_all is h) = too_far (record { is = is; unfit = h })
   refuses_node l ts e (caused_among u m h) = caused (Cause-node args l u ts m e h)
 
   refuses_binder : (vs : List (VarKind Name)) (t : Tree Depth) (e : Refusal) → Refuses unbuilt args (suc k) t e → Refuses unbuilt args k (binder vs t) e
-  refuses_binder vs t e (without u h) = without u h
+  refuses_binder vs t e (without u m h) = without u (stands_in_binder m) h
   refuses_binder vs t e (too_far h) = too_far (record { is = h.is; unfit = λ fits. h.unfit fits.1 })
   refuses_binder vs t e (caused h) = caused (Cause-binder args vs t e h)
 
   too_deep : (vs : List (VarKind Name)) (t : Tree Depth) (e : Refusal) → e ≡ GreatestIndex → greatest ≤ k → Refuses unbuilt args k (binder vs t) e
   too_deep vs t e is deep = too_far (record { is = is; unfit = λ fits. omega (arith, fits.0, deep) })
 
--- a walk inside of a term doesn't lower the count
-inside_up : {s s' : Standing Instantiation} {t u : Tree Depth} → WalksInside arg_hooks s t u s' → s.counters.descents ≤ s'.counters.descents
-inside_up (in_term w) = (does_all w).stays.descents
-inside_up in_param = omega arith
-inside_up in_bound = omega arith
-
--- a term with a parameter inside
-abbrev IsGenericTerm : Tree Depth → Type 0
-IsGenericTerm (term l ts) = IsGeneric_among ts
-IsGenericTerm _ = ⊥
+-- a walk inside of a term lowers no count
+inside_up : {s s' : Standing Instantiation} {t u : Tree Depth} → WalksInside arg_hooks s t u s' → Rises s.counters s'.counters
+inside_up (in_term w) = (does_all w).stays.rises
+inside_up in_param = rises-same refl
+inside_up in_bound = rises-same refl
 
 module _ (unbuilt : Tree Depth → Refusal → Type 0) where
   at_leaf : (args : List (Argument Depth)) (k : ℕ) (t : Tree Depth) (e : Refusal) → LeafRefuses unbuilt args k t e → Refuses unbuilt args k t e
@@ -208,48 +284,56 @@ module _ (unbuilt : Tree Depth → Refusal → Type 0) where
     -- a refused walk has a reason
     pub refuses : {s s' : Standing Instantiation} {t : Tree Depth} {e : Refusal} → Fails arg_hooks unbuilt s t e s' → Refuses unbuilt s.state.args s.state.binders_passed t e
     refuses {s} {t} {e} (region_failed is h) = at_leaf s.state.args s.state.binders_passed t e h.1
-    refuses {s} {t} {e} (term_failed is h) = at_leaf s.state.args s.state.binders_passed t e h.1
-    refuses (descent_failed is (taken_apart g) d) = refuses_rebuilt d g
+    refuses {s} {t} {e} (term_failed is h) = at_leaf s.state.args s.state.binders_passed t e h.2
+    refuses {s} {s'} {t} (descent_failed is (taken_apart kind g) d) = refuses_rebuilt d (descend-gone t (taken_apart {s = s} kind g))
+    refuses {s} {s'} {t} (descent_failed is (gone_into other kind g) d) = refuses_rebuilt d (descend-gone t (gone_into {s = s} other kind g))
+    refuses {s} {s'} {t} (descent_failed is (const_gone_into kind) d) = refuses_rebuilt d (const-gone t kind)
+    refuses {t} (passed_failed is d) = refuses_inside d (passed-gone t is)
     refuses {s} (enter_failed {vs} {t} {e} h) = too_deep unbuilt s.state.args s.state.binders_passed vs t e h.1 h.2
     refuses {s} (under_failed {vs} {t} {e} enter d) = refuses_binder unbuilt s.state.args s.state.binders_passed vs t e (rw enter at (refuses d))
     refuses (leave_failed enter w h) = absurd h
     refuses {s} (node_failed {l} {ts} {e} d) = refuses_node unbuilt s.state.args s.state.binders_passed l ts e (refuses_all d)
-    refuses (node_not_built {l} {us} {e} w b) = without (node l us) b
+    refuses {s} (node_not_built {l} {ts} {us} {e} w b) =
+        without (inst_tree s.state.binders_passed s.state.args (node l ts)) itself (subst (λ vs. unbuilt (node l vs) e) (does_all w).does.plain b)
 
-    refuses_rebuilt : {s s' : Standing Instantiation} {t : Tree Depth} {e : Refusal} → DescentFails arg_hooks unbuilt s t e s' → IsGenericTerm t → Refuses unbuilt s.state.args s.state.binders_passed t e
-    refuses_rebuilt (inside_failed d) g = refuses_inside d g
-    refuses_rebuilt (not_built {u} w b) g = without u b
-    refuses_rebuilt (after_failed w h) g = absurd h
+    refuses_rebuilt : {s s' : Standing Instantiation} {t : Tree Depth} {e : Refusal} → DescentFails arg_hooks unbuilt s t e s' → IsGoneInto t → Refuses unbuilt s.state.args s.state.binders_passed t e
+    refuses_rebuilt (inside_failed d) gone = refuses_inside d gone
+    refuses_rebuilt (after_failed w h) gone = absurd h
 
-    refuses_inside : {s s' : Standing Instantiation} {t : Tree Depth} {e : Refusal} → FailsInside arg_hooks unbuilt s t e s' → IsGenericTerm t → Refuses unbuilt s.state.args s.state.binders_passed t e
-    refuses_inside {s} (in_term_failed {l} {ts} {e} d) g = refuses_term unbuilt s.state.args s.state.binders_passed l ts e g (refuses_all d)
+    refuses_inside : {s s' : Standing Instantiation} {t : Tree Depth} {e : Refusal} → InsideFails arg_hooks unbuilt s t e s' → IsGoneInto t → Refuses unbuilt s.state.args s.state.binders_passed t e
+    refuses_inside {s} (in_term_failed {l} {ts} {e} d) gone = refuses_term unbuilt s.state.args s.state.binders_passed l ts e gone (refuses_all d)
+    refuses_inside {s} (not_built {t} {u} {e} w b) gone =
+        without (inst_tree s.state.binders_passed s.state.args t) itself (subst (λ v. unbuilt v e) (does_inside w gone).does.plain b)
 
     refuses_all : {s s' : Standing Instantiation} {ts : Forest Depth} {e : Refusal} → FailsAll arg_hooks unbuilt s ts e s' → RefusesAll unbuilt s.state.args s.state.binders_passed ts e
-    refuses_all (stopped {ts} h) = without_all (node (record_label sequence_record) ts) (h _)
+    refuses_all (stopped h) = without_any h
     refuses_all {s} (here {t} {ts} {e} d) = refuses_first unbuilt s.state.args s.state.binders_passed t ts e (refuses d)
     refuses_all {s} (later {t} {ts} {e} w d) = refuses_later unbuilt s.state.args s.state.binders_passed t ts e (rw (does w).stays.state at (refuses_all d))
 
   mutual
-    -- nor does a refused walk lower the count
-    pub fails_up : {s s' : Standing Instantiation} {t : Tree Depth} {e : Refusal} → Fails arg_hooks unbuilt s t e s' → s.counters.descents ≤ s'.counters.descents
-    fails_up {s} {s'} (region_failed is h) = omega (arith, ap (λ q. q.counters.descents) h.0)
-    fails_up {s} {s'} (term_failed is h) = omega (arith, h.0)
-    fails_up {s} (descent_failed is (taken_apart g) d) = omega (arith, counted-up s.counters.descents, fails_up_rebuilt d)
-    fails_up {s} {s'} (enter_failed h) = omega (arith, ap (λ q. q.counters.descents) h.0)
-    fails_up {s} {s'} (under_failed {s1} enter d) = omega (arith, ap (λ q. q.counters.descents) enter, fails_up d)
+    -- nor does a refused walk lower a count
+    pub fails_up : {s s' : Standing Instantiation} {t : Tree Depth} {e : Refusal} → Fails arg_hooks unbuilt s t e s' → Rises s.counters s'.counters
+    fails_up (region_failed is h) = rises-same (ap (λ q. q.counters) h.0)
+    fails_up {s} {s'} (term_failed is h) = record { descents = omega (arith, h.0); shift_descents = h.1 }
+    fails_up (descent_failed is (taken_apart kind g) d) = rises-more (fails_up_rebuilt d)
+    fails_up (descent_failed is (gone_into other kind g) d) = fails_up_rebuilt d
+    fails_up (descent_failed is (const_gone_into kind) d) = fails_up_rebuilt d
+    fails_up (passed_failed is d) = fails_up_inside d
+    fails_up (enter_failed h) = rises-same (ap (λ q. q.counters) h.0)
+    fails_up (under_failed enter d) = rises-then (rises-same (ap (λ q. q.counters) enter)) (fails_up d)
     fails_up (leave_failed enter w h) = absurd h
     fails_up (node_failed d) = fails_up_all d
-    fails_up (node_not_built w b) = (does_all w).stays.descents
+    fails_up (node_not_built w b) = (does_all w).stays.rises
 
-    fails_up_rebuilt : {s s' : Standing Instantiation} {t : Tree Depth} {e : Refusal} → DescentFails arg_hooks unbuilt s t e s' → s.counters.descents ≤ s'.counters.descents
+    fails_up_rebuilt : {s s' : Standing Instantiation} {t : Tree Depth} {e : Refusal} → DescentFails arg_hooks unbuilt s t e s' → Rises s.counters s'.counters
     fails_up_rebuilt (inside_failed d) = fails_up_inside d
-    fails_up_rebuilt (not_built w b) = inside_up w
     fails_up_rebuilt (after_failed w h) = absurd h
 
-    fails_up_inside : {s s' : Standing Instantiation} {t : Tree Depth} {e : Refusal} → FailsInside arg_hooks unbuilt s t e s' → s.counters.descents ≤ s'.counters.descents
+    fails_up_inside : {s s' : Standing Instantiation} {t : Tree Depth} {e : Refusal} → InsideFails arg_hooks unbuilt s t e s' → Rises s.counters s'.counters
     fails_up_inside (in_term_failed d) = fails_up_all d
+    fails_up_inside (not_built w b) = inside_up w
 
-    fails_up_all : {s s' : Standing Instantiation} {ts : Forest Depth} {e : Refusal} → FailsAll arg_hooks unbuilt s ts e s' → s.counters.descents ≤ s'.counters.descents
-    fails_up_all (stopped h) = omega arith
+    fails_up_all : {s s' : Standing Instantiation} {ts : Forest Depth} {e : Refusal} → FailsAll arg_hooks unbuilt s ts e s' → Rises s.counters s'.counters
+    fails_up_all (stopped h) = rises-same refl
     fails_up_all (here d) = fails_up d
-    fails_up_all (later w d) = omega (arith, (does w).stays.descents, fails_up_all d)
+    fails_up_all (later w d) = rises-then (does w).stays.rises (fails_up_all d)

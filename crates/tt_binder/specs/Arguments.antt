@@ -1,6 +1,6 @@
 -- The arguments of an instantiation, as an interner's rows have them.
 use Rattle.std.specs.Prelude.{List, [], map, Option, Some, None, slice_get}
-use Rattle.tt_kinds.specs.Label.{Sort, region_sort, type_sort}
+use Rattle.tt_kinds.specs.Label.{Sort, region_sort, type_sort, const_sort}
 use Rattle.tt_kinds.specs.Tree.{Depth}
 use Rattle.tt_kinds.specs.Argument.{Argument}
 use Rattle.tt_kinds.specs.Shape.{AreParts, item_shapes}
@@ -16,6 +16,7 @@ use Rattle.tt_fold.specs.Steps.{tree_in}
 abbrev pub arg_sort : GenericArgKind → Sort
 arg_sort (arg.Lifetime r) = region_sort
 arg_sort (arg.«Type» t) = type_sort
+arg_sort (arg.Const c) = const_sort
 
 -- an argument with its tree
 abbrev pub argument_of : List Row → GenericArgKind → Argument Depth

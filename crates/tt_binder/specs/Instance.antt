@@ -1,15 +1,18 @@
 -- What an instantiation promises: of the result, and of a refusal.
-use Rattle.std.specs.Prelude.{ℕ, List, [], false, ◌≡◌, ◌≤◌, ◌⊎◌, ⊤}
+use Rattle.std.specs.Prelude.{ℕ, List, [], false, ◌≡◌, ◌⊎◌, ⊤}
 use Rattle.tt_index.specs.declared.refusal.Refusal.{Refusal}
 use Rattle.tt_index.specs.declared.refusal.Refusal.TheVariants.{Memory, TableFull, GreatestIndex}
 use Rattle.tt_kinds.specs.Tree.{Depth, Place, Tree}
 use Rattle.tt_kinds.specs.Reading.{read, move, Fits}
 use Rattle.tt_kinds.specs.Argument.{Argument, put, readings, change_values}
+use Rattle.tt_kinds.specs.Plain.{inst_tree}
 use Rattle.tt_kinds.specs.Matched.{MatchedUnder, ArgumentsMatched}
 use Rattle.tt_kinds.specs.Param.{holds_param, IsAnswered, ArgumentsHoldNone}
 use Rattle.tt_kinds.specs.Cause.{HidesRegionVars, Cause}
-use Rattle.tt_interner.specs.Rows.{Row, row_table, size, IsNew}
+use Rattle.tt_kinds.specs.declared.table.Table.{Table}
+use Rattle.tt_kinds.specs.declared.table.Table.TheVariants.{Predicates, ClauseLists}
 use Rattle.tt_interner.specs.Stored.{Terms}
+use Rattle.tt_fold.specs.Stands.{IsPartUnbuilt}
 
 -- the result reads as the value does, with each parameter replaced by its argument's reading
 abbrev pub IsPlain : List (Argument Depth) → Tree Depth → Tree Depth → Type 0
@@ -41,13 +44,19 @@ pub record IsInstance (args : List (Argument Depth)) (t r : Tree Depth) : Type 0
   pub answered : IsAnswered args t
   pub no_cause : HasNoCause args t
 
--- why an instantiation is refused, as its call ends: memory was refused, a new row's table is full, the plain result doesn't
--- fit, or a cause stands
+-- why an instantiation is refused, as its call ends: memory was refused, a term or a list of the plain result would be a new
+-- row of a table that is full, the plain result doesn't fit, or a cause stands
 abbrev pub IsReason : Terms → List (Argument Depth) → Tree Depth → Refusal → Type 0
 IsReason terms args t Memory = ⊤
-IsReason terms args t TableFull = (row : Row) × (IsNew row terms.rows × (terms.limit ≤ size terms.rows (row_table row)))
+IsReason terms args t TableFull = IsPartUnbuilt terms (inst_tree 0 args t) TableFull
 IsReason terms args t GreatestIndex = Fits (put (readings args) (read 0 t)) → ⊥
 IsReason terms args t e = Cause t args e
+
+-- the table is that of predicates, or of clause lists
+abbrev pub IsOfClauses : Table → Type 0
+IsOfClauses Predicates = ⊤
+IsOfClauses ClauseLists = ⊤
+IsOfClauses _ = ⊥
 
 -- there is nothing to replace and nothing to refuse: no parameter, and no exposed region variable unless there are no arguments
 pub record ComesBack (args : List (Argument Depth)) (t : Tree Depth) : Type 0 where

@@ -4,11 +4,18 @@ use Rattle.tt_kinds.specs.Tree.{Depth, Tree}
 use Rattle.tt_kinds.specs.Param.{holds_param}
 use Rattle.tt_kinds.specs.Cause.{HidesRegionVars}
 use Rattle.tt_visit.specs.Visit.{Visits}
+use Rattle.tt_visit.specs.declared.visitor.Next.{Next}
 use Rattle.tt_visit.specs.declared.visitor.Next.TheVariants.{Skip, Descend}
+use Rattle.tt_binder.specs.Instantiation.{IsTypeOrClause, IsInnerConst}
 
 -- no parameter stands in the tree, and no region variable is exposed
 abbrev pub IsUntouched : Tree Depth → Type 0
 IsUntouched t = (holds_param t ≡ false) × HidesRegionVars t
+
+-- the visit passes by a type, a predicate or a clause list that holds no parameter, and goes into each constant that is none
+pub data Passes : Tree Depth → Next → Type 0 where
+  passed_by : {t : Tree Depth} → IsTypeOrClause t → holds_param t ≡ false → Passes t Skip
+  entered : {t : Tree Depth} → IsInnerConst t → Passes t Descend
 
 -- the visit breaks at the first part that isn't left as it is
 abbrev pub untouched_visits : Visits (Unit {0}) (Unit {0})
@@ -17,7 +24,7 @@ untouched_visits = record {
   region_breaks = λ s t b s'. IsUntouched t → ⊥;
   on_error = λ s e s'. ⊤;
   error_breaks = λ s e b s'. ⊥;
-  on_term = λ s t next s'. (next ≡ Skip) × (holds_param t ≡ false);
+  on_term = λ s t next s'. Passes t next;
   term_breaks = λ s t b s'. holds_param t ≡ true;
   enter = λ s vs next s'. next ≡ Descend;
   enter_breaks = λ s vs b s'. ⊥;

@@ -1,22 +1,25 @@
 //! The folder that puts arguments in the places of parameters.
 
-ghost use Rattle.std.specs.Prelude.{◌≡◌, ◌≢◌, [], List, ℕ, MatchOption, MatchResult, IfOk, IfErr, Some, slice_get};
-ghost use Rattle.tt_kinds.specs.Label.{Name, region_sort, type_sort};
+ghost use Rattle.std.specs.Prelude.{◌≡◌, ◌≢◌, ◌≤◌, [], List, ℕ, MatchOption, MatchResult, IfOk, IfErr, Some, slice_get};
+ghost use Rattle.tt_kinds.specs.Label.{Name, const_sort, region_sort, type_sort};
 ghost use Rattle.tt_kinds.specs.Tree.{param};
-ghost use Rattle.tt_kinds.specs.Kinds.{region_shape, ty_shape};
+ghost use Rattle.tt_kinds.specs.Kinds.{const_shape, region_shape, ty_shape};
 ghost use Rattle.tt_kinds.specs.Cause.{Cause};
 ghost use Rattle.tt_interner.specs.Rows.{Row};
 ghost use Rattle.tt_interner.specs.Stored.{Extends};
 ghost use Rattle.tt_fold.specs.Steps.{IsPartOf, IsRefused, tree_in};
 ghost use Rattle.tt_binder.specs.Arguments.{AreArguments, arguments};
-ghost use Rattle.tt_binder.specs.Instantiation.{Instantiation, Instantiates, LeafRefuses, IsTypeParam, arg_hooks};
+ghost use Rattle.tt_binder.specs.Instantiation.{Instantiation, Instantiates, LeafRefuses, IsParam, arg_hooks};
 
 use crate::slice_like::SliceLike;
 use tt_flags::TypeFlags;
 use tt_fold::{Step, TypeFolder, shift_region, shift_vars};
 use tt_index::{GREATEST_INDEX, Refusal};
 use tt_interner::{Flags, InternedKind, Interner};
-use tt_kinds::{BoundVarKinds, GenericArgKind, Region, RegionKind, Ty, TyKind};
+use tt_kinds::{
+    BoundVarKinds, Clauses, Const, ConstKind, GenericArgKind, Predicate, Region, RegionKind, Ty,
+    TyKind,
+};
 
 // The region at the index.
 fn region_at<S: SliceLike>(cx: &Interner, args: S, index: u32) -> Result<Region, Refusal>
@@ -29,7 +32,7 @@ fn region_at<S: SliceLike>(cx: &Interner, args: S, index: u32) -> Result<Region,
         None => Err(Refusal::ArgOutOfRange { index }),
         Some(argument) => match argument.kind() {
             GenericArgKind::Lifetime(region) => Ok(region),
-            GenericArgKind::Type(_) => Err(Refusal::ArgKind { index }),
+            GenericArgKind::Type(_) | GenericArgKind::Const(_) => Err(Refusal::ArgKind { index }),
         },
     }
 }
@@ -45,7 +48,27 @@ fn type_at<S: SliceLike>(cx: &Interner, args: S, index: u32) -> Result<Ty, Refus
         None => Err(Refusal::ArgOutOfRange { index }),
         Some(argument) => match argument.kind() {
             GenericArgKind::Type(ty) => Ok(ty),
-            GenericArgKind::Lifetime(_) => Err(Refusal::ArgKind { index }),
+            GenericArgKind::Lifetime(_) | GenericArgKind::Const(_) => {
+                Err(Refusal::ArgKind { index })
+            }
+        },
+    }
+}
+
+// The constant at the index.
+fn const_at<S: SliceLike>(cx: &Interner, args: S, index: u32) -> Result<Const, Refusal>
+    requires owned { S.owned cx.now.rows args }
+    requires some { S.items cx.now.rows args ≢ [] }
+    ensures ok { IfOk result (λ constant. slice_get (S.items cx.now.rows args) index ≡ Some (GenericArgKind.Const constant)) }
+    ensures err { IfErr result (λ e. (name : Name) → Cause (param const_sort index name) (arguments cx.now.rows (S.items cx.now.rows args)) e) }
+{
+    match args.get(cx, index as usize) {
+        None => Err(Refusal::ArgOutOfRange { index }),
+        Some(argument) => match argument.kind() {
+            GenericArgKind::Const(constant) => Ok(constant),
+            GenericArgKind::Lifetime(_) | GenericArgKind::Type(_) => {
+                Err(Refusal::ArgKind { index })
+            }
         },
     }
 }
@@ -84,6 +107,7 @@ fn type_argument<S: SliceLike>(
     requires some { S.items cx.old.rows args ≢ [] }
     ensures extends { Extends cx.old cx.new }
     ensures descents { cx.new.counters.descents ≡ cx.old.counters.descents }
+    ensures shift_descents { cx.old.counters.shift_descents ≤ cx.new.counters.shift_descents }
     ensures result { (name : Name) → MatchResult
         result
         (λ ty. IsPartOf cx.new.rows (ty_shape ty) × Instantiates (arguments cx.old.rows (S.items cx.old.rows args)) binders_passed (param type_sort index name) (tree_in cx.new.rows (ty_shape ty)))
@@ -94,17 +118,55 @@ fn type_argument<S: SliceLike>(
     Ok(shifted)
 }
 
+// The constant that stands under some binders for the constant parameter of the index.
+fn const_argument<S: SliceLike>(
+    cx: &mut Interner,
+    args: S,
+    binders_passed: u32,
+    index: u32,
+) -> Result<Const, Refusal>
+    requires owned { S.owned cx.old.rows args }
+    requires are { AreArguments cx.old.rows (S.items cx.old.rows args) }
+    requires some { S.items cx.old.rows args ≢ [] }
+    ensures extends { Extends cx.old cx.new }
+    ensures descents { cx.new.counters.descents ≡ cx.old.counters.descents }
+    ensures shift_descents { cx.old.counters.shift_descents ≤ cx.new.counters.shift_descents }
+    ensures result { (name : Name) → MatchResult
+        result
+        (λ constant. IsPartOf cx.new.rows (const_shape constant) × Instantiates (arguments cx.old.rows (S.items cx.old.rows args)) binders_passed (param const_sort index name) (tree_in cx.new.rows (const_shape constant)))
+        (λ e. LeafRefuses (IsRefused cx.new) (arguments cx.old.rows (S.items cx.old.rows args)) binders_passed (param const_sort index name) e) }
+{
+    let constant = const_at(cx, args, index)?;
+    let shifted = shift_vars(cx, constant, binders_passed)?;
+    Ok(shifted)
+}
+
 // The index of the parameter that the type is, if it is one.
-fn parameter_index(cx: &Interner, ty: Ty) -> Option<u32>
+fn type_parameter(cx: &Interner, ty: Ty) -> Option<u32>
     requires { IsPartOf cx.now.rows (ty_shape ty) }
     ensures { MatchOption
         result
-        ((i : ℕ) → IsTypeParam i (tree_in cx.now.rows (ty_shape ty)) → ⊥)
-        (λ index. IsTypeParam index (tree_in cx.now.rows (ty_shape ty))) }
+        ((i : ℕ) → IsParam type_sort i (tree_in cx.now.rows (ty_shape ty)) → ⊥)
+        (λ index. IsParam type_sort index (tree_in cx.now.rows (ty_shape ty))) }
 {
     cx.are_rows();
     match ty.kind(cx) {
         TyKind::Param(parameter) => Some(parameter.index),
+        _ => None,
+    }
+}
+
+// The index of the parameter that the constant is, if it is one.
+pub fn const_parameter(cx: &Interner, constant: Const) -> Option<u32>
+    requires { IsPartOf cx.now.rows (const_shape constant) }
+    ensures { MatchOption
+        result
+        ((i : ℕ) → IsParam const_sort i (tree_in cx.now.rows (const_shape constant)) → ⊥)
+        (λ index. IsParam const_sort index (tree_in cx.now.rows (const_shape constant))) }
+{
+    cx.are_rows();
+    match constant.kind(cx) {
+        ConstKind::Param(parameter) => Some(parameter.index),
         _ => None,
     }
 }
@@ -148,11 +210,11 @@ impl<S: SliceLike> TypeFolder for ArgFolder<S> {
         }
     }
 
-    fn fold_ty(&mut self, cx: &mut Interner, ty: Ty) -> Result<Step, Refusal> {
+    fn fold_ty(&mut self, cx: &mut Interner, ty: Ty) -> Result<Step<Ty>, Refusal> {
         if !ty.flags(cx).intersects(TypeFlags::HAS_PARAM) {
             return Ok(Step::Keep);
         }
-        match parameter_index(cx, ty) {
+        match type_parameter(cx, ty) {
             Some(index) => {
                 let new = type_argument(cx, self.args, self.binders_passed, index)?;
                 Ok(Step::Replace(new))
@@ -165,6 +227,68 @@ impl<S: SliceLike> TypeFolder for ArgFolder<S> {
     }
 
     fn after_ty(&mut self, _cx: &mut Interner, _before: Ty, rebuilt: Ty) -> Result<Ty, Refusal> {
+        Ok(rebuilt)
+    }
+
+    fn fold_const(&mut self, cx: &mut Interner, constant: Const) -> Result<Step<Const>, Refusal> {
+        match const_parameter(cx, constant) {
+            Some(index) => {
+                let new = const_argument(cx, self.args, self.binders_passed, index)?;
+                Ok(Step::Replace(new))
+            }
+            // A constant without parameters is gone into too: a region variable may stand in it.
+            None => Ok(Step::Descend),
+        }
+    }
+
+    fn after_const(
+        &mut self,
+        _cx: &mut Interner,
+        _before: Const,
+        rebuilt: Const,
+    ) -> Result<Const, Refusal> {
+        Ok(rebuilt)
+    }
+
+    fn fold_predicate(
+        &mut self,
+        cx: &mut Interner,
+        predicate: Predicate,
+    ) -> Result<Step<Predicate>, Refusal> {
+        if predicate.flags(cx).intersects(TypeFlags::HAS_PARAM) {
+            Ok(Step::Descend)
+        } else {
+            Ok(Step::Keep)
+        }
+    }
+
+    fn after_predicate(
+        &mut self,
+        _cx: &mut Interner,
+        _before: Predicate,
+        rebuilt: Predicate,
+    ) -> Result<Predicate, Refusal> {
+        Ok(rebuilt)
+    }
+
+    fn fold_clauses(
+        &mut self,
+        cx: &mut Interner,
+        clauses: Clauses,
+    ) -> Result<Step<Clauses>, Refusal> {
+        if clauses.flags(cx).intersects(TypeFlags::HAS_PARAM) {
+            Ok(Step::Descend)
+        } else {
+            Ok(Step::Keep)
+        }
+    }
+
+    fn after_clauses(
+        &mut self,
+        _cx: &mut Interner,
+        _before: Clauses,
+        rebuilt: Clauses,
+    ) -> Result<Clauses, Refusal> {
         Ok(rebuilt)
     }
 

@@ -8,12 +8,13 @@ ghost use Rattle.tt_kinds.specs.Param.{holds_param};
 ghost use Rattle.tt_kinds.specs.Cause.{Cause};
 ghost use Rattle.tt_kinds.specs.Count.{positions};
 ghost use Rattle.tt_kinds.specs.Shape.{stored};
+ghost use Rattle.tt_kinds.specs.declared.table.Table.{Table};
 ghost use Rattle.tt_kinds.specs.declared.table.Table.TheVariants.{Types};
 ghost use Rattle.tt_interner.specs.Rows.{Row};
 ghost use Rattle.tt_interner.specs.Stored.{Extends};
 ghost use Rattle.tt_fold.specs.Steps.{IsPartBy, tree_by};
 ghost use Rattle.tt_binder.specs.Arguments.{arguments};
-ghost use Rattle.tt_binder.specs.Instance.{IsPlain, HasNoCause, Composes, Commutes, StaysMatched, LeavesNoParam, IsInstance, IsReason, ComesBack};
+ghost use Rattle.tt_binder.specs.Instance.{IsPlain, HasNoCause, Composes, Commutes, StaysMatched, LeavesNoParam, IsInstance, IsReason, ComesBack, IsOfClauses};
 
 use crate::arg_folder::ArgFolder;
 use crate::slice_like::SliceLike;
@@ -34,13 +35,16 @@ pub trait Instantiate<T: TypeFoldable + Copy>: Copy {
     ///
     /// It is refused where there are no arguments and the value has a parameter (`NoArguments`); where there are some, but
     /// none for a parameter (`ArgOutOfRange`), or one of another kind (`ArgKind`); where there are some and a region
-    /// variable of inference stands in the value outside of the types without parameters (`RegionVariable`); where the
-    /// result would have an index or binders that are too great (`GreatestIndex`); and for want of room (`Memory`,
-    /// `TableFull`). Of several such reasons it names one.
+    /// variable of inference stands in the value outside of the types, predicates and lists of clauses without parameters
+    /// (`RegionVariable`); where the result would have an index or binders that are too great (`GreatestIndex`); where a
+    /// term or a list of the result is not stored yet and its table has as many rows as it may have (`TableFull`); and where
+    /// the memory for a new one is refused (`Memory`). Of several such reasons it names one. A constant without parameters
+    /// hides no region variable. An instance of a clause is a clause, so that no list of clauses is refused.
     ///
     /// A value without parameters in which no such region variable stands comes back as it is, and nothing is built; so
-    /// does every type without parameters. Where there are no arguments, region variables aren't looked for. Each place of
-    /// the value where a type stands that holds a parameter and is none adds at most one to the interner's count of descents.
+    /// does every type, predicate and list of clauses without parameters. Where there are no arguments, region variables
+    /// aren't looked for. Each place of the value where a type stands that holds a parameter and is none adds at most one to
+    /// the interner's count of descents; constants, predicates and lists of clauses add none of their own.
     fn instantiate<S: SliceLike>(
         self,
         cx: &mut Interner,
@@ -50,6 +54,7 @@ pub trait Instantiate<T: TypeFoldable + Copy>: Copy {
         requires value { IsPartBy T.shape cx.old.rows (declared self) }
         ensures extends { Extends cx.old cx.new }
         ensures descents { cx.old.counters.descents ≤ cx.new.counters.descents }
+        ensures shift_descents { cx.old.counters.shift_descents ≤ cx.new.counters.shift_descents }
         ensures positions { OnOk result (cx.new.counters.descents ≤ cx.old.counters.descents + positions (tree_by T.shape cx.old.rows (declared self))) }
         ensures in_range { IfOk result (λ u. IsPartBy T.shape cx.new.rows u.value) }
         ensures plain { IfOk result (λ u. IsPlain (arguments cx.old.rows (S.items cx.old.rows args)) (tree_by T.shape cx.old.rows (declared self)) (tree_by T.shape cx.new.rows u.value)) }
@@ -61,6 +66,7 @@ pub trait Instantiate<T: TypeFoldable + Copy>: Copy {
         ensures err { IfErr result (IsReason cx.new (arguments cx.old.rows (S.items cx.old.rows args)) (tree_by T.shape cx.old.rows (declared self))) }
         ensures same { ComesBack (arguments cx.old.rows (S.items cx.old.rows args)) (tree_by T.shape cx.old.rows (declared self)) → (result ≡ Ok (record { value = declared self })) × (cx.new ≡ cx.old) }
         ensures same_type { (n : ℕ) → T.shape (declared self) ≡ stored Types n → holds_param (tree_by T.shape cx.old.rows (declared self)) ≡ false → (result ≡ Ok (record { value = declared self })) × (cx.new ≡ cx.old) }
+        ensures same_clauses { (table : Table) (n : ℕ) → IsOfClauses table → T.shape (declared self) ≡ stored table n → holds_param (tree_by T.shape cx.old.rows (declared self)) ≡ false → (result ≡ Ok (record { value = declared self })) × (cx.new ≡ cx.old) }
         ensures parameter { (s : Sort) (i : ℕ) (name : Name) → tree_by T.shape cx.old.rows (declared self) ≡ param s i name → IfErr result (Cause (param s i name) (arguments cx.old.rows (S.items cx.old.rows args))) };
 }
 
@@ -87,6 +93,7 @@ fn instantiate_value<T: TypeFoldable + Copy, S: SliceLike>(
     requires value { IsPartBy T.shape cx.old.rows value }
     ensures extends { Extends cx.old cx.new }
     ensures descents { cx.old.counters.descents ≤ cx.new.counters.descents }
+    ensures shift_descents { cx.old.counters.shift_descents ≤ cx.new.counters.shift_descents }
     ensures positions { OnOk result (cx.new.counters.descents ≤ cx.old.counters.descents + positions (tree_by T.shape cx.old.rows value)) }
     ensures result { MatchResult
         result
@@ -101,6 +108,8 @@ fn instantiate_value<T: TypeFoldable + Copy, S: SliceLike>(
     if is_untouched(cx, &value) {
         return Ok(value);
     }
+    // The lists of clauses that are stored hold clauses alone, and an instance of a clause is one.
+    cx.are_rows();
     let mut folder = ArgFolder::new(args);
     let folded = value.fold_with(cx, &mut folder)?;
     Ok(folded)

@@ -5,13 +5,14 @@ ghost use Rattle.tt_interner.specs.Rows.{Row};
 ghost use Rattle.tt_fold.specs.Steps.{IsPartBy, tree_by};
 ghost use Rattle.tt_binder.specs.Untouched.{IsUntouched, untouched_visits};
 
+use crate::arg_folder::const_parameter;
 use std::ops::ControlFlow;
 use tt_flags::TypeFlags;
 use tt_interner::{Flags, Interner};
-use tt_kinds::{BoundVarKinds, ErrorGuaranteed, Region, RegionKind, Ty};
+use tt_kinds::{BoundVarKinds, Clauses, Const, ErrorGuaranteed, Predicate, Region, RegionKind, Ty};
 use tt_visit::{Next, TypeVisitable, TypeVisitor};
 
-// Breaks at a parameter, and at a region variable outside of the types without parameters.
+// Breaks at a parameter, and at a region variable outside of the types, predicates and clause lists without parameters.
 #[derive(Drop)]
 struct TouchedVisitor;
 
@@ -37,6 +38,29 @@ impl TypeVisitor for TouchedVisitor {
 
     fn visit_ty(&mut self, cx: &Interner, ty: Ty) -> ControlFlow<(), Next> {
         if ty.flags(cx).intersects(TypeFlags::HAS_PARAM) {
+            ControlFlow::Break(())
+        } else {
+            ControlFlow::Continue(Next::Skip)
+        }
+    }
+
+    fn visit_const(&mut self, cx: &Interner, constant: Const) -> ControlFlow<(), Next> {
+        match const_parameter(cx, constant) {
+            Some(_) => ControlFlow::Break(()),
+            None => ControlFlow::Continue(Next::Descend),
+        }
+    }
+
+    fn visit_predicate(&mut self, cx: &Interner, predicate: Predicate) -> ControlFlow<(), Next> {
+        if predicate.flags(cx).intersects(TypeFlags::HAS_PARAM) {
+            ControlFlow::Break(())
+        } else {
+            ControlFlow::Continue(Next::Skip)
+        }
+    }
+
+    fn visit_clauses(&mut self, cx: &Interner, clauses: Clauses) -> ControlFlow<(), Next> {
+        if clauses.flags(cx).intersects(TypeFlags::HAS_PARAM) {
             ControlFlow::Break(())
         } else {
             ControlFlow::Continue(Next::Skip)

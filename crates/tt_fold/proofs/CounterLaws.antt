@@ -4,7 +4,7 @@ use Rattle.std.proofs.lemmas.Result.{MatchResult-weaker}
 use Rattle.tt_kinds.specs.Tree.{Depth, Tree, Forest}
 use Rattle.tt_interner.specs.Rows.{Row}
 use Rattle.tt_interner.specs.Stored.{Terms}
-use Rattle.tt_fold.specs.Walk.{Hooks, Walks, Descends, WalksInside, WalksAll, at_region, replaced, kept, descended, rebuilt, at_node, at_binder, in_term, in_param, in_bound, done, next, Fails, DescentFails, FailsInside, FailsAll, region_failed, term_failed, descent_failed, enter_failed, under_failed, leave_failed, node_failed, node_not_built, inside_failed, not_built, after_failed, in_term_failed, stopped, here, later}
+use Rattle.tt_fold.specs.Walk.{Hooks, Walks, Descends, WalksInside, WalksAll, at_region, replaced, kept, descended, passed, rebuilt, at_node, at_binder, in_term, in_param, in_bound, done, next, Fails, DescentFails, InsideFails, FailsAll, region_failed, term_failed, descent_failed, enter_failed, under_failed, leave_failed, node_failed, node_not_built, passed_failed, inside_failed, not_built, after_failed, in_term_failed, stopped, here, later}
 use Rattle.tt_fold.specs.Counts.{Standing, Quietly, keeps_counters}
 use Rattle.tt_fold.specs.Steps.{Folds}
 
@@ -15,6 +15,7 @@ module _ {M E : Type 0} (H : Hooks M E) where
     walks-quietly (replaced is h) = (replaced is h.0, h.1)
     walks-quietly (kept is h) = (kept is h.0, h.1)
     walks-quietly (descended is h d) = let p = descends-quietly d in (descended is h.0 p.0, p.1 ∙ h.1)
+    walks-quietly (passed is w) = let p = inside-quietly w in (passed is p.0, p.1)
     walks-quietly (at_node w) = let p = all-quietly w in (at_node p.0, p.1)
     walks-quietly (at_binder enter w leave) = let p = walks-quietly w in (at_binder enter.0 p.0 leave.0, leave.1 ∙ p.1 ∙ enter.1)
 
@@ -36,6 +37,7 @@ module _ {M E : Type 0} (H : Hooks M E) (unbuilt : Tree Depth → E → Type 0) 
     fails-quietly (region_failed is h) = (region_failed is h.0, h.1)
     fails-quietly (term_failed is h) = (term_failed is h.0, h.1)
     fails-quietly (descent_failed is h d) = let p = descent_fails-quietly d in (descent_failed is h.0 p.0, p.1 ∙ h.1)
+    fails-quietly (passed_failed is d) = let p = inside_fails-quietly d in (passed_failed is p.0, p.1)
     fails-quietly (enter_failed h) = (enter_failed h.0, h.1)
     fails-quietly (under_failed h d) = let p = fails-quietly d in (under_failed h.0 p.0, p.1 ∙ h.1)
     fails-quietly (leave_failed h w l) = let p = walks-quietly H w in (leave_failed h.0 p.0 l.0, l.1 ∙ p.1 ∙ h.1)
@@ -43,12 +45,12 @@ module _ {M E : Type 0} (H : Hooks M E) (unbuilt : Tree Depth → E → Type 0) 
     fails-quietly (node_not_built w u) = let p = all-quietly H w in (node_not_built p.0 u, p.1)
 
     descent_fails-quietly : {s s' : Standing M} {t : Tree Depth} {e : E} → DescentFails (keeps_counters H) unbuilt s t e s' → Quietly (λ m m'. DescentFails H unbuilt m t e m') s s'
-    descent_fails-quietly (inside_failed d) = let p = fails_inside-quietly d in (inside_failed p.0, p.1)
-    descent_fails-quietly (not_built w u) = let p = inside-quietly H w in (not_built p.0 u, p.1)
+    descent_fails-quietly (inside_failed d) = let p = inside_fails-quietly d in (inside_failed p.0, p.1)
     descent_fails-quietly (after_failed w h) = let p = inside-quietly H w in (after_failed p.0 h.0, h.1 ∙ p.1)
 
-    fails_inside-quietly : {s s' : Standing M} {t : Tree Depth} {e : E} → FailsInside (keeps_counters H) unbuilt s t e s' → Quietly (λ m m'. FailsInside H unbuilt m t e m') s s'
-    fails_inside-quietly (in_term_failed d) = let p = fails_all-quietly d in (in_term_failed p.0, p.1)
+    inside_fails-quietly : {s s' : Standing M} {t : Tree Depth} {e : E} → InsideFails (keeps_counters H) unbuilt s t e s' → Quietly (λ m m'. InsideFails H unbuilt m t e m') s s'
+    inside_fails-quietly (in_term_failed d) = let p = fails_all-quietly d in (in_term_failed p.0, p.1)
+    inside_fails-quietly (not_built w u) = let p = inside-quietly H w in (not_built p.0 u, p.1)
 
     fails_all-quietly : {s s' : Standing M} {ts : Forest Depth} {e : E} → FailsAll (keeps_counters H) unbuilt s ts e s' → Quietly (λ m m'. FailsAll H unbuilt m ts e m') s s'
     fails_all-quietly (stopped u) = (stopped u, refl)

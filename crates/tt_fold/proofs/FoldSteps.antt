@@ -8,21 +8,21 @@ use Rattle.std.proofs.lemmas.Option.{slice_get_within, get_or_from_slice_get}
 use Rattle.std.proofs.lemmas.Result.{MatchResult-weaker}
 use Rattle.tt_index.specs.declared.refusal.Refusal.{Refusal}
 use Rattle.tt_index.specs.declared.refusal.Refusal.TheVariants.{Memory, TableFull, GreatestIndex}
-use Rattle.tt_kinds.specs.Tree as tree
 use Rattle.tt_kinds.specs.Tree.{Depth, Tree}
-use Rattle.tt_kinds.specs.Label.{list_label}
 use Rattle.tt_kinds.specs.Parts as sorts
 use Rattle.tt_kinds.specs.Parts.{AreLike, node_table, node_number, sort_list_table, list_sort, list_table, list_number, child_sort, IsItem}
-use Rattle.tt_kinds.specs.Kinds.{form_binder, form_parts, refilled, kind_form, kind_sort, kind_shape, kind_table, node_shape, list_shape, region_shape, child_shapes, parts_shapes, children_shapes}
-use Rattle.tt_kinds.specs.Shape.{append, fill, IsTooDeep}
-use Rattle.tt_kinds.specs.declared.handle.Ty.{Ty}
+use Rattle.tt_kinds.specs.Kinds.{form_binder, form_parts, refilled, kind_form, kind_sort, kind_shape, kind_table, node_shape, list_shape, region_shape, child_shapes, parts_shapes, children_shapes, items_tree}
+use Rattle.tt_kinds.specs.Shape.{append, fill, HasParts, IsTooDeep}
 use Rattle.tt_kinds.specs.declared.handle.BoundVarKinds.{BoundVarKinds}
 use Rattle.tt_kinds.specs.declared.region_kind.RegionKind.{RegionKind}
-use Rattle.tt_kinds.specs.declared.region_kind.RegionKind.TheVariants.{ReEarlyParam, ReBound, ReStatic, ReVar, ReErased, ReError}
 use Rattle.tt_kinds.specs.declared.parts.Node.{Node}
 use Rattle.tt_kinds.specs.declared.parts.Node.TheVariants as node_is
 use Rattle.tt_kinds.specs.declared.parts.List.{List}
 use Rattle.tt_kinds.specs.declared.parts.ListSort.{ListSort}
+use Rattle.tt_kinds.specs.declared.parts.ListSort.TheVariants as sort_is
+use Rattle.tt_kinds.specs.declared.parts.List.TheVariants as list_is
+use Rattle.tt_kinds.specs.declared.handle.Clauses.{Clauses}
+use Rattle.tt_kinds.specs.declared.table.Table.TheVariants.{ClauseLists}
 use Rattle.tt_kinds.specs.declared.parts.Child.{Child}
 use Rattle.tt_kinds.specs.declared.parts.Child.TheVariants as child
 use Rattle.tt_kinds.specs.declared.parts.Parts.{Parts}
@@ -30,52 +30,67 @@ use Rattle.tt_kinds.specs.declared.parts.Kind.{Kind}
 use Rattle.tt_kinds.specs.declared.parts.Kind.TheVariants as kind
 use Rattle.tt_interner.specs.Rows.{Row, row_table, row_shape, kind_row, size, meaning}
 use Rattle.tt_interner.specs.Stored.{Terms, Extends, IsCause, IsUnbuilt}
-use Rattle.tt_fold.specs.Walk.{IsRegion, IsTerm, Hooks, descend, Walks, Descends, WalksInside, WalksAll, WalksUnder, descended, rebuilt, done, at_region, at_node, in_open, in_binder, Fails, DescentFails, FailsAll, FailsUnder, descent_failed, inside_failed, not_built, after_failed, InsideFails, in_failed, in_not_built, region_failed, node_failed, node_not_built, here, stopped, in_open_failed, in_under_failed, in_leave_failed}
+use Rattle.tt_interner.specs.Children.{children_at}
+use Rattle.tt_visit.specs.Root.{unhooked, root, table_root}
+use Rattle.tt_visit.proofs.VisitSteps.{root-meaning, root-region}
+use Rattle.tt_fold.specs.Walk.{WalksItems, ItemsFail, items_failed, list_not_built, IsRegion, IsPassed, IsTerm, Hooks, descend, Walks, Descends, WalksInside, WalksAll, WalksUnder, descended, passed, rebuilt, done, at_region, in_open, in_binder, Fails, DescentFails, FailsAll, FailsUnder, descent_failed, passed_failed, inside_failed, not_built, after_failed, InsideFails, region_failed, here, stopped, in_open_failed, in_under_failed, in_leave_failed}
 use Rattle.tt_fold.specs.Counts.{Standing, stands}
-use Rattle.tt_fold.specs.Steps.{Goes, Folds, IsPartOf, tree_in, HasVars, vars_in, answer_of, OwnsStep}
-use Rattle.tt_fold.specs.Parts.{ArePartsOf, trees_in, node_tree, list_tree, child_trees, parts_trees, children_trees, IsNodeFor, IsListFor, IsChildFor, ArePartsFor, IsStepFor, node_answer_of, as_node_step, HasBinder, binder_in, IsLeaf, FoldsSoFar}
-use Rattle.tt_fold.specs.declared.folder.Step.{Step}
-use Rattle.tt_fold.specs.declared.folder.Step.TheVariants as step
-use Rattle.tt_interner.proofs.Growth.{Extends-refl, Extends-trans}
-use Rattle.tt_fold.proofs.Growth.{parts-grow, tree-grows, trees-grow}
-use Rattle.tt_fold.proofs.PartLaws.{is_part, stored_tree, one_part, one_tree, no_parts, no_trees, append_parts, right_parts, append_trees, joined, children-append, children-one, vars-grow, binder-grows}
-use Rattle.tt_fold.proofs.FormLaws.{IsInner, HasNoName, kind-term}
-use Rattle.tt_fold.proofs.WalkLaws.{WalksAll-append, FailsAll-append, FailsAll-before, WalksAll-one, walks_leaf, walks_form, fails_form}
-
--- the hook before a term
-pub ask_is_step : (rows : Listed Row) (n : Node) (t : Ty) (p : Step) → n ≡ node_is.Ty t → OwnsStep rows p → IsStepFor n rows (as_node_step p)
-ask_is_step rows n t (step.Replace u) same h = record { owned = h; like = rw same refl }
-ask_is_step rows n t step.Keep same h = tt
-ask_is_step rows n t step.Descend same h = tt
-
-pub ask_answer : (rows : Listed Row) (p : Step) → node_answer_of rows (as_node_step p) ≡ answer_of rows p
-ask_answer rows (step.Replace u) = refl
-ask_answer rows step.Keep = refl
-ask_answer rows step.Descend = refl
+use Rattle.tt_fold.specs.Steps.{Goes, Folds, IsPartOf, tree_in, HasVars, vars_in}
+use Rattle.tt_fold.specs.Parts.{ArePartsOf, trees_in, node_tree, list_tree, child_trees, parts_trees, children_trees, IsNodeFor, IsListFor, IsChildFor, ArePartsFor, HasHook, HasBinder, binder_in, IsLeaf, FoldsSoFar, FoldsItems}
+use Rattle.tt_interner.proofs.Growth.{Extends-refl, Extends-trans, AreParts-grows, fill-grows, fill_all-grows}
+use Rattle.tt_fold.proofs.PartLaws.{is_part, in_range, stored_tree, one_part, one_tree, no_parts, no_trees, append_parts, right_parts, append_trees, joined, children-append, children-one, vars-grow, binder-grows}
+use Rattle.tt_fold.proofs.FormLaws.{IsInner, form-labels}
+use Rattle.tt_fold.proofs.WalkLaws.{walks_list, fails_list, walks_clauses, fails_clauses, WalksAll-append, FailsAll-append, FailsAll-before, WalksAll-one, walks_leaf, walks_form, fails_form}
 
 -- what a region is
 pub region-is : (rows : Listed Row) (r : RegionKind) → IsRegion (tree_in rows (region_shape r))
-unfolding fill
-region-is rows (ReEarlyParam p) = tt
-region-is rows (ReBound i b) = tt
-region-is rows ReStatic = tt
-region-is rows (ReVar v) = tt
-region-is rows ReErased = tt
-region-is rows (ReError e) = tt
+region-is rows r = root-region (meaning rows) r
 
 -- what a stored term is
 pub node_is_kind : (rows : Listed Row) (n : Node) (k : Kind) → meaning rows (node_table n) (node_number n) ≡ fill (meaning rows) (kind_shape k) → node_tree rows n ≡ tree_in rows (kind_shape k)
 node_is_kind rows n k h = stored_tree rows (node_table n) (node_number n) ∙ h
 
-pub node_is_term : (rows : Listed Row) (n : Node) (k : Kind) → meaning rows (node_table n) (node_number n) ≡ fill (meaning rows) (kind_shape k) → IsTerm (node_tree rows n)
-node_is_term rows n k h = rw (node_is_kind rows n k h) (kind-term (meaning rows) k)
+-- what a stored term is to a hook
+node_root : (rows : Listed Row) (n : Node) → IsPartOf rows (node_shape n) → root (node_tree rows n) ≡ table_root (node_table n)
+node_root rows n h = rw (stored_tree rows (node_table n) (node_number n)) (root-meaning rows (node_table n) (node_number n) (in_range rows (node_table n) (node_number n) h))
+
+pub node_is_term : (rows : Listed Row) (n : Node) → IsPartOf rows (node_shape n) → HasHook n → IsTerm (node_tree rows n)
+node_is_term rows n h has = node_root rows n h ∙ has
+
+pub node_is_passed : (rows : Listed Row) (n : Node) → IsPartOf rows (node_shape n) → table_root (node_table n) ≡ unhooked → IsPassed (node_tree rows n)
+node_is_passed rows n h is = node_root rows n h ∙ is
+
+-- a term or a list that is no list of clauses
+pub other_node : (n : Node) → ((c : Clauses) → n ≡ node_is.Clauses c → ⊥) → node_table n ≡ ClauseLists → ⊥
+other_node (node_is.Ty t) h same = cc
+other_node (node_is.Const x) h same = cc
+other_node (node_is.Pat p) h same = cc
+other_node (node_is.Predicate p) h same = cc
+other_node (node_is.Existential p) h same = cc
+other_node (node_is.Clauses c) h same = h c refl
+
+pub other_list : (l : List) → ((c : Clauses) → l ≡ list_is.Clauses c → ⊥) → list_sort l ≡ sort_is.Clauses → ⊥
+other_list (list_is.Tys ts) h same = cc
+other_list (list_is.Consts cs) h same = cc
+other_list (list_is.Args args) h same = cc
+other_list (list_is.Pats ps) h same = cc
+other_list (list_is.Existentials ps) h same = cc
+other_list (list_is.Clauses c) h same = h c refl
 
 -- a term that was stored
 kind_row-table : (k : Kind) → row_table (kind_row k) ≡ kind_table k
 kind_row-table (kind.Ty k) = refl
+kind_row-table (kind.Const k) = refl
+kind_row-table (kind.Pat k) = refl
+kind_row-table (kind.Predicate k) = refl
+kind_row-table (kind.Existential k) = refl
 
 kind_row-shape : (k : Kind) → row_shape (kind_row k) ≡ kind_shape k
 kind_row-shape (kind.Ty k) = refl
+kind_row-shape (kind.Const k) = refl
+kind_row-shape (kind.Pat k) = refl
+kind_row-shape (kind.Predicate k) = refl
+kind_row-shape (kind.Existential k) = refl
 
 pub stored_node : (rows : Listed Row) (n u : Node) (k : Kind) → node_number u < size rows (row_table (kind_row k)) → node_table u ≡ kind_table k → kind_table k ≡ node_table n → IsNodeFor n rows u
 stored_node rows n u k h t like =
@@ -101,9 +116,9 @@ stored_list rows u sort same h = is_part rows (list_table u) (list_number u) (rw
 pub stored_list_tree : (rows : Listed Row) (u : List) (sort : ListSort) → list_sort u ≡ sort → list_tree rows u ≡ meaning rows (sort_list_table sort) (list_number u)
 stored_list_tree rows u sort same = stored_tree rows (list_table u) (list_number u) ∙ ap (λ x. meaning rows (sort_list_table x) (list_number u)) same
 
-pub list_is_node : (rows : Listed Row) (l : List) (cs : Listed Child) → meaning rows (list_table l) (list_number l) ≡ tree.node (list_label (list_table l)) (children_trees rows cs)
-    → list_tree rows l ≡ tree.node (list_label (list_table l)) (children_trees rows cs)
-list_is_node rows l cs h = stored_tree rows (list_table l) (list_number l) ∙ h
+pub list_is_items : (rows : Listed Row) (l : List) (cs : Listed Child) → meaning rows (list_table l) (list_number l) ≡ items_tree (list_sort l) (children_trees rows cs)
+    → list_tree rows l ≡ items_tree (list_sort l) (children_trees rows cs)
+list_is_items rows l cs h = stored_tree rows (list_table l) (list_number l) ∙ h
 
 pub memory_unbuilt : (terms : Terms) (u : Tree Depth) (r : Refusal) → r ≡ Memory → IsUnbuilt terms u r
 memory_unbuilt terms u r same = rw same tt
@@ -150,10 +165,6 @@ trees-from rows list n x e =
 trees-cut : (rows : Listed Row) (list : Listed Child) (n : ℕ) → children_trees rows list ≡ joined (children_trees rows (take n list)) (children_trees rows (drop n list))
 trees-cut rows list n = ap (children_trees rows) (sym (take-append-drop n list)) ∙ trees-split rows (take n list) (drop n list)
 
-inside_descent : {M E : Type 0} {H : Hooks M E} {unbuilt : Tree Depth → E → Type 0} {s s1 : M} {t : Tree Depth} {e : E} → InsideFails H unbuilt s t e s1 → DescentFails H unbuilt s t e s1
-inside_descent (in_failed h) = inside_failed h
-inside_descent (in_not_built w b) = not_built w b
-
 module _ {M E S : Type 0} {owned : Listed Row → S → Type 0} {means : Listed Row → S → M} {H : Hooks (Standing M) E} where
   -- the list so far
   pub so_far_none : {terms : Terms} {s : S} {sort : ListSort} {list items : Listed Child}
@@ -173,13 +184,13 @@ module _ {M E S : Type 0} {owned : Listed Row → S → Type 0} {means : Listed 
       → more ≡ items ++ y ∷ []
       → FoldsSoFar owned means H terms s sort list (n + 1) more terms2 s2
   so_far_more {terms} {terms2} {sort} {list} {items} {n} {x} {y} p is_x owns fit d added =
-      let o = rw (trees-grow p.extends.rows (child_shapes x) owns) at d.outcome in
-      let w = WalksAll-append (rw (← trees-grow d.extends.rows (children_shapes items) p.are_items) at p.walked) o.2 in
+      let o = rw (fill_all-grows _ _ p.extends.rows (child_shapes x) owns) at d.outcome in
+      let w = WalksAll-append (rw (← fill_all-grows _ _ d.extends.rows (children_shapes items) p.are_items) at p.walked) o.2 in
       let fit_y : IsItem sort (child_sort y) = rw o.1.like fit in
       rw added (record {
         extends = Extends-trans p.extends d.extends;
         is_owned = o.0;
-        are_items = last_part terms2.rows items y (parts-grow d.extends.rows (children_shapes items) p.are_items) o.1.owned;
+        are_items = last_part terms2.rows items y (AreParts-grows _ _ d.extends.rows (children_shapes items) p.are_items) o.1.owned;
         fit = All-append (λ c. IsItem sort (child_sort c)) items (y ∷ []) p.fit (All-one (λ c. IsItem sort (child_sort c)) y fit_y);
         walked = rw (trees-take_more terms.rows list n x is_x, trees-last terms2.rows items y) w;
       })
@@ -187,14 +198,14 @@ module _ {M E S : Type 0} {owned : Listed Row → S → Type 0} {means : Listed 
   -- the kind's parts were folded
   inside_walk : {terms terms1 : Terms} {s s1 : S} {q : Parts} {other : Tree Depth → E → Type 0} (n : Node) (k j : Kind)
       → node_tree terms.rows n ≡ tree_in terms.rows (kind_shape k)
-      → HasNoName (kind_form k) → IsInner (kind_form k) → HasBinder terms.rows (form_binder (kind_form k))
+      → HasParts (size terms.rows) (kind_shape k) → IsInner (kind_form k) → HasBinder terms.rows (form_binder (kind_form k))
       → kind_form j ≡ refilled q (kind_form k) → kind_sort j ≡ kind_sort k
       → Folds owned means (ArePartsFor (form_parts (kind_form k))) parts_trees
       (WalksUnder H (binder_in terms.rows (form_binder (kind_form k)))) (FailsUnder H other (binder_in terms.rows (form_binder (kind_form k))))
       terms s (form_parts (kind_form k)) (Ok q) terms1 s1
       → WalksInside H (stands means terms s) (node_tree terms.rows n) (tree_in terms1.rows (kind_shape j)) (stands means terms1 s1)
-  inside_walk {terms} {terms1} {q} n k j tree n_n inner binder form sort f =
-      let inside = walks_form terms.rows terms1.rows (kind_sort k) q (kind_form k) n_n inner (binder-grows f.extends.rows (form_binder (kind_form k)) binder) f.outcome.2 in
+  inside_walk {terms} {terms1} {q} n k j tree named inner binder form sort f =
+      let inside = walks_form terms.rows terms1.rows (kind_sort k) q (kind_form k) (form-labels terms.rows terms1.rows f.extends.rows (kind_sort k) (kind_form k) named) inner (binder-grows f.extends.rows (form_binder (kind_form k)) binder) f.outcome.2 in
       rw (tree, form, sort) inside
 
   module _ {unbuilt : Tree Depth → E → Type 0} where
@@ -214,25 +225,25 @@ module _ {M E S : Type 0} {owned : Listed Row → S → Type 0} {means : Listed 
         terms s (form_parts (kind_form k)) (Err e) terms1 s1
         → Folds owned means (IsNodeFor n) node_tree (WalksInside H) (InsideFails H unbuilt) terms s n (Err e) terms1 s1
     inside_fails {terms} k tree inner f =
-        record { extends = f.extends; outcome = rw tree (in_failed (fails_form terms.rows (kind_sort k) (kind_form k) inner f.outcome)) }
+        record { extends = f.extends; outcome = rw tree (fails_form terms.rows (kind_sort k) (kind_form k) inner f.outcome) }
 
     -- and the term is not stored
     pub inside_not_built : {terms terms1 terms2 : Terms} {s s1 : S} {n : Node} {q : Parts} {e : E} {other : Tree Depth → E → Type 0} (k j : Kind)
         → node_tree terms.rows n ≡ tree_in terms.rows (kind_shape k)
-        → HasNoName (kind_form k) → IsInner (kind_form k) → HasBinder terms.rows (form_binder (kind_form k))
+        → HasParts (size terms.rows) (kind_shape k) → IsInner (kind_form k) → HasBinder terms.rows (form_binder (kind_form k))
         → kind_form j ≡ refilled q (kind_form k) → kind_sort j ≡ kind_sort k
         → Folds owned means (ArePartsFor (form_parts (kind_form k))) parts_trees
         (WalksUnder H (binder_in terms.rows (form_binder (kind_form k)))) (FailsUnder H other (binder_in terms.rows (form_binder (kind_form k))))
         terms s (form_parts (kind_form k)) (Ok q) terms1 s1
         → terms2 ≡ terms1 → unbuilt (tree_in terms1.rows (kind_shape j)) e
         → Folds owned means (IsNodeFor n) node_tree (WalksInside H) (InsideFails H unbuilt) terms s n (Err e) terms2 s1
-    inside_not_built {n} k j tree n_n inner binder form sort f same b =
-        rw same (record { extends = f.extends; outcome = in_not_built (inside_walk n k j tree n_n inner binder form sort f) b })
+    inside_not_built {n} k j tree named inner binder form sort f same b =
+        rw same (record { extends = f.extends; outcome = not_built (inside_walk n k j tree named inner binder form sort f) b })
 
     -- or it is
     pub inside_rebuilt : {terms terms1 terms2 : Terms} {s s1 : S} {n u : Node} {q : Parts} {other : Tree Depth → E → Type 0} (k j : Kind)
         → node_tree terms.rows n ≡ tree_in terms.rows (kind_shape k)
-        → HasNoName (kind_form k) → IsInner (kind_form k) → HasBinder terms.rows (form_binder (kind_form k))
+        → HasParts (size terms.rows) (kind_shape k) → IsInner (kind_form k) → HasBinder terms.rows (form_binder (kind_form k))
         → kind_form j ≡ refilled q (kind_form k) → kind_sort j ≡ kind_sort k
         → Folds owned means (ArePartsFor (form_parts (kind_form k))) parts_trees
         (WalksUnder H (binder_in terms.rows (form_binder (kind_form k)))) (FailsUnder H other (binder_in terms.rows (form_binder (kind_form k))))
@@ -240,8 +251,8 @@ module _ {M E S : Type 0} {owned : Listed Row → S → Type 0} {means : Listed 
         → Extends terms1 terms2 → owned terms2.rows s1 → stands means terms2 s1 ≡ stands means terms1 s1
         → IsNodeFor n terms2.rows u → node_tree terms2.rows u ≡ tree_in terms1.rows (kind_shape j)
         → Folds owned means (IsNodeFor n) node_tree (WalksInside H) (InsideFails H unbuilt) terms s n (Ok u) terms2 s1
-    inside_rebuilt {n} k j tree n_n inner binder form sort f extends o still is new =
-        record { extends = Extends-trans f.extends extends; outcome = (o, is, rw (new, still) (inside_walk n k j tree n_n inner binder form sort f)) }
+    inside_rebuilt {n} k j tree named inner binder form sort f extends o still is new =
+        record { extends = Extends-trans f.extends extends; outcome = (o, is, rw (new, still) (inside_walk n k j tree named inner binder form sort f)) }
 
     -- the hook after a term
     pub descend_ends : {terms terms1 terms2 : Terms} {s s1 s2 : S} {n u : Node} {r : Result Node E} {other : Tree Depth → E → Type 0}
@@ -253,7 +264,7 @@ module _ {M E S : Type 0} {owned : Listed Row → S → Type 0} {means : Listed 
         terms1 s1 r terms2 s2
         → Folds owned means (IsNodeFor n) node_tree (Descends H) (DescentFails H unbuilt) terms s n r terms2 s2
     descend_ends {n} {r} owns f d =
-        let o = rw (tree-grows f.extends.rows (node_shape n) owns) at d.outcome in
+        let o = rw (fill-grows _ _ f.extends.rows (node_shape n) owns) at d.outcome in
         record {
           extends = Extends-trans f.extends d.extends;
           outcome = MatchResult-weaker r o (λ y h. (h.0, h.1.0, rebuilt f.outcome.2 h.1.1)) (λ e h. after_failed f.outcome.2 h);
@@ -262,7 +273,14 @@ module _ {M E S : Type 0} {owned : Listed Row → S → Type 0} {means : Listed 
     pub descend_fails : {terms terms1 : Terms} {s s1 : S} {n : Node} {e : E}
         → Folds owned means (IsNodeFor n) node_tree (WalksInside H) (InsideFails H unbuilt) terms s n (Err e) terms1 s1
         → Folds owned means (IsNodeFor n) node_tree (Descends H) (DescentFails H unbuilt) terms s n (Err e) terms1 s1
-    descend_fails f = record { extends = f.extends; outcome = inside_descent f.outcome }
+    descend_fails f = record { extends = f.extends; outcome = inside_failed f.outcome }
+
+    -- a term without a hook
+    pub node_passed : {terms terms1 : Terms} {s s1 : S} {n : Node} {r : Result Node E} → IsPassed (node_tree terms.rows n)
+        → Folds owned means (IsNodeFor n) node_tree (WalksInside H) (InsideFails H unbuilt) terms s n r terms1 s1
+        → Folds owned means (IsNodeFor n) node_tree (Walks H) (Fails H unbuilt) terms s n r terms1 s1
+    node_passed {r} is f =
+        record { extends = f.extends; outcome = MatchResult-weaker r f.outcome (λ y h. (h.0, h.1, passed is h.2)) (λ e h. passed_failed is h) }
 
     -- a hook answered `descend`, and the descent follows
     pub node_descends : {terms terms1 terms2 : Terms} {s s1 s2 : S} {n : Node} {r : Result Node E}
@@ -271,7 +289,7 @@ module _ {M E S : Type 0} {owned : Listed Row → S → Type 0} {means : Listed 
         → Folds owned means (IsNodeFor n) node_tree (Descends H) (DescentFails H unbuilt) terms1 s1 n r terms2 s2
         → Folds owned means (IsNodeFor n) node_tree (Walks H) (Fails H unbuilt) terms s n r terms2 s2
     node_descends {n} {r} extends owns is asks d =
-        let o = rw (tree-grows extends.rows (node_shape n) owns) at d.outcome in
+        let o = rw (fill-grows _ _ extends.rows (node_shape n) owns) at d.outcome in
         record {
           extends = Extends-trans extends d.extends;
           outcome = MatchResult-weaker r o (λ y h. (h.0, h.1, descended is asks h.2)) (λ e h. descent_failed is asks h);
@@ -291,7 +309,7 @@ module _ {M E S : Type 0} {owned : Listed Row → S → Type 0} {means : Listed 
         → Folds owned means (ArePartsFor p) parts_trees (WalksAll H) (FailsAll H unbuilt) terms1 s1 p (Err e) terms2 s2
         → Folds owned means (ArePartsFor p) parts_trees (WalksUnder H (Some (vars_in terms.rows vars))) (FailsUnder H unbuilt (Some (vars_in terms.rows vars))) terms s p (Err e) terms2 s2
     under_parts_fail {p} vars owns extends enter d =
-        let o = rw (trees-grow extends.rows (parts_shapes p) owns) at d.outcome in
+        let o = rw (fill_all-grows _ _ extends.rows (parts_shapes p) owns) at d.outcome in
         record { extends = Extends-trans extends d.extends; outcome = in_under_failed enter o }
 
     pub under_leave_fails : {terms terms1 terms2 terms3 : Terms} {s s1 s2 s3 : S} {p q : Parts} {e : E} (vars : BoundVarKinds) {other : Tree Depth → E → Type 0}
@@ -301,7 +319,7 @@ module _ {M E S : Type 0} {owned : Listed Row → S → Type 0} {means : Listed 
         → Extends terms2 terms3 → H.leave_fails unbuilt (stands means terms2 s2) (vars_in terms2.rows vars) e (stands means terms3 s3)
         → Folds owned means (ArePartsFor p) parts_trees (WalksUnder H (Some (vars_in terms.rows vars))) (FailsUnder H unbuilt (Some (vars_in terms.rows vars))) terms s p (Err e) terms3 s3
     under_leave_fails {p} vars has owns extends enter d more leave =
-        let o = rw (trees-grow extends.rows (parts_shapes p) owns) at d.outcome in
+        let o = rw (fill_all-grows _ _ extends.rows (parts_shapes p) owns) at d.outcome in
         let l = rw (vars-grow (Extends-trans extends d.extends).rows vars has) at leave in
         record { extends = Extends-trans extends (Extends-trans d.extends more); outcome = in_leave_failed enter o.2 l }
 
@@ -312,11 +330,11 @@ module _ {M E S : Type 0} {owned : Listed Row → S → Type 0} {means : Listed 
         → Extends terms2 terms3 → owned terms3.rows s3 → H.leave (stands means terms2 s2) (vars_in terms2.rows vars) (stands means terms3 s3)
         → Folds owned means (ArePartsFor p) parts_trees (WalksUnder H (Some (vars_in terms.rows vars))) (FailsUnder H unbuilt (Some (vars_in terms.rows vars))) terms s p (Ok q) terms3 s3
     under_folds {p} {q} vars has owns extends enter d more owned3 leave =
-        let o = rw (trees-grow extends.rows (parts_shapes p) owns) at d.outcome in
+        let o = rw (fill_all-grows _ _ extends.rows (parts_shapes p) owns) at d.outcome in
         let l = rw (vars-grow (Extends-trans extends d.extends).rows vars has) at leave in
         record {
           extends = Extends-trans extends (Extends-trans d.extends more);
-          outcome = (owned3, record { owned = parts-grow more.rows (parts_shapes q) o.1.owned; like = o.1.like }, rw (trees-grow more.rows (parts_shapes q) o.1.owned) (in_binder enter o.2 l));
+          outcome = (owned3, record { owned = AreParts-grows _ _ more.rows (parts_shapes q) o.1.owned; like = o.1.like }, rw (fill_all-grows _ _ more.rows (parts_shapes q) o.1.owned) (in_binder enter o.2 l));
         }
 
     -- the two parts
@@ -333,7 +351,7 @@ module _ {M E S : Type 0} {owned : Listed Row → S → Type 0} {means : Listed 
         → Folds owned means (ArePartsFor p) parts_trees (WalksAll H) (FailsAll H unbuilt) terms s p (Err e) terms2 s2
     parts_second_fails {terms} {p} owns a b =
         let second = right_parts terms.rows (child_shapes p.first) (child_shapes p.second) owns in
-        let o = rw (trees-grow a.extends.rows (child_shapes p.second) second) at b.outcome in
+        let o = rw (fill_all-grows _ _ a.extends.rows (child_shapes p.second) second) at b.outcome in
         record {
           extends = Extends-trans a.extends b.extends;
           outcome = rw (append_trees terms.rows (child_shapes p.first) (child_shapes p.second)) (FailsAll-append a.outcome.2 o);
@@ -346,14 +364,14 @@ module _ {M E S : Type 0} {owned : Listed Row → S → Type 0} {means : Listed 
         → Folds owned means (ArePartsFor p) parts_trees (WalksAll H) (FailsAll H unbuilt) terms s p (Ok (record { first = x; second = y })) terms2 s2
     parts_fold {terms} {terms2} {p} {x} {y} owns a b =
         let second = right_parts terms.rows (child_shapes p.first) (child_shapes p.second) owns in
-        let o = rw (trees-grow a.extends.rows (child_shapes p.second) second) at b.outcome in
-        let w = rw (← trees-grow b.extends.rows (child_shapes x) a.outcome.1.owned) at a.outcome.2 in
+        let o = rw (fill_all-grows _ _ a.extends.rows (child_shapes p.second) second) at b.outcome in
+        let w = rw (← fill_all-grows _ _ b.extends.rows (child_shapes x) a.outcome.1.owned) at a.outcome.2 in
         record {
           extends = Extends-trans a.extends b.extends;
           outcome = (
             o.0,
             record {
-              owned = append_parts terms2.rows (child_shapes x) (child_shapes y) (parts-grow b.extends.rows (child_shapes x) a.outcome.1.owned) o.1.owned;
+              owned = append_parts terms2.rows (child_shapes x) (child_shapes y) (AreParts-grows _ _ b.extends.rows (child_shapes x) a.outcome.1.owned) o.1.owned;
               like = record { first = a.outcome.1.like; second = o.1.like };
             },
             rw (append_trees terms.rows (child_shapes p.first) (child_shapes p.second), append_trees terms2.rows (child_shapes x) (child_shapes y)) (WalksAll-append w o.2),
@@ -429,51 +447,106 @@ module _ {M E S : Type 0} {owned : Listed Row → S → Type 0} {means : Listed 
           );
         })
 
-    -- lists
-    pub so_far_item_fails : {terms terms1 terms2 : Terms} {s s1 s2 : S} {l : List} {sort : ListSort} {items : Listed Child} {n : ℕ} {x : Child} {e : E} (list : Listed Child)
-        → list_tree terms.rows l ≡ tree.node (list_label (list_table l)) (children_trees terms.rows list)
-        → FoldsSoFar owned means H terms s sort list n items terms1 s1
-        → slice_get list n ≡ Some x → ArePartsOf terms.rows (child_shapes x)
+    -- the children of a list
+    pub items_one_fails : {V : Type 0} {view : V → Listed Child} {terms terms1 terms2 : Terms} {s s1 s2 : S} {l : List} {sort : ListSort} {items : Listed Child} {n : ℕ} {x : Child} {e : E}
+        → list_tree terms.rows l ≡ items_tree (list_sort l) (children_trees terms.rows (children_at terms.rows l))
+        → FoldsSoFar owned means H terms s sort (children_at terms.rows l) n items terms1 s1
+        → slice_get (children_at terms.rows l) n ≡ Some x → ArePartsOf terms.rows (child_shapes x)
         → Folds owned means (IsChildFor x) child_trees (WalksAll H) (FailsAll H unbuilt) terms1 s1 x (Err e) terms2 s2
-        → Folds owned means (IsListFor l) list_tree (Walks H) (Fails H unbuilt) terms s l (Err e) terms2 s2
-    so_far_item_fails {terms} {n} {x} list tree p is_x owns d =
-        let o = rw (trees-grow p.extends.rows (child_shapes x) owns) at d.outcome in
+        → FoldsItems view owned means H unbuilt terms s l (Err e) terms2 s2
+    items_one_fails {terms} {l} {n} {x} tree p is_x owns d =
+        let o = rw (fill_all-grows _ _ p.extends.rows (child_shapes x) owns) at d.outcome in
         record {
+          of_children = tree;
           extends = Extends-trans p.extends d.extends;
-          outcome = rw (tree, trees-from terms.rows list n x is_x) (node_failed (FailsAll-append p.walked (FailsAll-before _ o)));
+          outcome = rw (trees-from terms.rows (children_at terms.rows l) n x is_x) (FailsAll-append p.walked (FailsAll-before _ o));
         }
 
-    -- the memory for an item is refused
-    pub so_far_stops : {terms terms1 : Terms} {s s1 : S} {l : List} {sort : ListSort} {items : Listed Child} {n : ℕ} {e : E} (list : Listed Child)
-        → list_tree terms.rows l ≡ tree.node (list_label (list_table l)) (children_trees terms.rows list)
-        → FoldsSoFar owned means H terms s sort list n items terms1 s1
+    -- the memory for a child is refused
+    pub items_stop : {V : Type 0} {view : V → Listed Child} {terms terms1 : Terms} {s s1 : S} {l : List} {sort : ListSort} {items : Listed Child} {n : ℕ} {e : E}
+        → list_tree terms.rows l ≡ items_tree (list_sort l) (children_trees terms.rows (children_at terms.rows l))
+        → FoldsSoFar owned means H terms s sort (children_at terms.rows l) n items terms1 s1
         → ((u : Tree Depth) → unbuilt u e)
-        → Folds owned means (IsListFor l) list_tree (Walks H) (Fails H unbuilt) terms s l (Err e) terms1 s1
-    so_far_stops {terms} {n} list tree p b =
-        record { extends = p.extends; outcome = rw (tree, trees-cut terms.rows list n) (node_failed (FailsAll-append p.walked (stopped b))) }
+        → FoldsItems view owned means H unbuilt terms s l (Err e) terms1 s1
+    items_stop {terms} {l} {n} tree p b =
+        record { of_children = tree; extends = p.extends; outcome = rw (trees-cut terms.rows (children_at terms.rows l) n) (FailsAll-append p.walked (stopped b)) }
 
-    -- the whole list was folded, and is not stored
-    pub so_far_not_stored : {terms terms1 terms2 : Terms} {s s1 : S} {items : Listed Child} {n : ℕ} {l : List} {e : E} (list : Listed Child)
-        → list_tree terms.rows l ≡ tree.node (list_label (list_table l)) (children_trees terms.rows list)
-        → FoldsSoFar owned means H terms s (list_sort l) list n items terms1 s1
-        → length list ≤ n → terms2 ≡ terms1
-        → unbuilt (tree.node (list_label (list_table l)) (children_trees terms1.rows items)) e
-        → Folds owned means (IsListFor l) list_tree (Walks H) (Fails H unbuilt) terms s l (Err e) terms2 s1
-    so_far_not_stored {terms} {n} list tree p all same b =
-        let whole : take n list ≡ list = grind (arith, common_steps) in
-        rw same (record { extends = p.extends; outcome = rw tree (node_not_built (rw whole at p.walked) b) })
+    -- all were folded
+    pub items_fold : {terms terms1 : Terms} {s s1 : S} {n : ℕ} {l : List} {V : Type 0} {view : V → Listed Child} (items : V)
+        → list_tree terms.rows l ≡ items_tree (list_sort l) (children_trees terms.rows (children_at terms.rows l))
+        → FoldsSoFar owned means H terms s (list_sort l) (children_at terms.rows l) n (view items) terms1 s1
+        → length (children_at terms.rows l) ≤ n
+        → FoldsItems view owned means H unbuilt terms s l (Ok items) terms1 s1
+    items_fold {terms} {n} {l} items tree p all =
+        let whole : take n (children_at terms.rows l) ≡ children_at terms.rows l = grind (arith, common_steps) in
+        record { of_children = tree; extends = p.extends; outcome = (p.is_owned, record { owned = p.are_items; fit = p.fit }, rw whole at p.walked) }
 
-    -- the whole list was folded and stored
-    pub so_far_stored : {terms terms1 terms2 : Terms} {s s1 : S} {items : Listed Child} {n : ℕ} {l u : List} (list : Listed Child)
-        → list_tree terms.rows l ≡ tree.node (list_label (list_table l)) (children_trees terms.rows list)
-        → FoldsSoFar owned means H terms s (list_sort l) list n items terms1 s1
-        → length list ≤ n → Extends terms1 terms2 → owned terms2.rows s1 → stands means terms2 s1 ≡ stands means terms1 s1
+    -- lists
+    pub listed_fails : {V : Type 0} {view : V → Listed Child} {terms terms1 : Terms} {s s1 : S} {l : List} {e : E}
+        → FoldsItems view owned means H unbuilt terms s l (Err e) terms1 s1
+        → Folds owned means (IsListFor l) list_tree (WalksItems H (list_sort l)) (ItemsFail H unbuilt (list_sort l)) terms s l (Err e) terms1 s1
+    listed_fails f = record { extends = f.extends; outcome = items_failed f.of_children f.outcome }
+
+    -- the children were folded, and their list is not stored
+    pub listed_not_stored : {terms terms1 terms2 : Terms} {s s1 : S} {l : List} {V : Type 0} {view : V → Listed Child} {items : V} {e : E} {other : Tree Depth → E → Type 0}
+        → FoldsItems view owned means H other terms s l (Ok items) terms1 s1
+        → terms2 ≡ terms1 → unbuilt (items_tree (list_sort l) (children_trees terms1.rows (view items))) e
+        → Folds owned means (IsListFor l) list_tree (WalksItems H (list_sort l)) (ItemsFail H unbuilt (list_sort l)) terms s l (Err e) terms2 s1
+    listed_not_stored f same b = rw same (record { extends = f.extends; outcome = list_not_built f.of_children f.outcome.2 b })
+
+    -- or it is
+    pub listed_stored : {terms terms1 terms2 : Terms} {s s1 : S} {l u : List} {V : Type 0} {view : V → Listed Child} {items : V} {other : Tree Depth → E → Type 0}
+        → FoldsItems view owned means H other terms s l (Ok items) terms1 s1
+        → Extends terms1 terms2 → owned terms2.rows s1 → stands means terms2 s1 ≡ stands means terms1 s1
         → IsPartOf terms2.rows (list_shape u) → list_sort u ≡ list_sort l
-        → list_tree terms2.rows u ≡ tree.node (list_label (list_table l)) (children_trees terms1.rows items)
-        → Folds owned means (IsListFor l) list_tree (Walks H) (Fails H unbuilt) terms s l (Ok u) terms2 s1
-    so_far_stored {terms} {n} list tree p all extends o still owns sort new =
-        let whole : take n list ≡ list = grind (arith, common_steps) in
+        → list_tree terms2.rows u ≡ items_tree (list_sort l) (children_trees terms1.rows (view items))
+        → Folds owned means (IsListFor l) list_tree (WalksItems H (list_sort l)) (ItemsFail H unbuilt (list_sort l)) terms s l (Ok u) terms2 s1
+    listed_stored {terms} {terms1} {l} {view} {items} f extends o still owns sort new = record {
+      extends = Extends-trans f.extends extends;
+      outcome = (
+        o,
+        record { owned = owns; like = sort },
         record {
-          extends = Extends-trans p.extends extends;
-          outcome = (o, record { owned = owns; like = sort }, rw (tree, new, still) (at_node (rw whole at p.walked)));
-        }
+          items = children_trees terms.rows (children_at terms.rows l);
+          results = children_trees terms1.rows (view items);
+          is_list = f.of_children;
+          becomes = new;
+          walked = rw still f.outcome.2;
+        },
+      );
+    }
+
+    -- a list that is none of clauses
+    pub list_folds : {terms terms1 : Terms} {s s1 : S} {l : List} {r : Result List E} → (list_sort l ≡ sort_is.Clauses → ⊥)
+        → Folds owned means (IsListFor l) list_tree (WalksItems H (list_sort l)) (ItemsFail H unbuilt (list_sort l)) terms s l r terms1 s1
+        → Folds owned means (IsListFor l) list_tree (Walks H) (Fails H unbuilt) terms s l r terms1 s1
+    list_folds {l} {r} other f = record {
+      extends = f.extends;
+      outcome = MatchResult-weaker r f.outcome (λ y h. (h.0, h.1, walks_list (list_sort l) other h.2)) (λ e h. fails_list (list_sort l) other h);
+    }
+
+    -- what stands in a list of clauses
+    pub clauses_fail : {terms terms1 : Terms} {s s1 : S} {c : Clauses} {e : E}
+        → Folds owned means (IsListFor (list_is.Clauses c)) list_tree (WalksItems H sort_is.Clauses) (ItemsFail H unbuilt sort_is.Clauses) terms s (list_is.Clauses c) (Err e) terms1 s1
+        → Folds owned means (IsNodeFor (node_is.Clauses c)) node_tree (WalksInside H) (InsideFails H unbuilt) terms s (node_is.Clauses c) (Err e) terms1 s1
+    clauses_fail f = record { extends = f.extends; outcome = fails_clauses f.outcome }
+
+    pub clauses_fold : {terms terms1 : Terms} {s s1 : S} {c d : Clauses} {l : List} → l ≡ list_is.Clauses d
+        → Folds owned means (IsListFor (list_is.Clauses c)) list_tree (WalksItems H sort_is.Clauses) (ItemsFail H unbuilt sort_is.Clauses) terms s (list_is.Clauses c) (Ok l) terms1 s1
+        → Folds owned means (IsNodeFor (node_is.Clauses c)) node_tree (WalksInside H) (InsideFails H unbuilt) terms s (node_is.Clauses c) (Ok (node_is.Clauses d)) terms1 s1
+    clauses_fold same f =
+        let o = rw same at f.outcome in
+        record { extends = f.extends; outcome = (o.0, record { owned = o.1.owned; like = refl }, walks_clauses o.2) }
+
+    -- and a list of clauses with its hook
+    pub clauses_node_fails : {terms terms1 : Terms} {s s1 : S} {l : List} {c : Clauses} {e : E} → l ≡ list_is.Clauses c
+        → Folds owned means (IsNodeFor (node_is.Clauses c)) node_tree (Walks H) (Fails H unbuilt) terms s (node_is.Clauses c) (Err e) terms1 s1
+        → Folds owned means (IsListFor l) list_tree (Walks H) (Fails H unbuilt) terms s l (Err e) terms1 s1
+    clauses_node_fails is f = rw is (record { extends = f.extends; outcome = f.outcome })
+
+    pub clauses_node : {terms terms1 : Terms} {s s1 : S} {l : List} {c d : Clauses} {n : Node} → l ≡ list_is.Clauses c → n ≡ node_is.Clauses d
+        → Folds owned means (IsNodeFor (node_is.Clauses c)) node_tree (Walks H) (Fails H unbuilt) terms s (node_is.Clauses c) (Ok n) terms1 s1
+        → Folds owned means (IsListFor l) list_tree (Walks H) (Fails H unbuilt) terms s l (Ok (list_is.Clauses d)) terms1 s1
+    clauses_node is same f =
+        let o = rw same at f.outcome in
+        rw is (record { extends = f.extends; outcome = (o.0, record { owned = o.1.owned; like = refl }, o.2) })

@@ -1,55 +1,104 @@
 -- Kinds by their forms.
-use Rattle.std.proofs.Common.{true, false, All, [], ◌∷◌, zero, slice_get, ◌≡◌, ℕ, suc, ◌≤◌, List, Some, None, refl, ap, arith}
+use Rattle.std.proofs.Common.{true, false, All, [], ◌∷◌, zero, slice_get, ◌≡◌, ℕ, suc, ◌≤◌, List, Some, None, refl, ap, sym, ◌∙◌, arith}
 use Rattle.std.proofs.lemmas.Option.{slice_get_within, same_Some, none-some, get_or_from_slice_get}
-use Rattle.tt_kinds.specs.Label.{Name, Sort, type_sort, TypeLabel, Label, type_label}
+use Rattle.tt_kinds.specs.Label.{Name, Sort, type_sort, const_sort, TypeLabel, ConstLabel, Label, type_label, const_label, text_label, record_label}
+use Rattle.tt_kinds.specs.Tree as tree
+use Rattle.tt_kinds.specs.Tree.{Depth, Tree}
 use Rattle.tt_kinds.specs.Shape as shape
-use Rattle.tt_kinds.specs.Shape.{Shape, Shapes, Meaning, Sizes, IsPart, AreParts, HasParts, IsTooDeep, fill, fill_all, rename_label, IsNamedLabel, append}
-use Rattle.tt_kinds.specs.Kinds.{Form, param, bound, plain, under, form_parts, form_binder, refilled, relabelled, form_shape, kind_form, kind_sort, kind_shape, kind_table, ty_form, child_shapes, parts_shapes, children_shapes}
+use Rattle.tt_kinds.specs.Shape.{Shape, Shapes, Meaning, Sizes, IsPart, AreParts, HasParts, IsTooDeep, fill, fill_all, name_of, rename_label, IsNamedLabel, append}
+use Rattle.tt_kinds.specs.Kinds.{Form, param, bound, plain, under, form_parts, form_binder, refilled, relabelled, form_shape, kind_form, kind_sort, kind_shape, kind_table, ty_form, const_form, child_shapes, parts_shapes, children_shapes}
+use Rattle.tt_kinds.specs.declared.table.Table.{Table}
+use Rattle.tt_kinds.specs.declared.table.Table.TheVariants.{Types, Consts}
 use Rattle.tt_kinds.specs.declared.parts.Child.{Child}
 use Rattle.tt_kinds.specs.declared.parts.Child.TheVariants as child
 use Rattle.tt_kinds.specs.declared.parts.Kind.{Kind}
 use Rattle.tt_kinds.specs.declared.parts.Kind.TheVariants as kind
 use Rattle.tt_kinds.specs.declared.parts.Parts.{Parts}
-use Rattle.tt_interner.specs.Rows.{Row, size, IsOlder, AreOlder}
-use Rattle.tt_fold.specs.Walk.{IsTerm}
+use Rattle.tt_interner.specs.Rows.{Row, size, meaning, Grows, IsOlder, AreOlder}
+use Rattle.tt_interner.proofs.Growth.{HasParts-grows, row-grows}
+use Rattle.tt_fold.specs.Walk.{is_type_tree}
 use Rattle.tt_fold.proofs.PartLaws.{left_parts, right_parts}
 use Rattle.tt_fold.specs.Parts.{IsLeaf, ArePartsOf, HasBinder, child_weight, parts_weight}
 
--- the label has no name in it
-pub record IsNameless (l : Label ℕ) : Type 0 where
-  pub same : (f g : ℕ → Name) → rename_label f l ≡ rename_label g l
-  pub named : (size : Sizes) → IsNamedLabel size l
+-- the label means the same among more rows, and its names are theirs
+pub record KeepsLabel (old new : List Row) (l : Label ℕ) : Type 0 where
+  pub same : rename_label (name_of (meaning old)) l ≡ rename_label (name_of (meaning new)) l
+  pub named : IsNamedLabel (size new) l
 
--- the same of a form's label
-abbrev pub HasNoName : Form (Label ℕ) → Type 0
-HasNoName (param i name) = Unit {0}
-HasNoName (bound d e) = Unit {0}
-HasNoName (plain l p) = IsNameless l
-HasNoName (under l vars m p) = IsNameless l
+-- the same of a form's labels
+abbrev pub KeepsLabels : List Row → List Row → Form (Label ℕ) → Type 0
+KeepsLabels old new (param i name) = Unit {0}
+KeepsLabels old new (bound d e) = Unit {0}
+KeepsLabels old new (plain l p) = KeepsLabel old new l
+KeepsLabels old new (under l vars m p) = KeepsLabel old new l × KeepsLabel old new (record_label m)
 
-type-nameless : (f : Form TypeLabel) → HasNoName (relabelled type_label f)
-type-nameless (param i name) = tt
-type-nameless (bound d e) = tt
-type-nameless (plain l p) = record { same = λ f g. refl; named = λ size. tt }
-type-nameless (under l vars m p) = record { same = λ f g. refl; named = λ size. tt }
+root_label : Tree Depth → Label Name
+root_label (tree.term l ts) = l
+root_label _ = text_label []
 
-pub nameless : (k : Kind) → HasNoName (kind_form k)
-nameless (kind.Ty k) = type-nameless (ty_form k)
+label_alone : (size : Sizes) (l : Label ℕ) → IsNamedLabel size l → HasParts size (shape.term l shape.none)
+unfolding AreParts
+label_alone size l h = (h, tt)
 
--- a type's tree is a term's
-type-term : (m : Meaning) (f : Form TypeLabel) → IsTerm (fill m (form_shape type_sort (relabelled type_label f)))
+pub keeps_label : (old new : List Row) → Grows old new → (l : Label ℕ) → IsNamedLabel (size old) l → KeepsLabel old new l
+unfolding fill root_label
+keeps_label old new g l h = record {
+  same = ap root_label (sym (row-grows old new g (shape.term l shape.none) (label_alone (size old) l h)));
+  named = (HasParts-grows old new g (shape.term l shape.none) (label_alone (size old) l h)).0;
+}
+
+pub form-labels : (old new : List Row) → Grows old new → (s : Sort) (f : Form (Label ℕ)) → HasParts (size old) (form_shape s f) → KeepsLabels old new f
+unfolding IsPart
+form-labels old new g s (param i name) h = tt
+form-labels old new g s (bound d e) h = tt
+form-labels old new g s (plain l p) h = keeps_label old new g l h.0
+form-labels old new g s (under l vars m p) h = (keeps_label old new g l h.0, keeps_label old new g (record_label m) h.1.0.1.1)
+
+-- the trees of types
+type-type : (m : Meaning) (f : Form TypeLabel) → is_type_tree (fill m (form_shape type_sort (relabelled type_label f))) ≡ true
 unfolding fill
-type-term m (param i name) = tt
-type-term m (bound d e) = tt
-type-term m (plain l p) = refl
-type-term m (under l vars r p) = refl
+type-type m (param i name) = refl
+type-type m (bound d e) = refl
+type-type m (plain l p) = refl
+type-type m (under l vars r p) = refl
 
-pub kind-term : (m : Meaning) (k : Kind) → IsTerm (fill m (kind_shape k))
-kind-term m (kind.Ty k) = type-term m (ty_form k)
+pub kind-type : (m : Meaning) (k : Kind) → kind_table k ≡ Types → is_type_tree (fill m (kind_shape k)) ≡ true
+kind-type m (kind.Ty k) h = type-type m (ty_form k)
+kind-type m (kind.Const k) h = absurd (cc)
+kind-type m (kind.Pat k) h = absurd (cc)
+kind-type m (kind.Predicate b) h = absurd (cc)
+kind-type m (kind.Existential b) h = absurd (cc)
+
+-- and of constants
+const-type : (m : Meaning) (f : Form ConstLabel) → is_type_tree (fill m (form_shape const_sort (relabelled const_label f))) ≡ false
+unfolding fill
+const-type m (param i name) = refl
+const-type m (bound d e) = refl
+const-type m (plain l p) = refl
+const-type m (under l vars r p) = refl
+
+pub kind-const : (m : Meaning) (k : Kind) → kind_table k ≡ Consts → is_type_tree (fill m (kind_shape k)) ≡ false
+kind-const m (kind.Ty k) h = absurd (cc)
+kind-const m (kind.Const k) h = const-type m (const_form k)
+kind-const m (kind.Pat k) h = absurd (cc)
+kind-const m (kind.Predicate b) h = absurd (cc)
+kind-const m (kind.Existential b) h = absurd (cc)
 
 -- kinds of a table have one sort
+sort_of_table : Table → Sort
+sort_of_table Types = type_sort
+sort_of_table _ = const_sort
+
+by_table : (k : Kind) → kind_sort k ≡ sort_of_table (kind_table k)
+unfolding sort_of_table
+by_table (kind.Ty k) = refl
+by_table (kind.Const k) = refl
+by_table (kind.Pat k) = refl
+by_table (kind.Predicate b) = refl
+by_table (kind.Existential b) = refl
+
 pub same-sort : (j k : Kind) → kind_table j ≡ kind_table k → kind_sort j ≡ kind_sort k
-same-sort (kind.Ty j) (kind.Ty k) h = refl
+same-sort j k h = by_table j ∙ ap sort_of_table h ∙ sym (by_table k)
 
 -- a form that has children or a binder
 abbrev pub IsInner : Form (Label ℕ) → Type 0
@@ -90,13 +139,13 @@ form-binder rows s (plain l p) h = tt
 form-binder rows s (under l vars m p) h = h.1.0.0
 
 -- and the kind with other parts
-pub refilled-parts : (rows : List Row) (s : Sort) (q : Parts) (f : Form (Label ℕ)) → HasNoName f → IsInner f → HasBinder rows (form_binder f)
+pub refilled-parts : (old rows : List Row) (s : Sort) (q : Parts) (f : Form (Label ℕ)) → KeepsLabels old rows f → IsInner f → HasBinder rows (form_binder f)
     → ArePartsOf rows (parts_shapes q) → HasParts (size rows) (form_shape s (refilled q f))
 unfolding AreParts
-refilled-parts rows s q (param i name) n is b h = absurd is
-refilled-parts rows s q (bound d e) n is b h = absurd is
-refilled-parts rows s q (plain l p) n is b h = (n.named (size rows), h)
-refilled-parts rows s q (under l vars m p) n is b h = (n.named (size rows), ((b, (refl, tt, h)), tt))
+refilled-parts old rows s q (param i name) n is b h = absurd is
+refilled-parts old rows s q (bound d e) n is b h = absurd is
+refilled-parts old rows s q (plain l p) n is b h = (n.named, h)
+refilled-parts old rows s q (under l vars m p) n is b h = (n.0.named, ((b, (refl, n.1.named, h)), tt))
 
 -- what stands in a kind came before it
 child-older : (rows : List Row) (a : ℕ) (c : Child) (ss : Shapes) → AreOlder rows a (append (child_shapes c) ss) → child_weight rows c ≤ a

@@ -1,8 +1,13 @@
-pub mod Growth
 pub mod PartLaws
 mod FormLaws
 mod WalkLaws
+mod CoreSteps
 mod FoldSteps
 mod ValueSteps
+mod RecordSteps
+mod VecSteps
+pub mod ClauseLaws
 pub mod ShiftLaws
+mod BoundLaws
+pub mod MovingLaws
 pub mod CounterLaws

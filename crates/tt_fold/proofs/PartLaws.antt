@@ -15,7 +15,7 @@ use Rattle.tt_kinds.specs.Shape.{vars_of}
 use Rattle.tt_interner.specs.Rows.{Row, size, meaning, Grows}
 use Rattle.tt_fold.specs.Steps.{IsPartOf, tree_in, HasVars, vars_in}
 use Rattle.tt_fold.specs.Parts.{ArePartsOf, trees_in, HasBinder, binder_in, child_weight, parts_weight}
-use Rattle.tt_fold.proofs.Growth.{size-grows, meaning-grows, age-grows}
+use Rattle.tt_interner.proofs.Growth.{size-grows, meaning-grows, age-grows}
 
 -- a handle in range, its tree
 pub is_part : (rows : List Row) (t : Table) (n : ℕ) → n < size rows t → IsPartOf rows (stored t n)
@@ -97,10 +97,10 @@ children-one c = append-none (child_shapes c)
 
 module _ {old new : List Row} (g : Grows old new) where
   pub vars-kept : (vars : BoundVarKinds) → HasVars old vars → HasVars new vars
-  vars-kept vars h = let more = size-grows g VarLists in omega (arith, more, h)
+  vars-kept vars h = let more = size-grows _ _ g VarLists in omega (arith, more, h)
 
   pub vars-grow : (vars : BoundVarKinds) → HasVars old vars → vars_in new vars ≡ vars_in old vars
-  vars-grow vars h = ap vars_of (meaning-grows g VarLists vars.number h)
+  vars-grow vars h = ap vars_of (meaning-grows _ _ g VarLists vars.number h)
 
   pub binder-kept : (b : Option BoundVarKinds) → HasBinder old b → HasBinder new b
   binder-kept None h = tt
@@ -113,8 +113,8 @@ module _ {old new : List Row} (g : Grows old new) where
   pub weight-grows : (c : Child) → ArePartsOf old (child_shapes c) → child_weight new c ≡ child_weight old c
   weight-grows child.Absent h = refl
   weight-grows (child.Region r) h = refl
-  weight-grows (child.Node n) h = ap suc (age-grows g (node_table n) (node_number n) (in_range old (node_table n) (node_number n) (only_part old (node_shape n) h)))
-  weight-grows (child.List l) h = ap suc (age-grows g (list_table l) (list_number l) (in_range old (list_table l) (list_number l) (only_part old (list_shape l) h)))
+  weight-grows (child.Node n) h = ap suc (age-grows _ _ g (node_table n) (node_number n) (in_range old (node_table n) (node_number n) (only_part old (node_shape n) h)))
+  weight-grows (child.List l) h = ap suc (age-grows _ _ g (list_table l) (list_number l) (in_range old (list_table l) (list_number l) (only_part old (list_shape l) h)))
 
   pub weights-grow : (p : Parts) → ArePartsOf old (parts_shapes p) → parts_weight new p ≡ parts_weight old p
   weights-grow p h =

@@ -1,51 +1,65 @@
 -- The shifter's walk shifts the tree.
-use Rattle.std.proofs.Common.{zero, List, Result, Ok, Err, IfOk, IfErr, MatchResult, Some, None, ◌≡◌, ℕ, suc, ◌+◌, ◌-◌, ◌<◌, ◌≤◌, ◌⊎◌, inl, inr, true, false, ltb, refl, ap, sym, ◌∙◌, arith}
+use Rattle.std.proofs.Common.{zero, List, Result, Ok, Err, IfOk, IfErr, MatchResult, ◌≡◌, ℕ, suc, ◌+◌, ◌-◌, ◌<◌, ◌≤◌, ◌⊎◌, inl, inr, true, false, ltb, refl, ap, sym, subst, ◌∙◌, arith}
 use Rattle.std.proofs.lemmas.Bool.{cases_Bool, cases_lt, ltb-false, le-ltb, lt-ltb}
 use Rattle.std.specs.Prelude.{⊤}
-use Rattle.std.proofs.lemmas.Option.{same_Some}
 use Rattle.tt_index.specs.Greatest.{greatest}
 use Rattle.tt_index.specs.declared.refusal.Refusal.{Refusal}
-use Rattle.tt_index.specs.declared.refusal.Refusal.TheVariants.{Memory, TableFull, GreatestIndex}
-use Rattle.tt_kinds.specs.Label.{static_region, TypeLabel, type_label, type_sort}
+use Rattle.tt_index.specs.declared.refusal.Refusal.TheVariants.{Memory, TableFull, GreatestIndex, NotAClause}
+use Rattle.tt_kinds.specs.Label.{region_sort, type_sort, const_sort}
 use Rattle.tt_kinds.specs.Tree.{Depth, at, canonical, Tree, param, bound, region, term, node, binder, Forest}
-use Rattle.tt_kinds.specs.Reading.{place, reach, read, read_all, move, outer_binder, Fits, FitsAt, FitsUnder, FitsUnder_all}
+use Rattle.tt_kinds.specs.Reading.{place, read, read_all, move, outer_binder, Fits, FitsAt, FitsUnder, FitsUnder_all}
 use Rattle.tt_kinds.specs.Plain.{shifted, shift_tree, shift_forest}
 use Rattle.tt_kinds.proofs.OuterLaws.{shift_tree-low, shift_tree-zero}
 use Rattle.tt_kinds.proofs.PlainLaws.{shift_tree-shift_tree}
 use Rattle.tt_kinds.proofs.ReadingLaws.{place-own, place-outer, shifted-outer, read-shift_tree, read-injective, move-injective}
 use Rattle.tt_kinds.specs.Bound.{depth, IsBelowGreatest}
 use Rattle.tt_kinds.specs.RegionKind.{IsShallow}
-use Rattle.tt_kinds.specs.Shape.{Shape, IsGreatest, Meaning, Sizes, IsPart, fill}
-use Rattle.tt_kinds.specs.Kinds as forms
-use Rattle.tt_kinds.specs.Kinds.{Form, form_shape, relabelled, ty_form, region_shape, kind_shape, ty_shape, ty_kind_shape}
-use Rattle.tt_kinds.specs.declared.bound.BoundTy.{BoundTy}
-use Rattle.tt_kinds.specs.declared.ty_kind.TyKind.{TyKind}
-use Rattle.tt_kinds.specs.declared.ty_kind.TyKind.TheVariants as ty
+use Rattle.tt_kinds.specs.Shape.{Shape, Meaning, Sizes, IsPart, fill}
+use Rattle.tt_kinds.specs.Kinds.{region_shape}
 use Rattle.tt_kinds.specs.declared.bound.BoundVarIndexKind.{BoundVarIndexKind}
 use Rattle.tt_kinds.specs.declared.bound.BoundVarIndexKind.TheVariants.{Bound, Canonical}
 use Rattle.tt_kinds.specs.declared.region_kind.RegionKind.{RegionKind}
-use Rattle.tt_kinds.specs.declared.region_kind.RegionKind.TheVariants.{ReEarlyParam, ReBound, ReStatic, ReVar, ReErased, ReError}
-use Rattle.tt_kinds.specs.declared.handle.Ty.{Ty}
-use Rattle.tt_kinds.specs.declared.parts.Kind.{Kind}
-use Rattle.tt_kinds.specs.declared.parts.Kind.TheVariants as kind
-use Rattle.tt_kinds.specs.declared.table.Table.TheVariants.{Types}
-use Rattle.tt_interner.specs.Rows.{Row, type_row, size, meaning}
-use Rattle.tt_interner.specs.Stored.{Terms, Counters, counted, Builds, IsCause, IsUnbuilt}
-use Rattle.tt_fold.proofs.PartLaws.{is_part, stored_tree}
-use Rattle.tt_fold.specs.Walk.{replace, keep, descend, Walks, Descends, WalksInside, WalksAll, at_region, replaced, kept, descended, rebuilt, at_node, at_binder, in_term, in_param, in_bound, done, next, Fails, DescentFails, FailsInside, FailsAll, region_failed, term_failed, descent_failed, enter_failed, under_failed, leave_failed, node_failed, node_not_built, inside_failed, not_built, after_failed, in_term_failed, stopped, here, later}
+use Rattle.tt_kinds.specs.declared.region_kind.RegionKind.TheVariants.{ReEarlyParam, ReBound, ReLateParam, ReStatic, ReVar, RePlaceholder, ReErased, ReError}
+use Rattle.tt_interner.specs.Rows.{Row, size, meaning}
+use Rattle.tt_interner.specs.Stored.{Terms, Counters, counted, IsUnbuilt}
+use Rattle.tt_fold.specs.Walk.{is_type_tree, IsPassed, replace, keep, descend, Walks, Descends, WalksInside, WalksAll, at_region, replaced, kept, descended, passed, rebuilt, at_node, at_binder, in_term, in_param, in_bound, done, next, Fails, DescentFails, InsideFails, FailsAll, region_failed, term_failed, descent_failed, enter_failed, under_failed, leave_failed, node_failed, node_not_built, passed_failed, inside_failed, not_built, after_failed, in_term_failed, stopped, here, later}
 use Rattle.tt_fold.specs.Counts.{Standing}
 use Rattle.tt_fold.specs.Steps.{Folds, IsPartOf, tree_in, IsPartBy, tree_by, IsRefused}
-use Rattle.tt_fold.specs.Shift.{Shift, moved_tree, IsTooFar, answer_inside, shift_answer, shift_hooks, count_shift, IsTooGreat, IsPast, IsOuter, bound_in, bound_variable_in, moved_index, moved_region, IsShiftedRegion, IsShiftRefusal}
+use Rattle.tt_fold.proofs.ClauseLaws.{KeepsClauses, never_bad, shift-keeps}
+use Rattle.tt_fold.specs.Stands.{StandsIn, itself, in_term as stands_in_term, in_node as stands_in_node, in_binder as stands_in_binder, StandsAmong, in_first, in_later}
+use Rattle.tt_fold.specs.Shift.{Shift, moved_tree, IsTooFar, answer_inside, shift_answer, shift_hooks, count_descent, IsTooGreat, moved_index, moved_region, IsShiftedRegion, IsShiftRefusal}
 
--- the walk leaves the state and the other count, and shifts the tree
-record Shifts (s : Standing Shift) (t r : Tree Depth) (s' : Standing Shift) : Type 0 where
-  state : s'.state ≡ s.state
-  descents : s'.counters.descents ≡ s.counters.descents
+-- a count never falls
+pub counted-up : (n : ℕ) → n ≤ counted n
+counted-up n = grind arith
+
+-- the shifter's count never falls, and the other stays
+record CountsUp (c c' : Counters) : Type 0 where
+  descents : c'.descents ≡ c.descents
+  up : c.shift_descents ≤ c'.shift_descents
+
+counts-same : {c c' : Counters} → c' ≡ c → CountsUp c c'
+counts-same h = rw h (record { descents = refl; up = omega arith })
+
+counts-then : {a b c : Counters} → CountsUp a b → CountsUp b c → CountsUp a c
+counts-then m n = record { descents = n.descents ∙ m.descents; up = omega (arith, m.up, n.up) }
+
+-- a descent counts up
+counts-descent : (t : Tree Depth) (c : Counters) → CountsUp c (count_descent t c)
+counts-descent t c = elim (cases_Bool (is_type_tree t)) [
+  | inl is ↦ rw is (record { descents = refl; up = counted-up c.shift_descents })
+  | inr is ↦ rw is (record { descents = refl; up = omega arith })
+]
+
+-- the walk leaves the state, counts up, and shifts the tree
+pub record Shifts (s : Standing Shift) (t r : Tree Depth) (s' : Standing Shift) : Type 0 where
+  pub state : s'.state ≡ s.state
+  counts : CountsUp s.counters s'.counters
   shifted : r ≡ moved_tree s.state t
 
 record ShiftsAll (s : Standing Shift) (ts us : Forest Depth) (s' : Standing Shift) : Type 0 where
   state : s'.state ≡ s.state
-  descents : s'.counters.descents ≡ s.counters.descents
+  counts : CountsUp s.counters s'.counters
   shifted : us ≡ shift_forest s.state.under s.state.amount ts
 
 -- what the hook's answers say
@@ -77,98 +91,134 @@ answer-replaced s t r h = elim (cases_Bool (ltb s.under (outer_binder t))) [
     inside s (node l ts) r h = absurd (cc)
     inside s (binder vs t) r h = absurd (cc)
 
-answer-descends : (s : Shift) (t : Tree Depth) → descend ≡ shift_answer s t → descend ≡ answer_inside s t
+pub answer-descends : (s : Shift) (t : Tree Depth) → descend ≡ shift_answer s t → descend ≡ answer_inside s t
 answer-descends s t h = elim (cases_Bool (ltb s.under (outer_binder t))) [
   | inl far ↦ rw far at h
   | inr low ↦ let no : descend ≡ keep = rw low at h in absurd (cc)
 ]
 
+-- a term without a hook is no bound variable
+passed-inside : (s : Shift) (t : Tree Depth) → IsPassed t → descend ≡ answer_inside s t
+passed-inside s (param o i name) h = refl
+passed-inside s (bound region_sort d e) h = absurd (cc)
+passed-inside s (bound type_sort d e) h = absurd (cc)
+passed-inside s (bound const_sort d e) h = absurd (cc)
+passed-inside s (region r) h = refl
+passed-inside s (term l ts) h = refl
+passed-inside s (node l ts) h = refl
+passed-inside s (binder vs t) h = refl
+
 mutual
-  shifts : {s s' : Standing Shift} {t r : Tree Depth} → Walks shift_hooks s t r s' → Shifts s t r s'
-  shifts (at_region is h) = record { state = ap (λ s. s.state) h.0; descents = ap (λ s. s.counters.descents) h.0; shifted = h.1 }
+  pub shifts : {s s' : Standing Shift} {t r : Tree Depth} → Walks shift_hooks s t r s' → Shifts s t r s'
+  shifts (at_region is h) = record { state = ap (λ s. s.state) h.0; counts = counts-same (ap (λ s. s.counters) h.0); shifted = h.1 }
   shifts {s} (replaced {t} {r} is h) =
-      record { state = ap (λ s. s.state) h.0; descents = ap (λ s. s.counters.descents) h.0; shifted = answer-replaced s.state t r h.1 }
-  shifts {s} (kept {t} is h) = record { state = ap (λ s. s.state) h.0; descents = ap (λ s. s.counters.descents) h.0; shifted = answer-kept s.state t h.1 }
+      record { state = ap (λ s. s.state) h.0; counts = counts-same (ap (λ s. s.counters) h.0); shifted = answer-replaced s.state t r h.1 }
+  shifts {s} (kept {t} is h) = record { state = ap (λ s. s.state) h.0; counts = counts-same (ap (λ s. s.counters) h.0); shifted = answer-kept s.state t h.1 }
   shifts {s} (descended {t} is h d) =
       let m = rw h.0 at (shifts_descent d (rw h.0 (answer-descends s.state t h.1))) in
-      record { state = m.state; descents = m.descents; shifted = m.shifted }
-  shifts (at_node {l} w) = let m = shifts_all w in record { state = m.state; descents = m.descents; shifted = ap (node l) m.shifted }
+      record { state = m.state; counts = counts-then (counts-descent t s.counters) m.counts; shifted = m.shifted }
+  shifts {s} (passed {t} is w) = shifts_inside w (passed-inside s.state t is)
+  shifts (at_node {l} w) = let m = shifts_all w in record { state = m.state; counts = m.counts; shifted = ap (node l) m.shifted }
   shifts {s} (at_binder {vs} enter w leave) =
       let m = rw enter at (shifts w) in
       let back : suc s.state.under - 1 ≡ s.state.under = omega arith in
       record {
         state = ap (λ s. s.state) leave ∙ rw (m.state, back) refl;
-        descents = ap (λ s. s.counters.descents) leave ∙ m.descents;
+        counts = counts-then m.counts (counts-same (ap (λ s. s.counters) leave));
         shifted = ap (binder vs) m.shifted;
       }
 
   shifts_descent : {s s' : Standing Shift} {t r : Tree Depth} → Descends shift_hooks s t r s' → descend ≡ answer_inside s.state t → Shifts s t r s'
   shifts_descent (rebuilt w after) h =
       let m = shifts_inside w h in
-      record { state = ap (λ s. s.state) after.0 ∙ m.state; descents = ap (λ s. s.counters.descents) after.0 ∙ m.descents; shifted = after.1 ∙ m.shifted }
+      record { state = ap (λ s. s.state) after.0 ∙ m.state; counts = counts-then m.counts (counts-same (ap (λ s. s.counters) after.0)); shifted = after.1 ∙ m.shifted }
 
   shifts_inside : {s s' : Standing Shift} {t r : Tree Depth} → WalksInside shift_hooks s t r s' → descend ≡ answer_inside s.state t → Shifts s t r s'
-  shifts_inside (in_term {l} w) h = let m = shifts_all w in record { state = m.state; descents = m.descents; shifted = ap (term l) m.shifted }
-  shifts_inside in_param h = record { state = refl; descents = refl; shifted = refl }
+  shifts_inside (in_term {l} w) h = let m = shifts_all w in record { state = m.state; counts = m.counts; shifted = ap (term l) m.shifted }
+  shifts_inside in_param h = record { state = refl; counts = counts-same refl; shifted = refl }
   shifts_inside in_bound h = absurd (cc)
 
   shifts_all : {s s' : Standing Shift} {ts us : Forest Depth} → WalksAll shift_hooks s ts us s' → ShiftsAll s ts us s'
-  shifts_all done = record { state = refl; descents = refl; shifted = refl }
+  shifts_all done = record { state = refl; counts = counts-same refl; shifted = refl }
   shifts_all (next w more) =
       let m = shifts w in
       let n = shifts_all more in
       let rest = rw m.state at n.shifted in
-      record { state = n.state ∙ m.state; descents = n.descents ∙ m.descents; shifted = rw (m.shifted, rest) refl }
+      record { state = n.state ∙ m.state; counts = counts-then m.counts n.counts; shifted = rw (m.shifted, rest) refl }
 
--- why the walk ends: a term is not built, or the moved reading does not fit
-record Refused (unbuilt : Tree Depth → Refusal → Type 0) (s : Standing Shift) (e : Refusal) (fits : Type 0) (s' : Standing Shift) : Type 0 where
-  descents : s'.counters.descents ≡ s.counters.descents
-  cause : ((u : Tree Depth) × unbuilt u e) ⊎ ((e ≡ GreatestIndex) × (fits → ⊥))
+-- why something ends: no tree is built, one that was to stand there isn't, or the moved reading does not fit
+data Why (unbuilt : Tree Depth → Refusal → Type 0) (stands : Tree Depth → Type 0) (e : Refusal) (fits : Type 0) : Type 0 where
+  all_unbuilt : ((u : Tree Depth) → unbuilt u e) → Why unbuilt stands e fits
+  one_unbuilt : (u : Tree Depth) → stands u → unbuilt u e → Why unbuilt stands e fits
+  too_great : e ≡ GreatestIndex → (fits → ⊥) → Why unbuilt stands e fits
+
+-- why the walk ends, and its counts
+record Refused (unbuilt : Tree Depth → Refusal → Type 0) (stands : Tree Depth → Type 0) (s : Standing Shift) (e : Refusal) (fits : Type 0) (s' : Standing Shift) : Type 0 where
+  counts : CountsUp s.counters s'.counters
+  cause : Why unbuilt stands e fits
+
+-- the same of a tree, and of trees
+abbrev RefusedAt : (Tree Depth → Refusal → Type 0) → Standing Shift → Tree Depth → Refusal → Standing Shift → Type 0
+RefusedAt unbuilt s t e s' = Refused unbuilt (λ u. StandsIn u (moved_tree s.state t)) s e (FitsUnder s.state.under (read s.state.under (moved_tree s.state t))) s'
+
+abbrev RefusedAmong : (Tree Depth → Refusal → Type 0) → Standing Shift → Forest Depth → Refusal → Standing Shift → Type 0
+RefusedAmong unbuilt s ts e s' =
+    let moved = shift_forest s.state.under s.state.amount ts in
+    Refused unbuilt (λ u. StandsAmong u moved) s e (FitsUnder_all s.state.under (read_all s.state.under moved)) s'
 
 module _ (unbuilt : Tree Depth → Refusal → Type 0) where
-  weaker : {s s' : Standing Shift} {e : Refusal} {P Q : Type 0} → (Q → P) → Refused unbuilt s e P s' → Refused unbuilt s e Q s'
-  weaker f r = record { descents = r.descents; cause = elim r.cause [ inl u ↦ inl u | inr far ↦ inr (far.0, λ q. far.1 (f q)) ] }
+  because : {e : Refusal} {A B : Tree Depth → Type 0} {P Q : Type 0} → ((u : Tree Depth) → A u → B u) → (Q → P) → Why unbuilt A e P → Why unbuilt B e Q
+  because into f (all_unbuilt b) = all_unbuilt b
+  because into f (one_unbuilt u h b) = one_unbuilt u (into u h) b
+  because into f (too_great is unfit) = too_great is (λ q. unfit (f q))
+
+  weaker : {s s' : Standing Shift} {e : Refusal} {A B : Tree Depth → Type 0} {P Q : Type 0} → ((u : Tree Depth) → A u → B u) → (Q → P)
+      → Refused unbuilt A s e P s' → Refused unbuilt B s e Q s'
+  weaker into f r = record { counts = r.counts; cause = because into f r.cause }
 
   mutual
-    refused : {s s' : Standing Shift} {t : Tree Depth} {e : Refusal} → Fails shift_hooks unbuilt s t e s'
-        → Refused unbuilt s e (FitsUnder s.state.under (read s.state.under (moved_tree s.state t))) s'
-    refused (region_failed is h) = record { descents = ap (λ s. s.counters.descents) h.0; cause = inr (h.1.0, h.1.1) }
+    refused : {s s' : Standing Shift} {t : Tree Depth} {e : Refusal} → Fails shift_hooks unbuilt s t e s' → RefusedAt unbuilt s t e s'
+    refused (region_failed is h) = record { counts = counts-same (ap (λ s. s.counters) h.0); cause = too_great h.1.0 h.1.1 }
     refused {s} (term_failed {t} is h) = record {
-      descents = ap (λ s. s.counters.descents) h.0;
-      cause = elim h.1 [ inl far ↦ inr (far.0, far.1) | inr u ↦ inl (moved_tree s.state t, u) ];
+      counts = counts-same (ap (λ s. s.counters) h.0);
+      cause = elim h.1 [ inl far ↦ too_great far.0 far.1 | inr u ↦ one_unbuilt (moved_tree s.state t) itself u ];
     }
     refused {s} (descent_failed {t} is h d) =
         let r = rw h.0 at (refused_descent d (rw h.0 (answer-descends s.state t h.1))) in
-        record { descents = r.descents; cause = r.cause }
-    refused (enter_failed h) = record { descents = ap (λ s. s.counters.descents) h.0; cause = inr (h.1.0, λ fits. omega (arith, fits.0, h.1.1)) }
+        record { counts = counts-then (counts-descent t s.counters) r.counts; cause = r.cause }
+    refused {s} (passed_failed {t} is d) = refused_inside d (passed-inside s.state t is)
+    refused (enter_failed h) = record { counts = counts-same (ap (λ s. s.counters) h.0); cause = too_great h.1.0 (λ fits. omega (arith, fits.0, h.1.1)) }
     refused (under_failed enter d) =
         let r = rw enter at (refused d) in
-        weaker (λ fits. fits.1) (record { descents = r.descents; cause = r.cause })
+        weaker (λ u h. stands_in_binder h) (λ fits. fits.1) (record { counts = r.counts; cause = r.cause })
     refused (leave_failed enter w h) = absurd h
-    refused (node_failed d) = refused_all d
-    refused (node_not_built {l} {ts} {us} w u) = record { descents = (shifts_all w).descents; cause = inl (node l us, u) }
+    refused (node_failed d) = weaker (λ u h. stands_in_node h) (λ fits. fits) (refused_all d)
+    refused {s} (node_not_built {l} {ts} {us} {e} w b) =
+        let m = shifts_all w in
+        record { counts = m.counts; cause = one_unbuilt (node l (shift_forest s.state.under s.state.amount ts)) itself (subst (λ vs. unbuilt (node l vs) e) m.shifted b) }
 
     refused_descent : {s s' : Standing Shift} {t : Tree Depth} {e : Refusal} → DescentFails shift_hooks unbuilt s t e s' → descend ≡ answer_inside s.state t
-        → Refused unbuilt s e (FitsUnder s.state.under (read s.state.under (moved_tree s.state t))) s'
-    refused_descent (inside_failed d) h = refused_inside d
-    refused_descent (not_built {t} {u} w b) h = record { descents = (shifts_inside w h).descents; cause = inl (u, b) }
+        → RefusedAt unbuilt s t e s'
+    refused_descent (inside_failed d) h = refused_inside d h
     refused_descent (after_failed w a) h = absurd a
 
-    refused_inside : {s s' : Standing Shift} {t : Tree Depth} {e : Refusal} → FailsInside shift_hooks unbuilt s t e s'
-        → Refused unbuilt s e (FitsUnder s.state.under (read s.state.under (moved_tree s.state t))) s'
-    refused_inside (in_term_failed d) = refused_all d
+    refused_inside : {s s' : Standing Shift} {t : Tree Depth} {e : Refusal} → InsideFails shift_hooks unbuilt s t e s' → descend ≡ answer_inside s.state t
+        → RefusedAt unbuilt s t e s'
+    refused_inside (in_term_failed d) h = weaker (λ u h. stands_in_term h) (λ fits. fits) (refused_all d)
+    refused_inside {s} (not_built {t} {u} {e} w b) h =
+        let m = shifts_inside w h in
+        record { counts = m.counts; cause = one_unbuilt (moved_tree s.state t) itself (subst (λ v. unbuilt v e) m.shifted b) }
 
-    refused_all : {s s' : Standing Shift} {ts : Forest Depth} {e : Refusal} → FailsAll shift_hooks unbuilt s ts e s'
-        → Refused unbuilt s e (FitsUnder_all s.state.under (read_all s.state.under (shift_forest s.state.under s.state.amount ts))) s'
-    refused_all (stopped b) = record { descents = refl; cause = inl (region static_region, b (region static_region)) }
-    refused_all (here d) = weaker (λ fits. fits.0) (refused d)
+    refused_all : {s s' : Standing Shift} {ts : Forest Depth} {e : Refusal} → FailsAll shift_hooks unbuilt s ts e s' → RefusedAmong unbuilt s ts e s'
+    refused_all (stopped b) = record { counts = counts-same refl; cause = all_unbuilt b }
+    refused_all (here d) = weaker (λ u h. in_first h) (λ fits. fits.0) (refused d)
     refused_all (later w d) =
         let m = shifts w in
         let r = rw m.state at (refused_all d) in
-        weaker (λ fits. fits.1) (record { descents = r.descents ∙ m.descents; cause = r.cause })
+        weaker (λ u h. in_later h) (λ fits. fits.1) (record { counts = counts-then m.counts r.counts; cause = r.cause })
 
 -- regions
-index-moved : (n k : ℕ) (i : BoundVarIndexKind) → depth (moved_index n k i) ≡ shifted n k (depth i)
+pub index-moved : (n k : ℕ) (i : BoundVarIndexKind) → depth (moved_index n k i) ≡ shifted n k (depth i)
 index-moved n k (Bound d) = elim (cases_lt d k) [ inl h ↦ rw (lt-ltb d k h) refl | inr h ↦ rw (le-ltb d k h) refl ]
 index-moved n k Canonical = refl
 
@@ -176,8 +226,10 @@ pub region-moved : (f : Meaning) (n k : ℕ) (r : RegionKind) → fill f (region
 unfolding fill
 region-moved f n k (ReEarlyParam p) = refl
 region-moved f n k (ReBound i b) = rw (index-moved n k i) refl
+region-moved f n k (ReLateParam p) = refl
 region-moved f n k ReStatic = refl
 region-moved f n k (ReVar v) = refl
+region-moved f n k (RePlaceholder p) = refl
 region-moved f n k ReErased = refl
 region-moved f n k (ReError e) = refl
 
@@ -185,8 +237,10 @@ pub region-named : (size : Sizes) (n k : ℕ) (r : RegionKind) → IsPart size (
 unfolding IsPart
 region-named size n k (ReEarlyParam p) h = h
 region-named size n k (ReBound i b) h = h
+region-named size n k (ReLateParam p) h = h
 region-named size n k ReStatic h = h
 region-named size n k (ReVar v) h = h
+region-named size n k (RePlaceholder p) h = h
 region-named size n k ReErased h = h
 region-named size n k (ReError e) h = h
 
@@ -199,8 +253,10 @@ pub region-fits : (f : Meaning) (k : ℕ) (r : RegionKind) → IsShallow r → F
 unfolding fill
 region-fits f k (ReEarlyParam p) h = tt
 region-fits f k (ReBound i b) h = index-fits k (depth i) h
+region-fits f k (ReLateParam p) h = tt
 region-fits f k ReStatic h = tt
 region-fits f k (ReVar v) h = tt
+region-fits f k (RePlaceholder p) h = tt
 region-fits f k ReErased h = tt
 region-fits f k (ReError e) h = tt
 
@@ -222,8 +278,10 @@ pub region-shallow : (f : Meaning) (n k : ℕ) (r : RegionKind) → IsShallow r 
 unfolding fill
 region-shallow f n k (ReEarlyParam p) low h = tt
 region-shallow f n k (ReBound i b) low h = index-shallow n k i low h
+region-shallow f n k (ReLateParam p) low h = tt
 region-shallow f n k ReStatic low h = tt
 region-shallow f n k (ReVar v) low h = tt
+region-shallow f n k (RePlaceholder p) low h = tt
 region-shallow f n k ReErased low h = tt
 region-shallow f n k (ReError e) low h = tt
 
@@ -265,81 +323,6 @@ region_hook rows s r (Ok q) low part h =
 region_hook rows s r (Err e) low part h =
     (refl, (h.0, λ fits. h.1 (region-shallow (meaning rows) s.state.amount s.state.under r low fits)))
 
--- bound types
-is_bound_kind : (k : TyKind) (i : BoundVarIndexKind) (b : BoundTy) → bound_in k ≡ Some (i, b) → k ≡ ty.Bound i b
-is_bound_kind (ty.Bound j c) i b h =
-    let same : (j, c) ≡ (i, b) = same_Some (j, c) (i, b) h in
-    let first : j ≡ i = ap (λ p. p.0) same in
-    let second : c ≡ b = ap (λ p. p.1) same in
-    rw (first, second) refl
-is_bound_kind _ i b h = absurd (cc)
-
--- the form is no bound variable's
-abbrev IsFree : {L : Type 0} → Form L → Type 0
-IsFree (forms.bound d e) = ⊥
-IsFree _ = ⊤
-
-free_kind : (k : TyKind) → bound_in k ≡ None → IsFree (ty_form k)
-free_kind (ty.Bound j c) h = absurd (cc)
-free_kind _ h = tt
-
-free_form : (s : Shift) (f : Meaning) (k : Form TypeLabel) → IsFree k → descend ≡ answer_inside s (fill f (form_shape type_sort (relabelled type_label k)))
-unfolding fill
-free_form s f (forms.param i name) h = refl
-free_form s f (forms.bound d e) h = absurd h
-free_form s f (forms.plain l p) h = refl
-free_form s f (forms.under l vars m p) h = refl
-
-descends_inside : (s : Shift) (f : Meaning) (k : TyKind) → bound_in k ≡ None → descend ≡ answer_inside s (fill f (ty_kind_shape k))
-descends_inside s f k h = free_form s f (ty_form k) (free_kind k h)
-
--- the answer where something is bound outside
-answer-inside : (s : Shift) (t : Tree Depth) → s.under < outer_binder t → shift_answer s t ≡ answer_inside s t
-answer-inside s t far = rw (lt-ltb s.under (outer_binder t) far) refl
-
-pub term_kept : (s : Shift) (t : Tree Depth) → (s.under < outer_binder t → false ≡ true) → keep ≡ shift_answer s t
-term_kept s t closed = keeps (elim (cases_lt s.under (outer_binder t)) [ inl far ↦ absurd (let no : false ≡ true = closed far in cc) | inr low ↦ low ])
-  where
-    keeps : outer_binder t ≤ s.under → keep ≡ shift_answer s t
-    keeps low = rw (le-ltb s.under (outer_binder t) low) refl
-
--- the type of a bound variable, moved
-bound-moved : (f : Meaning) (n k : ℕ) (i : BoundVarIndexKind) (b : BoundTy) → fill f (ty_kind_shape (ty.Bound (moved_index n k i) b)) ≡ shift_tree k n (fill f (ty_kind_shape (ty.Bound i b)))
-unfolding fill
-bound-moved f n k i b = rw (index-moved n k i) refl
-
-bound_tree : (f : Meaning) (t : Tree Depth) (k : Kind) (i : BoundVarIndexKind) (b : BoundTy) → t ≡ fill f (kind_shape k) → bound_variable_in k ≡ Some (i, b)
-    → t ≡ fill f (ty_kind_shape (ty.Bound i b))
-bound_tree f t (kind.Ty k) i b same h = same ∙ ap (λ k. fill f (ty_kind_shape k)) (is_bound_kind k i b h)
-
-index-outer : (k : ℕ) (i : BoundVarIndexKind) → k < reach (place 0 (depth i)) → IsOuter k i
-index-outer k (Bound d) h = let low : k < suc (d - 0) = rw (place-outer 0 d (omega arith)) at h in omega arith
-index-outer k Canonical h = omega (arith, h)
-
--- a variable that is bound outside
-pub bound_outer : (f : Meaning) (s : Shift) (t : Tree Depth) (k : Kind) (i : BoundVarIndexKind) (b : BoundTy) → t ≡ fill f (kind_shape k) → bound_variable_in k ≡ Some (i, b)
-    → s.under < outer_binder t → IsOuter s.under i
-unfolding fill
-bound_outer f s t k i b same h far = index-outer s.under i (rw (bound_tree f t k i b same h) at far)
-
--- the hook's answers at types
-pub term_replaced : (f : Meaning) (s : Shift) (t r : Tree Depth) (k : Kind) (i : BoundVarIndexKind) (b : BoundTy) → t ≡ fill f (kind_shape k) → bound_variable_in k ≡ Some (i, b)
-    → s.under < outer_binder t → r ≡ moved_tree s (fill f (ty_kind_shape (ty.Bound i b))) → replace r ≡ shift_answer s t
-unfolding fill
-term_replaced f s t r k i b same h far is =
-    let tree = bound_tree f t k i b same h in
-    ap replace is ∙ ap (answer_inside s) (sym tree) ∙ sym (answer-inside s t far)
-
-pub term_descends : (f : Meaning) (s : Shift) (t : Tree Depth) (k : Kind) → t ≡ fill f (kind_shape k) → bound_variable_in k ≡ None → s.under < outer_binder t
-    → descend ≡ shift_answer s t
-term_descends f s t (kind.Ty k) same h far = descends_inside s f k h ∙ ap (answer_inside s) (sym same) ∙ sym (answer-inside s t far)
-
-pub term_refused : (f : Meaning) (s : Shift) (unbuilt : Tree Depth → Refusal → Type 0) (t : Tree Depth) (k : Kind) (i : BoundVarIndexKind) (b : BoundTy) (e : Refusal)
-    → t ≡ fill f (kind_shape k) → bound_variable_in k ≡ Some (i, b)
-    → IsTooGreat e (IsTooFar s (fill f (ty_kind_shape (ty.Bound i b)))) ⊎ unbuilt (moved_tree s (fill f (ty_kind_shape (ty.Bound i b)))) e
-    → IsTooGreat e (IsTooFar s t) ⊎ unbuilt (moved_tree s t) e
-term_refused f s unbuilt t k i b e same h cause = rw (bound_tree f t k i b same h) cause
-
 -- the shifter's state beside counts
 abbrev pub with_counters : Shift → Counters → Standing Shift
 with_counters s c = record { state = s; counters = c }
@@ -351,62 +334,16 @@ counts a b = record { descents = a; shift_descents = b }
 pub same_standing : (s : Shift) (c d : Counters) → d ≡ c → with_counters s d ≡ with_counters s c
 same_standing s c d h = ap (with_counters s) h
 
-pub counted_standing : (s : Shift) (c d : Counters) → d.descents ≡ c.descents → d.shift_descents ≡ counted c.shift_descents → with_counters s d ≡ with_counters s (count_shift c)
-counted_standing s c d h k =
-    let same : d ≡ count_shift c = pair d.descents c.descents d.shift_descents (counted c.shift_descents) h k in ap (with_counters s) same
+pub uncounted_standing : (s : Shift) (t : Tree Depth) (c : Counters) → is_type_tree t ≡ false → with_counters s c ≡ with_counters s (count_descent t c)
+uncounted_standing s t c is = rw is refl
+
+pub counted_standing : (s : Shift) (t : Tree Depth) (c d : Counters) → is_type_tree t ≡ true → d.descents ≡ c.descents → d.shift_descents ≡ counted c.shift_descents
+    → with_counters s d ≡ with_counters s (count_descent t c)
+counted_standing s t c d is h k =
+    let same : d ≡ count_descent t c = rw is (pair d.descents c.descents d.shift_descents (counted c.shift_descents) h k) in ap (with_counters s) same
   where
     pair : (a b x y : ℕ) → a ≡ b → x ≡ y → counts a x ≡ counts b y
     pair a b x y p q = rw (p, q) refl
-
--- an index above the greatest
-past-far : (n k : ℕ) (i : BoundVarIndexKind) → IsPast n k i → FitsAt k (place k (shifted n k (depth i))) → ⊥
-past-far n k (Bound d) past fits =
-    let above : k ≤ n + d = omega (arith, past.0) in
-    let low : n + d - k + k < greatest = rw (shifted-outer n k d past.0, place-outer k (n + d) above) at fits in
-    omega (arith, past.1)
-past-far n k Canonical past fits = past
-
-pub past_too_far : (f : Meaning) (s : Shift) (i : BoundVarIndexKind) (b : BoundTy) → IsPast s.amount s.under i → IsTooFar s (fill f (ty_kind_shape (ty.Bound i b)))
-unfolding fill
-past_too_far f s i b past = past-far s.amount s.under i past
-
--- and the greatest itself
-deep-far : (n k : ℕ) (i : BoundVarIndexKind) → IsOuter k i → IsGreatest (depth (moved_index n k i)) → FitsAt k (place k (shifted n k (depth i))) → ⊥
-deep-far n k (Bound d) out deep fits =
-    let above : k ≤ n + d = omega (arith, out) in
-    let low : n + d - k + k < greatest = rw (shifted-outer n k d out, place-outer k (n + d) above) at fits in
-    let high : greatest ≤ n + d = rw (le-ltb d k out) at deep in
-    omega arith
-deep-far n k Canonical out deep fits = out
-
-deep_too_far : (f : Meaning) (s : Shift) (i : BoundVarIndexKind) (b : BoundTy) → IsOuter s.under i → IsGreatest (depth (moved_index s.amount s.under i)) → IsTooFar s (fill f (ty_kind_shape (ty.Bound i b)))
-unfolding fill
-deep_too_far f s i b out deep = deep-far s.amount s.under i out deep
-
--- the type of a moved bound variable, as it is built
-pub bound_built : (terms terms1 : Terms) (s : Shift) (i j : BoundVarIndexKind) (b : BoundTy) (result : Result Ty Refusal) → IsOuter s.under i → j ≡ moved_index s.amount s.under i
-    → Builds result (λ t. t.number) terms terms1 (type_row (ty.Bound j b))
-    → MatchResult result
-    (λ t. IsPartOf terms1.rows (ty_shape t) × (tree_in terms1.rows (ty_shape t) ≡ moved_tree s (tree_in terms.rows (ty_kind_shape (ty.Bound i b)))))
-    (λ e. IsTooGreat e (IsTooFar s (tree_in terms.rows (ty_kind_shape (ty.Bound i b)))) ⊎ IsRefused terms1 (moved_tree s (tree_in terms.rows (ty_kind_shape (ty.Bound i b)))) e)
-bound_built terms terms1 s i j b (Ok t) out same h = (
-  is_part terms1.rows Types t.number h.in_range,
-  stored_tree terms1.rows Types t.number ∙ h.means ∙ ap (λ j. tree_in terms.rows (ty_kind_shape (ty.Bound j b))) same ∙ bound-moved (meaning terms.rows) s.amount s.under i b,
-)
-bound_built terms terms1 s i j b (Err e) out same h = rw h.err (why e h.cause)
-  where
-    moved : tree_in terms.rows (ty_kind_shape (ty.Bound j b)) ≡ moved_tree s (tree_in terms.rows (ty_kind_shape (ty.Bound i b)))
-    moved = ap (λ j. tree_in terms.rows (ty_kind_shape (ty.Bound j b))) same ∙ bound-moved (meaning terms.rows) s.amount s.under i b
-
-    too_deep : IsGreatest (depth j) → IsTooFar s (tree_in terms.rows (ty_kind_shape (ty.Bound i b)))
-    too_deep deep = deep_too_far (meaning terms.rows) s i b out (rw same at deep)
-
-    why : (e : Refusal) → IsCause terms (type_row (ty.Bound j b)) e
-        → IsTooGreat e (IsTooFar s (tree_in terms.rows (ty_kind_shape (ty.Bound i b)))) ⊎ IsRefused terms (moved_tree s (tree_in terms.rows (ty_kind_shape (ty.Bound i b)))) e
-    why Memory cause = inr (Memory, (refl, tt))
-    why TableFull cause = inr (TableFull, (refl, (type_row (ty.Bound j b), moved, cause.0, cause.1)))
-    why GreatestIndex cause = inl (refl, too_deep cause)
-    why _ cause = absurd cause
 
 -- what is not bound outside stays
 pub stays : (n : ℕ) (t : Tree Depth) → (n ≡ 0) ⊎ (outer_binder t ≡ 0) → shift_tree 0 n t ≡ t
@@ -419,34 +356,39 @@ pub record IsShift {T : Type 0} (shape : T → Shape) (n : ℕ) (terms : Terms) 
   pub plain : IfOk result (λ y. read 0 (tree_by shape terms'.rows y) ≡ move n (read 0 (tree_by shape terms.rows x)))
   pub err : IfErr result (IsShiftRefusal terms' n (tree_by shape terms.rows x))
   pub descents : terms'.counters.descents ≡ terms.counters.descents
+  pub up : terms.counters.shift_descents ≤ terms'.counters.shift_descents
 
-shift_refusal : (terms : Terms) (n : ℕ) (t : Tree Depth) (e : Refusal)
-    → ((u : Tree Depth) × IsRefused terms u e) ⊎ ((e ≡ GreatestIndex) × (Fits (read 0 (shift_tree 0 n t)) → ⊥)) → IsShiftRefusal terms n t e
-shift_refusal terms n t e (inl u) = by_unbuilt e u.0 u.1.0 u.1.1.0 u.1.1.1
+shift_refusal : (terms : Terms) (n : ℕ) (t : Tree Depth) (e : Refusal) → KeepsClauses (shift_tree 0 n t)
+    → Why (IsRefused terms) (λ u. StandsIn u (shift_tree 0 n t)) e (Fits (read 0 (shift_tree 0 n t))) → IsShiftRefusal terms n t e
+shift_refusal terms n t e keeps why = elim why [
+  | all_unbuilt b ↦ by_unbuilt e (shift_tree 0 n t) itself (b (shift_tree 0 n t))
+  | one_unbuilt u h b ↦ by_unbuilt e u h b
+  | too_great is unfit ↦ rw is (λ fits. unfit (rw (read-shift_tree n 0 t) fits))
+]
   where
-    unbuilt : (u : Tree Depth) (r : Refusal) → IsUnbuilt terms u r → IsShiftRefusal terms n t r
-    unbuilt u Memory h = tt
-    unbuilt u TableFull h = (h.0, (h.2, h.3))
-    unbuilt u GreatestIndex h = absurd h
-    unbuilt u _ h = absurd h
+    unbuilt : (u : Tree Depth) (r : Refusal) → StandsIn u (shift_tree 0 n t) → IsUnbuilt terms u r → IsShiftRefusal terms n t r
+    unbuilt u Memory h b = tt
+    unbuilt u TableFull h b = (u, h, b)
+    unbuilt u NotAClause h b = absurd (never_bad h keeps b)
+    unbuilt u GreatestIndex h b = absurd b
+    unbuilt u _ h b = absurd b
 
-    by_unbuilt : (e : Refusal) (u : Tree Depth) (r : Refusal) → e ≡ r → IsUnbuilt terms u r → IsShiftRefusal terms n t e
-    by_unbuilt e u r same h = rw same (unbuilt u r h)
-shift_refusal terms n t e (inr far) = rw far.0 (λ fits. far.1 (rw (read-shift_tree n 0 t) fits))
+    by_unbuilt : (e : Refusal) (u : Tree Depth) → StandsIn u (shift_tree 0 n t) → IsRefused terms u e → IsShiftRefusal terms n t e
+    by_unbuilt e u h b = rw b.1.0 (unbuilt u b.0 h b.1.1)
 
 pub shift_outcome : {S T : Type 0} {owned : List Row → S → Type 0} {means : List Row → S → Shift} {shape : T → Shape} {terms terms' : Terms} {s s' : S} {x : T}
     (n : ℕ) (result : Result T Refusal)
-    → means terms.rows s ≡ record { amount = n; under = 0 }
+    → means terms.rows s ≡ record { amount = n; under = 0 } → KeepsClauses (tree_by shape terms.rows x)
     → Folds owned means (IsPartBy shape) (tree_by shape) (Walks shift_hooks) (Fails shift_hooks (IsRefused terms')) terms s x result terms' s'
     → IsShift shape n terms x result terms'
-shift_outcome {shape} {terms} {x} n (Ok y) start d =
+shift_outcome {shape} {terms} {x} n (Ok y) start keeps d =
     let w = shifts d.outcome.2 in
     let tree = rw start at w.shifted in
-    record { tree = tree; plain = ap (read 0) tree ∙ read-shift_tree n 0 (tree_by shape terms.rows x); err = tt; descents = w.descents }
-shift_outcome {shape} {terms} {terms'} {x} n (Err e) start d =
+    record { tree = tree; plain = ap (read 0) tree ∙ read-shift_tree n 0 (tree_by shape terms.rows x); err = tt; descents = w.counts.descents; up = w.counts.up }
+shift_outcome {shape} {terms} {terms'} {x} n (Err e) start keeps d =
     let f = refused (IsRefused terms') d.outcome in
     let cause = rw start at f.cause in
-    record { tree = tt; plain = tt; err = shift_refusal terms' n (tree_by shape terms.rows x) e cause; descents = f.descents }
+    record { tree = tt; plain = tt; err = shift_refusal terms' n (tree_by shape terms.rows x) e (shift-keeps n (tree_by shape terms.rows x) keeps) cause; descents = f.counts.descents; up = f.counts.up }
 
 pub add_up : (m n : ℕ) (t : Tree Depth) → shift_tree 0 m (shift_tree 0 n t) ≡ shift_tree 0 (m + n) t
 add_up m n t = shift_tree-shift_tree 0 m n t

@@ -1,37 +1,23 @@
 -- The folds of values that are not stored, from those of what stands in them.
-use Rattle.std.proofs.Common.{◌≡◌, List, Result, Ok, Err, MatchResult, refl}
+use Rattle.std.proofs.Common.{◌≡◌, List, Result, Ok, Err, MatchResult}
 use Rattle.std.proofs.lemmas.Result.{MatchResult-weaker}
 use Rattle.tt_kinds.specs.Tree.{Depth, Tree}
 use Rattle.tt_kinds.specs.Shape.{Shape, IsPart, fill}
-use Rattle.tt_kinds.specs.Kinds.{ty_shape, tys_shape, region_shape, fn_sig_tys_shape, binder_shape}
-use Rattle.tt_kinds.specs.declared.handle.Ty.{Ty}
-use Rattle.tt_kinds.specs.declared.handle.Tys.{Tys}
+use Rattle.tt_kinds.specs.Kinds.{node_shape, region_shape, binder_shape}
 use Rattle.tt_kinds.specs.declared.parts.Node.{Node}
-use Rattle.tt_kinds.specs.declared.parts.Node.TheVariants as node_is
 use Rattle.tt_kinds.specs.declared.binder.Binder.{Binder}
-use Rattle.tt_kinds.specs.declared.fn_sig.FnSigTys.{FnSigTys}
 use Rattle.tt_kinds.specs.declared.region_kind.RegionKind.{RegionKind}
 use Rattle.tt_interner.specs.Rows.{Row}
 use Rattle.tt_interner.specs.Stored.{Terms, Extends}
-use Rattle.tt_interner.proofs.Growth.{Extends-trans}
-use Rattle.tt_visit.specs.Steps.{pair_shape}
-use Rattle.tt_fold.specs.Walk.{Hooks, Walks, at_region, at_node, at_binder, done, next, Fails, region_failed, node_failed, enter_failed, under_failed, leave_failed, here, later, WalksInside, InsideFails, SuperWalks, super_term, super_binder, SuperFails, super_term_failed, super_binder_failed}
+use Rattle.tt_interner.proofs.Growth.{Extends-trans, IsPart-grows, fill-grows}
+use Rattle.tt_fold.specs.Walk.{Hooks, Walks, at_region, at_binder, Fails, region_failed, enter_failed, under_failed, leave_failed, WalksInside, InsideFails, SuperWalks, super_term, super_binder, SuperFails, super_term_failed, super_binder_failed}
 use Rattle.tt_fold.specs.Counts.{Standing, stands}
 use Rattle.tt_fold.specs.Steps.{Folds, IsPartOf, tree_in, IsPartBy, tree_by, HasVars, vars_in}
 use Rattle.tt_fold.specs.Parts.{node_tree, IsNodeFor}
-use Rattle.tt_fold.proofs.Growth.{part-grows, tree-grows}
 use Rattle.tt_fold.proofs.PartLaws.{vars-kept, vars-grow}
 use Rattle.tt_fold.proofs.FoldSteps.{region-is}
 
 -- what stands in the values
-pub inputs-part : (rows : List Row) (x : FnSigTys) → IsPartBy fn_sig_tys_shape rows x → IsPartBy tys_shape rows x.inputs_and_output
-unfolding IsPart
-inputs-part rows x h = h.2.0
-
-sig-part : (rows : List Row) (x : FnSigTys) → IsPartBy tys_shape rows x.inputs_and_output → IsPartBy fn_sig_tys_shape rows x
-unfolding IsPart
-sig-part rows x h = (refl, tt, (h, tt))
-
 pub binder-has : {T : Type 0} (of_value : T → Shape) (rows : List Row) (x : Binder T) → IsPartBy (binder_shape of_value) rows x → HasVars rows x.bound_vars
 unfolding IsPart
 binder-has of_value rows x h = h.0
@@ -43,18 +29,6 @@ binder-value of_value rows x h = h.1
 binder-part : {T : Type 0} (of_value : T → Shape) (rows : List Row) (x : Binder T) → HasVars rows x.bound_vars → IsPartBy of_value rows x.value → IsPartBy (binder_shape of_value) rows x
 unfolding IsPart
 binder-part of_value rows x h k = (h, k)
-
-pub first-part : {A B : Type 0} (a : A → Shape) (b : B → Shape) (rows : List Row) (x : A × B) → IsPartBy (pair_shape a b) rows x → IsPartBy a rows x.0
-unfolding IsPart
-first-part a b rows x h = h.2.0
-
-pub second-part : {A B : Type 0} (a : A → Shape) (b : B → Shape) (rows : List Row) (x : A × B) → IsPartBy (pair_shape a b) rows x → IsPartBy b rows x.1
-unfolding IsPart
-second-part a b rows x h = h.2.1.0
-
-pair-part : {A B : Type 0} (a : A → Shape) (b : B → Shape) (rows : List Row) (x : A × B) → IsPartBy a rows x.0 → IsPartBy b rows x.1 → IsPartBy (pair_shape a b) rows x
-unfolding IsPart
-pair-part a b rows x h k = (refl, tt, (h, (k, tt)))
 
 module _ {M E S : Type 0} {owned : List Row → S → Type 0} {means : List Row → S → M} {H : Hooks (Standing M) E} where
   pub region_folds : {terms terms1 : Terms} {s s1 : S} (unbuilt : Tree Depth → E → Type 0) (x : RegionKind) (r : Result RegionKind E)
@@ -70,21 +44,6 @@ module _ {M E S : Type 0} {owned : List Row → S → Type 0} {means : List Row 
   }
 
   module _ {unbuilt : Tree Depth → E → Type 0} where
-    -- the types of a signature
-    pub sig_fails : {terms terms1 : Terms} {s s1 : S} {x : FnSigTys} {e : E}
-        → Folds owned means (IsPartBy tys_shape) (tree_by tys_shape) (Walks H) (Fails H unbuilt) terms s x.inputs_and_output (Err e) terms1 s1
-        → Folds owned means (IsPartBy fn_sig_tys_shape) (tree_by fn_sig_tys_shape) (Walks H) (Fails H unbuilt) terms s x (Err e) terms1 s1
-    unfolding fill
-    sig_fails d = record { extends = d.extends; outcome = node_failed (here d.outcome) }
-
-    pub sig_folds : {terms terms1 : Terms} {s s1 : S} {x : FnSigTys} {y : Tys}
-        → Folds owned means (IsPartBy tys_shape) (tree_by tys_shape) (Walks H) (Fails H unbuilt) terms s x.inputs_and_output (Ok y) terms1 s1
-        → Folds owned means (IsPartBy fn_sig_tys_shape) (tree_by fn_sig_tys_shape) (Walks H) (Fails H unbuilt) terms s x (Ok (record { inputs_and_output = y })) terms1 s1
-    unfolding fill
-    sig_folds {terms1} {y} d =
-        let o = d.outcome in
-        record { extends = d.extends; outcome = (o.0, sig-part terms1.rows (record { inputs_and_output = y }) o.1, at_node (next o.2 done)) }
-
     -- binders
     module _ {T : Type 0} (of_value : T → Shape) where
       pub binder_enter_fails : {terms terms1 : Terms} {s s1 : S} {x : Binder T} {e : E}
@@ -100,7 +59,7 @@ module _ {M E S : Type 0} {owned : List Row → S → Type 0} {means : List Row 
           → Folds owned means (IsPartBy (binder_shape of_value)) (tree_by (binder_shape of_value)) (Walks H) (Fails H unbuilt) terms s x (Err e) terms2 s2
       unfolding fill
       binder_value_fails {x} part extends enter d =
-          let o = rw (tree-grows extends.rows (of_value x.value) part) at d.outcome in
+          let o = rw (fill-grows _ _ extends.rows (of_value x.value) part) at d.outcome in
           record { extends = Extends-trans extends d.extends; outcome = under_failed enter o }
 
       pub binder_leave_fails : {terms terms1 terms2 terms3 : Terms} {s s1 s2 s3 : S} {x : Binder T} {y : T} {e : E} {other : Tree Depth → E → Type 0}
@@ -111,7 +70,7 @@ module _ {M E S : Type 0} {owned : List Row → S → Type 0} {means : List Row 
           → Folds owned means (IsPartBy (binder_shape of_value)) (tree_by (binder_shape of_value)) (Walks H) (Fails H unbuilt) terms s x (Err e) terms3 s3
       unfolding fill
       binder_leave_fails {x} has part extends enter d more leave =
-          let o = rw (tree-grows extends.rows (of_value x.value) part) at d.outcome in
+          let o = rw (fill-grows _ _ extends.rows (of_value x.value) part) at d.outcome in
           let l = rw (vars-grow (Extends-trans extends d.extends).rows x.bound_vars has) at leave in
           record { extends = Extends-trans extends (Extends-trans d.extends more); outcome = leave_failed enter o.2 l }
 
@@ -123,17 +82,17 @@ module _ {M E S : Type 0} {owned : List Row → S → Type 0} {means : List Row 
           → Folds owned means (IsPartBy (binder_shape of_value)) (tree_by (binder_shape of_value)) (Walks H) (Fails H unbuilt) terms s x (Ok (record { value = y; bound_vars = x.bound_vars })) terms3 s3
       unfolding fill
       binder_folds {terms} {terms3} {x} {y} has part extends enter d more owned3 leave =
-          let o = rw (tree-grows extends.rows (of_value x.value) part) at d.outcome in
+          let o = rw (fill-grows _ _ extends.rows (of_value x.value) part) at d.outcome in
           let before = Extends-trans extends d.extends in
           let l = rw (vars-grow before.rows x.bound_vars has) at leave in
           let whole = Extends-trans before more in
           let same_vars : vars_in terms3.rows x.bound_vars ≡ vars_in terms.rows x.bound_vars = vars-grow whole.rows x.bound_vars has in
-          let same = tree-grows more.rows (of_value y) o.1 in
+          let same = fill-grows _ _ more.rows (of_value y) o.1 in
           record {
             extends = whole;
             outcome = (
               owned3,
-              binder-part of_value terms3.rows (record { value = y; bound_vars = x.bound_vars }) (vars-kept whole.rows x.bound_vars has) (part-grows more.rows (of_value y) o.1),
+              binder-part of_value terms3.rows (record { value = y; bound_vars = x.bound_vars }) (vars-kept whole.rows x.bound_vars has) (IsPart-grows _ _ more.rows (of_value y) o.1),
               rw (same, same_vars) (at_binder enter o.2 l),
             );
           }
@@ -161,47 +120,16 @@ module _ {M E S : Type 0} {owned : List Row → S → Type 0} {means : List Row 
             );
           }
 
-    -- a type without its own hook
-    pub super_ty_fails : {terms terms1 : Terms} {s s1 : S} {t : Ty} {e : E}
-        → Folds owned means (IsNodeFor (node_is.Ty t)) node_tree (WalksInside H) (InsideFails H unbuilt) terms s (node_is.Ty t) (Err e) terms1 s1
-        → Folds owned means (IsPartBy ty_shape) (tree_by ty_shape) (SuperWalks H) (SuperFails H unbuilt) terms s t (Err e) terms1 s1
-    super_ty_fails d = record { extends = d.extends; outcome = super_term_failed d.outcome }
+    -- a stored term without its own hook
+    module _ {T : Type 0} (f : T → Node) (shape : T → Shape) (same : (x : T) → node_shape (f x) ≡ shape x) where
+      pub super_term_fails : {terms terms1 : Terms} {s s1 : S} {t : T} {e : E}
+          → Folds owned means (IsNodeFor (f t)) node_tree (WalksInside H) (InsideFails H unbuilt) terms s (f t) (Err e) terms1 s1
+          → Folds owned means (IsPartBy shape) (tree_by shape) (SuperWalks H) (SuperFails H unbuilt) terms s t (Err e) terms1 s1
+      super_term_fails {t} d = record { extends = d.extends; outcome = rw (← same t) (super_term_failed d.outcome) }
 
-    pub super_ty_folds : {terms terms1 : Terms} {s s1 : S} {t u : Ty} {n : Node} → n ≡ node_is.Ty u
-        → Folds owned means (IsNodeFor (node_is.Ty t)) node_tree (WalksInside H) (InsideFails H unbuilt) terms s (node_is.Ty t) (Ok n) terms1 s1
-        → Folds owned means (IsPartBy ty_shape) (tree_by ty_shape) (SuperWalks H) (SuperFails H unbuilt) terms s t (Ok u) terms1 s1
-    super_ty_folds same d =
-        let o = rw same at d.outcome in
-        record { extends = d.extends; outcome = (o.0, o.1.owned, super_term o.2) }
-
-    -- pairs
-    module _ {A B : Type 0} (a : A → Shape) (b : B → Shape) where
-      pub first_fails : {terms terms1 : Terms} {s s1 : S} {x : A × B} {e : E}
-          → Folds owned means (IsPartBy a) (tree_by a) (Walks H) (Fails H unbuilt) terms s x.0 (Err e) terms1 s1
-          → Folds owned means (IsPartBy (pair_shape a b)) (tree_by (pair_shape a b)) (Walks H) (Fails H unbuilt) terms s x (Err e) terms1 s1
-      unfolding fill
-      first_fails d = record { extends = d.extends; outcome = node_failed (here d.outcome) }
-
-      pub second_fails : {terms terms1 terms2 : Terms} {s s1 s2 : S} {x : A × B} {y : A} {e : E} {other : Tree Depth → E → Type 0}
-          → IsPartBy b terms.rows x.1
-          → Folds owned means (IsPartBy a) (tree_by a) (Walks H) (Fails H other) terms s x.0 (Ok y) terms1 s1
-          → Folds owned means (IsPartBy b) (tree_by b) (Walks H) (Fails H unbuilt) terms1 s1 x.1 (Err e) terms2 s2
-          → Folds owned means (IsPartBy (pair_shape a b)) (tree_by (pair_shape a b)) (Walks H) (Fails H unbuilt) terms s x (Err e) terms2 s2
-      unfolding fill
-      second_fails {x} part d1 d2 =
-          let o = rw (tree-grows d1.extends.rows (b x.1) part) at d2.outcome in
-          record { extends = Extends-trans d1.extends d2.extends; outcome = node_failed (later d1.outcome.2 (here o)) }
-
-      pub pair_folds : {terms terms1 terms2 : Terms} {s s1 s2 : S} {x : A × B} {y : A} {z : B} {other : Tree Depth → E → Type 0}
-          → IsPartBy b terms.rows x.1
-          → Folds owned means (IsPartBy a) (tree_by a) (Walks H) (Fails H other) terms s x.0 (Ok y) terms1 s1
-          → Folds owned means (IsPartBy b) (tree_by b) (Walks H) (Fails H unbuilt) terms1 s1 x.1 (Ok z) terms2 s2
-          → Folds owned means (IsPartBy (pair_shape a b)) (tree_by (pair_shape a b)) (Walks H) (Fails H unbuilt) terms s x (Ok (y, z)) terms2 s2
-      unfolding fill
-      pair_folds {terms2} {x} {y} {z} part d1 d2 =
-          let o = rw (tree-grows d1.extends.rows (b x.1) part) at d2.outcome in
-          let w = rw (← tree-grows d2.extends.rows (a y) d1.outcome.1) at d1.outcome.2 in
-          record {
-            extends = Extends-trans d1.extends d2.extends;
-            outcome = (o.0, pair-part a b terms2.rows (y, z) (part-grows d2.extends.rows (a y) d1.outcome.1) o.1, at_node (next w (next o.2 done)));
-          }
+      pub super_term_folds : {terms terms1 : Terms} {s s1 : S} {t u : T} {n : Node} → n ≡ f u
+          → Folds owned means (IsNodeFor (f t)) node_tree (WalksInside H) (InsideFails H unbuilt) terms s (f t) (Ok n) terms1 s1
+          → Folds owned means (IsPartBy shape) (tree_by shape) (SuperWalks H) (SuperFails H unbuilt) terms s t (Ok u) terms1 s1
+      super_term_folds {t} {u} is d =
+          let o = rw is at d.outcome in
+          record { extends = d.extends; outcome = (o.0, rw (← same u) o.1.owned, rw (← same t, ← same u) (super_term o.2)) }

@@ -1,14 +1,13 @@
 -- What the walk's own calls say of terms, lists and the parts of kinds.
-use Rattle.std.specs.Prelude.{◌≡◌, ℕ, suc, max, Option, Some, None, All, take, ⊤}
+use Rattle.std.specs.Prelude.{◌≡◌, ◌++◌, ℕ, suc, max, Option, Some, None, Result, Ok, Err, MatchResult, All, take, ⊤}
 use Rattle.std.specs.Prelude.{List as Listed}
 use Rattle.tt_kinds.specs.Label.{Name, VarKind}
 use Rattle.tt_kinds.specs.Tree.{Depth, Tree, Forest}
-use Rattle.tt_kinds.specs.Shape.{Shapes, AreParts, fill_all}
+use Rattle.tt_kinds.specs.Shape.{Shape, Shapes, AreParts, fill_all, item_shapes}
 use Rattle.tt_kinds.specs.Parts.{node_table, node_number, list_sort, list_table, list_number, child_sort, AreLike, IsItem}
-use Rattle.tt_kinds.specs.Kinds.{form_parts, form_binder, kind_form, node_shape, list_shape, child_shapes, parts_shapes, children_shapes}
+use Rattle.tt_kinds.specs.Kinds.{form_parts, form_binder, kind_form, node_shape, list_shape, child_shapes, parts_shapes, children_shapes, items_tree}
 use Rattle.tt_kinds.specs.declared.handle.BoundVarKinds.{BoundVarKinds}
 use Rattle.tt_kinds.specs.declared.parts.Node.{Node}
-use Rattle.tt_kinds.specs.declared.parts.Node.TheVariants as node
 use Rattle.tt_kinds.specs.declared.parts.List.{List}
 use Rattle.tt_kinds.specs.declared.parts.ListSort.{ListSort}
 use Rattle.tt_kinds.specs.declared.parts.Child.{Child}
@@ -17,13 +16,13 @@ use Rattle.tt_kinds.specs.declared.parts.Kind.{Kind}
 use Rattle.tt_kinds.specs.declared.parts.Parts.{Parts}
 use Rattle.tt_interner.specs.Rows.{Row, size, meaning, age}
 use Rattle.tt_interner.specs.Stored.{Terms, Extends}
-use Rattle.tt_fold.specs.Walk.{Answer, replace, keep, descend, Hooks, WalksAll}
+use Rattle.tt_interner.specs.Children.{children_at}
+use Rattle.tt_visit.specs.Root.{hooked, table_root}
+use Rattle.tt_fold.specs.Walk.{Hooks, WalksAll, FailsAll}
 use Rattle.tt_fold.specs.Counts.{Standing, stands}
 use Rattle.tt_fold.specs.Steps.{IsPartOf, tree_in, HasVars, vars_in}
 use Rattle.tt_fold.specs.declared.folder.Step.{Step}
 use Rattle.tt_fold.specs.declared.folder.Step.TheVariants as step
-use Rattle.tt_fold.specs.declared.walk.NodeStep.{NodeStep}
-use Rattle.tt_fold.specs.declared.walk.NodeStep.TheVariants as node_step
 
 -- the handles in the shapes are those of the rows
 abbrev pub ArePartsOf : Listed Row → Shapes → Type 0
@@ -73,23 +72,26 @@ pub record ArePartsFor (x : Parts) (rows : Listed Row) (y : Parts) : Type 0 wher
   pub owned : ArePartsOf rows (parts_shapes y)
   pub like : AreLike x y
 
--- what a hook's answer at a stored term means
-abbrev pub node_answer_of : Listed Row → NodeStep → Answer
-node_answer_of rows (node_step.Replace n) = replace (node_tree rows n)
-node_answer_of rows node_step.Keep = keep
-node_answer_of rows node_step.Descend = descend
-
--- the answer of a type's hook, as one of a stored term's
-abbrev pub as_node_step : Step → NodeStep
-as_node_step (step.Replace t) = node_step.Replace (node.Ty t)
-as_node_step step.Keep = node_step.Keep
-as_node_step step.Descend = node_step.Descend
+-- a hook is asked at the stored term
+abbrev pub HasHook : Node → Type 0
+HasHook n = table_root (node_table n) ≡ hooked
 
 -- the handle in a hook's answer is the rows', and of the same table
-abbrev pub IsStepFor : Node → Listed Row → NodeStep → Type 0
-IsStepFor x rows (node_step.Replace n) = IsNodeFor x rows n
-IsStepFor x rows node_step.Keep = ⊤
-IsStepFor x rows node_step.Descend = ⊤
+abbrev pub IsStepFor : Node → Listed Row → Step Node → Type 0
+IsStepFor x rows (step.Replace n) = IsNodeFor x rows n
+IsStepFor x rows step.Keep = ⊤
+IsStepFor x rows step.Descend = ⊤
+
+-- a hook's answer, about the other value that f makes of its own
+abbrev pub map_step : {A B : Type 0} → (A → B) → Step A → Step B
+map_step f (step.Replace x) = step.Replace (f x)
+map_step f step.Keep = step.Keep
+map_step f step.Descend = step.Descend
+
+-- a result, about the other value that f makes of its own
+abbrev pub map_ok : {A B E : Type 0} → (A → B) → Result A E → Result B E
+map_ok f (Ok x) = Ok (f x)
+map_ok f (Err e) = Err e
 
 -- the binder's list of variables, if there is one, is the rows'
 abbrev pub HasBinder : Listed Row → Option BoundVarKinds → Type 0
@@ -126,3 +128,29 @@ pub record FoldsSoFar {M E S : Type 0} (owned : Listed Row → S → Type 0) (me
   pub are_items : ArePartsOf terms'.rows (children_shapes items)
   pub fit : All (λ c. IsItem sort (child_sort c)) items
   pub walked : WalksAll H (stands means terms s) (children_trees terms.rows (take n list)) (children_trees terms'.rows items) (stands means terms' s')
+
+-- the children are the rows', and of the sort that a list holds
+pub record AreItems (sort : ListSort) (rows : Listed Row) (items : Listed Child) : Type 0 where
+  pub owned : ArePartsOf rows (children_shapes items)
+  pub fit : All (λ c. IsItem sort (child_sort c)) items
+
+-- A fold took the children of the list of the terms, which make its tree, to a result with children to view, the terms to
+-- terms', and the folder's state s to s'.
+pub record FoldsItems {M E S V : Type 0} (view : V → Listed Child) (owned : Listed Row → S → Type 0) (means : Listed Row → S → M) (H : Hooks (Standing M) E)
+    (unbuilt : Tree Depth → E → Type 0) (terms : Terms) (s : S) (list : List) (r : Result V E) (terms' : Terms) (s' : S) : Type 0 where
+  pub of_children : list_tree terms.rows list ≡ items_tree (list_sort list) (children_trees terms.rows (children_at terms.rows list))
+  pub extends : Extends terms terms'
+  pub outcome : MatchResult r
+      (λ items. owned terms'.rows s' × AreItems (list_sort list) terms'.rows (view items)
+      × WalksAll H (stands means terms s) (children_trees terms.rows (children_at terms.rows list)) (children_trees terms'.rows (view items)) (stands means terms' s'))
+      (λ e. FailsAll H unbuilt (stands means terms s) (children_trees terms.rows (children_at terms.rows list)) e (stands means terms' s'))
+
+-- some values of the list were folded, from the terms and the state s to terms' and s', and gave the others; the rest is left
+pub record FoldsValues {M E S T : Type 0} (shape : T → Shape) (owned : Listed Row → S → Type 0) (means : Listed Row → S → M) (H : Hooks (Standing M) E)
+    (terms : Terms) (s : S) (list values rest : Listed T) (terms' : Terms) (s' : S) : Type 0 where
+  pub front : Listed T
+  pub split : list ≡ front ++ rest
+  pub extends : Extends terms terms'
+  pub is_owned : owned terms'.rows s'
+  pub are_values : ArePartsOf terms'.rows (item_shapes shape values)
+  pub walked : WalksAll H (stands means terms s) (trees_in terms.rows (item_shapes shape front)) (trees_in terms'.rows (item_shapes shape values)) (stands means terms' s')

@@ -1,5 +1,5 @@
 -- The shifter's hooks.
-use Rattle.std.specs.Prelude.{◌≡◌, ℕ, suc, ◌+◌, ◌-◌, ◌≤◌, ◌<◌, ◌⊎◌, Option, Some, None, nat_lt, if◌then◌else◌, ⊤}
+use Rattle.std.specs.Prelude.{◌≡◌, ℕ, suc, ◌+◌, ◌-◌, ◌≤◌, ◌<◌, ◌⊎◌, Option, Some, None, nat_lt, if◌then◌else◌, length, ⊤}
 use Rattle.tt_index.specs.Greatest.{greatest}
 use Rattle.tt_index.specs.declared.refusal.Refusal.{Refusal}
 use Rattle.tt_index.specs.declared.refusal.Refusal.TheVariants.{Memory, TableFull, GreatestIndex}
@@ -8,19 +8,23 @@ use Rattle.tt_kinds.specs.Reading.{read, move, outer_binder, Fits, FitsUnder}
 use Rattle.tt_kinds.specs.Shape.{Meaning, fill}
 use Rattle.tt_kinds.specs.Kinds.{region_shape}
 use Rattle.tt_kinds.specs.declared.bound.BoundTy.{BoundTy}
+use Rattle.tt_kinds.specs.declared.bound.BoundConst.{BoundConst}
 use Rattle.tt_kinds.specs.declared.bound.BoundVarIndexKind.{BoundVarIndexKind}
 use Rattle.tt_kinds.specs.declared.bound.BoundVarIndexKind.TheVariants.{Bound, Canonical}
 use Rattle.tt_kinds.specs.declared.parts.Kind.{Kind}
 use Rattle.tt_kinds.specs.declared.parts.Kind.TheVariants as kind
 use Rattle.tt_kinds.specs.declared.ty_kind.TyKind.{TyKind}
 use Rattle.tt_kinds.specs.declared.ty_kind.TyKind.TheVariants as ty
+use Rattle.tt_kinds.specs.declared.const_kind.ConstKind.{ConstKind}
+use Rattle.tt_kinds.specs.declared.const_kind.ConstKind.TheVariants as const
 use Rattle.tt_kinds.specs.declared.region_kind.RegionKind.{RegionKind}
-use Rattle.tt_kinds.specs.declared.region_kind.RegionKind.TheVariants.{ReEarlyParam, ReBound, ReStatic, ReVar, ReErased, ReError}
+use Rattle.tt_kinds.specs.declared.region_kind.RegionKind.TheVariants.{ReEarlyParam, ReBound, ReLateParam, ReStatic, ReVar, RePlaceholder, ReErased, ReError}
 use Rattle.tt_kinds.specs.Plain.{shift_tree}
-use Rattle.tt_interner.specs.Rows.{Row, row_table, size, IsNew}
+use Rattle.tt_kinds.specs.Count.{moving_types}
 use Rattle.tt_interner.specs.Stored.{Counters, Terms, counted}
-use Rattle.tt_fold.specs.Walk.{Hooks, Answer, replace, keep, descend}
+use Rattle.tt_fold.specs.Walk.{Hooks, is_type_tree, Answer, replace, keep, descend}
 use Rattle.tt_fold.specs.Counts.{Standing}
+use Rattle.tt_fold.specs.Stands.{IsPartUnbuilt}
 
 -- how much is added, and how many binders were passed
 pub record Shift : Type 0 where
@@ -32,14 +36,25 @@ abbrev pub moved_index : ℕ → ℕ → BoundVarIndexKind → BoundVarIndexKind
 moved_index n k (Bound d) = Bound (if nat_lt d k then d else n + d)
 moved_index n k Canonical = Canonical
 
--- the bound variable that a kind is, if it is one
-abbrev pub bound_in : TyKind → Option (BoundVarIndexKind × BoundTy)
-bound_in (ty.Bound i b) = Some (i, b)
-bound_in _ = None
+-- the bound variable that a type is, if it is one
+abbrev pub bound_ty_in : TyKind → Option (BoundVarIndexKind × BoundTy)
+bound_ty_in (ty.Bound i b) = Some (i, b)
+bound_ty_in _ = None
 
 -- the same of a kind of any table
-abbrev pub bound_variable_in : Kind → Option (BoundVarIndexKind × BoundTy)
-bound_variable_in (kind.Ty k) = bound_in k
+abbrev pub bound_ty_of : Kind → Option (BoundVarIndexKind × BoundTy)
+bound_ty_of (kind.Ty k) = bound_ty_in k
+bound_ty_of _ = None
+
+-- the bound variable that a constant is, if it is one
+abbrev pub bound_const_in : ConstKind → Option (BoundVarIndexKind × BoundConst)
+bound_const_in (const.Bound i b) = Some (i, b)
+bound_const_in _ = None
+
+-- the same of a kind of any table
+abbrev pub bound_const_of : Kind → Option (BoundVarIndexKind × BoundConst)
+bound_const_of (kind.Const k) = bound_const_in k
+bound_const_of _ = None
 
 -- the variable's binder is none of the k
 abbrev pub IsOuter : ℕ → BoundVarIndexKind → Type 0
@@ -55,8 +70,10 @@ IsPast n k Canonical = ⊥
 abbrev pub moved_region : ℕ → ℕ → RegionKind → RegionKind
 moved_region n k (ReEarlyParam p) = ReEarlyParam p
 moved_region n k (ReBound i b) = ReBound (moved_index n k i) b
+moved_region n k (ReLateParam p) = ReLateParam p
 moved_region n k ReStatic = ReStatic
 moved_region n k (ReVar v) = ReVar v
+moved_region n k (RePlaceholder p) = RePlaceholder p
 moved_region n k ReErased = ReErased
 moved_region n k (ReError e) = ReError e
 
@@ -87,15 +104,19 @@ answer_inside s (binder vs t) = descend
 abbrev pub shift_answer : Shift → Tree Depth → Answer
 shift_answer s t = if nat_lt s.under (outer_binder t) then answer_inside s t else keep
 
--- one descent more
+-- one descent of the shifter more
 abbrev pub count_shift : Counters → Counters
 count_shift c = record { descents = c.descents; shift_descents = counted c.shift_descents }
 
--- an answer that descends is counted
-abbrev pub count_answer : {M : Type 0} → Answer → Standing M → Standing M
-count_answer (replace t) s = s
-count_answer keep s = s
-count_answer descend s = record { state = s.state; counters = count_shift s.counters }
+-- the counts after a descent into the tree: one into a type is counted
+abbrev pub count_descent : Tree Depth → Counters → Counters
+count_descent t c = if is_type_tree t then count_shift c else c
+
+-- what follows an answer at the tree
+abbrev pub count_answer : {M : Type 0} → Tree Depth → Answer → Standing M → Standing M
+count_answer t (replace r) s = s
+count_answer t keep s = s
+count_answer t descend s = record { state = s.state; counters = count_descent t s.counters }
 
 -- the state one binder further in; the counts stay
 abbrev pub entered : Standing Shift → Standing Shift
@@ -114,7 +135,7 @@ abbrev pub shift_hooks : Hooks (Standing Shift) Refusal
 shift_hooks = record {
   on_region = λ s t r s'. (s' ≡ s) × (r ≡ moved_tree s.state t);
   region_fails = λ unbuilt s t e s'. (s' ≡ s) × IsTooGreat e (IsTooFar s.state t);
-  on_term = λ s t a s'. (s' ≡ count_answer a s) × (a ≡ shift_answer s.state t);
+  on_term = λ s t a s'. (s' ≡ count_answer t a s) × (a ≡ shift_answer s.state t);
   term_fails = λ unbuilt s t e s'. (s' ≡ s) × (IsTooGreat e (IsTooFar s.state t) ⊎ unbuilt (moved_tree s.state t) e);
   after_term = λ s t u r s'. (s' ≡ s) × (r ≡ u);
   after_fails = λ unbuilt s t u e s'. ⊥;
@@ -124,11 +145,15 @@ shift_hooks = record {
   leave_fails = λ unbuilt s vs e s'. ⊥;
 }
 
--- Why a shift of the tree by n ends with a refusal: the memory for a new term was refused, a term would be a new row of a
--- table that is full, or the moved reading does not fit.
+-- how many places a tree has where a type stands that has a variable to be shifted
+abbrev pub moving_positions : Tree Depth → ℕ
+moving_positions t = length (moving_types 0 t)
+
+-- Why a shift of the tree by n ends with a refusal: the memory for a new term was refused, a term or a list of the moved tree
+-- would be a new row of a table that is full, or the moved reading does not fit.
 abbrev pub IsShiftRefusal : Terms → ℕ → Tree Depth → Refusal → Type 0
 IsShiftRefusal terms n t Memory = ⊤
-IsShiftRefusal terms n t TableFull = (row : Row) × (IsNew row terms.rows × (terms.limit ≤ size terms.rows (row_table row)))
+IsShiftRefusal terms n t TableFull = IsPartUnbuilt terms (shift_tree 0 n t) TableFull
 IsShiftRefusal terms n t GreatestIndex = Fits (move n (read 0 t)) → ⊥
 IsShiftRefusal terms n t _ = ⊥
 

@@ -4,7 +4,6 @@ use Rattle.tt_index.specs.declared.refusal.Refusal.{Refusal}
 use Rattle.tt_kinds.specs.Label.{Name, VarKind}
 use Rattle.tt_kinds.specs.Tree.{Depth, Tree}
 use Rattle.tt_kinds.specs.Shape.{Shape, IsPart, fill, vars_of}
-use Rattle.tt_kinds.specs.Kinds.{ty_shape}
 use Rattle.tt_kinds.specs.declared.handle.BoundVarKinds.{BoundVarKinds}
 use Rattle.tt_kinds.specs.declared.table.Table.TheVariants.{VarLists}
 use Rattle.tt_interner.specs.Rows.{Row, size, meaning}
@@ -38,17 +37,17 @@ HasVars rows vars = vars.number < size rows VarLists
 abbrev pub vars_in : List Row → BoundVarKinds → List (VarKind Name)
 vars_in rows vars = vars_of (meaning rows VarLists vars.number)
 
--- what a hook's answer means
-abbrev pub answer_of : List Row → Step → Answer
-answer_of rows (step.Replace t) = replace (tree_in rows (ty_shape t))
-answer_of rows step.Keep = keep
-answer_of rows step.Descend = descend
+-- what a hook's answer at a term with such a shape means
+abbrev pub answer_of : {T : Type 0} → (T → Shape) → List Row → Step T → Answer
+answer_of shape rows (step.Replace x) = replace (tree_in rows (shape x))
+answer_of shape rows step.Keep = keep
+answer_of shape rows step.Descend = descend
 
 -- the handle in a hook's answer is the rows'
-abbrev pub OwnsStep : List Row → Step → Type 0
-OwnsStep rows (step.Replace t) = IsPartOf rows (ty_shape t)
-OwnsStep rows step.Keep = ⊤
-OwnsStep rows step.Descend = ⊤
+abbrev pub OwnsStep : {T : Type 0} → (T → Shape) → List Row → Step T → Type 0
+OwnsStep shape rows (step.Replace x) = IsPartOf rows (shape x)
+OwnsStep shape rows step.Keep = ⊤
+OwnsStep shape rows step.Descend = ⊤
 
 -- the error says that the tree is not built
 abbrev pub IsErrorOfUnbuilt : {E : Type 0} → (Refusal → E → Type 0) → Terms → Tree Depth → E → Type 0

@@ -1,7 +1,11 @@
 -- What a folder does to a tree.
-use Rattle.std.specs.Prelude.{ℕ, List, Option, Some, None, IsTrue, ⊤}
-use Rattle.tt_kinds.specs.Label.{Name, Sort, region_sort, type_sort, const_sort, VarKind, Entry, Label, is_type}
+use Rattle.std.specs.Prelude.{◌≡◌, ℕ, List, Option, Some, None, Bool, false}
+use Rattle.tt_kinds.specs.Label.{Name, Sort, VarKind, Entry, Label, is_type}
+use Rattle.tt_kinds.specs.Count.{is_type_sort}
 use Rattle.tt_kinds.specs.Tree.{Depth, Tree, param, bound, region, term, node, binder, Forest, none, also}
+use Rattle.tt_kinds.specs.Kinds.{items_tree}
+use Rattle.tt_kinds.specs.declared.parts.ListSort.{ListSort}
+use Rattle.tt_visit.specs.Root.{a_region, hooked, unhooked, root}
 
 -- what a hook answers before a term's children
 pub data Answer : Type 0 where
@@ -9,35 +13,26 @@ pub data Answer : Type 0 where
   keep : Answer
   descend : Answer
 
--- the sort is that of regions
-abbrev pub IsOfRegions : Sort → Type 0
-IsOfRegions region_sort = ⊤
-IsOfRegions type_sort = ⊥
-IsOfRegions const_sort = ⊥
-
--- the sort is that of stored terms
-abbrev pub IsOfTerms : Sort → Type 0
-IsOfTerms region_sort = ⊥
-IsOfTerms type_sort = ⊤
-IsOfTerms const_sort = ⊥
+-- the tree is a type's
+abbrev pub is_type_tree : Tree Depth → Bool
+is_type_tree (param s i name) = is_type_sort s
+is_type_tree (bound s d e) = is_type_sort s
+is_type_tree (region r) = false
+is_type_tree (term l ts) = is_type l
+is_type_tree (node l ts) = false
+is_type_tree (binder vs t) = false
 
 -- the tree is a region's
 abbrev pub IsRegion : Tree Depth → Type 0
-IsRegion (param s i name) = IsOfRegions s
-IsRegion (bound s d e) = IsOfRegions s
-IsRegion (region r) = ⊤
-IsRegion (term l ts) = ⊥
-IsRegion (node l ts) = ⊥
-IsRegion (binder vs t) = ⊥
+IsRegion t = root t ≡ a_region
 
--- the tree is that of a stored term, which a hook meets: a type's
+-- the tree is that of a stored term at which a hook is asked
 abbrev pub IsTerm : Tree Depth → Type 0
-IsTerm (param s i name) = IsOfTerms s
-IsTerm (bound s d e) = IsOfTerms s
-IsTerm (region r) = ⊥
-IsTerm (term l ts) = IsTrue (is_type l)
-IsTerm (node l ts) = ⊥
-IsTerm (binder vs t) = ⊥
+IsTerm t = root t ≡ hooked
+
+-- the tree is that of a stored term at which no hook is asked
+abbrev pub IsPassed : Tree Depth → Type 0
+IsPassed t = root t ≡ unhooked
 
 -- What a folder's hooks may do: M is what its state means, and E its errors. What a hook fails with may be that a tree is
 -- not built: it is told which errors say so of which trees.
@@ -65,6 +60,7 @@ module _ {M E : Type 0} (H : Hooks M E) where
       replaced : {s s' : M} {t r : Tree Depth} → IsTerm t → H.on_term s t (replace r) s' → Walks s t r s'
       kept : {s s' : M} {t : Tree Depth} → IsTerm t → H.on_term s t keep s' → Walks s t t s'
       descended : {s s1 s' : M} {t r : Tree Depth} → IsTerm t → H.on_term s t descend s1 → Descends s1 t r s' → Walks s t r s'
+      passed : {s s' : M} {t u : Tree Depth} → IsPassed t → WalksInside s t u s' → Walks s t u s'
       at_node : {s s' : M} {l : Label Name} {ts us : Forest Depth} → WalksAll s ts us s' → Walks s (node l ts) (node l us) s'
       at_binder : {s s1 s2 s' : M} {vs : List (VarKind Name)} {t u : Tree Depth}
           → H.enter s vs s1 → Walks s1 t u s2 → H.leave s2 vs s' → Walks s (binder vs t) (binder vs u) s'
@@ -94,6 +90,7 @@ module _ {M E : Type 0} (H : Hooks M E) (unbuilt : Tree Depth → E → Type 0) 
       term_failed : {s s_end : M} {t : Tree Depth} {e : E} → IsTerm t → H.term_fails unbuilt s t e s_end → Fails s t e s_end
       descent_failed : {s s1 s_end : M} {t : Tree Depth} {e : E}
           → IsTerm t → H.on_term s t descend s1 → DescentFails s1 t e s_end → Fails s t e s_end
+      passed_failed : {s s_end : M} {t : Tree Depth} {e : E} → IsPassed t → InsideFails s t e s_end → Fails s t e s_end
       enter_failed : {s s_end : M} {vs : List (VarKind Name)} {t : Tree Depth} {e : E}
           → H.enter_fails unbuilt s vs e s_end → Fails s (binder vs t) e s_end
       under_failed : {s s1 s_end : M} {vs : List (VarKind Name)} {t : Tree Depth} {e : E}
@@ -106,14 +103,14 @@ module _ {M E : Type 0} (H : Hooks M E) (unbuilt : Tree Depth → E → Type 0) 
 
     -- the same for a term whose hook answered `descend`
     pub data DescentFails : M → Tree Depth → E → M → Type 0 where
-      inside_failed : {s s_end : M} {t : Tree Depth} {e : E} → FailsInside s t e s_end → DescentFails s t e s_end
-      not_built : {s s1 : M} {t u : Tree Depth} {e : E} → WalksInside H s t u s1 → unbuilt u e → DescentFails s t e s1
+      inside_failed : {s s_end : M} {t : Tree Depth} {e : E} → InsideFails s t e s_end → DescentFails s t e s_end
       after_failed : {s s1 s_end : M} {t u : Tree Depth} {e : E}
           → WalksInside H s t u s1 → H.after_fails unbuilt s1 t u e s_end → DescentFails s t e s_end
 
-    -- the same for the children of a term
-    pub data FailsInside : M → Tree Depth → E → M → Type 0 where
-      in_term_failed : {s s_end : M} {l : Label Name} {ts : Forest Depth} {e : E} → FailsAll s ts e s_end → FailsInside s (term l ts) e s_end
+    -- what stands in a term was not folded, or the term was not built again from it
+    pub data InsideFails : M → Tree Depth → E → M → Type 0 where
+      in_term_failed : {s s_end : M} {l : Label Name} {ts : Forest Depth} {e : E} → FailsAll s ts e s_end → InsideFails s (term l ts) e s_end
+      not_built : {s s1 : M} {t u : Tree Depth} {e : E} → WalksInside H s t u s1 → unbuilt u e → InsideFails s t e s1
 
     -- the same for trees in order
     pub data FailsAll : M → Forest Depth → E → M → Type 0 where
@@ -140,11 +137,20 @@ module _ {M E : Type 0} (H : Hooks M E) (unbuilt : Tree Depth → E → Type 0) 
     in_leave_failed : {s s1 s2 s_end : M} {vs : List (VarKind Name)} {ts us : Forest Depth} {e : E}
         → H.enter s vs s1 → WalksAll H s1 ts us s2 → H.leave_fails unbuilt s2 vs e s_end → FailsUnder (Some vs) s ts e s_end
 
--- what stands in a term was not folded, or the term was not built again from it
-module _ {M E : Type 0} (H : Hooks M E) (unbuilt : Tree Depth → E → Type 0) where
-  pub data InsideFails : M → Tree Depth → E → M → Type 0 where
-    in_failed : {s s_end : M} {t : Tree Depth} {e : E} → FailsInside H unbuilt s t e s_end → InsideFails s t e s_end
-    in_not_built : {s s1 : M} {t u : Tree Depth} {e : E} → WalksInside H s t u s1 → unbuilt u e → InsideFails s t e s1
+-- the walk of a stored list's children, and the list of what came of them
+pub record WalksItems {M E : Type 0} (H : Hooks M E) (sort : ListSort) (s : M) (t u : Tree Depth) (s' : M) : Type 0 where
+  pub items : Forest Depth
+  pub results : Forest Depth
+  pub is_list : t ≡ items_tree sort items
+  pub becomes : u ≡ items_tree sort results
+  pub walked : WalksAll H s items results s'
+
+-- the same where it ends with an error
+module _ {M E : Type 0} (H : Hooks M E) (unbuilt : Tree Depth → E → Type 0) (sort : ListSort) where
+  pub data ItemsFail : M → Tree Depth → E → M → Type 0 where
+    items_failed : {s s_end : M} {t : Tree Depth} {ts : Forest Depth} {e : E} → t ≡ items_tree sort ts → FailsAll H unbuilt s ts e s_end → ItemsFail s t e s_end
+    list_not_built : {s s1 : M} {t : Tree Depth} {ts us : Forest Depth} {e : E}
+        → t ≡ items_tree sort ts → WalksAll H s ts us s1 → unbuilt (items_tree sort us) e → ItemsFail s t e s1
 
 -- the walk of a term, or of a value under a binder, without its own hooks
 module _ {M E : Type 0} (H : Hooks M E) where

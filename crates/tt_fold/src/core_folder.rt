@@ -2,17 +2,22 @@
 
 ghost use Rattle.std.specs.Prelude.{◌≡◌, List, MatchResult};
 ghost use Rattle.tt_index.specs.declared.refusal.Refusal.{Refusal};
-ghost use Rattle.tt_kinds.specs.Kinds.{ty_shape, region_shape};
+ghost use Rattle.tt_kinds.specs.Kinds.{node_shape, region_shape};
 ghost use Rattle.tt_interner.specs.Rows.{Row, Grows};
 ghost use Rattle.tt_interner.specs.Stored.{Extends};
 ghost use Rattle.tt_fold.specs.Walk.{Hooks};
 ghost use Rattle.tt_fold.specs.Counts.{Standing, stands};
-ghost use Rattle.tt_fold.specs.Steps.{answer_of, HasVars, IsPartOf, IsErrorOfUnbuilt, OwnsStep, tree_in, vars_in};
+ghost use Rattle.tt_fold.specs.Steps.{answer_of, Goes, HasVars, IsPartOf, IsErrorOfUnbuilt, tree_in, vars_in};
+ghost use Rattle.tt_fold.specs.Parts.{HasHook, IsNodeFor, IsStepFor, node_tree};
 
 use crate::folder::{FallibleTypeFolder, Step, TypeFolder};
+use crate::step_of_node::{
+    clauses_node, clauses_step, const_node, const_step, predicate_node, predicate_step, ty_node,
+    ty_step,
+};
 use tt_index::Refusal;
 use tt_interner::Interner;
-use tt_kinds::{BoundVarKinds, Region, Ty};
+use tt_kinds::{BoundVarKinds, Node, Region, Ty};
 
 /// What the walk asks of a folder of either trait; `M` says of which.
 pub trait Core<M> {
@@ -39,31 +44,34 @@ pub trait Core<M> {
             (λ r. owned cx.new.rows self.new × IsPartOf cx.new.rows (region_shape r) × hooks.on_region (stands meaning cx.old self.old) (tree_in cx.old.rows (region_shape region)) (tree_in cx.new.rows (region_shape r)) (stands meaning cx.new self.new))
             (λ e. hooks.region_fails (IsErrorOfUnbuilt Self.Error.from_gives cx.new) (stands meaning cx.old self.old) (tree_in cx.old.rows (region_shape region)) e (stands meaning cx.new self.new)) };
 
-    /// At a type, before what stands in it.
-    fn core_ty(&mut self, cx: &mut Interner, ty: Ty) -> Result<Step, Self::Error>
+    /// At a stored term that has a hook, before what stands in it.
+    #[inline(always)]
+    fn core_term(&mut self, cx: &mut Interner, node: Node) -> Result<Step<Node>, Self::Error>
         requires owned { owned cx.old.rows self.old }
-        requires ty { IsPartOf cx.old.rows (ty_shape ty) }
-        ensures extends { Extends cx.old cx.new }
-        ensures result { MatchResult
-            result
-            (λ step. owned cx.new.rows self.new × OwnsStep cx.new.rows step × hooks.on_term (stands meaning cx.old self.old) (tree_in cx.old.rows (ty_shape ty)) (answer_of cx.new.rows step) (stands meaning cx.new self.new))
-            (λ e. hooks.term_fails (IsErrorOfUnbuilt Self.Error.from_gives cx.new) (stands meaning cx.old self.old) (tree_in cx.old.rows (ty_shape ty)) e (stands meaning cx.new self.new)) };
+        requires node { IsPartOf cx.old.rows (node_shape node) }
+        requires hooked { HasHook node }
+        ensures { Goes owned meaning
+            (λ rows step s s'. IsStepFor node rows step × hooks.on_term s (node_tree cx.old.rows node) (answer_of node_shape rows step) s')
+            (λ s e s'. hooks.term_fails (IsErrorOfUnbuilt Self.Error.from_gives cx.new) s (node_tree cx.old.rows node) e s')
+            cx.old self.old result cx.new self.new };
 
-    /// At a type, after what stands in it.
-    fn core_after_ty(
+    /// At a stored term that has a hook, after what stands in it.
+    #[inline(always)]
+    fn core_after_term(
         &mut self,
         cx: &mut Interner,
-        before: Ty,
-        rebuilt: Ty,
-    ) -> Result<Ty, Self::Error>
+        before: Node,
+        rebuilt: Node,
+    ) -> Result<Node, Self::Error>
         requires owned { owned cx.old.rows self.old }
-        requires before { IsPartOf cx.old.rows (ty_shape before) }
-        requires rebuilt { IsPartOf cx.old.rows (ty_shape rebuilt) }
-        ensures extends { Extends cx.old cx.new }
-        ensures result { MatchResult
-            result
-            (λ r. owned cx.new.rows self.new × IsPartOf cx.new.rows (ty_shape r) × hooks.after_term (stands meaning cx.old self.old) (tree_in cx.old.rows (ty_shape before)) (tree_in cx.old.rows (ty_shape rebuilt)) (tree_in cx.new.rows (ty_shape r)) (stands meaning cx.new self.new))
-            (λ e. hooks.after_fails (IsErrorOfUnbuilt Self.Error.from_gives cx.new) (stands meaning cx.old self.old) (tree_in cx.old.rows (ty_shape before)) (tree_in cx.old.rows (ty_shape rebuilt)) e (stands meaning cx.new self.new)) };
+        requires before { IsPartOf cx.old.rows (node_shape before) }
+        requires hooked { HasHook before }
+        requires rebuilt { IsNodeFor before cx.old.rows rebuilt }
+        ensures { Goes owned meaning
+            (λ rows node s s'. IsNodeFor before rows node
+            × hooks.after_term s (node_tree cx.old.rows before) (node_tree cx.old.rows rebuilt) (node_tree rows node) s')
+            (λ s e s'. hooks.after_fails (IsErrorOfUnbuilt Self.Error.from_gives cx.new) s (node_tree cx.old.rows before) (node_tree cx.old.rows rebuilt) e s')
+            cx.old self.old result cx.new self.new };
 
     /// Before a binder's value.
     fn core_enter(&mut self, cx: &mut Interner, vars: BoundVarKinds) -> Result<(), Self::Error>
@@ -112,12 +120,39 @@ impl<F: TypeFolder> Core<Plain> for F {
         self.fold_region(cx, region)
     }
 
-    fn core_ty(&mut self, cx: &mut Interner, ty: Ty) -> Result<Step, Refusal> {
-        self.fold_ty(cx, ty)
+    #[inline(always)]
+    fn core_term(&mut self, cx: &mut Interner, node: Node) -> Result<Step<Node>, Refusal> {
+        match node {
+            Node::Ty(ty) => ty_step(self.fold_ty(cx, ty)),
+            Node::Const(constant) => const_step(self.fold_const(cx, constant)),
+            Node::Predicate(predicate) => predicate_step(self.fold_predicate(cx, predicate)),
+            Node::Clauses(clauses) => clauses_step(self.fold_clauses(cx, clauses)),
+            Node::Pat(_) | Node::Existential(_) => unreachable!(),
+        }
     }
 
-    fn core_after_ty(&mut self, cx: &mut Interner, before: Ty, rebuilt: Ty) -> Result<Ty, Refusal> {
-        self.after_ty(cx, before, rebuilt)
+    #[inline(always)]
+    fn core_after_term(
+        &mut self,
+        cx: &mut Interner,
+        before: Node,
+        rebuilt: Node,
+    ) -> Result<Node, Refusal> {
+        match before {
+            Node::Ty(ty) => ty_node(self.after_ty(cx, ty, rebuilt.ty())),
+            Node::Const(constant) => const_node(self.after_const(cx, constant, rebuilt.constant())),
+            Node::Predicate(predicate) => predicate_node(self.after_predicate(
+                cx,
+                predicate,
+                rebuilt.predicate(),
+            )),
+            Node::Clauses(clauses) => clauses_node(self.after_clauses(
+                cx,
+                clauses,
+                rebuilt.clauses(),
+            )),
+            Node::Pat(_) | Node::Existential(_) => unreachable!(),
+        }
     }
 
     fn core_enter(&mut self, cx: &mut Interner, vars: BoundVarKinds) -> Result<(), Refusal> {
@@ -148,17 +183,39 @@ impl<F: FallibleTypeFolder> Core<Fallible> for F {
         self.try_fold_region(cx, region)
     }
 
-    fn core_ty(&mut self, cx: &mut Interner, ty: Ty) -> Result<Step, F::Error> {
-        self.try_fold_ty(cx, ty)
+    #[inline(always)]
+    fn core_term(&mut self, cx: &mut Interner, node: Node) -> Result<Step<Node>, F::Error> {
+        match node {
+            Node::Ty(ty) => ty_step(self.try_fold_ty(cx, ty)),
+            Node::Const(constant) => const_step(self.try_fold_const(cx, constant)),
+            Node::Predicate(predicate) => predicate_step(self.try_fold_predicate(cx, predicate)),
+            Node::Clauses(clauses) => clauses_step(self.try_fold_clauses(cx, clauses)),
+            Node::Pat(_) | Node::Existential(_) => unreachable!(),
+        }
     }
 
-    fn core_after_ty(
+    #[inline(always)]
+    fn core_after_term(
         &mut self,
         cx: &mut Interner,
-        before: Ty,
-        rebuilt: Ty,
-    ) -> Result<Ty, F::Error> {
-        self.after_ty(cx, before, rebuilt)
+        before: Node,
+        rebuilt: Node,
+    ) -> Result<Node, F::Error> {
+        match before {
+            Node::Ty(ty) => ty_node(self.after_ty(cx, ty, rebuilt.ty())),
+            Node::Const(constant) => const_node(self.after_const(cx, constant, rebuilt.constant())),
+            Node::Predicate(predicate) => predicate_node(self.after_predicate(
+                cx,
+                predicate,
+                rebuilt.predicate(),
+            )),
+            Node::Clauses(clauses) => clauses_node(self.after_clauses(
+                cx,
+                clauses,
+                rebuilt.clauses(),
+            )),
+            Node::Pat(_) | Node::Existential(_) => unreachable!(),
+        }
     }
 
     fn core_enter(&mut self, cx: &mut Interner, vars: BoundVarKinds) -> Result<(), F::Error> {

@@ -1,10 +1,15 @@
 //! Folds: a term taken apart, changed and built again.
 #![tactic(auto)]
 
+mod containers;
 pub mod core_folder;
 pub mod foldable;
 pub mod folder;
+mod handles;
+mod list_of_sort;
+mod records;
 pub mod shift;
+mod step_of_node;
 mod walk;
 
 pub use foldable::{TypeFoldable, TypeSuperFoldable};

@@ -1,21 +1,22 @@
 //! Shifting: a value moved into new binders, so that its variables that are bound outside of it keep their binders.
 
-ghost use Rattle.std.specs.Prelude.{◌≡◌, ◌<◌, ◌↔◌, ◌⊎◌, IfOk, IfErr, IsTrue, MatchResult};
+ghost use Rattle.std.specs.Prelude.{◌≡◌, ◌+◌, ◌<◌, ◌≤◌, ◌↔◌, ◌⊎◌, IfOk, IfErr, IsTrue, MatchResult};
 ghost use Rattle.tt_kinds.specs.RegionKind.{IsShallow};
 ghost use Rattle.tt_kinds.specs.Shape.{fill, IsPart, Meaning, Sizes};
 ghost use Rattle.tt_kinds.specs.Reading.{Fits, move, outer_binder, read};
 ghost use Rattle.tt_kinds.specs.Plain.{shift_tree};
-ghost use Rattle.tt_kinds.specs.Kinds.{region_shape, ty_kind_shape, ty_shape};
+ghost use Rattle.tt_kinds.specs.Kinds.{const_kind_shape, const_shape, region_shape, ty_kind_shape, ty_shape};
 ghost use Rattle.tt_interner.specs.Stored.{Extends};
 ghost use Rattle.tt_fold.specs.Steps.{IsPartBy, IsPartOf, IsRefused, tree_by, tree_in};
-ghost use Rattle.tt_fold.specs.Shift.{bound_variable_in, IsOuter, IsTooFar, IsTooGreat, moved_tree, IsPast, IsShiftedRegion, IsShiftRefusal, moved_index, moved_region, Shift, ShiftsAddUp, ShiftsKeepApart};
+ghost use Rattle.tt_fold.specs.Shift.{bound_const_of, bound_ty_of, IsOuter, IsTooFar, IsTooGreat, moved_tree, IsPast, IsShiftedRegion, IsShiftRefusal, moved_index, moved_region, moving_positions, Shift, ShiftsAddUp, ShiftsKeepApart};
 
 use crate::foldable::TypeFoldable;
 use crate::folder::{Step, TypeFolder};
 use tt_index::{DebruijnIndex, Refusal};
 use tt_interner::{Flags, Interner};
 use tt_kinds::{
-    BoundTy, BoundVarIndexKind, BoundVarKinds, Kind, Node, Region, RegionKind, Ty, TyKind,
+    BoundConst, BoundTy, BoundVarIndexKind, BoundVarKinds, Clauses, Const, ConstKind, Kind, Node,
+    Predicate, Region, RegionKind, Ty, TyKind,
 };
 use tt_visit::TypeVisitableExt;
 
@@ -83,15 +84,29 @@ pub fn shift_region(region: Region, amount: u32) -> Result<Region, Refusal>
     shift_region_under(region, DebruijnIndex::INNERMOST, amount)
 }
 
-// The bound variable that a kind is, if it is one.
-fn bound_variable(kind: &Kind) -> Option<(BoundVarIndexKind, BoundTy)>
-    ensures { result ≡ bound_variable_in kind.now }
+// The bound variable that a type is, if it is one.
+fn bound_ty(kind: &Kind) -> Option<(BoundVarIndexKind, BoundTy)>
+    ensures { result ≡ bound_ty_of kind.now }
 {
     match kind {
         Kind::Ty(kind) => match kind {
             TyKind::Bound(index, bound_ty) => Some((*index, *bound_ty)),
             _ => None,
         },
+        _ => None,
+    }
+}
+
+// The bound variable that a constant is, if it is one.
+fn bound_const(kind: &Kind) -> Option<(BoundVarIndexKind, BoundConst)>
+    ensures { result ≡ bound_const_of kind.now }
+{
+    match kind {
+        Kind::Const(kind) => match kind {
+            ConstKind::Bound(index, bound_const) => Some((*index, *bound_const)),
+            _ => None,
+        },
+        _ => None,
     }
 }
 
@@ -125,6 +140,29 @@ impl Shifter {
             Err(e) => Err(e),
         }
     }
+
+    // The constant of a bound variable, moved.
+    fn shift_bound_const(
+        self,
+        cx: &mut Interner,
+        index: BoundVarIndexKind,
+        bound_const: BoundConst,
+    ) -> Result<Const, Refusal>
+        requires { IsOuter self.current_index index }
+        ensures extends { Extends cx.old cx.new }
+        ensures counters { cx.new.counters ≡ cx.old.counters }
+        ensures result { let shift : Shift = record { amount = self.amount; under = self.current_index } in
+            let tree = tree_in cx.old.rows (const_kind_shape (ConstKind.Bound index bound_const)) in
+            MatchResult
+            result
+            (λ constant. IsPartOf cx.new.rows (const_shape constant) × (tree_in cx.new.rows (const_shape constant) ≡ moved_tree shift tree))
+            (λ e. IsTooGreat e (IsTooFar shift tree) ⊎ IsRefused cx.new (moved_tree shift tree) e) }
+    {
+        match shift_index(index, self.current_index, self.amount) {
+            Ok(shifted) => cx.mk_const(ConstKind::Bound(shifted, bound_const)),
+            Err(e) => Err(e),
+        }
+    }
 }
 
 impl TypeFolder for Shifter {
@@ -143,12 +181,12 @@ impl TypeFolder for Shifter {
         shift_region_under(region, self.current_index, self.amount)
     }
 
-    fn fold_ty(&mut self, cx: &mut Interner, ty: Ty) -> Result<Step, Refusal> {
+    fn fold_ty(&mut self, cx: &mut Interner, ty: Ty) -> Result<Step<Ty>, Refusal> {
         if !self.moves(ty.outer_exclusive_binder(cx)) {
             return Ok(Step::Keep);
         }
         let kind = cx.node_kind(Node::Ty(ty));
-        match bound_variable(&kind) {
+        match bound_ty(&kind) {
             Some((index, bound_ty)) => {
                 let shifted = self.shift_bound_ty(cx, index, bound_ty)?;
                 Ok(Step::Replace(shifted))
@@ -161,6 +199,71 @@ impl TypeFolder for Shifter {
     }
 
     fn after_ty(&mut self, _cx: &mut Interner, _before: Ty, rebuilt: Ty) -> Result<Ty, Refusal> {
+        Ok(rebuilt)
+    }
+
+    fn fold_const(&mut self, cx: &mut Interner, constant: Const) -> Result<Step<Const>, Refusal> {
+        if !self.moves(constant.outer_exclusive_binder(cx)) {
+            return Ok(Step::Keep);
+        }
+        let kind = cx.node_kind(Node::Const(constant));
+        match bound_const(&kind) {
+            Some((index, bound_const)) => {
+                let shifted = self.shift_bound_const(cx, index, bound_const)?;
+                Ok(Step::Replace(shifted))
+            }
+            None => Ok(Step::Descend),
+        }
+    }
+
+    fn after_const(
+        &mut self,
+        _cx: &mut Interner,
+        _before: Const,
+        rebuilt: Const,
+    ) -> Result<Const, Refusal> {
+        Ok(rebuilt)
+    }
+
+    fn fold_predicate(
+        &mut self,
+        cx: &mut Interner,
+        predicate: Predicate,
+    ) -> Result<Step<Predicate>, Refusal> {
+        if self.moves(predicate.outer_exclusive_binder(cx)) {
+            Ok(Step::Descend)
+        } else {
+            Ok(Step::Keep)
+        }
+    }
+
+    fn after_predicate(
+        &mut self,
+        _cx: &mut Interner,
+        _before: Predicate,
+        rebuilt: Predicate,
+    ) -> Result<Predicate, Refusal> {
+        Ok(rebuilt)
+    }
+
+    fn fold_clauses(
+        &mut self,
+        cx: &mut Interner,
+        clauses: Clauses,
+    ) -> Result<Step<Clauses>, Refusal> {
+        if self.moves(clauses.outer_exclusive_binder(cx)) {
+            Ok(Step::Descend)
+        } else {
+            Ok(Step::Keep)
+        }
+    }
+
+    fn after_clauses(
+        &mut self,
+        _cx: &mut Interner,
+        _before: Clauses,
+        rebuilt: Clauses,
+    ) -> Result<Clauses, Refusal> {
         Ok(rebuilt)
     }
 
@@ -188,8 +291,12 @@ impl TypeFolder for Shifter {
 /// The value moved into `amount` new binders: each variable that a binder outside of the value binds keeps its binder.
 ///
 /// It is refused with `GreatestIndex` where such a variable's index would be the greatest or above, or where more binders than
-/// the greatest index counts stand around one, and with `Memory` or `TableFull` where a term cannot be built. Where no such
+/// the greatest index counts stand around one; with `TableFull` where a term or a list of the moved value is not stored yet
+/// and its table has as many rows as it may have; and with `Memory` where the memory for a new one is refused. Where no such
 /// variable stands in the value, or the amount is 0, it is the value itself, and nothing is built.
+///
+/// Each place of the value where a type stands that has such a variable adds at most one to the interner's count of the
+/// shifter's descents, and the other count stays.
 pub fn shift_vars<T: TypeFoldable>(cx: &mut Interner, value: T, amount: u32) -> Result<T, Refusal>
     requires { IsPartBy T.shape cx.old.rows value }
     ensures extends { Extends cx.old cx.new }
@@ -199,10 +306,14 @@ pub fn shift_vars<T: TypeFoldable>(cx: &mut Interner, value: T, amount: u32) -> 
     ensures err { IfErr result (IsShiftRefusal cx.new amount (tree_by T.shape cx.old.rows value)) }
     ensures same { (amount ≡ 0) ⊎ (outer_binder (tree_by T.shape cx.old.rows value) ≡ 0) → (result ≡ Ok value) × (cx.new ≡ cx.old) }
     ensures descents { cx.new.counters.descents ≡ cx.old.counters.descents }
+    ensures shift_descents { cx.old.counters.shift_descents ≤ cx.new.counters.shift_descents }
+    ensures positions { cx.new.counters.shift_descents ≤ cx.old.counters.shift_descents + moving_positions (tree_by T.shape cx.old.rows value) }
 {
     if amount == 0 || !value.has_escaping_bound_vars(cx) {
         return Ok(value);
     }
+    // Each stored list of clauses holds clauses alone, so no moved one is refused for an item.
+    cx.are_rows();
     let mut shifter = Shifter {
         amount,
         current_index: DebruijnIndex::INNERMOST,

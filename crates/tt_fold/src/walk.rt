@@ -2,29 +2,40 @@
 //!
 //! It goes over the parts of kinds, so that it has no line for any kind.
 
-ghost use Rattle.std.specs.Prelude.{◌≡◌, ◌↔◌, ◌++◌, ◌∷◌, [], IfOk, IfErr, IsTrue, Some};
+ghost use Rattle.std.specs.Prelude.{◌≡◌, ◌↔◌, ◌++◌, ◌∷◌, [], IfOk, IfErr, IsTrue, Some, false};
 ghost use Rattle.tt_index.specs.declared.refusal.Refusal.TheVariants.{Memory};
-ghost use Rattle.tt_kinds.specs.Kinds.{child_shapes, list_shape, node_shape, parts_shapes};
-ghost use Rattle.tt_fold.specs.Walk.{Descends, DescentFails, Fails, FailsAll, FailsUnder, InsideFails, Walks, WalksAll, WalksInside, WalksUnder};
-ghost use Rattle.tt_fold.specs.Steps.{Folds, Goes, HasVars, IsPartOf, IsErrorOfUnbuilt, vars_in};
-ghost use Rattle.tt_fold.specs.Parts.{as_node_step, ArePartsFor, ArePartsOf, binder_in, child_trees, HasBinder, IsChildFor, IsLeaf, IsListFor, IsNodeFor, IsStepFor, list_tree, node_answer_of, node_tree, parts_trees};
+ghost use Rattle.tt_kinds.specs.Kinds.{child_shapes, clauses_shape, list_shape, node_shape, parts_shapes};
+ghost use Rattle.tt_kinds.specs.Parts.{list_sort, node_table};
+ghost use Rattle.tt_kinds.specs.declared.parts.Node.TheVariants as node;
+ghost use Rattle.tt_visit.specs.Root.{table_root, unhooked};
+ghost use Rattle.tt_fold.specs.Walk.{Descends, DescentFails, Fails, FailsAll, FailsUnder, InsideFails, ItemsFail, Walks, WalksAll, WalksInside, WalksItems, WalksUnder};
+ghost use Rattle.tt_fold.specs.Steps.{Folds, HasVars, IsPartOf, IsErrorOfUnbuilt, vars_in};
+ghost use Rattle.tt_fold.specs.Parts.{ArePartsFor, ArePartsOf, binder_in, child_trees, FoldsItems, HasBinder, HasHook, IsChildFor, IsLeaf, IsListFor, IsNodeFor, list_tree, node_tree, parts_trees};
 
 use crate::core_folder::Core;
 use crate::folder::Step;
+use crate::list_of_sort::list_clauses;
+use smallvec::SmallVec;
 use tt_index::Refusal;
 use tt_interner::Interner;
-use tt_kinds::{BoundVarKinds, Child, Kind, List, Node, Parts};
+use tt_kinds::{BoundVarKinds, Child, Clauses, Kind, List, Node, Parts};
 
-// What a hook answers at a stored term, before what stands in it.
-#[derive(Clone, Copy)]
-enum NodeStep {
-    Replace(Node),
-    Keep,
-    Descend,
+// Whether a hook is asked at the term.
+#[inline(always)]
+fn is_hooked(node: Node) -> bool
+    ensures hooked { IsTrue result → HasHook node }
+    ensures passed { (result ≡ false) → table_root (node_table node) ≡ unhooked }
+{
+    match node {
+        Node::Ty(_) | Node::Const(_) | Node::Predicate(_) | Node::Clauses(_) => true,
+        Node::Pat(_) | Node::Existential(_) => false,
+    }
 }
 
-// The walk of a stored term.
+// The walk of a stored term. One without a hook is passed straight to what stands in it. In place in its callers, so that a
+// term whose hook answers at once costs no call.
 #[cycle(fold)]
+#[inline(always)]
 pub(crate) fn fold_node<M, F: Core<M>>(
     cx: &mut Interner,
     folder: &mut F,
@@ -36,27 +47,30 @@ pub(crate) fn fold_node<M, F: Core<M>>(
         (Walks F.hooks) (Fails F.hooks (IsErrorOfUnbuilt F.Error.from_gives cx.new))
         cx.old folder.old node result cx.new folder.new }
 {
-    // only a stored term has a kind, so the hook is asked at one
-    let _kind = cx.node_kind(node);
-    let step = ask::<M, F>(cx, folder, node)?;
+    if !is_hooked(node) {
+        return fold_inside::<M, F>(cx, folder, node);
+    }
+    let step = folder.core_term(cx, node)?;
     match step {
-        NodeStep::Replace(new) => Ok(new),
-        NodeStep::Keep => Ok(node),
-        NodeStep::Descend => descend::<M, F>(cx, folder, node),
+        Step::Replace(new) => Ok(new),
+        Step::Keep => Ok(node),
+        Step::Descend => descend::<M, F>(cx, folder, node),
     }
 }
 
 // The walk of a term whose hook answered `Descend`.
 #[cycle(fold)]
+#[inline(never)]
 fn descend<M, F: Core<M>>(cx: &mut Interner, folder: &mut F, node: Node) -> Result<Node, F::Error>
     requires owned { F.owned cx.old.rows folder.old }
     requires node { IsPartOf cx.old.rows (node_shape node) }
+    requires hooked { HasHook node }
     ensures { Folds F.owned F.meaning (IsNodeFor node) node_tree
         (Descends F.hooks) (DescentFails F.hooks (IsErrorOfUnbuilt F.Error.from_gives cx.new))
         cx.old folder.old node result cx.new folder.new }
 {
     let rebuilt = fold_inside::<M, F>(cx, folder, node)?;
-    end::<M, F>(cx, folder, node, rebuilt)
+    folder.core_after_term(cx, node, rebuilt)
 }
 
 // The walk of what stands in a term, and the term with what came of it.
@@ -72,6 +86,9 @@ pub(crate) fn fold_inside<M, F: Core<M>>(
         (WalksInside F.hooks) (InsideFails F.hooks (IsErrorOfUnbuilt F.Error.from_gives cx.new))
         cx.old folder.old node result cx.new folder.new }
 {
+    if let Node::Clauses(clauses) = node {
+        return fold_clauses::<M, F>(cx, folder, clauses);
+    }
     let kind = cx.node_kind(node);
     if is_leaf(&kind) {
         return Ok(node);
@@ -81,7 +98,25 @@ pub(crate) fn fold_inside<M, F: Core<M>>(
     Ok(rebuilt)
 }
 
+// The walk of what stands in a list of clauses, and the list of what came of it.
+#[cycle(fold)]
+fn fold_clauses<M, F: Core<M>>(
+    cx: &mut Interner,
+    folder: &mut F,
+    clauses: Clauses,
+) -> Result<Node, F::Error>
+    requires owned { F.owned cx.old.rows folder.old }
+    requires clauses { IsPartOf cx.old.rows (clauses_shape clauses) }
+    ensures { Folds F.owned F.meaning (IsNodeFor (node.Clauses clauses)) node_tree
+        (WalksInside F.hooks) (InsideFails F.hooks (IsErrorOfUnbuilt F.Error.from_gives cx.new))
+        cx.old folder.old (node.Clauses clauses) result cx.new folder.new }
+{
+    let list = fold_listed::<M, F>(cx, folder, List::Clauses(clauses))?;
+    Ok(Node::Clauses(list_clauses(list)))
+}
+
 // Whether the kind has neither children nor a binder, so that it need not be built again.
+#[inline(always)]
 fn is_leaf(kind: &Kind) -> bool
     ensures { IsTrue result ↔ IsLeaf kind.now }
 {
@@ -90,6 +125,7 @@ fn is_leaf(kind: &Kind) -> bool
 }
 
 // Whether there is no child.
+#[inline(always)]
 fn is_absent(child: &Child) -> bool
     ensures { IsTrue result ↔ (child.now ≡ Child.Absent) }
 {
@@ -101,6 +137,7 @@ fn is_absent(child: &Child) -> bool
 
 // The walk of parts, under their binder if they have one.
 #[cycle(fold)]
+#[inline(always)]
 fn fold_contents<M, F: Core<M>>(
     cx: &mut Interner,
     folder: &mut F,
@@ -143,7 +180,8 @@ fn fold_under<M, F: Core<M>>(
 
 // The walk of parts in order.
 #[cycle(fold)]
-fn fold_parts<M, F: Core<M>>(
+#[inline(always)]
+pub(crate) fn fold_parts<M, F: Core<M>>(
     cx: &mut Interner,
     folder: &mut F,
     parts: Parts,
@@ -159,8 +197,9 @@ fn fold_parts<M, F: Core<M>>(
     Ok(Parts { first, second })
 }
 
-// The walk of a child or an item.
+// The walk of a child or an item. In place in its callers, which mostly know what the child is.
 #[cycle(fold)]
+#[inline(always)]
 pub(crate) fn fold_child<M, F: Core<M>>(
     cx: &mut Interner,
     folder: &mut F,
@@ -189,7 +228,7 @@ pub(crate) fn fold_child<M, F: Core<M>>(
     }
 }
 
-// The walk of a stored list.
+// The walk of a stored list. One of clauses has a hook.
 #[cycle(fold)]
 pub(crate) fn fold_list<M, F: Core<M>>(
     cx: &mut Interner,
@@ -202,74 +241,64 @@ pub(crate) fn fold_list<M, F: Core<M>>(
         (Walks F.hooks) (Fails F.hooks (IsErrorOfUnbuilt F.Error.from_gives cx.new))
         cx.old folder.old list result cx.new folder.new }
 {
-    let mut items = Vec::new(cx.allocator());
+    match list {
+        List::Clauses(clauses) => {
+            let node = fold_node::<M, F>(cx, folder, Node::Clauses(clauses))?;
+            Ok(List::Clauses(node.clauses()))
+        }
+        _ => fold_listed::<M, F>(cx, folder, list),
+    }
+}
+
+// The walk of a list's children, and the list of what came of them. It stays a function of its own, so that terms without lists
+// need no room on the stack for it.
+#[cycle(fold)]
+#[inline(never)]
+fn fold_listed<M, F: Core<M>>(
+    cx: &mut Interner,
+    folder: &mut F,
+    list: List,
+) -> Result<List, F::Error>
+    requires owned { F.owned cx.old.rows folder.old }
+    requires list { IsPartOf cx.old.rows (list_shape list) }
+    ensures { Folds F.owned F.meaning (IsListFor list) list_tree
+        (WalksItems F.hooks (list_sort list)) (ItemsFail F.hooks (IsErrorOfUnbuilt F.Error.from_gives cx.new) (list_sort list))
+        cx.old folder.old list result cx.new folder.new }
+{
+    let items = fold_items::<M, F>(cx, folder, list)?;
+    let new_list = cx.store_list(list.sort(), items.as_slice())?;
+    Ok(new_list)
+}
+
+// The walk of a list's children in order. It has one caller, and stands in its place.
+#[cycle(fold)]
+#[inline(always)]
+fn fold_items<M, F: Core<M>>(
+    cx: &mut Interner,
+    folder: &mut F,
+    list: List,
+) -> Result<Items, F::Error>
+    requires owned { F.owned cx.old.rows folder.old }
+    requires list { IsPartOf cx.old.rows (list_shape list) }
+    ensures { FoldsItems (λ items. items.items) F.owned F.meaning F.hooks (IsErrorOfUnbuilt F.Error.from_gives cx.new) cx.old folder.old list result cx.new folder.new }
+{
+    let mut items = Items::new(cx.allocator());
     for i in 0..cx.list_len(list) {
         let item = cx.list_child(list, i);
         let folded = fold_child::<M, F>(cx, folder, item)?;
         push(&mut items, folded)?;
     }
-    let new_list = cx.store_list(list.sort(), &items)?;
-    Ok(new_list)
+    Ok(items)
 }
 
+// The items of a list that is walked. Short lists need no allocation.
+type Items = SmallVec<Child, 8>;
+
 // Adds an item to a list.
-fn push(items: &mut Vec<Child>, item: Child) -> Result<(), Refusal>
+fn push(items: &mut Items, item: Child) -> Result<(), Refusal>
     ensures ok { IfOk result (λ _. items.new.items ≡ items.old.items ++ item ∷ []) }
     ensures memory { IfErr result (λ e. e ≡ Memory) }
 {
     items.push(item)?;
     Ok(())
-}
-
-// What the term's hook answers.
-fn ask<M, F: Core<M>>(cx: &mut Interner, folder: &mut F, node: Node) -> Result<NodeStep, F::Error>
-    requires owned { F.owned cx.old.rows folder.old }
-    requires node { IsPartOf cx.old.rows (node_shape node) }
-    ensures { Goes F.owned F.meaning
-        (λ rows step s s'. IsStepFor node rows step × F.hooks.on_term s (node_tree cx.old.rows node) (node_answer_of rows step) s')
-        (λ s e s'. F.hooks.term_fails (IsErrorOfUnbuilt F.Error.from_gives cx.new) s (node_tree cx.old.rows node) e s')
-        cx.old folder.old result cx.new folder.new }
-{
-    match node {
-        Node::Ty(ty) => {
-            let step = folder.core_ty(cx, ty)?;
-            Ok(step.of_node())
-        }
-    }
-}
-
-impl Step {
-    fn of_node(self) -> NodeStep
-        ensures { result ≡ as_node_step self }
-    {
-        match self {
-            Step::Replace(ty) => NodeStep::Replace(Node::Ty(ty)),
-            Step::Keep => NodeStep::Keep,
-            Step::Descend => NodeStep::Descend,
-        }
-    }
-}
-
-// What the hook after the term answers.
-fn end<M, F: Core<M>>(
-    cx: &mut Interner,
-    folder: &mut F,
-    before: Node,
-    rebuilt: Node,
-) -> Result<Node, F::Error>
-    requires owned { F.owned cx.old.rows folder.old }
-    requires before { IsPartOf cx.old.rows (node_shape before) }
-    requires rebuilt { IsNodeFor before cx.old.rows rebuilt }
-    ensures { Goes F.owned F.meaning
-        (λ rows node s s'. IsNodeFor before rows node
-        × F.hooks.after_term s (node_tree cx.old.rows before) (node_tree cx.old.rows rebuilt) (node_tree rows node) s')
-        (λ s e s'. F.hooks.after_fails (IsErrorOfUnbuilt F.Error.from_gives cx.new) s (node_tree cx.old.rows before) (node_tree cx.old.rows rebuilt) e s')
-        cx.old folder.old result cx.new folder.new }
-{
-    match before {
-        Node::Ty(ty) => {
-            let new = folder.core_after_ty(cx, ty, rebuilt.ty())?;
-            Ok(Node::Ty(new))
-        }
-    }
 }

@@ -3,10 +3,10 @@ use Rattle.std.proofs.Common.{◌≡◌, ℕ, ◌<◌, List, [], ◌∷◌, Opti
 use Rattle.std.specs.Prelude.{map}
 use Rattle.tt_kinds.specs.declared.table.Table.{Table}
 use Rattle.tt_kinds.specs.declared.table.Table.TheVariants.{VarLists, Symbols}
-use Rattle.tt_kinds.specs.Label.{Name, RegionName, anonymous, printed, named, environment, VarKind, region_variable, type_variable, const_variable, Entry, FreeRegion, static_region, erased_region, region_var, error_region, late_param_region, placeholder_region, Label, type_label, list_label, var_list_label, text_label, record_label, label_table}
+use Rattle.tt_kinds.specs.Label.{Name, RegionName, anonymous, printed, named, environment, VarKind, region_variable, type_variable, const_variable, Entry, FreeRegion, static_region, erased_region, region_var, error_region, late_param_region, placeholder_region, RecordLabel, fn_sig_tys_record, pair_record, triple_record, absent_record, present_record, sequence_record, unsafe_binder_record, trait_record, host_effect_record, region_outlives_record, type_outlives_record, projection_record, const_has_type_record, well_formed_record, const_evaluatable_record, unstable_feature_record, dyn_compatible_record, subtype_record, coerce_record, const_equate_record, ambiguous_record, normalizes_to_record, alias_relate_record, existential_trait_record, existential_projection_record, auto_trait_record, trait_ref_record, alias_term_record, alias_ty_record, outlives_record, type_and_mut_record, fn_sig_record, param_env_record, witness_types_record, Label, type_label, const_label, pattern_label, predicate_label, existential_label, clause_list_label, list_label, var_list_label, text_label, record_label, label_table}
 use Rattle.tt_kinds.specs.Tree as tree
 use Rattle.tt_kinds.specs.Tree.{Tree, Depth}
-use Rattle.tt_kinds.specs.Shape.{Shape, Shapes, param, bound, region, term, node, binder, stored, none, also, Meaning, Sizes, text_of, vars_of, name_of, rename_region, rename_kind, rename_entry, rename_free, rename_label, fill, fill_all, sort_table, IsNamed, IsNamedKind, AreNamedKinds, IsNamedFree, IsNamedLabel, IsPart, AreParts, HasParts}
+use Rattle.tt_kinds.specs.Shape.{Shape, Shapes, param, bound, region, term, node, binder, stored, none, also, Meaning, Sizes, text_of, vars_of, name_of, rename_region, rename_kind, rename_entry, rename_free, rename_record, rename_label, fill, fill_all, sort_table, IsNamed, IsNamedKind, AreNamedKinds, IsNamedFree, IsNamedRecord, IsNamedLabel, IsPart, AreParts, HasParts}
 
 -- the table that a tree is stored in, as its root says
 abbrev pub tree_table : Tree Depth → Option Table
@@ -24,6 +24,11 @@ label_table-rename name (list_label t) = refl
 label_table-rename name (var_list_label vs) = refl
 label_table-rename name (text_label bytes) = refl
 label_table-rename name (record_label l) = refl
+label_table-rename name (const_label l) = refl
+label_table-rename name (pattern_label l) = refl
+label_table-rename name predicate_label = refl
+label_table-rename name existential_label = refl
+label_table-rename name clause_list_label = refl
 
 -- handles in range have different trees, whose roots tell the table
 pub record Distinguishes (size : Sizes) (f : Meaning) : Type 0 where
@@ -80,13 +85,56 @@ module _ (size : Sizes) (f : Meaning) (d : Distinguishes size f) where
       let same = region_one r r' p q names in cc
   free_one _ _ p q e = cc
 
+  record_one : (a b : RecordLabel ℕ) → IsNamedRecord size a → IsNamedRecord size b → rename_record (name_of f) a ≡ rename_record (name_of f) b → a ≡ b
+  record_one fn_sig_tys_record fn_sig_tys_record p q e = refl
+  record_one pair_record pair_record p q e = refl
+  record_one triple_record triple_record p q e = refl
+  record_one absent_record absent_record p q e = refl
+  record_one present_record present_record p q e = refl
+  record_one sequence_record sequence_record p q e = refl
+  record_one unsafe_binder_record unsafe_binder_record p q e = refl
+  record_one (trait_record d) (trait_record d') p q e = cc
+  record_one (host_effect_record d c) (host_effect_record d' c') p q e = cc
+  record_one region_outlives_record region_outlives_record p q e = refl
+  record_one type_outlives_record type_outlives_record p q e = refl
+  record_one (projection_record d) (projection_record d') p q e = cc
+  record_one const_has_type_record const_has_type_record p q e = refl
+  record_one well_formed_record well_formed_record p q e = refl
+  record_one const_evaluatable_record const_evaluatable_record p q e = refl
+  record_one (unstable_feature_record n) (unstable_feature_record n') p q e = let texts : name_of f n ≡ name_of f n' = cc in ap unstable_feature_record (name_one n n' p q texts)
+  record_one (dyn_compatible_record d) (dyn_compatible_record d') p q e = cc
+  record_one (subtype_record b) (subtype_record b') p q e = cc
+  record_one coerce_record coerce_record p q e = refl
+  record_one const_equate_record const_equate_record p q e = refl
+  record_one ambiguous_record ambiguous_record p q e = refl
+  record_one (normalizes_to_record d) (normalizes_to_record d') p q e = cc
+  record_one (alias_relate_record r) (alias_relate_record r') p q e = cc
+  record_one (existential_trait_record d) (existential_trait_record d') p q e = cc
+  record_one (existential_projection_record d) (existential_projection_record d') p q e = cc
+  record_one (auto_trait_record d) (auto_trait_record d') p q e = cc
+  record_one (trait_ref_record d) (trait_ref_record d') p q e = cc
+  record_one (alias_term_record d) (alias_term_record d') p q e = cc
+  record_one (alias_ty_record k) (alias_ty_record k') p q e = cc
+  record_one outlives_record outlives_record p q e = refl
+  record_one (type_and_mut_record m) (type_and_mut_record m') p q e = cc
+  record_one (fn_sig_record k) (fn_sig_record k') p q e = cc
+  record_one param_env_record param_env_record p q e = refl
+  record_one witness_types_record witness_types_record p q e = refl
+  record_one _ _ p q e = cc
+
   label_one : (a b : Label ℕ) → IsNamedLabel size a → IsNamedLabel size b → rename_label (name_of f) a ≡ rename_label (name_of f) b → a ≡ b
   label_one (type_label l) (type_label l') p q e = cc
   label_one (list_label t) (list_label t') p q e = cc
   label_one (var_list_label vs) (var_list_label vs') p q e =
       let kinds : map (rename_kind (name_of f)) vs ≡ map (rename_kind (name_of f)) vs' = cc in ap var_list_label (kinds_one vs vs' p q kinds)
   label_one (text_label bytes) (text_label bytes') p q e = cc
-  label_one (record_label l) (record_label l') p q e = cc
+  label_one (record_label l) (record_label l') p q e =
+      let records : rename_record (name_of f) l ≡ rename_record (name_of f) l' = cc in ap record_label (record_one l l' p q records)
+  label_one (const_label l) (const_label l') p q e = cc
+  label_one (pattern_label l) (pattern_label l') p q e = cc
+  label_one predicate_label predicate_label p q e = refl
+  label_one existential_label existential_label p q e = refl
+  label_one clause_list_label clause_list_label p q e = refl
   label_one _ _ p q e = cc
 
   -- one list of variables has one number

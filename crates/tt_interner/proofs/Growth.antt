@@ -3,10 +3,10 @@ use Rattle.std.proofs.Common.{◌≡◌, ℕ, zero, suc, ◌<◌, ◌≤◌, Lis
 use Rattle.std.specs.Prelude.{map}
 use Rattle.tt_kinds.specs.declared.table.Table.{Table}
 use Rattle.tt_kinds.specs.declared.table.Table.TheVariants.{VarLists, Symbols}
-use Rattle.tt_kinds.specs.Label.{RegionName, anonymous, printed, named, environment, VarKind, region_variable, type_variable, const_variable, FreeRegion, static_region, erased_region, region_var, error_region, late_param_region, placeholder_region, Label, type_label, list_label, var_list_label, text_label, record_label}
+use Rattle.tt_kinds.specs.Label.{RegionName, anonymous, printed, named, environment, VarKind, region_variable, type_variable, const_variable, FreeRegion, static_region, erased_region, region_var, error_region, late_param_region, placeholder_region, RecordLabel, fn_sig_tys_record, pair_record, triple_record, absent_record, present_record, sequence_record, unsafe_binder_record, trait_record, host_effect_record, region_outlives_record, type_outlives_record, projection_record, const_has_type_record, well_formed_record, const_evaluatable_record, unstable_feature_record, dyn_compatible_record, subtype_record, coerce_record, const_equate_record, ambiguous_record, normalizes_to_record, alias_relate_record, existential_trait_record, existential_projection_record, auto_trait_record, trait_ref_record, alias_term_record, alias_ty_record, outlives_record, type_and_mut_record, fn_sig_record, param_env_record, witness_types_record, Label, type_label, const_label, pattern_label, predicate_label, existential_label, clause_list_label, list_label, var_list_label, text_label, record_label}
 use Rattle.tt_kinds.specs.Tree as tree
 use Rattle.tt_kinds.specs.Tree.{Tree, Depth}
-use Rattle.tt_kinds.specs.Shape.{Shape, Shapes, param, bound, region, term, node, binder, stored, none, also, Meaning, Sizes, text_of, name_of, rename_region, rename_kind, rename_free, rename_label, fill, fill_all, IsNamed, IsNamedKind, AreNamedKinds, IsNamedFree, IsNamedLabel, IsPart, AreParts, HasParts}
+use Rattle.tt_kinds.specs.Shape.{Shape, Shapes, param, bound, region, term, node, binder, stored, none, also, Meaning, Sizes, text_of, name_of, rename_region, rename_kind, rename_free, rename_record, rename_label, fill, fill_all, IsNamed, IsNamedKind, AreNamedKinds, IsNamedFree, IsNamedRecord, IsNamedLabel, IsPart, AreParts, HasParts}
 use Rattle.tt_kinds.specs.Parts.{list_table, list_number}
 use Rattle.tt_kinds.specs.declared.parts.List.{List as StoredList}
 use Rattle.tt_interner.specs.Rows.{Row, text_row, size, meaning, age, Grows}
@@ -39,12 +39,53 @@ module _ (small large : Sizes) (more : (t : Table) → small t ≤ large t) wher
   IsNamedFree-more (late_param_region d r) h = IsNamed-more r h
   IsNamedFree-more (placeholder_region u v r) h = IsNamed-more r h
 
+  IsNamedRecord-more : (m : RecordLabel ℕ) → IsNamedRecord small m → IsNamedRecord large m
+  IsNamedRecord-more fn_sig_tys_record h = tt
+  IsNamedRecord-more pair_record h = tt
+  IsNamedRecord-more triple_record h = tt
+  IsNamedRecord-more absent_record h = tt
+  IsNamedRecord-more present_record h = tt
+  IsNamedRecord-more sequence_record h = tt
+  IsNamedRecord-more unsafe_binder_record h = tt
+  IsNamedRecord-more (trait_record d) h = tt
+  IsNamedRecord-more (host_effect_record d c) h = tt
+  IsNamedRecord-more region_outlives_record h = tt
+  IsNamedRecord-more type_outlives_record h = tt
+  IsNamedRecord-more (projection_record d) h = tt
+  IsNamedRecord-more const_has_type_record h = tt
+  IsNamedRecord-more well_formed_record h = tt
+  IsNamedRecord-more const_evaluatable_record h = tt
+  IsNamedRecord-more (unstable_feature_record n) h = let m = more Symbols in omega arith
+  IsNamedRecord-more (dyn_compatible_record d) h = tt
+  IsNamedRecord-more (subtype_record b) h = tt
+  IsNamedRecord-more coerce_record h = tt
+  IsNamedRecord-more const_equate_record h = tt
+  IsNamedRecord-more ambiguous_record h = tt
+  IsNamedRecord-more (normalizes_to_record d) h = tt
+  IsNamedRecord-more (alias_relate_record r) h = tt
+  IsNamedRecord-more (existential_trait_record d) h = tt
+  IsNamedRecord-more (existential_projection_record d) h = tt
+  IsNamedRecord-more (auto_trait_record d) h = tt
+  IsNamedRecord-more (trait_ref_record d) h = tt
+  IsNamedRecord-more (alias_term_record d) h = tt
+  IsNamedRecord-more (alias_ty_record k) h = tt
+  IsNamedRecord-more outlives_record h = tt
+  IsNamedRecord-more (type_and_mut_record m) h = tt
+  IsNamedRecord-more (fn_sig_record k) h = tt
+  IsNamedRecord-more param_env_record h = tt
+  IsNamedRecord-more witness_types_record h = tt
+
   IsNamedLabel-more : (l : Label ℕ) → IsNamedLabel small l → IsNamedLabel large l
   IsNamedLabel-more (type_label l) h = tt
   IsNamedLabel-more (list_label t) h = tt
   IsNamedLabel-more (var_list_label vs) h = AreNamedKinds-more vs h
   IsNamedLabel-more (text_label bytes) h = tt
-  IsNamedLabel-more (record_label l) h = tt
+  IsNamedLabel-more (record_label l) h = IsNamedRecord-more l h
+  IsNamedLabel-more (const_label l) h = tt
+  IsNamedLabel-more (pattern_label l) h = tt
+  IsNamedLabel-more predicate_label h = tt
+  IsNamedLabel-more existential_label h = tt
+  IsNamedLabel-more clause_list_label h = tt
 
   mutual
     unfolding IsPart
@@ -96,12 +137,53 @@ module _ (f g : Meaning) (bounds : Sizes) (same : (t : Table) (n : ℕ) → n < 
   free-same (late_param_region d r) h = ap (late_param_region d) (region-same r h)
   free-same (placeholder_region u v r) h = ap (placeholder_region u v) (region-same r h)
 
+  record-same : (m : RecordLabel ℕ) → IsNamedRecord bounds m → rename_record (name_of f) m ≡ rename_record (name_of g) m
+  record-same fn_sig_tys_record h = refl
+  record-same pair_record h = refl
+  record-same triple_record h = refl
+  record-same absent_record h = refl
+  record-same present_record h = refl
+  record-same sequence_record h = refl
+  record-same unsafe_binder_record h = refl
+  record-same (trait_record d) h = refl
+  record-same (host_effect_record d c) h = refl
+  record-same region_outlives_record h = refl
+  record-same type_outlives_record h = refl
+  record-same (projection_record d) h = refl
+  record-same const_has_type_record h = refl
+  record-same well_formed_record h = refl
+  record-same const_evaluatable_record h = refl
+  record-same (unstable_feature_record n) h = ap (λ t. unstable_feature_record (text_of t)) (same Symbols n h)
+  record-same (dyn_compatible_record d) h = refl
+  record-same (subtype_record b) h = refl
+  record-same coerce_record h = refl
+  record-same const_equate_record h = refl
+  record-same ambiguous_record h = refl
+  record-same (normalizes_to_record d) h = refl
+  record-same (alias_relate_record r) h = refl
+  record-same (existential_trait_record d) h = refl
+  record-same (existential_projection_record d) h = refl
+  record-same (auto_trait_record d) h = refl
+  record-same (trait_ref_record d) h = refl
+  record-same (alias_term_record d) h = refl
+  record-same (alias_ty_record k) h = refl
+  record-same outlives_record h = refl
+  record-same (type_and_mut_record m) h = refl
+  record-same (fn_sig_record k) h = refl
+  record-same param_env_record h = refl
+  record-same witness_types_record h = refl
+
   label-same : (l : Label ℕ) → IsNamedLabel bounds l → rename_label (name_of f) l ≡ rename_label (name_of g) l
   label-same (type_label l) h = refl
   label-same (list_label t) h = refl
   label-same (var_list_label vs) h = ap var_list_label (kinds-same vs h)
   label-same (text_label bytes) h = refl
-  label-same (record_label l) h = refl
+  label-same (record_label l) h = ap record_label (record-same l h)
+  label-same (const_label l) h = refl
+  label-same (pattern_label l) h = refl
+  label-same predicate_label h = refl
+  label-same existential_label h = refl
+  label-same clause_list_label h = refl
 
   mutual
     unfolding fill IsPart

@@ -9,23 +9,19 @@ use Rattle.std.proofs.lemmas.Nat.Bits.{bit_at_or, same_from_bits}
 use Rattle.tt_flags.specs.FlagComputation.{computed}
 use Rattle.tt_flags.specs.declared.flag_computation.FlagComputation.{FlagComputation}
 use Rattle.tt_kinds.specs.declared.handle.BoundVarKinds.{BoundVarKinds}
-use Rattle.tt_kinds.specs.declared.bound.BoundRegionKind.TheVariants as region_kind
-use Rattle.tt_kinds.specs.declared.bound.BoundVariableKind.{BoundVariableKind}
-use Rattle.tt_kinds.specs.declared.bound.BoundVariableKind.TheVariants as variable
-use Rattle.tt_kinds.specs.Bound.{var_kind}
 use Rattle.tt_kinds.specs.declared.table.Table.{Table}
 use Rattle.tt_kinds.specs.declared.table.Table.TheVariants.{VarLists}
-use Rattle.tt_kinds.specs.Label.{Name, Sort, VarKind, Label, type_label, list_label, var_list_label, text_label, record_label, list_flags, flags_of_label}
+use Rattle.tt_kinds.specs.Label.{Name, Sort, VarKind, Label, type_label, const_label, pattern_label, predicate_label, existential_label, clause_list_label, list_label, var_list_label, text_label, record_label, list_flags, flags_of_label}
 use Rattle.tt_kinds.specs.Tree as tree
 use Rattle.tt_kinds.specs.Tree.{Tree, Forest, Depth}
 use Rattle.tt_kinds.specs.Reading.{read_all, greatest_reach_all, outer_binder}
 use Rattle.tt_kinds.specs.Scan.{scan, scan_all}
-use Rattle.tt_kinds.specs.Shape.{Shape, Shapes, node, stored, none, also, append, item_shapes, Meaning, vars_of, name_of, rename_kind, rename_label, fill, fill_all, Sizes, AreNamedKinds, IsPart, AreParts, HasParts}
-use Rattle.tt_kinds.specs.Kinds.{Form, param, bound, plain, under, form_parts, form_binder, form_shape, relabelled, parts_shapes}
+use Rattle.tt_kinds.specs.Shape.{Shape, Shapes, term, node, stored, none, also, append, item_shapes, Meaning, vars_of, name_of, rename_kind, rename_record, rename_label, fill, fill_all, Sizes, IsPart, AreParts, HasParts}
+use Rattle.tt_kinds.specs.Kinds.{Form, param, bound, plain, under, form_parts, form_binder, form_shape, parts_shapes}
 use Rattle.tt_kinds.proofs.PlainLaws.{outer_binder-binder}
 use Rattle.tt_interner.specs.Stored.{IsInfo}
 use Rattle.tt_interner.specs.Tables.{AreInfosOf, AreJoined}
-use Rattle.tt_interner.specs.OwnFlags.{own_flags, own_reach}
+use Rattle.tt_interner.specs.OwnFlags.{own_flags, own_reach, IsNamedForm, IsBinderIn}
 
 or_assoc : (a b c : ℕ) → bit_or (bit_or a b) c ≡ bit_or a (bit_or b c)
 or_assoc a b c = same_from_bits (bit_or (bit_or a b) c) (bit_or a (bit_or b c)) (λ i.
@@ -44,6 +40,11 @@ flags_of_label-rename name (list_label t) = refl
 flags_of_label-rename name (var_list_label vs) = list_flags-map (rename_kind name) vs
 flags_of_label-rename name (text_label bytes) = refl
 flags_of_label-rename name (record_label l) = refl
+flags_of_label-rename name (const_label l) = refl
+flags_of_label-rename name (pattern_label l) = refl
+flags_of_label-rename name predicate_label = refl
+flags_of_label-rename name existential_label = refl
+flags_of_label-rename name clause_list_label = refl
 
 module _ (f : Meaning) (info : FlagComputation) where
   -- a row that nothing stands in
@@ -59,6 +60,14 @@ module _ (f : Meaning) (info : FlagComputation) where
   unfolding fill
   info_list t ss is = record { flags = is.flags ∙ sym (or_zero_l (scan_all (fill_all f ss))); outer = is.outer }
 
+  -- what has no flags of its own
+  pub info_term : (l : Label ℕ) (ss : Shapes) → flags_of_label l ≡ 0 → AreInfosOf info (fill_all f ss) → IsInfo info (fill f (term l ss))
+  unfolding fill
+  info_term l ss own is = record {
+    flags = is.flags ∙ sym (or_zero_l (scan_all (fill_all f ss))) ∙ ap (λ n. bit_or n (scan_all (fill_all f ss))) (sym (flags_of_label-rename (name_of f) l ∙ own));
+    outer = is.outer;
+  }
+
   -- one child
   pub infos_one : (s : Shape) → IsInfo info (fill f s) → AreInfosOf info (fill_all f (also s none))
   unfolding fill
@@ -71,6 +80,11 @@ module _ (f : Meaning) (info : FlagComputation) where
   pub infos_stored : (t : Table) (n : ℕ) → IsInfo info (f t n) → AreInfosOf info (fill_all f (also (stored t n) none))
   unfolding fill
   infos_stored t n is = infos_one (stored t n) is
+
+-- no children
+pub infos_none : (f : Meaning) → AreInfosOf (computed 0 0) (fill_all f none)
+unfolding fill
+infos_none f = record { flags = refl; outer = refl }
 
 -- children one after another
 pub infos_append : (f : Meaning) (ss us : Shapes) (a b : FlagComputation) → AreInfosOf a (fill_all f ss) → AreInfosOf b (fill_all f us)
@@ -92,18 +106,16 @@ unfolding IsPart
 AreParts-append size none us h = (tt, h)
 AreParts-append size (also s ss) us h = let rest = AreParts-append size ss us h.1 in ((h.0, rest.0), rest.1)
 
--- a binder's variables have no names of texts
-pub named_vars : (size : Sizes) (vs : List BoundVariableKind) → AreNamedKinds size (map var_kind vs)
-named_vars size [] = tt
-named_vars size (variable.Ty k ∷ vs) = (tt, named_vars size vs)
-named_vars size (variable.Region region_kind.Anon ∷ vs) = (tt, named_vars size vs)
-named_vars size (variable.Const ∷ vs) = (tt, named_vars size vs)
+pub AreParts-join : (size : Sizes) (ss us : Shapes) → AreParts size ss → AreParts size us → AreParts size (append ss us)
+unfolding IsPart
+AreParts-join size none us h k = k
+AreParts-join size (also s ss) us h k = (h.0, AreParts-join size ss us h.1 k)
 
 -- A kind by its form.
 
-module _ {L : Type 0} (label : L → Label ℕ) (s : Sort) where
+module _ (s : Sort) where
   -- the children of a kind are in range
-  pub form_has_parts : (size : Sizes) (k : Form L) → HasParts size (form_shape s (relabelled label k)) → AreParts size (parts_shapes (form_parts k))
+  pub form_has_parts : (size : Sizes) (k : Form (Label ℕ)) → HasParts size (form_shape s k) → AreParts size (parts_shapes (form_parts k))
   unfolding IsPart
   form_has_parts size (param i name) h = tt
   form_has_parts size (bound d e) h = tt
@@ -111,7 +123,7 @@ module _ {L : Type 0} (label : L → Label ℕ) (s : Sort) where
   form_has_parts size (under l vars m p) h = h.1.0.1.2
 
   -- the binder's list is in range
-  pub form_has_vars : (size : Sizes) (k : Form L) (vars : BoundVarKinds) → form_binder k ≡ Some vars → HasParts size (form_shape s (relabelled label k)) → vars.number < size VarLists
+  pub form_has_vars : (size : Sizes) (k : Form (Label ℕ)) (vars : BoundVarKinds) → form_binder k ≡ Some vars → HasParts size (form_shape s k) → vars.number < size VarLists
   unfolding IsPart
   form_has_vars size (param i name) vars e h = cc
   form_has_vars size (bound d e') vars e h = cc
@@ -120,10 +132,10 @@ module _ {L : Type 0} (label : L → Label ℕ) (s : Sort) where
 
   module _ (f : Meaning) (own inside info : FlagComputation) where
     -- what has children and no binder
-    pub info_plain : (k : Form L) → form_binder k ≡ None → own.flags.bits ≡ own_flags s (relabelled label k) → own.outer_exclusive_binder ≡ own_reach (relabelled label k)
+    pub info_plain : (k : Form (Label ℕ)) → form_binder k ≡ None → own.flags.bits ≡ own_flags s k → own.outer_exclusive_binder ≡ own_reach k
         → AreInfosOf inside (fill_all f (parts_shapes (form_parts k)))
         → info ≡ computed (bit_or own.flags.bits inside.flags.bits) (max own.outer_exclusive_binder inside.outer_exclusive_binder)
-        → IsInfo info (fill f (form_shape s (relabelled label k)))
+        → IsInfo info (fill f (form_shape s k))
     unfolding fill
     info_plain (param i name) b flags outer is e = let nothing = is.flags in let o = is.outer in record {
       flags = ap (λ x. x.flags.bits) e ∙ ap (bit_or own.flags.bits) nothing ∙ or_zero_r own.flags.bits ∙ flags;
@@ -134,18 +146,18 @@ module _ {L : Type 0} (label : L → Label ℕ) (s : Sort) where
       outer = ap (λ (x : FlagComputation). x.outer_exclusive_binder) e ∙ (omega arith);
     }
     info_plain (plain l p) b flags outer is e = let o = is.outer in record {
-      flags = ap (λ x. x.flags.bits) e ∙ ap (bit_or own.flags.bits) is.flags ∙ ap (λ n. bit_or n (scan_all (fill_all f (parts_shapes p)))) (flags ∙ sym (flags_of_label-rename (name_of f) (label l)));
+      flags = ap (λ x. x.flags.bits) e ∙ ap (bit_or own.flags.bits) is.flags ∙ ap (λ n. bit_or n (scan_all (fill_all f (parts_shapes p)))) (flags ∙ sym (flags_of_label-rename (name_of f) l));
       outer = ap (λ (x : FlagComputation). x.outer_exclusive_binder) e ∙ (omega arith);
     }
     info_plain (under l vars m p) b flags outer is e = cc
 
     -- what stands under a binder
-    pub info_under : (k : Form L) (vars : BoundVarKinds) (list : FlagComputation) → form_binder k ≡ Some vars → own.flags.bits ≡ own_flags s (relabelled label k)
-        → own.outer_exclusive_binder ≡ own_reach (relabelled label k)
+    pub info_under : (k : Form (Label ℕ)) (vars : BoundVarKinds) (list : FlagComputation) → form_binder k ≡ Some vars → own.flags.bits ≡ own_flags s k
+        → own.outer_exclusive_binder ≡ own_reach k
         → AreInfosOf inside (fill_all f (parts_shapes (form_parts k)))
         → f VarLists vars.number ≡ tree.node (var_list_label (vars_of (f VarLists vars.number))) tree.none → IsInfo list (f VarLists vars.number)
         → info ≡ computed (bit_or own.flags.bits (bit_or list.flags.bits inside.flags.bits)) (max own.outer_exclusive_binder (inside.outer_exclusive_binder - 1))
-        → IsInfo info (fill f (form_shape s (relabelled label k)))
+        → IsInfo info (fill f (form_shape s k))
     unfolding fill
     info_under (param i name) vars list b flags outer is root of_list e = cc
     info_under (bound d en) vars list b flags outer is root of_list e = cc
@@ -155,16 +167,32 @@ module _ {L : Type 0} (label : L → Label ℕ) (s : Sort) where
         let ts = fill_all f (parts_shapes p) in
         let vs = vars_of (f VarLists vars.number) in
         let listed : list.flags.bits ≡ list_flags vs = of_list.flags ∙ ap scan root ∙ or_zero_r (list_flags vs) in
-        let under : outer_binder (tree.binder vs (tree.node (record_label m) ts)) ≡ greatest_reach_all (read_all 0 ts) - 1 = outer_binder-binder vs (tree.node (record_label m) ts) in
+        let under : outer_binder (tree.binder vs (tree.node (record_label (rename_record (name_of f) m)) ts)) ≡ greatest_reach_all (read_all 0 ts) - 1 = outer_binder-binder vs (tree.node (record_label (rename_record (name_of f) m)) ts) in
         let o = is.outer in
         rw same (record {
           flags = ap (λ x. x.flags.bits) e
-              ∙ ap (λ n. bit_or n (bit_or list.flags.bits inside.flags.bits)) (flags ∙ sym (flags_of_label-rename (name_of f) (label l)))
-              ∙ ap (bit_or (flags_of_label (rename_label (name_of f) (label l))))
+              ∙ ap (λ n. bit_or n (bit_or list.flags.bits inside.flags.bits)) (flags ∙ sym (flags_of_label-rename (name_of f) l))
+              ∙ ap (bit_or (flags_of_label (rename_label (name_of f) l)))
               (ap (λ n. bit_or n inside.flags.bits) listed ∙ ap (bit_or (list_flags vs)) (is.flags ∙ sym (or_zero_l (scan_all ts)))
               ∙ sym (or_zero_r (bit_or (list_flags vs) (bit_or 0 (scan_all ts)))));
           outer = ap (λ (x : FlagComputation). x.outer_exclusive_binder) e ∙ (omega arith);
         })
+
+-- A kind is in range where its names, its children and its binder's list are.
+module _ (size : Sizes) (s : Sort) where
+  pub form_in_range : (k : Form (Label ℕ)) → IsNamedForm size k → AreParts size (parts_shapes (form_parts k)) → IsBinderIn size (form_binder k) → HasParts size (form_shape s k)
+  unfolding IsPart
+  form_in_range (param i name) n p b = n
+  form_in_range (bound d e) n p b = n
+  form_in_range (plain l ps) n p b = (n, p)
+  form_in_range (under l vars m ps) n p b = (n.0, ((b, (refl, n.1, p)), tt))
+
+  pub form_of_range : (k : Form (Label ℕ)) → HasParts size (form_shape s k) → IsNamedForm size k × AreParts size (parts_shapes (form_parts k)) × IsBinderIn size (form_binder k)
+  unfolding IsPart
+  form_of_range (param i name) h = (h, tt, tt)
+  form_of_range (bound d e) h = (h, tt, tt)
+  form_of_range (plain l ps) h = (h.0, h.1, tt)
+  form_of_range (under l vars m ps) h = ((h.0, h.1.0.1.1), h.1.0.1.2, h.1.0.0)
 
 -- A loop over a list.
 

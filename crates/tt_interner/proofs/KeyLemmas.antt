@@ -1,5 +1,5 @@
 -- The keys' `==` holds exactly of equal values.
-use Rattle.std.proofs.Common.{◌≡◌, Bool, true, false, ◌&&◌, eqb, refl, ap}
+use Rattle.std.proofs.Common.{◌≡◌, ℕ, Bool, true, false, ◌&&◌, eqb, refl, ap}
 use Rattle.std.proofs.lemmas.Bool.{eqb-true, false≢true}
 use Rattle.tt_index.specs.declared.numeric.IntTy.{IntTy}
 use Rattle.tt_index.specs.declared.numeric.IntTy.TheVariants.{Isize, I8, I16, I32, I64, I128}
@@ -11,6 +11,13 @@ use Rattle.tt_index.specs.declared.qualifier.Mutability.{Mutability}
 use Rattle.tt_index.specs.declared.qualifier.Mutability.TheVariants.{Not, Mut}
 use Rattle.tt_kinds.specs.declared.handle.Ty.{Ty}
 use Rattle.tt_kinds.specs.declared.handle.Symbol.{Symbol}
+use Rattle.tt_kinds.specs.declared.handle.Const.{Const}
+use Rattle.tt_kinds.specs.declared.handle.Pat.{Pat}
+use Rattle.tt_kinds.specs.declared.handle.Clause.{Clause}
+use Rattle.tt_kinds.specs.declared.handle.PolyExistentialPredicate.{PolyExistentialPredicate}
+use Rattle.tt_kinds.specs.declared.alias.AliasTyKind.{AliasTyKind}
+use Rattle.tt_kinds.specs.declared.alias.AliasTyKind.TheVariants as alias
+use Rattle.tt_kinds.specs.contracts.alias.AliasTyKindPartialEq.TheImpl as aliases
 use Rattle.tt_kinds.specs.declared.bound.BoundVarIndexKind.{BoundVarIndexKind}
 use Rattle.tt_kinds.specs.declared.bound.BoundVarIndexKind.TheVariants.{Bound as BoundIndex, Canonical}
 use Rattle.tt_kinds.specs.declared.bound.BoundRegionKind.{BoundRegionKind}
@@ -26,7 +33,7 @@ use Rattle.tt_kinds.specs.declared.fn_sig.FnSigTys.{FnSigTys}
 use Rattle.tt_kinds.specs.declared.fn_sig.FnHeader.{FnHeader}
 use Rattle.tt_kinds.specs.declared.binder.Binder.{Binder}
 use Rattle.tt_kinds.specs.declared.region_kind.RegionKind.{RegionKind}
-use Rattle.tt_kinds.specs.declared.region_kind.RegionKind.TheVariants.{ReEarlyParam, ReBound, ReStatic, ReVar, ReErased, ReError}
+use Rattle.tt_kinds.specs.declared.region_kind.RegionKind.TheVariants.{ReEarlyParam, ReBound, ReLateParam, ReStatic, ReVar, RePlaceholder, ReErased, ReError}
 use Rattle.tt_kinds.specs.declared.generic_arg.GenericArgKind.{GenericArgKind}
 use Rattle.tt_kinds.specs.declared.generic_arg.GenericArgKind.TheVariants as arg
 use Rattle.tt_kinds.specs.declared.ty_kind.InferTy.{InferTy}
@@ -53,6 +60,14 @@ use Rattle.tt_kinds.specs.contracts.ty_kind.TyKindPartialEq.TheImpl as kinds
 pub both : (a b : Bool) → (a && b) ≡ true → (a ≡ true) × (b ≡ true)
 both true b e = (refl, e)
 both false b e = absurd (false≢true e)
+
+-- two parts that are equal where their tests hold
+pub two_exact : {X Y Z : Type 0} (make : X → Y → Z) (s t : Bool) {a a' : X} {b b' : Y} → (s ≡ true → a ≡ a') → (t ≡ true → b ≡ b') → (s && t) ≡ true → make a b ≡ make a' b'
+two_exact make s t first second e = let h = both s t e in let p = first h.0 in let q = second h.1 in λ i. make (p i) (q i)
+
+-- two numbers
+pub two_numbers : {Z : Type 0} (make : ℕ → ℕ → Z) (n m n' m' : ℕ) → (eqb n n' && eqb m m') ≡ true → make n m ≡ make n' m'
+two_numbers make n m n' m' e = two_exact make (eqb n n') (eqb m m') (eqb-true n n') (eqb-true m m') e
 
 int_exact : (a b : IntTy) → (ints.ghosts).eq a b ≡ true → a ≡ b
 int_exact Isize Isize e = refl
@@ -84,34 +99,31 @@ mutability_exact Not Not e = refl
 mutability_exact Mut Mut e = refl
 mutability_exact _ _ e = absurd (false≢true e)
 
-index_exact : (a b : BoundVarIndexKind) → (indices.ghosts).eq a b ≡ true → a ≡ b
+pub index_exact : (a b : BoundVarIndexKind) → (indices.ghosts).eq a b ≡ true → a ≡ b
 index_exact (BoundIndex d) (BoundIndex c) e = ap BoundIndex (eqb-true d c e)
 index_exact Canonical Canonical e = refl
 index_exact _ _ e = absurd (false≢true e)
 
-region_kind_one : (a b : BoundRegionKind) → a ≡ b
-region_kind_one region_kind.Anon region_kind.Anon = refl
+region_kind_exact : (a b : BoundRegionKind) → (region_kinds.ghosts).eq a b ≡ true → a ≡ b
+region_kind_exact region_kind.Anon region_kind.Anon e = refl
+region_kind_exact (region_kind.NamedForPrinting n) (region_kind.NamedForPrinting m) e = ap (λ k. region_kind.NamedForPrinting (record { number = k })) (eqb-true n.number m.number e)
+region_kind_exact (region_kind.Named n) (region_kind.Named m) e = ap (λ k. region_kind.Named (record { number = k })) (eqb-true n.number m.number e)
+region_kind_exact region_kind.ClosureEnv region_kind.ClosureEnv e = refl
+region_kind_exact _ _ e = absurd (false≢true e)
 
-ty_var_kind_one : (a b : BoundTyKind) → a ≡ b
-ty_var_kind_one ty_var_kind.Anon ty_var_kind.Anon = refl
+ty_var_kind_exact : (a b : BoundTyKind) → (ty_var_kinds.ghosts).eq a b ≡ true → a ≡ b
+ty_var_kind_exact ty_var_kind.Anon ty_var_kind.Anon e = refl
+ty_var_kind_exact (ty_var_kind.Param n) (ty_var_kind.Param m) e = ap (λ k. ty_var_kind.Param (record { number = k })) (eqb-true n.number m.number e)
+ty_var_kind_exact _ _ e = absurd (false≢true e)
 
 bound_region_exact : (a b : BoundRegion) → (bound_regions.ghosts).eq a b ≡ true → a ≡ b
-bound_region_exact a b e =
-    let h = both (eqb a.var b.var) ((region_kinds.ghosts).eq a.kind b.kind) e in
-    let vars = eqb-true a.var b.var h.0 in let names = region_kind_one a.kind b.kind in
-    λ i. record { var = vars i; kind = names i }
+bound_region_exact a b = two_exact (λ v k. record { var = v; kind = k }) (eqb a.var b.var) ((region_kinds.ghosts).eq a.kind b.kind) (eqb-true a.var b.var) (region_kind_exact a.kind b.kind)
 
 bound_ty_exact : (a b : BoundTy) → (bound_types.ghosts).eq a b ≡ true → a ≡ b
-bound_ty_exact a b e =
-    let h = both (eqb a.var b.var) ((ty_var_kinds.ghosts).eq a.kind b.kind) e in
-    let vars = eqb-true a.var b.var h.0 in let names = ty_var_kind_one a.kind b.kind in
-    λ i. record { var = vars i; kind = names i }
+bound_ty_exact a b = two_exact (λ v k. record { var = v; kind = k }) (eqb a.var b.var) ((ty_var_kinds.ghosts).eq a.kind b.kind) (eqb-true a.var b.var) (ty_var_kind_exact a.kind b.kind)
 
-placeholder_exact : (a b : Placeholder BoundTy) → (eqb a.universe b.universe && (bound_types.ghosts).eq a.bound b.bound) ≡ true → a ≡ b
-placeholder_exact a b e =
-    let h = both (eqb a.universe b.universe) ((bound_types.ghosts).eq a.bound b.bound) e in
-    let universes = eqb-true a.universe b.universe h.0 in let bounds = bound_ty_exact a.bound b.bound h.1 in
-    λ i. record { universe = universes i; bound = bounds i }
+pub placeholder_exact : {T : Type 0} (eq : T → T → Bool) → ((a b : T) → eq a b ≡ true → a ≡ b) → (a b : Placeholder T) → (eqb a.universe b.universe && eq a.bound b.bound) ≡ true → a ≡ b
+placeholder_exact eq exact a b = two_exact (λ u x. record { universe = u; bound = x }) (eqb a.universe b.universe) (eq a.bound b.bound) (eqb-true a.universe b.universe) (exact a.bound b.bound)
 
 infer_exact : (a b : InferTy) → (infers.ghosts).eq a b ≡ true → a ≡ b
 infer_exact (TyVar n) (TyVar m) e = ap TyVar (eqb-true n m e)
@@ -122,11 +134,30 @@ infer_exact (FreshIntTy n) (FreshIntTy m) e = ap FreshIntTy (eqb-true n m e)
 infer_exact (FreshFloatTy n) (FreshFloatTy m) e = ap FreshFloatTy (eqb-true n m e)
 infer_exact _ _ e = absurd (false≢true e)
 
-symbol_exact : (a b : Symbol) → eqb a.number b.number ≡ true → a ≡ b
+pub symbol_exact : (a b : Symbol) → eqb a.number b.number ≡ true → a ≡ b
 symbol_exact a b e = ap (λ n. record { number = n }) (eqb-true a.number b.number e)
 
 pub ty_exact : (a b : Ty) → (types.ghosts).eq a b ≡ true → a ≡ b
 ty_exact a b e = ap (λ n. record { number = n }) (eqb-true a.number b.number e)
+
+pub const_handle_exact : (a b : Const) → eqb a.number b.number ≡ true → a ≡ b
+const_handle_exact a b e = ap (λ n. record { number = n }) (eqb-true a.number b.number e)
+
+pub pat_handle_exact : (a b : Pat) → eqb a.number b.number ≡ true → a ≡ b
+pat_handle_exact a b e = ap (λ n. record { number = n }) (eqb-true a.number b.number e)
+
+pub clause_handle_exact : (a b : Clause) → eqb a.number b.number ≡ true → a ≡ b
+clause_handle_exact a b e = ap (λ n. record { number = n }) (eqb-true a.number b.number e)
+
+pub existential_handle_exact : (a b : PolyExistentialPredicate) → eqb a.number b.number ≡ true → a ≡ b
+existential_handle_exact a b e = ap (λ n. record { number = n }) (eqb-true a.number b.number e)
+
+alias_exact : (a b : AliasTyKind) → (aliases.ghosts).eq a b ≡ true → a ≡ b
+alias_exact (alias.Projection n) (alias.Projection m) e = ap (λ k. alias.Projection (record { number = k })) (eqb-true n.number m.number e)
+alias_exact (alias.Inherent n) (alias.Inherent m) e = ap (λ k. alias.Inherent (record { number = k })) (eqb-true n.number m.number e)
+alias_exact (alias.Opaque n) (alias.Opaque m) e = ap (λ k. alias.Opaque (record { number = k })) (eqb-true n.number m.number e)
+alias_exact (alias.Free n) (alias.Free m) e = ap (λ k. alias.Free (record { number = k })) (eqb-true n.number m.number e)
+alias_exact _ _ e = absurd (false≢true e)
 
 header_exact : (a b : FnHeader) → eqb a.fn_sig_kind.flags b.fn_sig_kind.flags ≡ true → a ≡ b
 header_exact a b e = ap (λ n. record { fn_sig_kind = record { flags = n } }) (eqb-true a.fn_sig_kind.flags b.fn_sig_kind.flags e)
@@ -146,21 +177,25 @@ region_exact (ReEarlyParam p) (ReEarlyParam q) e =
 region_exact (ReBound i b) (ReBound j c) e =
     let h = both ((indices.ghosts).eq i j) ((bound_regions.ghosts).eq b c) e in
     let depths = index_exact i j h.0 in let variables = bound_region_exact b c h.1 in cc
+region_exact (ReLateParam p) (ReLateParam q) e =
+    two_exact (λ n k. ReLateParam (record { scope = record { number = n }; kind = k })) (eqb p.scope.number q.scope.number) ((region_kinds.ghosts).eq p.kind q.kind) (eqb-true p.scope.number q.scope.number) (region_kind_exact p.kind q.kind) e
 region_exact ReStatic ReStatic e = refl
 region_exact (ReVar v) (ReVar w) e = ap ReVar (eqb-true v w e)
+region_exact (RePlaceholder p) (RePlaceholder q) e = ap RePlaceholder (placeholder_exact (bound_regions.ghosts).eq bound_region_exact p q e)
 region_exact ReErased ReErased e = refl
 region_exact (ReError x) (ReError y) e = ap (λ n. ReError (record { 0 = n })) (eqb-true x.0 y.0 e)
 region_exact _ _ e = absurd (false≢true e)
 
 pub var_exact : (a b : BoundVariableKind) → (variables.ghosts).eq a b ≡ true → a ≡ b
-var_exact (variable.Ty k) (variable.Ty l) e = ap variable.Ty (ty_var_kind_one k l)
-var_exact (variable.Region k) (variable.Region l) e = ap variable.Region (region_kind_one k l)
+var_exact (variable.Ty k) (variable.Ty l) e = ap variable.Ty (ty_var_kind_exact k l e)
+var_exact (variable.Region k) (variable.Region l) e = ap variable.Region (region_kind_exact k l e)
 var_exact variable.Const variable.Const e = refl
 var_exact _ _ e = absurd (false≢true e)
 
 pub arg_exact : (a b : GenericArgKind) → (args.ghosts).eq a b ≡ true → a ≡ b
 arg_exact (arg.Lifetime a) (arg.Lifetime b) e = ap arg.Lifetime (region_exact a b e)
 arg_exact (arg.«Type» a) (arg.«Type» b) e = ap arg.«Type» (ty_exact a b e)
+arg_exact (arg.Const a) (arg.Const b) e = ap arg.Const (const_handle_exact a b e)
 arg_exact _ _ e = absurd (false≢true e)
 
 pub kind_exact : (a b : TyKind) → (kinds.ghosts).eq a b ≡ true → a ≡ b
@@ -178,7 +213,7 @@ kind_exact (ty.Param p) (ty.Param q) e =
 kind_exact (ty.Bound i b) (ty.Bound j c) e =
     let h = both ((indices.ghosts).eq i j) ((bound_types.ghosts).eq b c) e in
     let depths = index_exact i j h.0 in let variables = bound_ty_exact b c h.1 in cc
-kind_exact (ty.Placeholder p) (ty.Placeholder q) e = ap ty.Placeholder (placeholder_exact p q e)
+kind_exact (ty.Placeholder p) (ty.Placeholder q) e = ap ty.Placeholder (placeholder_exact (bound_types.ghosts).eq bound_ty_exact p q e)
 kind_exact (ty.Infer i) (ty.Infer j) e = ap ty.Infer (infer_exact i j e)
 kind_exact (ty.Error x) (ty.Error y) e = ap (λ n. ty.Error (record { 0 = n })) (eqb-true x.0 y.0 e)
 kind_exact (ty.Ref r t m) (ty.Ref r' t' m') e =
@@ -194,4 +229,18 @@ kind_exact (ty.FnPtr b h) (ty.FnPtr b' h') e =
     let k = both (eqb b.value.inputs_and_output.number b'.value.inputs_and_output.number && eqb b.bound_vars.number b'.bound_vars.number)
     (eqb h.fn_sig_kind.flags h'.fn_sig_kind.flags) e in
     let binders = binder_exact b b' k.0 in let headers = header_exact h h' k.1 in cc
+kind_exact (ty.Adt d args) (ty.Adt d' args') e = two_numbers (λ n m. ty.Adt (record { number = n }) (record { number = m })) d.number args.number d'.number args'.number e
+kind_exact (ty.Foreign d) (ty.Foreign d') e = ap (λ n. ty.Foreign (record { number = n })) (eqb-true d.number d'.number e)
+kind_exact (ty.Array t c) (ty.Array t' c') e = two_numbers (λ n m. ty.Array (record { number = n }) (record { number = m })) t.number c.number t'.number c'.number e
+kind_exact (ty.Pat t p) (ty.Pat t' p') e = two_numbers (λ n m. ty.Pat (record { number = n }) (record { number = m })) t.number p.number t'.number p'.number e
+kind_exact (ty.UnsafeBinder b) (ty.UnsafeBinder b') e =
+    two_numbers (λ n m. ty.UnsafeBinder (record { 0 = record { value = record { number = n }; bound_vars = record { number = m } } })) b.0.value.number b.0.bound_vars.number b'.0.value.number b'.0.bound_vars.number e
+kind_exact (ty.Dynamic ps r) (ty.Dynamic ps' r') e =
+    two_exact (λ n x. ty.Dynamic (record { number = n }) x) (eqb ps.number ps'.number) ((regions.ghosts).eq r r') (eqb-true ps.number ps'.number) (region_exact r r') e
+kind_exact (ty.Closure d args) (ty.Closure d' args') e = two_numbers (λ n m. ty.Closure (record { number = n }) (record { number = m })) d.number args.number d'.number args'.number e
+kind_exact (ty.CoroutineClosure d args) (ty.CoroutineClosure d' args') e = two_numbers (λ n m. ty.CoroutineClosure (record { number = n }) (record { number = m })) d.number args.number d'.number args'.number e
+kind_exact (ty.Coroutine d args) (ty.Coroutine d' args') e = two_numbers (λ n m. ty.Coroutine (record { number = n }) (record { number = m })) d.number args.number d'.number args'.number e
+kind_exact (ty.CoroutineWitness d args) (ty.CoroutineWitness d' args') e = two_numbers (λ n m. ty.CoroutineWitness (record { number = n }) (record { number = m })) d.number args.number d'.number args'.number e
+kind_exact (ty.Alias a) (ty.Alias b) e =
+    two_exact (λ n k. ty.Alias (record { args = record { number = n }; kind = k })) (eqb a.args.number b.args.number) ((aliases.ghosts).eq a.kind b.kind) (eqb-true a.args.number b.args.number) (alias_exact a.kind b.kind) e
 kind_exact _ _ e = absurd (false≢true e)

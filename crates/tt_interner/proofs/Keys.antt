@@ -1,5 +1,7 @@
 -- The keys' `==` finds exactly the row that is looked for.
-use Rattle.std.proofs.Common.{◌≡◌, ℕ, Bool, true, List, [], ◌∷◌, refl, sym, ap, subst}
+use Rattle.std.proofs.lemmas.Bool.{eqb-true}
+use Rattle.std.proofs.Common.{◌≡◌, ℕ, Bool, true, ◌&&◌, eqb, List, [], ◌∷◌, refl, sym, ap, subst, arith}
+use Rattle.std.proofs.lemmas.Bool.Decides.{nat_tests}
 use Rattle.std.proofs.lemmas.Bool.{false≢true}
 use Rattle.std.specs.Cmp.Lexicographic.{pointwise, lists_equiv, bytes_decides}
 use Rattle.std.specs.Str.{bytes_eq}
@@ -15,8 +17,34 @@ use Rattle.tt_kinds.specs.contracts.generic_arg.GenericArgPartialEq.TheImpl as a
 use Rattle.tt_kinds.specs.contracts.generic_arg.GenericArgEq.TheImpl.Laws as arg_laws
 use Rattle.tt_kinds.specs.contracts.bound.BoundVariableKindPartialEq.TheImpl as vars
 use Rattle.tt_kinds.specs.contracts.bound.BoundVariableKindEq.TheImpl.Laws as var_laws
-use Rattle.tt_interner.specs.Rows.{Row, type_row, tys_row, args_row, vars_row, text_row}
-use Rattle.tt_interner.proofs.KeyLemmas.{both, ty_exact, arg_exact, var_exact, kind_exact}
+use Rattle.tt_kinds.specs.declared.handle.Const.{Const}
+use Rattle.tt_kinds.specs.declared.handle.Pat.{Pat}
+use Rattle.tt_kinds.specs.declared.handle.Clause.{Clause}
+use Rattle.tt_kinds.specs.declared.handle.PolyExistentialPredicate.{PolyExistentialPredicate}
+use Rattle.tt_kinds.specs.declared.binder.Binder.{Binder}
+use Rattle.tt_kinds.specs.declared.const_kind.ConstKind.{ConstKind}
+use Rattle.tt_kinds.specs.declared.predicate_kind.PredicateKind.{PredicateKind}
+use Rattle.tt_kinds.specs.declared.existential.ExistentialPredicate.{ExistentialPredicate}
+use Rattle.tt_kinds.specs.contracts.predicate_kind.PredicateKindPartialEq.TheImpl as predicate_kinds
+use Rattle.tt_kinds.specs.contracts.predicate_kind.PredicateKindEq.TheImpl.Laws as predicate_kind_laws
+use Rattle.tt_kinds.specs.contracts.existential.ExistentialPredicatePartialEq.TheImpl as existential_kinds
+use Rattle.tt_kinds.specs.contracts.existential.ExistentialPredicateEq.TheImpl.Laws as existential_kind_laws
+use Rattle.tt_kinds.specs.declared.pattern.PatternKind.{PatternKind}
+use Rattle.tt_kinds.specs.contracts.const_kind.ConstKindPartialEq.TheImpl as const_kinds
+use Rattle.tt_kinds.specs.contracts.const_kind.ConstKindEq.TheImpl.Laws as const_kind_laws
+use Rattle.tt_kinds.specs.contracts.pattern.PatternKindPartialEq.TheImpl as pattern_kinds
+use Rattle.tt_kinds.specs.contracts.pattern.PatternKindEq.TheImpl.Laws as pattern_kind_laws
+use Rattle.tt_kinds.specs.contracts.handle.ConstPartialEq.TheImpl as consts
+use Rattle.tt_kinds.specs.contracts.handle.ConstEq.TheImpl.Laws as const_laws
+use Rattle.tt_kinds.specs.contracts.handle.PatPartialEq.TheImpl as pats
+use Rattle.tt_kinds.specs.contracts.handle.PatEq.TheImpl.Laws as pat_laws
+use Rattle.tt_kinds.specs.contracts.handle.ClausePartialEq.TheImpl as clauses
+use Rattle.tt_kinds.specs.contracts.handle.ClauseEq.TheImpl.Laws as clause_laws
+use Rattle.tt_kinds.specs.contracts.handle.PolyExistentialPredicatePartialEq.TheImpl as existentials
+use Rattle.tt_kinds.specs.contracts.handle.PolyExistentialPredicateEq.TheImpl.Laws as existential_laws
+use Rattle.tt_interner.specs.Rows.{Row, type_row, const_row, pat_row, predicate_row, existential_row, clauses_row, tys_row, consts_row, args_row, pats_row, vars_row, existentials_row, text_row}
+use Rattle.tt_interner.proofs.KeyLemmas.{both, ty_exact, const_handle_exact, pat_handle_exact, clause_handle_exact, existential_handle_exact, two_exact, arg_exact, var_exact, kind_exact}
+use Rattle.tt_interner.proofs.KindKeys.{const_kind_exact, pattern_kind_exact, predicate_kind_exact, existential_kind_exact}
 use Rattle.tt_interner.proofs.FoundLemmas.{IsKey}
 
 -- a test that is exact, of what a key holds
@@ -48,3 +76,37 @@ vars_key items = key_by (pointwise (vars.ghosts).eq) (pointwise_exact (vars.ghos
 
 pub text_key : {K : Type 0} (bytes : K → List ℕ) (xs : List ℕ) → IsKey (λ k. bytes_eq xs (bytes k)) (λ k. text_row (bytes k)) (text_row xs)
 text_key bytes = key_by bytes_eq (λ a b. (bytes_decides a b).0) (λ a. (bytes_decides a a).1 refl) bytes text_row (λ a b e. cc)
+
+pub consts_key : {K : Type 0} (items : K → List Const) (xs : List Const) → IsKey (λ k. pointwise (consts.ghosts).eq xs (items k)) (λ k. consts_row (items k)) (consts_row xs)
+consts_key items = key_by (pointwise (consts.ghosts).eq) (pointwise_exact (consts.ghosts).eq const_handle_exact) (lists_equiv const_laws.laws-law).refl items consts_row (λ a b e. cc)
+
+pub pats_key : {K : Type 0} (items : K → List Pat) (xs : List Pat) → IsKey (λ k. pointwise (pats.ghosts).eq xs (items k)) (λ k. pats_row (items k)) (pats_row xs)
+pats_key items = key_by (pointwise (pats.ghosts).eq) (pointwise_exact (pats.ghosts).eq pat_handle_exact) (lists_equiv pat_laws.laws-law).refl items pats_row (λ a b e. cc)
+
+pub clauses_key : {K : Type 0} (items : K → List Clause) (xs : List Clause) → IsKey (λ k. pointwise (clauses.ghosts).eq xs (items k)) (λ k. clauses_row (items k)) (clauses_row xs)
+clauses_key items = key_by (pointwise (clauses.ghosts).eq) (pointwise_exact (clauses.ghosts).eq clause_handle_exact) (lists_equiv clause_laws.laws-law).refl items clauses_row (λ a b e. cc)
+
+pub existentials_key : {K : Type 0} (items : K → List PolyExistentialPredicate) (xs : List PolyExistentialPredicate) → IsKey (λ k. pointwise (existentials.ghosts).eq xs (items k)) (λ k. existentials_row (items k)) (existentials_row xs)
+existentials_key items = key_by (pointwise (existentials.ghosts).eq) (pointwise_exact (existentials.ghosts).eq existential_handle_exact) (lists_equiv existential_laws.laws-law).refl items existentials_row (λ a b e. cc)
+
+pub const_key : (x : ConstKind) → IsKey ((const_kinds.ghosts).eq x) const_row (const_row x)
+const_key = key_by (const_kinds.ghosts).eq const_kind_exact (const_kind_laws.laws-law).refl (λ k. k) const_row (λ a b e. cc)
+
+pub pattern_key : (x : PatternKind) → IsKey ((pattern_kinds.ghosts).eq x) pat_row (pat_row x)
+pattern_key = key_by (pattern_kinds.ghosts).eq pattern_kind_exact (pattern_kind_laws.laws-law).refl (λ k. k) pat_row (λ a b e. cc)
+
+-- binders, by the test of what stands under them
+abbrev binder_eq : {T : Type 0} → (T → T → Bool) → Binder T → Binder T → Bool
+binder_eq eq a b = eq a.value b.value && eqb a.bound_vars.number b.bound_vars.number
+
+binder_exact : {T : Type 0} (eq : T → T → Bool) → ((a b : T) → eq a b ≡ true → a ≡ b) → (a b : Binder T) → binder_eq eq a b ≡ true → a ≡ b
+binder_exact eq exact a b = two_exact (λ x n. record { value = x; bound_vars = record { number = n } }) (eq a.value b.value) (eqb a.bound_vars.number b.bound_vars.number) (exact a.value b.value) (eqb-true a.bound_vars.number b.bound_vars.number)
+
+binder_same : {T : Type 0} (eq : T → T → Bool) → ((a : T) → eq a a ≡ true) → (a : Binder T) → binder_eq eq a a ≡ true
+binder_same eq same a = let values = same a.value in let lists : eqb a.bound_vars.number a.bound_vars.number ≡ true = grind (arith, nat_tests) in cc
+
+pub predicate_key : (x : Binder PredicateKind) → IsKey (binder_eq (predicate_kinds.ghosts).eq x) predicate_row (predicate_row x)
+predicate_key = key_by (binder_eq (predicate_kinds.ghosts).eq) (binder_exact (predicate_kinds.ghosts).eq predicate_kind_exact) (binder_same (predicate_kinds.ghosts).eq (predicate_kind_laws.laws-law).refl) (λ k. k) predicate_row (λ a b e. cc)
+
+pub existential_key : (x : Binder ExistentialPredicate) → IsKey (binder_eq (existential_kinds.ghosts).eq x) existential_row (existential_row x)
+existential_key = key_by (binder_eq (existential_kinds.ghosts).eq) (binder_exact (existential_kinds.ghosts).eq existential_kind_exact) (binder_same (existential_kinds.ghosts).eq (existential_kind_laws.laws-law).refl) (λ k. k) existential_row (λ a b e. cc)

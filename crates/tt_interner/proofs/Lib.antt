@@ -1,11 +1,15 @@
 pub mod RowLaws
 pub mod Growth
 pub mod Fill
+pub mod ShapeLaws
 pub mod Trees
 pub mod KeyLemmas
+pub mod KindKeys
+pub mod ClauseLemmas
 pub mod FoundLemmas
 pub mod StoresLemmas
 pub mod InfoLemmas
 pub mod TableLemmas
 pub mod Keys
 pub mod NodeLemmas
+pub mod EnvLemmas

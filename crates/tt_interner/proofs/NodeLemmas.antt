@@ -1,5 +1,5 @@
 -- What a walk reads of stored terms and lists: handles that came before, and children in order.
-use Rattle.std.proofs.Common.{◌≡◌, ℕ, ◌<◌, ⊎_elim, List, [], ◌∷◌, length, slice_get, zero, suc, get_or, Some, Ok, Err, refl, sym, ap, subst, ◌∙◌, arith}
+use Rattle.std.proofs.Common.{◌≡◌, ℕ, ◌<◌, ⊎_elim, inl, inr, List, [], ◌∷◌, length, slice_get, zero, suc, get_or, Some, Ok, Err, refl, sym, ap, subst, ◌∙◌, arith}
 use Rattle.std.specs.Prelude.{map, All}
 use Rattle.std.proofs.lemmas.List.{length-map}
 use Rattle.std.proofs.lemmas.List.Elements.{All-nil, All-cons}
@@ -7,6 +7,10 @@ use Rattle.std.proofs.lemmas.Option.{slice_get_within, same_Some, none-some, sli
 use Rattle.tt_index.specs.declared.refusal.Refusal.{Refusal}
 use Rattle.tt_index.specs.declared.refusal.Refusal.TheVariants.{Memory, TableFull, GreatestIndex, NoArguments, ArgOutOfRange, ArgKind, RegionVariable, NotAClause, NoSuchAnswer}
 use Rattle.tt_kinds.specs.declared.handle.Ty.{Ty}
+use Rattle.tt_kinds.specs.declared.handle.Const.{Const}
+use Rattle.tt_kinds.specs.declared.handle.Pat.{Pat}
+use Rattle.tt_kinds.specs.declared.handle.Clause.{Clause}
+use Rattle.tt_kinds.specs.declared.handle.PolyExistentialPredicate.{PolyExistentialPredicate}
 use Rattle.tt_kinds.specs.declared.generic_arg.GenericArgKind.{GenericArgKind}
 use Rattle.tt_kinds.specs.declared.generic_arg.GenericArgKind.TheVariants as arg
 use Rattle.tt_kinds.specs.declared.parts.List.{List as StoredList}
@@ -14,22 +18,19 @@ use Rattle.tt_kinds.specs.declared.parts.ListSort.{ListSort}
 use Rattle.tt_kinds.specs.declared.parts.ListSort.TheVariants as sort
 use Rattle.tt_kinds.specs.declared.parts.Child.{Child}
 use Rattle.tt_kinds.specs.declared.parts.Node.{Node}
-use Rattle.tt_kinds.specs.declared.parts.Node.TheVariants as node_kind
 use Rattle.tt_kinds.specs.declared.parts.Kind.{Kind}
 use Rattle.tt_kinds.specs.declared.parts.Kind.TheVariants as kind
-use Rattle.tt_kinds.specs.declared.ty_kind.TyKind.{TyKind}
 use Rattle.tt_kinds.specs.declared.table.Table.{Table}
-use Rattle.tt_kinds.specs.declared.table.Table.TheVariants.{Types, TypeLists, ArgLists}
-use Rattle.tt_kinds.specs.Label.{Label, list_label}
-use Rattle.tt_kinds.specs.Tree as tree
-use Rattle.tt_kinds.specs.Shape.{Shape, Shapes, param, bound, region, term, node, binder, stored, none, also, item_shapes, Sizes, fill, fill_all, IsPart, AreParts, HasParts, IsTooDeep}
+use Rattle.tt_kinds.specs.Shape.{Shape, Shapes, param, bound, region, term, node, binder, stored, none, also, item_shapes, Meaning, Sizes, fill, fill_all, IsPart, AreParts, HasParts, IsTooDeep}
 use Rattle.tt_kinds.specs.Parts.{child_sort, IsItem, node_table, node_number, list_table, list_number, list_sort, sort_list_table}
-use Rattle.tt_kinds.specs.Kinds.{ty_shape, arg_shape, children_shapes, kind_shape}
-use Rattle.tt_interner.specs.Rows.{Row, type_row, tys_row, args_row, text_row, row_table, row_shape, table, size, meaning, age, AreRows, IsOlder, AreOlder}
-use Rattle.tt_interner.specs.Stored.{Terms, IsAt, IsCause, IsUnbuilt, StoresList, Builds}
-use Rattle.tt_interner.specs.Children.{ty_child, arg_child, children_of, children_at, child_ty, child_arg, items_row}
+use Rattle.tt_kinds.specs.Kinds.{ty_shape, const_shape, arg_shape, pat_shape, existential_shape, clause_shape, child_shapes, children_shapes, items_shape, items_tree, kind_shape, kind_table}
+use Rattle.tt_interner.specs.Rows.{Row, clauses_row, tys_row, consts_row, args_row, pats_row, existentials_row, text_row, kind_row, row_table, row_shape, table, size, meaning, age, AreRows, IsOlder, AreOlder, AreClauses}
+use Rattle.tt_interner.specs.Stored.{Terms, IsAt, IsCause, IsUnbuilt, IsNoClauseList, StoresList, Builds}
+use Rattle.tt_interner.specs.Children.{ty_child, const_child, arg_child, pat_child, existential_child, clause_child, children_of, children_at, child_ty, child_const, child_arg, child_pat, child_existential, child_clause, items_row}
 use Rattle.tt_interner.proofs.RowLaws.{IsNewest, place_cases, row-old, row-new, age-old, age-new}
-use Rattle.tt_interner.proofs.Trees.{Means-row}
+use Rattle.tt_interner.proofs.Growth.{Extends-refl}
+use Rattle.tt_interner.proofs.Trees.{Means-row, row_within}
+use Rattle.tt_interner.proofs.ClauseLemmas.{other_there}
 
 -- a handle came before all rows that are there
 pub age_within : (rows : List Row) (t : Table) (n : ℕ) → n < size rows t → age rows t n < length rows
@@ -105,9 +106,9 @@ older_row [] are t n q e = absurd (none-some q e)
 older_row (r ∷ rows) are t n q e = ⊎_elim
     (λ old.
     let at = sym (row-old r rows t n old) ∙ e in
-    let means = Means-row rows are.3 t n q at in
+    let means = Means-row rows are.4 t n q at in
     subst (λ a. IsOlder (r ∷ rows) a (row_shape q)) (sym (age-old r rows t n old))
-    (row_older-keeps rows (r ∷ rows) (size rows) (age-old r rows) (age rows t n) (row_shape q) means.parts (older_row rows are.3 t n q at)))
+    (row_older-keeps rows (r ∷ rows) (size rows) (age-old r rows) (age rows t n) (row_shape q) means.parts (older_row rows are.4 t n q at)))
     (λ newest.
     let here = same_Some r q (sym (row_newest newest) ∙ e) in
     subst (λ a. IsOlder (r ∷ rows) a (row_shape q)) (sym (age_newest newest))
@@ -128,49 +129,122 @@ older_row (r ∷ rows) are t n q e = ⊎_elim
 get_or-some : {X : Type 0} (xs : List X) (n : ℕ) (d x : X) → slice_get xs n ≡ Some x → get_or xs n d ≡ x
 get_or-some xs n d x e = same_Some (get_or xs n d) x (sym (slice_get-get_or xs n d (slice_get_within xs n x e)) ∙ e)
 
-pub tys_shapes : (tys : List Ty) → children_shapes (map ty_child tys) ≡ item_shapes ty_shape tys
-tys_shapes [] = refl
-tys_shapes (t ∷ tys) = let rest = tys_shapes tys in cc
-
-pub arg_shapes : (args : List GenericArgKind) → children_shapes (map arg_child args) ≡ item_shapes arg_shape args
-arg_shapes [] = refl
-arg_shapes (arg.Lifetime r ∷ args) = let rest = arg_shapes args in cc
-arg_shapes (arg.«Type» t ∷ args) = let rest = arg_shapes args in cc
-
 -- the row of the list of these children
 pub record IsRowOf (s : ListSort) (r : Row) (cs : List Child) : Type 0 where
   pub in_table : row_table r ≡ sort_list_table s
-  pub shape : row_shape r ≡ node (list_label (sort_list_table s)) (children_shapes cs)
+  pub shape : row_shape r ≡ items_shape s (children_shapes cs)
   pub children : children_of r ≡ cs
   pub row : items_row s cs ≡ r
   pub fit : All (λ c. IsItem s (child_sort c)) cs
 
-tys_back : (tys : List Ty) → map child_ty (map ty_child tys) ≡ tys
-tys_back [] = refl
-tys_back (t ∷ tys) = ap (λ ts. t ∷ ts) (tys_back tys)
+-- items that stand as one child each
+module _ {T : Type 0} (child : T → Child) where
+  shapes_of : (shape : T → Shape) → ((x : T) → child_shapes (child x) ≡ also (shape x) none) → (xs : List T) → children_shapes (map child xs) ≡ item_shapes shape xs
+  shapes_of shape one [] = refl
+  shapes_of shape one (x ∷ xs) = rw (one x, shapes_of shape one xs) refl
 
-args_back : (args : List GenericArgKind) → map child_arg (map arg_child args) ≡ args
-args_back [] = refl
-args_back (arg.Lifetime r ∷ args) = ap (λ as'. arg.Lifetime r ∷ as') (args_back args)
-args_back (arg.«Type» t ∷ args) = ap (λ as'. arg.«Type» t ∷ as') (args_back args)
+  items_back : (item : Child → T) → ((x : T) → item (child x) ≡ x) → (xs : List T) → map item (map child xs) ≡ xs
+  items_back item back [] = refl
+  items_back item back (x ∷ xs) = rw (back x, items_back item back xs) refl
 
-pub is_row_of_tys : (tys : List Ty) → IsRowOf sort.Tys (tys_row tys) (map ty_child tys)
-is_row_of_tys tys = record { in_table = refl; shape = ap (node (list_label TypeLists)) (sym (tys_shapes tys)); children = refl; row = ap tys_row (tys_back tys); fit = all tys }
-  where
-    all : (tys : List Ty) → All (λ c. IsItem sort.Tys (child_sort c)) (map ty_child tys)
-    all [] = All-nil (λ c. IsItem sort.Tys (child_sort c))
-    all (t ∷ tys) = All-cons (λ c. IsItem sort.Tys (child_sort c)) (ty_child t) (map ty_child tys) refl (all tys)
+  items_fit : (s : ListSort) → ((x : T) → IsItem s (child_sort (child x))) → (xs : List T) → All (λ c. IsItem s (child_sort c)) (map child xs)
+  items_fit s fit [] = All-nil (λ c. IsItem s (child_sort c))
+  items_fit s fit (x ∷ xs) = All-cons (λ c. IsItem s (child_sort c)) (child x) (map child xs) (fit x) (items_fit s fit xs)
 
-pub is_row_of_args : (args : List GenericArgKind) → IsRowOf sort.Args (args_row args) (map arg_child args)
-is_row_of_args args = record { in_table = refl; shape = ap (node (list_label ArgLists)) (sym (arg_shapes args)); children = refl; row = ap args_row (args_back args); fit = all args }
-  where
-    item : (a : GenericArgKind) → IsItem sort.Args (child_sort (arg_child a))
-    item (arg.Lifetime r) = tt
-    item (arg.«Type» t) = refl
+arg_part : (a : GenericArgKind) → child_shapes (arg_child a) ≡ also (arg_shape a) none
+arg_part (arg.Lifetime r) = refl
+arg_part (arg.«Type» t) = refl
+arg_part (arg.Const c) = refl
 
-    all : (args : List GenericArgKind) → All (λ c. IsItem sort.Args (child_sort c)) (map arg_child args)
-    all [] = All-nil (λ c. IsItem sort.Args (child_sort c))
-    all (a ∷ args) = All-cons (λ c. IsItem sort.Args (child_sort c)) (arg_child a) (map arg_child args) (item a) (all args)
+arg_back : (a : GenericArgKind) → child_arg (arg_child a) ≡ a
+arg_back (arg.Lifetime r) = refl
+arg_back (arg.«Type» t) = refl
+arg_back (arg.Const c) = refl
+
+arg_fits : (a : GenericArgKind) → IsItem sort.Args (child_sort (arg_child a))
+arg_fits (arg.Lifetime r) = tt
+arg_fits (arg.«Type» t) = inl refl
+arg_fits (arg.Const c) = inr refl
+
+pub tys_shapes : (xs : List Ty) → children_shapes (map ty_child xs) ≡ item_shapes ty_shape xs
+tys_shapes = shapes_of ty_child ty_shape (λ x. refl)
+
+pub consts_shapes : (xs : List Const) → children_shapes (map const_child xs) ≡ item_shapes const_shape xs
+consts_shapes = shapes_of const_child const_shape (λ x. refl)
+
+pub args_shapes : (xs : List GenericArgKind) → children_shapes (map arg_child xs) ≡ item_shapes arg_shape xs
+args_shapes = shapes_of arg_child arg_shape arg_part
+
+pub pats_shapes : (xs : List Pat) → children_shapes (map pat_child xs) ≡ item_shapes pat_shape xs
+pats_shapes = shapes_of pat_child pat_shape (λ x. refl)
+
+pub existentials_shapes : (xs : List PolyExistentialPredicate) → children_shapes (map existential_child xs) ≡ item_shapes existential_shape xs
+existentials_shapes = shapes_of existential_child existential_shape (λ x. refl)
+
+pub clauses_shapes : (xs : List Clause) → children_shapes (map clause_child xs) ≡ item_shapes clause_shape xs
+clauses_shapes = shapes_of clause_child clause_shape (λ x. refl)
+
+pub is_row_of_tys : (xs : List Ty) → IsRowOf sort.Tys (tys_row xs) (map ty_child xs)
+is_row_of_tys xs = record { in_table = refl; shape = ap (items_shape sort.Tys) (sym (tys_shapes xs)); children = refl; row = ap tys_row (items_back ty_child child_ty (λ x. refl) xs); fit = items_fit ty_child sort.Tys (λ x. refl) xs }
+
+pub is_row_of_consts : (xs : List Const) → IsRowOf sort.Consts (consts_row xs) (map const_child xs)
+is_row_of_consts xs = record { in_table = refl; shape = ap (items_shape sort.Consts) (sym (consts_shapes xs)); children = refl; row = ap consts_row (items_back const_child child_const (λ x. refl) xs); fit = items_fit const_child sort.Consts (λ x. refl) xs }
+
+pub is_row_of_args : (xs : List GenericArgKind) → IsRowOf sort.Args (args_row xs) (map arg_child xs)
+is_row_of_args xs = record { in_table = refl; shape = ap (items_shape sort.Args) (sym (args_shapes xs)); children = refl; row = ap args_row (items_back arg_child child_arg arg_back xs); fit = items_fit arg_child sort.Args arg_fits xs }
+
+pub is_row_of_pats : (xs : List Pat) → IsRowOf sort.Pats (pats_row xs) (map pat_child xs)
+is_row_of_pats xs = record { in_table = refl; shape = ap (items_shape sort.Pats) (sym (pats_shapes xs)); children = refl; row = ap pats_row (items_back pat_child child_pat (λ x. refl) xs); fit = items_fit pat_child sort.Pats (λ x. refl) xs }
+
+pub is_row_of_existentials : (xs : List PolyExistentialPredicate) → IsRowOf sort.Existentials (existentials_row xs) (map existential_child xs)
+is_row_of_existentials xs = record { in_table = refl; shape = ap (items_shape sort.Existentials) (sym (existentials_shapes xs)); children = refl; row = ap existentials_row (items_back existential_child child_existential (λ x. refl) xs); fit = items_fit existential_child sort.Existentials (λ x. refl) xs }
+
+pub is_row_of_clauses : (xs : List Clause) → IsRowOf sort.Clauses (clauses_row xs) (map clause_child xs)
+is_row_of_clauses xs = record { in_table = refl; shape = ap (items_shape sort.Clauses) (sym (clauses_shapes xs)); children = refl; row = ap clauses_row (items_back clause_child child_clause (λ x. refl) xs); fit = items_fit clause_child sort.Clauses (λ x. refl) xs }
+
+-- a row of a list's table is the row of its children
+row_of_list : (s : ListSort) (r : Row) → row_table r ≡ sort_list_table s → IsRowOf s r (children_of r)
+row_of_list sort.Tys (tys_row xs) e = is_row_of_tys xs
+row_of_list sort.Consts (consts_row xs) e = is_row_of_consts xs
+row_of_list sort.Args (args_row xs) e = is_row_of_args xs
+row_of_list sort.Pats (pats_row xs) e = is_row_of_pats xs
+row_of_list sort.Existentials (existentials_row xs) e = is_row_of_existentials xs
+row_of_list sort.Clauses (clauses_row xs) e = is_row_of_clauses xs
+row_of_list _ _ e = cc
+
+-- what is said of the shape of a list's row
+fill_items : (f : Meaning) (s : ListSort) (ss : Shapes) → fill f (items_shape s ss) ≡ items_tree s (fill_all f ss)
+unfolding fill
+fill_items f sort.Tys ss = refl
+fill_items f sort.Consts ss = refl
+fill_items f sort.Args ss = refl
+fill_items f sort.Pats ss = refl
+fill_items f sort.Existentials ss = refl
+fill_items f sort.Clauses ss = refl
+
+items_parts : (size : Sizes) (s : ListSort) (ss : Shapes) → HasParts size (items_shape s ss) → AreParts size ss
+items_parts size sort.Tys ss h = h.1
+items_parts size sort.Consts ss h = h.1
+items_parts size sort.Args ss h = h.1
+items_parts size sort.Pats ss h = h.1
+items_parts size sort.Existentials ss h = h.1
+items_parts size sort.Clauses ss h = h.1
+
+items_older : (rows : List Row) (a : ℕ) (s : ListSort) (ss : Shapes) → IsOlder rows a (items_shape s ss) → AreOlder rows a ss
+items_older rows a sort.Tys ss h = h
+items_older rows a sort.Consts ss h = h
+items_older rows a sort.Args ss h = h
+items_older rows a sort.Pats ss h = h
+items_older rows a sort.Existentials ss h = h
+items_older rows a sort.Clauses ss h = h
+
+items_shallow : (s : ListSort) (ss : Shapes) → IsTooDeep (items_shape s ss) → ⊥
+items_shallow sort.Tys ss h = h
+items_shallow sort.Consts ss h = h
+items_shallow sort.Args ss h = h
+items_shallow sort.Pats ss h = h
+items_shallow sort.Existentials ss h = h
+items_shallow sort.Clauses ss h = h
 
 slice_get-map : {T X : Type 0} (f : T → X) (xs : List T) (i : ℕ) (x : T) → slice_get xs i ≡ Some x → slice_get (map f xs) i ≡ Some (f x)
 slice_get-map f [] i x e = absurd (none-some x e)
@@ -179,19 +253,19 @@ slice_get-map f (y ∷ xs) (suc i) x e = slice_get-map f xs i x e
 
 -- what is said of a stored list with these children
 pub record IsListed (rows : List Row) (l : StoredList) (cs : List Child) : Type 0 where
-  pub means : meaning rows (list_table l) (list_number l) ≡ tree.node (list_label (list_table l)) (fill_all (meaning rows) (children_shapes cs))
+  pub means : meaning rows (list_table l) (list_number l) ≡ items_tree (list_sort l) (fill_all (meaning rows) (children_shapes cs))
   pub parts : AreParts (size rows) (children_shapes cs)
   pub fit : All (λ c. IsItem (list_sort l) (child_sort c)) cs
   pub older : AreOlder rows (age rows (list_table l) (list_number l)) (children_shapes cs)
 
-module _ (rows : List Row) (l : StoredList) (r : Row) {T : Type 0} (child : T → Child) (items : List T) (is : IsRowOf (list_sort l) r (map child items)) (at : IsAt rows r (list_number l)) where
-  at_place : slice_get (table (list_table l) rows) (list_number l) ≡ Some r
-  at_place = subst (λ t. slice_get (table t rows) (list_number l) ≡ Some r) is.in_table at
+-- the children of a stored list are those of its row
+row_children : (rows : List Row) (l : StoredList) (r : Row) → slice_get (table (list_table l) rows) (list_number l) ≡ Some r → children_at rows l ≡ children_of r
+unfolding children_at
+row_children rows l r at = ap children_of (get_or-some (table (list_table l) rows) (list_number l) (text_row []) r at)
 
-  -- its children are those of its row
+module _ (rows : List Row) (l : StoredList) (r : Row) {T : Type 0} (child : T → Child) (items : List T) (is : IsRowOf (list_sort l) r (map child items)) (at : IsAt rows r (list_number l)) where
   children_here : children_at rows l ≡ map child items
-  unfolding children_at
-  children_here = ap children_of (get_or-some (table (list_table l) rows) (list_number l) (text_row []) r at_place) ∙ is.children
+  children_here = row_children rows l r (subst (λ t. slice_get (table t rows) (list_number l) ≡ Some r) is.in_table at) ∙ is.children
 
   pub len_here : length (children_at rows l) ≡ length items
   len_here = ap length children_here ∙ length-map items child
@@ -199,19 +273,19 @@ module _ (rows : List Row) (l : StoredList) (r : Row) {T : Type 0} (child : T �
   pub child_here : (i : ℕ) (x : T) → slice_get items i ≡ Some x → slice_get (children_at rows l) i ≡ Some (child x)
   child_here i x e = ap (λ cs. slice_get cs i) children_here ∙ slice_get-map child items i x e
 
-  pub is_listed : AreRows rows → IsListed rows l (children_at rows l)
-  unfolding fill
-  is_listed are =
-      let means = Means-row rows are (list_table l) (list_number l) r at_place in
-      let older = older_row rows are (list_table l) (list_number l) r at_place in
-      let cs = map child items in
-      let parts : HasParts (size rows) (node (list_label (list_table l)) (children_shapes cs)) = subst (HasParts (size rows)) is.shape means.parts in
-      subst (IsListed rows l) (sym children_here) (record {
-        means = means.tree ∙ ap (fill (meaning rows)) is.shape;
-        parts = parts.1;
-        fit = is.fit;
-        older = subst (IsOlder rows (age rows (list_table l) (list_number l))) is.shape older;
-      })
+pub is_listed : (rows : List Row) → AreRows rows → (l : StoredList) → list_number l < size rows (list_table l) → IsListed rows l (children_at rows l)
+is_listed rows are l h =
+    let at = row_within rows (list_table l) (list_number l) h in
+    let means = Means-row rows are (list_table l) (list_number l) at.0 at.1 in
+    let older = older_row rows are (list_table l) (list_number l) at.0 at.1 in
+    let is = row_of_list (list_sort l) at.0 means.same_table in
+    let ss = children_shapes (children_of at.0) in
+    subst (IsListed rows l) (sym (row_children rows l at.0 at.1)) (record {
+      means = means.tree ∙ ap (fill (meaning rows)) is.shape ∙ fill_items (meaning rows) (list_sort l) ss;
+      parts = items_parts (size rows) (list_sort l) ss (subst (HasParts (size rows)) is.shape means.parts);
+      fit = is.fit;
+      older = items_older rows (age rows (list_table l) (list_number l)) (list_sort l) ss (subst (IsOlder rows (age rows (list_table l) (list_number l))) is.shape older);
+    })
 
 -- what is said of a stored term of this kind
 pub record IsNode (rows : List Row) (n : Node) (k : Kind) : Type 0 where
@@ -219,47 +293,95 @@ pub record IsNode (rows : List Row) (n : Node) (k : Kind) : Type 0 where
   pub means : meaning rows (node_table n) (node_number n) ≡ fill (meaning rows) (kind_shape k)
   pub older : IsOlder rows (age rows (node_table n) (node_number n)) (kind_shape k)
 
-pub is_node : (rows : List Row) → AreRows rows → (n : Node) (k : TyKind) → IsAt rows (type_row k) (node_number n) → IsNode rows n (kind.Ty k)
-is_node rows are (node_kind.Ty t) k at =
-    let means = Means-row rows are Types t.number (type_row k) at in
-    record { parts = means.parts; means = means.tree; older = older_row rows are Types t.number (type_row k) at }
+kind_in_table : (k : Kind) → row_table (kind_row k) ≡ kind_table k
+kind_in_table (kind.Ty k) = refl
+kind_in_table (kind.Const k) = refl
+kind_in_table (kind.Pat k) = refl
+kind_in_table (kind.Predicate k) = refl
+kind_in_table (kind.Existential k) = refl
+
+kind_row_shape : (k : Kind) → row_shape (kind_row k) ≡ kind_shape k
+kind_row_shape (kind.Ty k) = refl
+kind_row_shape (kind.Const k) = refl
+kind_row_shape (kind.Pat k) = refl
+kind_row_shape (kind.Predicate k) = refl
+kind_row_shape (kind.Existential k) = refl
+
+pub is_node : (rows : List Row) → AreRows rows → (n : Node) (k : Kind) → kind_table k ≡ node_table n → IsAt rows (kind_row k) (node_number n) → IsNode rows n k
+is_node rows are n k same at =
+    let here = subst (λ t. slice_get (table t rows) (node_number n) ≡ Some (kind_row k)) (kind_in_table k ∙ same) at in
+    let means = Means-row rows are (node_table n) (node_number n) (kind_row k) here in
+    record {
+      parts = subst (HasParts (size rows)) (kind_row_shape k) means.parts;
+      means = means.tree ∙ ap (fill (meaning rows)) (kind_row_shape k);
+      older = subst (IsOlder rows (age rows (node_table n) (node_number n))) (kind_row_shape k) (older_row rows are (node_table n) (node_number n) (kind_row k) here);
+    }
 
 -- a refused list
-IsUnbuilt-from : (terms : Terms) (r : Row) (l : Label ℕ) (ss : Shapes) → row_shape r ≡ node l ss → (e : Refusal) → IsCause terms r e → IsUnbuilt terms (fill (meaning terms.rows) (node l ss)) e
-IsUnbuilt-from terms r l ss is Memory h = tt
-IsUnbuilt-from terms r l ss is TableFull h = (r, ap (fill (meaning terms.rows)) is, h.0, h.1)
-IsUnbuilt-from terms r l ss is GreatestIndex h = absurd (subst IsTooDeep is h)
-IsUnbuilt-from terms r l ss is NoArguments h = absurd h
-IsUnbuilt-from terms r l ss is (ArgOutOfRange i) h = absurd h
-IsUnbuilt-from terms r l ss is (ArgKind i) h = absurd h
-IsUnbuilt-from terms r l ss is (RegionVariable v) h = absurd h
-IsUnbuilt-from terms r l ss is NotAClause h = absurd h
-IsUnbuilt-from terms r l ss is NoSuchAnswer h = absurd h
+IsUnbuilt-from : (terms : Terms) (r : Row) (s : ListSort) (ss : Shapes) → row_shape r ≡ items_shape s ss → (e : Refusal) → IsCause terms r e → IsUnbuilt terms (items_tree s (fill_all (meaning terms.rows) ss)) e
+IsUnbuilt-from terms r s ss is Memory h = tt
+IsUnbuilt-from terms r s ss is TableFull h = (r, ap (fill (meaning terms.rows)) is ∙ fill_items (meaning terms.rows) s ss, h.0, h.1)
+IsUnbuilt-from terms r s ss is GreatestIndex h = absurd (items_shallow s ss (subst IsTooDeep is h))
+IsUnbuilt-from terms r s ss is NoArguments h = absurd h
+IsUnbuilt-from terms r s ss is (ArgOutOfRange i) h = absurd h
+IsUnbuilt-from terms r s ss is (ArgKind i) h = absurd h
+IsUnbuilt-from terms r s ss is (RegionVariable v) h = absurd h
+IsUnbuilt-from terms r s ss is NotAClause h = absurd h
+IsUnbuilt-from terms r s ss is NoSuchAnswer h = absurd h
 
-module _ {H : Type 0} (number : H → ℕ) (old new : Terms) (s : ListSort) (r : Row) (cs : List Child) (is : IsRowOf s r cs) where
+module _ {H : Type 0} (number : H → ℕ) (old new : Terms) (s : ListSort) (r : Row) (cs : List Child) (is : IsRowOf s r cs)
+    (fine : IsNoClauseList (items_tree s (fill_all (meaning old.rows) (children_shapes cs))) → ⊥) where
   -- what a typed call stores is the list of the children
   pub StoresList-ok : (h : H) → Builds (Ok h) number old new r → (l : StoredList) → list_number l ≡ number h → list_sort l ≡ s → StoresList (Ok l) old new s cs
-  unfolding fill
   StoresList-ok h builds l same of_sort = record {
     in_range = rw (same, ← is.in_table) builds.in_range;
-    means = rw (same, ← is.in_table) (builds.means ∙ ap (fill (meaning old.rows)) (is.shape ∙ ap (λ t. node (list_label t) (children_shapes cs)) (sym is.in_table)));
+    means = rw (same, ← is.in_table) (builds.means ∙ ap (fill (meaning old.rows)) is.shape ∙ fill_items (meaning old.rows) s (children_shapes cs));
     extends = record { rows = builds.grows; limit = builds.limit };
     counters = builds.counters;
     err = tt;
     cause = tt;
+    refused = fine;
     of_sort = of_sort;
     stored = rw (same, is.row) builds.stored;
   }
 
   pub StoresList-err : (e : Refusal) → Builds {H = H} (Err e) number old new r → StoresList (Err e) old new s cs
-  unfolding fill
   StoresList-err e builds = record {
     in_range = tt;
     means = tt;
     extends = record { rows = builds.grows; limit = builds.limit };
     counters = builds.counters;
     err = builds.err;
-    cause = IsUnbuilt-from old r (list_label (sort_list_table s)) (children_shapes cs) is.shape e builds.cause;
+    cause = IsUnbuilt-from old r s (children_shapes cs) is.shape e builds.cause;
+    refused = tt;
     of_sort = tt;
     stored = tt;
   }
+
+-- a list of clauses with another item
+pub StoresList-other : (old : Terms) (cs : List Clause) → AreParts (size old.rows) (children_shapes (map clause_child cs)) → (AreClauses old.rows cs → ⊥) → StoresList (Err NotAClause) old old sort.Clauses (map clause_child cs)
+StoresList-other old cs parts not_all = record {
+  in_range = tt;
+  means = tt;
+  extends = Extends-refl old;
+  counters = refl;
+  err = refl;
+  cause = other_there old.rows cs (subst (AreParts (size old.rows)) (clauses_shapes cs) parts) not_all;
+  refused = tt;
+  of_sort = tt;
+  stored = tt;
+}
+
+-- want of memory for the items
+pub StoresList-memory : (old : Terms) (s : ListSort) (cs : List Child) → StoresList (Err Memory) old old s cs
+StoresList-memory old s cs = record {
+  in_range = tt;
+  means = tt;
+  extends = Extends-refl old;
+  counters = refl;
+  err = refl;
+  cause = tt;
+  refused = tt;
+  of_sort = tt;
+  stored = tt;
+}

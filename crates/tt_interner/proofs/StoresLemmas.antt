@@ -49,7 +49,7 @@ Grows-add (Err e) r old new is same = subst (λ (t : Terms). Grows old.rows t.ro
 pub deep_new : (r : Row) → IsTooDeep (row_shape r) → (rows : List Row) → AreRows rows → IsNew r rows
 unfolding IsNew AreRows
 deep_new r deep [] are = tt
-deep_new r deep (q ∷ rows) are = (λ same. are.2 (subst (λ x. IsTooDeep (row_shape x)) (sym same) deep), deep_new r deep rows are.3)
+deep_new r deep (q ∷ rows) are = (λ same. are.2 (subst (λ x. IsTooDeep (row_shape x)) (sym same) deep), deep_new r deep rows are.4)
 
 module _ {H : Type 0} (number : H → ℕ) (old : Terms) (r : Row) (are : AreRows old.rows) where
   -- the row was found

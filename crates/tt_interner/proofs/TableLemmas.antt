@@ -11,13 +11,13 @@ use Rattle.tt_kinds.specs.declared.table.Table.TheVariants.{Types, Consts, Patte
 use Rattle.tt_flags.specs.declared.flag_computation.FlagComputation.{FlagComputation}
 use Rattle.tt_index.specs.declared.refusal.Refusal.{Refusal}
 use Rattle.tt_index.specs.declared.refusal.Refusal.TheVariants.{Memory, TableFull}
-use Rattle.tt_kinds.specs.Label.{list_label, var_list_label, text_label}
-use Rattle.tt_kinds.specs.Shape.{fill, IsPart, HasParts, IsTooDeep}
-use Rattle.tt_interner.specs.Rows.{Row, tys_row, args_row, vars_row, text_row, row_table, row_shape, is_in, table, size, meaning, IsNew, AreRows}
+use Rattle.tt_kinds.specs.Label.{clause_list_label, list_label, var_list_label, text_label}
+use Rattle.tt_kinds.specs.Shape.{none, fill, IsPart, HasParts, IsTooDeep}
+use Rattle.tt_interner.specs.Rows.{Row, clauses_row, tys_row, consts_row, args_row, pats_row, vars_row, existentials_row, text_row, row_table, row_shape, is_in, table, size, meaning, IsNew, HoldsClauses, AreRows}
 use Rattle.tt_interner.specs.Stored.{Terms, Counters, Adds, IsInfo, HasFirst, IsAt, first_rows}
 use Rattle.tt_interner.specs.Tables.{Entry, Tables, entries_of, with_entries, push, rows_of, infos_of, reversed, merged, rows_in_order, entries_by, listed_by, AreInfos, AreTables, Keeps, no_info}
 use Rattle.tt_interner.proofs.RowLaws.{in_table, is_in_own, table-other, table-new, meaning-old, meaning-new, slice_get-push_before, slice_get-push_last, row-old}
-use Rattle.tt_interner.proofs.InfoLemmas.{info_node}
+use Rattle.tt_interner.proofs.InfoLemmas.{info_node, info_term, infos_none}
 use Rattle.tt_interner.proofs.StoresLemmas.{Adds-ok, Adds-err}
 use Rattle.tt_interner.proofs.FoundLemmas.{slice_get-rows, IsKey, found_row, new_row, absent_row, IsNew-from_table, IsNew-table}
 
@@ -145,11 +145,11 @@ infos_of-push t e ts = ap (map (λ (x : Entry). x.info)) (entries_of-push t e ts
 
 -- the tables with a new entry
 pub AreTables-push : (rows : List Row) (ts : Tables) (limit : ℕ) (e : Entry) → AreTables rows ts limit
-    → HasParts (size rows) (row_shape e.row) → (IsTooDeep (row_shape e.row) → ⊥) → IsNew e.row rows → size rows (row_table e.row) < limit → IsInfo e.info (fill (meaning rows) (row_shape e.row))
+    → HasParts (size rows) (row_shape e.row) → (IsTooDeep (row_shape e.row) → ⊥) → HoldsClauses rows e.row → IsNew e.row rows → size rows (row_table e.row) < limit → IsInfo e.info (fill (meaning rows) (row_shape e.row))
     → AreTables (e.row ∷ rows) (push (row_table e.row) e ts) limit
 unfolding AreRows
-AreTables-push rows ts limit e are parts shallow new room is = let r = e.row in let own = row_table e.row in record {
-  are = (parts, new, shallow, are.are);
+AreTables-push rows ts limit e are parts shallow holds new room is = let r = e.row in let own = row_table e.row in record {
+  are = (parts, new, shallow, holds, are.are);
   has = by_table r (λ t. table t (r ∷ rows) ≡ rows_of (push own e ts) t)
       (table-new r rows ∙ ap (λ l. l ++ r ∷ []) (are.has own) ∙ sym (rows_of-push own e ts))
       (λ t other. table-other r rows t other ∙ are.has t ∙ ap (map (λ (x : Entry). x.row)) (sym (entries_of-other own t e ts (apart t r other))));
@@ -225,17 +225,18 @@ module _ (order : List Table) (ts ts' : Tables) (e : Entry) (is : ts' ≡ push (
   rows_added = ap (rows_in_order (order ++ row_table e.row ∷ [])) is ∙ rows_in_order-push order (row_table e.row) e ts
 
   pub AreTables-added : (limit : ℕ) → AreTables (rows_in_order order ts) ts limit → HasParts (size (rows_in_order order ts)) (row_shape e.row) → (IsTooDeep (row_shape e.row) → ⊥)
-      → IsNew e.row (rows_in_order order ts) → size (rows_in_order order ts) (row_table e.row) < limit → IsInfo e.info (fill (meaning (rows_in_order order ts)) (row_shape e.row))
+      → HoldsClauses (rows_in_order order ts) e.row → IsNew e.row (rows_in_order order ts) → size (rows_in_order order ts) (row_table e.row) < limit → IsInfo e.info (fill (meaning (rows_in_order order ts)) (row_shape e.row))
       → AreTables (rows_in_order (order ++ row_table e.row ∷ []) ts') ts' limit
-  AreTables-added limit are parts shallow new room info = rw (rows_added, is) (AreTables-push (rows_in_order order ts) ts limit e are parts shallow new room info)
+  AreTables-added limit are parts shallow holds new room info = rw (rows_added, is) (AreTables-push (rows_in_order order ts) ts limit e are parts shallow holds new room info)
 
 -- What a building call owes, by what its value was.
 module _ (order order' : List Table) (ts ts' : Tables) (limit : ℕ) (counters : Counters) (old : Terms) (view_is : record { rows = rows_in_order order ts; limit = limit; counters = counters } ≡ old) (keeps : Keeps order ts limit) where
   module _ (e : Entry) (is : ts' ≡ push (row_table e.row) e ts) (noted : order' ≡ order ++ row_table e.row ∷ []) (n : ℕ) (last : n ≡ size (rows_in_order order ts) (row_table e.row)) (room : n < limit) where
-    pub kept : HasParts (size old.rows) (row_shape e.row) → (IsTooDeep (row_shape e.row) → ⊥) → IsNew e.row old.rows → IsInfo e.info (fill (meaning old.rows) (row_shape e.row)) → Keeps order' ts' limit
-    kept parts shallow new info = record {
+    pub kept : HasParts (size old.rows) (row_shape e.row) → (IsTooDeep (row_shape e.row) → ⊥) → HoldsClauses old.rows e.row → IsNew e.row old.rows → IsInfo e.info (fill (meaning old.rows) (row_shape e.row)) → Keeps order' ts' limit
+    kept parts shallow holds new info = record {
       tables = rw noted (AreTables-added order ts ts' e is limit keeps.tables
           (subst (λ (v : Terms). HasParts (size v.rows) (row_shape e.row)) (sym view_is) parts) shallow
+          (subst (λ (v : Terms). HoldsClauses v.rows e.row) (sym view_is) holds)
           (subst (λ (v : Terms). IsNew e.row v.rows) (sym view_is) new)
           (omega arith)
           (subst (λ (v : Terms). IsInfo e.info (fill (meaning v.rows) (row_shape e.row))) (sym view_is) info));
@@ -324,19 +325,19 @@ first_tables = record {
   patterns = [];
   predicates = [];
   existentials = [];
-  clause_lists = [];
+  clause_lists = first_of (clauses_row []) ∷ [];
   type_lists = first_of (tys_row []) ∷ [];
-  const_lists = [];
+  const_lists = first_of (consts_row []) ∷ [];
   arg_lists = first_of (args_row []) ∷ [];
-  pattern_lists = [];
+  pattern_lists = first_of (pats_row []) ∷ [];
   var_lists = first_of (vars_row []) ∷ [];
-  existential_lists = [];
+  existential_lists = first_of (existentials_row []) ∷ [];
   assumption_lists = [];
   symbols = first_of (text_row (39 ∷ 95 ∷ [])) ∷ [];
 }
 
 abbrev pub first_order : List Table
-first_order = TypeLists ∷ ArgLists ∷ VarLists ∷ Symbols ∷ []
+first_order = TypeLists ∷ ArgLists ∷ VarLists ∷ ConstLists ∷ PatternLists ∷ ClauseLists ∷ ExistentialLists ∷ Symbols ∷ []
 
 rows_first : rows_in_order first_order first_tables ≡ first_rows
 unfolding rows_in_order merged
@@ -345,13 +346,23 @@ rows_first = refl
 AreTables-first : (limit : ℕ) → 0 < limit → limit ≤ 4294967040 → AreTables first_rows first_tables limit
 unfolding table IsPart IsNew
 AreTables-first limit some small =
-    let none = AreTables-none limit small in
-    let types = AreTables-push [] no_tables limit (first_of (tys_row [])) none (tt, tt) (λ d. d) tt some (info_node (meaning []) no_info (list_label TypeLists) refl) in
-    let args = AreTables-push (tys_row [] ∷ []) _ limit (first_of (args_row [])) types (tt, tt) (λ d. d) ((λ e. cc), tt) some (info_node (meaning (tys_row [] ∷ [])) no_info (list_label ArgLists) refl) in
-    let vars = AreTables-push (args_row [] ∷ tys_row [] ∷ []) _ limit (first_of (vars_row [])) args (tt, tt) (λ d. d) ((λ e. cc), ((λ e. cc), tt)) some
+    let before = AreTables-none limit small in
+    let tys = AreTables-push [] no_tables limit (first_of (tys_row [])) before (tt, tt) (λ d. d) tt tt some
+    (info_node (meaning []) no_info (list_label TypeLists) refl) in
+    let args = AreTables-push (tys_row [] ∷ []) _ limit (first_of (args_row [])) tys (tt, tt) (λ d. d) tt ((λ e. cc), tt) some
+    (info_node (meaning (tys_row [] ∷ [])) no_info (list_label ArgLists) refl) in
+    let vars = AreTables-push (args_row [] ∷ tys_row [] ∷ []) _ limit (first_of (vars_row [])) args (tt, tt) (λ d. d) tt ((λ e. cc), ((λ e. cc), tt)) some
     (info_node (meaning (args_row [] ∷ tys_row [] ∷ [])) no_info (var_list_label []) refl) in
-    AreTables-push (vars_row [] ∷ args_row [] ∷ tys_row [] ∷ []) _ limit (first_of (text_row (39 ∷ 95 ∷ []))) vars (tt, tt) (λ d. d) ((λ e. cc), ((λ e. cc), ((λ e. cc), tt))) some
-    (info_node (meaning (vars_row [] ∷ args_row [] ∷ tys_row [] ∷ [])) no_info (text_label (39 ∷ 95 ∷ [])) refl)
+    let consts = AreTables-push (vars_row [] ∷ args_row [] ∷ tys_row [] ∷ []) _ limit (first_of (consts_row [])) vars (tt, tt) (λ d. d) tt ((λ e. cc), ((λ e. cc), ((λ e. cc), tt))) some
+    (info_node (meaning (vars_row [] ∷ args_row [] ∷ tys_row [] ∷ [])) no_info (list_label ConstLists) refl) in
+    let pats = AreTables-push (consts_row [] ∷ vars_row [] ∷ args_row [] ∷ tys_row [] ∷ []) _ limit (first_of (pats_row [])) consts (tt, tt) (λ d. d) tt ((λ e. cc), ((λ e. cc), ((λ e. cc), ((λ e. cc), tt)))) some
+    (info_node (meaning (consts_row [] ∷ vars_row [] ∷ args_row [] ∷ tys_row [] ∷ [])) no_info (list_label PatternLists) refl) in
+    let clauses = AreTables-push (pats_row [] ∷ consts_row [] ∷ vars_row [] ∷ args_row [] ∷ tys_row [] ∷ []) _ limit (first_of (clauses_row [])) pats (tt, tt) (λ d. d) tt ((λ e. cc), ((λ e. cc), ((λ e. cc), ((λ e. cc), ((λ e. cc), tt))))) some
+    (info_term (meaning (pats_row [] ∷ consts_row [] ∷ vars_row [] ∷ args_row [] ∷ tys_row [] ∷ [])) no_info clause_list_label none refl (infos_none _)) in
+    let existentials = AreTables-push (clauses_row [] ∷ pats_row [] ∷ consts_row [] ∷ vars_row [] ∷ args_row [] ∷ tys_row [] ∷ []) _ limit (first_of (existentials_row [])) clauses (tt, tt) (λ d. d) tt ((λ e. cc), ((λ e. cc), ((λ e. cc), ((λ e. cc), ((λ e. cc), ((λ e. cc), tt)))))) some
+    (info_node (meaning (clauses_row [] ∷ pats_row [] ∷ consts_row [] ∷ vars_row [] ∷ args_row [] ∷ tys_row [] ∷ [])) no_info (list_label ExistentialLists) refl) in
+    AreTables-push (existentials_row [] ∷ clauses_row [] ∷ pats_row [] ∷ consts_row [] ∷ vars_row [] ∷ args_row [] ∷ tys_row [] ∷ []) _ limit (first_of (text_row (39 ∷ 95 ∷ []))) existentials (tt, tt) (λ d. d) tt ((λ e. cc), ((λ e. cc), ((λ e. cc), ((λ e. cc), ((λ e. cc), ((λ e. cc), ((λ e. cc), tt))))))) some
+    (info_node (meaning (existentials_row [] ∷ clauses_row [] ∷ pats_row [] ∷ consts_row [] ∷ vars_row [] ∷ args_row [] ∷ tys_row [] ∷ [])) no_info (text_label (39 ∷ 95 ∷ [])) refl)
 
 pub Keeps-first : (order : List Table) (ts : Tables) (limit : ℕ) → order ≡ first_order → ts ≡ first_tables → 0 < limit → limit ≤ 4294967040 → Keeps order ts limit
 Keeps-first order ts limit is_order is_ts some small = rw (is_order, is_ts) (record {
@@ -380,12 +391,44 @@ has_first order ts limit keeps = subst HasFirst (sym keeps.first.1) (record {
   types = IsAt-added keeps.first.0 first_rows (tys_row []) 0 refl;
   args = IsAt-added keeps.first.0 first_rows (args_row []) 0 refl;
   vars = IsAt-added keeps.first.0 first_rows (vars_row []) 0 refl;
+  consts = IsAt-added keeps.first.0 first_rows (consts_row []) 0 refl;
+  pats = IsAt-added keeps.first.0 first_rows (pats_row []) 0 refl;
+  clauses = IsAt-added keeps.first.0 first_rows (clauses_row []) 0 refl;
+  existentials = IsAt-added keeps.first.0 first_rows (existentials_row []) 0 refl;
   text = IsAt-added keeps.first.0 first_rows (text_row (39 ∷ 95 ∷ [])) 0 refl;
 })
 
 -- the tables whose maps have their first rows
-pub are_first_tables : (ts : Tables) → ts ≡ record first_tables { types = ts.types; type_lists = ts.type_lists; arg_lists = ts.arg_lists; var_lists = ts.var_lists; symbols = ts.symbols }
-    → ts.types ≡ [] → ts.type_lists ≡ first_of (tys_row []) ∷ [] → ts.arg_lists ≡ first_of (args_row []) ∷ [] → ts.var_lists ≡ first_of (vars_row []) ∷ []
-    → ts.symbols ≡ first_of (text_row (39 ∷ 95 ∷ [])) ∷ [] → ts ≡ first_tables
-are_first_tables ts others types type_lists arg_lists var_lists symbols =
-    others ∙ (λ i. record first_tables { types = types i; type_lists = type_lists i; arg_lists = arg_lists i; var_lists = var_lists i; symbols = symbols i })
+pub record HaveFirst (ts : Tables) : Type 0 where
+  pub types : ts.types ≡ []
+  pub consts : ts.consts ≡ []
+  pub patterns : ts.patterns ≡ []
+  pub predicates : ts.predicates ≡ []
+  pub existentials : ts.existentials ≡ []
+  pub type_lists : ts.type_lists ≡ first_of (tys_row []) ∷ []
+  pub arg_lists : ts.arg_lists ≡ first_of (args_row []) ∷ []
+  pub var_lists : ts.var_lists ≡ first_of (vars_row []) ∷ []
+  pub const_lists : ts.const_lists ≡ first_of (consts_row []) ∷ []
+  pub pattern_lists : ts.pattern_lists ≡ first_of (pats_row []) ∷ []
+  pub clause_lists : ts.clause_lists ≡ first_of (clauses_row []) ∷ []
+  pub existential_lists : ts.existential_lists ≡ first_of (existentials_row []) ∷ []
+  pub symbols : ts.symbols ≡ first_of (text_row (39 ∷ 95 ∷ [])) ∷ []
+  pub assumption_lists : ts.assumption_lists ≡ []
+
+pub are_first_tables : (ts : Tables) → HaveFirst ts → ts ≡ first_tables
+are_first_tables ts have = λ i. record {
+  types = have.types i;
+  consts = have.consts i;
+  patterns = have.patterns i;
+  predicates = have.predicates i;
+  existentials = have.existentials i;
+  clause_lists = have.clause_lists i;
+  type_lists = have.type_lists i;
+  const_lists = have.const_lists i;
+  arg_lists = have.arg_lists i;
+  pattern_lists = have.pattern_lists i;
+  var_lists = have.var_lists i;
+  existential_lists = have.existential_lists i;
+  assumption_lists = have.assumption_lists i;
+  symbols = have.symbols i;
+}

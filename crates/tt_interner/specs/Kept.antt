@@ -2,7 +2,7 @@
 use Rattle.std.specs.Prelude.{[]}
 use Rattle.std.specs.String.{string_bytes}
 use Rattle.tt_interner.specs.declared.interner.Interner.TheInside.{Inside}
-use Rattle.tt_interner.specs.Rows.{type_row, tys_row, args_row, vars_row, text_row}
+use Rattle.tt_interner.specs.Rows.{type_row, const_row, pat_row, predicate_row, existential_row, clauses_row, tys_row, consts_row, args_row, pats_row, vars_row, existentials_row, text_row}
 use Rattle.tt_interner.specs.Stored.{Terms}
 use Rattle.tt_interner.specs.Tables.{Tables, no_info, entries_by, rows_in_order, Keeps}
 
@@ -10,17 +10,17 @@ use Rattle.tt_interner.specs.Tables.{Tables, no_info, entries_by, rows_in_order,
 abbrev pub tables : Inside → Tables
 tables i = record {
   types = entries_by type_row (λ v. v) i.types.entries;
-  consts = [];
-  patterns = [];
-  predicates = [];
-  existentials = [];
-  clause_lists = [];
+  consts = entries_by const_row (λ v. v) i.consts.entries;
+  patterns = entries_by pat_row (λ v. v) i.patterns.entries;
+  predicates = entries_by predicate_row (λ v. v) i.predicates.entries;
+  existentials = entries_by existential_row (λ v. v) i.existentials.entries;
+  clause_lists = entries_by (λ k. clauses_row k.items) (λ v. v) i.clause_lists.entries;
   type_lists = entries_by (λ k. tys_row k.items) (λ v. v) i.type_lists.entries;
-  const_lists = [];
+  const_lists = entries_by (λ k. consts_row k.items) (λ v. v) i.const_lists.entries;
   arg_lists = entries_by (λ k. args_row k.items) (λ v. v) i.arg_lists.entries;
-  pattern_lists = [];
+  pattern_lists = entries_by (λ k. pats_row k.items) (λ v. v) i.pattern_lists.entries;
   var_lists = entries_by (λ k. vars_row k.items) (λ v. v) i.var_lists.entries;
-  existential_lists = [];
+  existential_lists = entries_by (λ k. existentials_row k.items) (λ v. v) i.existential_lists.entries;
   assumption_lists = [];
   symbols = entries_by (λ k. text_row (string_bytes k)) (λ v. no_info) i.symbols.entries;
 }

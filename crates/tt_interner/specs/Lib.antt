@@ -1,3 +1,4 @@
+pub mod Clauses
 pub mod Rows
 pub mod Children
 pub mod Stored
@@ -5,3 +6,4 @@ pub mod Tables
 pub mod OwnFlags
 pub mod Kept
 pub mod Laws
+pub mod Env

@@ -1,45 +1,83 @@
 -- The rows of an interner, newest first, and what its handles mean.
-use Rattle.std.specs.Prelude.{◌≢◌, ◌≡◌, ℕ, ◌==◌, ◌<◌, Bool, ◌&&◌, List, [], ◌∷◌, ◌++◌, length, ⊤, if◌then◌else◌}
+use Rattle.std.specs.Prelude.{◌≢◌, ◌≡◌, ℕ, ◌==◌, ◌<◌, Bool, ◌&&◌, List, [], ◌∷◌, ◌++◌, length, ⊤, if◌then◌else◌, IsTrue}
 use Rattle.tt_kinds.specs.Tree as tree
 use Rattle.tt_kinds.specs.Label.{text_label}
 use Rattle.tt_kinds.specs.Shape.{Shape, Shapes, param, bound, region, term, node, binder, stored, none, also, Meaning, fill, Sizes, HasParts, IsTooDeep}
-use Rattle.tt_kinds.specs.Kinds.{ty_kind_shape, tys_row_shape, args_row_shape, vars_row_shape, text_row_shape}
+use Rattle.tt_kinds.specs.Kinds.{ty_kind_shape, const_kind_shape, pattern_kind_shape, predicate_kind_shape, existential_kind_shape, clauses_row_shape, tys_row_shape, consts_row_shape, args_row_shape, pats_row_shape, vars_row_shape, existentials_row_shape, text_row_shape}
 use Rattle.tt_kinds.specs.declared.handle.Ty.{Ty}
+use Rattle.tt_kinds.specs.declared.handle.Const.{Const}
+use Rattle.tt_kinds.specs.declared.handle.Pat.{Pat}
+use Rattle.tt_kinds.specs.declared.handle.Clause.{Clause}
+use Rattle.tt_kinds.specs.declared.handle.PolyExistentialPredicate.{PolyExistentialPredicate}
+use Rattle.tt_kinds.specs.declared.binder.Binder.{Binder}
+use Rattle.tt_kinds.specs.declared.const_kind.ConstKind.{ConstKind}
+use Rattle.tt_kinds.specs.declared.pattern.PatternKind.{PatternKind}
+use Rattle.tt_kinds.specs.declared.predicate_kind.PredicateKind.{PredicateKind}
+use Rattle.tt_kinds.specs.declared.existential.ExistentialPredicate.{ExistentialPredicate}
 use Rattle.tt_kinds.specs.declared.generic_arg.GenericArgKind.{GenericArgKind}
 use Rattle.tt_kinds.specs.declared.bound.BoundVariableKind.{BoundVariableKind}
 use Rattle.tt_kinds.specs.declared.ty_kind.TyKind.{TyKind}
 use Rattle.tt_kinds.specs.declared.parts.Kind.{Kind}
 use Rattle.tt_kinds.specs.declared.parts.Kind.TheVariants as kind
+use Rattle.tt_interner.specs.Clauses.{is_clause_tree}
 use Rattle.tt_kinds.specs.declared.table.Table.{Table}
 use Rattle.tt_kinds.specs.declared.table.Table.TheVariants.{Types, Consts, Patterns, Predicates, Existentials, ClauseLists, TypeLists, ConstLists, ArgLists, PatternLists, VarLists, ExistentialLists, AssumptionLists, Symbols}
 
 -- what is stored
 pub data Row : Type 0 where
   type_row : TyKind → Row
+  const_row : ConstKind → Row
+  pat_row : PatternKind → Row
+  predicate_row : Binder PredicateKind → Row
+  existential_row : Binder ExistentialPredicate → Row
+  clauses_row : List Clause → Row
   tys_row : List Ty → Row
+  consts_row : List Const → Row
   args_row : List GenericArgKind → Row
+  pats_row : List Pat → Row
   vars_row : List BoundVariableKind → Row
+  existentials_row : List PolyExistentialPredicate → Row
   text_row : List ℕ → Row
 
 -- the table that a row stands in
 abbrev pub row_table : Row → Table
 row_table (type_row k) = Types
+row_table (const_row k) = Consts
+row_table (pat_row k) = Patterns
+row_table (predicate_row p) = Predicates
+row_table (existential_row p) = Existentials
+row_table (clauses_row clauses) = ClauseLists
 row_table (tys_row tys) = TypeLists
+row_table (consts_row consts) = ConstLists
 row_table (args_row args) = ArgLists
+row_table (pats_row pats) = PatternLists
 row_table (vars_row vars) = VarLists
+row_table (existentials_row ps) = ExistentialLists
 row_table (text_row bytes) = Symbols
 
 -- what a row holds
 abbrev pub row_shape : Row → Shape
 row_shape (type_row k) = ty_kind_shape k
+row_shape (const_row k) = const_kind_shape k
+row_shape (pat_row k) = pattern_kind_shape k
+row_shape (predicate_row p) = predicate_kind_shape p
+row_shape (existential_row p) = existential_kind_shape p
+row_shape (clauses_row clauses) = clauses_row_shape clauses
 row_shape (tys_row tys) = tys_row_shape tys
+row_shape (consts_row consts) = consts_row_shape consts
 row_shape (args_row args) = args_row_shape args
+row_shape (pats_row pats) = pats_row_shape pats
 row_shape (vars_row vars) = vars_row_shape vars
+row_shape (existentials_row ps) = existentials_row_shape ps
 row_shape (text_row bytes) = text_row_shape bytes
 
 -- the row of a kind
 abbrev pub kind_row : Kind → Row
 kind_row (kind.Ty k) = type_row k
+kind_row (kind.Const k) = const_row k
+kind_row (kind.Pat k) = pat_row k
+kind_row (kind.Predicate p) = predicate_row p
+kind_row (kind.Existential p) = existential_row p
 
 -- the place of a table among all tables
 abbrev pub table_number : Table → ℕ
@@ -86,10 +124,25 @@ unfoldable pub IsNew : Row → List Row → Type 0
 IsNew r [] = ⊤
 IsNew r (q ∷ rows) = (q ≢ r) × IsNew r rows
 
--- each row is stored once, names only rows before it, and has no index that is too great
+-- the number is that of a predicate that is a clause
+pub record IsClause (rows : List Row) (n : ℕ) : Type 0 where
+  pub within : n < size rows Predicates
+  pub clause : IsTrue (is_clause_tree (meaning rows Predicates n))
+
+-- the same of clauses in order
+abbrev pub AreClauses : List Row → List Clause → Type 0
+AreClauses rows [] = ⊤
+AreClauses rows (c ∷ cs) = IsClause rows c.number × AreClauses rows cs
+
+-- where the row is a list of clauses, it holds nothing else
+abbrev pub HoldsClauses : List Row → Row → Type 0
+HoldsClauses rows (clauses_row cs) = AreClauses rows cs
+HoldsClauses rows _ = ⊤
+
+-- each row is stored once, names only rows before it, has no index that is too great, and is no list of clauses with another item
 unfoldable pub AreRows : List Row → Type 0
 AreRows [] = ⊤
-AreRows (r ∷ rows) = HasParts (size rows) (row_shape r) × IsNew r rows × (IsTooDeep (row_shape r) → ⊥) × AreRows rows
+AreRows (r ∷ rows) = HasParts (size rows) (row_shape r) × IsNew r rows × (IsTooDeep (row_shape r) → ⊥) × HoldsClauses rows r × AreRows rows
 
 -- the handles that stand in a shape came before so many rows
 abbrev mutual

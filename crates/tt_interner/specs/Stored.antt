@@ -1,20 +1,22 @@
 -- What contracts see of an interner, and what its calls promise.
-use Rattle.std.specs.Prelude.{◌≡◌, ℕ, ◌+◌, ◌<◌, ◌≤◌, List, [], ◌∷◌, Result, Ok, Err, IfOk, OnErr, IfErr, Some, ◌⊎◌, ⊤, slice_get, nat_lt, cond}
+use Rattle.std.specs.Prelude.{◌≡◌, ℕ, ◌+◌, ◌<◌, ◌≤◌, List, [], ◌∷◌, Result, Ok, Err, IfOk, OnOk, OnErr, IfErr, Some, ◌⊎◌, ⊤, slice_get, nat_lt, cond}
 use Rattle.tt_flags.specs.declared.flag_computation.FlagComputation.{FlagComputation}
 use Rattle.tt_index.specs.declared.refusal.Refusal.{Refusal}
-use Rattle.tt_index.specs.declared.refusal.Refusal.TheVariants.{Memory, TableFull, GreatestIndex}
-use Rattle.tt_kinds.specs.Label.{list_label}
-use Rattle.tt_kinds.specs.Tree.{Tree, Depth, node}
+use Rattle.tt_index.specs.declared.refusal.Refusal.TheVariants.{Memory, TableFull, GreatestIndex, NotAClause}
+use Rattle.tt_kinds.specs.Label.{clause_list_label}
+use Rattle.tt_kinds.specs.Tree as tree
+use Rattle.tt_kinds.specs.Tree.{Tree, Depth}
 use Rattle.tt_kinds.specs.Parts.{list_number, list_sort, sort_list_table}
-use Rattle.tt_kinds.specs.Kinds.{children_shapes}
+use Rattle.tt_kinds.specs.Kinds.{children_shapes, items_tree}
 use Rattle.tt_kinds.specs.declared.parts.List.{List as StoredList}
 use Rattle.tt_kinds.specs.declared.parts.ListSort.{ListSort}
 use Rattle.tt_kinds.specs.declared.parts.Child.{Child}
 use Rattle.tt_kinds.specs.Scan.{scan}
 use Rattle.tt_kinds.specs.Reading.{outer_binder}
 use Rattle.tt_kinds.specs.Shape.{fill, fill_all, IsTooDeep}
+use Rattle.tt_interner.specs.Clauses.{HasOther}
 use Rattle.tt_interner.specs.Children.{items_row}
-use Rattle.tt_interner.specs.Rows.{Row, tys_row, args_row, vars_row, text_row, row_table, row_shape, table, size, meaning, IsNew, Grows}
+use Rattle.tt_interner.specs.Rows.{Row, clauses_row, tys_row, consts_row, args_row, pats_row, vars_row, existentials_row, text_row, row_table, row_shape, table, size, meaning, IsNew, Grows}
 
 -- how often a folder took a type apart: the argument folder, and the shifter
 pub record Counters : Type 0 where
@@ -51,13 +53,18 @@ IsAt rows r n = slice_get (table (row_table r) rows) n ≡ Some r
 
 -- what an interner has from the start, newest first: the empty lists, and the name `'_`
 abbrev pub first_rows : List Row
-first_rows = text_row (39 ∷ 95 ∷ []) ∷ vars_row [] ∷ args_row [] ∷ tys_row [] ∷ []
+first_rows =
+    text_row (39 ∷ 95 ∷ []) ∷ existentials_row [] ∷ clauses_row [] ∷ pats_row [] ∷ consts_row [] ∷ vars_row [] ∷ args_row [] ∷ tys_row [] ∷ []
 
 -- the rows that the defaults of the handles name
 pub record HasFirst (rows : List Row) : Type 0 where
   pub types : IsAt rows (tys_row []) 0
   pub args : IsAt rows (args_row []) 0
   pub vars : IsAt rows (vars_row []) 0
+  pub consts : IsAt rows (consts_row []) 0
+  pub pats : IsAt rows (pats_row []) 0
+  pub clauses : IsAt rows (clauses_row []) 0
+  pub existentials : IsAt rows (existentials_row []) 0
   pub text : IsAt rows (text_row (39 ∷ 95 ∷ [])) 0
 
 -- r was stored under the number, or is now the newest row
@@ -99,19 +106,27 @@ pub record Builds {H : Type 0} (result : Result H Refusal) (number : H → ℕ) 
   pub deep : IsTooDeep (row_shape r) → result ≡ Err GreatestIndex
   pub full : IsNew r old.rows → (IsTooDeep (row_shape r) → ⊥) → old.limit ≤ size old.rows (row_table r) → result ≡ Err TableFull
 
--- why the term of this tree was not stored: want of memory, or it is new and its table holds its limit
+-- the tree is a list of clauses with an item that is no clause
+abbrev pub IsNoClauseList : Tree Depth → Type 0
+IsNoClauseList (tree.term clause_list_label ts) = HasOther ts
+IsNoClauseList _ = ⊥
+
+-- why the term of this tree was not stored: want of memory, it is new and its table holds its limit, or it is a list of clauses with an item that is none
 abbrev pub IsUnbuilt : Terms → Tree Depth → Refusal → Type 0
 IsUnbuilt terms u Memory = ⊤
 IsUnbuilt terms u TableFull = (r : Row) × (fill (meaning terms.rows) (row_shape r) ≡ u) × IsNew r terms.rows × (terms.limit ≤ size terms.rows (row_table r))
+IsUnbuilt terms u NotAClause = IsNoClauseList u
 IsUnbuilt terms u _ = ⊥
 
 -- the result is the list of these children, which is added if it is new
 pub record StoresList (result : Result StoredList Refusal) (old new : Terms) (sort : ListSort) (items : List Child) : Type 0 where
   pub in_range : IfOk result (λ l. list_number l < size new.rows (sort_list_table sort))
-  pub means : IfOk result (λ l. meaning new.rows (sort_list_table sort) (list_number l) ≡ node (list_label (sort_list_table sort)) (fill_all (meaning old.rows) (children_shapes items)))
+  pub means : IfOk result (λ l. meaning new.rows (sort_list_table sort) (list_number l) ≡ items_tree sort (fill_all (meaning old.rows) (children_shapes items)))
   pub extends : Extends old new
   pub counters : new.counters ≡ old.counters
   pub err : OnErr result (new ≡ old)
-  pub cause : IfErr result (IsUnbuilt old (node (list_label (sort_list_table sort)) (fill_all (meaning old.rows) (children_shapes items))))
+  pub cause : IfErr result (IsUnbuilt old (items_tree sort (fill_all (meaning old.rows) (children_shapes items))))
+  -- a list of clauses with another item is never stored
+  pub refused : OnOk result (IsNoClauseList (items_tree sort (fill_all (meaning old.rows) (children_shapes items))) → ⊥)
   pub of_sort : IfOk result (λ l. list_sort l ≡ sort)
   pub stored : IfOk result (λ l. Stores old.rows new.rows (items_row sort items) (list_number l))

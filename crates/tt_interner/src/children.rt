@@ -2,12 +2,21 @@
 
 ghost use Rattle.std.specs.Prelude.{◌≡◌, ◌<◌, ◌≤◌, length, slice_get, take, map, All, IfOk, Some};
 ghost use Rattle.tt_kinds.specs.Parts.{child_sort, IsItem};
+ghost use Rattle.tt_kinds.specs.Shape.{AreParts};
+ghost use Rattle.tt_kinds.specs.Kinds.{children_shapes};
 ghost use Rattle.tt_kinds.specs.declared.parts.ListSort.{ListSort};
 ghost use Rattle.tt_kinds.specs.declared.parts.Child.{Child};
-ghost use Rattle.tt_interner.specs.Children.{arg_child};
+ghost use Rattle.tt_interner.specs.Rows.{size};
+ghost use Rattle.tt_interner.specs.Children.{arg_child, clause_child};
+ghost use Rattle.tt_interner.specs.Stored.{StoresList};
 
+use crate::interner::Interner;
 use std::alloc::{AllocError, Global};
-use tt_kinds::{Child, GenericArg, GenericArgKind, Node, Ty};
+use tt_index::Refusal;
+use tt_kinds::{
+    Child, Clause, Const, GenericArg, GenericArgKind, List, Node, Pat, PolyExistentialPredicate,
+    Predicate, Ty,
+};
 
 /// The item at this place.
 pub(crate) fn item_at<T: Copy>(items: &[T], index: usize) -> T
@@ -24,11 +33,19 @@ pub(crate) fn arg_child(arg: GenericArg) -> Child
     match arg.kind() {
         GenericArgKind::Lifetime(region) => Child::Region(region),
         GenericArgKind::Type(ty) => Child::Node(Node::Ty(ty)),
+        GenericArgKind::Const(constant) => Child::Node(Node::Const(constant)),
     }
 }
 
+/// The clause, as a child.
+pub(crate) fn clause_child(clause: Clause) -> Child
+    ensures { result ≡ clause_child clause }
+{
+    Child::Node(Node::Predicate(Predicate::from_number(clause.number())))
+}
+
 /// What a list of one sort holds.
-pub(crate) trait ListItem: Copy {
+pub(crate) trait ListItem: Copy + Drop {
     ghost sort: { ListSort };
 
     ghost as_child: { Self → Child };
@@ -40,6 +57,22 @@ pub(crate) trait ListItem: Copy {
     fn from_child(child: &Child) -> Self
         requires { IsItem sort (child_sort child.now) }
         ensures { as_child result ≡ child.now };
+}
+
+/// What a list of one sort holds, with the call that stores it.
+pub(crate) trait StoredItem: ListItem {
+    /// The stored list of these items. They have to be of the interner.
+    fn store(cx: &mut Interner, items: &[Self]) -> Result<List, Refusal>
+        requires { AreParts (size cx.old.rows) (children_shapes (map Self.as_child items.now)) }
+        ensures { StoresList result cx.old cx.new Self.sort (map Self.as_child items.now) };
+
+    /// The stored list of the items that stand as these children, of which there are at most 8. They are looked up from
+    /// the stack.
+    fn store_few(cx: &mut Interner, children: &[Child]) -> Result<List, Refusal>
+        requires few { length children.now ≤ 8 }
+        requires parts { AreParts (size cx.old.rows) (children_shapes children.now) }
+        requires fit { All (λ c. IsItem Self.sort (child_sort c)) children.now }
+        ensures { StoresList result cx.old cx.new Self.sort children.now };
 }
 
 impl ListItem for Ty {
@@ -59,6 +92,165 @@ impl ListItem for Ty {
     }
 }
 
+impl StoredItem for Ty {
+    fn store(cx: &mut Interner, items: &[Ty]) -> Result<List, Refusal> {
+        let list = match cx.mk_tys(items) {
+            Ok(list) => list,
+            Err(e) => return Err(e),
+        };
+        Ok(List::Tys(list))
+    }
+
+    fn store_few(cx: &mut Interner, children: &[Child]) -> Result<List, Refusal> {
+        let few: [Ty; 8] = collect_few(children);
+        Ty::store(cx, &few[..children.len()])
+    }
+}
+
+impl ListItem for Const {
+    ghost use Rattle.tt_kinds.specs.declared.parts.ListSort.TheVariants.{Consts};
+    ghost use Rattle.tt_interner.specs.Children.{const_child};
+
+    ghost sort = { Consts };
+
+    ghost as_child = { const_child };
+
+    fn filler() -> Const {
+        Const::from_number(0)
+    }
+
+    fn from_child(child: &Child) -> Const {
+        match child {
+            Child::Node(Node::Const(constant)) => *constant,
+            _ => unreachable!(),
+        }
+    }
+}
+
+impl StoredItem for Const {
+    fn store(cx: &mut Interner, items: &[Const]) -> Result<List, Refusal> {
+        let list = match cx.mk_consts(items) {
+            Ok(list) => list,
+            Err(e) => return Err(e),
+        };
+        Ok(List::Consts(list))
+    }
+
+    fn store_few(cx: &mut Interner, children: &[Child]) -> Result<List, Refusal> {
+        let few: [Const; 8] = collect_few(children);
+        Const::store(cx, &few[..children.len()])
+    }
+}
+
+impl ListItem for Pat {
+    ghost use Rattle.tt_kinds.specs.declared.parts.ListSort.TheVariants.{Pats};
+    ghost use Rattle.tt_interner.specs.Children.{pat_child};
+
+    ghost sort = { Pats };
+
+    ghost as_child = { pat_child };
+
+    fn filler() -> Pat {
+        Pat::from_number(0)
+    }
+
+    fn from_child(child: &Child) -> Pat {
+        match child {
+            Child::Node(Node::Pat(pat)) => *pat,
+            _ => unreachable!(),
+        }
+    }
+}
+
+impl StoredItem for Pat {
+    fn store(cx: &mut Interner, items: &[Pat]) -> Result<List, Refusal> {
+        let list = match cx.mk_pat_list(items) {
+            Ok(list) => list,
+            Err(e) => return Err(e),
+        };
+        Ok(List::Pats(list))
+    }
+
+    fn store_few(cx: &mut Interner, children: &[Child]) -> Result<List, Refusal> {
+        let few: [Pat; 8] = collect_few(children);
+        Pat::store(cx, &few[..children.len()])
+    }
+}
+
+impl ListItem for PolyExistentialPredicate {
+    ghost use Rattle.tt_kinds.specs.declared.parts.ListSort.TheVariants.{Existentials};
+    ghost use Rattle.tt_interner.specs.Children.{existential_child};
+
+    ghost sort = { Existentials };
+
+    ghost as_child = { existential_child };
+
+    fn filler() -> PolyExistentialPredicate {
+        PolyExistentialPredicate::from_number(0)
+    }
+
+    fn from_child(child: &Child) -> PolyExistentialPredicate {
+        match child {
+            Child::Node(Node::Existential(predicate)) => *predicate,
+            _ => unreachable!(),
+        }
+    }
+}
+
+impl StoredItem for PolyExistentialPredicate {
+    fn store(cx: &mut Interner, items: &[PolyExistentialPredicate]) -> Result<List, Refusal> {
+        let list = match cx.mk_existential_list(items) {
+            Ok(list) => list,
+            Err(e) => return Err(e),
+        };
+        Ok(List::Existentials(list))
+    }
+
+    fn store_few(cx: &mut Interner, children: &[Child]) -> Result<List, Refusal> {
+        let few: [PolyExistentialPredicate; 8] = collect_few(children);
+        PolyExistentialPredicate::store(cx, &few[..children.len()])
+    }
+}
+
+impl ListItem for Clause {
+    ghost use Rattle.tt_kinds.specs.declared.parts.ListSort.TheVariants.{Clauses};
+    ghost use Rattle.tt_interner.specs.Children.{clause_child};
+
+    ghost sort = { Clauses };
+
+    ghost as_child = { clause_child };
+
+    fn filler() -> Clause {
+        Clause::from_number(0)
+    }
+
+    fn from_child(child: &Child) -> Clause {
+        match child {
+            Child::Node(Node::Predicate(predicate)) => Clause::from_number(predicate.number()),
+            _ => unreachable!(),
+        }
+    }
+}
+
+impl StoredItem for Clause {
+    // Children are predicates of any kind, so each is looked at.
+    fn store(cx: &mut Interner, items: &[Clause]) -> Result<List, Refusal> {
+        if !cx.are_clauses(items) {
+            return Err(Refusal::NotAClause);
+        }
+        let list = match cx.mk_clauses(items) {
+            Ok(list) => list,
+            Err(e) => return Err(e),
+        };
+        Ok(List::Clauses(list))
+    }
+
+    fn store_few(cx: &mut Interner, children: &[Child]) -> Result<List, Refusal> {
+        let few: [Clause; 8] = collect_few(children);
+        Clause::store(cx, &few[..children.len()])
+    }
+}
+
 impl ListItem for GenericArg {
     ghost use Rattle.tt_kinds.specs.declared.parts.ListSort.TheVariants.{Args};
     ghost use Rattle.tt_interner.specs.Children.{arg_child};
@@ -75,8 +267,24 @@ impl ListItem for GenericArg {
         match child {
             Child::Region(region) => GenericArg::from(*region),
             Child::Node(Node::Ty(ty)) => GenericArg::from(*ty),
+            Child::Node(Node::Const(constant)) => GenericArg::from(*constant),
             _ => unreachable!(),
         }
+    }
+}
+
+impl StoredItem for GenericArg {
+    fn store(cx: &mut Interner, items: &[GenericArg]) -> Result<List, Refusal> {
+        let list = match cx.mk_args(items) {
+            Ok(list) => list,
+            Err(e) => return Err(e),
+        };
+        Ok(List::Args(list))
+    }
+
+    fn store_few(cx: &mut Interner, children: &[Child]) -> Result<List, Refusal> {
+        let few: [GenericArg; 8] = collect_few(children);
+        GenericArg::store(cx, &few[..children.len()])
     }
 }
 
@@ -103,4 +311,23 @@ pub(crate) fn collect<T: ListItem>(alloc: Global, children: &[Child]) -> Result<
         items.push(T::from_child(child))?;
     }
     Ok(items)
+}
+
+/// The stored list of the items that stand as these children. Lists of few items are looked up from the stack.
+pub(crate) fn store_items<T: StoredItem>(
+    cx: &mut Interner,
+    children: &[Child],
+) -> Result<List, Refusal>
+    requires parts { AreParts (size cx.old.rows) (children_shapes children.now) }
+    requires fit { All (λ c. IsItem T.sort (child_sort c)) children.now }
+    ensures { StoresList result cx.old cx.new T.sort children.now }
+{
+    if children.len() <= 8 {
+        return T::store_few(cx, children);
+    }
+    let many: Vec<T> = match collect(cx.allocator(), children) {
+        Ok(many) => many,
+        Err(_) => return Err(Refusal::Memory),
+    };
+    T::store(cx, many.as_slice())
 }

@@ -3,9 +3,9 @@
 ghost use Rattle.std.specs.Prelude.{◌≡◌, ◌↔◌, ◌<◌, ℕ, map, IsTrue};
 ghost use Rattle.tt_kinds.specs.Bound.{var_kind};
 ghost use Rattle.tt_kinds.specs.Parts.{node_number, node_table, list_number, list_table};
-ghost use Rattle.tt_kinds.specs.Label.{Sort, type_sort, Label, type_label, list_flags};
+ghost use Rattle.tt_kinds.specs.Label.{Sort, type_sort, const_sort, Label, type_label, const_label, list_flags};
 ghost use Rattle.tt_kinds.specs.Shape.{Shape, Meaning, fill, fill_all, item_shapes, stored, IsPart, AreParts, HasParts, IsTooDeep};
-ghost use Rattle.tt_kinds.specs.Kinds.{Form, form_shape, relabelled, ty_form, ty_kind_shape, region_shape, child_shapes, parts_shapes};
+ghost use Rattle.tt_kinds.specs.Kinds.{Form, form_shape, relabelled, ty_form, const_form, kind_form, kind_sort, kind_shape, ty_kind_shape, const_kind_shape, predicate_kind_shape, clauses_row_shape, clause_shape, region_shape, child_shapes, parts_shapes};
 ghost use Rattle.tt_kinds.specs.Reading.{outer_binder};
 ghost use Rattle.tt_kinds.specs.Scan.{scan};
 ghost use Rattle.tt_flags.specs.FlagComputation.{computed};
@@ -18,8 +18,10 @@ use crate::interner::Interner;
 use tt_flags::{FlagComputation, TypeFlags};
 use tt_index::DebruijnIndex;
 use tt_kinds::{
-    BoundVarIndexKind, BoundVarKinds, BoundVariableKind, Child, GenericArg, GenericArgKind,
-    GenericArgs, InferTy, List, Node, Parts, Region, Ty, TyKind, Tys,
+    AliasTyKind, Binder, BoundExistentialPredicates, BoundVarIndexKind, BoundVarKinds,
+    BoundVariableKind, Child, Clause, Clauses, Const, ConstKind, Consts, GenericArg,
+    GenericArgKind, GenericArgs, InferConst, InferTy, Kind, List, Node, Parts, Pat, PatList,
+    PolyExistentialPredicate, Predicate, PredicateKind, Region, Ty, TyKind, Tys,
 };
 
 /// What has its flags and its outer exclusive binder at hand. What stands in it has to be of the interner.
@@ -51,6 +53,152 @@ impl Flags for Ty {
     #[tactic(auto, unfolding(tt_kinds::specs::Shape::IsPart, tt_kinds::specs::Shape::fill))]
     fn outer_exclusive_binder(&self, cx: &Interner) -> DebruijnIndex {
         cx.ty_info(*self).outer_exclusive_binder
+    }
+}
+
+impl Flags for Const {
+    ghost use Rattle.tt_kinds.specs.Kinds.{const_shape};
+
+    ghost flags_shape = { const_shape };
+
+    #[tactic(auto, unfolding(tt_kinds::specs::Shape::IsPart, tt_kinds::specs::Shape::fill))]
+    fn flags(&self, cx: &Interner) -> TypeFlags {
+        cx.const_info(*self).flags
+    }
+
+    #[tactic(auto, unfolding(tt_kinds::specs::Shape::IsPart, tt_kinds::specs::Shape::fill))]
+    fn outer_exclusive_binder(&self, cx: &Interner) -> DebruijnIndex {
+        cx.const_info(*self).outer_exclusive_binder
+    }
+}
+
+impl Flags for Pat {
+    ghost use Rattle.tt_kinds.specs.Kinds.{pat_shape};
+
+    ghost flags_shape = { pat_shape };
+
+    #[tactic(auto, unfolding(tt_kinds::specs::Shape::IsPart, tt_kinds::specs::Shape::fill))]
+    fn flags(&self, cx: &Interner) -> TypeFlags {
+        cx.pat_info(*self).flags
+    }
+
+    #[tactic(auto, unfolding(tt_kinds::specs::Shape::IsPart, tt_kinds::specs::Shape::fill))]
+    fn outer_exclusive_binder(&self, cx: &Interner) -> DebruijnIndex {
+        cx.pat_info(*self).outer_exclusive_binder
+    }
+}
+
+impl Flags for Predicate {
+    ghost use Rattle.tt_kinds.specs.Kinds.{predicate_shape};
+
+    ghost flags_shape = { predicate_shape };
+
+    #[tactic(auto, unfolding(tt_kinds::specs::Shape::IsPart, tt_kinds::specs::Shape::fill))]
+    fn flags(&self, cx: &Interner) -> TypeFlags {
+        cx.predicate_info(*self).flags
+    }
+
+    #[tactic(auto, unfolding(tt_kinds::specs::Shape::IsPart, tt_kinds::specs::Shape::fill))]
+    fn outer_exclusive_binder(&self, cx: &Interner) -> DebruijnIndex {
+        cx.predicate_info(*self).outer_exclusive_binder
+    }
+}
+
+impl Flags for Clause {
+    ghost use Rattle.tt_kinds.specs.Kinds.{clause_shape};
+
+    ghost flags_shape = { clause_shape };
+
+    #[tactic(auto, unfolding(tt_kinds::specs::Shape::IsPart, tt_kinds::specs::Shape::fill))]
+    fn flags(&self, cx: &Interner) -> TypeFlags {
+        cx.predicate_info(Predicate::from_number(self.number()))
+            .flags
+    }
+
+    #[tactic(auto, unfolding(tt_kinds::specs::Shape::IsPart, tt_kinds::specs::Shape::fill))]
+    fn outer_exclusive_binder(&self, cx: &Interner) -> DebruijnIndex {
+        cx.predicate_info(Predicate::from_number(self.number()))
+            .outer_exclusive_binder
+    }
+}
+
+impl Flags for PolyExistentialPredicate {
+    ghost use Rattle.tt_kinds.specs.Kinds.{existential_shape};
+
+    ghost flags_shape = { existential_shape };
+
+    #[tactic(auto, unfolding(tt_kinds::specs::Shape::IsPart, tt_kinds::specs::Shape::fill))]
+    fn flags(&self, cx: &Interner) -> TypeFlags {
+        cx.existential_info(*self).flags
+    }
+
+    #[tactic(auto, unfolding(tt_kinds::specs::Shape::IsPart, tt_kinds::specs::Shape::fill))]
+    fn outer_exclusive_binder(&self, cx: &Interner) -> DebruijnIndex {
+        cx.existential_info(*self).outer_exclusive_binder
+    }
+}
+
+impl Flags for Clauses {
+    ghost use Rattle.tt_kinds.specs.Kinds.{clauses_shape};
+
+    ghost flags_shape = { clauses_shape };
+
+    #[tactic(auto, unfolding(tt_kinds::specs::Shape::IsPart, tt_kinds::specs::Shape::fill))]
+    fn flags(&self, cx: &Interner) -> TypeFlags {
+        cx.clauses_info(*self).flags
+    }
+
+    #[tactic(auto, unfolding(tt_kinds::specs::Shape::IsPart, tt_kinds::specs::Shape::fill))]
+    fn outer_exclusive_binder(&self, cx: &Interner) -> DebruijnIndex {
+        cx.clauses_info(*self).outer_exclusive_binder
+    }
+}
+
+impl Flags for Consts {
+    ghost use Rattle.tt_kinds.specs.Kinds.{consts_shape};
+
+    ghost flags_shape = { consts_shape };
+
+    #[tactic(auto, unfolding(tt_kinds::specs::Shape::IsPart, tt_kinds::specs::Shape::fill))]
+    fn flags(&self, cx: &Interner) -> TypeFlags {
+        cx.consts_info(*self).flags
+    }
+
+    #[tactic(auto, unfolding(tt_kinds::specs::Shape::IsPart, tt_kinds::specs::Shape::fill))]
+    fn outer_exclusive_binder(&self, cx: &Interner) -> DebruijnIndex {
+        cx.consts_info(*self).outer_exclusive_binder
+    }
+}
+
+impl Flags for PatList {
+    ghost use Rattle.tt_kinds.specs.Kinds.{pats_shape};
+
+    ghost flags_shape = { pats_shape };
+
+    #[tactic(auto, unfolding(tt_kinds::specs::Shape::IsPart, tt_kinds::specs::Shape::fill))]
+    fn flags(&self, cx: &Interner) -> TypeFlags {
+        cx.pat_list_info(*self).flags
+    }
+
+    #[tactic(auto, unfolding(tt_kinds::specs::Shape::IsPart, tt_kinds::specs::Shape::fill))]
+    fn outer_exclusive_binder(&self, cx: &Interner) -> DebruijnIndex {
+        cx.pat_list_info(*self).outer_exclusive_binder
+    }
+}
+
+impl Flags for BoundExistentialPredicates {
+    ghost use Rattle.tt_kinds.specs.Kinds.{existentials_shape};
+
+    ghost flags_shape = { existentials_shape };
+
+    #[tactic(auto, unfolding(tt_kinds::specs::Shape::IsPart, tt_kinds::specs::Shape::fill))]
+    fn flags(&self, cx: &Interner) -> TypeFlags {
+        cx.existentials_info(*self).flags
+    }
+
+    #[tactic(auto, unfolding(tt_kinds::specs::Shape::IsPart, tt_kinds::specs::Shape::fill))]
+    fn outer_exclusive_binder(&self, cx: &Interner) -> DebruijnIndex {
+        cx.existentials_info(*self).outer_exclusive_binder
     }
 }
 
@@ -127,6 +275,7 @@ impl Flags for GenericArg {
         match self.kind() {
             GenericArgKind::Lifetime(region) => region_info(region).flags,
             GenericArgKind::Type(ty) => ty.flags(cx),
+            GenericArgKind::Const(constant) => constant.flags(cx),
         }
     }
 
@@ -134,6 +283,7 @@ impl Flags for GenericArg {
         match self.kind() {
             GenericArgKind::Lifetime(region) => region_info(region).outer_exclusive_binder,
             GenericArgKind::Type(ty) => ty.outer_exclusive_binder(cx),
+            GenericArgKind::Const(constant) => constant.outer_exclusive_binder(cx),
         }
     }
 }
@@ -188,6 +338,13 @@ impl OwnFlags for TyKind {
                     TypeFlags::HAS_TY_FRESH,
             },
             TyKind::Error(_) => TypeFlags::HAS_NON_REGION_ERROR,
+            TyKind::Coroutine(_, _) => TypeFlags::HAS_TY_CORO,
+            TyKind::Alias(alias) => match alias.kind {
+                AliasTyKind::Projection { .. } => TypeFlags::HAS_TY_PROJECTION,
+                AliasTyKind::Inherent { .. } => TypeFlags::HAS_TY_INHERENT,
+                AliasTyKind::Opaque { .. } => TypeFlags::HAS_TY_OPAQUE,
+                AliasTyKind::Free { .. } => TypeFlags::HAS_TY_FREE_ALIAS,
+            },
             _ => TypeFlags::empty(),
         }
     }
@@ -200,29 +357,120 @@ impl OwnFlags for TyKind {
     }
 }
 
-/// What is computed of a term that isn't stored yet.
+impl OwnFlags for ConstKind {
+    ghost form = { λ k. relabelled const_label (const_form k) };
+
+    ghost sort = { const_sort };
+
+    fn is_too_deep(&self) -> bool {
+        match self {
+            ConstKind::Bound(index, _) => !index.is_shallow(),
+            _ => false,
+        }
+    }
+
+    fn own_flags(&self) -> TypeFlags {
+        match self {
+            ConstKind::Param(_) => TypeFlags::HAS_CT_PARAM,
+            ConstKind::Infer(variable) => match variable {
+                InferConst::Var(_) => TypeFlags::HAS_CT_INFER,
+                InferConst::Fresh(_) => TypeFlags::HAS_CT_FRESH,
+            },
+            ConstKind::Bound(index, _) => match index {
+                BoundVarIndexKind::Bound(_) => TypeFlags::HAS_CT_BOUND,
+                BoundVarIndexKind::Canonical => TypeFlags::HAS_CT_BOUND.union(
+                    TypeFlags::HAS_CANONICAL_BOUND,
+                ),
+            },
+            ConstKind::Placeholder(_) => TypeFlags::HAS_CT_PLACEHOLDER,
+            ConstKind::Unevaluated(_) => TypeFlags::HAS_CT_PROJECTION,
+            ConstKind::Error(_) => TypeFlags::HAS_NON_REGION_ERROR,
+            ConstKind::Value(_) | ConstKind::Expr(_) => TypeFlags::empty(),
+        }
+    }
+
+    fn own_outer_exclusive_binder(&self) -> DebruijnIndex {
+        match self {
+            ConstKind::Bound(index, _) => index.outer_exclusive_binder(),
+            _ => DebruijnIndex::INNERMOST,
+        }
+    }
+}
+
+/// What is computed of a term that isn't stored yet. What stands in it has to be of the interner.
 pub trait ForKind {
-    /// The flags of a type of this kind, and how far its bound variables reach. What stands in the kind has to be of the
-    /// interner, and [`OwnFlags::is_too_deep`] must not hold.
+    /// The flags of a type of this kind, and how far its bound variables reach. [`OwnFlags::is_too_deep`] must not hold.
     fn for_kind(cx: &Interner, kind: &TyKind) -> FlagComputation
         requires parts { HasParts (size cx.now.rows) (ty_kind_shape kind.now) }
         requires shallow { IsTooDeep (ty_kind_shape kind.now) → ⊥ }
         ensures { IsInfo result (fill (meaning cx.now.rows) (ty_kind_shape kind.now)) };
+
+    /// The same of a constant of this kind. [`OwnFlags::is_too_deep`] must not hold.
+    fn for_const_kind(cx: &Interner, kind: &ConstKind) -> FlagComputation
+        requires parts { HasParts (size cx.now.rows) (const_kind_shape kind.now) }
+        requires shallow { IsTooDeep (const_kind_shape kind.now) → ⊥ }
+        ensures { IsInfo result (fill (meaning cx.now.rows) (const_kind_shape kind.now)) };
+
+    /// The same of a predicate under its binder.
+    fn for_predicate(cx: &Interner, predicate: &Binder<PredicateKind>) -> FlagComputation
+        requires { HasParts (size cx.now.rows) (predicate_kind_shape predicate.now) }
+        ensures { IsInfo result (fill (meaning cx.now.rows) (predicate_kind_shape predicate.now)) };
+
+    /// The same of a list of clauses.
+    fn for_clauses(cx: &Interner, clauses: &[Clause]) -> FlagComputation
+        requires { AreParts (size cx.now.rows) (item_shapes clause_shape clauses.now) }
+        ensures { IsInfo result (fill (meaning cx.now.rows) (clauses_row_shape clauses.now)) };
 }
 
 impl ForKind for FlagComputation {
     fn for_kind(cx: &Interner, kind: &TyKind) -> FlagComputation {
-        cx.are_rows();
-        let own = FlagComputation {
+        kind_info(cx, &Kind::Ty(*kind))
+    }
+
+    fn for_const_kind(cx: &Interner, kind: &ConstKind) -> FlagComputation {
+        kind_info(cx, &Kind::Const(*kind))
+    }
+
+    fn for_predicate(cx: &Interner, predicate: &Binder<PredicateKind>) -> FlagComputation {
+        kind_info(cx, &Kind::Predicate(*predicate))
+    }
+
+    fn for_clauses(cx: &Interner, clauses: &[Clause]) -> FlagComputation {
+        items_info(cx, clauses)
+    }
+}
+
+// What is computed of a term of this kind.
+pub(crate) fn kind_info(cx: &Interner, kind: &Kind) -> FlagComputation
+    requires parts { HasParts (size cx.now.rows) (kind_shape kind.now) }
+    requires shallow { IsTooDeep (kind_shape kind.now) → ⊥ }
+    ensures { IsInfo result (fill (meaning cx.now.rows) (kind_shape kind.now)) }
+{
+    cx.are_rows();
+    let own = own_info(kind);
+    let inside = parts_info(cx, &kind.parts());
+    match kind.bound_vars() {
+        Some(vars) => own.joined(inside.under_binder(cx.bound_vars_info(vars).flags)),
+        None => own.joined(inside),
+    }
+}
+
+// What a kind has beside what is computed of its parts.
+fn own_info(kind: &Kind) -> FlagComputation
+    requires { IsTooDeep (kind_shape kind.now) → ⊥ }
+    ensures flags { result.flags.bits ≡ own_flags (kind_sort kind.now) (kind_form kind.now) }
+    ensures outer { result.outer_exclusive_binder ≡ own_reach (kind_form kind.now) }
+{
+    match kind {
+        Kind::Ty(kind) => FlagComputation {
             flags: kind.own_flags(),
             outer_exclusive_binder: kind.own_outer_exclusive_binder(),
-        };
-        let parts = kind.parts();
-        let inside = parts_info(cx, &parts);
-        match kind.bound_vars() {
-            Some(vars) => own.joined(inside.under_binder(cx.bound_vars_info(vars).flags)),
-            None => own.joined(inside),
-        }
+        },
+        Kind::Const(kind) => FlagComputation {
+            flags: kind.own_flags(),
+            outer_exclusive_binder: kind.own_outer_exclusive_binder(),
+        },
+        Kind::Pat(_) | Kind::Predicate(_) | Kind::Existential(_) => FlagComputation::new(),
     }
 }
 
@@ -258,6 +506,11 @@ fn node_info(cx: &Interner, node: Node) -> FlagComputation
 {
     match node {
         Node::Ty(ty) => cx.ty_info(ty),
+        Node::Const(constant) => cx.const_info(constant),
+        Node::Pat(pat) => cx.pat_info(pat),
+        Node::Predicate(predicate) => cx.predicate_info(predicate),
+        Node::Existential(predicate) => cx.existential_info(predicate),
+        Node::Clauses(clauses) => cx.clauses_info(clauses),
     }
 }
 
@@ -268,7 +521,11 @@ fn list_info(cx: &Interner, list: List) -> FlagComputation
 {
     match list {
         List::Tys(tys) => cx.tys_info(tys),
+        List::Consts(consts) => cx.consts_info(consts),
         List::Args(args) => cx.args_info(args),
+        List::Pats(pats) => cx.pat_list_info(pats),
+        List::Existentials(predicates) => cx.existentials_info(predicates),
+        List::Clauses(clauses) => cx.clauses_info(clauses),
     }
 }
 

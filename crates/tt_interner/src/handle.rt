@@ -1,14 +1,16 @@
 //! What handles name, read in their interner. They have to be of that interner, which its methods `owns_` test.
 
-ghost use Rattle.std.specs.Prelude.{◌<◌, ℕ, List};
+ghost use Rattle.std.specs.Prelude.{◌≡◌, ◌<◌, ℕ, List, MatchOption};
 ghost use Rattle.tt_kinds.specs.declared.table.Table.{Table};
-ghost use Rattle.tt_kinds.specs.declared.table.Table.TheVariants.{Symbols};
-ghost use Rattle.tt_interner.specs.Rows.{Row, text_row, size};
+ghost use Rattle.tt_kinds.specs.declared.table.Table.TheVariants.{Predicates, Symbols};
+ghost use Rattle.tt_interner.specs.Rows.{Row, text_row, size, IsClause};
 ghost use Rattle.tt_interner.specs.Stored.{IsAt};
 
 use crate::interner::Interner;
 use tt_kinds::{
-    BoundVarKinds, BoundVariableKind, GenericArg, GenericArgs, Symbol, Ty, TyKind, Tys,
+    Binder, BoundExistentialPredicates, BoundVarKinds, BoundVariableKind, Clause, Clauses, Const,
+    ConstKind, Consts, ExistentialPredicate, GenericArg, GenericArgs, Pat, PatList, PatternKind,
+    PolyExistentialPredicate, Predicate, PredicateKind, Symbol, Ty, TyKind, Tys,
 };
 
 /// A handle of a stored term that has a kind.
@@ -43,6 +45,74 @@ impl InternedKind for Ty {
 
     fn kind<'a>(self, cx: &'a Interner) -> &'a TyKind {
         cx.ty_kind(self)
+    }
+}
+
+impl InternedKind for Const {
+    ghost use Rattle.tt_interner.specs.Rows.{const_row};
+    ghost use Rattle.tt_kinds.specs.declared.table.Table.TheVariants.{Consts};
+
+    type Kind = ConstKind;
+
+    ghost handle_number = { λ handle. handle.number };
+
+    ghost handle_table = { Consts };
+
+    ghost row_of = { const_row };
+
+    fn kind<'a>(self, cx: &'a Interner) -> &'a ConstKind {
+        cx.const_kind(self)
+    }
+}
+
+impl InternedKind for Pat {
+    ghost use Rattle.tt_interner.specs.Rows.{pat_row};
+    ghost use Rattle.tt_kinds.specs.declared.table.Table.TheVariants.{Patterns};
+
+    type Kind = PatternKind;
+
+    ghost handle_number = { λ handle. handle.number };
+
+    ghost handle_table = { Patterns };
+
+    ghost row_of = { pat_row };
+
+    fn kind<'a>(self, cx: &'a Interner) -> &'a PatternKind {
+        cx.pat_kind(self)
+    }
+}
+
+impl InternedKind for Predicate {
+    ghost use Rattle.tt_interner.specs.Rows.{predicate_row};
+    ghost use Rattle.tt_kinds.specs.declared.table.Table.TheVariants.{Predicates};
+
+    type Kind = Binder<PredicateKind>;
+
+    ghost handle_number = { λ handle. handle.number };
+
+    ghost handle_table = { Predicates };
+
+    ghost row_of = { predicate_row };
+
+    fn kind<'a>(self, cx: &'a Interner) -> &'a Binder<PredicateKind> {
+        cx.predicate_kind(self)
+    }
+}
+
+impl InternedKind for PolyExistentialPredicate {
+    ghost use Rattle.tt_interner.specs.Rows.{existential_row};
+    ghost use Rattle.tt_kinds.specs.declared.table.Table.TheVariants.{Existentials};
+
+    type Kind = Binder<ExistentialPredicate>;
+
+    ghost handle_number = { λ handle. handle.number };
+
+    ghost handle_table = { Existentials };
+
+    ghost row_of = { existential_row };
+
+    fn kind<'a>(self, cx: &'a Interner) -> &'a Binder<ExistentialPredicate> {
+        cx.existential_kind(self)
     }
 }
 
@@ -112,6 +182,116 @@ impl InternedList for BoundVarKinds {
 
     fn as_slice<'a>(self, cx: &'a Interner) -> &'a [BoundVariableKind] {
         cx.bound_vars(self)
+    }
+}
+
+impl InternedList for Consts {
+    ghost use Rattle.tt_interner.specs.Rows.{consts_row};
+    ghost use Rattle.tt_kinds.specs.declared.table.Table.TheVariants.{ConstLists};
+
+    type Item = Const;
+
+    ghost list_number = { λ list. list.number };
+
+    ghost list_table = { ConstLists };
+
+    ghost row_of_items = { consts_row };
+
+    fn as_slice<'a>(self, cx: &'a Interner) -> &'a [Const] {
+        cx.consts(self)
+    }
+}
+
+impl InternedList for PatList {
+    ghost use Rattle.tt_interner.specs.Rows.{pats_row};
+    ghost use Rattle.tt_kinds.specs.declared.table.Table.TheVariants.{PatternLists};
+
+    type Item = Pat;
+
+    ghost list_number = { λ list. list.number };
+
+    ghost list_table = { PatternLists };
+
+    ghost row_of_items = { pats_row };
+
+    fn as_slice<'a>(self, cx: &'a Interner) -> &'a [Pat] {
+        cx.pat_list(self)
+    }
+}
+
+impl InternedList for BoundExistentialPredicates {
+    ghost use Rattle.tt_interner.specs.Rows.{existentials_row};
+    ghost use Rattle.tt_kinds.specs.declared.table.Table.TheVariants.{ExistentialLists};
+
+    type Item = PolyExistentialPredicate;
+
+    ghost list_number = { λ list. list.number };
+
+    ghost list_table = { ExistentialLists };
+
+    ghost row_of_items = { existentials_row };
+
+    fn as_slice<'a>(self, cx: &'a Interner) -> &'a [PolyExistentialPredicate] {
+        cx.existentials(self)
+    }
+}
+
+impl InternedList for Clauses {
+    ghost use Rattle.tt_interner.specs.Rows.{clauses_row};
+    ghost use Rattle.tt_kinds.specs.declared.table.Table.TheVariants.{ClauseLists};
+
+    type Item = Clause;
+
+    ghost list_number = { λ list. list.number };
+
+    ghost list_table = { ClauseLists };
+
+    ghost row_of_items = { clauses_row };
+
+    fn as_slice<'a>(self, cx: &'a Interner) -> &'a [Clause] {
+        cx.clauses(self)
+    }
+}
+
+/// A clause, which is a predicate too.
+pub trait AsPredicate: Sized {
+    // The number of the handle.
+    ghost clause_number: { Self → ℕ };
+
+    /// The predicate that the clause is.
+    fn as_predicate(self) -> Predicate
+        ensures { result.number ≡ clause_number self };
+}
+
+impl AsPredicate for Clause {
+    ghost clause_number = { λ clause. clause.number };
+
+    fn as_predicate(self) -> Predicate {
+        Predicate::from_number(self.number())
+    }
+}
+
+/// A predicate, which may be a clause. It has to be of the interner.
+pub trait AsClause: Sized {
+    // The number of the handle.
+    ghost predicate_number: { Self → ℕ };
+
+    /// The clause that the predicate is, and `None` where it is none.
+    fn as_clause(self, cx: &Interner) -> Option<Clause>
+        requires { predicate_number self < size cx.now.rows Predicates }
+        ensures { MatchOption result (IsClause cx.now.rows (predicate_number self) → ⊥) (λ clause. (clause.number ≡ predicate_number self) × IsClause cx.now.rows clause.number) };
+}
+
+impl AsClause for Predicate {
+    ghost predicate_number = { λ predicate. predicate.number };
+
+    fn as_clause(self, cx: &Interner) -> Option<Clause> {
+        let clause = Clause::from_number(self.number());
+        if cx.owns_clause(clause) {
+            Some(clause)
+        } else {
+            None
+        }
     }
 }
 

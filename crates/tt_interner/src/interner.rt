@@ -5,28 +5,45 @@ ghost use Rattle.tt_interner.specs.Rows.{AreRows};
 ghost use Rattle.tt_interner.specs.Stored.{counted, first_rows, HasFirst};
 ghost use Rattle.tt_interner.specs.Laws.{AreInterned};
 
+mod consts;
+mod existentials;
 mod lists;
 mod owns;
+mod owns_kinds;
+mod patterns;
+mod predicates;
 mod symbols;
 mod types;
 
-use crate::tables::{first_list, first_text};
+use crate::first::{first_lists, more_lists};
+use crate::tables::first_text;
 use indexmap::IndexMap;
 use std::alloc::Global;
 use std::marker::Model;
 use tt_flags::FlagComputation;
 use tt_index::{GREATEST_INDEX, Refusal};
-use tt_kinds::{BoundVariableKind, GenericArg, Table, Ty, TyKind};
+use tt_kinds::{
+    Binder, BoundVariableKind, Clause, Const, ConstKind, ExistentialPredicate, GenericArg, Pat,
+    PatternKind, PolyExistentialPredicate, PredicateKind, Table, Ty, TyKind,
+};
 
-/// Keeps each type, list and text once, so that equal handles of one table stand for the same term.
+/// Keeps each type, constant, pattern, predicate, list and text once, so that equal handles of one table stand for the same term.
 ///
 /// A table has at most as many rows as the interner's limit says; what is stored is never removed.
 #[derive(Drop)]
 pub struct Interner {
     types: IndexMap<TyKind, FlagComputation>,
+    consts: IndexMap<ConstKind, FlagComputation>,
+    patterns: IndexMap<PatternKind, FlagComputation>,
+    predicates: IndexMap<Binder<PredicateKind>, FlagComputation>,
+    existentials: IndexMap<Binder<ExistentialPredicate>, FlagComputation>,
+    clause_lists: IndexMap<Vec<Clause>, FlagComputation>,
     type_lists: IndexMap<Vec<Ty>, FlagComputation>,
+    const_lists: IndexMap<Vec<Const>, FlagComputation>,
     arg_lists: IndexMap<Vec<GenericArg>, FlagComputation>,
+    pattern_lists: IndexMap<Vec<Pat>, FlagComputation>,
     var_lists: IndexMap<Vec<BoundVariableKind>, FlagComputation>,
+    existential_lists: IndexMap<Vec<PolyExistentialPredicate>, FlagComputation>,
     symbols: IndexMap<String, ()>,
     // the table of each row, in the order in which rows came
     order: Vec<Table>,
@@ -71,27 +88,31 @@ impl Interner {
             return Err(Refusal::TableFull);
         }
         let mut order = Vec::new(alloc);
-        let type_lists = match first_list(alloc, &mut order, Table::TypeLists) {
+        let first = match first_lists(alloc, &mut order) {
             Ok(lists) => lists,
-            Err(_) => return Err(Refusal::Memory),
+            Err(e) => return Err(e),
         };
-        let arg_lists = match first_list(alloc, &mut order, Table::ArgLists) {
+        let more = match more_lists(alloc, &mut order) {
             Ok(lists) => lists,
-            Err(_) => return Err(Refusal::Memory),
-        };
-        let var_lists = match first_list(alloc, &mut order, Table::VarLists) {
-            Ok(lists) => lists,
-            Err(_) => return Err(Refusal::Memory),
+            Err(e) => return Err(e),
         };
         let symbols = match first_text(alloc, &mut order, Table::Symbols) {
             Ok(symbols) => symbols,
-            Err(_) => return Err(Refusal::Memory),
+            Err(e) => return Err(e),
         };
         Ok(Interner {
             types: IndexMap::new(alloc),
-            type_lists,
-            arg_lists,
-            var_lists,
+            consts: IndexMap::new(alloc),
+            patterns: IndexMap::new(alloc),
+            predicates: IndexMap::new(alloc),
+            existentials: IndexMap::new(alloc),
+            clause_lists: more.clause_lists,
+            type_lists: first.type_lists,
+            const_lists: first.const_lists,
+            arg_lists: first.arg_lists,
+            pattern_lists: more.pattern_lists,
+            var_lists: first.var_lists,
+            existential_lists: more.existential_lists,
             symbols,
             order,
             limit: limit.min(GREATEST_INDEX),

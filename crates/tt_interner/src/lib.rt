@@ -2,6 +2,8 @@
 #![tactic(auto)]
 
 mod children;
+pub mod env;
+mod first;
 pub mod flags;
 pub mod handle;
 mod interner;
@@ -10,8 +12,9 @@ pub mod node;
 mod tables;
 pub mod ty_info;
 
+pub use env::{ConstBounds, ConstTyFault, FindConstTy};
 pub use flags::{Flags, ForKind, OwnFlags};
-pub use handle::{InternedKind, InternedList, InternedText};
+pub use handle::{AsClause, AsPredicate, InternedKind, InternedList, InternedText};
 pub use interner::Interner;
 pub use laws::{equal_handles_for_equal_trees, growth_keeps_trees};
 pub use ty_info::WithCachedTypeInfo;

@@ -1,50 +1,85 @@
 //! Stored terms and lists of all tables, as walks see them: by their kinds, and by their children.
 
-ghost use Rattle.std.specs.Prelude.{◌≡◌, ◌<◌, IfOk, IfErr, OnErr, All, length, map, slice_get, Some};
-ghost use Rattle.tt_kinds.specs.Label.{list_label};
-ghost use Rattle.tt_kinds.specs.Tree.{node};
-ghost use Rattle.tt_kinds.specs.Shape.{HasParts, AreParts, item_shapes, fill, fill_all};
+ghost use Rattle.std.specs.Prelude.{◌≡◌, ◌≢◌, ◌<◌, IfOk, IfErr, OnOk, OnErr, All, length, slice_get, Some};
+ghost use Rattle.tt_kinds.specs.Shape.{HasParts, AreParts, fill, fill_all};
 ghost use Rattle.tt_kinds.specs.Parts.{node_table, node_number, list_table, list_number, list_sort, sort_list_table, child_sort, IsItem};
-ghost use Rattle.tt_kinds.specs.Kinds.{kind_table, kind_shape, children_shapes, ty_shape, arg_shape};
+ghost use Rattle.tt_kinds.specs.Kinds.{kind_table, kind_shape, children_shapes, items_tree};
 ghost use Rattle.tt_interner.specs.Rows.{kind_row, size, meaning, age, IsOlder, AreOlder};
-ghost use Rattle.tt_interner.specs.Stored.{Builds, Extends, IsUnbuilt, Stores, StoresList};
-ghost use Rattle.tt_interner.specs.Children.{children_at, items_row, ty_child, arg_child};
+ghost use Rattle.tt_interner.specs.Stored.{Builds, Extends, IsAt, IsNoClauseList, IsUnbuilt, Stores};
+ghost use Rattle.tt_interner.specs.Children.{children_at, items_row};
 
-use crate::children::{arg_child, collect, collect_few, item_at};
+use crate::children::{arg_child, clause_child, item_at, store_items};
 use crate::interner::Interner;
 use tt_index::Refusal;
-use tt_kinds::{Child, GenericArg, Kind, List, ListSort, Node, Ty};
+use tt_kinds::{
+    Child, Clause, Const, GenericArg, Kind, List, ListSort, Node, Pat, PolyExistentialPredicate,
+    Table, Ty,
+};
 
 impl Interner {
-    /// What a stored term is. It has to be of this interner.
+    /// What a stored term is. It has to be of this interner, and no list of clauses, whose items [`Interner::list_child`]
+    /// reads.
+    #[inline(always)]
     pub fn node_kind(&self, node: Node) -> Kind
-        requires { node_number node < size self.now.rows (node_table node) }
+        requires owned { node_number node < size self.now.rows (node_table node) }
+        requires has_kind { node_table node ≢ Table.ClauseLists }
         ensures table { kind_table result ≡ node_table node }
         ensures parts { HasParts (size self.now.rows) (kind_shape result) }
         ensures means { meaning self.now.rows (node_table node) (node_number node) ≡ fill (meaning self.now.rows) (kind_shape result) }
         ensures older { IsOlder self.now.rows (age self.now.rows (node_table node) (node_number node)) (kind_shape result) }
     {
         self.are_rows();
-        Kind::Ty(*self.ty_kind(node_ty(&node)))
+        self.kind_at(node)
+    }
+
+    // What a stored term is.
+    fn kind_at(&self, node: Node) -> Kind
+        requires owned { node_number node < size self.now.rows (node_table node) }
+        requires has_kind { node_table node ≢ Table.ClauseLists }
+        ensures table { kind_table result ≡ node_table node }
+        ensures row { IsAt self.now.rows (kind_row result) (node_number node) }
+    {
+        match node {
+            Node::Ty(ty) => Kind::Ty(*self.ty_kind(ty)),
+            Node::Const(constant) => Kind::Const(*self.const_kind(constant)),
+            Node::Pat(pat) => Kind::Pat(*self.pat_kind(pat)),
+            Node::Predicate(predicate) => Kind::Predicate(*self.predicate_kind(predicate)),
+            Node::Existential(predicate) => Kind::Existential(*self.existential_kind(predicate)),
+            Node::Clauses(_) => unreachable!(),
+        }
     }
 
     /// How many children a stored list has. It has to be of this interner.
+    #[inline(always)]
     pub fn list_len(&self, list: List) -> usize
         requires { list_number list < size self.now.rows (list_table list) }
         ensures len { result ≡ length (children_at self.now.rows list) }
-        ensures means { meaning self.now.rows (list_table list) (list_number list) ≡ node (list_label (list_table list)) (fill_all (meaning self.now.rows) (children_shapes (children_at self.now.rows list))) }
+        ensures means { meaning self.now.rows (list_table list) (list_number list) ≡ items_tree (list_sort list) (fill_all (meaning self.now.rows) (children_shapes (children_at self.now.rows list))) }
         ensures parts { AreParts (size self.now.rows) (children_shapes (children_at self.now.rows list)) }
         ensures fit { All (λ c. IsItem (list_sort list) (child_sort c)) (children_at self.now.rows list) }
         ensures older { AreOlder self.now.rows (age self.now.rows (list_table list) (list_number list)) (children_shapes (children_at self.now.rows list)) }
     {
         self.are_rows();
+        self.count_at(list)
+    }
+
+    // How many children a stored list has.
+    fn count_at(&self, list: List) -> usize
+        requires { list_number list < size self.now.rows (list_table list) }
+        ensures { result ≡ length (children_at self.now.rows list) }
+    {
         match list {
             List::Tys(tys) => self.tys(tys).len(),
+            List::Consts(consts) => self.consts(consts).len(),
             List::Args(args) => self.args(args).len(),
+            List::Pats(pats) => self.pat_list(pats).len(),
+            List::Existentials(predicates) => self.existentials(predicates).len(),
+            List::Clauses(clauses) => self.clauses(clauses).len(),
         }
     }
 
     /// The child at this place of a stored list, which [`Interner::list_len`] counts. The list has to be of this interner.
+    #[inline(always)]
     pub fn list_child(&self, list: List, index: usize) -> Child
         requires owned { list_number list < size self.now.rows (list_table list) }
         requires inside { index < length (children_at self.now.rows list) }
@@ -52,107 +87,70 @@ impl Interner {
     {
         match list {
             List::Tys(tys) => Child::Node(Node::Ty(item_at(self.tys(tys), index))),
+            List::Consts(consts) => Child::Node(Node::Const(item_at(self.consts(consts), index))),
             List::Args(args) => arg_child(item_at(self.args(args), index)),
+            List::Pats(pats) => Child::Node(Node::Pat(item_at(self.pat_list(pats), index))),
+            List::Existentials(predicates) => Child::Node(Node::Existential(item_at(
+                self.existentials(predicates),
+                index,
+            ))),
+            List::Clauses(clauses) => clause_child(item_at(self.clauses(clauses), index)),
         }
     }
 
     /// The stored term of this kind. What stands in the kind has to be of this interner. Refused as [`Interner::mk_ty`] is.
+    #[inline(always)]
     pub fn store(&mut self, kind: Kind) -> Result<Node, Refusal>
         requires { HasParts (size self.old.rows) (kind_shape kind) }
         ensures builds { Builds result (λ n. node_number n) self.old self.new (kind_row kind) }
         ensures table { IfOk result (λ n. node_table n ≡ kind_table kind) }
     {
         match kind {
-            Kind::Ty(kind) => {
-                let ty = match self.mk_ty(kind) {
-                    Ok(ty) => ty,
-                    Err(e) => return Err(e),
-                };
-                Ok(Node::Ty(ty))
-            }
+            Kind::Ty(kind) => match self.mk_ty(kind) {
+                Ok(ty) => Ok(Node::Ty(ty)),
+                Err(e) => Err(e),
+            },
+            Kind::Const(kind) => match self.mk_const(kind) {
+                Ok(constant) => Ok(Node::Const(constant)),
+                Err(e) => Err(e),
+            },
+            Kind::Pat(kind) => match self.mk_pat(kind) {
+                Ok(pat) => Ok(Node::Pat(pat)),
+                Err(e) => Err(e),
+            },
+            Kind::Predicate(kind) => match self.mk_predicate(kind) {
+                Ok(predicate) => Ok(Node::Predicate(predicate)),
+                Err(e) => Err(e),
+            },
+            Kind::Existential(kind) => match self.mk_existential(kind) {
+                Ok(predicate) => Ok(Node::Existential(predicate)),
+                Err(e) => Err(e),
+            },
         }
     }
 
     /// The stored list of these children. They have to be of this interner, and of the sort that the list holds. Refused as
-    /// [`Interner::mk_tys`] is.
+    /// [`Interner::mk_tys`] is, and a list of clauses with `NotAClause` where a child is no clause.
     pub fn store_list(&mut self, sort: ListSort, items: &[Child]) -> Result<List, Refusal>
         requires parts { AreParts (size self.old.rows) (children_shapes items.now) }
         requires fit { All (λ c. IsItem sort (child_sort c)) items.now }
         ensures in_range { IfOk result (λ l. list_number l < size self.new.rows (sort_list_table sort)) }
-        ensures means { IfOk result (λ l. meaning self.new.rows (sort_list_table sort) (list_number l) ≡ node (list_label (sort_list_table sort)) (fill_all (meaning self.old.rows) (children_shapes items.now))) }
+        ensures means { IfOk result (λ l. meaning self.new.rows (sort_list_table sort) (list_number l) ≡ items_tree sort (fill_all (meaning self.old.rows) (children_shapes items.now))) }
         ensures extends { Extends self.old self.new }
         ensures counters { self.new.counters ≡ self.old.counters }
         ensures err { OnErr result (self.new ≡ self.old) }
-        ensures cause { IfErr result (IsUnbuilt self.old (node (list_label (sort_list_table sort)) (fill_all (meaning self.old.rows) (children_shapes items.now)))) }
+        ensures cause { IfErr result (IsUnbuilt self.old (items_tree sort (fill_all (meaning self.old.rows) (children_shapes items.now)))) }
+        ensures refused { OnOk result (IsNoClauseList (items_tree sort (fill_all (meaning self.old.rows) (children_shapes items.now))) → ⊥) }
         ensures sort { IfOk result (λ l. list_sort l ≡ sort) }
         ensures stored { IfOk result (λ l. Stores self.old.rows self.new.rows (items_row sort items.now) (list_number l)) }
     {
         match sort {
-            ListSort::Tys => self.store_tys(items),
-            ListSort::Args => self.store_args(items),
+            ListSort::Tys => store_items::<Ty>(self, items),
+            ListSort::Consts => store_items::<Const>(self, items),
+            ListSort::Args => store_items::<GenericArg>(self, items),
+            ListSort::Pats => store_items::<Pat>(self, items),
+            ListSort::Existentials => store_items::<PolyExistentialPredicate>(self, items),
+            ListSort::Clauses => store_items::<Clause>(self, items),
         }
-    }
-}
-
-impl Interner {
-    // The list of these types.
-    fn list_of_tys(&mut self, items: &[Ty]) -> Result<List, Refusal>
-        requires { AreParts (size self.old.rows) (item_shapes ty_shape items.now) }
-        ensures { StoresList result self.old self.new ListSort.Tys (map ty_child items.now) }
-    {
-        let list = match self.mk_tys(items) {
-            Ok(list) => list,
-            Err(e) => return Err(e),
-        };
-        Ok(List::Tys(list))
-    }
-
-    // The list of types that stand as these children. Lists of few items are looked up from the stack.
-    fn store_tys(&mut self, children: &[Child]) -> Result<List, Refusal>
-        requires parts { AreParts (size self.old.rows) (children_shapes children.now) }
-        requires fit { All (λ c. IsItem ListSort.Tys (child_sort c)) children.now }
-        ensures { StoresList result self.old self.new ListSort.Tys children.now }
-    {
-        if children.len() <= 8 {
-            let few: [Ty; 8] = collect_few(children);
-            return self.list_of_tys(&few[..children.len()]);
-        }
-        let many: Vec<Ty> = collect(self.allocator(), children)?;
-        self.list_of_tys(many.as_slice())
-    }
-
-    // The list of these generic arguments.
-    fn list_of_args(&mut self, items: &[GenericArg]) -> Result<List, Refusal>
-        requires { AreParts (size self.old.rows) (item_shapes arg_shape items.now) }
-        ensures { StoresList result self.old self.new ListSort.Args (map arg_child items.now) }
-    {
-        let list = match self.mk_args(items) {
-            Ok(list) => list,
-            Err(e) => return Err(e),
-        };
-        Ok(List::Args(list))
-    }
-
-    // The list of generic arguments that stand as these children. Lists of few items are looked up from the stack.
-    fn store_args(&mut self, children: &[Child]) -> Result<List, Refusal>
-        requires parts { AreParts (size self.old.rows) (children_shapes children.now) }
-        requires fit { All (λ c. IsItem ListSort.Args (child_sort c)) children.now }
-        ensures { StoresList result self.old self.new ListSort.Args children.now }
-    {
-        if children.len() <= 8 {
-            let few: [GenericArg; 8] = collect_few(children);
-            return self.list_of_args(&few[..children.len()]);
-        }
-        let many: Vec<GenericArg> = collect(self.allocator(), children)?;
-        self.list_of_args(many.as_slice())
-    }
-}
-
-// The type that the term is: there are no others yet.
-fn node_ty(node: &Node) -> Ty
-    ensures { node.now ≡ Node.Ty result }
-{
-    match node {
-        Node::Ty(ty) => *ty,
     }
 }

@@ -132,12 +132,13 @@ pub(crate) fn first_list<T: Copy + Eq + Hash + Drop>(
 ) -> Result<IndexMap<Vec<T>, FlagComputation>, Refusal>
     ensures order { OnOk result (order.new.items ≡ order.old.items ++ table ∷ []) }
     ensures entries { IfOk result (λ map. listed_by (λ k. k.items) map.entries ≡ ([], no_info) ∷ []) }
+    ensures cause { IfErr result (λ e. e ≡ Refusal.Memory) }
 {
     let mut entries = IndexMap::new(alloc);
     let info = FlagComputation::new();
     match add_list(order, 1, table, &mut entries, &[], info) {
         Ok(_) => Ok(entries),
-        Err(e) => Err(e),
+        Err(_) => Err(Refusal::Memory),
     }
 }
 
@@ -149,11 +150,12 @@ pub(crate) fn first_text(
 ) -> Result<IndexMap<String, ()>, Refusal>
     ensures order { OnOk result (order.new.items ≡ order.old.items ++ table ∷ []) }
     ensures entries { IfOk result (λ map. listed_by (λ k. string_bytes k) map.entries ≡ (39 ∷ 95 ∷ [], tt) ∷ []) }
+    ensures cause { IfErr result (λ e. e ≡ Refusal.Memory) }
 {
     let mut entries = IndexMap::new(alloc);
     match add_text(order, 1, table, &mut entries, "'_") {
         Ok(_) => Ok(entries),
-        Err(e) => Err(e),
+        Err(_) => Err(Refusal::Memory),
     }
 }
 

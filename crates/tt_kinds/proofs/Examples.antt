@@ -6,8 +6,10 @@ use Rattle.tt_index.specs.declared.qualifier.Mutability.TheVariants as mutabilit
 use Rattle.tt_index.specs.declared.refusal.Refusal.TheVariants.{NoArguments, ArgOutOfRange, ArgKind, RegionVariable}
 use Rattle.tt_kinds.specs.declared.bound.BoundTyKind.TheVariants as bound_ty
 use Rattle.tt_kinds.specs.declared.ty_kind.InferTy.TheVariants.{TyVar, FreshIntTy}
-use Rattle.tt_kinds.specs.declared.table.Table.TheVariants.{TypeLists}
-use Rattle.tt_kinds.specs.Label.{Name, region_sort, type_sort, const_sort, anonymous, VarKind, region_variable, type_variable, Entry, static_region, erased_region, region_var, error_region, late_param_region, placeholder_region, TypeLabel, char_type, int_type, uint_type, placeholder_type, infer_type, error_type, ref_type, tuple_type, fn_ptr_type, fn_sig_tys_record, type_label, list_label, record_label}
+use Rattle.tt_kinds.specs.declared.alias.AliasTyKind.TheVariants as alias
+use Rattle.tt_kinds.specs.declared.const_kind.InferConst.TheVariants.{Var, Fresh}
+use Rattle.tt_kinds.specs.declared.table.Table.TheVariants.{TypeLists, ArgLists, ExistentialLists}
+use Rattle.tt_kinds.specs.Label.{Name, region_sort, type_sort, const_sort, anonymous, VarKind, region_variable, type_variable, const_variable, Entry, static_region, erased_region, region_var, error_region, late_param_region, placeholder_region, TypeLabel, char_type, int_type, uint_type, placeholder_type, infer_type, error_type, ref_type, tuple_type, fn_ptr_type, adt_type, array_type, pat_type, dynamic_type, coroutine_type, alias_type, ConstLabel, infer_const, placeholder_const, unevaluated_const, leaf_const, error_const, range_pattern, not_null_pattern, RecordLabel, fn_sig_tys_record, trait_record, region_outlives_record, projection_record, existential_trait_record, auto_trait_record, Label, type_label, const_label, pattern_label, predicate_label, existential_label, clause_list_label, list_label, record_label}
 use Rattle.tt_kinds.specs.Tree.{Depth, at, canonical, own, outer, Tree, param, bound, region, term, node, binder, Forest, none, also}
 use Rattle.tt_kinds.specs.Reading.{read, move, outer_binder, Fits}
 use Rattle.tt_kinds.specs.Argument.{Argument, put, readings}
@@ -285,3 +287,133 @@ fresh_type_says = (refl, refl)
 
 error_type_says : Says (type_leaf (error_type 3)) 0x8000 0
 error_type_says = (refl, refl)
+
+-- what an unnamed bound constant of number 0 says of itself
+abbrev a_const : Entry Name
+a_const = record { var = 0; kind = const_variable }
+
+-- constants without parts
+abbrev const_leaf : {I : Type 0} → ConstLabel → Tree I
+const_leaf l = term (const_label l) none
+
+-- constants that are leaves
+bound_const_says : Says (bound const_sort (at 4) a_const) 0x100000 5
+bound_const_says = (refl, refl)
+
+canonical_const_says : Says (bound const_sort canonical a_const) 0x4100000 0
+canonical_const_says = (refl, refl)
+
+infer_const_says : Says (const_leaf (infer_const (Var 6))) 0x20 0
+infer_const_says = (refl, refl)
+
+fresh_const_says : Says (const_leaf (infer_const (Fresh 6))) 0x800000 0
+fresh_const_says = (refl, refl)
+
+placeholder_const_says : Says (const_leaf (placeholder_const (record { universe = 1; bound = record { var = 0 } }))) 0x100 0
+placeholder_const_says = (refl, refl)
+
+error_const_says : Says (const_leaf (error_const 3)) 0x8000 0
+error_const_says = (refl, refl)
+
+-- a list of arguments
+abbrev args : {I : Type 0} → Forest I → Tree I
+args ts = node (list_label ArgLists) ts
+
+-- a type, a constant or a record of arguments alone
+abbrev of_args : {I : Type 0} → Label Name → Forest I → Tree I
+of_args l ts = term l (also (args ts) none)
+
+-- the kinds that add a flag to those of their arguments
+coroutine_says : Says (of_args (type_label (coroutine_type 0)) (also (parameter 0) none)) 0x2000001 0
+coroutine_says = (refl, refl)
+
+projection_says : Says (of_args (type_label (alias_type (alias.Projection (record { number = 0 })))) none) 0x400 0
+projection_says = (refl, refl)
+
+inherent_says : Says (of_args (type_label (alias_type (alias.Inherent (record { number = 0 })))) none) 0x2000 0
+inherent_says = (refl, refl)
+
+opaque_says : Says (of_args (type_label (alias_type (alias.Opaque (record { number = 0 })))) none) 0x1000 0
+opaque_says = (refl, refl)
+
+free_alias_says : Says (of_args (type_label (alias_type (alias.Free (record { number = 0 })))) none) 0x800 0
+free_alias_says = (refl, refl)
+
+unevaluated_says : Says (of_args (const_label (unevaluated_const 0)) none) 0x4000 0
+unevaluated_says = (refl, refl)
+
+-- and one that adds none
+adt_says : Says (of_args (type_label (adt_type 0)) (also (parameter 0) (also (region_at (at 4)) none))) 0x40001 5
+adt_says = (refl, refl)
+
+-- `[T; N]` of two parameters
+abbrev array : Tree Depth
+array = term (type_label array_type) (also (parameter 0) (also (param const_sort 1 []) none))
+
+array_says : Says array 0x5 0
+array_says = (refl, refl)
+
+-- only the array's type is a type's parameter
+array_put : inst_tree 0 (type_arg u32 ∷ record { sort = const_sort; value = const_leaf (infer_const (Var 6)) } ∷ []) array
+    ≡ term (type_label array_type) (also u32 (also (const_leaf (infer_const (Var 6))) none))
+array_put = refl
+
+array_refused : Cause array (type_arg u32 ∷ type_arg u32 ∷ []) (ArgKind 1)
+array_refused = inr (inl (refl, refl))
+
+-- a type between two constants, and one that isn't null
+abbrev ranged : Tree Depth
+ranged = term (type_label pat_type) (also u32 (also (term (pattern_label range_pattern)
+    (also (term (const_label (leaf_const 1 4)) (also u32 none)) (also (param const_sort 0 []) none))) none))
+
+ranged_says : Says ranged 0x4 0
+ranged_says = (refl, refl)
+
+not_null_says : Says (term (pattern_label not_null_pattern) none) 0 0
+not_null_says = (refl, refl)
+
+-- a predicate: what it says, under a binder of these variables
+abbrev predicate : {I : Type 0} → List (VarKind Name) → RecordLabel Name → Forest I → Tree I
+predicate vs m ts = term predicate_label (also (binder vs (node (record_label m) ts)) none)
+
+-- `for<'a> 'a: 'b`, where 'b is bound by the binder outside
+abbrev outlives : Depth → Tree Depth
+outlives d = predicate one_region region_outlives_record (also (region_at (at 0)) (also (region_at d) none))
+
+outlives_says : Says (outlives (at 1)) 0x1040000 1
+outlives_says = (refl, refl)
+
+outlives_shifted : shift_tree 0 2 (outlives (at 1)) ≡ outlives (at 3)
+outlives_shifted = refl
+
+-- an alias that is told of adds no flag for aliases
+projected : Says (predicate [] (projection_record 0) (also (args (also (parameter 0) none)) (also u32 none))) 0x1 0
+projected = (refl, refl)
+
+-- a list of clauses
+clauses_say : Says (term clause_list_label (also (outlives (at 1)) (also (predicate [] (trait_record 0) (also (args (also (parameter 0) none)) none)) none))) 0x1040001 1
+clauses_say = (refl, refl)
+
+-- a trait object of two predicates, each under its own binder, outliving a region bound outside
+abbrev existential : {I : Type 0} → List (VarKind Name) → RecordLabel Name → Forest I → Tree I
+existential vs m ts = term existential_label (also (binder vs (node (record_label m) ts)) none)
+
+abbrev object : Depth → Tree Depth
+object d = term (type_label dynamic_type)
+    (also (node (list_label ExistentialLists)
+    (also (existential one_region (existential_trait_record 0) (also (args (also (region_at (at 0)) (also (region_at d) none))) none))
+    (also (existential [] (auto_trait_record 1) none) none))) (also (region static_region) none))
+
+object_says : Says (object (at 1)) 0x1060000 1
+object_says = (refl, refl)
+
+-- outside of the trait object only the region outside and the last one are met
+object_met : met 0 (object (at 1)) ≡ record { standing = region_at (at 1); under = 1 } ∷ record { standing = region static_region; under = 0 } ∷ []
+object_met = refl
+
+-- a region variable in a predicate without parameters is hidden, and in such a constant it isn't
+hidden_variable : Cause (predicate [] region_outlives_record (also (region (region_var 0)) (also (region static_region) none))) (type_arg i32 ∷ []) (RegionVariable 0) → ⊥
+hidden_variable h = elim h.1.0 [ inl x ↦ elim x [ inl a ↦ a | inr y ↦ elim y [ inl b ↦ b | inr c ↦ c ] ] | inr z ↦ z ]
+
+shown_variable : Cause (of_args (const_label (unevaluated_const 0)) (also (region (region_var 0)) none)) (type_arg i32 ∷ []) (RegionVariable 0)
+shown_variable = ((λ e. cc), (tt, inl (inl refl)))

@@ -11,4 +11,6 @@ pub mod ScanLaws
 pub mod FlagLaws
 pub mod CauseLaws
 pub mod ChildLaws
+pub mod FormLaws
+pub mod ValueLaws
 pub mod Examples

@@ -1,7 +1,7 @@
 -- Bound variables: the index as it is written, and what a variable says of itself.
 use Rattle.std.specs.Prelude.{ℕ, ◌<◌, ⊤}
 use Rattle.tt_index.specs.Greatest.{greatest}
-use Rattle.tt_kinds.specs.Label.{RegionName, anonymous, VarKind, region_variable, type_variable, const_variable, Entry}
+use Rattle.tt_kinds.specs.Label.{RegionName, anonymous, printed, named, environment, VarKind, region_variable, type_variable, const_variable, Entry}
 use Rattle.tt_kinds.specs.Tree.{Depth, at, canonical}
 use Rattle.tt_kinds.specs.declared.bound.BoundVarIndexKind.{BoundVarIndexKind}
 use Rattle.tt_kinds.specs.declared.bound.BoundVarIndexKind.TheVariants.{Bound, Canonical}
@@ -11,6 +11,7 @@ use Rattle.tt_kinds.specs.declared.bound.BoundVariableKind.{BoundVariableKind}
 use Rattle.tt_kinds.specs.declared.bound.BoundVariableKind.TheVariants as variable
 use Rattle.tt_kinds.specs.declared.bound.BoundRegion.{BoundRegion}
 use Rattle.tt_kinds.specs.declared.bound.BoundTy.{BoundTy}
+use Rattle.tt_kinds.specs.declared.bound.BoundConst.{BoundConst}
 
 -- the index as a tree has it
 abbrev pub depth : BoundVarIndexKind → Depth
@@ -25,6 +26,9 @@ IsBelowGreatest canonical = ⊤
 -- what a bound region is called
 abbrev pub region_name : BoundRegionKind → RegionName ℕ
 region_name region_kind.Anon = anonymous
+region_name (region_kind.NamedForPrinting s) = printed s.number
+region_name (region_kind.Named d) = named d.number
+region_name region_kind.ClosureEnv = environment
 
 -- a variable of a binder's list
 abbrev pub var_kind : BoundVariableKind → VarKind ℕ
@@ -39,3 +43,7 @@ region_entry b = record { var = b.var; kind = region_variable (region_name b.kin
 -- what a bound type says of itself
 abbrev pub ty_entry : BoundTy → Entry ℕ
 ty_entry b = record { var = b.var; kind = type_variable b.kind }
+
+-- what a bound constant says of itself
+abbrev pub const_entry : BoundConst → Entry ℕ
+const_entry b = record { var = b.var; kind = const_variable }

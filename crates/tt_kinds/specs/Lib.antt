@@ -11,8 +11,14 @@ pub mod Scan
 pub mod Count
 pub mod Laws
 pub mod Bound
+pub mod Variable
+pub mod Rigid
+pub mod Alias
+pub mod ValTree
+pub mod Predicate
 pub mod RegionKind
 pub mod FnSig
 pub mod Shape
 pub mod Parts
 pub mod Kinds
+pub mod Values

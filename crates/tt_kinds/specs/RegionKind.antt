@@ -4,14 +4,16 @@ use Rattle.tt_kinds.specs.Bound.{depth, IsBelowGreatest}
 use Rattle.tt_kinds.specs.declared.bound.BoundVarIndexKind.TheVariants.{Bound}
 use Rattle.tt_kinds.specs.declared.bound.BoundRegion.{BoundRegion}
 use Rattle.tt_kinds.specs.declared.region_kind.RegionKind.{RegionKind}
-use Rattle.tt_kinds.specs.declared.region_kind.RegionKind.TheVariants.{ReEarlyParam, ReBound, ReStatic, ReVar, ReErased, ReError}
+use Rattle.tt_kinds.specs.declared.region_kind.RegionKind.TheVariants.{ReEarlyParam, ReBound, ReLateParam, ReStatic, ReVar, RePlaceholder, ReErased, ReError}
 
 -- a bound region's index is below the greatest
 abbrev pub IsShallow : RegionKind → Type 0
 IsShallow (ReEarlyParam p) = ⊤
 IsShallow (ReBound i b) = IsBelowGreatest (depth i)
+IsShallow (ReLateParam p) = ⊤
 IsShallow ReStatic = ⊤
 IsShallow (ReVar v) = ⊤
+IsShallow (RePlaceholder p) = ⊤
 IsShallow ReErased = ⊤
 IsShallow (ReError e) = ⊤
 

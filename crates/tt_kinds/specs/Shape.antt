@@ -1,7 +1,7 @@
 -- Shapes: what a value holds, as a tree with handles in the places of stored terms and numbers in the places of names.
 use Rattle.std.specs.Prelude.{ℕ, ◌<◌, ◌≤◌, ◌≡◌, List, [], ◌∷◌, map, Option, Some, None, ⊤}
 use Rattle.tt_index.specs.Greatest.{greatest}
-use Rattle.tt_kinds.specs.Label.{Name, Sort, region_sort, type_sort, const_sort, RegionName, anonymous, printed, named, environment, VarKind, region_variable, type_variable, const_variable, Entry, FreeRegion, static_region, erased_region, region_var, error_region, late_param_region, placeholder_region, Label, type_label, list_label, var_list_label, text_label, record_label, label_table}
+use Rattle.tt_kinds.specs.Label.{Name, Sort, region_sort, type_sort, const_sort, RegionName, anonymous, printed, named, environment, VarKind, region_variable, type_variable, const_variable, Entry, FreeRegion, static_region, erased_region, region_var, error_region, late_param_region, placeholder_region, RecordLabel, fn_sig_tys_record, pair_record, triple_record, absent_record, present_record, sequence_record, unsafe_binder_record, trait_record, host_effect_record, region_outlives_record, type_outlives_record, projection_record, const_has_type_record, well_formed_record, const_evaluatable_record, unstable_feature_record, dyn_compatible_record, subtype_record, coerce_record, const_equate_record, ambiguous_record, normalizes_to_record, alias_relate_record, existential_trait_record, existential_projection_record, auto_trait_record, trait_ref_record, alias_term_record, alias_ty_record, outlives_record, type_and_mut_record, fn_sig_record, param_env_record, witness_types_record, Label, type_label, const_label, pattern_label, predicate_label, existential_label, clause_list_label, list_label, var_list_label, text_label, record_label, label_table}
 use Rattle.tt_kinds.specs.Tree as tree
 use Rattle.tt_kinds.specs.Tree.{Depth, at, canonical, Tree, Forest}
 use Rattle.tt_kinds.specs.declared.table.Table.{Table}
@@ -67,13 +67,55 @@ module _ {N M : Type 0} (name : N → M) where
   rename_free (late_param_region d r) = late_param_region d (rename_region r)
   rename_free (placeholder_region u v r) = placeholder_region u v (rename_region r)
 
+  -- a record's label with its name replaced
+  abbrev pub rename_record : RecordLabel N → RecordLabel M
+  rename_record fn_sig_tys_record = fn_sig_tys_record
+  rename_record pair_record = pair_record
+  rename_record triple_record = triple_record
+  rename_record absent_record = absent_record
+  rename_record present_record = present_record
+  rename_record sequence_record = sequence_record
+  rename_record unsafe_binder_record = unsafe_binder_record
+  rename_record (trait_record d) = trait_record d
+  rename_record (host_effect_record d c) = host_effect_record d c
+  rename_record region_outlives_record = region_outlives_record
+  rename_record type_outlives_record = type_outlives_record
+  rename_record (projection_record d) = projection_record d
+  rename_record const_has_type_record = const_has_type_record
+  rename_record well_formed_record = well_formed_record
+  rename_record const_evaluatable_record = const_evaluatable_record
+  rename_record (unstable_feature_record n) = unstable_feature_record (name n)
+  rename_record (dyn_compatible_record d) = dyn_compatible_record d
+  rename_record (subtype_record b) = subtype_record b
+  rename_record coerce_record = coerce_record
+  rename_record const_equate_record = const_equate_record
+  rename_record ambiguous_record = ambiguous_record
+  rename_record (normalizes_to_record d) = normalizes_to_record d
+  rename_record (alias_relate_record r) = alias_relate_record r
+  rename_record (existential_trait_record d) = existential_trait_record d
+  rename_record (existential_projection_record d) = existential_projection_record d
+  rename_record (auto_trait_record d) = auto_trait_record d
+  rename_record (trait_ref_record d) = trait_ref_record d
+  rename_record (alias_term_record d) = alias_term_record d
+  rename_record (alias_ty_record k) = alias_ty_record k
+  rename_record outlives_record = outlives_record
+  rename_record (type_and_mut_record m) = type_and_mut_record m
+  rename_record (fn_sig_record k) = fn_sig_record k
+  rename_record param_env_record = param_env_record
+  rename_record witness_types_record = witness_types_record
+
   -- a label with its names replaced
   abbrev pub rename_label : Label N → Label M
   rename_label (type_label l) = type_label l
+  rename_label (const_label l) = const_label l
+  rename_label (pattern_label l) = pattern_label l
+  rename_label predicate_label = predicate_label
+  rename_label existential_label = existential_label
+  rename_label clause_list_label = clause_list_label
   rename_label (list_label t) = list_label t
   rename_label (var_list_label vs) = var_list_label (map rename_kind vs)
   rename_label (text_label bytes) = text_label bytes
-  rename_label (record_label l) = record_label l
+  rename_label (record_label l) = record_label (rename_record l)
 
 -- the text of the symbol of this number
 abbrev pub name_of : Meaning → ℕ → Name
@@ -127,13 +169,23 @@ module _ (size : Sizes) where
   IsNamedFree (late_param_region d r) = IsNamed r
   IsNamedFree (placeholder_region u v r) = IsNamed r
 
+  -- the record's name is in the table of symbols
+  abbrev pub IsNamedRecord : RecordLabel ℕ → Type 0
+  IsNamedRecord (unstable_feature_record n) = n < size Symbols
+  IsNamedRecord _ = ⊤
+
   -- the label's names are in the table of symbols
   abbrev pub IsNamedLabel : Label ℕ → Type 0
   IsNamedLabel (type_label l) = ⊤
+  IsNamedLabel (const_label l) = ⊤
+  IsNamedLabel (pattern_label l) = ⊤
+  IsNamedLabel predicate_label = ⊤
+  IsNamedLabel existential_label = ⊤
+  IsNamedLabel clause_list_label = ⊤
   IsNamedLabel (list_label t) = ⊤
   IsNamedLabel (var_list_label vs) = AreNamedKinds vs
   IsNamedLabel (text_label bytes) = ⊤
-  IsNamedLabel (record_label l) = ⊤
+  IsNamedLabel (record_label l) = IsNamedRecord l
 
 -- the table that parameters and bound variables of a sort are stored in
 abbrev pub sort_table : Sort → Option Table

@@ -2,8 +2,12 @@
 
 ghost use Rattle.std.specs.Prelude.{◌≡◌, ◌↔◌, IsTrue};
 ghost use Rattle.tt_kinds.specs.Bound.{depth, IsBelowGreatest};
+ghost use Rattle.tt_kinds.specs.Variable.{IsRegionVariable, IsTypeVariable, IsConstVariable, region_id};
+ghost use Rattle.tt_kinds.specs.declared.bound.BoundVariableKind.TheVariants as variable;
 ghost use Rattle.tt_kinds.specs.Reading.{place, reach};
 
+use crate::handle::Symbol;
+use crate::id::DefId;
 use tt_index::{BoundVar, DebruijnIndex};
 
 /// Which binder a bound variable belongs to.
@@ -21,6 +25,12 @@ pub enum BoundVarIndexKind {
 pub enum BoundRegionKind {
     /// It has no name, as the region of `fn(&u32)`.
     Anon,
+    /// It has no declaration, and is printed by this name.
+    NamedForPrinting(Symbol),
+    /// It is declared.
+    Named(DefId),
+    /// The region of a closure's own environment.
+    ClosureEnv,
 }
 
 /// What a bound type is called.
@@ -28,6 +38,8 @@ pub enum BoundRegionKind {
 pub enum BoundTyKind {
     /// It has no name.
     Anon,
+    /// It is declared.
+    Param(DefId),
 }
 
 /// What a binder says of one of its variables.
@@ -39,6 +51,69 @@ pub enum BoundVariableKind {
     Region(BoundRegionKind),
     /// It stands for a constant.
     Const,
+}
+
+impl BoundRegionKind {
+    /// The declaration of a region that is declared, and `None` of every other.
+    pub fn get_id(self) -> Option<DefId>
+        ensures { result ≡ region_id self }
+    {
+        match self {
+            BoundRegionKind::Named(id) => Some(id),
+            _ => None,
+        }
+    }
+}
+
+impl BoundVariableKind {
+    /// Whether it stands for a region.
+    pub fn is_region(self) -> bool
+        ensures { IsTrue result ↔ IsRegionVariable self }
+    {
+        matches!(self, BoundVariableKind::Region(_))
+    }
+
+    /// Whether it stands for a type.
+    pub fn is_ty(self) -> bool
+        ensures { IsTrue result ↔ IsTypeVariable self }
+    {
+        matches!(self, BoundVariableKind::Ty(_))
+    }
+
+    /// Whether it stands for a constant.
+    pub fn is_const(self) -> bool
+        ensures { IsTrue result ↔ IsConstVariable self }
+    {
+        matches!(self, BoundVariableKind::Const)
+    }
+
+    /// What the region is called. It has to stand for one; [`BoundVariableKind::is_region`] tests it.
+    pub fn expect_region(self) -> BoundRegionKind
+        requires { IsRegionVariable self }
+        ensures { self ≡ variable.Region result }
+    {
+        match self {
+            BoundVariableKind::Region(kind) => kind,
+            _ => unreachable!(),
+        }
+    }
+
+    /// What the type is called. It has to stand for one; [`BoundVariableKind::is_ty`] tests it.
+    pub fn expect_ty(self) -> BoundTyKind
+        requires { IsTypeVariable self }
+        ensures { self ≡ variable.Ty result }
+    {
+        match self {
+            BoundVariableKind::Ty(kind) => kind,
+            _ => unreachable!(),
+        }
+    }
+
+    /// It has to stand for a constant; [`BoundVariableKind::is_const`] tests it.
+    pub fn expect_const(self)
+        requires { IsConstVariable self }
+        ensures { self ≡ variable.Const }
+    {}
 }
 
 /// What a bound region says of itself.
@@ -57,6 +132,92 @@ pub struct BoundTy {
     pub var: BoundVar,
     /// What it is called.
     pub kind: BoundTyKind,
+}
+
+/// What a bound constant says of itself.
+#[derive(Clone, Copy, Debug, PartialEq, Eq, Hash)]
+pub struct BoundConst {
+    /// Its place in the binder's list of variables.
+    pub var: BoundVar,
+}
+
+impl BoundRegion {
+    /// Its place in the binder's list of variables.
+    pub fn var(self) -> BoundVar
+        ensures { result ≡ self.var }
+    {
+        self.var
+    }
+
+    /// Whether the list's entry says the same of it.
+    pub fn agrees(self, entry: BoundVariableKind) -> bool
+        ensures { IsTrue result ↔ (entry ≡ variable.Region self.kind) }
+    {
+        match entry {
+            BoundVariableKind::Region(kind) => kind == self.kind,
+            _ => false,
+        }
+    }
+
+    /// The list's entry has to say the same of it; [`BoundRegion::agrees`] tests it.
+    pub fn assert_eq(self, entry: BoundVariableKind)
+        requires { entry ≡ variable.Region self.kind }
+        ensures { entry ≡ variable.Region self.kind }
+    {}
+}
+
+impl BoundTy {
+    /// Its place in the binder's list of variables.
+    pub fn var(self) -> BoundVar
+        ensures { result ≡ self.var }
+    {
+        self.var
+    }
+
+    /// Whether the list's entry says the same of it.
+    pub fn agrees(self, entry: BoundVariableKind) -> bool
+        ensures { IsTrue result ↔ (entry ≡ variable.Ty self.kind) }
+    {
+        match entry {
+            BoundVariableKind::Ty(kind) => kind == self.kind,
+            _ => false,
+        }
+    }
+
+    /// The list's entry has to say the same of it; [`BoundTy::agrees`] tests it.
+    pub fn assert_eq(self, entry: BoundVariableKind)
+        requires { entry ≡ variable.Ty self.kind }
+        ensures { entry ≡ variable.Ty self.kind }
+    {}
+}
+
+impl BoundConst {
+    /// The variable at this place in its binder's list.
+    pub fn new(var: BoundVar) -> BoundConst
+        ensures { result ≡ record { var = var } }
+    {
+        BoundConst { var }
+    }
+
+    /// Its place in the binder's list of variables.
+    pub fn var(self) -> BoundVar
+        ensures { result ≡ self.var }
+    {
+        self.var
+    }
+
+    /// Whether the list's entry says the same of it.
+    pub fn agrees(self, entry: BoundVariableKind) -> bool
+        ensures { IsTrue result ↔ (entry ≡ variable.Const) }
+    {
+        matches!(entry, BoundVariableKind::Const)
+    }
+
+    /// The list's entry has to say the same of it; [`BoundConst::agrees`] tests it.
+    pub fn assert_eq(self, entry: BoundVariableKind)
+        requires { entry ≡ variable.Const }
+        ensures { entry ≡ variable.Const }
+    {}
 }
 
 impl BoundVarIndexKind {

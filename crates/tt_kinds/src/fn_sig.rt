@@ -4,7 +4,7 @@ ghost use Rattle.std.specs.Prelude.{◌≡◌, ◌+◌};
 ghost use Rattle.tt_index.specs.Abi.{abi_number};
 ghost use Rattle.tt_kinds.specs.FnSig.{safety_bits, variadic_bits};
 
-use crate::handle::Tys;
+use crate::handle::{RegionAssumptions, Tys};
 use tt_index::{ExternAbi, Safety};
 
 /// The types of a signature: those of the inputs, and last that of the output.
@@ -51,4 +51,22 @@ impl FnSigKind {
 pub struct FnHeader {
     /// Its calling convention, whether it is safe, and whether it is variadic.
     pub fn_sig_kind: FnSigKind,
+}
+
+/// A signature.
+#[derive(Clone, Copy, Debug, PartialEq, Eq, Hash)]
+pub struct FnSig {
+    /// The types of the inputs in order, then that of the output.
+    pub inputs_and_output: Tys,
+    /// Its calling convention, whether it is safe, and whether it is variadic.
+    pub fn_sig_kind: FnSigKind,
+}
+
+/// What a coroutine keeps while it waits.
+#[derive(Clone, Copy, Debug, PartialEq, Eq, Hash)]
+pub struct CoroutineWitnessTypes {
+    /// The types of what it keeps.
+    pub types: Tys,
+    /// What is assumed of their regions.
+    pub assumptions: RegionAssumptions,
 }

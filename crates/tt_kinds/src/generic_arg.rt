@@ -2,7 +2,7 @@
 
 ghost use Rattle.std.specs.Prelude.{◌≡◌};
 
-use crate::handle::Ty;
+use crate::handle::{Const, Ty};
 use crate::region_kind::Region;
 use std::marker::Model;
 
@@ -13,6 +13,8 @@ pub enum GenericArgKind {
     Lifetime(Region),
     /// A type.
     Type(Ty),
+    /// A constant.
+    Const(Const),
 }
 
 /// What replaces a generic parameter.
@@ -68,6 +70,18 @@ impl From<Region> for GenericArg {
     fn from(region: Region) -> GenericArg {
         GenericArg {
             kind: GenericArgKind::Lifetime(region),
+        }
+    }
+}
+
+impl From<Const> for GenericArg {
+    ghost use Rattle.tt_kinds.specs.declared.generic_arg.GenericArgKind.TheVariants.{Const as ConstArg};
+
+    ghost from_gives = { λ constant arg. arg ≡ ConstArg constant };
+
+    fn from(constant: Const) -> GenericArg {
+        GenericArg {
+            kind: GenericArgKind::Const(constant),
         }
     }
 }

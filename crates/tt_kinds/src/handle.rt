@@ -115,6 +115,29 @@ impl Clause {
     }
 }
 
+/// What a trait object says of the type that it hides, under its own binder: the name of a stored
+/// [`ExistentialPredicate`](crate::ExistentialPredicate).
+#[derive(Clone, Copy, Debug, PartialEq, Eq, Hash)]
+pub struct PolyExistentialPredicate {
+    number: u32,
+}
+
+impl PolyExistentialPredicate {
+    /// The handle of this number in its table.
+    pub fn from_number(number: u32) -> PolyExistentialPredicate
+        ensures { result ≡ record { number = number } }
+    {
+        PolyExistentialPredicate { number }
+    }
+
+    /// The number of the row in its table, counted from 0 in the order in which rows were added.
+    pub fn number(self) -> u32
+        ensures { result ≡ self.number }
+    {
+        self.number
+    }
+}
+
 /// A list of clauses.
 ///
 /// The default is the empty list, which every interner has from the start.

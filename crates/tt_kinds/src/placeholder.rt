@@ -1,9 +1,11 @@
 //! Placeholders: what stands in for a bound variable once its binder is gone.
 
 ghost use Rattle.std.specs.Prelude.{◌≡◌};
+ghost use Rattle.tt_kinds.specs.declared.bound.BoundRegionKind.TheVariants as region_kind;
+ghost use Rattle.tt_kinds.specs.declared.bound.BoundTyKind.TheVariants as ty_kind;
 
-use crate::bound::BoundTy;
-use tt_index::UniverseIndex;
+use crate::bound::{BoundConst, BoundRegion, BoundRegionKind, BoundTy, BoundTyKind};
+use tt_index::{BoundVar, UniverseIndex};
 
 /// A variable that was bound by a binder which has been entered, as a constant of its universe.
 #[derive(Clone, Copy, Debug, PartialEq, Eq, Hash)]
@@ -21,7 +23,93 @@ impl<T: Copy> Placeholder<T> {
     {
         Placeholder { universe, bound }
     }
+
+    /// The universe in which it can be named.
+    pub fn universe(self) -> UniverseIndex
+        ensures { result ≡ self.universe }
+    {
+        self.universe
+    }
+
+    /// The same variable in another universe.
+    pub fn with_updated_universe(self, universe: UniverseIndex) -> Placeholder<T>
+        ensures { result ≡ record { universe = universe; bound = self.bound } }
+    {
+        Placeholder {
+            universe,
+            bound: self.bound,
+        }
+    }
 }
+
+/// A placeholder for a region.
+pub type PlaceholderRegion = Placeholder<BoundRegion>;
 
 /// A placeholder for a type.
 pub type PlaceholderType = Placeholder<BoundTy>;
+
+/// A placeholder for a constant.
+pub type PlaceholderConst = Placeholder<BoundConst>;
+
+impl Placeholder<BoundRegion> {
+    /// The place of its variable in the binder's list.
+    pub fn var(self) -> BoundVar
+        ensures { result ≡ self.bound.var }
+    {
+        self.bound.var
+    }
+
+    /// The placeholder of this universe for the region at this place, which has no name.
+    pub fn new_anon(universe: UniverseIndex, var: BoundVar) -> PlaceholderRegion
+        ensures { result ≡ record { universe = universe; bound = record { var = var; kind = region_kind.Anon } } }
+    {
+        Placeholder {
+            universe,
+            bound: BoundRegion {
+                var,
+                kind: BoundRegionKind::Anon,
+            },
+        }
+    }
+}
+
+impl Placeholder<BoundTy> {
+    /// The place of its variable in the binder's list.
+    pub fn var(self) -> BoundVar
+        ensures { result ≡ self.bound.var }
+    {
+        self.bound.var
+    }
+
+    /// The placeholder of this universe for the type at this place, which has no name.
+    pub fn new_anon(universe: UniverseIndex, var: BoundVar) -> PlaceholderType
+        ensures { result ≡ record { universe = universe; bound = record { var = var; kind = ty_kind.Anon } } }
+    {
+        Placeholder {
+            universe,
+            bound: BoundTy {
+                var,
+                kind: BoundTyKind::Anon,
+            },
+        }
+    }
+}
+
+impl Placeholder<BoundConst> {
+    /// The place of its variable in the binder's list.
+    pub fn var(self) -> BoundVar
+        ensures { result ≡ self.bound.var }
+    {
+        self.bound.var
+    }
+
+    /// The placeholder of this universe for the constant at this place, which has no name.
+    pub fn new_anon(universe: UniverseIndex, var: BoundVar) -> PlaceholderConst
+        ensures { result ≡ record { universe = universe; bound = record { var = var } } }
+    {
+        Placeholder {
+            universe,
+            bound: BoundConst { var },
+        }
+    }
+}

@@ -4,9 +4,11 @@ ghost use Rattle.std.specs.Prelude.{◌≡◌, ◌↔◌, ◌<◌, ◌≤◌, Is
 ghost use Rattle.tt_index.specs.Greatest.{greatest};
 ghost use Rattle.tt_kinds.specs.RegionKind.{IsShallow};
 
-use crate::bound::{BoundRegion, BoundVarIndexKind};
+use crate::bound::{BoundRegion, BoundRegionKind, BoundVarIndexKind};
 use crate::error_guaranteed::ErrorGuaranteed;
 use crate::handle::Symbol;
+use crate::id::DefId;
+use crate::placeholder::PlaceholderRegion;
 use std::marker::Model;
 use tt_flags::TypeFlags;
 use tt_index::{DebruijnIndex, Refusal, RegionVid};
@@ -20,6 +22,15 @@ pub struct EarlyParamRegion {
     pub name: Symbol,
 }
 
+/// A region parameter of an item, seen from inside the item.
+#[derive(Clone, Copy, Debug, PartialEq, Eq, Hash)]
+pub struct LateParamRegion {
+    /// The item.
+    pub scope: DefId,
+    /// What it is called.
+    pub kind: BoundRegionKind,
+}
+
 /// What a region is.
 #[derive(Clone, Copy, Debug, PartialEq, Eq, Hash)]
 pub enum RegionKind {
@@ -27,10 +38,14 @@ pub enum RegionKind {
     ReEarlyParam(EarlyParamRegion),
     /// A region that a binder binds.
     ReBound(BoundVarIndexKind, BoundRegion),
+    /// A region parameter of an item, seen from inside the item.
+    ReLateParam(LateParamRegion),
     /// `'static`.
     ReStatic,
     /// A region variable of inference.
     ReVar(RegionVid),
+    /// A region that a binder bound which has been entered.
+    RePlaceholder(PlaceholderRegion),
     /// A region of which nothing is kept.
     ReErased,
     /// A region of which an error was reported.
@@ -128,8 +143,10 @@ impl Region {
                 BoundVarIndexKind::Bound(_) => TypeFlags::HAS_RE_BOUND,
                 BoundVarIndexKind::Canonical => TypeFlags::from_bits_retain(0x404_0000),
             },
+            RegionKind::ReLateParam(_) => TypeFlags::from_bits_retain(0x20200),
             RegionKind::ReStatic => TypeFlags::HAS_FREE_REGIONS,
             RegionKind::ReVar(_) => TypeFlags::from_bits_retain(0x20210),
+            RegionKind::RePlaceholder(_) => TypeFlags::from_bits_retain(0x20280),
             RegionKind::ReErased => TypeFlags::HAS_RE_ERASED,
             RegionKind::ReError(_) => TypeFlags::from_bits_retain(0x30000),
         }

@@ -2,13 +2,13 @@
 use Rattle.std.proofs.Common.{inl, inr, ◌≡◌, ℕ, ◌+◌, ◌-◌, ◌<◌, ◌≤◌, refl, ap, sym, ◌∙◌, arith}
 use Rattle.std.specs.Prelude.{⊤, false, ◌⊎◌}
 use Rattle.tt_index.specs.Greatest.{greatest}
-use Rattle.tt_kinds.specs.Label.{Name, Label, type_label, list_label, var_list_label, text_label, record_label}
+use Rattle.tt_kinds.specs.Label.{Name, Label, type_label, const_label, pattern_label, predicate_label, existential_label, clause_list_label, list_label, var_list_label, text_label, record_label}
 use Rattle.tt_kinds.specs.Tree.{Depth, Tree, Forest, param, bound, region, term, node, binder, none, also}
 use Rattle.tt_kinds.specs.Reading.{read, read_all, greatest_reach, greatest_reach_all, outer_binder}
 use Rattle.tt_kinds.proofs.OuterLaws.{greatest_reach-deeper}
-use Rattle.tt_visit.specs.Root.{a_region, a_type, root, node_root}
-use Rattle.tt_visit.specs.Visit.{GoesOver, GoesOverAll, region_seen, skipped, went_inside, node_seen, binder_skipped, binder_seen, value_seen, all_seen, one_seen, Breaks, BreaksAll, region_broke, term_broke, inside_broke, node_broke, enter_broke, under_broke, value_broke, first_broke, later_broke}
-use Rattle.tt_visit.specs.HasEscapingVars.{Search, search_hooks, range_hooks, InRange, InRange_all}
+use Rattle.tt_visit.specs.Root.{Root, a_region, hooked, unhooked, a_part, no_term, root, term_root, node_root}
+use Rattle.tt_visit.specs.Visit.{GoesOver, GoesOverAll, region_seen, skipped, went_inside, node_seen, unhooked_seen, binder_skipped, binder_seen, value_seen, all_seen, one_seen, Breaks, BreaksAll, region_broke, term_broke, inside_broke, unhooked_broke, node_broke, enter_broke, under_broke, value_broke, first_broke, later_broke}
+use Rattle.tt_visit.specs.HasEscapingVars.{Search, search_hooks, range_hooks, ByHook, InRange, InRange_all}
 use Rattle.tt_visit.specs.declared.has_escaping_vars.FoundEscapingVars.{FoundEscapingVars}
 
 -- a tree reaches one binder less far from outside of its binder
@@ -19,13 +19,21 @@ outside t = greatest_reach-deeper 1 0 t
 abbrev pub outer_binder_all : Forest Depth → ℕ
 outer_binder_all ts = greatest_reach_all (read_all 0 ts)
 
+-- what follows from the whole of a term as from what stands inside of it
+either-way : (r : Root) (A B C : Type 0) → ByHook r A B → (A → C) → (B → C) → C
+either-way hooked A B C h whole inside = whole h
+either-way a_region A B C h whole inside = inside h
+either-way unhooked A B C h whole inside = inside h
+either-way a_part A B C h whole inside = inside h
+either-way no_term A B C h whole inside = inside h
+
 mutual
   -- a tree in range reaches no further than the greatest index
   pub range-outer : (t : Tree Depth) → InRange t → outer_binder t ≤ greatest
   range-outer (param s i name) h = omega arith
   range-outer (bound s d e) h = h
   range-outer (region r) h = omega arith
-  range-outer (term l ts) h = h
+  range-outer (term l ts) h = either-way (term_root l) (outer_binder (term l ts) ≤ greatest) (InRange_all ts) (outer_binder_all ts ≤ greatest) h (λ whole. whole) (λ inside. range_all-outer ts inside)
   range-outer (node l ts) h = range_all-outer ts h
   range-outer (binder vs t) h = let inner : outer_binder t ≤ greatest = range-outer t h in let less = outside t in omega arith
 
@@ -34,10 +42,20 @@ mutual
   range_all-outer (also t ts) h =
       let first : outer_binder t ≤ greatest = range-outer t h.0 in let rest : outer_binder_all ts ≤ greatest = range_all-outer ts h.1 in omega arith
 
--- neither a list nor a record is a region or a type
-no-leaf : (l : Label Name) → (node_root l ≡ a_region) ⊎ (node_root l ≡ a_type) → ⊥
+-- neither a list nor a record is a region or a term with a hook
+no-leaf : (l : Label Name) → (node_root l ≡ a_region) ⊎ (node_root l ≡ hooked) → ⊥
 no-leaf (type_label x) (inl e) = let never = e in cc
 no-leaf (type_label x) (inr e) = let never = e in cc
+no-leaf (const_label x) (inl e) = let never = e in cc
+no-leaf (const_label x) (inr e) = let never = e in cc
+no-leaf (pattern_label x) (inl e) = let never = e in cc
+no-leaf (pattern_label x) (inr e) = let never = e in cc
+no-leaf predicate_label (inl e) = let never = e in cc
+no-leaf predicate_label (inr e) = let never = e in cc
+no-leaf existential_label (inl e) = let never = e in cc
+no-leaf existential_label (inr e) = let never = e in cc
+no-leaf clause_list_label (inl e) = let never = e in cc
+no-leaf clause_list_label (inr e) = let never = e in cc
 no-leaf (list_label x) (inl e) = let never = e in cc
 no-leaf (list_label x) (inr e) = let never = e in cc
 no-leaf (var_list_label x) (inl e) = let never = e in cc
@@ -47,15 +65,36 @@ no-leaf (text_label x) (inr e) = let never = e in cc
 no-leaf (record_label x) (inl e) = let never = e in cc
 no-leaf (record_label x) (inr e) = let never = e in cc
 
--- a region or a type in range
-leaf-range : (t : Tree Depth) → (root t ≡ a_region) ⊎ (root t ≡ a_type) → outer_binder t ≤ greatest → InRange t
+-- no term is a region
+term-no-region : (l : Label Name) → term_root l ≡ a_region → ⊥
+term-no-region (type_label x) e = let never = e in cc
+term-no-region (const_label x) e = let never = e in cc
+term-no-region (pattern_label x) e = let never = e in cc
+term-no-region predicate_label e = let never = e in cc
+term-no-region existential_label e = let never = e in cc
+term-no-region clause_list_label e = let never = e in cc
+term-no-region (list_label x) e = let never = e in cc
+term-no-region (var_list_label x) e = let never = e in cc
+term-no-region (text_label x) e = let never = e in cc
+term-no-region (record_label x) e = let never = e in cc
+
+-- a region or a term with a hook, in range
+leaf-range : (t : Tree Depth) → (root t ≡ a_region) ⊎ (root t ≡ hooked) → outer_binder t ≤ greatest → InRange t
 leaf-range (param s i name) is h = tt
 leaf-range (bound s d e) is h = h
 leaf-range (region r) is h = tt
-leaf-range (term l ts) is h = h
+leaf-range (term l ts) (inl e) h = absurd (term-no-region l e)
+leaf-range (term l ts) (inr e) h = rw e h
 leaf-range (node l ts) is h = absurd (no-leaf l is)
 leaf-range (binder vs t) (inl e) h = cc
 leaf-range (binder vs t) (inr e) h = cc
+
+-- a term without a hook is in range where all that stands inside is
+inside-range : (l : Label Name) (ts : Forest Depth) → term_root l ≡ unhooked → InRange_all ts → InRange (term l ts)
+inside-range l ts e h = rw e h
+
+range-inside : (l : Label Name) (ts : Forest Depth) → term_root l ≡ unhooked → InRange (term l ts) → InRange_all ts
+range-inside l ts e h = rw e at h
 
 mutual
   -- what the visitor saw that only asks for ranges
@@ -63,6 +102,7 @@ mutual
   goes-range s s' t (region_seen is h) = leaf-range t (inl is) h
   goes-range s s' t (skipped is h) = leaf-range t (inr is) h.1
   goes-range s s' t (went_inside is h inside) = let never = h.0 in cc
+  goes-range s s' (term l ts) (unhooked_seen is all) = inside-range l ts is (goes_all-range s s' ts all)
   goes-range s s' (node l ts) (node_seen is all) = goes_all-range s s' ts all
   goes-range s s' (binder vs t) (binder_skipped e) = cc
   goes-range s s' (binder vs t) (binder_seen {s1 = s1} {s2 = s2} e (value_seen h) l) = goes-range s1 s2 t h
@@ -76,6 +116,7 @@ mutual
   breaks-range s s' t b (region_broke is h) = h
   breaks-range s s' t b (term_broke is h) = h
   breaks-range s s' t b (inside_broke is h inside) = let never = h.0 in cc
+  breaks-range s s' (term l ts) b (unhooked_broke is all) = breaks_all-range s s' ts b all
   breaks-range s s' (node l ts) b (node_broke is all) = breaks_all-range s s' ts b all
   breaks-range s s' (binder vs t) b (enter_broke e) = e
   breaks-range s s' (binder vs t) b (under_broke {s1 = s1} {s2 = s2} e (value_broke h) l) = breaks-range s1 s2 t b h
@@ -96,6 +137,9 @@ mutual
   goes-passes s s' t (region_seen is h) = rw h.0 (record { index = refl; unskipped = λ e. (e, h.1); in_range = λ r. h.1 })
   goes-passes s s' t (skipped is h) = rw h.0 (record { index = refl; unskipped = λ e. (e, h.2); in_range = λ r. h.2 })
   goes-passes s s' t (went_inside is h inside) = let never = h.1 in cc
+  goes-passes s s' (term l ts) (unhooked_seen is all) =
+      let inside = goes_all-passes s s' ts all in
+      record { index = inside.index; unskipped = inside.unskipped; in_range = λ r. inside.in_range (range-inside l ts is r) }
   goes-passes s s' (node l ts) (node_seen is all) = goes_all-passes s s' ts all
   goes-passes s s' (binder vs t) (binder_skipped e) =
       rw e.1 (record { index = refl; unskipped = λ e. cc; in_range = λ r. low r })
@@ -136,6 +180,7 @@ mutual
   breaks-reaches s s' t b (region_broke is h) = h.1
   breaks-reaches s s' t b (term_broke is h) = h.1
   breaks-reaches s s' t b (inside_broke is h inside) = let never = h.1 in cc
+  breaks-reaches s s' (term l ts) b (unhooked_broke is all) = breaks_all-reaches s s' ts b all
   breaks-reaches s s' (node l ts) b (node_broke is all) = breaks_all-reaches s s' ts b all
   breaks-reaches s s' (binder vs t) b (enter_broke e) = absurd e
   breaks-reaches s s' (binder vs t) b (under_broke {s1 = s1} {s2 = s2} e (value_broke h) l) =

@@ -6,8 +6,8 @@ use Rattle.std.specs.Int.Bits.{and_zero_r}
 use Rattle.std.proofs.lemmas.Nat.Bits.{bit_at_and, bit_at_or, bit_at-zero, same_from_bits}
 use Rattle.std.proofs.lemmas.Bool.{eqb-true}
 use Rattle.std.proofs.lemmas.Grind.{numeral_and}
-use Rattle.tt_kinds.specs.Label.{Name, TypeLabel, Label, type_label, list_label, var_list_label, text_label, record_label, list_flags, flags_of_label, flags_of_type, bool_type, char_type, int_type, uint_type, float_type, str_type, never_type, placeholder_type, infer_type, error_type, ref_type, raw_ptr_type, slice_type, tuple_type, fn_ptr_type}
-use Rattle.tt_kinds.specs.Tree.{Depth, Tree, Forest, node, binder, none, also}
+use Rattle.tt_kinds.specs.Label.{Name, TypeLabel, ConstLabel, Label, type_label, const_label, pattern_label, predicate_label, existential_label, clause_list_label, list_label, var_list_label, text_label, record_label, list_flags, flags_of_label, flags_of_type, flags_of_const, bool_type, char_type, int_type, uint_type, float_type, str_type, never_type, placeholder_type, infer_type, error_type, ref_type, raw_ptr_type, slice_type, tuple_type, fn_ptr_type, foreign_type, adt_type, array_type, pat_type, unsafe_binder_type, dynamic_type, closure_type, coroutine_closure_type, coroutine_type, coroutine_witness_type, alias_type, infer_const, placeholder_const, unevaluated_const, leaf_const, branch_const, error_const, expr_const}
+use Rattle.tt_kinds.specs.Tree.{Depth, Tree, Forest, term, node, binder, none, also}
 use Rattle.tt_flags.specs.TypeFlags.{has_binder_vars}
 use Rattle.tt_kinds.specs.Shape.{Meaning, fill, vars_of}
 use Rattle.tt_kinds.specs.Kinds.{vars_row_shape}
@@ -15,11 +15,15 @@ use Rattle.tt_kinds.specs.declared.bound.BoundVariableKind.{BoundVariableKind}
 use Rattle.tt_kinds.specs.declared.table.Table.TheVariants.{VarLists}
 use Rattle.tt_kinds.specs.Param.{holds_param}
 use Rattle.tt_kinds.specs.Scan.{scan, scan_all}
+use Rattle.tt_kinds.specs.declared.alias.AliasTyKind.{AliasTyKind}
+use Rattle.tt_kinds.specs.declared.alias.AliasTyKind.TheVariants.{Projection, Inherent, Opaque, Free}
+use Rattle.tt_kinds.specs.declared.const_kind.InferConst.{InferConst}
+use Rattle.tt_kinds.specs.declared.const_kind.InferConst.TheVariants.{Var, Fresh}
 use Rattle.tt_kinds.specs.declared.ty_kind.InferTy.{InferTy}
 use Rattle.tt_kinds.specs.declared.ty_kind.InferTy.TheVariants.{TyVar, IntVar, FloatVar, FreshTy, FreshIntTy, FreshFloatTy}
 use Rattle.tt_kinds.proofs.FlagLaws.{param_bit, as_number, param_bit-scan}
-use Rattle.tt_visit.specs.Root.{node_root, a_part}
-use Rattle.tt_visit.specs.Visit.{GoesOver, GoesOverAll, region_seen, skipped, went_inside, node_seen, binder_skipped, binder_seen, value_seen, all_seen, one_seen, Breaks, BreaksAll, region_broke, term_broke, inside_broke, node_broke, enter_broke, under_broke, value_broke, first_broke, later_broke}
+use Rattle.tt_visit.specs.Root.{term_root, node_root, unhooked, a_part}
+use Rattle.tt_visit.specs.Visit.{GoesOver, GoesOverAll, region_seen, skipped, went_inside, unhooked_seen, node_seen, binder_skipped, binder_seen, value_seen, all_seen, one_seen, Breaks, BreaksAll, region_broke, term_broke, inside_broke, unhooked_broke, node_broke, enter_broke, under_broke, value_broke, first_broke, later_broke}
 use Rattle.tt_visit.specs.HasTypeFlags.{Misses, Meets, flag_hooks}
 use Rattle.tt_visit.specs.declared.has_type_flags.FoundFlags.{FoundFlags}
 
@@ -48,7 +52,7 @@ bits-right m a b h = same_from_bits (bit_and m b) 0 one
         let right = bit_at_and m b i in
         omega arith
 
-bits-both : (m a b : ℕ) → Misses m a → Misses m b → Misses m (bit_or a b)
+pub bits-both : (m a b : ℕ) → Misses m a → Misses m b → Misses m (bit_or a b)
 bits-both m a b h g = same_from_bits (bit_and m (bit_or a b)) 0 one
   where
     one : (i : ℕ) → bit_at (bit_and m (bit_or a b)) i ≡ bit_at 0 i
@@ -63,12 +67,30 @@ bits-both m a b h g = same_from_bits (bit_and m (bit_or a b)) 0 one
         omega arith
 
 -- a part has no flags of its own
-part-flags : (m : ℕ) (l : Label Name) → node_root l ≡ a_part → Misses m (flags_of_label l)
+pub part-flags : (m : ℕ) (l : Label Name) → node_root l ≡ a_part → Misses m (flags_of_label l)
 part-flags m (type_label l) is = cc
+part-flags m (const_label l) is = cc
+part-flags m (pattern_label l) is = cc
+part-flags m predicate_label is = cc
+part-flags m existential_label is = cc
+part-flags m clause_list_label is = cc
 part-flags m (list_label t) is = and_zero_r m
 part-flags m (var_list_label vs) is = cc
 part-flags m (text_label bytes) is = cc
 part-flags m (record_label l) is = and_zero_r m
+
+-- a term without a hook has no flags of its own
+pub unhooked-flags : (m : ℕ) (l : Label Name) → term_root l ≡ unhooked → Misses m (flags_of_label l)
+unhooked-flags m (type_label l) is = cc
+unhooked-flags m (const_label l) is = cc
+unhooked-flags m (pattern_label l) is = and_zero_r m
+unhooked-flags m predicate_label is = cc
+unhooked-flags m existential_label is = and_zero_r m
+unhooked-flags m clause_list_label is = cc
+unhooked-flags m (list_label t) is = cc
+unhooked-flags m (var_list_label vs) is = cc
+unhooked-flags m (text_label bytes) is = cc
+unhooked-flags m (record_label l) is = cc
 
 -- the flags of a binder's list, by what stands in it
 pub flags-of-none : (f : Meaning) (n : ℕ) (vs : List BoundVariableKind) → f VarLists n ≡ fill f (vars_row_shape vs) → (length vs == 0) ≡ true → list_flags (vars_of (f VarLists n)) ≡ 0
@@ -87,6 +109,8 @@ mutual
   goes-misses s s' t (region_seen is h) = h
   goes-misses s s' t (skipped is h) = (h.0, h.2)
   goes-misses s s' t (went_inside is h inside) = let never = h.1 in cc
+  goes-misses s s' (term l ts) (unhooked_seen is all) =
+      let inside = goes_all-misses s s' ts all in (inside.0, bits-both s (flags_of_label l) (scan_all ts) (unhooked-flags s l is) inside.1)
   goes-misses s s' (node l ts) (node_seen is all) =
       let rest = goes_all-misses s s' ts all in (rest.0, bits-both s (flags_of_label l) (scan_all ts) (part-flags s l is) rest.1)
   goes-misses s s' (binder vs t) (binder_skipped e) = let never = e.1 in cc
@@ -105,6 +129,7 @@ mutual
   breaks-meets s s' t b (region_broke is h) = h.1
   breaks-meets s s' t b (term_broke is h) = h.1
   breaks-meets s s' t b (inside_broke is h inside) = let never = h.1 in cc
+  breaks-meets s s' (term l ts) b (unhooked_broke is all) = λ e. breaks_all-meets s s' ts b all (bits-right s (flags_of_label l) (scan_all ts) e)
   breaks-meets s s' (node l ts) b (node_broke is all) = λ e. breaks_all-meets s s' ts b all (bits-right s (flags_of_label l) (scan_all ts) e)
   breaks-meets s s' (binder vs t) b (enter_broke e) = λ none_set. e.1 (bits-left s (list_flags vs) (scan t) none_set)
   breaks-meets s s' (binder vs t) b (under_broke {s1 = s1} {s2 = s2} e (value_broke h) l) =
@@ -125,6 +150,12 @@ infer-plain (FreshTy n) = refl
 infer-plain (FreshIntTy n) = refl
 infer-plain (FreshFloatTy n) = refl
 
+alias-plain : (k : AliasTyKind) → param_bit (flags_of_type (alias_type k)) ≡ 0
+alias-plain (Projection d) = refl
+alias-plain (Inherent d) = refl
+alias-plain (Opaque d) = refl
+alias-plain (Free d) = refl
+
 type-plain : (l : TypeLabel) → param_bit (flags_of_type l) ≡ 0
 type-plain bool_type = refl
 type-plain char_type = refl
@@ -141,9 +172,38 @@ type-plain (raw_ptr_type m) = refl
 type-plain slice_type = refl
 type-plain tuple_type = refl
 type-plain (fn_ptr_type h) = refl
+type-plain (foreign_type d) = refl
+type-plain (adt_type d) = refl
+type-plain array_type = refl
+type-plain pat_type = refl
+type-plain unsafe_binder_type = refl
+type-plain dynamic_type = refl
+type-plain (closure_type d) = refl
+type-plain (coroutine_closure_type d) = refl
+type-plain (coroutine_type d) = refl
+type-plain (coroutine_witness_type d) = refl
+type-plain (alias_type k) = alias-plain k
+
+infer_const-plain : (i : InferConst) → param_bit (flags_of_const (infer_const i)) ≡ 0
+infer_const-plain (Var v) = refl
+infer_const-plain (Fresh n) = refl
+
+const-plain : (l : ConstLabel) → param_bit (flags_of_const l) ≡ 0
+const-plain (infer_const i) = infer_const-plain i
+const-plain (placeholder_const p) = refl
+const-plain (unevaluated_const d) = refl
+const-plain (leaf_const bits size) = refl
+const-plain branch_const = refl
+const-plain (error_const e) = refl
+const-plain (expr_const tag) = refl
 
 label-plain : (l : Label Name) → param_bit (flags_of_label l) ≡ 0
 label-plain (type_label l) = type-plain l
+label-plain (const_label l) = const-plain l
+label-plain (pattern_label l) = refl
+label-plain predicate_label = refl
+label-plain existential_label = refl
+label-plain clause_list_label = refl
 label-plain (list_label t) = refl
 label-plain (var_list_label []) = refl
 label-plain (var_list_label (v ∷ vs)) = refl

@@ -1,5 +1,7 @@
 pub mod VisitSteps
+pub mod ItemSteps
 pub mod Weights
 pub mod Found
 pub mod HasTypeFlagsLaws
 pub mod HasEscapingVarsLaws
+pub mod HasErrorLaws

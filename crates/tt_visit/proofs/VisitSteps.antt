@@ -1,38 +1,148 @@
 -- One step of a visit over plain variables.
-use Rattle.std.proofs.Common.{◌≡◌, ℕ, ◌+◌, ◌<◌, ◌≤◌, List, [], ◌∷◌, ◌++◌, length, take, drop, get_or, ControlFlow, Continue, Break, refl, ap, sym, ◌∙◌, arith}
-use Rattle.std.specs.Prelude.{Some, slice_get}
+use Rattle.std.proofs.Common.{◌≡◌, ℕ, ◌+◌, ◌<◌, ◌≤◌, List, [], ◌∷◌, ◌++◌, length, take, drop, get_or, ControlFlow, Continue, Break, refl, ap, sym, ◌∙◌, ◌⊎◌, inl, inr, arith}
+use Rattle.std.specs.Prelude.{Some, None, slice_get}
 use Rattle.std.specs.ControlFlow.{MatchControlFlow}
 use Rattle.std.proofs.lemmas.Grind.{common_steps}
 use Rattle.std.proofs.lemmas.Option.{slice_get_within, get_or_from_slice_get}
-use Rattle.tt_kinds.specs.Label.{Sort, type_sort, TypeLabel, Label, type_label, list_label, var_list_label, text_label, record_label}
+use Rattle.tt_kinds.specs.Label.{Name, Sort, region_sort, type_sort, const_sort, TypeLabel, ConstLabel, Label, type_label, const_label, pattern_label, predicate_label, existential_label, clause_list_label, list_label, var_list_label, text_label, record_label}
 use Rattle.tt_kinds.specs.Tree as tree
 use Rattle.tt_kinds.specs.Tree.{Depth, Tree, Forest}
-use Rattle.tt_kinds.specs.Shape.{Shapes, none, also, append, rename_label, Meaning, Sizes, IsPart, AreParts, HasParts, fill, fill_all, name_of}
-use Rattle.tt_kinds.specs.Kinds.{Form, param, bound, plain, under, ty_form, kind_form, relabelled, form_binder, form_parts, form_shape, kind_sort, kind_shape, region_shape, child_shapes, parts_shapes, children_shapes}
+use Rattle.tt_kinds.specs.Shape.{Shapes, none, also, append, rename_label, rename_record, Meaning, Sizes, IsPart, AreParts, HasParts, fill, fill_all, name_of}
+use Rattle.tt_kinds.specs.Kinds.{Form, param, bound, plain, under, ty_form, const_form, kind_form, relabelled, form_binder, form_parts, form_shape, kind_sort, kind_shape, region_shape, child_shapes, parts_shapes, children_shapes, items_tree}
 use Rattle.tt_kinds.specs.declared.parts.Kind.{Kind}
-use Rattle.tt_kinds.specs.declared.parts.Kind.TheVariants as kind
+use Rattle.tt_kinds.specs.declared.table.Table.{Table}
+use Rattle.tt_interner.specs.Rows.{Row, type_row, const_row, pat_row, predicate_row, existential_row, clauses_row, tys_row, consts_row, args_row, pats_row, existentials_row, vars_row, text_row, row_table, row_shape, table, size, meaning}
+use Rattle.tt_interner.proofs.RowLaws.{place_cases, IsNewest, meaning-old, meaning-new}
 use Rattle.tt_kinds.specs.declared.parts.Child.{Child}
+use Rattle.tt_kinds.specs.declared.parts.Node.{Node}
+use Rattle.tt_kinds.specs.declared.parts.Node.TheVariants as node
+use Rattle.tt_kinds.specs.declared.parts.List.{List as StoredList}
+use Rattle.tt_kinds.specs.declared.parts.List.TheVariants as list
+use Rattle.tt_kinds.specs.declared.handle.Clauses.{Clauses}
+use Rattle.tt_kinds.specs.declared.table.Table.TheVariants.{ClauseLists}
+use Rattle.tt_kinds.specs.Parts.{node_table, list_sort}
 use Rattle.tt_kinds.specs.declared.region_kind.RegionKind.{RegionKind}
-use Rattle.tt_kinds.specs.declared.region_kind.RegionKind.TheVariants.{ReEarlyParam, ReBound, ReStatic, ReVar, ReErased, ReError}
-use Rattle.tt_visit.specs.Root.{root, a_region, a_type, error_of}
-use Rattle.tt_visit.specs.Visit.{Visits, Tells, TellingBreaks, GoesInside, GoesOverAll, term_seen, param_seen, bound_seen, all_seen, one_seen, BreaksInside, BreaksAll, error_broke, term_inside_broke, first_broke, later_broke}
-use Rattle.tt_visit.specs.Steps.{form_error, kind_error, AreStored, GoesUnder, BreaksUnder}
+use Rattle.tt_kinds.specs.declared.region_kind.RegionKind.TheVariants.{ReEarlyParam, ReBound, ReLateParam, ReStatic, ReVar, RePlaceholder, ReErased, ReError}
+use Rattle.tt_visit.specs.Root.{Root, root, a_region, hooked, unhooked, a_part, no_term, sort_root, term_root, table_root, error_of}
+use Rattle.tt_visit.specs.declared.visitor.Next.TheVariants.{Skip, Descend}
+use Rattle.tt_visit.specs.Visit.{Visits, Tells, TellingBreaks, GoesOver, GoesInside, GoesOverAll, skipped, went_inside, unhooked_seen, node_seen, term_seen, param_seen, bound_seen, all_seen, one_seen, Breaks, BreaksInside, BreaksAll, term_broke, inside_broke, unhooked_broke, node_broke, error_broke, term_inside_broke, first_broke, later_broke}
+use Rattle.tt_visit.specs.Steps.{form_error, kind_error, AreStored, Asks, AskingBreaks, GoesUnder, BreaksUnder}
 
 pub flow-weaker : {B C : Type 0} (r : ControlFlow B C) {P P' : C → Type 0} {Q Q' : B → Type 0}
     → MatchControlFlow r P Q → ((c : C) → P c → P' c) → ((b : B) → Q b → Q' b) → MatchControlFlow r P' Q'
 flow-weaker (Continue c) h f g = f c h
 flow-weaker (Break b) h f g = g b h
 
--- a type's row is a type
-root-form : (f : Meaning) (x : Form TypeLabel) → root (fill f (form_shape type_sort (relabelled type_label x))) ≡ a_type
+-- what a row of types or constants is
+root-type : (f : Meaning) (x : Form TypeLabel) → root (fill f (form_shape type_sort (relabelled type_label x))) ≡ hooked
 unfolding fill
-root-form f (param i name) = refl
-root-form f (bound d e) = refl
-root-form f (plain l p) = refl
-root-form f (under l vars m p) = refl
+root-type f (param i name) = refl
+root-type f (bound d e) = refl
+root-type f (plain l p) = refl
+root-type f (under l vars m p) = refl
 
-pub root-kind : (f : Meaning) (k : Kind) → root (fill f (kind_shape k)) ≡ a_type
-root-kind f (kind.Ty k) = root-form f (ty_form k)
+root-const : (f : Meaning) (x : Form ConstLabel) → root (fill f (form_shape const_sort (relabelled const_label x))) ≡ hooked
+unfolding fill
+root-const f (param i name) = refl
+root-const f (bound d e) = refl
+root-const f (plain l p) = refl
+root-const f (under l vars m p) = refl
+
+-- what a row is, as its table tells
+root-row : (f : Meaning) (r : Row) → root (fill f (row_shape r)) ≡ table_root (row_table r)
+unfolding fill
+root-row f (type_row k) = root-type f (ty_form k)
+root-row f (const_row k) = root-const f (const_form k)
+root-row f (pat_row k) = refl
+root-row f (predicate_row b) = refl
+root-row f (existential_row b) = refl
+root-row f (clauses_row cs) = refl
+root-row f (tys_row ts) = refl
+root-row f (consts_row cs) = refl
+root-row f (args_row args) = refl
+root-row f (pats_row ps) = refl
+root-row f (existentials_row ps) = refl
+root-row f (vars_row vs) = refl
+root-row f (text_row bytes) = refl
+
+-- what a handle's tree is
+older-or-newest : (r : Row) (rows : List Row) (t : Table) (n : ℕ) → (n < size rows t → root (meaning rows t n) ≡ table_root t)
+    → (n < size rows t) ⊎ IsNewest r rows t n → root (meaning (r ∷ rows) t n) ≡ table_root t
+older-or-newest r rows t n before (inl low) = ap root (meaning-old r rows t n low) ∙ before low
+older-or-newest r rows t n before (inr is) =
+    let whole : root (meaning (r ∷ rows) (row_table r) (size rows (row_table r))) ≡ table_root (row_table r) = ap root (meaning-new r rows) ∙ root-row (meaning rows) r in
+    rw (is.last, ← is.same_table) whole
+
+pub root-meaning : (rows : List Row) (t : Table) (n : ℕ) → n < size rows t → root (meaning rows t n) ≡ table_root t
+unfolding table
+root-meaning [] t n h = absurd (omega arith)
+root-meaning (r ∷ rows) t n h = older-or-newest r rows t n (λ low. root-meaning rows t n low) (place_cases r rows t n h)
+
+-- neither a parameter nor a bound variable is a term without a hook, and no such term tells of an error
+sort-unhooked : (s : Sort) → sort_root s ≡ unhooked → ⊥
+sort-unhooked region_sort e = let never = e in cc
+sort-unhooked type_sort e = let never = e in cc
+sort-unhooked const_sort e = let never = e in cc
+
+no-error : (l : Label Name) → term_root l ≡ unhooked → error_of l ≡ None
+no-error (type_label l) is = cc
+no-error (const_label l) is = cc
+no-error (pattern_label l) is = refl
+no-error predicate_label is = refl
+no-error existential_label is = refl
+no-error clause_list_label is = refl
+no-error (list_label t) is = refl
+no-error (var_list_label vs) is = refl
+no-error (text_label bytes) is = refl
+no-error (record_label l) is = refl
+
+-- what stands inside of it is all that there is to see
+unhooked-inside : {M B : Type 0} (V : Visits M B) (s s' : M) (t : Tree Depth) → root t ≡ unhooked → GoesInside V s t s' → GoesOver V s t s'
+unhooked-inside V s s' (tree.term l ts) is (term_seen {s1 = s1} e all) = let same : s1 ≡ s = rw (no-error l is) at e in unhooked_seen is (rw same at all)
+unhooked-inside V s s' (tree.param o i name) is h = absurd (sort-unhooked o is)
+unhooked-inside V s s' (tree.bound o d e) is h = absurd (sort-unhooked o is)
+unhooked-inside V s s' (tree.binder vs t) is h = let never = is in cc
+unhooked-inside V s s' (tree.region r) is h = let never = is in cc
+unhooked-inside V s s' (tree.node l ts) is h = elim h [ ]
+
+unhooked-broke : {M B : Type 0} (V : Visits M B) (s s' : M) (t : Tree Depth) (b : B) → root t ≡ unhooked → BreaksInside V s t b s' → Breaks V s t b s'
+unhooked-broke V s s' (tree.term l ts) b is (error_broke e) = absurd (rw (no-error l is) at e)
+unhooked-broke V s s' (tree.term l ts) b is (term_inside_broke {s1 = s1} e all) = let same : s1 ≡ s = rw (no-error l is) at e in unhooked_broke is (rw same at all)
+unhooked-broke V s s' (tree.param o i name) b is h = absurd (sort-unhooked o is)
+unhooked-broke V s s' (tree.bound o d e) b is h = absurd (sort-unhooked o is)
+unhooked-broke V s s' (tree.binder vs t) b is h = let never = is in cc
+unhooked-broke V s s' (tree.region r) b is h = let never = is in cc
+unhooked-broke V s s' (tree.node l ts) b is h = elim h [ ]
+
+-- what a hook's answer leads to
+module _ {M B : Type 0} (V : Visits M B) where
+  pub asked-skip : (r : Root) (s s' : M) (t : Tree Depth) → root t ≡ r → Asks V r s t Skip s' → GoesOver V s t s'
+  asked-skip hooked s s' t is h = skipped is h
+  asked-skip unhooked s s' t is h = let never = h.0 in cc
+  asked-skip a_region s s' t is h = absurd h
+  asked-skip a_part s s' t is h = absurd h
+  asked-skip no_term s s' t is h = absurd h
+
+  pub asked-descend : (r : Root) (s s1 s' : M) (t : Tree Depth) → root t ≡ r → Asks V r s t Descend s1 → GoesInside V s1 t s' → GoesOver V s t s'
+  asked-descend hooked s s1 s' t is h inside = went_inside is h inside
+  asked-descend unhooked s s1 s' t is h inside = unhooked-inside V s s' t is (rw h.1 at inside)
+  asked-descend a_region s s1 s' t is h inside = absurd h
+  asked-descend a_part s s1 s' t is h inside = absurd h
+  asked-descend no_term s s1 s' t is h inside = absurd h
+
+  pub asked-broke-inside : (r : Root) (s s1 s' : M) (t : Tree Depth) (b : B) → root t ≡ r → Asks V r s t Descend s1 → BreaksInside V s1 t b s' → Breaks V s t b s'
+  asked-broke-inside hooked s s1 s' t b is h inside = inside_broke is h inside
+  asked-broke-inside unhooked s s1 s' t b is h inside = unhooked-broke V s s' t b is (rw h.1 at inside)
+  asked-broke-inside a_region s s1 s' t b is h inside = absurd h
+  asked-broke-inside a_part s s1 s' t b is h inside = absurd h
+  asked-broke-inside no_term s s1 s' t b is h inside = absurd h
+
+  pub asking-broke : (r : Root) (s s' : M) (t : Tree Depth) (b : B) → root t ≡ r → AskingBreaks V r s t b s' → Breaks V s t b s'
+  asking-broke hooked s s' t b is h = term_broke is h
+  asking-broke unhooked s s' t b is h = absurd h
+  asking-broke a_region s s' t b is h = absurd h
+  asking-broke a_part s s' t b is h = absurd h
+  asking-broke no_term s s' t b is h = absurd h
 
 -- what stands in a kind
 parts-form : (size : Sizes) (s : Sort) (x : Form (Label ℕ)) → HasParts size (form_shape s x) → AreStored size (form_binder x) × AreParts size (parts_shapes (form_parts x))
@@ -48,6 +158,11 @@ parts-kind size k h = parts-form size (kind_sort k) (kind_form k) h
 -- a name does not hide an error
 error_of-rename : {N M : Type 0} (name : N → M) (l : Label N) → error_of (rename_label name l) ≡ error_of l
 error_of-rename name (type_label l) = refl
+error_of-rename name (const_label l) = refl
+error_of-rename name (pattern_label l) = refl
+error_of-rename name predicate_label = refl
+error_of-rename name existential_label = refl
+error_of-rename name clause_list_label = refl
 error_of-rename name (list_label t) = refl
 error_of-rename name (var_list_label vs) = refl
 error_of-rename name (text_label bytes) = refl
@@ -67,7 +182,7 @@ module _ {M B : Type 0} (V : Visits M B) (f : Meaning) where
   inside-form sort (param i name) s s1 s' e h = rw (unseen V s1 s' h, e) param_seen
   inside-form sort (bound d y) s s1 s' e h = rw (unseen V s1 s' h, e) bound_seen
   inside-form sort (plain l p) s s1 s' e h = term_seen (rw (error_of-rename (name_of f) l) e) h
-  inside-form sort (under l vars m p) s s1 s' e h = term_seen (rw (error_of-rename (name_of f) l) e) (one_seen (h m) all_seen)
+  inside-form sort (under l vars m p) s s1 s' e h = term_seen (rw (error_of-rename (name_of f) l) e) (one_seen (h (rename_record (name_of f) m)) all_seen)
 
   told-form : (sort : Sort) (x : Form (Label ℕ)) (s s' : M) (b : B) → TellingBreaks V s (form_error x) b s' → BreaksInside V s (fill f (form_shape sort x)) b s'
   unfolding fill
@@ -82,7 +197,7 @@ module _ {M B : Type 0} (V : Visits M B) (f : Meaning) where
   broke-form sort (param i name) s s1 s' b e h = absurd (unbroken V s1 s' b h)
   broke-form sort (bound d y) s s1 s' b e h = absurd (unbroken V s1 s' b h)
   broke-form sort (plain l p) s s1 s' b e h = term_inside_broke (rw (error_of-rename (name_of f) l) e) h
-  broke-form sort (under l vars m p) s s1 s' b e h = term_inside_broke (rw (error_of-rename (name_of f) l) e) (first_broke (h m))
+  broke-form sort (under l vars m p) s s1 s' b e h = term_inside_broke (rw (error_of-rename (name_of f) l) e) (first_broke (h (rename_record (name_of f) m)))
 
   -- a kind's error and its parts
   pub inside-kind : (k : Kind) (s s1 s' : M) → Tells V s (kind_error k) s1
@@ -137,10 +252,10 @@ children-append : (xs ys : List Child) → children_shapes (xs ++ ys) ≡ append
 children-append [] ys = refl
 children-append (x ∷ xs) ys = ap (append (child_shapes x)) (children-append xs ys) ∙ sym (append-assoc (child_shapes x) (children_shapes xs) (children_shapes ys))
 
-take-more : {A : Type 0} (list : List A) (n : ℕ) (x : A) → x ≡ get_or list n x → n < length list → take (n + 1) list ≡ take n list ++ x ∷ []
+pub take-more : {A : Type 0} (list : List A) (n : ℕ) (x : A) → x ≡ get_or list n x → n < length list → take (n + 1) list ≡ take n list ++ x ∷ []
 take-more list n x is_x lt = grind (arith, common_steps)
 
-take-rest : {A : Type 0} (list : List A) (n : ℕ) (x : A) → x ≡ get_or list n x → n < length list → list ≡ take n list ++ (x ∷ drop (n + 1) list)
+pub take-rest : {A : Type 0} (list : List A) (n : ℕ) (x : A) → x ≡ get_or list n x → n < length list → list ≡ take n list ++ (x ∷ drop (n + 1) list)
 take-rest list n x is_x lt = grind (arith, common_steps)
 
 is-read : {A : Type 0} (list : List A) (n : ℕ) (x : A) → slice_get list n ≡ Some x → x ≡ get_or list n x
@@ -174,12 +289,43 @@ module _ {M B : Type 0} (V : Visits M B) (f : Meaning) (list : List Child) (n : 
       let whole : take n list ≡ list = grind (arith, common_steps) in
       rw whole at w
 
+-- a stored term that is no list of clauses has a kind
+pub has-kind : (n : Node) → ((x : Clauses) → n ≡ node.Clauses x → ⊥) → node_table n ≡ ClauseLists → ⊥
+has-kind (node.Ty t) never is = let wrong = is in cc
+has-kind (node.Const c) never is = let wrong = is in cc
+has-kind (node.Pat p) never is = let wrong = is in cc
+has-kind (node.Predicate p) never is = let wrong = is in cc
+has-kind (node.Existential e) never is = let wrong = is in cc
+has-kind (node.Clauses x) never is = never x refl
+
+-- a list that is none of clauses has no hook
+module _ {M B : Type 0} (V : Visits M B) where
+  pub list-seen : (l : StoredList) (ts : Forest Depth) (s s' : M) → ((x : Clauses) → l ≡ list.Clauses x → ⊥)
+      → GoesOverAll V s ts s' → GoesOver V s (items_tree (list_sort l) ts) s'
+  list-seen (list.Tys x) ts s s' never h = node_seen refl h
+  list-seen (list.Consts x) ts s s' never h = node_seen refl h
+  list-seen (list.Args x) ts s s' never h = node_seen refl h
+  list-seen (list.Pats x) ts s s' never h = node_seen refl h
+  list-seen (list.Existentials x) ts s s' never h = node_seen refl h
+  list-seen (list.Clauses x) ts s s' never h = absurd (never x refl)
+
+  pub list-broke : (l : StoredList) (ts : Forest Depth) (s s' : M) (b : B) → ((x : Clauses) → l ≡ list.Clauses x → ⊥)
+      → BreaksAll V s ts b s' → Breaks V s (items_tree (list_sort l) ts) b s'
+  list-broke (list.Tys x) ts s s' b never h = node_broke refl h
+  list-broke (list.Consts x) ts s s' b never h = node_broke refl h
+  list-broke (list.Args x) ts s s' b never h = node_broke refl h
+  list-broke (list.Pats x) ts s s' b never h = node_broke refl h
+  list-broke (list.Existentials x) ts s s' b never h = node_broke refl h
+  list-broke (list.Clauses x) ts s s' b never h = absurd (never x refl)
+
 -- a region is a region
 pub root-region : (f : Meaning) (r : RegionKind) → root (fill f (region_shape r)) ≡ a_region
 unfolding fill
 root-region f (ReEarlyParam p) = refl
 root-region f (ReBound i b) = refl
+root-region f (ReLateParam p) = refl
 root-region f ReStatic = refl
 root-region f (ReVar v) = refl
+root-region f (RePlaceholder p) = refl
 root-region f ReErased = refl
 root-region f (ReError e) = refl

@@ -3,6 +3,7 @@ use Rattle.std.specs.Prelude.{◌≡◌, ℕ, ◌+◌, ◌-◌, ◌<◌, ◌≤�
 use Rattle.tt_index.specs.Greatest.{greatest}
 use Rattle.tt_kinds.specs.Tree.{Depth, Tree, Forest, param, bound, region, term, node, binder, none, also}
 use Rattle.tt_kinds.specs.Reading.{outer_binder}
+use Rattle.tt_visit.specs.Root.{Root, hooked, term_root}
 use Rattle.tt_visit.specs.Visit.{Visits}
 use Rattle.tt_visit.specs.declared.visitor.Next.{Next}
 use Rattle.tt_visit.specs.declared.visitor.Next.TheVariants.{Skip, Descend}
@@ -18,7 +19,7 @@ abbrev pub Enters : Search → Next → Search → Type 0
 Enters s Descend s' = s' ≡ record { outer_index = s.outer_index + 1; skipped = s.skipped }
 Enters s Skip s' = (greatest ≤ s.outer_index) × (s' ≡ record { outer_index = s.outer_index; skipped = true })
 
--- what reaches far enough out breaks, and no type is descended into
+-- what reaches far enough out breaks, and no term with a hook is descended into
 abbrev pub search_hooks : Visits Search FoundEscapingVars
 search_hooks = record {
   on_region = λ s t s'. (s' ≡ s) × (outer_binder t ≤ s.outer_index);
@@ -46,13 +47,18 @@ range_hooks = record {
   leave = λ s vs s'. ⊤;
 }
 
+-- what is asked of a term with a hook, and of one without
+abbrev pub ByHook : Root → Type 0 → Type 0 → Type 0
+ByHook hooked whole inside = whole
+ByHook _ whole inside = inside
+
 abbrev mutual
-  -- no region and no type of the tree reaches past the greatest index
+  -- no region and no term with a hook of the tree reaches past the greatest index
   pub InRange : Tree Depth → Type 0
   InRange (param s i name) = ⊤
   InRange (bound s d e) = outer_binder (bound s d e) ≤ greatest
   InRange (region r) = ⊤
-  InRange (term l ts) = outer_binder (term l ts) ≤ greatest
+  InRange (term l ts) = ByHook (term_root l) (outer_binder (term l ts) ≤ greatest) (InRange_all ts)
   InRange (node l ts) = InRange_all ts
   InRange (binder vs t) = InRange t
 

@@ -3,3 +3,4 @@ pub mod Visit
 pub mod Steps
 pub mod HasTypeFlags
 pub mod HasEscapingVars
+pub mod HasError

@@ -1,22 +1,41 @@
 -- What a tree is to a visitor or a folder, as its root tells.
 use Rattle.std.specs.Prelude.{ℕ, Option, Some, None}
-use Rattle.tt_kinds.specs.Label.{Sort, region_sort, type_sort, const_sort, TypeLabel, error_type, Label, type_label, list_label, record_label}
+use Rattle.tt_kinds.specs.Label.{Sort, region_sort, type_sort, const_sort, TypeLabel, error_type, ConstLabel, error_const, Label, type_label, const_label, pattern_label, predicate_label, existential_label, clause_list_label, list_label, record_label}
+use Rattle.tt_kinds.specs.declared.table.Table.{Table}
+use Rattle.tt_kinds.specs.declared.table.Table.TheVariants.{Types, Consts, Patterns, Predicates, Existentials, ClauseLists, VarLists, Symbols}
 use Rattle.tt_kinds.specs.Tree.{Tree, param, bound, region, term, node, binder}
 
--- a region or a type, which have hooks of their own, a value with such parts, or none of these
+-- a region; a stored term with a hook of its own, or without one; a value with such parts; or none of these
 pub data Root : Type 0 where
-  a_region a_type a_part no_term : Root
+  a_region hooked unhooked a_part no_term : Root
 
 -- what a parameter or a bound variable of a sort is
 abbrev pub sort_root : Sort → Root
 sort_root region_sort = a_region
-sort_root type_sort = a_type
-sort_root const_sort = no_term
+sort_root type_sort = hooked
+sort_root const_sort = hooked
 
--- what a stored term of a label is
+-- what a stored term of a label is: types, constants, predicates and clause lists have a hook
 abbrev pub term_root : {N : Type 0} → Label N → Root
-term_root (type_label l) = a_type
+term_root (type_label l) = hooked
+term_root (const_label l) = hooked
+term_root predicate_label = hooked
+term_root clause_list_label = hooked
+term_root (pattern_label l) = unhooked
+term_root existential_label = unhooked
 term_root _ = no_term
+
+-- what the terms or lists of a table are
+abbrev pub table_root : Table → Root
+table_root Types = hooked
+table_root Consts = hooked
+table_root Predicates = hooked
+table_root ClauseLists = hooked
+table_root Patterns = unhooked
+table_root Existentials = unhooked
+table_root VarLists = no_term
+table_root Symbols = no_term
+table_root _ = a_part
 
 -- what a list or a record of a label is
 abbrev pub node_root : {N : Type 0} → Label N → Root
@@ -38,7 +57,13 @@ abbrev pub error_of_type : TypeLabel → Option ℕ
 error_of_type (error_type e) = Some e
 error_of_type _ = None
 
+-- the error that a constant's label tells of
+abbrev pub error_of_const : ConstLabel → Option ℕ
+error_of_const (error_const e) = Some e
+error_of_const _ = None
+
 -- the error that a label tells of
 abbrev pub error_of : {N : Type 0} → Label N → Option ℕ
 error_of (type_label l) = error_of_type l
+error_of (const_label l) = error_of_const l
 error_of _ = None

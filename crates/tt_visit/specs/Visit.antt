@@ -2,7 +2,7 @@
 use Rattle.std.specs.Prelude.{◌≡◌, ℕ, List, Option, Some, None}
 use Rattle.tt_kinds.specs.Label.{Name, Sort, VarKind, Entry, Label}
 use Rattle.tt_kinds.specs.Tree.{Depth, Tree, Forest, param, bound, term, node, binder, none, also}
-use Rattle.tt_visit.specs.Root.{a_region, a_type, a_part, root, error_of}
+use Rattle.tt_visit.specs.Root.{a_region, hooked, unhooked, a_part, root, error_of}
 use Rattle.tt_visit.specs.declared.visitor.Next.{Next}
 use Rattle.tt_visit.specs.declared.visitor.Next.TheVariants.{Skip, Descend}
 
@@ -14,7 +14,7 @@ pub record Visits (M B : Type 0) : Type 1 where
   -- state, the error's number, state
   pub on_error : M → ℕ → M → Type 0
   pub error_breaks : M → ℕ → B → M → Type 0
-  -- state, type, answer, state
+  -- state, term, answer, state
   pub on_term : M → Tree Depth → Next → M → Type 0
   pub term_breaks : M → Tree Depth → B → M → Type 0
   -- state, the binder's variables, answer, state
@@ -37,14 +37,16 @@ module _ {M B : Type 0} (V : Visits M B) where
     -- from a state the visitor goes over a tree, and ends in a state
     pub data GoesOver : M → Tree Depth → M → Type 0 where
       region_seen : {s s' : M} {t : Tree Depth} → root t ≡ a_region → V.on_region s t s' → GoesOver s t s'
-      skipped : {s s' : M} {t : Tree Depth} → root t ≡ a_type → V.on_term s t Skip s' → GoesOver s t s'
-      went_inside : {s s1 s' : M} {t : Tree Depth} → root t ≡ a_type → V.on_term s t Descend s1 → GoesInside s1 t s' → GoesOver s t s'
+      skipped : {s s' : M} {t : Tree Depth} → root t ≡ hooked → V.on_term s t Skip s' → GoesOver s t s'
+      went_inside : {s s1 s' : M} {t : Tree Depth} → root t ≡ hooked → V.on_term s t Descend s1 → GoesInside s1 t s' → GoesOver s t s'
+      -- a pattern or an existential predicate has no hook, and tells of no error: what stands inside is always gone over
+      unhooked_seen : {s s' : M} {l : Label Name} {ts : Forest Depth} → root (term l ts) ≡ unhooked → GoesOverAll s ts s' → GoesOver s (term l ts) s'
       node_seen : {s s' : M} {l : Label Name} {ts : Forest Depth} → root (node l ts) ≡ a_part → GoesOverAll s ts s' → GoesOver s (node l ts) s'
       binder_skipped : {s s' : M} {vs : List (VarKind Name)} {t : Tree Depth} → V.enter s vs Skip s' → GoesOver s (binder vs t) s'
       binder_seen : {s s1 s2 s' : M} {vs : List (VarKind Name)} {t : Tree Depth}
           → V.enter s vs Descend s1 → GoesInside s1 (binder vs t) s2 → V.leave s2 vs s' → GoesOver s (binder vs t) s'
 
-    -- the same for what stands inside a type or a binder
+    -- the same for what stands inside a term or a binder
     pub data GoesInside : M → Tree Depth → M → Type 0 where
       term_seen : {s s1 s' : M} {l : Label Name} {ts : Forest Depth} → Tells s (error_of l) s1 → GoesOverAll s1 ts s' → GoesInside s (term l ts) s'
       param_seen : {s : M} {o : Sort} {i : ℕ} {name : Name} → GoesInside s (param o i name) s
@@ -60,15 +62,16 @@ module _ {M B : Type 0} (V : Visits M B) where
     -- the visit of a tree breaks, and ends in a state
     pub data Breaks : M → Tree Depth → B → M → Type 0 where
       region_broke : {s s' : M} {t : Tree Depth} {b : B} → root t ≡ a_region → V.region_breaks s t b s' → Breaks s t b s'
-      term_broke : {s s' : M} {t : Tree Depth} {b : B} → root t ≡ a_type → V.term_breaks s t b s' → Breaks s t b s'
-      inside_broke : {s s1 s' : M} {t : Tree Depth} {b : B} → root t ≡ a_type → V.on_term s t Descend s1 → BreaksInside s1 t b s' → Breaks s t b s'
+      term_broke : {s s' : M} {t : Tree Depth} {b : B} → root t ≡ hooked → V.term_breaks s t b s' → Breaks s t b s'
+      inside_broke : {s s1 s' : M} {t : Tree Depth} {b : B} → root t ≡ hooked → V.on_term s t Descend s1 → BreaksInside s1 t b s' → Breaks s t b s'
+      unhooked_broke : {s s' : M} {l : Label Name} {ts : Forest Depth} {b : B} → root (term l ts) ≡ unhooked → BreaksAll s ts b s' → Breaks s (term l ts) b s'
       node_broke : {s s' : M} {l : Label Name} {ts : Forest Depth} {b : B} → root (node l ts) ≡ a_part → BreaksAll s ts b s' → Breaks s (node l ts) b s'
       enter_broke : {s s' : M} {vs : List (VarKind Name)} {t : Tree Depth} {b : B} → V.enter_breaks s vs b s' → Breaks s (binder vs t) b s'
       -- a binder that was entered is left also after a break
       under_broke : {s s1 s2 s' : M} {vs : List (VarKind Name)} {t : Tree Depth} {b : B}
           → V.enter s vs Descend s1 → BreaksInside s1 (binder vs t) b s2 → V.leave s2 vs s' → Breaks s (binder vs t) b s'
 
-    -- the same inside a type or a binder
+    -- the same inside a term or a binder
     pub data BreaksInside : M → Tree Depth → B → M → Type 0 where
       error_broke : {s s' : M} {l : Label Name} {ts : Forest Depth} {b : B} → TellingBreaks s (error_of l) b s' → BreaksInside s (term l ts) b s'
       term_inside_broke : {s s1 s' : M} {l : Label Name} {ts : Forest Depth} {b : B} → Tells s (error_of l) s1 → BreaksAll s1 ts b s' → BreaksInside s (term l ts) b s'

@@ -6,14 +6,15 @@ use crate::visitor::{Next, TypeVisitor};
 use std::ops::ControlFlow;
 use tt_index::DebruijnIndex;
 use tt_interner::{Flags, Interner};
-use tt_kinds::{BoundVarKinds, ErrorGuaranteed, Region, Ty};
+use tt_kinds::{BoundVarKinds, Clauses, Const, ErrorGuaranteed, Predicate, Region, Ty};
 
 /// What a visit breaks with where it finds a variable.
 #[derive(Clone, Copy, Debug, PartialEq, Eq)]
 pub struct FoundEscapingVars;
 
-/// Breaks at the first region or type that holds a variable bound by the binder `outer_index` or further out, where that index
-/// is counted from outside the visited value. No type is taken apart: its outer exclusive binder is kept beside it.
+/// Breaks at the first region, type, constant, predicate or list of clauses that holds a variable bound by the binder
+/// `outer_index` or further out, where that index is counted from outside the visited value. None of these terms is taken
+/// apart: its outer exclusive binder is kept beside it.
 ///
 /// Inside binders that are too many for an index no variable reaches so far out, since each has an index below the greatest. So
 /// such a binder's value is passed over, and the visitor keeps in mind that it was.
@@ -42,7 +43,7 @@ impl HasEscapingVarsVisitor {
         self.skipped
     }
 
-    // The answer to a region or a type whose outer exclusive binder this is.
+    // Whether what has this outer exclusive binder holds such a variable.
     fn found(self, outer_exclusive_binder: DebruijnIndex) -> bool
         ensures { IsTrue result ↔ (self.outer_index < outer_exclusive_binder) }
     {
@@ -89,6 +90,42 @@ impl TypeVisitor for HasEscapingVarsVisitor {
         }
     }
 
+    fn visit_const(
+        &mut self,
+        cx: &Interner,
+        constant: Const,
+    ) -> ControlFlow<FoundEscapingVars, Next> {
+        if self.found(constant.outer_exclusive_binder(cx)) {
+            ControlFlow::Break(FoundEscapingVars)
+        } else {
+            ControlFlow::Continue(Next::Skip)
+        }
+    }
+
+    fn visit_predicate(
+        &mut self,
+        cx: &Interner,
+        predicate: Predicate,
+    ) -> ControlFlow<FoundEscapingVars, Next> {
+        if self.found(predicate.outer_exclusive_binder(cx)) {
+            ControlFlow::Break(FoundEscapingVars)
+        } else {
+            ControlFlow::Continue(Next::Skip)
+        }
+    }
+
+    fn visit_clauses(
+        &mut self,
+        cx: &Interner,
+        clauses: Clauses,
+    ) -> ControlFlow<FoundEscapingVars, Next> {
+        if self.found(clauses.outer_exclusive_binder(cx)) {
+            ControlFlow::Break(FoundEscapingVars)
+        } else {
+            ControlFlow::Continue(Next::Skip)
+        }
+    }
+
     fn visit_binder(
         &mut self,
         _cx: &Interner,
@@ -110,7 +147,7 @@ impl TypeVisitor for HasEscapingVarsVisitor {
     }
 }
 
-/// Goes over a value only to learn of each region and type that its indices are in range.
+/// Goes over a value only to learn of each region and each term with a hook that its indices are in range.
 #[derive(Clone, Copy, Debug)]
 pub struct InRangeVisitor;
 
@@ -145,6 +182,33 @@ impl TypeVisitor for InRangeVisitor {
 
     fn visit_ty(&mut self, cx: &Interner, ty: Ty) -> ControlFlow<FoundEscapingVars, Next> {
         let _fits = ty.outer_exclusive_binder(cx).as_u32();
+        ControlFlow::Continue(Next::Skip)
+    }
+
+    fn visit_const(
+        &mut self,
+        cx: &Interner,
+        constant: Const,
+    ) -> ControlFlow<FoundEscapingVars, Next> {
+        let _fits = constant.outer_exclusive_binder(cx).as_u32();
+        ControlFlow::Continue(Next::Skip)
+    }
+
+    fn visit_predicate(
+        &mut self,
+        cx: &Interner,
+        predicate: Predicate,
+    ) -> ControlFlow<FoundEscapingVars, Next> {
+        let _fits = predicate.outer_exclusive_binder(cx).as_u32();
+        ControlFlow::Continue(Next::Skip)
+    }
+
+    fn visit_clauses(
+        &mut self,
+        cx: &Interner,
+        clauses: Clauses,
+    ) -> ControlFlow<FoundEscapingVars, Next> {
+        let _fits = clauses.outer_exclusive_binder(cx).as_u32();
         ControlFlow::Continue(Next::Skip)
     }
 

@@ -10,13 +10,14 @@ use crate::visitor::{Next, TypeVisitor};
 use std::ops::ControlFlow;
 use tt_flags::TypeFlags;
 use tt_interner::{Flags, InternedList, Interner};
-use tt_kinds::{BoundVarKinds, ErrorGuaranteed, Region, Ty};
+use tt_kinds::{BoundVarKinds, Clauses, Const, ErrorGuaranteed, Predicate, Region, Ty};
 
 /// What a visit breaks with where it finds a flag.
 #[derive(Clone, Copy, Debug, PartialEq, Eq)]
 pub struct FoundFlags;
 
-/// Breaks at the first region, type or binder that has a flag of the mask. No type is taken apart: its flags are kept beside it.
+/// Breaks at the first region, type, constant, predicate, list of clauses or binder that has a flag of the mask. None of these
+/// terms is taken apart: its flags are kept beside it.
 #[derive(Clone, Copy, Debug)]
 pub struct HasTypeFlagsVisitor {
     flags: TypeFlags,
@@ -65,6 +66,34 @@ impl TypeVisitor for HasTypeFlagsVisitor {
 
     fn visit_ty(&mut self, cx: &Interner, ty: Ty) -> ControlFlow<FoundFlags, Next> {
         if self.flags.intersects(ty.flags(cx)) {
+            ControlFlow::Break(FoundFlags)
+        } else {
+            ControlFlow::Continue(Next::Skip)
+        }
+    }
+
+    fn visit_const(&mut self, cx: &Interner, constant: Const) -> ControlFlow<FoundFlags, Next> {
+        if self.flags.intersects(constant.flags(cx)) {
+            ControlFlow::Break(FoundFlags)
+        } else {
+            ControlFlow::Continue(Next::Skip)
+        }
+    }
+
+    fn visit_predicate(
+        &mut self,
+        cx: &Interner,
+        predicate: Predicate,
+    ) -> ControlFlow<FoundFlags, Next> {
+        if self.flags.intersects(predicate.flags(cx)) {
+            ControlFlow::Break(FoundFlags)
+        } else {
+            ControlFlow::Continue(Next::Skip)
+        }
+    }
+
+    fn visit_clauses(&mut self, cx: &Interner, clauses: Clauses) -> ControlFlow<FoundFlags, Next> {
+        if self.flags.intersects(clauses.flags(cx)) {
             ControlFlow::Break(FoundFlags)
         } else {
             ControlFlow::Continue(Next::Skip)

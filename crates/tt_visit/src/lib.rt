@@ -1,9 +1,12 @@
 //! Visitors: what goes over a term without changing it, and the questions that are asked of terms that way.
 #![tactic(auto)]
 
+mod handles;
+mod has_error;
 mod has_escaping_vars;
 mod has_type_flags;
 pub mod queries;
+mod records;
 pub mod stored;
 pub mod visitable;
 pub mod visitor;

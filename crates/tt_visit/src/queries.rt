@@ -1,14 +1,17 @@
 //! Questions that are asked of every value that a visitor can go over.
 
-ghost use Rattle.std.specs.Prelude.{IsTrue, true, ◌+◌, ◌<◌, ◌≡◌, ◌≢◌, ◌≤◌, ◌↔◌, bit_and};
+ghost use Rattle.std.specs.Prelude.{IfErr, IfOk, IsTrue, true, false, ◌+◌, ◌<◌, ◌≡◌, ◌≢◌, ◌≤◌, ◌↔◌, bit_and};
 ghost use Rattle.tt_index.specs.Greatest.{greatest};
 ghost use Rattle.tt_kinds.specs.Param.{holds_param};
 ghost use Rattle.tt_kinds.specs.Reading.{outer_binder};
 ghost use Rattle.tt_kinds.specs.Scan.{scan};
 ghost use Rattle.tt_kinds.specs.Shape.{IsPart, fill};
 ghost use Rattle.tt_interner.specs.Rows.{meaning, size};
+ghost use Rattle.tt_visit.specs.HasError.{HasError};
 ghost use Rattle.tt_visit.specs.HasEscapingVars.{InRange};
+ghost use Rattle.tt_visit.specs.HasTypeFlags.{Meets, Misses};
 
+use crate::has_error::HasErrorVisitor;
 use crate::has_escaping_vars::{HasEscapingVarsVisitor, InRangeVisitor};
 use crate::has_type_flags::HasTypeFlagsVisitor;
 use crate::visitable::TypeVisitable;
@@ -16,11 +19,12 @@ use std::ops::ControlFlow;
 use tt_flags::TypeFlags;
 use tt_index::DebruijnIndex;
 use tt_interner::Interner;
+use tt_kinds::ErrorGuaranteed;
 
 /// What can be asked of any value that a visitor can go over.
 ///
-/// Each answer comes from what is kept beside the types of the value: no type is taken apart. The value's handles have to be
-/// of this interner.
+/// Each answer comes from what is kept beside the terms of the value: no type, constant, predicate or list of clauses is
+/// taken apart. The value's handles have to be of this interner.
 pub trait TypeVisitableExt: TypeVisitable {
     /// Whether a flag of the mask is set anywhere in the value.
     final fn has_type_flags(&self, cx: &Interner, mask: TypeFlags) -> bool
@@ -40,6 +44,202 @@ pub trait TypeVisitableExt: TypeVisitable {
         ensures { IsTrue result ↔ (holds_param (fill (meaning cx.now.rows) (Self.shape self.now)) ≡ true) }
     {
         self.has_type_flags(cx, TypeFlags::HAS_PARAM)
+    }
+
+    /// Whether an alias stands in the value, of a type or a constant: a projection, an inherent, an opaque or a free one. What an
+    /// alias would normalize to isn't looked at.
+    final fn has_aliases(&self, cx: &Interner) -> bool
+        requires { IsPart (size cx.now.rows) (Self.shape self.now) }
+        ensures { IsTrue result ↔ Meets 0x7C00 (scan (fill (meaning cx.now.rows) (Self.shape self.now))) }
+    {
+        self.has_type_flags(cx, TypeFlags::HAS_ALIAS)
+    }
+
+    /// Whether an opaque type stands in the value.
+    final fn has_opaque_types(&self, cx: &Interner) -> bool
+        requires { IsPart (size cx.now.rows) (Self.shape self.now) }
+        ensures { IsTrue result ↔ Meets 0x1000 (scan (fill (meaning cx.now.rows) (Self.shape self.now))) }
+    {
+        self.has_type_flags(cx, TypeFlags::HAS_TY_OPAQUE)
+    }
+
+    /// Whether the type of a coroutine stands in the value.
+    final fn has_coroutines(&self, cx: &Interner) -> bool
+        requires { IsPart (size cx.now.rows) (Self.shape self.now) }
+        ensures { IsTrue result ↔ Meets 0x2000000 (scan (fill (meaning cx.now.rows) (Self.shape self.now))) }
+    {
+        self.has_type_flags(cx, TypeFlags::HAS_TY_CORO)
+    }
+
+    /// Whether the token of an error stands in the value: of a type, a constant or a region.
+    final fn references_error(&self, cx: &Interner) -> bool
+        requires { IsPart (size cx.now.rows) (Self.shape self.now) }
+        ensures { IsTrue result ↔ Meets 0x18000 (scan (fill (meaning cx.now.rows) (Self.shape self.now))) }
+    {
+        self.has_type_flags(cx, TypeFlags::HAS_ERROR)
+    }
+
+    /// Whether the token of an error of a type or a constant stands in the value.
+    final fn has_non_region_error(&self, cx: &Interner) -> bool
+        requires { IsPart (size cx.now.rows) (Self.shape self.now) }
+        ensures { IsTrue result ↔ Meets 0x8000 (scan (fill (meaning cx.now.rows) (Self.shape self.now))) }
+    {
+        self.has_type_flags(cx, TypeFlags::HAS_NON_REGION_ERROR)
+    }
+
+    /// Whether a parameter for a type or a constant stands in the value.
+    final fn has_non_region_param(&self, cx: &Interner) -> bool
+        requires { IsPart (size cx.now.rows) (Self.shape self.now) }
+        ensures { IsTrue result ↔ Meets 0x5 (scan (fill (meaning cx.now.rows) (Self.shape self.now))) }
+    {
+        self.has_type_flags(cx, TypeFlags::from_bits_retain(0x5))
+    }
+
+    /// Whether an inference variable for a region stands in the value.
+    final fn has_infer_regions(&self, cx: &Interner) -> bool
+        requires { IsPart (size cx.now.rows) (Self.shape self.now) }
+        ensures { IsTrue result ↔ Meets 0x10 (scan (fill (meaning cx.now.rows) (Self.shape self.now))) }
+    {
+        self.has_type_flags(cx, TypeFlags::HAS_RE_INFER)
+    }
+
+    /// Whether an inference variable for a type stands in the value. Fresh types are none.
+    final fn has_infer_types(&self, cx: &Interner) -> bool
+        requires { IsPart (size cx.now.rows) (Self.shape self.now) }
+        ensures { IsTrue result ↔ Meets 0x8 (scan (fill (meaning cx.now.rows) (Self.shape self.now))) }
+    {
+        self.has_type_flags(cx, TypeFlags::HAS_TY_INFER)
+    }
+
+    /// Whether an inference variable for a type or a constant stands in the value. Fresh types and constants are none.
+    final fn has_non_region_infer(&self, cx: &Interner) -> bool
+        requires { IsPart (size cx.now.rows) (Self.shape self.now) }
+        ensures { IsTrue result ↔ Meets 0x28 (scan (fill (meaning cx.now.rows) (Self.shape self.now))) }
+    {
+        self.has_type_flags(cx, TypeFlags::from_bits_retain(0x28))
+    }
+
+    /// Whether an inference variable stands in the value. Fresh types and constants are none.
+    final fn has_infer(&self, cx: &Interner) -> bool
+        requires { IsPart (size cx.now.rows) (Self.shape self.now) }
+        ensures { IsTrue result ↔ Meets 0x38 (scan (fill (meaning cx.now.rows) (Self.shape self.now))) }
+    {
+        self.has_type_flags(cx, TypeFlags::HAS_INFER)
+    }
+
+    /// Whether a placeholder stands in the value.
+    final fn has_placeholders(&self, cx: &Interner) -> bool
+        requires { IsPart (size cx.now.rows) (Self.shape self.now) }
+        ensures { IsTrue result ↔ Meets 0x1C0 (scan (fill (meaning cx.now.rows) (Self.shape self.now))) }
+    {
+        self.has_type_flags(cx, TypeFlags::HAS_PLACEHOLDER)
+    }
+
+    /// Whether a placeholder for a type or a constant stands in the value.
+    final fn has_non_region_placeholders(&self, cx: &Interner) -> bool
+        requires { IsPart (size cx.now.rows) (Self.shape self.now) }
+        ensures { IsTrue result ↔ Meets 0x140 (scan (fill (meaning cx.now.rows) (Self.shape self.now))) }
+    {
+        self.has_type_flags(cx, TypeFlags::from_bits_retain(0x140))
+    }
+
+    /// Whether a region stands in the value.
+    final fn has_regions(&self, cx: &Interner) -> bool
+        requires { IsPart (size cx.now.rows) (Self.shape self.now) }
+        ensures { IsTrue result ↔ Meets 0x260000 (scan (fill (meaning cx.now.rows) (Self.shape self.now))) }
+    {
+        self.has_type_flags(cx, TypeFlags::HAS_REGIONS)
+    }
+
+    /// Whether a region stands in the value that is neither bound nor erased.
+    final fn has_free_regions(&self, cx: &Interner) -> bool
+        requires { IsPart (size cx.now.rows) (Self.shape self.now) }
+        ensures { IsTrue result ↔ Meets 0x20000 (scan (fill (meaning cx.now.rows) (Self.shape self.now))) }
+    {
+        self.has_type_flags(cx, TypeFlags::HAS_FREE_REGIONS)
+    }
+
+    /// Whether an erased region stands in the value.
+    final fn has_erased_regions(&self, cx: &Interner) -> bool
+        requires { IsPart (size cx.now.rows) (Self.shape self.now) }
+        ensures { IsTrue result ↔ Meets 0x200000 (scan (fill (meaning cx.now.rows) (Self.shape self.now))) }
+    {
+        self.has_type_flags(cx, TypeFlags::HAS_RE_ERASED)
+    }
+
+    /// Whether a region stands in the value that erasing all regions would replace: one that is neither bound nor erased.
+    final fn has_erasable_regions(&self, cx: &Interner) -> bool
+        requires { IsPart (size cx.now.rows) (Self.shape self.now) }
+        ensures { IsTrue result ↔ Meets 0x20000 (scan (fill (meaning cx.now.rows) (Self.shape self.now))) }
+    {
+        self.has_type_flags(cx, TypeFlags::HAS_FREE_REGIONS)
+    }
+
+    /// Whether a bound region stands in the value, bound inside of it or outside.
+    final fn has_bound_regions(&self, cx: &Interner) -> bool
+        requires { IsPart (size cx.now.rows) (Self.shape self.now) }
+        ensures { IsTrue result ↔ Meets 0x40000 (scan (fill (meaning cx.now.rows) (Self.shape self.now))) }
+    {
+        self.has_type_flags(cx, TypeFlags::HAS_RE_BOUND)
+    }
+
+    /// Whether a bound type or constant stands in the value, bound inside of it or outside.
+    final fn has_non_region_bound_vars(&self, cx: &Interner) -> bool
+        requires { IsPart (size cx.now.rows) (Self.shape self.now) }
+        ensures { IsTrue result ↔ Meets 0x180000 (scan (fill (meaning cx.now.rows) (Self.shape self.now))) }
+    {
+        self.has_type_flags(cx, TypeFlags::from_bits_retain(0x180000))
+    }
+
+    /// Whether a bound variable stands in the value, bound inside of it or outside.
+    final fn has_bound_vars(&self, cx: &Interner) -> bool
+        requires { IsPart (size cx.now.rows) (Self.shape self.now) }
+        ensures { IsTrue result ↔ Meets 0x1C0000 (scan (fill (meaning cx.now.rows) (Self.shape self.now))) }
+    {
+        self.has_type_flags(cx, TypeFlags::HAS_BOUND_VARS)
+    }
+
+    /// Whether replacing parameters, inference variables or placeholders for types and constants can still make the value more
+    /// special.
+    final fn still_further_specializable(&self, cx: &Interner) -> bool
+        requires { IsPart (size cx.now.rows) (Self.shape self.now) }
+        ensures { IsTrue result ↔ Meets 0x16D (scan (fill (meaning cx.now.rows) (Self.shape self.now))) }
+    {
+        self.has_type_flags(cx, TypeFlags::STILL_FURTHER_SPECIALIZABLE)
+    }
+
+    /// Answers `Err` with a token of an error that stands in the value, of a type, a constant or a region, and `Ok` where there
+    /// is none.
+    final fn error_reported(&self, cx: &Interner) -> Result<(), ErrorGuaranteed>
+        requires { IsPart (size cx.now.rows) (Self.shape self.now) }
+        ensures ok { IfOk result (λ _. Misses 0x18000 (scan (fill (meaning cx.now.rows) (Self.shape self.now)))) }
+        ensures err { IfErr result (λ e. HasError true e.0 (fill (meaning cx.now.rows) (Self.shape self.now))) }
+    {
+        match self.visit_with(cx, &mut HasErrorVisitor::new(true)) {
+            ControlFlow::Break(error) => Err(error),
+            ControlFlow::Continue(_) => Ok(()),
+        }
+    }
+
+    /// The same of errors of types and constants alone.
+    final fn non_region_error_reported(&self, cx: &Interner) -> Result<(), ErrorGuaranteed>
+        requires { IsPart (size cx.now.rows) (Self.shape self.now) }
+        ensures ok { IfOk result (λ _. Misses 0x8000 (scan (fill (meaning cx.now.rows) (Self.shape self.now)))) }
+        ensures err { IfErr result (λ e. HasError false e.0 (fill (meaning cx.now.rows) (Self.shape self.now))) }
+    {
+        match self.visit_with(cx, &mut HasErrorVisitor::new(false)) {
+            ControlFlow::Break(error) => Err(error),
+            ControlFlow::Continue(_) => Ok(()),
+        }
+    }
+
+    /// Whether the value means the same everywhere: it holds no parameter, no inference variable, no placeholder, no fresh type
+    /// or constant, and no region but `'static`, bound ones and those of an error.
+    final fn is_global(&self, cx: &Interner) -> bool
+        requires { IsPart (size cx.now.rows) (Self.shape self.now) }
+        ensures { IsTrue result ↔ Misses 0xE0036D (scan (fill (meaning cx.now.rows) (Self.shape self.now))) }
+    {
+        !self.has_type_flags(cx, TypeFlags::HAS_FREE_LOCAL_NAMES)
     }
 
     /// Whether a variable stands in the value that is bound outside of it.

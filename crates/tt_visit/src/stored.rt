@@ -1,19 +1,22 @@
 //! The visit of stored terms and lists.
 
-ghost use Rattle.std.specs.Prelude.{◌<◌};
+ghost use Rattle.std.specs.Prelude.{◌<◌, ◌≡◌};
 ghost use Rattle.std.specs.ControlFlow.{MatchControlFlow};
 ghost use Rattle.tt_kinds.specs.Shape.{AreParts, HasParts, IsPart, fill, fill_all};
-ghost use Rattle.tt_kinds.specs.Kinds.{child_shapes, kind_shape, list_shape, node_shape, parts_shapes};
+ghost use Rattle.tt_kinds.specs.Kinds.{child_shapes, children_shapes, items_tree, kind_shape, list_shape, node_shape, parts_shapes};
+ghost use Rattle.tt_kinds.specs.Parts.{list_sort, node_table};
+ghost use Rattle.tt_interner.specs.Children.{children_at};
 ghost use Rattle.tt_kinds.specs.declared.table.Table.TheVariants.{VarLists};
 ghost use Rattle.tt_interner.specs.Rows.{meaning, size};
 ghost use Rattle.tt_visit.specs.Visit.{Breaks, BreaksAll, BreaksInside, GoesInside, GoesOver, GoesOverAll, Tells, TellingBreaks};
-ghost use Rattle.tt_visit.specs.Steps.{AreStored, BreaksUnder, GoesUnder, kind_error};
+ghost use Rattle.tt_visit.specs.Root.{table_root};
+ghost use Rattle.tt_visit.specs.Steps.{AreStored, Asks, AskingBreaks, BreaksUnder, GoesUnder, kind_error};
 ghost use Rattle.std.specs.Prelude.{Some};
 
 use crate::visitor::{Next, TypeVisitor};
 use std::ops::ControlFlow;
 use tt_interner::Interner;
-use tt_kinds::{BoundVarKinds, Child, Kind, List, Node, Parts, TyKind};
+use tt_kinds::{BoundVarKinds, Child, ConstKind, Kind, List, Node, Parts, TyKind};
 
 /// The visit of a stored term.
 #[cycle(visit)]
@@ -28,11 +31,32 @@ pub fn visit_node<V: TypeVisitor>(
         (λ _. GoesOver V.hooks (V.meaning cx.now.rows visitor.old) (fill (meaning cx.now.rows) (node_shape node)) (V.meaning cx.now.rows visitor.new))
         (λ b. Breaks V.hooks (V.meaning cx.now.rows visitor.old) (fill (meaning cx.now.rows) (node_shape node)) b (V.meaning cx.now.rows visitor.new)) }
 {
-    let kind = cx.node_kind(node);
     match ask(cx, visitor, node) {
         ControlFlow::Break(b) => ControlFlow::Break(b),
         ControlFlow::Continue(Next::Skip) => ControlFlow::Continue(()),
-        ControlFlow::Continue(Next::Descend) => visit_kind(cx, visitor, &kind),
+        ControlFlow::Continue(Next::Descend) => visit_inside(cx, visitor, node),
+    }
+}
+
+// The visit of what stands inside a stored term, without its own hook.
+#[cycle(visit)]
+pub(crate) fn visit_inside<V: TypeVisitor>(
+    cx: &Interner,
+    visitor: &mut V,
+    node: Node,
+) -> ControlFlow<V::Break, ()>
+    requires { IsPart (size cx.now.rows) (node_shape node) }
+    ensures { MatchControlFlow
+        result
+        (λ _. GoesInside V.hooks (V.meaning cx.now.rows visitor.old) (fill (meaning cx.now.rows) (node_shape node)) (V.meaning cx.now.rows visitor.new))
+        (λ b. BreaksInside V.hooks (V.meaning cx.now.rows visitor.old) (fill (meaning cx.now.rows) (node_shape node)) b (V.meaning cx.now.rows visitor.new)) }
+{
+    match node {
+        Node::Clauses(clauses) => visit_items(cx, visitor, List::Clauses(clauses)),
+        _ => {
+            let kind = cx.node_kind(node);
+            visit_kind(cx, visitor, &kind)
+        }
     }
 }
 
@@ -78,7 +102,7 @@ fn visit_contents<V: TypeVisitor>(
 
 // The visit of parts under a binder.
 #[cycle(visit)]
-fn visit_under<V: TypeVisitor>(
+pub(crate) fn visit_under<V: TypeVisitor>(
     cx: &Interner,
     visitor: &mut V,
     vars: BoundVarKinds,
@@ -104,7 +128,7 @@ fn visit_under<V: TypeVisitor>(
 
 // The visit of parts in order.
 #[cycle(visit)]
-fn visit_parts<V: TypeVisitor>(
+pub(crate) fn visit_parts<V: TypeVisitor>(
     cx: &Interner,
     visitor: &mut V,
     parts: Parts,
@@ -142,7 +166,7 @@ fn visit_child<V: TypeVisitor>(
     }
 }
 
-/// The visit of a stored list.
+/// The visit of a stored list. A list of clauses has a hook of its own.
 #[cycle(visit)]
 pub fn visit_list<V: TypeVisitor>(
     cx: &Interner,
@@ -155,6 +179,26 @@ pub fn visit_list<V: TypeVisitor>(
         (λ _. GoesOver V.hooks (V.meaning cx.now.rows visitor.old) (fill (meaning cx.now.rows) (list_shape list)) (V.meaning cx.now.rows visitor.new))
         (λ b. Breaks V.hooks (V.meaning cx.now.rows visitor.old) (fill (meaning cx.now.rows) (list_shape list)) b (V.meaning cx.now.rows visitor.new)) }
 {
+    match list {
+        List::Clauses(clauses) => visit_node(cx, visitor, Node::Clauses(clauses)),
+        _ => visit_items(cx, visitor, list),
+    }
+}
+
+// The visit of what stands in a stored list.
+#[cycle(visit)]
+fn visit_items<V: TypeVisitor>(
+    cx: &Interner,
+    visitor: &mut V,
+    list: List,
+) -> ControlFlow<V::Break, ()>
+    requires { IsPart (size cx.now.rows) (list_shape list) }
+    ensures list { fill (meaning cx.now.rows) (list_shape list) ≡ items_tree (list_sort list) (fill_all (meaning cx.now.rows) (children_shapes (children_at cx.now.rows list))) }
+    ensures items { MatchControlFlow
+        result
+        (λ _. GoesOverAll V.hooks (V.meaning cx.now.rows visitor.old) (fill_all (meaning cx.now.rows) (children_shapes (children_at cx.now.rows list))) (V.meaning cx.now.rows visitor.new))
+        (λ b. BreaksAll V.hooks (V.meaning cx.now.rows visitor.old) (fill_all (meaning cx.now.rows) (children_shapes (children_at cx.now.rows list))) b (V.meaning cx.now.rows visitor.new)) }
+{
     for index in 0..cx.list_len(list) {
         let child = cx.list_child(list, index);
         match visit_child(cx, visitor, &child) {
@@ -165,16 +209,20 @@ pub fn visit_list<V: TypeVisitor>(
     ControlFlow::Continue(())
 }
 
-// What the hook of a stored term answers.
+// What the hook of a stored term answers. A term without a hook is gone into.
 fn ask<V: TypeVisitor>(cx: &Interner, visitor: &mut V, node: Node) -> ControlFlow<V::Break, Next>
     requires { IsPart (size cx.now.rows) (node_shape node) }
     ensures { MatchControlFlow
         result
-        (λ next. V.hooks.on_term (V.meaning cx.now.rows visitor.old) (fill (meaning cx.now.rows) (node_shape node)) next (V.meaning cx.now.rows visitor.new))
-        (λ b. V.hooks.term_breaks (V.meaning cx.now.rows visitor.old) (fill (meaning cx.now.rows) (node_shape node)) b (V.meaning cx.now.rows visitor.new)) }
+        (λ next. Asks V.hooks (table_root (node_table node)) (V.meaning cx.now.rows visitor.old) (fill (meaning cx.now.rows) (node_shape node)) next (V.meaning cx.now.rows visitor.new))
+        (λ b. AskingBreaks V.hooks (table_root (node_table node)) (V.meaning cx.now.rows visitor.old) (fill (meaning cx.now.rows) (node_shape node)) b (V.meaning cx.now.rows visitor.new)) }
 {
     match node {
         Node::Ty(ty) => visitor.visit_ty(cx, ty),
+        Node::Const(constant) => visitor.visit_const(cx, constant),
+        Node::Predicate(predicate) => visitor.visit_predicate(cx, predicate),
+        Node::Clauses(clauses) => visitor.visit_clauses(cx, clauses),
+        Node::Pat(_) | Node::Existential(_) => ControlFlow::Continue(Next::Descend),
     }
 }
 
@@ -190,7 +238,8 @@ fn tell_error<V: TypeVisitor>(
         (λ b. TellingBreaks V.hooks (V.meaning cx.now.rows visitor.old) (kind_error kind.now) b (V.meaning cx.now.rows visitor.new)) }
 {
     match kind {
-        Kind::Ty(TyKind::Error(error)) => visitor.visit_error(cx, *error),
-        Kind::Ty(_) => ControlFlow::Continue(()),
+        Kind::Ty(TyKind::Error(error)) | Kind::Const(ConstKind::Error(error)) =>
+            visitor.visit_error(cx, *error),
+        _ => ControlFlow::Continue(()),
     }
 }

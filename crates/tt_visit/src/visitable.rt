@@ -1,24 +1,22 @@
 //! Values that a visitor can go over.
 
 ghost use Rattle.std.specs.ControlFlow.{MatchControlFlow};
-ghost use Rattle.tt_kinds.specs.Shape.{IsPart, Shape, fill};
+ghost use Rattle.tt_kinds.specs.Shape.{AreParts, IsPart, Shape, fill, fill_all, item_shapes};
 ghost use Rattle.tt_interner.specs.Rows.{meaning, size};
-ghost use Rattle.tt_visit.specs.Visit.{Breaks, BreaksInside, GoesInside, GoesOver};
+ghost use Rattle.tt_visit.specs.Visit.{Breaks, BreaksAll, BreaksInside, GoesInside, GoesOver, GoesOverAll};
 
-use crate::stored::{visit_kind, visit_list, visit_node};
 use crate::visitor::{Next, TypeVisitor};
 use std::ops::ControlFlow;
+use std::rc::Rc;
 use tt_interner::Interner;
-use tt_kinds::{
-    Binder, FnSigTys, GenericArg, GenericArgKind, GenericArgs, List, Node, Region, Ty, Tys,
-};
+use tt_kinds::Binder;
 
 /// A value that stands for a tree, and that a visitor can go over.
 pub trait TypeVisitable {
     // What the value holds.
     ghost shape: { Self → Shape };
 
-    /// The visit of the value: the visitor is told of its regions, types and binders in order, until a hook breaks. The
+    /// The visit of the value: the visitor is told of its regions, terms and binders in order, until a hook breaks. The
     /// value's handles have to be of this interner.
     fn visit_with<V: TypeVisitor>(
         &self,
@@ -45,111 +43,6 @@ pub trait TypeSuperVisitable: TypeVisitable {
             result
             (λ _. GoesInside V.hooks (V.meaning cx.now.rows visitor.old) (fill (meaning cx.now.rows) (Self.shape self.now)) (V.meaning cx.now.rows visitor.new))
             (λ b. BreaksInside V.hooks (V.meaning cx.now.rows visitor.old) (fill (meaning cx.now.rows) (Self.shape self.now)) b (V.meaning cx.now.rows visitor.new)) };
-}
-
-impl TypeVisitable for Ty {
-    ghost use Rattle.tt_kinds.specs.Kinds.{ty_shape};
-
-    ghost shape = { ty_shape };
-
-    #[tactic(auto, unfolding(tt_kinds::specs::Shape::IsPart, tt_kinds::specs::Shape::fill))]
-    fn visit_with<V: TypeVisitor>(
-        &self,
-        cx: &Interner,
-        visitor: &mut V,
-    ) -> ControlFlow<V::Break, ()> {
-        visit_node(cx, visitor, Node::Ty(*self))
-    }
-}
-
-impl TypeSuperVisitable for Ty {
-    #[tactic(auto, unfolding(tt_kinds::specs::Shape::IsPart, tt_kinds::specs::Shape::fill))]
-    fn super_visit_with<V: TypeVisitor>(
-        &self,
-        cx: &Interner,
-        visitor: &mut V,
-    ) -> ControlFlow<V::Break, ()> {
-        let kind = cx.node_kind(Node::Ty(*self));
-        visit_kind(cx, visitor, &kind)
-    }
-}
-
-impl TypeVisitable for Tys {
-    ghost use Rattle.tt_kinds.specs.Kinds.{tys_shape};
-
-    ghost shape = { tys_shape };
-
-    #[tactic(auto, unfolding(tt_kinds::specs::Shape::IsPart, tt_kinds::specs::Shape::fill))]
-    fn visit_with<V: TypeVisitor>(
-        &self,
-        cx: &Interner,
-        visitor: &mut V,
-    ) -> ControlFlow<V::Break, ()> {
-        visit_list(cx, visitor, List::Tys(*self))
-    }
-}
-
-impl TypeVisitable for GenericArgs {
-    ghost use Rattle.tt_kinds.specs.Kinds.{args_shape};
-
-    ghost shape = { args_shape };
-
-    #[tactic(auto, unfolding(tt_kinds::specs::Shape::IsPart, tt_kinds::specs::Shape::fill))]
-    fn visit_with<V: TypeVisitor>(
-        &self,
-        cx: &Interner,
-        visitor: &mut V,
-    ) -> ControlFlow<V::Break, ()> {
-        visit_list(cx, visitor, List::Args(*self))
-    }
-}
-
-impl TypeVisitable for Region {
-    ghost use Rattle.tt_kinds.specs.Kinds.{region_shape};
-
-    ghost shape = { region_shape };
-
-    #[tactic(auto, unfolding(tt_kinds::specs::Shape::IsPart, tt_kinds::specs::Shape::fill))]
-    fn visit_with<V: TypeVisitor>(
-        &self,
-        cx: &Interner,
-        visitor: &mut V,
-    ) -> ControlFlow<V::Break, ()> {
-        visitor.visit_region(cx, *self)
-    }
-}
-
-impl TypeVisitable for GenericArg {
-    ghost use Rattle.tt_kinds.specs.Kinds.{arg_shape};
-
-    ghost shape = { arg_shape };
-
-    #[tactic(auto, unfolding(tt_kinds::specs::Shape::IsPart, tt_kinds::specs::Shape::fill))]
-    fn visit_with<V: TypeVisitor>(
-        &self,
-        cx: &Interner,
-        visitor: &mut V,
-    ) -> ControlFlow<V::Break, ()> {
-        match &self.kind() {
-            GenericArgKind::Lifetime(region) => region.visit_with(cx, visitor),
-            GenericArgKind::Type(ty) => ty.visit_with(cx, visitor),
-        }
-    }
-}
-
-impl TypeVisitable for FnSigTys {
-    ghost use Rattle.tt_kinds.specs.Kinds.{fn_sig_tys_shape};
-
-    ghost shape = { fn_sig_tys_shape };
-
-    #[tactic(auto, unfolding(tt_kinds::specs::Shape::IsPart, tt_kinds::specs::Shape::fill))]
-    fn visit_with<V: TypeVisitor>(
-        &self,
-        cx: &Interner,
-        visitor: &mut V,
-    ) -> ControlFlow<V::Break, ()> {
-        self.inputs_and_output.visit_with(cx, visitor)
-    }
 }
 
 impl<T: TypeVisitable + Copy> TypeVisitable for Binder<T> {
@@ -202,6 +95,139 @@ impl<A: TypeVisitable, B: TypeVisitable> TypeVisitable for (A, B) {
             ControlFlow::Continue(_) => self.1.visit_with(cx, visitor),
         }
     }
+}
+
+impl<A: TypeVisitable, B: TypeVisitable, C: TypeVisitable> TypeVisitable for (A, B, C) {
+    ghost use Rattle.tt_visit.specs.Steps.{triple_shape};
+
+    ghost shape = { triple_shape A.shape B.shape C.shape };
+
+    #[tactic(auto, unfolding(tt_kinds::specs::Shape::IsPart, tt_kinds::specs::Shape::fill))]
+    fn visit_with<V: TypeVisitor>(
+        &self,
+        cx: &Interner,
+        visitor: &mut V,
+    ) -> ControlFlow<V::Break, ()> {
+        match self.0.visit_with(cx, visitor) {
+            ControlFlow::Break(b) => return ControlFlow::Break(b),
+            ControlFlow::Continue(_) => {}
+        }
+        match self.1.visit_with(cx, visitor) {
+            ControlFlow::Break(b) => ControlFlow::Break(b),
+            ControlFlow::Continue(_) => self.2.visit_with(cx, visitor),
+        }
+    }
+}
+
+impl<T: TypeVisitable> TypeVisitable for Option<T> {
+    ghost use Rattle.tt_visit.specs.Steps.{option_shape};
+
+    ghost shape = { option_shape T.shape };
+
+    #[tactic(auto, unfolding(tt_kinds::specs::Shape::IsPart, tt_kinds::specs::Shape::fill))]
+    fn visit_with<V: TypeVisitor>(
+        &self,
+        cx: &Interner,
+        visitor: &mut V,
+    ) -> ControlFlow<V::Break, ()> {
+        match self {
+            None => ControlFlow::Continue(()),
+            Some(value) => value.visit_with(cx, visitor),
+        }
+    }
+}
+
+impl<T: TypeVisitable, E: TypeVisitable> TypeVisitable for Result<T, E> {
+    ghost use Rattle.tt_visit.specs.Steps.{result_shape};
+
+    ghost shape = { result_shape T.shape E.shape };
+
+    #[tactic(auto, unfolding(tt_kinds::specs::Shape::IsPart, tt_kinds::specs::Shape::fill))]
+    fn visit_with<V: TypeVisitor>(
+        &self,
+        cx: &Interner,
+        visitor: &mut V,
+    ) -> ControlFlow<V::Break, ()> {
+        match self {
+            Ok(value) => value.visit_with(cx, visitor),
+            Err(error) => error.visit_with(cx, visitor),
+        }
+    }
+}
+
+impl<T: TypeVisitable> TypeVisitable for Box<T> {
+    ghost shape = { λ boxed. T.shape boxed.value };
+
+    fn visit_with<V: TypeVisitor>(
+        &self,
+        cx: &Interner,
+        visitor: &mut V,
+    ) -> ControlFlow<V::Break, ()> {
+        T::visit_with(&**self, cx, visitor)
+    }
+}
+
+impl<T: TypeVisitable> TypeVisitable for Rc<T> {
+    ghost shape = { λ shared. T.shape shared.value };
+
+    fn visit_with<V: TypeVisitor>(
+        &self,
+        cx: &Interner,
+        visitor: &mut V,
+    ) -> ControlFlow<V::Break, ()> {
+        T::visit_with(&**self, cx, visitor)
+    }
+}
+
+impl<T: TypeVisitable> TypeVisitable for Vec<T> {
+    ghost use Rattle.tt_visit.specs.Steps.{sequence_shape};
+
+    ghost shape = { λ values. sequence_shape T.shape values.items };
+
+    #[tactic(auto, unfolding(tt_kinds::specs::Shape::IsPart, tt_kinds::specs::Shape::fill))]
+    fn visit_with<V: TypeVisitor>(
+        &self,
+        cx: &Interner,
+        visitor: &mut V,
+    ) -> ControlFlow<V::Break, ()> {
+        visit_values(cx, visitor, self.as_slice())
+    }
+}
+
+impl<T: TypeVisitable> TypeVisitable for &[T] {
+    ghost use Rattle.tt_visit.specs.Steps.{sequence_shape};
+
+    ghost shape = { λ values. sequence_shape T.shape values.now };
+
+    #[tactic(auto, unfolding(tt_kinds::specs::Shape::IsPart, tt_kinds::specs::Shape::fill))]
+    fn visit_with<V: TypeVisitor>(
+        &self,
+        cx: &Interner,
+        visitor: &mut V,
+    ) -> ControlFlow<V::Break, ()> {
+        visit_values(cx, visitor, *self)
+    }
+}
+
+// The visit of values in order.
+fn visit_values<T: TypeVisitable, V: TypeVisitor>(
+    cx: &Interner,
+    visitor: &mut V,
+    values: &[T],
+) -> ControlFlow<V::Break, ()>
+    requires { AreParts (size cx.now.rows) (item_shapes T.shape values.now) }
+    ensures { MatchControlFlow
+        result
+        (λ _. GoesOverAll V.hooks (V.meaning cx.now.rows visitor.old) (fill_all (meaning cx.now.rows) (item_shapes T.shape values.now)) (V.meaning cx.now.rows visitor.new))
+        (λ b. BreaksAll V.hooks (V.meaning cx.now.rows visitor.old) (fill_all (meaning cx.now.rows) (item_shapes T.shape values.now)) b (V.meaning cx.now.rows visitor.new)) }
+{
+    for index in 0..values.len() {
+        match values[index].visit_with(cx, visitor) {
+            ControlFlow::Break(b) => return ControlFlow::Break(b),
+            ControlFlow::Continue(_) => {}
+        }
+    }
+    ControlFlow::Continue(())
 }
 
 impl<T: TypeVisitable> TypeVisitable for &T {

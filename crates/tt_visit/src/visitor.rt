@@ -3,7 +3,7 @@
 ghost use Rattle.std.specs.Prelude.{◌<◌, List};
 ghost use Rattle.std.specs.ControlFlow.{MatchControlFlow};
 ghost use Rattle.tt_kinds.specs.Shape.{IsPart, fill, vars_of};
-ghost use Rattle.tt_kinds.specs.Kinds.{region_shape, ty_shape};
+ghost use Rattle.tt_kinds.specs.Kinds.{clauses_shape, const_shape, predicate_shape, region_shape, ty_shape};
 ghost use Rattle.tt_kinds.specs.declared.table.Table.TheVariants.{VarLists};
 ghost use Rattle.tt_interner.specs.Rows as rows;
 ghost use Rattle.tt_interner.specs.Rows.{Row, size};
@@ -11,9 +11,9 @@ ghost use Rattle.tt_visit.specs.Visit.{Visits};
 
 use std::ops::ControlFlow;
 use tt_interner::Interner;
-use tt_kinds::{BoundVarKinds, ErrorGuaranteed, Region, Ty};
+use tt_kinds::{BoundVarKinds, Clauses, Const, ErrorGuaranteed, Predicate, Region, Ty};
 
-/// What a hook answers before what stands inside a type or a binder.
+/// What a hook answers before what stands inside a term or a binder.
 #[derive(Clone, Copy, Debug, PartialEq, Eq)]
 pub enum Next {
     /// The visit goes on after it.
@@ -22,9 +22,10 @@ pub enum Next {
     Descend,
 }
 
-/// What is told of each region, type and binder of a value, in order, from the outside in.
+/// What is told of each region, type, constant, predicate, list of clauses and binder of a value, in order, from the outside
+/// in.
 ///
-/// Lists and records have no hook: the visit goes over what stands in them. A hook that answers `Break` ends the visit with
+/// Patterns, existential predicates, other lists and records have no hook: the visit goes over what stands in them. A hook that answers `Break` ends the visit with
 /// that value.
 pub trait TypeVisitor {
     /// What the visit ends with when it ends early.
@@ -48,7 +49,7 @@ pub trait TypeVisitor {
             (λ _. hooks.on_region (meaning cx.now.rows self.old) (fill (rows.meaning cx.now.rows) (region_shape region)) (meaning cx.now.rows self.new))
             (λ b. hooks.region_breaks (meaning cx.now.rows self.old) (fill (rows.meaning cx.now.rows) (region_shape region)) b (meaning cx.now.rows self.new)) };
 
-    /// Is told of the error token of a type, after [`TypeVisitor::visit_ty`] answered `Descend` to that type.
+    /// Is told of the error token of a type or a constant, after the hook of that term answered `Descend`.
     fn visit_error(&mut self, cx: &Interner, error: ErrorGuaranteed) -> ControlFlow<Self::Break, ()>
         ensures { MatchControlFlow
             result
@@ -62,6 +63,34 @@ pub trait TypeVisitor {
             result
             (λ next. hooks.on_term (meaning cx.now.rows self.old) (fill (rows.meaning cx.now.rows) (ty_shape ty)) next (meaning cx.now.rows self.new))
             (λ b. hooks.term_breaks (meaning cx.now.rows self.old) (fill (rows.meaning cx.now.rows) (ty_shape ty)) b (meaning cx.now.rows self.new)) };
+
+    /// Is told of a constant, before what stands inside.
+    fn visit_const(&mut self, cx: &Interner, constant: Const) -> ControlFlow<Self::Break, Next>
+        requires { IsPart (size cx.now.rows) (const_shape constant) }
+        ensures { MatchControlFlow
+            result
+            (λ next. hooks.on_term (meaning cx.now.rows self.old) (fill (rows.meaning cx.now.rows) (const_shape constant)) next (meaning cx.now.rows self.new))
+            (λ b. hooks.term_breaks (meaning cx.now.rows self.old) (fill (rows.meaning cx.now.rows) (const_shape constant)) b (meaning cx.now.rows self.new)) };
+
+    /// Is told of a predicate, before its binder. A clause is told of here too.
+    fn visit_predicate(
+        &mut self,
+        cx: &Interner,
+        predicate: Predicate,
+    ) -> ControlFlow<Self::Break, Next>
+        requires { IsPart (size cx.now.rows) (predicate_shape predicate) }
+        ensures { MatchControlFlow
+            result
+            (λ next. hooks.on_term (meaning cx.now.rows self.old) (fill (rows.meaning cx.now.rows) (predicate_shape predicate)) next (meaning cx.now.rows self.new))
+            (λ b. hooks.term_breaks (meaning cx.now.rows self.old) (fill (rows.meaning cx.now.rows) (predicate_shape predicate)) b (meaning cx.now.rows self.new)) };
+
+    /// Is told of a list of clauses, before the clauses.
+    fn visit_clauses(&mut self, cx: &Interner, clauses: Clauses) -> ControlFlow<Self::Break, Next>
+        requires { IsPart (size cx.now.rows) (clauses_shape clauses) }
+        ensures { MatchControlFlow
+            result
+            (λ next. hooks.on_term (meaning cx.now.rows self.old) (fill (rows.meaning cx.now.rows) (clauses_shape clauses)) next (meaning cx.now.rows self.new))
+            (λ b. hooks.term_breaks (meaning cx.now.rows self.old) (fill (rows.meaning cx.now.rows) (clauses_shape clauses)) b (meaning cx.now.rows self.new)) };
 
     /// Is told of a binder of these variables, before its value.
     fn visit_binder(&mut self, cx: &Interner, vars: BoundVarKinds) -> ControlFlow<Self::Break, Next>

@@ -1,21 +1,19 @@
 -- The steps of a building call, over plain variables.
-use Rattle.std.proofs.Common.{◌≡◌, ◌↔◌, ℕ, ◌<◌, ◌≤◌, List, [], ◌∷◌, ◌++◌, map, Option, Some, None, Result, Ok, Err, refl, ap, sym, ◌∙◌, subst, arith, IsSome, unwrap_or, inl, inr}
-use Rattle.std.specs.Prelude.{IfOk, IfErr, IsErrAnd, ◌⊎◌}
+use Rattle.std.proofs.Common.{◌≡◌, ℕ, List, [], ◌∷◌, Option, None, Result, Ok, Err, refl, ap, ◌∙◌, subst, arith, IsSome, inl, inr}
+use Rattle.std.specs.Prelude.{IsErrAnd, ◌⊎◌}
 use Rattle.tt_index.specs.declared.refusal.Refusal.{Refusal}
 use Rattle.tt_index.specs.declared.refusal.Refusal.TheVariants.{Memory, TableFull, GreatestIndex, NoArguments, ArgOutOfRange, ArgKind, RegionVariable, NotAClause, NoSuchAnswer}
 use Rattle.std.proofs.lemmas.Bool.{cases_lt}
 use Rattle.tt_index.specs.Greatest.{greatest}
-use Rattle.tt_kinds.specs.Label.{Name, region_sort, list_label, anonymous}
+use Rattle.tt_kinds.specs.Label.{Name, region_sort, list_label}
 use Rattle.tt_kinds.specs.Tree as tree
 use Rattle.tt_kinds.specs.Tree.{Tree, Depth, node, also, Forest}
-use Rattle.tt_kinds.specs.Bound.{depth, IsBelowGreatest, region_name}
+use Rattle.tt_kinds.specs.Bound.{depth, IsBelowGreatest}
 use Rattle.tt_kinds.specs.RegionKind.{IsShallow}
-use Rattle.tt_kinds.specs.Shape.{Sizes, Meaning, fill, fill_all, rename_region, name_of, text_of, IsPart, IsNamed, AreParts, item_shapes, IsTooDeep, IsGreatest}
-use Rattle.tt_kinds.specs.Kinds.{ty_shape, ty_kind_shape, tys_row_shape, text_row_shape, region_shape}
+use Rattle.tt_kinds.specs.Shape.{fill, fill_all, name_of, IsPart, AreParts, item_shapes, IsTooDeep, IsGreatest}
+use Rattle.tt_kinds.specs.Kinds.{ty_shape, text_row_shape, region_shape}
 use Rattle.tt_kinds.specs.declared.bound.BoundVarIndexKind.{BoundVarIndexKind}
 use Rattle.tt_kinds.specs.declared.bound.BoundVarIndexKind.TheVariants as index
-use Rattle.tt_kinds.specs.declared.bound.BoundRegionKind.{BoundRegionKind}
-use Rattle.tt_kinds.specs.declared.bound.BoundRegionKind.TheVariants as region_kind
 use Rattle.tt_kinds.specs.declared.bound.BoundRegion.{BoundRegion}
 use Rattle.tt_kinds.specs.declared.region_kind.RegionKind.TheVariants.{ReBound}
 use Rattle.tt_kinds.specs.declared.handle.Ty.{Ty}
@@ -26,15 +24,16 @@ use Rattle.tt_kinds.specs.declared.table.Table.TheVariants.{Types, TypeLists, Sy
 use Rattle.tt_interner.specs.Rows.{Row, type_row, tys_row, row_table, row_shape, size, meaning}
 use Rattle.tt_interner.specs.Stored.{Terms, Extends, Builds, IsCause}
 use Rattle.type_terms.specs.declared.run.answer.Answer.{Answer}
+use Rattle.type_terms.specs.declared.run.call.RegionNameCall.{RegionNameCall}
 use Rattle.type_terms.specs.declared.run.call.TyCall.{TyCall}
 use Rattle.type_terms.specs.declared.run.call.Call.{Call}
 use Rattle.type_terms.specs.declared.run.call.Call.TheVariants as call
 use Rattle.type_terms.specs.CallForm as call_forms
 use Rattle.type_terms.specs.CallForm.{CallForm, trees_at, ty_form, form_positions}
-use Rattle.type_terms.specs.Told.{Told, told, told_all, IsOwned, AreOwned, HasFullTable}
-use Rattle.type_terms.specs.Means.{term_at, tree_at, AreTerms, MayRefuse, want_of_memory, full_table, no_term, too_deep, unfit, unsuited}
+use Rattle.type_terms.specs.Told.{Told, told_all, AreOwned, HasFullTable}
+use Rattle.type_terms.specs.Means.{term_at, tree_at, AreTerms, MayRefuse, want_of_memory, full_table, no_term, too_deep}
 use Rattle.type_terms.specs.Build as build
-use Rattle.type_terms.specs.Build.{IsTyAt, AreTysAt, IsUnbuilt, no_memory, no_row, no_index, IsListOf, GivesList, IsRegionOf, GivesRegion, IsKindOf, GivesKind, Answers}
+use Rattle.type_terms.specs.Build.{IsTyAt, AreTysAt, IsUnbuilt, no_memory, no_row, no_index, IsNameOf, IsListOf, GivesList, IsRegionOf, GivesRegion, IsKindOf, GivesKind, Answers}
 use Rattle.type_terms.proofs.RunLaws.{HasFullTable-extends}
 
 -- a position where there is a type
@@ -177,28 +176,22 @@ pub region-shallow : (terms : Terms) (k : RegionKind) (t : Tree Depth) (deep : T
 region-shallow terms k t deep result ok s n p m =
     rw (ok s) (record { ok = record { part = p; means = m; shallow = n }; err = tt })
 
--- a bound region's own name needs no row
-region_name-part : (size : Sizes) (k : BoundRegionKind) → IsNamed size (region_name k)
-region_name-part size region_kind.Anon = tt
-
-region_name-same : (f : Meaning) (k : BoundRegionKind) → rename_region (name_of f) (region_name k) ≡ call_forms.called k
-region_name-same f region_kind.Anon = refl
-
 not_both : (i : BoundVarIndexKind) → IsBelowGreatest (depth i) → IsGreatest (depth i) → ⊥
 not_both (index.Bound d) s g = omega arith
 not_both index.Canonical s g = g
 
 -- a bound region
-pub region-bound : (terms : Terms) (i : BoundVarIndexKind) (b : BoundRegion) (result : Result RegionKind Refusal)
+pub region-bound : (terms : Terms) (i : BoundVarIndexKind) (b : BoundRegion) (name : RegionNameCall) (result : Result RegionKind Refusal)
+    → IsNameOf terms name b.kind
     → (IsBelowGreatest (depth i) → result ≡ Ok (ReBound i b)) → ((IsBelowGreatest (depth i) → ⊥) → result ≡ Err GreatestIndex)
-    → GivesRegion terms (tree.bound region_sort (depth i) (call_forms.region_entry b)) (IsGreatest (depth i)) result
+    → GivesRegion terms (tree.bound region_sort (depth i) (call_forms.region_entry b.var name)) (IsGreatest (depth i)) result
 unfolding fill IsPart
-region-bound terms i b result ok deep = elim (IsBelowGreatest-or-not i) [
+region-bound terms i b name result n ok deep = elim (IsBelowGreatest-or-not i) [
   | inl s ↦
       rw (ok s) (record {
         ok = record {
-          part = (refl, region_name-part (size terms.rows) b.kind);
-          means = rw (region_name-same (meaning terms.rows) b.kind) refl;
+          part = (refl, n.part);
+          means = rw (n.means) refl;
           shallow = not_both i s;
         };
         err = tt;

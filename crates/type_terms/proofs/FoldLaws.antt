@@ -1,6 +1,6 @@
 -- The calls that fold terms, over plain variables.
-use Rattle.std.proofs.Common.{◌≡◌, ℕ, zero, suc, ◌<◌, ◌≤◌, List, [], ◌∷◌, ◌++◌, map, Option, Some, None, Result, Ok, Err, refl, ap, sym, ◌∙◌, subst, inl, inr}
-use Rattle.std.specs.Prelude.{slice_get, ◌⊎◌, IsErrAnd, IsSome, IsSomeAnd, IfOk, IfErr}
+use Rattle.std.proofs.Common.{◌≡◌, ℕ, zero, suc, List, [], ◌∷◌, ◌++◌, Option, Some, None, Result, Ok, Err, refl, ap, sym, ◌∙◌, subst, inl, inr}
+use Rattle.std.specs.Prelude.{slice_get, IsErrAnd, IsSome, IfOk, IfErr}
 use Rattle.std.specs.declared.alloc.Global.{Global}
 use Rattle.std.specs.declared.vec.Vec.{Vec}
 use Rattle.std.proofs.lemmas.List.{map-append}
@@ -9,7 +9,7 @@ use Rattle.tt_index.specs.declared.refusal.Refusal.TheVariants.{Memory, TableFul
 use Rattle.tt_kinds.specs.Label.{region_sort, type_sort}
 use Rattle.tt_kinds.specs.Tree.{Tree, Depth, Place}
 use Rattle.tt_kinds.specs.Argument.{Argument, put, readings}
-use Rattle.tt_kinds.specs.Reading.{read, move, Fits}
+use Rattle.tt_kinds.specs.Reading.{read, move}
 use Rattle.tt_kinds.specs.Cause.{Cause}
 use Rattle.tt_fold.specs.Steps.{IsPartBy, tree_by}
 use Rattle.tt_fold.specs.Shift.{IsShiftRefusal}
@@ -22,8 +22,8 @@ use Rattle.tt_kinds.specs.declared.generic_arg.GenericArgKind.TheVariants as kin
 use Rattle.tt_kinds.specs.declared.table.Table.TheVariants.{Types}
 use Rattle.tt_interner.specs.Rows.{Row, row_table, size, meaning}
 use Rattle.tt_interner.specs.Stored.{Terms, Extends}
-use Rattle.tt_interner.proofs.Growth.{AreParts-grows, meaning-grows, Extends-trans}
-use Rattle.tt_binder.specs.Arguments.{argument_of, AreArguments}
+use Rattle.tt_interner.proofs.Growth.{AreParts-grows, meaning-grows}
+use Rattle.tt_binder.specs.Arguments.{argument_of}
 use Rattle.tt_binder.specs.Arguments.{arguments as built_arguments}
 use Rattle.tt_binder.specs.ArgumentLaws.{arguments-still}
 use Rattle.tt_binder.specs.Instance.{HasNoCause, IsPlain, IsReason}
@@ -35,8 +35,7 @@ use Rattle.type_terms.specs.declared.run.call.Call.{Call}
 use Rattle.type_terms.specs.declared.run.call.Call.TheVariants as call
 use Rattle.type_terms.specs.CallForm.{region_tree, IsRegionTooDeep}
 use Rattle.type_terms.specs.Told.{Told, term, told_all, AreOwned, HasFullTable}
-use Rattle.type_terms.specs.Means.{term_at, tree_at, positions, BuildsOrFolds, AreTerms, arg_positions, AreArgsTooDeep, argument, arguments, IsAllowed, MayRefuse, want_of_memory, full_table, no_term, too_deep, unfit, unsuited}
-use Rattle.type_terms.specs.Build as build
+use Rattle.type_terms.specs.Means.{term_at, tree_at, positions, AreTerms, arg_positions, AreArgsTooDeep, argument, arguments, IsAllowed, MayRefuse, want_of_memory, full_table, no_term, unfit, unsuited}
 use Rattle.type_terms.specs.Build.{IsTyAt, IsUnbuilt, IsRegionOf, IsArgumentOf, GivesArgument, AreArgumentsOf, GivesArguments, Answers}
 use Rattle.type_terms.proofs.BuildLaws.{tree-at, term-at}
 
@@ -131,7 +130,7 @@ still-there old mid earlier p t x o h =
 reason-refused : (new : Terms) (e : List Told) (p : ℕ) (list : Vec ArgCall Global) → AreTerms e (p ∷ arg_positions list.items)
     → (r : Refusal) → IsReason new (arguments e list.items) (tree_at e p) r → MayRefuse (HasFullTable new) e (call.Instantiate p list) r
 reason-refused new e p list n Memory h = want_of_memory tt refl
-reason-refused new e p list n TableFull h = full_table tt (record { table = row_table h.0; full = h.1.1 }) refl
+reason-refused new e p list n TableFull h = full_table tt (record { table = row_table h.2.0; full = h.2.3 }) refl
 reason-refused new e p list n GreatestIndex h = unfit n h refl
 reason-refused new e p list n NoArguments h = unsuited n h
 reason-refused new e p list n (ArgOutOfRange i) h = unsuited n h
@@ -175,7 +174,7 @@ absent-refused P rows earlier p ps c q r i h =
 shift-refused : (new : Terms) (e : List Told) (p n : ℕ) → AreTerms e (p ∷ []) → (r : Refusal) → IsShiftRefusal new n (tree_at e p) r
     → MayRefuse (HasFullTable new) e (call.Shift p n) r
 shift-refused new e p n k Memory h = want_of_memory tt refl
-shift-refused new e p n k TableFull h = full_table tt (record { table = row_table h.0; full = h.1.1 }) refl
+shift-refused new e p n k TableFull h = full_table tt (record { table = row_table h.2.0; full = h.2.3 }) refl
 shift-refused new e p n k GreatestIndex h = unfit k h refl
 shift-refused new e p n k NoArguments h = absurd h
 shift-refused new e p n k (ArgOutOfRange i) h = absurd h

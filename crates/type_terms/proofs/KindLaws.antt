@@ -1,13 +1,13 @@
 -- The kinds that calls name, over plain variables.
-use Rattle.std.proofs.Common.{Ok, ◌≡◌, ℕ, ◌<◌, List, [], ◌∷◌, ◌++◌, map, refl, ap, sym, ◌∙◌, subst, append-nil, inl, inr}
+use Rattle.std.proofs.Common.{Ok, ◌≡◌, ℕ, ◌<◌, List, [], ◌∷◌, map, refl, ap, sym, subst, append-nil, inl, inr}
 use Rattle.tt_index.specs.declared.qualifier.Mutability.{Mutability}
 use Rattle.tt_kinds.specs.Label.{Name, type_sort, type_label, TypeLabel, ref_type, raw_ptr_type, slice_type, tuple_type, fn_ptr_type, fn_sig_tys_record}
 use Rattle.tt_kinds.specs.Tree as tree
 use Rattle.tt_kinds.specs.Tree.{Tree, Depth}
-use Rattle.tt_kinds.specs.Bound.{depth, var_kind}
+use Rattle.tt_kinds.specs.Bound.{depth}
 use Rattle.tt_kinds.specs.Shape as shape
 use Rattle.tt_kinds.specs.Shape.{Meaning, fill, name_of, vars_of, rename_kind, IsPart}
-use Rattle.tt_kinds.specs.Kinds.{ty_kind_shape, vars_row_shape}
+use Rattle.tt_kinds.specs.Kinds.{ty_kind_shape}
 use Rattle.tt_kinds.specs.declared.handle.Ty.{Ty}
 use Rattle.tt_kinds.specs.declared.handle.Tys.{Tys}
 use Rattle.tt_kinds.specs.declared.handle.Symbol.{Symbol}
@@ -15,22 +15,20 @@ use Rattle.tt_kinds.specs.declared.handle.BoundVarKinds.{BoundVarKinds}
 use Rattle.tt_kinds.specs.declared.fn_sig.FnHeader.{FnHeader}
 use Rattle.tt_kinds.specs.declared.bound.BoundVarIndexKind.{BoundVarIndexKind}
 use Rattle.tt_kinds.specs.declared.bound.BoundTy.{BoundTy}
-use Rattle.tt_kinds.specs.declared.bound.BoundVariableKind.{BoundVariableKind}
-use Rattle.tt_kinds.specs.declared.bound.BoundVariableKind.TheVariants as variable
-use Rattle.tt_kinds.specs.declared.bound.BoundRegionKind.TheVariants as region_kind
 use Rattle.tt_kinds.specs.declared.region_kind.RegionKind.{RegionKind}
 use Rattle.tt_kinds.specs.declared.ty_kind.TyKind.{TyKind}
 use Rattle.tt_kinds.specs.declared.ty_kind.TyKind.TheVariants as ty
-use Rattle.tt_kinds.specs.declared.table.Table.TheVariants.{Types, TypeLists, VarLists, Symbols}
+use Rattle.tt_kinds.specs.declared.table.Table.TheVariants.{Types, TypeLists, Symbols}
 use Rattle.tt_interner.specs.Rows.{size, meaning}
 use Rattle.tt_interner.specs.Stored.{Terms, Extends}
 use Rattle.tt_interner.proofs.Growth.{in_range-grows, meaning-grows}
 use Rattle.type_terms.specs.declared.run.answer.Answer.{Answer}
 use Rattle.type_terms.specs.declared.run.call.RegionCall.{RegionCall}
+use Rattle.type_terms.specs.declared.run.call.VariableCall.{VariableCall}
 use Rattle.type_terms.specs.CallForm.{param, bound, plain, under, ty_entry, a_region, a_term, a_list, variable_kind, region_tree, IsRegionTooDeep}
 use Rattle.type_terms.specs.Told.{Told, told_all, AreOwned}
 use Rattle.type_terms.specs.Means.{AreTerms}
-use Rattle.type_terms.specs.Build.{IsTyAt, IsRegionOf, IsListOf, IsKindOf, GivesKind}
+use Rattle.type_terms.specs.Build.{IsTyAt, IsRegionOf, IsListOf, IsVariableListOf, IsKindOf, GivesKind}
 use Rattle.type_terms.proofs.BuildLaws.{tree-at, term-at}
 
 pub param-kind : (terms : Terms) (e : List Told) (i : ℕ) (name : Symbol) (bytes : Name) → name.number < size terms.rows Symbols
@@ -82,25 +80,14 @@ tuple-kind terms e ps list h = record {
   deep = (λ d. absurd d, λ d. elim d [ inl x ↦ x | inr x ↦ x ]);
 }
 
--- the variables of a stored list
-variable-renamed : (f : Meaning) (v : BoundVariableKind) → rename_kind (name_of f) (var_kind v) ≡ variable_kind v
-variable-renamed f (variable.Ty k) = refl
-variable-renamed f (variable.Region region_kind.Anon) = refl
-variable-renamed f variable.Const = refl
-
-variables-renamed : (f : Meaning) (vs : List BoundVariableKind) → map (rename_kind (name_of f)) (map var_kind vs) ≡ map variable_kind vs
-variables-renamed f [] = refl
-variables-renamed f (v ∷ vs) = rw (variable-renamed f v, variables-renamed f vs) refl
-
-pub fn_ptr-kind : (old new : Terms) (e : List Told) (ps : List ℕ) (list : Tys) (vs : List BoundVariableKind) (vars : BoundVarKinds) (h : FnHeader)
-    → Extends old new → IsListOf old e ps list → vars.number < size new.rows VarLists
-    → meaning new.rows VarLists vars.number ≡ fill (meaning old.rows) (vars_row_shape vs)
+pub fn_ptr-kind : (old new : Terms) (e : List Told) (ps : List ℕ) (list : Tys) (vs : List VariableCall) (vars : BoundVarKinds) (h : FnHeader)
+    → Extends old new → IsListOf old e ps list → IsVariableListOf new vs vars
     → IsKindOf new e (under (type_label (fn_ptr_type h)) (map variable_kind vs) fn_sig_tys_record (a_list TypeLists ps ∷ []))
     (ty.FnPtr (record { value = record { inputs_and_output = list }; bound_vars = vars }) h)
 unfolding fill IsPart
-fn_ptr-kind old new e ps list vs vars h x l n m = record {
-  parts = (tt, ((n, (refl, tt, (in_range-grows old.rows new.rows x.rows TypeLists list.number l.in_range, tt))), tt));
-  means = rw (m, meaning-grows old.rows new.rows x.rows TypeLists list.number l.in_range, l.means, variables-renamed (meaning old.rows) vs) refl;
+fn_ptr-kind old new e ps list vs vars h x l v = record {
+  parts = (tt, ((v.in_range, (refl, tt, (in_range-grows old.rows new.rows x.rows TypeLists list.number l.in_range, tt))), tt));
+  means = rw (v.means, meaning-grows old.rows new.rows x.rows TypeLists list.number l.in_range, l.means) refl;
   named = subst (λ (qs : List ℕ). AreTerms e qs) (sym (append-nil ps)) l.named;
   deep = (λ d. absurd d, λ d. elim d [ inl y ↦ y | inr y ↦ y ]);
 }

@@ -3,6 +3,7 @@ pub mod RunLaws
 pub mod LookupLaws
 pub mod ResultLaws
 pub mod BuildLaws
+pub mod NameLaws
 pub mod KindLaws
 pub mod FoldLaws
 pub mod QueryLaws

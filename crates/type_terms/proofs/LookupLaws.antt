@@ -1,20 +1,16 @@
 -- What is told at a position is what the answer there tells.
-use Rattle.std.proofs.Common.{◌≡◌, ℕ, zero, suc, ◌-◌, ◌<◌, List, [], ◌∷◌, ◌++◌, map, Option, Some, None, refl, ap, sym, ◌∙◌, subst, arith, length, get_or}
+use Rattle.std.proofs.Common.{◌≡◌, ℕ, zero, suc, ◌-◌, ◌<◌, List, [], ◌∷◌, ◌++◌, Option, Some, None, refl, subst, arith, length, get_or}
 use Rattle.std.specs.List.{slice_get}
 use Rattle.std.specs.Option.{option_map}
 use Rattle.std.specs.Prelude.{IsSome}
 use Rattle.std.proofs.lemmas.Option.{slice_get-map}
-use Rattle.tt_kinds.specs.Shape.{fill, fill_all, IsPart, AreParts, item_shapes}
-use Rattle.tt_kinds.specs.Kinds.{ty_shape}
-use Rattle.tt_kinds.specs.Tree.{Tree, Depth, also}
+use Rattle.tt_kinds.specs.Tree.{Tree, Depth}
 use Rattle.tt_kinds.specs.declared.handle.Ty.{Ty}
-use Rattle.tt_kinds.specs.declared.table.Table.TheVariants.{Types}
-use Rattle.tt_interner.specs.Rows.{Row, size, meaning}
+use Rattle.tt_interner.specs.Rows.{Row}
 use Rattle.type_terms.specs.declared.run.answer.Answer.{Answer}
 use Rattle.type_terms.specs.declared.run.answer.Answer.TheVariants as answer
-use Rattle.type_terms.specs.CallForm.{trees_at}
 use Rattle.type_terms.specs.Told.{Told, told, told_all, IsOwned, AreOwned}
-use Rattle.type_terms.specs.Means.{as_term, term_at, tree_at, AreTerms}
+use Rattle.type_terms.specs.Means.{as_term, term_at, AreTerms}
 use Rattle.type_terms.specs.Build.{IsTyAt, AreTysAt}
 
 term_at-told : (rows : List Row) (earlier : List Answer) (p : ℕ) → (p ≡ 0 → ⊥)

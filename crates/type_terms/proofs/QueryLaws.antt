@@ -1,6 +1,6 @@
 -- The calls that ask about terms, over plain variables.
-use Rattle.std.proofs.Common.{◌≡◌, ◌↔◌, ℕ, ◌<◌, List, [], ◌∷◌, Bool, Option, Some, None, refl, ap, sym, ◌∙◌, subst, true}
-use Rattle.std.specs.Prelude.{IsTrue, IsSome, MatchResult, Result, Ok, Err}
+use Rattle.std.proofs.Common.{◌≡◌, ◌↔◌, ℕ, ◌<◌, List, Bool, Option, None, refl, ap, sym, ◌∙◌, subst}
+use Rattle.std.specs.Prelude.{IsSome, MatchResult, Result, Ok, Err}
 use Rattle.std.proofs.Math.Dec.{eqb}
 use Rattle.std.proofs.lemmas.Bool.{eqb-true, eq-eqb}
 use Rattle.tt_index.specs.declared.refusal.Refusal.{Refusal}
@@ -18,7 +18,7 @@ use Rattle.type_terms.specs.declared.run.answer.Answer.TheVariants as answer
 use Rattle.type_terms.specs.declared.run.call.Call.{Call}
 use Rattle.type_terms.specs.declared.run.call.Call.TheVariants as call
 use Rattle.type_terms.specs.Told.{told, told_all, truth, info, IsOwned, AreOwned, HasFullTable}
-use Rattle.type_terms.specs.Means.{term_at, tree_at, IsAllowed, MayRefuse, no_term}
+use Rattle.type_terms.specs.Means.{term_at, IsAllowed, MayRefuse, no_term}
 use Rattle.type_terms.specs.Build.{IsTyAt, Answers}
 use Rattle.type_terms.proofs.BuildLaws.{tree-at, term-at}
 

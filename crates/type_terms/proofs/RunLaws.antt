@@ -1,9 +1,9 @@
 -- What was told stays told while rows grow, and a run goes on by one call.
-use Rattle.std.proofs.Common.{◌≡◌, ℕ, ◌<◌, ◌≤◌, List, [], ◌∷◌, ◌++◌, map, refl, ap, sym, ◌∙◌, subst, arith, append_assoc, append-nil, length, take, get_or}
-use Rattle.std.proofs.lemmas.List.{map-append, take_more}
+use Rattle.std.proofs.Common.{◌≡◌, List, [], ◌∷◌, ◌++◌, refl, ap, sym, subst, arith, append_assoc, append-nil}
+use Rattle.std.proofs.lemmas.List.{map-append}
 use Rattle.tt_index.specs.declared.refusal.Refusal.{Refusal}
 use Rattle.tt_kinds.specs.declared.table.Table.TheVariants.{Types}
-use Rattle.tt_interner.specs.Rows.{Row, size, meaning, Grows}
+use Rattle.tt_interner.specs.Rows.{Row, Grows}
 use Rattle.tt_interner.specs.Stored.{Terms, Extends}
 use Rattle.tt_interner.proofs.Growth.{Extends-refl, Extends-trans, size-grows, in_range-grows, meaning-grows}
 use Rattle.type_terms.specs.declared.run.call.Call.{Call}
@@ -100,3 +100,12 @@ ran-more start old new calls answers c a h e o k =
           (Means-append (HasFullTable new) [] calls (told_all old.rows answers) c (told new.rows a)
           (Means-fuller (HasFullTable old) (HasFullTable new) (HasFullTable-extends old new e) [] calls (told_all old.rows answers) h.means) k);
     }
+
+-- a call after those that were answered, whatever they were
+pub ran-one-more : (old new : Terms) (calls : List Call) (answers : List Answer) (c : Call) (a : Answer)
+    → AreOwned old.rows answers → Extends old new → IsOwned new.rows a
+    → IsAllowed (HasFullTable new) (told_all old.rows answers) c (told new.rows a)
+    → Means (HasFullTable old) [] calls (told_all old.rows answers)
+    → Means (HasFullTable new) [] (calls ++ c ∷ []) (told_all new.rows (answers ++ a ∷ []))
+ran-one-more old new calls answers c a h e o k m =
+    (ran-more old old new calls answers c a (record { extends = Extends-refl old; owned = h; means = m }) e o k).means

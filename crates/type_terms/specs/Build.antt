@@ -1,20 +1,26 @@
 -- What the steps of a building call promise.
-use Rattle.std.specs.Prelude.{◌≡◌, ◌↔◌, ℕ, ◌<◌, List, [], ◌∷◌, Result, IfOk, IfErr, Some, None}
+use Rattle.std.specs.Prelude.{◌≡◌, ◌↔◌, ℕ, ◌<◌, List, [], ◌∷◌, map, Result, IfOk, IfErr, Some}
 use Rattle.tt_index.specs.declared.refusal.Refusal.{Refusal}
 use Rattle.tt_index.specs.declared.refusal.Refusal.TheVariants.{Memory, TableFull, GreatestIndex, NoSuchAnswer}
-use Rattle.tt_kinds.specs.Label.{list_label}
-use Rattle.tt_kinds.specs.Tree.{Tree, Depth, node}
-use Rattle.tt_kinds.specs.Shape.{fill, IsPart, HasParts}
+use Rattle.tt_kinds.specs.Label.{list_label, var_list_label}
+use Rattle.tt_kinds.specs.Tree.{Tree, Depth, node, none}
+use Rattle.tt_kinds.specs.Bound.{region_name, var_kind}
+use Rattle.tt_kinds.specs.Shape.{name_of, rename_region, rename_kind, IsNamed, IsNamedKind, AreNamedKinds, fill, IsPart, HasParts}
 use Rattle.tt_kinds.specs.Shape as shape
 use Rattle.tt_kinds.specs.Kinds.{region_shape, ty_kind_shape, arg_shape}
 use Rattle.tt_kinds.specs.declared.handle.Ty.{Ty}
 use Rattle.tt_kinds.specs.declared.handle.Tys.{Tys}
 use Rattle.tt_kinds.specs.declared.region_kind.RegionKind.{RegionKind}
 use Rattle.tt_kinds.specs.declared.ty_kind.TyKind.{TyKind}
-use Rattle.tt_kinds.specs.declared.table.Table.TheVariants.{Types, TypeLists}
+use Rattle.tt_kinds.specs.declared.bound.BoundRegionKind.{BoundRegionKind}
+use Rattle.tt_kinds.specs.declared.bound.BoundVariableKind.{BoundVariableKind}
+use Rattle.tt_kinds.specs.declared.handle.BoundVarKinds.{BoundVarKinds}
+use Rattle.tt_kinds.specs.declared.table.Table.TheVariants.{Types, TypeLists, VarLists}
 use Rattle.tt_interner.specs.Rows.{Row, size, meaning}
 use Rattle.tt_interner.specs.Stored.{Terms}
 use Rattle.type_terms.specs.declared.run.answer.Answer.{Answer}
+use Rattle.type_terms.specs.declared.run.call.RegionNameCall.{RegionNameCall}
+use Rattle.type_terms.specs.declared.run.call.VariableCall.{VariableCall}
 use Rattle.type_terms.specs.declared.run.call.ArgCall.{ArgCall}
 use Rattle.type_terms.specs.declared.run.call.Call.{Call}
 use Rattle.tt_binder.specs.Arguments.{argument_of, AreArguments}
@@ -22,7 +28,7 @@ use Rattle.tt_binder.specs.Arguments.{arguments as built_arguments}
 use Rattle.tt_kinds.specs.declared.generic_arg.GenericArgKind.{GenericArgKind}
 use Rattle.std.specs.declared.alloc.Global.{Global}
 use Rattle.std.specs.declared.vec.Vec.{Vec}
-use Rattle.type_terms.specs.CallForm.{CallForm, trees_at, form_positions, form_tree, IsFormTooDeep}
+use Rattle.type_terms.specs.CallForm.{CallForm, called, variable_kind, trees_at, form_positions, form_tree, IsFormTooDeep}
 use Rattle.type_terms.specs.Told.{Told, term, told_all, AreOwned, HasFullTable}
 use Rattle.type_terms.specs.Means.{term_at, tree_at, argument, arguments, arg_positions, AreTerms, AreArgsTooDeep, IsAllowed, MayRefuse}
 
@@ -44,6 +50,41 @@ pub data IsUnbuilt (full : Type 0) (earlier : List Told) (named : List ℕ) (dee
   no_row : full → e ≡ TableFull → IsUnbuilt full earlier named deep e
   no_term : (AreTerms earlier named → ⊥) → e ≡ NoSuchAnswer → IsUnbuilt full earlier named deep e
   no_index : deep → e ≡ GreatestIndex → IsUnbuilt full earlier named deep e
+
+-- a bound region is called so
+pub record IsNameOf (terms : Terms) (call : RegionNameCall) (k : BoundRegionKind) : Type 0 where
+  pub part : IsNamed (size terms.rows) (region_name k)
+  pub means : rename_region (name_of (meaning terms.rows)) (region_name k) ≡ called call
+
+-- the result is that name, or a refusal with a reason
+pub record GivesName (terms : Terms) (call : RegionNameCall) (result : Result BoundRegionKind Refusal) : Type 0 where
+  pub ok : IfOk result (IsNameOf terms call)
+  pub err : IfErr result (IsUnbuilt (HasFullTable terms) [] [] ⊥)
+
+-- the variable is the one that the call names
+pub record IsVariableOf (terms : Terms) (call : VariableCall) (v : BoundVariableKind) : Type 0 where
+  pub part : IsNamedKind (size terms.rows) (var_kind v)
+  pub means : rename_kind (name_of (meaning terms.rows)) (var_kind v) ≡ variable_kind call
+
+-- the result is that variable, or a refusal with a reason
+pub record GivesVariable (terms : Terms) (call : VariableCall) (result : Result BoundVariableKind Refusal) : Type 0 where
+  pub ok : IfOk result (IsVariableOf terms call)
+  pub err : IfErr result (IsUnbuilt (HasFullTable terms) [] [] ⊥)
+
+-- the variables are those that the calls name
+pub record AreVariablesOf (terms : Terms) (calls : List VariableCall) (vs : List BoundVariableKind) : Type 0 where
+  pub parts : AreNamedKinds (size terms.rows) (map var_kind vs)
+  pub means : map (rename_kind (name_of (meaning terms.rows))) (map var_kind vs) ≡ map variable_kind calls
+
+-- the list is that of the variables
+pub record IsVariableListOf (terms : Terms) (calls : List VariableCall) (list : BoundVarKinds) : Type 0 where
+  pub in_range : list.number < size terms.rows VarLists
+  pub means : meaning terms.rows VarLists list.number ≡ node (var_list_label (map variable_kind calls)) none
+
+-- the result is that list, or a refusal with a reason
+pub record GivesVariables (terms : Terms) (calls : List VariableCall) (result : Result BoundVarKinds Refusal) : Type 0 where
+  pub ok : IfOk result (IsVariableListOf terms calls)
+  pub err : IfErr result (IsUnbuilt (HasFullTable terms) [] [] ⊥)
 
 -- the region has this tree
 pub record IsRegionOf (terms : Terms) (t : Tree Depth) (deep : Type 0) (r : RegionKind) : Type 0 where

@@ -1,19 +1,18 @@
 -- What building calls build: the table of their kinds, and the tree over the trees at the positions that they name.
 use Rattle.std.specs.Prelude.{ℕ, List, [], ◌∷◌, ◌++◌, map, ◌⊎◌}
 use Rattle.std.specs.String.{string_bytes}
-use Rattle.tt_kinds.specs.Label.{Name, Sort, region_sort, type_sort, RegionName, anonymous, VarKind, region_variable, type_variable, const_variable, Entry, static_region, erased_region, region_var, error_region, bool_type, char_type, int_type, uint_type, float_type, str_type, never_type, placeholder_type, infer_type, error_type, ref_type, raw_ptr_type, slice_type, tuple_type, fn_ptr_type, RecordLabel, fn_sig_tys_record, Label, type_label, list_label, record_label}
+use Rattle.tt_kinds.specs.Label.{Name, Sort, region_sort, type_sort, RegionName, anonymous, printed, named, environment, VarKind, region_variable, type_variable, const_variable, Entry, static_region, erased_region, region_var, error_region, bool_type, char_type, int_type, uint_type, float_type, str_type, never_type, placeholder_type, infer_type, error_type, ref_type, raw_ptr_type, slice_type, tuple_type, fn_ptr_type, RecordLabel, fn_sig_tys_record, Label, type_label, list_label, record_label}
 use Rattle.tt_kinds.specs.Tree as tree
 use Rattle.tt_kinds.specs.Tree.{Depth, Tree, Forest, none, also}
 use Rattle.tt_kinds.specs.Bound.{depth}
 use Rattle.tt_kinds.specs.Shape.{IsGreatest}
 use Rattle.tt_kinds.specs.declared.table.Table.{Table}
 use Rattle.tt_kinds.specs.declared.table.Table.TheVariants.{TypeLists}
-use Rattle.tt_kinds.specs.declared.bound.BoundRegionKind.{BoundRegionKind}
-use Rattle.tt_kinds.specs.declared.bound.BoundRegionKind.TheVariants as region_kind
-use Rattle.tt_kinds.specs.declared.bound.BoundRegion.{BoundRegion}
 use Rattle.tt_kinds.specs.declared.bound.BoundTy.{BoundTy}
-use Rattle.tt_kinds.specs.declared.bound.BoundVariableKind.{BoundVariableKind}
-use Rattle.tt_kinds.specs.declared.bound.BoundVariableKind.TheVariants as variable
+use Rattle.type_terms.specs.declared.run.call.RegionNameCall.{RegionNameCall}
+use Rattle.type_terms.specs.declared.run.call.RegionNameCall.TheVariants as region_name
+use Rattle.type_terms.specs.declared.run.call.VariableCall.{VariableCall}
+use Rattle.type_terms.specs.declared.run.call.VariableCall.TheVariants as variable
 use Rattle.type_terms.specs.declared.run.call.RegionCall.{RegionCall}
 use Rattle.type_terms.specs.declared.run.call.RegionCall.TheVariants.{ReEarlyParam, ReBound, ReStatic, ReVar, ReErased, ReError}
 use Rattle.type_terms.specs.declared.run.call.TyCall.{TyCall}
@@ -33,21 +32,24 @@ pub data CallForm : Type 0 where
   bound : Sort → Depth → Entry Name → CallForm
   plain : Label Name → List Part → CallForm
   -- the children stand in a record under a binder of these variables
-  under : Label Name → List (VarKind Name) → RecordLabel → List Part → CallForm
+  under : Label Name → List (VarKind Name) → RecordLabel Name → List Part → CallForm
 
 -- what a bound region is called
-abbrev pub called : BoundRegionKind → RegionName Name
-called region_kind.Anon = anonymous
+abbrev pub called : RegionNameCall → RegionName Name
+called region_name.Anon = anonymous
+called (region_name.NamedForPrinting text) = printed (string_bytes text)
+called (region_name.Named d) = named d.number
+called region_name.ClosureEnv = environment
 
 -- a variable of a binder's list
-abbrev pub variable_kind : BoundVariableKind → VarKind Name
+abbrev pub variable_kind : VariableCall → VarKind Name
 variable_kind (variable.Ty k) = type_variable k
 variable_kind (variable.Region k) = region_variable (called k)
 variable_kind variable.Const = const_variable
 
 -- what a bound region says of itself
-abbrev pub region_entry : BoundRegion → Entry Name
-region_entry b = record { var = b.var; kind = region_variable (called b.kind) }
+abbrev pub region_entry : ℕ → RegionNameCall → Entry Name
+region_entry var name = record { var = var; kind = region_variable (called name) }
 
 -- what a bound type says of itself
 abbrev pub ty_entry : BoundTy → Entry Name
@@ -77,7 +79,7 @@ ty_form (ty.FnPtr vars ts h) =
 -- the tree of a region
 abbrev pub region_tree : RegionCall → Tree Depth
 region_tree (ReEarlyParam index name) = tree.param region_sort index (string_bytes name)
-region_tree (ReBound i b) = tree.bound region_sort (depth i) (region_entry b)
+region_tree (ReBound i var name) = tree.bound region_sort (depth i) (region_entry var name)
 region_tree ReStatic = tree.region static_region
 region_tree (ReVar v) = tree.region (region_var v)
 region_tree ReErased = tree.region erased_region
@@ -85,7 +87,7 @@ region_tree (ReError e) = tree.region (error_region e.0)
 
 -- the region is bound by the binder of the greatest index
 abbrev pub IsRegionTooDeep : RegionCall → Type 0
-IsRegionTooDeep (ReBound i b) = IsGreatest (depth i)
+IsRegionTooDeep (ReBound i var name) = IsGreatest (depth i)
 IsRegionTooDeep _ = ⊥
 
 -- a region among the children is bound by the binder of the greatest index

@@ -5,7 +5,7 @@ mod build;
 pub mod call;
 pub mod fault;
 mod fold;
-mod line;
+pub(crate) mod line;
 mod lookup;
 mod number;
 mod print;
@@ -17,7 +17,7 @@ mod ty_line;
 mod words;
 
 pub use answer::Answer;
-pub use call::{ArgCall, Call, RegionCall, TyCall};
+pub use call::{ArgCall, Call, RegionCall, RegionNameCall, TyCall, VariableCall};
 pub use fault::Fault;
-pub use runner::run_calls;
+pub use runner::{answer_next, run_calls};
 pub use script::run_script;

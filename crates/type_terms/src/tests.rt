@@ -1,8 +1,12 @@
 //! What the contracts don't say: printed lines, reading and writing, and that calls succeed where memory is ample.
 
 mod faults;
+mod kinds;
 mod library;
+mod owned;
 mod spelling;
+mod users;
+mod values;
 mod worked;
 
 use crate::run_script;

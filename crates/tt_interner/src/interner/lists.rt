@@ -1,8 +1,8 @@
 //! Lists of types, of generic arguments and of a binder's variables.
 
 ghost use Rattle.std.specs.Prelude.{◌≡◌, ◌<◌, MatchOption};
-ghost use Rattle.tt_kinds.specs.Shape.{item_shapes, AreParts};
-ghost use Rattle.tt_kinds.specs.Kinds.{ty_shape, arg_shape};
+ghost use Rattle.tt_kinds.specs.Shape.{item_shapes, AreParts, HasParts};
+ghost use Rattle.tt_kinds.specs.Kinds.{ty_shape, arg_shape, vars_row_shape};
 ghost use Rattle.tt_interner.specs.Rows.{tys_row, args_row, vars_row, size, meaning, IsNew};
 ghost use Rattle.tt_interner.specs.Stored.{IsAt, IsInfo, Adds, Builds};
 
@@ -158,6 +158,7 @@ impl Interner {
 
     // Stores a new list.
     fn add_bound_vars(&mut self, items: &[BoundVariableKind]) -> Result<BoundVarKinds, Refusal>
+        requires parts { HasParts (size self.old.rows) (vars_row_shape items.now) }
         requires is_new { IsNew (vars_row items.now) self.old.rows }
         ensures { Adds result (λ list. list.number) self.old self.new (vars_row items.now) }
     {
@@ -176,11 +177,13 @@ impl Interner {
         Ok(BoundVarKinds::from_number(number))
     }
 
-    /// The list of these variables of a binder, in order.
+    /// The list of these variables of a binder, in order. The texts that they are called by have to be of this interner;
+    /// [`Interner::owns_bound_var`] tests it.
     ///
     /// It is refused with `TableFull` where the list is new and the table has as many rows as it may have, and with
     /// `Memory`.
     pub fn mk_bound_vars(&mut self, items: &[BoundVariableKind]) -> Result<BoundVarKinds, Refusal>
+        requires { HasParts (size self.old.rows) (vars_row_shape items.now) }
         ensures { Builds result (λ list. list.number) self.old self.new (vars_row items.now) }
     {
         self.are_rows();

@@ -1,22 +1,71 @@
-//! Whether handles are of an interner, as its calls require.
+//! Whether handles are of an interner, as its calls require. Handles of other interners aren't told apart.
 
 ghost use Rattle.std.specs.Prelude.{◌<◌, ◌↔◌, IsTrue};
-ghost use Rattle.tt_kinds.specs.Shape.{IsPart, HasParts};
-ghost use Rattle.tt_kinds.specs.Kinds.{region_shape, arg_shape, ty_kind_shape};
-ghost use Rattle.tt_interner.specs.Rows.{size};
+ghost use Rattle.tt_kinds.specs.Bound.{region_name, var_kind};
+ghost use Rattle.tt_kinds.specs.Shape.{IsPart, IsNamed, IsNamedKind};
+ghost use Rattle.tt_kinds.specs.Kinds.{region_shape, arg_shape};
+ghost use Rattle.tt_interner.specs.Rows.{size, IsClause};
 
 use super::Interner;
 use tt_kinds::{
-    BoundVarKinds, GenericArg, GenericArgKind, GenericArgs, Region, RegionKind, Symbol, Table, Ty,
-    TyKind, Tys,
+    BoundExistentialPredicates, BoundRegionKind, BoundVarKinds, BoundVariableKind, Clause, Clauses,
+    Const, Consts, GenericArg, GenericArgKind, GenericArgs, Pat, PatList, PolyExistentialPredicate,
+    Predicate, Region, RegionKind, Symbol, Table, Ty, Tys,
 };
 
 impl Interner {
-    /// Whether the number is that of a type. Handles of other interners aren't told apart.
+    /// Whether the number is that of a type.
     pub fn owns_ty(&self, ty: Ty) -> bool
         ensures { IsTrue result ↔ (ty.number < size self.now.rows Table.Types) }
     {
         (ty.number() as usize) < self.types.len()
+    }
+
+    /// Whether the number is that of a constant.
+    pub fn owns_const(&self, constant: Const) -> bool
+        ensures { IsTrue result ↔ (constant.number < size self.now.rows Table.Consts) }
+    {
+        (constant.number() as usize) < self.consts.len()
+    }
+
+    /// Whether the number is that of a pattern.
+    pub fn owns_pat(&self, pat: Pat) -> bool
+        ensures { IsTrue result ↔ (pat.number < size self.now.rows Table.Patterns) }
+    {
+        (pat.number() as usize) < self.patterns.len()
+    }
+
+    /// Whether the number is that of a predicate.
+    pub fn owns_predicate(&self, predicate: Predicate) -> bool
+        ensures { IsTrue result ↔ (predicate.number < size self.now.rows Table.Predicates) }
+    {
+        (predicate.number() as usize) < self.predicates.len()
+    }
+
+    /// Whether the number is that of a predicate that is a clause.
+    pub fn owns_clause(&self, clause: Clause) -> bool
+        ensures { IsTrue result ↔ IsClause self.now.rows clause.number }
+    {
+        self.are_rows();
+        let predicate = Predicate::from_number(clause.number());
+        if !self.owns_predicate(predicate) {
+            return false;
+        }
+        self.predicate_kind(predicate).skip_binder().is_clause()
+    }
+
+    /// Whether the number is that of an existential predicate under its binder.
+    pub fn owns_existential(&self, predicate: PolyExistentialPredicate) -> bool
+        ensures { IsTrue result ↔ (predicate.number < size self.now.rows Table.Existentials) }
+    {
+        (predicate.number() as usize) < self.existentials.len()
+    }
+
+    /// Whether the number is that of a list of clauses.
+    pub fn owns_clauses(&self, list: Clauses) -> bool
+        ensures { IsTrue result ↔ (list.number < size self.now.rows Table.ClauseLists) }
+    {
+        (list.number() as usize) < self.clause_lists.len()
     }
 
     /// Whether the number is that of a list of types.
@@ -26,11 +75,25 @@ impl Interner {
         (list.number() as usize) < self.type_lists.len()
     }
 
+    /// Whether the number is that of a list of constants.
+    pub fn owns_consts(&self, list: Consts) -> bool
+        ensures { IsTrue result ↔ (list.number < size self.now.rows Table.ConstLists) }
+    {
+        (list.number() as usize) < self.const_lists.len()
+    }
+
     /// Whether the number is that of a list of generic arguments.
     pub fn owns_args(&self, list: GenericArgs) -> bool
         ensures { IsTrue result ↔ (list.number < size self.now.rows Table.ArgLists) }
     {
         (list.number() as usize) < self.arg_lists.len()
+    }
+
+    /// Whether the number is that of a list of patterns.
+    pub fn owns_pat_list(&self, list: PatList) -> bool
+        ensures { IsTrue result ↔ (list.number < size self.now.rows Table.PatternLists) }
+    {
+        (list.number() as usize) < self.pattern_lists.len()
     }
 
     /// Whether the number is that of a list of a binder's variables.
@@ -40,11 +103,38 @@ impl Interner {
         (list.number() as usize) < self.var_lists.len()
     }
 
+    /// Whether the number is that of a list of existential predicates.
+    pub fn owns_existentials(&self, list: BoundExistentialPredicates) -> bool
+        ensures { IsTrue result ↔ (list.number < size self.now.rows Table.ExistentialLists) }
+    {
+        (list.number() as usize) < self.existential_lists.len()
+    }
+
     /// Whether the number is that of a text.
     pub fn owns_symbol(&self, symbol: Symbol) -> bool
         ensures { IsTrue result ↔ (symbol.number < size self.now.rows Table.Symbols) }
     {
         (symbol.number() as usize) < self.symbols.len()
+    }
+
+    /// Whether the text that a bound region is called by, if it is, is of this interner.
+    pub fn owns_region_name(&self, name: &BoundRegionKind) -> bool
+        ensures { IsTrue result ↔ IsNamed (size self.now.rows) (region_name name.now) }
+    {
+        match name {
+            BoundRegionKind::NamedForPrinting(symbol) => self.owns_symbol(*symbol),
+            _ => true,
+        }
+    }
+
+    /// Whether the text that a binder's variable is called by, if it is, is of this interner.
+    pub fn owns_bound_var(&self, var: &BoundVariableKind) -> bool
+        ensures { IsTrue result ↔ IsNamedKind (size self.now.rows) (var_kind var.now) }
+    {
+        match var {
+            BoundVariableKind::Region(name) => self.owns_region_name(name),
+            _ => true,
+        }
     }
 
     /// Whether the region's name, if it has one, is that of a text.
@@ -54,6 +144,11 @@ impl Interner {
     {
         match region.kind() {
             RegionKind::ReEarlyParam(param) => self.owns_symbol(param.name),
+            RegionKind::ReBound(_, bound) => self.owns_region_name(&bound.kind),
+            RegionKind::ReLateParam(param) => self.owns_region_name(&param.kind),
+            RegionKind::RePlaceholder(placeholder) => {
+                self.owns_region_name(&placeholder.bound.kind)
+            }
             _ => true,
         }
     }
@@ -66,24 +161,7 @@ impl Interner {
         match arg.kind() {
             GenericArgKind::Lifetime(region) => self.owns_region(&region),
             GenericArgKind::Type(ty) => self.owns_ty(ty),
-        }
-    }
-
-    /// Whether all that stands in the kind is of this interner.
-    #[tactic(auto, unfolding(tt_kinds::specs::Shape::IsPart))]
-    pub fn owns_kind(&self, kind: &TyKind) -> bool
-        ensures { IsTrue result ↔ HasParts (size self.now.rows) (ty_kind_shape kind.now) }
-    {
-        match kind {
-            TyKind::Param(param) => self.owns_symbol(param.name),
-            TyKind::Ref(region, ty, _) => self.owns_region(region) && self.owns_ty(*ty),
-            TyKind::RawPtr(ty, _) | TyKind::Slice(ty) => self.owns_ty(*ty),
-            TyKind::Tuple(tys) => self.owns_tys(*tys),
-            TyKind::FnPtr(types, _) => {
-                self.owns_bound_vars(types.bound_vars())
-                    && self.owns_tys(types.skip_binder().inputs_and_output)
-            }
-            _ => true,
+            GenericArgKind::Const(constant) => self.owns_const(constant),
         }
     }
 }

@@ -2,11 +2,37 @@
 
 use tt_index::{BoundVar, DebruijnIndex, FloatTy, IntTy, Mutability, RegionVid, UintTy};
 use tt_kinds::{
-    BoundRegion, BoundTy, BoundVarIndexKind, BoundVariableKind, ErrorGuaranteed, FnHeader, InferTy,
+    BoundTy, BoundTyKind, BoundVarIndexKind, DefId, ErrorGuaranteed, FnHeader, InferTy,
     PlaceholderType,
 };
 
-/// A region of a call. It names what [`RegionKind`](tt_kinds::RegionKind) names, a symbol by its text.
+/// What a bound region of a call is called. It is what [`BoundRegionKind`](tt_kinds::BoundRegionKind) is, with a symbol as
+/// its text.
+#[derive(Debug, PartialEq, Eq, Drop)]
+pub enum RegionNameCall {
+    /// It has no name.
+    Anon,
+    /// It has no declaration, and is printed by this name.
+    NamedForPrinting(String),
+    /// It is declared.
+    Named(DefId),
+    /// The region of a closure's own environment.
+    ClosureEnv,
+}
+
+/// A variable of a binder of a call. It is what [`BoundVariableKind`](tt_kinds::BoundVariableKind) is, with a symbol as its
+/// text.
+#[derive(Debug, PartialEq, Eq, Drop)]
+pub enum VariableCall {
+    /// It stands for a type.
+    Ty(BoundTyKind),
+    /// It stands for a region.
+    Region(RegionNameCall),
+    /// It stands for a constant.
+    Const,
+}
+
+/// A region of a call. It names such a [`RegionKind`](tt_kinds::RegionKind), a symbol by its text.
 #[derive(Debug, PartialEq, Eq, Drop)]
 pub enum RegionCall {
     /// A region parameter of an item.
@@ -16,8 +42,9 @@ pub enum RegionCall {
         /// Its name.
         name: String,
     },
-    /// A region that a binder binds. A call with a bound index at the greatest one is refused.
-    ReBound(BoundVarIndexKind, BoundRegion),
+    /// A region that a binder binds: its binder, its place in the binder's list, and what it is called. A call with a bound
+    /// index at the greatest one is refused.
+    ReBound(BoundVarIndexKind, BoundVar, RegionNameCall),
     /// `'static`.
     ReStatic,
     /// A region variable of inference.
@@ -28,7 +55,7 @@ pub enum RegionCall {
     ReError(ErrorGuaranteed),
 }
 
-/// A type to be built. It is what [`TyKind`](tt_kinds::TyKind) is, with a symbol as its text and, in the place of a
+/// A type to be built. It is such a [`TyKind`](tt_kinds::TyKind), with a symbol as its text and, in the place of a
 /// handle, the position of the call that answered it, counted from 1.
 #[derive(Debug, PartialEq, Eq, Drop)]
 pub enum TyCall {
@@ -72,7 +99,7 @@ pub enum TyCall {
     /// A function pointer.
     FnPtr {
         /// The variables of its binder.
-        vars: Vec<BoundVariableKind>,
+        vars: Vec<VariableCall>,
         /// The types of the inputs in order, then that of the output.
         inputs_and_output: Vec<u32>,
         /// What its signature says beside the types.

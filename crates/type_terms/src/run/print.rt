@@ -1,25 +1,29 @@
 //! The lines that are printed.
 
 use crate::run::answer::Answer;
+use itoa::Buffer;
 use std::alloc::AllocError;
 use tt_index::Refusal;
 
 /// Adds the line of the answer to the call of this number.
 pub fn print_answer(output: &mut String, number: usize, answer: &Answer) -> Result<(), AllocError> {
+    // The formatter would take as long as all other work on a short line.
+    output.push_str(Buffer::new().format(number))?;
     match answer {
-        Answer::Ty(_) => writeln!(output, "{number}: ok"),
-        Answer::Truth(true) => writeln!(output, "{number}: yes"),
-        Answer::Truth(false) => writeln!(output, "{number}: no"),
+        Answer::Ty(_) => output.push_str(": ok\n"),
+        Answer::Truth(true) => output.push_str(": yes\n"),
+        Answer::Truth(false) => output.push_str(": no\n"),
         Answer::Info { flags, outer } => {
             let bits = flags.bits();
             let outer = outer.as_u32();
-            writeln!(output, "{number}: flags {bits:08X} outer {outer}")
+            writeln!(output, ": flags {bits:08X} outer {outer}")
         }
         Answer::Refused(refusal) => {
-            let name = refusal_name(refusal);
-            writeln!(output, "{number}: refused {name}")
+            output.push_str(": refused ")?;
+            output.push_str(refusal_name(refusal))?;
+            output.push_str("\n")
         }
-        Answer::Bad => writeln!(output, "{number}: bad line"),
+        Answer::Bad => output.push_str(": bad line\n"),
     }
 }
 

@@ -3,12 +3,12 @@
 ghost use Rattle.std.specs.Prelude.{◌≤◌, IfOk};
 ghost use Rattle.tt_index.specs.Greatest.{greatest};
 
-use crate::run::call::RegionCall;
+use crate::run::call::{RegionCall, RegionNameCall};
 use crate::run::line::LineError;
 use crate::run::number::parse_number;
 use std::alloc::{AllocError, Global};
 use tt_index::{BoundVar, DebruijnIndex, GREATEST_INDEX, RegionVid};
-use tt_kinds::{BoundRegion, BoundRegionKind, BoundVarIndexKind, ErrorGuaranteed};
+use tt_kinds::{BoundVarIndexKind, ErrorGuaranteed};
 
 /// The region of a word.
 pub fn parse_region(alloc: Global, word: &[u8]) -> Result<RegionCall, LineError> {
@@ -24,6 +24,7 @@ pub fn parse_region(alloc: Global, word: &[u8]) -> Result<RegionCall, LineError>
         [b'\'', b'c', b'.', digits @ ..] => Ok(RegionCall::ReBound(
             BoundVarIndexKind::Canonical,
             variable(digits)?,
+            RegionNameCall::Anon,
         )),
         [b'\'', b'e', digits @ ..] => {
             let token = parse_number(digits, u32::MAX).ok_or(LineError::Bad)?;
@@ -53,13 +54,14 @@ fn bound_region(numbers: &[u8]) -> Result<RegionCall, LineError> {
         .ok_or(LineError::Bad)?;
     let binder = DebruijnIndex::from_u32(index(&numbers[..point])?);
     let variable = variable(&numbers[point + 1..])?;
-    Ok(RegionCall::ReBound(BoundVarIndexKind::Bound(binder), variable))
+    Ok(RegionCall::ReBound(
+        BoundVarIndexKind::Bound(binder),
+        variable,
+        RegionNameCall::Anon,
+    ))
 }
 
-// The variable without a name of this number.
-fn variable(digits: &[u8]) -> Result<BoundRegion, LineError> {
-    Ok(BoundRegion {
-        var: BoundVar::from_u32(index(digits)?),
-        kind: BoundRegionKind::Anon,
-    })
+// The place of this number in a binder's list.
+fn variable(digits: &[u8]) -> Result<BoundVar, LineError> {
+    Ok(BoundVar::from_u32(index(digits)?))
 }

@@ -1,6 +1,8 @@
 //! The running of calls.
 
-ghost use Rattle.std.specs.Prelude.{◌≡◌, IfOk, IfErr, MatchResult, []};
+ghost use Rattle.std.specs.Prelude.{◌≡◌, ◌<◌, ◌∷◌, ◌++◌, IsOk, IfOk, IfErr, OnOk, OnErr, MatchResult, List, []};
+ghost use Rattle.std.specs.Vec.{vec_len, vec_capacity};
+ghost use Rattle.type_terms.specs.declared.run.call.Call.{Call};
 ghost use Rattle.tt_interner.specs.Stored.{Extends};
 ghost use Rattle.type_terms.specs.Told.{told, told_all, HasFullTable, IsOwned, AreOwned};
 ghost use Rattle.type_terms.specs.Means.{IsAllowed, Means};
@@ -25,10 +27,27 @@ pub fn run_calls(cx: &mut Interner, calls: &[Call]) -> Result<Vec<Answer>, Refus
 {
     let mut answers = Vec::with_capacity(cx.allocator(), calls.len())?;
     for call in calls {
-        let answer = answer_call(cx, answers.as_slice(), call);
-        answers.push(answer)?;
+        answer_next(cx, &mut answers, call)?;
     }
     Ok(answers)
+}
+
+/// Answers a call after these answers, and adds its answer to them. So calls can be answered as they come: where the
+/// answers are those of calls before this one, they are then those of all of the calls.
+///
+/// It is refused with `Memory`, and never otherwise, where the list of answers is full and cannot grow. The answers then stay.
+pub fn answer_next(cx: &mut Interner, answers: &mut Vec<Answer>, call: &Call) -> Result<(), Refusal>
+    requires { AreOwned cx.old.rows answers.old.items }
+    ensures extends { Extends cx.old cx.new }
+    ensures owned { AreOwned cx.new.rows answers.new.items }
+    ensures means { OnOk result ((before : List Call) → Means (HasFullTable cx.old) [] before (told_all cx.old.rows answers.old.items) → Means (HasFullTable cx.new) [] (before ++ call.now ∷ []) (told_all cx.new.rows answers.new.items)) }
+    ensures cause { IfErr result (λ e. e ≡ Refusal.Memory) }
+    ensures stay { OnErr result (answers.new.items ≡ answers.old.items) }
+    ensures room { vec_len answers.old < vec_capacity answers.old → IsOk result }
+{
+    let answer = answer_call(cx, answers.as_slice(), call);
+    answers.push(answer)?;
+    Ok(())
 }
 
 // The answer to a call after these answers.

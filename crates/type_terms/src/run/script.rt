@@ -1,11 +1,10 @@
 //! Scripts: a call a line.
 
 use crate::run::answer::Answer;
-use crate::run::call::Call;
 use crate::run::fault::Fault;
 use crate::run::line::parse_line;
 use crate::run::print::print_answer;
-use crate::run::runner::run_calls;
+use crate::run::runner::answer_next;
 use std::alloc::{AllocError, Global};
 use std::io::{ErrorKind, Read, Write};
 use tt_interner::Interner;
@@ -31,11 +30,9 @@ pub fn run_script<R: Read + Drop, W: Write + Drop>(
 fn answer_script<R: Read>(alloc: Global, input: &mut R) -> Result<String, Fault> {
     let script = read_script(alloc, input)?;
     let mut cx = Interner::new(alloc).map_err(|_| Fault::Memory)?;
-    let calls = parse_script(alloc, script.as_slice())?;
-    drop(script);
-    let answers = run_calls(&mut cx, calls.as_slice()).map_err(|_| Fault::Memory)?;
-    drop(calls);
+    let answers = answer_lines(&mut cx, script.as_slice())?;
     drop(cx);
+    drop(script);
     Ok(print_answers(alloc, answers.as_slice())?)
 }
 
@@ -63,17 +60,16 @@ fn read_script<R: Read>(alloc: Global, input: &mut R) -> Result<Vec<u8>, Fault> 
     Err(Fault::Input)
 }
 
-// The calls of the lines.
-pub(crate) fn parse_script(alloc: Global, script: &[u8]) -> Result<Vec<Call>, AllocError> {
-    // Room for all calls at once, so that their list isn't moved as it grows.
-    let lines = script.iter().filter(|byte| **byte == b'\n').count();
-    let mut calls = Vec::with_capacity(alloc, lines)?;
+// The answers to the calls of the lines, on a new interner. Each call is answered as it is read, so that none is kept.
+fn answer_lines(cx: &mut Interner, script: &[u8]) -> Result<Vec<Answer>, Fault> {
+    let alloc = cx.allocator();
+    let mut answers = Vec::new(alloc);
     for line in script.split_inclusive(|byte| *byte == b'\n') {
         if let Some(call) = parse_line(alloc, without_end(line))? {
-            calls.push(call)?;
+            answer_next(cx, &mut answers, &call).map_err(|_| Fault::Memory)?;
         }
     }
-    Ok(calls)
+    Ok(answers)
 }
 
 // The line without its line feed and the carriage return before it.

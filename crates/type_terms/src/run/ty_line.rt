@@ -1,6 +1,6 @@
 //! Lines that build types.
 
-use crate::run::call::TyCall;
+use crate::run::call::{RegionNameCall, TyCall, VariableCall};
 use crate::run::line::{LineError, number, position, positions};
 use crate::run::region_word::{anonymous, parse_region};
 use crate::run::words::Words;
@@ -10,8 +10,8 @@ use tt_index::{
     UniverseIndex,
 };
 use tt_kinds::{
-    BoundRegionKind, BoundTy, BoundTyKind, BoundVarIndexKind, BoundVariableKind, ErrorGuaranteed,
-    FnHeader, FnSigKind, InferTy, Placeholder,
+    BoundTy, BoundTyKind, BoundVarIndexKind, ErrorGuaranteed, FnHeader, FnSigKind, InferTy,
+    Placeholder,
 };
 
 /// The type of this first word and the further words of its line, as many of them as it takes.
@@ -110,10 +110,10 @@ fn fn_ptr(alloc: Global, words: &mut Words) -> Result<TyCall, LineError> {
 }
 
 // So many regions without names, as the variables of a binder.
-fn anonymous_regions(alloc: Global, count: u32) -> Result<Vec<BoundVariableKind>, LineError> {
+fn anonymous_regions(alloc: Global, count: u32) -> Result<Vec<VariableCall>, LineError> {
     let mut vars = Vec::new(alloc);
     for _ in 0..count {
-        vars.push(BoundVariableKind::Region(BoundRegionKind::Anon))?;
+        vars.push(VariableCall::Region(RegionNameCall::Anon))?;
     }
     Ok(vars)
 }

@@ -1,15 +1,27 @@
 //! Calls of the library.
 
-use crate::run::script::parse_script;
+use crate::run::line::parse_line;
 use crate::{
-    Answer, GenericArg, GenericArgs, Interner, Refusal, Region, RegionKind, RegionVid, run_calls,
+    Answer, Call, GenericArg, GenericArgs, Interner, Refusal, Region, RegionKind, RegionVid,
+    run_calls,
 };
-use std::alloc::Global;
+use std::alloc::{AllocError, Global};
 use std::test::Fail;
+
+// The calls of the lines.
+fn parse_calls(alloc: Global, lines: &str) -> Result<Vec<Call>, AllocError> {
+    let mut calls = Vec::new(alloc);
+    for line in lines.lines() {
+        if let Some(call) = parse_line(alloc, line.as_bytes())? {
+            calls.push(call)?;
+        }
+    }
+    Ok(calls)
+}
 
 // The answers to the calls of the lines.
 fn answer_all(alloc: Global, cx: &mut Interner, lines: &str) -> Result<Vec<Answer>, Fail> {
-    let calls = parse_script(alloc, lines.as_bytes())?;
+    let calls = parse_calls(alloc, lines)?;
     Ok(run_calls(cx, calls.as_slice())?)
 }
 

@@ -7,6 +7,7 @@ use Rattle.tt_fold.specs.Steps.{IsRefused, tree_by}
 use Rattle.tt_binder.specs.Arguments.{arguments}
 use Rattle.tt_binder.proofs.WalkLaws.{does, fails_up}
 use Rattle.tt_binder.proofs.PositionLaws.{few}
+use Rattle.tt_binder.proofs.ClauseLaws.{instance_keeps}
 use Rattle.tt_binder.proofs.InstanceLaws.{empty_err, empty_outcome, instance_back, instance_walked, param_refused, reason_empty, reason_refused}
 use Rattle.tt_binder.proofs.instantiate.instantiate_value.Goals as goal
 
@@ -31,12 +32,17 @@ returns-then-is_untouched-clause-result g c =
     (c.requires.value, instance_back (arguments c.args.cx.now.rows (g.S.SliceLike.items c.args.cx.now.rows c.args.args)) (tree_by g.T.TypeVisitable.shape c.args.cx.now.rows c.args.value) (record { no_param = left.0; hides = inr left.1 }))
 
 pub returns-in_err-folded-clause-descents : goal.returns-in_err-folded-clause-descents
-returns-in_err-folded-clause-descents g c = fails_up _ c.in_err-folded.ensures.outcome
+returns-in_err-folded-clause-descents g c = (fails_up _ c.in_err-folded.ensures.outcome).descents
+
+pub returns-in_err-folded-clause-shift_descents : goal.returns-in_err-folded-clause-shift_descents
+returns-in_err-folded-clause-shift_descents g c = (fails_up _ c.in_err-folded.ensures.outcome).shift_descents
 
 pub returns-in_err-folded-clause-result : goal.returns-in_err-folded-clause-result
 returns-in_err-folded-clause-result g c =
     let p = err_from_is_err_and c.from_residual.result c.from_residual.ensures.1 in
-    rw (p.1, p.2) (reason_refused c.fold_with.new.cx (arguments c.args.cx.now.rows (g.S.SliceLike.items c.args.cx.now.rows c.args.args)) _ _ (tree_by g.T.TypeVisitable.shape c.args.cx.now.rows c.args.value) _ (ap (λ folder. record { args = arguments c.args.cx.now.rows (g.S.SliceLike.items c.args.cx.now.rows folder.args); binders_passed = folder.binders_passed }) c.new-folder.ensures) c.in_err-folded.ensures.outcome)
+    rw (p.1, p.2) (reason_refused c.fold_with.new.cx (arguments c.args.cx.now.rows (g.S.SliceLike.items c.args.cx.now.rows c.args.args)) _ _ (tree_by g.T.TypeVisitable.shape c.args.cx.now.rows c.args.value) _ (ap (λ folder. record { args = arguments c.args.cx.now.rows (g.S.SliceLike.items c.args.cx.now.rows folder.args); binders_passed = folder.binders_passed }) c.new-folder.ensures)
+    (instance_keeps c.args.cx.now.rows c.are_rows.ensures.are (g.S.SliceLike.items c.args.cx.now.rows c.args.args) c.is_empty.ensures.are (g.T.TypeVisitable.shape c.args.value) c.requires.value)
+    c.in_err-folded.ensures.outcome)
 
 pub returns-in_err-folded-clause-parameter : goal.returns-in_err-folded-clause-parameter
 returns-in_err-folded-clause-parameter g c =
@@ -44,7 +50,10 @@ returns-in_err-folded-clause-parameter g c =
     λ s i name is. rw (p.1, p.2) (param_refused (IsRefused c.fold_with.new.cx) (arguments c.args.cx.now.rows (g.S.SliceLike.items c.args.cx.now.rows c.args.args)) c.in_err-folded.ensures.outcome (ap (λ folder. record { args = arguments c.args.cx.now.rows (g.S.SliceLike.items c.args.cx.now.rows folder.args); binders_passed = folder.binders_passed }) c.new-folder.ensures) s i name is)
 
 pub returns-clause-descents : goal.returns-clause-descents
-returns-clause-descents g c = (does c.in_ok-folded.ensures.outcome.2).stays.descents
+returns-clause-descents g c = (does c.in_ok-folded.ensures.outcome.2).stays.rises.descents
+
+pub returns-clause-shift_descents : goal.returns-clause-shift_descents
+returns-clause-shift_descents g c = (does c.in_ok-folded.ensures.outcome.2).stays.rises.shift_descents
 
 pub returns-clause-result : goal.returns-clause-result
 returns-clause-result g c =

@@ -3,7 +3,9 @@ use Rattle.tt_kinds.specs.Reading.{read, outer_binder}
 use Rattle.tt_kinds.specs.Plain.{shift_tree}
 use Rattle.tt_kinds.proofs.ReadingLaws.{read-shift_tree}
 use Rattle.tt_fold.specs.Steps.{tree_by}
+use Rattle.tt_fold.proofs.ClauseLaws.{value_keeps}
 use Rattle.tt_fold.proofs.ShiftLaws.{shift_outcome, stays, closed}
+use Rattle.tt_fold.proofs.MovingLaws.{few_outcome}
 use Rattle.tt_fold.proofs.shift.shift_vars.Goals.{then-amount-eq0-via-then-amount-eq0, then-amount-eq0-via-else-amount-eq0+then-not-has_escaping_bound_vars}
 use Rattle.tt_fold.proofs.shift.shift_vars.Goals as goal
 
@@ -23,13 +25,19 @@ returns-then-amount-eq0-clause-plain g c =
     ap (read 0) same ∙ read-shift_tree c.args.amount 0 t
 
 pub returns-clause-plain : goal.returns-clause-plain
-returns-clause-plain g c = (shift_outcome c.args.amount c.fold_with.result refl c.fold_with.ensures).plain
+returns-clause-plain g c = (shift_outcome c.args.amount c.fold_with.result refl (value_keeps _ c.are_rows.ensures.are (g.T.TypeVisitable.shape c.args.value) c.requires) c.fold_with.ensures).plain
 
 pub returns-clause-tree : goal.returns-clause-tree
-returns-clause-tree g c = (shift_outcome c.args.amount c.fold_with.result refl c.fold_with.ensures).tree
+returns-clause-tree g c = (shift_outcome c.args.amount c.fold_with.result refl (value_keeps _ c.are_rows.ensures.are (g.T.TypeVisitable.shape c.args.value) c.requires) c.fold_with.ensures).tree
 
 pub returns-clause-err : goal.returns-clause-err
-returns-clause-err g c = (shift_outcome c.args.amount c.fold_with.result refl c.fold_with.ensures).err
+returns-clause-err g c = (shift_outcome c.args.amount c.fold_with.result refl (value_keeps _ c.are_rows.ensures.are (g.T.TypeVisitable.shape c.args.value) c.requires) c.fold_with.ensures).err
 
 pub returns-clause-descents : goal.returns-clause-descents
-returns-clause-descents g c = (shift_outcome c.args.amount c.fold_with.result refl c.fold_with.ensures).descents
+returns-clause-descents g c = (shift_outcome c.args.amount c.fold_with.result refl (value_keeps _ c.are_rows.ensures.are (g.T.TypeVisitable.shape c.args.value) c.requires) c.fold_with.ensures).descents
+
+pub returns-clause-shift_descents : goal.returns-clause-shift_descents
+returns-clause-shift_descents g c = (shift_outcome c.args.amount c.fold_with.result refl (value_keeps _ c.are_rows.ensures.are (g.T.TypeVisitable.shape c.args.value) c.requires) c.fold_with.ensures).up
+
+pub returns-clause-positions : goal.returns-clause-positions
+returns-clause-positions g c = few_outcome g.T.TypeVisitable.shape c.args.amount c.fold_with.result refl c.fold_with.ensures

@@ -4,50 +4,58 @@ use Rattle.tt_kinds.specs.Parts.{list_sort, child_sort, IsItem}
 use Rattle.tt_kinds.specs.Shape.{IsTooDeep}
 use Rattle.tt_kinds.specs.Kinds.{kind_form, kind_sort, kind_shape, child_shapes}
 use Rattle.tt_interner.specs.Children.{children_at}
-use Rattle.tt_interner.proofs.Growth.{Extends-refl, Extends-trans}
+use Rattle.tt_interner.proofs.Growth.{Extends-refl, Extends-trans, age-grows, IsPart-grows, AreParts-grows, fill-grows, children_at-grows}
 use Rattle.tt_fold.specs.Parts.{child_weight}
 use Rattle.tt_fold.specs.Walk.{replaced, kept, term_failed, in_enter_failed}
-use Rattle.tt_fold.proofs.Growth.{age-grows, part-grows, parts-grow, tree-grows, children-grow}
 use Rattle.tt_fold.proofs.PartLaws.{in_range, only_part, left_parts, right_parts, vars-kept, binder-kept, weight-grows, weights-grow}
-use Rattle.tt_fold.proofs.FormLaws.{nameless, same-sort, is_inner, not-deep, form-parts, form-binder, form-older, refilled-parts, item-older, item-part, item-fits}
-use Rattle.tt_fold.proofs.FoldSteps.{node_is_kind, node_is_term, stands-still, stored_list, stored_list_tree, list_is_node, memory_unbuilt, stored_node, stored_node_tree, not_stored, inside_leaf, inside_fails, inside_not_built, inside_rebuilt, descend_ends, descend_fails, node_descends, open_contents, under_parts_fail, under_leave_fails, under_folds, parts_first_fails, parts_second_fails, parts_fold, child_absent, child_region_fails, child_region, child_node_fails, child_node, child_list_fails, child_list, so_far_none, so_far_more, so_far_item_fails, so_far_stops, so_far_not_stored, so_far_stored}
+use Rattle.tt_fold.proofs.FormLaws.{form-labels, same-sort, is_inner, not-deep, form-parts, form-binder, form-older, refilled-parts, item-older, item-part, item-fits}
+use Rattle.tt_fold.proofs.FoldSteps.{node_is_kind, stands-still, stored_list, stored_list_tree, list_is_items, memory_unbuilt, stored_node, stored_node_tree, not_stored, inside_leaf, inside_fails, inside_not_built, inside_rebuilt, descend_ends, descend_fails, node_descends, open_contents, under_parts_fail, under_leave_fails, under_folds, parts_first_fails, parts_second_fails, parts_fold, child_absent, child_region_fails, child_region, child_node_fails, child_node, child_list_fails, child_list, node_passed, so_far_none, so_far_more, items_one_fails, items_stop, items_fold, listed_fails, listed_not_stored, listed_stored, list_folds, clauses_fail, clauses_fold, clauses_node_fails, clauses_node, node_is_term, node_is_passed, other_node, other_list}
 use Rattle.tt_fold.proofs.walk.+fold.Goals as goal
 
-pub fold_node-node_kind-kind-requires : goal.fold_node-node_kind-kind-requires
-fold_node-node_kind-kind-requires g t c =
-    in_range _ _ _ c.requires.node
+pub fold_node-fold_inside-requires : goal.fold_node-fold_inside-requires
+fold_node-fold_inside-requires g t c κs within =
+    (omega arith, (within.0, (within.1.0, (within.1.1, (c.requires.owned, c.requires.node)))))
+
+pub fold_node-returns-then-not-is_hooked : goal.fold_node-returns-then-not-is_hooked
+fold_node-returns-then-not-is_hooked g t c =
+    node_passed (node_is_passed _ _ c.requires.node (c.if-not-is_hooked.ensures.passed refl)) c.fold_inside.ensures
+
+pub fold_node-core_term-requires-clause-hooked : goal.fold_node-core_term-requires-clause-hooked
+fold_node-core_term-requires-clause-hooked g t c =
+    c.if-not-is_hooked.ensures.hooked refl
 
 pub fold_node-returns-in_err-step : goal.fold_node-returns-in_err-step
 fold_node-returns-in_err-step g t c =
     let p = err_from_is_err_and c.from_residual.result c.from_residual.ensures.1 in
-    let is = node_is_term _ _ c.node_kind-kind.result c.node_kind-kind.ensures.means in
+    let is = node_is_term _ _ c.requires.node (c.if-not-is_hooked.ensures.hooked refl) in
     rw (p.1, p.2) (record { extends = c.in_err-step.ensures.extends; outcome = term_failed is c.in_err-step.ensures.outcome })
 
 pub fold_node-descend-requires : goal.fold_node-descend-requires
 fold_node-descend-requires g t c κs within =
     let h = c.in_ok-step.ensures in
-    let same = age-grows h.extends.rows _ _ (in_range _ _ _ c.requires.node) in
-    (omega (arith, same), (within.0, (within.1.0, (within.1.1, (h.outcome.0, part-grows h.extends.rows _ c.requires.node)))))
+    let same = age-grows _ _ h.extends.rows _ _ (in_range _ _ _ c.requires.node) in
+    let hooked = c.if-not-is_hooked.ensures.hooked refl in
+    (omega (arith, same), (within.0, (within.1.0, (within.1.1, (h.outcome.0, (IsPart-grows _ _ h.extends.rows _ c.requires.node, hooked))))))
 
 pub fold_node-returns-in-Replace : goal.fold_node-returns-in-Replace
 fold_node-returns-in-Replace g t c =
-    let is = node_is_term _ _ c.node_kind-kind.result c.node_kind-kind.ensures.means in
+    let is = node_is_term _ _ c.requires.node (c.if-not-is_hooked.ensures.hooked refl) in
     let h = rw c.in-Replace.is at c.in_ok-step.ensures.outcome in
     record { extends = c.in_ok-step.ensures.extends; outcome = (h.0, h.1.0, replaced is h.1.1) }
 
 pub fold_node-returns-in-Keep : goal.fold_node-returns-in-Keep
 fold_node-returns-in-Keep g t c =
-    let is = node_is_term _ _ c.node_kind-kind.result c.node_kind-kind.ensures.means in
+    let is = node_is_term _ _ c.requires.node (c.if-not-is_hooked.ensures.hooked refl) in
     let h = rw c.in-Keep.is at c.in_ok-step.ensures.outcome in
     let extends = c.in_ok-step.ensures.extends in
     record {
       extends = extends;
-      outcome = (h.0, record { owned = part-grows extends.rows _ c.requires.node; like = refl }, rw (tree-grows extends.rows _ c.requires.node) (kept is h.1.1));
+      outcome = (h.0, record { owned = IsPart-grows _ _ extends.rows _ c.requires.node; like = refl }, rw (fill-grows _ _ extends.rows _ c.requires.node) (kept is h.1.1));
     }
 
 pub fold_node-returns-in-Descend : goal.fold_node-returns-in-Descend
 fold_node-returns-in-Descend g t c =
-    let is = node_is_term _ _ c.node_kind-kind.result c.node_kind-kind.ensures.means in
+    let is = node_is_term _ _ c.requires.node (c.if-not-is_hooked.ensures.hooked refl) in
     let h = rw c.in-Descend.is at c.in_ok-step.ensures.outcome in
     node_descends c.in_ok-step.ensures.extends c.requires.node is h.1.1 c.descend.ensures
 
@@ -60,17 +68,17 @@ descend-returns-in_err-rebuilt g t c =
     let p = err_from_is_err_and c.from_residual.result c.from_residual.ensures.1 in
     rw (p.1, p.2) (descend_fails c.in_err-rebuilt.ensures)
 
-pub descend-end-requires-clause-before : goal.descend-end-requires-clause-before
-descend-end-requires-clause-before g t c =
-    part-grows c.in_ok-rebuilt.ensures.extends.rows _ c.requires.node
+pub descend-core_after_term-requires-clause-before : goal.descend-core_after_term-requires-clause-before
+descend-core_after_term-requires-clause-before g t c =
+    IsPart-grows _ _ c.in_ok-rebuilt.ensures.extends.rows _ c.requires.node
 
 pub descend-returns : goal.descend-returns
 descend-returns g t c =
-    descend_ends c.requires.node c.in_ok-rebuilt.ensures c.end.ensures
+    descend_ends c.requires.node c.in_ok-rebuilt.ensures c.core_after_term.ensures
 
 pub fold_inside-node_kind-kind-requires : goal.fold_inside-node_kind-kind-requires
 fold_inside-node_kind-kind-requires g t c =
-    in_range _ _ _ c.requires.node
+    record { owned = in_range _ _ _ c.requires.node; has_kind = other_node c.args.node c.in_default.not-Clauses }
 
 pub fold_inside-returns-then-is_leaf : goal.fold_inside-returns-then-is_leaf
 fold_inside-returns-then-is_leaf g t c =
@@ -96,7 +104,7 @@ fold_inside-store-requires g t c =
     let binder = form-binder _ (kind_sort c.node_kind-kind.result) (kind_form c.node_kind-kind.result) c.node_kind-kind.ensures.parts in
     let still = binder-kept c.fold_contents.ensures.extends.rows _ binder in
     let sort = same-sort c.with_parts.result c.node_kind-kind.result c.with_parts.ensures.table in
-    rw (sort, c.with_parts.ensures.form) (refilled-parts _ (kind_sort c.node_kind-kind.result) _ (kind_form c.node_kind-kind.result) (nameless c.node_kind-kind.result) (is_inner c.node_kind-kind.result c.if-is_leaf.ensures.1) still c.in_ok-parts.ensures.outcome.1.owned)
+    rw (sort, c.with_parts.ensures.form) (refilled-parts _ _ (kind_sort c.node_kind-kind.result) _ (kind_form c.node_kind-kind.result) (form-labels _ _ c.fold_contents.ensures.extends.rows (kind_sort c.node_kind-kind.result) (kind_form c.node_kind-kind.result) c.node_kind-kind.ensures.parts) (is_inner c.node_kind-kind.result c.if-is_leaf.ensures.1) still c.in_ok-parts.ensures.outcome.1.owned)
 
 pub fold_inside-returns-in_err-rebuilt : goal.fold_inside-returns-in_err-rebuilt
 fold_inside-returns-in_err-rebuilt g t c =
@@ -109,7 +117,7 @@ fold_inside-returns-in_err-rebuilt g t c =
     let h = c.in_err-rebuilt.ensures.builds in
     let shallow : IsTooDeep (kind_shape c.with_parts.result) → ⊥ = rw (sort, c.with_parts.ensures.form) (not-deep (kind_sort c.node_kind-kind.result) c.in_ok-parts.parts (kind_form c.node_kind-kind.result) inner) in
     let cause = not_stored c.fold_contents.new.cx c.with_parts.result _ shallow h.cause in
-    rw p.1 (inside_not_built c.node_kind-kind.result c.with_parts.result tree (nameless c.node_kind-kind.result) inner binder c.with_parts.ensures.form sort f h.err (c.in_err-rebuilt.field-0.0, (p.2, rw h.err cause)))
+    rw p.1 (inside_not_built c.node_kind-kind.result c.with_parts.result tree c.node_kind-kind.ensures.parts inner binder c.with_parts.ensures.form sort f h.err (c.in_err-rebuilt.field-0.0, (p.2, rw h.err cause)))
 
 pub fold_inside-returns : goal.fold_inside-returns
 fold_inside-returns g t c =
@@ -121,7 +129,7 @@ fold_inside-returns g t c =
     let h = c.in_ok-rebuilt.ensures in
     let o = c.in_ok-parts.ensures.outcome.0 in
     let grows = h.builds.grows in
-    inside_rebuilt c.node_kind-kind.result c.with_parts.result tree (nameless c.node_kind-kind.result) inner binder c.with_parts.ensures.form sort f (record { rows = grows; limit = h.builds.limit })
+    inside_rebuilt c.node_kind-kind.result c.with_parts.result tree c.node_kind-kind.ensures.parts inner binder c.with_parts.ensures.form sort f (record { rows = grows; limit = h.builds.limit })
     (g.met.F.Core.still_owned _ _ _ grows o)
     (stands-still g.F.Core.meaning c.fold_contents.new.cx c.store.new.self c.fold_contents.new.folder (g.met.F.Core.still_means _ _ _ grows o) h.builds.counters)
     (stored_node _ _ _ c.with_parts.result h.builds.in_range h.table (c.with_parts.ensures.table ∙ c.node_kind-kind.ensures.table))
@@ -148,7 +156,7 @@ pub fold_under-fold_parts-requires : goal.fold_under-fold_parts-requires
 fold_under-fold_parts-requires g t c κs within =
     let h = c.in_ok-core_enter.ensures in
     let same = weights-grow h.extends.rows _ c.requires.parts in
-    (omega (arith, same), (within.0, (within.1.0, (within.1.1, (h.result.0, parts-grow h.extends.rows _ c.requires.parts)))))
+    (omega (arith, same), (within.0, (within.1.0, (within.1.1, (h.result.0, AreParts-grows _ _ h.extends.rows _ c.requires.parts)))))
 
 pub fold_under-returns-in_err-new_parts : goal.fold_under-returns-in_err-new_parts
 fold_under-returns-in_err-new_parts g t c =
@@ -187,7 +195,7 @@ fold_parts-fold_child-requires-2 g t c κs within =
     let a = c.in_ok-first.ensures in
     let second = right_parts _ (child_shapes c.args.parts.first) (child_shapes c.args.parts.second) c.requires.parts in
     let same = weight-grows a.extends.rows _ second in
-    (omega (arith, same), (within.0, (within.1.0, (within.1.1, (a.outcome.0, parts-grow a.extends.rows _ second)))))
+    (omega (arith, same), (within.0, (within.1.0, (within.1.1, (a.outcome.0, AreParts-grows _ _ a.extends.rows _ second)))))
 
 pub fold_parts-returns-in_err-second : goal.fold_parts-returns-in_err-second
 fold_parts-returns-in_err-second g t c =
@@ -247,71 +255,104 @@ pub fold_child-returns-in_ok-new_list-in-List : goal.fold_child-returns-in_ok-ne
 fold_child-returns-in_ok-new_list-in-List g t c =
     child_list c.in-List.is c.in_ok-new_list-in-List.ensures
 
-pub fold_list-list_len-i-end-requires : goal.fold_list-list_len-i-end-requires
-fold_list-list_len-i-end-requires g t c =
+pub fold_listed-fold_items-requires : goal.fold_listed-fold_items-requires
+fold_listed-fold_items-requires g t c κs within =
+    (omega arith, (within.0, (within.1.0, (within.1.1, (c.requires.owned, c.requires.list)))))
+
+pub fold_listed-returns-in_err-items : goal.fold_listed-returns-in_err-items
+fold_listed-returns-in_err-items g t c =
+    let p = err_from_is_err_and c.from_residual.result c.from_residual.ensures.1 in
+    rw (p.1, p.2) (listed_fails c.in_err-items.ensures)
+
+pub fold_listed-returns-in_err-new_list : goal.fold_listed-returns-in_err-new_list
+fold_listed-returns-in_err-new_list g t c =
+    let p = err_from_is_err_and c.from_residual-in_err-new_list.result c.from_residual-in_err-new_list.ensures.1 in
+    let h = rw (c.sort.ensures, c.as_slice.ensures) at c.in_err-new_list.ensures in
+    rw p.1 (listed_not_stored c.in_ok-items.ensures h.err (c.in_err-new_list.field-0.0, (p.2, rw h.err h.cause)))
+
+pub fold_listed-returns : goal.fold_listed-returns
+fold_listed-returns g t c =
+    let h = rw (c.sort.ensures, c.as_slice.ensures) at c.in_ok-new_list.ensures in
+    let o = c.in_ok-items.ensures.outcome.0 in
+    listed_stored c.in_ok-items.ensures h.extends (g.met.F.Core.still_owned _ _ _ h.extends.rows o)
+    (stands-still g.F.Core.meaning c.fold_items.new.cx c.store_list.new.self c.fold_items.new.folder (g.met.F.Core.still_means _ _ _ h.extends.rows o) h.counters)
+    (stored_list _ _ _ h.sort h.in_range) h.sort (stored_list_tree _ _ _ h.sort ∙ h.means)
+
+pub fold_items-list_len-i-end-requires : goal.fold_items-list_len-i-end-requires
+fold_items-list_len-i-end-requires g t c =
     in_range _ _ _ c.requires.list
 
-pub fold_list-loop-i-init : goal.fold_list-loop-i-init
-fold_list-loop-i-init g t c =
+pub fold_items-loop-i-init : goal.fold_items-loop-i-init
+fold_items-loop-i-init g t c =
     so_far_none (Extends-refl _) c.requires.owned c.new-items.ensures.items
 
-pub fold_list-list_child-item-requires-clause-owned : goal.fold_list-list_child-item-requires-clause-owned
-fold_list-list_child-item-requires-clause-owned g t c =
-    in_range _ _ _ (part-grows c.loop-i.invariant.extends.rows _ c.requires.list)
+pub fold_items-list_child-item-requires-clause-owned : goal.fold_items-list_child-item-requires-clause-owned
+fold_items-list_child-item-requires-clause-owned g t c =
+    in_range _ _ _ (IsPart-grows _ _ c.loop-i.invariant.extends.rows _ c.requires.list)
 
-pub fold_list-list_child-item-requires-clause-inside : goal.fold_list-list_child-item-requires-clause-inside
-fold_list-list_child-item-requires-clause-inside g t c =
-    let same = children-grow c.loop-i.invariant.extends.rows c.args.list (in_range _ _ _ c.requires.list) in
+pub fold_items-list_child-item-requires-clause-inside : goal.fold_items-list_child-item-requires-clause-inside
+fold_items-list_child-item-requires-clause-inside g t c =
+    let same = children_at-grows _ _ c.loop-i.invariant.extends.rows c.args.list (in_range _ _ _ c.requires.list) in
     let lt = rw c.list_len-i-end.ensures.len at c.loop-i-test.true in
     rw same lt
 
-pub fold_list-fold_child-requires : goal.fold_list-fold_child-requires
-fold_list-fold_child-requires g t c κs within =
-    let is_x = rw (children-grow c.loop-i.invariant.extends.rows c.args.list (in_range _ _ _ c.requires.list)) at c.list_child-item.ensures in
+pub fold_items-fold_child-requires : goal.fold_items-fold_child-requires
+fold_items-fold_child-requires g t c κs within =
+    let is_x = rw (children_at-grows _ _ c.loop-i.invariant.extends.rows c.args.list (in_range _ _ _ c.requires.list)) at c.list_child-item.ensures in
     let part = item-part _ (children_at c.args.cx.now.rows c.args.list) c.loop-i.i _ is_x c.list_len-i-end.ensures.parts in
     let low = item-older _ _ (children_at c.args.cx.now.rows c.args.list) c.loop-i.i _ is_x c.list_len-i-end.ensures.older in
     let same = weight-grows c.loop-i.invariant.extends.rows _ part in
-    (omega (arith, low, same), (within.0, (within.1.0, (within.1.1, (c.loop-i.invariant.is_owned, parts-grow c.loop-i.invariant.extends.rows _ part)))))
+    (omega (arith, low, same), (within.0, (within.1.0, (within.1.1, (c.loop-i.invariant.is_owned, AreParts-grows _ _ c.loop-i.invariant.extends.rows _ part)))))
 
-pub fold_list-returns-in_err-folded : goal.fold_list-returns-in_err-folded
-fold_list-returns-in_err-folded g t c =
+pub fold_items-returns-in_err-folded : goal.fold_items-returns-in_err-folded
+fold_items-returns-in_err-folded g t c =
     let p = err_from_is_err_and c.from_residual.result c.from_residual.ensures.1 in
-    let is_x = rw (children-grow c.loop-i.invariant.extends.rows c.args.list (in_range _ _ _ c.requires.list)) at c.list_child-item.ensures in
+    let is_x = rw (children_at-grows _ _ c.loop-i.invariant.extends.rows c.args.list (in_range _ _ _ c.requires.list)) at c.list_child-item.ensures in
     let part = item-part _ (children_at c.args.cx.now.rows c.args.list) c.loop-i.i _ is_x c.list_len-i-end.ensures.parts in
-    let tree = list_is_node _ c.args.list (children_at c.args.cx.now.rows c.args.list) c.list_len-i-end.ensures.means in
-    rw (p.1, p.2) (so_far_item_fails (children_at c.args.cx.now.rows c.args.list) tree c.loop-i.invariant is_x part c.in_err-folded.ensures)
+    let tree = list_is_items _ c.args.list (children_at c.args.cx.now.rows c.args.list) c.list_len-i-end.ensures.means in
+    rw (p.1, p.2) (items_one_fails tree c.loop-i.invariant is_x part c.in_err-folded.ensures)
 
-pub fold_list-returns-in_err-push : goal.fold_list-returns-in_err-push
-fold_list-returns-in_err-push g t c =
+pub fold_items-returns-in_err-push : goal.fold_items-returns-in_err-push
+fold_items-returns-in_err-push g t c =
     let p = err_from_is_err_and c.from_residual-in_err-push.result c.from_residual-in_err-push.ensures.1 in
-    let is_x = rw (children-grow c.loop-i.invariant.extends.rows c.args.list (in_range _ _ _ c.requires.list)) at c.list_child-item.ensures in
+    let is_x = rw (children_at-grows _ _ c.loop-i.invariant.extends.rows c.args.list (in_range _ _ _ c.requires.list)) at c.list_child-item.ensures in
     let part = item-part _ (children_at c.args.cx.now.rows c.args.list) c.loop-i.i _ is_x c.list_len-i-end.ensures.parts in
-    let tree = list_is_node _ c.args.list (children_at c.args.cx.now.rows c.args.list) c.list_len-i-end.ensures.means in
+    let tree = list_is_items _ c.args.list (children_at c.args.cx.now.rows c.args.list) c.list_len-i-end.ensures.means in
     let fit = item-fits (λ x. IsItem (list_sort c.args.list) (child_sort x)) (children_at c.args.cx.now.rows c.args.list) c.loop-i.i _ is_x c.list_len-i-end.ensures.fit in
-    rw p.1 (so_far_stops (children_at c.args.cx.now.rows c.args.list) tree (so_far_more c.loop-i.invariant is_x part fit c.in_ok-folded.ensures refl)
+    rw p.1 (items_stop tree (so_far_more c.loop-i.invariant is_x part fit c.in_ok-folded.ensures refl)
     (λ u. (c.in_err-push.field-0.0, (p.2, memory_unbuilt c.fold_child.new.cx u _ c.in_err-push.ensures.memory))))
 
-pub fold_list-loop-i-preserved : goal.fold_list-loop-i-preserved
-fold_list-loop-i-preserved g t c =
-    let is_x = rw (children-grow c.loop-i.invariant.extends.rows c.args.list (in_range _ _ _ c.requires.list)) at c.list_child-item.ensures in
+pub fold_items-loop-i-preserved : goal.fold_items-loop-i-preserved
+fold_items-loop-i-preserved g t c =
+    let is_x = rw (children_at-grows _ _ c.loop-i.invariant.extends.rows c.args.list (in_range _ _ _ c.requires.list)) at c.list_child-item.ensures in
     let part = item-part _ (children_at c.args.cx.now.rows c.args.list) c.loop-i.i _ is_x c.list_len-i-end.ensures.parts in
     let fit = item-fits (λ x. IsItem (list_sort c.args.list) (child_sort x)) (children_at c.args.cx.now.rows c.args.list) c.loop-i.i _ is_x c.list_len-i-end.ensures.fit in
     so_far_more c.loop-i.invariant is_x part fit c.in_ok-folded.ensures c.in_ok-push.ensures.ok
 
-pub fold_list-returns-in_err-new_list : goal.fold_list-returns-in_err-new_list
-fold_list-returns-in_err-new_list g t c =
-    let p = err_from_is_err_and c.from_residual-in_err-new_list.result c.from_residual-in_err-new_list.ensures.1 in
-    let tree = list_is_node _ c.args.list (children_at c.args.cx.now.rows c.args.list) c.list_len-i-end.ensures.means in
+pub fold_items-returns : goal.fold_items-returns
+fold_items-returns g t c =
+    let tree = list_is_items _ c.args.list (children_at c.args.cx.now.rows c.args.list) c.list_len-i-end.ensures.means in
     let all = rw c.list_len-i-end.ensures.len at c.loop-i-test.false in
-    let h = rw (c.sort.ensures, c.deref.ensures.value) at c.in_err-new_list.ensures in
-    rw p.1 (so_far_not_stored (children_at c.args.cx.now.rows c.args.list) tree c.loop-i.invariant all h.err (c.in_err-new_list.field-0.0, (p.2, rw h.err h.cause)))
+    items_fold _ tree c.loop-i.invariant all
 
-pub fold_list-returns : goal.fold_list-returns
-fold_list-returns g t c =
-    let tree = list_is_node _ c.args.list (children_at c.args.cx.now.rows c.args.list) c.list_len-i-end.ensures.means in
-    let all = rw c.list_len-i-end.ensures.len at c.loop-i-test.false in
-    let h = rw (c.sort.ensures, c.deref.ensures.value) at c.in_ok-new_list.ensures in
-    let o = c.loop-i.invariant.is_owned in
-    so_far_stored (children_at c.args.cx.now.rows c.args.list) tree c.loop-i.invariant all h.extends (g.met.F.Core.still_owned _ _ _ h.extends.rows o)
-    (stands-still g.F.Core.meaning c.loop-i.cx c.store_list.new.self c.loop-i.folder (g.met.F.Core.still_means _ _ _ h.extends.rows o) h.counters)
-    (stored_list _ _ _ h.sort h.in_range) h.sort (stored_list_tree _ _ _ h.sort ∙ h.means)
+pub fold_clauses-returns-in_err-list : goal.fold_clauses-returns-in_err-list
+fold_clauses-returns-in_err-list g t c =
+    let p = err_from_is_err_and c.from_residual.result c.from_residual.ensures.1 in
+    rw (p.1, p.2) (clauses_fail c.in_err-list.ensures)
+
+pub fold_clauses-returns : goal.fold_clauses-returns
+fold_clauses-returns g t c =
+    clauses_fold c.list_clauses.ensures c.in_ok-list.ensures
+
+pub fold_list-returns-in_default : goal.fold_list-returns-in_default
+fold_list-returns-in_default g t c =
+    list_folds (other_list c.args.list c.in_default.not-Clauses) c.fold_listed.ensures
+
+pub fold_list-returns-in_err-node-in-Clauses : goal.fold_list-returns-in_err-node-in-Clauses
+fold_list-returns-in_err-node-in-Clauses g t c =
+    let p = err_from_is_err_and c.from_residual.result c.from_residual.ensures.1 in
+    rw (p.1, p.2) (clauses_node_fails c.in-Clauses.is c.in_err-node-in-Clauses.ensures)
+
+pub fold_list-returns-in_ok-node-in-Clauses : goal.fold_list-returns-in_ok-node-in-Clauses
+fold_list-returns-in_ok-node-in-Clauses g t c =
+    clauses_node c.in-Clauses.is c.clauses.ensures c.in_ok-node-in-Clauses.ensures

@@ -1,8 +1,8 @@
 use Rattle.std.proofs.Common.{refl, arith}
 use Rattle.tt_kinds.specs.Shape.{AreParts, IsPart, fill, fill_all}
 use Rattle.tt_kinds.specs.Kinds.{child_shapes}
-use Rattle.tt_visit.specs.Visit.{region_seen, skipped, went_inside, node_seen, binder_skipped, binder_seen, value_seen, all_seen, one_seen, region_broke, term_broke, inside_broke, node_broke, enter_broke, under_broke, value_broke, first_broke}
-use Rattle.tt_visit.proofs.VisitSteps.{flow-weaker, root-kind, root-region, parts-kind, inside-kind, told-kind, broke-kind, seen-append, broke-before, broke-after, parts-before, parts-after, parts-child, child-seen, child-broke, children-seen}
+use Rattle.tt_visit.specs.Visit.{region_seen, term_seen, node_seen, binder_skipped, binder_seen, value_seen, all_seen, one_seen, region_broke, term_inside_broke, node_broke, enter_broke, under_broke, value_broke, first_broke}
+use Rattle.tt_visit.proofs.VisitSteps.{flow-weaker, root-meaning, asked-skip, asked-descend, asked-broke-inside, asking-broke, root-region, parts-kind, inside-kind, told-kind, broke-kind, seen-append, broke-before, broke-after, parts-before, parts-after, parts-child, has-kind, list-seen, list-broke, child-seen, child-broke, children-seen}
 use Rattle.tt_interner.specs.Children.{children_at}
 use Rattle.tt_visit.proofs.Weights.{list_age, low-kind, low-item}
 use Rattle.tt_visit.proofs.stored.+visit.Goals as goal
@@ -58,70 +58,86 @@ visit_kind-returns-in-Continue g t c =
     let contents = rw (c.bound_vars.ensures, c.parts.ensures) at c.visit_contents.ensures in
     flow-weaker c.visit_contents.result contents (λ _ h. inside-kind _ _ _ _ _ _ c.in-Continue.ensures h) (λ b h. broke-kind _ _ _ _ _ _ b c.in-Continue.ensures h)
 
-pub visit_list-list_len-index-end-requires : goal.visit_list-list_len-index-end-requires
+pub visit_inside-node_kind-kind-requires : goal.visit_inside-node_kind-kind-requires
 unfolding IsPart
-visit_list-list_len-index-end-requires g t c = c.requires
+visit_inside-node_kind-kind-requires g t c = record { owned = c.requires; has_kind = has-kind _ c.in_default.not-Clauses }
 
-pub visit_list-loop-index-init : goal.visit_list-loop-index-init
-unfolding fill_all
-visit_list-loop-index-init g t c = all_seen
-
-pub visit_list-list_child-child-requires-clause-owned :
-    goal.visit_list-list_child-child-requires-clause-owned
-unfolding IsPart
-visit_list-list_child-child-requires-clause-owned g t c = c.requires
-
-pub visit_list-visit_child-requires : goal.visit_list-visit_child-requires
-visit_list-visit_child-requires g t c κs within =
-    let own = c.list_len-index-end.ensures in
-    let low = low-item c.args.cx.now.rows (list_age c.args.cx.now.rows c.args.list) (children_at c.args.cx.now.rows c.args.list) c.loop-index.index c.list_child-child.result c.list_child-child.ensures own.older in
-    (omega arith, (within.0, (within.1, parts-child _ (children_at c.args.cx.now.rows c.args.list) c.loop-index.index _ c.list_child-child.ensures own.parts)))
-
-pub visit_list-returns-in-Break : goal.visit_list-returns-in-Break
-unfolding fill
-visit_list-returns-in-Break g t c =
-    let own = c.list_len-index-end.ensures in
-    rw own.means (node_broke refl (child-broke _ _ (children_at c.args.cx.now.rows c.args.list) c.loop-index.index _ _ _ _ _ c.list_child-child.ensures c.loop-index.invariant c.in-Break.ensures))
-
-pub visit_list-loop-index-preserved : goal.visit_list-loop-index-preserved
-visit_list-loop-index-preserved g t c =
-    child-seen _ _ (children_at c.args.cx.now.rows c.args.list) c.loop-index.index _ _ _ _ c.list_child-child.ensures c.loop-index.invariant c.in-Continue.ensures
-
-pub visit_list-returns : goal.visit_list-returns
-unfolding fill
-visit_list-returns g t c =
-    let own = c.list_len-index-end.ensures in
-    rw own.means (node_seen refl (children-seen _ _ _ _ _ _ (rw own.len at c.loop-index-test.false) c.loop-index.invariant))
-
-pub visit_node-node_kind-kind-requires : goal.visit_node-node_kind-kind-requires
-unfolding IsPart
-visit_node-node_kind-kind-requires g t c = c.requires
-
-pub visit_node-visit_kind-requires : goal.visit_node-visit_kind-requires
-visit_node-visit_kind-requires g t c κs within =
+pub visit_inside-visit_kind-requires : goal.visit_inside-visit_kind-requires
+visit_inside-visit_kind-requires g t c κs within =
     let own = c.node_kind-kind.ensures in
     let low = low-kind _ _ _ own.older in
     (omega arith, (within.0, (within.1, own.parts)))
 
-pub visit_node-returns-in-Break : goal.visit_node-returns-in-Break
+pub visit_inside-returns-in-Clauses : goal.visit_inside-returns-in-Clauses
 unfolding fill
-visit_node-returns-in-Break g t c =
-    let own = c.node_kind-kind.ensures in
-    term_broke (rw own.means (root-kind _ _)) c.in-Break.ensures
+visit_inside-returns-in-Clauses g t c =
+    let own = c.visit_items.ensures in
+    rw (c.in-Clauses.is, own.list) (flow-weaker c.visit_items.result own.items (λ _ h. term_seen refl h) (λ b h. term_inside_broke refl h))
+
+pub visit_inside-returns-in_default : goal.visit_inside-returns-in_default
+unfolding fill
+visit_inside-returns-in_default g t c = rw (← c.node_kind-kind.ensures.means) at c.visit_kind.ensures
+
+pub visit_node-returns-in-Break : goal.visit_node-returns-in-Break
+unfolding fill IsPart
+visit_node-returns-in-Break g t c = asking-broke _ _ _ _ _ _ (root-meaning _ _ _ c.requires) c.in-Break.ensures
 
 pub visit_node-returns-in-Continue-Skip : goal.visit_node-returns-in-Continue-Skip
-unfolding fill
+unfolding fill IsPart
 visit_node-returns-in-Continue-Skip g t c =
-    let own = c.node_kind-kind.ensures in
-    skipped (rw own.means (root-kind _ _)) (rw c.in-Continue-Skip.field-0-is at c.in-Continue-Skip.ensures)
+    asked-skip _ _ _ _ _ (root-meaning _ _ _ c.requires) (rw c.in-Continue-Skip.field-0-is at c.in-Continue-Skip.ensures)
 
 pub visit_node-returns-in-Continue-Descend : goal.visit_node-returns-in-Continue-Descend
-unfolding fill
+unfolding fill IsPart
 visit_node-returns-in-Continue-Descend g t c =
-    let own = c.node_kind-kind.ensures in
     let hook = rw c.in-Continue-Descend.field-0-is at c.in-Continue-Descend.ensures in
-    flow-weaker c.visit_kind.result (rw (← own.means) at c.visit_kind.ensures)
-    (λ _ h. went_inside (rw own.means (root-kind _ _)) hook h) (λ b h. inside_broke (rw own.means (root-kind _ _)) hook h)
+    flow-weaker c.visit_inside.result c.visit_inside.ensures
+    (λ _ h. asked-descend _ _ _ _ _ _ (root-meaning _ _ _ c.requires) hook h) (λ b h. asked-broke-inside _ _ _ _ _ _ b (root-meaning _ _ _ c.requires) hook h)
+
+pub visit_items-list_len-index-end-requires : goal.visit_items-list_len-index-end-requires
+unfolding IsPart
+visit_items-list_len-index-end-requires g t c = c.requires
+
+pub visit_items-loop-index-init : goal.visit_items-loop-index-init
+unfolding fill_all
+visit_items-loop-index-init g t c = all_seen
+
+pub visit_items-list_child-child-requires-clause-owned :
+    goal.visit_items-list_child-child-requires-clause-owned
+unfolding IsPart
+visit_items-list_child-child-requires-clause-owned g t c = c.requires
+
+pub visit_items-visit_child-requires : goal.visit_items-visit_child-requires
+visit_items-visit_child-requires g t c κs within =
+    let own = c.list_len-index-end.ensures in
+    let low = low-item c.args.cx.now.rows (list_age c.args.cx.now.rows c.args.list) (children_at c.args.cx.now.rows c.args.list) c.loop-index.index c.list_child-child.result c.list_child-child.ensures own.older in
+    (omega arith, (within.0, (within.1, parts-child _ (children_at c.args.cx.now.rows c.args.list) c.loop-index.index _ c.list_child-child.ensures own.parts)))
+
+pub visit_items-returns-in-Break-clause-items : goal.visit_items-returns-in-Break-clause-items
+visit_items-returns-in-Break-clause-items g t c =
+    child-broke _ _ (children_at c.args.cx.now.rows c.args.list) c.loop-index.index _ _ _ _ _ c.list_child-child.ensures c.loop-index.invariant c.in-Break.ensures
+
+pub visit_items-returns-in-Break-clause-list : goal.visit_items-returns-in-Break-clause-list
+unfolding fill
+visit_items-returns-in-Break-clause-list g t c = c.list_len-index-end.ensures.means
+
+pub visit_items-loop-index-preserved : goal.visit_items-loop-index-preserved
+visit_items-loop-index-preserved g t c =
+    child-seen _ _ (children_at c.args.cx.now.rows c.args.list) c.loop-index.index _ _ _ _ c.list_child-child.ensures c.loop-index.invariant c.in-Continue.ensures
+
+pub visit_items-returns-clause-items : goal.visit_items-returns-clause-items
+visit_items-returns-clause-items g t c =
+    children-seen _ _ _ _ _ _ (rw c.list_len-index-end.ensures.len at c.loop-index-test.false) c.loop-index.invariant
+
+pub visit_items-returns-clause-list : goal.visit_items-returns-clause-list
+unfolding fill
+visit_items-returns-clause-list g t c = c.list_len-index-end.ensures.means
+
+pub visit_list-returns-in_default : goal.visit_list-returns-in_default
+unfolding fill
+visit_list-returns-in_default g t c =
+    let own = c.visit_items.ensures in
+    rw own.list (flow-weaker c.visit_items.result own.items (λ _ h. list-seen _ _ _ _ _ c.in_default.not-Clauses h) (λ b h. list-broke _ _ _ _ _ b c.in_default.not-Clauses h))
 
 pub visit_parts-visit_child-requires : goal.visit_parts-visit_child-requires
 visit_parts-visit_child-requires g t c κs within =

@@ -1,26 +1,27 @@
 use Rattle.std.proofs.Common.{ap}
 use Rattle.std.proofs.lemmas.Result.{err_from_is_err_and}
+use Rattle.tt_kinds.specs.Label.{type_sort}
 use Rattle.tt_kinds.specs.Kinds.{ty_shape}
 use Rattle.tt_fold.specs.Steps.{tree_in}
 use Rattle.tt_binder.specs.Arguments.{arguments}
 use Rattle.tt_binder.specs.ArgumentLaws.{AreArguments-still, some-still, state-still}
 use Rattle.tt_binder.specs.Instantiation.{left_alone}
-use Rattle.tt_binder.proofs.RowArguments.{term_of}
-use Rattle.tt_binder.proofs.FlagLaws.{hides_none, meets_param, misses_param}
-use Rattle.tt_binder.proofs.HookLaws.{leaf_at, type_param, inner_type, given_step, taken_step}
+use Rattle.tt_binder.proofs.RowArguments.{type_is, type_kept}
+use Rattle.tt_binder.proofs.FlagLaws.{meets_param, misses_param}
+use Rattle.tt_binder.proofs.HookLaws.{leaf_at, param_by_index, inner_type, given_step, taken_step}
 use Rattle.tt_binder.proofs.arg_folder.ArgFolderTypeFolder.fold_ty.Goals as goal
 
 pub returns-then-not-intersects-clause-result : goal.returns-then-not-intersects-clause-result
 returns-then-not-intersects-clause-result g c =
     let tree = tree_in c.args.cx.now.rows (ty_shape c.args.ty) in
     let none = misses_param tree c.flags.result.bits c.intersects.result c.flags.ensures c.if-not-intersects.true c.intersects.ensures.1 in
-    (c.requires.owned, tt, left_alone none (hides_none tree (term_of c.args.cx.now.rows c.args.ty c.requires.ty) none))
+    (c.requires.owned, tt, left_alone (type_kept tree (type_is c.args.cx.now.rows c.args.ty c.requires.ty)) none)
 
 pub returns-in_err-new-in-Some-clause-result : goal.returns-in_err-new-in-Some-clause-result
 returns-in_err-new-in-Some-clause-result g c =
     let p = err_from_is_err_and c.from_residual.result c.from_residual.ensures.1 in
-    let found = type_param c.in-Some.index (tree_in c.args.cx.now.rows (ty_shape c.args.ty)) c.in-Some.ensures in
-    rw (p.1, p.2) (c.type_argument.ensures.descents, leaf_at _ _ _ _ _ _ found.1 (c.in_err-new-in-Some.ensures.result found.0))
+    let found = param_by_index type_sort c.in-Some.index (tree_in c.args.cx.now.rows (ty_shape c.args.ty)) c.in-Some.ensures in
+    rw (p.1, p.2) (c.type_argument.ensures.descents, c.type_argument.ensures.shift_descents, leaf_at _ _ _ _ _ _ found.1 (c.in_err-new-in-Some.ensures.result found.0))
 
 pub returns-in_ok-new-in-Some-clause-result : goal.returns-in_ok-new-in-Some-clause-result
 returns-in_ok-new-in-Some-clause-result g c =
@@ -30,7 +31,7 @@ returns-in_ok-new-in-Some-clause-result g c =
     let grows = c.type_argument.ensures.extends.rows in
     let owned = c.requires.owned in
     let same = g.met.S.SliceLike.still_items old new args grows owned.0 in
-    let found = type_param c.in-Some.index (tree_in old (ty_shape c.args.ty)) c.in-Some.ensures in
+    let found = param_by_index type_sort c.in-Some.index (tree_in old (ty_shape c.args.ty)) c.in-Some.ensures in
     let h = c.in_ok-new-in-Some.ensures.result found.0 in (
       (
         g.met.S.SliceLike.still_owned old new args grows owned.0,
@@ -39,7 +40,7 @@ returns-in_ok-new-in-Some-clause-result g c =
       ),
       h.0,
       given_step _ _ _ _ _ _ _ found.1 (state-still old new (g.S.SliceLike.items old args) (g.S.SliceLike.items new args) c.args.self.now.binders_passed grows same owned.1)
-          c.type_argument.ensures.descents h.1,
+          c.type_argument.ensures.descents c.type_argument.ensures.shift_descents h.1,
     )
 
 pub returns-in-None-clause-result : goal.returns-in-None-clause-result
@@ -48,7 +49,7 @@ returns-in-None-clause-result g c =
     let args = c.args.self.now.args in
     let tree = tree_in old (ty_shape c.args.ty) in
     let held = meets_param tree c.flags.result.bits c.flags.ensures (c.intersects.ensures.0 c.if-not-intersects.false) in
-    let inner = inner_type tree (term_of old c.args.ty c.requires.ty) held c.in-None.ensures in
+    let inner = inner_type tree (type_is old c.args.ty c.requires.ty) held c.in-None.ensures in
     let rows = c.count_descent.ensures.rows in (
       rw rows c.requires.owned,
       tt,

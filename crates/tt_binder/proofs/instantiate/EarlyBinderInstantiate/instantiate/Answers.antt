@@ -2,7 +2,7 @@ use Rattle.std.proofs.Common.{◌≡◌, ap, Ok}
 use Rattle.std.specs.Prelude.{Result, Err}
 use Rattle.tt_fold.specs.Steps.{tree_by}
 use Rattle.tt_binder.specs.Arguments.{arguments}
-use Rattle.tt_binder.proofs.InstanceLaws.{composes, commutes, stays_matched, leaves_no_param, type_back}
+use Rattle.tt_binder.proofs.InstanceLaws.{composes, commutes, stays_matched, leaves_no_param, type_back, clauses_back}
 use Rattle.tt_binder.proofs.instantiate.EarlyBinderInstantiate.instantiate.Goals as goal
 
 err_ok : {T E P : Type 0} (e : E) (x : T) → Err e ≡ Ok x → P
@@ -38,4 +38,13 @@ returns-in_err-value-clause-same_type g c = λ n is none.
 pub returns-clause-same_type : goal.returns-clause-same_type
 returns-clause-same_type g c = λ n is none.
     let same = c.in_ok-value.ensures.same (type_back c.args.cx.now.rows _ (g.T.TypeVisitable.shape c.skip_binder.result) n (rw c.skip_binder.ensures is) (rw c.skip_binder.ensures c.requires.value) (rw c.skip_binder.ensures none)) in
+    (rw (c.new.ensures, ← c.skip_binder.ensures) (ap (λ x. Ok (record { value = x })) (ok_ok _ _ same.0)), same.1)
+
+pub returns-in_err-value-clause-same_clauses : goal.returns-in_err-value-clause-same_clauses
+returns-in_err-value-clause-same_clauses g c = λ t n of is none.
+    err_ok _ _ (c.in_err-value.ensures.same (clauses_back c.args.cx.now.rows _ (g.T.TypeVisitable.shape c.skip_binder.result) t n of (rw c.skip_binder.ensures is) (rw c.skip_binder.ensures c.requires.value) (rw c.skip_binder.ensures none))).0
+
+pub returns-clause-same_clauses : goal.returns-clause-same_clauses
+returns-clause-same_clauses g c = λ t n of is none.
+    let same = c.in_ok-value.ensures.same (clauses_back c.args.cx.now.rows _ (g.T.TypeVisitable.shape c.skip_binder.result) t n of (rw c.skip_binder.ensures is) (rw c.skip_binder.ensures c.requires.value) (rw c.skip_binder.ensures none)) in
     (rw (c.new.ensures, ← c.skip_binder.ensures) (ap (λ x. Ok (record { value = x })) (ok_ok _ _ same.0)), same.1)

@@ -1,6 +1,7 @@
-use Rattle.std.proofs.Common.{refl}
 use Rattle.tt_kinds.specs.Kinds.{ty_shape}
 use Rattle.tt_fold.specs.Steps.{tree_in}
+use Rattle.tt_binder.specs.Untouched.{passed_by}
+use Rattle.tt_binder.proofs.RowArguments.{type_is, type_kept}
 use Rattle.tt_binder.proofs.FlagLaws.{meets_param, misses_param}
 use Rattle.tt_binder.proofs.untouched.TouchedVisitorTypeVisitor.visit_ty.Goals as goal
 
@@ -9,4 +10,6 @@ returns-then-intersects c = meets_param (tree_in c.args.cx.now.rows (ty_shape c.
 
 pub returns-else-intersects : goal.returns-else-intersects
 returns-else-intersects c =
-    (refl, misses_param (tree_in c.args.cx.now.rows (ty_shape c.args.ty)) c.flags.result.bits c.intersects.result c.flags.ensures c.if-intersects.false c.intersects.ensures.1)
+    let tree = tree_in c.args.cx.now.rows (ty_shape c.args.ty) in
+    passed_by (type_kept tree (type_is c.args.cx.now.rows c.args.ty c.requires))
+    (misses_param tree c.flags.result.bits c.intersects.result c.flags.ensures c.if-intersects.false c.intersects.ensures.1)

@@ -1,6 +1,5 @@
 use Rattle.std.proofs.lemmas.Result.{err_from_is_err_and}
-use Rattle.tt_interner.proofs.Growth.{Extends-trans}
-use Rattle.tt_fold.proofs.Growth.{part-grows}
+use Rattle.tt_interner.proofs.Growth.{Extends-trans, IsPart-grows}
 use Rattle.tt_fold.proofs.PartLaws.{vars-kept}
 use Rattle.tt_fold.proofs.ValueSteps.{binder-has, binder-value, binder_enter_fails, binder_value_fails, binder_leave_fails, binder_folds}
 use Rattle.tt_fold.proofs.foldable.BinderTypeFoldable.fold_core.Goals as goal
@@ -17,7 +16,7 @@ returns-in_err-core_enter g c =
 
 pub fold_core-requires-clause-value : goal.fold_core-requires-clause-value
 fold_core-requires-clause-value g c =
-    rw c.skip_binder.ensures (part-grows c.in_ok-core_enter.ensures.extends.rows _ (binder-value g.T.TypeVisitable.shape _ c.args.self c.requires.value))
+    rw c.skip_binder.ensures (IsPart-grows _ _ c.in_ok-core_enter.ensures.extends.rows _ (binder-value g.T.TypeVisitable.shape _ c.args.self c.requires.value))
 
 pub returns-in_err-value : goal.returns-in_err-value
 returns-in_err-value g c =

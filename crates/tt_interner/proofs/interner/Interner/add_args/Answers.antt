@@ -18,7 +18,7 @@ invariant_of-self-2 c =
     let many = count _ _ _ c.self.invariant.tables ArgLists (λ k. args_row k.items) (λ v. v) c.self.inside.arg_lists.entries refl in
     let is = ap (with_entries (tables c.self.inside) ArgLists) (entries_by-added (λ k. k.items) args_row (λ v. v) c.self.inside.arg_lists.entries _ c.args.items.now c.items_info-info.result c.in-Ok.ensures.entries) in
     kept c.self.inside.order.items _ (tables c.self.inside) _ _ _ _ c.self.view_is c.self.invariant _ is c.in-Ok.ensures.order _ (c.in-Ok.ensures.number.0 ∙ many) c.in-Ok.ensures.number.1
-    (tt, c.requires.parts) (λ deep. deep) c.requires.is_new (info_list _ _ ArgLists _ c.items_info-info.ensures)
+    (tt, c.requires.parts) (λ deep. deep) tt c.requires.is_new (info_list _ _ ArgLists _ c.items_info-info.ensures)
 
 pub returns : goal.returns
 returns c =

@@ -1,14 +1,14 @@
 -- the new row is the newest
 use Rattle.std.proofs.Common.{sym, ap, refl, subst, ◌∙◌}
 use Rattle.tt_kinds.specs.declared.table.Table.TheVariants.{VarLists}
-use Rattle.tt_interner.specs.Rows.{vars_row, size, IsNew}
+use Rattle.tt_interner.specs.Rows.{vars_row, IsNew}
 use Rattle.tt_interner.specs.Tables.{with_entries, entries_by}
 use Rattle.tt_interner.specs.Kept.{tables}
 use Rattle.std.specs.Prelude.{map}
 use Rattle.tt_kinds.specs.Label.{var_list_label}
 use Rattle.tt_kinds.specs.Bound.{var_kind}
 use Rattle.tt_kinds.specs.Shape.{IsPart}
-use Rattle.tt_interner.proofs.InfoLemmas.{info_node, named_vars}
+use Rattle.tt_interner.proofs.InfoLemmas.{info_node}
 use Rattle.tt_interner.proofs.TableLemmas.{count, not_there, entries_by-added, kept, added, refused}
 use Rattle.tt_interner.proofs.Keys.{vars_key}
 use Rattle.tt_interner.proofs.interner.Interner.add_bound_vars.Goals as goal
@@ -23,7 +23,7 @@ invariant_of-self-2 c =
     let many = count _ _ _ c.self.invariant.tables VarLists (λ k. vars_row k.items) (λ v. v) c.self.inside.var_lists.entries refl in
     let is = ap (with_entries (tables c.self.inside) VarLists) (entries_by-added (λ k. k.items) vars_row (λ v. v) c.self.inside.var_lists.entries _ c.args.items.now c.vars_info-info.result c.in-Ok.ensures.entries) in
     kept c.self.inside.order.items _ (tables c.self.inside) _ _ _ _ c.self.view_is c.self.invariant _ is c.in-Ok.ensures.order _ (c.in-Ok.ensures.number.0 ∙ many) c.in-Ok.ensures.number.1
-    (named_vars (size c.args.self.now.rows) c.args.items.now, tt) (λ deep. deep) c.requires.is_new (info_node _ _ (var_list_label (map var_kind c.args.items.now)) c.vars_info-info.ensures)
+    c.requires.parts (λ deep. deep) tt c.requires.is_new (info_node _ _ (var_list_label (map var_kind c.args.items.now)) c.vars_info-info.ensures)
 
 pub returns : goal.returns
 returns c =

@@ -18,7 +18,7 @@ invariant_of-self-2 c =
     let is = ap (λ es. with_entries (tables c.self.inside) Types (entries_by type_row (λ v. v) es)) c.in-Ok.ensures.entries
     ∙ ap (with_entries (tables c.self.inside) Types) (entries_by-push type_row (λ v. v) c.self.inside.types.entries c.args.kind.now c.for_kind-info.result) in
     kept c.self.inside.order.items _ (tables c.self.inside) _ _ _ _ c.self.view_is c.self.invariant _ is c.in-Ok.ensures.order _ (c.in-Ok.ensures.number.0 ∙ many) c.in-Ok.ensures.number.1
-    c.requires.parts c.requires.shallow c.requires.is_new c.for_kind-info.ensures
+    c.requires.parts c.requires.shallow tt c.requires.is_new c.for_kind-info.ensures
 
 pub returns : goal.returns
 returns c =

@@ -1,4 +1,4 @@
-use Rattle.std.proofs.Common.{◌≡◌, refl}
+use Rattle.std.proofs.Common.{refl}
 use Rattle.tt_kinds.specs.Shape.{fill, IsPart}
 use Rattle.type_terms.proofs.BuildLaws.{region-shallow, symbol-named}
 use Rattle.type_terms.proofs.run.build.build_early_param.Goals as goal

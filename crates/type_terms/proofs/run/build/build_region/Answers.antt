@@ -1,8 +1,7 @@
-use Rattle.std.proofs.Common.{◌≡◌, refl}
+use Rattle.std.proofs.Common.{refl}
 use Rattle.tt_kinds.specs.Shape.{fill, IsPart}
 use Rattle.tt_kinds.specs.declared.region_kind.RegionKind.TheVariants.{ReStatic, ReVar, ReErased, ReError}
-use Rattle.type_terms.specs.CallForm.{region_tree}
-use Rattle.type_terms.proofs.BuildLaws.{region-shallow, region-bound}
+use Rattle.type_terms.proofs.BuildLaws.{region-shallow}
 use Rattle.type_terms.proofs.run.build.build_region.Goals as goal
 
 pub returns-in-ReEarlyParam-clause-region : goal.returns-in-ReEarlyParam-clause-region
@@ -11,12 +10,12 @@ returns-in-ReEarlyParam-clause-region c =
 
 pub returns-in-ReBound-clause-region : goal.returns-in-ReBound-clause-region
 returns-in-ReBound-clause-region c =
-    rw (c.in-ReBound.is) (region-bound c.args.cx.now _ _ c.new.result c.new.ensures.ok c.new.ensures.deep)
+    rw (c.in-ReBound.is) c.build_bound.ensures.region
 
 pub returns-in-ReStatic-clause-region : goal.returns-in-ReStatic-clause-region
 unfolding fill IsPart
 returns-in-ReStatic-clause-region c =
-    rw (c.in-ReStatic.is) (region-shallow c.args.cx.now ReStatic _ ⊥ c.new-in-ReStatic.result c.new-in-ReStatic.ensures.ok tt (λ d. d) tt refl)
+    rw (c.in-ReStatic.is) (region-shallow c.args.cx.now ReStatic _ ⊥ c.new.result c.new.ensures.ok tt (λ d. d) tt refl)
 
 pub returns-in-ReVar-clause-region : goal.returns-in-ReVar-clause-region
 unfolding fill IsPart

@@ -1,4 +1,3 @@
-use Rattle.std.proofs.Common.{◌≡◌}
 use Rattle.tt_interner.proofs.Growth.{Extends-trans}
 use Rattle.type_terms.specs.Told.{told_all}
 use Rattle.type_terms.proofs.BuildLaws.{ty-built}

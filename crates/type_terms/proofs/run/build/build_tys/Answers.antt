@@ -1,4 +1,3 @@
-use Rattle.std.proofs.Common.{◌≡◌}
 use Rattle.type_terms.specs.Told.{told_all, HasFullTable}
 use Rattle.type_terms.proofs.BuildLaws.{list-built, list-passed, missing, parts-at}
 use Rattle.type_terms.proofs.run.build.build_tys.Goals as goal

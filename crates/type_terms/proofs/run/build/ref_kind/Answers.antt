@@ -1,4 +1,4 @@
-use Rattle.std.proofs.Common.{◌≡◌, ◌∷◌, []}
+use Rattle.std.proofs.Common.{◌∷◌, []}
 use Rattle.tt_kinds.specs.Label.{type_label, ref_type}
 use Rattle.type_terms.specs.CallForm.{plain, a_region, a_term, IsFormTooDeep}
 use Rattle.type_terms.specs.Told.{told_all, HasFullTable}

@@ -1,10 +1,9 @@
-use Rattle.std.proofs.Common.{◌≡◌, ap, refl, subst, sym}
+use Rattle.std.proofs.Common.{refl, subst, sym}
 use Rattle.std.specs.Prelude.{List}
 use Rattle.tt_kinds.specs.Shape.{IsPart, fill}
 use Rattle.tt_kinds.specs.declared.table.Table.TheVariants.{Types}
-use Rattle.tt_interner.specs.Rows.{size, meaning}
+use Rattle.tt_interner.specs.Rows.{meaning}
 use Rattle.tt_interner.proofs.Growth.{Extends-trans, in_range-grows}
-use Rattle.tt_binder.specs.Arguments.{arguments as built_arguments}
 use Rattle.type_terms.specs.declared.run.call.ArgCall.{ArgCall}
 use Rattle.type_terms.specs.declared.run.call.Call.TheVariants as call
 use Rattle.type_terms.specs.Told.{told_all, HasFullTable}

@@ -1,5 +1,4 @@
-use Rattle.std.proofs.Common.{◌≡◌, ◌-◌, ◌<◌, ◌∙◌, Some, None, length, refl, sym, arith, ap}
-use Rattle.std.specs.List.{slice_get}
+use Rattle.std.proofs.Common.{◌-◌, ◌∙◌, Some, length, refl, ap}
 use Rattle.std.proofs.lemmas.Option.{slice_get_read}
 use Rattle.type_terms.proofs.LookupLaws.{found, other}
 use Rattle.type_terms.proofs.run.lookup.ty_at.Goals as goal

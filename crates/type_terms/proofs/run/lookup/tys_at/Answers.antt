@@ -1,6 +1,5 @@
-use Rattle.std.proofs.Common.{◌≡◌, ◌<◌, length, take, get_or, refl, sym, arith, inl, inr}
+use Rattle.std.proofs.Common.{◌<◌, length, arith, inr}
 use Rattle.std.proofs.lemmas.List.{take_more}
-use Rattle.tt_interner.specs.Rows.{Row}
 use Rattle.type_terms.specs.Told.{told_all}
 use Rattle.type_terms.proofs.ResultLaws.{passed}
 use Rattle.type_terms.proofs.LookupLaws.{AreTysAt-append, AreTerms-not}

@@ -1,5 +1,4 @@
-use Rattle.std.proofs.Common.{◌≡◌, ◌+◌, ◌-◌, ◌*◌, ◌<◌, length, get_or, None, sym, arith}
-use Rattle.type_terms.specs.Number.{number_of}
+use Rattle.std.proofs.Common.{◌+◌, ◌-◌, ◌*◌, ◌<◌, length, get_or, sym, arith}
 use Rattle.type_terms.proofs.NumberLaws.{past_word}
 use Rattle.type_terms.proofs.run.number.parse_number.Goals as goal
 

@@ -1,4 +1,4 @@
-use Rattle.std.proofs.Common.{◌≡◌, ◌≤◌, ◌<◌, drop, length}
+use Rattle.std.proofs.Common.{◌≡◌, ◌≤◌, drop}
 use Rattle.type_terms.specs.Number.{decimal, number_after}
 use Rattle.type_terms.proofs.run.number.parse_number.Given as goal
 

@@ -1,4 +1,4 @@
-use Rattle.std.proofs.Common.{◌≡◌, sym}
+use Rattle.std.proofs.Common.{sym}
 use Rattle.type_terms.specs.declared.run.call.Call.TheVariants as call
 use Rattle.type_terms.proofs.QueryLaws.{answered-allowed, answered-owned}
 use Rattle.type_terms.proofs.run.runner.answer_call.Goals as goal

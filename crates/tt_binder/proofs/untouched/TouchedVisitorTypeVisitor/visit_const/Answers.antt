@@ -1,0 +1,8 @@
+use Rattle.tt_kinds.specs.Kinds.{const_shape}
+use Rattle.tt_fold.specs.Steps.{tree_in}
+use Rattle.tt_binder.specs.Untouched.{entered}
+use Rattle.tt_binder.proofs.RowArguments.{const_is, inner_const}
+use Rattle.tt_binder.proofs.untouched.TouchedVisitorTypeVisitor.visit_const.Goals as goal
+
+pub returns-in-None : goal.returns-in-None
+returns-in-None c = entered (inner_const (tree_in c.args.cx.now.rows (const_shape c.args.constant)) (const_is c.args.cx.now.rows c.args.constant c.requires) c.in-None.ensures)

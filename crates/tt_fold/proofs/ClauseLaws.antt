@@ -1,0 +1,172 @@
+-- The lists of clauses in a tree: those of stored terms hold clauses alone, and so do those of a tree with other indices or other
+-- trees for parameters.
+use Rattle.std.proofs.Common.{inl, inr, ◌≡◌, ℕ, suc, ◌<◌, List, [], ◌∷◌, refl, arith, Bool, true, false}
+use Rattle.std.specs.Prelude.{IsTrue, not, ⊤}
+use Rattle.tt_kinds.specs.Label.{Name, Sort, type_sort, const_sort, Label, type_label, const_label, predicate_label, clause_list_label, record_label}
+use Rattle.tt_kinds.specs.Tree as tree
+use Rattle.tt_kinds.specs.Tree.{Depth, Tree, Forest, none, also, rebuild, rebuild_all}
+use Rattle.tt_kinds.specs.Plain.{shifted, shift_tree}
+use Rattle.tt_kinds.specs.Shape as shape
+use Rattle.tt_kinds.specs.Shape.{Shape, Shapes, Meaning, Sizes, fill, fill_all, name_of, rename_label, item_shapes, IsPart, AreParts, HasParts}
+use Rattle.tt_kinds.specs.Kinds.{Form, param, bound, plain, under, relabelled, form_shape, ty_form, const_form, clause_shape}
+use Rattle.tt_kinds.specs.declared.table.Table.{Table}
+use Rattle.tt_kinds.specs.declared.handle.Clause.{Clause}
+use Rattle.tt_interner.specs.Clauses.{is_clause_part, is_clause_inside, is_clause_tree, HasOther}
+use Rattle.tt_interner.specs.Rows.{Row, type_row, const_row, pat_row, predicate_row, existential_row, clauses_row, tys_row, consts_row, args_row, pats_row, vars_row, existentials_row, text_row, row_shape, table, size, meaning, AreRows, AreClauses, HoldsClauses}
+use Rattle.tt_interner.specs.Stored.{IsNoClauseList}
+use Rattle.tt_interner.proofs.RowLaws.{IsNewest, place_cases, meaning-old, meaning-new}
+use Rattle.tt_fold.specs.Steps.{IsPartOf, tree_in}
+use Rattle.tt_fold.specs.Stands.{StandsIn, StandsAmong, itself, in_term, in_node, in_binder, in_first, in_later}
+
+abbrev mutual
+  -- each list of clauses in the tree holds clauses alone
+  pub KeepsClauses : Tree Depth → Type 0
+  KeepsClauses (tree.param s i name) = ⊤
+  KeepsClauses (tree.bound s d e) = ⊤
+  KeepsClauses (tree.region r) = ⊤
+  KeepsClauses (tree.term l ts) = (IsNoClauseList (tree.term l ts) → ⊥) × KeepsClauses_all ts
+  KeepsClauses (tree.node l ts) = KeepsClauses_all ts
+  KeepsClauses (tree.binder vs t) = KeepsClauses t
+
+  pub KeepsClauses_all : Forest Depth → Type 0
+  KeepsClauses_all none = ⊤
+  KeepsClauses_all (also t ts) = KeepsClauses t × KeepsClauses_all ts
+
+-- what stands in such a tree is such a tree, and is no bad list
+mutual
+  stands-keeps : {u t : Tree Depth} → StandsIn u t → KeepsClauses t → KeepsClauses u
+  stands-keeps itself h = h
+  stands-keeps (in_term m) h = among-keeps m h.1
+  stands-keeps (in_node m) h = among-keeps m h
+  stands-keeps (in_binder m) h = stands-keeps m h
+
+  among-keeps : {u : Tree Depth} {ts : Forest Depth} → StandsAmong u ts → KeepsClauses_all ts → KeepsClauses u
+  among-keeps (in_first m) h = stands-keeps m h.0
+  among-keeps (in_later m) h = among-keeps m h.1
+
+no_bad_list : (u : Tree Depth) → KeepsClauses u → IsNoClauseList u → ⊥
+no_bad_list (tree.term l ts) h bad = h.0 bad
+no_bad_list _ h bad = bad
+
+pub never_bad : {u t : Tree Depth} → StandsIn u t → KeepsClauses t → IsNoClauseList u → ⊥
+never_bad {u} m h bad = no_bad_list u (stands-keeps m h) bad
+
+-- other indices and other trees for parameters leave clauses what they are
+module _ (index : ℕ → Depth → Depth) (parameter : ℕ → Sort → ℕ → Name → Tree Depth) where
+  clause_part : (k : ℕ) (t : Tree Depth) → is_clause_part t ≡ true → is_clause_part (rebuild index parameter k t) ≡ true
+  clause_part k (tree.node (record_label m) ts) h = h
+  clause_part k _ h = cc
+
+  clause_inside : (k : ℕ) (ts : Forest Depth) → is_clause_inside ts ≡ true → is_clause_inside (rebuild_all index parameter k ts) ≡ true
+  clause_inside k (also (tree.binder vs t) none) h = clause_part (suc k) t h
+  clause_inside k _ h = cc
+
+  clause_tree : (k : ℕ) (t : Tree Depth) → is_clause_tree t ≡ true → is_clause_tree (rebuild index parameter k t) ≡ true
+  clause_tree k (tree.term predicate_label ts) h = clause_inside k ts h
+  clause_tree k _ h = cc
+
+  other_before : (k : ℕ) (t : Tree Depth) → IsTrue (not (is_clause_tree (rebuild index parameter k t))) → IsTrue (not (is_clause_tree t))
+  other_before k t h = by (is_clause_tree t) refl
+    where
+      by : (b : Bool) → is_clause_tree t ≡ b → IsTrue (not (is_clause_tree t))
+      by true e = let never = rw (clause_tree k t e) at h in cc
+      by false e = rw e refl
+
+  others_before : (k : ℕ) (ts : Forest Depth) → HasOther (rebuild_all index parameter k ts) → HasOther ts
+  others_before k none h = h
+  others_before k (also t ts) h = elim h [ inl a ↦ inl (other_before k t a) | inr b ↦ inr (others_before k ts b) ]
+
+  list_before : (k : ℕ) (l : Label Name) (ts : Forest Depth) → IsNoClauseList (tree.term l (rebuild_all index parameter k ts)) → IsNoClauseList (tree.term l ts)
+  list_before k clause_list_label ts h = others_before k ts h
+  list_before k _ ts h = absurd h
+
+  module _ (given : (k : ℕ) (s : Sort) (i : ℕ) (name : Name) → KeepsClauses (parameter k s i name)) where
+    mutual
+      pub rebuild-keeps : (k : ℕ) (t : Tree Depth) → KeepsClauses t → KeepsClauses (rebuild index parameter k t)
+      rebuild-keeps k (tree.param s i name) h = given k s i name
+      rebuild-keeps k (tree.bound s d e) h = tt
+      rebuild-keeps k (tree.region r) h = tt
+      rebuild-keeps k (tree.term l ts) h = (λ bad. h.0 (list_before k l ts bad), rebuild_all-keeps k ts h.1)
+      rebuild-keeps k (tree.node l ts) h = rebuild_all-keeps k ts h
+      rebuild-keeps k (tree.binder vs t) h = rebuild-keeps (suc k) t h
+
+      rebuild_all-keeps : (k : ℕ) (ts : Forest Depth) → KeepsClauses_all ts → KeepsClauses_all (rebuild_all index parameter k ts)
+      rebuild_all-keeps k none h = tt
+      rebuild_all-keeps k (also t ts) h = (rebuild-keeps k t h.0, rebuild_all-keeps k ts h.1)
+
+pub shift-keeps : (n : ℕ) (t : Tree Depth) → KeepsClauses t → KeepsClauses (shift_tree 0 n t)
+shift-keeps n t h = rebuild-keeps (shifted n) (λ k s i name. tree.param s i name) (λ k s i name. tt) 0 t h
+
+-- the trees of shapes whose handles mean such trees
+module _ (size : Sizes) (f : Meaning) (good : (t : Table) (n : ℕ) → n < size t → KeepsClauses (f t n)) where
+  mutual
+    unfolding fill IsPart
+
+    part-keeps : (s : Shape) → IsPart size s → KeepsClauses (fill f s)
+    part-keeps (shape.param s i name) p = tt
+    part-keeps (shape.bound s d e) p = tt
+    part-keeps (shape.region r) p = tt
+    part-keeps (shape.term l ss) p = absurd p
+    part-keeps (shape.node l ss) p = parts-keep ss p.2
+    part-keeps (shape.binder n s) p = part-keeps s p.1
+    part-keeps (shape.stored t n) p = good t n p
+
+    parts-keep : (ss : Shapes) → AreParts size ss → KeepsClauses_all (fill_all f ss)
+    parts-keep shape.none p = tt
+    parts-keep (shape.also s ss) p = (part-keeps s p.0, parts-keep ss p.1)
+
+  row-keeps : (s : Shape) → HasParts size s → (IsNoClauseList (fill f s) → ⊥) → KeepsClauses (fill f s)
+  unfolding fill
+  row-keeps (shape.param s i name) p fine = tt
+  row-keeps (shape.bound s d e) p fine = tt
+  row-keeps (shape.region r) p fine = absurd p
+  row-keeps (shape.term l ss) p fine = (fine, parts-keep ss p.1)
+  row-keeps (shape.node l ss) p fine = parts-keep ss p.1
+  row-keeps (shape.binder n s) p fine = absurd p
+  row-keeps (shape.stored t n) p fine = absurd p
+
+-- a stored list of clauses holds clauses alone, and no other row is such a list
+clauses_fine : (rows : List Row) (cs : List Clause) → AreClauses rows cs → HasOther (fill_all (meaning rows) (item_shapes clause_shape cs)) → ⊥
+unfolding fill
+clauses_fine rows [] are h = h
+clauses_fine rows (c ∷ cs) are h = elim h [ inl a ↦ (let never = rw are.0.clause at a in cc) | inr b ↦ clauses_fine rows cs are.1 b ]
+
+form_fine : {L : Type 0} (label : L → Label ℕ) (sort : Sort) (f : Meaning) → ((l : L) (ts : Forest Depth) → IsNoClauseList (tree.term (rename_label (name_of f) (label l)) ts) → ⊥)
+    → (k : Form L) → IsNoClauseList (fill f (form_shape sort (relabelled label k))) → ⊥
+unfolding fill
+form_fine label sort f labels (param i name) h = h
+form_fine label sort f labels (bound d e) h = h
+form_fine label sort f labels (plain l p) h = labels l _ h
+form_fine label sort f labels (under l vars m p) h = labels l _ h
+
+row_fine : (rows : List Row) (r : Row) → HoldsClauses rows r → IsNoClauseList (fill (meaning rows) (row_shape r)) → ⊥
+unfolding fill
+row_fine rows (type_row k) holds h = form_fine type_label type_sort (meaning rows) (λ l ts bad. bad) (ty_form k) h
+row_fine rows (const_row k) holds h = form_fine const_label const_sort (meaning rows) (λ l ts bad. bad) (const_form k) h
+row_fine rows (pat_row k) holds h = h
+row_fine rows (predicate_row b) holds h = h
+row_fine rows (existential_row b) holds h = h
+row_fine rows (clauses_row cs) holds h = clauses_fine rows cs holds h
+row_fine rows (tys_row tys) holds h = h
+row_fine rows (consts_row cs) holds h = h
+row_fine rows (args_row args) holds h = h
+row_fine rows (pats_row ps) holds h = h
+row_fine rows (vars_row vs) holds h = h
+row_fine rows (existentials_row ps) holds h = h
+row_fine rows (text_row bytes) holds h = h
+
+stored_keeps : (rows : List Row) → AreRows rows → (t : Table) (n : ℕ) → n < size rows t → KeepsClauses (meaning rows t n)
+unfolding table AreRows
+stored_keeps [] are t n h = absurd (omega (arith, h))
+stored_keeps (r ∷ rows) are t n h = elim (place_cases r rows t n h) [
+  | inl old ↦ rw (meaning-old r rows t n old) (stored_keeps rows are.4 t n old)
+  | inr newest ↦ at_newest newest (row-keeps (size rows) (meaning rows) (stored_keeps rows are.4) (row_shape r) are.0 (row_fine rows r are.3))
+]
+  where
+    at_newest : IsNewest r rows t n → KeepsClauses (fill (meaning rows) (row_shape r)) → KeepsClauses (meaning (r ∷ rows) t n)
+    at_newest newest keeps =
+        let same : meaning (r ∷ rows) t n ≡ fill (meaning rows) (row_shape r) = rw (newest.last, ← newest.same_table) (meaning-new r rows) in
+        rw same keeps
+
+pub value_keeps : (rows : List Row) → AreRows rows → (s : Shape) → IsPartOf rows s → KeepsClauses (tree_in rows s)
+value_keeps rows are s part = part-keeps (size rows) (meaning rows) (stored_keeps rows are) s part

@@ -1,0 +1,21 @@
+use Rattle.std.proofs.Common.{refl}
+use Rattle.tt_kinds.specs.Kinds.{clauses_shape, const_shape, predicate_shape, ty_shape}
+use Rattle.tt_kinds.specs.declared.parts.Node.TheVariants as node
+use Rattle.tt_fold.proofs.CoreSteps.{asks}
+use Rattle.tt_fold.proofs.core_folder.AnyCoreFallible.core_term.Goals as goal
+
+pub returns-in-Ty : goal.returns-in-Ty
+returns-in-Ty g c =
+    rw c.ty_step.ensures (asks node.Ty ty_shape (λ _. refl) (λ _ _. refl) g.F.FallibleTypeFolder.hooks c.in-Ty.ty c.try_fold_ty.result c.in-Ty.is c.try_fold_ty.ensures.extends c.try_fold_ty.ensures.result)
+
+pub returns-in-Const : goal.returns-in-Const
+returns-in-Const g c =
+    rw c.const_step.ensures (asks node.Const const_shape (λ _. refl) (λ _ _. refl) g.F.FallibleTypeFolder.hooks c.in-Const.constant c.try_fold_const.result c.in-Const.is c.try_fold_const.ensures.extends c.try_fold_const.ensures.result)
+
+pub returns-in-Predicate : goal.returns-in-Predicate
+returns-in-Predicate g c =
+    rw c.predicate_step.ensures (asks node.Predicate predicate_shape (λ _. refl) (λ _ _. refl) g.F.FallibleTypeFolder.hooks c.in-Predicate.predicate c.try_fold_predicate.result c.in-Predicate.is c.try_fold_predicate.ensures.extends c.try_fold_predicate.ensures.result)
+
+pub returns-in-Clauses : goal.returns-in-Clauses
+returns-in-Clauses g c =
+    rw c.clauses_step.ensures (asks node.Clauses clauses_shape (λ _. refl) (λ _ _. refl) g.F.FallibleTypeFolder.hooks c.in-Clauses.clauses c.try_fold_clauses.result c.in-Clauses.is c.try_fold_clauses.ensures.extends c.try_fold_clauses.ensures.result)

@@ -1,0 +1,212 @@
+//! The folds of handles, and of the small values around them.
+
+use crate::core_folder::Core;
+use crate::foldable::{TypeFoldable, TypeSuperFoldable};
+use crate::list_of_sort::{list_args, list_consts, list_existentials, list_pats, list_tys};
+use crate::walk::{fold_inside, fold_list, fold_node};
+use tt_interner::Interner;
+use tt_kinds::{
+    BoundExistentialPredicates, Clauses, Const, Consts, GenericArg, GenericArgKind, GenericArgs,
+    List, Node, Pat, PatList, PolyExistentialPredicate, Predicate, Region, Term, TermKind, Ty, Tys,
+};
+
+impl TypeFoldable for Ty {
+    fn fold_core<M, F: Core<M>>(self, cx: &mut Interner, folder: &mut F) -> Result<Ty, F::Error> {
+        let node = fold_node::<M, F>(cx, folder, Node::Ty(self))?;
+        Ok(node.ty())
+    }
+}
+
+impl TypeFoldable for Const {
+    fn fold_core<M, F: Core<M>>(
+        self,
+        cx: &mut Interner,
+        folder: &mut F,
+    ) -> Result<Const, F::Error> {
+        let node = fold_node::<M, F>(cx, folder, Node::Const(self))?;
+        Ok(node.constant())
+    }
+}
+
+impl TypeFoldable for Pat {
+    fn fold_core<M, F: Core<M>>(self, cx: &mut Interner, folder: &mut F) -> Result<Pat, F::Error> {
+        let node = fold_node::<M, F>(cx, folder, Node::Pat(self))?;
+        Ok(node.pat())
+    }
+}
+
+impl TypeFoldable for Predicate {
+    fn fold_core<M, F: Core<M>>(
+        self,
+        cx: &mut Interner,
+        folder: &mut F,
+    ) -> Result<Predicate, F::Error> {
+        let node = fold_node::<M, F>(cx, folder, Node::Predicate(self))?;
+        Ok(node.predicate())
+    }
+}
+
+impl TypeFoldable for PolyExistentialPredicate {
+    fn fold_core<M, F: Core<M>>(
+        self,
+        cx: &mut Interner,
+        folder: &mut F,
+    ) -> Result<PolyExistentialPredicate, F::Error> {
+        let node = fold_node::<M, F>(cx, folder, Node::Existential(self))?;
+        Ok(node.existential())
+    }
+}
+
+impl TypeFoldable for Clauses {
+    fn fold_core<M, F: Core<M>>(
+        self,
+        cx: &mut Interner,
+        folder: &mut F,
+    ) -> Result<Clauses, F::Error> {
+        let node = fold_node::<M, F>(cx, folder, Node::Clauses(self))?;
+        Ok(node.clauses())
+    }
+}
+
+impl TypeSuperFoldable for Ty {
+    fn super_fold_core<M, F: Core<M>>(
+        self,
+        cx: &mut Interner,
+        folder: &mut F,
+    ) -> Result<Ty, F::Error> {
+        let node = fold_inside::<M, F>(cx, folder, Node::Ty(self))?;
+        Ok(node.ty())
+    }
+}
+
+impl TypeSuperFoldable for Const {
+    fn super_fold_core<M, F: Core<M>>(
+        self,
+        cx: &mut Interner,
+        folder: &mut F,
+    ) -> Result<Const, F::Error> {
+        let node = fold_inside::<M, F>(cx, folder, Node::Const(self))?;
+        Ok(node.constant())
+    }
+}
+
+impl TypeSuperFoldable for Predicate {
+    fn super_fold_core<M, F: Core<M>>(
+        self,
+        cx: &mut Interner,
+        folder: &mut F,
+    ) -> Result<Predicate, F::Error> {
+        let node = fold_inside::<M, F>(cx, folder, Node::Predicate(self))?;
+        Ok(node.predicate())
+    }
+}
+
+impl TypeSuperFoldable for Clauses {
+    fn super_fold_core<M, F: Core<M>>(
+        self,
+        cx: &mut Interner,
+        folder: &mut F,
+    ) -> Result<Clauses, F::Error> {
+        let node = fold_inside::<M, F>(cx, folder, Node::Clauses(self))?;
+        Ok(node.clauses())
+    }
+}
+
+impl TypeFoldable for Tys {
+    fn fold_core<M, F: Core<M>>(self, cx: &mut Interner, folder: &mut F) -> Result<Tys, F::Error> {
+        let list = fold_list::<M, F>(cx, folder, List::Tys(self))?;
+        Ok(list_tys(list))
+    }
+}
+
+impl TypeFoldable for Consts {
+    fn fold_core<M, F: Core<M>>(
+        self,
+        cx: &mut Interner,
+        folder: &mut F,
+    ) -> Result<Consts, F::Error> {
+        let list = fold_list::<M, F>(cx, folder, List::Consts(self))?;
+        Ok(list_consts(list))
+    }
+}
+
+impl TypeFoldable for GenericArgs {
+    fn fold_core<M, F: Core<M>>(
+        self,
+        cx: &mut Interner,
+        folder: &mut F,
+    ) -> Result<GenericArgs, F::Error> {
+        let list = fold_list::<M, F>(cx, folder, List::Args(self))?;
+        Ok(list_args(list))
+    }
+}
+
+impl TypeFoldable for PatList {
+    fn fold_core<M, F: Core<M>>(
+        self,
+        cx: &mut Interner,
+        folder: &mut F,
+    ) -> Result<PatList, F::Error> {
+        let list = fold_list::<M, F>(cx, folder, List::Pats(self))?;
+        Ok(list_pats(list))
+    }
+}
+
+impl TypeFoldable for BoundExistentialPredicates {
+    fn fold_core<M, F: Core<M>>(
+        self,
+        cx: &mut Interner,
+        folder: &mut F,
+    ) -> Result<BoundExistentialPredicates, F::Error> {
+        let list = fold_list::<M, F>(cx, folder, List::Existentials(self))?;
+        Ok(list_existentials(list))
+    }
+}
+
+impl TypeFoldable for Region {
+    fn fold_core<M, F: Core<M>>(
+        self,
+        cx: &mut Interner,
+        folder: &mut F,
+    ) -> Result<Region, F::Error> {
+        folder.core_region(cx, self)
+    }
+}
+
+impl TypeFoldable for GenericArg {
+    fn fold_core<M, F: Core<M>>(
+        self,
+        cx: &mut Interner,
+        folder: &mut F,
+    ) -> Result<GenericArg, F::Error> {
+        match self.kind() {
+            GenericArgKind::Lifetime(region) => {
+                let new_region = region.fold_core::<M, F>(cx, folder)?;
+                Ok(GenericArg::from(new_region))
+            }
+            GenericArgKind::Type(ty) => {
+                let new_ty = ty.fold_core::<M, F>(cx, folder)?;
+                Ok(GenericArg::from(new_ty))
+            }
+            GenericArgKind::Const(constant) => {
+                let new_constant = constant.fold_core::<M, F>(cx, folder)?;
+                Ok(GenericArg::from(new_constant))
+            }
+        }
+    }
+}
+
+impl TypeFoldable for Term {
+    fn fold_core<M, F: Core<M>>(self, cx: &mut Interner, folder: &mut F) -> Result<Term, F::Error> {
+        match self.kind() {
+            TermKind::Ty(ty) => {
+                let new_ty = ty.fold_core::<M, F>(cx, folder)?;
+                Ok(Term::from(new_ty))
+            }
+            TermKind::Const(constant) => {
+                let new_constant = constant.fold_core::<M, F>(cx, folder)?;
+                Ok(Term::from(new_constant))
+            }
+        }
+    }
+}

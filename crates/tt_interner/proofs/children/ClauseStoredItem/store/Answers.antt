@@ -1,0 +1,18 @@
+-- by the typed call
+use Rattle.std.proofs.Common.{refl}
+use Rattle.std.proofs.lemmas.Bool.{false≢true}
+use Rattle.tt_kinds.specs.declared.parts.List.TheVariants as stored_list
+use Rattle.tt_kinds.specs.declared.parts.ListSort.TheVariants as sort
+use Rattle.tt_interner.specs.Rows.{clauses_row}
+use Rattle.tt_interner.proofs.NodeLemmas.{is_row_of_clauses, StoresList-ok, StoresList-err, StoresList-other}
+use Rattle.tt_interner.proofs.ClauseLemmas.{no_other}
+use Rattle.tt_interner.proofs.children.ClauseStoredItem.store.Goals as goal
+
+pub returns-in-Err : goal.returns-in-Err
+returns-in-Err c = StoresList-err (λ list. list.number) _ _ sort.Clauses (clauses_row c.args.items.now) _ (is_row_of_clauses c.args.items.now) (no_other _ c.args.items.now (c.if-not-are_clauses.ensures.0 refl)) c.in-Err.e c.in-Err.ensures
+
+pub returns : goal.returns
+returns c = StoresList-ok (λ list. list.number) _ _ sort.Clauses (clauses_row c.args.items.now) _ (is_row_of_clauses c.args.items.now) (no_other _ c.args.items.now (c.if-not-are_clauses.ensures.0 refl)) c.in-Ok.list c.in-Ok.ensures (stored_list.Clauses c.in-Ok.list) refl refl
+
+pub returns-then-not-are_clauses : goal.returns-then-not-are_clauses
+returns-then-not-are_clauses c = StoresList-other _ c.args.items.now c.requires (λ h. false≢true (c.if-not-are_clauses.ensures.1 h))

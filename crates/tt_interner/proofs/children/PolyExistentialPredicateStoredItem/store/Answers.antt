@@ -1,0 +1,17 @@
+-- by the typed call
+use Rattle.std.proofs.Common.{refl, subst}
+use Rattle.tt_kinds.specs.declared.parts.List.TheVariants as stored_list
+use Rattle.tt_kinds.specs.declared.parts.ListSort.TheVariants as sort
+use Rattle.tt_kinds.specs.Shape.{AreParts}
+use Rattle.tt_interner.specs.Rows.{existentials_row, size}
+use Rattle.tt_interner.proofs.NodeLemmas.{is_row_of_existentials, existentials_shapes, StoresList-ok, StoresList-err}
+use Rattle.tt_interner.proofs.children.PolyExistentialPredicateStoredItem.store.Goals as goal
+
+pub mk_existential_list-requires : goal.mk_existential_list-requires
+mk_existential_list-requires c = subst (AreParts (size c.args.cx.now.rows)) (existentials_shapes c.args.items.now) c.requires
+
+pub returns-in-Err : goal.returns-in-Err
+returns-in-Err c = StoresList-err (λ list. list.number) _ _ sort.Existentials (existentials_row c.args.items.now) _ (is_row_of_existentials c.args.items.now) (λ bad. bad) c.in-Err.e c.in-Err.ensures
+
+pub returns : goal.returns
+returns c = StoresList-ok (λ list. list.number) _ _ sort.Existentials (existentials_row c.args.items.now) _ (is_row_of_existentials c.args.items.now) (λ bad. bad) c.in-Ok.list c.in-Ok.ensures (stored_list.Existentials c.in-Ok.list) refl refl

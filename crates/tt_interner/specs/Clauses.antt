@@ -1,0 +1,24 @@
+-- Which predicates are clauses, as their trees say.
+use Rattle.std.specs.Prelude.{Bool, false, ◌⊎◌, IsTrue, not}
+use Rattle.tt_kinds.specs.Label.{predicate_label, record_label, is_clause_record}
+use Rattle.tt_kinds.specs.Tree.{Tree, Forest, term, node, binder, none, also}
+
+-- what stands under a predicate's binder is a clause
+abbrev pub is_clause_part : {I : Type 0} → Tree I → Bool
+is_clause_part (node (record_label m) ts) = is_clause_record m
+is_clause_part _ = false
+
+-- what stands in a predicate is a clause under a binder
+abbrev pub is_clause_inside : {I : Type 0} → Forest I → Bool
+is_clause_inside (also (binder vs t) none) = is_clause_part t
+is_clause_inside _ = false
+
+-- the tree is that of a predicate that is a clause
+abbrev pub is_clause_tree : {I : Type 0} → Tree I → Bool
+is_clause_tree (term predicate_label ts) = is_clause_inside ts
+is_clause_tree _ = false
+
+-- one of the trees isn't that of a clause
+abbrev pub HasOther : {I : Type 0} → Forest I → Type 0
+HasOther none = ⊥
+HasOther (also t ts) = IsTrue (not (is_clause_tree t)) ⊎ HasOther ts

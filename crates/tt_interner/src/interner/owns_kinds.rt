@@ -1,0 +1,140 @@
+//! Whether all that stands in a kind is of an interner, as its calls require.
+
+ghost use Rattle.std.specs.Prelude.{◌<◌, ◌↔◌, IsTrue};
+ghost use Rattle.tt_kinds.specs.Shape.{AreParts, HasParts};
+ghost use Rattle.tt_kinds.specs.Parts.{node_table, node_number, list_table, list_number};
+ghost use Rattle.tt_kinds.specs.Kinds.{child_shapes, parts_shapes, kind_form, kind_shape, ty_kind_shape, const_kind_shape, pattern_kind_shape, predicate_kind_shape, existential_kind_shape};
+ghost use Rattle.tt_interner.specs.Rows.{size};
+ghost use Rattle.tt_interner.specs.OwnFlags.{IsNamedForm, IsBinderIn};
+
+use super::Interner;
+use tt_kinds::{
+    Binder, BoundVarKinds, Child, ClauseKind, ConstKind, ExistentialPredicate, Kind, List, Node,
+    Parts, PatternKind, PredicateKind, TyKind,
+};
+
+impl Interner {
+    /// Whether the number is that of a stored term of the same table.
+    pub fn owns_node(&self, node: Node) -> bool
+        ensures { IsTrue result ↔ (node_number node < size self.now.rows (node_table node)) }
+    {
+        match node {
+            Node::Ty(ty) => self.owns_ty(ty),
+            Node::Const(constant) => self.owns_const(constant),
+            Node::Pat(pat) => self.owns_pat(pat),
+            Node::Predicate(predicate) => self.owns_predicate(predicate),
+            Node::Existential(predicate) => self.owns_existential(predicate),
+            Node::Clauses(clauses) => self.owns_clauses(clauses),
+        }
+    }
+
+    /// Whether the number is that of a stored list of the same table.
+    pub fn owns_list(&self, list: List) -> bool
+        ensures { IsTrue result ↔ (list_number list < size self.now.rows (list_table list)) }
+    {
+        match list {
+            List::Tys(tys) => self.owns_tys(tys),
+            List::Consts(consts) => self.owns_consts(consts),
+            List::Args(args) => self.owns_args(args),
+            List::Pats(pats) => self.owns_pat_list(pats),
+            List::Existentials(predicates) => self.owns_existentials(predicates),
+            List::Clauses(clauses) => self.owns_clauses(clauses),
+        }
+    }
+
+    // Whether the child, if there is one, is of this interner.
+    #[tactic(auto, unfolding(tt_kinds::specs::Shape::IsPart))]
+    fn owns_child(&self, child: &Child) -> bool
+        ensures { IsTrue result ↔ AreParts (size self.now.rows) (child_shapes child.now) }
+    {
+        match child {
+            Child::Absent => true,
+            Child::Region(region) => self.owns_region(region),
+            Child::Node(node) => self.owns_node(*node),
+            Child::List(list) => self.owns_list(*list),
+        }
+    }
+
+    // Whether the children are of this interner.
+    fn owns_parts(&self, parts: &Parts) -> bool
+        ensures { IsTrue result ↔ AreParts (size self.now.rows) (parts_shapes parts.now) }
+    {
+        self.owns_child(&parts.first) && self.owns_child(&parts.second)
+    }
+
+    // Whether the list of a binder's variables, if there is one, is of this interner.
+    fn owns_binder(&self, vars: Option<BoundVarKinds>) -> bool
+        ensures { IsTrue result ↔ IsBinderIn (size self.now.rows) vars }
+    {
+        match vars {
+            Some(vars) => self.owns_bound_vars(vars),
+            None => true,
+        }
+    }
+
+    // Whether the text that the kind has of its own, if it has one, is of this interner.
+    fn owns_name(&self, kind: &Kind) -> bool
+        ensures { IsTrue result ↔ IsNamedForm (size self.now.rows) (kind_form kind.now) }
+    {
+        match kind {
+            Kind::Ty(TyKind::Param(param)) => self.owns_symbol(param.name),
+            Kind::Const(ConstKind::Param(param)) => self.owns_symbol(param.name),
+            Kind::Predicate(predicate) => match predicate.skip_binder() {
+                PredicateKind::Clause(ClauseKind::UnstableFeature(feature)) => self.owns_symbol(
+                    feature,
+                ),
+                _ => true,
+            },
+            _ => true,
+        }
+    }
+
+    // Whether all that stands in the kind is of this interner.
+    fn owns_contents(&self, kind: &Kind) -> bool
+        ensures { IsTrue result ↔ HasParts (size self.now.rows) (kind_shape kind.now) }
+    {
+        if !self.owns_name(kind) {
+            return false;
+        }
+        let parts = kind.parts();
+        if !self.owns_parts(&parts) {
+            return false;
+        }
+        self.owns_binder(kind.bound_vars())
+    }
+
+    /// Whether all that stands in the kind of a type is of this interner.
+    pub fn owns_kind(&self, kind: &TyKind) -> bool
+        ensures { IsTrue result ↔ HasParts (size self.now.rows) (ty_kind_shape kind.now) }
+    {
+        self.owns_contents(&Kind::Ty(*kind))
+    }
+
+    /// Whether all that stands in the kind of a constant is of this interner.
+    pub fn owns_const_kind(&self, kind: &ConstKind) -> bool
+        ensures { IsTrue result ↔ HasParts (size self.now.rows) (const_kind_shape kind.now) }
+    {
+        self.owns_contents(&Kind::Const(*kind))
+    }
+
+    /// Whether all that stands in the kind of a pattern is of this interner.
+    pub fn owns_pattern_kind(&self, kind: &PatternKind) -> bool
+        ensures { IsTrue result ↔ HasParts (size self.now.rows) (pattern_kind_shape kind.now) }
+    {
+        self.owns_contents(&Kind::Pat(*kind))
+    }
+
+    /// Whether all that stands in the predicate, its binder's variables among it, is of this interner.
+    pub fn owns_predicate_kind(&self, kind: &Binder<PredicateKind>) -> bool
+        ensures { IsTrue result ↔ HasParts (size self.now.rows) (predicate_kind_shape kind.now) }
+    {
+        self.owns_contents(&Kind::Predicate(*kind))
+    }
+
+    /// Whether all that stands in the existential predicate, its binder's variables among it, is of this interner.
+    pub fn owns_existential_kind(&self, kind: &Binder<ExistentialPredicate>) -> bool
+        ensures { IsTrue result ↔ HasParts (size self.now.rows) (existential_kind_shape kind.now) }
+    {
+        self.owns_contents(&Kind::Existential(*kind))
+    }
+}

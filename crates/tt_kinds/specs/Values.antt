@@ -1,0 +1,114 @@
+-- Values that have no row of their own: records, and what stands in them.
+use Rattle.std.specs.Prelude.{ℕ, List}
+use Rattle.tt_kinds.specs.Label.{RecordLabel, trait_ref_record, alias_term_record, alias_ty_record, outlives_record, type_and_mut_record, fn_sig_record, param_env_record, witness_types_record, projection_record, normalizes_to_record, trait_record, host_effect_record, subtype_record, coerce_record, record_label, list_label}
+use Rattle.tt_kinds.specs.Shape as shape
+use Rattle.tt_kinds.specs.Shape.{Shape, item_shapes}
+use Rattle.tt_kinds.specs.Kinds.{region_shape, arg_shape, ty_shape, tys_shape, args_shape, clauses_shape, term_shape, clause_form, predicate_form, existential_form, record_shape}
+use Rattle.tt_kinds.specs.declared.table.Table.TheVariants.{AssumptionLists}
+use Rattle.tt_kinds.specs.declared.handle.RegionAssumptions.{RegionAssumptions}
+use Rattle.tt_kinds.specs.declared.generic_arg.GenericArgKind.{GenericArgKind}
+use Rattle.tt_kinds.specs.declared.alias.AliasTy.{AliasTy}
+use Rattle.tt_kinds.specs.declared.alias.AliasTerm.{AliasTerm}
+use Rattle.tt_kinds.specs.declared.fn_sig.FnSig.{FnSig}
+use Rattle.tt_kinds.specs.declared.fn_sig.CoroutineWitnessTypes.{CoroutineWitnessTypes}
+use Rattle.tt_kinds.specs.declared.ty_kind.TypeAndMut.{TypeAndMut}
+use Rattle.tt_kinds.specs.declared.predicate.TraitRef.{TraitRef}
+use Rattle.tt_kinds.specs.declared.predicate.TraitPredicate.{TraitPredicate}
+use Rattle.tt_kinds.specs.declared.predicate.HostEffectPredicate.{HostEffectPredicate}
+use Rattle.tt_kinds.specs.declared.predicate.OutlivesPredicate.{OutlivesPredicate}
+use Rattle.tt_kinds.specs.declared.predicate.ProjectionPredicate.{ProjectionPredicate}
+use Rattle.tt_kinds.specs.declared.predicate.NormalizesTo.{NormalizesTo}
+use Rattle.tt_kinds.specs.declared.predicate.SubtypePredicate.{SubtypePredicate}
+use Rattle.tt_kinds.specs.declared.predicate.CoercePredicate.{CoercePredicate}
+use Rattle.tt_kinds.specs.declared.predicate.ParamEnv.{ParamEnv}
+use Rattle.tt_kinds.specs.declared.predicate_kind.ClauseKind.{ClauseKind}
+use Rattle.tt_kinds.specs.declared.predicate_kind.PredicateKind.{PredicateKind}
+use Rattle.tt_kinds.specs.declared.existential.ExistentialPredicate.{ExistentialPredicate}
+
+-- a record of one value
+abbrev pub one_record : RecordLabel ℕ → Shape → Shape
+one_record l s = shape.node (record_label l) (shape.also s shape.none)
+
+-- a record of two values
+abbrev pub two_record : RecordLabel ℕ → Shape → Shape → Shape
+two_record l s u = shape.node (record_label l) (shape.also s (shape.also u shape.none))
+
+-- a trait with its arguments
+abbrev pub trait_ref_shape : TraitRef → Shape
+trait_ref_shape t = one_record (trait_ref_record t.def_id.number) (args_shape t.args)
+
+-- an alias of a type or a constant
+abbrev pub alias_term_shape : AliasTerm → Shape
+alias_term_shape a = one_record (alias_term_record a.def_id.number) (args_shape a.args)
+
+-- an alias of a type
+abbrev pub alias_ty_shape : AliasTy → Shape
+alias_ty_shape a = one_record (alias_ty_record a.kind) (args_shape a.args)
+
+-- what outlives a region, and the region
+abbrev pub outlives_shape : {A : Type 0} → (A → Shape) → OutlivesPredicate A → Shape
+outlives_shape of_value p = two_record outlives_record (of_value p.0) (region_shape p.1)
+
+-- what is assumed of regions, by its handle
+abbrev pub assumptions_shape : RegionAssumptions → Shape
+assumptions_shape a = shape.stored AssumptionLists a.number
+
+-- an argument outlives a region
+abbrev pub assumption_shape : OutlivesPredicate GenericArgKind → Shape
+assumption_shape p = outlives_shape arg_shape p
+
+-- what the row of a list of assumptions is
+abbrev pub assumptions_row_shape : List (OutlivesPredicate GenericArgKind) → Shape
+assumptions_row_shape ps = shape.node (list_label AssumptionLists) (item_shapes assumption_shape ps)
+
+-- what a coroutine keeps while it waits
+abbrev pub witness_types_shape : CoroutineWitnessTypes → Shape
+witness_types_shape w = two_record witness_types_record (tys_shape w.types) (assumptions_shape w.assumptions)
+
+-- a type with a mutability
+abbrev pub type_and_mut_shape : TypeAndMut → Shape
+type_and_mut_shape t = one_record (type_and_mut_record t.mutbl) (ty_shape t.ty)
+
+-- a signature
+abbrev pub fn_sig_shape : FnSig → Shape
+fn_sig_shape s = one_record (fn_sig_record s.fn_sig_kind) (tys_shape s.inputs_and_output)
+
+-- what may be assumed inside an item
+abbrev pub param_env_shape : ParamEnv → Shape
+param_env_shape e = one_record param_env_record (clauses_shape e.caller_bounds)
+
+-- a type implements a trait
+abbrev pub trait_predicate_shape : TraitPredicate → Shape
+trait_predicate_shape p = one_record (trait_record p.trait_ref.def_id.number) (args_shape p.trait_ref.args)
+
+-- a type implements a trait, in constants
+abbrev pub host_effect_shape : HostEffectPredicate → Shape
+host_effect_shape p = one_record (host_effect_record p.trait_ref.def_id.number p.constness) (args_shape p.trait_ref.args)
+
+-- an alias stands for a term
+abbrev pub projection_shape : ProjectionPredicate → Shape
+projection_shape p = two_record (projection_record p.projection_term.def_id.number) (args_shape p.projection_term.args) (term_shape p.term)
+
+-- an alias normalizes to a term
+abbrev pub normalizes_to_shape : NormalizesTo → Shape
+normalizes_to_shape p = two_record (normalizes_to_record p.alias.def_id.number) (args_shape p.alias.args) (term_shape p.term)
+
+-- a type is a subtype of another
+abbrev pub subtype_shape : SubtypePredicate → Shape
+subtype_shape p = two_record (subtype_record p.a_is_expected) (ty_shape p.a) (ty_shape p.b)
+
+-- a type can be coerced to another
+abbrev pub coerce_shape : CoercePredicate → Shape
+coerce_shape p = two_record coerce_record (ty_shape p.a) (ty_shape p.b)
+
+-- what a clause says, without its binder
+abbrev pub clause_record_shape : ClauseKind → Shape
+clause_record_shape k = record_shape (clause_form k)
+
+-- what a predicate says, without its binder
+abbrev pub predicate_record_shape : PredicateKind → Shape
+predicate_record_shape k = record_shape (predicate_form k)
+
+-- what an existential predicate says, without its binder
+abbrev pub existential_record_shape : ExistentialPredicate → Shape
+existential_record_shape e = record_shape (existential_form e)

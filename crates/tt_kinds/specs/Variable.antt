@@ -1,0 +1,27 @@
+-- The variables of a binder's list, by what they stand for.
+use Rattle.std.specs.Prelude.{⊤, Option, Some, None}
+use Rattle.tt_kinds.specs.declared.id.DefId.{DefId}
+use Rattle.tt_kinds.specs.declared.bound.BoundRegionKind.{BoundRegionKind}
+use Rattle.tt_kinds.specs.declared.bound.BoundRegionKind.TheVariants.{Named}
+use Rattle.tt_kinds.specs.declared.bound.BoundVariableKind.{BoundVariableKind}
+use Rattle.tt_kinds.specs.declared.bound.BoundVariableKind.TheVariants as variable
+
+-- the variable stands for a region
+abbrev pub IsRegionVariable : BoundVariableKind → Type 0
+IsRegionVariable (variable.Region k) = ⊤
+IsRegionVariable _ = ⊥
+
+-- the variable stands for a type
+abbrev pub IsTypeVariable : BoundVariableKind → Type 0
+IsTypeVariable (variable.Ty k) = ⊤
+IsTypeVariable _ = ⊥
+
+-- the variable stands for a constant
+abbrev pub IsConstVariable : BoundVariableKind → Type 0
+IsConstVariable variable.Const = ⊤
+IsConstVariable _ = ⊥
+
+-- the declaration of a bound region that is declared
+abbrev pub region_id : BoundRegionKind → Option DefId
+region_id (Named d) = Some d
+region_id _ = None

@@ -1,0 +1,76 @@
+//! Aliases: types that stand for others.
+
+ghost use Rattle.std.specs.Prelude.{◌≡◌};
+ghost use Rattle.tt_kinds.specs.Alias.{alias_name, alias_number};
+
+use crate::handle::GenericArgs;
+use crate::id::{DefId, FreeTyAliasId, InherentAssocTyId, OpaqueTyId, TraitAssocTyId};
+
+/// Which alias is meant.
+#[derive(Clone, Copy, Debug, PartialEq, Eq, Hash)]
+pub enum AliasTyKind {
+    /// An associated type of a trait, which an implementation gives.
+    Projection {
+        /// The associated type.
+        def_id: TraitAssocTyId,
+    },
+    /// An associated type of an implementation that is no trait's.
+    Inherent {
+        /// The associated type.
+        def_id: InherentAssocTyId,
+    },
+    /// An opaque type.
+    Opaque {
+        /// The opaque type.
+        def_id: OpaqueTyId,
+    },
+    /// A type alias that stands for itself.
+    Free {
+        /// The alias.
+        def_id: FreeTyAliasId,
+    },
+}
+
+impl AliasTyKind {
+    /// What it is called in messages: `associated type`, `inherent associated type`, `opaque type` or `type alias`.
+    pub fn descr(self) -> &'static str
+        ensures { result.now ≡ alias_name self }
+    {
+        match self {
+            AliasTyKind::Projection { .. } => "associated type",
+            AliasTyKind::Inherent { .. } => "inherent associated type",
+            AliasTyKind::Opaque { .. } => "opaque type",
+            AliasTyKind::Free { .. } => "type alias",
+        }
+    }
+
+    /// The declaration of the alias.
+    pub fn def_id(self) -> DefId
+        ensures { result ≡ record { number = alias_number self } }
+    {
+        match self {
+            AliasTyKind::Projection { def_id } => def_id.into(),
+            AliasTyKind::Inherent { def_id } => def_id.into(),
+            AliasTyKind::Opaque { def_id } => def_id.into(),
+            AliasTyKind::Free { def_id } => def_id.into(),
+        }
+    }
+}
+
+/// A type that stands for another, which normalizing finds.
+#[derive(Clone, Copy, Debug, PartialEq, Eq, Hash)]
+pub struct AliasTy {
+    /// The arguments of the alias.
+    pub args: GenericArgs,
+    /// Which alias it is.
+    pub kind: AliasTyKind,
+}
+
+/// A type or a constant that stands for another.
+#[derive(Clone, Copy, Debug, PartialEq, Eq, Hash)]
+pub struct AliasTerm {
+    /// The arguments of the alias.
+    pub args: GenericArgs,
+    /// The declaration of the alias.
+    pub def_id: DefId,
+}

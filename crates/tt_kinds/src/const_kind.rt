@@ -1,0 +1,187 @@
+//! Constants of the type level.
+
+ghost use Rattle.std.specs.Prelude.{◌≡◌};
+ghost use Rattle.tt_kinds.specs.ValTree.{IsLeaf, IsBranch, leaf_of, branch_of};
+ghost use Rattle.tt_kinds.specs.declared.const_kind.ValTreeKind.TheVariants as tree;
+
+use crate::bound::{BoundConst, BoundVarIndexKind};
+use crate::error_guaranteed::ErrorGuaranteed;
+use crate::handle::{Consts, GenericArgs, Symbol, Ty};
+use crate::id::UnevaluatedConstId;
+use crate::placeholder::PlaceholderConst;
+use tt_index::ConstVid;
+
+/// A constant parameter of an item, which is replaced when the item is instantiated.
+#[derive(Clone, Copy, Debug, PartialEq, Eq, Hash)]
+pub struct ParamConst {
+    /// Its place among the item's generic parameters.
+    pub index: u32,
+    /// Its name.
+    pub name: Symbol,
+}
+
+/// A constant variable of inference.
+#[derive(Clone, Copy, Debug, PartialEq, Eq, PartialOrd, Ord, Hash)]
+pub enum InferConst {
+    /// It stands for any constant.
+    Var(ConstVid),
+    /// A number in place of a `Var`, by which constants are told apart in caches.
+    Fresh(u32),
+}
+
+/// A constant whose value isn't computed yet.
+#[derive(Clone, Copy, Debug, PartialEq, Eq, Hash)]
+pub struct UnevaluatedConst {
+    /// What computes it.
+    pub def: UnevaluatedConstId,
+    /// The arguments of what computes it.
+    pub args: GenericArgs,
+}
+
+impl UnevaluatedConst {
+    /// What `def` computes for these arguments.
+    pub fn new(def: UnevaluatedConstId, args: GenericArgs) -> UnevaluatedConst
+        ensures { result ≡ record { def = def; args = args } }
+    {
+        UnevaluatedConst { def, args }
+    }
+}
+
+/// A whole number, a truth value or a character, by its bits.
+#[derive(Clone, Copy, Debug, PartialEq, Eq, Hash)]
+pub struct ScalarInt {
+    /// Its bits, from the lowest on.
+    pub bits: u128,
+    /// How many bytes it has.
+    pub size: u8,
+}
+
+/// What a value of the type level is made of.
+#[derive(Clone, Copy, Debug, PartialEq, Eq, Hash)]
+pub enum ValTreeKind {
+    /// Bits.
+    Leaf(ScalarInt),
+    /// The values of its fields or items, in order.
+    Branch(Consts),
+}
+
+impl ValTreeKind {
+    /// The bits. It has to be a leaf; [`ValTreeKind::try_to_leaf`] tests it.
+    pub fn to_leaf(self) -> ScalarInt
+        requires { IsLeaf self }
+        ensures { self ≡ tree.Leaf result }
+    {
+        match self {
+            ValTreeKind::Leaf(leaf) => leaf,
+            ValTreeKind::Branch(_) => unreachable!(),
+        }
+    }
+
+    /// The values inside. It has to be a branch; [`ValTreeKind::try_to_branch`] tests it.
+    pub fn to_branch(self) -> Consts
+        requires { IsBranch self }
+        ensures { self ≡ tree.Branch result }
+    {
+        match self {
+            ValTreeKind::Branch(branch) => branch,
+            ValTreeKind::Leaf(_) => unreachable!(),
+        }
+    }
+
+    /// The bits of a leaf, and `None` of a branch.
+    pub fn try_to_leaf(self) -> Option<ScalarInt>
+        ensures { result ≡ leaf_of self }
+    {
+        match self {
+            ValTreeKind::Leaf(leaf) => Some(leaf),
+            ValTreeKind::Branch(_) => None,
+        }
+    }
+
+    /// The values inside a branch, and `None` of a leaf.
+    pub fn try_to_branch(self) -> Option<Consts>
+        ensures { result ≡ branch_of self }
+    {
+        match self {
+            ValTreeKind::Branch(branch) => Some(branch),
+            ValTreeKind::Leaf(_) => None,
+        }
+    }
+}
+
+/// A value of the type level, without its type.
+#[derive(Clone, Copy, Debug, PartialEq, Eq, Hash)]
+pub struct ValTree {
+    kind: ValTreeKind,
+}
+
+impl ValTree {
+    /// What the value is made of.
+    pub fn kind(self) -> ValTreeKind
+        ensures { result ≡ self.kind }
+    {
+        self.kind
+    }
+}
+
+impl From<ValTreeKind> for ValTree {
+    ghost from_gives = { λ kind valtree. valtree ≡ record { kind = kind } };
+
+    fn from(kind: ValTreeKind) -> ValTree {
+        ValTree { kind }
+    }
+}
+
+/// A value with its type.
+#[derive(Clone, Copy, Debug, PartialEq, Eq, Hash)]
+pub struct ValueConst {
+    /// Its type.
+    pub ty: Ty,
+    /// The value.
+    pub valtree: ValTree,
+}
+
+/// An expression over constants that can't be computed yet.
+#[derive(Clone, Copy, Debug, PartialEq, Eq, Hash)]
+pub struct ExprConst {
+    /// Which expression it is, by a number of the front end's.
+    pub tag: u32,
+    /// What stands in it.
+    pub args: GenericArgs,
+}
+
+/// What a constant is.
+#[derive(Clone, Copy, Debug, PartialEq, Eq, Hash)]
+pub enum ConstKind {
+    /// A constant parameter of an item.
+    Param(ParamConst),
+    /// A constant variable of inference.
+    Infer(InferConst),
+    /// A constant that a binder binds.
+    Bound(BoundVarIndexKind, BoundConst),
+    /// A constant that a binder bound which has been entered.
+    Placeholder(PlaceholderConst),
+    /// A constant whose value isn't computed yet.
+    Unevaluated(UnevaluatedConst),
+    /// A value.
+    Value(ValueConst),
+    /// A constant of which an error was reported.
+    Error(ErrorGuaranteed),
+    /// An expression over constants.
+    Expr(ExprConst),
+}
+
+/// What a constant without a name was written as.
+#[derive(Clone, Copy, Debug, PartialEq, Eq, Hash)]
+pub enum AnonConstKind {
+    /// An expression over generic parameters, where that is allowed.
+    GCE,
+    /// An expression that may name a generic parameter alone.
+    MCG,
+    /// An argument that is a path or a literal over generic parameters.
+    GCA,
+    /// The length of an array that repeats one value.
+    RepeatExprCount,
+    /// An expression that stands in no type.
+    NonTypeSystem,
+}

@@ -1,0 +1,417 @@
+//! Ids: small values that name a declaration of one interner.
+//!
+//! An id's number is its place in the interner's table of declarations. Ids of two interners aren't told apart.
+
+ghost use Rattle.std.specs.Prelude.{◌≡◌};
+
+/// A declaration of any kind.
+#[derive(Clone, Copy, Debug, PartialEq, Eq, Hash)]
+pub struct DefId {
+    number: u32,
+}
+
+impl DefId {
+    /// The id of this number.
+    pub fn from_number(number: u32) -> DefId
+        ensures { result ≡ record { number = number } }
+    {
+        DefId { number }
+    }
+
+    /// The declaration's place in the table of declarations, counted from 0.
+    pub fn number(self) -> u32
+        ensures { result ≡ self.number }
+    {
+        self.number
+    }
+}
+
+/// A struct, an enum or a union.
+#[derive(Clone, Copy, Debug, PartialEq, Eq, Hash)]
+pub struct AdtId {
+    number: u32,
+}
+
+impl AdtId {
+    /// The id of this number.
+    pub fn from_number(number: u32) -> AdtId
+        ensures { result ≡ record { number = number } }
+    {
+        AdtId { number }
+    }
+
+    /// The declaration's place in the table of declarations, counted from 0.
+    pub fn number(self) -> u32
+        ensures { result ≡ self.number }
+    {
+        self.number
+    }
+}
+
+impl From<AdtId> for DefId {
+    ghost from_gives = { λ id def_id. def_id ≡ record { number = id.number } };
+
+    fn from(id: AdtId) -> DefId {
+        DefId { number: id.number }
+    }
+}
+
+/// A type that is declared elsewhere, of which nothing is known here.
+#[derive(Clone, Copy, Debug, PartialEq, Eq, Hash)]
+pub struct ForeignId {
+    number: u32,
+}
+
+impl ForeignId {
+    /// The id of this number.
+    pub fn from_number(number: u32) -> ForeignId
+        ensures { result ≡ record { number = number } }
+    {
+        ForeignId { number }
+    }
+
+    /// The declaration's place in the table of declarations, counted from 0.
+    pub fn number(self) -> u32
+        ensures { result ≡ self.number }
+    {
+        self.number
+    }
+}
+
+impl From<ForeignId> for DefId {
+    ghost from_gives = { λ id def_id. def_id ≡ record { number = id.number } };
+
+    fn from(id: ForeignId) -> DefId {
+        DefId { number: id.number }
+    }
+}
+
+/// A function.
+#[derive(Clone, Copy, Debug, PartialEq, Eq, Hash)]
+pub struct FunctionId {
+    number: u32,
+}
+
+impl FunctionId {
+    /// The id of this number.
+    pub fn from_number(number: u32) -> FunctionId
+        ensures { result ≡ record { number = number } }
+    {
+        FunctionId { number }
+    }
+
+    /// The declaration's place in the table of declarations, counted from 0.
+    pub fn number(self) -> u32
+        ensures { result ≡ self.number }
+    {
+        self.number
+    }
+}
+
+impl From<FunctionId> for DefId {
+    ghost from_gives = { λ id def_id. def_id ≡ record { number = id.number } };
+
+    fn from(id: FunctionId) -> DefId {
+        DefId { number: id.number }
+    }
+}
+
+/// A closure.
+#[derive(Clone, Copy, Debug, PartialEq, Eq, Hash)]
+pub struct ClosureId {
+    number: u32,
+}
+
+impl ClosureId {
+    /// The id of this number.
+    pub fn from_number(number: u32) -> ClosureId
+        ensures { result ≡ record { number = number } }
+    {
+        ClosureId { number }
+    }
+
+    /// The declaration's place in the table of declarations, counted from 0.
+    pub fn number(self) -> u32
+        ensures { result ≡ self.number }
+    {
+        self.number
+    }
+}
+
+impl From<ClosureId> for DefId {
+    ghost from_gives = { λ id def_id. def_id ≡ record { number = id.number } };
+
+    fn from(id: ClosureId) -> DefId {
+        DefId { number: id.number }
+    }
+}
+
+/// A closure that answers a coroutine.
+#[derive(Clone, Copy, Debug, PartialEq, Eq, Hash)]
+pub struct CoroutineClosureId {
+    number: u32,
+}
+
+impl CoroutineClosureId {
+    /// The id of this number.
+    pub fn from_number(number: u32) -> CoroutineClosureId
+        ensures { result ≡ record { number = number } }
+    {
+        CoroutineClosureId { number }
+    }
+
+    /// The declaration's place in the table of declarations, counted from 0.
+    pub fn number(self) -> u32
+        ensures { result ≡ self.number }
+    {
+        self.number
+    }
+}
+
+impl From<CoroutineClosureId> for DefId {
+    ghost from_gives = { λ id def_id. def_id ≡ record { number = id.number } };
+
+    fn from(id: CoroutineClosureId) -> DefId {
+        DefId { number: id.number }
+    }
+}
+
+/// A coroutine.
+#[derive(Clone, Copy, Debug, PartialEq, Eq, Hash)]
+pub struct CoroutineId {
+    number: u32,
+}
+
+impl CoroutineId {
+    /// The id of this number.
+    pub fn from_number(number: u32) -> CoroutineId
+        ensures { result ≡ record { number = number } }
+    {
+        CoroutineId { number }
+    }
+
+    /// The declaration's place in the table of declarations, counted from 0.
+    pub fn number(self) -> u32
+        ensures { result ≡ self.number }
+    {
+        self.number
+    }
+}
+
+impl From<CoroutineId> for DefId {
+    ghost from_gives = { λ id def_id. def_id ≡ record { number = id.number } };
+
+    fn from(id: CoroutineId) -> DefId {
+        DefId { number: id.number }
+    }
+}
+
+/// A trait.
+#[derive(Clone, Copy, Debug, PartialEq, Eq, Hash)]
+pub struct TraitId {
+    number: u32,
+}
+
+impl TraitId {
+    /// The id of this number.
+    pub fn from_number(number: u32) -> TraitId
+        ensures { result ≡ record { number = number } }
+    {
+        TraitId { number }
+    }
+
+    /// The declaration's place in the table of declarations, counted from 0.
+    pub fn number(self) -> u32
+        ensures { result ≡ self.number }
+    {
+        self.number
+    }
+}
+
+impl From<TraitId> for DefId {
+    ghost from_gives = { λ id def_id. def_id ≡ record { number = id.number } };
+
+    fn from(id: TraitId) -> DefId {
+        DefId { number: id.number }
+    }
+}
+
+/// An implementation: of a trait, or of a type's own items.
+#[derive(Clone, Copy, Debug, PartialEq, Eq, Hash)]
+pub struct ImplId {
+    number: u32,
+}
+
+impl ImplId {
+    /// The id of this number.
+    pub fn from_number(number: u32) -> ImplId
+        ensures { result ≡ record { number = number } }
+    {
+        ImplId { number }
+    }
+
+    /// The declaration's place in the table of declarations, counted from 0.
+    pub fn number(self) -> u32
+        ensures { result ≡ self.number }
+    {
+        self.number
+    }
+}
+
+impl From<ImplId> for DefId {
+    ghost from_gives = { λ id def_id. def_id ≡ record { number = id.number } };
+
+    fn from(id: ImplId) -> DefId {
+        DefId { number: id.number }
+    }
+}
+
+/// A constant whose value is computed when it is asked for.
+#[derive(Clone, Copy, Debug, PartialEq, Eq, Hash)]
+pub struct UnevaluatedConstId {
+    number: u32,
+}
+
+impl UnevaluatedConstId {
+    /// The id of this number.
+    pub fn from_number(number: u32) -> UnevaluatedConstId
+        ensures { result ≡ record { number = number } }
+    {
+        UnevaluatedConstId { number }
+    }
+
+    /// The declaration's place in the table of declarations, counted from 0.
+    pub fn number(self) -> u32
+        ensures { result ≡ self.number }
+    {
+        self.number
+    }
+}
+
+impl From<UnevaluatedConstId> for DefId {
+    ghost from_gives = { λ id def_id. def_id ≡ record { number = id.number } };
+
+    fn from(id: UnevaluatedConstId) -> DefId {
+        DefId { number: id.number }
+    }
+}
+
+/// An associated type of a trait.
+#[derive(Clone, Copy, Debug, PartialEq, Eq, Hash)]
+pub struct TraitAssocTyId {
+    number: u32,
+}
+
+impl TraitAssocTyId {
+    /// The id of this number.
+    pub fn from_number(number: u32) -> TraitAssocTyId
+        ensures { result ≡ record { number = number } }
+    {
+        TraitAssocTyId { number }
+    }
+
+    /// The declaration's place in the table of declarations, counted from 0.
+    pub fn number(self) -> u32
+        ensures { result ≡ self.number }
+    {
+        self.number
+    }
+}
+
+impl From<TraitAssocTyId> for DefId {
+    ghost from_gives = { λ id def_id. def_id ≡ record { number = id.number } };
+
+    fn from(id: TraitAssocTyId) -> DefId {
+        DefId { number: id.number }
+    }
+}
+
+/// An associated type of an implementation that is no trait's.
+#[derive(Clone, Copy, Debug, PartialEq, Eq, Hash)]
+pub struct InherentAssocTyId {
+    number: u32,
+}
+
+impl InherentAssocTyId {
+    /// The id of this number.
+    pub fn from_number(number: u32) -> InherentAssocTyId
+        ensures { result ≡ record { number = number } }
+    {
+        InherentAssocTyId { number }
+    }
+
+    /// The declaration's place in the table of declarations, counted from 0.
+    pub fn number(self) -> u32
+        ensures { result ≡ self.number }
+    {
+        self.number
+    }
+}
+
+impl From<InherentAssocTyId> for DefId {
+    ghost from_gives = { λ id def_id. def_id ≡ record { number = id.number } };
+
+    fn from(id: InherentAssocTyId) -> DefId {
+        DefId { number: id.number }
+    }
+}
+
+/// An opaque type, such as `impl Trait` as a result.
+#[derive(Clone, Copy, Debug, PartialEq, Eq, Hash)]
+pub struct OpaqueTyId {
+    number: u32,
+}
+
+impl OpaqueTyId {
+    /// The id of this number.
+    pub fn from_number(number: u32) -> OpaqueTyId
+        ensures { result ≡ record { number = number } }
+    {
+        OpaqueTyId { number }
+    }
+
+    /// The declaration's place in the table of declarations, counted from 0.
+    pub fn number(self) -> u32
+        ensures { result ≡ self.number }
+    {
+        self.number
+    }
+}
+
+impl From<OpaqueTyId> for DefId {
+    ghost from_gives = { λ id def_id. def_id ≡ record { number = id.number } };
+
+    fn from(id: OpaqueTyId) -> DefId {
+        DefId { number: id.number }
+    }
+}
+
+/// A type alias that stands for itself.
+#[derive(Clone, Copy, Debug, PartialEq, Eq, Hash)]
+pub struct FreeTyAliasId {
+    number: u32,
+}
+
+impl FreeTyAliasId {
+    /// The id of this number.
+    pub fn from_number(number: u32) -> FreeTyAliasId
+        ensures { result ≡ record { number = number } }
+    {
+        FreeTyAliasId { number }
+    }
+
+    /// The declaration's place in the table of declarations, counted from 0.
+    pub fn number(self) -> u32
+        ensures { result ≡ self.number }
+    {
+        self.number
+    }
+}
+
+impl From<FreeTyAliasId> for DefId {
+    ghost from_gives = { λ id def_id. def_id ≡ record { number = id.number } };
+
+    fn from(id: FreeTyAliasId) -> DefId {
+        DefId { number: id.number }
+    }
+}

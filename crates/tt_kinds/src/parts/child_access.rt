@@ -1,0 +1,209 @@
+//! Children, each by what it is.
+
+ghost use Rattle.std.specs.Prelude.{◌≡◌, ◌↔◌, IsTrue};
+ghost use Rattle.tt_kinds.specs.Parts.{a_region, a_node, a_list, child_sort, IsTermSort, term_child};
+ghost use Rattle.tt_kinds.specs.declared.parts.Node.TheVariants as node;
+ghost use Rattle.tt_kinds.specs.declared.parts.List.TheVariants as list;
+ghost use Rattle.tt_kinds.specs.declared.parts.Child.TheVariants as child;
+
+use crate::handle::{
+    BoundExistentialPredicates, Clauses, Const, Consts, GenericArgs, Pat, PatList,
+    PolyExistentialPredicate, Predicate, Ty, Tys,
+};
+use crate::parts::{Child, List, ListSort, Node};
+use crate::region_kind::Region;
+use crate::table::Table;
+use crate::term::{Term, TermKind};
+
+impl Child {
+    /// Whether the other child is of the same sort: absent, a region, a term of the same table, or a list of the same sort.
+    pub fn is_like(&self, other: &Child) -> bool
+        ensures { IsTrue result ↔ (child_sort other.now ≡ child_sort self.now) }
+    {
+        match self {
+            Child::Absent => matches!(other, Child::Absent),
+            Child::Region(_) => matches!(other, Child::Region(_)),
+            Child::Node(Node::Ty(_)) => matches!(other, Child::Node(Node::Ty(_))),
+            Child::Node(Node::Const(_)) => matches!(other, Child::Node(Node::Const(_))),
+            Child::Node(Node::Pat(_)) => matches!(other, Child::Node(Node::Pat(_))),
+            Child::Node(Node::Predicate(_)) => matches!(other, Child::Node(Node::Predicate(_))),
+            Child::Node(Node::Existential(_)) => matches!(other, Child::Node(Node::Existential(_))),
+            Child::Node(Node::Clauses(_)) => matches!(other, Child::Node(Node::Clauses(_))),
+            Child::List(List::Tys(_)) => matches!(other, Child::List(List::Tys(_))),
+            Child::List(List::Consts(_)) => matches!(other, Child::List(List::Consts(_))),
+            Child::List(List::Args(_)) => matches!(other, Child::List(List::Args(_))),
+            Child::List(List::Pats(_)) => matches!(other, Child::List(List::Pats(_))),
+            Child::List(List::Existentials(_)) => matches!(
+                other,
+                Child::List(List::Existentials(_))
+            ),
+            Child::List(List::Clauses(_)) => matches!(other, Child::List(List::Clauses(_))),
+        }
+    }
+}
+
+// Each is for a child of that sort; a `match` tests it.
+impl Child {
+    /// The region.
+    #[inline(always)]
+    pub fn region(self) -> Region
+        requires { child_sort self ≡ a_region }
+        ensures { self ≡ child.Region result }
+    {
+        match self {
+            Child::Region(region) => region,
+            _ => unreachable!(),
+        }
+    }
+
+    /// The type.
+    #[inline(always)]
+    pub fn ty(self) -> Ty
+        requires { child_sort self ≡ a_node Table.Types }
+        ensures { self ≡ child.Node (node.Ty result) }
+    {
+        match self {
+            Child::Node(Node::Ty(ty)) => ty,
+            _ => unreachable!(),
+        }
+    }
+
+    /// The constant.
+    #[inline(always)]
+    pub fn constant(self) -> Const
+        requires { child_sort self ≡ a_node Table.Consts }
+        ensures { self ≡ child.Node (node.Const result) }
+    {
+        match self {
+            Child::Node(Node::Const(constant)) => constant,
+            _ => unreachable!(),
+        }
+    }
+
+    /// The pattern.
+    pub fn pat(self) -> Pat
+        requires { child_sort self ≡ a_node Table.Patterns }
+        ensures { self ≡ child.Node (node.Pat result) }
+    {
+        match self {
+            Child::Node(Node::Pat(pat)) => pat,
+            _ => unreachable!(),
+        }
+    }
+
+    /// The predicate.
+    pub fn predicate(self) -> Predicate
+        requires { child_sort self ≡ a_node Table.Predicates }
+        ensures { self ≡ child.Node (node.Predicate result) }
+    {
+        match self {
+            Child::Node(Node::Predicate(predicate)) => predicate,
+            _ => unreachable!(),
+        }
+    }
+
+    /// The existential predicate.
+    pub fn existential(self) -> PolyExistentialPredicate
+        requires { child_sort self ≡ a_node Table.Existentials }
+        ensures { self ≡ child.Node (node.Existential result) }
+    {
+        match self {
+            Child::Node(Node::Existential(existential)) => existential,
+            _ => unreachable!(),
+        }
+    }
+
+    /// The list of types.
+    #[inline(always)]
+    pub fn tys(self) -> Tys
+        requires { child_sort self ≡ a_list ListSort.Tys }
+        ensures { self ≡ child.List (list.Tys result) }
+    {
+        match self {
+            Child::List(List::Tys(tys)) => tys,
+            _ => unreachable!(),
+        }
+    }
+
+    /// The list of constants.
+    #[inline(always)]
+    pub fn consts(self) -> Consts
+        requires { child_sort self ≡ a_list ListSort.Consts }
+        ensures { self ≡ child.List (list.Consts result) }
+    {
+        match self {
+            Child::List(List::Consts(consts)) => consts,
+            _ => unreachable!(),
+        }
+    }
+
+    /// The list of generic arguments.
+    #[inline(always)]
+    pub fn args(self) -> GenericArgs
+        requires { child_sort self ≡ a_list ListSort.Args }
+        ensures { self ≡ child.List (list.Args result) }
+    {
+        match self {
+            Child::List(List::Args(args)) => args,
+            _ => unreachable!(),
+        }
+    }
+
+    /// The list of patterns.
+    pub fn pats(self) -> PatList
+        requires { child_sort self ≡ a_list ListSort.Pats }
+        ensures { self ≡ child.List (list.Pats result) }
+    {
+        match self {
+            Child::List(List::Pats(pats)) => pats,
+            _ => unreachable!(),
+        }
+    }
+
+    /// The list of existential predicates.
+    pub fn existentials(self) -> BoundExistentialPredicates
+        requires { child_sort self ≡ a_list ListSort.Existentials }
+        ensures { self ≡ child.List (list.Existentials result) }
+    {
+        match self {
+            Child::List(List::Existentials(existentials)) => existentials,
+            _ => unreachable!(),
+        }
+    }
+
+    /// The list of clauses.
+    pub fn clauses(self) -> Clauses
+        requires { child_sort self ≡ a_list ListSort.Clauses }
+        ensures { self ≡ child.List (list.Clauses result) }
+    {
+        match self {
+            Child::List(List::Clauses(clauses)) => clauses,
+            _ => unreachable!(),
+        }
+    }
+
+    /// The type or the constant.
+    #[inline(always)]
+    pub fn term(self) -> Term
+        requires { IsTermSort (child_sort self) }
+        ensures { self ≡ term_child result }
+    {
+        match self {
+            Child::Node(Node::Ty(ty)) => ty.into(),
+            Child::Node(Node::Const(constant)) => constant.into(),
+            _ => unreachable!(),
+        }
+    }
+}
+
+impl Term {
+    /// The term as a child.
+    pub fn child(self) -> Child
+        ensures { result ≡ term_child self }
+    {
+        match self.kind() {
+            TermKind::Ty(ty) => Child::Node(Node::Ty(ty)),
+            TermKind::Const(constant) => Child::Node(Node::Const(constant)),
+        }
+    }
+}

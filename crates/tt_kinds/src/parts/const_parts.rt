@@ -1,0 +1,134 @@
+//! The parts of constants and patterns.
+
+ghost use Rattle.std.specs.Prelude.{◌≡◌};
+ghost use Rattle.tt_kinds.specs.Parts.{AreLike};
+ghost use Rattle.tt_kinds.specs.Kinds.{form_binder, form_parts, refilled, const_form, value_form, pattern_form, replenished};
+
+use crate::const_kind::{ConstKind, ExprConst, UnevaluatedConst, ValTreeKind, ValueConst};
+use crate::handle::BoundVarKinds;
+use crate::parts::{Child, List, Node, Parts};
+use crate::pattern::PatternKind;
+
+impl ConstKind {
+    /// The variables of the binder around the parts: no constant has one.
+    pub fn bound_vars(&self) -> Option<BoundVarKinds>
+        ensures { result ≡ form_binder (const_form self.now) }
+    {
+        match self {
+            ConstKind::Value(value) => value.bound_vars(),
+            _ => None,
+        }
+    }
+
+    /// The children in order.
+    pub fn parts(&self) -> Parts
+        ensures { result ≡ form_parts (const_form self.now) }
+    {
+        match self {
+            ConstKind::Unevaluated(unevaluated) => Parts::one(Child::List(List::Args(
+                unevaluated.args,
+            ))),
+            ConstKind::Value(value) => value.parts(),
+            ConstKind::Expr(expression) => Parts::one(Child::List(List::Args(expression.args))),
+            ConstKind::Param(_)
+            | ConstKind::Infer(_)
+            | ConstKind::Bound(_, _)
+            | ConstKind::Placeholder(_)
+            | ConstKind::Error(_) => Parts::none(),
+        }
+    }
+
+    /// The same kind with other children in the places of its own. They have to be of the same sorts;
+    /// [`Parts::are_like`] tests it.
+    pub fn with_parts(&self, new: Parts) -> ConstKind
+        requires { AreLike (form_parts (const_form self.now)) new }
+        ensures { const_form result ≡ refilled new (const_form self.now) }
+    {
+        match self {
+            ConstKind::Unevaluated(unevaluated) => ConstKind::Unevaluated(UnevaluatedConst {
+                def: unevaluated.def,
+                args: new.first.args(),
+            }),
+            ConstKind::Value(value) => ConstKind::Value(value.with_parts(new)),
+            ConstKind::Expr(expression) => ConstKind::Expr(ExprConst {
+                tag: expression.tag,
+                args: new.first.args(),
+            }),
+            _ => *self,
+        }
+    }
+}
+
+impl ValueConst {
+    // No value has a binder.
+    fn bound_vars(&self) -> Option<BoundVarKinds>
+        ensures { result ≡ form_binder (value_form self.now.ty self.now.valtree.kind) }
+    {
+        match self.valtree.kind() {
+            ValTreeKind::Leaf(_) | ValTreeKind::Branch(_) => None,
+        }
+    }
+
+    /// The children in order: its type, and the values of a branch.
+    pub fn parts(&self) -> Parts
+        ensures { result ≡ form_parts (value_form self.now.ty self.now.valtree.kind) }
+    {
+        match self.valtree.kind() {
+            ValTreeKind::Leaf(_) => Parts::one(Child::Node(Node::Ty(self.ty))),
+            ValTreeKind::Branch(consts) => Parts::two(
+                Child::Node(Node::Ty(self.ty)),
+                Child::List(List::Consts(consts)),
+            ),
+        }
+    }
+
+    /// The same value with other children in the places of its own. They have to be of the same sorts;
+    /// [`Parts::are_like`] tests it.
+    pub fn with_parts(&self, new: Parts) -> ValueConst
+        requires { AreLike (form_parts (value_form self.now.ty self.now.valtree.kind)) new }
+        ensures { value_form result.ty result.valtree.kind ≡ refilled new (value_form self.now.ty self.now.valtree.kind) }
+    {
+        match self.valtree.kind() {
+            ValTreeKind::Leaf(leaf) => ValueConst {
+                ty: new.first.ty(),
+                valtree: ValTreeKind::Leaf(leaf).into(),
+            },
+            ValTreeKind::Branch(_) => ValueConst {
+                ty: new.first.ty(),
+                valtree: ValTreeKind::Branch(new.second.consts()).into(),
+            },
+        }
+    }
+}
+
+impl PatternKind {
+    /// The children in order.
+    pub fn parts(&self) -> Parts
+        ensures { result ≡ (pattern_form self.now).parts }
+    {
+        match self {
+            PatternKind::Range { start, end } => Parts::two(
+                Child::Node(Node::Const(*start)),
+                Child::Node(Node::Const(*end)),
+            ),
+            PatternKind::Or(pats) => Parts::one(Child::List(List::Pats(*pats))),
+            PatternKind::NotNull => Parts::none(),
+        }
+    }
+
+    /// The same kind with other children in the places of its own. They have to be of the same sorts;
+    /// [`Parts::are_like`] tests it.
+    pub fn with_parts(&self, new: Parts) -> PatternKind
+        requires { AreLike (pattern_form self.now).parts new }
+        ensures { pattern_form result ≡ replenished new (pattern_form self.now) }
+    {
+        match self {
+            PatternKind::Range { .. } => PatternKind::Range {
+                start: new.first.constant(),
+                end: new.second.constant(),
+            },
+            PatternKind::Or(_) => PatternKind::Or(new.first.pats()),
+            PatternKind::NotNull => PatternKind::NotNull,
+        }
+    }
+}

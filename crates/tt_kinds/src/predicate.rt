@@ -1,0 +1,90 @@
+//! What predicates say, each in a record of its own.
+
+use crate::alias::AliasTerm;
+use crate::handle::{Clauses, GenericArgs, Ty};
+use crate::id::TraitId;
+use crate::region_kind::Region;
+use crate::term::Term;
+
+/// A trait with its arguments, the first of which is the type that it is asked of.
+#[derive(Clone, Copy, Debug, PartialEq, Eq, Hash)]
+pub struct TraitRef {
+    /// The trait.
+    pub def_id: TraitId,
+    /// The type that it is asked of, and then the trait's own arguments.
+    pub args: GenericArgs,
+}
+
+/// A type implements a trait.
+#[derive(Clone, Copy, Debug, PartialEq, Eq, Hash)]
+pub struct TraitPredicate {
+    /// The trait and the type.
+    pub trait_ref: TraitRef,
+}
+
+/// How far an implementation has to be usable in constants.
+#[derive(Clone, Copy, Debug, PartialEq, Eq, Hash)]
+pub enum BoundConstness {
+    /// In every constant.
+    Const,
+    /// In constants where the function around it is called in one.
+    Maybe,
+}
+
+/// A type implements a trait so that it can be used in constants.
+#[derive(Clone, Copy, Debug, PartialEq, Eq, Hash)]
+pub struct HostEffectPredicate {
+    /// The trait and the type.
+    pub trait_ref: TraitRef,
+    /// In which constants.
+    pub constness: BoundConstness,
+}
+
+/// What stands first outlives the region.
+#[derive(Clone, Copy, Debug, PartialEq, Eq, Hash)]
+pub struct OutlivesPredicate<A>(pub A, pub Region);
+
+/// An alias stands for this term.
+#[derive(Clone, Copy, Debug, PartialEq, Eq, Hash)]
+pub struct ProjectionPredicate {
+    /// The alias.
+    pub projection_term: AliasTerm,
+    /// What it stands for.
+    pub term: Term,
+}
+
+/// An alias normalizes to this term.
+#[derive(Clone, Copy, Debug, PartialEq, Eq, Hash)]
+pub struct NormalizesTo {
+    /// The alias.
+    pub alias: AliasTerm,
+    /// What it normalizes to.
+    pub term: Term,
+}
+
+/// The type `a` is a subtype of the type `b`.
+#[derive(Clone, Copy, Debug, PartialEq, Eq, Hash)]
+pub struct SubtypePredicate {
+    /// Whether `a` is what was expected, for messages.
+    pub a_is_expected: bool,
+    /// The subtype.
+    pub a: Ty,
+    /// The other type.
+    pub b: Ty,
+}
+
+/// The type `a` can be coerced to the type `b`.
+#[derive(Clone, Copy, Debug, PartialEq, Eq, Hash)]
+pub struct CoercePredicate {
+    /// The type of the value.
+    pub a: Ty,
+    /// The type that it is made.
+    pub b: Ty,
+}
+
+/// What may be assumed inside an item.
+#[derive(Clone, Copy, Debug, PartialEq, Eq, Hash)]
+pub struct ParamEnv {
+    /// The clauses that every caller has shown.
+    pub caller_bounds: Clauses,
+}

@@ -1,0 +1,20 @@
+use Rattle.std.proofs.Common.{refl}
+use Rattle.tt_kinds.specs.Shape.{fill, fill_all}
+use Rattle.tt_visit.specs.Visit.{node_seen, one_seen, all_seen, node_broke, first_broke, later_broke}
+use Rattle.tt_visit.proofs.VisitSteps.{flow-weaker}
+use Rattle.tt_visit.proofs.visitable.Tuple3TypeVisitable.visit_with.Goals as goal
+
+pub returns-in-Break : goal.returns-in-Break
+unfolding fill fill_all
+returns-in-Break g c = node_broke refl (first_broke c.in-Break.ensures)
+
+pub returns-in-Break-visit_with : goal.returns-in-Break-visit_with
+unfolding fill fill_all
+returns-in-Break-visit_with g c = node_broke refl (later_broke c.in-Continue.ensures (first_broke c.in-Break-visit_with.ensures))
+
+pub returns-in-Continue-visit_with : goal.returns-in-Continue-visit_with
+unfolding fill fill_all
+returns-in-Continue-visit_with g c =
+    let first = c.in-Continue.ensures in let second = c.in-Continue-visit_with.ensures in
+    flow-weaker c.visit_with-in-Continue-visit_with.result c.visit_with-in-Continue-visit_with.ensures
+    (λ _ h. node_seen refl (one_seen first (one_seen second (one_seen h all_seen)))) (λ b h. node_broke refl (later_broke first (later_broke second (first_broke h))))

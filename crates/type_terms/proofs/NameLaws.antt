@@ -1,0 +1,80 @@
+-- The names and the variables of binders, over plain variables.
+use Rattle.std.proofs.Common.{◌≡◌, ℕ, List, [], ◌∷◌, ◌++◌, map, Result, Ok, Err, refl, ap, ◌∙◌}
+use Rattle.std.specs.Prelude.{IsErrAnd}
+use Rattle.std.proofs.lemmas.List.{map-append}
+use Rattle.tt_index.specs.declared.refusal.Refusal.{Refusal}
+use Rattle.tt_kinds.specs.Label.{VarKind, var_list_label}
+use Rattle.tt_kinds.specs.Tree.{node, none}
+use Rattle.tt_kinds.specs.Bound.{var_kind}
+use Rattle.tt_kinds.specs.Shape.{Sizes, fill, name_of, vars_of, rename_kind, AreNamedKinds, IsNamedKind, IsPart}
+use Rattle.tt_kinds.specs.Kinds.{vars_row_shape}
+use Rattle.tt_kinds.specs.declared.bound.BoundRegionKind.{BoundRegionKind}
+use Rattle.tt_kinds.specs.declared.bound.BoundVariableKind.{BoundVariableKind}
+use Rattle.tt_kinds.specs.declared.handle.BoundVarKinds.{BoundVarKinds}
+use Rattle.tt_interner.specs.Rows.{vars_row, size, meaning}
+use Rattle.tt_interner.specs.Stored.{Terms, Extends, Builds}
+use Rattle.tt_interner.proofs.Growth.{HasParts-grows, row-grows}
+use Rattle.type_terms.specs.declared.run.call.RegionNameCall.{RegionNameCall}
+use Rattle.type_terms.specs.declared.run.call.VariableCall.{VariableCall}
+use Rattle.type_terms.specs.CallForm.{variable_kind}
+use Rattle.type_terms.specs.Told.{HasFullTable}
+use Rattle.type_terms.specs.Build.{IsUnbuilt, GivesName, IsVariableOf, GivesVariable, AreVariablesOf, GivesVariables}
+use Rattle.type_terms.proofs.BuildLaws.{unstored, Builds-extends}
+
+-- what a question mark passes on
+pub name-passed : (terms : Terms) (c : RegionNameCall) (result : Result BoundRegionKind Refusal) (r : Refusal) → IsErrAnd result (λ x. x ≡ r)
+    → IsUnbuilt (HasFullTable terms) [] [] ⊥ r → GivesName terms c result
+name-passed terms c (Ok k) r h u = absurd h
+name-passed terms c (Err x) r h u = record { ok = tt; err = rw h u }
+
+pub variable-passed : (terms : Terms) (c : VariableCall) (result : Result BoundVariableKind Refusal) (r : Refusal) → IsErrAnd result (λ x. x ≡ r)
+    → IsUnbuilt (HasFullTable terms) [] [] ⊥ r → GivesVariable terms c result
+variable-passed terms c (Ok k) r h u = absurd h
+variable-passed terms c (Err x) r h u = record { ok = tt; err = rw h u }
+
+pub variables-passed : (terms : Terms) (cs : List VariableCall) (result : Result BoundVarKinds Refusal) (r : Refusal) → IsErrAnd result (λ x. x ≡ r)
+    → IsUnbuilt (HasFullTable terms) [] [] ⊥ r → GivesVariables terms cs result
+variables-passed terms cs (Ok k) r h u = absurd h
+variables-passed terms cs (Err x) r h u = record { ok = tt; err = rw h u }
+
+-- one variable more
+kinds-append : (size : Sizes) (vs : List (VarKind ℕ)) (v : VarKind ℕ) → AreNamedKinds size vs → IsNamedKind size v → AreNamedKinds size (vs ++ v ∷ [])
+kinds-append size [] v h k = (k, tt)
+kinds-append size (w ∷ vs) v h k = (h.0, kinds-append size vs v h.1 k)
+
+-- what more rows leave as it is
+kinds-grow : (old new : Terms) (vs : List BoundVariableKind) → Extends old new → AreNamedKinds (size old.rows) (map var_kind vs)
+    → AreNamedKinds (size new.rows) (map var_kind vs)
+unfolding IsPart
+kinds-grow old new vs x h = (HasParts-grows old.rows new.rows x.rows (vars_row_shape vs) (h, tt)).0
+
+kinds-still : (old new : Terms) (vs : List BoundVariableKind) → Extends old new → AreNamedKinds (size old.rows) (map var_kind vs)
+    → map (rename_kind (name_of (meaning new.rows))) (map var_kind vs) ≡ map (rename_kind (name_of (meaning old.rows))) (map var_kind vs)
+unfolding fill IsPart
+kinds-still old new vs x h = ap vars_of (row-grows old.rows new.rows x.rows (vars_row_shape vs) (h, tt))
+
+pub variables-nothing : (terms : Terms) → AreVariablesOf terms [] []
+variables-nothing terms = record { parts = tt; means = refl }
+
+pub variables-more : (old new : Terms) (cs : List VariableCall) (vs : List BoundVariableKind) (c : VariableCall) (v : BoundVariableKind)
+    → Extends old new → AreVariablesOf old cs vs → IsVariableOf new c v → AreVariablesOf new (cs ++ c ∷ []) (vs ++ v ∷ [])
+variables-more old new cs vs c v x h k = record {
+  parts = rw (map-append var_kind vs (v ∷ [])) (kinds-append (size new.rows) (map var_kind vs) (var_kind v) (kinds-grow old new vs x h.parts) k.part);
+  means = rw (map-append var_kind vs (v ∷ []), map-append (rename_kind (name_of (meaning new.rows))) (map var_kind vs) (var_kind v ∷ []), map-append variable_kind cs (c ∷ []), kinds-still old new vs x h.parts, h.means, k.means) refl;
+}
+
+-- the stored list of variables
+pub variables-built : (old new : Terms) (cs : List VariableCall) (vs : List BoundVariableKind) (result : Result BoundVarKinds Refusal)
+    → AreVariablesOf old cs vs → Builds result (λ l. l.number) old new (vars_row vs) → GivesVariables new cs result
+unfolding fill
+variables-built old new cs vs (Ok l) h b = record {
+  ok = record {
+    in_range = b.in_range;
+    means = b.means ∙ ap (λ ks. node (var_list_label ks) none) h.means;
+  };
+  err = tt;
+}
+variables-built old new cs vs (Err r) h b = record {
+  ok = tt;
+  err = unstored old new (Builds-extends (Err r) (λ l. l.number) old new (vars_row vs) b) (vars_row vs) [] [] ⊥ (λ d. d) r b.cause;
+}

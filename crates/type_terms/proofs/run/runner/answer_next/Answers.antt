@@ -1,0 +1,17 @@
+use Rattle.type_terms.proofs.RunLaws.{AreOwned-grows, AreOwned-append, ran-one-more}
+use Rattle.type_terms.proofs.run.runner.answer_next.Goals as goal
+
+pub returns-in_err-push-clause-owned : goal.returns-in_err-push-clause-owned
+returns-in_err-push-clause-owned c =
+    rw c.in_err-push.ensures.items (AreOwned-grows _ _ c.answer_call-answer.ensures.extends.rows _ c.requires)
+
+pub returns-clause-owned : goal.returns-clause-owned
+returns-clause-owned c =
+    rw c.in_ok-push.ensures.items
+    (AreOwned-append _ _ _ (AreOwned-grows _ _ c.answer_call-answer.ensures.extends.rows _ c.requires) c.answer_call-answer.ensures.owned)
+
+pub returns-clause-means : goal.returns-clause-means
+returns-clause-means c before means =
+    rw c.in_ok-push.ensures.items
+    (ran-one-more _ _ before _ _ _ c.requires c.answer_call-answer.ensures.extends c.answer_call-answer.ensures.owned
+    (rw (← c.as_slice.ensures.value) c.answer_call-answer.ensures.allowed) means)
