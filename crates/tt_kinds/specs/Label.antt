@@ -171,14 +171,6 @@ is_type_or_clause predicate_label = true
 is_type_or_clause clause_list_label = true
 is_type_or_clause _ = false
 
--- a walk asks its hook at such a label: a type's, a constant's, a predicate's or a clause list's
-abbrev pub is_hooked : {N : Type 0} → Label N → Bool
-is_hooked (type_label l) = true
-is_hooked (const_label l) = true
-is_hooked predicate_label = true
-is_hooked clause_list_label = true
-is_hooked _ = false
-
 -- the record is what a clause says
 abbrev pub is_clause_record : {N : Type 0} → RecordLabel N → Bool
 is_clause_record (trait_record d) = true

@@ -39,7 +39,7 @@ impl<T: Copy> Binder<T> {
 
 /// A value of an item as it is declared: its parameters are the item's, and have to be replaced by arguments before it is
 /// used elsewhere.
-#[derive(Clone, Copy, Debug, PartialEq, Eq, Hash)]
+#[derive(Clone, Copy, Debug, PartialEq, Eq, PartialOrd, Ord, Hash)]
 pub struct EarlyBinder<T> {
     value: T,
 }

@@ -8,7 +8,7 @@ use crate::bound::{BoundConst, BoundRegion, BoundRegionKind, BoundTy, BoundTyKin
 use tt_index::{BoundVar, UniverseIndex};
 
 /// A variable that was bound by a binder which has been entered, as a constant of its universe.
-#[derive(Clone, Copy, Debug, PartialEq, Eq, Hash)]
+#[derive(Clone, Copy, Debug, PartialEq, Eq, PartialOrd, Ord, Hash)]
 pub struct Placeholder<T> {
     /// The universe in which it can be named.
     pub universe: UniverseIndex,
