@@ -28,7 +28,7 @@ use Rattle.tt_visit.specs.HasTypeFlags.{Misses, Meets, flag_hooks}
 use Rattle.tt_visit.specs.declared.has_type_flags.FoundFlags.{FoundFlags}
 
 -- a mask misses two sets of flags together exactly where it misses each
-bits-left : (m a b : ℕ) → Misses m (bit_or a b) → Misses m a
+pub bits-left : (m a b : ℕ) → Misses m (bit_or a b) → Misses m a
 bits-left m a b h = same_from_bits (bit_and m a) 0 one
   where
     one : (i : ℕ) → bit_at (bit_and m a) i ≡ bit_at 0 i
@@ -40,7 +40,7 @@ bits-left m a b h = same_from_bits (bit_and m a) 0 one
         let left = bit_at_and m a i in
         omega arith
 
-bits-right : (m a b : ℕ) → Misses m (bit_or a b) → Misses m b
+pub bits-right : (m a b : ℕ) → Misses m (bit_or a b) → Misses m b
 bits-right m a b h = same_from_bits (bit_and m b) 0 one
   where
     one : (i : ℕ) → bit_at (bit_and m b) i ≡ bit_at 0 i

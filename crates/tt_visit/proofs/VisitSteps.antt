@@ -84,7 +84,7 @@ sort-unhooked region_sort e = let never = e in cc
 sort-unhooked type_sort e = let never = e in cc
 sort-unhooked const_sort e = let never = e in cc
 
-no-error : (l : Label Name) → term_root l ≡ unhooked → error_of l ≡ None
+pub no-error : (l : Label Name) → term_root l ≡ unhooked → error_of l ≡ None
 no-error (type_label l) is = cc
 no-error (const_label l) is = cc
 no-error (pattern_label l) is = refl

@@ -1,6 +1,7 @@
--- What the visitor does that looks for the token of an error: its state is whether errors of regions count.
-use Rattle.std.specs.Prelude.{◌≡◌, ℕ, Bool, true, false, IsTrue, Some, ◌⊎◌}
-use Rattle.tt_flags.specs.TypeFlags.{has_error, has_non_region_error}
+-- What the visitor does that looks for the token of an error, and which token that is.
+use Rattle.std.specs.Prelude.{◌≡◌, ℕ, Option, Some, None, ⊤}
+use Rattle.std.specs.Option.{option_or}
+use Rattle.tt_flags.specs.TypeFlags.{has_error}
 use Rattle.tt_kinds.specs.Label.{Name, FreeRegion, error_region}
 use Rattle.tt_kinds.specs.Tree.{Depth, Tree, Forest, param, bound, region, term, node, binder, none, also}
 use Rattle.tt_kinds.specs.Scan.{scan}
@@ -10,41 +11,36 @@ use Rattle.tt_visit.specs.Visit.{Visits}
 use Rattle.tt_visit.specs.HasTypeFlags.{Misses}
 use Rattle.tt_visit.specs.declared.visitor.Next.TheVariants.{Skip, Descend}
 
--- the region is one of which the error e was reported
-abbrev pub IsErrorRegion : ℕ → FreeRegion Name → Type 0
-IsErrorRegion e (error_region x) = x ≡ e
-IsErrorRegion e _ = ⊥
+-- the error that a region tells of
+abbrev pub error_of_region : FreeRegion Name → Option ℕ
+error_of_region (error_region e) = Some e
+error_of_region _ = None
 
-module _ (regions : Bool) (e : ℕ) where
-  abbrev mutual
-    -- the token e stands in the tree: of a type, of a constant, or of a region where those count
-    pub HasError : Tree Depth → Type 0
-    HasError (param s i name) = ⊥
-    HasError (bound s d y) = ⊥
-    HasError (region r) = IsTrue regions × IsErrorRegion e r
-    HasError (term l ts) = (error_of l ≡ Some e) ⊎ HasError_among ts
-    HasError (node l ts) = HasError_among ts
-    HasError (binder vs t) = HasError t
+abbrev mutual
+  -- the first token of an error in the tree: a node's own comes before those of its children
+  pub first_error : Tree Depth → Option ℕ
+  first_error (param s i name) = None
+  first_error (bound s d e) = None
+  first_error (region r) = error_of_region r
+  first_error (term l ts) = option_or (error_of l) (first_error_among ts)
+  first_error (node l ts) = option_or (error_of l) (first_error_among ts)
+  first_error (binder vs t) = first_error t
 
-    pub HasError_among : Forest Depth → Type 0
-    HasError_among none = ⊥
-    HasError_among (also t ts) = HasError t ⊎ HasError_among ts
-
--- the flags of the errors that count
-abbrev pub error_mask : Bool → ℕ
-error_mask true = has_error
-error_mask false = has_non_region_error
+  -- the same of trees in order
+  pub first_error_among : Forest Depth → Option ℕ
+  first_error_among none = None
+  first_error_among (also t ts) = option_or (first_error t) (first_error_among ts)
 
 -- a token breaks, and what has no flag of an error is passed over
-abbrev pub error_hooks : Visits Bool ErrorGuaranteed
+abbrev pub error_hooks : Visits ⊤ ErrorGuaranteed
 error_hooks = record {
-  on_region = λ s t s'. (s' ≡ s) × Misses (error_mask s) (scan t);
-  region_breaks = λ s t b s'. HasError s b.0 t;
+  on_region = λ s t s'. first_error t ≡ None;
+  region_breaks = λ s t b s'. first_error t ≡ Some b.0;
   on_error = λ s e s'. ⊥;
   error_breaks = λ s e b s'. e ≡ b.0;
-  on_term = λ s t next s'. (s' ≡ s) × (next ≡ Skip → Misses (error_mask s) (scan t));
+  on_term = λ s t next s'. next ≡ Skip → Misses has_error (scan t);
   term_breaks = λ s t b s'. ⊥;
-  enter = λ s vs next s'. (s' ≡ s) × (next ≡ Descend);
+  enter = λ s vs next s'. next ≡ Descend;
   enter_breaks = λ s vs b s'. ⊥;
-  leave = λ s vs s'. s' ≡ s;
+  leave = λ s vs s'. ⊤;
 }

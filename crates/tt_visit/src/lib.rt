@@ -11,6 +11,9 @@ pub mod stored;
 pub mod visitable;
 pub mod visitor;
 
+pub use has_error::HasErrorVisitor;
+pub use has_escaping_vars::{FoundEscapingVars, HasEscapingVarsVisitor, InRangeVisitor};
+pub use has_type_flags::{FoundFlags, HasTypeFlagsVisitor};
 pub use queries::TypeVisitableExt;
 pub use tt_interner::Flags;
 pub use visitable::{TypeSuperVisitable, TypeVisitable};

@@ -1,13 +1,13 @@
 //! Questions that are asked of every value that a visitor can go over.
 
-ghost use Rattle.std.specs.Prelude.{IfErr, IfOk, IsTrue, true, false, ◌+◌, ◌<◌, ◌≡◌, ◌≢◌, ◌≤◌, ◌↔◌, bit_and};
+ghost use Rattle.std.specs.Prelude.{IfErr, IfOk, IsTrue, None, Some, true, false, ◌+◌, ◌<◌, ◌≡◌, ◌≢◌, ◌≤◌, ◌↔◌, bit_and};
 ghost use Rattle.tt_index.specs.Greatest.{greatest};
 ghost use Rattle.tt_kinds.specs.Param.{holds_param};
 ghost use Rattle.tt_kinds.specs.Reading.{outer_binder};
 ghost use Rattle.tt_kinds.specs.Scan.{scan};
 ghost use Rattle.tt_kinds.specs.Shape.{IsPart, fill};
 ghost use Rattle.tt_interner.specs.Rows.{meaning, size};
-ghost use Rattle.tt_visit.specs.HasError.{HasError};
+ghost use Rattle.tt_visit.specs.HasError.{first_error};
 ghost use Rattle.tt_visit.specs.HasEscapingVars.{InRange};
 ghost use Rattle.tt_visit.specs.HasTypeFlags.{Meets, Misses};
 
@@ -208,28 +208,34 @@ pub trait TypeVisitableExt: TypeVisitable {
         self.has_type_flags(cx, TypeFlags::STILL_FURTHER_SPECIALIZABLE)
     }
 
-    /// Answers `Err` with a token of an error that stands in the value, of a type, a constant or a region, and `Ok` where there
-    /// is none.
+    /// Answers `Err` with the first token of an error that stands in the value, of a type, a constant or a region, and `Ok` where
+    /// there is none. First is what a visit meets first: children come in order, from front to back.
     final fn error_reported(&self, cx: &Interner) -> Result<(), ErrorGuaranteed>
         requires { IsPart (size cx.now.rows) (Self.shape self.now) }
         ensures ok { IfOk result (λ _. Misses 0x18000 (scan (fill (meaning cx.now.rows) (Self.shape self.now)))) }
-        ensures err { IfErr result (λ e. HasError true e.0 (fill (meaning cx.now.rows) (Self.shape self.now))) }
+        ensures err { IfErr result (λ _. Meets 0x18000 (scan (fill (meaning cx.now.rows) (Self.shape self.now)))) }
+        ensures none { IfOk result (λ _. first_error (fill (meaning cx.now.rows) (Self.shape self.now)) ≡ None) }
+        ensures first { IfErr result (λ e. first_error (fill (meaning cx.now.rows) (Self.shape self.now)) ≡ Some e.0) }
     {
-        match self.visit_with(cx, &mut HasErrorVisitor::new(true)) {
+        let mut visitor = HasErrorVisitor;
+        match self.visit_with(cx, &mut visitor) {
             ControlFlow::Break(error) => Err(error),
             ControlFlow::Continue(_) => Ok(()),
         }
     }
 
-    /// The same of errors of types and constants alone.
+    /// Answers the same as `error_reported` where the token of an error of a type or a constant stands in the value, and `Ok`
+    /// where there is none. So the answered token is a region's where that comes first.
     final fn non_region_error_reported(&self, cx: &Interner) -> Result<(), ErrorGuaranteed>
         requires { IsPart (size cx.now.rows) (Self.shape self.now) }
         ensures ok { IfOk result (λ _. Misses 0x8000 (scan (fill (meaning cx.now.rows) (Self.shape self.now)))) }
-        ensures err { IfErr result (λ e. HasError false e.0 (fill (meaning cx.now.rows) (Self.shape self.now))) }
+        ensures err { IfErr result (λ _. Meets 0x8000 (scan (fill (meaning cx.now.rows) (Self.shape self.now)))) }
+        ensures first { IfErr result (λ e. first_error (fill (meaning cx.now.rows) (Self.shape self.now)) ≡ Some e.0) }
     {
-        match self.visit_with(cx, &mut HasErrorVisitor::new(false)) {
-            ControlFlow::Break(error) => Err(error),
-            ControlFlow::Continue(_) => Ok(()),
+        if self.has_type_flags(cx, TypeFlags::HAS_NON_REGION_ERROR) {
+            self.error_reported(cx)
+        } else {
+            Ok(())
         }
     }
 

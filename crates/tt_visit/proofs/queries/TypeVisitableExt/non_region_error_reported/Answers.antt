@@ -1,8 +1,11 @@
-use Rattle.tt_visit.proofs.HasErrorLaws.{goes-errorless, breaks-error}
+use Rattle.std.proofs.lemmas.Result.{IfOk-weaker}
+use Rattle.tt_kinds.specs.Scan.{scan}
+use Rattle.tt_kinds.specs.Shape.{fill}
+use Rattle.tt_interner.specs.Rows.{meaning}
+use Rattle.tt_visit.proofs.HasErrorLaws.{error-misses}
 use Rattle.tt_visit.proofs.queries.TypeVisitableExt.non_region_error_reported.Goals as goal
 
-pub returns-in-Break-clause-err : goal.returns-in-Break-clause-err
-returns-in-Break-clause-err g c = let found = breaks-error _ _ _ _ c.in-Break.ensures in rw c.new.ensures at found
-
-pub returns-in-Continue-clause-ok : goal.returns-in-Continue-clause-ok
-returns-in-Continue-clause-ok g c = let none_found = (goes-errorless _ _ _ c.in-Continue.ensures).1 in rw c.new.ensures at none_found
+pub returns-then-has_type_flags-clause-ok : goal.returns-then-has_type_flags-clause-ok
+returns-then-has_type_flags-clause-ok g c =
+    let flags = scan (fill (meaning c.args.cx.now.rows) (g.Self.TypeVisitable.shape c.args.self.now)) in
+    IfOk-weaker c.error_reported.result _ _ (λ _ none_set. error-misses flags none_set) c.error_reported.ensures.ok

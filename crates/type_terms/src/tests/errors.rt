@@ -1,0 +1,52 @@
+//! Which token the queries of errors answer.
+
+use super::owned::{NOT_OWNED, Owned, holds, interner, ref_ty, ty, u32_ty};
+use crate::{ErrorGuaranteed, Interner, Refusal, Region, RegionKind, Ty, TyKind, TypeVisitableExt};
+
+// `&'e7 u32`, whose region is an error.
+fn reference_of_an_error(cx: &mut Interner) -> Result<Ty, Refusal> {
+    let number = u32_ty(cx)?;
+    let region = Region::new(RegionKind::ReError(ErrorGuaranteed(7)))?;
+    ref_ty(cx, region, number)
+}
+
+// Whether the queries of errors, and then of those that are no region's, answer this of the value.
+fn reports<T: Owned>(
+    cx: &Interner,
+    value: &T,
+    any: Result<(), ErrorGuaranteed>,
+    non_region: Result<(), ErrorGuaranteed>,
+) -> Result<bool, Refusal> {
+    if value.is_owned(cx) {
+        Ok(value.error_reported(cx) == any && value.non_region_error_reported(cx) == non_region)
+    } else {
+        Err(NOT_OWNED)
+    }
+}
+
+// The token of the region comes first, also where the error of the type is asked for.
+fn first_error_of_a_pair_holds(cx: &mut Interner) -> Result<bool, Refusal> {
+    let reference = reference_of_an_error(cx)?;
+    let error = ty(cx, TyKind::Error(ErrorGuaranteed(3)))?;
+    let first = Err(ErrorGuaranteed(7));
+    reports(cx, &(reference, error), first, first)
+}
+
+#[test]
+fn first_error_of_a_pair(rt: HostRuntime) {
+    holds(
+        &rt,
+        first_error_of_a_pair_holds(&mut interner(&rt, rt.alloc())),
+    );
+}
+
+// An error of a region alone is none where others are asked for.
+fn error_of_a_region_holds(cx: &mut Interner) -> Result<bool, Refusal> {
+    let reference = reference_of_an_error(cx)?;
+    reports(cx, &reference, Err(ErrorGuaranteed(7)), Ok(()))
+}
+
+#[test]
+fn error_of_a_region(rt: HostRuntime) {
+    holds(&rt, error_of_a_region_holds(&mut interner(&rt, rt.alloc())));
+}
