@@ -211,7 +211,7 @@ module _ {M E S : Type 0} {owned : Listed Row → S → Type 0} {means : Listed 
   module _ {unbuilt : Tree Depth → E → Type 0} where
     -- a term without children stays as it is
     pub inside_leaf : {terms : Terms} {s : S} {n : Node} (k : Kind)
-        → owned terms.rows s → IsPartOf terms.rows (node_shape n) → node_tree terms.rows n ≡ tree_in terms.rows (kind_shape k) → IsLeaf k
+        → owned terms.rows s → IsPartOf terms.rows (node_shape n) → node_tree terms.rows n ≡ tree_in terms.rows (kind_shape k) → IsLeaf (form_binder (kind_form k)) (form_parts (kind_form k))
         → Folds owned means (IsNodeFor n) node_tree (WalksInside H) (InsideFails H unbuilt) terms s n (Ok n) terms s
     inside_leaf {terms} k o owns tree leaf = record {
       extends = Extends-refl terms;

@@ -84,22 +84,6 @@ kind-const m (kind.Pat k) h = absurd (cc)
 kind-const m (kind.Predicate b) h = absurd (cc)
 kind-const m (kind.Existential b) h = absurd (cc)
 
--- kinds of a table have one sort
-sort_of_table : Table → Sort
-sort_of_table Types = type_sort
-sort_of_table _ = const_sort
-
-by_table : (k : Kind) → kind_sort k ≡ sort_of_table (kind_table k)
-unfolding sort_of_table
-by_table (kind.Ty k) = refl
-by_table (kind.Const k) = refl
-by_table (kind.Pat k) = refl
-by_table (kind.Predicate b) = refl
-by_table (kind.Existential b) = refl
-
-pub same-sort : (j k : Kind) → kind_table j ≡ kind_table k → kind_sort j ≡ kind_sort k
-same-sort j k h = by_table j ∙ ap sort_of_table h ∙ sym (by_table k)
-
 -- a form that has children or a binder
 abbrev pub IsInner : Form (Label ℕ) → Type 0
 IsInner (param i name) = ⊥
@@ -113,7 +97,7 @@ inner (bound d e) h = h refl refl refl
 inner (plain l p) h = tt
 inner (under l vars m p) h = tt
 
-pub is_inner : (k : Kind) → (IsLeaf k → false ≡ true) → IsInner (kind_form k)
+pub is_inner : (k : Kind) → (IsLeaf (form_binder (kind_form k)) (form_parts (kind_form k)) → false ≡ true) → IsInner (kind_form k)
 is_inner k h = inner (kind_form k) (λ b p q. let no : false ≡ true = h (record { binder = b; first = p; second = q }) in absurd (cc))
 
 -- a form with children is no bound variable

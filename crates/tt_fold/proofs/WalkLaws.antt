@@ -76,7 +76,7 @@ leaf_form H s rows o (bound d e) b p q = in_bound
 leaf_form H s rows o (plain l r) b p q = rw (p, q) (in_term done)
 leaf_form H s rows o (under l vars m r) b p q = absurd (cc)
 
-pub walks_leaf : {M E : Type 0} (H : Hooks M E) (s : M) (rows : List Row) (k : Kind) → IsLeaf k
+pub walks_leaf : {M E : Type 0} (H : Hooks M E) (s : M) (rows : List Row) (k : Kind) → IsLeaf (form_binder (kind_form k)) (form_parts (kind_form k))
     → WalksInside H s (tree_in rows (kind_shape k)) (tree_in rows (kind_shape k)) s
 walks_leaf H s rows k h = leaf_form H s rows (kind_sort k) (kind_form k) h.binder h.first h.second
 

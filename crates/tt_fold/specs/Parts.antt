@@ -103,11 +103,11 @@ abbrev pub binder_in : Listed Row → Option BoundVarKinds → Option (Listed (V
 binder_in rows None = None
 binder_in rows (Some vars) = Some (vars_in rows vars)
 
--- the kind has no children and no binder
-pub record IsLeaf (k : Kind) : Type 0 where
-  pub binder : form_binder (kind_form k) ≡ None
-  pub first : (form_parts (kind_form k)).first ≡ child.Absent
-  pub second : (form_parts (kind_form k)).second ≡ child.Absent
+-- there are no children and no binder
+pub record IsLeaf (bound_vars : Option BoundVarKinds) (parts : Parts) : Type 0 where
+  pub binder : bound_vars ≡ None
+  pub first : parts.first ≡ child.Absent
+  pub second : parts.second ≡ child.Absent
 
 -- one more than the age of what a child names, or 0
 abbrev pub child_weight : Listed Row → Child → ℕ

@@ -18,7 +18,8 @@ use crate::list_of_sort::list_clauses;
 use smallvec::SmallVec;
 use tt_index::Refusal;
 use tt_interner::Interner;
-use tt_kinds::{BoundVarKinds, Child, Clauses, Kind, List, Node, Parts};
+use tt_interner::node::Contents;
+use tt_kinds::{BoundVarKinds, Child, Clauses, List, Node, Parts};
 
 // Whether a hook is asked at the term.
 #[inline(always)]
@@ -89,12 +90,12 @@ pub(crate) fn fold_inside<M, F: Core<M>>(
     if let Node::Clauses(clauses) = node {
         return fold_clauses::<M, F>(cx, folder, clauses);
     }
-    let kind = cx.node_kind(node);
-    if is_leaf(&kind) {
+    let contents = cx.node_parts(node);
+    if is_leaf(&contents) {
         return Ok(node);
     }
-    let parts = fold_contents::<M, F>(cx, folder, kind.bound_vars(), kind.parts())?;
-    let rebuilt = cx.store(kind.with_parts(parts))?;
+    let parts = fold_contents::<M, F>(cx, folder, contents.bound_vars, contents.parts)?;
+    let rebuilt = cx.store_like(node, parts)?;
     Ok(rebuilt)
 }
 
@@ -115,13 +116,13 @@ fn fold_clauses<M, F: Core<M>>(
     Ok(Node::Clauses(list_clauses(list)))
 }
 
-// Whether the kind has neither children nor a binder, so that it need not be built again.
+// Whether there are neither children nor a binder, so that the term need not be built again.
 #[inline(always)]
-fn is_leaf(kind: &Kind) -> bool
-    ensures { IsTrue result ↔ IsLeaf kind.now }
+fn is_leaf(contents: &Contents) -> bool
+    ensures { IsTrue result ↔ IsLeaf contents.now.bound_vars contents.now.parts }
 {
-    let parts = kind.parts();
-    kind.bound_vars().is_none() && is_absent(&parts.first) && is_absent(&parts.second)
+    let parts = &contents.parts;
+    contents.bound_vars.is_none() && is_absent(&parts.first) && is_absent(&parts.second)
 }
 
 // Whether there is no child.

@@ -7,10 +7,12 @@ use Rattle.tt_kinds.specs.Label.{RegionName, anonymous, printed, named, environm
 use Rattle.tt_kinds.specs.Tree as tree
 use Rattle.tt_kinds.specs.Tree.{Tree, Depth}
 use Rattle.tt_kinds.specs.Shape.{Shape, Shapes, param, bound, region, term, node, binder, stored, none, also, Meaning, Sizes, text_of, name_of, rename_region, rename_kind, rename_free, rename_record, rename_label, fill, fill_all, IsNamed, IsNamedKind, AreNamedKinds, IsNamedFree, IsNamedRecord, IsNamedLabel, IsPart, AreParts, HasParts}
-use Rattle.tt_kinds.specs.Parts.{list_table, list_number}
+use Rattle.tt_kinds.specs.Parts.{node_table, node_number, list_table, list_number}
+use Rattle.tt_kinds.specs.declared.parts.Node.{Node}
 use Rattle.tt_kinds.specs.declared.parts.List.{List as StoredList}
 use Rattle.tt_interner.specs.Rows.{Row, text_row, size, meaning, age, Grows}
 use Rattle.tt_interner.specs.Children.{children_of, children_at}
+use Rattle.tt_interner.specs.Nodes.{row_kind, stored_kind}
 use Rattle.tt_interner.specs.Stored.{Terms, Extends}
 use Rattle.tt_interner.proofs.RowLaws.{keeps, keeps_age, get_or-keeps}
 
@@ -264,3 +266,8 @@ module _ (old new : List Row) (g : Grows old new) where
 pub children_at-grows : (old new : List Row) → Grows old new → (l : StoredList) → list_number l < size old (list_table l) → children_at new l ≡ children_at old l
 unfolding children_at
 children_at-grows old new g l h = ap children_of (rw g.kept (get_or-keeps g.more old (list_table l) (list_number l) (text_row []) h))
+
+-- a term keeps its kind
+pub stored_kind-grows : (old new : List Row) → Grows old new → (n : Node) → node_number n < size old (node_table n) → stored_kind new n ≡ stored_kind old n
+unfolding stored_kind
+stored_kind-grows old new g n h = ap row_kind (rw g.kept (get_or-keeps g.more old (node_table n) (node_number n) (text_row []) h))

@@ -1,6 +1,6 @@
 -- What a walk reads of stored terms and lists: handles that came before, and children in order.
 use Rattle.std.proofs.Common.{◌≡◌, ℕ, ◌<◌, ⊎_elim, inl, inr, List, [], ◌∷◌, length, slice_get, zero, suc, get_or, Some, Ok, Err, refl, sym, ap, subst, ◌∙◌, arith}
-use Rattle.std.specs.Prelude.{map, All}
+use Rattle.std.specs.Prelude.{map, All, Result, IfOk}
 use Rattle.std.proofs.lemmas.List.{length-map}
 use Rattle.std.proofs.lemmas.List.Elements.{All-nil, All-cons}
 use Rattle.std.proofs.lemmas.Option.{slice_get_within, same_Some, none-some, slice_get-get_or}
@@ -18,14 +18,20 @@ use Rattle.tt_kinds.specs.declared.parts.ListSort.{ListSort}
 use Rattle.tt_kinds.specs.declared.parts.ListSort.TheVariants as sort
 use Rattle.tt_kinds.specs.declared.parts.Child.{Child}
 use Rattle.tt_kinds.specs.declared.parts.Node.{Node}
+use Rattle.tt_kinds.specs.declared.parts.Node.TheVariants as node_is
+use Rattle.tt_kinds.specs.declared.parts.Parts.{Parts}
 use Rattle.tt_kinds.specs.declared.parts.Kind.{Kind}
 use Rattle.tt_kinds.specs.declared.parts.Kind.TheVariants as kind
 use Rattle.tt_kinds.specs.declared.table.Table.{Table}
+use Rattle.tt_kinds.specs.declared.table.Table.TheVariants.{Types, ClauseLists}
+use Rattle.tt_kinds.specs.Label.{Sort, type_sort, const_sort, Label}
 use Rattle.tt_kinds.specs.Shape.{Shape, Shapes, param, bound, region, term, node, binder, stored, none, also, item_shapes, Meaning, Sizes, fill, fill_all, IsPart, AreParts, HasParts, IsTooDeep}
 use Rattle.tt_kinds.specs.Parts.{child_sort, IsItem, node_table, node_number, list_table, list_number, list_sort, sort_list_table}
-use Rattle.tt_kinds.specs.Kinds.{ty_shape, const_shape, arg_shape, pat_shape, existential_shape, clause_shape, child_shapes, children_shapes, items_shape, items_tree, kind_shape, kind_table}
-use Rattle.tt_interner.specs.Rows.{Row, clauses_row, tys_row, consts_row, args_row, pats_row, existentials_row, text_row, kind_row, row_table, row_shape, table, size, meaning, age, AreRows, IsOlder, AreOlder, AreClauses}
+use Rattle.tt_kinds.specs.Kinds
+use Rattle.tt_kinds.specs.Kinds.{Form, relabelled, refilled, form_binder, form_parts, form_shape, kind_form, kind_sort, ty_shape, const_shape, arg_shape, pat_shape, existential_shape, clause_shape, child_shapes, parts_shapes, children_shapes, items_shape, items_tree, kind_shape, kind_table}
+use Rattle.tt_interner.specs.Rows.{Row, type_row, const_row, pat_row, predicate_row, existential_row, clauses_row, tys_row, consts_row, args_row, pats_row, existentials_row, text_row, kind_row, row_table, row_shape, table, size, meaning, age, AreRows, IsOlder, AreOlder, AreClauses}
 use Rattle.tt_interner.specs.Stored.{Terms, IsAt, IsCause, IsUnbuilt, IsNoClauseList, StoresList, Builds}
+use Rattle.tt_interner.specs.Nodes.{row_kind, stored_kind, BuildsLike}
 use Rattle.tt_interner.specs.Children.{ty_child, const_child, arg_child, pat_child, existential_child, clause_child, children_of, children_at, child_ty, child_const, child_arg, child_pat, child_existential, child_clause, items_row}
 use Rattle.tt_interner.proofs.RowLaws.{IsNewest, place_cases, row-old, row-new, age-old, age-new}
 use Rattle.tt_interner.proofs.Growth.{Extends-refl}
@@ -316,6 +322,100 @@ is_node rows are n k same at =
       means = means.tree ∙ ap (fill (meaning rows)) (kind_row_shape k);
       older = subst (IsOlder rows (age rows (node_table n) (node_number n))) (kind_row_shape k) (older_row rows are (node_table n) (node_number n) (kind_row k) here);
     }
+
+-- the row of a term is that of a kind
+row_of_kind : (n : Node) → (node_table n ≡ ClauseLists → ⊥) → (r : Row) → row_table r ≡ node_table n → (kind_row (row_kind r) ≡ r) × (kind_table (row_kind r) ≡ node_table n)
+row_of_kind (node_is.Ty t) other (type_row k) e = (refl, refl)
+row_of_kind (node_is.Const x) other (const_row k) e = (refl, refl)
+row_of_kind (node_is.Pat p) other (pat_row k) e = (refl, refl)
+row_of_kind (node_is.Predicate p) other (predicate_row b) e = (refl, refl)
+row_of_kind (node_is.Existential p) other (existential_row b) e = (refl, refl)
+row_of_kind (node_is.Clauses l) other r e = absurd (other refl)
+row_of_kind _ other _ e = cc
+
+row_kind-back : (k : Kind) → row_kind (kind_row k) ≡ k
+row_kind-back (kind.Ty k) = refl
+row_kind-back (kind.Const k) = refl
+row_kind-back (kind.Pat k) = refl
+row_kind-back (kind.Predicate b) = refl
+row_kind-back (kind.Existential b) = refl
+
+-- the kind of a stored term is that of its row
+kind_of_row : (rows : List Row) (n : Node) (r : Row) → slice_get (table (node_table n) rows) (node_number n) ≡ Some r → stored_kind rows n ≡ row_kind r
+unfolding stored_kind
+kind_of_row rows n r at = ap row_kind (get_or-some (table (node_table n) rows) (node_number n) (text_row []) r at)
+
+pub kind_there : (rows : List Row) (n : Node) (k : Kind) → kind_table k ≡ node_table n → IsAt rows (kind_row k) (node_number n) → stored_kind rows n ≡ k
+kind_there rows n k same at =
+    kind_of_row rows n (kind_row k) (subst (λ t. slice_get (table t rows) (node_number n) ≡ Some (kind_row k)) (kind_in_table k ∙ same) at) ∙ row_kind-back k
+
+pub stored_table : (rows : List Row) → AreRows rows → (n : Node) → node_number n < size rows (node_table n) → (node_table n ≡ ClauseLists → ⊥) → kind_table (stored_kind rows n) ≡ node_table n
+stored_table rows are n h other =
+    let at = row_within rows (node_table n) (node_number n) h in
+    let means = Means-row rows are (node_table n) (node_number n) at.0 at.1 in
+    ap kind_table (kind_of_row rows n at.0 at.1) ∙ (row_of_kind n other at.0 means.same_table).1
+
+pub stored_is_node : (rows : List Row) → AreRows rows → (n : Node) → node_number n < size rows (node_table n) → (node_table n ≡ ClauseLists → ⊥) → IsNode rows n (stored_kind rows n)
+stored_is_node rows are n h other =
+    let at = row_within rows (node_table n) (node_number n) h in
+    let means = Means-row rows are (node_table n) (node_number n) at.0 at.1 in
+    let is = row_of_kind n other at.0 means.same_table in
+    let here : IsAt rows (kind_row (row_kind at.0)) (node_number n) = subst (λ r. IsAt rows r (node_number n)) (sym is.0) (subst (λ t. slice_get (table t rows) (node_number n) ≡ Some at.0) (sym means.same_table) at.1) in
+    subst (IsNode rows n) (sym (kind_of_row rows n at.0 at.1)) (is_node rows are n (row_kind at.0) is.1 here)
+
+-- a form with labels of all tables
+pub binder-relabelled : {L K : Type 0} (label : L → K) (f : Form L) → form_binder (relabelled label f) ≡ form_binder f
+binder-relabelled label (Kinds.param i name) = refl
+binder-relabelled label (Kinds.bound d e) = refl
+binder-relabelled label (Kinds.plain l p) = refl
+binder-relabelled label (Kinds.under l vars m p) = refl
+
+pub parts-relabelled : {L K : Type 0} (label : L → K) (f : Form L) → form_parts (relabelled label f) ≡ form_parts f
+parts-relabelled label (Kinds.param i name) = refl
+parts-relabelled label (Kinds.bound d e) = refl
+parts-relabelled label (Kinds.plain l p) = refl
+parts-relabelled label (Kinds.under l vars m p) = refl
+
+pub refilled-relabelled : {L K : Type 0} (label : L → K) (q : Parts) (f : Form L) → relabelled label (refilled q f) ≡ refilled q (relabelled label f)
+refilled-relabelled label q (Kinds.param i name) = refl
+refilled-relabelled label q (Kinds.bound d e) = refl
+refilled-relabelled label q (Kinds.plain l p) = refl
+refilled-relabelled label q (Kinds.under l vars m p) = refl
+
+-- kinds of a table have one sort
+sort_of_table : Table → Sort
+sort_of_table Types = type_sort
+sort_of_table _ = const_sort
+
+by_table : (k : Kind) → kind_sort k ≡ sort_of_table (kind_table k)
+unfolding sort_of_table
+by_table (kind.Ty k) = refl
+by_table (kind.Const k) = refl
+by_table (kind.Pat k) = refl
+by_table (kind.Predicate b) = refl
+by_table (kind.Existential b) = refl
+
+pub same-sort : (j k : Kind) → kind_table j ≡ kind_table k → kind_sort j ≡ kind_sort k
+same-sort j k h = by_table j ∙ ap sort_of_table h ∙ sym (by_table k)
+
+-- a form with other children in range is in range
+refilled_parts : (size : Sizes) (s : Sort) (q : Parts) (f : Form (Label ℕ)) → HasParts size (form_shape s f) → AreParts size (parts_shapes q) → HasParts size (form_shape s (refilled q f))
+unfolding AreParts
+refilled_parts size s q (Kinds.param i name) h p = h
+refilled_parts size s q (Kinds.bound d e) h p = h
+refilled_parts size s q (Kinds.plain l r) h p = (h.0, p)
+refilled_parts size s q (Kinds.under l vars m r) h p = (h.0, ((h.1.0.0, (refl, h.1.0.1.1, p)), tt))
+
+-- the kind j is that of the stored term with other children
+pub like_parts : (rows : List Row) (n : Node) (k j : Kind) (q : Parts) → IsNode rows n k → kind_table j ≡ kind_table k → kind_form j ≡ refilled q (kind_form k) → AreParts (size rows) (parts_shapes q) → HasParts (size rows) (kind_shape j)
+like_parts rows n k j q is table form p =
+    rw (same-sort j k table, form) (refilled_parts (size rows) (kind_sort k) q (kind_form k) is.parts p)
+
+-- and is stored
+pub builds_like : (result : Result Node Refusal) (old new : Terms) (n : Node) (k j : Kind) (q : Parts) → stored_kind old.rows n ≡ k → kind_table j ≡ node_table n → kind_form j ≡ refilled q (kind_form k)
+    → Builds result node_number old new (kind_row j) → IfOk result (λ u. node_table u ≡ kind_table j) → BuildsLike result old new n q
+builds_like result old new n k j q is table form builds of_table =
+    record { kind = j; table = table; form = rw is form; builds = builds; of_table = rw table at of_table }
 
 -- a refused list
 IsUnbuilt-from : (terms : Terms) (r : Row) (s : ListSort) (ss : Shapes) → row_shape r ≡ items_shape s ss → (e : Refusal) → IsCause terms r e → IsUnbuilt terms (items_tree s (fill_all (meaning terms.rows) ss)) e

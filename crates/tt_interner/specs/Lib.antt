@@ -7,3 +7,4 @@ pub mod OwnFlags
 pub mod Kept
 pub mod Laws
 pub mod Env
+pub mod Nodes

@@ -441,6 +441,7 @@ impl ForKind for FlagComputation {
 }
 
 // What is computed of a term of this kind.
+#[inline(always)]
 pub(crate) fn kind_info(cx: &Interner, kind: &Kind) -> FlagComputation
     requires parts { HasParts (size cx.now.rows) (kind_shape kind.now) }
     requires shallow { IsTooDeep (kind_shape kind.now) → ⊥ }
@@ -456,6 +457,7 @@ pub(crate) fn kind_info(cx: &Interner, kind: &Kind) -> FlagComputation
 }
 
 // What a kind has beside what is computed of its parts.
+#[inline(always)]
 fn own_info(kind: &Kind) -> FlagComputation
     requires { IsTooDeep (kind_shape kind.now) → ⊥ }
     ensures flags { result.flags.bits ≡ own_flags (kind_sort kind.now) (kind_form kind.now) }
@@ -530,6 +532,7 @@ fn list_info(cx: &Interner, list: List) -> FlagComputation
 }
 
 // What is computed of the children of a kind.
+#[inline(always)]
 fn parts_info(cx: &Interner, parts: &Parts) -> FlagComputation
     requires { AreParts (size cx.now.rows) (parts_shapes parts.now) }
     ensures { AreInfosOf result (fill_all (meaning cx.now.rows) (parts_shapes parts.now)) }

@@ -2,19 +2,29 @@
 
 ghost use Rattle.std.specs.Prelude.{◌≡◌, ◌≢◌, ◌<◌, IfOk, IfErr, OnOk, OnErr, All, length, slice_get, Some};
 ghost use Rattle.tt_kinds.specs.Shape.{HasParts, AreParts, fill, fill_all};
-ghost use Rattle.tt_kinds.specs.Parts.{node_table, node_number, list_table, list_number, list_sort, sort_list_table, child_sort, IsItem};
-ghost use Rattle.tt_kinds.specs.Kinds.{kind_table, kind_shape, children_shapes, items_tree};
+ghost use Rattle.tt_kinds.specs.Parts.{node_table, node_number, list_table, list_number, list_sort, sort_list_table, child_sort, AreLike, IsItem};
+ghost use Rattle.tt_kinds.specs.Kinds.{form_binder, form_parts, kind_form, kind_table, kind_shape, parts_shapes, children_shapes, items_tree};
 ghost use Rattle.tt_interner.specs.Rows.{kind_row, size, meaning, age, IsOlder, AreOlder};
 ghost use Rattle.tt_interner.specs.Stored.{Builds, Extends, IsAt, IsNoClauseList, IsUnbuilt, Stores};
 ghost use Rattle.tt_interner.specs.Children.{children_at, items_row};
+ghost use Rattle.tt_interner.specs.Nodes.{stored_kind, BuildsLike};
 
 use crate::children::{arg_child, clause_child, item_at, store_items};
 use crate::interner::Interner;
 use tt_index::Refusal;
 use tt_kinds::{
-    Child, Clause, Const, GenericArg, Kind, List, ListSort, Node, Pat, PolyExistentialPredicate,
-    Table, Ty,
+    BoundVarKinds, Child, Clause, Const, GenericArg, Kind, List, ListSort, Node, Parts, Pat,
+    PolyExistentialPredicate, Table, Ty,
 };
+
+/// What stands in a stored term.
+#[derive(Clone, Copy, Debug, PartialEq, Eq)]
+pub struct Contents {
+    /// The variables of the binder around the children, if there is one.
+    pub bound_vars: Option<BoundVarKinds>,
+    /// The children in order.
+    pub parts: Parts,
+}
 
 impl Interner {
     /// What a stored term is. It has to be of this interner, and no list of clauses, whose items [`Interner::list_child`]
@@ -45,6 +55,67 @@ impl Interner {
             Node::Pat(pat) => Kind::Pat(*self.pat_kind(pat)),
             Node::Predicate(predicate) => Kind::Predicate(*self.predicate_kind(predicate)),
             Node::Existential(predicate) => Kind::Existential(*self.existential_kind(predicate)),
+            Node::Clauses(_) => unreachable!(),
+        }
+    }
+
+    /// What stands in a stored term, read in the interner's memory. The term is as [`Interner::node_kind`] wants it.
+    #[inline(always)]
+    pub fn node_parts(&self, node: Node) -> Contents
+        requires owned { node_number node < size self.now.rows (node_table node) }
+        requires has_kind { node_table node ≢ Table.ClauseLists }
+        ensures bound_vars { result.bound_vars ≡ form_binder (kind_form (stored_kind self.now.rows node)) }
+        ensures children { result.parts ≡ form_parts (kind_form (stored_kind self.now.rows node)) }
+        ensures table { kind_table (stored_kind self.now.rows node) ≡ node_table node }
+        ensures parts { HasParts (size self.now.rows) (kind_shape (stored_kind self.now.rows node)) }
+        ensures means { meaning self.now.rows (node_table node) (node_number node) ≡ fill (meaning self.now.rows) (kind_shape (stored_kind self.now.rows node)) }
+        ensures older { IsOlder self.now.rows (age self.now.rows (node_table node) (node_number node)) (kind_shape (stored_kind self.now.rows node)) }
+    {
+        self.are_rows();
+        self.contents_at(node)
+    }
+
+    // What stands in a stored term.
+    #[inline(always)]
+    fn contents_at(&self, node: Node) -> Contents
+        requires owned { node_number node < size self.now.rows (node_table node) }
+        requires has_kind { node_table node ≢ Table.ClauseLists }
+        ensures bound_vars { result.bound_vars ≡ form_binder (kind_form (stored_kind self.now.rows node)) }
+        ensures children { result.parts ≡ form_parts (kind_form (stored_kind self.now.rows node)) }
+    {
+        match node {
+            Node::Ty(ty) => {
+                let kind = self.ty_kind(ty);
+                Contents {
+                    bound_vars: kind.bound_vars(),
+                    parts: kind.parts(),
+                }
+            }
+            Node::Const(constant) => {
+                let kind = self.const_kind(constant);
+                Contents {
+                    bound_vars: kind.bound_vars(),
+                    parts: kind.parts(),
+                }
+            }
+            Node::Pat(pat) => Contents {
+                bound_vars: None,
+                parts: self.pat_kind(pat).parts(),
+            },
+            Node::Predicate(predicate) => {
+                let kind = self.predicate_kind(predicate);
+                Contents {
+                    bound_vars: Some(kind.bound_vars()),
+                    parts: kind.skip_binder().parts(),
+                }
+            }
+            Node::Existential(predicate) => {
+                let kind = self.existential_kind(predicate);
+                Contents {
+                    bound_vars: Some(kind.bound_vars()),
+                    parts: kind.skip_binder().parts(),
+                }
+            }
             Node::Clauses(_) => unreachable!(),
         }
     }
@@ -126,6 +197,29 @@ impl Interner {
                 Ok(predicate) => Ok(Node::Existential(predicate)),
                 Err(e) => Err(e),
             },
+        }
+    }
+
+    /// The stored term like this one, with other children in the places of its own. They have to be of this interner, and of
+    /// the same sorts; [`Parts::are_like`] tests it. The term is as [`Interner::node_kind`] wants it. Refused as
+    /// [`Interner::mk_ty`] is.
+    pub fn store_like(&mut self, node: Node, parts: Parts) -> Result<Node, Refusal>
+        requires owned { node_number node < size self.old.rows (node_table node) }
+        requires has_kind { node_table node ≢ Table.ClauseLists }
+        requires like { AreLike (form_parts (kind_form (stored_kind self.old.rows node))) parts }
+        requires parts { AreParts (size self.old.rows) (parts_shapes parts) }
+        ensures { BuildsLike result self.old self.new node parts }
+    {
+        self.are_rows();
+        match node {
+            Node::Ty(ty) => {
+                let kind = self.ty_kind(ty).with_parts(parts);
+                self.store(Kind::Ty(kind))
+            }
+            _ => {
+                let kind = self.kind_at(node).with_parts(parts);
+                self.store(kind)
+            }
         }
     }
 

@@ -1,14 +1,16 @@
-use Rattle.std.proofs.Common.{refl, ap, ◌∙◌, arith}
+use Rattle.std.proofs.Common.{refl, ap, sym, ◌∙◌, arith}
 use Rattle.std.proofs.lemmas.Result.{err_from_is_err_and}
 use Rattle.tt_kinds.specs.Parts.{list_sort, child_sort, IsItem}
 use Rattle.tt_kinds.specs.Shape.{IsTooDeep}
 use Rattle.tt_kinds.specs.Kinds.{kind_form, kind_sort, kind_shape, child_shapes}
 use Rattle.tt_interner.specs.Children.{children_at}
-use Rattle.tt_interner.proofs.Growth.{Extends-refl, Extends-trans, age-grows, IsPart-grows, AreParts-grows, fill-grows, children_at-grows}
+use Rattle.tt_interner.specs.Nodes.{stored_kind}
+use Rattle.tt_interner.proofs.Growth.{Extends-refl, Extends-trans, age-grows, IsPart-grows, AreParts-grows, fill-grows, children_at-grows, stored_kind-grows}
+use Rattle.tt_interner.proofs.NodeLemmas.{same-sort}
 use Rattle.tt_fold.specs.Parts.{child_weight}
 use Rattle.tt_fold.specs.Walk.{replaced, kept, term_failed, in_enter_failed}
 use Rattle.tt_fold.proofs.PartLaws.{in_range, only_part, left_parts, right_parts, vars-kept, binder-kept, weight-grows, weights-grow}
-use Rattle.tt_fold.proofs.FormLaws.{form-labels, same-sort, is_inner, not-deep, form-parts, form-binder, form-older, refilled-parts, item-older, item-part, item-fits}
+use Rattle.tt_fold.proofs.FormLaws.{form-labels, is_inner, not-deep, form-parts, form-binder, form-older, refilled-parts, item-older, item-part, item-fits}
 use Rattle.tt_fold.proofs.FoldSteps.{node_is_kind, stands-still, stored_list, stored_list_tree, list_is_items, memory_unbuilt, stored_node, stored_node_tree, not_stored, inside_leaf, inside_fails, inside_not_built, inside_rebuilt, descend_ends, descend_fails, node_descends, open_contents, under_parts_fail, under_leave_fails, under_folds, parts_first_fails, parts_second_fails, parts_fold, child_absent, child_region_fails, child_region, child_node_fails, child_node, child_list_fails, child_list, node_passed, so_far_none, so_far_more, items_one_fails, items_stop, items_fold, listed_fails, listed_not_stored, listed_stored, list_folds, clauses_fail, clauses_fold, clauses_node_fails, clauses_node, node_is_term, node_is_passed, other_node, other_list}
 use Rattle.tt_fold.proofs.walk.+fold.Goals as goal
 
@@ -76,64 +78,80 @@ pub descend-returns : goal.descend-returns
 descend-returns g t c =
     descend_ends c.requires.node c.in_ok-rebuilt.ensures c.core_after_term.ensures
 
-pub fold_inside-node_kind-kind-requires : goal.fold_inside-node_kind-kind-requires
-fold_inside-node_kind-kind-requires g t c =
+pub fold_inside-node_parts-contents-requires : goal.fold_inside-node_parts-contents-requires
+fold_inside-node_parts-contents-requires g t c =
     record { owned = in_range _ _ _ c.requires.node; has_kind = other_node c.args.node c.in_default.not-Clauses }
 
 pub fold_inside-returns-then-is_leaf : goal.fold_inside-returns-then-is_leaf
 fold_inside-returns-then-is_leaf g t c =
-    inside_leaf c.node_kind-kind.result c.requires.owned c.requires.node (node_is_kind _ _ c.node_kind-kind.result c.node_kind-kind.ensures.means) (c.if-is_leaf.ensures.0 refl)
+    let k = stored_kind c.args.cx.now.rows c.args.node in
+    let is = c.node_parts-contents.ensures in
+    let leaf = rw (is.bound_vars, is.children) at (c.if-is_leaf.ensures.0 refl) in
+    inside_leaf k c.requires.owned c.requires.node (node_is_kind _ _ k is.means) leaf
 
 pub fold_inside-fold_contents-requires : goal.fold_inside-fold_contents-requires
 fold_inside-fold_contents-requires g t c κs within =
-    let parts = form-parts _ (kind_sort c.node_kind-kind.result) (kind_form c.node_kind-kind.result) c.node_kind-kind.ensures.parts in
-    let binder = form-binder _ (kind_sort c.node_kind-kind.result) (kind_form c.node_kind-kind.result) c.node_kind-kind.ensures.parts in
-    let older = form-older _ _ (kind_sort c.node_kind-kind.result) (kind_form c.node_kind-kind.result) c.node_kind-kind.ensures.older in
-    let low = rw (← c.parts.ensures) at older in
-    (omega (arith, low), (within.0, (within.1.0, (within.1.1, (c.requires.owned, (rw c.bound_vars.ensures binder, rw c.parts.ensures parts))))))
+    let k = stored_kind c.args.cx.now.rows c.args.node in
+    let is = c.node_parts-contents.ensures in
+    let parts = form-parts _ (kind_sort k) (kind_form k) is.parts in
+    let binder = form-binder _ (kind_sort k) (kind_form k) is.parts in
+    let older = form-older _ _ (kind_sort k) (kind_form k) is.older in
+    let low = rw (← is.children) at older in
+    (omega (arith, low), (within.0, (within.1.0, (within.1.1, (c.requires.owned, (rw is.bound_vars binder, rw is.children parts))))))
 
 pub fold_inside-returns-in_err-parts : goal.fold_inside-returns-in_err-parts
 fold_inside-returns-in_err-parts g t c =
     let p = err_from_is_err_and c.from_residual.result c.from_residual.ensures.1 in
-    let tree = node_is_kind _ _ c.node_kind-kind.result c.node_kind-kind.ensures.means in
-    let f = rw (c.bound_vars.ensures, c.parts.ensures) at c.in_err-parts.ensures in
-    rw (p.1, p.2) (inside_fails c.node_kind-kind.result tree (is_inner c.node_kind-kind.result c.if-is_leaf.ensures.1) f)
+    let k = stored_kind c.args.cx.now.rows c.args.node in
+    let is = c.node_parts-contents.ensures in
+    let inner = is_inner k (rw (is.bound_vars, is.children) at c.if-is_leaf.ensures.1) in
+    let f = rw (is.bound_vars, is.children) at c.in_err-parts.ensures in
+    rw (p.1, p.2) (inside_fails k (node_is_kind _ _ k is.means) inner f)
 
-pub fold_inside-store-requires : goal.fold_inside-store-requires
-fold_inside-store-requires g t c =
-    let binder = form-binder _ (kind_sort c.node_kind-kind.result) (kind_form c.node_kind-kind.result) c.node_kind-kind.ensures.parts in
-    let still = binder-kept c.fold_contents.ensures.extends.rows _ binder in
-    let sort = same-sort c.with_parts.result c.node_kind-kind.result c.with_parts.ensures.table in
-    rw (sort, c.with_parts.ensures.form) (refilled-parts _ _ (kind_sort c.node_kind-kind.result) _ (kind_form c.node_kind-kind.result) (form-labels _ _ c.fold_contents.ensures.extends.rows (kind_sort c.node_kind-kind.result) (kind_form c.node_kind-kind.result) c.node_kind-kind.ensures.parts) (is_inner c.node_kind-kind.result c.if-is_leaf.ensures.1) still c.in_ok-parts.ensures.outcome.1.owned)
+pub fold_inside-store_like-requires : goal.fold_inside-store_like-requires
+fold_inside-store_like-requires g t c =
+    let grows = c.fold_contents.ensures.extends.rows in
+    let o = c.in_ok-parts.ensures.outcome.1 in
+    record {
+      owned = in_range _ _ _ (IsPart-grows _ _ grows _ c.requires.node);
+      has_kind = other_node c.args.node c.in_default.not-Clauses;
+      like = rw (stored_kind-grows _ _ grows c.args.node (in_range _ _ _ c.requires.node), ← c.node_parts-contents.ensures.children) o.like;
+      parts = o.owned;
+    }
 
 pub fold_inside-returns-in_err-rebuilt : goal.fold_inside-returns-in_err-rebuilt
 fold_inside-returns-in_err-rebuilt g t c =
     let p = err_from_is_err_and c.from_residual-in_err-rebuilt.result c.from_residual-in_err-rebuilt.ensures.1 in
-    let tree = node_is_kind _ _ c.node_kind-kind.result c.node_kind-kind.ensures.means in
-    let binder = form-binder _ (kind_sort c.node_kind-kind.result) (kind_form c.node_kind-kind.result) c.node_kind-kind.ensures.parts in
-    let sort = same-sort c.with_parts.result c.node_kind-kind.result c.with_parts.ensures.table in
-    let inner = is_inner c.node_kind-kind.result c.if-is_leaf.ensures.1 in
-    let f = rw (c.bound_vars.ensures, c.parts.ensures) at c.in_ok-parts.ensures in
-    let h = c.in_err-rebuilt.ensures.builds in
-    let shallow : IsTooDeep (kind_shape c.with_parts.result) → ⊥ = rw (sort, c.with_parts.ensures.form) (not-deep (kind_sort c.node_kind-kind.result) c.in_ok-parts.parts (kind_form c.node_kind-kind.result) inner) in
-    let cause = not_stored c.fold_contents.new.cx c.with_parts.result _ shallow h.cause in
-    rw p.1 (inside_not_built c.node_kind-kind.result c.with_parts.result tree c.node_kind-kind.ensures.parts inner binder c.with_parts.ensures.form sort f h.err (c.in_err-rebuilt.field-0.0, (p.2, rw h.err cause)))
+    let k = stored_kind c.args.cx.now.rows c.args.node in
+    let is = c.node_parts-contents.ensures in
+    let h = c.in_err-rebuilt.ensures in
+    let inner = is_inner k (rw (is.bound_vars, is.children) at c.if-is_leaf.ensures.1) in
+    let f = rw (is.bound_vars, is.children) at c.in_ok-parts.ensures in
+    let form = rw (stored_kind-grows _ _ f.extends.rows c.args.node (in_range _ _ _ c.requires.node)) at h.form in
+    let sort = same-sort h.kind k (h.table ∙ sym is.table) in
+    let shallow : IsTooDeep (kind_shape h.kind) → ⊥ = rw (sort, form) (not-deep (kind_sort k) c.in_ok-parts.parts (kind_form k) inner) in
+    let cause = not_stored c.fold_contents.new.cx h.kind _ shallow h.builds.cause in
+    let binder = form-binder _ (kind_sort k) (kind_form k) is.parts in
+    rw p.1 (inside_not_built k h.kind (node_is_kind _ _ k is.means) is.parts inner binder form sort f h.builds.err (c.in_err-rebuilt.field-0.0, (p.2, rw h.builds.err cause)))
 
 pub fold_inside-returns : goal.fold_inside-returns
 fold_inside-returns g t c =
-    let tree = node_is_kind _ _ c.node_kind-kind.result c.node_kind-kind.ensures.means in
-    let binder = form-binder _ (kind_sort c.node_kind-kind.result) (kind_form c.node_kind-kind.result) c.node_kind-kind.ensures.parts in
-    let sort = same-sort c.with_parts.result c.node_kind-kind.result c.with_parts.ensures.table in
-    let inner = is_inner c.node_kind-kind.result c.if-is_leaf.ensures.1 in
-    let f = rw (c.bound_vars.ensures, c.parts.ensures) at c.in_ok-parts.ensures in
+    let k = stored_kind c.args.cx.now.rows c.args.node in
+    let is = c.node_parts-contents.ensures in
     let h = c.in_ok-rebuilt.ensures in
+    let inner = is_inner k (rw (is.bound_vars, is.children) at c.if-is_leaf.ensures.1) in
+    let f = rw (is.bound_vars, is.children) at c.in_ok-parts.ensures in
+    let form = rw (stored_kind-grows _ _ f.extends.rows c.args.node (in_range _ _ _ c.requires.node)) at h.form in
+    let sort = same-sort h.kind k (h.table ∙ sym is.table) in
+    let binder = form-binder _ (kind_sort k) (kind_form k) is.parts in
     let o = c.in_ok-parts.ensures.outcome.0 in
     let grows = h.builds.grows in
-    inside_rebuilt c.node_kind-kind.result c.with_parts.result tree c.node_kind-kind.ensures.parts inner binder c.with_parts.ensures.form sort f (record { rows = grows; limit = h.builds.limit })
+    let of_kind = h.of_table ∙ sym h.table in
+    inside_rebuilt k h.kind (node_is_kind _ _ k is.means) is.parts inner binder form sort f (record { rows = grows; limit = h.builds.limit })
     (g.met.F.Core.still_owned _ _ _ grows o)
-    (stands-still g.F.Core.meaning c.fold_contents.new.cx c.store.new.self c.fold_contents.new.folder (g.met.F.Core.still_means _ _ _ grows o) h.builds.counters)
-    (stored_node _ _ _ c.with_parts.result h.builds.in_range h.table (c.with_parts.ensures.table ∙ c.node_kind-kind.ensures.table))
-    (stored_node_tree _ _ _ c.with_parts.result h.builds.means h.table)
+    (stands-still g.F.Core.meaning c.fold_contents.new.cx c.store_like.new.self c.fold_contents.new.folder (g.met.F.Core.still_means _ _ _ grows o) h.builds.counters)
+    (stored_node _ _ _ h.kind h.builds.in_range of_kind h.table)
+    (stored_node_tree _ _ _ h.kind h.builds.means of_kind)
 
 pub fold_contents-fold_parts-requires : goal.fold_contents-fold_parts-requires
 fold_contents-fold_parts-requires g t c κs within =
