@@ -5,8 +5,8 @@ ghost use Rattle.tt_kinds.specs.Kinds.{predicate_shape};
 ghost use Rattle.tt_fold.specs.Steps.{IsPartOf};
 
 use super::owned::{
-    NOT_OWNED, Owned, args, bound_region, holds, instance, interner, is_instance, one_region,
-    param_ty, ref_ty, region_variable, ty, u32_ty,
+    NOT_OWNED, Owned, args, bound_region, holds_anew, instance, is_instance, one_region, param_ty,
+    ref_ty, region_variable, ty, u32_ty,
 };
 use super::values::{Flagged, info};
 use crate::{
@@ -135,10 +135,7 @@ fn flags_of_coroutines_and_aliases_holds(cx: &mut Interner) -> Result<bool, Refu
 
 #[test]
 fn flags_of_coroutines_and_aliases(rt: HostRuntime) {
-    holds(
-        &rt,
-        flags_of_coroutines_and_aliases_holds(&mut interner(&rt, rt.alloc())),
-    );
+    holds_anew(&rt, rt.alloc(), flags_of_coroutines_and_aliases_holds);
 }
 
 fn flags_of_trait_objects_holds(cx: &mut Interner) -> Result<bool, Refusal> {
@@ -155,10 +152,7 @@ fn flags_of_trait_objects_holds(cx: &mut Interner) -> Result<bool, Refusal> {
 
 #[test]
 fn flags_of_trait_objects(rt: HostRuntime) {
-    holds(
-        &rt,
-        flags_of_trait_objects_holds(&mut interner(&rt, rt.alloc())),
-    );
+    holds_anew(&rt, rt.alloc(), flags_of_trait_objects_holds);
 }
 
 fn flags_of_unsafe_binders_holds(cx: &mut Interner) -> Result<bool, Refusal> {
@@ -171,10 +165,7 @@ fn flags_of_unsafe_binders_holds(cx: &mut Interner) -> Result<bool, Refusal> {
 
 #[test]
 fn flags_of_unsafe_binders(rt: HostRuntime) {
-    holds(
-        &rt,
-        flags_of_unsafe_binders_holds(&mut interner(&rt, rt.alloc())),
-    );
+    holds_anew(&rt, rt.alloc(), flags_of_unsafe_binders_holds);
 }
 
 fn flags_of_bound_constants_holds(cx: &mut Interner) -> Result<bool, Refusal> {
@@ -186,10 +177,7 @@ fn flags_of_bound_constants_holds(cx: &mut Interner) -> Result<bool, Refusal> {
 
 #[test]
 fn flags_of_bound_constants(rt: HostRuntime) {
-    holds(
-        &rt,
-        flags_of_bound_constants_holds(&mut interner(&rt, rt.alloc())),
-    );
+    holds_anew(&rt, rt.alloc(), flags_of_bound_constants_holds);
 }
 
 fn flags_of_predicates_holds(cx: &mut Interner) -> Result<bool, Refusal> {
@@ -204,10 +192,7 @@ fn flags_of_predicates_holds(cx: &mut Interner) -> Result<bool, Refusal> {
 
 #[test]
 fn flags_of_predicates(rt: HostRuntime) {
-    holds(
-        &rt,
-        flags_of_predicates_holds(&mut interner(&rt, rt.alloc())),
-    );
+    holds_anew(&rt, rt.alloc(), flags_of_predicates_holds);
 }
 
 // A binder's list of one type.
@@ -225,7 +210,7 @@ fn flags_of_clauses_holds(cx: &mut Interner) -> Result<bool, Refusal> {
 
 #[test]
 fn flags_of_clauses(rt: HostRuntime) {
-    holds(&rt, flags_of_clauses_holds(&mut interner(&rt, rt.alloc())));
+    holds_anew(&rt, rt.alloc(), flags_of_clauses_holds);
 }
 
 // The stored clause `u32: '?0`, under a binder of these variables.
@@ -259,10 +244,7 @@ fn instances_of_predicates_holds(cx: &mut Interner) -> Result<bool, Refusal> {
 
 #[test]
 fn instances_of_predicates(rt: HostRuntime) {
-    holds(
-        &rt,
-        instances_of_predicates_holds(&mut interner(&rt, rt.alloc())),
-    );
+    holds_anew(&rt, rt.alloc(), instances_of_predicates_holds);
 }
 
 // A stored constant without parameters shows its region variable, and a type around it hides it.
@@ -278,10 +260,7 @@ fn instances_of_constants_holds(cx: &mut Interner) -> Result<bool, Refusal> {
 
 #[test]
 fn instances_of_constants(rt: HostRuntime) {
-    holds(
-        &rt,
-        instances_of_constants_holds(&mut interner(&rt, rt.alloc())),
-    );
+    holds_anew(&rt, rt.alloc(), instances_of_constants_holds);
 }
 
 // Puts one predicate in the place of each, and counts how often it was asked.
@@ -436,8 +415,5 @@ fn no_clause_among_clauses_holds(cx: &mut Interner) -> Result<bool, Refusal> {
 
 #[test]
 fn no_clause_among_clauses(rt: HostRuntime) {
-    holds(
-        &rt,
-        no_clause_among_clauses_holds(&mut interner(&rt, rt.alloc())),
-    );
+    holds_anew(&rt, rt.alloc(), no_clause_among_clauses_holds);
 }

@@ -14,19 +14,63 @@ use crate::{
 use std::alloc::Global;
 use std::process::Abort;
 
-// A new interner. Where memory is ample there is one.
-pub fn interner(rt: &impl Abort, alloc: Global) -> Interner {
-    Interner::new(alloc).expect(rt, "an interner")
-}
-
-// A new interner with at most so many rows in a table.
-pub fn small_interner(rt: &impl Abort, alloc: Global, limit: u32) -> Interner {
-    Interner::with_limit(alloc, limit).expect(rt, "a small interner")
-}
-
 // The outcome is that all was as wanted.
 pub fn holds(rt: &impl Abort, outcome: Result<bool, Refusal>) {
     assert_eq!(rt; outcome, Ok(true));
+}
+
+// The end of an interner. Its tables are let go here alone: each place where they are takes half a minute to prove.
+fn end(_cx: Interner) {}
+
+// The check answers, on this interner, that all was as wanted.
+fn holds_on<F: FnOnce(&mut Interner) -> Result<bool, Refusal>>(
+    rt: &impl Abort,
+    mut cx: Interner,
+    check: F,
+)
+    requires { F.IsAlwaysCallable check }
+{
+    let outcome = check(&mut cx);
+    end(cx);
+    holds(rt, outcome);
+}
+
+// The same on a new interner. Where memory is ample there is one.
+pub fn holds_anew<F: FnOnce(&mut Interner) -> Result<bool, Refusal>>(
+    rt: &impl Abort,
+    alloc: Global,
+    check: F,
+)
+    requires { F.IsAlwaysCallable check }
+{
+    holds_on(rt, Interner::new(alloc).expect(rt, "an interner"), check);
+}
+
+// The same on a new interner with at most so many rows in a table.
+pub fn holds_within<F: FnOnce(&mut Interner) -> Result<bool, Refusal>>(
+    rt: &impl Abort,
+    alloc: Global,
+    limit: u32,
+    check: F,
+)
+    requires { F.IsAlwaysCallable check }
+{
+    holds_on(
+        rt,
+        Interner::with_limit(alloc, limit).expect(rt, "a small interner"),
+        check,
+    );
+}
+
+// A new interner with at most so many rows in a table is refused.
+pub fn is_refused_anew(rt: &impl Abort, alloc: Global, limit: u32, refusal: Refusal) {
+    match Interner::with_limit(alloc, limit) {
+        Ok(cx) => {
+            end(cx);
+            panic!(rt; "an interner with at most {limit} rows in a table");
+        }
+        Err(e) => assert_eq!(rt; e, refusal),
+    }
 }
 
 // What a call answers whose condition doesn't hold. The library never answers it.

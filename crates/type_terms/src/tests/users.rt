@@ -9,9 +9,9 @@ ghost use Rattle.tt_fold.specs.Walk.{replace, descend};
 ghost use Rattle.tt_fold.specs.Steps.{IsPartOf, tree_in};
 
 use super::owned::{
-    NOT_OWNED, Owned, args, bound_region, bound_ty, holds, instance, interner, is_instance,
-    is_shifted, one_region, param_region, param_ty, ref_ty, region_variable, shifted,
-    small_interner, ty, tys, u32_ty,
+    NOT_OWNED, Owned, args, bound_region, bound_ty, holds_anew, holds_within, instance,
+    is_instance, is_shifted, one_region, param_region, param_ty, ref_ty, region_variable, shifted,
+    ty, tys, u32_ty,
 };
 use crate::{
     Binder, BoundVarKinds, Clauses, Const, Core, ErrorGuaranteed, FallibleTypeFolder, FnSigTys,
@@ -188,10 +188,7 @@ fn regions_are_counted_holds(cx: &mut Interner) -> Result<bool, Refusal> {
 
 #[test]
 fn regions_are_counted(rt: HostRuntime) {
-    holds(
-        &rt,
-        regions_are_counted_holds(&mut interner(&rt, rt.alloc())),
-    );
+    holds_anew(&rt, rt.alloc(), regions_are_counted_holds);
 }
 
 fn regions_are_counted_under_binders_holds(cx: &mut Interner) -> Result<bool, Refusal> {
@@ -212,10 +209,7 @@ fn regions_are_counted_under_binders_holds(cx: &mut Interner) -> Result<bool, Re
 
 #[test]
 fn regions_are_counted_under_binders(rt: HostRuntime) {
-    holds(
-        &rt,
-        regions_are_counted_under_binders_holds(&mut interner(&rt, rt.alloc())),
-    );
+    holds_anew(&rt, rt.alloc(), regions_are_counted_under_binders_holds);
 }
 
 fn an_error_ends_the_visit_holds(cx: &mut Interner) -> Result<bool, Refusal> {
@@ -230,10 +224,7 @@ fn an_error_ends_the_visit_holds(cx: &mut Interner) -> Result<bool, Refusal> {
 
 #[test]
 fn an_error_ends_the_visit(rt: HostRuntime) {
-    holds(
-        &rt,
-        an_error_ends_the_visit_holds(&mut interner(&rt, rt.alloc())),
-    );
+    holds_anew(&rt, rt.alloc(), an_error_ends_the_visit_holds);
 }
 
 // Puts one type in the places of another.
@@ -417,10 +408,7 @@ fn types_are_replaced_holds(cx: &mut Interner) -> Result<bool, Refusal> {
 
 #[test]
 fn types_are_replaced(rt: HostRuntime) {
-    holds(
-        &rt,
-        types_are_replaced_holds(&mut interner(&rt, rt.alloc())),
-    );
+    holds_anew(&rt, rt.alloc(), types_are_replaced_holds);
 }
 
 fn types_are_replaced_in_lists_holds(cx: &mut Interner) -> Result<bool, Refusal> {
@@ -435,10 +423,7 @@ fn types_are_replaced_in_lists_holds(cx: &mut Interner) -> Result<bool, Refusal>
 
 #[test]
 fn types_are_replaced_in_lists(rt: HostRuntime) {
-    holds(
-        &rt,
-        types_are_replaced_in_lists_holds(&mut interner(&rt, rt.alloc())),
-    );
+    holds_anew(&rt, rt.alloc(), types_are_replaced_in_lists_holds);
 }
 
 fn types_are_replaced_in_signatures_holds(cx: &mut Interner) -> Result<bool, Refusal> {
@@ -462,10 +447,7 @@ fn types_are_replaced_in_signatures_holds(cx: &mut Interner) -> Result<bool, Ref
 
 #[test]
 fn types_are_replaced_in_signatures(rt: HostRuntime) {
-    holds(
-        &rt,
-        types_are_replaced_in_signatures_holds(&mut interner(&rt, rt.alloc())),
-    );
+    holds_anew(&rt, rt.alloc(), types_are_replaced_in_signatures_holds);
 }
 
 // Why a value is not of one region.
@@ -648,10 +630,7 @@ fn a_second_region_is_refused_holds(cx: &mut Interner) -> Result<bool, Refusal> 
 
 #[test]
 fn a_second_region_is_refused(rt: HostRuntime) {
-    holds(
-        &rt,
-        a_second_region_is_refused_holds(&mut interner(&rt, rt.alloc())),
-    );
+    holds_anew(&rt, rt.alloc(), a_second_region_is_refused_holds);
 }
 
 // A fold ends at the first error: the third region is not met.
@@ -665,10 +644,7 @@ fn the_first_error_ends_the_fold_holds(cx: &mut Interner) -> Result<bool, Refusa
 
 #[test]
 fn the_first_error_ends_the_fold(rt: HostRuntime) {
-    holds(
-        &rt,
-        the_first_error_ends_the_fold_holds(&mut interner(&rt, rt.alloc())),
-    );
+    holds_anew(&rt, rt.alloc(), the_first_error_ends_the_fold_holds);
 }
 
 // Where a walk has to store a type and the table is full, the folder's error tells of the refusal.
@@ -684,8 +660,7 @@ fn a_refusal_becomes_the_own_error_holds(cx: &mut Interner) -> Result<bool, Refu
 
 #[test]
 fn a_refusal_becomes_the_own_error(rt: HostRuntime) {
-    let mut cx = small_interner(&rt, rt.alloc(), 3);
-    holds(&rt, a_refusal_becomes_the_own_error_holds(&mut cx));
+    holds_within(&rt, rt.alloc(), 3, a_refusal_becomes_the_own_error_holds);
 }
 
 // A loan: for how long, and of what.
@@ -748,8 +723,5 @@ fn a_loan_is_shifted_and_instantiated_holds(cx: &mut Interner) -> Result<bool, R
 
 #[test]
 fn a_loan_is_shifted_and_instantiated(rt: HostRuntime) {
-    holds(
-        &rt,
-        a_loan_is_shifted_and_instantiated_holds(&mut interner(&rt, rt.alloc())),
-    );
+    holds_anew(&rt, rt.alloc(), a_loan_is_shifted_and_instantiated_holds);
 }

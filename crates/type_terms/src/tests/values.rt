@@ -5,9 +5,9 @@ ghost use Rattle.tt_kinds.specs.Shape.{IsPart};
 ghost use Rattle.tt_interner.specs.Rows.{size};
 
 use super::owned::{
-    NOT_OWNED, Owned, are_owned, args, binder_index, bound_region, bound_ty, holds, instance,
-    interner, is_instance, is_shifted, one_region, param_region, param_ty, ref_ty, shifted,
-    small_interner, ty, tys, u32_ty,
+    NOT_OWNED, Owned, are_owned, args, binder_index, bound_region, bound_ty, holds, holds_anew,
+    holds_within, instance, is_instance, is_refused_anew, is_shifted, one_region, param_region,
+    param_ty, ref_ty, shifted, ty, tys, u32_ty,
 };
 use crate::{
     Binder, BoundRegionKind, BoundVarKinds, BoundVariableKind, DebruijnIndex, EarlyBinder, Flags,
@@ -62,10 +62,7 @@ fn places_of_argument_lists_holds(cx: &mut Interner) -> Result<bool, Refusal> {
 
 #[test]
 fn places_of_argument_lists(rt: HostRuntime) {
-    holds(
-        &rt,
-        places_of_argument_lists_holds(&mut interner(&rt, rt.alloc())),
-    );
+    holds_anew(&rt, rt.alloc(), places_of_argument_lists_holds);
 }
 
 // The kind of the type.
@@ -121,10 +118,7 @@ fn stored_terms_are_read_back_holds(cx: &mut Interner) -> Result<bool, Refusal> 
 
 #[test]
 fn stored_terms_are_read_back(rt: HostRuntime) {
-    holds(
-        &rt,
-        stored_terms_are_read_back_holds(&mut interner(&rt, rt.alloc())),
-    );
+    holds_anew(&rt, rt.alloc(), stored_terms_are_read_back_holds);
 }
 
 // The item at the end of the list, with its index.
@@ -172,7 +166,7 @@ fn shift_of_regions_holds(cx: &mut Interner) -> Result<bool, Refusal> {
 
 #[test]
 fn shift_of_regions(rt: HostRuntime) {
-    holds(&rt, shift_of_regions_holds(&mut interner(&rt, rt.alloc())));
+    holds_anew(&rt, rt.alloc(), shift_of_regions_holds);
 }
 
 fn shift_of_types_holds(cx: &mut Interner) -> Result<bool, Refusal> {
@@ -187,7 +181,7 @@ fn shift_of_types_holds(cx: &mut Interner) -> Result<bool, Refusal> {
 
 #[test]
 fn shift_of_types(rt: HostRuntime) {
-    holds(&rt, shift_of_types_holds(&mut interner(&rt, rt.alloc())));
+    holds_anew(&rt, rt.alloc(), shift_of_types_holds);
 }
 
 fn shift_under_a_binder_holds(cx: &mut Interner) -> Result<bool, Refusal> {
@@ -202,10 +196,7 @@ fn shift_under_a_binder_holds(cx: &mut Interner) -> Result<bool, Refusal> {
 
 #[test]
 fn shift_under_a_binder(rt: HostRuntime) {
-    holds(
-        &rt,
-        shift_under_a_binder_holds(&mut interner(&rt, rt.alloc())),
-    );
+    holds_anew(&rt, rt.alloc(), shift_under_a_binder_holds);
 }
 
 fn shift_of_lists_holds(cx: &mut Interner) -> Result<bool, Refusal> {
@@ -223,7 +214,7 @@ fn shift_of_lists_holds(cx: &mut Interner) -> Result<bool, Refusal> {
 
 #[test]
 fn shift_of_lists(rt: HostRuntime) {
-    holds(&rt, shift_of_lists_holds(&mut interner(&rt, rt.alloc())));
+    holds_anew(&rt, rt.alloc(), shift_of_lists_holds);
 }
 
 fn shift_of_arguments_holds(cx: &mut Interner) -> Result<bool, Refusal> {
@@ -237,10 +228,7 @@ fn shift_of_arguments_holds(cx: &mut Interner) -> Result<bool, Refusal> {
 
 #[test]
 fn shift_of_arguments(rt: HostRuntime) {
-    holds(
-        &rt,
-        shift_of_arguments_holds(&mut interner(&rt, rt.alloc())),
-    );
+    holds_anew(&rt, rt.alloc(), shift_of_arguments_holds);
 }
 
 // The value with stored arguments in the places of its parameters.
@@ -288,10 +276,7 @@ fn lent_and_stored_arguments_holds(cx: &mut Interner) -> Result<bool, Refusal> {
 
 #[test]
 fn lent_and_stored_arguments(rt: HostRuntime) {
-    holds(
-        &rt,
-        lent_and_stored_arguments_holds(&mut interner(&rt, rt.alloc())),
-    );
+    holds_anew(&rt, rt.alloc(), lent_and_stored_arguments_holds);
 }
 
 fn no_arguments_holds(cx: &mut Interner) -> Result<bool, Refusal> {
@@ -307,7 +292,7 @@ fn no_arguments_holds(cx: &mut Interner) -> Result<bool, Refusal> {
 
 #[test]
 fn no_arguments(rt: HostRuntime) {
-    holds(&rt, no_arguments_holds(&mut interner(&rt, rt.alloc())));
+    holds_anew(&rt, rt.alloc(), no_arguments_holds);
 }
 
 fn argument_under_a_binder_holds(cx: &mut Interner) -> Result<bool, Refusal> {
@@ -322,10 +307,7 @@ fn argument_under_a_binder_holds(cx: &mut Interner) -> Result<bool, Refusal> {
 
 #[test]
 fn argument_under_a_binder(rt: HostRuntime) {
-    holds(
-        &rt,
-        argument_under_a_binder_holds(&mut interner(&rt, rt.alloc())),
-    );
+    holds_anew(&rt, rt.alloc(), argument_under_a_binder_holds);
 }
 
 fn instances_of_lists_holds(cx: &mut Interner) -> Result<bool, Refusal> {
@@ -349,10 +331,7 @@ fn instances_of_lists_holds(cx: &mut Interner) -> Result<bool, Refusal> {
 
 #[test]
 fn instances_of_lists(rt: HostRuntime) {
-    holds(
-        &rt,
-        instances_of_lists_holds(&mut interner(&rt, rt.alloc())),
-    );
+    holds_anew(&rt, rt.alloc(), instances_of_lists_holds);
 }
 
 // Equal instances of a type that is met twice are built once, and only what holds a parameter is taken apart.
@@ -371,7 +350,7 @@ fn descents_holds(cx: &mut Interner) -> Result<bool, Refusal> {
 
 #[test]
 fn descents(rt: HostRuntime) {
-    holds(&rt, descents_holds(&mut interner(&rt, rt.alloc())));
+    holds_anew(&rt, rt.alloc(), descents_holds);
 }
 
 // What is told of a value by questions that take no index.
@@ -444,10 +423,7 @@ fn questions_on_types_holds(cx: &mut Interner) -> Result<bool, Refusal> {
 
 #[test]
 fn questions_on_types(rt: HostRuntime) {
-    holds(
-        &rt,
-        questions_on_types_holds(&mut interner(&rt, rt.alloc())),
-    );
+    holds_anew(&rt, rt.alloc(), questions_on_types_holds);
 }
 
 fn questions_on_pairs_and_binders_holds(cx: &mut Interner) -> Result<bool, Refusal> {
@@ -471,10 +447,7 @@ fn questions_on_pairs_and_binders_holds(cx: &mut Interner) -> Result<bool, Refus
 
 #[test]
 fn questions_on_pairs_and_binders(rt: HostRuntime) {
-    holds(
-        &rt,
-        questions_on_pairs_and_binders_holds(&mut interner(&rt, rt.alloc())),
-    );
+    holds_anew(&rt, rt.alloc(), questions_on_pairs_and_binders_holds);
 }
 
 fn how_far_out_variables_are_bound_holds(cx: &mut Interner) -> Result<bool, Refusal> {
@@ -495,10 +468,7 @@ fn how_far_out_variables_are_bound_holds(cx: &mut Interner) -> Result<bool, Refu
 
 #[test]
 fn how_far_out_variables_are_bound(rt: HostRuntime) {
-    holds(
-        &rt,
-        how_far_out_variables_are_bound_holds(&mut interner(&rt, rt.alloc())),
-    );
+    holds_anew(&rt, rt.alloc(), how_far_out_variables_are_bound_holds);
 }
 
 // A handle that can tell whether its flags can be read in an interner.
@@ -578,7 +548,7 @@ fn flags_of_handles_holds(cx: &mut Interner) -> Result<bool, Refusal> {
 
 #[test]
 fn flags_of_handles(rt: HostRuntime) {
-    holds(&rt, flags_of_handles_holds(&mut interner(&rt, rt.alloc())));
+    holds_anew(&rt, rt.alloc(), flags_of_handles_holds);
 }
 
 // The flags beside a value take no part in comparisons.
@@ -617,9 +587,6 @@ fn full_tables_holds(cx: &mut Interner) -> Result<bool, Refusal> {
 
 #[test]
 fn full_tables(rt: HostRuntime) {
-    assert!(rt; matches!(Interner::with_limit(rt.alloc(), 0), Err(Refusal::TableFull)));
-    holds(
-        &rt,
-        full_tables_holds(&mut small_interner(&rt, rt.alloc(), 2)),
-    );
+    is_refused_anew(&rt, rt.alloc(), 0, Refusal::TableFull);
+    holds_within(&rt, rt.alloc(), 2, full_tables_holds);
 }
