@@ -55,7 +55,7 @@ mutual
   few_rebuilt (rebuilt w after) k = let rest = few_inside w k in let same = ap (λ q. q.counters.descents) after.0 in omega (arith, rest, same)
 
   few_inside : {s s' : Standing Instantiation} {t u : Tree Depth} → WalksInside arg_hooks s t u s' → (k : ℕ) → s'.counters.descents ≤ s.counters.descents + inside k t
-  few_inside (in_term w) k = few_all w k
+  few_inside (in_term w fit) k = few_all w k
   few_inside in_param k = omega arith
   few_inside in_bound k = omega arith
 

@@ -6,7 +6,7 @@ use Rattle.tt_index.specs.Greatest.{greatest}
 use Rattle.tt_index.specs.declared.refusal.Refusal.{Refusal}
 use Rattle.tt_index.specs.declared.refusal.Refusal.TheVariants.{Memory, TableFull, GreatestIndex, NoArguments, ArgOutOfRange, ArgKind, RegionVariable, NotAClause, NoSuchAnswer}
 use Rattle.tt_kinds.specs.Label.{Name, region_sort, type_sort, const_sort, VarKind, type_label, const_label, pattern_label, predicate_label, existential_label, clause_list_label, list_label, var_list_label, text_label, record_label, Label, is_type_or_clause}
-use Rattle.tt_kinds.specs.Tree.{Depth, Tree, Forest, param, bound, region, term, node, binder, also}
+use Rattle.tt_kinds.specs.Tree.{Depth, Tree, Forest, param, bound, region, term, node, binder, none, also}
 use Rattle.tt_kinds.specs.Reading.{read_all, FitsUnder_all}
 use Rattle.tt_kinds.specs.Argument.{Argument, argument}
 use Rattle.tt_kinds.specs.Plain.{inst_tree, inst_forest}
@@ -14,11 +14,12 @@ use Rattle.tt_kinds.specs.Param.{holds_param, EachParam_among, IsGeneric_among}
 use Rattle.tt_kinds.specs.Cause.{HidesRegionVars, HasExposed_among, Cause}
 use Rattle.tt_kinds.proofs.ParamLaws.{inst_tree-none, EachParam-none}
 use Rattle.tt_kinds.proofs.ChildLaws.{Among, here as among_here, later as among_later, HasParam-among, HasExposed-among}
-use Rattle.tt_interner.specs.Stored.{Counters, counted}
+use Rattle.tt_interner.specs.Stored.{Counters, counted, IsNoClauseList}
 use Rattle.tt_fold.specs.Counts.{Standing}
 use Rattle.tt_fold.specs.Stands.{itself, in_term as stands_in_term, in_node as stands_in_node, in_binder as stands_in_binder, StandsAmong, in_first, in_later}
-use Rattle.tt_fold.specs.Walk.{descend, IsPassed, Walks, Descends, WalksInside, WalksAll, at_region, replaced, kept, descended, passed, rebuilt, at_node, at_binder, in_term, in_param, in_bound, done, next, Fails, DescentFails, InsideFails, FailsAll, region_failed, term_failed, descent_failed, passed_failed, enter_failed, under_failed, leave_failed, node_failed, node_not_built, stopped, inside_failed, not_built, after_failed, in_term_failed, here, later}
+use Rattle.tt_fold.specs.Walk.{descend, IsPassed, Walks, Descends, WalksInside, WalksAll, at_region, replaced, kept, descended, passed, rebuilt, at_node, at_binder, in_term, in_param, in_bound, done, next, Fails, DescentFails, InsideFails, FailsAll, region_failed, term_failed, descent_failed, passed_failed, enter_failed, under_failed, leave_failed, node_failed, node_not_built, stopped, inside_failed, not_built, after_failed, in_term_failed, here, later, no_clause, Wanted, any_trees, wanted_in, HasUnwanted}
 use Rattle.tt_fold.proofs.ShiftLaws.{counted-up}
+use Rattle.tt_fold.proofs.WantedLaws.{first-unwanted, later-unwanted, unwanted-list}
 use Rattle.tt_binder.specs.Instantiation.{Instantiation, Instantiates, Refuses, without, too_far, caused, LeafRefuses, for_cause, unshifted, deeper, shallower, IsInnerConst, OnTerm, given_argument, left_alone, taken_apart, gone_into, const_gone_into, arg_hooks}
 use Rattle.tt_binder.proofs.FlagLaws.{hides_none}
 
@@ -178,7 +179,7 @@ mutual
       rw (after.0, after.1) (record { stays = n.stays; does = n.does })
 
   does_inside : {s s' : Standing Instantiation} {t u : Tree Depth} → WalksInside arg_hooks s t u s' → IsGoneInto t → Does s t u s'
-  does_inside {s} (in_term {l} {ts} {us} w) gone =
+  does_inside {s} (in_term {l} {ts} {us} w fit) gone =
       let n = does_all w in
       record { stays = n.stays; does = term_done s.state.args s.state.binders_passed l ts us n.does }
   does_inside in_param gone = absurd gone
@@ -194,12 +195,13 @@ mutual
         does = also_done s.state.args s.state.binders_passed t u ts us m.does (rw m.stays.state at n.does);
       }
 
--- trees under k binders are refused
-data RefusesAll (unbuilt : Tree Depth → Refusal → Type 0) (args : List (Argument Depth)) (k : ℕ) (ts : Forest Depth) (e : Refusal) : Type 0 where
-  without_any : ((u : Tree Depth) → unbuilt u e) → RefusesAll unbuilt args k ts e
-  without_one : (u : Tree Depth) → StandsAmong u (inst_forest k args ts) → unbuilt u e → RefusesAll unbuilt args k ts e
-  too_far_all : e ≡ GreatestIndex → (FitsUnder_all k (read_all k (inst_forest k args ts)) → ⊥) → RefusesAll unbuilt args k ts e
-  caused_among : (t : Tree Depth) → Among t ts → Cause t args e → RefusesAll unbuilt args k ts e
+-- trees under k binders, of which this has to come, are refused
+data RefusesAll (unbuilt : Tree Depth → Refusal → Type 0) (w : Wanted) (args : List (Argument Depth)) (k : ℕ) (ts : Forest Depth) (e : Refusal) : Type 0 where
+  without_any : ((u : Tree Depth) → unbuilt u e) → RefusesAll unbuilt w args k ts e
+  without_one : (u : Tree Depth) → StandsAmong u (inst_forest k args ts) → unbuilt u e → RefusesAll unbuilt w args k ts e
+  without_lists : HasUnwanted w (inst_forest k args ts) → ((u : Tree Depth) → IsNoClauseList u → unbuilt u e) → RefusesAll unbuilt w args k ts e
+  too_far_all : e ≡ GreatestIndex → (FitsUnder_all k (read_all k (inst_forest k args ts)) → ⊥) → RefusesAll unbuilt w args k ts e
+  caused_among : (t : Tree Depth) → Among t ts → Cause t args e → RefusesAll unbuilt w args k ts e
 
 -- a cause that stands in a child of a term or a node, or under a binder, stands in the whole
 Cause-term : (args : List (Argument Depth)) (l : Label Name) (t : Tree Depth) (ts : Forest Depth) → Among t ts → OnTrue (is_type_or_clause l) (IsGeneric_among ts)
@@ -238,26 +240,29 @@ Cause-binder args vs t (RegionVariable x) h = h
 
 -- a reason in a part is one in the whole
 module _ (unbuilt : Tree Depth → Refusal → Type 0) (args : List (Argument Depth)) (k : ℕ) where
-  refuses_first : (t : Tree Depth) (ts : Forest Depth) (e : Refusal) → Refuses unbuilt args k t e → RefusesAll unbuilt args k (also t ts) e
-  refuses_first t ts e (without u m h) = without_one u (in_first m) h
-  refuses_first t ts e (too_far h) = too_far_all h.is (λ fits. h.unfit fits.0)
-  refuses_first t ts e (caused h) = caused_among t among_here h
+  refuses_first : (w : Wanted) (t : Tree Depth) (ts : Forest Depth) (e : Refusal) → Refuses unbuilt args k t e → RefusesAll unbuilt w args k (also t ts) e
+  refuses_first w t ts e (without u m h) = without_one u (in_first m) h
+  refuses_first w t ts e (too_far h) = too_far_all h.is (λ fits. h.unfit fits.0)
+  refuses_first w t ts e (caused h) = caused_among t among_here h
 
-  refuses_later : (t : Tree Depth) (ts : Forest Depth) (e : Refusal) → RefusesAll unbuilt args k ts e → RefusesAll unbuilt args k (also t ts) e
-  refuses_later t ts e (without_any h) = without_any h
-  refuses_later t ts e (without_one u m h) = without_one u (in_later m) h
-  refuses_later t ts e (too_far_all is h) = too_far_all is (λ fits. h fits.1)
-  refuses_later t ts e (caused_among u m h) = caused_among u (among_later m) h
+  refuses_later : (w : Wanted) (t : Tree Depth) (ts : Forest Depth) (e : Refusal) → RefusesAll unbuilt w args k ts e → RefusesAll unbuilt w args k (also t ts) e
+  refuses_later w t ts e (without_any h) = without_any h
+  refuses_later w t ts e (without_one u m h) = without_one u (in_later m) h
+  refuses_later w t ts e (without_lists bad h) = without_lists (later-unwanted w (inst_tree k args t) (inst_forest k args ts) bad) h
+  refuses_later w t ts e (too_far_all is h) = too_far_all is (λ fits. h fits.1)
+  refuses_later w t ts e (caused_among u m h) = caused_among u (among_later m) h
 
-  refuses_term : (l : Label Name) (ts : Forest Depth) (e : Refusal) → OnTrue (is_type_or_clause l) (IsGeneric_among ts) → RefusesAll unbuilt args k ts e → Refuses unbuilt args k (term l ts) e
+  refuses_term : (l : Label Name) (ts : Forest Depth) (e : Refusal) → OnTrue (is_type_or_clause l) (IsGeneric_among ts) → RefusesAll unbuilt (wanted_in l) args k ts e → Refuses unbuilt args k (term l ts) e
   refuses_term l ts e g (without_any h) = without (inst_tree k args (term l ts)) itself (h (inst_tree k args (term l ts)))
   refuses_term l ts e g (without_one u m h) = without u (stands_in_term m) h
+  refuses_term l ts e g (without_lists bad h) = without (inst_tree k args (term l ts)) itself (h (inst_tree k args (term l ts)) (unwanted-list l (inst_forest k args ts) bad))
   refuses_term l ts e g (too_far_all is h) = too_far (record { is = is; unfit = h })
   refuses_term l ts e g (caused_among u m h) = caused (Cause-term args l u ts m g e h)
 
-  refuses_node : (l : Label Name) (ts : Forest Depth) (e : Refusal) → RefusesAll unbuilt args k ts e → Refuses unbuilt args k (node l ts) e
+  refuses_node : (l : Label Name) (ts : Forest Depth) (e : Refusal) → RefusesAll unbuilt any_trees args k ts e → Refuses unbuilt args k (node l ts) e
   refuses_node l ts e (without_any h) = without (inst_tree k args (node l ts)) itself (h (inst_tree k args (node l ts)))
   refuses_node l ts e (without_one u m h) = without u (stands_in_node m) h
+  refuses_node l ts e (without_lists bad h) = absurd bad
   refuses_node l ts e (too_far_all is h) = too_far (record { is = is; unfit = h })
   refuses_node l ts e (caused_among u m h) = caused (Cause-node args l u ts m e h)
 
@@ -271,7 +276,7 @@ module _ (unbuilt : Tree Depth → Refusal → Type 0) (args : List (Argument De
 
 -- a walk inside of a term lowers no count
 inside_up : {s s' : Standing Instantiation} {t u : Tree Depth} → WalksInside arg_hooks s t u s' → Rises s.counters s'.counters
-inside_up (in_term w) = (does_all w).stays.rises
+inside_up (in_term w fit) = (does_all w).stays.rises
 inside_up in_param = rises-same refl
 inside_up in_bound = rises-same refl
 
@@ -305,10 +310,13 @@ module _ (unbuilt : Tree Depth → Refusal → Type 0) where
     refuses_inside {s} (not_built {t} {u} {e} w b) gone =
         without (inst_tree s.state.binders_passed s.state.args t) itself (subst (λ v. unbuilt v e) (does_inside w gone).does.plain b)
 
-    refuses_all : {s s' : Standing Instantiation} {ts : Forest Depth} {e : Refusal} → FailsAll arg_hooks unbuilt s ts e s' → RefusesAll unbuilt s.state.args s.state.binders_passed ts e
+    refuses_all : {w : Wanted} {s s' : Standing Instantiation} {ts : Forest Depth} {e : Refusal} → FailsAll arg_hooks unbuilt w s ts e s' → RefusesAll unbuilt w s.state.args s.state.binders_passed ts e
     refuses_all (stopped h) = without_any h
-    refuses_all {s} (here {t} {ts} {e} d) = refuses_first unbuilt s.state.args s.state.binders_passed t ts e (refuses d)
-    refuses_all {s} (later {t} {ts} {e} w d) = refuses_later unbuilt s.state.args s.state.binders_passed t ts e (rw (does w).stays.state at (refuses_all d))
+    refuses_all {w} {s} (here {t} {ts} {e} d) = refuses_first unbuilt s.state.args s.state.binders_passed w t ts e (refuses d)
+    refuses_all {w} {s} (no_clause {t} {ts} g bad h) =
+        let known = subst (λ v. HasUnwanted w (also v none)) (does g).does.plain bad in
+        without_lists (first-unwanted w (inst_tree s.state.binders_passed s.state.args t) (inst_forest s.state.binders_passed s.state.args ts) known) h
+    refuses_all {w} {s} (later {t} {ts} {e} g fit d) = refuses_later unbuilt s.state.args s.state.binders_passed w t ts e (rw (does g).stays.state at (refuses_all d))
 
   mutual
     -- nor does a refused walk lower a count
@@ -333,7 +341,8 @@ module _ (unbuilt : Tree Depth → Refusal → Type 0) where
     fails_up_inside (in_term_failed d) = fails_up_all d
     fails_up_inside (not_built w b) = inside_up w
 
-    fails_up_all : {s s' : Standing Instantiation} {ts : Forest Depth} {e : Refusal} → FailsAll arg_hooks unbuilt s ts e s' → Rises s.counters s'.counters
+    fails_up_all : {w : Wanted} {s s' : Standing Instantiation} {ts : Forest Depth} {e : Refusal} → FailsAll arg_hooks unbuilt w s ts e s' → Rises s.counters s'.counters
     fails_up_all (stopped h) = rises-same refl
     fails_up_all (here d) = fails_up d
-    fails_up_all (later w d) = rises-then (does w).stays.rises (fails_up_all d)
+    fails_up_all (no_clause w bad h) = (does w).stays.rises
+    fails_up_all (later w fit d) = rises-then (does w).stays.rises (fails_up_all d)

@@ -4,7 +4,7 @@ use Rattle.std.proofs.lemmas.Result.{MatchResult-weaker}
 use Rattle.tt_kinds.specs.Tree.{Depth, Tree, Forest}
 use Rattle.tt_interner.specs.Rows.{Row}
 use Rattle.tt_interner.specs.Stored.{Terms}
-use Rattle.tt_fold.specs.Walk.{Hooks, Walks, Descends, WalksInside, WalksAll, at_region, replaced, kept, descended, passed, rebuilt, at_node, at_binder, in_term, in_param, in_bound, done, next, Fails, DescentFails, InsideFails, FailsAll, region_failed, term_failed, descent_failed, enter_failed, under_failed, leave_failed, node_failed, node_not_built, passed_failed, inside_failed, not_built, after_failed, in_term_failed, stopped, here, later}
+use Rattle.tt_fold.specs.Walk.{Hooks, Walks, Descends, WalksInside, WalksAll, at_region, replaced, kept, descended, passed, rebuilt, at_node, at_binder, in_term, in_param, in_bound, done, next, Fails, DescentFails, InsideFails, FailsAll, region_failed, term_failed, descent_failed, enter_failed, under_failed, leave_failed, node_failed, node_not_built, passed_failed, inside_failed, not_built, after_failed, in_term_failed, stopped, here, later, no_clause, Wanted}
 use Rattle.tt_fold.specs.Counts.{Standing, Quietly, keeps_counters}
 use Rattle.tt_fold.specs.Steps.{Folds}
 
@@ -23,7 +23,7 @@ module _ {M E : Type 0} (H : Hooks M E) where
     descends-quietly (rebuilt w h) = let p = inside-quietly w in (rebuilt p.0 h.0, h.1 ∙ p.1)
 
     pub inside-quietly : {s s' : Standing M} {t r : Tree Depth} → WalksInside (keeps_counters H) s t r s' → Quietly (λ m m'. WalksInside H m t r m') s s'
-    inside-quietly (in_term w) = let p = all-quietly w in (in_term p.0, p.1)
+    inside-quietly (in_term w fit) = let p = all-quietly w in (in_term p.0 fit, p.1)
     inside-quietly in_param = (in_param, refl)
     inside-quietly in_bound = (in_bound, refl)
 
@@ -52,10 +52,11 @@ module _ {M E : Type 0} (H : Hooks M E) (unbuilt : Tree Depth → E → Type 0) 
     inside_fails-quietly (in_term_failed d) = let p = fails_all-quietly d in (in_term_failed p.0, p.1)
     inside_fails-quietly (not_built w u) = let p = inside-quietly H w in (not_built p.0 u, p.1)
 
-    fails_all-quietly : {s s' : Standing M} {ts : Forest Depth} {e : E} → FailsAll (keeps_counters H) unbuilt s ts e s' → Quietly (λ m m'. FailsAll H unbuilt m ts e m') s s'
+    fails_all-quietly : {w : Wanted} {s s' : Standing M} {ts : Forest Depth} {e : E} → FailsAll (keeps_counters H) unbuilt w s ts e s' → Quietly (λ m m'. FailsAll H unbuilt w m ts e m') s s'
     fails_all-quietly (stopped u) = (stopped u, refl)
     fails_all-quietly (here d) = let p = fails-quietly d in (here p.0, p.1)
-    fails_all-quietly (later w d) = let p = walks-quietly H w in let q = fails_all-quietly d in (later p.0 q.0, q.1 ∙ p.1)
+    fails_all-quietly (no_clause w bad b) = let p = walks-quietly H w in (no_clause p.0 bad b, p.1)
+    fails_all-quietly (later w fit d) = let p = walks-quietly H w in let q = fails_all-quietly d in (later p.0 fit q.0, q.1 ∙ p.1)
 
 either_way : {T E C : Type 0} (r : Result T E) → MatchResult r (λ _. C) (λ _. C) → C
 either_way (Ok y) h = h

@@ -7,7 +7,7 @@ use Rattle.std.proofs.lemmas.List.{take-append-drop}
 use Rattle.std.proofs.lemmas.Option.{slice_get_within, get_or_from_slice_get}
 use Rattle.std.proofs.lemmas.Result.{MatchResult-weaker}
 use Rattle.tt_index.specs.declared.refusal.Refusal.{Refusal}
-use Rattle.tt_index.specs.declared.refusal.Refusal.TheVariants.{Memory, TableFull, GreatestIndex}
+use Rattle.tt_index.specs.declared.refusal.Refusal.TheVariants.{Memory, TableFull, GreatestIndex, NotAClause}
 use Rattle.tt_kinds.specs.Tree.{Depth, Tree}
 use Rattle.tt_kinds.specs.Parts as sorts
 use Rattle.tt_kinds.specs.Parts.{AreLike, node_table, node_number, sort_list_table, list_sort, list_table, list_number, child_sort, IsItem}
@@ -29,16 +29,17 @@ use Rattle.tt_kinds.specs.declared.parts.Parts.{Parts}
 use Rattle.tt_kinds.specs.declared.parts.Kind.{Kind}
 use Rattle.tt_kinds.specs.declared.parts.Kind.TheVariants as kind
 use Rattle.tt_interner.specs.Rows.{Row, row_table, row_shape, kind_row, size, meaning}
-use Rattle.tt_interner.specs.Stored.{Terms, Extends, IsCause, IsUnbuilt}
+use Rattle.tt_interner.specs.Stored.{Terms, Extends, IsCause, IsUnbuilt, IsNoClauseList}
 use Rattle.tt_interner.specs.Children.{children_at}
 use Rattle.tt_visit.specs.Root.{unhooked, root, table_root}
 use Rattle.tt_visit.proofs.VisitSteps.{root-meaning, root-region}
-use Rattle.tt_fold.specs.Walk.{WalksItems, ItemsFail, items_failed, list_not_built, IsRegion, IsPassed, IsTerm, Hooks, descend, Walks, Descends, WalksInside, WalksAll, WalksUnder, descended, passed, rebuilt, done, at_region, in_open, in_binder, Fails, DescentFails, FailsAll, FailsUnder, descent_failed, passed_failed, inside_failed, not_built, after_failed, InsideFails, region_failed, here, stopped, in_open_failed, in_under_failed, in_leave_failed}
+use Rattle.tt_fold.specs.Walk.{any_trees, wanted_of, HasUnwanted, WalksItems, ItemsFail, items_failed, list_not_built, IsRegion, IsPassed, IsTerm, Hooks, descend, Walks, Descends, WalksInside, WalksAll, WalksUnder, descended, passed, rebuilt, done, at_region, in_open, in_binder, Fails, DescentFails, FailsAll, FailsUnder, descent_failed, passed_failed, inside_failed, not_built, after_failed, InsideFails, region_failed, here, stopped, in_open_failed, in_under_failed, in_leave_failed}
 use Rattle.tt_fold.specs.Counts.{Standing, stands}
 use Rattle.tt_fold.specs.Steps.{Goes, Folds, IsPartOf, tree_in, HasVars, vars_in}
 use Rattle.tt_fold.specs.Parts.{ArePartsOf, trees_in, node_tree, list_tree, child_trees, parts_trees, children_trees, IsNodeFor, IsListFor, IsChildFor, ArePartsFor, HasHook, HasBinder, binder_in, IsLeaf, FoldsSoFar, FoldsItems}
 use Rattle.tt_interner.proofs.Growth.{Extends-refl, Extends-trans, AreParts-grows, fill-grows, fill_all-grows}
 use Rattle.tt_fold.proofs.PartLaws.{is_part, in_range, stored_tree, one_part, one_tree, no_parts, no_trees, append_parts, right_parts, append_trees, joined, children-append, children-one, vars-grow, binder-grows}
+use Rattle.tt_fold.proofs.WantedLaws.{none-wanted, joined-wanted, child_fails, child_unwanted}
 use Rattle.tt_fold.proofs.FormLaws.{IsInner, form-labels}
 use Rattle.tt_fold.proofs.WalkLaws.{walks_list, fails_list, walks_clauses, fails_clauses, WalksAll-append, FailsAll-append, FailsAll-before, WalksAll-one, walks_leaf, walks_form, fails_form}
 
@@ -123,6 +124,9 @@ list_is_items rows l cs h = stored_tree rows (list_table l) (list_number l) ∙ 
 pub memory_unbuilt : (terms : Terms) (u : Tree Depth) (r : Refusal) → r ≡ Memory → IsUnbuilt terms u r
 memory_unbuilt terms u r same = rw same tt
 
+pub no_clause_unbuilt : (terms : Terms) (u : Tree Depth) (r : Refusal) → r ≡ NotAClause → IsNoClauseList u → IsUnbuilt terms u r
+no_clause_unbuilt terms u r same bad = rw same bad
+
 -- the state means what it meant, and the counts are the same
 pub stands-still : {M S : Type 0} (means : Listed Row → S → M) (terms terms1 : Terms) (s : S)
     → means terms1.rows s ≡ means terms.rows s → terms1.counters ≡ terms.counters → stands means terms1 s ≡ stands means terms s
@@ -174,24 +178,28 @@ module _ {M E S : Type 0} {owned : Listed Row → S → Type 0} {means : Listed 
     is_owned = o;
     are_items = no_parts terms.rows;
     fit = λ k d lt. absurd (omega arith);
+    wanted = rw (no_trees terms.rows) (none-wanted _);
     walked = rw (no_trees terms.rows) done;
   })
 
   pub so_far_more : {terms terms1 terms2 : Terms} {s s1 s2 : S} {sort : ListSort} {list items more : Listed Child} {n : ℕ} {x y : Child} {other : Tree Depth → E → Type 0}
       → FoldsSoFar owned means H terms s sort list n items terms1 s1
       → slice_get list n ≡ Some x → ArePartsOf terms.rows (child_shapes x) → IsItem sort (child_sort x)
-      → Folds owned means (IsChildFor x) child_trees (WalksAll H) (FailsAll H other) terms1 s1 x (Ok y) terms2 s2
-      → more ≡ items ++ y ∷ []
+      → Folds owned means (IsChildFor x) child_trees (WalksAll H) (FailsAll H other any_trees) terms1 s1 x (Ok y) terms2 s2
+      → (HasUnwanted (wanted_of sort) (child_trees terms2.rows y) → ⊥) → more ≡ items ++ y ∷ []
       → FoldsSoFar owned means H terms s sort list (n + 1) more terms2 s2
-  so_far_more {terms} {terms2} {sort} {list} {items} {n} {x} {y} p is_x owns fit d added =
+  so_far_more {terms} {terms2} {sort} {list} {items} {n} {x} {y} p is_x owns fit d wanted added =
       let o = rw (fill_all-grows _ _ p.extends.rows (child_shapes x) owns) at d.outcome in
-      let w = WalksAll-append (rw (← fill_all-grows _ _ d.extends.rows (children_shapes items) p.are_items) at p.walked) o.2 in
+      let still = fill_all-grows _ _ d.extends.rows (children_shapes items) p.are_items in
+      let w = WalksAll-append (rw (← still) at p.walked) o.2 in
+      let before = rw (← still) at p.wanted in
       let fit_y : IsItem sort (child_sort y) = rw o.1.like fit in
       rw added (record {
         extends = Extends-trans p.extends d.extends;
         is_owned = o.0;
         are_items = last_part terms2.rows items y (AreParts-grows _ _ d.extends.rows (children_shapes items) p.are_items) o.1.owned;
         fit = All-append (λ c. IsItem sort (child_sort c)) items (y ∷ []) p.fit (All-one (λ c. IsItem sort (child_sort c)) y fit_y);
+        wanted = rw (trees-last terms2.rows items y) (joined-wanted _ _ _ before wanted);
         walked = rw (trees-take_more terms.rows list n x is_x, trees-last terms2.rows items y) w;
       })
 
@@ -298,7 +306,7 @@ module _ {M E S : Type 0} {owned : Listed Row → S → Type 0} {means : Listed 
     -- parts with no binder
     pub open_contents : {terms terms1 : Terms} {s s1 : S} {p : Parts} {r : Result Parts E} {b : Option BoundVarKinds}
         → b ≡ None
-        → Folds owned means (ArePartsFor p) parts_trees (WalksAll H) (FailsAll H unbuilt) terms s p r terms1 s1
+        → Folds owned means (ArePartsFor p) parts_trees (WalksAll H) (FailsAll H unbuilt any_trees) terms s p r terms1 s1
         → Folds owned means (ArePartsFor p) parts_trees (WalksUnder H (binder_in terms.rows b)) (FailsUnder H unbuilt (binder_in terms.rows b)) terms s p r terms1 s1
     open_contents {r} same d =
         rw same (record { extends = d.extends; outcome = MatchResult-weaker r d.outcome (λ y h. (h.0, h.1, in_open h.2)) (λ e h. in_open_failed h) })
@@ -306,7 +314,7 @@ module _ {M E S : Type 0} {owned : Listed Row → S → Type 0} {means : Listed 
     -- binders
     pub under_parts_fail : {terms terms1 terms2 : Terms} {s s1 s2 : S} {p : Parts} {e : E} (vars : BoundVarKinds)
         → ArePartsOf terms.rows (parts_shapes p) → Extends terms terms1 → H.enter (stands means terms s) (vars_in terms.rows vars) (stands means terms1 s1)
-        → Folds owned means (ArePartsFor p) parts_trees (WalksAll H) (FailsAll H unbuilt) terms1 s1 p (Err e) terms2 s2
+        → Folds owned means (ArePartsFor p) parts_trees (WalksAll H) (FailsAll H unbuilt any_trees) terms1 s1 p (Err e) terms2 s2
         → Folds owned means (ArePartsFor p) parts_trees (WalksUnder H (Some (vars_in terms.rows vars))) (FailsUnder H unbuilt (Some (vars_in terms.rows vars))) terms s p (Err e) terms2 s2
     under_parts_fail {p} vars owns extends enter d =
         let o = rw (fill_all-grows _ _ extends.rows (parts_shapes p) owns) at d.outcome in
@@ -315,7 +323,7 @@ module _ {M E S : Type 0} {owned : Listed Row → S → Type 0} {means : Listed 
     pub under_leave_fails : {terms terms1 terms2 terms3 : Terms} {s s1 s2 s3 : S} {p q : Parts} {e : E} (vars : BoundVarKinds) {other : Tree Depth → E → Type 0}
         → HasVars terms.rows vars → ArePartsOf terms.rows (parts_shapes p) → Extends terms terms1
         → H.enter (stands means terms s) (vars_in terms.rows vars) (stands means terms1 s1)
-        → Folds owned means (ArePartsFor p) parts_trees (WalksAll H) (FailsAll H other) terms1 s1 p (Ok q) terms2 s2
+        → Folds owned means (ArePartsFor p) parts_trees (WalksAll H) (FailsAll H other any_trees) terms1 s1 p (Ok q) terms2 s2
         → Extends terms2 terms3 → H.leave_fails unbuilt (stands means terms2 s2) (vars_in terms2.rows vars) e (stands means terms3 s3)
         → Folds owned means (ArePartsFor p) parts_trees (WalksUnder H (Some (vars_in terms.rows vars))) (FailsUnder H unbuilt (Some (vars_in terms.rows vars))) terms s p (Err e) terms3 s3
     under_leave_fails {p} vars has owns extends enter d more leave =
@@ -326,7 +334,7 @@ module _ {M E S : Type 0} {owned : Listed Row → S → Type 0} {means : Listed 
     pub under_folds : {terms terms1 terms2 terms3 : Terms} {s s1 s2 s3 : S} {p q : Parts} (vars : BoundVarKinds) {other : Tree Depth → E → Type 0}
         → HasVars terms.rows vars → ArePartsOf terms.rows (parts_shapes p) → Extends terms terms1
         → H.enter (stands means terms s) (vars_in terms.rows vars) (stands means terms1 s1)
-        → Folds owned means (ArePartsFor p) parts_trees (WalksAll H) (FailsAll H other) terms1 s1 p (Ok q) terms2 s2
+        → Folds owned means (ArePartsFor p) parts_trees (WalksAll H) (FailsAll H other any_trees) terms1 s1 p (Ok q) terms2 s2
         → Extends terms2 terms3 → owned terms3.rows s3 → H.leave (stands means terms2 s2) (vars_in terms2.rows vars) (stands means terms3 s3)
         → Folds owned means (ArePartsFor p) parts_trees (WalksUnder H (Some (vars_in terms.rows vars))) (FailsUnder H unbuilt (Some (vars_in terms.rows vars))) terms s p (Ok q) terms3 s3
     under_folds {p} {q} vars has owns extends enter d more owned3 leave =
@@ -339,29 +347,29 @@ module _ {M E S : Type 0} {owned : Listed Row → S → Type 0} {means : Listed 
 
     -- the two parts
     pub parts_first_fails : {terms terms1 : Terms} {s s1 : S} {p : Parts} {e : E}
-        → Folds owned means (IsChildFor p.first) child_trees (WalksAll H) (FailsAll H unbuilt) terms s p.first (Err e) terms1 s1
-        → Folds owned means (ArePartsFor p) parts_trees (WalksAll H) (FailsAll H unbuilt) terms s p (Err e) terms1 s1
+        → Folds owned means (IsChildFor p.first) child_trees (WalksAll H) (FailsAll H unbuilt any_trees) terms s p.first (Err e) terms1 s1
+        → Folds owned means (ArePartsFor p) parts_trees (WalksAll H) (FailsAll H unbuilt any_trees) terms s p (Err e) terms1 s1
     parts_first_fails {terms} {p} d =
         record { extends = d.extends; outcome = rw (append_trees terms.rows (child_shapes p.first) (child_shapes p.second)) (FailsAll-before _ d.outcome) }
 
     pub parts_second_fails : {terms terms1 terms2 : Terms} {s s1 s2 : S} {p : Parts} {x : Child} {e : E} {other : Tree Depth → E → Type 0}
         → ArePartsOf terms.rows (parts_shapes p)
-        → Folds owned means (IsChildFor p.first) child_trees (WalksAll H) (FailsAll H other) terms s p.first (Ok x) terms1 s1
-        → Folds owned means (IsChildFor p.second) child_trees (WalksAll H) (FailsAll H unbuilt) terms1 s1 p.second (Err e) terms2 s2
-        → Folds owned means (ArePartsFor p) parts_trees (WalksAll H) (FailsAll H unbuilt) terms s p (Err e) terms2 s2
+        → Folds owned means (IsChildFor p.first) child_trees (WalksAll H) (FailsAll H other any_trees) terms s p.first (Ok x) terms1 s1
+        → Folds owned means (IsChildFor p.second) child_trees (WalksAll H) (FailsAll H unbuilt any_trees) terms1 s1 p.second (Err e) terms2 s2
+        → Folds owned means (ArePartsFor p) parts_trees (WalksAll H) (FailsAll H unbuilt any_trees) terms s p (Err e) terms2 s2
     parts_second_fails {terms} {p} owns a b =
         let second = right_parts terms.rows (child_shapes p.first) (child_shapes p.second) owns in
         let o = rw (fill_all-grows _ _ a.extends.rows (child_shapes p.second) second) at b.outcome in
         record {
           extends = Extends-trans a.extends b.extends;
-          outcome = rw (append_trees terms.rows (child_shapes p.first) (child_shapes p.second)) (FailsAll-append a.outcome.2 o);
+          outcome = rw (append_trees terms.rows (child_shapes p.first) (child_shapes p.second)) (FailsAll-append a.outcome.2 (λ h. h) o);
         }
 
     pub parts_fold : {terms terms1 terms2 : Terms} {s s1 s2 : S} {p : Parts} {x y : Child} {other : Tree Depth → E → Type 0}
         → ArePartsOf terms.rows (parts_shapes p)
-        → Folds owned means (IsChildFor p.first) child_trees (WalksAll H) (FailsAll H other) terms s p.first (Ok x) terms1 s1
-        → Folds owned means (IsChildFor p.second) child_trees (WalksAll H) (FailsAll H unbuilt) terms1 s1 p.second (Ok y) terms2 s2
-        → Folds owned means (ArePartsFor p) parts_trees (WalksAll H) (FailsAll H unbuilt) terms s p (Ok (record { first = x; second = y })) terms2 s2
+        → Folds owned means (IsChildFor p.first) child_trees (WalksAll H) (FailsAll H other any_trees) terms s p.first (Ok x) terms1 s1
+        → Folds owned means (IsChildFor p.second) child_trees (WalksAll H) (FailsAll H unbuilt any_trees) terms1 s1 p.second (Ok y) terms2 s2
+        → Folds owned means (ArePartsFor p) parts_trees (WalksAll H) (FailsAll H unbuilt any_trees) terms s p (Ok (record { first = x; second = y })) terms2 s2
     parts_fold {terms} {terms2} {p} {x} {y} owns a b =
         let second = right_parts terms.rows (child_shapes p.first) (child_shapes p.second) owns in
         let o = rw (fill_all-grows _ _ a.extends.rows (child_shapes p.second) second) at b.outcome in
@@ -381,20 +389,20 @@ module _ {M E S : Type 0} {owned : Listed Row → S → Type 0} {means : Listed 
     -- the sorts of a child
     pub child_absent : {terms : Terms} {s : S} {c : Child}
         → c ≡ child.Absent → Extends terms terms → owned terms.rows s
-        → Folds owned means (IsChildFor c) child_trees (WalksAll H) (FailsAll H unbuilt) terms s c (Ok child.Absent) terms s
+        → Folds owned means (IsChildFor c) child_trees (WalksAll H) (FailsAll H unbuilt any_trees) terms s c (Ok child.Absent) terms s
     child_absent {terms} same extends o =
         rw same (record { extends = extends; outcome = (o, record { owned = no_parts terms.rows; like = refl }, rw (no_trees terms.rows) done) })
 
     pub child_region_fails : {terms terms1 : Terms} {s s1 : S} {c : Child} {x : RegionKind} {e : E}
         → c ≡ child.Region x → Extends terms terms1 → H.region_fails unbuilt (stands means terms s) (tree_in terms.rows (region_shape x)) e (stands means terms1 s1)
-        → Folds owned means (IsChildFor c) child_trees (WalksAll H) (FailsAll H unbuilt) terms s c (Err e) terms1 s1
+        → Folds owned means (IsChildFor c) child_trees (WalksAll H) (FailsAll H unbuilt any_trees) terms s c (Err e) terms1 s1
     child_region_fails {terms} {x} same extends h =
         rw same (record { extends = extends; outcome = rw (one_tree terms.rows (region_shape x)) (here (region_failed (region-is terms.rows x) h)) })
 
     pub child_region : {terms terms1 : Terms} {s s1 : S} {c : Child} {x y : RegionKind}
         → c ≡ child.Region x → Extends terms terms1 → owned terms1.rows s1 → IsPartOf terms1.rows (region_shape y)
         → H.on_region (stands means terms s) (tree_in terms.rows (region_shape x)) (tree_in terms1.rows (region_shape y)) (stands means terms1 s1)
-        → Folds owned means (IsChildFor c) child_trees (WalksAll H) (FailsAll H unbuilt) terms s c (Ok (child.Region y)) terms1 s1
+        → Folds owned means (IsChildFor c) child_trees (WalksAll H) (FailsAll H unbuilt any_trees) terms s c (Ok (child.Region y)) terms1 s1
     child_region {terms} {terms1} {x} {y} same extends o part h =
         rw same (record {
           extends = extends;
@@ -408,13 +416,13 @@ module _ {M E S : Type 0} {owned : Listed Row → S → Type 0} {means : Listed 
     pub child_node_fails : {terms terms1 : Terms} {s s1 : S} {c : Child} {x : Node} {e : E}
         → c ≡ child.Node x
         → Folds owned means (IsNodeFor x) node_tree (Walks H) (Fails H unbuilt) terms s x (Err e) terms1 s1
-        → Folds owned means (IsChildFor c) child_trees (WalksAll H) (FailsAll H unbuilt) terms s c (Err e) terms1 s1
+        → Folds owned means (IsChildFor c) child_trees (WalksAll H) (FailsAll H unbuilt any_trees) terms s c (Err e) terms1 s1
     child_node_fails {terms} {x} same d = rw same (record { extends = d.extends; outcome = rw (one_tree terms.rows (node_shape x)) (here d.outcome) })
 
     pub child_node : {terms terms1 : Terms} {s s1 : S} {c : Child} {x y : Node}
         → c ≡ child.Node x
         → Folds owned means (IsNodeFor x) node_tree (Walks H) (Fails H unbuilt) terms s x (Ok y) terms1 s1
-        → Folds owned means (IsChildFor c) child_trees (WalksAll H) (FailsAll H unbuilt) terms s c (Ok (child.Node y)) terms1 s1
+        → Folds owned means (IsChildFor c) child_trees (WalksAll H) (FailsAll H unbuilt any_trees) terms s c (Ok (child.Node y)) terms1 s1
     child_node {terms} {terms1} {x} {y} same d =
         let o = d.outcome in
         rw same (record {
@@ -429,13 +437,13 @@ module _ {M E S : Type 0} {owned : Listed Row → S → Type 0} {means : Listed 
     pub child_list_fails : {terms terms1 : Terms} {s s1 : S} {c : Child} {x : List} {e : E}
         → c ≡ child.List x
         → Folds owned means (IsListFor x) list_tree (Walks H) (Fails H unbuilt) terms s x (Err e) terms1 s1
-        → Folds owned means (IsChildFor c) child_trees (WalksAll H) (FailsAll H unbuilt) terms s c (Err e) terms1 s1
+        → Folds owned means (IsChildFor c) child_trees (WalksAll H) (FailsAll H unbuilt any_trees) terms s c (Err e) terms1 s1
     child_list_fails {terms} {x} same d = rw same (record { extends = d.extends; outcome = rw (one_tree terms.rows (list_shape x)) (here d.outcome) })
 
     pub child_list : {terms terms1 : Terms} {s s1 : S} {c : Child} {x y : List}
         → c ≡ child.List x
         → Folds owned means (IsListFor x) list_tree (Walks H) (Fails H unbuilt) terms s x (Ok y) terms1 s1
-        → Folds owned means (IsChildFor c) child_trees (WalksAll H) (FailsAll H unbuilt) terms s c (Ok (child.List y)) terms1 s1
+        → Folds owned means (IsChildFor c) child_trees (WalksAll H) (FailsAll H unbuilt any_trees) terms s c (Ok (child.List y)) terms1 s1
     child_list {terms} {terms1} {x} {y} same d =
         let o = d.outcome in
         rw same (record {
@@ -448,28 +456,46 @@ module _ {M E S : Type 0} {owned : Listed Row → S → Type 0} {means : Listed 
         })
 
     -- the children of a list
-    pub items_one_fails : {V : Type 0} {view : V → Listed Child} {terms terms1 terms2 : Terms} {s s1 s2 : S} {l : List} {sort : ListSort} {items : Listed Child} {n : ℕ} {x : Child} {e : E}
+    pub items_one_fails : {V : Type 0} {view : V → Listed Child} {terms terms1 terms2 : Terms} {s s1 s2 : S} {l : List} {items : Listed Child} {n : ℕ} {x : Child} {e : E}
         → list_tree terms.rows l ≡ items_tree (list_sort l) (children_trees terms.rows (children_at terms.rows l))
-        → FoldsSoFar owned means H terms s sort (children_at terms.rows l) n items terms1 s1
+        → FoldsSoFar owned means H terms s (list_sort l) (children_at terms.rows l) n items terms1 s1
         → slice_get (children_at terms.rows l) n ≡ Some x → ArePartsOf terms.rows (child_shapes x)
-        → Folds owned means (IsChildFor x) child_trees (WalksAll H) (FailsAll H unbuilt) terms1 s1 x (Err e) terms2 s2
+        → Folds owned means (IsChildFor x) child_trees (WalksAll H) (FailsAll H unbuilt any_trees) terms1 s1 x (Err e) terms2 s2
         → FoldsItems view owned means H unbuilt terms s l (Err e) terms2 s2
     items_one_fails {terms} {l} {n} {x} tree p is_x owns d =
         let o = rw (fill_all-grows _ _ p.extends.rows (child_shapes x) owns) at d.outcome in
         record {
           of_children = tree;
           extends = Extends-trans p.extends d.extends;
-          outcome = rw (trees-from terms.rows (children_at terms.rows l) n x is_x) (FailsAll-append p.walked (FailsAll-before _ o));
+          outcome = rw (trees-from terms.rows (children_at terms.rows l) n x is_x)
+              (FailsAll-append p.walked p.wanted (FailsAll-before _ (child_fails (wanted_of (list_sort l)) terms.rows x o)));
+        }
+
+    -- no clause came of a child of a list of clauses
+    pub items_one_unwanted : {V : Type 0} {view : V → Listed Child} {terms terms1 terms2 : Terms} {s s1 s2 : S} {l : List} {items : Listed Child} {n : ℕ} {x y : Child} {e : E} {other : Tree Depth → E → Type 0}
+        → list_tree terms.rows l ≡ items_tree (list_sort l) (children_trees terms.rows (children_at terms.rows l))
+        → FoldsSoFar owned means H terms s (list_sort l) (children_at terms.rows l) n items terms1 s1
+        → slice_get (children_at terms.rows l) n ≡ Some x → ArePartsOf terms.rows (child_shapes x)
+        → Folds owned means (IsChildFor x) child_trees (WalksAll H) (FailsAll H other any_trees) terms1 s1 x (Ok y) terms2 s2
+        → HasUnwanted (wanted_of (list_sort l)) (child_trees terms2.rows y) → ((v : Tree Depth) → IsNoClauseList v → unbuilt v e)
+        → FoldsItems view owned means H unbuilt terms s l (Err e) terms2 s2
+    items_one_unwanted {terms} {l} {n} {x} tree p is_x owns d bad b =
+        let o = rw (fill_all-grows _ _ p.extends.rows (child_shapes x) owns) at d.outcome in
+        record {
+          of_children = tree;
+          extends = Extends-trans p.extends d.extends;
+          outcome = rw (trees-from terms.rows (children_at terms.rows l) n x is_x)
+              (FailsAll-append p.walked p.wanted (FailsAll-before _ (child_unwanted (wanted_of (list_sort l)) terms.rows x o.2 bad b)));
         }
 
     -- the memory for a child is refused
-    pub items_stop : {V : Type 0} {view : V → Listed Child} {terms terms1 : Terms} {s s1 : S} {l : List} {sort : ListSort} {items : Listed Child} {n : ℕ} {e : E}
+    pub items_stop : {V : Type 0} {view : V → Listed Child} {terms terms1 : Terms} {s s1 : S} {l : List} {items : Listed Child} {n : ℕ} {e : E}
         → list_tree terms.rows l ≡ items_tree (list_sort l) (children_trees terms.rows (children_at terms.rows l))
-        → FoldsSoFar owned means H terms s sort (children_at terms.rows l) n items terms1 s1
+        → FoldsSoFar owned means H terms s (list_sort l) (children_at terms.rows l) n items terms1 s1
         → ((u : Tree Depth) → unbuilt u e)
         → FoldsItems view owned means H unbuilt terms s l (Err e) terms1 s1
     items_stop {terms} {l} {n} tree p b =
-        record { of_children = tree; extends = p.extends; outcome = rw (trees-cut terms.rows (children_at terms.rows l) n) (FailsAll-append p.walked (stopped b)) }
+        record { of_children = tree; extends = p.extends; outcome = rw (trees-cut terms.rows (children_at terms.rows l) n) (FailsAll-append p.walked p.wanted (stopped b)) }
 
     -- all were folded
     pub items_fold : {terms terms1 : Terms} {s s1 : S} {n : ℕ} {l : List} {V : Type 0} {view : V → Listed Child} (items : V)
@@ -479,7 +505,7 @@ module _ {M E S : Type 0} {owned : Listed Row → S → Type 0} {means : Listed 
         → FoldsItems view owned means H unbuilt terms s l (Ok items) terms1 s1
     items_fold {terms} {n} {l} items tree p all =
         let whole : take n (children_at terms.rows l) ≡ children_at terms.rows l = grind (arith, common_steps) in
-        record { of_children = tree; extends = p.extends; outcome = (p.is_owned, record { owned = p.are_items; fit = p.fit }, rw whole at p.walked) }
+        record { of_children = tree; extends = p.extends; outcome = (p.is_owned, record { owned = p.are_items; fit = p.fit; wanted = p.wanted }, rw whole at p.walked) }
 
     -- lists
     pub listed_fails : {V : Type 0} {view : V → Listed Child} {terms terms1 : Terms} {s s1 : S} {l : List} {e : E}
@@ -492,7 +518,7 @@ module _ {M E S : Type 0} {owned : Listed Row → S → Type 0} {means : Listed 
         → FoldsItems view owned means H other terms s l (Ok items) terms1 s1
         → terms2 ≡ terms1 → unbuilt (items_tree (list_sort l) (children_trees terms1.rows (view items))) e
         → Folds owned means (IsListFor l) list_tree (WalksItems H (list_sort l)) (ItemsFail H unbuilt (list_sort l)) terms s l (Err e) terms2 s1
-    listed_not_stored f same b = rw same (record { extends = f.extends; outcome = list_not_built f.of_children f.outcome.2 b })
+    listed_not_stored f same b = rw same (record { extends = f.extends; outcome = list_not_built f.of_children f.outcome.2 f.outcome.1.wanted b })
 
     -- or it is
     pub listed_stored : {terms terms1 terms2 : Terms} {s s1 : S} {l u : List} {V : Type 0} {view : V → Listed Child} {items : V} {other : Tree Depth → E → Type 0}
@@ -512,6 +538,7 @@ module _ {M E S : Type 0} {owned : Listed Row → S → Type 0} {means : Listed 
           is_list = f.of_children;
           becomes = new;
           walked = rw still f.outcome.2;
+          fit = f.outcome.1.wanted;
         },
       );
     }

@@ -16,7 +16,7 @@ use Rattle.tt_kinds.specs.declared.parts.Kind.TheVariants as kind
 use Rattle.tt_kinds.specs.declared.parts.Parts.{Parts}
 use Rattle.tt_interner.specs.Rows.{Row, size, meaning, Grows, IsOlder, AreOlder}
 use Rattle.tt_interner.proofs.Growth.{HasParts-grows, row-grows}
-use Rattle.tt_fold.specs.Walk.{is_type_tree}
+use Rattle.tt_fold.specs.Walk.{is_type_tree, any_trees, wanted_in}
 use Rattle.tt_fold.proofs.PartLaws.{left_parts, right_parts}
 use Rattle.tt_fold.specs.Parts.{IsLeaf, ArePartsOf, HasBinder, child_weight, parts_weight}
 
@@ -84,21 +84,33 @@ kind-const m (kind.Pat k) h = absurd (cc)
 kind-const m (kind.Predicate b) h = absurd (cc)
 kind-const m (kind.Existential b) h = absurd (cc)
 
--- a form that has children or a binder
+-- of the children of a term with the label may come any trees
+abbrev pub HoldsAny : Label ℕ → Type 0
+HoldsAny l = (name : ℕ → Name) → wanted_in (rename_label name l) ≡ any_trees
+
+-- a form that has children or a binder, and is no list of clauses
 abbrev pub IsInner : Form (Label ℕ) → Type 0
 IsInner (param i name) = ⊥
 IsInner (bound d e) = ⊥
-IsInner (plain l p) = Unit {0}
-IsInner (under l vars m p) = Unit {0}
+IsInner (plain l p) = HoldsAny l
+IsInner (under l vars m p) = HoldsAny l
 
-inner : (f : Form (Label ℕ)) → ((form_binder f ≡ None) → ((form_parts f).first ≡ child.Absent) → ((form_parts f).second ≡ child.Absent) → ⊥) → IsInner f
-inner (param i name) h = h refl refl refl
-inner (bound d e) h = h refl refl refl
-inner (plain l p) h = tt
-inner (under l vars m p) h = tt
+inner : {L : Type 0} (label : L → Label ℕ) → ((l : L) → HoldsAny (label l)) → (f : Form L)
+    → ((form_binder (relabelled label f) ≡ None) → ((form_parts (relabelled label f)).first ≡ child.Absent) → ((form_parts (relabelled label f)).second ≡ child.Absent) → ⊥)
+    → IsInner (relabelled label f)
+inner label any (param i name) h = absurd (h refl refl refl)
+inner label any (bound d e) h = absurd (h refl refl refl)
+inner label any (plain l p) h = any l
+inner label any (under l vars m p) h = any l
 
 pub is_inner : (k : Kind) → (IsLeaf (form_binder (kind_form k)) (form_parts (kind_form k)) → false ≡ true) → IsInner (kind_form k)
-is_inner k h = inner (kind_form k) (λ b p q. let no : false ≡ true = h (record { binder = b; first = p; second = q }) in absurd (cc))
+is_inner (kind.Ty k) h =
+    inner type_label (λ l name. refl) (ty_form k) (λ b p q. let no : false ≡ true = h (record { binder = b; first = p; second = q }) in absurd (cc))
+is_inner (kind.Const k) h =
+    inner const_label (λ l name. refl) (const_form k) (λ b p q. let no : false ≡ true = h (record { binder = b; first = p; second = q }) in absurd (cc))
+is_inner (kind.Pat k) h = λ name. refl
+is_inner (kind.Predicate b) h = λ name. refl
+is_inner (kind.Existential b) h = λ name. refl
 
 -- a form with children is no bound variable
 pub not-deep : (s : Sort) (q : Parts) (f : Form (Label ℕ)) → IsInner f → IsTooDeep (form_shape s (refilled q f)) → ⊥

@@ -1,4 +1,5 @@
 pub mod PartLaws
+pub mod WantedLaws
 mod FormLaws
 mod WalkLaws
 mod CoreSteps

@@ -9,7 +9,7 @@ use Rattle.tt_kinds.specs.Shape.{Shape}
 use Rattle.tt_index.specs.declared.refusal.Refusal.{Refusal}
 use Rattle.tt_interner.specs.Rows.{Row}
 use Rattle.tt_interner.specs.Stored.{Counters, Terms, counted}
-use Rattle.tt_fold.specs.Walk.{keep, descend, Walks, Descends, WalksInside, WalksAll, at_region, replaced, kept, descended, passed, rebuilt, at_node, at_binder, in_term, in_param, in_bound, done, next, Fails, DescentFails, InsideFails, FailsAll, region_failed, term_failed, descent_failed, enter_failed, under_failed, leave_failed, node_failed, node_not_built, passed_failed, inside_failed, not_built, after_failed, in_term_failed, stopped, here, later}
+use Rattle.tt_fold.specs.Walk.{keep, descend, Walks, Descends, WalksInside, WalksAll, at_region, replaced, kept, descended, passed, rebuilt, at_node, at_binder, in_term, in_param, in_bound, done, next, Fails, DescentFails, InsideFails, FailsAll, region_failed, term_failed, descent_failed, enter_failed, under_failed, leave_failed, node_failed, node_not_built, passed_failed, inside_failed, not_built, after_failed, in_term_failed, stopped, here, later, no_clause, Wanted}
 use Rattle.tt_fold.specs.Counts.{Standing}
 use Rattle.tt_fold.specs.Steps.{Folds, IsPartBy, tree_by, IsRefused}
 use Rattle.tt_fold.specs.Shift.{Shift, answer_inside, shift_answer, shift_hooks, count_descent, moving_positions}
@@ -76,7 +76,7 @@ mutual
 
   few_inside : {s s' : Standing Shift} {t u : Tree Depth} → WalksInside shift_hooks s t u s'
       → s'.counters.shift_descents ≤ s.counters.shift_descents + inside s.state.under t
-  few_inside (in_term w) = few_all w
+  few_inside (in_term w fit) = few_all w
   few_inside in_param = omega arith
   few_inside in_bound = omega arith
 
@@ -116,14 +116,18 @@ module _ (unbuilt : Tree Depth → Refusal → Type 0) where
     few_then_failed_inside (in_term_failed d) = few_then_failed_all d
     few_then_failed_inside (not_built w b) = few_inside w
 
-    few_then_failed_all : {s s' : Standing Shift} {ts : Forest Depth} {e : Refusal} → FailsAll shift_hooks unbuilt s ts e s'
+    few_then_failed_all : {w : Wanted} {s s' : Standing Shift} {ts : Forest Depth} {e : Refusal} → FailsAll shift_hooks unbuilt w s ts e s'
         → s'.counters.shift_descents ≤ s.counters.shift_descents + length (moving_types_among s.state.under ts)
     few_then_failed_all (stopped b) = omega arith
     few_then_failed_all {s} (here {t} {ts} d) =
         let first = few_then_failed d in
         let both = length-append (moving_types s.state.under t) (moving_types_among s.state.under ts) in
         omega (arith, first, both)
-    few_then_failed_all {s} (later {t} {ts} w d) =
+    few_then_failed_all {s} (no_clause {t} {ts} w bad b) =
+        let first = few w in
+        let both = length-append (moving_types s.state.under t) (moving_types_among s.state.under ts) in
+        omega (arith, first, both)
+    few_then_failed_all {s} (later {t} {ts} w fit d) =
         let first = few w in
         let rest = rw (shifts w).state at (few_then_failed_all d) in
         let both = length-append (moving_types s.state.under t) (moving_types_among s.state.under ts) in

@@ -16,7 +16,7 @@ use Rattle.tt_interner.specs.Stored.{Terms}
 use Rattle.tt_interner.proofs.Growth.{Extends-refl, Extends-trans, IsPart-grows, fill-grows}
 use Rattle.tt_fold.specs.Parts.{ArePartsOf, ArePartsFor, parts_trees}
 use Rattle.tt_fold.proofs.FormLaws.{keeps_label}
-use Rattle.tt_fold.specs.Walk.{Hooks, Walks, WalksAll, FailsAll, at_node, done, next, Fails, node_failed, here, later}
+use Rattle.tt_fold.specs.Walk.{Hooks, any_trees, Walks, WalksAll, FailsAll, at_node, done, next, Fails, node_failed, here, later}
 use Rattle.tt_fold.specs.Counts.{Standing}
 use Rattle.tt_fold.specs.Steps.{Folds, IsPartOf, IsPartBy, tree_by}
 
@@ -127,7 +127,7 @@ module _ {M E S : Type 0} {owned : List Row → S → Type 0} {means : List Row 
     unfolding fill
     two_second_fails x u y v at_x part d1 d2 =
         let o = rw (fill-grows _ _ d1.extends.rows (b v) part) at d2.outcome in
-        record { extends = Extends-trans d1.extends d2.extends; outcome = rw at_x (node_failed (later d1.outcome.2 (here o))) }
+        record { extends = Extends-trans d1.extends d2.extends; outcome = rw at_x (node_failed (later d1.outcome.2 (λ h. h) (here o))) }
 
     pub two_folds : {terms terms1 terms2 : Terms} {s s1 s2 : S} {other : Tree Depth → E → Type 0} → IsNameless l → (x z : T) (u y : A) (v w : B)
         → of x ≡ two_record l (a u) (b v) → of z ≡ two_record l (a y) (b w) → IsPartBy b terms.rows v
@@ -163,7 +163,7 @@ module _ {M E S : Type 0} {owned : List Row → S → Type 0} {means : List Row 
     unfolding fill
     three_second_fails x u p v w at_x part d1 d2 =
         let o = rw (fill-grows _ _ d1.extends.rows (b v) part) at d2.outcome in
-        record { extends = Extends-trans d1.extends d2.extends; outcome = rw at_x (node_failed (later d1.outcome.2 (here o))) }
+        record { extends = Extends-trans d1.extends d2.extends; outcome = rw at_x (node_failed (later d1.outcome.2 (λ h. h) (here o))) }
 
     pub three_third_fails : {terms terms1 terms2 terms3 : Terms} {s s1 s2 s3 : S} {e : E} {other another : Tree Depth → E → Type 0} (x : T) (u p : A) (v q : B) (w : C)
         → of x ≡ three_record l (a u) (b v) (c w) → IsPartBy b terms.rows v → IsPartBy c terms.rows w
@@ -175,7 +175,7 @@ module _ {M E S : Type 0} {owned : List Row → S → Type 0} {means : List Row 
     three_third_fails x u p v q w at_x part last d1 d2 d3 =
         let o = rw (fill-grows _ _ d1.extends.rows (b v) part) at d2.outcome in
         let f = rw (fill-grows _ _ (Extends-trans d1.extends d2.extends).rows (c w) last) at d3.outcome in
-        record { extends = Extends-trans d1.extends (Extends-trans d2.extends d3.extends); outcome = rw at_x (node_failed (later d1.outcome.2 (later o.2 (here f)))) }
+        record { extends = Extends-trans d1.extends (Extends-trans d2.extends d3.extends); outcome = rw at_x (node_failed (later d1.outcome.2 (λ h. h) (later o.2 (λ h. h) (here f)))) }
 
     pub three_folds : {terms terms1 terms2 terms3 : Terms} {s s1 s2 s3 : S} {other another : Tree Depth → E → Type 0} → IsNameless l → (x z : T) (u p : A) (v q : B) (w r : C)
         → of x ≡ three_record l (a u) (b v) (c w) → of z ≡ three_record l (a p) (b q) (c r) → IsPartBy b terms.rows v → IsPartBy c terms.rows w
@@ -202,13 +202,13 @@ module _ {M E S : Type 0} {owned : List Row → S → Type 0} {means : List Row 
   -- what a kind without a row says: a record of its parts
   module _ {T : Type 0} (of : T → RecordForm) where
     pub parts_fail : {terms terms1 : Terms} {s s1 : S} {x : T} {e : E}
-        → Folds owned means (ArePartsFor (of x).parts) parts_trees (WalksAll H) (FailsAll H unbuilt) terms s (of x).parts (Err e) terms1 s1
+        → Folds owned means (ArePartsFor (of x).parts) parts_trees (WalksAll H) (FailsAll H unbuilt any_trees) terms s (of x).parts (Err e) terms1 s1
         → Folds owned means (IsPartBy (λ x. record_shape (of x))) (tree_by (λ x. record_shape (of x))) (Walks H) (Fails H unbuilt) terms s x (Err e) terms1 s1
     unfolding fill
     parts_fail d = record { extends = d.extends; outcome = node_failed d.outcome }
 
     pub parts_fold : {terms terms1 : Terms} {s s1 : S} {x y : T} {q : Parts} → IsPartOf terms.rows (record_shape (of x)) → of y ≡ replenished q (of x)
-        → Folds owned means (ArePartsFor (of x).parts) parts_trees (WalksAll H) (FailsAll H unbuilt) terms s (of x).parts (Ok q) terms1 s1
+        → Folds owned means (ArePartsFor (of x).parts) parts_trees (WalksAll H) (FailsAll H unbuilt any_trees) terms s (of x).parts (Ok q) terms1 s1
         → Folds owned means (IsPartBy (λ x. record_shape (of x))) (tree_by (λ x. record_shape (of x))) (Walks H) (Fails H unbuilt) terms s x (Ok y) terms1 s1
     unfolding fill
     parts_fold {terms} {terms1} {x} {q} part same d =

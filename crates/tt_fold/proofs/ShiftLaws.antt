@@ -5,8 +5,8 @@ use Rattle.std.specs.Prelude.{⊤}
 use Rattle.tt_index.specs.Greatest.{greatest}
 use Rattle.tt_index.specs.declared.refusal.Refusal.{Refusal}
 use Rattle.tt_index.specs.declared.refusal.Refusal.TheVariants.{Memory, TableFull, GreatestIndex, NotAClause}
-use Rattle.tt_kinds.specs.Label.{region_sort, type_sort, const_sort}
-use Rattle.tt_kinds.specs.Tree.{Depth, at, canonical, Tree, param, bound, region, term, node, binder, Forest}
+use Rattle.tt_kinds.specs.Label.{Name, region_sort, type_sort, const_sort, Label}
+use Rattle.tt_kinds.specs.Tree.{Depth, at, canonical, Tree, param, bound, region, term, node, binder, Forest, none, also}
 use Rattle.tt_kinds.specs.Reading.{place, read, read_all, move, outer_binder, Fits, FitsAt, FitsUnder, FitsUnder_all}
 use Rattle.tt_kinds.specs.Plain.{shifted, shift_tree, shift_forest}
 use Rattle.tt_kinds.proofs.OuterLaws.{shift_tree-low, shift_tree-zero}
@@ -21,11 +21,12 @@ use Rattle.tt_kinds.specs.declared.bound.BoundVarIndexKind.TheVariants.{Bound, C
 use Rattle.tt_kinds.specs.declared.region_kind.RegionKind.{RegionKind}
 use Rattle.tt_kinds.specs.declared.region_kind.RegionKind.TheVariants.{ReEarlyParam, ReBound, ReLateParam, ReStatic, ReVar, RePlaceholder, ReErased, ReError}
 use Rattle.tt_interner.specs.Rows.{Row, size, meaning}
-use Rattle.tt_interner.specs.Stored.{Terms, Counters, counted, IsUnbuilt}
-use Rattle.tt_fold.specs.Walk.{is_type_tree, IsPassed, replace, keep, descend, Walks, Descends, WalksInside, WalksAll, at_region, replaced, kept, descended, passed, rebuilt, at_node, at_binder, in_term, in_param, in_bound, done, next, Fails, DescentFails, InsideFails, FailsAll, region_failed, term_failed, descent_failed, enter_failed, under_failed, leave_failed, node_failed, node_not_built, passed_failed, inside_failed, not_built, after_failed, in_term_failed, stopped, here, later}
+use Rattle.tt_interner.specs.Stored.{Terms, Counters, counted, IsUnbuilt, IsNoClauseList}
+use Rattle.tt_fold.specs.Walk.{is_type_tree, IsPassed, replace, keep, descend, Walks, Descends, WalksInside, WalksAll, at_region, replaced, kept, descended, passed, rebuilt, at_node, at_binder, in_term, in_param, in_bound, done, next, Fails, DescentFails, InsideFails, FailsAll, region_failed, term_failed, descent_failed, enter_failed, under_failed, leave_failed, node_failed, node_not_built, passed_failed, inside_failed, not_built, after_failed, in_term_failed, stopped, here, later, no_clause, Wanted, wanted_in, HasUnwanted}
 use Rattle.tt_fold.specs.Counts.{Standing}
 use Rattle.tt_fold.specs.Steps.{Folds, IsPartOf, tree_in, IsPartBy, tree_by, IsRefused}
 use Rattle.tt_fold.proofs.ClauseLaws.{KeepsClauses, never_bad, shift-keeps}
+use Rattle.tt_fold.proofs.WantedLaws.{first-unwanted, later-unwanted, unwanted-list}
 use Rattle.tt_fold.specs.Stands.{StandsIn, itself, in_term as stands_in_term, in_node as stands_in_node, in_binder as stands_in_binder, StandsAmong, in_first, in_later}
 use Rattle.tt_fold.specs.Shift.{Shift, moved_tree, IsTooFar, answer_inside, shift_answer, shift_hooks, count_descent, IsTooGreat, moved_index, moved_region, IsShiftedRegion, IsShiftRefusal}
 
@@ -134,7 +135,7 @@ mutual
       record { state = ap (λ s. s.state) after.0 ∙ m.state; counts = counts-then m.counts (counts-same (ap (λ s. s.counters) after.0)); shifted = after.1 ∙ m.shifted }
 
   shifts_inside : {s s' : Standing Shift} {t r : Tree Depth} → WalksInside shift_hooks s t r s' → descend ≡ answer_inside s.state t → Shifts s t r s'
-  shifts_inside (in_term {l} w) h = let m = shifts_all w in record { state = m.state; counts = m.counts; shifted = ap (term l) m.shifted }
+  shifts_inside (in_term {l} w fit) h = let m = shifts_all w in record { state = m.state; counts = m.counts; shifted = ap (term l) m.shifted }
   shifts_inside in_param h = record { state = refl; counts = counts-same refl; shifted = refl }
   shifts_inside in_bound h = absurd (cc)
 
@@ -146,35 +147,47 @@ mutual
       let rest = rw m.state at n.shifted in
       record { state = n.state ∙ m.state; counts = counts-then m.counts n.counts; shifted = rw (m.shifted, rest) refl }
 
--- why something ends: no tree is built, one that was to stand there isn't, or the moved reading does not fit
-data Why (unbuilt : Tree Depth → Refusal → Type 0) (stands : Tree Depth → Type 0) (e : Refusal) (fits : Type 0) : Type 0 where
-  all_unbuilt : ((u : Tree Depth) → unbuilt u e) → Why unbuilt stands e fits
-  one_unbuilt : (u : Tree Depth) → stands u → unbuilt u e → Why unbuilt stands e fits
-  too_great : e ≡ GreatestIndex → (fits → ⊥) → Why unbuilt stands e fits
+-- why something ends: no tree is built, one that was to stand there isn't, no list of clauses with an item that is none, of which
+-- one was to stand there, or the moved reading does not fit
+data Why (unbuilt : Tree Depth → Refusal → Type 0) (stands : Tree Depth → Type 0) (unwanted : Type 0) (e : Refusal) (fits : Type 0) : Type 0 where
+  all_unbuilt : ((u : Tree Depth) → unbuilt u e) → Why unbuilt stands unwanted e fits
+  one_unbuilt : (u : Tree Depth) → stands u → unbuilt u e → Why unbuilt stands unwanted e fits
+  lists_unbuilt : unwanted → ((u : Tree Depth) → IsNoClauseList u → unbuilt u e) → Why unbuilt stands unwanted e fits
+  too_great : e ≡ GreatestIndex → (fits → ⊥) → Why unbuilt stands unwanted e fits
 
 -- why the walk ends, and its counts
-record Refused (unbuilt : Tree Depth → Refusal → Type 0) (stands : Tree Depth → Type 0) (s : Standing Shift) (e : Refusal) (fits : Type 0) (s' : Standing Shift) : Type 0 where
+record Refused (unbuilt : Tree Depth → Refusal → Type 0) (stands : Tree Depth → Type 0) (unwanted : Type 0) (s : Standing Shift) (e : Refusal) (fits : Type 0) (s' : Standing Shift) : Type 0 where
   counts : CountsUp s.counters s'.counters
-  cause : Why unbuilt stands e fits
+  cause : Why unbuilt stands unwanted e fits
 
 -- the same of a tree, and of trees
 abbrev RefusedAt : (Tree Depth → Refusal → Type 0) → Standing Shift → Tree Depth → Refusal → Standing Shift → Type 0
-RefusedAt unbuilt s t e s' = Refused unbuilt (λ u. StandsIn u (moved_tree s.state t)) s e (FitsUnder s.state.under (read s.state.under (moved_tree s.state t))) s'
+RefusedAt unbuilt s t e s' = Refused unbuilt (λ u. StandsIn u (moved_tree s.state t)) ⊥ s e (FitsUnder s.state.under (read s.state.under (moved_tree s.state t))) s'
 
-abbrev RefusedAmong : (Tree Depth → Refusal → Type 0) → Standing Shift → Forest Depth → Refusal → Standing Shift → Type 0
-RefusedAmong unbuilt s ts e s' =
+abbrev RefusedAmong : (Tree Depth → Refusal → Type 0) → Wanted → Standing Shift → Forest Depth → Refusal → Standing Shift → Type 0
+RefusedAmong unbuilt w s ts e s' =
     let moved = shift_forest s.state.under s.state.amount ts in
-    Refused unbuilt (λ u. StandsAmong u moved) s e (FitsUnder_all s.state.under (read_all s.state.under moved)) s'
+    Refused unbuilt (λ u. StandsAmong u moved) (HasUnwanted w moved) s e (FitsUnder_all s.state.under (read_all s.state.under moved)) s'
 
 module _ (unbuilt : Tree Depth → Refusal → Type 0) where
-  because : {e : Refusal} {A B : Tree Depth → Type 0} {P Q : Type 0} → ((u : Tree Depth) → A u → B u) → (Q → P) → Why unbuilt A e P → Why unbuilt B e Q
-  because into f (all_unbuilt b) = all_unbuilt b
-  because into f (one_unbuilt u h b) = one_unbuilt u (into u h) b
-  because into f (too_great is unfit) = too_great is (λ q. unfit (f q))
+  because : {e : Refusal} {A B : Tree Depth → Type 0} {C D : Type 0} {P Q : Type 0} → ((u : Tree Depth) → A u → B u) → (C → D) → (Q → P)
+      → Why unbuilt A C e P → Why unbuilt B D e Q
+  because into bad f (all_unbuilt b) = all_unbuilt b
+  because into bad f (one_unbuilt u h b) = one_unbuilt u (into u h) b
+  because into bad f (lists_unbuilt h b) = lists_unbuilt (bad h) b
+  because into bad f (too_great is unfit) = too_great is (λ q. unfit (f q))
 
-  weaker : {s s' : Standing Shift} {e : Refusal} {A B : Tree Depth → Type 0} {P Q : Type 0} → ((u : Tree Depth) → A u → B u) → (Q → P)
-      → Refused unbuilt A s e P s' → Refused unbuilt B s e Q s'
-  weaker into f r = record { counts = r.counts; cause = because into f r.cause }
+  weaker : {s s' : Standing Shift} {e : Refusal} {A B : Tree Depth → Type 0} {C D : Type 0} {P Q : Type 0} → ((u : Tree Depth) → A u → B u) → (C → D) → (Q → P)
+      → Refused unbuilt A C s e P s' → Refused unbuilt B D s e Q s'
+  weaker into bad f r = record { counts = r.counts; cause = because into bad f r.cause }
+
+  -- a list of clauses is not built where an item is none
+  in_list : {e : Refusal} {P : Type 0} (l : Label Name) (us : Forest Depth)
+      → Why unbuilt (λ u. StandsAmong u us) (HasUnwanted (wanted_in l) us) e P → Why unbuilt (λ u. StandsIn u (term l us)) ⊥ e P
+  in_list l us (all_unbuilt b) = all_unbuilt b
+  in_list l us (one_unbuilt u h b) = one_unbuilt u (stands_in_term h) b
+  in_list l us (lists_unbuilt h b) = one_unbuilt (term l us) itself (b (term l us) (unwanted-list l us h))
+  in_list l us (too_great is unfit) = too_great is unfit
 
   mutual
     refused : {s s' : Standing Shift} {t : Tree Depth} {e : Refusal} → Fails shift_hooks unbuilt s t e s' → RefusedAt unbuilt s t e s'
@@ -190,9 +203,9 @@ module _ (unbuilt : Tree Depth → Refusal → Type 0) where
     refused (enter_failed h) = record { counts = counts-same (ap (λ s. s.counters) h.0); cause = too_great h.1.0 (λ fits. omega (arith, fits.0, h.1.1)) }
     refused (under_failed enter d) =
         let r = rw enter at (refused d) in
-        weaker (λ u h. stands_in_binder h) (λ fits. fits.1) (record { counts = r.counts; cause = r.cause })
+        weaker (λ u h. stands_in_binder h) (λ h. h) (λ fits. fits.1) (record { counts = r.counts; cause = r.cause })
     refused (leave_failed enter w h) = absurd h
-    refused (node_failed d) = weaker (λ u h. stands_in_node h) (λ fits. fits) (refused_all d)
+    refused (node_failed d) = weaker (λ u h. stands_in_node h) (λ h. h) (λ fits. fits) (refused_all d)
     refused {s} (node_not_built {l} {ts} {us} {e} w b) =
         let m = shifts_all w in
         record { counts = m.counts; cause = one_unbuilt (node l (shift_forest s.state.under s.state.amount ts)) itself (subst (λ vs. unbuilt (node l vs) e) m.shifted b) }
@@ -204,18 +217,23 @@ module _ (unbuilt : Tree Depth → Refusal → Type 0) where
 
     refused_inside : {s s' : Standing Shift} {t : Tree Depth} {e : Refusal} → InsideFails shift_hooks unbuilt s t e s' → descend ≡ answer_inside s.state t
         → RefusedAt unbuilt s t e s'
-    refused_inside (in_term_failed d) h = weaker (λ u h. stands_in_term h) (λ fits. fits) (refused_all d)
+    refused_inside (in_term_failed {l} d) h = let r = refused_all d in record { counts = r.counts; cause = in_list l _ r.cause }
     refused_inside {s} (not_built {t} {u} {e} w b) h =
         let m = shifts_inside w h in
         record { counts = m.counts; cause = one_unbuilt (moved_tree s.state t) itself (subst (λ v. unbuilt v e) m.shifted b) }
 
-    refused_all : {s s' : Standing Shift} {ts : Forest Depth} {e : Refusal} → FailsAll shift_hooks unbuilt s ts e s' → RefusedAmong unbuilt s ts e s'
+    refused_all : {w : Wanted} {s s' : Standing Shift} {ts : Forest Depth} {e : Refusal} → FailsAll shift_hooks unbuilt w s ts e s' → RefusedAmong unbuilt w s ts e s'
     refused_all (stopped b) = record { counts = counts-same refl; cause = all_unbuilt b }
-    refused_all (here d) = weaker (λ u h. in_first h) (λ fits. fits.0) (refused d)
-    refused_all (later w d) =
-        let m = shifts w in
+    refused_all (here d) = weaker (λ u h. in_first h) (λ h. absurd h) (λ fits. fits.0) (refused d)
+    refused_all {w} {s} (no_clause {t} {u} {ts} g bad b) =
+        let m = shifts g in
+        let among = first-unwanted w (moved_tree s.state t) (shift_forest s.state.under s.state.amount ts) (subst (λ v. HasUnwanted w (also v none)) m.shifted bad) in
+        record { counts = m.counts; cause = lists_unbuilt among b }
+    refused_all {w} {s} (later {t} {ts} g fit d) =
+        let m = shifts g in
         let r = rw m.state at (refused_all d) in
-        weaker (λ u h. in_later h) (λ fits. fits.1) (record { counts = counts-then m.counts r.counts; cause = r.cause })
+        weaker (λ u h. in_later h) (later-unwanted w (moved_tree s.state t) (shift_forest s.state.under s.state.amount ts)) (λ fits. fits.1)
+        (record { counts = counts-then m.counts r.counts; cause = r.cause })
 
 -- regions
 pub index-moved : (n k : ℕ) (i : BoundVarIndexKind) → depth (moved_index n k i) ≡ shifted n k (depth i)
@@ -359,10 +377,11 @@ pub record IsShift {T : Type 0} (shape : T → Shape) (n : ℕ) (terms : Terms) 
   pub up : terms.counters.shift_descents ≤ terms'.counters.shift_descents
 
 shift_refusal : (terms : Terms) (n : ℕ) (t : Tree Depth) (e : Refusal) → KeepsClauses (shift_tree 0 n t)
-    → Why (IsRefused terms) (λ u. StandsIn u (shift_tree 0 n t)) e (Fits (read 0 (shift_tree 0 n t))) → IsShiftRefusal terms n t e
+    → Why (IsRefused terms) (λ u. StandsIn u (shift_tree 0 n t)) ⊥ e (Fits (read 0 (shift_tree 0 n t))) → IsShiftRefusal terms n t e
 shift_refusal terms n t e keeps why = elim why [
   | all_unbuilt b ↦ by_unbuilt e (shift_tree 0 n t) itself (b (shift_tree 0 n t))
   | one_unbuilt u h b ↦ by_unbuilt e u h b
+  | lists_unbuilt h b ↦ absurd h
   | too_great is unfit ↦ rw is (λ fits. unfit (rw (read-shift_tree n 0 t) fits))
 ]
   where

@@ -91,7 +91,7 @@ module _ {T : Type 0} (of : T → Shape) where
           let o = rw (fill-grows _ _ p.extends.rows (of x) (value_part parts p taken)) at d.outcome in
           let is : trees_in terms.rows (item_shapes of (items v)) ≡ joined (trees_in terms.rows (item_shapes of p.front)) (trees_in terms.rows (item_shapes of (x ∷ left))) =
           ap (λ xs. trees_in terms.rows (item_shapes of xs)) split ∙ trees-append terms.rows p.front (x ∷ left) in
-          record { extends = Extends-trans p.extends d.extends; outcome = rw (sequence-tree terms.rows (items v), is) (node_failed (FailsAll-append p.walked (here o))) }
+          record { extends = Extends-trans p.extends d.extends; outcome = rw (sequence-tree terms.rows (items v), is) (node_failed (FailsAll-append p.walked (λ h. h) (here o))) }
 
       pub values_stop : {terms terms1 : Terms} {s s1 : S} {v : V} {values rest : List T} {e : E}
           → FoldsValues of owned means H terms s (items v) values rest terms1 s1 → ((u : Tree Depth) → unbuilt u e)
@@ -99,7 +99,7 @@ module _ {T : Type 0} (of : T → Shape) where
       values_stop {terms} {v} {rest} p b =
           let is : trees_in terms.rows (item_shapes of (items v)) ≡ joined (trees_in terms.rows (item_shapes of p.front)) (trees_in terms.rows (item_shapes of rest)) =
           ap (λ xs. trees_in terms.rows (item_shapes of xs)) p.split ∙ trees-append terms.rows p.front rest in
-          record { extends = p.extends; outcome = rw (sequence-tree terms.rows (items v), is) (node_failed (FailsAll-append p.walked (stopped b))) }
+          record { extends = p.extends; outcome = rw (sequence-tree terms.rows (items v), is) (node_failed (FailsAll-append p.walked (λ h. h) (stopped b))) }
 
       pub values_fold : {terms terms1 : Terms} {s s1 : S} {v w : V} {rest : List T}
           → FoldsValues of owned means H terms s (items v) (items w) rest terms1 s1 → rest ≡ []

@@ -12,10 +12,11 @@ use Rattle.tt_kinds.specs.declared.parts.Parts.{Parts}
 use Rattle.tt_kinds.specs.declared.parts.ListSort.{ListSort}
 use Rattle.tt_kinds.specs.declared.parts.ListSort.TheVariants as sorts
 use Rattle.tt_interner.specs.Rows.{Row}
-use Rattle.tt_fold.specs.Walk.{Hooks, WalksItems, ItemsFail, items_failed, list_not_built, Walks, Fails, node_not_built, not_built, WalksAll, done, next, FailsAll, here, later, stopped, WalksUnder, in_open, in_binder, FailsUnder, in_open_failed, in_enter_failed, in_under_failed, in_leave_failed, WalksInside, in_term, in_param, in_bound, InsideFails, in_term_failed, at_binder, at_node, enter_failed, under_failed, leave_failed, node_failed}
+use Rattle.tt_fold.specs.Walk.{Hooks, Wanted, any_trees, HasUnwanted, WalksItems, ItemsFail, items_failed, list_not_built, Walks, Fails, node_not_built, not_built, WalksAll, done, next, FailsAll, here, later, stopped, no_clause, WalksUnder, in_open, in_binder, FailsUnder, in_open_failed, in_enter_failed, in_under_failed, in_leave_failed, WalksInside, in_term, in_param, in_bound, InsideFails, in_term_failed, at_binder, at_node, enter_failed, under_failed, leave_failed, node_failed}
 use Rattle.tt_fold.specs.Steps.{tree_in, vars_in}
 use Rattle.tt_fold.specs.Parts.{trees_in, binder_in, IsLeaf}
 use Rattle.tt_fold.proofs.PartLaws.{joined}
+use Rattle.tt_fold.proofs.WantedLaws.{none-wanted, any-wanted, first-unwanted, later-unwanted}
 use Rattle.tt_fold.proofs.FormLaws.{KeepsLabels, IsInner}
 
 pub WalksAll-append : {M E : Type 0} {H : Hooks M E} {s s1 s2 : M} {ts us vs ws : Forest Depth}
@@ -24,17 +25,19 @@ WalksAll-append done b = b
 WalksAll-append (next a more) b = next a (WalksAll-append more b)
 
 module _ {M E : Type 0} {H : Hooks M E} {unbuilt : Tree Depth → E → Type 0} where
-  pub FailsAll-append : {s s1 s2 : M} {ts us vs : Forest Depth} {e : E}
-      → WalksAll H s ts us s1 → FailsAll H unbuilt s1 vs e s2 → FailsAll H unbuilt s (joined ts vs) e s2
-  FailsAll-append done b = b
-  FailsAll-append (next a more) b = later a (FailsAll-append more b)
+  pub FailsAll-append : {w : Wanted} {s s1 s2 : M} {ts us vs : Forest Depth} {e : E}
+      → WalksAll H s ts us s1 → (HasUnwanted w us → ⊥) → FailsAll H unbuilt w s1 vs e s2 → FailsAll H unbuilt w s (joined ts vs) e s2
+  FailsAll-append done fit b = b
+  FailsAll-append {w} (next {u} {us} a more) fit b =
+      later a (λ h. fit (first-unwanted w u us h)) (FailsAll-append more (λ h. fit (later-unwanted w u us h)) b)
 
   -- a failure in a list is one of a longer list
-  pub FailsAll-before : {s s1 : M} {ts : Forest Depth} {e : E} (us : Forest Depth)
-      → FailsAll H unbuilt s ts e s1 → FailsAll H unbuilt s (joined ts us) e s1
+  pub FailsAll-before : {w : Wanted} {s s1 : M} {ts : Forest Depth} {e : E} (us : Forest Depth)
+      → FailsAll H unbuilt w s ts e s1 → FailsAll H unbuilt w s (joined ts us) e s1
   FailsAll-before us (stopped b) = stopped b
   FailsAll-before us (here f) = here f
-  FailsAll-before us (later w f) = later w (FailsAll-before us f)
+  FailsAll-before us (no_clause w bad b) = no_clause w bad b
+  FailsAll-before us (later w fit f) = later w fit (FailsAll-before us f)
 
 -- one tree
 pub WalksAll-one : {M E : Type 0} {H : Hooks M E} {s s' : M} {t u : Tree Depth} → Walks H s t u s' → WalksAll H s (tree.also t tree.none) (tree.also u tree.none) s'
@@ -48,9 +51,9 @@ module _ {M E : Type 0} {H : Hooks M E} (rows rows1 : List Row) (o : Sort) (q : 
   unfolding fill
   walks_form (param i name) n is b w = absurd is
   walks_form (bound d e) n is b w = absurd is
-  walks_form (plain l p) n is b (in_open w) = rw n.same (in_term w)
+  walks_form (plain l p) n is b (in_open w) = rw n.same (in_term w (any-wanted _ _ (is _)))
   walks_form (under l vars m p) n is b (in_binder enter w leave) =
-      rw (n.0.same, n.1.same, same_vars b) (in_term (WalksAll-one (at_binder enter (at_node w) leave)))
+      rw (n.0.same, n.1.same, same_vars b) (in_term (WalksAll-one (at_binder enter (at_node w) leave)) (any-wanted _ _ (is _)))
     where
       same_vars : Some (vars_in rows1 vars) ≡ Some (vars_in rows vars) → vars_in rows1 vars ≡ vars_in rows vars
       same_vars e = same_Some _ _ e
@@ -61,7 +64,7 @@ pub fails_form : {M E : Type 0} {H : Hooks M E} {unbuilt : Tree Depth → E → 
 unfolding fill
 fails_form rows o (param i name) is h = absurd is
 fails_form rows o (bound d e) is h = absurd is
-fails_form rows o (plain l p) is (in_open_failed w) = in_term_failed w
+fails_form rows o (plain l p) is (in_open_failed w) = in_term_failed (rw (is _) w)
 fails_form rows o (under l vars m p) is (in_enter_failed h) = in_term_failed (here (enter_failed h))
 fails_form rows o (under l vars m p) is (in_under_failed enter h) = in_term_failed (here (under_failed enter (node_failed h)))
 fails_form rows o (under l vars m p) is (in_leave_failed enter w h) = in_term_failed (here (leave_failed enter (at_node w) h))
@@ -73,7 +76,7 @@ leaf_form : {M E : Type 0} (H : Hooks M E) (s : M) (rows : List Row) (o : Sort) 
 unfolding fill
 leaf_form H s rows o (param i name) b p q = in_param
 leaf_form H s rows o (bound d e) b p q = in_bound
-leaf_form H s rows o (plain l r) b p q = rw (p, q) (in_term done)
+leaf_form H s rows o (plain l r) b p q = rw (p, q) (in_term done (none-wanted _))
 leaf_form H s rows o (under l vars m r) b p q = absurd (cc)
 
 pub walks_leaf : {M E : Type 0} (H : Hooks M E) (s : M) (rows : List Row) (k : Kind) → IsLeaf (form_binder (kind_form k)) (form_parts (kind_form k))
@@ -97,18 +100,18 @@ fails_list sorts.Args other (items_failed is d) = rw is (node_failed d)
 fails_list sorts.Pats other (items_failed is d) = rw is (node_failed d)
 fails_list sorts.Existentials other (items_failed is d) = rw is (node_failed d)
 fails_list sorts.Clauses other (items_failed is d) = absurd (other refl)
-fails_list sorts.Tys other (list_not_built is w b) = rw is (node_not_built w b)
-fails_list sorts.Consts other (list_not_built is w b) = rw is (node_not_built w b)
-fails_list sorts.Args other (list_not_built is w b) = rw is (node_not_built w b)
-fails_list sorts.Pats other (list_not_built is w b) = rw is (node_not_built w b)
-fails_list sorts.Existentials other (list_not_built is w b) = rw is (node_not_built w b)
-fails_list sorts.Clauses other (list_not_built is w b) = absurd (other refl)
+fails_list sorts.Tys other (list_not_built is w fit b) = rw is (node_not_built w b)
+fails_list sorts.Consts other (list_not_built is w fit b) = rw is (node_not_built w b)
+fails_list sorts.Args other (list_not_built is w fit b) = rw is (node_not_built w b)
+fails_list sorts.Pats other (list_not_built is w fit b) = rw is (node_not_built w b)
+fails_list sorts.Existentials other (list_not_built is w fit b) = rw is (node_not_built w b)
+fails_list sorts.Clauses other (list_not_built is w fit b) = absurd (other refl)
 
 -- and a list of clauses is a term
 pub walks_clauses : {M E : Type 0} {H : Hooks M E} {s s1 : M} {t u : Tree Depth} → WalksItems H sorts.Clauses s t u s1 → WalksInside H s t u s1
-walks_clauses w = rw (w.is_list, w.becomes) (in_term w.walked)
+walks_clauses w = rw (w.is_list, w.becomes) (in_term w.walked w.fit)
 
 pub fails_clauses : {M E : Type 0} {H : Hooks M E} {unbuilt : Tree Depth → E → Type 0} {s s1 : M} {t : Tree Depth} {e : E}
     → ItemsFail H unbuilt sorts.Clauses s t e s1 → InsideFails H unbuilt s t e s1
 fails_clauses (items_failed is d) = rw is (in_term_failed d)
-fails_clauses (list_not_built is w b) = rw is (not_built (in_term w) b)
+fails_clauses (list_not_built is w fit b) = rw is (not_built (in_term w fit) b)

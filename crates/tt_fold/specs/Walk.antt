@@ -1,10 +1,13 @@
 -- What a folder does to a tree.
 use Rattle.std.specs.Prelude.{◌≡◌, ℕ, List, Option, Some, None, Bool, false}
-use Rattle.tt_kinds.specs.Label.{Name, Sort, VarKind, Entry, Label, is_type}
+use Rattle.tt_kinds.specs.Label.{Name, Sort, VarKind, Entry, Label, clause_list_label, is_type}
 use Rattle.tt_kinds.specs.Count.{is_type_sort}
 use Rattle.tt_kinds.specs.Tree.{Depth, Tree, param, bound, region, term, node, binder, Forest, none, also}
 use Rattle.tt_kinds.specs.Kinds.{items_tree}
 use Rattle.tt_kinds.specs.declared.parts.ListSort.{ListSort}
+use Rattle.tt_kinds.specs.declared.parts.ListSort.TheVariants.{Clauses}
+use Rattle.tt_interner.specs.Clauses.{HasOther}
+use Rattle.tt_interner.specs.Stored.{IsNoClauseList}
 use Rattle.tt_visit.specs.Root.{a_region, hooked, unhooked, root}
 
 -- what a hook answers before a term's children
@@ -33,6 +36,26 @@ IsTerm t = root t ≡ hooked
 -- the tree is that of a stored term at which no hook is asked
 abbrev pub IsPassed : Tree Depth → Type 0
 IsPassed t = root t ≡ unhooked
+
+-- what has to come of trees in order: any trees, or those of clauses alone
+pub data Wanted : Type 0 where
+  any_trees : Wanted
+  clause_trees : Wanted
+
+-- what has to come of the children of a term
+abbrev pub wanted_in : Label Name → Wanted
+wanted_in clause_list_label = clause_trees
+wanted_in _ = any_trees
+
+-- what has to come of the items of a list
+abbrev pub wanted_of : ListSort → Wanted
+wanted_of Clauses = clause_trees
+wanted_of _ = any_trees
+
+-- one of the trees is not what has to come
+abbrev pub HasUnwanted : Wanted → Forest Depth → Type 0
+HasUnwanted any_trees us = ⊥
+HasUnwanted clause_trees us = HasOther us
 
 -- What a folder's hooks may do: M is what its state means, and E its errors. What a hook fails with may be that a tree is
 -- not built: it is told which errors say so of which trees.
@@ -69,9 +92,10 @@ module _ {M E : Type 0} (H : Hooks M E) where
     pub data Descends : M → Tree Depth → Tree Depth → M → Type 0 where
       rebuilt : {s s1 s' : M} {t u r : Tree Depth} → WalksInside s t u s1 → H.after_term s1 t u r s' → Descends s t r s'
 
-    -- the same for the children of a term, whose label stays
+    -- the same for the children of a term, whose label stays: of the items of a list of clauses come clauses
     pub data WalksInside : M → Tree Depth → Tree Depth → M → Type 0 where
-      in_term : {s s' : M} {l : Label Name} {ts us : Forest Depth} → WalksAll s ts us s' → WalksInside s (term l ts) (term l us) s'
+      in_term : {s s' : M} {l : Label Name} {ts us : Forest Depth}
+          → WalksAll s ts us s' → (HasUnwanted (wanted_in l) us → ⊥) → WalksInside s (term l ts) (term l us) s'
       in_param : {s : M} {o : Sort} {i : ℕ} {name : Name} → WalksInside s (param o i name) (param o i name) s
       in_bound : {s : M} {o : Sort} {d : Depth} {e : Entry Name} → WalksInside s (bound o d e) (bound o d e) s
 
@@ -82,7 +106,8 @@ module _ {M E : Type 0} (H : Hooks M E) where
           → Walks s t u s1 → WalksAll s1 ts us s' → WalksAll s (also t ts) (also u us) s'
 
 -- The walk ends with an error and in a state. The error is that of a hook, or says that a tree was not built: then
--- `unbuilt u e` holds of the tree u that was to be stored, or of every tree where the memory for a list's items was refused.
+-- `unbuilt u e` holds of the tree u that was to be stored, or of every tree where the memory for a list's items was refused,
+-- or of every list of clauses with an item that is none, where such an item came of one.
 module _ {M E : Type 0} (H : Hooks M E) (unbuilt : Tree Depth → E → Type 0) where
   mutual
     pub data Fails : M → Tree Depth → E → M → Type 0 where
@@ -97,7 +122,7 @@ module _ {M E : Type 0} (H : Hooks M E) (unbuilt : Tree Depth → E → Type 0) 
           → H.enter s vs s1 → Fails s1 t e s_end → Fails s (binder vs t) e s_end
       leave_failed : {s s1 s2 s_end : M} {vs : List (VarKind Name)} {t u : Tree Depth} {e : E}
           → H.enter s vs s1 → Walks H s1 t u s2 → H.leave_fails unbuilt s2 vs e s_end → Fails s (binder vs t) e s_end
-      node_failed : {s s_end : M} {l : Label Name} {ts : Forest Depth} {e : E} → FailsAll s ts e s_end → Fails s (node l ts) e s_end
+      node_failed : {s s_end : M} {l : Label Name} {ts : Forest Depth} {e : E} → FailsAll any_trees s ts e s_end → Fails s (node l ts) e s_end
       node_not_built : {s s1 : M} {l : Label Name} {ts us : Forest Depth} {e : E}
           → WalksAll H s ts us s1 → unbuilt (node l us) e → Fails s (node l ts) e s1
 
@@ -109,15 +134,17 @@ module _ {M E : Type 0} (H : Hooks M E) (unbuilt : Tree Depth → E → Type 0) 
 
     -- what stands in a term was not folded, or the term was not built again from it
     pub data InsideFails : M → Tree Depth → E → M → Type 0 where
-      in_term_failed : {s s_end : M} {l : Label Name} {ts : Forest Depth} {e : E} → FailsAll s ts e s_end → InsideFails s (term l ts) e s_end
+      in_term_failed : {s s_end : M} {l : Label Name} {ts : Forest Depth} {e : E} → FailsAll (wanted_in l) s ts e s_end → InsideFails s (term l ts) e s_end
       not_built : {s s1 : M} {t u : Tree Depth} {e : E} → WalksInside H s t u s1 → unbuilt u e → InsideFails s t e s1
 
-    -- the same for trees in order
-    pub data FailsAll : M → Forest Depth → E → M → Type 0 where
-      stopped : {s : M} {ts : Forest Depth} {e : E} → ((u : Tree Depth) → unbuilt u e) → FailsAll s ts e s
-      here : {s s_end : M} {t : Tree Depth} {ts : Forest Depth} {e : E} → Fails s t e s_end → FailsAll s (also t ts) e s_end
-      later : {s s1 s_end : M} {t u : Tree Depth} {ts : Forest Depth} {e : E}
-          → Walks H s t u s1 → FailsAll s1 ts e s_end → FailsAll s (also t ts) e s_end
+    -- the same for trees in order: it goes on past a tree of which came what has to, and no further
+    pub data FailsAll : Wanted → M → Forest Depth → E → M → Type 0 where
+      stopped : {w : Wanted} {s : M} {ts : Forest Depth} {e : E} → ((u : Tree Depth) → unbuilt u e) → FailsAll w s ts e s
+      here : {w : Wanted} {s s_end : M} {t : Tree Depth} {ts : Forest Depth} {e : E} → Fails s t e s_end → FailsAll w s (also t ts) e s_end
+      no_clause : {w : Wanted} {s s_end : M} {t u : Tree Depth} {ts : Forest Depth} {e : E}
+          → Walks H s t u s_end → HasUnwanted w (also u none) → ((v : Tree Depth) → IsNoClauseList v → unbuilt v e) → FailsAll w s (also t ts) e s_end
+      later : {w : Wanted} {s s1 s_end : M} {t u : Tree Depth} {ts : Forest Depth} {e : E}
+          → Walks H s t u s1 → (HasUnwanted w (also u none) → ⊥) → FailsAll w s1 ts e s_end → FailsAll w s (also t ts) e s_end
 
 -- the walk of trees under a binder of the variables, if there is one
 module _ {M E : Type 0} (H : Hooks M E) where
@@ -129,11 +156,11 @@ module _ {M E : Type 0} (H : Hooks M E) where
 -- the same where it ends with an error
 module _ {M E : Type 0} (H : Hooks M E) (unbuilt : Tree Depth → E → Type 0) where
   pub data FailsUnder : Option (List (VarKind Name)) → M → Forest Depth → E → M → Type 0 where
-    in_open_failed : {s s_end : M} {ts : Forest Depth} {e : E} → FailsAll H unbuilt s ts e s_end → FailsUnder None s ts e s_end
+    in_open_failed : {s s_end : M} {ts : Forest Depth} {e : E} → FailsAll H unbuilt any_trees s ts e s_end → FailsUnder None s ts e s_end
     in_enter_failed : {s s_end : M} {vs : List (VarKind Name)} {ts : Forest Depth} {e : E}
         → H.enter_fails unbuilt s vs e s_end → FailsUnder (Some vs) s ts e s_end
     in_under_failed : {s s1 s_end : M} {vs : List (VarKind Name)} {ts : Forest Depth} {e : E}
-        → H.enter s vs s1 → FailsAll H unbuilt s1 ts e s_end → FailsUnder (Some vs) s ts e s_end
+        → H.enter s vs s1 → FailsAll H unbuilt any_trees s1 ts e s_end → FailsUnder (Some vs) s ts e s_end
     in_leave_failed : {s s1 s2 s_end : M} {vs : List (VarKind Name)} {ts us : Forest Depth} {e : E}
         → H.enter s vs s1 → WalksAll H s1 ts us s2 → H.leave_fails unbuilt s2 vs e s_end → FailsUnder (Some vs) s ts e s_end
 
@@ -144,13 +171,15 @@ pub record WalksItems {M E : Type 0} (H : Hooks M E) (sort : ListSort) (s : M) (
   pub is_list : t ≡ items_tree sort items
   pub becomes : u ≡ items_tree sort results
   pub walked : WalksAll H s items results s'
+  pub fit : HasUnwanted (wanted_of sort) results → ⊥
 
 -- the same where it ends with an error
 module _ {M E : Type 0} (H : Hooks M E) (unbuilt : Tree Depth → E → Type 0) (sort : ListSort) where
   pub data ItemsFail : M → Tree Depth → E → M → Type 0 where
-    items_failed : {s s_end : M} {t : Tree Depth} {ts : Forest Depth} {e : E} → t ≡ items_tree sort ts → FailsAll H unbuilt s ts e s_end → ItemsFail s t e s_end
+    items_failed : {s s_end : M} {t : Tree Depth} {ts : Forest Depth} {e : E}
+        → t ≡ items_tree sort ts → FailsAll H unbuilt (wanted_of sort) s ts e s_end → ItemsFail s t e s_end
     list_not_built : {s s1 : M} {t : Tree Depth} {ts us : Forest Depth} {e : E}
-        → t ≡ items_tree sort ts → WalksAll H s ts us s1 → unbuilt (items_tree sort us) e → ItemsFail s t e s1
+        → t ≡ items_tree sort ts → WalksAll H s ts us s1 → (HasUnwanted (wanted_of sort) us → ⊥) → unbuilt (items_tree sort us) e → ItemsFail s t e s1
 
 -- the walk of a term, or of a value under a binder, without its own hooks
 module _ {M E : Type 0} (H : Hooks M E) where

@@ -23,7 +23,8 @@ pub trait TypeFoldable: TypeVisitable + Drop + Sized {
 
     /// The value with what the folder answers in the places of its regions, types, constants, predicates and lists of clauses,
     /// which are met in order, each before what stands in it. The first refusal ends the fold; so does one to build what the
-    /// answers ask for, with `Memory`, with `TableFull`, or with `NotAClause` where an item of a list of clauses is none any more.
+    /// answers ask for, with `Memory` or with `TableFull`. Where no clause came of an item of a list of clauses, the fold ends
+    /// with `NotAClause` at that item, and no later hook is called.
     final fn fold_with<F: TypeFolder>(
         self,
         cx: &mut Interner,

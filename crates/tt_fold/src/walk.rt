@@ -2,13 +2,13 @@
 //!
 //! It goes over the parts of kinds, so that it has no line for any kind.
 
-ghost use Rattle.std.specs.Prelude.{◌≡◌, ◌↔◌, ◌++◌, ◌∷◌, [], IfOk, IfErr, IsTrue, Some, false};
-ghost use Rattle.tt_index.specs.declared.refusal.Refusal.TheVariants.{Memory};
+ghost use Rattle.std.specs.Prelude.{◌≡◌, ◌↔◌, ◌++◌, ◌∷◌, [], IfOk, IfErr, IsTrue, OnOk, OnErr, Some, false};
+ghost use Rattle.tt_index.specs.declared.refusal.Refusal.TheVariants.{Memory, NotAClause};
 ghost use Rattle.tt_kinds.specs.Kinds.{child_shapes, clauses_shape, list_shape, node_shape, parts_shapes};
-ghost use Rattle.tt_kinds.specs.Parts.{list_sort, node_table};
+ghost use Rattle.tt_kinds.specs.Parts.{child_sort, IsItem, list_sort, node_table};
 ghost use Rattle.tt_kinds.specs.declared.parts.Node.TheVariants as node;
 ghost use Rattle.tt_visit.specs.Root.{table_root, unhooked};
-ghost use Rattle.tt_fold.specs.Walk.{Descends, DescentFails, Fails, FailsAll, FailsUnder, InsideFails, ItemsFail, Walks, WalksAll, WalksInside, WalksItems, WalksUnder};
+ghost use Rattle.tt_fold.specs.Walk.{any_trees, clause_trees, Descends, DescentFails, Fails, FailsAll, FailsUnder, HasUnwanted, InsideFails, ItemsFail, wanted_of, Walks, WalksAll, WalksInside, WalksItems, WalksUnder};
 ghost use Rattle.tt_fold.specs.Steps.{Folds, HasVars, IsPartOf, IsErrorOfUnbuilt, vars_in};
 ghost use Rattle.tt_fold.specs.Parts.{ArePartsFor, ArePartsOf, binder_in, child_trees, FoldsItems, HasBinder, HasHook, IsChildFor, IsLeaf, IsListFor, IsNodeFor, list_tree, node_tree, parts_trees};
 
@@ -17,9 +17,9 @@ use crate::folder::Step;
 use crate::list_of_sort::list_clauses;
 use smallvec::SmallVec;
 use tt_index::Refusal;
-use tt_interner::Interner;
 use tt_interner::node::Contents;
-use tt_kinds::{BoundVarKinds, Child, Clauses, List, Node, Parts};
+use tt_interner::{AsClause, Interner};
+use tt_kinds::{BoundVarKinds, Child, Clauses, List, ListSort, Node, Parts};
 
 // Whether a hook is asked at the term.
 #[inline(always)]
@@ -190,7 +190,7 @@ pub(crate) fn fold_parts<M, F: Core<M>>(
     requires owned { F.owned cx.old.rows folder.old }
     requires parts { ArePartsOf cx.old.rows (parts_shapes parts) }
     ensures { Folds F.owned F.meaning (ArePartsFor parts) parts_trees
-        (WalksAll F.hooks) (FailsAll F.hooks (IsErrorOfUnbuilt F.Error.from_gives cx.new))
+        (WalksAll F.hooks) (FailsAll F.hooks (IsErrorOfUnbuilt F.Error.from_gives cx.new) any_trees)
         cx.old folder.old parts result cx.new folder.new }
 {
     let first = fold_child::<M, F>(cx, folder, parts.first)?;
@@ -209,7 +209,7 @@ pub(crate) fn fold_child<M, F: Core<M>>(
     requires owned { F.owned cx.old.rows folder.old }
     requires child { ArePartsOf cx.old.rows (child_shapes child) }
     ensures { Folds F.owned F.meaning (IsChildFor child) child_trees
-        (WalksAll F.hooks) (FailsAll F.hooks (IsErrorOfUnbuilt F.Error.from_gives cx.new))
+        (WalksAll F.hooks) (FailsAll F.hooks (IsErrorOfUnbuilt F.Error.from_gives cx.new) any_trees)
         cx.old folder.old child result cx.new folder.new }
 {
     match child {
@@ -271,7 +271,8 @@ fn fold_listed<M, F: Core<M>>(
     Ok(new_list)
 }
 
-// The walk of a list's children in order. It has one caller, and stands in its place.
+// The walk of a list's children in order. It ends where an item of a list of clauses became none. It has one caller, and stands
+// in its place.
 #[cycle(fold)]
 #[inline(always)]
 fn fold_items<M, F: Core<M>>(
@@ -287,9 +288,42 @@ fn fold_items<M, F: Core<M>>(
     for i in 0..cx.list_len(list) {
         let item = cx.list_child(list, i);
         let folded = fold_child::<M, F>(cx, folder, item)?;
+        check_item(cx, list.sort(), &folded)?;
         push(&mut items, folded)?;
     }
     Ok(items)
+}
+
+// Whether what came of an item may stand in a list of the sort: in one of clauses, only a clause.
+#[inline(always)]
+fn check_item(cx: &Interner, sort: ListSort, item: &Child) -> Result<(), Refusal>
+    requires item { ArePartsOf cx.now.rows (child_shapes item.now) }
+    requires fit { IsItem sort (child_sort item.now) }
+    ensures ok { OnOk result (HasUnwanted (wanted_of sort) (child_trees cx.now.rows item.now) → ⊥) }
+    ensures err { OnErr result (HasUnwanted (wanted_of sort) (child_trees cx.now.rows item.now)) }
+    ensures refusal { IfErr result (λ e. e ≡ NotAClause) }
+{
+    match sort {
+        ListSort::Clauses => check_clause(cx, item),
+        _ => Ok(()),
+    }
+}
+
+// Whether the item is a clause, as each of a list of clauses has to be.
+fn check_clause(cx: &Interner, item: &Child) -> Result<(), Refusal>
+    requires item { ArePartsOf cx.now.rows (child_shapes item.now) }
+    requires fit { IsItem ListSort.Clauses (child_sort item.now) }
+    ensures ok { OnOk result (HasUnwanted clause_trees (child_trees cx.now.rows item.now) → ⊥) }
+    ensures err { OnErr result (HasUnwanted clause_trees (child_trees cx.now.rows item.now)) }
+    ensures refusal { IfErr result (λ e. e ≡ NotAClause) }
+{
+    match item {
+        Child::Node(node) => match node.predicate().as_clause(cx) {
+            Some(_) => Ok(()),
+            None => Err(Refusal::NotAClause),
+        },
+        _ => unreachable!(),
+    }
 }
 
 // The items of a list that is walked. Short lists need no allocation.

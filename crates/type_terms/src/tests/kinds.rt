@@ -398,7 +398,8 @@ fn clauses(cx: &mut Interner, items: &[Clause]) -> Result<Clauses, Refusal> {
     }
 }
 
-// A predicate that is no clause may stand in the place of a predicate, and not in a list of clauses.
+// A predicate that is no clause may stand in the place of a predicate, and not in a list of clauses: the fold ends at the first
+// one, and the folder isn't asked again.
 fn no_clause_among_clauses_holds(cx: &mut Interner) -> Result<bool, Refusal> {
     let none = BoundVarKinds::default();
     let first = stored_outlives(cx, none)?;
@@ -408,7 +409,7 @@ fn no_clause_among_clauses_holds(cx: &mut Interner) -> Result<bool, Refusal> {
     let items = [clause(cx, first)?, clause(cx, second)?];
     let list = clauses(cx, &items)?;
     Ok(
-        with_one_predicate(cx, list, to).0 == Err(Refusal::NotAClause)
+        with_one_predicate(cx, list, to) == (Err(Refusal::NotAClause), 1)
             && with_one_predicate(cx, first, to) == (Ok(to), 1),
     )
 }

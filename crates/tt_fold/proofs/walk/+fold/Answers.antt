@@ -11,7 +11,7 @@ use Rattle.tt_fold.specs.Parts.{child_weight}
 use Rattle.tt_fold.specs.Walk.{replaced, kept, term_failed, in_enter_failed}
 use Rattle.tt_fold.proofs.PartLaws.{in_range, only_part, left_parts, right_parts, vars-kept, binder-kept, weight-grows, weights-grow}
 use Rattle.tt_fold.proofs.FormLaws.{form-labels, is_inner, not-deep, form-parts, form-binder, form-older, refilled-parts, item-older, item-part, item-fits}
-use Rattle.tt_fold.proofs.FoldSteps.{node_is_kind, stands-still, stored_list, stored_list_tree, list_is_items, memory_unbuilt, stored_node, stored_node_tree, not_stored, inside_leaf, inside_fails, inside_not_built, inside_rebuilt, descend_ends, descend_fails, node_descends, open_contents, under_parts_fail, under_leave_fails, under_folds, parts_first_fails, parts_second_fails, parts_fold, child_absent, child_region_fails, child_region, child_node_fails, child_node, child_list_fails, child_list, node_passed, so_far_none, so_far_more, items_one_fails, items_stop, items_fold, listed_fails, listed_not_stored, listed_stored, list_folds, clauses_fail, clauses_fold, clauses_node_fails, clauses_node, node_is_term, node_is_passed, other_node, other_list}
+use Rattle.tt_fold.proofs.FoldSteps.{node_is_kind, stands-still, stored_list, stored_list_tree, list_is_items, memory_unbuilt, no_clause_unbuilt, stored_node, stored_node_tree, not_stored, inside_leaf, inside_fails, inside_not_built, inside_rebuilt, descend_ends, descend_fails, node_descends, open_contents, under_parts_fail, under_leave_fails, under_folds, parts_first_fails, parts_second_fails, parts_fold, child_absent, child_region_fails, child_region, child_node_fails, child_node, child_list_fails, child_list, node_passed, so_far_none, so_far_more, items_one_fails, items_one_unwanted, items_stop, items_fold, listed_fails, listed_not_stored, listed_stored, list_folds, clauses_fail, clauses_fold, clauses_node_fails, clauses_node, node_is_term, node_is_passed, other_node, other_list}
 use Rattle.tt_fold.proofs.walk.+fold.Goals as goal
 
 pub fold_node-fold_inside-requires : goal.fold_node-fold_inside-requires
@@ -330,6 +330,23 @@ fold_items-returns-in_err-folded g t c =
     let tree = list_is_items _ c.args.list (children_at c.args.cx.now.rows c.args.list) c.list_len-i-end.ensures.means in
     rw (p.1, p.2) (items_one_fails tree c.loop-i.invariant is_x part c.in_err-folded.ensures)
 
+pub fold_items-check_item-requires : goal.fold_items-check_item-requires
+fold_items-check_item-requires g t c =
+    let is_x = rw (children_at-grows _ _ c.loop-i.invariant.extends.rows c.args.list (in_range _ _ _ c.requires.list)) at c.list_child-item.ensures in
+    let fit = item-fits (λ x. IsItem (list_sort c.args.list) (child_sort x)) (children_at c.args.cx.now.rows c.args.list) c.loop-i.i _ is_x c.list_len-i-end.ensures.fit in
+    let o = c.in_ok-folded.ensures.outcome.1 in
+    record { item = o.owned; fit = rw (c.sort.ensures, o.like) fit }
+
+pub fold_items-returns-in_err-check_item : goal.fold_items-returns-in_err-check_item
+fold_items-returns-in_err-check_item g t c =
+    let p = err_from_is_err_and c.from_residual-in_err-check_item.result c.from_residual-in_err-check_item.ensures.1 in
+    let is_x = rw (children_at-grows _ _ c.loop-i.invariant.extends.rows c.args.list (in_range _ _ _ c.requires.list)) at c.list_child-item.ensures in
+    let part = item-part _ (children_at c.args.cx.now.rows c.args.list) c.loop-i.i _ is_x c.list_len-i-end.ensures.parts in
+    let tree = list_is_items _ c.args.list (children_at c.args.cx.now.rows c.args.list) c.list_len-i-end.ensures.means in
+    let h = rw c.sort.ensures at c.in_err-check_item.ensures in
+    rw p.1 (items_one_unwanted tree c.loop-i.invariant is_x part c.in_ok-folded.ensures h.err
+    (λ u bad. (c.in_err-check_item.field-0.0, (p.2, no_clause_unbuilt c.fold_child.new.cx u _ h.refusal bad))))
+
 pub fold_items-returns-in_err-push : goal.fold_items-returns-in_err-push
 fold_items-returns-in_err-push g t c =
     let p = err_from_is_err_and c.from_residual-in_err-push.result c.from_residual-in_err-push.ensures.1 in
@@ -337,7 +354,8 @@ fold_items-returns-in_err-push g t c =
     let part = item-part _ (children_at c.args.cx.now.rows c.args.list) c.loop-i.i _ is_x c.list_len-i-end.ensures.parts in
     let tree = list_is_items _ c.args.list (children_at c.args.cx.now.rows c.args.list) c.list_len-i-end.ensures.means in
     let fit = item-fits (λ x. IsItem (list_sort c.args.list) (child_sort x)) (children_at c.args.cx.now.rows c.args.list) c.loop-i.i _ is_x c.list_len-i-end.ensures.fit in
-    rw p.1 (items_stop tree (so_far_more c.loop-i.invariant is_x part fit c.in_ok-folded.ensures refl)
+    let h = rw c.sort.ensures at c.in_ok-check_item.ensures in
+    rw p.1 (items_stop tree (so_far_more c.loop-i.invariant is_x part fit c.in_ok-folded.ensures h.ok refl)
     (λ u. (c.in_err-push.field-0.0, (p.2, memory_unbuilt c.fold_child.new.cx u _ c.in_err-push.ensures.memory))))
 
 pub fold_items-loop-i-preserved : goal.fold_items-loop-i-preserved
@@ -345,7 +363,8 @@ fold_items-loop-i-preserved g t c =
     let is_x = rw (children_at-grows _ _ c.loop-i.invariant.extends.rows c.args.list (in_range _ _ _ c.requires.list)) at c.list_child-item.ensures in
     let part = item-part _ (children_at c.args.cx.now.rows c.args.list) c.loop-i.i _ is_x c.list_len-i-end.ensures.parts in
     let fit = item-fits (λ x. IsItem (list_sort c.args.list) (child_sort x)) (children_at c.args.cx.now.rows c.args.list) c.loop-i.i _ is_x c.list_len-i-end.ensures.fit in
-    so_far_more c.loop-i.invariant is_x part fit c.in_ok-folded.ensures c.in_ok-push.ensures.ok
+    let h = rw c.sort.ensures at c.in_ok-check_item.ensures in
+    so_far_more c.loop-i.invariant is_x part fit c.in_ok-folded.ensures h.ok c.in_ok-push.ensures.ok
 
 pub fold_items-returns : goal.fold_items-returns
 fold_items-returns g t c =
