@@ -1,6 +1,8 @@
 //! What the contracts don't say: printed lines, reading and writing, and that calls succeed where memory is ample.
 
 mod errors;
+mod env;
+mod every_kind;
 mod faults;
 mod kinds;
 mod library;

@@ -62,7 +62,7 @@ impl Flagged for Predicate {
 }
 
 // The constant of this kind.
-fn constant(cx: &mut Interner, kind: ConstKind) -> Result<Const, Refusal> {
+pub fn constant(cx: &mut Interner, kind: ConstKind) -> Result<Const, Refusal> {
     if cx.owns_const_kind(&kind) {
         cx.mk_const(kind)
     } else {
@@ -71,7 +71,7 @@ fn constant(cx: &mut Interner, kind: ConstKind) -> Result<Const, Refusal> {
 }
 
 // The predicate of this kind under a binder of these variables.
-fn predicate(
+pub fn predicate(
     cx: &mut Interner,
     kind: PredicateKind,
     vars: BoundVarKinds,
@@ -106,13 +106,13 @@ fn one_param(cx: &mut Interner) -> Result<GenericArgs, Refusal> {
 }
 
 // The flags and the outer exclusive binder of the type of this kind.
-fn info_of_kind(cx: &mut Interner, kind: TyKind) -> Result<(u32, u32), Refusal> {
+pub fn info_of_kind(cx: &mut Interner, kind: TyKind) -> Result<(u32, u32), Refusal> {
     let term = ty(cx, kind)?;
     info(cx, &term)
 }
 
 // The same of a predicate.
-fn info_of_predicate(
+pub fn info_of_predicate(
     cx: &mut Interner,
     kind: PredicateKind,
     vars: BoundVarKinds,
@@ -381,7 +381,7 @@ fn with_one_predicate<T: Owned>(
 }
 
 // The clause that the predicate is.
-fn clause(cx: &Interner, predicate: Predicate) -> Result<Clause, Refusal> {
+pub fn clause(cx: &Interner, predicate: Predicate) -> Result<Clause, Refusal> {
     if cx.owns_predicate(predicate) {
         predicate.as_clause(cx).ok_or(Refusal::NotAClause)
     } else {
@@ -390,7 +390,7 @@ fn clause(cx: &Interner, predicate: Predicate) -> Result<Clause, Refusal> {
 }
 
 // The list of these clauses.
-fn clauses(cx: &mut Interner, items: &[Clause]) -> Result<Clauses, Refusal> {
+pub fn clauses(cx: &mut Interner, items: &[Clause]) -> Result<Clauses, Refusal> {
     if cx.are_clauses(items) {
         cx.mk_clauses(items)
     } else {
