@@ -3,7 +3,7 @@ use Rattle.std.proofs.Common.{◌≡◌, ℕ, zero, suc, ◌<◌, ◌≤◌, Lis
 use Rattle.std.specs.Prelude.{map}
 use Rattle.tt_kinds.specs.declared.table.Table.{Table}
 use Rattle.tt_kinds.specs.declared.table.Table.TheVariants.{VarLists, Symbols}
-use Rattle.tt_kinds.specs.Label.{RegionName, anonymous, printed, named, environment, VarKind, region_variable, type_variable, const_variable, FreeRegion, static_region, erased_region, region_var, error_region, late_param_region, placeholder_region, RecordLabel, fn_sig_tys_record, pair_record, triple_record, absent_record, present_record, sequence_record, unsafe_binder_record, trait_record, host_effect_record, region_outlives_record, type_outlives_record, projection_record, const_has_type_record, well_formed_record, const_evaluatable_record, unstable_feature_record, dyn_compatible_record, subtype_record, coerce_record, const_equate_record, ambiguous_record, normalizes_to_record, alias_relate_record, existential_trait_record, existential_projection_record, auto_trait_record, trait_ref_record, alias_term_record, alias_ty_record, outlives_record, type_and_mut_record, fn_sig_record, param_env_record, witness_types_record, Label, type_label, const_label, pattern_label, predicate_label, existential_label, clause_list_label, list_label, var_list_label, text_label, record_label}
+use Rattle.tt_kinds.specs.Label.{RegionName, anonymous, printed, named, environment, VarKind, region_variable, type_variable, const_variable, FreeRegion, static_region, erased_region, region_var, error_region, late_param_region, placeholder_region, RecordLabel, fn_sig_tys_record, pair_record, triple_record, absent_record, present_record, sequence_record, unsafe_binder_record, trait_record, host_effect_record, region_outlives_record, type_outlives_record, projection_record, const_has_type_record, well_formed_record, const_evaluatable_record, unstable_feature_record, dyn_compatible_record, subtype_record, coerce_record, const_equate_record, ambiguous_record, normalizes_to_record, alias_relate_record, existential_trait_record, existential_projection_record, auto_trait_record, trait_ref_record, alias_term_record, alias_ty_record, outlives_record, type_and_mut_record, fn_sig_record, param_env_record, witness_types_record, Label, type_label, const_label, pattern_label, predicate_label, existential_label, clause_list_label, list_label, var_list_label, text_label, declaration_label, record_label}
 use Rattle.tt_kinds.specs.Tree as tree
 use Rattle.tt_kinds.specs.Tree.{Tree, Depth}
 use Rattle.tt_kinds.specs.Shape.{Shape, Shapes, param, bound, region, term, node, binder, stored, none, also, Meaning, Sizes, text_of, name_of, rename_region, rename_kind, rename_free, rename_record, rename_label, fill, fill_all, IsNamed, IsNamedKind, AreNamedKinds, IsNamedFree, IsNamedRecord, IsNamedLabel, IsPart, AreParts, HasParts}
@@ -82,6 +82,7 @@ module _ (small large : Sizes) (more : (t : Table) → small t ≤ large t) wher
   IsNamedLabel-more (list_label t) h = tt
   IsNamedLabel-more (var_list_label vs) h = AreNamedKinds-more vs h
   IsNamedLabel-more (text_label bytes) h = tt
+  IsNamedLabel-more (declaration_label i k n) h = let m = more Symbols in omega arith
   IsNamedLabel-more (record_label l) h = IsNamedRecord-more l h
   IsNamedLabel-more (const_label l) h = tt
   IsNamedLabel-more (pattern_label l) h = tt
@@ -180,6 +181,7 @@ module _ (f g : Meaning) (bounds : Sizes) (same : (t : Table) (n : ℕ) → n < 
   label-same (list_label t) h = refl
   label-same (var_list_label vs) h = ap var_list_label (kinds-same vs h)
   label-same (text_label bytes) h = refl
+  label-same (declaration_label i k n) h = ap (λ t. declaration_label i k (text_of t)) (same Symbols n h)
   label-same (record_label l) h = ap record_label (record-same l h)
   label-same (const_label l) h = refl
   label-same (pattern_label l) h = refl

@@ -34,7 +34,7 @@ use Rattle.tt_kinds.specs.declared.existential.ExistentialPredicate.{Existential
 use Rattle.tt_kinds.specs.declared.existential.ExistentialPredicate.TheVariants as existential
 use Rattle.tt_kinds.specs.declared.table.Table.{Table}
 use Rattle.tt_kinds.specs.declared.table.Table.TheVariants.{Types, Consts, TypeLists, ConstLists, PatternLists, ExistentialLists, VarLists, Symbols}
-use Rattle.tt_kinds.specs.Label.{Sort, type_sort, const_sort, RegionName, anonymous, printed, named, environment, VarKind, region_variable, type_variable, const_variable, FreeRegion, static_region, erased_region, region_var, error_region, late_param_region, placeholder_region, TypeLabel, bool_type, char_type, int_type, uint_type, float_type, str_type, never_type, placeholder_type, infer_type, error_type, ref_type, raw_ptr_type, slice_type, tuple_type, fn_ptr_type, foreign_type, adt_type, array_type, pat_type, unsafe_binder_type, dynamic_type, closure_type, coroutine_closure_type, coroutine_type, coroutine_witness_type, alias_type, ConstLabel, infer_const, placeholder_const, unevaluated_const, leaf_const, branch_const, error_const, expr_const, PatternLabel, range_pattern, or_pattern, not_null_pattern, RecordLabel, trait_record, host_effect_record, region_outlives_record, type_outlives_record, projection_record, const_has_type_record, well_formed_record, const_evaluatable_record, unstable_feature_record, dyn_compatible_record, subtype_record, coerce_record, const_equate_record, ambiguous_record, normalizes_to_record, alias_relate_record, existential_trait_record, existential_projection_record, auto_trait_record, Label, type_label, const_label, pattern_label, predicate_label, existential_label, clause_list_label, list_label, var_list_label, text_label, record_label, label_table}
+use Rattle.tt_kinds.specs.Label.{Sort, type_sort, const_sort, RegionName, anonymous, printed, named, environment, VarKind, region_variable, type_variable, const_variable, FreeRegion, static_region, erased_region, region_var, error_region, late_param_region, placeholder_region, TypeLabel, bool_type, char_type, int_type, uint_type, float_type, str_type, never_type, placeholder_type, infer_type, error_type, ref_type, raw_ptr_type, slice_type, tuple_type, fn_ptr_type, foreign_type, adt_type, array_type, pat_type, unsafe_binder_type, dynamic_type, closure_type, coroutine_closure_type, coroutine_type, coroutine_witness_type, alias_type, ConstLabel, infer_const, placeholder_const, unevaluated_const, leaf_const, branch_const, error_const, expr_const, PatternLabel, range_pattern, or_pattern, not_null_pattern, RecordLabel, trait_record, host_effect_record, region_outlives_record, type_outlives_record, projection_record, const_has_type_record, well_formed_record, const_evaluatable_record, unstable_feature_record, dyn_compatible_record, subtype_record, coerce_record, const_equate_record, ambiguous_record, normalizes_to_record, alias_relate_record, existential_trait_record, existential_projection_record, auto_trait_record, Label, type_label, const_label, pattern_label, predicate_label, existential_label, clause_list_label, list_label, var_list_label, text_label, declaration_label, record_label, label_table}
 use Rattle.tt_kinds.specs.Tree as tree
 use Rattle.tt_kinds.specs.Tree.{Depth, at, canonical}
 use Rattle.tt_kinds.specs.Bound.{depth, region_name, var_kind}
@@ -42,7 +42,7 @@ use Rattle.tt_kinds.specs.Parts.{term_child}
 use Rattle.tt_kinds.specs.Shape.{Shape, Shapes, param, bound, region, term, node, binder, stored, none, also, append, Meaning, fill, name_of, text_of, vars_of, item_shapes, sort_table}
 use Rattle.tt_kinds.specs.Kinds as form
 use Rattle.tt_kinds.specs.Kinds.{Form, ty_form, const_form, form_shape, relabelled, value_form, clause_form, predicate_form, existential_form, parts_shapes, child_shapes, term_shape, ty_kind_shape, const_kind_shape, pattern_kind_shape, region_shape, ty_shape, const_shape, arg_shape, pat_shape, existential_shape, clause_shape}
-use Rattle.tt_interner.specs.Rows.{Row, type_row, const_row, pat_row, predicate_row, existential_row, clauses_row, tys_row, consts_row, args_row, pats_row, vars_row, existentials_row, text_row, row_table, row_shape}
+use Rattle.tt_interner.specs.Rows.{Row, type_row, const_row, pat_row, predicate_row, existential_row, clauses_row, tys_row, consts_row, args_row, pats_row, vars_row, existentials_row, text_row, declared_row, row_table, row_shape}
 use Rattle.tt_interner.proofs.Fill.{tree_table, label_table-rename}
 
 -- the index of a variable, as a kind has it
@@ -212,6 +212,7 @@ label_from clause_list_label ss = clauses_row (items_from (λ s. record { number
 label_from (list_label t) ss = list_from t ss
 label_from (var_list_label vs) ss = vars_row (map var_from vs)
 label_from (text_label bytes) ss = text_row bytes
+label_from (declaration_label i k n) ss = declared_row i (record { kind = k; name = record { number = n } })
 label_from (record_label l) ss = text_row []
 
 abbrev param_from : Sort → ℕ → ℕ → Row
@@ -398,6 +399,7 @@ row_from-row_shape (pats_row ps) = ap pats_row (items_from-item_shapes pat_shape
 row_from-row_shape (vars_row vs) = ap vars_row (vars_from-vars vs)
 row_from-row_shape (existentials_row ps) = ap existentials_row (items_from-item_shapes existential_shape (λ s. record { number = number_from s }) (λ p. refl) ps)
 row_from-row_shape (text_row bytes) = refl
+row_from-row_shape (declared_row n d) = refl
 
 -- rows of one shape are one
 pub shape_one : (q r : Row) → row_shape q ≡ row_shape r → q ≡ r
@@ -426,6 +428,7 @@ root_of_row f (pats_row ps) = refl
 root_of_row f (vars_row vs) = refl
 root_of_row f (existentials_row ps) = refl
 root_of_row f (text_row bytes) = refl
+root_of_row f (declared_row n d) = refl
 
 pub text_of_row : (f : Meaning) (r : Row) → row_table r ≡ Symbols → fill f (row_shape r) ≡ tree.node (text_label (text_of (fill f (row_shape r)))) tree.none
 unfolding fill

@@ -7,7 +7,7 @@ use Rattle.std.proofs.lemmas.Map.{none_passes_from_lookup}
 use Rattle.std.specs.Option.{option_map}
 use Rattle.std.specs.Map.{keys_of, values_of, lookup}
 use Rattle.tt_kinds.specs.declared.table.Table.{Table}
-use Rattle.tt_kinds.specs.declared.table.Table.TheVariants.{Types, Consts, Patterns, Predicates, Existentials, ClauseLists, TypeLists, ConstLists, ArgLists, PatternLists, VarLists, ExistentialLists, AssumptionLists, Symbols}
+use Rattle.tt_kinds.specs.declared.table.Table.TheVariants.{Types, Consts, Patterns, Predicates, Existentials, ClauseLists, TypeLists, ConstLists, ArgLists, PatternLists, VarLists, ExistentialLists, AssumptionLists, Symbols, Declarations}
 use Rattle.tt_flags.specs.declared.flag_computation.FlagComputation.{FlagComputation}
 use Rattle.tt_index.specs.declared.refusal.Refusal.{Refusal}
 use Rattle.tt_index.specs.declared.refusal.Refusal.TheVariants.{Memory, TableFull}
@@ -39,6 +39,7 @@ reversed-push VarLists e ts = rw (reverse-append ts.var_lists (e ∷ [])) refl
 reversed-push ExistentialLists e ts = rw (reverse-append ts.existential_lists (e ∷ [])) refl
 reversed-push AssumptionLists e ts = rw (reverse-append ts.assumption_lists (e ∷ [])) refl
 reversed-push Symbols e ts = rw (reverse-append ts.symbols (e ∷ [])) refl
+reversed-push Declarations e ts = rw (reverse-append ts.declarations (e ∷ [])) refl
 
 -- and the other tables are those before it
 merged-push : (t : Table) (e : Entry) (order : List Table) (ts : Tables) → merged (t ∷ order) (with_entries ts t (e ∷ entries_of ts t)) ≡ e.row ∷ merged order ts
@@ -57,6 +58,7 @@ merged-push VarLists e order ts = refl
 merged-push ExistentialLists e order ts = refl
 merged-push AssumptionLists e order ts = refl
 merged-push Symbols e order ts = refl
+merged-push Declarations e order ts = refl
 
 entries_of-push : (t : Table) (e : Entry) (ts : Tables) → entries_of (push t e ts) t ≡ entries_of ts t ++ e ∷ []
 entries_of-push Types e ts = refl
@@ -73,6 +75,7 @@ entries_of-push VarLists e ts = refl
 entries_of-push ExistentialLists e ts = refl
 entries_of-push AssumptionLists e ts = refl
 entries_of-push Symbols e ts = refl
+entries_of-push Declarations e ts = refl
 
 entries_of-other : (t u : Table) (e : Entry) (ts : Tables) → (t ≡ u → ⊥) → entries_of (push t e ts) u ≡ entries_of ts u
 entries_of-other Types Types e ts apart = absurd (apart refl)
@@ -89,6 +92,7 @@ entries_of-other VarLists VarLists e ts apart = absurd (apart refl)
 entries_of-other ExistentialLists ExistentialLists e ts apart = absurd (apart refl)
 entries_of-other AssumptionLists AssumptionLists e ts apart = absurd (apart refl)
 entries_of-other Symbols Symbols e ts apart = absurd (apart refl)
+entries_of-other Declarations Declarations e ts apart = absurd (apart refl)
 entries_of-other _ _ e ts apart = refl
 
 -- From here on no lemma names a table.
@@ -271,6 +275,7 @@ no_tables = record {
   existential_lists = [];
   assumption_lists = [];
   symbols = [];
+  declarations = [];
 }
 
 AreTables-none : (limit : ℕ) → limit ≤ 4294967040 → AreTables [] no_tables limit
@@ -298,6 +303,7 @@ AreTables-none limit small = record {
     none_of ExistentialLists = refl
     none_of AssumptionLists = refl
     none_of Symbols = refl
+    none_of Declarations = refl
 
     infos_of_none : (t : Table) → infos_of no_tables t ≡ []
     infos_of_none Types = refl
@@ -314,6 +320,7 @@ AreTables-none limit small = record {
     infos_of_none ExistentialLists = refl
     infos_of_none AssumptionLists = refl
     infos_of_none Symbols = refl
+    infos_of_none Declarations = refl
 
 abbrev pub first_of : Row → Entry
 first_of r = record { row = r; info = no_info }
@@ -334,6 +341,7 @@ first_tables = record {
   existential_lists = first_of (existentials_row []) ∷ [];
   assumption_lists = [];
   symbols = first_of (text_row (39 ∷ 95 ∷ [])) ∷ [];
+  declarations = [];
 }
 
 abbrev pub first_order : List Table
@@ -414,6 +422,7 @@ pub record HaveFirst (ts : Tables) : Type 0 where
   pub existential_lists : ts.existential_lists ≡ first_of (existentials_row []) ∷ []
   pub symbols : ts.symbols ≡ first_of (text_row (39 ∷ 95 ∷ [])) ∷ []
   pub assumption_lists : ts.assumption_lists ≡ []
+  pub declarations : ts.declarations ≡ []
 
 pub are_first_tables : (ts : Tables) → HaveFirst ts → ts ≡ first_tables
 are_first_tables ts have = λ i. record {
@@ -431,4 +440,5 @@ are_first_tables ts have = λ i. record {
   existential_lists = have.existential_lists i;
   assumption_lists = have.assumption_lists i;
   symbols = have.symbols i;
+  declarations = have.declarations i;
 }

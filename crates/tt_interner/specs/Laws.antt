@@ -1,7 +1,10 @@
 -- What holds of all rows that an interner may have.
 use Rattle.std.specs.Prelude.{◌≡◌, ◌↔◌, ℕ, ◌<◌, List}
 use Rattle.tt_kinds.specs.declared.table.Table.{Table}
+use Rattle.tt_kinds.specs.declared.table.Table.TheVariants.{Declarations}
+use Rattle.tt_kinds.specs.declared.id.DefId.{DefId}
 use Rattle.tt_interner.specs.Rows.{Row, size, meaning, AreRows, Grows}
+use Rattle.tt_interner.specs.Declarations.{declared_at}
 
 -- handles in range are equal exactly when their trees are
 abbrev pub AreInterned : List Row → Type 0
@@ -14,3 +17,7 @@ EqualTrees = (rows : List Row) → AreRows rows → AreInterned rows
 -- handles in range stay in range and keep their trees, whatever rows come
 abbrev pub KeepsTrees : Type 0
 KeepsTrees = (old new : List Row) → Grows old new → (t : Table) (n : ℕ) → n < size old t → (n < size new t) × (meaning new t n ≡ meaning old t n)
+
+-- what is declared under an id stays, whatever rows come
+abbrev pub KeepsDeclarations : Type 0
+KeepsDeclarations = (old new : List Row) → Grows old new → (id : DefId) → id.number < size old Declarations → (id.number < size new Declarations) × (declared_at new id ≡ declared_at old id)

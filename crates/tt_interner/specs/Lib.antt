@@ -8,3 +8,4 @@ pub mod Kept
 pub mod Laws
 pub mod Env
 pub mod Nodes
+pub mod Declarations

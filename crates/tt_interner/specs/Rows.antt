@@ -3,12 +3,13 @@ use Rattle.std.specs.Prelude.{◌≢◌, ◌≡◌, ℕ, ◌==◌, ◌<◌, Bool
 use Rattle.tt_kinds.specs.Tree as tree
 use Rattle.tt_kinds.specs.Label.{text_label}
 use Rattle.tt_kinds.specs.Shape.{Shape, Shapes, param, bound, region, term, node, binder, stored, none, also, Meaning, fill, Sizes, HasParts, IsTooDeep}
-use Rattle.tt_kinds.specs.Kinds.{ty_kind_shape, const_kind_shape, pattern_kind_shape, predicate_kind_shape, existential_kind_shape, clauses_row_shape, tys_row_shape, consts_row_shape, args_row_shape, pats_row_shape, vars_row_shape, existentials_row_shape, text_row_shape}
+use Rattle.tt_kinds.specs.Kinds.{ty_kind_shape, const_kind_shape, pattern_kind_shape, predicate_kind_shape, existential_kind_shape, clauses_row_shape, tys_row_shape, consts_row_shape, args_row_shape, pats_row_shape, vars_row_shape, existentials_row_shape, text_row_shape, declaration_row_shape}
 use Rattle.tt_kinds.specs.declared.handle.Ty.{Ty}
 use Rattle.tt_kinds.specs.declared.handle.Const.{Const}
 use Rattle.tt_kinds.specs.declared.handle.Pat.{Pat}
 use Rattle.tt_kinds.specs.declared.handle.Clause.{Clause}
 use Rattle.tt_kinds.specs.declared.handle.PolyExistentialPredicate.{PolyExistentialPredicate}
+use Rattle.tt_kinds.specs.declared.declaration.Declaration.{Declaration}
 use Rattle.tt_kinds.specs.declared.binder.Binder.{Binder}
 use Rattle.tt_kinds.specs.declared.const_kind.ConstKind.{ConstKind}
 use Rattle.tt_kinds.specs.declared.pattern.PatternKind.{PatternKind}
@@ -21,7 +22,7 @@ use Rattle.tt_kinds.specs.declared.parts.Kind.{Kind}
 use Rattle.tt_kinds.specs.declared.parts.Kind.TheVariants as kind
 use Rattle.tt_interner.specs.Clauses.{is_clause_tree}
 use Rattle.tt_kinds.specs.declared.table.Table.{Table}
-use Rattle.tt_kinds.specs.declared.table.Table.TheVariants.{Types, Consts, Patterns, Predicates, Existentials, ClauseLists, TypeLists, ConstLists, ArgLists, PatternLists, VarLists, ExistentialLists, AssumptionLists, Symbols}
+use Rattle.tt_kinds.specs.declared.table.Table.TheVariants.{Types, Consts, Patterns, Predicates, Existentials, ClauseLists, TypeLists, ConstLists, ArgLists, PatternLists, VarLists, ExistentialLists, AssumptionLists, Symbols, Declarations}
 
 -- what is stored
 pub data Row : Type 0 where
@@ -38,6 +39,8 @@ pub data Row : Type 0 where
   vars_row : List BoundVariableKind → Row
   existentials_row : List PolyExistentialPredicate → Row
   text_row : List ℕ → Row
+  -- a declaration, and its place among the declarations: two of them may have one name
+  declared_row : ℕ → Declaration → Row
 
 -- the table that a row stands in
 abbrev pub row_table : Row → Table
@@ -54,6 +57,7 @@ row_table (pats_row pats) = PatternLists
 row_table (vars_row vars) = VarLists
 row_table (existentials_row ps) = ExistentialLists
 row_table (text_row bytes) = Symbols
+row_table (declared_row n d) = Declarations
 
 -- what a row holds
 abbrev pub row_shape : Row → Shape
@@ -70,6 +74,7 @@ row_shape (pats_row pats) = pats_row_shape pats
 row_shape (vars_row vars) = vars_row_shape vars
 row_shape (existentials_row ps) = existentials_row_shape ps
 row_shape (text_row bytes) = text_row_shape bytes
+row_shape (declared_row n d) = declaration_row_shape n d
 
 -- the row of a kind
 abbrev pub kind_row : Kind → Row
@@ -95,6 +100,7 @@ table_number VarLists = 10
 table_number ExistentialLists = 11
 table_number AssumptionLists = 12
 table_number Symbols = 13
+table_number Declarations = 14
 
 -- the row stands in the table
 abbrev pub is_in : Table → Row → Bool

@@ -1,13 +1,14 @@
 -- What the tables hold, and how they are seen as one list of rows.
-use Rattle.std.specs.Prelude.{◌≡◌, ℕ, ◌≤◌, List, [], ◌∷◌, ◌++◌, length, map, reverse, slice_get, max, bit_or, Some}
+use Rattle.std.specs.Prelude.{◌≡◌, ℕ, ◌+◌, ◌≤◌, List, [], ◌∷◌, ◌++◌, length, map, reverse, slice_get, max, bit_or, Some}
 use Rattle.tt_flags.specs.FlagComputation.{computed}
 use Rattle.tt_flags.specs.declared.flag_computation.FlagComputation.{FlagComputation}
 use Rattle.tt_kinds.specs.Tree.{Forest, Depth}
 use Rattle.tt_kinds.specs.Scan.{scan_all}
 use Rattle.tt_kinds.specs.Reading.{read_all, greatest_reach_all}
+use Rattle.tt_kinds.specs.declared.declaration.Declaration.{Declaration}
 use Rattle.tt_kinds.specs.declared.table.Table.{Table}
-use Rattle.tt_kinds.specs.declared.table.Table.TheVariants.{Types, Consts, Patterns, Predicates, Existentials, ClauseLists, TypeLists, ConstLists, ArgLists, PatternLists, VarLists, ExistentialLists, AssumptionLists, Symbols}
-use Rattle.tt_interner.specs.Rows.{Row, text_row, table, size, meaning, AreRows}
+use Rattle.tt_kinds.specs.declared.table.Table.TheVariants.{Types, Consts, Patterns, Predicates, Existentials, ClauseLists, TypeLists, ConstLists, ArgLists, PatternLists, VarLists, ExistentialLists, AssumptionLists, Symbols, Declarations}
+use Rattle.tt_interner.specs.Rows.{Row, text_row, declared_row, table, size, meaning, AreRows}
 use Rattle.tt_interner.specs.Stored.{IsInfo, first_rows}
 
 -- what is kept beside children is what their trees have
@@ -45,6 +46,7 @@ pub record Tables : Type 0 where
   pub existential_lists : List Entry
   pub assumption_lists : List Entry
   pub symbols : List Entry
+  pub declarations : List Entry
 
 -- the entries of one table
 abbrev pub entries_of : Tables → Table → List Entry
@@ -62,6 +64,7 @@ entries_of ts VarLists = ts.var_lists
 entries_of ts ExistentialLists = ts.existential_lists
 entries_of ts AssumptionLists = ts.assumption_lists
 entries_of ts Symbols = ts.symbols
+entries_of ts Declarations = ts.declarations
 
 -- the tables with other entries in one
 abbrev pub with_entries : Tables → Table → List Entry → Tables
@@ -79,6 +82,7 @@ with_entries ts VarLists es = record ts { var_lists = es }
 with_entries ts ExistentialLists es = record ts { existential_lists = es }
 with_entries ts AssumptionLists es = record ts { assumption_lists = es }
 with_entries ts Symbols es = record ts { symbols = es }
+with_entries ts Declarations es = record ts { declarations = es }
 
 -- the tables with one entry more
 abbrev pub push : Table → Entry → Tables → Tables
@@ -109,6 +113,7 @@ reversed ts = record {
   existential_lists = reverse ts.existential_lists;
   assumption_lists = reverse ts.assumption_lists;
   symbols = reverse ts.symbols;
+  declarations = reverse ts.declarations;
 }
 
 -- the row of the newest entry
@@ -133,6 +138,11 @@ rows_in_order order ts = merged (reverse order) (reversed ts)
 -- the entries of a map
 abbrev pub entries_by : {K V : Type 0} → (K → Row) → (V → FlagComputation) → List (K × V) → List Entry
 entries_by row info es = map (λ e. record { row = row e.0; info = info e.1 }) es
+
+-- the entries of declarations, numbered from n
+abbrev pub declared_entries : ℕ → List Declaration → List Entry
+declared_entries n [] = []
+declared_entries n (d ∷ ds) = record { row = declared_row n d; info = no_info } ∷ declared_entries (n + 1) ds
 
 -- the entries of a map whose keys own memory, by what the keys hold
 abbrev pub listed_by : {K X V : Type 0} → (K → X) → List (K × V) → List (X × V)

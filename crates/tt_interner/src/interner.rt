@@ -6,6 +6,7 @@ ghost use Rattle.tt_interner.specs.Stored.{counted, first_rows, HasFirst};
 ghost use Rattle.tt_interner.specs.Laws.{AreInterned};
 
 mod consts;
+mod declarations;
 mod existentials;
 mod lists;
 mod owns;
@@ -17,14 +18,15 @@ mod types;
 
 use crate::first::{first_lists, more_lists};
 use crate::tables::first_text;
+pub use declarations::RegionName;
 use indexmap::IndexMap;
 use std::alloc::Global;
 use std::marker::Model;
 use tt_flags::FlagComputation;
 use tt_index::{GREATEST_INDEX, Refusal};
 use tt_kinds::{
-    Binder, BoundVariableKind, Clause, Const, ConstKind, ExistentialPredicate, GenericArg, Pat,
-    PatternKind, PolyExistentialPredicate, PredicateKind, Table, Ty, TyKind,
+    Binder, BoundVariableKind, Clause, Const, ConstKind, Declaration, ExistentialPredicate,
+    GenericArg, Pat, PatternKind, PolyExistentialPredicate, PredicateKind, Table, Ty, TyKind,
 };
 
 /// Keeps each type, constant, pattern, predicate, list and text once, so that equal handles of one table stand for the same term.
@@ -45,6 +47,8 @@ pub struct Interner {
     var_lists: IndexMap<Vec<BoundVariableKind>, FlagComputation>,
     existential_lists: IndexMap<Vec<PolyExistentialPredicate>, FlagComputation>,
     symbols: IndexMap<String, ()>,
+    // an id's number is its declaration's place
+    declarations: Vec<Declaration>,
     // the table of each row, in the order in which rows came
     order: Vec<Table>,
     limit: u32,
@@ -114,6 +118,7 @@ impl Interner {
             var_lists: first.var_lists,
             existential_lists: more.existential_lists,
             symbols,
+            declarations: Vec::new(alloc),
             order,
             limit: limit.min(GREATEST_INDEX),
             descents: 0,

@@ -18,10 +18,11 @@ use Rattle.tt_kinds.specs.declared.ty_kind.InferTy.{InferTy}
 use Rattle.tt_kinds.specs.declared.ty_kind.InferTy.TheVariants.{TyVar, IntVar, FloatVar, FreshTy, FreshIntTy, FreshFloatTy}
 use Rattle.tt_kinds.specs.declared.const_kind.InferConst.{InferConst}
 use Rattle.tt_kinds.specs.declared.const_kind.InferConst.TheVariants.{Var, Fresh}
+use Rattle.tt_kinds.specs.declared.declaration.DeclarationKind.{DeclarationKind}
 use Rattle.tt_kinds.specs.declared.predicate.BoundConstness.{BoundConstness}
 use Rattle.tt_kinds.specs.declared.predicate_kind.AliasRelationDirection.{AliasRelationDirection}
 use Rattle.tt_kinds.specs.declared.table.Table.{Table}
-use Rattle.tt_kinds.specs.declared.table.Table.TheVariants.{Types, Consts, Patterns, Predicates, Existentials, ClauseLists, VarLists, Symbols}
+use Rattle.tt_kinds.specs.declared.table.Table.TheVariants.{Types, Consts, Patterns, Predicates, Existentials, ClauseLists, VarLists, Symbols, Declarations}
 
 -- a name: the bytes of its text
 abbrev pub Name : Type 0
@@ -157,6 +158,8 @@ pub data Label (N : Type 0) : Type 0 where
   list_label : Table → Label N
   var_list_label : List (VarKind N) → Label N
   text_label : List ℕ → Label N
+  -- its place among the declarations, what is declared, and its name
+  declaration_label : ℕ → DeclarationKind → N → Label N
   record_label : RecordLabel N → Label N
 
 -- the label is a type's
@@ -238,6 +241,7 @@ flags_of_label clause_list_label = 0
 flags_of_label (list_label t) = 0
 flags_of_label (var_list_label vs) = list_flags vs
 flags_of_label (text_label bytes) = 0
+flags_of_label (declaration_label n k name) = 0
 flags_of_label (record_label l) = 0
 
 -- the table that terms of the label are stored in
@@ -251,4 +255,5 @@ label_table clause_list_label = Some ClauseLists
 label_table (list_label t) = Some t
 label_table (var_list_label vs) = Some VarLists
 label_table (text_label bytes) = Some Symbols
+label_table (declaration_label n k name) = Some Declarations
 label_table (record_label l) = None

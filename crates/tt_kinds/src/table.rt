@@ -31,4 +31,6 @@ pub enum Table {
     AssumptionLists,
     /// Texts.
     Symbols,
+    /// Declarations, each under its id.
+    Declarations,
 }

@@ -1,0 +1,39 @@
+-- the new declaration is the newest row
+use Rattle.std.proofs.Common.{ap, refl, subst, ◌∙◌, ◌≡◌, length}
+use Rattle.tt_kinds.specs.declared.table.Table.TheVariants.{Declarations}
+use Rattle.tt_kinds.specs.Label.{declaration_label}
+use Rattle.tt_kinds.specs.Shape.{IsPart}
+use Rattle.tt_interner.specs.Rows.{declared_row, size, IsNew}
+use Rattle.tt_interner.specs.Tables.{with_entries, declared_entries}
+use Rattle.tt_interner.specs.Kept.{tables}
+use Rattle.tt_interner.proofs.InfoLemmas.{info_node}
+use Rattle.tt_interner.proofs.TableLemmas.{kept, added, refused}
+use Rattle.tt_interner.proofs.DeclarationLemmas.{declared_entries-added, declared_count, declared_new, Declares-added}
+use Rattle.tt_interner.proofs.interner.Interner.declare.Goals as goal
+
+pub invariant_of-self-2 : goal.invariant_of-self-2
+unfolding IsPart
+invariant_of-self-2 c =
+    let many = declared_count _ _ _ c.self.invariant.tables c.self.inside.declarations.items refl in
+    let counted : length c.self.inside.declarations.items ≡ size c.args.self.now.rows Declarations = many ∙ ap (λ v. size v.rows Declarations) c.self.view_is in
+    let is = ap (with_entries (tables c.self.inside) Declarations) (declared_entries-added c.self.inside.declarations.items _ _ _ c.in-Ok.ensures.declarations counted) in
+    let new = declared_new _ _ _ c.self.invariant.tables c.self.inside.declarations.items refl _ _ counted in
+    kept c.self.inside.order.items _ (tables c.self.inside) _ _ _ _ c.self.view_is c.self.invariant _ is c.in-Ok.ensures.order _ (c.in-Ok.ensures.number.0 ∙ many) c.in-Ok.ensures.number.1
+    (c.requires, tt) (λ deep. deep) tt (subst (λ v. IsNew (declared_row (size c.args.self.now.rows Declarations) (record { kind = c.args.kind; name = c.args.name })) v.rows) c.self.view_is new) (info_node _ _ (declaration_label _ c.args.kind c.args.name.number) refl)
+
+pub returns : goal.returns
+returns c =
+    let many = declared_count _ _ _ c.self.invariant.tables c.self.inside.declarations.items refl in
+    let counted : length c.self.inside.declarations.items ≡ size c.args.self.now.rows Declarations = many ∙ ap (λ v. size v.rows Declarations) c.self.view_is in
+    let is = ap (with_entries (tables c.self.inside) Declarations) (declared_entries-added c.self.inside.declarations.items _ _ _ c.in-Ok.ensures.declarations counted) in
+    Declares-added _ _ _ _ _ _ (added c.self.inside.order.items _ (tables c.self.inside) _ _ _ _ c.self.view_is c.self.invariant _ is c.in-Ok.ensures.order _ (c.in-Ok.ensures.number.0 ∙ many) c.in-Ok.ensures.number.1
+    (λ id. id.number) c.from_number.result (ap (λ id. id.number) c.from_number.ensures))
+
+pub returns-in-Err : goal.returns-in-Err
+returns-in-Err c =
+    let many = declared_count _ _ _ c.self.invariant.tables c.self.inside.declarations.items refl in
+    let counted : length c.self.inside.declarations.items ≡ size c.args.self.now.rows Declarations = many ∙ ap (λ v. size v.rows Declarations) c.self.view_is in
+    let new = declared_new _ _ _ c.self.invariant.tables c.self.inside.declarations.items refl _ _ counted in
+    let same = ap (λ ds. with_entries (tables c.self.inside) Declarations (declared_entries 0 ds)) c.in-Err.ensures.declarations_stay in
+    Declares-added _ _ _ _ _ _ (refused c.self.inside.order.items _ (tables c.self.inside) _ _ _ _ c.self.view_is c.self.invariant c.in-Err.ensures.order_stays same
+    (λ id. id.number) _ _ _ _ refl many c.in-Err.ensures.cause c.in-Err.ensures.full (subst (λ v. IsNew (declared_row (size c.args.self.now.rows Declarations) (record { kind = c.args.kind; name = c.args.name })) v.rows) c.self.view_is new))

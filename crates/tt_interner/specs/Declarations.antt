@@ -1,0 +1,44 @@
+-- What is declared under an id, and what a declaring call promises.
+use Rattle.std.specs.Prelude.{◌≡◌, ℕ, ◌==◌, ◌<◌, List, Option, Some, None, Result, IfOk, if◌then◌else◌, ⊤}
+use Rattle.tt_index.specs.declared.refusal.Refusal.{Refusal}
+use Rattle.tt_kinds.specs.declared.handle.Symbol.{Symbol}
+use Rattle.tt_kinds.specs.declared.id.DefId.{DefId}
+use Rattle.tt_kinds.specs.declared.declaration.Declaration.{Declaration}
+use Rattle.tt_kinds.specs.declared.declaration.DeclarationKind.{DeclarationKind}
+use Rattle.tt_kinds.specs.declared.declaration.DeclarationKind.TheVariants as kind
+use Rattle.tt_kinds.specs.declared.bound.BoundRegionKind.{BoundRegionKind}
+use Rattle.tt_kinds.specs.declared.bound.BoundRegionKind.TheVariants as region
+use Rattle.tt_kinds.specs.declared.table.Table.TheVariants.{Declarations}
+use Rattle.tt_interner.specs.Rows.{Row, declared_row, size}
+use Rattle.tt_interner.specs.Stored.{Terms, Adds}
+use Rattle.tt_interner.specs.Env.{row_at}
+
+-- the declaration of a row
+abbrev pub declaration_of : Row → Declaration
+declaration_of (declared_row n d) = d
+declaration_of _ = record { kind = kind.Param; name = record { number = 0 } }
+
+-- what is declared under an id
+unfoldable pub declared_at : List Row → DefId → Declaration
+declared_at rows id = declaration_of (row_at rows Declarations id.number)
+
+-- a declaration of this kind and name is added, or refused
+pub record Declares {H : Type 0} (result : Result H Refusal) (number : H → ℕ) (old new : Terms) (kind : DeclarationKind) (name : Symbol) : Type 0 where
+  -- its number is how many declarations came before, so that none of them has it
+  pub adds : Adds result number old new (declared_row (size old.rows Declarations) (record { kind = kind; name = name }))
+  pub declared : IfOk result (λ h. declared_at new.rows (record { number = number h }) ≡ record { kind = kind; name = name })
+
+-- the name, unless it is the first text of every interner, which is `'_`
+abbrev pub unless_anonymous : Symbol → Option Symbol
+unless_anonymous name = if name.number == 0 then None else Some name
+
+-- what a bound region is called: as its declaration is, unless that is called `'_`, or as it is printed
+abbrev pub title : List Row → BoundRegionKind → Option Symbol
+title rows (region.Named id) = unless_anonymous (declared_at rows id).name
+title rows (region.NamedForPrinting name) = Some name
+title rows _ = None
+
+-- where the bound region is declared, its declaration is there
+abbrev pub IsDeclared : List Row → BoundRegionKind → Type 0
+IsDeclared rows (region.Named id) = id.number < size rows Declarations
+IsDeclared rows _ = ⊤

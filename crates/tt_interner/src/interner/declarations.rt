@@ -1,0 +1,280 @@
+//! Declarations. Each has an id of its own, whichever names are there.
+
+ghost use Rattle.std.specs.Prelude.{◌≡◌, ◌⊎◌, ◌<◌, ◌≤◌, ◌↔◌, IsTrue, [], ◌∷◌, ◌++◌, IfOk, OnOk, OnErr, IfErr, length, is_some};
+ghost use Rattle.tt_kinds.specs.declared.bound.BoundRegionKind.{BoundRegionKind};
+ghost use Rattle.tt_interner.specs.Rows.{declared_row, size};
+ghost use Rattle.tt_interner.specs.Stored.{IsAt};
+ghost use Rattle.tt_interner.specs.Declarations.{declared_at, Declares, IsDeclared, title};
+
+use super::Interner;
+use tt_index::Refusal;
+use tt_kinds::{
+    AdtId, BoundRegionKind, ClosureId, CoroutineClosureId, CoroutineId, Declaration,
+    DeclarationKind, DefId, ForeignId, FreeTyAliasId, ImplId, InherentAssocTyId, OpaqueTyId,
+    Symbol, Table, TraitAssocTyId, TraitId, UnevaluatedConstId,
+};
+
+// Adds a declaration to a table that has less than `limit`, and notes it in the order. Answers its number. Where it is
+// refused, both stay.
+fn add_declaration(
+    order: &mut Vec<Table>,
+    limit: u32,
+    declarations: &mut Vec<Declaration>,
+    declaration: Declaration,
+) -> Result<u32, Refusal>
+    ensures order { OnOk result (order.new.items ≡ order.old.items ++ Table.Declarations ∷ []) }
+    ensures declarations { OnOk result (declarations.new.items ≡ declarations.old.items ++ declaration ∷ []) }
+    ensures number { IfOk result (λ n. (n ≡ length declarations.old.items) × (n < limit)) }
+    ensures order_stays { OnErr result (order.new.items ≡ order.old.items) }
+    ensures declarations_stay { OnErr result (declarations.new.items ≡ declarations.old.items) }
+    ensures cause { IfErr result (λ e. (e ≡ Refusal.Memory) ⊎ ((e ≡ Refusal.TableFull) × (limit ≤ length declarations.old.items))) }
+    ensures full { limit ≤ length declarations.old.items → result ≡ Err Refusal.TableFull }
+{
+    let number = declarations.len();
+    if number >= limit as usize {
+        return Err(Refusal::TableFull);
+    }
+    match order.reserve(1) {
+        Ok(()) => {}
+        Err(_) => return Err(Refusal::Memory),
+    }
+    match declarations.push(declaration) {
+        Ok(()) => {}
+        Err(_) => return Err(Refusal::Memory),
+    }
+    match order.push(Table::Declarations) {
+        Ok(()) => Ok(number as u32),
+        Err(_) => unreachable!(),
+    }
+}
+
+impl Interner {
+    // Makes a declaration.
+    fn declare(&mut self, kind: DeclarationKind, name: Symbol) -> Result<DefId, Refusal>
+        requires { name.number < size self.old.rows Table.Symbols }
+        ensures { Declares result (λ id. id.number) self.old self.new kind name }
+    {
+        let number = match add_declaration(
+            &mut self.order,
+            self.limit,
+            &mut self.declarations,
+            Declaration { kind, name },
+        ) {
+            Ok(number) => number,
+            Err(e) => return Err(e),
+        };
+        Ok(DefId::from_number(number))
+    }
+
+    /// Declares a trait of this name, with so many parameters, the self type among them. The name has to be of this
+    /// interner; [`Interner::owns_symbol`] tests it.
+    ///
+    /// Each call that declares makes a new id, also where a declaration has the name. It is refused with `TableFull` where
+    /// there are as many declarations as there may be, and with `Memory`; then it changes nothing.
+    pub fn declare_trait(&mut self, name: Symbol, params: u32) -> Result<TraitId, Refusal>
+        requires { name.number < size self.old.rows Table.Symbols }
+        ensures { Declares result (λ id. id.number) self.old self.new (DeclarationKind.Trait params) name }
+    {
+        let id = self.declare(DeclarationKind::Trait { params }, name)?;
+        Ok(TraitId::from_number(id.number()))
+    }
+
+    /// Declares an associated type of this name, of this trait, as [`Interner::declare_trait`] does.
+    pub fn declare_assoc_ty(
+        &mut self,
+        name: Symbol,
+        trait_id: TraitId,
+    ) -> Result<TraitAssocTyId, Refusal>
+        requires { name.number < size self.old.rows Table.Symbols }
+        ensures { Declares result (λ id. id.number) self.old self.new (DeclarationKind.AssocTy trait_id) name }
+    {
+        let id = self.declare(DeclarationKind::AssocTy(trait_id), name)?;
+        Ok(TraitAssocTyId::from_number(id.number()))
+    }
+
+    /// Declares an implementation, as [`Interner::declare_trait`] does.
+    pub fn declare_impl(&mut self, name: Symbol) -> Result<ImplId, Refusal>
+        requires { name.number < size self.old.rows Table.Symbols }
+        ensures { Declares result (λ id. id.number) self.old self.new DeclarationKind.Impl name }
+    {
+        let id = self.declare(DeclarationKind::Impl, name)?;
+        Ok(ImplId::from_number(id.number()))
+    }
+
+    /// Declares an associated type of this name, of this implementation, which is no trait's, as
+    /// [`Interner::declare_trait`] does.
+    pub fn declare_inherent(
+        &mut self,
+        name: Symbol,
+        impl_id: ImplId,
+    ) -> Result<InherentAssocTyId, Refusal>
+        requires { name.number < size self.old.rows Table.Symbols }
+        ensures { Declares result (λ id. id.number) self.old self.new (DeclarationKind.Inherent impl_id) name }
+    {
+        let id = self.declare(DeclarationKind::Inherent(impl_id), name)?;
+        Ok(InherentAssocTyId::from_number(id.number()))
+    }
+
+    /// Declares a struct, an enum or a union, as [`Interner::declare_trait`] does.
+    pub fn declare_adt(&mut self, name: Symbol) -> Result<AdtId, Refusal>
+        requires { name.number < size self.old.rows Table.Symbols }
+        ensures { Declares result (λ id. id.number) self.old self.new DeclarationKind.Adt name }
+    {
+        let id = self.declare(DeclarationKind::Adt, name)?;
+        Ok(AdtId::from_number(id.number()))
+    }
+
+    /// Declares an opaque type, as [`Interner::declare_trait`] does.
+    pub fn declare_opaque(&mut self, name: Symbol) -> Result<OpaqueTyId, Refusal>
+        requires { name.number < size self.old.rows Table.Symbols }
+        ensures { Declares result (λ id. id.number) self.old self.new DeclarationKind.Opaque name }
+    {
+        let id = self.declare(DeclarationKind::Opaque, name)?;
+        Ok(OpaqueTyId::from_number(id.number()))
+    }
+
+    /// Declares a type alias that stands for itself, as [`Interner::declare_trait`] does.
+    pub fn declare_free(&mut self, name: Symbol) -> Result<FreeTyAliasId, Refusal>
+        requires { name.number < size self.old.rows Table.Symbols }
+        ensures { Declares result (λ id. id.number) self.old self.new DeclarationKind.Free name }
+    {
+        let id = self.declare(DeclarationKind::Free, name)?;
+        Ok(FreeTyAliasId::from_number(id.number()))
+    }
+
+    /// Declares a type that is declared elsewhere, as [`Interner::declare_trait`] does.
+    pub fn declare_foreign(&mut self, name: Symbol) -> Result<ForeignId, Refusal>
+        requires { name.number < size self.old.rows Table.Symbols }
+        ensures { Declares result (λ id. id.number) self.old self.new DeclarationKind.Foreign name }
+    {
+        let id = self.declare(DeclarationKind::Foreign, name)?;
+        Ok(ForeignId::from_number(id.number()))
+    }
+
+    /// Declares a closure, as [`Interner::declare_trait`] does.
+    pub fn declare_closure(&mut self, name: Symbol) -> Result<ClosureId, Refusal>
+        requires { name.number < size self.old.rows Table.Symbols }
+        ensures { Declares result (λ id. id.number) self.old self.new DeclarationKind.Closure name }
+    {
+        let id = self.declare(DeclarationKind::Closure, name)?;
+        Ok(ClosureId::from_number(id.number()))
+    }
+
+    /// Declares a closure that answers a coroutine, as [`Interner::declare_trait`] does.
+    pub fn declare_coroutine_closure(&mut self, name: Symbol) -> Result<CoroutineClosureId, Refusal>
+        requires { name.number < size self.old.rows Table.Symbols }
+        ensures { Declares result (λ id. id.number) self.old self.new DeclarationKind.CoroutineClosure name }
+    {
+        let id = self.declare(DeclarationKind::CoroutineClosure, name)?;
+        Ok(CoroutineClosureId::from_number(id.number()))
+    }
+
+    /// Declares a coroutine, as [`Interner::declare_trait`] does.
+    pub fn declare_coroutine(&mut self, name: Symbol) -> Result<CoroutineId, Refusal>
+        requires { name.number < size self.old.rows Table.Symbols }
+        ensures { Declares result (λ id. id.number) self.old self.new DeclarationKind.Coroutine name }
+    {
+        let id = self.declare(DeclarationKind::Coroutine, name)?;
+        Ok(CoroutineId::from_number(id.number()))
+    }
+
+    /// Declares a constant whose value is computed when it is asked for, as [`Interner::declare_trait`] does.
+    pub fn declare_const(&mut self, name: Symbol) -> Result<UnevaluatedConstId, Refusal>
+        requires { name.number < size self.old.rows Table.Symbols }
+        ensures { Declares result (λ id. id.number) self.old self.new DeclarationKind.Const name }
+    {
+        let id = self.declare(DeclarationKind::Const, name)?;
+        Ok(UnevaluatedConstId::from_number(id.number()))
+    }
+
+    /// Declares a parameter of a type, a region or a constant, as [`Interner::declare_trait`] does.
+    pub fn declare_param(&mut self, name: Symbol) -> Result<DefId, Refusal>
+        requires { name.number < size self.old.rows Table.Symbols }
+        ensures { Declares result (λ id. id.number) self.old self.new DeclarationKind.Param name }
+    {
+        self.declare(DeclarationKind::Param, name)
+    }
+}
+
+impl Interner {
+    /// Whether the number is that of a declaration.
+    pub fn owns_def_id(&self, id: DefId) -> bool
+        ensures { IsTrue result ↔ (id.number < size self.now.rows Table.Declarations) }
+    {
+        (id.number() as usize) < self.declarations.len()
+    }
+
+    /// Whether the declaration of a bound region that is declared is of this interner.
+    pub fn owns_region_item(&self, kind: &BoundRegionKind) -> bool
+        ensures { IsTrue result ↔ IsDeclared self.now.rows kind.now }
+    {
+        match kind {
+            BoundRegionKind::Named(id) => self.owns_def_id(*id),
+            _ => true,
+        }
+    }
+
+    /// What is declared under an id, in the interner's memory. The id has to be of this interner; [`Interner::owns_def_id`]
+    /// tests it.
+    pub fn declaration(&self, id: DefId) -> &Declaration
+        requires { id.number < size self.now.rows Table.Declarations }
+        ensures at { IsAt self.now.rows (declared_row id.number result.now) id.number }
+        ensures is { result.now ≡ declared_at self.now.rows id }
+    {
+        match self.declarations.get(id.number() as usize) {
+            Some(declaration) => declaration,
+            None => unreachable!(),
+        }
+    }
+
+    /// The name of a declaration. The id has to be of this interner; [`Interner::owns_def_id`] tests it.
+    pub fn item_name(&self, id: DefId) -> Symbol
+        requires { id.number < size self.now.rows Table.Declarations }
+        ensures is { result ≡ (declared_at self.now.rows id).name }
+        ensures in_range { result.number < size self.now.rows Table.Symbols }
+    {
+        self.are_rows();
+        self.declaration(id).name
+    }
+}
+
+/// What a bound region is called. Where it is declared, its declaration has to be of the interner;
+/// [`Interner::owns_region_item`] tests it.
+pub trait RegionName: Sized {
+    // What is said of the region.
+    ghost region_kind: { Self → BoundRegionKind };
+
+    /// The name of the region's declaration, unless that is `'_`; the name that it is printed by, if it has no declaration;
+    /// and `None` where it has neither.
+    fn get_name(self, cx: &Interner) -> Option<Symbol>
+        requires { IsDeclared cx.now.rows (region_kind self) }
+        ensures { result ≡ title cx.now.rows (region_kind self) };
+
+    /// Whether it has a name.
+    fn is_named(self, cx: &Interner) -> bool
+        requires { IsDeclared cx.now.rows (region_kind self) }
+        ensures { result ≡ is_some (title cx.now.rows (region_kind self)) };
+}
+
+impl RegionName for BoundRegionKind {
+    ghost region_kind = { λ kind. kind };
+
+    fn get_name(self, cx: &Interner) -> Option<Symbol> {
+        match self {
+            BoundRegionKind::Named(id) => {
+                let name = cx.item_name(id);
+                if name == Symbol::default() {
+                    None
+                } else {
+                    Some(name)
+                }
+            }
+            BoundRegionKind::NamedForPrinting(name) => Some(name),
+            _ => None,
+        }
+    }
+
+    fn is_named(self, cx: &Interner) -> bool {
+        self.get_name(cx).is_some()
+    }
+}
