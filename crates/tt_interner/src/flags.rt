@@ -488,6 +488,7 @@ fn region_info(region: Region) -> FlagComputation
 }
 
 // What is computed of a child, and of none nothing.
+#[inline(always)]
 #[tactic(auto, unfolding(tt_kinds::specs::Shape::IsPart, tt_kinds::specs::Shape::fill))]
 fn child_info(cx: &Interner, child: &Child) -> FlagComputation
     requires { AreParts (size cx.now.rows) (child_shapes child.now) }

@@ -76,6 +76,7 @@ impl TyKind {
 
     /// The same kind with other children in the places of its own. They have to be of the same sorts;
     /// [`Parts::are_like`] tests it.
+    #[inline(always)]
     pub fn with_parts(&self, new: Parts) -> TyKind
         requires { AreLike (form_parts (ty_form self.now)) new }
         ensures { ty_form result ≡ refilled new (ty_form self.now) }
