@@ -12,3 +12,4 @@ pub mod ShiftLaws
 mod BoundLaws
 pub mod MovingLaws
 pub mod CounterLaws
+mod Examples

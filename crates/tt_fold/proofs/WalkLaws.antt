@@ -12,7 +12,7 @@ use Rattle.tt_kinds.specs.declared.parts.Parts.{Parts}
 use Rattle.tt_kinds.specs.declared.parts.ListSort.{ListSort}
 use Rattle.tt_kinds.specs.declared.parts.ListSort.TheVariants as sorts
 use Rattle.tt_interner.specs.Rows.{Row}
-use Rattle.tt_fold.specs.Walk.{Hooks, Wanted, any_trees, HasUnwanted, WalksItems, ItemsFail, items_failed, list_not_built, Walks, Fails, node_not_built, not_built, WalksAll, done, next, FailsAll, here, later, stopped, no_clause, WalksUnder, in_open, in_binder, FailsUnder, in_open_failed, in_enter_failed, in_under_failed, in_leave_failed, WalksInside, in_term, in_param, in_bound, InsideFails, in_term_failed, at_binder, at_node, enter_failed, under_failed, leave_failed, node_failed}
+use Rattle.tt_fold.specs.Walk.{Hooks, Wanted, HasUnwanted, WalksItems, ItemsFail, items_failed, list_not_built, Walks, Fails, node_not_built, not_built, WalksAll, done, next, FailsAll, here, later, stopped, no_clause, WalksUnder, in_open, in_binder, FailsUnder, in_open_failed, in_enter_failed, in_under_failed, in_leave_failed, WalksInside, in_term, in_param, in_bound, InsideFails, in_term_failed, at_binder, at_node, enter_failed, under_failed, leave_failed, node_failed}
 use Rattle.tt_fold.specs.Steps.{tree_in, vars_in}
 use Rattle.tt_fold.specs.Parts.{trees_in, binder_in, IsLeaf}
 use Rattle.tt_fold.proofs.PartLaws.{joined}
