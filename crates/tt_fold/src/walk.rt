@@ -61,7 +61,7 @@ pub(crate) fn fold_node<M, F: Core<M>>(
 
 // The walk of a term whose hook answered `Descend`.
 #[cycle(fold)]
-#[inline(never)]
+#[inline(always)]
 fn descend<M, F: Core<M>>(cx: &mut Interner, folder: &mut F, node: Node) -> Result<Node, F::Error>
     requires owned { F.owned cx.old.rows folder.old }
     requires node { IsPartOf cx.old.rows (node_shape node) }
@@ -76,6 +76,7 @@ fn descend<M, F: Core<M>>(cx: &mut Interner, folder: &mut F, node: Node) -> Resu
 
 // The walk of what stands in a term, and the term with what came of it.
 #[cycle(fold)]
+#[inline(never)]
 pub(crate) fn fold_inside<M, F: Core<M>>(
     cx: &mut Interner,
     folder: &mut F,

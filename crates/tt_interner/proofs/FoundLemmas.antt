@@ -1,11 +1,13 @@
 -- What a look-up in a table says of the rows.
-use Rattle.std.proofs.Common.{◌≡◌, ℕ, zero, suc, Bool, true, false, cond, List, [], ◌∷◌, ◌++◌, slice_get, map, get_or, Option, Some, None, position, refl, sym, ap, subst, ◌∙◌, is_some}
+use Rattle.std.proofs.Common.{◌≡◌, ℕ, zero, suc, Bool, true, false, cond, List, [], ◌∷◌, ◌++◌, slice_get, map, get_or, Option, Some, None, position, refl, sym, ap, subst, ◌∙◌, is_some, if◌then◌else◌}
 use Rattle.std.proofs.lemmas.Bool.{false≢true}
-use Rattle.std.proofs.lemmas.Option.{slice_get-get_or, none-some}
+use Rattle.std.proofs.lemmas.Option.{slice_get-get_or, none-some, same_Some}
 use Rattle.std.proofs.lemmas.List.Quantifiers.{position-Some}
 use Rattle.std.proofs.lemmas.Map.{NonePasses}
-use Rattle.std.specs.Map.{keys_of, lookup}
+use Rattle.std.specs.Map.{keys_of, values_of, lookup}
 use Rattle.std.specs.Option.{option_map}
+use Rattle.indexmap.specs.IndexMap.{insert_entry}
+use Rattle.indexmap.proofs.MapLemmas.{some_index, value_index}
 use Rattle.tt_kinds.specs.declared.table.Table.{Table}
 use Rattle.tt_interner.specs.Rows.{Row, row_table, is_in, table, IsNew}
 use Rattle.tt_flags.specs.declared.flag_computation.FlagComputation.{FlagComputation}
@@ -15,6 +17,33 @@ use Rattle.tt_interner.proofs.RowLaws.{table-own, table-other, is_in_own}
 pub none_from_not_some : {X : Type 0} (o : Option X) → is_some o ≡ false → o ≡ None
 none_from_not_some None e = refl
 none_from_not_some (Some x) e = cc
+
+-- a key that a look-up doesn't find has no place
+pub no_place : {K V : Type 0} (test : K → Bool) (es : List (K × V)) (n : ℕ) → lookup test es ≡ None → position test (keys_of es) ≡ Some n → ⊥
+no_place test es n none place = false≢true (sym (ap is_some none) ∙ sym (some_index test es) ∙ ap is_some place)
+
+pub no_value : {K V : Type 0} (test : K → Bool) (es : List (K × V)) → position test (keys_of es) ≡ None → lookup test es ≡ None
+no_value test es none = none_from_not_some (lookup test es) (sym (some_index test es) ∙ ap is_some none)
+
+-- the place of what a look-up finds
+pub value_place : {K V : Type 0} (test : K → Bool) (es : List (K × V)) (v : V) → lookup test es ≡ Some v → (n : ℕ) × (position test (keys_of es) ≡ Some n) × (slice_get (values_of es) n ≡ Some v)
+value_place test es v h = by (position test (keys_of es)) refl
+  where
+    by : (p : Option ℕ) → position test (keys_of es) ≡ p → (n : ℕ) × (position test (keys_of es) ≡ Some n) × (slice_get (values_of es) n ≡ Some v)
+    by None p = absurd (none-some v (sym (no_value test es p) ∙ h))
+    by (Some n) p = (n, p, rw p at (value_index test es) ∙ h)
+
+-- an entry that is inserted as it is there changes nothing
+pub insert_entry-same : {K V : Type 0} (eq : K → K → Bool) (k : K) (v : V) (es : List (K × V)) → lookup (eq k) es ≡ Some v → insert_entry eq es k v ≡ es
+insert_entry-same eq k v [] h = absurd (none-some v h)
+insert_entry-same eq k v (e ∷ es) h = by (eq k e.0) refl (insert_entry-same eq k v es)
+  where
+    by : (b : Bool) → eq k e.0 ≡ b → (lookup (eq k) es ≡ Some v → insert_entry eq es k v ≡ es) → insert_entry eq (e ∷ es) k v ≡ e ∷ es
+    by true p rest =
+        let same = same_Some e.1 v (sym (ap (λ b. cond b (Some e.1) (lookup (eq k) es)) p) ∙ h) in
+        ap (λ b. if b then (e.0, v) ∷ es else (e ∷ insert_entry eq es k v)) p ∙ ap (λ w. (e.0, w) ∷ es) (sym same)
+    by false p rest =
+        ap (λ b. if b then (e.0, v) ∷ es else (e ∷ insert_entry eq es k v)) p ∙ ap (λ l. e ∷ l) (rest (sym (ap (λ b. cond b (Some e.1) (lookup (eq k) es)) p) ∙ h))
 
 -- the row of the entry at an index is that of its key
 pub slice_get-rows : {K V : Type 0} (row : K → Row) (info : V → FlagComputation) (es : List (K × V)) (i : ℕ) → slice_get (map (λ (e : Entry). e.row) (entries_by row info es)) i ≡ option_map row (slice_get (keys_of es) i)

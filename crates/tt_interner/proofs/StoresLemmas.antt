@@ -5,7 +5,7 @@ use Rattle.tt_index.specs.declared.refusal.Refusal.{Refusal}
 use Rattle.tt_index.specs.declared.refusal.Refusal.TheVariants.{Memory, TableFull, GreatestIndex}
 use Rattle.tt_kinds.specs.Shape.{fill, IsTooDeep}
 use Rattle.tt_interner.specs.Rows.{Row, row_table, row_shape, table, size, meaning, IsNew, AreRows, Grows}
-use Rattle.tt_interner.specs.Stored.{Terms, IsAt, IsCause, Stores, Adds, Builds}
+use Rattle.tt_interner.specs.Stored.{Terms, IsAt, IsCause, Stores, Adds, Puts, Builds}
 use Rattle.tt_interner.proofs.RowLaws.{row-new, meaning-new}
 use Rattle.tt_interner.proofs.Growth.{Grows-refl}
 use Rattle.tt_interner.proofs.Trees.{Means-row, IsNew-row, distinct}
@@ -116,6 +116,12 @@ module _ {H : Type 0} (number : H → ℕ) (old : Terms) (r : Row) (are : AreRow
     deep = λ deep. absurd (shallow deep);
     full = λ n s past. adds.full past;
   }
+
+-- the row was there, or it was not
+pub Builds-put : {H : Type 0} (number : H → ℕ) (old : Terms) (r : Row) → AreRows old.rows → (result : Result H Refusal) (new : Terms) → (IsTooDeep (row_shape r) → ⊥)
+    → Puts result number old new r → Builds result number old new r
+Builds-put number old r are result new shallow (inl f) = rw (f.1, f.3) (Builds-found number old r are f.0 f.2)
+Builds-put number old r are result new shallow (inr a) = Builds-added number old r are result new a.0 shallow a.1
 
 module _ {H : Type 0} (number : H → ℕ) (old : Terms) (r : Row) where
   -- the row was added

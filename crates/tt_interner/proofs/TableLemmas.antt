@@ -1,5 +1,5 @@
 -- What the tables hold, once an entry comes.
-use Rattle.std.proofs.Common.{◌≡◌, ℕ, zero, suc, ◌+◌, ◌<◌, ◌≤◌, ⊎_elim, Bool, true, false, List, [], ◌∷◌, ◌++◌, length, map, slice_get, reverse, position, Some, None, Result, Ok, Err, ◌⊎◌, refl, sym, ap, subst, ◌∙◌, arith}
+use Rattle.std.proofs.Common.{◌≡◌, ℕ, zero, suc, ◌+◌, ◌<◌, ◌≤◌, ⊎_elim, Bool, true, false, List, [], ◌∷◌, ◌++◌, length, map, slice_get, reverse, position, Option, Some, None, Result, Ok, Err, ◌⊎◌, refl, sym, ap, subst, ◌∙◌, arith}
 use Rattle.std.proofs.lemmas.List.{length_push, reverse-append, length-map, map-append}
 use Rattle.std.proofs.lemmas.Bool.{cases_lt, false≢true}
 use Rattle.std.proofs.lemmas.Option.{slice_get_within, same_Some, none-some}
@@ -8,7 +8,9 @@ use Rattle.std.specs.Option.{option_map}
 use Rattle.std.specs.Map.{keys_of, values_of, lookup}
 use Rattle.tt_kinds.specs.declared.table.Table.{Table}
 use Rattle.tt_kinds.specs.declared.table.Table.TheVariants.{Types, Consts, Patterns, Predicates, Existentials, ClauseLists, TypeLists, ConstLists, ArgLists, PatternLists, VarLists, ExistentialLists, AssumptionLists, Symbols, Declarations}
+use Rattle.tt_flags.specs.FlagComputation.{computed}
 use Rattle.tt_flags.specs.declared.flag_computation.FlagComputation.{FlagComputation}
+use Rattle.tt_kinds.specs.Tree.{Tree, Depth}
 use Rattle.tt_index.specs.declared.refusal.Refusal.{Refusal}
 use Rattle.tt_index.specs.declared.refusal.Refusal.TheVariants.{Memory, TableFull}
 use Rattle.tt_kinds.specs.Label.{clause_list_label, list_label, var_list_label, text_label}
@@ -19,7 +21,8 @@ use Rattle.tt_interner.specs.Tables.{Entry, Tables, entries_of, with_entries, pu
 use Rattle.tt_interner.proofs.RowLaws.{in_table, is_in_own, table-other, table-new, meaning-old, meaning-new, slice_get-push_before, slice_get-push_last, row-old}
 use Rattle.tt_interner.proofs.InfoLemmas.{info_node, info_term, infos_none}
 use Rattle.tt_interner.proofs.StoresLemmas.{Adds-ok, Adds-err}
-use Rattle.tt_interner.proofs.FoundLemmas.{slice_get-rows, IsKey, found_row, new_row, absent_row, IsNew-from_table, IsNew-table}
+use Rattle.tt_interner.proofs.Trees.{Means-row}
+use Rattle.tt_interner.proofs.FoundLemmas.{no_value, value_place, slice_get-rows, IsKey, found_row, new_row, absent_row, IsNew-from_table, IsNew-table}
 
 -- The only lemmas with a line for each table.
 
@@ -193,6 +196,14 @@ module _ {K V : Type 0} (rows : List Row) (ts : Tables) (limit : ℕ) (are : Are
     pub not_there : IsNew r rows → lookup test es ≡ None
     not_there new = absent_row test row info r key es (subst (IsNew r) has_rows (IsNew-table r rows t new))
 
+    -- the row is there, or it is new
+    pub found_or_absent : {P : Type 0} → ((n : ℕ) → position test (keys_of es) ≡ Some n → IsAt rows r n → P) → (position test (keys_of es) ≡ None → IsNew r rows → P) → P
+    found_or_absent {P} there new = by (position test (keys_of es)) refl
+      where
+        by : (p : Option ℕ) → position test (keys_of es) ≡ p → P
+        by (Some n) place = there n place (found n place)
+        by None nowhere = new nowhere (absent (no_value test es nowhere))
+
   -- the row of a key
   pub key_row : (n : ℕ) (k : K) → row_table (row k) ≡ t → slice_get (keys_of es) n ≡ Some k → IsAt rows (row k) n
   key_row n k own e = subst (λ u. slice_get (table u rows) n ≡ Some (row k)) (sym own) (ap (λ l. slice_get l n) has_rows ∙ slice_get-rows row info es n ∙ ap (option_map row) e)
@@ -207,6 +218,20 @@ pub info_within : {K : Type 0} (rows : List Row) (ts : Tables) (limit : ℕ) →
     → (n : ℕ) (i : FlagComputation) → slice_get (values_of es) n ≡ Some i → IsInfo i (meaning rows t n)
 info_within rows ts limit are t row es is n i e =
     (are.infos t).each n i (ap (λ l. slice_get (map (λ (x : Entry). x.info) l) n) is ∙ slice_get-infos row es n ∙ e)
+
+-- there is one info of a tree
+info_same : (a b : FlagComputation) (t : Tree Depth) → IsInfo a t → IsInfo b t → a ≡ b
+info_same a b t x y = ap (λ n. computed n a.outer_exclusive_binder) (x.flags ∙ sym y.flags) ∙ ap (computed b.flags.bits) (x.outer ∙ sym y.outer)
+
+-- what is kept beside a kind that is there is its info
+pub same_info : {K : Type 0} (rows : List Row) (ts : Tables) (limit : ℕ) → AreTables rows ts limit → (t : Table) (row : K → Row) (es : List (K × FlagComputation)) → entries_of ts t ≡ entries_by row (λ v. v) es
+    → (test : K → Bool) (r : Row) → row_table r ≡ t → IsKey test row r → (v i : FlagComputation) → lookup test es ≡ Some v → IsInfo i (fill (meaning rows) (row_shape r)) → v ≡ i
+same_info rows ts limit are t row es is test r own key v i h info =
+    let place = value_place test es v h in
+    let at = found rows ts limit are t row (λ x. x) es is test r own key place.0 place.1 in
+    let kept = info_within rows ts limit are t row es is place.0 v place.2 in
+    let means = (Means-row rows are.are (row_table r) place.0 r at).tree in
+    info_same v i (meaning rows t place.0) kept (subst (IsInfo i) (sym means ∙ ap (λ u. meaning rows u place.0) own) info)
 
 -- one entry more
 pub entries_by-push : {K V : Type 0} (row : K → Row) (info : V → FlagComputation) (es : List (K × V)) (k : K) (v : V) → entries_by row info (es ++ (k, v) ∷ []) ≡ entries_by row info es ++ (record { row = row k; info = info v }) ∷ []
@@ -250,6 +275,12 @@ module _ (order order' : List Table) (ts ts' : Tables) (limit : ℕ) (counters :
     pub added : {H : Type 0} (number : H → ℕ) (h : H) → number h ≡ n → Adds (Ok h) number old (record { rows = rows_in_order order' ts'; limit = limit; counters = counters }) e.row
     added number h same = rw (← view_is) (Adds-ok number (record { rows = rows_in_order order ts; limit = limit; counters = counters }) e.row h (record { rows = rows_in_order order' ts'; limit = limit; counters = counters })
         (ap (λ o. rows_in_order o ts') noted ∙ rows_added order ts ts' e is) (same ∙ last) (omega arith) refl refl)
+
+  pub unchanged : (order' ≡ order) → ts' ≡ ts → record { rows = rows_in_order order' ts'; limit = limit; counters = counters } ≡ old
+  unchanged same_order same = rw (same_order, same) view_is
+
+  pub still_kept : (order' ≡ order) → ts' ≡ ts → Keeps order' ts' limit
+  still_kept same_order same = rw (same_order, same) keeps
 
   pub refused : (order' ≡ order) → ts' ≡ ts → {H G : Type 0} (number : H → ℕ) (r : Row) (result : Result G Refusal) (e : Refusal) (count : ℕ) → result ≡ Err e → count ≡ size (rows_in_order order ts) (row_table r)
       → (e ≡ Memory) ⊎ ((e ≡ TableFull) × (limit ≤ count)) → (limit ≤ count → result ≡ Err TableFull) → IsNew r old.rows → Adds (Err e) number old (record { rows = rows_in_order order' ts'; limit = limit; counters = counters }) r

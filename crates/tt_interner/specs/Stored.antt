@@ -89,6 +89,10 @@ pub record Adds {H : Type 0} (result : Result H Refusal) (number : H → ℕ) (o
   pub cause : IfErr result (IsCause old r)
   pub full : old.limit ≤ size old.rows (row_table r) → result ≡ Err TableFull
 
+-- the row r was there, and nothing changed; or it was added or refused as a new one
+abbrev pub Puts : {H : Type 0} → Result H Refusal → (H → ℕ) → Terms → Terms → Row → Type 0
+Puts {H} result number old new r = ((h : H) × (result ≡ Ok h) × IsAt old.rows r (number h) × (new ≡ old)) ⊎ (IsNew r old.rows × Adds result number old new r)
+
 -- the result is the handle of the row r, which is added if it is new
 pub record Builds {H : Type 0} (result : Result H Refusal) (number : H → ℕ) (old new : Terms) (r : Row) : Type 0 where
   pub in_range : IfOk result (λ h. number h < size new.rows (row_table r))

@@ -1,11 +1,11 @@
 //! The tables, and the order in which their entries came.
-ghost use Rattle.std.specs.Prelude.{◌≡◌, ◌⊎◌, ◌<◌, ◌≤◌, [], ◌∷◌, ◌++◌, None, Some, IfOk, OnOk, OnErr, IfErr, slice_get, length};
+ghost use Rattle.std.specs.Prelude.{◌≡◌, ℕ, ◌⊎◌, ◌<◌, ◌≤◌, [], ◌∷◌, ◌++◌, None, Some, IfOk, OnOk, OnErr, IfErr, slice_get, length};
 ghost use Rattle.std.specs.Map.{lookup};
 ghost use Rattle.std.specs.Cmp.Lexicographic.{pointwise};
 ghost use Rattle.std.specs.Str.{bytes_eq};
 ghost use Rattle.std.specs.String.{string_bytes};
 ghost use Rattle.tt_interner.specs.Tables.{listed_by, no_info};
-ghost use Rattle.indexmap.specs.IndexMap.{get, keys, values, index_map_len};
+ghost use Rattle.indexmap.specs.IndexMap.{get, index_of, keys, values, index_map_len};
 
 use indexmap::IndexMap;
 use std::alloc::Global;
@@ -69,6 +69,62 @@ pub(crate) fn add_kind<K: Copy + Eq + Hash + Drop>(
     ensures full { limit ≤ length entries.old.entries → result ≡ Err Refusal.TableFull }
 {
     add(order, limit, table, entries, *kind, info)
+}
+
+/// Finds a kind in a table of kinds that has at most `limit`, or adds it as `add` does, by one look-up where there is room. What is there
+/// has the same information beside it. Answers the entry's number.
+pub(crate) fn find_or_add<K: Copy + Eq + Hash + Drop>(
+    order: &mut Vec<Table>,
+    limit: u32,
+    table: Table,
+    entries: &mut IndexMap<K, FlagComputation>,
+    kind: &K,
+    info: FlagComputation,
+) -> Result<u32, Refusal>
+    requires few { length entries.old.entries ≤ limit }
+    requires same { (there : FlagComputation) → get K.eq entries.old kind.now ≡ Some there → there ≡ info }
+    ensures found { (n : ℕ) → index_of K.eq entries.old kind.now ≡ Some n → (result ≡ Ok n) × (order.new.items ≡ order.old.items) × (entries.new.entries ≡ entries.old.entries) }
+    ensures order { index_of K.eq entries.old kind.now ≡ None → OnOk result (order.new.items ≡ order.old.items ++ table ∷ []) }
+    ensures entries { index_of K.eq entries.old kind.now ≡ None → OnOk result (entries.new.entries ≡ entries.old.entries ++ (kind.now, info) ∷ []) }
+    ensures number { index_of K.eq entries.old kind.now ≡ None → IfOk result (λ n. (n ≡ length entries.old.entries) × (n < limit)) }
+    ensures order_stays { OnErr result (order.new.items ≡ order.old.items) }
+    ensures entries_stay { OnErr result (entries.new.entries ≡ entries.old.entries) }
+    ensures cause { IfErr result (λ e. (e ≡ Refusal.Memory) ⊎ ((e ≡ Refusal.TableFull) × (limit ≤ length entries.old.entries))) }
+    ensures full { index_of K.eq entries.old kind.now ≡ None → limit ≤ length entries.old.entries → result ≡ Err Refusal.TableFull }
+{
+    if entries.len() >= limit as usize {
+        return find_or(entries, kind, Refusal::TableFull);
+    }
+    match order.reserve(1) {
+        Ok(()) => {}
+        Err(_) => return find_or(entries, kind, Refusal::Memory),
+    }
+    match entries.insert_full(*kind, info) {
+        Ok((number, Some(_))) => Ok(number as u32),
+        Ok((number, None)) => match order.push(table) {
+            Ok(()) => Ok(number as u32),
+            Err(_) => unreachable!(),
+        },
+        Err(_) => Err(Refusal::Memory),
+    }
+}
+
+// The number of a kind in a table of kinds, and the refusal where it isn't there.
+#[inline(never)]
+fn find_or<K: Copy + Eq + Hash + Drop>(
+    entries: &IndexMap<K, FlagComputation>,
+    kind: &K,
+    refusal: Refusal,
+) -> Result<u32, Refusal>
+    requires { length entries.now.entries ≤ 4294967295 }
+    ensures found { (n : ℕ) → index_of K.eq entries.now kind.now ≡ Some n → result ≡ Ok n }
+    ensures absent { index_of K.eq entries.now kind.now ≡ None → result ≡ Err refusal }
+    ensures cause { IfErr result (λ e. e ≡ refusal) }
+{
+    match entries.get_index_of(kind) {
+        Some(number) => Ok(number as u32),
+        None => Err(refusal),
+    }
 }
 
 /// Adds a new list to a table of lists, as `add`.

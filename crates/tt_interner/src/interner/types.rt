@@ -1,38 +1,28 @@
 //! Types.
 
-ghost use Rattle.std.specs.Prelude.{◌≡◌, ◌<◌, MatchOption};
+ghost use Rattle.std.specs.Prelude.{◌≡◌, ◌<◌};
 ghost use Rattle.tt_kinds.specs.Shape.{HasParts, IsTooDeep};
 ghost use Rattle.tt_kinds.specs.Kinds.{ty_kind_shape};
-ghost use Rattle.tt_interner.specs.Rows.{type_row, size, meaning, IsNew};
-ghost use Rattle.tt_interner.specs.Stored.{IsAt, IsInfo, Adds, Builds};
+ghost use Rattle.tt_interner.specs.Rows.{type_row, size, meaning};
+ghost use Rattle.tt_interner.specs.Stored.{IsAt, IsInfo, Puts, Builds};
 
 use super::Interner;
 use crate::flags::{ForKind, OwnFlags};
-use crate::tables::{add_kind, info_at, key_at};
+use crate::tables::{find_or_add, info_at, key_at};
 use tt_flags::FlagComputation;
 use tt_index::Refusal;
 use tt_kinds::{Table, Ty, TyKind};
 
 impl Interner {
-    // The type of this kind, if it is stored.
-    fn find_ty(&self, kind: &TyKind) -> Option<Ty>
-        ensures { MatchOption result (IsNew (type_row kind.now) self.now.rows) (λ ty. IsAt self.now.rows (type_row kind.now) ty.number) }
-    {
-        match self.types.get_index_of(kind) {
-            Some(number) => Some(Ty::from_number(number as u32)),
-            None => None,
-        }
-    }
-
-    // Stores a new type.
-    fn add_ty(&mut self, kind: &TyKind) -> Result<Ty, Refusal>
+    // Finds a type of this kind, or stores it.
+    #[inline(never)]
+    fn put_ty(&mut self, kind: &TyKind) -> Result<Ty, Refusal>
         requires parts { HasParts (size self.old.rows) (ty_kind_shape kind.now) }
         requires shallow { IsTooDeep (ty_kind_shape kind.now) → ⊥ }
-        requires is_new { IsNew (type_row kind.now) self.old.rows }
-        ensures { Adds result (λ ty. ty.number) self.old self.new (type_row kind.now) }
+        ensures { Puts result (λ ty. ty.number) self.old self.new (type_row kind.now) }
     {
         let info = FlagComputation::for_kind(self, kind);
-        let number = match add_kind(
+        let number = match find_or_add(
             &mut self.order,
             self.limit,
             Table::Types,
@@ -50,6 +40,7 @@ impl Interner {
     ///
     /// It is refused with `GreatestIndex` where the kind is a bound variable with the greatest index, with `TableFull` where
     /// the type is new and the table has as many rows as it may have, and with `Memory`.
+    #[inline(always)]
     pub fn mk_ty(&mut self, kind: TyKind) -> Result<Ty, Refusal>
         requires { HasParts (size self.old.rows) (ty_kind_shape kind) }
         ensures { Builds result (λ ty. ty.number) self.old self.new (type_row kind) }
@@ -58,10 +49,7 @@ impl Interner {
         if kind.is_too_deep() {
             return Err(Refusal::GreatestIndex);
         }
-        match self.find_ty(&kind) {
-            Some(ty) => Ok(ty),
-            None => self.add_ty(&kind),
-        }
+        self.put_ty(&kind)
     }
 
     /// A type's kind, in the interner's memory. The type has to be of this interner; [`Interner::owns_ty`] tests it.
