@@ -1,11 +1,13 @@
 //! What the contracts don't say: printed lines, reading and writing, and that calls succeed where memory is ample.
 
-mod errors;
+mod declarations;
 mod env;
+mod errors;
 mod every_kind;
 mod faults;
 mod kinds;
 mod library;
+mod orders;
 mod owned;
 mod spelling;
 mod users;

@@ -1,6 +1,6 @@
 //! Which token the queries of errors answer.
 
-use super::owned::{NOT_OWNED, Owned, holds, interner, ref_ty, ty, u32_ty};
+use super::owned::{NOT_OWNED, Owned, holds_anew, ref_ty, ty, u32_ty};
 use crate::{ErrorGuaranteed, Interner, Refusal, Region, RegionKind, Ty, TyKind, TypeVisitableExt};
 
 // `&'e7 u32`, whose region is an error.
@@ -34,10 +34,7 @@ fn first_error_of_a_pair_holds(cx: &mut Interner) -> Result<bool, Refusal> {
 
 #[test]
 fn first_error_of_a_pair(rt: HostRuntime) {
-    holds(
-        &rt,
-        first_error_of_a_pair_holds(&mut interner(&rt, rt.alloc())),
-    );
+    holds_anew(&rt, rt.alloc(), first_error_of_a_pair_holds);
 }
 
 // An error of a region alone is none where others are asked for.
@@ -48,5 +45,5 @@ fn error_of_a_region_holds(cx: &mut Interner) -> Result<bool, Refusal> {
 
 #[test]
 fn error_of_a_region(rt: HostRuntime) {
-    holds(&rt, error_of_a_region_holds(&mut interner(&rt, rt.alloc())));
+    holds_anew(&rt, rt.alloc(), error_of_a_region_holds);
 }
