@@ -6,7 +6,7 @@ use Rattle.tt_kinds.specs.Tree.{Depth, Tree, Forest, term, binder}
 use Rattle.tt_kinds.specs.Param.{holds_param, holds_param_among}
 use Rattle.tt_kinds.proofs.ChildLaws.{HidesRegionVars_among, HidesRegionVars-also, HidesRegionVars-term}
 use Rattle.tt_visit.specs.Root.{error_of}
-use Rattle.tt_visit.specs.Visit.{TellingBreaks, GoesOver, GoesInside, GoesOverAll, region_seen, skipped, went_inside, unhooked_seen, node_seen, binder_skipped, binder_seen, term_seen, param_seen, bound_seen, value_seen, all_seen, one_seen, Breaks, BreaksInside, BreaksAll, region_broke, term_broke, inside_broke, unhooked_broke, node_broke, enter_broke, under_broke, error_broke, term_inside_broke, value_broke, first_broke, later_broke}
+use Rattle.tt_visit.specs.Visit.{TellingBreaks, GoesOver, GoesInside, GoesOverAll, region_seen, skipped, went_inside, unhooked_seen, token_seen, node_seen, binder_skipped, binder_seen, term_seen, param_seen, bound_seen, value_seen, all_seen, one_seen, Breaks, BreaksInside, BreaksAll, region_broke, term_broke, inside_broke, unhooked_broke, token_broke, node_broke, enter_broke, under_broke, error_broke, term_inside_broke, value_broke, first_broke, later_broke}
 use Rattle.tt_visit.specs.declared.visitor.Next.TheVariants.{Skip, Descend}
 use Rattle.tt_binder.specs.Instantiation.{IsInnerConst}
 use Rattle.tt_binder.specs.Untouched.{IsUntouched, passed_by, entered, untouched_visits}
@@ -54,6 +54,7 @@ mutual
   over_untouched {t} (skipped e (passed_by kind none)) = (none, hides_none t kind none)
   over_untouched (went_inside e (entered kind) w) = const_untouched w kind
   over_untouched (unhooked_seen {l} {ts} e w) = term_left l ts (all_untouched w)
+  over_untouched (token_seen h) = (refl, λ x h. h)
   over_untouched (node_seen e w) = all_untouched w
   over_untouched (binder_skipped h) = absurd (skip_descend (sym h))
   over_untouched (binder_seen h w l) = inside_untouched w
@@ -81,6 +82,7 @@ mutual
   breaks_touched {t} (term_broke e h) left = true_false (holds_param t) h left.0
   breaks_touched (inside_broke e (entered kind) w) left = const_touched w kind left
   breaks_touched (unhooked_broke {l} {ts} e w) left = all_touched w (left_among l ts (passed-gone (term l ts) e) left)
+  breaks_touched (token_broke h) left = h
   breaks_touched (node_broke e w) left = all_touched w left
   breaks_touched (enter_broke h) left = h
   breaks_touched (under_broke h w l) left = inside_touched w left

@@ -5,6 +5,7 @@ mod WalkLaws
 mod CoreSteps
 mod FoldSteps
 mod ValueSteps
+mod BareLaws
 mod RecordSteps
 mod VecSteps
 pub mod ClauseLaws

@@ -1,6 +1,7 @@
 //! Folds: a term taken apart, changed and built again.
 #![tactic(auto)]
 
+mod bare;
 mod containers;
 pub mod core_folder;
 pub mod foldable;

@@ -140,7 +140,7 @@ fn is_absent(child: &Child) -> bool
 // The walk of parts, under their binder if they have one.
 #[cycle(fold)]
 #[inline(always)]
-fn fold_contents<M, F: Core<M>>(
+pub(crate) fn fold_contents<M, F: Core<M>>(
     cx: &mut Interner,
     folder: &mut F,
     binder: Option<BoundVarKinds>,

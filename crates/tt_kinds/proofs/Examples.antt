@@ -17,6 +17,9 @@ use Rattle.tt_kinds.specs.Plain.{shift_tree, inst_tree}
 use Rattle.tt_kinds.specs.Matched.{MatchedUnder}
 use Rattle.tt_kinds.specs.Met.{met, placed}
 use Rattle.tt_kinds.specs.Scan.{scan}
+use Rattle.tt_kinds.specs.Shape.{Meaning, fill}
+use Rattle.tt_kinds.specs.Bare.{token_shape, bare_ty_shape}
+use Rattle.tt_kinds.specs.declared.ty_kind.TyKind.TheVariants as ty
 use Rattle.tt_kinds.specs.Cause.{Cause}
 
 -- types without parts
@@ -417,3 +420,16 @@ hidden_variable h = elim h.1.0 [ inl x ↦ elim x [ inl a ↦ a | inr y ↦ elim
 
 shown_variable : Cause (of_args (const_label (unevaluated_const 0)) (also (region (region_var 0)) none)) (type_arg i32 ∷ []) (RegionVariable 0)
 shown_variable = ((λ e. cc), (tt, inl (inl refl)))
+
+-- a kind that isn't stored has no flag of its own, and a token of an error has those of both sorts
+token_says : (f : Meaning) → Says (fill f (token_shape 3)) 0x18000 0
+unfolding fill
+token_says f = (refl, refl)
+
+bare_error_says : (f : Meaning) → Says (fill f (bare_ty_shape (ty.Error (record { 0 = 3 })))) 0x18000 0
+unfolding fill
+bare_error_says f = (refl, refl)
+
+bare_param_says : (f : Meaning) → Says (fill f (bare_ty_shape (ty.Param (record { index = 0; name = record { number = 0 } })))) 0 0
+unfolding fill
+bare_param_says f = (refl, refl)

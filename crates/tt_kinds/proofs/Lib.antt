@@ -13,4 +13,5 @@ pub mod CauseLaws
 pub mod ChildLaws
 pub mod FormLaws
 pub mod ValueLaws
+pub mod BareLaws
 pub mod Examples

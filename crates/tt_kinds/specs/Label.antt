@@ -1,7 +1,7 @@
 -- The data of nodes and leaves. No law on trees looks into a label: only the questions at the end do.
 -- N is how a symbol is named: by its text in trees, and by its number where a term is stored.
 use Rattle.std.specs.Prelude.{ℕ, List, [], ◌∷◌, Bool, true, false, Option, Some, None}
-use Rattle.tt_flags.specs.TypeFlags.{has_ty_infer, has_ct_infer, has_ty_placeholder, has_ct_placeholder, has_ty_projection, has_ty_free_alias, has_ty_opaque, has_ty_inherent, has_ct_projection, has_non_region_error, has_ty_fresh, has_ct_fresh, has_binder_vars, has_ty_coro}
+use Rattle.tt_flags.specs.TypeFlags.{has_ty_infer, has_ct_infer, has_ty_placeholder, has_ct_placeholder, has_ty_projection, has_ty_free_alias, has_ty_opaque, has_ty_inherent, has_ct_projection, has_non_region_error, has_error, has_ty_fresh, has_ct_fresh, has_binder_vars, has_ty_coro}
 use Rattle.tt_index.specs.declared.numeric.IntTy.{IntTy}
 use Rattle.tt_index.specs.declared.numeric.UintTy.{UintTy}
 use Rattle.tt_index.specs.declared.numeric.FloatTy.{FloatTy}
@@ -145,6 +145,11 @@ pub data RecordLabel (N : Type 0) : Type 0 where
   fn_sig_record : FnSigKind → RecordLabel N
   param_env_record : RecordLabel N
   witness_types_record : RecordLabel N
+  -- kinds of types and constants that aren't stored: a parameter's, a bound variable's, whose index is none where it is canonical, and others
+  bare_param_record : Sort → ℕ → N → RecordLabel N
+  bare_bound_record : Sort → Option ℕ → Entry N → RecordLabel N
+  bare_type_record : TypeLabel → RecordLabel N
+  bare_const_record : ConstLabel → RecordLabel N
 
 -- a node's kind, with all its data that are no terms
 pub data Label (N : Type 0) : Type 0 where
@@ -161,6 +166,8 @@ pub data Label (N : Type 0) : Type 0 where
   -- its place among the declarations, what is declared, and its name
   declaration_label : ℕ → DeclarationKind → N → Label N
   record_label : RecordLabel N → Label N
+  -- the token of an error that is no stored term's
+  error_label : ℕ → Label N
 
 -- the label is a type's
 abbrev pub is_type : {N : Type 0} → Label N → Bool
@@ -243,6 +250,17 @@ flags_of_label (var_list_label vs) = list_flags vs
 flags_of_label (text_label bytes) = 0
 flags_of_label (declaration_label n k name) = 0
 flags_of_label (record_label l) = 0
+flags_of_label (error_label e) = has_error
+
+-- the error that a type's label tells of
+abbrev pub error_of_type : TypeLabel → Option ℕ
+error_of_type (error_type e) = Some e
+error_of_type _ = None
+
+-- the error that a constant's label tells of
+abbrev pub error_of_const : ConstLabel → Option ℕ
+error_of_const (error_const e) = Some e
+error_of_const _ = None
 
 -- the table that terms of the label are stored in
 abbrev pub label_table : {N : Type 0} → Label N → Option Table
@@ -257,3 +275,4 @@ label_table (var_list_label vs) = Some VarLists
 label_table (text_label bytes) = Some Symbols
 label_table (declaration_label n k name) = Some Declarations
 label_table (record_label l) = None
+label_table (error_label e) = None

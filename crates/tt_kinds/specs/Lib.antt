@@ -22,3 +22,4 @@ pub mod Shape
 pub mod Parts
 pub mod Kinds
 pub mod Values
+pub mod Bare

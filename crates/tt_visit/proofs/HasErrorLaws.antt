@@ -5,7 +5,7 @@ use Rattle.std.specs.Prelude.{Option, Some, None, bit_and, ⊤}
 use Rattle.std.specs.Int.Bits.{and_zero_r}
 use Rattle.std.specs.Option.{option_or}
 use Rattle.tt_flags.specs.TypeFlags.{has_error, has_non_region_error}
-use Rattle.tt_kinds.specs.Label.{Name, Sort, region_sort, type_sort, const_sort, VarKind, FreeRegion, error_region, Label, type_label, const_label, var_list_label, TypeLabel, ConstLabel, infer_type, error_type, alias_type, infer_const, error_const, list_flags, flags_of_label, flags_of_type, flags_of_const}
+use Rattle.tt_kinds.specs.Label.{error_label, Name, Sort, region_sort, type_sort, const_sort, VarKind, FreeRegion, error_region, Label, type_label, const_label, var_list_label, TypeLabel, ConstLabel, infer_type, error_type, alias_type, infer_const, error_const, list_flags, flags_of_label, flags_of_type, flags_of_const, error_of_type, error_of_const}
 use Rattle.tt_kinds.specs.Tree.{Depth, at, canonical, Tree, Forest, param, bound, region, term, node, binder, none, also}
 use Rattle.tt_kinds.specs.Scan.{scan, scan_all, param_flags, bound_flags, index_flags, region_flags}
 use Rattle.tt_kinds.specs.declared.alias.AliasTyKind.{AliasTyKind}
@@ -15,8 +15,8 @@ use Rattle.tt_kinds.specs.declared.const_kind.InferConst.TheVariants.{Var, Fresh
 use Rattle.tt_kinds.specs.declared.ty_kind.InferTy.{InferTy}
 use Rattle.tt_kinds.specs.declared.ty_kind.InferTy.TheVariants.{TyVar, IntVar, FloatVar, FreshTy, FreshIntTy, FreshFloatTy}
 use Rattle.tt_kinds.specs.declared.error_guaranteed.ErrorGuaranteed.{ErrorGuaranteed}
-use Rattle.tt_visit.specs.Root.{a_part, node_root, error_of, error_of_type, error_of_const}
-use Rattle.tt_visit.specs.Visit.{Tells, TellingBreaks, GoesOver, GoesOverAll, region_seen, skipped, went_inside, unhooked_seen, node_seen, binder_skipped, binder_seen, term_seen, param_seen, bound_seen, value_seen, all_seen, one_seen, Breaks, BreaksAll, region_broke, term_broke, inside_broke, unhooked_broke, node_broke, enter_broke, under_broke, error_broke, term_inside_broke, value_broke, first_broke, later_broke}
+use Rattle.tt_visit.specs.Root.{a_part, node_root, error_of}
+use Rattle.tt_visit.specs.Visit.{Tells, TellingBreaks, GoesOver, GoesOverAll, region_seen, skipped, went_inside, unhooked_seen, token_seen, node_seen, binder_skipped, binder_seen, term_seen, param_seen, bound_seen, value_seen, all_seen, one_seen, Breaks, BreaksAll, region_broke, term_broke, inside_broke, unhooked_broke, token_broke, node_broke, enter_broke, under_broke, error_broke, term_inside_broke, value_broke, first_broke, later_broke}
 use Rattle.tt_visit.specs.HasTypeFlags.{Misses, Meets}
 use Rattle.tt_visit.specs.HasError.{error_of_region, first_error, first_error_among, error_hooks}
 use Rattle.tt_visit.proofs.HasTypeFlagsLaws.{bits-left, bits-right, bits-both}
@@ -68,11 +68,13 @@ label-errorless : (l : Label Name) → error_of l ≡ None → Misses has_error 
 label-errorless (type_label l) is = type-errorless l is
 label-errorless (const_label l) is = const-errorless l is
 label-errorless (var_list_label vs) is = vars-errorless vs
+label-errorless (error_label e) is = let never = is in cc
 label-errorless _ is = refl
 
 label-tokenless : (l : Label Name) → Misses has_error (flags_of_label l) → error_of l ≡ None
 label-tokenless (type_label l) h = type-tokenless l h
 label-tokenless (const_label l) h = const-tokenless l h
+label-tokenless (error_label e) h = let never = h in cc
 label-tokenless _ h = refl
 
 region-errorless : (r : FreeRegion Name) → error_of_region r ≡ None → Misses has_error (region_flags r)
@@ -156,6 +158,7 @@ told s s' (Some n) b h = ap Some h
 part-tokenless : (l : Label Name) → node_root l ≡ a_part → error_of l ≡ None
 part-tokenless (type_label l) is = cc
 part-tokenless (const_label l) is = cc
+part-tokenless (error_label e) is = cc
 part-tokenless _ is = refl
 
 mutual
@@ -171,6 +174,7 @@ mutual
   goes-tokenless s s' (region r) (went_inside is h inside) = elim inside [ ]
   goes-tokenless s s' (node l ts) (went_inside is h inside) = elim inside [ ]
   goes-tokenless s s' (term l ts) (unhooked_seen is all) = both-none (error_of l) (first_error_among ts) (no-error l is) (goes_all-tokenless s s' ts all)
+  goes-tokenless s s' (node (error_label e) none) (token_seen h) = absurd h
   goes-tokenless s s' (node l ts) (node_seen is all) = both-none (error_of l) (first_error_among ts) (part-tokenless l is) (goes_all-tokenless s s' ts all)
   goes-tokenless s s' (binder vs t) (binder_skipped e) = let never = e in cc
   goes-tokenless s s' (binder vs t) (binder_seen {s1 = s1} {s2 = s2} e (value_seen h) l) = goes-tokenless s1 s2 t h
@@ -198,6 +202,7 @@ mutual
   breaks-first s s' (region r) b (inside_broke is h inside) = elim inside [ ]
   breaks-first s s' (node l ts) b (inside_broke is h inside) = elim inside [ ]
   breaks-first s s' (term l ts) b (unhooked_broke is all) = second (error_of l) (first_error_among ts) b.0 (no-error l is) (breaks_all-first s s' ts b all)
+  breaks-first s s' (node (error_label e) none) b (token_broke h) = ap Some h
   breaks-first s s' (node l ts) b (node_broke is all) = second (error_of l) (first_error_among ts) b.0 (part-tokenless l is) (breaks_all-first s s' ts b all)
   breaks-first s s' (binder vs t) b (enter_broke e) = absurd e
   breaks-first s s' (binder vs t) b (under_broke {s1 = s1} {s2 = s2} e (value_broke h) l) = breaks-first s1 s2 t b h

@@ -2,12 +2,12 @@
 use Rattle.std.proofs.Common.{inl, inr, ◌≡◌, ℕ, ◌+◌, ◌-◌, ◌<◌, ◌≤◌, refl, ap, sym, ◌∙◌, arith}
 use Rattle.std.specs.Prelude.{⊤, false, ◌⊎◌}
 use Rattle.tt_index.specs.Greatest.{greatest}
-use Rattle.tt_kinds.specs.Label.{Name, Label, type_label, const_label, pattern_label, predicate_label, existential_label, clause_list_label, list_label, var_list_label, text_label, declaration_label, record_label}
+use Rattle.tt_kinds.specs.Label.{Name, Label, type_label, const_label, pattern_label, predicate_label, existential_label, clause_list_label, list_label, var_list_label, text_label, declaration_label, record_label, error_label}
 use Rattle.tt_kinds.specs.Tree.{Depth, Tree, Forest, param, bound, region, term, node, binder, none, also}
 use Rattle.tt_kinds.specs.Reading.{read, read_all, greatest_reach, greatest_reach_all, outer_binder}
 use Rattle.tt_kinds.proofs.OuterLaws.{greatest_reach-deeper}
 use Rattle.tt_visit.specs.Root.{Root, a_region, hooked, unhooked, a_part, no_term, root, term_root, node_root}
-use Rattle.tt_visit.specs.Visit.{GoesOver, GoesOverAll, region_seen, skipped, went_inside, node_seen, unhooked_seen, binder_skipped, binder_seen, value_seen, all_seen, one_seen, Breaks, BreaksAll, region_broke, term_broke, inside_broke, unhooked_broke, node_broke, enter_broke, under_broke, value_broke, first_broke, later_broke}
+use Rattle.tt_visit.specs.Visit.{GoesOver, GoesOverAll, region_seen, skipped, went_inside, token_seen, node_seen, unhooked_seen, binder_skipped, binder_seen, value_seen, all_seen, one_seen, Breaks, BreaksAll, region_broke, term_broke, inside_broke, unhooked_broke, token_broke, node_broke, enter_broke, under_broke, value_broke, first_broke, later_broke}
 use Rattle.tt_visit.specs.HasEscapingVars.{Search, search_hooks, range_hooks, ByHook, InRange, InRange_all}
 use Rattle.tt_visit.specs.declared.has_escaping_vars.FoundEscapingVars.{FoundEscapingVars}
 
@@ -66,6 +66,8 @@ no-leaf (declaration_label n k name) (inl e) = let never = e in cc
 no-leaf (declaration_label n k name) (inr e) = let never = e in cc
 no-leaf (record_label x) (inl e) = let never = e in cc
 no-leaf (record_label x) (inr e) = let never = e in cc
+no-leaf (error_label x) (inl e) = let never = e in cc
+no-leaf (error_label x) (inr e) = let never = e in cc
 
 -- no term is a region
 term-no-region : (l : Label Name) → term_root l ≡ a_region → ⊥
@@ -80,6 +82,7 @@ term-no-region (var_list_label x) e = let never = e in cc
 term-no-region (text_label x) e = let never = e in cc
 term-no-region (declaration_label n k name) e = let never = e in cc
 term-no-region (record_label x) e = let never = e in cc
+term-no-region (error_label x) e = let never = e in cc
 
 -- a region or a term with a hook, in range
 leaf-range : (t : Tree Depth) → (root t ≡ a_region) ⊎ (root t ≡ hooked) → outer_binder t ≤ greatest → InRange t
@@ -106,6 +109,7 @@ mutual
   goes-range s s' t (skipped is h) = leaf-range t (inr is) h.1
   goes-range s s' t (went_inside is h inside) = let never = h.0 in cc
   goes-range s s' (term l ts) (unhooked_seen is all) = inside-range l ts is (goes_all-range s s' ts all)
+  goes-range s s' (node (error_label e) none) (token_seen h) = tt
   goes-range s s' (node l ts) (node_seen is all) = goes_all-range s s' ts all
   goes-range s s' (binder vs t) (binder_skipped e) = cc
   goes-range s s' (binder vs t) (binder_seen {s1 = s1} {s2 = s2} e (value_seen h) l) = goes-range s1 s2 t h
@@ -120,6 +124,7 @@ mutual
   breaks-range s s' t b (term_broke is h) = h
   breaks-range s s' t b (inside_broke is h inside) = let never = h.0 in cc
   breaks-range s s' (term l ts) b (unhooked_broke is all) = breaks_all-range s s' ts b all
+  breaks-range s s' (node (error_label e) none) b (token_broke h) = h
   breaks-range s s' (node l ts) b (node_broke is all) = breaks_all-range s s' ts b all
   breaks-range s s' (binder vs t) b (enter_broke e) = e
   breaks-range s s' (binder vs t) b (under_broke {s1 = s1} {s2 = s2} e (value_broke h) l) = breaks-range s1 s2 t b h
@@ -143,6 +148,7 @@ mutual
   goes-passes s s' (term l ts) (unhooked_seen is all) =
       let inside = goes_all-passes s s' ts all in
       record { index = inside.index; unskipped = inside.unskipped; in_range = λ r. inside.in_range (range-inside l ts is r) }
+  goes-passes s s' (node (error_label e) none) (token_seen h) = rw h (record { index = refl; unskipped = λ e. (e, omega arith); in_range = λ r. omega arith })
   goes-passes s s' (node l ts) (node_seen is all) = goes_all-passes s s' ts all
   goes-passes s s' (binder vs t) (binder_skipped e) =
       rw e.1 (record { index = refl; unskipped = λ e. cc; in_range = λ r. low r })
@@ -184,6 +190,7 @@ mutual
   breaks-reaches s s' t b (term_broke is h) = h.1
   breaks-reaches s s' t b (inside_broke is h inside) = let never = h.1 in cc
   breaks-reaches s s' (term l ts) b (unhooked_broke is all) = breaks_all-reaches s s' ts b all
+  breaks-reaches s s' (node (error_label e) none) b (token_broke h) = absurd h
   breaks-reaches s s' (node l ts) b (node_broke is all) = breaks_all-reaches s s' ts b all
   breaks-reaches s s' (binder vs t) b (enter_broke e) = absurd e
   breaks-reaches s s' (binder vs t) b (under_broke {s1 = s1} {s2 = s2} e (value_broke h) l) =

@@ -6,9 +6,9 @@ use Rattle.std.specs.Int.Bits.{and_zero_r}
 use Rattle.std.proofs.lemmas.Nat.Bits.{bit_at_and, bit_at_or, bit_at-zero, same_from_bits}
 use Rattle.std.proofs.lemmas.Bool.{eqb-true}
 use Rattle.std.proofs.lemmas.Grind.{numeral_and}
-use Rattle.tt_kinds.specs.Label.{Name, TypeLabel, ConstLabel, Label, type_label, const_label, pattern_label, predicate_label, existential_label, clause_list_label, list_label, var_list_label, text_label, declaration_label, record_label, list_flags, flags_of_label, flags_of_type, flags_of_const, bool_type, char_type, int_type, uint_type, float_type, str_type, never_type, placeholder_type, infer_type, error_type, ref_type, raw_ptr_type, slice_type, tuple_type, fn_ptr_type, foreign_type, adt_type, array_type, pat_type, unsafe_binder_type, dynamic_type, closure_type, coroutine_closure_type, coroutine_type, coroutine_witness_type, alias_type, infer_const, placeholder_const, unevaluated_const, leaf_const, branch_const, error_const, expr_const}
+use Rattle.tt_kinds.specs.Label.{Name, TypeLabel, ConstLabel, Label, type_label, const_label, pattern_label, predicate_label, existential_label, clause_list_label, list_label, var_list_label, text_label, declaration_label, record_label, error_label, list_flags, flags_of_label, flags_of_type, flags_of_const, bool_type, char_type, int_type, uint_type, float_type, str_type, never_type, placeholder_type, infer_type, error_type, ref_type, raw_ptr_type, slice_type, tuple_type, fn_ptr_type, foreign_type, adt_type, array_type, pat_type, unsafe_binder_type, dynamic_type, closure_type, coroutine_closure_type, coroutine_type, coroutine_witness_type, alias_type, infer_const, placeholder_const, unevaluated_const, leaf_const, branch_const, error_const, expr_const}
 use Rattle.tt_kinds.specs.Tree.{Depth, Tree, Forest, term, node, binder, none, also}
-use Rattle.tt_flags.specs.TypeFlags.{has_binder_vars}
+use Rattle.tt_flags.specs.TypeFlags.{has_binder_vars, has_error}
 use Rattle.tt_kinds.specs.Shape.{Meaning, fill, vars_of}
 use Rattle.tt_kinds.specs.Kinds.{vars_row_shape}
 use Rattle.tt_kinds.specs.declared.bound.BoundVariableKind.{BoundVariableKind}
@@ -23,7 +23,7 @@ use Rattle.tt_kinds.specs.declared.ty_kind.InferTy.{InferTy}
 use Rattle.tt_kinds.specs.declared.ty_kind.InferTy.TheVariants.{TyVar, IntVar, FloatVar, FreshTy, FreshIntTy, FreshFloatTy}
 use Rattle.tt_kinds.proofs.FlagLaws.{param_bit, as_number, param_bit-scan}
 use Rattle.tt_visit.specs.Root.{term_root, node_root, unhooked, a_part}
-use Rattle.tt_visit.specs.Visit.{GoesOver, GoesOverAll, region_seen, skipped, went_inside, unhooked_seen, node_seen, binder_skipped, binder_seen, value_seen, all_seen, one_seen, Breaks, BreaksAll, region_broke, term_broke, inside_broke, unhooked_broke, node_broke, enter_broke, under_broke, value_broke, first_broke, later_broke}
+use Rattle.tt_visit.specs.Visit.{GoesOver, GoesOverAll, region_seen, skipped, went_inside, unhooked_seen, token_seen, node_seen, binder_skipped, binder_seen, value_seen, all_seen, one_seen, Breaks, BreaksAll, region_broke, term_broke, inside_broke, unhooked_broke, token_broke, node_broke, enter_broke, under_broke, value_broke, first_broke, later_broke}
 use Rattle.tt_visit.specs.HasTypeFlags.{Misses, Meets, flag_hooks}
 use Rattle.tt_visit.specs.declared.has_type_flags.FoundFlags.{FoundFlags}
 
@@ -79,6 +79,7 @@ part-flags m (var_list_label vs) is = cc
 part-flags m (text_label bytes) is = cc
 part-flags m (declaration_label n k name) is = cc
 part-flags m (record_label l) is = and_zero_r m
+part-flags m (error_label e) is = cc
 
 -- a term without a hook has no flags of its own
 pub unhooked-flags : (m : ℕ) (l : Label Name) → term_root l ≡ unhooked → Misses m (flags_of_label l)
@@ -93,6 +94,7 @@ unhooked-flags m (var_list_label vs) is = cc
 unhooked-flags m (text_label bytes) is = cc
 unhooked-flags m (declaration_label n k name) is = cc
 unhooked-flags m (record_label l) is = cc
+unhooked-flags m (error_label e) is = cc
 
 -- the flags of a binder's list, by what stands in it
 pub flags-of-none : (f : Meaning) (n : ℕ) (vs : List BoundVariableKind) → f VarLists n ≡ fill f (vars_row_shape vs) → (length vs == 0) ≡ true → list_flags (vars_of (f VarLists n)) ≡ 0
@@ -113,6 +115,7 @@ mutual
   goes-misses s s' t (went_inside is h inside) = let never = h.1 in cc
   goes-misses s s' (term l ts) (unhooked_seen is all) =
       let inside = goes_all-misses s s' ts all in (inside.0, bits-both s (flags_of_label l) (scan_all ts) (unhooked-flags s l is) inside.1)
+  goes-misses s s' (node (error_label e) none) (token_seen h) = (h.0, bits-both s has_error 0 h.1 (and_zero_r s))
   goes-misses s s' (node l ts) (node_seen is all) =
       let rest = goes_all-misses s s' ts all in (rest.0, bits-both s (flags_of_label l) (scan_all ts) (part-flags s l is) rest.1)
   goes-misses s s' (binder vs t) (binder_skipped e) = let never = e.1 in cc
@@ -132,6 +135,7 @@ mutual
   breaks-meets s s' t b (term_broke is h) = h.1
   breaks-meets s s' t b (inside_broke is h inside) = let never = h.1 in cc
   breaks-meets s s' (term l ts) b (unhooked_broke is all) = λ e. breaks_all-meets s s' ts b all (bits-right s (flags_of_label l) (scan_all ts) e)
+  breaks-meets s s' (node (error_label e) none) b (token_broke h) = λ none_set. h.1 (bits-left s has_error 0 none_set)
   breaks-meets s s' (node l ts) b (node_broke is all) = λ e. breaks_all-meets s s' ts b all (bits-right s (flags_of_label l) (scan_all ts) e)
   breaks-meets s s' (binder vs t) b (enter_broke e) = λ none_set. e.1 (bits-left s (list_flags vs) (scan t) none_set)
   breaks-meets s s' (binder vs t) b (under_broke {s1 = s1} {s2 = s2} e (value_broke h) l) =
@@ -212,6 +216,7 @@ label-plain (var_list_label (v ∷ vs)) = refl
 label-plain (text_label bytes) = refl
 label-plain (declaration_label n k name) = refl
 label-plain (record_label l) = refl
+label-plain (error_label e) = refl
 
 -- the flags for parameters are met exactly where a parameter stands
 pub param-meets : (t : Tree Depth) → Meets 7 (scan t) ↔ (holds_param t ≡ true)

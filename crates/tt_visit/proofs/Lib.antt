@@ -1,6 +1,7 @@
 pub mod VisitSteps
 pub mod ItemSteps
 pub mod Weights
+pub mod BareLaws
 pub mod Found
 pub mod HasTypeFlagsLaws
 pub mod HasEscapingVarsLaws

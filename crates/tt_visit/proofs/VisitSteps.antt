@@ -4,7 +4,7 @@ use Rattle.std.specs.Prelude.{Some, None, slice_get}
 use Rattle.std.specs.ControlFlow.{MatchControlFlow}
 use Rattle.std.proofs.lemmas.Grind.{common_steps}
 use Rattle.std.proofs.lemmas.Option.{slice_get_within, get_or_from_slice_get}
-use Rattle.tt_kinds.specs.Label.{Name, Sort, region_sort, type_sort, const_sort, TypeLabel, ConstLabel, Label, type_label, const_label, pattern_label, predicate_label, existential_label, clause_list_label, list_label, var_list_label, text_label, declaration_label, record_label}
+use Rattle.tt_kinds.specs.Label.{Name, Sort, region_sort, type_sort, const_sort, TypeLabel, ConstLabel, Label, type_label, const_label, pattern_label, predicate_label, existential_label, clause_list_label, list_label, var_list_label, text_label, declaration_label, record_label, error_label}
 use Rattle.tt_kinds.specs.Tree as tree
 use Rattle.tt_kinds.specs.Tree.{Depth, Tree, Forest}
 use Rattle.tt_kinds.specs.Shape.{Shapes, none, also, append, rename_label, rename_record, Meaning, Sizes, IsPart, AreParts, HasParts, fill, fill_all, name_of}
@@ -97,6 +97,7 @@ no-error (var_list_label vs) is = refl
 no-error (text_label bytes) is = refl
 no-error (declaration_label n k name) is = refl
 no-error (record_label l) is = refl
+no-error (error_label e) is = cc
 
 -- what stands inside of it is all that there is to see
 unhooked-inside : {M B : Type 0} (V : Visits M B) (s s' : M) (t : Tree Depth) → root t ≡ unhooked → GoesInside V s t s' → GoesOver V s t s'
@@ -158,7 +159,7 @@ pub parts-kind : (size : Sizes) (k : Kind) → HasParts size (kind_shape k) → 
 parts-kind size k h = parts-form size (kind_sort k) (kind_form k) h
 
 -- a name does not hide an error
-error_of-rename : {N M : Type 0} (name : N → M) (l : Label N) → error_of (rename_label name l) ≡ error_of l
+pub error_of-rename : {N M : Type 0} (name : N → M) (l : Label N) → error_of (rename_label name l) ≡ error_of l
 error_of-rename name (type_label l) = refl
 error_of-rename name (const_label l) = refl
 error_of-rename name (pattern_label l) = refl
@@ -170,6 +171,7 @@ error_of-rename name (var_list_label vs) = refl
 error_of-rename name (text_label bytes) = refl
 error_of-rename name (declaration_label i k n) = refl
 error_of-rename name (record_label l) = refl
+error_of-rename name (error_label e) = refl
 
 -- nothing is seen, and nothing breaks, where there is nothing
 unseen : {M B : Type 0} (V : Visits M B) (s s' : M) → GoesOverAll V s tree.none s' → s' ≡ s

@@ -1,6 +1,6 @@
 -- What a tree is to a visitor or a folder, as its root tells.
 use Rattle.std.specs.Prelude.{ℕ, Option, Some, None}
-use Rattle.tt_kinds.specs.Label.{Sort, region_sort, type_sort, const_sort, TypeLabel, error_type, ConstLabel, error_const, Label, type_label, const_label, pattern_label, predicate_label, existential_label, clause_list_label, list_label, record_label}
+use Rattle.tt_kinds.specs.Label.{Sort, region_sort, type_sort, const_sort, Label, error_of_type, error_of_const, type_label, const_label, pattern_label, predicate_label, existential_label, clause_list_label, list_label, record_label, error_label}
 use Rattle.tt_kinds.specs.declared.table.Table.{Table}
 use Rattle.tt_kinds.specs.declared.table.Table.TheVariants.{Types, Consts, Patterns, Predicates, Existentials, ClauseLists, VarLists, Symbols, Declarations}
 use Rattle.tt_kinds.specs.Tree.{Tree, param, bound, region, term, node, binder}
@@ -53,18 +53,9 @@ root (term l ts) = term_root l
 root (node l ts) = node_root l
 root (binder vs t) = a_part
 
--- the error that a type's label tells of
-abbrev pub error_of_type : TypeLabel → Option ℕ
-error_of_type (error_type e) = Some e
-error_of_type _ = None
-
--- the error that a constant's label tells of
-abbrev pub error_of_const : ConstLabel → Option ℕ
-error_of_const (error_const e) = Some e
-error_of_const _ = None
-
 -- the error that a label tells of
 abbrev pub error_of : {N : Type 0} → Label N → Option ℕ
 error_of (type_label l) = error_of_type l
 error_of (const_label l) = error_of_const l
+error_of (error_label e) = Some e
 error_of _ = None

@@ -1,6 +1,6 @@
 -- What a visitor does over a tree.
 use Rattle.std.specs.Prelude.{◌≡◌, ℕ, List, Option, Some, None}
-use Rattle.tt_kinds.specs.Label.{Name, Sort, VarKind, Entry, Label}
+use Rattle.tt_kinds.specs.Label.{Name, Sort, VarKind, Entry, Label, error_label}
 use Rattle.tt_kinds.specs.Tree.{Depth, Tree, Forest, param, bound, term, node, binder, none, also}
 use Rattle.tt_visit.specs.Root.{a_region, hooked, unhooked, a_part, root, error_of}
 use Rattle.tt_visit.specs.declared.visitor.Next.{Next}
@@ -41,6 +41,8 @@ module _ {M B : Type 0} (V : Visits M B) where
       went_inside : {s s1 s' : M} {t : Tree Depth} → root t ≡ hooked → V.on_term s t Descend s1 → GoesInside s1 t s' → GoesOver s t s'
       -- a pattern or an existential predicate has no hook, and tells of no error: what stands inside is always gone over
       unhooked_seen : {s s' : M} {l : Label Name} {ts : Forest Depth} → root (term l ts) ≡ unhooked → GoesOverAll s ts s' → GoesOver s (term l ts) s'
+      -- the token of an error that stands by itself is told of
+      token_seen : {s s' : M} {e : ℕ} → V.on_error s e s' → GoesOver s (node (error_label e) none) s'
       node_seen : {s s' : M} {l : Label Name} {ts : Forest Depth} → root (node l ts) ≡ a_part → GoesOverAll s ts s' → GoesOver s (node l ts) s'
       binder_skipped : {s s' : M} {vs : List (VarKind Name)} {t : Tree Depth} → V.enter s vs Skip s' → GoesOver s (binder vs t) s'
       binder_seen : {s s1 s2 s' : M} {vs : List (VarKind Name)} {t : Tree Depth}
@@ -65,6 +67,7 @@ module _ {M B : Type 0} (V : Visits M B) where
       term_broke : {s s' : M} {t : Tree Depth} {b : B} → root t ≡ hooked → V.term_breaks s t b s' → Breaks s t b s'
       inside_broke : {s s1 s' : M} {t : Tree Depth} {b : B} → root t ≡ hooked → V.on_term s t Descend s1 → BreaksInside s1 t b s' → Breaks s t b s'
       unhooked_broke : {s s' : M} {l : Label Name} {ts : Forest Depth} {b : B} → root (term l ts) ≡ unhooked → BreaksAll s ts b s' → Breaks s (term l ts) b s'
+      token_broke : {s s' : M} {e : ℕ} {b : B} → V.error_breaks s e b s' → Breaks s (node (error_label e) none) b s'
       node_broke : {s s' : M} {l : Label Name} {ts : Forest Depth} {b : B} → root (node l ts) ≡ a_part → BreaksAll s ts b s' → Breaks s (node l ts) b s'
       enter_broke : {s s' : M} {vs : List (VarKind Name)} {t : Tree Depth} {b : B} → V.enter_breaks s vs b s' → Breaks s (binder vs t) b s'
       -- a binder that was entered is left also after a break

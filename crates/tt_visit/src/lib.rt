@@ -1,6 +1,7 @@
 //! Visitors: what goes over a term without changing it, and the questions that are asked of terms that way.
 #![tactic(auto)]
 
+mod bare;
 mod handles;
 mod has_error;
 mod has_escaping_vars;

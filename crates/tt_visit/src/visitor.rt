@@ -49,7 +49,8 @@ pub trait TypeVisitor {
             (λ _. hooks.on_region (meaning cx.now.rows self.old) (fill (rows.meaning cx.now.rows) (region_shape region)) (meaning cx.now.rows self.new))
             (λ b. hooks.region_breaks (meaning cx.now.rows self.old) (fill (rows.meaning cx.now.rows) (region_shape region)) b (meaning cx.now.rows self.new)) };
 
-    /// Is told of the error token of a type or a constant, after the hook of that term answered `Descend`.
+    /// Is told of the error token of a type or a constant, after the hook of that term answered `Descend`, and of a token that
+    /// stands in a kind that isn't stored, or by itself.
     fn visit_error(&mut self, cx: &Interner, error: ErrorGuaranteed) -> ControlFlow<Self::Break, ()>
         ensures { MatchControlFlow
             result

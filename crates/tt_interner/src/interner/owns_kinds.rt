@@ -1,8 +1,9 @@
 //! Whether all that stands in a kind is of an interner, as its calls require.
 
 ghost use Rattle.std.specs.Prelude.{◌<◌, ◌↔◌, IsTrue};
-ghost use Rattle.tt_kinds.specs.Shape.{AreParts, HasParts};
+ghost use Rattle.tt_kinds.specs.Shape.{AreParts, HasParts, IsPart};
 ghost use Rattle.tt_kinds.specs.Parts.{node_table, node_number, list_table, list_number};
+ghost use Rattle.tt_kinds.specs.Bare.{bare_const_shape, bare_ty_shape};
 ghost use Rattle.tt_kinds.specs.Kinds.{child_shapes, parts_shapes, kind_form, kind_shape, ty_kind_shape, const_kind_shape, pattern_kind_shape, predicate_kind_shape, existential_kind_shape};
 ghost use Rattle.tt_interner.specs.Rows.{size};
 ghost use Rattle.tt_interner.specs.OwnFlags.{IsNamedForm, IsBinderIn};
@@ -103,16 +104,18 @@ impl Interner {
         self.owns_binder(kind.bound_vars())
     }
 
-    /// Whether all that stands in the kind of a type is of this interner.
+    /// Whether all that stands in the kind of a type is of this interner: the kind can be stored, and it can be used by itself.
     pub fn owns_kind(&self, kind: &TyKind) -> bool
-        ensures { IsTrue result ↔ HasParts (size self.now.rows) (ty_kind_shape kind.now) }
+        ensures stored { IsTrue result ↔ HasParts (size self.now.rows) (ty_kind_shape kind.now) }
+        ensures bare { IsTrue result ↔ IsPart (size self.now.rows) (bare_ty_shape kind.now) }
     {
         self.owns_contents(&Kind::Ty(*kind))
     }
 
-    /// Whether all that stands in the kind of a constant is of this interner.
+    /// Whether all that stands in the kind of a constant is of this interner: the kind can be stored, and it can be used by itself.
     pub fn owns_const_kind(&self, kind: &ConstKind) -> bool
-        ensures { IsTrue result ↔ HasParts (size self.now.rows) (const_kind_shape kind.now) }
+        ensures stored { IsTrue result ↔ HasParts (size self.now.rows) (const_kind_shape kind.now) }
+        ensures bare { IsTrue result ↔ IsPart (size self.now.rows) (bare_const_shape kind.now) }
     {
         self.owns_contents(&Kind::Const(*kind))
     }

@@ -1,7 +1,29 @@
-//! Which token the queries of errors answer.
+//! Which token the queries of errors answer, and kinds and tokens that aren't stored.
 
-use super::owned::{NOT_OWNED, Owned, holds_anew, ref_ty, ty, u32_ty};
-use crate::{ErrorGuaranteed, Interner, Refusal, Region, RegionKind, Ty, TyKind, TypeVisitableExt};
+use super::owned::{NOT_OWNED, Owned, holds_anew, is_instance, param_ty, ref_ty, ty, u32_ty};
+use crate::{
+    ConstKind, ErrorGuaranteed, GenericArg, Interner, ParamTy, Refusal, Region, RegionKind, Ty,
+    TyKind, TypeFlags, TypeVisitableExt,
+};
+
+impl Owned for TyKind {
+    fn is_owned(&self, cx: &Interner) -> bool {
+        cx.owns_kind(self)
+    }
+}
+
+impl Owned for ConstKind {
+    fn is_owned(&self, cx: &Interner) -> bool {
+        cx.owns_const_kind(self)
+    }
+}
+
+impl Owned for ErrorGuaranteed {
+    #[tactic(auto, unfolding(tt_kinds::specs::Shape::IsPart))]
+    fn is_owned(&self, _cx: &Interner) -> bool {
+        true
+    }
+}
 
 // `&'e7 u32`, whose region is an error.
 fn reference_of_an_error(cx: &mut Interner) -> Result<Ty, Refusal> {
@@ -46,4 +68,41 @@ fn error_of_a_region_holds(cx: &mut Interner) -> Result<bool, Refusal> {
 #[test]
 fn error_of_a_region(rt: HostRuntime) {
     holds_anew(&rt, rt.alloc(), error_of_a_region_holds);
+}
+
+// Whether the value has a flag of the mask.
+fn has_flags<T: Owned>(cx: &Interner, value: &T, mask: TypeFlags) -> bool {
+    value.is_owned(cx) && value.has_type_flags(cx, mask)
+}
+
+// A token by itself, and the token of a kind that isn't stored, is an error of both sorts.
+fn error_of_a_bare_kind_holds(cx: &mut Interner) -> Result<bool, Refusal> {
+    let error = ErrorGuaranteed(3);
+    let token = reports(cx, &error, Err(error), Err(error))?;
+    let in_type = reports(cx, &TyKind::Error(error), Err(error), Err(error))?;
+    let in_const = reports(cx, &ConstKind::Error(error), Err(error), Err(error))?;
+    let flagged = has_flags(cx, &error, TypeFlags::HAS_RE_ERROR);
+    Ok(token && in_type && in_const && flagged)
+}
+
+#[test]
+fn error_of_a_bare_kind(rt: HostRuntime) {
+    holds_anew(&rt, rt.alloc(), error_of_a_bare_kind_holds);
+}
+
+// A kind that isn't stored is no parameter, but what stands in it may be one.
+fn instances_of_bare_kinds_holds(cx: &mut Interner) -> Result<bool, Refusal> {
+    let name = cx.symbol("T")?;
+    let bare = TyKind::Param(ParamTy { index: 0, name });
+    let parameter = param_ty(cx, 0)?;
+    let number = u32_ty(cx)?;
+    let given = [GenericArg::from(number)];
+    let kept = is_instance(cx, bare, &given, bare);
+    let replaced = is_instance(cx, TyKind::Slice(parameter), &given, TyKind::Slice(number));
+    Ok(kept && replaced && !has_flags(cx, &bare, TypeFlags::HAS_PARAM))
+}
+
+#[test]
+fn instances_of_bare_kinds(rt: HostRuntime) {
+    holds_anew(&rt, rt.alloc(), instances_of_bare_kinds_holds);
 }

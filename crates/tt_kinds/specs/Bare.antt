@@ -1,0 +1,40 @@
+-- Kinds of types and constants that aren't stored, and tokens of errors by themselves.
+use Rattle.std.specs.Prelude.{ℕ, Option, Some, None}
+use Rattle.tt_kinds.specs.Label.{Sort, type_sort, const_sort, RecordLabel, bare_param_record, bare_bound_record, bare_type_record, bare_const_record, record_label, error_label, error_of_type, error_of_const}
+use Rattle.tt_kinds.specs.Tree.{Depth, at, canonical}
+use Rattle.tt_kinds.specs.Shape as shape
+use Rattle.tt_kinds.specs.Shape.{Shape, Shapes, append}
+use Rattle.tt_kinds.specs.Kinds.{Form, param, bound, plain, under, ty_form, const_form, parts_shapes}
+use Rattle.tt_kinds.specs.declared.ty_kind.TyKind.{TyKind}
+use Rattle.tt_kinds.specs.declared.const_kind.ConstKind.{ConstKind}
+
+-- the token of this error
+abbrev pub token_shape : ℕ → Shape
+token_shape e = shape.node (error_label e) shape.none
+
+-- the token of this error, if there is one
+abbrev pub token_shapes : Option ℕ → Shapes
+token_shapes None = shape.none
+token_shapes (Some e) = shape.also (token_shape e) shape.none
+
+-- the index of a variable, and none where it is canonical
+abbrev pub index_of : Depth → Option ℕ
+index_of (at d) = Some d
+index_of canonical = None
+
+module _ {L : Type 0} (s : Sort) (record_of : L → RecordLabel ℕ) (token_of : L → Option ℕ) where
+  -- a kind as a plain node: it is no parameter, no variable and no stored term. What it tells an error of is its first child.
+  abbrev pub bare_shape : Form L → Shape
+  bare_shape (param i name) = shape.node (record_label (bare_param_record s i name)) shape.none
+  bare_shape (bound d e) = shape.node (record_label (bare_bound_record s (index_of d) e)) shape.none
+  bare_shape (plain l p) = shape.node (record_label (record_of l)) (append (token_shapes (token_of l)) (parts_shapes p))
+  bare_shape (under l vars m p) = shape.node (record_label (record_of l))
+      (append (token_shapes (token_of l)) (shape.also (shape.binder vars.number (shape.node (record_label m) (parts_shapes p))) shape.none))
+
+-- a type's kind
+abbrev pub bare_ty_shape : TyKind → Shape
+bare_ty_shape k = bare_shape type_sort bare_type_record error_of_type (ty_form k)
+
+-- a constant's kind
+abbrev pub bare_const_shape : ConstKind → Shape
+bare_const_shape k = bare_shape const_sort bare_const_record error_of_const (const_form k)
