@@ -1,19 +1,24 @@
 -- The entries of declarations, and the row that comes last.
-use Rattle.std.proofs.Common.{◌≡◌, ℕ, zero, suc, ◌+◌, ◌<◌, ◌≤◌, List, [], ◌∷◌, ◌++◌, length, map, slice_get, get_or, Some, Result, Ok, Err, refl, sym, ap, subst, ◌∙◌, arith}
+use Rattle.std.proofs.Common.{◌≡◌, ◌↔◌, ℕ, zero, suc, ◌+◌, ◌<◌, ◌≤◌, Bool, true, false, eqb, List, [], ◌∷◌, ◌++◌, length, map, slice_get, get_or, Some, Result, Ok, Err, refl, sym, ap, subst, ◌∙◌, arith}
+use Rattle.std.specs.Cmp.Lexicographic.{bytes_decides}
+use Rattle.std.proofs.lemmas.Bool.{eqb-true, eq-eqb}
 use Rattle.std.proofs.lemmas.List.{length-map}
-use Rattle.std.proofs.lemmas.Option.{same_Some, none-some, get_or_from_slice_get}
+use Rattle.std.proofs.lemmas.Option.{same_Some, none-some, get_or_from_slice_get, slice_get_within}
 use Rattle.tt_kinds.specs.declared.declaration.Declaration.{Declaration}
-use Rattle.tt_kinds.specs.declared.table.Table.TheVariants.{Declarations}
+use Rattle.tt_kinds.specs.declared.table.Table.TheVariants.{Symbols, Declarations}
 use Rattle.tt_kinds.specs.declared.declaration.DeclarationKind.{DeclarationKind}
 use Rattle.tt_kinds.specs.declared.handle.Symbol.{Symbol}
 use Rattle.tt_kinds.specs.declared.id.DefId.{DefId}
 use Rattle.tt_index.specs.declared.refusal.Refusal.{Refusal}
-use Rattle.tt_interner.specs.Rows.{Row, text_row, declared_row, table, size, IsNew, Grows}
-use Rattle.tt_interner.specs.Declarations.{declaration_of, declared_at, Declares}
-use Rattle.tt_interner.specs.Stored.{Terms, IsAt, Adds}
+use Rattle.tt_kinds.specs.Shape.{fill, text_of, name_of}
+use Rattle.tt_interner.specs.Rows.{Row, text_row, declared_row, table, size, meaning, IsNew, AreRows, Grows}
+use Rattle.tt_interner.specs.Declarations.{declaration_of, declared_at, Declares, is_anonymous}
+use Rattle.tt_interner.specs.Stored.{Terms, IsAt, HasFirst, Adds}
 use Rattle.tt_interner.specs.Tables.{Entry, Tables, AreTables, entries_of, declared_entries, no_info}
 use Rattle.tt_interner.proofs.RowLaws.{row-new, get_or-keeps}
 use Rattle.tt_interner.proofs.FoundLemmas.{IsNew-from_table}
+use Rattle.tt_interner.proofs.Fill.{name_one}
+use Rattle.tt_interner.proofs.Trees.{Means-row, distinct}
 
 -- one declaration more
 declared_entries-push : (n : ℕ) (ds : List Declaration) (d : Declaration) (m : ℕ) → n + length ds ≡ m
@@ -80,3 +85,26 @@ pub Declares-added : {H : Type 0} (result : Result H Refusal) (number : H → �
     → Adds result number old new (declared_row (size old.rows Declarations) (record { kind = kind; name = name })) → Declares result number old new kind name
 Declares-added (Ok h) number old new kind name adds = record { adds = adds; declared = declared_at-new old.rows new.rows (number h) (record { kind = kind; name = name }) adds.rows adds.last }
 Declares-added (Err e) number old new kind name adds = record { adds = adds; declared = tt }
+
+same_tests : (a b : Bool) → (a ≡ true → b ≡ true) → (b ≡ true → a ≡ true) → a ≡ b
+same_tests true b f g = sym (f refl)
+same_tests false true f g = g refl
+same_tests false false f g = refl
+
+-- the first text is `'_`, and no other is
+pub anonymous_is_first : (rows : List Row) → AreRows rows → HasFirst rows → (name : Symbol) → name.number < size rows Symbols → is_anonymous rows name ≡ eqb name.number 0
+unfolding is_anonymous fill
+anonymous_is_first rows are first name h = same_tests (is_anonymous rows name) (eqb name.number 0)
+    (λ is. eq-eqb name.number 0 (there (decides.0 is))) (λ is. decides.1 (back (eqb-true name.number 0 is)))
+  where
+    decides : (is_anonymous rows name ≡ true) ↔ (name_of (meaning rows) name.number ≡ 39 ∷ 95 ∷ [])
+    decides = bytes_decides (name_of (meaning rows) name.number) (39 ∷ 95 ∷ [])
+
+    text : name_of (meaning rows) 0 ≡ 39 ∷ 95 ∷ []
+    text = ap text_of (Means-row rows are Symbols 0 (text_row (39 ∷ 95 ∷ [])) first.text).tree
+
+    there : name_of (meaning rows) name.number ≡ 39 ∷ 95 ∷ [] → name.number ≡ 0
+    there e = name_one (size rows) (meaning rows) (distinct rows are) name.number 0 h (slice_get_within (table Symbols rows) 0 (text_row (39 ∷ 95 ∷ [])) first.text) (e ∙ sym text)
+
+    back : name.number ≡ 0 → name_of (meaning rows) name.number ≡ 39 ∷ 95 ∷ []
+    back e = ap (name_of (meaning rows)) e ∙ text

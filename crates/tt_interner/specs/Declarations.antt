@@ -1,5 +1,6 @@
 -- What is declared under an id, and what a declaring call promises.
-use Rattle.std.specs.Prelude.{◌≡◌, ℕ, ◌==◌, ◌<◌, List, Option, Some, None, Result, IfOk, if◌then◌else◌, ⊤}
+use Rattle.std.specs.Prelude.{◌≡◌, ℕ, ◌<◌, Bool, List, [], ◌∷◌, Option, Some, None, Result, IfOk, if◌then◌else◌, ⊤}
+use Rattle.std.specs.Str.{bytes_eq}
 use Rattle.tt_index.specs.declared.refusal.Refusal.{Refusal}
 use Rattle.tt_kinds.specs.declared.handle.Symbol.{Symbol}
 use Rattle.tt_kinds.specs.declared.id.DefId.{DefId}
@@ -9,7 +10,8 @@ use Rattle.tt_kinds.specs.declared.declaration.DeclarationKind.TheVariants as ki
 use Rattle.tt_kinds.specs.declared.bound.BoundRegionKind.{BoundRegionKind}
 use Rattle.tt_kinds.specs.declared.bound.BoundRegionKind.TheVariants as region
 use Rattle.tt_kinds.specs.declared.table.Table.TheVariants.{Declarations}
-use Rattle.tt_interner.specs.Rows.{Row, declared_row, size}
+use Rattle.tt_kinds.specs.Shape.{name_of}
+use Rattle.tt_interner.specs.Rows.{Row, declared_row, size, meaning}
 use Rattle.tt_interner.specs.Stored.{Terms, Adds}
 use Rattle.tt_interner.specs.Env.{row_at}
 
@@ -28,13 +30,13 @@ pub record Declares {H : Type 0} (result : Result H Refusal) (number : H → ℕ
   pub adds : Adds result number old new (declared_row (size old.rows Declarations) (record { kind = kind; name = name }))
   pub declared : IfOk result (λ h. declared_at new.rows (record { number = number h }) ≡ record { kind = kind; name = name })
 
--- the name, unless it is the first text of every interner, which is `'_`
-abbrev pub unless_anonymous : Symbol → Option Symbol
-unless_anonymous name = if name.number == 0 then None else Some name
+-- the name is `'_`
+unfoldable pub is_anonymous : List Row → Symbol → Bool
+is_anonymous rows name = bytes_eq (name_of (meaning rows) name.number) (39 ∷ 95 ∷ [])
 
 -- what a bound region is called: as its declaration is, unless that is called `'_`, or as it is printed
 abbrev pub title : List Row → BoundRegionKind → Option Symbol
-title rows (region.Named id) = unless_anonymous (declared_at rows id).name
+title rows (region.Named id) = if is_anonymous rows (declared_at rows id).name then None else Some (declared_at rows id).name
 title rows (region.NamedForPrinting name) = Some name
 title rows _ = None
 

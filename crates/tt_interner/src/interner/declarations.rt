@@ -4,7 +4,7 @@ ghost use Rattle.std.specs.Prelude.{◌≡◌, ◌⊎◌, ◌<◌, ◌≤◌, �
 ghost use Rattle.tt_kinds.specs.declared.bound.BoundRegionKind.{BoundRegionKind};
 ghost use Rattle.tt_interner.specs.Rows.{declared_row, size};
 ghost use Rattle.tt_interner.specs.Stored.{IsAt};
-ghost use Rattle.tt_interner.specs.Declarations.{declared_at, Declares, IsDeclared, title};
+ghost use Rattle.tt_interner.specs.Declarations.{declared_at, Declares, is_anonymous, IsDeclared, title};
 
 use super::Interner;
 use tt_index::Refusal;
@@ -236,6 +236,15 @@ impl Interner {
         self.are_rows();
         self.declaration(id).name
     }
+
+    // Whether the name is `'_`.
+    fn is_anonymous(&self, name: Symbol) -> bool
+        requires { name.number < size self.now.rows Table.Symbols }
+        ensures { result ≡ is_anonymous self.now.rows name }
+    {
+        self.are_rows();
+        name == Symbol::default()
+    }
 }
 
 /// What a bound region is called. Where it is declared, its declaration has to be of the interner;
@@ -263,7 +272,7 @@ impl RegionName for BoundRegionKind {
         match self {
             BoundRegionKind::Named(id) => {
                 let name = cx.item_name(id);
-                if name == Symbol::default() {
+                if cx.is_anonymous(name) {
                     None
                 } else {
                     Some(name)
