@@ -210,6 +210,7 @@ impl<S: SliceLike> TypeFolder for ArgFolder<S> {
         }
     }
 
+    #[inline(always)]
     fn fold_ty(&mut self, cx: &mut Interner, ty: Ty) -> Result<Step<Ty>, Refusal> {
         if !ty.flags(cx).intersects(TypeFlags::HAS_PARAM) {
             return Ok(Step::Keep);

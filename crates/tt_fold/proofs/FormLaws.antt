@@ -1,13 +1,12 @@
 -- Kinds by their forms.
-use Rattle.std.proofs.Common.{true, false, All, [], ◌∷◌, zero, slice_get, ◌≡◌, ℕ, suc, ◌≤◌, List, Some, None, refl, ap, sym, ◌∙◌, arith}
+use Rattle.std.proofs.Common.{true, false, All, [], ◌∷◌, zero, slice_get, ◌≡◌, ℕ, suc, ◌≤◌, List, Some, None, refl, ap, sym, arith}
 use Rattle.std.proofs.lemmas.Option.{slice_get_within, same_Some, none-some, get_or_from_slice_get}
 use Rattle.tt_kinds.specs.Label.{Name, Sort, type_sort, const_sort, TypeLabel, ConstLabel, Label, type_label, const_label, text_label, record_label}
 use Rattle.tt_kinds.specs.Tree as tree
 use Rattle.tt_kinds.specs.Tree.{Depth, Tree}
 use Rattle.tt_kinds.specs.Shape as shape
 use Rattle.tt_kinds.specs.Shape.{Shape, Shapes, Meaning, Sizes, IsPart, AreParts, HasParts, IsTooDeep, fill, fill_all, name_of, rename_label, IsNamedLabel, append}
-use Rattle.tt_kinds.specs.Kinds.{Form, param, bound, plain, under, form_parts, form_binder, refilled, relabelled, form_shape, kind_form, kind_sort, kind_shape, kind_table, ty_form, const_form, child_shapes, parts_shapes, children_shapes}
-use Rattle.tt_kinds.specs.declared.table.Table.{Table}
+use Rattle.tt_kinds.specs.Kinds.{Form, param, bound, plain, under, form_parts, form_binder, refilled, relabelled, form_shape, kind_form, kind_shape, kind_table, ty_form, const_form, child_shapes, parts_shapes, children_shapes}
 use Rattle.tt_kinds.specs.declared.table.Table.TheVariants.{Types, Consts}
 use Rattle.tt_kinds.specs.declared.parts.Child.{Child}
 use Rattle.tt_kinds.specs.declared.parts.Child.TheVariants as child

@@ -5,14 +5,13 @@ use Rattle.tt_kinds.specs.Label.{Name, VarKind}
 use Rattle.tt_kinds.specs.Tree.{Depth, Tree, Forest}
 use Rattle.tt_kinds.specs.Shape.{Shape, Shapes, AreParts, fill_all, item_shapes}
 use Rattle.tt_kinds.specs.Parts.{node_table, node_number, list_sort, list_table, list_number, child_sort, AreLike, IsItem}
-use Rattle.tt_kinds.specs.Kinds.{form_parts, form_binder, kind_form, node_shape, list_shape, child_shapes, parts_shapes, children_shapes, items_tree}
+use Rattle.tt_kinds.specs.Kinds.{node_shape, list_shape, child_shapes, parts_shapes, children_shapes, items_tree}
 use Rattle.tt_kinds.specs.declared.handle.BoundVarKinds.{BoundVarKinds}
 use Rattle.tt_kinds.specs.declared.parts.Node.{Node}
 use Rattle.tt_kinds.specs.declared.parts.List.{List}
 use Rattle.tt_kinds.specs.declared.parts.ListSort.{ListSort}
 use Rattle.tt_kinds.specs.declared.parts.Child.{Child}
 use Rattle.tt_kinds.specs.declared.parts.Child.TheVariants as child
-use Rattle.tt_kinds.specs.declared.parts.Kind.{Kind}
 use Rattle.tt_kinds.specs.declared.parts.Parts.{Parts}
 use Rattle.tt_interner.specs.Rows.{Row, size, meaning, age}
 use Rattle.tt_interner.specs.Stored.{Terms, Extends}

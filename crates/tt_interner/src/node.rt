@@ -203,6 +203,7 @@ impl Interner {
     /// The stored term like this one, with other children in the places of its own. They have to be of this interner, and of
     /// the same sorts; [`Parts::are_like`] tests it. The term is as [`Interner::node_kind`] wants it. Refused as
     /// [`Interner::mk_ty`] is.
+    #[inline(always)]
     pub fn store_like(&mut self, node: Node, parts: Parts) -> Result<Node, Refusal>
         requires owned { node_number node < size self.old.rows (node_table node) }
         requires has_kind { node_table node ≢ Table.ClauseLists }
@@ -216,11 +217,22 @@ impl Interner {
                 let kind = self.ty_kind(ty).with_parts(parts);
                 self.store(Kind::Ty(kind))
             }
-            _ => {
-                let kind = self.kind_at(node).with_parts(parts);
-                self.store(kind)
-            }
+            _ => self.store_any_like(node, parts),
         }
+    }
+
+    // The same of a term of any table.
+    #[inline(never)]
+    fn store_any_like(&mut self, node: Node, parts: Parts) -> Result<Node, Refusal>
+        requires owned { node_number node < size self.old.rows (node_table node) }
+        requires has_kind { node_table node ≢ Table.ClauseLists }
+        requires like { AreLike (form_parts (kind_form (stored_kind self.old.rows node))) parts }
+        requires parts { AreParts (size self.old.rows) (parts_shapes parts) }
+        ensures { BuildsLike result self.old self.new node parts }
+    {
+        self.are_rows();
+        let kind = self.kind_at(node).with_parts(parts);
+        self.store(kind)
     }
 
     /// The stored list of these children. They have to be of this interner, and of the sort that the list holds. Refused as

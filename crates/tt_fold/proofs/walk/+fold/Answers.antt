@@ -9,8 +9,8 @@ use Rattle.tt_interner.proofs.Growth.{Extends-refl, Extends-trans, age-grows, Is
 use Rattle.tt_interner.proofs.NodeLemmas.{same-sort}
 use Rattle.tt_fold.specs.Parts.{child_weight}
 use Rattle.tt_fold.specs.Walk.{replaced, kept, term_failed, in_enter_failed}
-use Rattle.tt_fold.proofs.PartLaws.{in_range, only_part, left_parts, right_parts, vars-kept, binder-kept, weight-grows, weights-grow}
-use Rattle.tt_fold.proofs.FormLaws.{form-labels, is_inner, not-deep, form-parts, form-binder, form-older, refilled-parts, item-older, item-part, item-fits}
+use Rattle.tt_fold.proofs.PartLaws.{in_range, only_part, left_parts, right_parts, vars-kept, weight-grows, weights-grow}
+use Rattle.tt_fold.proofs.FormLaws.{is_inner, not-deep, form-parts, form-binder, form-older, item-older, item-part, item-fits}
 use Rattle.tt_fold.proofs.FoldSteps.{node_is_kind, stands-still, stored_list, stored_list_tree, list_is_items, memory_unbuilt, no_clause_unbuilt, stored_node, stored_node_tree, not_stored, inside_leaf, inside_fails, inside_not_built, inside_rebuilt, descend_ends, descend_fails, node_descends, open_contents, under_parts_fail, under_leave_fails, under_folds, parts_first_fails, parts_second_fails, parts_fold, child_absent, child_region_fails, child_region, child_node_fails, child_node, child_list_fails, child_list, node_passed, so_far_none, so_far_more, items_one_fails, items_one_unwanted, items_stop, items_fold, listed_fails, listed_not_stored, listed_stored, list_folds, clauses_fail, clauses_fold, clauses_node_fails, clauses_node, node_is_term, node_is_passed, other_node, other_list}
 use Rattle.tt_fold.proofs.walk.+fold.Goals as goal
 

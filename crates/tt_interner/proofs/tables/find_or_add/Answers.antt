@@ -10,10 +10,11 @@ pub returns-in-Ok-default-Some-clause-found : goal.returns-in-Ok-default-Some-cl
 returns-in-Ok-default-Some-clause-found g c n place =
     let there : get g.K.PartialEq.eq c.args.entries.now c.args.kind.now ≡ Some c.in-Ok-default-Some.field-0-1-0 = sym c.in-Ok-default-Some.ensures.old ∙ c.in-Ok-default-Some.field-0-1-is in
     let same : get g.K.PartialEq.eq c.args.entries.now c.args.kind.now ≡ Some c.args.info = there ∙ ap Some (c.requires.same _ there) in
-    let first = (Found-position (g.K.PartialEq.eq c.args.kind.now) c.args.entries.now.entries n place).first in
-    (ap Ok (c.in-Ok-default-Some.ensures.index ∙ or_len-first (g.K.PartialEq.eq c.args.kind.now) c.args.entries.now.entries n first),
+    let first = (Found-position (g.K.PartialEq.eq c.args.kind.now) c.args.entries.now.entries n place).first in (
+      ap Ok (c.in-Ok-default-Some.ensures.index ∙ or_len-first (g.K.PartialEq.eq c.args.kind.now) c.args.entries.now.entries n first),
       c.reserve.ensures.items,
-      c.in-Ok-default-Some.ensures.entries ∙ insert_entry-same g.K.PartialEq.eq c.args.kind.now c.args.info c.args.entries.now.entries same)
+      c.in-Ok-default-Some.ensures.entries ∙ insert_entry-same g.K.PartialEq.eq c.args.kind.now c.args.info c.args.entries.now.entries same,
+    )
 
 pub returns-in-Ok-push-clause-found : goal.returns-in-Ok-push-clause-found
 returns-in-Ok-push-clause-found g c n place =

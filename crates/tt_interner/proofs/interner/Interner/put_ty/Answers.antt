@@ -27,31 +27,37 @@ invariant_of-self-2 c =
     let many = count _ _ _ c.self.invariant.tables Types type_row (λ v. v) c.self.inside.types.entries refl in
     found_or_absent _ _ _ c.self.invariant.tables Types type_row (λ v. v) c.self.inside.types.entries refl _ (type_row c.args.kind.now) refl (type_key c.args.kind.now)
     (λ n place at.
-      let f = c.in-Ok.ensures.found n place in
-      still_kept c.self.inside.order.items _ (tables c.self.inside) _ _ _ _ c.self.view_is c.self.invariant f.1
-      (ap (λ es. with_entries (tables c.self.inside) Types (entries_by type_row (λ v. v) es)) f.2))
+    let f = c.in-Ok.ensures.found n place in
+    still_kept c.self.inside.order.items _ (tables c.self.inside) _ _ _ _ c.self.view_is c.self.invariant f.1
+    (ap (λ es. with_entries (tables c.self.inside) Types (entries_by type_row (λ v. v) es)) f.2))
     (λ none new.
-      let is = ap (λ es. with_entries (tables c.self.inside) Types (entries_by type_row (λ v. v) es)) (c.in-Ok.ensures.entries none)
-      ∙ ap (with_entries (tables c.self.inside) Types) (entries_by-push type_row (λ v. v) c.self.inside.types.entries c.args.kind.now c.for_kind-info.result) in
-      kept c.self.inside.order.items _ (tables c.self.inside) _ _ _ _ c.self.view_is c.self.invariant _ is (c.in-Ok.ensures.order none) _ ((c.in-Ok.ensures.number none).0 ∙ many) (c.in-Ok.ensures.number none).1
-      c.requires.parts c.requires.shallow tt (subst (λ v. IsNew (type_row c.args.kind.now) v.rows) c.self.view_is new) c.for_kind-info.ensures)
+    let is = ap (λ es. with_entries (tables c.self.inside) Types (entries_by type_row (λ v. v) es)) (c.in-Ok.ensures.entries none)
+    ∙ ap (with_entries (tables c.self.inside) Types) (entries_by-push type_row (λ v. v) c.self.inside.types.entries c.args.kind.now c.for_kind-info.result) in
+    kept c.self.inside.order.items _ (tables c.self.inside) _ _ _ _ c.self.view_is c.self.invariant _ is (c.in-Ok.ensures.order none) _ ((c.in-Ok.ensures.number none).0 ∙ many) (c.in-Ok.ensures.number none).1
+    c.requires.parts c.requires.shallow tt (subst (λ v. IsNew (type_row c.args.kind.now) v.rows) c.self.view_is new) c.for_kind-info.ensures)
 
 pub returns : goal.returns
 returns c =
     let many = count _ _ _ c.self.invariant.tables Types type_row (λ v. v) c.self.inside.types.entries refl in
     found_or_absent _ _ _ c.self.invariant.tables Types type_row (λ v. v) c.self.inside.types.entries refl _ (type_row c.args.kind.now) refl (type_key c.args.kind.now)
     (λ n place at.
-      let f = c.in-Ok.ensures.found n place in
-      let same : c.in-Ok.number ≡ n = (let e = f.0 in cc) in
-      inl (c.from_number.result, refl, rw (c.from_number.ensures, same, ← c.self.view_is) at,
-        unchanged c.self.inside.order.items _ (tables c.self.inside) _ _ _ _ c.self.view_is c.self.invariant f.1
-        (ap (λ es. with_entries (tables c.self.inside) Types (entries_by type_row (λ v. v) es)) f.2)))
+    let f = c.in-Ok.ensures.found n place in
+    let same : c.in-Ok.number ≡ n = (let e = f.0 in cc) in
+    inl (
+      c.from_number.result,
+      refl,
+      rw (c.from_number.ensures, same, ← c.self.view_is) at,
+      unchanged c.self.inside.order.items _ (tables c.self.inside) _ _ _ _ c.self.view_is c.self.invariant f.1
+          (ap (λ es. with_entries (tables c.self.inside) Types (entries_by type_row (λ v. v) es)) f.2),
+    ))
     (λ none new.
-      let is = ap (λ es. with_entries (tables c.self.inside) Types (entries_by type_row (λ v. v) es)) (c.in-Ok.ensures.entries none)
-      ∙ ap (with_entries (tables c.self.inside) Types) (entries_by-push type_row (λ v. v) c.self.inside.types.entries c.args.kind.now c.for_kind-info.result) in
-      inr (subst (λ v. IsNew (type_row c.args.kind.now) v.rows) c.self.view_is new,
-        added c.self.inside.order.items _ (tables c.self.inside) _ _ _ _ c.self.view_is c.self.invariant _ is (c.in-Ok.ensures.order none) _ ((c.in-Ok.ensures.number none).0 ∙ many) (c.in-Ok.ensures.number none).1
-        (λ ty. ty.number) c.from_number.result (ap (λ ty. ty.number) c.from_number.ensures)))
+    let is = ap (λ es. with_entries (tables c.self.inside) Types (entries_by type_row (λ v. v) es)) (c.in-Ok.ensures.entries none)
+    ∙ ap (with_entries (tables c.self.inside) Types) (entries_by-push type_row (λ v. v) c.self.inside.types.entries c.args.kind.now c.for_kind-info.result) in
+    inr (
+      subst (λ v. IsNew (type_row c.args.kind.now) v.rows) c.self.view_is new,
+      added c.self.inside.order.items _ (tables c.self.inside) _ _ _ _ c.self.view_is c.self.invariant _ is (c.in-Ok.ensures.order none) _ ((c.in-Ok.ensures.number none).0 ∙ many) (c.in-Ok.ensures.number none).1
+          (λ ty. ty.number) c.from_number.result (ap (λ ty. ty.number) c.from_number.ensures),
+    ))
 
 pub returns-in-Err : goal.returns-in-Err
 returns-in-Err c =
@@ -59,7 +65,10 @@ returns-in-Err c =
     found_or_absent _ _ _ c.self.invariant.tables Types type_row (λ v. v) c.self.inside.types.entries refl _ (type_row c.args.kind.now) refl (type_key c.args.kind.now)
     (λ n place at. let e = (c.in-Err.ensures.found n place).0 in absurd (cc))
     (λ none new.
-      let same = ap (λ es. with_entries (tables c.self.inside) Types (entries_by type_row (λ v. v) es)) c.in-Err.ensures.entries_stay in
-      let is_new = subst (λ v. IsNew (type_row c.args.kind.now) v.rows) c.self.view_is new in
-      inr (is_new, refused c.self.inside.order.items _ (tables c.self.inside) _ _ _ _ c.self.view_is c.self.invariant c.in-Err.ensures.order_stays same
-        (λ ty. ty.number) (type_row c.args.kind.now) _ _ _ refl many c.in-Err.ensures.cause (c.in-Err.ensures.full none) is_new))
+    let same = ap (λ es. with_entries (tables c.self.inside) Types (entries_by type_row (λ v. v) es)) c.in-Err.ensures.entries_stay in
+    let is_new = subst (λ v. IsNew (type_row c.args.kind.now) v.rows) c.self.view_is new in
+    inr (
+      is_new,
+      refused c.self.inside.order.items _ (tables c.self.inside) _ _ _ _ c.self.view_is c.self.invariant c.in-Err.ensures.order_stays same
+          (λ ty. ty.number) (type_row c.args.kind.now) _ _ _ refl many c.in-Err.ensures.cause (c.in-Err.ensures.full none) is_new,
+    ))

@@ -2,7 +2,7 @@
 use Rattle.std.proofs.Common.{◌≡◌, ℕ, refl, ap, ◌∙◌}
 use Rattle.tt_kinds.specs.Label.{Label, type_label}
 use Rattle.tt_kinds.specs.Parts.{node_table, node_number}
-use Rattle.tt_kinds.specs.Kinds.{ty_form, relabelled, refilled, kind_form, kind_table}
+use Rattle.tt_kinds.specs.Kinds.{ty_form, relabelled, kind_table}
 use Rattle.tt_kinds.specs.declared.parts.Kind.{Kind}
 use Rattle.tt_kinds.specs.declared.parts.Kind.TheVariants as kind
 use Rattle.tt_interner.specs.Rows.{type_row}
@@ -32,18 +32,3 @@ returns-in-Ty c =
     let at : IsAt c.args.self.now.rows (type_row c.ty_kind.result.now) (node_number c.args.node) = rw c.in-Ty.is c.ty_kind.ensures in
     let form = ap (relabelled type_label) c.with_parts-kind.ensures ∙ refilled-relabelled type_label c.args.parts (ty_form c.ty_kind.result.now) in
     builds_like c.store.result c.args.self.now c.store.new.self c.args.node k (kind.Ty c.with_parts-kind.result) c.args.parts (kind_there _ c.args.node k table at) table form c.store.ensures.builds c.store.ensures.table
-
-pub with_parts-kind-requires-in_default : goal.with_parts-kind-requires-in_default
-with_parts-kind-requires-in_default c =
-    rw (kind_there _ c.args.node c.kind_at.result c.kind_at.ensures.table c.kind_at.ensures.row) at c.requires.like
-
-pub store-requires-in_default : goal.store-requires-in_default
-store-requires-in_default c =
-    let k = c.kind_at in
-    like_parts _ c.args.node k.result c.with_parts-kind-in_default.result c.args.parts (is_node _ c.are_rows.ensures.are c.args.node k.result k.ensures.table k.ensures.row) c.with_parts-kind-in_default.ensures.table c.with_parts-kind-in_default.ensures.form c.requires.parts
-
-pub returns-in_default : goal.returns-in_default
-returns-in_default c =
-    let k = c.kind_at in
-    let with = c.with_parts-kind-in_default in
-    builds_like c.store-in_default.result c.args.self.now c.store-in_default.new.self c.args.node k.result with.result c.args.parts (kind_there _ c.args.node k.result k.ensures.table k.ensures.row) (with.ensures.table ∙ k.ensures.table) with.ensures.form c.store-in_default.ensures.builds c.store-in_default.ensures.table
