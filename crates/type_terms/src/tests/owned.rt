@@ -19,10 +19,9 @@ pub fn holds(rt: &impl Abort, outcome: Result<bool, Refusal>) {
     assert_eq!(rt; outcome, Ok(true));
 }
 
-// The end of an interner. Its tables are let go here alone: each place where they are takes half a minute to prove.
-fn end(_cx: Interner) {}
-
 // The check answers, on this interner, that all was as wanted.
+//
+// An interner that a function lets go by itself takes half a minute to prove at each exit, and one given to `drop` a second.
 fn holds_on<F: FnOnce(&mut Interner) -> Result<bool, Refusal>>(
     rt: &impl Abort,
     mut cx: Interner,
@@ -31,7 +30,7 @@ fn holds_on<F: FnOnce(&mut Interner) -> Result<bool, Refusal>>(
     requires { F.IsAlwaysCallable check }
 {
     let outcome = check(&mut cx);
-    end(cx);
+    drop(cx);
     holds(rt, outcome);
 }
 
@@ -66,7 +65,7 @@ pub fn holds_within<F: FnOnce(&mut Interner) -> Result<bool, Refusal>>(
 pub fn is_refused_anew(rt: &impl Abort, alloc: Global, limit: u32, refusal: Refusal) {
     match Interner::with_limit(alloc, limit) {
         Ok(cx) => {
-            end(cx);
+            drop(cx);
             panic!(rt; "an interner with at most {limit} rows in a table");
         }
         Err(e) => assert_eq!(rt; e, refusal),
