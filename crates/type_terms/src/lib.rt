@@ -74,6 +74,7 @@ pub use tt_interner::WithCachedTypeInfo;
 pub use tt_interner::equal_handles_for_equal_trees;
 pub use tt_interner::growth_keeps_declarations;
 pub use tt_interner::growth_keeps_trees;
+pub use tt_interner::node::Contents;
 pub use tt_kinds::AdtId;
 pub use tt_kinds::AliasRelationDirection;
 pub use tt_kinds::AliasTerm;
