@@ -102,15 +102,15 @@ module _ {L : Type 0} (sort : Sort) (record_of : L → RecordLabel ℕ) (token_o
   fails-bare rows (param i name) (in_open_failed w) = node_failed w
   fails-bare rows (bound d e) (in_open_failed w) = node_failed w
   fails-bare rows (plain l p) (in_open_failed w) =
-      rw (append_trees rows (token_shapes (token_of l)) (parts_shapes p)) (node_failed (FailsAll-append (token_walks rows rows (token_of l)) w))
+      rw (append_trees rows (token_shapes (token_of l)) (parts_shapes p)) (node_failed (FailsAll-append (token_walks rows rows (token_of l)) (λ h. h) w))
   fails-bare rows (under l vars m p) (in_enter_failed h) =
-      rw (append_trees rows (token_shapes (token_of l)) (under_binder vars.number m p)) (node_failed (FailsAll-append (token_walks rows rows (token_of l)) (here (enter_failed h))))
+      rw (append_trees rows (token_shapes (token_of l)) (under_binder vars.number m p)) (node_failed (FailsAll-append (token_walks rows rows (token_of l)) (λ h. h) (here (enter_failed h))))
   fails-bare rows (under l vars m p) (in_under_failed enter h) =
       rw (append_trees rows (token_shapes (token_of l)) (under_binder vars.number m p))
-      (node_failed (FailsAll-append (token_walks rows rows (token_of l)) (here (under_failed enter (node_failed h)))))
+      (node_failed (FailsAll-append (token_walks rows rows (token_of l)) (λ h. h) (here (under_failed enter (node_failed h)))))
   fails-bare rows (under l vars m p) (in_leave_failed enter w h) =
       rw (append_trees rows (token_shapes (token_of l)) (under_binder vars.number m p))
-      (node_failed (FailsAll-append (token_walks rows rows (token_of l)) (here (leave_failed enter (at_node w) h))))
+      (node_failed (FailsAll-append (token_walks rows rows (token_of l)) (λ h. h) (here (leave_failed enter (at_node w) h))))
 
   -- the fold of the parts is that of the kind
   module _ {M E S : Type 0} {owned : List Row → S → Type 0} {means : List Row → S → M} {H : Hooks (Standing M) E} {unbuilt : Tree Depth → E → Type 0} {T : Type 0} (of : T → Form L) where
