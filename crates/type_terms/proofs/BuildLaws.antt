@@ -1,5 +1,5 @@
 -- The steps of a building call, over plain variables.
-use Rattle.std.proofs.Common.{◌≡◌, ℕ, List, [], ◌∷◌, Option, None, Result, Ok, Err, refl, ap, ◌∙◌, subst, arith, IsSome, inl, inr}
+use Rattle.std.proofs.Common.{◌≡◌, ℕ, List, [], ◌∷◌, Result, Ok, Err, refl, ap, ◌∙◌, subst, arith, inl, inr}
 use Rattle.std.specs.Prelude.{IsErrAnd, ◌⊎◌}
 use Rattle.tt_index.specs.declared.refusal.Refusal.{Refusal}
 use Rattle.tt_index.specs.declared.refusal.Refusal.TheVariants.{Memory, TableFull, GreatestIndex, NoArguments, ArgOutOfRange, ArgKind, RegionVariable, NotAClause, NoSuchAnswer}
@@ -7,76 +7,35 @@ use Rattle.std.proofs.lemmas.Bool.{cases_lt}
 use Rattle.tt_index.specs.Greatest.{greatest}
 use Rattle.tt_kinds.specs.Label.{Name, region_sort, list_label}
 use Rattle.tt_kinds.specs.Tree as tree
-use Rattle.tt_kinds.specs.Tree.{Tree, Depth, node, also, Forest}
+use Rattle.tt_kinds.specs.Tree.{Tree, Depth, node}
 use Rattle.tt_kinds.specs.Bound.{depth, IsBelowGreatest}
 use Rattle.tt_kinds.specs.RegionKind.{IsShallow}
-use Rattle.tt_kinds.specs.Shape.{fill, fill_all, name_of, IsPart, AreParts, item_shapes, IsTooDeep, IsGreatest}
-use Rattle.tt_kinds.specs.Kinds.{ty_shape, text_row_shape, region_shape}
+use Rattle.tt_kinds.specs.Shape as shape
+use Rattle.tt_kinds.specs.Shape.{Shape, Shapes, stored, fill, name_of, IsPart, IsTooDeep, IsGreatest}
+use Rattle.tt_kinds.specs.Kinds.{text_row_shape, region_shape}
 use Rattle.tt_kinds.specs.declared.bound.BoundVarIndexKind.{BoundVarIndexKind}
 use Rattle.tt_kinds.specs.declared.bound.BoundVarIndexKind.TheVariants as index
 use Rattle.tt_kinds.specs.declared.bound.BoundRegion.{BoundRegion}
 use Rattle.tt_kinds.specs.declared.region_kind.RegionKind.TheVariants.{ReBound}
-use Rattle.tt_kinds.specs.declared.handle.Ty.{Ty}
-use Rattle.tt_kinds.specs.declared.handle.Tys.{Tys}
 use Rattle.tt_kinds.specs.declared.region_kind.RegionKind.{RegionKind}
-use Rattle.tt_kinds.specs.declared.ty_kind.TyKind.{TyKind}
-use Rattle.tt_kinds.specs.declared.table.Table.TheVariants.{Types, TypeLists, Symbols}
-use Rattle.tt_interner.specs.Rows.{Row, type_row, tys_row, row_table, row_shape, size, meaning}
+use Rattle.tt_kinds.specs.declared.table.Table.{Table}
+use Rattle.tt_kinds.specs.declared.table.Table.TheVariants.{Symbols}
+use Rattle.tt_interner.specs.Rows.{Row, row_table, row_shape, size, meaning}
 use Rattle.tt_interner.specs.Stored.{Terms, Extends, Builds, IsCause}
 use Rattle.type_terms.specs.declared.run.answer.Answer.{Answer}
 use Rattle.type_terms.specs.declared.run.call.RegionNameCall.{RegionNameCall}
-use Rattle.type_terms.specs.declared.run.call.TyCall.{TyCall}
 use Rattle.type_terms.specs.declared.run.call.Call.{Call}
-use Rattle.type_terms.specs.declared.run.call.Call.TheVariants as call
 use Rattle.type_terms.specs.CallForm as call_forms
-use Rattle.type_terms.specs.CallForm.{CallForm, trees_at, ty_form, form_positions}
-use Rattle.type_terms.specs.Told.{Told, told_all, AreOwned, HasFullTable}
-use Rattle.type_terms.specs.Means.{term_at, tree_at, AreTerms, MayRefuse, want_of_memory, full_table, no_term, too_deep}
+use Rattle.type_terms.specs.CallForm.{CallForm, Named, Item, a_list, items_positions, AreItemsTooDeep, form_positions}
+use Rattle.type_terms.specs.Told.{Told, term, told, HasFullTable}
+use Rattle.type_terms.specs.Means as means
+use Rattle.type_terms.specs.Means.{tree_at, AreTerms, NamesTerms, BuildsOrFolds, IsAllowed, MayRefuse, want_of_memory, full_table, no_term, too_deep}
 use Rattle.type_terms.specs.Build as build
-use Rattle.type_terms.specs.Build.{IsTyAt, AreTysAt, IsUnbuilt, no_memory, no_row, no_index, IsNameOf, IsListOf, GivesList, IsRegionOf, GivesRegion, IsKindOf, GivesKind, Answers}
+use Rattle.type_terms.specs.Build.{IsUnbuilt, no_memory, no_row, no_index, IsNameOf, IsRegionOf, GivesRegion, AreItemsOf, GivesPart, IsKindOf, Answers}
 use Rattle.type_terms.proofs.RunLaws.{HasFullTable-extends}
 
--- a position where there is a type
-pub tree-at : (earlier : List Answer) (p : ℕ) (t : Ty) → IsTyAt earlier p t → (rows : List Row)
-    → tree_at (told_all rows earlier) p ≡ meaning rows Types t.number
-tree-at earlier p t h rows = rw (h.means rows) refl
-
-pub term-at : (earlier : List Answer) (p : ℕ) (t : Ty) → IsTyAt earlier p t → (rows : List Row) → IsSome (term_at (told_all rows earlier) p)
-term-at earlier p t h rows = rw (h.means rows) refl
-
--- positions where there are types
-module _ (rows : List Row) (earlier : List Answer) where
-  pub trees-at : (ps : List ℕ) (tys : List Ty) → AreTysAt earlier ps tys
-      → fill_all (meaning rows) (item_shapes ty_shape tys) ≡ trees_at (tree_at (told_all rows earlier)) ps
-  unfolding fill
-  trees-at [] [] h = refl
-  trees-at [] (t ∷ tys) h = absurd h
-  trees-at (p ∷ ps) [] h = absurd h
-  trees-at (p ∷ ps) (t ∷ tys) h = rw (tree-at earlier p t h.0 rows, trees-at ps tys h.1) refl
-
-  pub terms-at : (ps : List ℕ) (tys : List Ty) → AreTysAt earlier ps tys → AreTerms (told_all rows earlier) ps
-  terms-at [] [] h = tt
-  terms-at [] (t ∷ tys) h = absurd h
-  terms-at (p ∷ ps) [] h = absurd h
-  terms-at (p ∷ ps) (t ∷ tys) h = (term-at earlier p t h.0 rows, terms-at ps tys h.1)
-
-  pub parts-at : (ps : List ℕ) (tys : List Ty) → AreTysAt earlier ps tys → AreOwned rows earlier → AreParts (size rows) (item_shapes ty_shape tys)
-  unfolding IsPart
-  parts-at [] [] h o = tt
-  parts-at [] (t ∷ tys) h o = absurd h
-  parts-at (p ∷ ps) [] h o = absurd h
-  parts-at (p ∷ ps) (t ∷ tys) h o = (h.0.owned rows o, parts-at ps tys h.1 o)
-
--- a reason of a part is one of the whole
-pub IsUnbuilt-weaker : (P : Type 0) (e d : List Told) (ps qs : List ℕ) (deep deeper : Type 0) (r : Refusal)
-    → (AreTerms d qs → AreTerms e ps) → (deep → deeper) → IsUnbuilt P e ps deep r → IsUnbuilt P d qs deeper r
-IsUnbuilt-weaker P e d ps qs deep deeper r n f (build.no_memory i) = build.no_memory i
-IsUnbuilt-weaker P e d ps qs deep deeper r n f (build.no_row p i) = build.no_row p i
-IsUnbuilt-weaker P e d ps qs deep deeper r n f (build.no_term h i) = build.no_term (λ a. h (n a)) i
-IsUnbuilt-weaker P e d ps qs deep deeper r n f (build.no_index h i) = build.no_index (f h) i
-
 -- why a row was not stored is such a reason
-pub unstored : (old new : Terms) → Extends old new → (row : Row) (e : List Told) (ps : List ℕ) (deep : Type 0) → (IsTooDeep (row_shape row) → deep)
+pub unstored : (old new : Terms) → Extends old new → (row : Row) (e : List Told) (ps : List Named) (deep : Type 0) → (IsTooDeep (row_shape row) → deep)
     → (r : Refusal) → IsCause old row r → IsUnbuilt (HasFullTable new) e ps deep r
 unstored old new x row e ps deep d Memory h = build.no_memory refl
 unstored old new x row e ps deep d TableFull h =
@@ -94,75 +53,61 @@ pub Builds-extends : {H : Type 0} (result : Result H Refusal) (number : H → �
     → Builds result number old new row → Extends old new
 Builds-extends result number old new row b = record { rows = b.grows; limit = b.limit }
 
--- the stored list of the types at positions
-pub list-built : (old new : Terms) (earlier : List Answer) (ps : List ℕ) (tys : List Ty) (result : Result Tys Refusal)
-    → AreTysAt earlier ps tys → Builds result (λ l. l.number) old new (tys_row tys)
-    → GivesList new (told_all old.rows earlier) ps result
-unfolding fill
-list-built old new earlier ps tys (Ok l) h b = record {
+-- the stored list of items
+pub list-built : {H : Type 0} (number : H → ℕ) (old new : Terms) (e : List Told) (t : Table) (is : List Item) (ss : Shapes) (row : Row) (result : Result H Refusal)
+    → AreItemsOf old e is ss → row_table row ≡ t → row_shape row ≡ shape.node (list_label t) ss → Builds result number old new row
+    → GivesPart new e (a_list t is) (λ h. stored t (number h)) result
+unfolding fill IsPart
+list-built number old new e t is ss row (Ok l) h same is_node b = record {
   ok = record {
-    in_range = b.in_range;
-    means = b.means ∙ ap (λ ts. node (list_label TypeLists) ts) (trees-at old.rows earlier ps tys h);
-    named = terms-at old.rows earlier ps tys h;
+    part = rw (← same) b.in_range;
+    means = rw (← same) b.means ∙ ap (λ s. fill (meaning old.rows) s) is_node ∙ ap (λ ts. node (list_label t) ts) h.means;
+    named = h.named;
+    shallow = h.shallow;
   };
   err = tt;
 }
-list-built old new earlier ps tys (Err r) h b = record {
+list-built number old new e t is ss row (Err r) h same is_node b = record {
   ok = tt;
-  err = unstored old new (Builds-extends (Err r) (λ l. l.number) old new (tys_row tys) b) (tys_row tys) (told_all old.rows earlier) ps ⊥ (λ d. d) r b.cause;
+  err = unstored old new (Builds-extends (Err r) number old new row b) row e (items_positions is) (AreItemsTooDeep is)
+      (λ d. absurd (subst (λ (s : Shape). IsTooDeep s) is_node d)) r b.cause;
 }
 
--- a reason why the kind was not built is one why the call is refused
-pub MayRefuse-unbuilt : (P : Type 0) (e : List Told) (c : TyCall) (r : Refusal)
-    → IsUnbuilt P e (form_positions (ty_form c)) (call_forms.IsFormTooDeep (ty_form c)) r → MayRefuse P e (call.Ty c) r
-MayRefuse-unbuilt P e c r (build.no_memory i) = want_of_memory tt i
-MayRefuse-unbuilt P e c r (build.no_row p i) = full_table tt p i
-MayRefuse-unbuilt P e c r (build.no_term h i) = no_term h i
-MayRefuse-unbuilt P e c r (build.no_index h i) = too_deep h i
+-- a reason why a part was not built is one why the call is refused
+pub unbuilt-refused : (P : Type 0) (e : List Told) (c : Call) (ns : List Named) (deep : Type 0) (r : Refusal)
+    → BuildsOrFolds c → (NamesTerms e c → AreTerms e ns) → (deep → means.IsTooDeep c)
+    → IsUnbuilt P e ns deep r → MayRefuse P e c r
+unbuilt-refused P e c ns deep r b n d (build.no_memory i) = want_of_memory b i
+unbuilt-refused P e c ns deep r b n d (build.no_row p i) = full_table b p i
+unbuilt-refused P e c ns deep r b n d (build.no_term h i) = no_term (λ a. h (n a)) i
+unbuilt-refused P e c ns deep r b n d (build.no_index h i) = too_deep (d h) i
 
--- the type of the kind that the call names is its answer
-pub ty-built : (old new : Terms) (e : List Told) (c : TyCall) (k : TyKind) (result : Result Ty Refusal)
-    → IsKindOf old e (ty_form c) k → Builds result (λ t. t.number) old new (type_row k)
-    → Answers new e (call.Ty c) result
-ty-built old new e c k (Ok t) h b = record {
-  owned = b.in_range;
-  ok = (h.named, (λ d. let x = b.deep (h.deep.1 d) in absurd (cc)), b.means ∙ h.means, (λ r x. x));
-  err = tt;
-}
-ty-built old new e c k (Err r) h b = record {
-  owned = tt;
-  ok = tt;
-  err = MayRefuse-unbuilt (HasFullTable new) e c r
-      (unstored old new (Builds-extends (Err r) (λ t. t.number) old new (type_row k) b) (type_row k) e (form_positions (ty_form c)) (call_forms.IsFormTooDeep (ty_form c)) h.deep.0 r b.cause);
-}
+-- the term of the kind that the call names is its answer
+module _ (old new : Terms) (e : List Told) (c : Call) (form : CallForm) (row : Row) (h : IsKindOf old e form (row_shape row)) where
+  pub kind-allowed : {H : Type 0} (number : H → ℕ) (x : H) (a : Answer) → Builds (Ok x) number old new row
+      → told new.rows a ≡ term (row_table row) (meaning new.rows (row_table row) (number x))
+      → (AreTerms e (form_positions form) → (call_forms.IsFormTooDeep form → ⊥) → IsAllowed (HasFullTable new) e c (term (row_table row) (call_forms.form_tree (tree_at e) form)))
+      → IsAllowed (HasFullTable new) e c (told new.rows a)
+  kind-allowed number x a b t allowed =
+      rw (t, b.means, h.means) (allowed h.named (λ d. let y = b.deep (h.deep.1 d) in absurd (cc)))
+
+  pub kind-refused : {H : Type 0} (number : H → ℕ) (r : Refusal) → Builds {H = H} (Err r) number old new row
+      → BuildsOrFolds c → (NamesTerms e c → AreTerms e (form_positions form)) → (call_forms.IsFormTooDeep form → means.IsTooDeep c)
+      → MayRefuse (HasFullTable new) e c r
+  kind-refused number r b builds n d =
+      unbuilt-refused (HasFullTable new) e c (form_positions form) (call_forms.IsFormTooDeep form) r builds n d
+      (unstored old new (Builds-extends (Err r) number old new row b) row e (form_positions form) (call_forms.IsFormTooDeep form) h.deep.0 r b.cause)
 
 -- what a question mark passes on
-pub list-passed : (terms : Terms) (e : List Told) (ps : List ℕ) (result : Result Tys Refusal) (r : Refusal) → IsErrAnd result (λ x. x ≡ r)
-    → IsUnbuilt (HasFullTable terms) e ps ⊥ r → GivesList terms e ps result
-list-passed terms e ps (Ok l) r h k = absurd h
-list-passed terms e ps (Err x) r h k = record { ok = tt; err = rw h k }
-
-pub kind-passed : (terms : Terms) (e : List Told) (f : CallForm) (result : Result TyKind Refusal) (r : Refusal) → IsErrAnd result (λ x. x ≡ r)
-    → IsUnbuilt (HasFullTable terms) e (form_positions f) (call_forms.IsFormTooDeep f) r → GivesKind terms e f result
-kind-passed terms e f (Ok k) r h u = absurd h
-kind-passed terms e f (Err x) r h u = record { ok = tt; err = rw h u }
-
 pub region-passed : (terms : Terms) (t : Tree Depth) (deep : Type 0) (result : Result RegionKind Refusal) (r : Refusal) → IsErrAnd result (λ x. x ≡ r)
     → IsUnbuilt (HasFullTable terms) [] [] deep r → GivesRegion terms t deep result
 region-passed terms t deep (Ok k) r h u = absurd h
 region-passed terms t deep (Err x) r h u = record { ok = tt; err = rw h u }
 
-pub answer-passed : (terms : Terms) (e : List Told) (c : Call) (result : Result Ty Refusal) (r : Refusal) → IsErrAnd result (λ x. x ≡ r)
+pub answer-passed : (terms : Terms) (e : List Told) (c : Call) (result : Result Answer Refusal) (r : Refusal) → IsErrAnd result (λ x. x ≡ r)
     → MayRefuse (HasFullTable terms) e c r → Answers terms e c result
 answer-passed terms e c (Ok k) r h u = absurd h
 answer-passed terms e c (Err x) r h u = record { owned = tt; ok = tt; err = rw h u }
-
--- why types at positions were not found
-pub missing : (P : Type 0) (rows : List Row) (earlier : List Answer) (ps : List ℕ) (r : Refusal)
-    → ((r ≡ Memory) ⊎ ((r ≡ NoSuchAnswer) × ((rows : List Row) → AreTerms (told_all rows earlier) ps → ⊥)))
-    → IsUnbuilt P (told_all rows earlier) ps ⊥ r
-missing P rows earlier ps r (inl i) = build.no_memory i
-missing P rows earlier ps r (inr h) = build.no_term (h.1 rows) h.0
 
 -- a region's index is below the greatest, or it isn't
 IsBelowGreatest-or-not : (i : BoundVarIndexKind) → IsBelowGreatest (depth i) ⊎ IsGreatest (depth i)
@@ -204,10 +149,3 @@ pub symbol-named : (old new : Terms) (bytes : Name) (n : ℕ) → meaning new.ro
     → name_of (meaning new.rows) n ≡ bytes
 unfolding fill
 symbol-named old new bytes n h = rw h refl
-
--- why a position's type was not found
-pub missing-at : (P : Type 0) (rows : List Row) (earlier : List Answer) (p : ℕ) (ps : List ℕ) (deep : Type 0) (r : Refusal)
-    → (r ≡ NoSuchAnswer) → ((rows : List Row) → term_at (told_all rows earlier) p ≡ None)
-    → IsUnbuilt P (told_all rows earlier) (p ∷ ps) deep r
-missing-at P rows earlier p ps deep r i h =
-    build.no_term (λ a. let k = subst (λ (o : Option (Tree Depth)). IsSome o) (h rows) a.0 in absurd (cc)) i

@@ -2,6 +2,8 @@ mod NumberLaws
 pub mod RunLaws
 pub mod LookupLaws
 pub mod ResultLaws
+pub mod PartLaws
+pub mod ClauseLaws
 pub mod BuildLaws
 pub mod NameLaws
 pub mod KindLaws

@@ -1,19 +1,32 @@
 -- What is told at a position is what the answer there tells.
-use Rattle.std.proofs.Common.{◌≡◌, ℕ, zero, suc, ◌-◌, ◌<◌, List, [], ◌∷◌, ◌++◌, Option, Some, None, refl, subst, arith, length, get_or}
+use Rattle.std.proofs.Common.{◌≡◌, ℕ, zero, suc, ◌-◌, ◌<◌, List, [], ◌∷◌, Option, Some, None, refl, ap, subst, sym, ◌∙◌, arith}
 use Rattle.std.specs.List.{slice_get}
 use Rattle.std.specs.Option.{option_map}
-use Rattle.std.specs.Prelude.{IsSome}
+use Rattle.std.specs.Prelude.{IsSomeAnd}
 use Rattle.std.proofs.lemmas.Option.{slice_get-map}
+use Rattle.tt_index.specs.declared.refusal.Refusal.{Refusal}
+use Rattle.tt_index.specs.declared.refusal.Refusal.TheVariants.{NoSuchAnswer}
 use Rattle.tt_kinds.specs.Tree.{Tree, Depth}
+use Rattle.tt_kinds.specs.Shape.{fill, stored, IsPart}
+use Rattle.tt_kinds.specs.declared.table.Table.{Table}
+use Rattle.tt_kinds.specs.declared.table.Table.TheVariants.{Types, Consts, Patterns, Predicates, ClauseLists, ArgLists}
 use Rattle.tt_kinds.specs.declared.handle.Ty.{Ty}
-use Rattle.tt_interner.specs.Rows.{Row}
+use Rattle.tt_kinds.specs.declared.handle.Const.{Const}
+use Rattle.tt_kinds.specs.declared.handle.Pat.{Pat}
+use Rattle.tt_kinds.specs.declared.handle.Predicate.{Predicate}
+use Rattle.tt_kinds.specs.declared.handle.Clauses.{Clauses}
+use Rattle.tt_kinds.specs.declared.handle.GenericArgs.{GenericArgs}
+use Rattle.tt_interner.specs.Rows.{Row, size, meaning}
+use Rattle.tt_interner.specs.Stored.{Terms, Extends}
+use Rattle.tt_interner.proofs.Growth.{meaning-grows}
 use Rattle.type_terms.specs.declared.run.answer.Answer.{Answer}
 use Rattle.type_terms.specs.declared.run.answer.Answer.TheVariants as answer
+use Rattle.type_terms.specs.CallForm.{Named, of_table, one, a_term}
 use Rattle.type_terms.specs.Told.{Told, told, told_all, IsOwned, AreOwned}
-use Rattle.type_terms.specs.Means.{as_term, term_at, AreTerms}
-use Rattle.type_terms.specs.Build.{IsTyAt, AreTysAt}
+use Rattle.type_terms.specs.Means.{Term, as_term, term_at, tree_at, tree_of, AreTerms, Suits}
+use Rattle.type_terms.specs.Build.{IsAnswerAt, IsHandle, IsOther, IsUnbuilt, no_term, IsPartOf}
 
-term_at-told : (rows : List Row) (earlier : List Answer) (p : ℕ) → (p ≡ 0 → ⊥)
+pub term_at-told : (rows : List Row) (earlier : List Answer) (p : ℕ) → (p ≡ 0 → ⊥)
     → term_at (told_all rows earlier) p ≡ as_term (option_map (told rows) (slice_get earlier (p - 1)))
 term_at-told rows earlier zero h = absurd (h refl)
 term_at-told rows earlier (suc n) h = let e : suc n - 1 ≡ n = omega arith in rw (e, slice_get-map (told rows) earlier n) refl
@@ -23,33 +36,93 @@ owned-at rows [] n a h e = absurd (cc)
 owned-at rows (b ∷ answers) zero a h e = let same : b ≡ a = cc in subst (λ (x : Answer). IsOwned rows x) same h.0
 owned-at rows (b ∷ answers) (suc n) a h e = owned-at rows answers n a h.1 e
 
-pub found : (earlier : List Answer) (p : ℕ) (t : Ty) → (p ≡ 0 → ⊥) → slice_get earlier (p - 1) ≡ Some (answer.Ty t) → IsTyAt earlier p t
-found earlier p t h e = record {
+pub found : (earlier : List Answer) (p : ℕ) (a : Answer) → (p ≡ 0 → ⊥) → slice_get earlier (p - 1) ≡ Some a → IsAnswerAt earlier p a
+found earlier p a h e = record {
   means = λ rows. rw (term_at-told rows earlier p h, e) refl;
-  owned = λ rows o. owned-at rows earlier (p - 1) (answer.Ty t) o e;
+  owned = λ rows o. owned-at rows earlier (p - 1) a o e;
 }
 
-no_term : (rows : List Row) (a : Answer) → ((t : Ty) → a ≡ answer.Ty t → ⊥) → as_term (Some (told rows a)) ≡ None
-no_term rows (answer.Ty t) h = absurd (h t refl)
-no_term rows (answer.Truth b) h = refl
-no_term rows (answer.Info flags outer) h = refl
-no_term rows (answer.Refused r) h = refl
-no_term rows answer.Bad h = refl
+pub absent : (earlier : List Answer) (p : ℕ) → (p ≡ 0 → ⊥) → slice_get earlier (p - 1) ≡ None → (rows : List Row) → term_at (told_all rows earlier) p ≡ None
+absent earlier p h e rows = rw (term_at-told rows earlier p h, e) refl
 
-pub other : (earlier : List Answer) (p : ℕ) (a : Answer) → (p ≡ 0 → ⊥) → slice_get earlier (p - 1) ≡ Some a
-    → ((t : Ty) → a ≡ answer.Ty t → ⊥) → (rows : List Row) → term_at (told_all rows earlier) p ≡ None
-other earlier p a h e n rows = rw (term_at-told rows earlier p h, e) (no_term rows a n)
+-- the handle at a position
+module _ (terms : Terms) (earlier : List Answer) (p : ℕ) (a : Answer) (table : Table) (n : ℕ) (at : IsAnswerAt earlier p a) (is : IsHandle a table n) where
+  -- what is told there
+  pub told-at : (rows : List Row) → term_at (told_all rows earlier) p ≡ Some (record { table = table; tree = meaning rows table n })
+  told-at rows = rw (at.means rows, is.told rows) refl
 
--- one position more
-pub AreTysAt-append : (earlier : List Answer) (ps : List ℕ) (tys : List Ty) (p : ℕ) (t : Ty) → AreTysAt earlier ps tys → IsTyAt earlier p t
-    → AreTysAt earlier (ps ++ p ∷ []) (tys ++ t ∷ [])
-AreTysAt-append earlier [] [] p t h k = (k, tt)
-AreTysAt-append earlier [] (u ∷ tys) p t h k = absurd h
-AreTysAt-append earlier (q ∷ ps) [] p t h k = absurd h
-AreTysAt-append earlier (q ∷ ps) (u ∷ tys) p t h k = (h.0, AreTysAt-append earlier ps tys p t h.1 k)
+  pub in_range-at : AreOwned terms.rows earlier → n < size terms.rows table
+  in_range-at o = is.owned terms.rows (at.owned terms.rows o)
 
--- a position that tells no term is among them
-pub AreTerms-not : (earlier : List Told) (ps : List ℕ) (i : ℕ) → i < length ps → term_at earlier (get_or ps i 0) ≡ None → AreTerms earlier ps → ⊥
-AreTerms-not earlier [] i l e h = absurd (omega arith)
-AreTerms-not earlier (p ∷ ps) zero l e h = let k = subst (λ (o : Option (Tree Depth)). IsSome o) e h.0 in absurd (cc)
-AreTerms-not earlier (p ∷ ps) (suc i) l e h = AreTerms-not earlier ps i (omega arith) e h.1
+  pub part-at : AreOwned terms.rows earlier → IsPartOf terms (told_all terms.rows earlier) (one (a_term table p)) (stored table n)
+  unfolding fill IsPart
+  part-at o = record {
+    part = in_range-at o;
+    means = rw (told-at terms.rows) refl;
+    named = (rw (told-at terms.rows) refl, tt);
+    shallow = λ d. d;
+  }
+
+-- no answer at the position
+pub nothing-at : (P : Type 0) (rows : List Row) (earlier : List Answer) (p : ℕ) (table : Table) (r : Refusal) → r ≡ NoSuchAnswer
+    → ((rows : List Row) → term_at (told_all rows earlier) p ≡ None) → IsUnbuilt P (told_all rows earlier) (record { want = of_table table; position = p } ∷ []) ⊥ r
+nothing-at P rows earlier p table r i h =
+    no_term (λ a. subst (λ (o : Option Term). IsSomeAnd o (Suits (told_all rows earlier) (of_table table))) (h rows) a.0) i
+
+-- the answer at the position is no handle of the table
+pub other-at : (P : Type 0) (rows : List Row) (earlier : List Answer) (p : ℕ) (a : Answer) (table : Table) (r : Refusal) → r ≡ NoSuchAnswer
+    → IsAnswerAt earlier p a → IsOther a table → IsUnbuilt P (told_all rows earlier) (record { want = of_table table; position = p } ∷ []) ⊥ r
+other-at P rows earlier p a table r i at other =
+    no_term (λ k. other rows (subst (λ (o : Option Term). IsSomeAnd o (λ u. u.table ≡ table)) (at.means rows) k.0)) i
+
+-- the handles that answers are
+pub ty-handle : (a : Answer) (h : Ty) → a ≡ answer.Ty h → IsHandle a Types h.number
+ty-handle a h e = rw e (record { told = λ rows. refl; owned = λ rows k. k; owns = λ rows k. k })
+
+pub const-handle : (a : Answer) (h : Const) → a ≡ answer.Const h → IsHandle a Consts h.number
+const-handle a h e = rw e (record { told = λ rows. refl; owned = λ rows k. k; owns = λ rows k. k })
+
+pub pat-handle : (a : Answer) (h : Pat) → a ≡ answer.Pat h → IsHandle a Patterns h.number
+pat-handle a h e = rw e (record { told = λ rows. refl; owned = λ rows k. k; owns = λ rows k. k })
+
+pub predicate-handle : (a : Answer) (h : Predicate) → a ≡ answer.Predicate h → IsHandle a Predicates h.number
+predicate-handle a h e = rw e (record { told = λ rows. refl; owned = λ rows k. k; owns = λ rows k. k })
+
+pub clauses-handle : (a : Answer) (h : Clauses) → a ≡ answer.Clauses h → IsHandle a ClauseLists h.number
+clauses-handle a h e = rw e (record { told = λ rows. refl; owned = λ rows k. k; owns = λ rows k. k })
+
+pub args-handle : (a : Answer) (h : GenericArgs) → a ≡ answer.Args h → IsHandle a ArgLists h.number
+args-handle a h e = rw e (record { told = λ rows. refl; owned = λ rows k. k; owns = λ rows k. k })
+
+-- an answer that is none
+pub no-handle : (a : Answer)
+    → ((h : Ty) → a ≡ answer.Ty h → ⊥)
+    → ((h : Const) → a ≡ answer.Const h → ⊥)
+    → ((h : Pat) → a ≡ answer.Pat h → ⊥)
+    → ((h : Predicate) → a ≡ answer.Predicate h → ⊥)
+    → ((h : Clauses) → a ≡ answer.Clauses h → ⊥)
+    → ((h : GenericArgs) → a ≡ answer.Args h → ⊥)
+    → (rows : List Row) → as_term (Some (told rows a)) ≡ None
+no-handle (answer.Ty x) f g h i j k rows = absurd (f x refl)
+no-handle (answer.Const x) f g h i j k rows = absurd (g x refl)
+no-handle (answer.Pat x) f g h i j k rows = absurd (h x refl)
+no-handle (answer.Predicate x) f g h i j k rows = absurd (i x refl)
+no-handle (answer.Clauses x) f g h i j k rows = absurd (j x refl)
+no-handle (answer.Args x) f g h i j k rows = absurd (k x refl)
+no-handle (answer.Truth b) f g h i j k rows = refl
+no-handle (answer.Info flags outer) f g h i j k rows = refl
+no-handle (answer.Refused r) f g h i j k rows = refl
+no-handle answer.Bad f g h i j k rows = refl
+
+-- what is told at a position, of the rows as they are later
+pub told-later : (old new : Terms) (earlier : List Answer) (p : ℕ) (a : Answer) (table : Table) (n : ℕ) → IsAnswerAt earlier p a → IsHandle a table n
+    → Extends old new → AreOwned old.rows earlier
+    → term_at (told_all old.rows earlier) p ≡ Some (record { table = table; tree = meaning new.rows table n })
+told-later old new earlier p a table n at is x o =
+    told-at old earlier p a table n at is old.rows
+    ∙ ap (λ (u : Tree Depth). Some (record { table = table; tree = u })) (sym (meaning-grows old.rows new.rows x.rows table n (in_range-at old earlier p a table n at is o)))
+
+-- where the answer at the position is none
+pub nothing-told : (earlier : List Answer) (p : ℕ) (a : Answer) → IsAnswerAt earlier p a → ((rows : List Row) → as_term (Some (told rows a)) ≡ None)
+    → (rows : List Row) → term_at (told_all rows earlier) p ≡ None
+nothing-told earlier p a at none rows = at.means rows ∙ none rows

@@ -2,7 +2,7 @@
 use Rattle.std.proofs.Common.{◌≡◌, List, [], ◌∷◌, ◌++◌, refl, ap, sym, subst, arith, append_assoc, append-nil}
 use Rattle.std.proofs.lemmas.List.{map-append}
 use Rattle.tt_index.specs.declared.refusal.Refusal.{Refusal}
-use Rattle.tt_kinds.specs.declared.table.Table.TheVariants.{Types}
+use Rattle.tt_kinds.specs.declared.table.Table.TheVariants.{Types, Consts, Patterns, Predicates, ClauseLists, ArgLists}
 use Rattle.tt_interner.specs.Rows.{Row, Grows}
 use Rattle.tt_interner.specs.Stored.{Terms, Extends}
 use Rattle.tt_interner.proofs.Growth.{Extends-refl, Extends-trans, size-grows, in_range-grows, meaning-grows}
@@ -14,7 +14,12 @@ use Rattle.type_terms.specs.Means.{MayRefuse, want_of_memory, full_table, no_ter
 
 module _ (old new : List Row) (g : Grows old new) where
   pub told-grows : (a : Answer) → IsOwned old a → told new a ≡ told old a
-  told-grows (answer.Ty t) h = ap term (meaning-grows old new g Types t.number h)
+  told-grows (answer.Ty t) h = ap (term Types) (meaning-grows old new g Types t.number h)
+  told-grows (answer.Const t) h = ap (term Consts) (meaning-grows old new g Consts t.number h)
+  told-grows (answer.Pat t) h = ap (term Patterns) (meaning-grows old new g Patterns t.number h)
+  told-grows (answer.Predicate t) h = ap (term Predicates) (meaning-grows old new g Predicates t.number h)
+  told-grows (answer.Clauses t) h = ap (term ClauseLists) (meaning-grows old new g ClauseLists t.number h)
+  told-grows (answer.Args t) h = ap (term ArgLists) (meaning-grows old new g ArgLists t.number h)
   told-grows (answer.Truth b) h = refl
   told-grows (answer.Info flags outer) h = refl
   told-grows (answer.Refused r) h = refl
@@ -22,6 +27,11 @@ module _ (old new : List Row) (g : Grows old new) where
 
   pub IsOwned-grows : (a : Answer) → IsOwned old a → IsOwned new a
   IsOwned-grows (answer.Ty t) h = in_range-grows old new g Types t.number h
+  IsOwned-grows (answer.Const t) h = in_range-grows old new g Consts t.number h
+  IsOwned-grows (answer.Pat t) h = in_range-grows old new g Patterns t.number h
+  IsOwned-grows (answer.Predicate t) h = in_range-grows old new g Predicates t.number h
+  IsOwned-grows (answer.Clauses t) h = in_range-grows old new g ClauseLists t.number h
+  IsOwned-grows (answer.Args t) h = in_range-grows old new g ArgLists t.number h
   IsOwned-grows (answer.Truth b) h = tt
   IsOwned-grows (answer.Info flags outer) h = tt
   IsOwned-grows (answer.Refused r) h = tt
@@ -57,7 +67,7 @@ module _ (P Q : Type 0) (f : P → Q) where
   MayRefuse-fuller e c r (unsuited n s) = unsuited n s
 
   IsAllowed-fuller : (e : List Told) (c : Call) (t : Told) → IsAllowed P e c t → IsAllowed Q e c t
-  IsAllowed-fuller e c (term t) h = h
+  IsAllowed-fuller e c (term table t) h = h
   IsAllowed-fuller e c (truth b) h = h
   IsAllowed-fuller e c (info flags outer) h = h
   IsAllowed-fuller e c (refused r) h = MayRefuse-fuller e c r h

@@ -1,51 +1,65 @@
 -- What the steps of a building call promise.
-use Rattle.std.specs.Prelude.{◌≡◌, ◌↔◌, ℕ, ◌<◌, List, [], ◌∷◌, map, Result, IfOk, IfErr, Some}
+use Rattle.std.specs.Prelude.{◌≡◌, ◌↔◌, ℕ, ◌<◌, List, [], ◌∷◌, map, Result, IfOk, IfErr, Some, IsSome, IsSomeAnd}
 use Rattle.tt_index.specs.declared.refusal.Refusal.{Refusal}
 use Rattle.tt_index.specs.declared.refusal.Refusal.TheVariants.{Memory, TableFull, GreatestIndex, NoSuchAnswer}
-use Rattle.tt_kinds.specs.Label.{list_label, var_list_label}
-use Rattle.tt_kinds.specs.Tree.{Tree, Depth, node, none}
+use Rattle.tt_kinds.specs.Label.{var_list_label}
+use Rattle.tt_kinds.specs.Tree.{Tree, Forest, Depth, node, none}
+use Rattle.tt_kinds.specs.Scan.{scan}
+use Rattle.tt_kinds.specs.Reading.{outer_binder}
 use Rattle.tt_kinds.specs.Bound.{region_name, var_kind}
-use Rattle.tt_kinds.specs.Shape.{name_of, rename_region, rename_kind, IsNamed, IsNamedKind, AreNamedKinds, fill, IsPart, HasParts}
+use Rattle.tt_kinds.specs.Shape.{Shape, Shapes, name_of, rename_region, rename_kind, IsNamed, IsNamedKind, AreNamedKinds, fill, fill_all, item_shapes, IsPart, AreParts, HasParts}
 use Rattle.tt_kinds.specs.Shape as shape
-use Rattle.tt_kinds.specs.Kinds.{region_shape, ty_kind_shape, arg_shape}
-use Rattle.tt_kinds.specs.declared.handle.Ty.{Ty}
-use Rattle.tt_kinds.specs.declared.handle.Tys.{Tys}
+use Rattle.tt_kinds.specs.Kinds.{RecordForm, record_shape, region_shape, arg_shape, clause_shape}
+use Rattle.tt_kinds.specs.declared.handle.Clause.{Clause}
 use Rattle.tt_kinds.specs.declared.region_kind.RegionKind.{RegionKind}
-use Rattle.tt_kinds.specs.declared.ty_kind.TyKind.{TyKind}
 use Rattle.tt_kinds.specs.declared.bound.BoundRegionKind.{BoundRegionKind}
 use Rattle.tt_kinds.specs.declared.bound.BoundVariableKind.{BoundVariableKind}
 use Rattle.tt_kinds.specs.declared.handle.BoundVarKinds.{BoundVarKinds}
-use Rattle.tt_kinds.specs.declared.table.Table.TheVariants.{Types, TypeLists, VarLists}
-use Rattle.tt_interner.specs.Rows.{Row, size, meaning}
+use Rattle.tt_kinds.specs.declared.table.Table.{Table}
+use Rattle.tt_kinds.specs.declared.table.Table.TheVariants.{VarLists}
+use Rattle.tt_interner.specs.Rows.{Row, size, meaning, AreClauses}
 use Rattle.tt_interner.specs.Stored.{Terms}
 use Rattle.type_terms.specs.declared.run.answer.Answer.{Answer}
+use Rattle.type_terms.specs.declared.run.answer.Answer.TheVariants as answer
 use Rattle.type_terms.specs.declared.run.call.RegionNameCall.{RegionNameCall}
 use Rattle.type_terms.specs.declared.run.call.VariableCall.{VariableCall}
 use Rattle.type_terms.specs.declared.run.call.ArgCall.{ArgCall}
 use Rattle.type_terms.specs.declared.run.call.Call.{Call}
-use Rattle.tt_binder.specs.Arguments.{argument_of, AreArguments}
+use Rattle.tt_binder.specs.Arguments.{argument_of}
 use Rattle.tt_binder.specs.Arguments.{arguments as built_arguments}
 use Rattle.tt_kinds.specs.declared.generic_arg.GenericArgKind.{GenericArgKind}
 use Rattle.std.specs.declared.alloc.Global.{Global}
 use Rattle.std.specs.declared.vec.Vec.{Vec}
-use Rattle.type_terms.specs.CallForm.{CallForm, called, variable_kind, trees_at, form_positions, form_tree, IsFormTooDeep}
-use Rattle.type_terms.specs.Told.{Told, term, told_all, AreOwned, HasFullTable}
-use Rattle.type_terms.specs.Means.{term_at, tree_at, argument, arguments, arg_positions, AreTerms, AreArgsTooDeep, IsAllowed, MayRefuse}
+use Rattle.type_terms.specs.CallForm.{CallForm, Named, Item, Part, called, variable_kind, item_tree, items_trees, part_tree, parts_trees, item_positions, items_positions, part_positions, parts_positions, IsItemTooDeep, AreItemsTooDeep, IsPartTooDeep, ArePartsTooDeep, form_positions, form_tree, IsFormTooDeep, arg_item, arg_items, clause_items, RecordCall, record_tree}
+use Rattle.type_terms.specs.Told.{Told, term, told, told_all, handle_table, IsOwned, AreOwned, HasFullTable}
+use Rattle.type_terms.specs.Means.{as_term, term_at, tree_at, argument, arguments, AreTerms, IsAllowed, MayRefuse}
 
--- the answer at the position is this type
-pub record IsTyAt (earlier : List Answer) (position : ℕ) (ty : Ty) : Type 0 where
-  pub means : (rows : List Row) → term_at (told_all rows earlier) position ≡ Some (meaning rows Types ty.number)
-  pub owned : (rows : List Row) → AreOwned rows earlier → ty.number < size rows Types
+-- the answer is the handle of this number in the table
+pub record IsHandle (a : Answer) (table : Table) (number : ℕ) : Type 0 where
+  pub told : (rows : List Row) → told rows a ≡ term table (meaning rows table number)
+  pub owned : (rows : List Row) → IsOwned rows a → number < size rows table
+  pub owns : (rows : List Row) → number < size rows table → IsOwned rows a
 
--- the answers at the positions are these types
-abbrev pub AreTysAt : List Answer → List ℕ → List Ty → Type 0
-AreTysAt earlier [] [] = Unit {0}
-AreTysAt earlier [] (t ∷ tys) = ⊥
-AreTysAt earlier (p ∷ ps) [] = ⊥
-AreTysAt earlier (p ∷ ps) (t ∷ tys) = IsTyAt earlier p t × AreTysAt earlier ps tys
+-- the answer is no handle of the table
+abbrev pub IsOther : Answer → Table → Type 0
+IsOther a table = (rows : List Row) → IsSomeAnd (as_term (Some (told rows a))) (λ u. u.table ≡ table) → ⊥
+
+-- both answers are handles of one table
+abbrev pub AreAlike : Answer → Answer → Type 0
+AreAlike a b = IsSome (handle_table a) × (handle_table a ≡ handle_table b)
+
+-- the answer is what is kept beside the tree's term
+abbrev pub IsInfoOf : Tree Depth → Answer → Type 0
+IsInfoOf t (answer.Info flags outer) = (flags.bits ≡ scan t) × (outer ≡ outer_binder t)
+IsInfoOf t _ = ⊥
+
+-- this is the answer at the position
+pub record IsAnswerAt (earlier : List Answer) (position : ℕ) (a : Answer) : Type 0 where
+  pub means : (rows : List Row) → term_at (told_all rows earlier) position ≡ as_term (Some (told rows a))
+  pub owned : (rows : List Row) → AreOwned rows earlier → IsOwned rows a
 
 -- why a part of a term was not built: named are the positions that it names, and deep says that it needs the greatest index
-pub data IsUnbuilt (full : Type 0) (earlier : List Told) (named : List ℕ) (deep : Type 0) (e : Refusal) : Type 0 where
+pub data IsUnbuilt (full : Type 0) (earlier : List Told) (named : List Named) (deep : Type 0) (e : Refusal) : Type 0 where
   no_memory : e ≡ Memory → IsUnbuilt full earlier named deep e
   no_row : full → e ≡ TableFull → IsUnbuilt full earlier named deep e
   no_term : (AreTerms earlier named → ⊥) → e ≡ NoSuchAnswer → IsUnbuilt full earlier named deep e
@@ -97,55 +111,95 @@ pub record GivesRegion (terms : Terms) (t : Tree Depth) (deep : Type 0) (result 
   pub ok : IfOk result (IsRegionOf terms t deep)
   pub err : IfErr result (IsUnbuilt (HasFullTable terms) [] [] deep)
 
--- the list is that of the terms at the positions
-pub record IsListOf (terms : Terms) (earlier : List Told) (positions : List ℕ) (list : Tys) : Type 0 where
-  pub in_range : list.number < size terms.rows TypeLists
-  pub means : meaning terms.rows TypeLists list.number ≡ node (list_label TypeLists) (trees_at (tree_at earlier) positions)
-  pub named : AreTerms earlier positions
+-- the shape has this tree, these positions tell terms, and deep, which says that it needs the greatest index, doesn't hold
+pub record IsPlaced (terms : Terms) (earlier : List Told) (t : Tree Depth) (names : List Named) (deep : Type 0) (s : Shape) : Type 0 where
+  pub part : IsPart (size terms.rows) s
+  pub means : fill (meaning terms.rows) s ≡ t
+  pub named : AreTerms earlier names
+  pub shallow : deep → ⊥
 
--- the result is that list, or a refusal with a reason
-pub record GivesList (terms : Terms) (earlier : List Told) (positions : List ℕ) (result : Result Tys Refusal) : Type 0 where
-  pub ok : IfOk result (IsListOf terms earlier positions)
-  pub err : IfErr result (IsUnbuilt (HasFullTable terms) earlier positions ⊥)
+-- the same of shapes in order
+pub record ArePlaced (terms : Terms) (earlier : List Told) (ts : Forest Depth) (names : List Named) (deep : Type 0) (ss : Shapes) : Type 0 where
+  pub parts : AreParts (size terms.rows) ss
+  pub means : fill_all (meaning terms.rows) ss ≡ ts
+  pub named : AreTerms earlier names
+  pub shallow : deep → ⊥
 
--- the kind is the one that the call names
-pub record IsKindOf (terms : Terms) (earlier : List Told) (form : CallForm) (k : TyKind) : Type 0 where
-  pub parts : HasParts (size terms.rows) (ty_kind_shape k)
-  pub means : fill (meaning terms.rows) (ty_kind_shape k) ≡ form_tree (tree_at earlier) form
+-- the value is what the call puts in the item's place
+abbrev pub IsItemOf : Terms → List Told → Item → Shape → Type 0
+IsItemOf terms earlier i s = IsPlaced terms earlier (item_tree (tree_at earlier) i) (item_positions i) (IsItemTooDeep i) s
+
+-- the values are what the call puts in the items' places
+abbrev pub AreItemsOf : Terms → List Told → List Item → Shapes → Type 0
+AreItemsOf terms earlier is ss = ArePlaced terms earlier (items_trees (tree_at earlier) is) (items_positions is) (AreItemsTooDeep is) ss
+
+-- the value is what the call puts in the child's place
+abbrev pub IsPartOf : Terms → List Told → Part → Shape → Type 0
+IsPartOf terms earlier p s = IsPlaced terms earlier (part_tree (tree_at earlier) p) (part_positions p) (IsPartTooDeep p) s
+
+-- the values are what the call puts in the children's places
+abbrev pub ArePartsOf : Terms → List Told → List Part → Shapes → Type 0
+ArePartsOf terms earlier ps ss = ArePlaced terms earlier (parts_trees (tree_at earlier) ps) (parts_positions ps) (ArePartsTooDeep ps) ss
+
+-- the result is what the call puts in the child's place, or a refusal with a reason
+pub record GivesPart {H : Type 0} (terms : Terms) (earlier : List Told) (p : Part) (shape : H → Shape) (result : Result H Refusal) : Type 0 where
+  pub ok : IfOk result (λ h. IsPartOf terms earlier p (shape h))
+  pub err : IfErr result (IsUnbuilt (HasFullTable terms) earlier (part_positions p) (IsPartTooDeep p))
+
+-- the result is what the call puts in the items' places, or a refusal with a reason
+pub record GivesItems {H : Type 0} (terms : Terms) (earlier : List Told) (is : List Item) (shape : H → Shape) (result : Result (Vec H Global) Refusal) : Type 0 where
+  pub ok : IfOk result (λ hs. AreItemsOf terms earlier is (item_shapes shape hs.items))
+  pub err : IfErr result (IsUnbuilt (HasFullTable terms) earlier (items_positions is) (AreItemsTooDeep is))
+
+-- the result is what the call puts in the children's places, or a refusal with a reason
+pub record GivesParts {H : Type 0} (terms : Terms) (earlier : List Told) (ps : List Part) (shapes : H → Shapes) (result : Result H Refusal) : Type 0 where
+  pub ok : IfOk result (λ h. ArePartsOf terms earlier ps (shapes h))
+  pub err : IfErr result (IsUnbuilt (HasFullTable terms) earlier (parts_positions ps) (ArePartsTooDeep ps))
+
+-- the shape of a kind is the one that the call names
+pub record IsKindOf (terms : Terms) (earlier : List Told) (form : CallForm) (s : Shape) : Type 0 where
+  pub parts : HasParts (size terms.rows) s
+  pub means : fill (meaning terms.rows) s ≡ form_tree (tree_at earlier) form
   pub named : AreTerms earlier (form_positions form)
-  pub deep : shape.IsTooDeep (ty_kind_shape k) ↔ IsFormTooDeep form
+  pub deep : shape.IsTooDeep s ↔ IsFormTooDeep form
 
 -- the result is such a kind, or a refusal with a reason
-pub record GivesKind (terms : Terms) (earlier : List Told) (form : CallForm) (result : Result TyKind Refusal) : Type 0 where
-  pub ok : IfOk result (IsKindOf terms earlier form)
+pub record GivesKind {K : Type 0} (terms : Terms) (earlier : List Told) (form : CallForm) (shape : K → Shape) (result : Result K Refusal) : Type 0 where
+  pub ok : IfOk result (λ k. IsKindOf terms earlier form (shape k))
   pub err : IfErr result (IsUnbuilt (HasFullTable terms) earlier (form_positions form) (IsFormTooDeep form))
+
+-- the result is what stands under the predicate's binder, or a refusal with a reason
+pub record GivesRecord {K : Type 0} (terms : Terms) (earlier : List Told) (r : RecordCall) (form : K → RecordForm) (result : Result K Refusal) : Type 0 where
+  pub ok : IfOk result (λ k. IsPlaced terms earlier (record_tree (tree_at earlier) r) (parts_positions r.parts) (ArePartsTooDeep r.parts) (record_shape (form k)))
+  pub err : IfErr result (IsUnbuilt (HasFullTable terms) earlier (parts_positions r.parts) (ArePartsTooDeep r.parts))
+
+-- the clauses are those at the positions
+pub record AreClausesAt (terms : Terms) (earlier : List Told) (positions : List ℕ) (list : List Clause) : Type 0 where
+  pub items : AreItemsOf terms earlier (clause_items positions) (item_shapes clause_shape list)
+  pub clauses : AreClauses terms.rows list
 
 -- the argument is the one that the call names
 pub record IsArgumentOf (terms : Terms) (earlier : List Told) (call : ArgCall) (a : GenericArgKind) : Type 0 where
-  pub part : IsPart (size terms.rows) (arg_shape a)
+  pub item : IsItemOf terms earlier (arg_item call) (arg_shape a)
   pub means : argument_of terms.rows a ≡ argument earlier call
-  pub named : AreTerms earlier (arg_positions (call ∷ []))
-  pub shallow : AreArgsTooDeep (call ∷ []) → ⊥
 
 -- the result is that argument, or a refusal with a reason
 pub record GivesArgument (terms : Terms) (earlier : List Told) (call : ArgCall) (result : Result GenericArgKind Refusal) : Type 0 where
   pub ok : IfOk result (IsArgumentOf terms earlier call)
-  pub err : IfErr result (IsUnbuilt (HasFullTable terms) earlier (arg_positions (call ∷ [])) (AreArgsTooDeep (call ∷ [])))
+  pub err : IfErr result (IsUnbuilt (HasFullTable terms) earlier (item_positions (arg_item call)) (IsItemTooDeep (arg_item call)))
 
 -- the arguments are those that the call names
 pub record AreArgumentsOf (terms : Terms) (earlier : List Told) (calls : List ArgCall) (args : List GenericArgKind) : Type 0 where
-  pub parts : AreArguments terms.rows args
+  pub items : AreItemsOf terms earlier (arg_items calls) (item_shapes arg_shape args)
   pub means : built_arguments terms.rows args ≡ arguments earlier calls
-  pub named : AreTerms earlier (arg_positions calls)
-  pub shallow : AreArgsTooDeep calls → ⊥
 
 -- the result is those arguments, or a refusal with a reason
 pub record GivesArguments (terms : Terms) (earlier : List Told) (calls : List ArgCall) (result : Result (Vec GenericArgKind Global) Refusal) : Type 0 where
   pub ok : IfOk result (λ args. AreArgumentsOf terms earlier calls args.items)
-  pub err : IfErr result (IsUnbuilt (HasFullTable terms) earlier (arg_positions calls) (AreArgsTooDeep calls))
+  pub err : IfErr result (IsUnbuilt (HasFullTable terms) earlier (items_positions (arg_items calls)) (AreItemsTooDeep (arg_items calls)))
 
--- the result may be told as the call's answer
-pub record Answers (terms : Terms) (earlier : List Told) (call : Call) (result : Result Ty Refusal) : Type 0 where
-  pub owned : IfOk result (λ ty. ty.number < size terms.rows Types)
-  pub ok : IfOk result (λ ty. IsAllowed (HasFullTable terms) earlier call (term (meaning terms.rows Types ty.number)))
+-- the result may be the call's answer
+pub record Answers (terms : Terms) (earlier : List Told) (call : Call) (result : Result Answer Refusal) : Type 0 where
+  pub owned : IfOk result (IsOwned terms.rows)
+  pub ok : IfOk result (λ a. IsAllowed (HasFullTable terms) earlier call (told terms.rows a))
   pub err : IfErr result (MayRefuse (HasFullTable terms) earlier call)

@@ -1,30 +1,90 @@
--- What building calls build: the table of their kinds, and the tree over the trees at the positions that they name.
+-- What building calls build: the tree over the trees at the positions that they name, and what they ask of the terms there.
 use Rattle.std.specs.Prelude.{ℕ, List, [], ◌∷◌, ◌++◌, map, ◌⊎◌}
 use Rattle.std.specs.String.{string_bytes}
-use Rattle.tt_kinds.specs.Label.{Name, Sort, region_sort, type_sort, RegionName, anonymous, printed, named, environment, VarKind, region_variable, type_variable, const_variable, Entry, static_region, erased_region, region_var, error_region, bool_type, char_type, int_type, uint_type, float_type, str_type, never_type, placeholder_type, infer_type, error_type, ref_type, raw_ptr_type, slice_type, tuple_type, fn_ptr_type, RecordLabel, fn_sig_tys_record, Label, type_label, list_label, record_label}
+use Rattle.tt_kinds.specs.Label.{Name, Sort, region_sort, type_sort, const_sort, RegionName, anonymous, printed, named, environment, VarKind, region_variable, type_variable, const_variable, Entry, static_region, erased_region, region_var, error_region, late_param_region, placeholder_region, TypeLabel, bool_type, char_type, int_type, uint_type, float_type, str_type, never_type, placeholder_type, infer_type, error_type, ref_type, raw_ptr_type, slice_type, tuple_type, fn_ptr_type, foreign_type, adt_type, array_type, closure_type, coroutine_closure_type, coroutine_type, coroutine_witness_type, alias_type, infer_const, placeholder_const, unevaluated_const, leaf_const, branch_const, error_const, expr_const, pat_type, unsafe_binder_type, range_pattern, or_pattern, not_null_pattern, unsafe_binder_record, trait_record, host_effect_record, region_outlives_record, type_outlives_record, projection_record, const_has_type_record, well_formed_record, const_evaluatable_record, unstable_feature_record, dyn_compatible_record, subtype_record, coerce_record, const_equate_record, ambiguous_record, normalizes_to_record, alias_relate_record, RecordLabel, fn_sig_tys_record, Label, type_label, const_label, pattern_label, predicate_label, clause_list_label, list_label, record_label}
 use Rattle.tt_kinds.specs.Tree as tree
 use Rattle.tt_kinds.specs.Tree.{Depth, Tree, Forest, none, also}
 use Rattle.tt_kinds.specs.Bound.{depth}
 use Rattle.tt_kinds.specs.Shape.{IsGreatest}
 use Rattle.tt_kinds.specs.declared.table.Table.{Table}
-use Rattle.tt_kinds.specs.declared.table.Table.TheVariants.{TypeLists}
+use Rattle.tt_kinds.specs.declared.table.Table.TheVariants.{Types, Consts, Patterns, TypeLists, ConstLists, ArgLists, PatternLists}
 use Rattle.tt_kinds.specs.declared.bound.BoundTy.{BoundTy}
+use Rattle.tt_kinds.specs.declared.bound.BoundConst.{BoundConst}
 use Rattle.type_terms.specs.declared.run.call.RegionNameCall.{RegionNameCall}
 use Rattle.type_terms.specs.declared.run.call.RegionNameCall.TheVariants as region_name
 use Rattle.type_terms.specs.declared.run.call.VariableCall.{VariableCall}
 use Rattle.type_terms.specs.declared.run.call.VariableCall.TheVariants as variable
 use Rattle.type_terms.specs.declared.run.call.RegionCall.{RegionCall}
-use Rattle.type_terms.specs.declared.run.call.RegionCall.TheVariants.{ReEarlyParam, ReBound, ReStatic, ReVar, ReErased, ReError}
+use Rattle.type_terms.specs.declared.run.call.RegionCall.TheVariants.{ReEarlyParam, ReBound, ReLateParam, ReStatic, ReVar, RePlaceholder, ReErased, ReError}
+use Rattle.type_terms.specs.declared.run.call.ArgCall.{ArgCall}
+use Rattle.type_terms.specs.declared.run.call.ArgCall.TheVariants as arg
+use Rattle.type_terms.specs.declared.run.call.ItemCall.{ItemCall}
+use Rattle.type_terms.specs.declared.run.call.ItemCall.TheVariants as item
+use Rattle.type_terms.specs.declared.run.call.ValTreeCall.{ValTreeCall}
+use Rattle.type_terms.specs.declared.run.call.ValTreeCall.TheVariants as valtree
+use Rattle.type_terms.specs.declared.run.call.ConstCall.{ConstCall}
+use Rattle.type_terms.specs.declared.run.call.ConstCall.TheVariants as const
+use Rattle.type_terms.specs.declared.run.call.PatCall.{PatCall}
+use Rattle.type_terms.specs.declared.run.call.PatCall.TheVariants as pat
+use Rattle.type_terms.specs.declared.run.call.TermCall.{TermCall}
+use Rattle.type_terms.specs.declared.run.call.TermCall.TheVariants as term
+use Rattle.type_terms.specs.declared.run.call.ClauseCall.{ClauseCall}
+use Rattle.type_terms.specs.declared.run.call.ClauseCall.TheVariants as clause
+use Rattle.type_terms.specs.declared.run.call.PredicateKindCall.{PredicateKindCall}
+use Rattle.type_terms.specs.declared.run.call.PredicateKindCall.TheVariants as predicate
+use Rattle.type_terms.specs.declared.run.call.PredicateCall.{PredicateCall}
 use Rattle.type_terms.specs.declared.run.call.TyCall.{TyCall}
 use Rattle.type_terms.specs.declared.run.call.TyCall.TheVariants as ty
 
+-- what a call asks of the term at a position
+pub data Want : Type 0 where
+  -- it is of the table
+  of_table : Table → Want
+  -- it is a predicate that is a clause
+  of_clause : Want
+  -- it is of the table of the term at another position
+  as_at : ℕ → Want
+  -- it is of any table
+  of_any : Want
+  -- it has flags: it is no list of arguments
+  with_flags : Want
+
+-- a position that a call names
+pub record Named : Type 0 where
+  pub want : Want
+  pub position : ℕ
+
+-- what a call puts in the place of a child that is no list, or in a list
+pub data Item : Type 0 where
+  a_region : RegionCall → Item
+  -- the term of the table at the position
+  a_term : Table → ℕ → Item
+  -- the clause at the position
+  a_clause : ℕ → Item
+
 -- what a call puts in the place of a child
 pub data Part : Type 0 where
-  a_region : RegionCall → Part
-  -- the term at the position
-  a_term : ℕ → Part
-  -- a list of the table, of the terms at the positions
-  a_list : Table → List ℕ → Part
+  one : Item → Part
+  -- a list of the table
+  a_list : Table → List Item → Part
+
+-- an argument as an item of a list
+abbrev pub arg_item : ArgCall → Item
+arg_item (arg.Lifetime r) = a_region r
+arg_item (arg.«Type» p) = a_term Types p
+arg_item (arg.Const p) = a_term Consts p
+
+-- arguments as items of a list
+abbrev pub arg_items : List ArgCall → List Item
+arg_items args = map arg_item args
+
+-- a list of arguments
+abbrev pub args_part : List ArgCall → Part
+args_part args = a_list ArgLists (arg_items args)
+
+-- the terms of the table at the positions
+abbrev pub terms_at : Table → List ℕ → List Item
+terms_at t ps = map (a_term t) ps
 
 -- what a call builds: a parameter, a bound variable, or a node of its label and its children
 pub data CallForm : Type 0 where
@@ -55,6 +115,19 @@ region_entry var name = record { var = var; kind = region_variable (called name)
 abbrev pub ty_entry : BoundTy → Entry Name
 ty_entry b = record { var = b.var; kind = type_variable b.kind }
 
+-- what a bound constant says of itself
+abbrev pub const_entry : BoundConst → Entry Name
+const_entry b = record { var = b.var; kind = const_variable }
+
+-- what a type with arguments is of
+abbrev pub item_type : ItemCall → TypeLabel
+item_type (item.Adt d) = adt_type d.number
+item_type (item.Closure d) = closure_type d.number
+item_type (item.CoroutineClosure d) = coroutine_closure_type d.number
+item_type (item.Coroutine d) = coroutine_type d.number
+item_type (item.CoroutineWitness d) = coroutine_witness_type d.number
+item_type (item.Alias k) = alias_type k
+
 -- the types that can be built
 abbrev pub ty_form : TyCall → CallForm
 ty_form ty.Bool = plain (type_label bool_type) []
@@ -62,6 +135,7 @@ ty_form ty.Char = plain (type_label char_type) []
 ty_form (ty.Int i) = plain (type_label (int_type i)) []
 ty_form (ty.Uint i) = plain (type_label (uint_type i)) []
 ty_form (ty.Float f) = plain (type_label (float_type f)) []
+ty_form (ty.Foreign d) = plain (type_label (foreign_type d.number)) []
 ty_form ty.Str = plain (type_label str_type) []
 ty_form ty.Never = plain (type_label never_type) []
 ty_form (ty.Param index name) = param type_sort index (string_bytes name)
@@ -69,19 +143,92 @@ ty_form (ty.Bound i b) = bound type_sort (depth i) (ty_entry b)
 ty_form (ty.Placeholder p) = plain (type_label (placeholder_type p)) []
 ty_form (ty.Infer i) = plain (type_label (infer_type i)) []
 ty_form (ty.Error e) = plain (type_label (error_type e.0)) []
-ty_form (ty.Ref r t m) = plain (type_label (ref_type m)) (a_region r ∷ a_term t ∷ [])
-ty_form (ty.RawPtr t m) = plain (type_label (raw_ptr_type m)) (a_term t ∷ [])
-ty_form (ty.Slice t) = plain (type_label slice_type) (a_term t ∷ [])
-ty_form (ty.Tuple ts) = plain (type_label tuple_type) (a_list TypeLists ts.items ∷ [])
+ty_form (ty.Ref r t m) = plain (type_label (ref_type m)) (one (a_region r) ∷ one (a_term Types t) ∷ [])
+ty_form (ty.RawPtr t m) = plain (type_label (raw_ptr_type m)) (one (a_term Types t) ∷ [])
+ty_form (ty.Slice t) = plain (type_label slice_type) (one (a_term Types t) ∷ [])
+ty_form (ty.Array t c) = plain (type_label array_type) (one (a_term Types t) ∷ one (a_term Consts c) ∷ [])
+ty_form (ty.Tuple ts) = plain (type_label tuple_type) (a_list TypeLists (terms_at Types ts.items) ∷ [])
 ty_form (ty.FnPtr vars ts h) =
-    under (type_label (fn_ptr_type h)) (map variable_kind vars.items) fn_sig_tys_record (a_list TypeLists ts.items ∷ [])
+    under (type_label (fn_ptr_type h)) (map variable_kind vars.items) fn_sig_tys_record (a_list TypeLists (terms_at Types ts.items) ∷ [])
+ty_form (ty.Item i args) = plain (type_label (item_type i)) (args_part args.items ∷ [])
+ty_form (ty.Pat t p) = plain (type_label pat_type) (one (a_term Types t) ∷ one (a_term Patterns p) ∷ [])
+ty_form (ty.UnsafeBinder vars t) = under (type_label unsafe_binder_type) (map variable_kind vars.items) unsafe_binder_record (one (a_term Types t) ∷ [])
+
+-- the values that can be built, of the type at the position
+abbrev pub value_form : ℕ → ValTreeCall → CallForm
+value_form t (valtree.Leaf s) = plain (const_label (leaf_const s.bits s.size)) (one (a_term Types t) ∷ [])
+value_form t (valtree.Branch cs) = plain (const_label branch_const) (one (a_term Types t) ∷ a_list ConstLists (terms_at Consts cs.items) ∷ [])
+
+-- the constants that can be built
+abbrev pub const_form : ConstCall → CallForm
+const_form (const.Param index name) = param const_sort index (string_bytes name)
+const_form (const.Infer i) = plain (const_label (infer_const i)) []
+const_form (const.Bound i b) = bound const_sort (depth i) (const_entry b)
+const_form (const.Placeholder p) = plain (const_label (placeholder_const p)) []
+const_form (const.Unevaluated d args) = plain (const_label (unevaluated_const d.number)) (args_part args.items ∷ [])
+const_form (const.Value t v) = value_form t v
+const_form (const.Error e) = plain (const_label (error_const e.0)) []
+const_form (const.Expr tag args) = plain (const_label (expr_const tag)) (args_part args.items ∷ [])
+
+-- the patterns that can be built
+abbrev pub pat_form : PatCall → CallForm
+pat_form (pat.Range start end) = plain (pattern_label range_pattern) (one (a_term Consts start) ∷ one (a_term Consts end) ∷ [])
+pat_form (pat.Or ps) = plain (pattern_label or_pattern) (a_list PatternLists (terms_at Patterns ps.items) ∷ [])
+pat_form pat.NotNull = plain (pattern_label not_null_pattern) []
+
+-- a type or a constant
+abbrev pub term_part : TermCall → Part
+term_part (term.Ty p) = one (a_term Types p)
+term_part (term.Const p) = one (a_term Consts p)
+
+-- what stands under a predicate's binder: its label and its children
+pub record RecordCall : Type 0 where
+  pub label : RecordLabel Name
+  pub parts : List Part
+
+-- a label with these children
+abbrev pub labelled : RecordLabel Name → List Part → RecordCall
+labelled l ps = record { label = l; parts = ps }
+
+-- the clauses that can be built, without their binder
+abbrev pub clause_record : ClauseCall → RecordCall
+clause_record (clause.Trait d args) = labelled (trait_record d.number) (args_part args.items ∷ [])
+clause_record (clause.RegionOutlives r s) = labelled region_outlives_record (one (a_region r) ∷ one (a_region s) ∷ [])
+clause_record (clause.TypeOutlives t r) = labelled type_outlives_record (one (a_term Types t) ∷ one (a_region r) ∷ [])
+clause_record (clause.Projection d args t) = labelled (projection_record d.number) (args_part args.items ∷ term_part t ∷ [])
+clause_record (clause.ConstArgHasType c t) = labelled const_has_type_record (one (a_term Consts c) ∷ one (a_term Types t) ∷ [])
+clause_record (clause.WellFormed t) = labelled well_formed_record (term_part t ∷ [])
+clause_record (clause.ConstEvaluatable c) = labelled const_evaluatable_record (one (a_term Consts c) ∷ [])
+clause_record (clause.HostEffect d args constness) = labelled (host_effect_record d.number constness) (args_part args.items ∷ [])
+clause_record (clause.UnstableFeature name) = labelled (unstable_feature_record (string_bytes name)) []
+
+-- the predicates that can be built, without their binder
+abbrev pub predicate_record : PredicateKindCall → RecordCall
+predicate_record (predicate.Clause c) = clause_record c
+predicate_record (predicate.DynCompatible d) = labelled (dyn_compatible_record d.number) []
+predicate_record (predicate.Subtype expected a b) = labelled (subtype_record expected) (one (a_term Types a) ∷ one (a_term Types b) ∷ [])
+predicate_record (predicate.Coerce a b) = labelled coerce_record (one (a_term Types a) ∷ one (a_term Types b) ∷ [])
+predicate_record (predicate.ConstEquate a b) = labelled const_equate_record (one (a_term Consts a) ∷ one (a_term Consts b) ∷ [])
+predicate_record predicate.Ambiguous = labelled ambiguous_record []
+predicate_record (predicate.NormalizesTo d args t) = labelled (normalizes_to_record d.number) (args_part args.items ∷ term_part t ∷ [])
+predicate_record (predicate.AliasRelate a b r) = labelled (alias_relate_record r) (term_part a ∷ term_part b ∷ [])
+
+-- the predicates that can be built
+abbrev pub predicate_form : PredicateCall → CallForm
+predicate_form p = under predicate_label (map variable_kind p.vars.items) (predicate_record p.kind).label (predicate_record p.kind).parts
+
+-- clauses as items of a list
+abbrev pub clause_items : List ℕ → List Item
+clause_items ps = map a_clause ps
 
 -- the tree of a region
 abbrev pub region_tree : RegionCall → Tree Depth
 region_tree (ReEarlyParam index name) = tree.param region_sort index (string_bytes name)
 region_tree (ReBound i var name) = tree.bound region_sort (depth i) (region_entry var name)
+region_tree (ReLateParam d name) = tree.region (late_param_region d.number (called name))
 region_tree ReStatic = tree.region static_region
 region_tree (ReVar v) = tree.region (region_var v)
+region_tree (RePlaceholder u var name) = tree.region (placeholder_region u var (called name))
 region_tree ReErased = tree.region erased_region
 region_tree (ReError e) = tree.region (error_region e.0)
 
@@ -90,10 +237,21 @@ abbrev pub IsRegionTooDeep : RegionCall → Type 0
 IsRegionTooDeep (ReBound i var name) = IsGreatest (depth i)
 IsRegionTooDeep _ = ⊥
 
--- a region among the children is bound by the binder of the greatest index
+-- a region in the item's place is bound by the binder of the greatest index
+abbrev pub IsItemTooDeep : Item → Type 0
+IsItemTooDeep (a_region r) = IsRegionTooDeep r
+IsItemTooDeep (a_term t p) = ⊥
+IsItemTooDeep (a_clause p) = ⊥
+
+-- such a region is among the items
+abbrev pub AreItemsTooDeep : List Item → Type 0
+AreItemsTooDeep [] = ⊥
+AreItemsTooDeep (i ∷ is) = IsItemTooDeep i ⊎ AreItemsTooDeep is
+
+-- such a region is in the child's place
 abbrev pub IsPartTooDeep : Part → Type 0
-IsPartTooDeep (a_region r) = IsRegionTooDeep r
-IsPartTooDeep _ = ⊥
+IsPartTooDeep (one i) = IsItemTooDeep i
+IsPartTooDeep (a_list t is) = AreItemsTooDeep is
 
 -- such a region is among the children
 abbrev pub ArePartsTooDeep : List Part → Type 0
@@ -107,19 +265,29 @@ IsFormTooDeep (bound s d e) = IsGreatest d
 IsFormTooDeep (plain l ps) = ArePartsTooDeep ps
 IsFormTooDeep (under l vs m ps) = ArePartsTooDeep ps
 
+-- the position that an item names
+abbrev pub item_positions : Item → List Named
+item_positions (a_region r) = []
+item_positions (a_term t p) = record { want = of_table t; position = p } ∷ []
+item_positions (a_clause p) = record { want = of_clause; position = p } ∷ []
+
+-- the positions that items name
+abbrev pub items_positions : List Item → List Named
+items_positions [] = []
+items_positions (i ∷ is) = item_positions i ++ items_positions is
+
 -- the positions that a child names
-abbrev pub part_positions : Part → List ℕ
-part_positions (a_region r) = []
-part_positions (a_term p) = p ∷ []
-part_positions (a_list t ps) = ps
+abbrev pub part_positions : Part → List Named
+part_positions (one i) = item_positions i
+part_positions (a_list t is) = items_positions is
 
 -- the positions that children name
-abbrev pub parts_positions : List Part → List ℕ
+abbrev pub parts_positions : List Part → List Named
 parts_positions [] = []
 parts_positions (p ∷ ps) = part_positions p ++ parts_positions ps
 
 -- the positions that a building call names
-abbrev pub form_positions : CallForm → List ℕ
+abbrev pub form_positions : CallForm → List Named
 form_positions (param s i name) = []
 form_positions (bound s d e) = []
 form_positions (plain l ps) = parts_positions ps
@@ -127,21 +295,34 @@ form_positions (under l vs m ps) = parts_positions ps
 
 -- the tree at each position
 module _ (at : ℕ → Tree Depth) where
-  -- the trees at the positions, in order
-  abbrev pub trees_at : List ℕ → Forest Depth
-  trees_at [] = none
-  trees_at (p ∷ ps) = also (at p) (trees_at ps)
+  -- the tree of an item
+  abbrev pub item_tree : Item → Tree Depth
+  item_tree (a_region r) = region_tree r
+  item_tree (a_term t p) = at p
+  item_tree (a_clause p) = at p
+
+  -- the trees of items, in order
+  abbrev pub items_trees : List Item → Forest Depth
+  items_trees [] = none
+  items_trees (i ∷ is) = also (item_tree i) (items_trees is)
 
   -- the tree of a child
   abbrev pub part_tree : Part → Tree Depth
-  part_tree (a_region r) = region_tree r
-  part_tree (a_term p) = at p
-  part_tree (a_list t ps) = tree.node (list_label t) (trees_at ps)
+  part_tree (one i) = item_tree i
+  part_tree (a_list t is) = tree.node (list_label t) (items_trees is)
 
   -- the trees of children, in order
   abbrev pub parts_trees : List Part → Forest Depth
   parts_trees [] = none
   parts_trees (p ∷ ps) = also (part_tree p) (parts_trees ps)
+
+  -- the tree of what stands under a predicate's binder
+  abbrev pub record_tree : RecordCall → Tree Depth
+  record_tree r = tree.node (record_label r.label) (parts_trees r.parts)
+
+  -- the tree of a list of clauses
+  abbrev pub clauses_tree : List ℕ → Tree Depth
+  clauses_tree ps = tree.term clause_list_label (items_trees (clause_items ps))
 
   -- the tree that a building call gives
   abbrev pub form_tree : CallForm → Tree Depth

@@ -1,75 +1,107 @@
 -- The answers that a list of calls may have. Nothing is looked up in a table: each handle is taken as its tree.
-use Rattle.std.specs.Prelude.{◌≡◌, ◌↔◌, ℕ, suc, zero, Bool, IsTrue, List, [], ◌∷◌, ◌++◌, map, Option, Some, None, IsSome, IsSomeAnd, unwrap_or, slice_get, ◌⊎◌, ⊤}
+use Rattle.std.specs.Prelude.{◌≡◌, ◌≢◌, ◌↔◌, ℕ, suc, zero, Bool, IsTrue, List, [], ◌∷◌, ◌++◌, map, Option, Some, None, IsSomeAnd, slice_get, ⊤}
 use Rattle.tt_index.specs.declared.refusal.Refusal.{Refusal}
 use Rattle.tt_index.specs.declared.refusal.Refusal.TheVariants.{Memory, TableFull, GreatestIndex, NoSuchAnswer}
-use Rattle.tt_kinds.specs.Label.{region_sort, type_sort, erased_region}
+use Rattle.tt_kinds.specs.Label.{region_sort, type_sort, const_sort, erased_region}
 use Rattle.tt_kinds.specs.Tree as tree
 use Rattle.tt_kinds.specs.Tree.{Depth, Place, Tree}
 use Rattle.tt_kinds.specs.Reading.{read, move, outer_binder, Fits}
 use Rattle.tt_kinds.specs.Argument.{Argument, put, readings}
 use Rattle.tt_kinds.specs.Scan.{scan}
 use Rattle.tt_kinds.specs.Cause.{Cause}
+use Rattle.tt_kinds.specs.declared.table.Table.{Table}
+use Rattle.tt_kinds.specs.declared.table.Table.TheVariants.{Types, Consts, Patterns, Predicates, ClauseLists, ArgLists}
+use Rattle.tt_interner.specs.Clauses.{is_clause_tree}
 use Rattle.type_terms.specs.declared.run.call.ArgCall.{ArgCall}
 use Rattle.type_terms.specs.declared.run.call.ArgCall.TheVariants as arg
 use Rattle.type_terms.specs.declared.run.call.Call.{Call}
 use Rattle.type_terms.specs.declared.run.call.Call.TheVariants as call
-use Rattle.type_terms.specs.CallForm.{ty_form, form_positions, form_tree, region_tree, IsFormTooDeep, IsRegionTooDeep}
+use Rattle.type_terms.specs.CallForm.{Want, of_table, of_clause, as_at, of_any, with_flags, Named, arg_items, args_part, ty_form, const_form, pat_form, predicate_form, clause_items, clauses_tree, form_positions, items_positions, part_positions, form_tree, part_tree, region_tree, IsFormTooDeep, IsPartTooDeep, AreItemsTooDeep}
 use Rattle.type_terms.specs.Told.{Told, term, truth, info, refused, bad}
 
+-- a term with its table
+pub record Term : Type 0 where
+  pub table : Table
+  pub tree : Tree Depth
+
 -- the term that was told
-abbrev pub as_term : Option Told → Option (Tree Depth)
-as_term (Some (term t)) = Some t
+abbrev pub as_term : Option Told → Option Term
+as_term (Some (term t u)) = Some (record { table = t; tree = u })
 as_term _ = None
 
 -- the term at a position, counted from 1
-abbrev pub term_at : List Told → ℕ → Option (Tree Depth)
+abbrev pub term_at : List Told → ℕ → Option Term
 term_at earlier zero = None
 term_at earlier (suc n) = as_term (slice_get earlier n)
 
+-- the tree of a term
+abbrev pub tree_of : Option Term → Tree Depth
+tree_of None = tree.region erased_region
+tree_of (Some t) = t.tree
+
 -- the tree at a position that tells a term
 abbrev pub tree_at : List Told → ℕ → Tree Depth
-tree_at earlier p = unwrap_or (term_at earlier p) (tree.region erased_region)
+tree_at earlier p = tree_of (term_at earlier p)
 
--- the position of an argument
-abbrev pub arg_positions : List ArgCall → List ℕ
-arg_positions [] = []
-arg_positions (arg.Lifetime r ∷ args) = arg_positions args
-arg_positions (arg.«Type» p ∷ args) = p ∷ arg_positions args
+-- the table of a term
+abbrev pub table_of : Option Term → Option Table
+table_of None = None
+table_of (Some t) = Some t.table
+
+-- the table of the term at a position
+abbrev pub table_at : List Told → ℕ → Option Table
+table_at earlier p = table_of (term_at earlier p)
+
+-- a position whose term may be of any table
+abbrev pub any : ℕ → Named
+any p = record { want = of_any; position = p }
 
 -- the positions that a call names
-abbrev pub positions : Call → List ℕ
+abbrev pub positions : Call → List Named
 positions (call.Ty k) = form_positions (ty_form k)
-positions (call.Shift p n) = p ∷ []
-positions (call.Instantiate p args) = p ∷ arg_positions args.items
-positions (call.Equal p q) = p ∷ q ∷ []
-positions (call.Info p) = p ∷ []
+positions (call.Const k) = form_positions (const_form k)
+positions (call.Pat k) = form_positions (pat_form k)
+positions (call.Predicate k) = form_positions (predicate_form k)
+positions (call.Clauses ps) = items_positions (clause_items ps.items)
+positions (call.Args args) = part_positions (args_part args.items)
+positions (call.Shift p n) = any p ∷ []
+positions (call.Instantiate p args) = any p ∷ items_positions (arg_items args.items)
+positions (call.Equal p q) = any p ∷ record { want = as_at p; position = q } ∷ []
+positions (call.Info p) = record { want = with_flags; position = p } ∷ []
 positions call.Bad = []
 
--- each position tells a term
-abbrev pub AreTerms : List Told → List ℕ → Type 0
-AreTerms earlier [] = ⊤
-AreTerms earlier (p ∷ ps) = IsSome (term_at earlier p) × AreTerms earlier ps
+-- the term is as it is wanted
+abbrev pub Suits : List Told → Want → Term → Type 0
+Suits earlier (of_table t) u = u.table ≡ t
+Suits earlier of_clause u = (u.table ≡ Predicates) × IsTrue (is_clause_tree u.tree)
+Suits earlier (as_at p) u = table_at earlier p ≡ Some u.table
+Suits earlier of_any u = ⊤
+Suits earlier with_flags u = u.table ≢ ArgLists
 
--- each position that the call names tells a term
+-- each position tells a term as it is wanted there
+abbrev pub AreTerms : List Told → List Named → Type 0
+AreTerms earlier [] = ⊤
+AreTerms earlier (n ∷ ns) = IsSomeAnd (term_at earlier n.position) (Suits earlier n.want) × AreTerms earlier ns
+
+-- each position that the call names tells a term as it is wanted there
 abbrev pub NamesTerms : List Told → Call → Type 0
 NamesTerms earlier c = AreTerms earlier (positions c)
-
--- a region among the arguments is bound by the binder of the greatest index
-abbrev pub AreArgsTooDeep : List ArgCall → Type 0
-AreArgsTooDeep [] = ⊥
-AreArgsTooDeep (arg.Lifetime r ∷ args) = IsRegionTooDeep r ⊎ AreArgsTooDeep args
-AreArgsTooDeep (arg.«Type» p ∷ args) = AreArgsTooDeep args
 
 -- a bound index of the call's kind or regions is the greatest
 abbrev pub IsTooDeep : Call → Type 0
 IsTooDeep (call.Ty k) = IsFormTooDeep (ty_form k)
-IsTooDeep (call.Instantiate p args) = AreArgsTooDeep args.items
+IsTooDeep (call.Const k) = IsFormTooDeep (const_form k)
+IsTooDeep (call.Pat k) = IsFormTooDeep (pat_form k)
+IsTooDeep (call.Predicate k) = IsFormTooDeep (predicate_form k)
+IsTooDeep (call.Args args) = IsPartTooDeep (args_part args.items)
+IsTooDeep (call.Instantiate p args) = AreItemsTooDeep (arg_items args.items)
 IsTooDeep _ = ⊥
 
 -- an argument with its tree
 abbrev pub argument : List Told → ArgCall → Argument Depth
 argument earlier (arg.Lifetime r) = record { sort = region_sort; value = region_tree r }
 argument earlier (arg.«Type» p) = record { sort = type_sort; value = tree_at earlier p }
+argument earlier (arg.Const p) = record { sort = const_sort; value = tree_at earlier p }
 
 -- the arguments with their trees
 abbrev pub arguments : List Told → List ArgCall → List (Argument Depth)
@@ -78,6 +110,11 @@ arguments earlier args = map (argument earlier) args
 -- the call may need memory or a row
 abbrev pub BuildsOrFolds : Call → Type 0
 BuildsOrFolds (call.Ty k) = ⊤
+BuildsOrFolds (call.Const k) = ⊤
+BuildsOrFolds (call.Pat k) = ⊤
+BuildsOrFolds (call.Predicate k) = ⊤
+BuildsOrFolds (call.Clauses ps) = ⊤
+BuildsOrFolds (call.Args args) = ⊤
 BuildsOrFolds (call.Shift p n) = ⊤
 BuildsOrFolds (call.Instantiate p args) = ⊤
 BuildsOrFolds _ = ⊥
@@ -88,9 +125,26 @@ folded earlier (call.Shift p n) = Some (move n (read 0 (tree_at earlier p)))
 folded earlier (call.Instantiate p args) = Some (put (readings (arguments earlier args.items)) (read 0 (tree_at earlier p)))
 folded earlier _ = None
 
+-- the table of what the call gives
+abbrev pub given_table : List Told → Call → Option Table
+given_table earlier (call.Ty k) = Some Types
+given_table earlier (call.Const k) = Some Consts
+given_table earlier (call.Pat k) = Some Patterns
+given_table earlier (call.Predicate k) = Some Predicates
+given_table earlier (call.Clauses ps) = Some ClauseLists
+given_table earlier (call.Args args) = Some ArgLists
+given_table earlier (call.Shift p n) = table_at earlier p
+given_table earlier (call.Instantiate p args) = table_at earlier p
+given_table earlier _ = None
+
 -- the term is what the call builds, or what the fold gives
 abbrev pub Gives : List Told → Call → Tree Depth → Type 0
 Gives earlier (call.Ty k) t = t ≡ form_tree (tree_at earlier) (ty_form k)
+Gives earlier (call.Const k) t = t ≡ form_tree (tree_at earlier) (const_form k)
+Gives earlier (call.Pat k) t = t ≡ form_tree (tree_at earlier) (pat_form k)
+Gives earlier (call.Predicate k) t = t ≡ form_tree (tree_at earlier) (predicate_form k)
+Gives earlier (call.Clauses ps) t = t ≡ clauses_tree (tree_at earlier) ps.items
+Gives earlier (call.Args args) t = t ≡ part_tree (tree_at earlier) (args_part args.items)
 Gives earlier c t = folded earlier c ≡ Some (read 0 t)
 
 -- the arguments don't suit the term
@@ -120,8 +174,8 @@ GivesInfo earlier _ flags outer = ⊥
 
 -- the call may be answered so after what was told earlier; full says that some table holds its limit
 abbrev pub IsAllowed : Type 0 → List Told → Call → Told → Type 0
-IsAllowed full earlier c (term t) =
-    NamesTerms earlier c × (IsTooDeep c → ⊥) × Gives earlier c t × ((r : Refusal) → HasCause earlier c r → ⊥)
+IsAllowed full earlier c (term table t) =
+    NamesTerms earlier c × (IsTooDeep c → ⊥) × (given_table earlier c ≡ Some table) × Gives earlier c t × ((r : Refusal) → HasCause earlier c r → ⊥)
 IsAllowed full earlier c (truth b) = NamesTerms earlier c × GivesTruth earlier c b
 IsAllowed full earlier c (info flags outer) = NamesTerms earlier c × GivesInfo earlier c flags outer
 IsAllowed full earlier c (refused r) = MayRefuse full earlier c r

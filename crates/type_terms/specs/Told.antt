@@ -1,9 +1,9 @@
 -- What answers tell, each handle taken as its tree.
-use Rattle.std.specs.Prelude.{ℕ, ◌<◌, ◌≤◌, Bool, List, [], ◌∷◌, map, ⊤}
+use Rattle.std.specs.Prelude.{ℕ, ◌<◌, ◌≤◌, Bool, List, [], ◌∷◌, map, Option, Some, None, ⊤}
 use Rattle.tt_index.specs.declared.refusal.Refusal.{Refusal}
 use Rattle.tt_kinds.specs.Tree.{Depth, Tree}
 use Rattle.tt_kinds.specs.declared.table.Table.{Table}
-use Rattle.tt_kinds.specs.declared.table.Table.TheVariants.{Types}
+use Rattle.tt_kinds.specs.declared.table.Table.TheVariants.{Types, Consts, Patterns, Predicates, ClauseLists, ArgLists}
 use Rattle.tt_interner.specs.Rows.{Row, size, meaning}
 use Rattle.tt_interner.specs.Stored.{Terms}
 use Rattle.type_terms.specs.declared.run.answer.Answer.{Answer}
@@ -11,7 +11,8 @@ use Rattle.type_terms.specs.declared.run.answer.Answer.TheVariants as answer
 
 -- what an answer tells: a term, a truth value, flags and an outer exclusive binder, a refusal, or that there was no call
 pub data Told : Type 0 where
-  term : Tree Depth → Told
+  -- a term of the table
+  term : Table → Tree Depth → Told
   truth : Bool → Told
   info : ℕ → ℕ → Told
   refused : Refusal → Told
@@ -19,11 +20,36 @@ pub data Told : Type 0 where
 
 -- what an answer tells where these are the rows
 abbrev pub told : List Row → Answer → Told
-told rows (answer.Ty t) = term (meaning rows Types t.number)
+told rows (answer.Ty t) = term Types (meaning rows Types t.number)
+told rows (answer.Const c) = term Consts (meaning rows Consts c.number)
+told rows (answer.Pat p) = term Patterns (meaning rows Patterns p.number)
+told rows (answer.Predicate p) = term Predicates (meaning rows Predicates p.number)
+told rows (answer.Clauses l) = term ClauseLists (meaning rows ClauseLists l.number)
+told rows (answer.Args l) = term ArgLists (meaning rows ArgLists l.number)
 told rows (answer.Truth b) = truth b
 told rows (answer.Info flags outer) = info flags.bits outer
 told rows (answer.Refused r) = refused r
 told rows answer.Bad = bad
+
+-- the table of an answer's handle, if it is one
+abbrev pub handle_table : Answer → Option Table
+handle_table (answer.Ty t) = Some Types
+handle_table (answer.Const c) = Some Consts
+handle_table (answer.Pat p) = Some Patterns
+handle_table (answer.Predicate p) = Some Predicates
+handle_table (answer.Clauses l) = Some ClauseLists
+handle_table (answer.Args l) = Some ArgLists
+handle_table _ = None
+
+-- the number of an answer's handle in its table, and 0 where it is none
+abbrev pub handle_number : Answer → ℕ
+handle_number (answer.Ty h) = h.number
+handle_number (answer.Const h) = h.number
+handle_number (answer.Pat h) = h.number
+handle_number (answer.Predicate h) = h.number
+handle_number (answer.Clauses h) = h.number
+handle_number (answer.Args h) = h.number
+handle_number _ = 0
 
 -- what answers tell, in order
 abbrev pub told_all : List Row → List Answer → List Told
@@ -32,6 +58,11 @@ told_all rows answers = map (told rows) answers
 -- the handle, if there is one, is in range
 abbrev pub IsOwned : List Row → Answer → Type 0
 IsOwned rows (answer.Ty t) = t.number < size rows Types
+IsOwned rows (answer.Const c) = c.number < size rows Consts
+IsOwned rows (answer.Pat p) = p.number < size rows Patterns
+IsOwned rows (answer.Predicate p) = p.number < size rows Predicates
+IsOwned rows (answer.Clauses l) = l.number < size rows ClauseLists
+IsOwned rows (answer.Args l) = l.number < size rows ArgLists
 IsOwned rows _ = ⊤
 
 -- all handles are in range

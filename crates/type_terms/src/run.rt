@@ -3,11 +3,17 @@
 pub mod answer;
 mod build;
 pub mod call;
+mod clauses;
+mod consts;
 pub mod fault;
 mod fold;
+mod handle;
 pub(crate) mod line;
 mod lookup;
 mod number;
+mod parts;
+mod pats;
+mod predicates;
 mod print;
 mod query;
 mod region_word;
@@ -17,7 +23,10 @@ mod ty_line;
 mod words;
 
 pub use answer::Answer;
-pub use call::{ArgCall, Call, RegionCall, RegionNameCall, TyCall, VariableCall};
+pub use call::{
+    ArgCall, Call, ClauseCall, ConstCall, ItemCall, PatCall, PredicateCall, PredicateKindCall,
+    RegionCall, RegionNameCall, TermCall, TyCall, ValTreeCall, VariableCall,
+};
 pub use fault::Fault;
 pub use runner::{answer_next, run_calls};
 pub use script::run_script;

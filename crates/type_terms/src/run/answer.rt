@@ -2,13 +2,23 @@
 
 use tt_flags::TypeFlags;
 use tt_index::{DebruijnIndex, Refusal};
-use tt_kinds::Ty;
+use tt_kinds::{Clauses, Const, GenericArgs, Pat, Predicate, Ty};
 
 /// The answer to a [`Call`](crate::Call).
 #[derive(Clone, Copy, Debug, PartialEq, Eq)]
 pub enum Answer {
     /// The type that was built, shifted or instantiated.
     Ty(Ty),
+    /// The constant that was.
+    Const(Const),
+    /// The pattern that was.
+    Pat(Pat),
+    /// The predicate that was.
+    Predicate(Predicate),
+    /// The list of clauses that was.
+    Clauses(Clauses),
+    /// The list of generic arguments that was.
+    Args(GenericArgs),
     /// Whether two terms are the same.
     Truth(bool),
     /// What is kept beside a term.

@@ -1,34 +1,42 @@
 //! The building of terms.
 
-ghost use Rattle.std.specs.Prelude.{map, [], ◌∷◌, List};
+ghost use Rattle.std.specs.Prelude.{◌≡◌, map, [], ◌∷◌, List};
 ghost use Rattle.tt_kinds.specs.Tree as tree;
-ghost use Rattle.tt_kinds.specs.Label.{region_sort, type_sort, type_label, ref_type, fn_ptr_type, fn_sig_tys_record};
+ghost use Rattle.tt_kinds.specs.Label.{region_sort, type_sort, type_label, ref_type, array_type, pat_type, unsafe_binder_type, unsafe_binder_record, fn_ptr_type, fn_sig_tys_record, late_param_region, placeholder_region};
 ghost use Rattle.tt_kinds.specs.Bound.{depth};
 ghost use Rattle.tt_kinds.specs.Shape.{IsGreatest};
-ghost use Rattle.tt_interner.specs.Stored.{Extends};
+ghost use Rattle.tt_kinds.specs.Shape as shape;
+ghost use Rattle.tt_kinds.specs.Kinds.{ty_kind_shape, args_shape};
+ghost use Rattle.tt_interner.specs.Stored.{Terms, Extends};
 ghost use Rattle.type_terms.specs.declared.run.call.Call.TheVariants.{Ty as BuildsTy};
-ghost use Rattle.type_terms.specs.CallForm.{ty_form, param, plain, under, a_region, a_term, a_list, variable_kind, region_entry, region_tree, IsRegionTooDeep};
+ghost use Rattle.type_terms.specs.CallForm.{ty_form, param, plain, under, one, a_region, a_term, a_list, terms_at, args_part, item_type, called, variable_kind, region_entry, region_tree, IsRegionTooDeep};
 ghost use Rattle.type_terms.specs.Told.{Told, told_all, AreOwned};
-ghost use Rattle.type_terms.specs.Build.{GivesName, GivesVariable, GivesVariables, GivesRegion, GivesList, GivesKind, Answers};
+ghost use Rattle.type_terms.specs.Build.{GivesName, GivesVariable, GivesVariables, GivesRegion, GivesKind, Answers};
 
 use crate::run::answer::Answer;
-use crate::run::call::{RegionCall, RegionNameCall, TyCall, VariableCall};
-use crate::run::lookup::{ty_at, tys_at};
-use tt_index::{BoundVar, Mutability, Refusal};
+use crate::run::call::{ArgCall, ItemCall, RegionCall, RegionNameCall, TyCall, VariableCall};
+use crate::run::lookup::{handle_at, handle_pair};
+use crate::run::parts::{build_arg_list, build_tys};
+use tt_index::{BoundVar, Mutability, Refusal, UniverseIndex};
 use tt_interner::Interner;
 use tt_kinds::{
-    Binder, BoundRegion, BoundRegionKind, BoundVarIndexKind, BoundVarKinds, BoundVariableKind,
-    EarlyParamRegion, FnHeader, FnSigTys, ParamTy, Region, RegionKind, Table, Ty, TyKind, Tys,
+    AliasTy, Binder, BoundRegion, BoundRegionKind, BoundVarIndexKind, BoundVarKinds,
+    BoundVariableKind, Const, DefId, EarlyParamRegion, FnHeader, FnSigTys, GenericArgs,
+    LateParamRegion, ParamTy, Pat, Placeholder, Region, RegionKind, Table, Ty, TyKind,
+    UnsafeBinderInner,
 };
 
 /// The type that the call names, over the earlier answers.
-pub fn build_ty(cx: &mut Interner, earlier: &[Answer], call: &TyCall) -> Result<Ty, Refusal>
+pub fn build_ty(cx: &mut Interner, earlier: &[Answer], call: &TyCall) -> Result<Answer, Refusal>
     requires { AreOwned cx.old.rows earlier.now }
     ensures extends { Extends cx.old cx.new }
     ensures answers { Answers cx.new (told_all cx.old.rows earlier.now) (BuildsTy call.now) result }
 {
     match ty_kind(cx, earlier, call) {
-        Ok(kind) => cx.mk_ty(kind),
+        Ok(kind) => {
+            let ty = cx.mk_ty(kind)?;
+            Ok(Answer::Ty(ty))
+        }
         Err(refusal) => Err(refusal),
     }
 }
@@ -37,7 +45,7 @@ pub fn build_ty(cx: &mut Interner, earlier: &[Answer], call: &TyCall) -> Result<
 fn ty_kind(cx: &mut Interner, earlier: &[Answer], call: &TyCall) -> Result<TyKind, Refusal>
     requires { AreOwned cx.old.rows earlier.now }
     ensures extends { Extends cx.old cx.new }
-    ensures kind { GivesKind cx.new (told_all cx.old.rows earlier.now) (ty_form call.now) result }
+    ensures kind { GivesKind cx.new (told_all cx.old.rows earlier.now) (ty_form call.now) ty_kind_shape result }
 {
     match call {
         TyCall::Bool => Ok(TyKind::Bool),
@@ -45,6 +53,7 @@ fn ty_kind(cx: &mut Interner, earlier: &[Answer], call: &TyCall) -> Result<TyKin
         TyCall::Int(width) => Ok(TyKind::Int(*width)),
         TyCall::Uint(width) => Ok(TyKind::Uint(*width)),
         TyCall::Float(width) => Ok(TyKind::Float(*width)),
+        TyCall::Foreign(id) => Ok(TyKind::Foreign(*id)),
         TyCall::Str => Ok(TyKind::Str),
         TyCall::Never => Ok(TyKind::Never),
         TyCall::Param { index, name } => param_kind(cx, *index, name.as_str()),
@@ -53,27 +62,25 @@ fn ty_kind(cx: &mut Interner, earlier: &[Answer], call: &TyCall) -> Result<TyKin
         TyCall::Infer(infer) => Ok(TyKind::Infer(*infer)),
         TyCall::Error(token) => Ok(TyKind::Error(*token)),
         TyCall::Ref(region, ty, mutability) => ref_kind(cx, earlier, region, *ty, *mutability),
-        TyCall::RawPtr(ty, mutability) => Ok(TyKind::RawPtr(ty_at(earlier, *ty)?, *mutability)),
-        TyCall::Slice(ty) => Ok(TyKind::Slice(ty_at(earlier, *ty)?)),
+        TyCall::RawPtr(ty, mutability) => Ok(TyKind::RawPtr(handle_at(earlier, *ty)?, *mutability)),
+        TyCall::Slice(ty) => Ok(TyKind::Slice(handle_at(earlier, *ty)?)),
+        TyCall::Array(ty, length) => array_kind(earlier, *ty, *length),
         TyCall::Tuple(tys) => Ok(TyKind::Tuple(build_tys(cx, earlier, tys.as_slice())?)),
         TyCall::FnPtr {
             vars,
-            inputs_and_output,
+            inputs_and_output: tys,
             header,
-        } => fn_ptr_kind(
-            cx,
-            earlier,
-            vars.as_slice(),
-            inputs_and_output.as_slice(),
-            *header,
-        ),
+        } => fn_ptr_kind(cx, earlier, vars.as_slice(), tys.as_slice(), *header),
+        TyCall::Item(item, args) => item_kind(cx, earlier, *item, args.as_slice()),
+        TyCall::Pat(ty, pat) => pat_kind(earlier, *ty, *pat),
+        TyCall::UnsafeBinder { vars, ty } => unsafe_binder_kind(cx, earlier, vars.as_slice(), *ty),
     }
 }
 
 // The kind of a parameter.
 fn param_kind(cx: &mut Interner, index: u32, name: &str) -> Result<TyKind, Refusal>
     ensures extends { Extends cx.old cx.new }
-    ensures kind { (earlier : List Told) → GivesKind cx.new earlier (param type_sort index name.now) result }
+    ensures kind { (earlier : List Told) → GivesKind cx.new earlier (param type_sort index name.now) ty_kind_shape result }
 {
     let name = cx.symbol(name)?;
     Ok(TyKind::Param(ParamTy { index, name }))
@@ -89,11 +96,73 @@ fn ref_kind(
 ) -> Result<TyKind, Refusal>
     requires { AreOwned cx.old.rows earlier.now }
     ensures extends { Extends cx.old cx.new }
-    ensures kind { GivesKind cx.new (told_all cx.old.rows earlier.now) (plain (type_label (ref_type mutability)) (a_region region.now ∷ a_term position ∷ [])) result }
+    ensures kind { GivesKind cx.new (told_all cx.old.rows earlier.now) (plain (type_label (ref_type mutability)) (one (a_region region.now) ∷ one (a_term Table.Types position) ∷ [])) ty_kind_shape result }
 {
-    let ty = ty_at(earlier, position)?;
+    let ty = handle_at(earlier, position)?;
     let region = build_region(cx, region)?;
     Ok(TyKind::Ref(region, ty, mutability))
+}
+
+// The kind of an array.
+fn array_kind(earlier: &[Answer], ty: u32, length: u32) -> Result<TyKind, Refusal>
+    ensures { (terms : Terms) → AreOwned terms.rows earlier.now → GivesKind terms (told_all terms.rows earlier.now) (plain (type_label array_type) (one (a_term Table.Types ty) ∷ one (a_term Table.Consts length) ∷ [])) ty_kind_shape result }
+{
+    let pair = handle_pair::<Ty, Const>(earlier, ty, length)?;
+    Ok(TyKind::Array(pair.0, pair.1))
+}
+
+// The kind of a type that a pattern restricts.
+fn pat_kind(earlier: &[Answer], ty: u32, pat: u32) -> Result<TyKind, Refusal>
+    ensures { (terms : Terms) → AreOwned terms.rows earlier.now → GivesKind terms (told_all terms.rows earlier.now) (plain (type_label pat_type) (one (a_term Table.Types ty) ∷ one (a_term Table.Patterns pat) ∷ [])) ty_kind_shape result }
+{
+    let pair = handle_pair::<Ty, Pat>(earlier, ty, pat)?;
+    Ok(TyKind::Pat(pair.0, pair.1))
+}
+
+// The kind of a type under a binder.
+fn unsafe_binder_kind(
+    cx: &mut Interner,
+    earlier: &[Answer],
+    vars: &[VariableCall],
+    ty: u32,
+) -> Result<TyKind, Refusal>
+    requires { AreOwned cx.old.rows earlier.now }
+    ensures extends { Extends cx.old cx.new }
+    ensures kind { GivesKind cx.new (told_all cx.old.rows earlier.now) (under (type_label unsafe_binder_type) (map variable_kind vars.now) unsafe_binder_record (one (a_term Table.Types ty) ∷ [])) ty_kind_shape result }
+{
+    let ty = handle_at::<Ty>(earlier, ty)?;
+    let vars = build_vars(cx, vars)?;
+    let binder = Binder::bind_with_vars(ty, vars);
+    Ok(TyKind::UnsafeBinder(UnsafeBinderInner::from(binder)))
+}
+
+// The kind of an item's type.
+fn item_kind(
+    cx: &mut Interner,
+    earlier: &[Answer],
+    item: ItemCall,
+    args: &[ArgCall],
+) -> Result<TyKind, Refusal>
+    requires { AreOwned cx.old.rows earlier.now }
+    ensures extends { Extends cx.old cx.new }
+    ensures kind { GivesKind cx.new (told_all cx.old.rows earlier.now) (plain (type_label (item_type item)) (args_part args.now ∷ [])) ty_kind_shape result }
+{
+    let args = build_arg_list(cx, earlier, args)?;
+    Ok(type_of_item(item, args))
+}
+
+// The type of an item with these arguments.
+fn type_of_item(item: ItemCall, args: GenericArgs) -> TyKind
+    ensures { ty_kind_shape result ≡ shape.term (type_label (item_type item)) (shape.also (args_shape args) shape.none) }
+{
+    match item {
+        ItemCall::Adt(id) => TyKind::Adt(id, args),
+        ItemCall::Closure(id) => TyKind::Closure(id, args),
+        ItemCall::CoroutineClosure(id) => TyKind::CoroutineClosure(id, args),
+        ItemCall::Coroutine(id) => TyKind::Coroutine(id, args),
+        ItemCall::CoroutineWitness(id) => TyKind::CoroutineWitness(id, args),
+        ItemCall::Alias(kind) => TyKind::Alias(AliasTy { args, kind }),
+    }
 }
 
 // The kind of a function pointer.
@@ -106,7 +175,7 @@ fn fn_ptr_kind(
 ) -> Result<TyKind, Refusal>
     requires { AreOwned cx.old.rows earlier.now }
     ensures extends { Extends cx.old cx.new }
-    ensures kind { GivesKind cx.new (told_all cx.old.rows earlier.now) (under (type_label (fn_ptr_type header)) (map variable_kind vars.now) fn_sig_tys_record (a_list Table.TypeLists inputs_and_output.now ∷ [])) result }
+    ensures kind { GivesKind cx.new (told_all cx.old.rows earlier.now) (under (type_label (fn_ptr_type header)) (map variable_kind vars.now) fn_sig_tys_record (a_list Table.TypeLists (terms_at Table.Types inputs_and_output.now) ∷ [])) ty_kind_shape result }
 {
     let inputs_and_output = build_tys(cx, earlier, inputs_and_output)?;
     let vars = build_vars(cx, vars)?;
@@ -114,18 +183,8 @@ fn fn_ptr_kind(
     Ok(TyKind::FnPtr(types, header))
 }
 
-// The list of the types at the positions.
-fn build_tys(cx: &mut Interner, earlier: &[Answer], positions: &[u32]) -> Result<Tys, Refusal>
-    requires { AreOwned cx.old.rows earlier.now }
-    ensures extends { Extends cx.old cx.new }
-    ensures list { GivesList cx.new (told_all cx.old.rows earlier.now) positions.now result }
-{
-    let tys = tys_at(cx.allocator(), earlier, positions)?;
-    cx.mk_tys(tys.as_slice())
-}
-
-// The list of the variables.
-fn build_vars(cx: &mut Interner, vars: &[VariableCall]) -> Result<BoundVarKinds, Refusal>
+/// The list of the variables.
+pub fn build_vars(cx: &mut Interner, vars: &[VariableCall]) -> Result<BoundVarKinds, Refusal>
     ensures extends { Extends cx.old cx.new }
     ensures vars { GivesVariables cx.new vars.now result }
 {
@@ -173,8 +232,12 @@ pub fn build_region(cx: &mut Interner, call: &RegionCall) -> Result<Region, Refu
     match call {
         RegionCall::ReEarlyParam { index, name } => build_early_param(cx, *index, name.as_str()),
         RegionCall::ReBound(index, var, name) => build_bound(cx, *index, *var, name),
+        RegionCall::ReLateParam(scope, name) => build_late_param(cx, *scope, name),
         RegionCall::ReStatic => Region::new(RegionKind::ReStatic),
         RegionCall::ReVar(variable) => Region::new(RegionKind::ReVar(*variable)),
+        RegionCall::RePlaceholder(universe, var, name) => {
+            build_placeholder(cx, *universe, *var, name)
+        }
         RegionCall::ReErased => Region::new(RegionKind::ReErased),
         RegionCall::ReError(token) => Region::new(RegionKind::ReError(*token)),
     }
@@ -187,6 +250,34 @@ fn build_early_param(cx: &mut Interner, index: u32, name: &str) -> Result<Region
 {
     let name = cx.symbol(name)?;
     Region::new(RegionKind::ReEarlyParam(EarlyParamRegion { index, name }))
+}
+
+// A region parameter, seen from inside its item.
+fn build_late_param(
+    cx: &mut Interner,
+    scope: DefId,
+    name: &RegionNameCall,
+) -> Result<Region, Refusal>
+    ensures extends { Extends cx.old cx.new }
+    ensures region { GivesRegion cx.new (tree.region (late_param_region scope.number (called name.now))) ⊥ result }
+{
+    let kind = build_name(cx, name)?;
+    Region::new(RegionKind::ReLateParam(LateParamRegion { scope, kind }))
+}
+
+// A region whose binder was entered.
+fn build_placeholder(
+    cx: &mut Interner,
+    universe: UniverseIndex,
+    var: BoundVar,
+    name: &RegionNameCall,
+) -> Result<Region, Refusal>
+    ensures extends { Extends cx.old cx.new }
+    ensures region { GivesRegion cx.new (tree.region (placeholder_region universe var (called name.now))) ⊥ result }
+{
+    let kind = build_name(cx, name)?;
+    let bound = BoundRegion { var, kind };
+    Region::new(RegionKind::RePlaceholder(Placeholder { universe, bound }))
 }
 
 // A bound region.

@@ -1,9 +1,13 @@
 //! Calls of the library, as values.
 
-use tt_index::{BoundVar, DebruijnIndex, FloatTy, IntTy, Mutability, RegionVid, UintTy};
+use tt_index::{
+    BoundVar, DebruijnIndex, FloatTy, IntTy, Mutability, RegionVid, UintTy, UniverseIndex,
+};
 use tt_kinds::{
-    BoundTy, BoundTyKind, BoundVarIndexKind, DefId, ErrorGuaranteed, FnHeader, InferTy,
-    PlaceholderType,
+    AdtId, AliasRelationDirection, AliasTyKind, BoundConst, BoundConstness, BoundTy, BoundTyKind,
+    BoundVarIndexKind, ClosureId, CoroutineClosureId, CoroutineId, DefId, ErrorGuaranteed,
+    FnHeader, ForeignId, InferConst, InferTy, PlaceholderConst, PlaceholderType, ScalarInt,
+    TraitId, UnevaluatedConstId,
 };
 
 /// What a bound region of a call is called. It is what [`BoundRegionKind`](tt_kinds::BoundRegionKind) is, with a symbol as
@@ -45,14 +49,36 @@ pub enum RegionCall {
     /// A region that a binder binds: its binder, its place in the binder's list, and what it is called. A call with a bound
     /// index at the greatest one is refused.
     ReBound(BoundVarIndexKind, BoundVar, RegionNameCall),
+    /// A region parameter of an item, seen from inside the item: the item, and what the region is called.
+    ReLateParam(DefId, RegionNameCall),
     /// `'static`.
     ReStatic,
     /// A region variable of inference.
     ReVar(RegionVid),
+    /// A region that a binder bound which has been entered: the universe in which it can be named, its place in the binder's
+    /// list, and what it is called.
+    RePlaceholder(UniverseIndex, BoundVar, RegionNameCall),
     /// A region of which nothing is kept.
     ReErased,
     /// A region of which an error was reported.
     ReError(ErrorGuaranteed),
+}
+
+/// What a type with generic arguments is of.
+#[derive(Clone, Copy, Debug, PartialEq, Eq)]
+pub enum ItemCall {
+    /// A struct, an enum or a union.
+    Adt(AdtId),
+    /// A closure.
+    Closure(ClosureId),
+    /// A closure that answers a coroutine.
+    CoroutineClosure(CoroutineClosureId),
+    /// A coroutine.
+    Coroutine(CoroutineId),
+    /// What a coroutine keeps while it waits.
+    CoroutineWitness(CoroutineId),
+    /// An alias.
+    Alias(AliasTyKind),
 }
 
 /// A type to be built. It is such a [`TyKind`](tt_kinds::TyKind), with a symbol as its text and, in the place of a
@@ -69,6 +95,8 @@ pub enum TyCall {
     Uint(UintTy),
     /// A number of floating point.
     Float(FloatTy),
+    /// A type that is declared elsewhere.
+    Foreign(ForeignId),
     /// `str`.
     Str,
     /// `!`, the type without values.
@@ -94,6 +122,8 @@ pub enum TyCall {
     RawPtr(u32, Mutability),
     /// A slice of this type.
     Slice(u32),
+    /// An array of this type with this length.
+    Array(u32, u32),
     /// A tuple of these types.
     Tuple(Vec<u32>),
     /// A function pointer.
@@ -105,6 +135,139 @@ pub enum TyCall {
         /// What its signature says beside the types.
         header: FnHeader,
     },
+    /// The type of an item with its generic arguments.
+    Item(ItemCall, Vec<ArgCall>),
+    /// A type, restricted to the values that a pattern allows.
+    Pat(u32, u32),
+    /// A type under a binder whose regions the programmer answers for.
+    UnsafeBinder {
+        /// The variables of the binder.
+        vars: Vec<VariableCall>,
+        /// The type under it.
+        ty: u32,
+    },
+}
+
+/// What a value of the type level is made of. It is such a [`ValTreeKind`](tt_kinds::ValTreeKind), with positions of
+/// constants.
+#[derive(Debug, PartialEq, Eq, Drop)]
+pub enum ValTreeCall {
+    /// Bits.
+    Leaf(ScalarInt),
+    /// The values of its fields or items, in order.
+    Branch(Vec<u32>),
+}
+
+/// A constant to be built. It is such a [`ConstKind`](tt_kinds::ConstKind), with a symbol as its text and positions in the
+/// places of handles.
+#[derive(Debug, PartialEq, Eq, Drop)]
+pub enum ConstCall {
+    /// A constant parameter of an item.
+    Param {
+        /// Its place among the item's generic parameters.
+        index: u32,
+        /// Its name.
+        name: String,
+    },
+    /// A constant variable of inference.
+    Infer(InferConst),
+    /// A constant that a binder binds. A call with a bound index at the greatest one is refused.
+    Bound(BoundVarIndexKind, BoundConst),
+    /// A constant that a binder bound which has been entered.
+    Placeholder(PlaceholderConst),
+    /// A constant whose value isn't computed yet: what computes it, for these generic arguments.
+    Unevaluated(UnevaluatedConstId, Vec<ArgCall>),
+    /// A value, with its type first.
+    Value(u32, ValTreeCall),
+    /// A constant of which an error was reported.
+    Error(ErrorGuaranteed),
+    /// An expression over constants: the front end's number of it, and what stands in it.
+    Expr(u32, Vec<ArgCall>),
+}
+
+/// A pattern to be built. It is such a [`PatternKind`](tt_kinds::PatternKind), with positions in the places of handles.
+#[derive(Debug, PartialEq, Eq, Drop)]
+pub enum PatCall {
+    /// The values from the one constant to the other.
+    Range {
+        /// The least value.
+        start: u32,
+        /// The greatest value.
+        end: u32,
+    },
+    /// The values that one of the patterns allows.
+    Or(Vec<u32>),
+    /// Every value but the null pointer.
+    NotNull,
+}
+
+/// A type or a constant of a call.
+#[derive(Clone, Copy, Debug, PartialEq, Eq)]
+pub enum TermCall {
+    /// The type that the call at this position answered.
+    Ty(u32),
+    /// The constant that the call at this position answered.
+    Const(u32),
+}
+
+/// What a clause says. It is such a [`ClauseKind`](tt_kinds::ClauseKind), with positions in the places of handles.
+#[derive(Debug, PartialEq, Eq, Drop)]
+pub enum ClauseCall {
+    /// A type implements a trait: the trait, and its generic arguments, the type first.
+    Trait(TraitId, Vec<ArgCall>),
+    /// A region outlives another.
+    RegionOutlives(RegionCall, RegionCall),
+    /// A type outlives a region.
+    TypeOutlives(u32, RegionCall),
+    /// An alias stands for a term: the alias, its generic arguments and the term.
+    Projection(DefId, Vec<ArgCall>, TermCall),
+    /// A constant has a type.
+    ConstArgHasType(u32, u32),
+    /// A term is well formed.
+    WellFormed(TermCall),
+    /// A constant can be computed.
+    ConstEvaluatable(u32),
+    /// A type implements a trait so that it can be used in constants.
+    HostEffect(TraitId, Vec<ArgCall>, BoundConstness),
+    /// A feature of this name that isn't stable has to be on.
+    UnstableFeature(String),
+}
+
+/// What a predicate says. It is such a [`PredicateKind`](tt_kinds::PredicateKind), with positions in the places of handles.
+#[derive(Debug, PartialEq, Eq, Drop)]
+pub enum PredicateKindCall {
+    /// A clause.
+    Clause(ClauseCall),
+    /// Trait objects of the trait can be made.
+    DynCompatible(TraitId),
+    /// A type is a subtype of another.
+    Subtype {
+        /// Whether the first type is what was expected.
+        a_is_expected: bool,
+        /// The subtype.
+        a: u32,
+        /// The other type.
+        b: u32,
+    },
+    /// A type can be coerced to another.
+    Coerce(u32, u32),
+    /// Two constants are equal.
+    ConstEquate(u32, u32),
+    /// It isn't known whether anything holds.
+    Ambiguous,
+    /// An alias normalizes to a term: the alias, its generic arguments and the term.
+    NormalizesTo(DefId, Vec<ArgCall>, TermCall),
+    /// Two terms, aliases or not, are related.
+    AliasRelate(TermCall, TermCall, AliasRelationDirection),
+}
+
+/// A predicate to be built.
+#[derive(Debug, PartialEq, Eq, Drop)]
+pub struct PredicateCall {
+    /// What it says.
+    pub kind: PredicateKindCall,
+    /// The variables of the binder around it.
+    pub vars: Vec<VariableCall>,
 }
 
 /// A generic argument of a call.
@@ -114,6 +277,8 @@ pub enum ArgCall {
     Lifetime(RegionCall),
     /// The type that the call at this position answered.
     Type(u32),
+    /// The constant that the call at this position answered.
+    Const(u32),
 }
 
 /// A call of the library. A position names the answer of an earlier call of the list: the first call has position 1.
@@ -121,6 +286,16 @@ pub enum ArgCall {
 pub enum Call {
     /// Builds the type.
     Ty(TyCall),
+    /// Builds the constant.
+    Const(ConstCall),
+    /// Builds the pattern.
+    Pat(PatCall),
+    /// Builds the predicate.
+    Predicate(PredicateCall),
+    /// Builds the list of the clauses that the calls at the positions answered.
+    Clauses(Vec<u32>),
+    /// Builds the list of generic arguments.
+    Args(Vec<ArgCall>),
     /// Shifts the term at the position into so many new binders.
     Shift(u32, u32),
     /// Instantiates the term at the position with the arguments.

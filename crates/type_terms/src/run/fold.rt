@@ -1,83 +1,96 @@
 //! Calls that fold terms.
 
-ghost use Rattle.std.specs.Prelude.{◌≡◌, IfErr, IfOk, List};
+ghost use Rattle.std.specs.Prelude.{◌≡◌, ◌<◌, Some, ℕ, List};
 ghost use Rattle.std.specs.declared.alloc.Global.{Global};
 ghost use Rattle.std.specs.declared.vec.Vec.{Vec};
+ghost use Rattle.tt_interner.specs.Rows.{size, meaning};
 ghost use Rattle.tt_interner.specs.Stored.{Extends};
+ghost use Rattle.tt_binder.specs.Arguments.{AreArguments};
 ghost use Rattle.type_terms.specs.declared.run.call.ArgCall.{ArgCall};
 ghost use Rattle.type_terms.specs.declared.run.call.Call.TheVariants.{Shift as Shifts, Instantiate as Instantiates};
-ghost use Rattle.type_terms.specs.Told.{told_all, AreOwned};
-ghost use Rattle.type_terms.specs.Means.{argument};
-ghost use Rattle.type_terms.specs.Build.{Answers, GivesArgument, GivesArguments};
+ghost use Rattle.type_terms.specs.Told.{Told, told_all, AreOwned};
+ghost use Rattle.type_terms.specs.Means.{term_at};
+ghost use Rattle.type_terms.specs.Build.{Answers, AreArgumentsOf};
 
 use crate::run::answer::Answer;
-use crate::run::build::build_region;
 use crate::run::call::ArgCall;
-use crate::run::lookup::ty_at;
+use crate::run::handle::Handle;
+use crate::run::lookup::answer_at;
+use crate::run::parts::build_args;
 use tt_binder::Instantiate;
 use tt_fold::shift_vars;
 use tt_index::Refusal;
 use tt_interner::Interner;
-use tt_kinds::{EarlyBinder, GenericArg, Ty};
+use tt_kinds::{EarlyBinder, GenericArg};
 
-/// The type at the position, shifted.
+/// The term at the position, shifted.
 pub fn shift_at(
     cx: &mut Interner,
     earlier: &[Answer],
     position: u32,
     amount: u32,
-) -> Result<Ty, Refusal>
+) -> Result<Answer, Refusal>
     requires { AreOwned cx.old.rows earlier.now }
     ensures extends { Extends cx.old cx.new }
     ensures answers { Answers cx.new (told_all cx.old.rows earlier.now) (Shifts position amount) result }
 {
-    let ty = ty_at(earlier, position)?;
-    shift_vars(cx, ty, amount)
+    let answer = answer_at(earlier, position)?;
+    match answer {
+        Answer::Ty(ty) => shifted(cx, *ty, amount),
+        Answer::Const(constant) => shifted(cx, *constant, amount),
+        Answer::Pat(pat) => shifted(cx, *pat, amount),
+        Answer::Predicate(predicate) => shifted(cx, *predicate, amount),
+        Answer::Clauses(clauses) => shifted(cx, *clauses, amount),
+        Answer::Args(args) => shifted(cx, *args, amount),
+        _ => Err(Refusal::NoSuchAnswer),
+    }
 }
 
-/// The type at the position, instantiated.
+// The term, shifted.
+fn shifted<T: Handle>(cx: &mut Interner, term: T, amount: u32) -> Result<Answer, Refusal>
+    requires { T.number term < size cx.old.rows T.table }
+    ensures extends { Extends cx.old cx.new }
+    ensures answers { (earlier : List Told) (p : ℕ) → term_at earlier p ≡ Some (record { table = T.table; tree = meaning cx.old.rows T.table (T.number term) }) → Answers cx.new earlier (Shifts p amount) result }
+{
+    let shifted = shift_vars(cx, term, amount)?;
+    Ok(shifted.into_answer())
+}
+
+/// The term at the position, instantiated.
 pub fn instantiate_at(
     cx: &mut Interner,
     earlier: &[Answer],
     position: u32,
     args: &[ArgCall],
-) -> Result<Ty, Refusal>
+) -> Result<Answer, Refusal>
     requires { AreOwned cx.old.rows earlier.now }
     ensures extends { Extends cx.old cx.new }
     ensures answers { (list : Vec ArgCall Global) → list.items ≡ args.now → Answers cx.new (told_all cx.old.rows earlier.now) (Instantiates position list) result }
 {
-    let ty = ty_at(earlier, position)?;
+    let answer = answer_at(earlier, position)?;
     let args = build_args(cx, earlier, args)?;
-    let instance = EarlyBinder::bind(ty).instantiate(cx, args.as_slice())?;
-    Ok(instance.skip_norm_wip())
+    match answer {
+        Answer::Ty(ty) => instantiated(cx, *ty, args.as_slice()),
+        Answer::Const(constant) => instantiated(cx, *constant, args.as_slice()),
+        Answer::Pat(pat) => instantiated(cx, *pat, args.as_slice()),
+        Answer::Predicate(predicate) => instantiated(cx, *predicate, args.as_slice()),
+        Answer::Clauses(clauses) => instantiated(cx, *clauses, args.as_slice()),
+        Answer::Args(list) => instantiated(cx, *list, args.as_slice()),
+        _ => Err(Refusal::NoSuchAnswer),
+    }
 }
 
-// The arguments that a call names.
-fn build_args(
+// The term, instantiated.
+fn instantiated<T: Handle>(
     cx: &mut Interner,
-    earlier: &[Answer],
-    args: &[ArgCall],
-) -> Result<Vec<GenericArg>, Refusal>
-    requires { AreOwned cx.old.rows earlier.now }
+    term: T,
+    args: &[GenericArg],
+) -> Result<Answer, Refusal>
+    requires term { T.number term < size cx.old.rows T.table }
+    requires args { AreArguments cx.old.rows args.now }
     ensures extends { Extends cx.old cx.new }
-    ensures args { GivesArguments cx.new (told_all cx.old.rows earlier.now) args.now result }
+    ensures answers { (earlier : List Told) (p : ℕ) (list : Vec ArgCall Global) → term_at earlier p ≡ Some (record { table = T.table; tree = meaning cx.old.rows T.table (T.number term) }) → AreArgumentsOf cx.old earlier list.items args.now → Answers cx.new earlier (Instantiates p list) result }
 {
-    let mut built = Vec::with_capacity(cx.allocator(), args.len())?;
-    for arg in args {
-        let arg = build_arg(cx, earlier, arg)?;
-        built.push(arg)?;
-    }
-    Ok(built)
-}
-
-// The argument that a call names.
-fn build_arg(cx: &mut Interner, earlier: &[Answer], arg: &ArgCall) -> Result<GenericArg, Refusal>
-    requires { AreOwned cx.old.rows earlier.now }
-    ensures extends { Extends cx.old cx.new }
-    ensures arg { GivesArgument cx.new (told_all cx.old.rows earlier.now) arg.now result }
-{
-    match arg {
-        ArgCall::Type(position) => Ok(GenericArg::from(ty_at(earlier, *position)?)),
-        ArgCall::Lifetime(region) => Ok(GenericArg::from(build_region(cx, region)?)),
-    }
+    let instance = EarlyBinder::bind(term).instantiate(cx, args)?;
+    Ok(instance.skip_norm_wip().into_answer())
 }

@@ -1,43 +1,71 @@
 //! Earlier answers, by their positions.
 
-ghost use Rattle.std.specs.Prelude.{◌≡◌, IfOk, IfErr, ◌⊎◌, None, List};
-ghost use Rattle.tt_index.specs.declared.refusal.Refusal.TheVariants.{Memory, NoSuchAnswer};
+ghost use Rattle.std.specs.Prelude.{◌≡◌, IfOk, IfErr, None, List, [], ◌∷◌};
+ghost use Rattle.tt_index.specs.declared.refusal.Refusal.TheVariants.{NoSuchAnswer};
+ghost use Rattle.tt_kinds.specs.Shape.{stored, also, none};
 ghost use Rattle.tt_interner.specs.Rows.{Row};
-ghost use Rattle.type_terms.specs.Told.{told_all};
-ghost use Rattle.type_terms.specs.Means.{term_at, AreTerms};
-ghost use Rattle.type_terms.specs.Build.{IsTyAt, AreTysAt};
+ghost use Rattle.tt_interner.specs.Stored.{Terms};
+ghost use Rattle.type_terms.specs.CallForm.{one, a_term, terms_at};
+ghost use Rattle.type_terms.specs.Told.{told_all, AreOwned};
+ghost use Rattle.type_terms.specs.Means.{term_at};
+ghost use Rattle.type_terms.specs.Build.{IsAnswerAt, GivesPart, GivesParts, GivesItems};
 
 use crate::run::answer::Answer;
+use crate::run::handle::Handle;
 use std::alloc::Global;
 use tt_index::Refusal;
-use tt_kinds::Ty;
 
-/// The type at the position, counted from 1. It is refused with `NoSuchAnswer` where the answer there is absent or no type.
-pub fn ty_at(earlier: &[Answer], position: u32) -> Result<Ty, Refusal>
-    ensures ok { IfOk result (IsTyAt earlier.now position) }
+/// The answer at the position, counted from 1. It is refused with `NoSuchAnswer` where there is none.
+pub fn answer_at<'a>(earlier: &'a [Answer], position: u32) -> Result<&'a Answer, Refusal>
+    ensures ok { IfOk result (λ answer. IsAnswerAt earlier.now position answer.now) }
     ensures cause { IfErr result (λ e. e ≡ NoSuchAnswer) }
     ensures absent { IfErr result (λ e. (rows : List Row) → term_at (told_all rows earlier.now) position ≡ None) }
 {
     if position == 0 {
         return Err(Refusal::NoSuchAnswer);
     }
-    let Some(answer) = earlier.get(position as usize - 1) else {
-        return Err(Refusal::NoSuchAnswer);
-    };
-    match answer {
-        Answer::Ty(ty) => Ok(*ty),
-        _ => Err(Refusal::NoSuchAnswer),
+    match earlier.get(position as usize - 1) {
+        Some(answer) => Ok(answer),
+        None => Err(Refusal::NoSuchAnswer),
     }
 }
 
-/// The types at the positions.
-pub fn tys_at(alloc: Global, earlier: &[Answer], positions: &[u32]) -> Result<Vec<Ty>, Refusal>
-    ensures ok { IfOk result (λ tys. AreTysAt earlier.now positions.now tys.items) }
-    ensures cause { IfErr result (λ e. (e ≡ Memory) ⊎ ((e ≡ NoSuchAnswer) × ((rows : List Row) → AreTerms (told_all rows earlier.now) positions.now → ⊥))) }
+/// The handle at the position. It is refused with `NoSuchAnswer` where the answer there is absent or no handle of its table.
+pub fn handle_at<T: Handle>(earlier: &[Answer], position: u32) -> Result<T, Refusal>
+    ensures { (terms : Terms) → AreOwned terms.rows earlier.now → GivesPart terms (told_all terms.rows earlier.now) (one (a_term T.table position)) (λ handle. stored T.table (T.number handle)) result }
 {
-    let mut tys = Vec::with_capacity(alloc, positions.len())?;
-    for position in positions {
-        tys.push(ty_at(earlier, *position)?)?;
+    let answer = answer_at(earlier, position)?;
+    match T::from_answer(answer) {
+        Some(handle) => Ok(handle),
+        None => Err(Refusal::NoSuchAnswer),
     }
-    Ok(tys)
+}
+
+/// The handles at two positions.
+pub fn handle_pair<A: Handle, B: Handle>(
+    earlier: &[Answer],
+    first: u32,
+    second: u32,
+) -> Result<(A, B), Refusal>
+    ensures { (terms : Terms) → AreOwned terms.rows earlier.now → GivesParts terms (told_all terms.rows earlier.now) (one (a_term A.table first) ∷ one (a_term B.table second) ∷ []) (λ pair. also (stored A.table (A.number pair.0)) (also (stored B.table (B.number pair.1)) none)) result }
+{
+    let first = handle_at(earlier, first)?;
+    let second = handle_at(earlier, second)?;
+    Ok((first, second))
+}
+
+/// The handles at the positions.
+pub fn handles_at<T: Handle>(
+    alloc: Global,
+    earlier: &[Answer],
+    positions: &[u32],
+) -> Result<Vec<T>, Refusal>
+    ensures { (terms : Terms) → AreOwned terms.rows earlier.now → GivesItems terms (told_all terms.rows earlier.now) (terms_at T.table positions.now) (λ handle. stored T.table (T.number handle)) result }
+{
+    let mut handles = Vec::with_capacity(alloc, positions.len())?;
+    for position in positions {
+        let handle = handle_at(earlier, *position)?;
+        handles.push(handle)?;
+    }
+    Ok(handles)
 }

@@ -10,7 +10,12 @@ pub fn print_answer(output: &mut String, number: usize, answer: &Answer) -> Resu
     // The formatter would take as long as all other work on a short line.
     output.push_str(Buffer::new().format(number))?;
     match answer {
-        Answer::Ty(_) => output.push_str(": ok\n"),
+        Answer::Ty(_)
+        | Answer::Const(_)
+        | Answer::Pat(_)
+        | Answer::Predicate(_)
+        | Answer::Clauses(_)
+        | Answer::Args(_) => output.push_str(": ok\n"),
         Answer::Truth(true) => output.push_str(": yes\n"),
         Answer::Truth(false) => output.push_str(": no\n"),
         Answer::Info { flags, outer } => {

@@ -1,39 +1,71 @@
 //! Calls that ask about terms.
 
+ghost use Rattle.std.specs.Prelude.{◌<◌, ◌↔◌, IsTrue};
+ghost use Rattle.tt_interner.specs.Rows.{size, meaning};
 ghost use Rattle.type_terms.specs.declared.run.call.Call.TheVariants.{Equal as AsksEqual, Info as AsksInfo};
 ghost use Rattle.type_terms.specs.Told.{told, told_all, AreOwned, HasFullTable};
 ghost use Rattle.type_terms.specs.Means.{IsAllowed};
+ghost use Rattle.type_terms.specs.Build.{AreAlike, IsInfoOf};
 
 use crate::run::answer::Answer;
-use crate::run::lookup::ty_at;
+use crate::run::handle::{Handle, number_of, table_of};
+use crate::run::lookup::answer_at;
 use tt_index::Refusal;
-use tt_interner::{Flags, Interner};
+use tt_interner::Interner;
 
-/// Whether the types at two positions are the same.
+/// Whether the terms at two positions are the same. They have to be of one table.
 pub fn equal_at(cx: &Interner, earlier: &[Answer], first: u32, second: u32) -> Answer
     requires { AreOwned cx.now.rows earlier.now }
     ensures { IsAllowed (HasFullTable cx.now) (told_all cx.now.rows earlier.now) (AsksEqual first second) (told cx.now.rows result) }
 {
-    let Ok(first) = ty_at(earlier, first) else {
+    let Ok(first) = answer_at(earlier, first) else {
         return Answer::Refused(Refusal::NoSuchAnswer);
     };
-    let Ok(second) = ty_at(earlier, second) else {
+    let Ok(second) = answer_at(earlier, second) else {
         return Answer::Refused(Refusal::NoSuchAnswer);
     };
+    if !are_alike(first, second) {
+        return Answer::Refused(Refusal::NoSuchAnswer);
+    }
     cx.are_interned();
-    Answer::Truth(first == second)
+    Answer::Truth(number_of(first) == number_of(second))
 }
 
-/// The flags and the outer exclusive binder of the type at the position.
+// Whether both are handles of one table.
+fn are_alike(first: &Answer, second: &Answer) -> bool
+    ensures { IsTrue result ↔ AreAlike first.now second.now }
+{
+    match (table_of(first), table_of(second)) {
+        (Some(first), Some(second)) => first == second,
+        _ => false,
+    }
+}
+
+/// The flags and the outer exclusive binder of the term at the position. A list of generic arguments is none.
 pub fn info_at(cx: &Interner, earlier: &[Answer], position: u32) -> Answer
     requires { AreOwned cx.now.rows earlier.now }
     ensures { IsAllowed (HasFullTable cx.now) (told_all cx.now.rows earlier.now) (AsksInfo position) (told cx.now.rows result) }
 {
-    let Ok(ty) = ty_at(earlier, position) else {
+    let Ok(answer) = answer_at(earlier, position) else {
         return Answer::Refused(Refusal::NoSuchAnswer);
     };
+    match answer {
+        Answer::Ty(ty) => info(cx, *ty),
+        Answer::Const(constant) => info(cx, *constant),
+        Answer::Pat(pat) => info(cx, *pat),
+        Answer::Predicate(predicate) => info(cx, *predicate),
+        Answer::Clauses(clauses) => info(cx, *clauses),
+        _ => Answer::Refused(Refusal::NoSuchAnswer),
+    }
+}
+
+// The flags and the outer exclusive binder of the term.
+fn info<T: Handle>(cx: &Interner, term: T) -> Answer
+    requires { T.number term < size cx.now.rows T.table }
+    ensures { IsInfoOf (meaning cx.now.rows T.table (T.number term)) result }
+{
     Answer::Info {
-        flags: ty.flags(cx),
-        outer: ty.outer_exclusive_binder(cx),
+        flags: term.flags(cx),
+        outer: term.outer_exclusive_binder(cx),
     }
 }

@@ -10,11 +10,14 @@ ghost use Rattle.type_terms.specs.Means.{IsAllowed, Means};
 use crate::run::answer::Answer;
 use crate::run::build::build_ty;
 use crate::run::call::Call;
+use crate::run::clauses::build_clauses;
+use crate::run::consts::{build_args_answer, build_const};
 use crate::run::fold::{instantiate_at, shift_at};
+use crate::run::pats::build_pat;
+use crate::run::predicates::build_predicate;
 use crate::run::query::{equal_at, info_at};
 use tt_index::Refusal;
 use tt_interner::Interner;
-use tt_kinds::Ty;
 
 /// Answers each call in order. A call's positions name the answers before it.
 ///
@@ -58,9 +61,18 @@ fn answer_call(cx: &mut Interner, earlier: &[Answer], call: &Call) -> Answer
     ensures allowed { IsAllowed (HasFullTable cx.new) (told_all cx.old.rows earlier.now) call.now (told cx.new.rows result) }
 {
     match call {
-        Call::Ty(kind) => term_answer(build_ty(cx, earlier, kind)),
-        Call::Shift(position, amount) => term_answer(shift_at(cx, earlier, *position, *amount)),
-        Call::Instantiate(position, args) => term_answer(instantiate_at(
+        Call::Ty(kind) => outcome_answer(build_ty(cx, earlier, kind)),
+        Call::Const(kind) => outcome_answer(build_const(cx, earlier, kind)),
+        Call::Pat(kind) => outcome_answer(build_pat(cx, earlier, kind)),
+        Call::Predicate(kind) => outcome_answer(build_predicate(cx, earlier, kind)),
+        Call::Clauses(positions) => {
+            outcome_answer(build_clauses(cx, earlier, positions.as_slice()))
+        }
+        Call::Args(args) => outcome_answer(build_args_answer(cx, earlier, args.as_slice())),
+        Call::Shift(position, amount) => {
+            outcome_answer(shift_at(cx, earlier, *position, *amount))
+        }
+        Call::Instantiate(position, args) => outcome_answer(instantiate_at(
             cx,
             earlier,
             *position,
@@ -72,12 +84,12 @@ fn answer_call(cx: &mut Interner, earlier: &[Answer], call: &Call) -> Answer
     }
 }
 
-// The answer of a call that gives a type.
-fn term_answer(outcome: Result<Ty, Refusal>) -> Answer
-    ensures { MatchResult outcome (λ ty. result ≡ Answer.Ty ty) (λ e. result ≡ Answer.Refused e) }
+// The answer of a call that gives a term.
+fn outcome_answer(outcome: Result<Answer, Refusal>) -> Answer
+    ensures { MatchResult outcome (λ answer. result ≡ answer) (λ e. result ≡ Answer.Refused e) }
 {
     match outcome {
-        Ok(ty) => Answer::Ty(ty),
+        Ok(answer) => answer,
         Err(refusal) => Answer::Refused(refusal),
     }
 }

@@ -31,3 +31,9 @@ pub returns-in-ReError-clause-region : goal.returns-in-ReError-clause-region
 unfolding fill IsPart
 returns-in-ReError-clause-region c =
     rw (c.in-ReError.is) (region-shallow c.args.cx.now (ReError c.in-ReError.token) _ ⊥ c.new-in-ReError.result c.new-in-ReError.ensures.ok tt (λ d. d) tt refl)
+
+pub returns-in-ReLateParam-clause-region : goal.returns-in-ReLateParam-clause-region
+returns-in-ReLateParam-clause-region c = rw (c.in-ReLateParam.is) c.build_late_param.ensures.region
+
+pub returns-in-RePlaceholder-clause-region : goal.returns-in-RePlaceholder-clause-region
+returns-in-RePlaceholder-clause-region c = rw (c.in-RePlaceholder.is) c.build_placeholder.ensures.region

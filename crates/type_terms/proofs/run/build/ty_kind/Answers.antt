@@ -1,76 +1,125 @@
 use Rattle.std.proofs.Common.{◌∷◌, [], refl}
-use Rattle.tt_kinds.specs.Label.{type_label, bool_type, char_type, int_type, uint_type, float_type, str_type, never_type, placeholder_type, infer_type, error_type, raw_ptr_type, slice_type}
+use Rattle.tt_kinds.specs.Bound as kinds
+use Rattle.tt_kinds.specs.Bound.{depth}
+use Rattle.tt_kinds.specs.Label.{Label, type_sort, type_label, bool_type, char_type, int_type, uint_type, float_type, str_type, never_type, placeholder_type, infer_type, error_type, raw_ptr_type, slice_type, tuple_type, foreign_type}
+use Rattle.tt_kinds.specs.Kinds.{ty_kind_shape, ty_shape, tys_shape}
+use Rattle.tt_kinds.specs.Shape as shape
+use Rattle.tt_kinds.specs.declared.table.Table.TheVariants.{Types, TypeLists}
 use Rattle.tt_kinds.specs.declared.ty_kind.TyKind.TheVariants as ty
-use Rattle.type_terms.specs.CallForm.{plain, a_term, IsFormTooDeep}
+use Rattle.type_terms.specs.CallForm.{plain, one, a_term, a_list, terms_at, ty_entry}
 use Rattle.type_terms.specs.Told.{told_all, HasFullTable}
-use Rattle.type_terms.proofs.BuildLaws.{kind-passed, missing-at}
-use Rattle.type_terms.proofs.KindLaws.{leaf-kind, bound-kind, ptr-kind, slice-kind, tuple-kind}
+use Rattle.type_terms.proofs.PartLaws.{kind-passed, plain-kind, parts-one, unbuilt-first}
+use Rattle.type_terms.proofs.KindLaws.{leaf-kind, bound-kind}
 use Rattle.type_terms.proofs.run.build.ty_kind.Goals as goal
 
 pub returns-in-Bool-clause-kind : goal.returns-in-Bool-clause-kind
-returns-in-Bool-clause-kind c = rw (c.in-Bool.is) (leaf-kind c.args.cx.now (told_all c.args.cx.now.rows c.args.earlier.now) bool_type ty.Bool refl)
+returns-in-Bool-clause-kind c = rw (c.in-Bool.is) (leaf-kind ty_kind_shape c.args.cx.now (told_all c.args.cx.now.rows c.args.earlier.now) (type_label bool_type) (type_label bool_type) ty.Bool refl tt refl)
 
 pub returns-in-Char-clause-kind : goal.returns-in-Char-clause-kind
-returns-in-Char-clause-kind c = rw (c.in-Char.is) (leaf-kind c.args.cx.now (told_all c.args.cx.now.rows c.args.earlier.now) char_type ty.Char refl)
+returns-in-Char-clause-kind c = rw (c.in-Char.is) (leaf-kind ty_kind_shape c.args.cx.now (told_all c.args.cx.now.rows c.args.earlier.now) (type_label char_type) (type_label char_type) ty.Char refl tt refl)
 
 pub returns-in-Int-clause-kind : goal.returns-in-Int-clause-kind
-returns-in-Int-clause-kind c = rw (c.in-Int.is) (leaf-kind c.args.cx.now (told_all c.args.cx.now.rows c.args.earlier.now) (int_type c.in-Int.width) (ty.Int c.in-Int.width) refl)
+returns-in-Int-clause-kind c = rw (c.in-Int.is) (leaf-kind ty_kind_shape c.args.cx.now (told_all c.args.cx.now.rows c.args.earlier.now) (type_label (int_type c.in-Int.width)) (type_label (int_type c.in-Int.width)) (ty.Int c.in-Int.width) refl tt refl)
 
 pub returns-in-Uint-clause-kind : goal.returns-in-Uint-clause-kind
-returns-in-Uint-clause-kind c = rw (c.in-Uint.is) (leaf-kind c.args.cx.now (told_all c.args.cx.now.rows c.args.earlier.now) (uint_type c.in-Uint.width) (ty.Uint c.in-Uint.width) refl)
+returns-in-Uint-clause-kind c = rw (c.in-Uint.is) (leaf-kind ty_kind_shape c.args.cx.now (told_all c.args.cx.now.rows c.args.earlier.now) (type_label (uint_type c.in-Uint.width)) (type_label (uint_type c.in-Uint.width)) (ty.Uint c.in-Uint.width) refl tt refl)
 
 pub returns-in-Float-clause-kind : goal.returns-in-Float-clause-kind
-returns-in-Float-clause-kind c = rw (c.in-Float.is) (leaf-kind c.args.cx.now (told_all c.args.cx.now.rows c.args.earlier.now) (float_type c.in-Float.width) (ty.Float c.in-Float.width) refl)
+returns-in-Float-clause-kind c = rw (c.in-Float.is) (leaf-kind ty_kind_shape c.args.cx.now (told_all c.args.cx.now.rows c.args.earlier.now) (type_label (float_type c.in-Float.width)) (type_label (float_type c.in-Float.width)) (ty.Float c.in-Float.width) refl tt refl)
 
 pub returns-in-Str-clause-kind : goal.returns-in-Str-clause-kind
-returns-in-Str-clause-kind c = rw (c.in-Str.is) (leaf-kind c.args.cx.now (told_all c.args.cx.now.rows c.args.earlier.now) str_type ty.Str refl)
+returns-in-Str-clause-kind c = rw (c.in-Str.is) (leaf-kind ty_kind_shape c.args.cx.now (told_all c.args.cx.now.rows c.args.earlier.now) (type_label str_type) (type_label str_type) ty.Str refl tt refl)
 
 pub returns-in-Never-clause-kind : goal.returns-in-Never-clause-kind
-returns-in-Never-clause-kind c = rw (c.in-Never.is) (leaf-kind c.args.cx.now (told_all c.args.cx.now.rows c.args.earlier.now) never_type ty.Never refl)
+returns-in-Never-clause-kind c = rw (c.in-Never.is) (leaf-kind ty_kind_shape c.args.cx.now (told_all c.args.cx.now.rows c.args.earlier.now) (type_label never_type) (type_label never_type) ty.Never refl tt refl)
 
 pub returns-in-Placeholder-clause-kind : goal.returns-in-Placeholder-clause-kind
-returns-in-Placeholder-clause-kind c = rw (c.in-Placeholder.is) (leaf-kind c.args.cx.now (told_all c.args.cx.now.rows c.args.earlier.now) (placeholder_type c.in-Placeholder.placeholder) (ty.Placeholder c.in-Placeholder.placeholder) refl)
+returns-in-Placeholder-clause-kind c = rw (c.in-Placeholder.is) (leaf-kind ty_kind_shape c.args.cx.now (told_all c.args.cx.now.rows c.args.earlier.now) (type_label (placeholder_type c.in-Placeholder.placeholder)) (type_label (placeholder_type c.in-Placeholder.placeholder)) (ty.Placeholder c.in-Placeholder.placeholder) refl tt refl)
 
 pub returns-in-Infer-clause-kind : goal.returns-in-Infer-clause-kind
-returns-in-Infer-clause-kind c = rw (c.in-Infer.is) (leaf-kind c.args.cx.now (told_all c.args.cx.now.rows c.args.earlier.now) (infer_type c.in-Infer.infer) (ty.Infer c.in-Infer.infer) refl)
+returns-in-Infer-clause-kind c = rw (c.in-Infer.is) (leaf-kind ty_kind_shape c.args.cx.now (told_all c.args.cx.now.rows c.args.earlier.now) (type_label (infer_type c.in-Infer.infer)) (type_label (infer_type c.in-Infer.infer)) (ty.Infer c.in-Infer.infer) refl tt refl)
 
 pub returns-in-Error-clause-kind : goal.returns-in-Error-clause-kind
-returns-in-Error-clause-kind c = rw (c.in-Error.is) (leaf-kind c.args.cx.now (told_all c.args.cx.now.rows c.args.earlier.now) (error_type c.in-Error.token.0) (ty.Error c.in-Error.token) refl)
+returns-in-Error-clause-kind c = rw (c.in-Error.is) (leaf-kind ty_kind_shape c.args.cx.now (told_all c.args.cx.now.rows c.args.earlier.now) (type_label (error_type c.in-Error.token.0)) (type_label (error_type c.in-Error.token.0)) (ty.Error c.in-Error.token) refl tt refl)
 
 pub returns-in-Bound-clause-kind : goal.returns-in-Bound-clause-kind
-returns-in-Bound-clause-kind c = rw (c.in-Bound.is) (bound-kind c.args.cx.now (told_all c.args.cx.now.rows c.args.earlier.now) c.in-Bound.index c.in-Bound.bound)
+returns-in-Bound-clause-kind c =
+    rw (c.in-Bound.is)
+    (record {
+      ok = bound-kind c.args.cx.now (told_all c.args.cx.now.rows c.args.earlier.now) type_sort (depth c.in-Bound.index) (kinds.ty_entry c.in-Bound.bound) (ty_entry c.in-Bound.bound) tt refl;
+      err = tt;
+    })
 
-pub returns-in_err-ty_at-in-RawPtr-clause-kind : goal.returns-in_err-ty_at-in-RawPtr-clause-kind
-returns-in_err-ty_at-in-RawPtr-clause-kind c =
-    let form = plain (type_label (raw_ptr_type c.in-RawPtr.mutability)) (a_term c.in-RawPtr.ty ∷ []) in
-    let r = c.in_err-ty_at-in-RawPtr in
+pub returns-in_err-handle_at-in-RawPtr-clause-kind : goal.returns-in_err-handle_at-in-RawPtr-clause-kind
+returns-in_err-handle_at-in-RawPtr-clause-kind c =
+    let e = told_all c.args.cx.now.rows c.args.earlier.now in
+    let part = one (a_term Types c.in-RawPtr.ty) in
+    let r = c.in_err-handle_at-in-RawPtr in
     rw (c.in-RawPtr.is)
-    (kind-passed c.args.cx.now (told_all c.args.cx.now.rows c.args.earlier.now) form c.from_residual.result r.field-0.0 c.from_residual.ensures.1
-    (missing-at (HasFullTable c.args.cx.now) c.args.cx.now.rows c.args.earlier.now c.in-RawPtr.ty [] (IsFormTooDeep form) r.field-0.0 r.ensures.cause r.ensures.absent))
+    (kind-passed c.args.cx.now e (plain (type_label (raw_ptr_type c.in-RawPtr.mutability)) (part ∷ [])) ty_kind_shape c.from_residual.result r.field-0.0 c.from_residual.ensures.1
+    (unbuilt-first (HasFullTable c.args.cx.now) e part [] r.field-0.0 (r.ensures c.args.cx.now c.requires).err))
 
-pub returns-in_ok-ty_at-in-RawPtr-clause-kind : goal.returns-in_ok-ty_at-in-RawPtr-clause-kind
-returns-in_ok-ty_at-in-RawPtr-clause-kind c =
+pub returns-in_ok-handle_at-in-RawPtr-clause-kind : goal.returns-in_ok-handle_at-in-RawPtr-clause-kind
+returns-in_ok-handle_at-in-RawPtr-clause-kind c =
+    let e = told_all c.args.cx.now.rows c.args.earlier.now in
+    let part = one (a_term Types c.in-RawPtr.ty) in
+    let r = c.in_ok-handle_at-in-RawPtr in
     rw (c.in-RawPtr.is)
-    (record { ok = ptr-kind c.args.cx.now c.args.earlier.now c.in-RawPtr.ty c.in_ok-ty_at-in-RawPtr.field-0 c.in-RawPtr.mutability c.in_ok-ty_at-in-RawPtr.ensures.ok c.requires; err = tt })
+    (record {
+      ok = plain-kind c.args.cx.now e (type_label (raw_ptr_type c.in-RawPtr.mutability)) (part ∷ []) (type_label (raw_ptr_type c.in-RawPtr.mutability)) (shape.also (ty_shape r.field-0) shape.none)
+          (parts-one c.args.cx.now e part (ty_shape r.field-0) (r.ensures c.args.cx.now c.requires).ok) tt refl;
+      err = tt;
+    })
 
-pub returns-in_err-ty_at-in-Slice-clause-kind : goal.returns-in_err-ty_at-in-Slice-clause-kind
-returns-in_err-ty_at-in-Slice-clause-kind c =
-    let form = plain (type_label slice_type) (a_term c.in-Slice.ty ∷ []) in
-    let r = c.in_err-ty_at-in-Slice in
+pub returns-in_err-handle_at-in-Slice-clause-kind : goal.returns-in_err-handle_at-in-Slice-clause-kind
+returns-in_err-handle_at-in-Slice-clause-kind c =
+    let e = told_all c.args.cx.now.rows c.args.earlier.now in
+    let part = one (a_term Types c.in-Slice.ty) in
+    let r = c.in_err-handle_at-in-Slice in
     rw (c.in-Slice.is)
-    (kind-passed c.args.cx.now (told_all c.args.cx.now.rows c.args.earlier.now) form c.from_residual-in_err-ty_at-in-Slice.result r.field-0.0 c.from_residual-in_err-ty_at-in-Slice.ensures.1
-    (missing-at (HasFullTable c.args.cx.now) c.args.cx.now.rows c.args.earlier.now c.in-Slice.ty [] (IsFormTooDeep form) r.field-0.0 r.ensures.cause r.ensures.absent))
+    (kind-passed c.args.cx.now e (plain (type_label slice_type) (part ∷ [])) ty_kind_shape c.from_residual-in_err-handle_at-in-Slice.result r.field-0.0 c.from_residual-in_err-handle_at-in-Slice.ensures.1
+    (unbuilt-first (HasFullTable c.args.cx.now) e part [] r.field-0.0 (r.ensures c.args.cx.now c.requires).err))
 
-pub returns-in_ok-ty_at-in-Slice-clause-kind : goal.returns-in_ok-ty_at-in-Slice-clause-kind
-returns-in_ok-ty_at-in-Slice-clause-kind c =
+pub returns-in_ok-handle_at-in-Slice-clause-kind : goal.returns-in_ok-handle_at-in-Slice-clause-kind
+returns-in_ok-handle_at-in-Slice-clause-kind c =
+    let e = told_all c.args.cx.now.rows c.args.earlier.now in
+    let part = one (a_term Types c.in-Slice.ty) in
+    let r = c.in_ok-handle_at-in-Slice in
     rw (c.in-Slice.is)
-    (record { ok = slice-kind c.args.cx.now c.args.earlier.now c.in-Slice.ty c.in_ok-ty_at-in-Slice.field-0 c.in_ok-ty_at-in-Slice.ensures.ok c.requires; err = tt })
+    (record {
+      ok = plain-kind c.args.cx.now e (type_label slice_type) (part ∷ []) (type_label slice_type) (shape.also (ty_shape r.field-0) shape.none)
+          (parts-one c.args.cx.now e part (ty_shape r.field-0) (r.ensures c.args.cx.now c.requires).ok) tt refl;
+      err = tt;
+    })
+
+pub returns-in_err-build_tys-in-Tuple-clause-kind : goal.returns-in_err-build_tys-in-Tuple-clause-kind
+returns-in_err-build_tys-in-Tuple-clause-kind c =
+    let e = told_all c.args.cx.now.rows c.args.earlier.now in
+    let part = a_list TypeLists (terms_at Types c.in-Tuple.tys.items) in
+    let r = c.in_err-build_tys-in-Tuple in
+    rw (c.in-Tuple.is)
+    (kind-passed c.build_tys.new.cx e (plain (type_label tuple_type) (part ∷ [])) ty_kind_shape c.from_residual-in_err-build_tys-in-Tuple.result r.field-0.0 c.from_residual-in_err-build_tys-in-Tuple.ensures.1
+    (unbuilt-first (HasFullTable c.build_tys.new.cx) e part [] r.field-0.0 (rw (← c.as_slice.ensures.value) r.ensures.list.err)))
 
 pub returns-in_ok-build_tys-in-Tuple-clause-kind : goal.returns-in_ok-build_tys-in-Tuple-clause-kind
 returns-in_ok-build_tys-in-Tuple-clause-kind c =
+    let e = told_all c.args.cx.now.rows c.args.earlier.now in
+    let part = a_list TypeLists (terms_at Types c.in-Tuple.tys.items) in
+    let r = c.in_ok-build_tys-in-Tuple in
     rw (c.in-Tuple.is)
     (record {
-      ok = tuple-kind c.build_tys.new.cx (told_all c.args.cx.now.rows c.args.earlier.now) c.in-Tuple.tys.items c.in_ok-build_tys-in-Tuple.field-0
-          (rw (← c.as_slice.ensures.value) c.in_ok-build_tys-in-Tuple.ensures.list.ok);
+      ok = plain-kind c.build_tys.new.cx e (type_label tuple_type) (part ∷ []) (type_label tuple_type) (shape.also (tys_shape r.field-0) shape.none)
+          (parts-one c.build_tys.new.cx e part (tys_shape r.field-0) (rw (← c.as_slice.ensures.value) r.ensures.list.ok)) tt refl;
       err = tt;
     })
+
+pub returns-in-Foreign-clause-kind : goal.returns-in-Foreign-clause-kind
+returns-in-Foreign-clause-kind c =
+    rw (c.in-Foreign.is)
+    (leaf-kind ty_kind_shape c.args.cx.now (told_all c.args.cx.now.rows c.args.earlier.now) (type_label (foreign_type c.in-Foreign.id.number)) (type_label (foreign_type c.in-Foreign.id.number)) (ty.Foreign c.in-Foreign.id) refl tt refl)
+
+pub returns-in-Array-clause-kind : goal.returns-in-Array-clause-kind
+returns-in-Array-clause-kind c = rw (c.in-Array.is) (c.array_kind.ensures c.args.cx.now c.requires)
+
+pub returns-in-Pat-clause-kind : goal.returns-in-Pat-clause-kind
+returns-in-Pat-clause-kind c = rw (c.in-Pat.is) (c.pat_kind.ensures c.args.cx.now c.requires)

@@ -1,0 +1,274 @@
+-- What stands in the places of items and children, over plain variables.
+use Rattle.std.proofs.Common.{◌≡◌, ℕ, zero, suc, List, [], ◌∷◌, ◌++◌, map, Result, Ok, Err, Some, refl, ap, subst, sym, append-nil, inl, inr}
+use Rattle.std.specs.Prelude.{IsErrAnd, IfErr, slice_get, ◌⊎◌, IsSomeAnd}
+use Rattle.std.specs.declared.alloc.Global.{Global}
+use Rattle.std.specs.declared.vec.Vec.{Vec}
+use Rattle.tt_index.specs.declared.refusal.Refusal.{Refusal}
+use Rattle.tt_kinds.specs.Tree.{Tree, Depth, Forest}
+use Rattle.tt_kinds.specs.Tree as tree
+use Rattle.tt_kinds.specs.Label.{Name, Label, VarKind, RecordLabel, record_label}
+use Rattle.tt_kinds.specs.Shape as shape
+use Rattle.tt_kinds.specs.Shape.{Shape, Shapes, Sizes, fill, fill_all, name_of, vars_of, rename_label, rename_record, IsNamedLabel, IsNamedRecord, IsPart, AreParts, item_shapes}
+use Rattle.tt_kinds.specs.Kinds.{RecordForm, region_shape, child_shapes, term_kind_shape, term_shape}
+use Rattle.tt_kinds.specs.Parts.{term_kind_child, term_child}
+use Rattle.tt_kinds.specs.declared.term.Term.{Term}
+use Rattle.tt_kinds.specs.declared.term.TermKind.{TermKind}
+use Rattle.tt_kinds.specs.declared.term.TermKind.TheVariants as term
+use Rattle.tt_kinds.specs.declared.region_kind.RegionKind.{RegionKind}
+use Rattle.tt_kinds.specs.declared.handle.BoundVarKinds.{BoundVarKinds}
+use Rattle.tt_interner.specs.Rows.{Row, size, meaning}
+use Rattle.tt_interner.specs.Stored.{Terms, Extends}
+use Rattle.tt_interner.proofs.Growth.{IsPart-grows, AreParts-grows, fill-grows, fill_all-grows}
+use Rattle.type_terms.specs.declared.run.call.RegionCall.{RegionCall}
+use Rattle.type_terms.specs.declared.run.call.VariableCall.{VariableCall}
+use Rattle.type_terms.specs.CallForm.{Named, Item, Part, one, a_region, CallForm, plain, under, variable_kind, region_tree, IsRegionTooDeep, item_tree, items_trees, part_tree, parts_trees, item_positions, items_positions, part_positions, parts_positions, IsItemTooDeep, AreItemsTooDeep, IsPartTooDeep, ArePartsTooDeep, form_positions, IsFormTooDeep, RecordCall, record_tree}
+use Rattle.type_terms.specs.Told.{Told, HasFullTable}
+use Rattle.type_terms.specs.Means.{tree_at, AreTerms, Suits}
+use Rattle.type_terms.specs.Build as build
+use Rattle.type_terms.specs.Build.{IsUnbuilt, IsPlaced, ArePlaced, IsItemOf, AreItemsOf, IsPartOf, ArePartsOf, GivesPart, GivesParts, GivesItems, IsRegionOf, GivesRegion, IsVariableListOf, IsKindOf, GivesKind, GivesRecord}
+
+-- positions of two lists
+pub AreTerms-append : (e : List Told) (ms ns : List Named) → AreTerms e ms → AreTerms e ns → AreTerms e (ms ++ ns)
+AreTerms-append e [] ns h k = k
+AreTerms-append e (m ∷ ms) ns h k = (h.0, AreTerms-append e ms ns h.1 k)
+
+pub AreTerms-first : (e : List Told) (ms ns : List Named) → AreTerms e (ms ++ ns) → AreTerms e ms
+AreTerms-first e [] ns h = tt
+AreTerms-first e (m ∷ ms) ns h = (h.0, AreTerms-first e ms ns h.1)
+
+pub AreTerms-second : (e : List Told) (ms ns : List Named) → AreTerms e (ms ++ ns) → AreTerms e ns
+AreTerms-second e [] ns h = h
+AreTerms-second e (m ∷ ms) ns h = AreTerms-second e ms ns h.1
+
+-- a reason of a part is one of the whole
+pub IsUnbuilt-weaker : (P : Type 0) (e d : List Told) (ps qs : List Named) (deep deeper : Type 0) (r : Refusal)
+    → (AreTerms d qs → AreTerms e ps) → (deep → deeper) → IsUnbuilt P e ps deep r → IsUnbuilt P d qs deeper r
+IsUnbuilt-weaker P e d ps qs deep deeper r n f (build.no_memory i) = build.no_memory i
+IsUnbuilt-weaker P e d ps qs deep deeper r n f (build.no_row p i) = build.no_row p i
+IsUnbuilt-weaker P e d ps qs deep deeper r n f (build.no_term h i) = build.no_term (λ a. h (n a)) i
+IsUnbuilt-weaker P e d ps qs deep deeper r n f (build.no_index h i) = build.no_index (f h) i
+
+-- the same of a child and the children
+pub unbuilt-first : (P : Type 0) (e : List Told) (p : Part) (ps : List Part) (r : Refusal)
+    → IsUnbuilt P e (part_positions p) (IsPartTooDeep p) r → IsUnbuilt P e (parts_positions (p ∷ ps)) (ArePartsTooDeep (p ∷ ps)) r
+unbuilt-first P e p ps r h =
+    IsUnbuilt-weaker P e e (part_positions p) (parts_positions (p ∷ ps)) (IsPartTooDeep p) (ArePartsTooDeep (p ∷ ps)) r
+    (AreTerms-first e (part_positions p) (parts_positions ps)) inl h
+
+pub unbuilt-later : (P : Type 0) (e : List Told) (p : Part) (ps : List Part) (r : Refusal)
+    → IsUnbuilt P e (parts_positions ps) (ArePartsTooDeep ps) r → IsUnbuilt P e (parts_positions (p ∷ ps)) (ArePartsTooDeep (p ∷ ps)) r
+unbuilt-later P e p ps r h =
+    IsUnbuilt-weaker P e e (parts_positions ps) (parts_positions (p ∷ ps)) (ArePartsTooDeep ps) (ArePartsTooDeep (p ∷ ps)) r
+    (AreTerms-second e (part_positions p) (parts_positions ps)) inr h
+
+pub unbuilt-second : (P : Type 0) (e : List Told) (p q : Part) (ps : List Part) (r : Refusal)
+    → IsUnbuilt P e (part_positions q) (IsPartTooDeep q) r → IsUnbuilt P e (parts_positions (p ∷ q ∷ ps)) (ArePartsTooDeep (p ∷ q ∷ ps)) r
+unbuilt-second P e p q ps r h = unbuilt-later P e p (q ∷ ps) r (unbuilt-first P e q ps r h)
+
+-- where nothing is named and nothing is deep
+pub unbuilt-always : (P : Type 0) (e : List Told) (ns : List Named) (deep : Type 0) (r : Refusal)
+    → IsUnbuilt P [] [] ⊥ r → IsUnbuilt P e ns deep r
+unbuilt-always P e ns deep r h = IsUnbuilt-weaker P [] e [] ns ⊥ deep r (λ a. tt) (λ d. absurd d) h
+
+-- what more rows leave as it is
+pub placed-grows : {e : List Told} {t : Tree Depth} {ns : List Named} {deep : Type 0} {s : Shape} (old new : Terms) → Extends old new
+    → IsPlaced old e t ns deep s → IsPlaced new e t ns deep s
+placed-grows {e} {t} {ns} {deep} {s} old new x h = record {
+  part = IsPart-grows old.rows new.rows x.rows s h.part;
+  means = rw (fill-grows old.rows new.rows x.rows s h.part) h.means;
+  named = h.named;
+  shallow = h.shallow;
+}
+
+pub all_placed-grow : {e : List Told} {ts : Forest Depth} {ns : List Named} {deep : Type 0} {ss : Shapes} (old new : Terms) → Extends old new
+    → ArePlaced old e ts ns deep ss → ArePlaced new e ts ns deep ss
+all_placed-grow {e} {ts} {ns} {deep} {ss} old new x h = record {
+  parts = AreParts-grows old.rows new.rows x.rows ss h.parts;
+  means = rw (fill_all-grows old.rows new.rows x.rows ss h.parts) h.means;
+  named = h.named;
+  shallow = h.shallow;
+}
+
+-- children in order
+pub parts-none : (terms : Terms) (e : List Told) → ArePartsOf terms e [] shape.none
+unfolding fill IsPart
+parts-none terms e = record { parts = tt; means = refl; named = tt; shallow = λ d. d }
+
+pub parts-also : (terms : Terms) (e : List Told) (p : Part) (ps : List Part) (s : Shape) (ss : Shapes) → IsPartOf terms e p s → ArePartsOf terms e ps ss
+    → ArePartsOf terms e (p ∷ ps) (shape.also s ss)
+unfolding fill IsPart
+parts-also terms e p ps s ss h k = record {
+  parts = (h.part, k.parts);
+  means = rw (h.means, k.means) refl;
+  named = AreTerms-append e (part_positions p) (parts_positions ps) h.named k.named;
+  shallow = λ d. elim d [ inl x ↦ h.shallow x | inr x ↦ k.shallow x ];
+}
+
+pub parts-one : (terms : Terms) (e : List Told) (p : Part) (s : Shape) → IsPartOf terms e p s → ArePartsOf terms e (p ∷ []) (shape.also s shape.none)
+parts-one terms e p s h = parts-also terms e p [] s shape.none h (parts-none terms e)
+
+pub parts-two : (terms : Terms) (e : List Told) (p q : Part) (s u : Shape) → IsPartOf terms e p s → IsPartOf terms e q u
+    → ArePartsOf terms e (p ∷ q ∷ []) (shape.also s (shape.also u shape.none))
+parts-two terms e p q s u h k = parts-also terms e p (q ∷ []) s (shape.also u shape.none) h (parts-one terms e q u k)
+
+-- items in order: those of calls, and the values
+module _ {C T : Type 0} (item : C → Item) (of_value : T → Shape) where
+  parts-append : (size : Sizes) (xs : List T) (x : T) → AreParts size (item_shapes of_value xs) → IsPart size (of_value x)
+      → AreParts size (item_shapes of_value (xs ++ x ∷ []))
+  unfolding IsPart
+  parts-append size [] x h k = (k, tt)
+  parts-append size (y ∷ xs) x h k = (h.0, parts-append size xs x h.1 k)
+
+  trees-append : (f : shape.Meaning) (at : ℕ → Tree Depth) (cs : List C) (xs : List T) (c : C) (x : T)
+      → fill_all f (item_shapes of_value xs) ≡ items_trees at (map item cs) → fill f (of_value x) ≡ item_tree at (item c)
+      → fill_all f (item_shapes of_value (xs ++ x ∷ [])) ≡ items_trees at (map item (cs ++ c ∷ []))
+  unfolding fill
+  trees-append f at [] [] c x h k = rw k refl
+  trees-append f at [] (y ∷ xs) c x h k = absurd (cc)
+  trees-append f at (d ∷ cs) [] c x h k = absurd (cc)
+  trees-append f at (d ∷ cs) (y ∷ xs) c x h k =
+      let first : fill f (of_value y) ≡ item_tree at (item d) = cc in
+      let rest : fill_all f (item_shapes of_value xs) ≡ items_trees at (map item cs) = cc in
+      rw (first, trees-append f at cs xs c x rest k) refl
+
+  named-append : (e : List Told) (cs : List C) (c : C) → AreTerms e (items_positions (map item cs)) → AreTerms e (item_positions (item c))
+      → AreTerms e (items_positions (map item (cs ++ c ∷ [])))
+  named-append e [] c h k = AreTerms-append e (item_positions (item c)) [] k tt
+  named-append e (d ∷ cs) c h k =
+      AreTerms-append e (item_positions (item d)) (items_positions (map item (cs ++ c ∷ [])))
+      (AreTerms-first e (item_positions (item d)) (items_positions (map item cs)) h)
+      (named-append e cs c (AreTerms-second e (item_positions (item d)) (items_positions (map item cs)) h) k)
+
+  shallow-append : (cs : List C) (c : C) → (AreItemsTooDeep (map item cs) → ⊥) → (IsItemTooDeep (item c) → ⊥) → AreItemsTooDeep (map item (cs ++ c ∷ [])) → ⊥
+  shallow-append [] c h k d = elim d [ inl x ↦ k x | inr x ↦ x ]
+  shallow-append (b ∷ cs) c h k d = elim d [ inl x ↦ h (inl x) | inr x ↦ shallow-append cs c (λ y. h (inr y)) k x ]
+
+  pub items-none : (terms : Terms) (e : List Told) → AreItemsOf terms e (map item []) (item_shapes of_value [])
+  unfolding fill IsPart
+  items-none terms e = record { parts = tt; means = refl; named = tt; shallow = λ d. d }
+
+  pub items-more : (terms : Terms) (e : List Told) (cs : List C) (xs : List T) (c : C) (x : T)
+      → AreItemsOf terms e (map item cs) (item_shapes of_value xs) → IsItemOf terms e (item c) (of_value x)
+      → AreItemsOf terms e (map item (cs ++ c ∷ [])) (item_shapes of_value (xs ++ x ∷ []))
+  items-more terms e cs xs c x h k = record {
+    parts = parts-append (size terms.rows) xs x h.parts k.part;
+    means = trees-append (meaning terms.rows) (tree_at e) cs xs c x h.means k.means;
+    named = named-append e cs c h.named k.named;
+    shallow = shallow-append cs c h.shallow k.shallow;
+  }
+
+  named-among : (e : List Told) (cs : List C) (i : ℕ) (c : C) → slice_get cs i ≡ Some c → AreTerms e (items_positions (map item cs))
+      → AreTerms e (item_positions (item c))
+  named-among e [] i c h k = absurd (cc)
+  named-among e (d ∷ cs) zero c h k =
+      let same : d ≡ c = cc in
+      subst (λ (x : C). AreTerms e (item_positions (item x))) same (AreTerms-first e (item_positions (item d)) (items_positions (map item cs)) k)
+  named-among e (d ∷ cs) (suc i) c h k = named-among e cs i c h (AreTerms-second e (item_positions (item d)) (items_positions (map item cs)) k)
+
+  deep-among : (cs : List C) (i : ℕ) (c : C) → slice_get cs i ≡ Some c → IsItemTooDeep (item c) → AreItemsTooDeep (map item cs)
+  deep-among [] i c h d = absurd (cc)
+  deep-among (b ∷ cs) zero c h d = let same : c ≡ b = cc in inl (subst (λ (x : C). IsItemTooDeep (item x)) same d)
+  deep-among (b ∷ cs) (suc i) c h d = inr (deep-among cs i c h d)
+
+  -- a reason of one of the items is one of them all
+  pub unbuilt-among : (P : Type 0) (e : List Told) (cs : List C) (i : ℕ) (c : C) (r : Refusal) → slice_get cs i ≡ Some c
+      → IsUnbuilt P e (item_positions (item c)) (IsItemTooDeep (item c)) r
+      → IsUnbuilt P e (items_positions (map item cs)) (AreItemsTooDeep (map item cs)) r
+  unbuilt-among P e cs i c r h u =
+      IsUnbuilt-weaker P e e (item_positions (item c)) (items_positions (map item cs)) (IsItemTooDeep (item c)) (AreItemsTooDeep (map item cs)) r
+      (named-among e cs i c h) (deep-among cs i c h) u
+
+-- a region
+pub region-part : (terms : Terms) (e : List Told) (c : RegionCall) (r : RegionKind) → IsRegionOf terms (region_tree c) (IsRegionTooDeep c) r
+    → IsPartOf terms e (one (a_region c)) (region_shape r)
+region-part terms e c r h = record { part = h.part; means = h.means; named = tt; shallow = h.shallow }
+
+pub region-unbuilt : (P : Type 0) (e : List Told) (c : RegionCall) (r : Refusal) → IsUnbuilt P [] [] (IsRegionTooDeep c) r
+    → IsUnbuilt P e [] (IsRegionTooDeep c) r
+region-unbuilt P e c r h = IsUnbuilt-weaker P [] e [] [] (IsRegionTooDeep c) (IsRegionTooDeep c) r (λ a. tt) (λ d. d) h
+
+-- the kind of a label and its children
+pub plain-kind : (terms : Terms) (e : List Told) (l : Label Name) (ps : List Part) (m : Label ℕ) (ss : Shapes) → ArePartsOf terms e ps ss
+    → IsNamedLabel (size terms.rows) m → rename_label (name_of (meaning terms.rows)) m ≡ l
+    → IsKindOf terms e (plain l ps) (shape.term m ss)
+unfolding fill
+plain-kind terms e l ps m ss h n q = record {
+  parts = (n, h.parts);
+  means = rw (q, h.means) refl;
+  named = h.named;
+  deep = (λ d. absurd d, h.shallow);
+}
+
+-- the same where the children stand in a record under a binder
+pub under-kind : (terms : Terms) (e : List Told) (l : Label Name) (vs : List VariableCall) (k : RecordLabel Name) (ps : List Part)
+    (m : Label ℕ) (vars : BoundVarKinds) (n : RecordLabel ℕ) (ss : Shapes)
+    → ArePartsOf terms e ps ss → IsVariableListOf terms vs vars
+    → IsNamedLabel (size terms.rows) m → rename_label (name_of (meaning terms.rows)) m ≡ l
+    → IsNamedRecord (size terms.rows) n → rename_record (name_of (meaning terms.rows)) n ≡ k
+    → IsKindOf terms e (under l (map variable_kind vs) k ps)
+    (shape.term m (shape.also (shape.binder vars.number (shape.node (record_label n) ss)) shape.none))
+unfolding fill IsPart
+under-kind terms e l vs k ps m vars n ss h v nl ql nr qr = record {
+  parts = (nl, ((v.in_range, (refl, nr, h.parts)), tt));
+  means = rw (ql, qr, v.means, h.means) refl;
+  named = h.named;
+  deep = (λ d. absurd d, h.shallow);
+}
+
+-- what stands under a predicate's binder
+pub record-placed : (terms : Terms) (e : List Told) (r : RecordCall) (n : RecordLabel ℕ) (ss : Shapes) → ArePartsOf terms e r.parts ss
+    → IsNamedRecord (size terms.rows) n → rename_record (name_of (meaning terms.rows)) n ≡ r.label
+    → IsPlaced terms e (record_tree (tree_at e) r) (parts_positions r.parts) (ArePartsTooDeep r.parts) (shape.node (record_label n) ss)
+unfolding fill IsPart
+record-placed terms e r n ss h k q = record {
+  part = (refl, k, h.parts);
+  means = rw (q, h.means) refl;
+  named = h.named;
+  shallow = h.shallow;
+}
+
+pub bound-record : (terms : Terms) (e : List Told) (l : Label Name) (vs : List VariableCall) (r : RecordCall) (m : Label ℕ) (vars : BoundVarKinds) (s : Shape)
+    → IsPlaced terms e (record_tree (tree_at e) r) (parts_positions r.parts) (ArePartsTooDeep r.parts) s → IsVariableListOf terms vs vars
+    → IsNamedLabel (size terms.rows) m → rename_label (name_of (meaning terms.rows)) m ≡ l
+    → IsKindOf terms e (under l (map variable_kind vs) r.label r.parts) (shape.term m (shape.also (shape.binder vars.number s) shape.none))
+unfolding fill IsPart
+bound-record terms e l vs r m vars s h v n q = record {
+  parts = (n, ((v.in_range, h.part), tt));
+  means = rw (q, v.means, h.means) refl;
+  named = h.named;
+  deep = (λ d. absurd d, h.shallow);
+}
+
+-- a term as a child
+term_kind-child : (k : TermKind) → child_shapes (term_kind_child k) ≡ shape.also (term_kind_shape k) shape.none
+term_kind-child (term.Ty t) = refl
+term_kind-child (term.Const c) = refl
+
+pub term-child : (t : Term) → child_shapes (term_child t) ≡ shape.also (term_shape t) shape.none
+term-child t = term_kind-child t.kind
+
+pub record-passed : {K : Type 0} (terms : Terms) (e : List Told) (r : RecordCall) (form : K → RecordForm) (result : Result K Refusal) (x : Refusal) → IsErrAnd result (λ y. y ≡ x)
+    → IsUnbuilt (HasFullTable terms) e (parts_positions r.parts) (ArePartsTooDeep r.parts) x → GivesRecord terms e r form result
+record-passed terms e r form (Ok k) x h u = absurd h
+record-passed terms e r form (Err y) x h u = record { ok = tt; err = rw h u }
+
+-- what a question mark passes on
+pub part-passed : {H : Type 0} (terms : Terms) (e : List Told) (p : Part) (of_value : H → Shape) (result : Result H Refusal) (r : Refusal) → IsErrAnd result (λ x. x ≡ r)
+    → IsUnbuilt (HasFullTable terms) e (part_positions p) (IsPartTooDeep p) r → GivesPart terms e p of_value result
+part-passed terms e p of_value (Ok l) r h k = absurd h
+part-passed terms e p of_value (Err x) r h k = record { ok = tt; err = rw h k }
+
+pub parts-passed : {H : Type 0} (terms : Terms) (e : List Told) (ps : List Part) (of_value : H → Shapes) (result : Result H Refusal) (r : Refusal) → IsErrAnd result (λ x. x ≡ r)
+    → IsUnbuilt (HasFullTable terms) e (parts_positions ps) (ArePartsTooDeep ps) r → GivesParts terms e ps of_value result
+parts-passed terms e ps of_value (Ok l) r h k = absurd h
+parts-passed terms e ps of_value (Err x) r h k = record { ok = tt; err = rw h k }
+
+pub items-passed : {H : Type 0} (terms : Terms) (e : List Told) (is : List Item) (of_value : H → Shape) (result : Result (Vec H Global) Refusal) (r : Refusal) → IsErrAnd result (λ x. x ≡ r)
+    → IsUnbuilt (HasFullTable terms) e (items_positions is) (AreItemsTooDeep is) r → GivesItems terms e is of_value result
+items-passed terms e is of_value (Ok l) r h k = absurd h
+items-passed terms e is of_value (Err x) r h k = record { ok = tt; err = rw h k }
+
+pub kind-passed : {K : Type 0} (terms : Terms) (e : List Told) (f : CallForm) (of_kind : K → Shape) (result : Result K Refusal) (r : Refusal) → IsErrAnd result (λ x. x ≡ r)
+    → IsUnbuilt (HasFullTable terms) e (form_positions f) (IsFormTooDeep f) r → GivesKind terms e f of_kind result
+kind-passed terms e f of_kind (Ok k) r h u = absurd h
+kind-passed terms e f of_kind (Err x) r h u = record { ok = tt; err = rw h u }

@@ -1,0 +1,28 @@
+use Rattle.std.proofs.Common.{refl}
+use Rattle.tt_kinds.specs.Kinds.{arg_shape, args_shape}
+use Rattle.tt_kinds.specs.Shape.{item_shapes}
+use Rattle.tt_kinds.specs.declared.table.Table.TheVariants.{ArgLists}
+use Rattle.tt_interner.specs.Rows.{args_row}
+use Rattle.tt_interner.proofs.Growth.{Extends-trans}
+use Rattle.type_terms.specs.CallForm.{args_part, arg_items}
+use Rattle.type_terms.specs.Told.{told_all}
+use Rattle.type_terms.proofs.PartLaws.{part-passed}
+use Rattle.type_terms.proofs.BuildLaws.{list-built}
+use Rattle.type_terms.proofs.run.parts.build_arg_list.Goals as goal
+
+pub returns-in_err-args-clause-list : goal.returns-in_err-args-clause-list
+returns-in_err-args-clause-list c =
+    part-passed c.build_args.new.cx (told_all c.args.cx.now.rows c.args.earlier.now) (args_part c.args.args.now) args_shape c.from_residual.result c.in_err-args.field-0.0 c.from_residual.ensures.1
+    c.in_err-args.ensures.args.err
+
+pub mk_args-requires : goal.mk_args-requires
+mk_args-requires c = rw (c.as_slice.ensures.value) c.in_ok-args.ensures.args.ok.items.parts
+
+pub returns-clause-extends : goal.returns-clause-extends
+returns-clause-extends c = Extends-trans c.build_args.ensures.extends (record { rows = c.mk_args.ensures.grows; limit = c.mk_args.ensures.limit })
+
+pub returns-clause-list : goal.returns-clause-list
+returns-clause-list c =
+    list-built (λ l. l.number) c.build_args.new.cx c.mk_args.new.self (told_all c.args.cx.now.rows c.args.earlier.now) ArgLists (arg_items c.args.args.now)
+    (item_shapes arg_shape c.in_ok-args.args.items) (args_row c.in_ok-args.args.items) c.mk_args.result
+    c.in_ok-args.ensures.args.ok.items refl refl (rw (← c.as_slice.ensures.value) c.mk_args.ensures)

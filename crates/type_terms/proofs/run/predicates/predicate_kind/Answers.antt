@@ -1,0 +1,96 @@
+use Rattle.std.proofs.Common.{[], ◌∷◌, refl}
+use Rattle.tt_kinds.specs.Label.{trait_record, const_has_type_record, well_formed_record, const_evaluatable_record, dyn_compatible_record, subtype_record, coerce_record, const_equate_record, ambiguous_record, normalizes_to_record, alias_relate_record}
+use Rattle.tt_kinds.specs.Shape as shape
+use Rattle.tt_kinds.specs.Shape.{append}
+use Rattle.tt_kinds.specs.Parts.{term_child}
+use Rattle.tt_kinds.specs.Kinds.{predicate_form, ty_shape, const_shape, args_shape, term_shape, child_shapes}
+use Rattle.tt_kinds.specs.declared.table.Table.TheVariants.{Types, Consts}
+use Rattle.type_terms.specs.CallForm.{labelled, one, a_term, args_part, term_part}
+use Rattle.type_terms.specs.Told.{told_all, HasFullTable}
+use Rattle.type_terms.proofs.PartLaws.{record-passed, record-placed, parts-none, parts-one, unbuilt-first, term-child}
+use Rattle.type_terms.proofs.run.predicates.predicate_kind.Goals as goal
+
+pub returns-in-DynCompatible-clause-kind : goal.returns-in-DynCompatible-clause-kind
+returns-in-DynCompatible-clause-kind c =
+    let e = told_all c.args.cx.now.rows c.args.earlier.now in
+    rw (c.in-DynCompatible.is) (record { ok = record-placed c.args.cx.now e (labelled (dyn_compatible_record c.in-DynCompatible.id.number) []) (dyn_compatible_record c.in-DynCompatible.id.number) shape.none (parts-none c.args.cx.now e) tt refl; err = tt })
+
+pub returns-in_err-pair-in-Subtype-clause-kind : goal.returns-in_err-pair-in-Subtype-clause-kind
+returns-in_err-pair-in-Subtype-clause-kind c =
+    let e = told_all c.args.cx.now.rows c.args.earlier.now in
+    let r = c.in_err-pair-in-Subtype in
+    rw (c.in-Subtype.is)
+    (record-passed c.args.cx.now e (labelled (subtype_record c.in-Subtype.a_is_expected) (one (a_term Types c.in-Subtype.a) ∷ one (a_term Types c.in-Subtype.b) ∷ [])) predicate_form c.from_residual.result r.field-0.0 c.from_residual.ensures.1
+    ((r.ensures c.args.cx.now c.requires).err))
+
+pub returns-in_ok-pair-in-Subtype-clause-kind : goal.returns-in_ok-pair-in-Subtype-clause-kind
+returns-in_ok-pair-in-Subtype-clause-kind c =
+    let e = told_all c.args.cx.now.rows c.args.earlier.now in
+    let r = c.in_ok-pair-in-Subtype in
+    rw (c.in-Subtype.is)
+    (record { ok = record-placed c.args.cx.now e (labelled (subtype_record c.in-Subtype.a_is_expected) (one (a_term Types c.in-Subtype.a) ∷ one (a_term Types c.in-Subtype.b) ∷ [])) (subtype_record c.in-Subtype.a_is_expected) (shape.also (ty_shape r.pair.0) (shape.also (ty_shape r.pair.1) shape.none)) ((r.ensures c.args.cx.now c.requires).ok) tt refl; err = tt })
+
+pub returns-in_err-pair-in-Coerce-clause-kind : goal.returns-in_err-pair-in-Coerce-clause-kind
+returns-in_err-pair-in-Coerce-clause-kind c =
+    let e = told_all c.args.cx.now.rows c.args.earlier.now in
+    let r = c.in_err-pair-in-Coerce in
+    rw (c.in-Coerce.is)
+    (record-passed c.args.cx.now e (labelled coerce_record (one (a_term Types c.in-Coerce.a) ∷ one (a_term Types c.in-Coerce.b) ∷ [])) predicate_form c.from_residual-in_err-pair-in-Coerce.result r.field-0.0 c.from_residual-in_err-pair-in-Coerce.ensures.1
+    ((r.ensures c.args.cx.now c.requires).err))
+
+pub returns-in_ok-pair-in-Coerce-clause-kind : goal.returns-in_ok-pair-in-Coerce-clause-kind
+returns-in_ok-pair-in-Coerce-clause-kind c =
+    let e = told_all c.args.cx.now.rows c.args.earlier.now in
+    let r = c.in_ok-pair-in-Coerce in
+    rw (c.in-Coerce.is)
+    (record { ok = record-placed c.args.cx.now e (labelled coerce_record (one (a_term Types c.in-Coerce.a) ∷ one (a_term Types c.in-Coerce.b) ∷ [])) coerce_record (shape.also (ty_shape r.pair.0) (shape.also (ty_shape r.pair.1) shape.none)) ((r.ensures c.args.cx.now c.requires).ok) tt refl; err = tt })
+
+pub returns-in_err-pair-in-ConstEquate-clause-kind : goal.returns-in_err-pair-in-ConstEquate-clause-kind
+returns-in_err-pair-in-ConstEquate-clause-kind c =
+    let e = told_all c.args.cx.now.rows c.args.earlier.now in
+    let r = c.in_err-pair-in-ConstEquate in
+    rw (c.in-ConstEquate.is)
+    (record-passed c.args.cx.now e (labelled const_equate_record (one (a_term Consts c.in-ConstEquate.a) ∷ one (a_term Consts c.in-ConstEquate.b) ∷ [])) predicate_form c.from_residual-in_err-pair-in-ConstEquate.result r.field-0.0 c.from_residual-in_err-pair-in-ConstEquate.ensures.1
+    ((r.ensures c.args.cx.now c.requires).err))
+
+pub returns-in_ok-pair-in-ConstEquate-clause-kind : goal.returns-in_ok-pair-in-ConstEquate-clause-kind
+returns-in_ok-pair-in-ConstEquate-clause-kind c =
+    let e = told_all c.args.cx.now.rows c.args.earlier.now in
+    let r = c.in_ok-pair-in-ConstEquate in
+    rw (c.in-ConstEquate.is)
+    (record { ok = record-placed c.args.cx.now e (labelled const_equate_record (one (a_term Consts c.in-ConstEquate.a) ∷ one (a_term Consts c.in-ConstEquate.b) ∷ [])) const_equate_record (shape.also (const_shape r.pair.0) (shape.also (const_shape r.pair.1) shape.none)) ((r.ensures c.args.cx.now c.requires).ok) tt refl; err = tt })
+
+pub returns-in-Ambiguous-clause-kind : goal.returns-in-Ambiguous-clause-kind
+returns-in-Ambiguous-clause-kind c =
+    let e = told_all c.args.cx.now.rows c.args.earlier.now in
+    rw (c.in-Ambiguous.is) (record { ok = record-placed c.args.cx.now e (labelled ambiguous_record []) ambiguous_record shape.none (parts-none c.args.cx.now e) tt refl; err = tt })
+
+pub returns-in_err-pair-in-NormalizesTo-clause-kind : goal.returns-in_err-pair-in-NormalizesTo-clause-kind
+returns-in_err-pair-in-NormalizesTo-clause-kind c =
+    let e = told_all c.args.cx.now.rows c.args.earlier.now in
+    let r = c.in_err-pair-in-NormalizesTo in
+    rw (c.in-NormalizesTo.is)
+    (record-passed c.args_and_term.new.cx e (labelled (normalizes_to_record c.in-NormalizesTo.id.number) (args_part c.in-NormalizesTo.args.items ∷ term_part c.in-NormalizesTo.term ∷ [])) predicate_form c.from_residual-in_err-pair-in-NormalizesTo.result r.field-0.0 c.from_residual-in_err-pair-in-NormalizesTo.ensures.1
+    (rw (← c.as_slice.ensures.value) r.ensures.parts.err))
+
+pub returns-in_ok-pair-in-NormalizesTo-clause-kind : goal.returns-in_ok-pair-in-NormalizesTo-clause-kind
+returns-in_ok-pair-in-NormalizesTo-clause-kind c =
+    let e = told_all c.args.cx.now.rows c.args.earlier.now in
+    let r = c.in_ok-pair-in-NormalizesTo in
+    rw (c.in-NormalizesTo.is)
+    (record { ok = record-placed c.args_and_term.new.cx e (labelled (normalizes_to_record c.in-NormalizesTo.id.number) (args_part c.in-NormalizesTo.args.items ∷ term_part c.in-NormalizesTo.term ∷ [])) (normalizes_to_record c.in-NormalizesTo.id.number) (shape.also (args_shape r.pair.0) (child_shapes (term_child r.pair.1))) (rw (← c.as_slice.ensures.value) r.ensures.parts.ok) tt refl; err = tt })
+
+pub returns-in_err-pair-in-AliasRelate-clause-kind : goal.returns-in_err-pair-in-AliasRelate-clause-kind
+returns-in_err-pair-in-AliasRelate-clause-kind c =
+    let e = told_all c.args.cx.now.rows c.args.earlier.now in
+    let r = c.in_err-pair-in-AliasRelate in
+    rw (c.in-AliasRelate.is)
+    (record-passed c.args.cx.now e (labelled (alias_relate_record c.in-AliasRelate.direction) (term_part c.in-AliasRelate.a ∷ term_part c.in-AliasRelate.b ∷ [])) predicate_form c.from_residual-in_err-pair-in-AliasRelate.result r.field-0.0 c.from_residual-in_err-pair-in-AliasRelate.ensures.1
+    ((r.ensures c.args.cx.now c.requires).err))
+
+pub returns-in_ok-pair-in-AliasRelate-clause-kind : goal.returns-in_ok-pair-in-AliasRelate-clause-kind
+returns-in_ok-pair-in-AliasRelate-clause-kind c =
+    let e = told_all c.args.cx.now.rows c.args.earlier.now in
+    let r = c.in_ok-pair-in-AliasRelate in
+    rw (c.in-AliasRelate.is)
+    (record { ok = record-placed c.args.cx.now e (labelled (alias_relate_record c.in-AliasRelate.direction) (term_part c.in-AliasRelate.a ∷ term_part c.in-AliasRelate.b ∷ [])) (alias_relate_record c.in-AliasRelate.direction) (append (child_shapes (term_child r.pair.0)) (child_shapes (term_child r.pair.1))) ((r.ensures c.args.cx.now c.requires).ok) tt refl; err = tt })

@@ -1,0 +1,279 @@
+//! The building of predicates.
+
+ghost use Rattle.std.specs.Prelude.{[], ◌∷◌, List};
+ghost use Rattle.tt_kinds.specs.Label.{host_effect_record, unstable_feature_record, projection_record, region_outlives_record, type_outlives_record};
+ghost use Rattle.tt_kinds.specs.Shape.{also, append};
+ghost use Rattle.tt_kinds.specs.Parts.{term_child};
+ghost use Rattle.tt_kinds.specs.Kinds.{predicate_form as form_of_predicate};
+ghost use Rattle.tt_kinds.specs.Kinds.{child_shapes, clause_form, predicate_kind_shape, args_shape, term_shape};
+ghost use Rattle.tt_interner.specs.Stored.{Terms, Extends};
+ghost use Rattle.type_terms.specs.declared.run.call.Call.TheVariants.{Predicate as BuildsPredicate};
+ghost use Rattle.type_terms.specs.CallForm.{predicate_form, predicate_record, clause_record, labelled, one, a_region, a_term, args_part, term_part};
+ghost use Rattle.type_terms.specs.Told.{Told, told_all, AreOwned};
+ghost use Rattle.type_terms.specs.Build.{GivesPart, GivesParts, GivesRecord, GivesKind, Answers};
+
+use crate::run::answer::Answer;
+use crate::run::build::{build_region, build_vars};
+use crate::run::call::{
+    ArgCall, ClauseCall, PredicateCall, PredicateKindCall, RegionCall, TermCall,
+};
+use crate::run::lookup::{handle_at, handle_pair};
+use crate::run::parts::build_arg_list;
+use tt_index::Refusal;
+use tt_interner::Interner;
+use tt_kinds::{
+    AliasTerm, Binder, BoundConstness, ClauseKind, CoercePredicate, Const, DefId, GenericArgs,
+    HostEffectPredicate, NormalizesTo, OutlivesPredicate, PredicateKind, ProjectionPredicate,
+    SubtypePredicate, Table, Term, TraitId, TraitPredicate, TraitRef, Ty,
+};
+
+/// The predicate that the call names, over the earlier answers.
+pub fn build_predicate(
+    cx: &mut Interner,
+    earlier: &[Answer],
+    call: &PredicateCall,
+) -> Result<Answer, Refusal>
+    requires { AreOwned cx.old.rows earlier.now }
+    ensures extends { Extends cx.old cx.new }
+    ensures answers { Answers cx.new (told_all cx.old.rows earlier.now) (BuildsPredicate call.now) result }
+{
+    match bound_kind(cx, earlier, call) {
+        Ok(kind) => {
+            let predicate = cx.mk_predicate(kind)?;
+            Ok(Answer::Predicate(predicate))
+        }
+        Err(refusal) => Err(refusal),
+    }
+}
+
+// The kind of the predicate, under its binder.
+fn bound_kind(
+    cx: &mut Interner,
+    earlier: &[Answer],
+    call: &PredicateCall,
+) -> Result<Binder<PredicateKind>, Refusal>
+    requires { AreOwned cx.old.rows earlier.now }
+    ensures extends { Extends cx.old cx.new }
+    ensures kind { GivesKind cx.new (told_all cx.old.rows earlier.now) (predicate_form call.now) predicate_kind_shape result }
+{
+    match predicate_kind(cx, earlier, &call.kind) {
+        Ok(kind) => {
+            let vars = build_vars(cx, call.vars.as_slice())?;
+            Ok(Binder::bind_with_vars(kind, vars))
+        }
+        Err(refusal) => Err(refusal),
+    }
+}
+
+// What the predicate says.
+fn predicate_kind(
+    cx: &mut Interner,
+    earlier: &[Answer],
+    call: &PredicateKindCall,
+) -> Result<PredicateKind, Refusal>
+    requires { AreOwned cx.old.rows earlier.now }
+    ensures extends { Extends cx.old cx.new }
+    ensures kind { GivesRecord cx.new (told_all cx.old.rows earlier.now) (predicate_record call.now) form_of_predicate result }
+{
+    match call {
+        PredicateKindCall::Clause(clause) => match clause_kind(cx, earlier, clause) {
+            Ok(kind) => Ok(PredicateKind::Clause(kind)),
+            Err(refusal) => Err(refusal),
+        },
+        PredicateKindCall::DynCompatible(id) => Ok(PredicateKind::DynCompatible(*id)),
+        PredicateKindCall::Subtype {
+            a_is_expected,
+            a,
+            b,
+        } => {
+            let pair = handle_pair::<Ty, Ty>(earlier, *a, *b)?;
+            Ok(PredicateKind::Subtype(SubtypePredicate {
+                a_is_expected: *a_is_expected,
+                a: pair.0,
+                b: pair.1,
+            }))
+        }
+        PredicateKindCall::Coerce(a, b) => {
+            let pair = handle_pair::<Ty, Ty>(earlier, *a, *b)?;
+            Ok(PredicateKind::Coerce(CoercePredicate {
+                a: pair.0,
+                b: pair.1,
+            }))
+        }
+        PredicateKindCall::ConstEquate(a, b) => {
+            let pair = handle_pair::<Const, Const>(earlier, *a, *b)?;
+            Ok(PredicateKind::ConstEquate(pair.0, pair.1))
+        }
+        PredicateKindCall::Ambiguous => Ok(PredicateKind::Ambiguous),
+        PredicateKindCall::NormalizesTo(id, args, term) => {
+            let pair = args_and_term(cx, earlier, args.as_slice(), *term)?;
+            let alias = AliasTerm {
+                args: pair.0,
+                def_id: *id,
+            };
+            let term = pair.1;
+            Ok(PredicateKind::NormalizesTo(NormalizesTo { alias, term }))
+        }
+        PredicateKindCall::AliasRelate(a, b, direction) => {
+            let pair = term_pair(earlier, *a, *b)?;
+            Ok(PredicateKind::AliasRelate(pair.0, pair.1, *direction))
+        }
+    }
+}
+
+// What the clause says.
+fn clause_kind(
+    cx: &mut Interner,
+    earlier: &[Answer],
+    call: &ClauseCall,
+) -> Result<ClauseKind, Refusal>
+    requires { AreOwned cx.old.rows earlier.now }
+    ensures extends { Extends cx.old cx.new }
+    ensures kind { GivesRecord cx.new (told_all cx.old.rows earlier.now) (clause_record call.now) clause_form result }
+{
+    match call {
+        ClauseCall::Trait(def_id, args) => {
+            let args = build_arg_list(cx, earlier, args.as_slice())?;
+            let trait_ref = TraitRef {
+                def_id: *def_id,
+                args,
+            };
+            Ok(ClauseKind::Trait(TraitPredicate { trait_ref }))
+        }
+        ClauseCall::RegionOutlives(longer, shorter) => region_outlives(cx, longer, shorter),
+        ClauseCall::TypeOutlives(ty, region) => type_outlives(cx, earlier, *ty, region),
+        ClauseCall::Projection(def_id, args, term) => {
+            projection(cx, earlier, *def_id, args.as_slice(), *term)
+        }
+        ClauseCall::ConstArgHasType(constant, ty) => {
+            let pair = handle_pair::<Const, Ty>(earlier, *constant, *ty)?;
+            Ok(ClauseKind::ConstArgHasType(pair.0, pair.1))
+        }
+        ClauseCall::WellFormed(term) => Ok(ClauseKind::WellFormed(term_at(earlier, *term)?)),
+        ClauseCall::ConstEvaluatable(constant) => {
+            let constant = handle_at::<Const>(earlier, *constant)?;
+            Ok(ClauseKind::ConstEvaluatable(constant))
+        }
+        ClauseCall::HostEffect(def_id, args, constness) => {
+            host_effect(cx, earlier, *def_id, args.as_slice(), *constness)
+        }
+        ClauseCall::UnstableFeature(name) => unstable_feature(cx, name.as_str()),
+    }
+}
+
+// A type implements a trait, in constants.
+fn host_effect(
+    cx: &mut Interner,
+    earlier: &[Answer],
+    def_id: TraitId,
+    args: &[ArgCall],
+    constness: BoundConstness,
+) -> Result<ClauseKind, Refusal>
+    requires { AreOwned cx.old.rows earlier.now }
+    ensures extends { Extends cx.old cx.new }
+    ensures kind { GivesRecord cx.new (told_all cx.old.rows earlier.now) (labelled (host_effect_record def_id.number constness) (args_part args.now ∷ [])) clause_form result }
+{
+    let args = build_arg_list(cx, earlier, args)?;
+    let trait_ref = TraitRef { def_id, args };
+    Ok(ClauseKind::HostEffect(HostEffectPredicate {
+        trait_ref,
+        constness,
+    }))
+}
+
+// A feature of this name has to be on.
+fn unstable_feature(cx: &mut Interner, name: &str) -> Result<ClauseKind, Refusal>
+    ensures extends { Extends cx.old cx.new }
+    ensures kind { (e : List Told) → GivesRecord cx.new e (labelled (unstable_feature_record name.now) []) clause_form result }
+{
+    let symbol = cx.symbol(name)?;
+    Ok(ClauseKind::UnstableFeature(symbol))
+}
+
+// An alias stands for a term.
+fn projection(
+    cx: &mut Interner,
+    earlier: &[Answer],
+    def_id: DefId,
+    args: &[ArgCall],
+    term: TermCall,
+) -> Result<ClauseKind, Refusal>
+    requires { AreOwned cx.old.rows earlier.now }
+    ensures extends { Extends cx.old cx.new }
+    ensures kind { GivesRecord cx.new (told_all cx.old.rows earlier.now) (labelled (projection_record def_id.number) (args_part args.now ∷ term_part term ∷ [])) clause_form result }
+{
+    let pair = args_and_term(cx, earlier, args, term)?;
+    let projection_term = AliasTerm {
+        args: pair.0,
+        def_id,
+    };
+    Ok(ClauseKind::Projection(ProjectionPredicate {
+        projection_term,
+        term: pair.1,
+    }))
+}
+
+// A region outlives another.
+fn region_outlives(
+    cx: &mut Interner,
+    longer: &RegionCall,
+    shorter: &RegionCall,
+) -> Result<ClauseKind, Refusal>
+    ensures extends { Extends cx.old cx.new }
+    ensures kind { (e : List Told) → GivesRecord cx.new e (labelled region_outlives_record (one (a_region longer.now) ∷ one (a_region shorter.now) ∷ [])) clause_form result }
+{
+    let longer = build_region(cx, longer)?;
+    let shorter = build_region(cx, shorter)?;
+    Ok(ClauseKind::RegionOutlives(OutlivesPredicate(longer, shorter)))
+}
+
+// A type outlives a region.
+fn type_outlives(
+    cx: &mut Interner,
+    earlier: &[Answer],
+    ty: u32,
+    region: &RegionCall,
+) -> Result<ClauseKind, Refusal>
+    requires { AreOwned cx.old.rows earlier.now }
+    ensures extends { Extends cx.old cx.new }
+    ensures kind { GivesRecord cx.new (told_all cx.old.rows earlier.now) (labelled type_outlives_record (one (a_term Table.Types ty) ∷ one (a_region region.now) ∷ [])) clause_form result }
+{
+    let ty = handle_at::<Ty>(earlier, ty)?;
+    let region = build_region(cx, region)?;
+    Ok(ClauseKind::TypeOutlives(OutlivesPredicate(ty, region)))
+}
+
+// The type or the constant that a call names.
+fn term_at(earlier: &[Answer], call: TermCall) -> Result<Term, Refusal>
+    ensures { (terms : Terms) → AreOwned terms.rows earlier.now → GivesPart terms (told_all terms.rows earlier.now) (term_part call) term_shape result }
+{
+    match call {
+        TermCall::Ty(position) => Ok(Term::from(handle_at::<Ty>(earlier, position)?)),
+        TermCall::Const(position) => Ok(Term::from(handle_at::<Const>(earlier, position)?)),
+    }
+}
+
+// Two such terms.
+fn term_pair(earlier: &[Answer], a: TermCall, b: TermCall) -> Result<(Term, Term), Refusal>
+    ensures { (terms : Terms) → AreOwned terms.rows earlier.now → GivesParts terms (told_all terms.rows earlier.now) (term_part a ∷ term_part b ∷ []) (λ pair. append (child_shapes (term_child pair.0)) (child_shapes (term_child pair.1))) result }
+{
+    let a = term_at(earlier, a)?;
+    let b = term_at(earlier, b)?;
+    Ok((a, b))
+}
+
+// A list of arguments and such a term.
+fn args_and_term(
+    cx: &mut Interner,
+    earlier: &[Answer],
+    args: &[ArgCall],
+    term: TermCall,
+) -> Result<(GenericArgs, Term), Refusal>
+    requires { AreOwned cx.old.rows earlier.now }
+    ensures extends { Extends cx.old cx.new }
+    ensures parts { GivesParts cx.new (told_all cx.old.rows earlier.now) (args_part args.now ∷ term_part term ∷ []) (λ pair. also (args_shape pair.0) (child_shapes (term_child pair.1))) result }
+{
+    let term = term_at(earlier, term)?;
+    let args = build_arg_list(cx, earlier, args)?;
+    Ok((args, term))
+}
