@@ -9,9 +9,8 @@ ghost use Rattle.tt_fold.specs.Walk.{replace, descend};
 ghost use Rattle.tt_fold.specs.Steps.{IsPartOf, tree_in};
 
 use super::owned::{
-    NOT_OWNED, Owned, args, bound_region, bound_ty, holds_anew, holds_within, instance,
-    is_instance, is_shifted, one_region, param_region, param_ty, ref_ty, region_variable, shifted,
-    ty, tys, u32_ty,
+    NOT_OWNED, Owned, args, bound_region, bound_ty, holds_anew, holds_within, is_instance,
+    is_shifted, one_region, param_region, param_ty, ref_ty, region_variable, ty, tys, u32_ty,
 };
 use crate::{
     Binder, BoundVarKinds, Clauses, Const, Core, ErrorGuaranteed, FallibleTypeFolder, FnSigTys,
