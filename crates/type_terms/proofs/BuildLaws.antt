@@ -7,7 +7,7 @@ use Rattle.std.proofs.lemmas.Bool.{cases_lt}
 use Rattle.tt_index.specs.Greatest.{greatest}
 use Rattle.tt_kinds.specs.Label.{Name, region_sort, list_label}
 use Rattle.tt_kinds.specs.Tree as tree
-use Rattle.tt_kinds.specs.Tree.{Tree, Depth, node}
+use Rattle.tt_kinds.specs.Tree.{Tree, Forest, Depth, node}
 use Rattle.tt_kinds.specs.Bound.{depth, IsBelowGreatest}
 use Rattle.tt_kinds.specs.RegionKind.{IsShallow}
 use Rattle.tt_kinds.specs.Shape as shape
@@ -31,7 +31,7 @@ use Rattle.type_terms.specs.Told.{Told, term, told, HasFullTable}
 use Rattle.type_terms.specs.Means as means
 use Rattle.type_terms.specs.Means.{tree_at, AreTerms, NamesTerms, BuildsOrFolds, IsAllowed, MayRefuse, want_of_memory, full_table, no_term, too_deep}
 use Rattle.type_terms.specs.Build as build
-use Rattle.type_terms.specs.Build.{IsUnbuilt, no_memory, no_row, no_index, IsNameOf, IsRegionOf, GivesRegion, AreItemsOf, GivesPart, IsKindOf, Answers}
+use Rattle.type_terms.specs.Build.{IsUnbuilt, no_memory, no_row, no_index, IsNameOf, IsRegionOf, GivesRegion, ArePlaced, AreItemsOf, GivesPart, GivesPlaced, IsKindOf, Answers}
 use Rattle.type_terms.proofs.RunLaws.{HasFullTable-extends}
 
 -- why a row was not stored is such a reason
@@ -71,6 +71,45 @@ list-built number old new e t is ss row (Err r) h same is_node b = record {
   ok = tt;
   err = unstored old new (Builds-extends (Err r) number old new row b) row e (items_positions is) (AreItemsTooDeep is)
       (λ d. absurd (subst (λ (s : Shape). IsTooDeep s) is_node d)) r b.cause;
+}
+
+-- the stored list of values with these trees
+pub list-placed : {H : Type 0} (number : H → ℕ) (old new : Terms) (e : List Told) (t : Table) (ts : Forest Depth) (ns : List Named) (deep : Type 0) (ss : Shapes) (row : Row) (result : Result H Refusal)
+    → ArePlaced old e ts ns deep ss → row_table row ≡ t → row_shape row ≡ shape.node (list_label t) ss → Builds result number old new row
+    → GivesPlaced new e (node (list_label t) ts) ns deep (λ h. stored t (number h)) result
+unfolding fill IsPart
+list-placed number old new e t ts ns deep ss row (Ok l) h same is_node b = record {
+  ok = record {
+    part = rw (← same) b.in_range;
+    means = rw (← same) b.means ∙ ap (λ s. fill (meaning old.rows) s) is_node ∙ ap (λ us. node (list_label t) us) h.means;
+    named = h.named;
+    shallow = h.shallow;
+  };
+  err = tt;
+}
+list-placed number old new e t ts ns deep ss row (Err r) h same is_node b = record {
+  ok = tt;
+  err = unstored old new (Builds-extends (Err r) number old new row b) row e ns deep
+      (λ d. absurd (subst (λ (s : Shape). IsTooDeep s) is_node d)) r b.cause;
+}
+
+-- the stored term of a kind
+pub term-placed : {H : Type 0} (number : H → ℕ) (old new : Terms) (e : List Told) (form : CallForm) (row : Row) (result : Result H Refusal)
+    → IsKindOf old e form (row_shape row) → Builds result number old new row
+    → GivesPlaced new e (call_forms.form_tree (tree_at e) form) (form_positions form) (call_forms.IsFormTooDeep form) (λ h. stored (row_table row) (number h)) result
+unfolding fill IsPart
+term-placed number old new e form row (Ok l) h b = record {
+  ok = record {
+    part = b.in_range;
+    means = b.means ∙ h.means;
+    named = h.named;
+    shallow = λ d. let y = b.deep (h.deep.1 d) in absurd (cc);
+  };
+  err = tt;
+}
+term-placed number old new e form row (Err r) h b = record {
+  ok = tt;
+  err = unstored old new (Builds-extends (Err r) number old new row b) row e (form_positions form) (call_forms.IsFormTooDeep form) h.deep.0 r b.cause;
 }
 
 -- a reason why a part was not built is one why the call is refused

@@ -1,12 +1,15 @@
 -- What stands in the places of items and children, over plain variables.
-use Rattle.std.proofs.Common.{◌≡◌, ℕ, zero, suc, List, [], ◌∷◌, ◌++◌, map, Result, Ok, Err, Some, refl, ap, subst, sym, append-nil, inl, inr}
+use Rattle.std.proofs.Common.{◌≡◌, ℕ, zero, suc, List, [], ◌∷◌, ◌++◌, map, Result, Ok, Err, Some, refl, ap, subst, sym, ◌∙◌, inl, inr}
 use Rattle.std.specs.Prelude.{IsErrAnd, IfErr, slice_get, ◌⊎◌, IsSomeAnd}
+use Rattle.std.specs.Option.{option_map}
+use Rattle.std.proofs.lemmas.Option.{slice_get-map}
+use Rattle.std.proofs.lemmas.List.{map-append}
 use Rattle.std.specs.declared.alloc.Global.{Global}
 use Rattle.std.specs.declared.vec.Vec.{Vec}
 use Rattle.tt_index.specs.declared.refusal.Refusal.{Refusal}
 use Rattle.tt_kinds.specs.Tree.{Tree, Depth, Forest}
 use Rattle.tt_kinds.specs.Tree as tree
-use Rattle.tt_kinds.specs.Label.{Name, Label, VarKind, RecordLabel, record_label}
+use Rattle.tt_kinds.specs.Label.{Name, Label, VarKind, RecordLabel, record_label, type_label, dynamic_type}
 use Rattle.tt_kinds.specs.Shape as shape
 use Rattle.tt_kinds.specs.Shape.{Shape, Shapes, Sizes, fill, fill_all, name_of, vars_of, rename_label, rename_record, IsNamedLabel, IsNamedRecord, IsPart, AreParts, item_shapes}
 use Rattle.tt_kinds.specs.Kinds.{RecordForm, region_shape, child_shapes, term_kind_shape, term_shape}
@@ -21,11 +24,11 @@ use Rattle.tt_interner.specs.Stored.{Terms, Extends}
 use Rattle.tt_interner.proofs.Growth.{IsPart-grows, AreParts-grows, fill-grows, fill_all-grows}
 use Rattle.type_terms.specs.declared.run.call.RegionCall.{RegionCall}
 use Rattle.type_terms.specs.declared.run.call.VariableCall.{VariableCall}
-use Rattle.type_terms.specs.CallForm.{Named, Item, Part, one, a_region, CallForm, plain, under, variable_kind, region_tree, IsRegionTooDeep, item_tree, items_trees, part_tree, parts_trees, item_positions, items_positions, part_positions, parts_positions, IsItemTooDeep, AreItemsTooDeep, IsPartTooDeep, ArePartsTooDeep, form_positions, IsFormTooDeep, RecordCall, record_tree}
+use Rattle.type_terms.specs.CallForm.{ExistentialForm, trait_object, existentials_tree, existential_positions, IsExistentialTooDeep, all_trees, all_positions, AnyIsDeep, Named, Item, Part, one, a_region, CallForm, plain, under, variable_kind, region_tree, IsRegionTooDeep, item_tree, items_trees, part_tree, parts_trees, item_positions, items_positions, part_positions, parts_positions, IsItemTooDeep, AreItemsTooDeep, IsPartTooDeep, ArePartsTooDeep, form_positions, IsFormTooDeep, RecordCall, record_tree}
 use Rattle.type_terms.specs.Told.{Told, HasFullTable}
 use Rattle.type_terms.specs.Means.{tree_at, AreTerms, Suits}
 use Rattle.type_terms.specs.Build as build
-use Rattle.type_terms.specs.Build.{IsUnbuilt, IsPlaced, ArePlaced, IsItemOf, AreItemsOf, IsPartOf, ArePartsOf, GivesPart, GivesParts, GivesItems, IsRegionOf, GivesRegion, IsVariableListOf, IsKindOf, GivesKind, GivesRecord}
+use Rattle.type_terms.specs.Build.{IsUnbuilt, IsPlaced, ArePlaced, IsItemOf, AreItemsOf, IsPartOf, ArePartsOf, GivesPart, GivesParts, GivesPlaced, GivesItems, IsRegionOf, GivesRegion, IsVariableListOf, IsKindOf, GivesKind, GivesRecord}
 
 -- positions of two lists
 pub AreTerms-append : (e : List Told) (ms ns : List Named) → AreTerms e ms → AreTerms e ns → AreTerms e (ms ++ ns)
@@ -111,72 +114,90 @@ pub parts-two : (terms : Terms) (e : List Told) (p q : Part) (s u : Shape) → I
     → ArePartsOf terms e (p ∷ q ∷ []) (shape.also s (shape.also u shape.none))
 parts-two terms e p q s u h k = parts-also terms e p (q ∷ []) s (shape.also u shape.none) h (parts-one terms e q u k)
 
+-- those of a list in order, and the values
+module _ {X T : Type 0} (tree_of : (ℕ → Tree Depth) → X → Tree Depth) (names_of : X → List Named) (deep_of : X → Type 0) (of_value : T → Shape) where
+  parts-append : (size : Sizes) (ys : List T) (y : T) → AreParts size (item_shapes of_value ys) → IsPart size (of_value y)
+      → AreParts size (item_shapes of_value (ys ++ y ∷ []))
+  unfolding IsPart
+  parts-append size [] y h k = (k, tt)
+  parts-append size (z ∷ ys) y h k = (h.0, parts-append size ys y h.1 k)
+
+  trees-append : (f : shape.Meaning) (at : ℕ → Tree Depth) (xs : List X) (ys : List T) (x : X) (y : T)
+      → fill_all f (item_shapes of_value ys) ≡ all_trees (tree_of at) xs → fill f (of_value y) ≡ tree_of at x
+      → fill_all f (item_shapes of_value (ys ++ y ∷ [])) ≡ all_trees (tree_of at) (xs ++ x ∷ [])
+  unfolding fill
+  trees-append f at [] [] x y h k = rw k refl
+  trees-append f at [] (z ∷ ys) x y h k = absurd (cc)
+  trees-append f at (w ∷ xs) [] x y h k = absurd (cc)
+  trees-append f at (w ∷ xs) (z ∷ ys) x y h k =
+      let first : fill f (of_value z) ≡ tree_of at w = cc in
+      let rest : fill_all f (item_shapes of_value ys) ≡ all_trees (tree_of at) xs = cc in
+      rw (first, trees-append f at xs ys x y rest k) refl
+
+  named-append : (e : List Told) (xs : List X) (x : X) → AreTerms e (all_positions names_of xs) → AreTerms e (names_of x)
+      → AreTerms e (all_positions names_of (xs ++ x ∷ []))
+  named-append e [] x h k = AreTerms-append e (names_of x) [] k tt
+  named-append e (w ∷ xs) x h k =
+      AreTerms-append e (names_of w) (all_positions names_of (xs ++ x ∷ [])) (AreTerms-first e (names_of w) (all_positions names_of xs) h)
+      (named-append e xs x (AreTerms-second e (names_of w) (all_positions names_of xs) h) k)
+
+  shallow-append : (xs : List X) (x : X) → (AnyIsDeep deep_of xs → ⊥) → (deep_of x → ⊥) → AnyIsDeep deep_of (xs ++ x ∷ []) → ⊥
+  shallow-append [] x h k d = elim d [ inl y ↦ k y | inr y ↦ y ]
+  shallow-append (w ∷ xs) x h k d = elim d [ inl y ↦ h (inl y) | inr y ↦ shallow-append xs x (λ z. h (inr z)) k y ]
+
+  pub all-none : (terms : Terms) (e : List Told) → ArePlaced terms e (all_trees (tree_of (tree_at e)) []) (all_positions names_of []) (AnyIsDeep deep_of []) (item_shapes of_value [])
+  unfolding fill IsPart
+  all-none terms e = record { parts = tt; means = refl; named = tt; shallow = λ d. d }
+
+  pub all-more : (terms : Terms) (e : List Told) (xs : List X) (ys : List T) (x : X) (y : T)
+      → ArePlaced terms e (all_trees (tree_of (tree_at e)) xs) (all_positions names_of xs) (AnyIsDeep deep_of xs) (item_shapes of_value ys)
+      → IsPlaced terms e (tree_of (tree_at e) x) (names_of x) (deep_of x) (of_value y)
+      → ArePlaced terms e (all_trees (tree_of (tree_at e)) (xs ++ x ∷ [])) (all_positions names_of (xs ++ x ∷ [])) (AnyIsDeep deep_of (xs ++ x ∷ [])) (item_shapes of_value (ys ++ y ∷ []))
+  all-more terms e xs ys x y h k = record {
+    parts = parts-append (size terms.rows) ys y h.parts k.part;
+    means = trees-append (meaning terms.rows) (tree_at e) xs ys x y h.means k.means;
+    named = named-append e xs x h.named k.named;
+    shallow = shallow-append xs x h.shallow k.shallow;
+  }
+
+  named-among : (e : List Told) (xs : List X) (i : ℕ) (x : X) → slice_get xs i ≡ Some x → AreTerms e (all_positions names_of xs) → AreTerms e (names_of x)
+  named-among e [] i x h k = absurd (cc)
+  named-among e (w ∷ xs) zero x h k =
+      let same : w ≡ x = cc in subst (λ (y : X). AreTerms e (names_of y)) same (AreTerms-first e (names_of w) (all_positions names_of xs) k)
+  named-among e (w ∷ xs) (suc i) x h k = named-among e xs i x h (AreTerms-second e (names_of w) (all_positions names_of xs) k)
+
+  deep-among : (xs : List X) (i : ℕ) (x : X) → slice_get xs i ≡ Some x → deep_of x → AnyIsDeep deep_of xs
+  deep-among [] i x h d = absurd (cc)
+  deep-among (w ∷ xs) zero x h d = let same : x ≡ w = cc in inl (subst deep_of same d)
+  deep-among (w ∷ xs) (suc i) x h d = inr (deep-among xs i x h d)
+
+  -- a reason of one of them is one of them all
+  pub unbuilt-one : (P : Type 0) (e : List Told) (xs : List X) (i : ℕ) (x : X) (r : Refusal) → slice_get xs i ≡ Some x
+      → IsUnbuilt P e (names_of x) (deep_of x) r → IsUnbuilt P e (all_positions names_of xs) (AnyIsDeep deep_of xs) r
+  unbuilt-one P e xs i x r h u =
+      IsUnbuilt-weaker P e e (names_of x) (all_positions names_of xs) (deep_of x) (AnyIsDeep deep_of xs) r (named-among e xs i x h) (deep-among xs i x h) u
+
+-- where one is in a list, its image is in the list of images
+pub get-mapped : {A B : Type 0} (f : A → B) (xs : List A) (i : ℕ) (x : A) → slice_get xs i ≡ Some x → slice_get (map f xs) i ≡ Some (f x)
+get-mapped f xs i x h = slice_get-map f xs i ∙ ap (option_map f) h
+
 -- items in order: those of calls, and the values
 module _ {C T : Type 0} (item : C → Item) (of_value : T → Shape) where
-  parts-append : (size : Sizes) (xs : List T) (x : T) → AreParts size (item_shapes of_value xs) → IsPart size (of_value x)
-      → AreParts size (item_shapes of_value (xs ++ x ∷ []))
-  unfolding IsPart
-  parts-append size [] x h k = (k, tt)
-  parts-append size (y ∷ xs) x h k = (h.0, parts-append size xs x h.1 k)
-
-  trees-append : (f : shape.Meaning) (at : ℕ → Tree Depth) (cs : List C) (xs : List T) (c : C) (x : T)
-      → fill_all f (item_shapes of_value xs) ≡ items_trees at (map item cs) → fill f (of_value x) ≡ item_tree at (item c)
-      → fill_all f (item_shapes of_value (xs ++ x ∷ [])) ≡ items_trees at (map item (cs ++ c ∷ []))
-  unfolding fill
-  trees-append f at [] [] c x h k = rw k refl
-  trees-append f at [] (y ∷ xs) c x h k = absurd (cc)
-  trees-append f at (d ∷ cs) [] c x h k = absurd (cc)
-  trees-append f at (d ∷ cs) (y ∷ xs) c x h k =
-      let first : fill f (of_value y) ≡ item_tree at (item d) = cc in
-      let rest : fill_all f (item_shapes of_value xs) ≡ items_trees at (map item cs) = cc in
-      rw (first, trees-append f at cs xs c x rest k) refl
-
-  named-append : (e : List Told) (cs : List C) (c : C) → AreTerms e (items_positions (map item cs)) → AreTerms e (item_positions (item c))
-      → AreTerms e (items_positions (map item (cs ++ c ∷ [])))
-  named-append e [] c h k = AreTerms-append e (item_positions (item c)) [] k tt
-  named-append e (d ∷ cs) c h k =
-      AreTerms-append e (item_positions (item d)) (items_positions (map item (cs ++ c ∷ [])))
-      (AreTerms-first e (item_positions (item d)) (items_positions (map item cs)) h)
-      (named-append e cs c (AreTerms-second e (item_positions (item d)) (items_positions (map item cs)) h) k)
-
-  shallow-append : (cs : List C) (c : C) → (AreItemsTooDeep (map item cs) → ⊥) → (IsItemTooDeep (item c) → ⊥) → AreItemsTooDeep (map item (cs ++ c ∷ [])) → ⊥
-  shallow-append [] c h k d = elim d [ inl x ↦ k x | inr x ↦ x ]
-  shallow-append (b ∷ cs) c h k d = elim d [ inl x ↦ h (inl x) | inr x ↦ shallow-append cs c (λ y. h (inr y)) k x ]
-
   pub items-none : (terms : Terms) (e : List Told) → AreItemsOf terms e (map item []) (item_shapes of_value [])
-  unfolding fill IsPart
-  items-none terms e = record { parts = tt; means = refl; named = tt; shallow = λ d. d }
+  items-none terms e = all-none item_tree item_positions IsItemTooDeep of_value terms e
 
   pub items-more : (terms : Terms) (e : List Told) (cs : List C) (xs : List T) (c : C) (x : T)
       → AreItemsOf terms e (map item cs) (item_shapes of_value xs) → IsItemOf terms e (item c) (of_value x)
       → AreItemsOf terms e (map item (cs ++ c ∷ [])) (item_shapes of_value (xs ++ x ∷ []))
-  items-more terms e cs xs c x h k = record {
-    parts = parts-append (size terms.rows) xs x h.parts k.part;
-    means = trees-append (meaning terms.rows) (tree_at e) cs xs c x h.means k.means;
-    named = named-append e cs c h.named k.named;
-    shallow = shallow-append cs c h.shallow k.shallow;
-  }
-
-  named-among : (e : List Told) (cs : List C) (i : ℕ) (c : C) → slice_get cs i ≡ Some c → AreTerms e (items_positions (map item cs))
-      → AreTerms e (item_positions (item c))
-  named-among e [] i c h k = absurd (cc)
-  named-among e (d ∷ cs) zero c h k =
-      let same : d ≡ c = cc in
-      subst (λ (x : C). AreTerms e (item_positions (item x))) same (AreTerms-first e (item_positions (item d)) (items_positions (map item cs)) k)
-  named-among e (d ∷ cs) (suc i) c h k = named-among e cs i c h (AreTerms-second e (item_positions (item d)) (items_positions (map item cs)) k)
-
-  deep-among : (cs : List C) (i : ℕ) (c : C) → slice_get cs i ≡ Some c → IsItemTooDeep (item c) → AreItemsTooDeep (map item cs)
-  deep-among [] i c h d = absurd (cc)
-  deep-among (b ∷ cs) zero c h d = let same : c ≡ b = cc in inl (subst (λ (x : C). IsItemTooDeep (item x)) same d)
-  deep-among (b ∷ cs) (suc i) c h d = inr (deep-among cs i c h d)
+  items-more terms e cs xs c x h k =
+      subst (λ (is : List Item). AreItemsOf terms e is (item_shapes of_value (xs ++ x ∷ []))) (sym (map-append item cs (c ∷ [])))
+      (all-more item_tree item_positions IsItemTooDeep of_value terms e (map item cs) xs (item c) x h k)
 
   -- a reason of one of the items is one of them all
   pub unbuilt-among : (P : Type 0) (e : List Told) (cs : List C) (i : ℕ) (c : C) (r : Refusal) → slice_get cs i ≡ Some c
       → IsUnbuilt P e (item_positions (item c)) (IsItemTooDeep (item c)) r
       → IsUnbuilt P e (items_positions (map item cs)) (AreItemsTooDeep (map item cs)) r
-  unbuilt-among P e cs i c r h u =
-      IsUnbuilt-weaker P e e (item_positions (item c)) (items_positions (map item cs)) (IsItemTooDeep (item c)) (AreItemsTooDeep (map item cs)) r
-      (named-among e cs i c h) (deep-among cs i c h) u
+  unbuilt-among P e cs i c r h u = unbuilt-one item_tree item_positions IsItemTooDeep of_value P e (map item cs) i (item c) r (get-mapped item cs i c h) u
 
 -- a region
 pub region-part : (terms : Terms) (e : List Told) (c : RegionCall) (r : RegionKind) → IsRegionOf terms (region_tree c) (IsRegionTooDeep c) r
@@ -257,6 +278,24 @@ pub part-passed : {H : Type 0} (terms : Terms) (e : List Told) (p : Part) (of_va
     → IsUnbuilt (HasFullTable terms) e (part_positions p) (IsPartTooDeep p) r → GivesPart terms e p of_value result
 part-passed terms e p of_value (Ok l) r h k = absurd h
 part-passed terms e p of_value (Err x) r h k = record { ok = tt; err = rw h k }
+
+pub placed-passed : {H : Type 0} (terms : Terms) (e : List Told) (t : Tree Depth) (ns : List Named) (deep : Type 0) (of_value : H → Shape) (result : Result H Refusal) (r : Refusal) → IsErrAnd result (λ x. x ≡ r)
+    → IsUnbuilt (HasFullTable terms) e ns deep r → GivesPlaced terms e t ns deep of_value result
+placed-passed terms e t ns deep of_value (Ok l) r h k = absurd h
+placed-passed terms e t ns deep of_value (Err x) r h k = record { ok = tt; err = rw h k }
+
+-- the kind of a trait object
+pub dynamic-kind : (terms : Terms) (e : List Told) (xs : List ExistentialForm) (c : RegionCall) (s : Shape) (r : RegionKind)
+    → IsPlaced terms e (existentials_tree (tree_at e) xs) (all_positions existential_positions xs) (AnyIsDeep IsExistentialTooDeep xs) s
+    → IsRegionOf terms (region_tree c) (IsRegionTooDeep c) r
+    → IsKindOf terms e (trait_object xs c) (shape.term (type_label dynamic_type) (shape.also s (shape.also (region_shape r) shape.none)))
+unfolding fill IsPart
+dynamic-kind terms e xs c s r h k = record {
+  parts = (tt, (h.part, (k.part, tt)));
+  means = rw (h.means, k.means) refl;
+  named = h.named;
+  deep = (λ d. absurd d, λ d. elim d [ inl x ↦ h.shallow x | inr x ↦ k.shallow x ]);
+}
 
 pub parts-passed : {H : Type 0} (terms : Terms) (e : List Told) (ps : List Part) (of_value : H → Shapes) (result : Result H Refusal) (r : Refusal) → IsErrAnd result (λ x. x ≡ r)
     → IsUnbuilt (HasFullTable terms) e (parts_positions ps) (ArePartsTooDeep ps) r → GivesParts terms e ps of_value result

@@ -141,6 +141,11 @@ IsPartOf terms earlier p s = IsPlaced terms earlier (part_tree (tree_at earlier)
 abbrev pub ArePartsOf : Terms → List Told → List Part → Shapes → Type 0
 ArePartsOf terms earlier ps ss = ArePlaced terms earlier (parts_trees (tree_at earlier) ps) (parts_positions ps) (ArePartsTooDeep ps) ss
 
+-- the result has this tree, or is a refusal with a reason
+pub record GivesPlaced {H : Type 0} (terms : Terms) (earlier : List Told) (t : Tree Depth) (names : List Named) (deep : Type 0) (shape : H → Shape) (result : Result H Refusal) : Type 0 where
+  pub ok : IfOk result (λ h. IsPlaced terms earlier t names deep (shape h))
+  pub err : IfErr result (IsUnbuilt (HasFullTable terms) earlier names deep)
+
 -- the result is what the call puts in the child's place, or a refusal with a reason
 pub record GivesPart {H : Type 0} (terms : Terms) (earlier : List Told) (p : Part) (shape : H → Shape) (result : Result H Refusal) : Type 0 where
   pub ok : IfOk result (λ h. IsPartOf terms earlier p (shape h))

@@ -1,13 +1,13 @@
 -- What building calls build: the tree over the trees at the positions that they name, and what they ask of the terms there.
 use Rattle.std.specs.Prelude.{ℕ, List, [], ◌∷◌, ◌++◌, map, ◌⊎◌}
 use Rattle.std.specs.String.{string_bytes}
-use Rattle.tt_kinds.specs.Label.{Name, Sort, region_sort, type_sort, const_sort, RegionName, anonymous, printed, named, environment, VarKind, region_variable, type_variable, const_variable, Entry, static_region, erased_region, region_var, error_region, late_param_region, placeholder_region, TypeLabel, bool_type, char_type, int_type, uint_type, float_type, str_type, never_type, placeholder_type, infer_type, error_type, ref_type, raw_ptr_type, slice_type, tuple_type, fn_ptr_type, foreign_type, adt_type, array_type, closure_type, coroutine_closure_type, coroutine_type, coroutine_witness_type, alias_type, infer_const, placeholder_const, unevaluated_const, leaf_const, branch_const, error_const, expr_const, pat_type, unsafe_binder_type, range_pattern, or_pattern, not_null_pattern, unsafe_binder_record, trait_record, host_effect_record, region_outlives_record, type_outlives_record, projection_record, const_has_type_record, well_formed_record, const_evaluatable_record, unstable_feature_record, dyn_compatible_record, subtype_record, coerce_record, const_equate_record, ambiguous_record, normalizes_to_record, alias_relate_record, RecordLabel, fn_sig_tys_record, Label, type_label, const_label, pattern_label, predicate_label, clause_list_label, list_label, record_label}
+use Rattle.tt_kinds.specs.Label.{Name, Sort, region_sort, type_sort, const_sort, RegionName, anonymous, printed, named, environment, VarKind, region_variable, type_variable, const_variable, Entry, static_region, erased_region, region_var, error_region, late_param_region, placeholder_region, TypeLabel, bool_type, char_type, int_type, uint_type, float_type, str_type, never_type, placeholder_type, infer_type, error_type, ref_type, raw_ptr_type, slice_type, tuple_type, fn_ptr_type, foreign_type, adt_type, array_type, closure_type, coroutine_closure_type, coroutine_type, coroutine_witness_type, alias_type, infer_const, placeholder_const, unevaluated_const, leaf_const, branch_const, error_const, expr_const, pat_type, unsafe_binder_type, range_pattern, or_pattern, not_null_pattern, unsafe_binder_record, trait_record, host_effect_record, region_outlives_record, type_outlives_record, projection_record, const_has_type_record, well_formed_record, const_evaluatable_record, unstable_feature_record, dyn_compatible_record, subtype_record, coerce_record, const_equate_record, ambiguous_record, normalizes_to_record, alias_relate_record, dynamic_type, existential_trait_record, existential_projection_record, auto_trait_record, RecordLabel, fn_sig_tys_record, Label, type_label, const_label, pattern_label, predicate_label, existential_label, clause_list_label, list_label, record_label}
 use Rattle.tt_kinds.specs.Tree as tree
 use Rattle.tt_kinds.specs.Tree.{Depth, Tree, Forest, none, also}
 use Rattle.tt_kinds.specs.Bound.{depth}
 use Rattle.tt_kinds.specs.Shape.{IsGreatest}
 use Rattle.tt_kinds.specs.declared.table.Table.{Table}
-use Rattle.tt_kinds.specs.declared.table.Table.TheVariants.{Types, Consts, Patterns, TypeLists, ConstLists, ArgLists, PatternLists}
+use Rattle.tt_kinds.specs.declared.table.Table.TheVariants.{Types, Consts, Patterns, TypeLists, ConstLists, ArgLists, PatternLists, ExistentialLists}
 use Rattle.tt_kinds.specs.declared.bound.BoundTy.{BoundTy}
 use Rattle.tt_kinds.specs.declared.bound.BoundConst.{BoundConst}
 use Rattle.type_terms.specs.declared.run.call.RegionNameCall.{RegionNameCall}
@@ -33,6 +33,9 @@ use Rattle.type_terms.specs.declared.run.call.ClauseCall.TheVariants as clause
 use Rattle.type_terms.specs.declared.run.call.PredicateKindCall.{PredicateKindCall}
 use Rattle.type_terms.specs.declared.run.call.PredicateKindCall.TheVariants as predicate
 use Rattle.type_terms.specs.declared.run.call.PredicateCall.{PredicateCall}
+use Rattle.type_terms.specs.declared.run.call.ExistentialKindCall.{ExistentialKindCall}
+use Rattle.type_terms.specs.declared.run.call.ExistentialKindCall.TheVariants as existential
+use Rattle.type_terms.specs.declared.run.call.ExistentialCall.{ExistentialCall}
 use Rattle.type_terms.specs.declared.run.call.TyCall.{TyCall}
 use Rattle.type_terms.specs.declared.run.call.TyCall.TheVariants as ty
 
@@ -68,6 +71,20 @@ pub data Part : Type 0 where
   -- a list of the table
   a_list : Table → List Item → Part
 
+-- what stands under a predicate's binder: its label and its children
+pub record RecordCall : Type 0 where
+  pub label : RecordLabel Name
+  pub parts : List Part
+
+-- a label with these children
+abbrev pub labelled : RecordLabel Name → List Part → RecordCall
+labelled l ps = record { label = l; parts = ps }
+
+-- an existential predicate: the variables of its binder, and what stands under it
+pub record ExistentialForm : Type 0 where
+  pub vars : List (VarKind Name)
+  pub under : RecordCall
+
 -- an argument as an item of a list
 abbrev pub arg_item : ArgCall → Item
 arg_item (arg.Lifetime r) = a_region r
@@ -93,6 +110,8 @@ pub data CallForm : Type 0 where
   plain : Label Name → List Part → CallForm
   -- the children stand in a record under a binder of these variables
   under : Label Name → List (VarKind Name) → RecordLabel Name → List Part → CallForm
+  -- a trait object: its existential predicates, and its region
+  trait_object : List ExistentialForm → RegionCall → CallForm
 
 -- what a bound region is called
 abbrev pub called : RegionNameCall → RegionName Name
@@ -128,6 +147,21 @@ item_type (item.Coroutine d) = coroutine_type d.number
 item_type (item.CoroutineWitness d) = coroutine_witness_type d.number
 item_type (item.Alias k) = alias_type k
 
+-- a type or a constant
+abbrev pub term_part : TermCall → Part
+term_part (term.Ty p) = one (a_term Types p)
+term_part (term.Const p) = one (a_term Consts p)
+
+-- the existential predicates that can be built, without their binder
+abbrev pub existential_record : ExistentialKindCall → RecordCall
+existential_record (existential.Trait d args) = labelled (existential_trait_record d.number) (args_part args.items ∷ [])
+existential_record (existential.Projection d args t) = labelled (existential_projection_record d.number) (args_part args.items ∷ term_part t ∷ [])
+existential_record (existential.AutoTrait d) = labelled (auto_trait_record d.number) []
+
+-- the existential predicates that can be built
+abbrev pub existential_form : ExistentialCall → ExistentialForm
+existential_form x = record { vars = map variable_kind x.vars.items; under = existential_record x.kind }
+
 -- the types that can be built
 abbrev pub ty_form : TyCall → CallForm
 ty_form ty.Bool = plain (type_label bool_type) []
@@ -151,6 +185,7 @@ ty_form (ty.Tuple ts) = plain (type_label tuple_type) (a_list TypeLists (terms_a
 ty_form (ty.FnPtr vars ts h) =
     under (type_label (fn_ptr_type h)) (map variable_kind vars.items) fn_sig_tys_record (a_list TypeLists (terms_at Types ts.items) ∷ [])
 ty_form (ty.Item i args) = plain (type_label (item_type i)) (args_part args.items ∷ [])
+ty_form (ty.Dynamic xs r) = trait_object (map existential_form xs.items) r
 ty_form (ty.Pat t p) = plain (type_label pat_type) (one (a_term Types t) ∷ one (a_term Patterns p) ∷ [])
 ty_form (ty.UnsafeBinder vars t) = under (type_label unsafe_binder_type) (map variable_kind vars.items) unsafe_binder_record (one (a_term Types t) ∷ [])
 
@@ -175,20 +210,6 @@ abbrev pub pat_form : PatCall → CallForm
 pat_form (pat.Range start end) = plain (pattern_label range_pattern) (one (a_term Consts start) ∷ one (a_term Consts end) ∷ [])
 pat_form (pat.Or ps) = plain (pattern_label or_pattern) (a_list PatternLists (terms_at Patterns ps.items) ∷ [])
 pat_form pat.NotNull = plain (pattern_label not_null_pattern) []
-
--- a type or a constant
-abbrev pub term_part : TermCall → Part
-term_part (term.Ty p) = one (a_term Types p)
-term_part (term.Const p) = one (a_term Consts p)
-
--- what stands under a predicate's binder: its label and its children
-pub record RecordCall : Type 0 where
-  pub label : RecordLabel Name
-  pub parts : List Part
-
--- a label with these children
-abbrev pub labelled : RecordLabel Name → List Part → RecordCall
-labelled l ps = record { label = l; parts = ps }
 
 -- the clauses that can be built, without their binder
 abbrev pub clause_record : ClauseCall → RecordCall
@@ -243,10 +264,14 @@ IsItemTooDeep (a_region r) = IsRegionTooDeep r
 IsItemTooDeep (a_term t p) = ⊥
 IsItemTooDeep (a_clause p) = ⊥
 
+-- one of the list is deep
+abbrev pub AnyIsDeep : {X : Type 0} → (X → Type 0) → List X → Type 0
+AnyIsDeep deep [] = ⊥
+AnyIsDeep deep (x ∷ xs) = deep x ⊎ AnyIsDeep deep xs
+
 -- such a region is among the items
 abbrev pub AreItemsTooDeep : List Item → Type 0
-AreItemsTooDeep [] = ⊥
-AreItemsTooDeep (i ∷ is) = IsItemTooDeep i ⊎ AreItemsTooDeep is
+AreItemsTooDeep is = AnyIsDeep IsItemTooDeep is
 
 -- such a region is in the child's place
 abbrev pub IsPartTooDeep : Part → Type 0
@@ -258,12 +283,17 @@ abbrev pub ArePartsTooDeep : List Part → Type 0
 ArePartsTooDeep [] = ⊥
 ArePartsTooDeep (p ∷ ps) = IsPartTooDeep p ⊎ ArePartsTooDeep ps
 
+-- such a region stands in the existential predicate
+abbrev pub IsExistentialTooDeep : ExistentialForm → Type 0
+IsExistentialTooDeep x = ArePartsTooDeep x.under.parts
+
 -- what is built is bound by the binder of the greatest index, or such a region is among the children
 abbrev pub IsFormTooDeep : CallForm → Type 0
 IsFormTooDeep (param s i name) = ⊥
 IsFormTooDeep (bound s d e) = IsGreatest d
 IsFormTooDeep (plain l ps) = ArePartsTooDeep ps
 IsFormTooDeep (under l vs m ps) = ArePartsTooDeep ps
+IsFormTooDeep (trait_object xs r) = AnyIsDeep IsExistentialTooDeep xs ⊎ IsRegionTooDeep r
 
 -- the position that an item names
 abbrev pub item_positions : Item → List Named
@@ -271,10 +301,14 @@ item_positions (a_region r) = []
 item_positions (a_term t p) = record { want = of_table t; position = p } ∷ []
 item_positions (a_clause p) = record { want = of_clause; position = p } ∷ []
 
+-- the positions that those of a list name
+abbrev pub all_positions : {X : Type 0} → (X → List Named) → List X → List Named
+all_positions names [] = []
+all_positions names (x ∷ xs) = names x ++ all_positions names xs
+
 -- the positions that items name
 abbrev pub items_positions : List Item → List Named
-items_positions [] = []
-items_positions (i ∷ is) = item_positions i ++ items_positions is
+items_positions is = all_positions item_positions is
 
 -- the positions that a child names
 abbrev pub part_positions : Part → List Named
@@ -286,12 +320,22 @@ abbrev pub parts_positions : List Part → List Named
 parts_positions [] = []
 parts_positions (p ∷ ps) = part_positions p ++ parts_positions ps
 
+-- the positions that an existential predicate names
+abbrev pub existential_positions : ExistentialForm → List Named
+existential_positions x = parts_positions x.under.parts
+
 -- the positions that a building call names
 abbrev pub form_positions : CallForm → List Named
 form_positions (param s i name) = []
 form_positions (bound s d e) = []
 form_positions (plain l ps) = parts_positions ps
 form_positions (under l vs m ps) = parts_positions ps
+form_positions (trait_object xs r) = all_positions existential_positions xs
+
+-- the trees of a list, in order
+abbrev pub all_trees : {X : Type 0} → (X → Tree Depth) → List X → Forest Depth
+all_trees of_one [] = none
+all_trees of_one (x ∷ xs) = also (of_one x) (all_trees of_one xs)
 
 -- the tree at each position
 module _ (at : ℕ → Tree Depth) where
@@ -303,8 +347,7 @@ module _ (at : ℕ → Tree Depth) where
 
   -- the trees of items, in order
   abbrev pub items_trees : List Item → Forest Depth
-  items_trees [] = none
-  items_trees (i ∷ is) = also (item_tree i) (items_trees is)
+  items_trees is = all_trees item_tree is
 
   -- the tree of a child
   abbrev pub part_tree : Part → Tree Depth
@@ -320,6 +363,14 @@ module _ (at : ℕ → Tree Depth) where
   abbrev pub record_tree : RecordCall → Tree Depth
   record_tree r = tree.node (record_label r.label) (parts_trees r.parts)
 
+  -- the tree of an existential predicate
+  abbrev pub existential_tree : ExistentialForm → Tree Depth
+  existential_tree x = tree.term existential_label (also (tree.binder x.vars (record_tree x.under)) none)
+
+  -- the tree of a list of existential predicates
+  abbrev pub existentials_tree : List ExistentialForm → Tree Depth
+  existentials_tree xs = tree.node (list_label ExistentialLists) (all_trees existential_tree xs)
+
   -- the tree of a list of clauses
   abbrev pub clauses_tree : List ℕ → Tree Depth
   clauses_tree ps = tree.term clause_list_label (items_trees (clause_items ps))
@@ -330,3 +381,4 @@ module _ (at : ℕ → Tree Depth) where
   form_tree (bound s d e) = tree.bound s d e
   form_tree (plain l ps) = tree.term l (parts_trees ps)
   form_tree (under l vs m ps) = tree.term l (also (tree.binder vs (tree.node (record_label m) (parts_trees ps))) none)
+  form_tree (trait_object xs r) = tree.term (type_label dynamic_type) (also (existentials_tree xs) (also (region_tree r) none))

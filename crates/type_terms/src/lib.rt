@@ -8,6 +8,8 @@ pub use run::ArgCall;
 pub use run::Call;
 pub use run::ClauseCall;
 pub use run::ConstCall;
+pub use run::ExistentialCall;
+pub use run::ExistentialKindCall;
 pub use run::Fault;
 pub use run::ItemCall;
 pub use run::PatCall;

@@ -1,5 +1,6 @@
 //! What the contracts don't say: printed lines, reading and writing, and that calls succeed where memory is ample.
 
+mod calls;
 mod declarations;
 mod env;
 mod errors;

@@ -15,6 +15,7 @@ ghost use Rattle.type_terms.specs.Build.{GivesName, GivesVariable, GivesVariable
 
 use crate::run::answer::Answer;
 use crate::run::call::{ArgCall, ItemCall, RegionCall, RegionNameCall, TyCall, VariableCall};
+use crate::run::existentials::dynamic_kind;
 use crate::run::lookup::{handle_at, handle_pair};
 use crate::run::parts::{build_arg_list, build_tys};
 use tt_index::{BoundVar, Mutability, Refusal, UniverseIndex};
@@ -72,6 +73,9 @@ fn ty_kind(cx: &mut Interner, earlier: &[Answer], call: &TyCall) -> Result<TyKin
             header,
         } => fn_ptr_kind(cx, earlier, vars.as_slice(), tys.as_slice(), *header),
         TyCall::Item(item, args) => item_kind(cx, earlier, *item, args.as_slice()),
+        TyCall::Dynamic(existentials, region) => {
+            dynamic_kind(cx, earlier, existentials.as_slice(), region)
+        }
         TyCall::Pat(ty, pat) => pat_kind(earlier, *ty, *pat),
         TyCall::UnsafeBinder { vars, ty } => unsafe_binder_kind(cx, earlier, vars.as_slice(), *ty),
     }

@@ -137,6 +137,8 @@ pub enum TyCall {
     },
     /// The type of an item with its generic arguments.
     Item(ItemCall, Vec<ArgCall>),
+    /// A trait object: what it says of the type that it hides, and the region that this type outlives.
+    Dynamic(Vec<ExistentialCall>, RegionCall),
     /// A type, restricted to the values that a pattern allows.
     Pat(u32, u32),
     /// A type under a binder whose regions the programmer answers for.
@@ -259,6 +261,27 @@ pub enum PredicateKindCall {
     NormalizesTo(DefId, Vec<ArgCall>, TermCall),
     /// Two terms, aliases or not, are related.
     AliasRelate(TermCall, TermCall, AliasRelationDirection),
+}
+
+/// What a trait object says of the type that it hides. It is such an [`ExistentialPredicate`](tt_kinds::ExistentialPredicate),
+/// with positions in the places of handles.
+#[derive(Debug, PartialEq, Eq, Drop)]
+pub enum ExistentialKindCall {
+    /// It implements a trait with these generic arguments.
+    Trait(TraitId, Vec<ArgCall>),
+    /// An associated item of its trait, with these generic arguments, is a term.
+    Projection(DefId, Vec<ArgCall>, TermCall),
+    /// It implements a trait that has no items.
+    AutoTrait(TraitId),
+}
+
+/// An existential predicate to be built.
+#[derive(Debug, PartialEq, Eq, Drop)]
+pub struct ExistentialCall {
+    /// What it says.
+    pub kind: ExistentialKindCall,
+    /// The variables of the binder around it.
+    pub vars: Vec<VariableCall>,
 }
 
 /// A predicate to be built.

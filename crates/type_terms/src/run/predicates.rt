@@ -262,8 +262,8 @@ fn term_pair(earlier: &[Answer], a: TermCall, b: TermCall) -> Result<(Term, Term
     Ok((a, b))
 }
 
-// A list of arguments and such a term.
-fn args_and_term(
+/// A list of arguments and such a term.
+pub fn args_and_term(
     cx: &mut Interner,
     earlier: &[Answer],
     args: &[ArgCall],

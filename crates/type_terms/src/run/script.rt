@@ -30,10 +30,10 @@ pub fn run_script<R: Read + Drop, W: Write + Drop>(
 fn answer_script<R: Read>(alloc: Global, input: &mut R) -> Result<String, Fault> {
     let script = read_script(alloc, input)?;
     let mut cx = Interner::new(alloc).map_err(|_| Fault::Memory)?;
-    let answers = answer_lines(&mut cx, script.as_slice())?;
+    let answers = answer_lines(&mut cx, script.as_slice());
     drop(cx);
     drop(script);
-    Ok(print_answers(alloc, answers.as_slice())?)
+    Ok(print_answers(alloc, answers?.as_slice())?)
 }
 
 // About how many bytes an answer's line has.

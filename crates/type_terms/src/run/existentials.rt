@@ -1,0 +1,103 @@
+//! The building of trait objects.
+
+ghost use Rattle.std.specs.Prelude.{map};
+ghost use Rattle.tt_kinds.specs.Kinds.{existential_form as form_of_existential};
+ghost use Rattle.tt_kinds.specs.Kinds.{ty_kind_shape, existential_shape, existentials_shape};
+ghost use Rattle.tt_interner.specs.Stored.{Extends};
+ghost use Rattle.type_terms.specs.CallForm.{existential_form, existential_record, existential_tree, existentials_tree, existential_positions, all_positions, IsExistentialTooDeep, AnyIsDeep, trait_object};
+ghost use Rattle.type_terms.specs.Told.{told_all, AreOwned};
+ghost use Rattle.type_terms.specs.Means.{tree_at};
+ghost use Rattle.type_terms.specs.Build.{GivesPlaced, GivesRecord, GivesKind};
+
+use crate::run::answer::Answer;
+use crate::run::build::{build_region, build_vars};
+use crate::run::call::{ExistentialCall, ExistentialKindCall, RegionCall};
+use crate::run::parts::build_arg_list;
+use crate::run::predicates::args_and_term;
+use tt_index::Refusal;
+use tt_interner::Interner;
+use tt_kinds::{
+    Binder, BoundExistentialPredicates, ExistentialPredicate, ExistentialProjection,
+    ExistentialTraitRef, PolyExistentialPredicate, TyKind,
+};
+
+/// The kind of a trait object.
+pub fn dynamic_kind(
+    cx: &mut Interner,
+    earlier: &[Answer],
+    existentials: &[ExistentialCall],
+    region: &RegionCall,
+) -> Result<TyKind, Refusal>
+    requires { AreOwned cx.old.rows earlier.now }
+    ensures extends { Extends cx.old cx.new }
+    ensures kind { GivesKind cx.new (told_all cx.old.rows earlier.now) (trait_object (map existential_form existentials.now) region.now) ty_kind_shape result }
+{
+    let existentials = build_existentials(cx, earlier, existentials)?;
+    let region = build_region(cx, region)?;
+    Ok(TyKind::Dynamic(existentials, region))
+}
+
+// The list of the existential predicates.
+fn build_existentials(
+    cx: &mut Interner,
+    earlier: &[Answer],
+    calls: &[ExistentialCall],
+) -> Result<BoundExistentialPredicates, Refusal>
+    requires { AreOwned cx.old.rows earlier.now }
+    ensures extends { Extends cx.old cx.new }
+    ensures list { let e = told_all cx.old.rows earlier.now in let forms = map existential_form calls.now in
+        GivesPlaced cx.new e (existentials_tree (tree_at e) forms) (all_positions existential_positions forms) (AnyIsDeep IsExistentialTooDeep forms) existentials_shape result }
+{
+    let mut built = Vec::with_capacity(cx.allocator(), calls.len())?;
+    for call in calls {
+        let existential = build_existential(cx, earlier, call)?;
+        built.push(existential)?;
+    }
+    cx.mk_existential_list(built.as_slice())
+}
+
+// The existential predicate, under its binder.
+fn build_existential(
+    cx: &mut Interner,
+    earlier: &[Answer],
+    call: &ExistentialCall,
+) -> Result<PolyExistentialPredicate, Refusal>
+    requires { AreOwned cx.old.rows earlier.now }
+    ensures extends { Extends cx.old cx.new }
+    ensures existential { let e = told_all cx.old.rows earlier.now in let form = existential_form call.now in
+        GivesPlaced cx.new e (existential_tree (tree_at e) form) (existential_positions form) (IsExistentialTooDeep form) existential_shape result }
+{
+    let kind = existential_kind(cx, earlier, &call.kind)?;
+    let vars = build_vars(cx, call.vars.as_slice())?;
+    cx.mk_existential(Binder::bind_with_vars(kind, vars))
+}
+
+// What the existential predicate says.
+fn existential_kind(
+    cx: &mut Interner,
+    earlier: &[Answer],
+    call: &ExistentialKindCall,
+) -> Result<ExistentialPredicate, Refusal>
+    requires { AreOwned cx.old.rows earlier.now }
+    ensures extends { Extends cx.old cx.new }
+    ensures kind { GivesRecord cx.new (told_all cx.old.rows earlier.now) (existential_record call.now) form_of_existential result }
+{
+    match call {
+        ExistentialKindCall::Trait(def_id, args) => {
+            let args = build_arg_list(cx, earlier, args.as_slice())?;
+            Ok(ExistentialPredicate::Trait(ExistentialTraitRef {
+                def_id: *def_id,
+                args,
+            }))
+        }
+        ExistentialKindCall::Projection(def_id, args, term) => {
+            let pair = args_and_term(cx, earlier, args.as_slice(), *term)?;
+            Ok(ExistentialPredicate::Projection(ExistentialProjection {
+                def_id: *def_id,
+                args: pair.0,
+                term: pair.1,
+            }))
+        }
+        ExistentialKindCall::AutoTrait(id) => Ok(ExistentialPredicate::AutoTrait(*id)),
+    }
+}
