@@ -267,32 +267,34 @@ fn fold_listed<M, F: Core<M>>(
         (WalksItems F.hooks (list_sort list)) (ItemsFail F.hooks (IsErrorOfUnbuilt F.Error.from_gives cx.new) (list_sort list))
         cx.old folder.old list result cx.new folder.new }
 {
-    let items = fold_items::<M, F>(cx, folder, list)?;
+    let mut items = Items::new(cx.allocator());
+    fold_items::<M, F>(cx, folder, list, &mut items)?;
     let new_list = cx.store_list(list.sort(), items.as_slice())?;
     Ok(new_list)
 }
 
-// The walk of a list's children in order. It ends where an item of a list of clauses became none. It has one caller, and stands
-// in its place.
+// The walk of a list's children in order, which fills the caller's empty vector: handed back, it would be copied. It ends where
+// an item of a list of clauses became none. It has one caller, and stands in its place.
 #[cycle(fold)]
 #[inline(always)]
 fn fold_items<M, F: Core<M>>(
     cx: &mut Interner,
     folder: &mut F,
     list: List,
-) -> Result<Items, F::Error>
+    items: &mut Items,
+) -> Result<(), F::Error>
     requires owned { F.owned cx.old.rows folder.old }
     requires list { IsPartOf cx.old.rows (list_shape list) }
-    ensures { FoldsItems (λ items. items.items) F.owned F.meaning F.hooks (IsErrorOfUnbuilt F.Error.from_gives cx.new) cx.old folder.old list result cx.new folder.new }
+    requires empty { items.old.items ≡ [] }
+    ensures { FoldsItems (λ _. items.new.items) F.owned F.meaning F.hooks (IsErrorOfUnbuilt F.Error.from_gives cx.new) cx.old folder.old list result cx.new folder.new }
 {
-    let mut items = Items::new(cx.allocator());
     for i in 0..cx.list_len(list) {
         let item = cx.list_child(list, i);
         let folded = fold_child::<M, F>(cx, folder, item)?;
         check_item(cx, list.sort(), &folded)?;
-        push(&mut items, folded)?;
+        push(items, folded)?;
     }
-    Ok(items)
+    Ok(())
 }
 
 // Whether what came of an item may stand in a list of the sort: in one of clauses, only a clause.

@@ -275,24 +275,24 @@ fold_child-returns-in_ok-new_list-in-List g t c =
 
 pub fold_listed-fold_items-requires : goal.fold_listed-fold_items-requires
 fold_listed-fold_items-requires g t c κs within =
-    (omega arith, (within.0, (within.1.0, (within.1.1, (c.requires.owned, c.requires.list)))))
+    (omega arith, (within.0, (within.1.0, (within.1.1, (c.requires.owned, (c.requires.list, c.new-items.ensures.items))))))
 
-pub fold_listed-returns-in_err-items : goal.fold_listed-returns-in_err-items
-fold_listed-returns-in_err-items g t c =
+pub fold_listed-returns-in_err-fold_items : goal.fold_listed-returns-in_err-fold_items
+fold_listed-returns-in_err-fold_items g t c =
     let p = err_from_is_err_and c.from_residual.result c.from_residual.ensures.1 in
-    rw (p.1, p.2) (listed_fails c.in_err-items.ensures)
+    rw (p.1, p.2) (listed_fails c.in_err-fold_items.ensures)
 
 pub fold_listed-returns-in_err-new_list : goal.fold_listed-returns-in_err-new_list
 fold_listed-returns-in_err-new_list g t c =
     let p = err_from_is_err_and c.from_residual-in_err-new_list.result c.from_residual-in_err-new_list.ensures.1 in
     let h = rw (c.sort.ensures, c.as_slice.ensures) at c.in_err-new_list.ensures in
-    rw p.1 (listed_not_stored c.in_ok-items.ensures h.err (c.in_err-new_list.field-0.0, (p.2, rw h.err h.cause)))
+    rw p.1 (listed_not_stored c.in_ok-fold_items.ensures h.err (c.in_err-new_list.field-0.0, (p.2, rw h.err h.cause)))
 
 pub fold_listed-returns : goal.fold_listed-returns
 fold_listed-returns g t c =
     let h = rw (c.sort.ensures, c.as_slice.ensures) at c.in_ok-new_list.ensures in
-    let o = c.in_ok-items.ensures.outcome.0 in
-    listed_stored c.in_ok-items.ensures h.extends (g.met.F.Core.still_owned _ _ _ h.extends.rows o)
+    let o = c.in_ok-fold_items.ensures.outcome.0 in
+    listed_stored c.in_ok-fold_items.ensures h.extends (g.met.F.Core.still_owned _ _ _ h.extends.rows o)
     (stands-still g.F.Core.meaning c.fold_items.new.cx c.store_list.new.self c.fold_items.new.folder (g.met.F.Core.still_means _ _ _ h.extends.rows o) h.counters)
     (stored_list _ _ _ h.sort h.in_range) h.sort (stored_list_tree _ _ _ h.sort ∙ h.means)
 
@@ -302,7 +302,7 @@ fold_items-list_len-i-end-requires g t c =
 
 pub fold_items-loop-i-init : goal.fold_items-loop-i-init
 fold_items-loop-i-init g t c =
-    so_far_none (Extends-refl _) c.requires.owned c.new-items.ensures.items
+    so_far_none (Extends-refl _) c.requires.owned c.requires.empty
 
 pub fold_items-list_child-item-requires-clause-owned : goal.fold_items-list_child-item-requires-clause-owned
 fold_items-list_child-item-requires-clause-owned g t c =
