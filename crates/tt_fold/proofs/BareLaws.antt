@@ -1,11 +1,12 @@
 -- The folds of kinds that aren't stored, from those of what stands in them.
 use Rattle.std.proofs.Common.{◌≡◌, ℕ, List, Option, Some, None, Ok, Err, refl}
-use Rattle.tt_kinds.specs.Label.{Sort, RecordLabel, record_label, bare_param_record, bare_bound_record}
+use Rattle.tt_kinds.specs.Label.{Sort, ConstLabel, RecordLabel, record_label, bare_param_record, bare_bound_record}
 use Rattle.tt_kinds.specs.Tree as tree
 use Rattle.tt_kinds.specs.Tree.{Depth, Tree, Forest}
 use Rattle.tt_kinds.specs.Shape as shape
 use Rattle.tt_kinds.specs.Shape.{Shape, Shapes, IsPart, AreParts, IsNamedLabel, append, fill}
-use Rattle.tt_kinds.specs.Kinds.{Form, param, bound, plain, under, form_parts, form_binder, refilled, parts_shapes}
+use Rattle.tt_kinds.specs.Kinds.{Form, param, bound, plain, under, form_parts, form_binder, refilled, parts_shapes, value_form}
+use Rattle.tt_kinds.specs.declared.const_kind.ValueConst.{ValueConst}
 use Rattle.tt_kinds.specs.declared.error_guaranteed.ErrorGuaranteed.{ErrorGuaranteed}
 use Rattle.tt_kinds.specs.declared.parts.Parts.{Parts}
 use Rattle.tt_interner.specs.Rows.{Row, Grows}
@@ -145,3 +146,7 @@ module _ {M E S : Type 0} {owned : List Row → S → Type 0} {means : List Row 
       → Folds owned means (IsPartBy (λ error. token_shape error.0)) (tree_by (λ error. token_shape error.0)) (Walks H) (Fails H unbuilt) terms s error (Ok error) terms s
   unfolding fill IsPart
   token_folds {terms} error o = record { extends = Extends-refl terms; outcome = (o, (refl, tt, tt), at_node done) }
+
+-- a value with its type, as a kind of constants
+abbrev pub value_in : ValueConst → Form ConstLabel
+value_in v = value_form v.ty v.valtree.kind

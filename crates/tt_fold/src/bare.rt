@@ -1,10 +1,13 @@
-//! The folds of kinds that aren't stored, and of tokens of errors by themselves.
+//! The folds of kinds that aren't stored, of what they hold, and of tokens of errors by themselves.
 
 use crate::core_folder::Core;
 use crate::foldable::TypeFoldable;
-use crate::walk::fold_contents;
+use crate::walk::{fold_contents, fold_parts};
 use tt_interner::Interner;
-use tt_kinds::{ConstKind, ErrorGuaranteed, TyKind};
+use tt_kinds::{
+    ConstKind, ErrorGuaranteed, ExprConst, PatternKind, TyKind, UnevaluatedConst, ValTree,
+    ValTreeKind, ValueConst,
+};
 
 impl TypeFoldable for TyKind {
     fn fold_core<M, F: Core<M>>(
@@ -28,6 +31,17 @@ impl TypeFoldable for ConstKind {
     }
 }
 
+impl TypeFoldable for PatternKind {
+    fn fold_core<M, F: Core<M>>(
+        self,
+        cx: &mut Interner,
+        folder: &mut F,
+    ) -> Result<PatternKind, F::Error> {
+        let parts = fold_parts::<M, F>(cx, folder, self.parts())?;
+        Ok(self.with_parts(parts))
+    }
+}
+
 impl TypeFoldable for ErrorGuaranteed {
     fn fold_core<M, F: Core<M>>(
         self,
@@ -35,5 +49,61 @@ impl TypeFoldable for ErrorGuaranteed {
         _folder: &mut F,
     ) -> Result<ErrorGuaranteed, F::Error> {
         Ok(self)
+    }
+}
+
+impl TypeFoldable for UnevaluatedConst {
+    fn fold_core<M, F: Core<M>>(
+        self,
+        cx: &mut Interner,
+        folder: &mut F,
+    ) -> Result<UnevaluatedConst, F::Error> {
+        let args = self.args.fold_core::<M, F>(cx, folder)?;
+        Ok(UnevaluatedConst {
+            def: self.def,
+            args,
+        })
+    }
+}
+
+impl TypeFoldable for ExprConst {
+    fn fold_core<M, F: Core<M>>(
+        self,
+        cx: &mut Interner,
+        folder: &mut F,
+    ) -> Result<ExprConst, F::Error> {
+        let args = self.args.fold_core::<M, F>(cx, folder)?;
+        Ok(ExprConst {
+            tag: self.tag,
+            args,
+        })
+    }
+}
+
+impl TypeFoldable for ValueConst {
+    fn fold_core<M, F: Core<M>>(
+        self,
+        cx: &mut Interner,
+        folder: &mut F,
+    ) -> Result<ValueConst, F::Error> {
+        let kind = ConstKind::Value(self);
+        let parts = fold_contents::<M, F>(cx, folder, kind.bound_vars(), kind.parts())?;
+        Ok(self.with_parts(parts))
+    }
+}
+
+impl TypeFoldable for ValTree {
+    fn fold_core<M, F: Core<M>>(
+        self,
+        cx: &mut Interner,
+        folder: &mut F,
+    ) -> Result<ValTree, F::Error> {
+        match self.kind() {
+            ValTreeKind::Leaf(leaf) => Ok(ValTree::from(ValTreeKind::Leaf(leaf))),
+            ValTreeKind::Branch(values) => {
+                let new_values = values.fold_core::<M, F>(cx, folder)?;
+                Ok(ValTree::from(ValTreeKind::Branch(new_values)))
+            }
+        }
     }
 }

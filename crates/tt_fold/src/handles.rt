@@ -173,24 +173,54 @@ impl TypeFoldable for Region {
     }
 }
 
+impl TypeFoldable for GenericArgKind {
+    fn fold_core<M, F: Core<M>>(
+        self,
+        cx: &mut Interner,
+        folder: &mut F,
+    ) -> Result<GenericArgKind, F::Error> {
+        match self {
+            GenericArgKind::Lifetime(region) => {
+                let new_region = region.fold_core::<M, F>(cx, folder)?;
+                Ok(GenericArgKind::Lifetime(new_region))
+            }
+            GenericArgKind::Type(ty) => {
+                let new_ty = ty.fold_core::<M, F>(cx, folder)?;
+                Ok(GenericArgKind::Type(new_ty))
+            }
+            GenericArgKind::Const(constant) => {
+                let new_constant = constant.fold_core::<M, F>(cx, folder)?;
+                Ok(GenericArgKind::Const(new_constant))
+            }
+        }
+    }
+}
+
 impl TypeFoldable for GenericArg {
     fn fold_core<M, F: Core<M>>(
         self,
         cx: &mut Interner,
         folder: &mut F,
     ) -> Result<GenericArg, F::Error> {
-        match self.kind() {
-            GenericArgKind::Lifetime(region) => {
-                let new_region = region.fold_core::<M, F>(cx, folder)?;
-                Ok(GenericArg::from(new_region))
-            }
-            GenericArgKind::Type(ty) => {
+        let kind = self.kind().fold_core::<M, F>(cx, folder)?;
+        Ok(GenericArg::from(kind))
+    }
+}
+
+impl TypeFoldable for TermKind {
+    fn fold_core<M, F: Core<M>>(
+        self,
+        cx: &mut Interner,
+        folder: &mut F,
+    ) -> Result<TermKind, F::Error> {
+        match self {
+            TermKind::Ty(ty) => {
                 let new_ty = ty.fold_core::<M, F>(cx, folder)?;
-                Ok(GenericArg::from(new_ty))
+                Ok(TermKind::Ty(new_ty))
             }
-            GenericArgKind::Const(constant) => {
+            TermKind::Const(constant) => {
                 let new_constant = constant.fold_core::<M, F>(cx, folder)?;
-                Ok(GenericArg::from(new_constant))
+                Ok(TermKind::Const(new_constant))
             }
         }
     }
@@ -198,15 +228,7 @@ impl TypeFoldable for GenericArg {
 
 impl TypeFoldable for Term {
     fn fold_core<M, F: Core<M>>(self, cx: &mut Interner, folder: &mut F) -> Result<Term, F::Error> {
-        match self.kind() {
-            TermKind::Ty(ty) => {
-                let new_ty = ty.fold_core::<M, F>(cx, folder)?;
-                Ok(Term::from(new_ty))
-            }
-            TermKind::Const(constant) => {
-                let new_constant = constant.fold_core::<M, F>(cx, folder)?;
-                Ok(Term::from(new_constant))
-            }
-        }
+        let kind = self.kind().fold_core::<M, F>(cx, folder)?;
+        Ok(Term::from(kind))
     }
 }

@@ -1,10 +1,11 @@
--- Kinds of types and constants that aren't stored, and tokens of errors by themselves.
+-- Kinds of types, constants and patterns that aren't stored, and tokens of errors by themselves.
 use Rattle.std.specs.Prelude.{ℕ, Option, Some, None}
-use Rattle.tt_kinds.specs.Label.{Sort, type_sort, const_sort, RecordLabel, bare_param_record, bare_bound_record, bare_type_record, bare_const_record, record_label, error_label, error_of_type, error_of_const}
+use Rattle.tt_kinds.specs.Label.{Sort, type_sort, const_sort, RecordLabel, bare_param_record, bare_bound_record, bare_type_record, bare_const_record, bare_pattern_record, record_label, error_label, error_of_type, error_of_const}
 use Rattle.tt_kinds.specs.Tree.{Depth, at, canonical}
 use Rattle.tt_kinds.specs.Shape as shape
 use Rattle.tt_kinds.specs.Shape.{Shape, Shapes, append}
-use Rattle.tt_kinds.specs.Kinds.{Form, param, bound, plain, under, ty_form, const_form, parts_shapes}
+use Rattle.tt_kinds.specs.Kinds.{Form, param, bound, plain, under, ty_form, const_form, pattern_form, RecordForm, labelled, record_shape, parts_shapes}
+use Rattle.tt_kinds.specs.declared.pattern.PatternKind.{PatternKind}
 use Rattle.tt_kinds.specs.declared.ty_kind.TyKind.{TyKind}
 use Rattle.tt_kinds.specs.declared.const_kind.ConstKind.{ConstKind}
 
@@ -38,3 +39,11 @@ bare_ty_shape k = bare_shape type_sort bare_type_record error_of_type (ty_form k
 -- a constant's kind
 abbrev pub bare_const_shape : ConstKind → Shape
 bare_const_shape k = bare_shape const_sort bare_const_record error_of_const (const_form k)
+
+-- a pattern's kind as a record of its parts
+abbrev pub bare_pattern_form : PatternKind → RecordForm
+bare_pattern_form k = labelled (bare_pattern_record (pattern_form k).label) (pattern_form k).parts
+
+-- a pattern's kind
+abbrev pub bare_pattern_shape : PatternKind → Shape
+bare_pattern_shape k = record_shape (bare_pattern_form k)

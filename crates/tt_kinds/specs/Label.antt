@@ -150,6 +150,7 @@ pub data RecordLabel (N : Type 0) : Type 0 where
   bare_bound_record : Sort → Option ℕ → Entry N → RecordLabel N
   bare_type_record : TypeLabel → RecordLabel N
   bare_const_record : ConstLabel → RecordLabel N
+  bare_pattern_record : PatternLabel → RecordLabel N
 
 -- a node's kind, with all its data that are no terms
 pub data Label (N : Type 0) : Type 0 where

@@ -1,11 +1,19 @@
 -- What the calls of a visit promise.
 use Rattle.std.specs.Prelude.{◌≡◌, ℕ, ◌<◌, Option, Some, None, Result, Ok, Err, List, ⊤}
-use Rattle.tt_kinds.specs.Label.{Name, RecordLabel, record_label, pair_record, triple_record, absent_record, present_record, sequence_record, existential_trait_record, existential_projection_record, unsafe_binder_record, Label}
+use Rattle.tt_kinds.specs.Label.{Name, RecordLabel, record_label, pair_record, triple_record, absent_record, present_record, sequence_record, existential_trait_record, existential_projection_record, unsafe_binder_record, bare_const_record, leaf_const, branch_const, Label}
 use Rattle.tt_kinds.specs.Tree.{Depth, Tree, Forest, node, binder}
 use Rattle.tt_kinds.specs.Shape as shape
 use Rattle.tt_kinds.specs.Shape.{Shape, Meaning, Sizes, vars_of, item_shapes}
-use Rattle.tt_kinds.specs.Kinds.{Form, param, bound, plain, under, kind_form, ty_shape, args_shape, term_shape}
+use Rattle.tt_kinds.specs.Kinds.{Form, param, bound, plain, under, kind_form, ty_shape, consts_shape, args_shape, term_shape}
+use Rattle.tt_kinds.specs.Bare.{bare_const_shape}
 use Rattle.tt_kinds.specs.Values.{one_record, two_record}
+use Rattle.tt_kinds.specs.declared.const_kind.ConstKind.TheVariants as const
+use Rattle.tt_kinds.specs.declared.const_kind.UnevaluatedConst.{UnevaluatedConst}
+use Rattle.tt_kinds.specs.declared.const_kind.ExprConst.{ExprConst}
+use Rattle.tt_kinds.specs.declared.const_kind.ValueConst.{ValueConst}
+use Rattle.tt_kinds.specs.declared.const_kind.ValTree.{ValTree}
+use Rattle.tt_kinds.specs.declared.const_kind.ValTreeKind.{ValTreeKind}
+use Rattle.tt_kinds.specs.declared.const_kind.ValTreeKind.TheVariants as valtree
 use Rattle.tt_kinds.specs.declared.existential.ExistentialTraitRef.{ExistentialTraitRef}
 use Rattle.tt_kinds.specs.declared.existential.ExistentialProjection.{ExistentialProjection}
 use Rattle.tt_kinds.specs.declared.ty_kind.UnsafeBinderInner.{UnsafeBinderInner}
@@ -90,3 +98,24 @@ existential_projection_shape p = two_record (existential_projection_record p.def
 -- a type under a binder, as an unsafe binder has it
 abbrev pub unsafe_binder_shape : UnsafeBinderInner → Shape
 unsafe_binder_shape i = shape.binder i.0.bound_vars.number (one_record unsafe_binder_record (ty_shape i.0.value))
+
+-- a constant that isn't computed yet, as a kind that isn't stored
+abbrev pub unevaluated_shape : UnevaluatedConst → Shape
+unevaluated_shape u = bare_const_shape (const.Unevaluated u)
+
+-- an expression over constants, as a kind that isn't stored
+abbrev pub expression_shape : ExprConst → Shape
+expression_shape e = bare_const_shape (const.Expr e)
+
+-- a value with its type, as a kind that isn't stored
+abbrev pub value_shape : ValueConst → Shape
+value_shape v = bare_const_shape (const.Value v)
+
+-- what a value is made of: what its kind says of it, without the type
+abbrev pub valtree_kind_shape : ValTreeKind → Shape
+valtree_kind_shape (valtree.Leaf s) = shape.node (record_label (bare_const_record (leaf_const s.bits s.size))) shape.none
+valtree_kind_shape (valtree.Branch cs) = one_record (bare_const_record branch_const) (consts_shape cs)
+
+-- a value without its type
+abbrev pub valtree_shape : ValTree → Shape
+valtree_shape v = valtree_kind_shape v.kind

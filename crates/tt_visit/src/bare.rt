@@ -1,11 +1,14 @@
-//! The visit of kinds that aren't stored, and of tokens of errors by themselves.
+//! The visit of kinds that aren't stored, of what they hold, and of tokens of errors by themselves.
 
-use crate::stored::visit_kind;
+use crate::stored::{visit_kind, visit_parts};
 use crate::visitable::TypeVisitable;
 use crate::visitor::TypeVisitor;
 use std::ops::ControlFlow;
 use tt_interner::Interner;
-use tt_kinds::{ConstKind, ErrorGuaranteed, Kind, TyKind};
+use tt_kinds::{
+    ConstKind, ErrorGuaranteed, ExprConst, Kind, PatternKind, TyKind, UnevaluatedConst, ValTree,
+    ValTreeKind, ValueConst,
+};
 
 impl TypeVisitable for TyKind {
     ghost use Rattle.tt_kinds.specs.Bare.{bare_ty_shape};
@@ -35,6 +38,21 @@ impl TypeVisitable for ConstKind {
     }
 }
 
+impl TypeVisitable for PatternKind {
+    ghost use Rattle.tt_kinds.specs.Bare.{bare_pattern_shape};
+
+    ghost shape = { bare_pattern_shape };
+
+    #[tactic(auto, unfolding(tt_kinds::specs::Shape::IsPart, tt_kinds::specs::Shape::fill))]
+    fn visit_with<V: TypeVisitor>(
+        &self,
+        cx: &Interner,
+        visitor: &mut V,
+    ) -> ControlFlow<V::Break, ()> {
+        visit_parts(cx, visitor, self.parts())
+    }
+}
+
 impl TypeVisitable for ErrorGuaranteed {
     ghost use Rattle.tt_kinds.specs.Bare.{token_shape};
 
@@ -47,5 +65,67 @@ impl TypeVisitable for ErrorGuaranteed {
         visitor: &mut V,
     ) -> ControlFlow<V::Break, ()> {
         visitor.visit_error(cx, *self)
+    }
+}
+
+impl TypeVisitable for UnevaluatedConst {
+    ghost use Rattle.tt_visit.specs.Steps.{unevaluated_shape};
+
+    ghost shape = { unevaluated_shape };
+
+    #[tactic(auto, unfolding(tt_kinds::specs::Shape::IsPart, tt_kinds::specs::Shape::fill))]
+    fn visit_with<V: TypeVisitor>(
+        &self,
+        cx: &Interner,
+        visitor: &mut V,
+    ) -> ControlFlow<V::Break, ()> {
+        self.args.visit_with(cx, visitor)
+    }
+}
+
+impl TypeVisitable for ExprConst {
+    ghost use Rattle.tt_visit.specs.Steps.{expression_shape};
+
+    ghost shape = { expression_shape };
+
+    #[tactic(auto, unfolding(tt_kinds::specs::Shape::IsPart, tt_kinds::specs::Shape::fill))]
+    fn visit_with<V: TypeVisitor>(
+        &self,
+        cx: &Interner,
+        visitor: &mut V,
+    ) -> ControlFlow<V::Break, ()> {
+        self.args.visit_with(cx, visitor)
+    }
+}
+
+impl TypeVisitable for ValueConst {
+    ghost use Rattle.tt_visit.specs.Steps.{value_shape};
+
+    ghost shape = { value_shape };
+
+    fn visit_with<V: TypeVisitor>(
+        &self,
+        cx: &Interner,
+        visitor: &mut V,
+    ) -> ControlFlow<V::Break, ()> {
+        ConstKind::Value(*self).visit_with(cx, visitor)
+    }
+}
+
+impl TypeVisitable for ValTree {
+    ghost use Rattle.tt_visit.specs.Steps.{valtree_shape};
+
+    ghost shape = { valtree_shape };
+
+    #[tactic(auto, unfolding(tt_kinds::specs::Shape::IsPart, tt_kinds::specs::Shape::fill))]
+    fn visit_with<V: TypeVisitor>(
+        &self,
+        cx: &Interner,
+        visitor: &mut V,
+    ) -> ControlFlow<V::Break, ()> {
+        match &self.kind() {
+            ValTreeKind::Leaf(_) => ControlFlow::Continue(()),
+            ValTreeKind::Branch(values) => values.visit_with(cx, visitor),
+        }
     }
 }

@@ -251,7 +251,7 @@ impl TypeVisitable for Region {
     }
 }
 
-impl TypeVisitable for GenericArg {
+impl TypeVisitable for GenericArgKind {
     ghost use Rattle.tt_kinds.specs.Kinds.{arg_shape};
 
     ghost shape = { arg_shape };
@@ -262,10 +262,43 @@ impl TypeVisitable for GenericArg {
         cx: &Interner,
         visitor: &mut V,
     ) -> ControlFlow<V::Break, ()> {
-        match &self.kind() {
+        match self {
             GenericArgKind::Lifetime(region) => region.visit_with(cx, visitor),
             GenericArgKind::Type(ty) => ty.visit_with(cx, visitor),
             GenericArgKind::Const(constant) => constant.visit_with(cx, visitor),
+        }
+    }
+}
+
+impl TypeVisitable for GenericArg {
+    ghost use Rattle.tt_kinds.specs.Kinds.{arg_shape};
+
+    ghost shape = { arg_shape };
+
+    fn visit_with<V: TypeVisitor>(
+        &self,
+        cx: &Interner,
+        visitor: &mut V,
+    ) -> ControlFlow<V::Break, ()> {
+        let kind = self.kind();
+        kind.visit_with(cx, visitor)
+    }
+}
+
+impl TypeVisitable for TermKind {
+    ghost use Rattle.tt_kinds.specs.Kinds.{term_kind_shape};
+
+    ghost shape = { term_kind_shape };
+
+    #[tactic(auto, unfolding(tt_kinds::specs::Shape::IsPart, tt_kinds::specs::Shape::fill))]
+    fn visit_with<V: TypeVisitor>(
+        &self,
+        cx: &Interner,
+        visitor: &mut V,
+    ) -> ControlFlow<V::Break, ()> {
+        match self {
+            TermKind::Ty(ty) => ty.visit_with(cx, visitor),
+            TermKind::Const(constant) => constant.visit_with(cx, visitor),
         }
     }
 }
@@ -275,15 +308,12 @@ impl TypeVisitable for Term {
 
     ghost shape = { term_shape };
 
-    #[tactic(auto, unfolding(tt_kinds::specs::Shape::IsPart, tt_kinds::specs::Shape::fill))]
     fn visit_with<V: TypeVisitor>(
         &self,
         cx: &Interner,
         visitor: &mut V,
     ) -> ControlFlow<V::Break, ()> {
-        match &self.kind() {
-            TermKind::Ty(ty) => ty.visit_with(cx, visitor),
-            TermKind::Const(constant) => constant.visit_with(cx, visitor),
-        }
+        let kind = self.kind();
+        kind.visit_with(cx, visitor)
     }
 }

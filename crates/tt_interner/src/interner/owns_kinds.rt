@@ -3,7 +3,7 @@
 ghost use Rattle.std.specs.Prelude.{◌<◌, ◌↔◌, IsTrue};
 ghost use Rattle.tt_kinds.specs.Shape.{AreParts, HasParts, IsPart};
 ghost use Rattle.tt_kinds.specs.Parts.{node_table, node_number, list_table, list_number};
-ghost use Rattle.tt_kinds.specs.Bare.{bare_const_shape, bare_ty_shape};
+ghost use Rattle.tt_kinds.specs.Bare.{bare_const_shape, bare_pattern_shape, bare_ty_shape};
 ghost use Rattle.tt_kinds.specs.Kinds.{child_shapes, parts_shapes, kind_form, kind_shape, ty_kind_shape, const_kind_shape, pattern_kind_shape, predicate_kind_shape, existential_kind_shape};
 ghost use Rattle.tt_interner.specs.Rows.{size};
 ghost use Rattle.tt_interner.specs.OwnFlags.{IsNamedForm, IsBinderIn};
@@ -120,9 +120,11 @@ impl Interner {
         self.owns_contents(&Kind::Const(*kind))
     }
 
-    /// Whether all that stands in the kind of a pattern is of this interner.
+    /// Whether all that stands in the kind of a pattern is of this interner: the kind can be stored, and it can be used by itself.
+    #[tactic(auto, unfolding(tt_kinds::specs::Shape::IsPart))]
     pub fn owns_pattern_kind(&self, kind: &PatternKind) -> bool
-        ensures { IsTrue result ↔ HasParts (size self.now.rows) (pattern_kind_shape kind.now) }
+        ensures bare { IsTrue result ↔ IsPart (size self.now.rows) (bare_pattern_shape kind.now) }
+        ensures stored { IsTrue result ↔ HasParts (size self.now.rows) (pattern_kind_shape kind.now) }
     {
         self.owns_contents(&Kind::Pat(*kind))
     }

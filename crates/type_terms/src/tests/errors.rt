@@ -1,9 +1,11 @@
 //! Which token the queries of errors answer, and kinds and tokens that aren't stored.
 
-use super::owned::{NOT_OWNED, Owned, holds_anew, is_instance, param_ty, ref_ty, ty, u32_ty};
+use super::owned::{
+    NOT_OWNED, Owned, args, holds_anew, is_instance, param_ty, ref_ty, ty, u32_ty,
+};
 use crate::{
     ConstKind, ErrorGuaranteed, GenericArg, Interner, ParamTy, Refusal, Region, RegionKind, Ty,
-    TyKind, TypeFlags, TypeVisitableExt,
+    TyKind, TypeFlags, TypeVisitableExt, UnevaluatedConst, UnevaluatedConstId,
 };
 
 impl Owned for TyKind {
@@ -15,6 +17,12 @@ impl Owned for TyKind {
 impl Owned for ConstKind {
     fn is_owned(&self, cx: &Interner) -> bool {
         cx.owns_const_kind(self)
+    }
+}
+
+impl Owned for UnevaluatedConst {
+    fn is_owned(&self, cx: &Interner) -> bool {
+        cx.owns_const_kind(&ConstKind::Unevaluated(*self))
     }
 }
 
@@ -105,4 +113,26 @@ fn instances_of_bare_kinds_holds(cx: &mut Interner) -> Result<bool, Refusal> {
 #[test]
 fn instances_of_bare_kinds(rt: HostRuntime) {
     holds_anew(&rt, rt.alloc(), instances_of_bare_kinds_holds);
+}
+
+// The constant that isn't computed yet of one type.
+fn unevaluated(cx: &mut Interner, argument: Ty) -> Result<UnevaluatedConst, Refusal> {
+    let args = args(cx, &[GenericArg::from(argument)])?;
+    Ok(UnevaluatedConst::new(UnevaluatedConstId::from_number(0), args))
+}
+
+// A constant that isn't stored has no flag of its own, and its arguments are replaced.
+fn instances_of_unevaluated_consts_holds(cx: &mut Interner) -> Result<bool, Refusal> {
+    let parameter = param_ty(cx, 0)?;
+    let number = u32_ty(cx)?;
+    let generic = unevaluated(cx, parameter)?;
+    let used = unevaluated(cx, number)?;
+    let replaced = is_instance(cx, generic, &[GenericArg::from(number)], used);
+    let flagged = has_flags(cx, &generic, TypeFlags::HAS_TY_PARAM);
+    Ok(replaced && flagged && !has_flags(cx, &generic, TypeFlags::HAS_CT_PROJECTION))
+}
+
+#[test]
+fn instances_of_unevaluated_consts(rt: HostRuntime) {
+    holds_anew(&rt, rt.alloc(), instances_of_unevaluated_consts_holds);
 }

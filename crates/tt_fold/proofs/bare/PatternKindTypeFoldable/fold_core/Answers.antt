@@ -1,0 +1,25 @@
+use Rattle.std.proofs.Common.{refl}
+use Rattle.std.proofs.lemmas.Result.{err_from_is_err_and}
+use Rattle.tt_kinds.specs.Bare.{bare_pattern_form}
+use Rattle.tt_fold.proofs.RecordSteps.{record-parts, parts_fail, parts_fold}
+use Rattle.tt_fold.proofs.bare.PatternKindTypeFoldable.fold_core.Goals as goal
+
+pub fold_parts-requires-clause-parts : goal.fold_parts-requires-clause-parts
+fold_parts-requires-clause-parts g c =
+    rw c.parts.ensures (record-parts _ (bare_pattern_form c.args.self) c.requires.value)
+
+pub returns-in_err-parts : goal.returns-in_err-parts
+returns-in_err-parts g c =
+    let p = err_from_is_err_and c.from_residual.result c.from_residual.ensures.1 in
+    let d = rw c.parts.ensures at c.in_err-parts.ensures in
+    rw (p.1, p.2) (parts_fail bare_pattern_form d)
+
+pub with_parts-requires : goal.with_parts-requires
+with_parts-requires g c =
+    let d = rw c.parts.ensures at c.in_ok-parts.ensures in
+    d.outcome.1.like
+
+pub returns : goal.returns
+returns g c =
+    let d = rw c.parts.ensures at c.in_ok-parts.ensures in
+    parts_fold bare_pattern_form c.requires.value (rw c.with_parts.ensures refl) d

@@ -1,0 +1,20 @@
+use Rattle.std.proofs.Common.{refl}
+use Rattle.std.proofs.lemmas.Result.{err_from_is_err_and}
+use Rattle.tt_kinds.specs.Label.{bare_const_record, unevaluated_const}
+use Rattle.tt_kinds.specs.Kinds.{args_shape}
+use Rattle.tt_visit.specs.Steps.{unevaluated_shape}
+use Rattle.tt_fold.proofs.RecordSteps.{one-inner, one_fails, one_folds}
+use Rattle.tt_fold.proofs.bare.UnevaluatedConstTypeFoldable.fold_core.Goals as goal
+
+pub fold_core-requires-clause-value : goal.fold_core-requires-clause-value
+fold_core-requires-clause-value g c =
+    one-inner _ (bare_const_record (unevaluated_const c.args.self.def.number)) (args_shape (c.args.self.args)) c.requires.value
+
+pub returns-in_err-args : goal.returns-in_err-args
+returns-in_err-args g c =
+    let p = err_from_is_err_and c.from_residual.result c.from_residual.ensures.1 in
+    rw (p.1, p.2) (one_fails unevaluated_shape args_shape (bare_const_record (unevaluated_const c.args.self.def.number)) c.args.self (c.args.self.args) refl c.in_err-args.ensures)
+
+pub returns : goal.returns
+returns g c =
+    one_folds unevaluated_shape args_shape (bare_const_record (unevaluated_const c.args.self.def.number)) (record { same = λ f g. refl; named = λ size. tt }) c.args.self _ (c.args.self.args) c.in_ok-args.args refl refl c.in_ok-args.ensures

@@ -1,0 +1,24 @@
+use Rattle.std.proofs.lemmas.Result.{err_from_is_err_and}
+use Rattle.tt_kinds.specs.Label.{const_sort, bare_const_record, error_of_const}
+use Rattle.tt_fold.proofs.BareLaws.{value_in, bare-parts, bare_fails, bare_folds}
+use Rattle.tt_fold.proofs.bare.ValueConstTypeFoldable.fold_core.Goals as goal
+
+pub fold_contents-requires-clause-parts : goal.fold_contents-requires-clause-parts
+fold_contents-requires-clause-parts g c =
+    rw c.parts.ensures (bare-parts const_sort bare_const_record error_of_const _ (value_in c.args.self) c.requires.value)
+
+pub returns-in_err-parts : goal.returns-in_err-parts
+returns-in_err-parts g c =
+    let p = err_from_is_err_and c.from_residual.result c.from_residual.ensures.1 in
+    let d = rw (c.parts.ensures, c.bound_vars.ensures) at c.in_err-parts.ensures in
+    rw (p.1, p.2) (bare_fails const_sort bare_const_record error_of_const value_in d)
+
+pub with_parts-requires : goal.with_parts-requires
+with_parts-requires g c =
+    let d = rw (c.parts.ensures, c.bound_vars.ensures) at c.in_ok-parts.ensures in
+    d.outcome.1.like
+
+pub returns : goal.returns
+returns g c =
+    let d = rw (c.parts.ensures, c.bound_vars.ensures) at c.in_ok-parts.ensures in
+    bare_folds const_sort bare_const_record error_of_const value_in c.requires.value c.with_parts.ensures d

@@ -1,0 +1,10 @@
+use Rattle.std.proofs.Common.{refl}
+use Rattle.tt_kinds.specs.Shape.{fill, fill_all}
+use Rattle.tt_visit.specs.Visit.{node_seen, node_broke}
+use Rattle.tt_visit.proofs.VisitSteps.{flow-weaker}
+use Rattle.tt_visit.proofs.bare.PatternKindTypeVisitable.visit_with.Goals as goal
+
+pub returns : goal.returns
+unfolding fill fill_all
+returns g c =
+    flow-weaker c.visit_parts.result (rw c.parts.ensures at c.visit_parts.ensures) (λ _ h. node_seen refl h) (λ b h. node_broke refl h)
