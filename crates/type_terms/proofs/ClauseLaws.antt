@@ -12,9 +12,8 @@ use Rattle.tt_interner.specs.Rows.{Row, IsClause, AreClauses}
 use Rattle.tt_interner.specs.Stored.{Terms}
 use Rattle.type_terms.specs.CallForm.{of_table, of_clause, one, a_term, a_clause, clause_items, AreItemsTooDeep}
 use Rattle.type_terms.specs.Told.{Told}
-use Rattle.type_terms.specs.Means.{Term, term_at, tree_of, AreTerms, Suits}
+use Rattle.type_terms.specs.Means.{Term, term_at, tree_of, Suits}
 use Rattle.type_terms.specs.Build.{AreClausesAt, IsPartOf, IsUnbuilt, no_term}
-use Rattle.type_terms.specs.Build as build
 use Rattle.type_terms.proofs.PartLaws.{items-none, items-more, IsUnbuilt-weaker}
 
 suits : (e : List Told) (o : Option Term) → IsSomeAnd o (Suits e (of_table Predicates)) → IsTrue (is_clause_tree (tree_of o)) → IsSomeAnd o (Suits e of_clause)

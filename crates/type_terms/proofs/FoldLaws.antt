@@ -11,7 +11,7 @@ use Rattle.tt_kinds.specs.Tree.{Tree, Depth, Place}
 use Rattle.tt_kinds.specs.Argument.{Argument, put, readings}
 use Rattle.tt_kinds.specs.Reading.{read, move}
 use Rattle.tt_fold.specs.Shift.{IsShiftRefusal}
-use Rattle.tt_kinds.specs.Shape.{stored, fill, IsPart, item_shapes}
+use Rattle.tt_kinds.specs.Shape.{stored}
 use Rattle.tt_kinds.specs.Kinds.{arg_shape}
 use Rattle.tt_kinds.specs.declared.handle.Ty.{Ty}
 use Rattle.tt_kinds.specs.declared.handle.Const.{Const}
@@ -23,7 +23,6 @@ use Rattle.tt_kinds.specs.declared.table.Table.TheVariants.{Types, Consts}
 use Rattle.tt_interner.specs.Rows.{Row, row_table}
 use Rattle.tt_interner.specs.Stored.{Terms, Extends}
 use Rattle.tt_binder.specs.Arguments.{argument_of}
-use Rattle.tt_binder.specs.Arguments.{arguments as built_arguments}
 use Rattle.tt_binder.specs.ArgumentLaws.{arguments-still}
 use Rattle.tt_binder.specs.Instance.{HasNoCause, IsPlain, IsReason}
 use Rattle.type_terms.specs.declared.run.answer.Answer.{Answer}

@@ -21,9 +21,9 @@ use Rattle.tt_interner.specs.Stored.{Terms, Extends}
 use Rattle.tt_interner.proofs.Growth.{meaning-grows}
 use Rattle.type_terms.specs.declared.run.answer.Answer.{Answer}
 use Rattle.type_terms.specs.declared.run.answer.Answer.TheVariants as answer
-use Rattle.type_terms.specs.CallForm.{Named, of_table, one, a_term}
-use Rattle.type_terms.specs.Told.{Told, told, told_all, IsOwned, AreOwned}
-use Rattle.type_terms.specs.Means.{Term, as_term, term_at, tree_at, tree_of, AreTerms, Suits}
+use Rattle.type_terms.specs.CallForm.{of_table, one, a_term}
+use Rattle.type_terms.specs.Told.{told, told_all, IsOwned, AreOwned}
+use Rattle.type_terms.specs.Means.{Term, as_term, term_at, Suits}
 use Rattle.type_terms.specs.Build.{IsAnswerAt, IsHandle, IsOther, IsUnbuilt, no_term, IsPartOf}
 
 pub term_at-told : (rows : List Row) (earlier : List Answer) (p : ℕ) → (p ≡ 0 → ⊥)

@@ -1,6 +1,6 @@
 -- What stands in the places of items and children, over plain variables.
 use Rattle.std.proofs.Common.{◌≡◌, ℕ, zero, suc, List, [], ◌∷◌, ◌++◌, map, Result, Ok, Err, Some, refl, ap, subst, sym, ◌∙◌, inl, inr}
-use Rattle.std.specs.Prelude.{IsErrAnd, IfErr, slice_get, ◌⊎◌, IsSomeAnd}
+use Rattle.std.specs.Prelude.{IsErrAnd, slice_get}
 use Rattle.std.specs.Option.{option_map}
 use Rattle.std.proofs.lemmas.Option.{slice_get-map}
 use Rattle.std.proofs.lemmas.List.{map-append}
@@ -8,8 +8,7 @@ use Rattle.std.specs.declared.alloc.Global.{Global}
 use Rattle.std.specs.declared.vec.Vec.{Vec}
 use Rattle.tt_index.specs.declared.refusal.Refusal.{Refusal}
 use Rattle.tt_kinds.specs.Tree.{Tree, Depth, Forest}
-use Rattle.tt_kinds.specs.Tree as tree
-use Rattle.tt_kinds.specs.Label.{Name, Label, VarKind, RecordLabel, record_label, type_label, dynamic_type}
+use Rattle.tt_kinds.specs.Label.{Name, Label, RecordLabel, record_label, type_label, dynamic_type}
 use Rattle.tt_kinds.specs.Shape as shape
 use Rattle.tt_kinds.specs.Shape.{Shape, Shapes, Sizes, fill, fill_all, name_of, vars_of, rename_label, rename_record, IsNamedLabel, IsNamedRecord, IsPart, AreParts, item_shapes}
 use Rattle.tt_kinds.specs.Kinds.{RecordForm, region_shape, child_shapes, term_kind_shape, term_shape}
@@ -19,14 +18,14 @@ use Rattle.tt_kinds.specs.declared.term.TermKind.{TermKind}
 use Rattle.tt_kinds.specs.declared.term.TermKind.TheVariants as term
 use Rattle.tt_kinds.specs.declared.region_kind.RegionKind.{RegionKind}
 use Rattle.tt_kinds.specs.declared.handle.BoundVarKinds.{BoundVarKinds}
-use Rattle.tt_interner.specs.Rows.{Row, size, meaning}
+use Rattle.tt_interner.specs.Rows.{size, meaning}
 use Rattle.tt_interner.specs.Stored.{Terms, Extends}
 use Rattle.tt_interner.proofs.Growth.{IsPart-grows, AreParts-grows, fill-grows, fill_all-grows}
 use Rattle.type_terms.specs.declared.run.call.RegionCall.{RegionCall}
 use Rattle.type_terms.specs.declared.run.call.VariableCall.{VariableCall}
-use Rattle.type_terms.specs.CallForm.{ExistentialForm, trait_object, existentials_tree, existential_positions, IsExistentialTooDeep, all_trees, all_positions, AnyIsDeep, Named, Item, Part, one, a_region, CallForm, plain, under, variable_kind, region_tree, IsRegionTooDeep, item_tree, items_trees, part_tree, parts_trees, item_positions, items_positions, part_positions, parts_positions, IsItemTooDeep, AreItemsTooDeep, IsPartTooDeep, ArePartsTooDeep, form_positions, IsFormTooDeep, RecordCall, record_tree}
+use Rattle.type_terms.specs.CallForm.{ExistentialForm, trait_object, existentials_tree, existential_positions, IsExistentialTooDeep, all_trees, all_positions, AnyIsDeep, Named, Item, Part, one, a_region, CallForm, plain, under, variable_kind, region_tree, IsRegionTooDeep, item_tree, item_positions, items_positions, part_positions, parts_positions, IsItemTooDeep, AreItemsTooDeep, IsPartTooDeep, ArePartsTooDeep, form_positions, IsFormTooDeep, RecordCall, record_tree}
 use Rattle.type_terms.specs.Told.{Told, HasFullTable}
-use Rattle.type_terms.specs.Means.{tree_at, AreTerms, Suits}
+use Rattle.type_terms.specs.Means.{tree_at, AreTerms}
 use Rattle.type_terms.specs.Build as build
 use Rattle.type_terms.specs.Build.{IsUnbuilt, IsPlaced, ArePlaced, IsItemOf, AreItemsOf, IsPartOf, ArePartsOf, GivesPart, GivesParts, GivesPlaced, GivesItems, IsRegionOf, GivesRegion, IsVariableListOf, IsKindOf, GivesKind, GivesRecord}
 

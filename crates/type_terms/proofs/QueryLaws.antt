@@ -1,19 +1,16 @@
 -- The calls that ask about terms, over plain variables.
-use Rattle.std.proofs.Common.{◌≡◌, ◌↔◌, ℕ, ◌<◌, List, [], ◌∷◌, Bool, Option, Some, None, refl, ap, sym, ◌∙◌, subst}
-use Rattle.std.specs.Prelude.{IsTrue, IsSome, IsSomeAnd, MatchResult, Result, Ok, Err, ◌≢◌}
+use Rattle.std.proofs.Common.{◌≡◌, ◌↔◌, ℕ, ◌<◌, List, Bool, Option, Some, None, refl, ap, sym, ◌∙◌, subst}
+use Rattle.std.specs.Prelude.{IsSome, IsSomeAnd, MatchResult, Result, Ok, Err, ◌≢◌}
 use Rattle.std.proofs.Math.Dec.{eqb}
 use Rattle.std.proofs.lemmas.Bool.{eqb-true, eq-eqb}
 use Rattle.tt_index.specs.declared.refusal.Refusal.{Refusal}
 use Rattle.tt_index.specs.declared.refusal.Refusal.TheVariants.{NoSuchAnswer}
 use Rattle.tt_kinds.specs.Tree.{Tree, Depth}
-use Rattle.tt_kinds.specs.Scan.{scan}
-use Rattle.tt_kinds.specs.Reading.{outer_binder}
 use Rattle.tt_kinds.specs.declared.handle.Ty.{Ty}
 use Rattle.tt_kinds.specs.declared.handle.Const.{Const}
 use Rattle.tt_kinds.specs.declared.handle.Pat.{Pat}
 use Rattle.tt_kinds.specs.declared.handle.Predicate.{Predicate}
 use Rattle.tt_kinds.specs.declared.handle.Clauses.{Clauses}
-use Rattle.tt_kinds.specs.declared.handle.GenericArgs.{GenericArgs}
 use Rattle.tt_kinds.specs.declared.table.Table.{Table}
 use Rattle.tt_kinds.specs.declared.table.Table.TheVariants.{Types, Consts, Patterns, Predicates, ClauseLists, ArgLists}
 use Rattle.tt_interner.specs.Rows.{Row, size, meaning}
@@ -22,8 +19,8 @@ use Rattle.type_terms.specs.declared.run.answer.Answer.{Answer}
 use Rattle.type_terms.specs.declared.run.answer.Answer.TheVariants as answer
 use Rattle.type_terms.specs.declared.run.call.Call.{Call}
 use Rattle.type_terms.specs.declared.run.call.Call.TheVariants as call
-use Rattle.type_terms.specs.CallForm.{as_at, of_any, with_flags}
-use Rattle.type_terms.specs.Told.{told, told_all, truth, info, term, handle_table, handle_number, IsOwned, AreOwned, HasFullTable}
+use Rattle.type_terms.specs.CallForm.{as_at}
+use Rattle.type_terms.specs.Told.{told, told_all, truth, term, handle_table, handle_number, IsOwned, AreOwned, HasFullTable}
 use Rattle.type_terms.specs.Means.{Term, as_term, term_at, tree_of, table_of, table_at, Suits, IsAllowed, MayRefuse, no_term}
 use Rattle.type_terms.specs.Build.{IsAnswerAt, AreAlike, IsInfoOf, Answers}
 

@@ -2,9 +2,9 @@
 
 use crate::{
     AdtId, Answer, ArgCall, BoundVar, BoundVarIndexKind, Call, ClauseCall, ConstCall,
-    DebruijnIndex, DefId, GREATEST_INDEX, InferConst, Interner, ItemCall, Mutability, PatCall,
-    PredicateCall, PredicateKindCall, Refusal, RegionCall, RegionNameCall, ScalarInt, TermCall,
-    TyCall, UniverseIndex, ValTreeCall, run_calls,
+    DebruijnIndex, DefId, ExistentialCall, ExistentialKindCall, GREATEST_INDEX, InferConst,
+    Interner, ItemCall, Mutability, PatCall, PredicateCall, PredicateKindCall, Refusal, RegionCall,
+    RegionNameCall, ScalarInt, TermCall, TraitId, TyCall, UniverseIndex, ValTreeCall, run_calls,
 };
 use std::alloc::{AllocError, Global};
 use std::test::Fail;
@@ -215,5 +215,50 @@ fn regions(rt: HostRuntime) -> Result<(), Fail> {
     }
     let words = words(rt.alloc(), calls.as_slice())?;
     assert_eq!(rt; words.as_str(), "type type type no deep ");
+    Ok(())
+}
+
+// The trait object of this alone.
+fn trait_object(alloc: Global, kind: ExistentialKindCall) -> Result<Call, AllocError> {
+    let mut existentials = Vec::new(alloc);
+    existentials.push(ExistentialCall {
+        kind,
+        vars: Vec::new(alloc),
+    })?;
+    Ok(Call::Ty(TyCall::Dynamic(existentials, RegionCall::ReStatic)))
+}
+
+// A trait object of which an associated item is the type at the position.
+fn with_item(alloc: Global, position: u32) -> Result<Call, AllocError> {
+    let item = DefId::from_number(0);
+    let term = TermCall::Ty(position);
+    trait_object(
+        alloc,
+        ExistentialKindCall::Projection(item, Vec::new(alloc), term),
+    )
+}
+
+// A call of this number of a list.
+fn object_call(alloc: Global, number: u32) -> Result<Call, AllocError> {
+    match number {
+        1 => Ok(Call::Ty(TyCall::Bool)),
+        2 => trait_object(
+            alloc,
+            ExistentialKindCall::AutoTrait(TraitId::from_number(0)),
+        ),
+        3 => with_item(alloc, 1),
+        4 => with_item(alloc, 9),
+        _ => Ok(Call::Equal(2, 3)),
+    }
+}
+
+#[test]
+fn trait_objects(rt: HostRuntime) -> Result<(), Fail> {
+    let mut calls = Vec::new(rt.alloc());
+    for number in 1..6 {
+        calls.push(object_call(rt.alloc(), number)?)?;
+    }
+    let words = words(rt.alloc(), calls.as_slice())?;
+    assert_eq!(rt; words.as_str(), "type type type none no ");
     Ok(())
 }

@@ -1,8 +1,6 @@
 //! Which token the queries of errors answer, and kinds and tokens that aren't stored.
 
-use super::owned::{
-    NOT_OWNED, Owned, args, holds_anew, is_instance, param_ty, ref_ty, ty, u32_ty,
-};
+use super::owned::{NOT_OWNED, Owned, args, holds_anew, is_instance, param_ty, ref_ty, ty, u32_ty};
 use crate::{
     ConstKind, ErrorGuaranteed, GenericArg, Interner, ParamTy, Refusal, Region, RegionKind, Ty,
     TyKind, TypeFlags, TypeVisitableExt, UnevaluatedConst, UnevaluatedConstId,

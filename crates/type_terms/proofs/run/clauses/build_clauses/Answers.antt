@@ -8,7 +8,7 @@ use Rattle.type_terms.specs.declared.run.call.Call.TheVariants as call
 use Rattle.type_terms.specs.CallForm.{clause_items, items_positions, AreItemsTooDeep}
 use Rattle.type_terms.specs.Told.{told_all, HasFullTable}
 use Rattle.type_terms.specs.Build.{AreClausesAt, IsUnbuilt}
-use Rattle.type_terms.proofs.BuildLaws.{answer-passed, unbuilt-refused, unstored, Builds-extends}
+use Rattle.type_terms.proofs.BuildLaws.{answer-passed, unbuilt-refused, unstored}
 use Rattle.type_terms.proofs.ClauseLaws.{clauses-shallow}
 use Rattle.type_terms.proofs.run.clauses.build_clauses.Goals as goal
 

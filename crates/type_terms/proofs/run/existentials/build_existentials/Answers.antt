@@ -1,4 +1,4 @@
-use Rattle.std.proofs.Common.{◌<◌, ◌≤◌, ◌++◌, ◌∷◌, [], length, map, refl, arith, subst, sym}
+use Rattle.std.proofs.Common.{◌<◌, ◌≤◌, ◌∷◌, [], length, map, refl, arith, subst}
 use Rattle.std.specs.Prelude.{List}
 use Rattle.std.proofs.lemmas.List.{take_more, take_all, map-append}
 use Rattle.std.proofs.lemmas.Option.{slice_get_read}
@@ -8,7 +8,7 @@ use Rattle.tt_kinds.specs.declared.table.Table.TheVariants.{ExistentialLists}
 use Rattle.tt_interner.specs.Rows.{existentials_row}
 use Rattle.tt_interner.proofs.Growth.{Extends-refl, Extends-trans}
 use Rattle.type_terms.specs.declared.run.call.ExistentialCall.{ExistentialCall}
-use Rattle.type_terms.specs.CallForm.{ExistentialForm, existential_form, existential_tree, existentials_tree, existential_positions, IsExistentialTooDeep, all_trees, all_positions, AnyIsDeep}
+use Rattle.type_terms.specs.CallForm.{existential_form, existential_tree, existentials_tree, existential_positions, IsExistentialTooDeep, all_trees, all_positions, AnyIsDeep}
 use Rattle.type_terms.specs.Told.{told_all, HasFullTable}
 use Rattle.type_terms.specs.Means.{tree_at}
 use Rattle.type_terms.specs.Build.{ArePlaced}

@@ -1,4 +1,4 @@
-use Rattle.std.proofs.Common.{[], refl, subst, sym}
+use Rattle.std.proofs.Common.{refl, subst, sym}
 use Rattle.std.specs.Prelude.{List}
 use Rattle.tt_kinds.specs.declared.table.Table.TheVariants.{Types, Consts, Patterns, Predicates, ClauseLists, ArgLists}
 use Rattle.tt_interner.proofs.Growth.{Extends-trans, in_range-grows}
@@ -6,7 +6,6 @@ use Rattle.type_terms.specs.declared.run.call.ArgCall.{ArgCall}
 use Rattle.type_terms.specs.declared.run.call.Call.TheVariants as call
 use Rattle.type_terms.specs.CallForm.{items_positions, AreItemsTooDeep, arg_items}
 use Rattle.type_terms.specs.Told.{told_all, HasFullTable}
-use Rattle.type_terms.specs.Means as means
 use Rattle.type_terms.specs.Means.{any}
 use Rattle.type_terms.specs.Build.{AreArgumentsOf, IsUnbuilt}
 use Rattle.type_terms.proofs.BuildLaws.{answer-passed, unbuilt-refused}

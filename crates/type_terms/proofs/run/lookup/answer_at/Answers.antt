@@ -1,4 +1,4 @@
-use Rattle.std.proofs.Common.{◌-◌, ◌≤◌, Some, None, length, refl, arith}
+use Rattle.std.proofs.Common.{◌-◌, ◌≤◌, length, refl, arith}
 use Rattle.std.proofs.lemmas.Option.{slice_get_read, slice_get_past}
 use Rattle.std.proofs.lemmas.Grind.{common_steps}
 use Rattle.type_terms.proofs.LookupLaws.{found, absent}

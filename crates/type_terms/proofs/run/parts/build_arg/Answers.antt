@@ -1,7 +1,5 @@
-use Rattle.std.proofs.Common.{[], ◌∷◌}
 use Rattle.type_terms.specs.declared.run.call.ArgCall.TheVariants as arg
 use Rattle.type_terms.specs.Told.{told_all, HasFullTable}
-use Rattle.type_terms.specs.CallForm.{IsRegionTooDeep}
 use Rattle.type_terms.proofs.PartLaws.{region-unbuilt}
 use Rattle.type_terms.proofs.FoldLaws.{type-argument, const-argument, region-argument, argument-passed}
 use Rattle.type_terms.proofs.run.parts.build_arg.Goals as goal

@@ -1,13 +1,13 @@
 use Rattle.std.proofs.Common.{[], ◌∷◌, refl}
-use Rattle.tt_kinds.specs.Label.{trait_record, const_has_type_record, well_formed_record, const_evaluatable_record, dyn_compatible_record, subtype_record, coerce_record, const_equate_record, ambiguous_record, normalizes_to_record, alias_relate_record}
+use Rattle.tt_kinds.specs.Label.{dyn_compatible_record, subtype_record, coerce_record, const_equate_record, ambiguous_record, normalizes_to_record, alias_relate_record}
 use Rattle.tt_kinds.specs.Shape as shape
 use Rattle.tt_kinds.specs.Shape.{append}
 use Rattle.tt_kinds.specs.Parts.{term_child}
-use Rattle.tt_kinds.specs.Kinds.{predicate_form, ty_shape, const_shape, args_shape, term_shape, child_shapes}
+use Rattle.tt_kinds.specs.Kinds.{predicate_form, ty_shape, const_shape, args_shape, child_shapes}
 use Rattle.tt_kinds.specs.declared.table.Table.TheVariants.{Types, Consts}
 use Rattle.type_terms.specs.CallForm.{labelled, one, a_term, args_part, term_part}
-use Rattle.type_terms.specs.Told.{told_all, HasFullTable}
-use Rattle.type_terms.proofs.PartLaws.{record-passed, record-placed, parts-none, parts-one, unbuilt-first, term-child}
+use Rattle.type_terms.specs.Told.{told_all}
+use Rattle.type_terms.proofs.PartLaws.{record-passed, record-placed, parts-none}
 use Rattle.type_terms.proofs.run.predicates.predicate_kind.Goals as goal
 
 pub returns-in-DynCompatible-clause-kind : goal.returns-in-DynCompatible-clause-kind

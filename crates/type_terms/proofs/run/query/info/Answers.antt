@@ -1,4 +1,3 @@
-use Rattle.std.proofs.Common.{refl}
 use Rattle.tt_kinds.specs.Shape.{IsPart, fill}
 use Rattle.type_terms.proofs.run.query.info.Goals as goal
 
