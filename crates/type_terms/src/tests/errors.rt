@@ -1,9 +1,17 @@
 //! Which token the queries of errors answer, and kinds and tokens that aren't stored.
 
+<<<<<<< ours
 use super::owned::{NOT_OWNED, Owned, args, holds_anew, is_instance, param_ty, ref_ty, ty, u32_ty};
+=======
+use super::kinds::constant;
+use super::owned::{
+    NOT_OWNED, Owned, args, holds_anew, is_instance, param_ty, ref_ty, ty, u32_ty,
+};
+>>>>>>> theirs
 use crate::{
-    ConstKind, ErrorGuaranteed, GenericArg, Interner, ParamTy, Refusal, Region, RegionKind, Ty,
-    TyKind, TypeFlags, TypeVisitableExt, UnevaluatedConst, UnevaluatedConstId,
+    ConstKind, ErrorGuaranteed, GenericArg, Interner, ParamConst, ParamTy, PatternKind, Refusal,
+    Region, RegionKind, Ty, TyKind, TypeFlags, TypeVisitableExt, UnevaluatedConst,
+    UnevaluatedConstId,
 };
 
 impl Owned for TyKind {
@@ -21,6 +29,12 @@ impl Owned for ConstKind {
 impl Owned for UnevaluatedConst {
     fn is_owned(&self, cx: &Interner) -> bool {
         cx.owns_const_kind(&ConstKind::Unevaluated(*self))
+    }
+}
+
+impl Owned for PatternKind {
+    fn is_owned(&self, cx: &Interner) -> bool {
+        cx.owns_pattern_kind(self)
     }
 }
 
@@ -133,4 +147,27 @@ fn instances_of_unevaluated_consts_holds(cx: &mut Interner) -> Result<bool, Refu
 #[test]
 fn instances_of_unevaluated_consts(rt: HostRuntime) {
     holds_anew(&rt, rt.alloc(), instances_of_unevaluated_consts_holds);
+}
+
+// Both ends of a range that isn't stored are met.
+fn instances_of_bare_patterns_holds(cx: &mut Interner) -> Result<bool, Refusal> {
+    let name = cx.symbol("N")?;
+    let parameter = constant(cx, ConstKind::Param(ParamConst { index: 0, name }))?;
+    let error = constant(cx, ConstKind::Error(ErrorGuaranteed(3)))?;
+    let given = [GenericArg::from(error)];
+    let used = PatternKind::Range {
+        start: error,
+        end: error,
+    };
+    let generic = PatternKind::Range {
+        start: error,
+        end: parameter,
+    };
+    let flagged = has_flags(cx, &generic, TypeFlags::HAS_CT_PARAM);
+    Ok(is_instance(cx, generic, &given, used) && flagged)
+}
+
+#[test]
+fn instances_of_bare_patterns(rt: HostRuntime) {
+    holds_anew(&rt, rt.alloc(), instances_of_bare_patterns_holds);
 }
