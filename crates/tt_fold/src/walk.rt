@@ -2,7 +2,8 @@
 //!
 //! It goes over the parts of kinds, so that it has no line for any kind.
 
-ghost use Rattle.std.specs.Prelude.{◌≡◌, ◌↔◌, ◌++◌, ◌∷◌, [], IfOk, IfErr, IsTrue, OnOk, OnErr, Some, false};
+ghost use Rattle.std.specs.Prelude.{◌≡◌, ◌↔◌, [], IfErr, IsTrue, OnOk, OnErr, Some, false};
+ghost use Rattle.smallvec.specs.SmallVec.{HasRoomFor};
 ghost use Rattle.tt_index.specs.declared.refusal.Refusal.TheVariants.{Memory, NotAClause};
 ghost use Rattle.tt_kinds.specs.Kinds.{child_shapes, clauses_shape, list_shape, node_shape, parts_shapes};
 ghost use Rattle.tt_kinds.specs.Parts.{child_sort, IsItem, list_sort, node_table};
@@ -288,11 +289,13 @@ fn fold_items<M, F: Core<M>>(
     requires empty { items.old.items ≡ [] }
     ensures { FoldsItems (λ _. items.new.items) F.owned F.meaning F.hooks (IsErrorOfUnbuilt F.Error.from_gives cx.new) cx.old folder.old list result cx.new folder.new }
 {
-    for i in 0..cx.list_len(list) {
+    let count = cx.list_len(list);
+    reserve(items, count)?;
+    for i in 0..count {
         let item = cx.list_child(list, i);
         let folded = fold_child::<M, F>(cx, folder, item)?;
         check_item(cx, list.sort(), &folded)?;
-        push(items, folded)?;
+        items.push_reserved(folded);
     }
     Ok(())
 }
@@ -332,11 +335,12 @@ fn check_clause(cx: &Interner, item: &Child) -> Result<(), Refusal>
 // The items of a list that is walked. Short lists need no allocation.
 type Items = SmallVec<Child, 8>;
 
-// Adds an item to a list.
-fn push(items: &mut Items, item: Child) -> Result<(), Refusal>
-    ensures ok { IfOk result (λ _. items.new.items ≡ items.old.items ++ item ∷ []) }
+// Makes room for so many more items.
+fn reserve(items: &mut Items, count: usize) -> Result<(), Refusal>
+    ensures kept { items.new.items ≡ items.old.items }
+    ensures room { OnOk result (HasRoomFor items.new count) }
     ensures memory { IfErr result (λ e. e ≡ Memory) }
 {
-    items.push(item)?;
+    items.reserve(count)?;
     Ok(())
 }

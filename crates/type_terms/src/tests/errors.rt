@@ -1,13 +1,7 @@
 //! Which token the queries of errors answer, and kinds and tokens that aren't stored.
 
-<<<<<<< ours
-use super::owned::{NOT_OWNED, Owned, args, holds_anew, is_instance, param_ty, ref_ty, ty, u32_ty};
-=======
 use super::kinds::constant;
-use super::owned::{
-    NOT_OWNED, Owned, args, holds_anew, is_instance, param_ty, ref_ty, ty, u32_ty,
-};
->>>>>>> theirs
+use super::owned::{NOT_OWNED, Owned, args, holds_anew, is_instance, param_ty, ref_ty, ty, u32_ty};
 use crate::{
     ConstKind, ErrorGuaranteed, GenericArg, Interner, ParamConst, ParamTy, PatternKind, Refusal,
     Region, RegionKind, Ty, TyKind, TypeFlags, TypeVisitableExt, UnevaluatedConst,

@@ -1,4 +1,5 @@
-use Rattle.std.proofs.Common.{refl, ap, sym, ◌∙◌, arith}
+use Rattle.std.proofs.Common.{◌≡◌, ◌+◌, length, refl, ap, sym, ◌∙◌, arith}
+use Rattle.std.proofs.lemmas.List.{length_push}
 use Rattle.std.proofs.lemmas.Result.{err_from_is_err_and}
 use Rattle.tt_kinds.specs.Parts.{list_sort, child_sort, IsItem}
 use Rattle.tt_kinds.specs.Shape.{IsTooDeep}
@@ -296,81 +297,88 @@ fold_listed-returns g t c =
     (stands-still g.F.Core.meaning c.fold_items.new.cx c.store_list.new.self c.fold_items.new.folder (g.met.F.Core.still_means _ _ _ h.extends.rows o) h.counters)
     (stored_list _ _ _ h.sort h.in_range) h.sort (stored_list_tree _ _ _ h.sort ∙ h.means)
 
-pub fold_items-list_len-i-end-requires : goal.fold_items-list_len-i-end-requires
-fold_items-list_len-i-end-requires g t c =
+pub fold_items-list_len-count-requires : goal.fold_items-list_len-count-requires
+fold_items-list_len-count-requires g t c =
     in_range _ _ _ c.requires.list
+
+pub fold_items-returns-in_err-reserve : goal.fold_items-returns-in_err-reserve
+fold_items-returns-in_err-reserve g t c =
+    let p = err_from_is_err_and c.from_residual.result c.from_residual.ensures.1 in
+    let tree = list_is_items _ c.args.list (children_at c.args.cx.now.rows c.args.list) c.list_len-count.ensures.means in
+    rw p.1 (items_stop tree (so_far_none (Extends-refl _) c.requires.owned c.requires.empty)
+    (λ u. (c.in_err-reserve.field-0.0, (p.2, memory_unbuilt c.args.cx.now u _ c.in_err-reserve.ensures.memory))))
 
 pub fold_items-loop-i-init : goal.fold_items-loop-i-init
 fold_items-loop-i-init g t c =
-    so_far_none (Extends-refl _) c.requires.owned c.requires.empty
+    let empty = c.reserve.ensures.kept ∙ c.requires.empty in
+    let none : length c.reserve.new.items.items ≡ 0 = ap length empty in
+    let room = rw c.list_len-count.ensures.len at c.in_ok-reserve.ensures.room in
+    (so_far_none (Extends-refl _) c.requires.owned empty, none, omega (arith, none, room))
 
 pub fold_items-list_child-item-requires-clause-owned : goal.fold_items-list_child-item-requires-clause-owned
 fold_items-list_child-item-requires-clause-owned g t c =
-    in_range _ _ _ (IsPart-grows _ _ c.loop-i.invariant.extends.rows _ c.requires.list)
+    in_range _ _ _ (IsPart-grows _ _ c.loop-i.invariant.0.extends.rows _ c.requires.list)
 
 pub fold_items-list_child-item-requires-clause-inside : goal.fold_items-list_child-item-requires-clause-inside
 fold_items-list_child-item-requires-clause-inside g t c =
-    let same = children_at-grows _ _ c.loop-i.invariant.extends.rows c.args.list (in_range _ _ _ c.requires.list) in
-    let lt = rw c.list_len-i-end.ensures.len at c.loop-i-test.true in
+    let same = children_at-grows _ _ c.loop-i.invariant.0.extends.rows c.args.list (in_range _ _ _ c.requires.list) in
+    let lt = rw c.list_len-count.ensures.len at c.loop-i-test.true in
     rw same lt
 
 pub fold_items-fold_child-requires : goal.fold_items-fold_child-requires
 fold_items-fold_child-requires g t c κs within =
-    let is_x = rw (children_at-grows _ _ c.loop-i.invariant.extends.rows c.args.list (in_range _ _ _ c.requires.list)) at c.list_child-item.ensures in
-    let part = item-part _ (children_at c.args.cx.now.rows c.args.list) c.loop-i.i _ is_x c.list_len-i-end.ensures.parts in
-    let low = item-older _ _ (children_at c.args.cx.now.rows c.args.list) c.loop-i.i _ is_x c.list_len-i-end.ensures.older in
-    let same = weight-grows c.loop-i.invariant.extends.rows _ part in
-    (omega (arith, low, same), (within.0, (within.1.0, (within.1.1, (c.loop-i.invariant.is_owned, AreParts-grows _ _ c.loop-i.invariant.extends.rows _ part)))))
+    let is_x = rw (children_at-grows _ _ c.loop-i.invariant.0.extends.rows c.args.list (in_range _ _ _ c.requires.list)) at c.list_child-item.ensures in
+    let part = item-part _ (children_at c.args.cx.now.rows c.args.list) c.loop-i.i _ is_x c.list_len-count.ensures.parts in
+    let low = item-older _ _ (children_at c.args.cx.now.rows c.args.list) c.loop-i.i _ is_x c.list_len-count.ensures.older in
+    let same = weight-grows c.loop-i.invariant.0.extends.rows _ part in
+    (omega (arith, low, same), (within.0, (within.1.0, (within.1.1, (c.loop-i.invariant.0.is_owned, AreParts-grows _ _ c.loop-i.invariant.0.extends.rows _ part)))))
 
 pub fold_items-returns-in_err-folded : goal.fold_items-returns-in_err-folded
 fold_items-returns-in_err-folded g t c =
-    let p = err_from_is_err_and c.from_residual.result c.from_residual.ensures.1 in
-    let is_x = rw (children_at-grows _ _ c.loop-i.invariant.extends.rows c.args.list (in_range _ _ _ c.requires.list)) at c.list_child-item.ensures in
-    let part = item-part _ (children_at c.args.cx.now.rows c.args.list) c.loop-i.i _ is_x c.list_len-i-end.ensures.parts in
-    let tree = list_is_items _ c.args.list (children_at c.args.cx.now.rows c.args.list) c.list_len-i-end.ensures.means in
-    rw (p.1, p.2) (items_one_fails tree c.loop-i.invariant is_x part c.in_err-folded.ensures)
+    let p = err_from_is_err_and c.from_residual-in_err-folded.result c.from_residual-in_err-folded.ensures.1 in
+    let is_x = rw (children_at-grows _ _ c.loop-i.invariant.0.extends.rows c.args.list (in_range _ _ _ c.requires.list)) at c.list_child-item.ensures in
+    let part = item-part _ (children_at c.args.cx.now.rows c.args.list) c.loop-i.i _ is_x c.list_len-count.ensures.parts in
+    let tree = list_is_items _ c.args.list (children_at c.args.cx.now.rows c.args.list) c.list_len-count.ensures.means in
+    rw (p.1, p.2) (items_one_fails tree c.loop-i.invariant.0 is_x part c.in_err-folded.ensures)
 
 pub fold_items-check_item-requires : goal.fold_items-check_item-requires
 fold_items-check_item-requires g t c =
-    let is_x = rw (children_at-grows _ _ c.loop-i.invariant.extends.rows c.args.list (in_range _ _ _ c.requires.list)) at c.list_child-item.ensures in
-    let fit = item-fits (λ x. IsItem (list_sort c.args.list) (child_sort x)) (children_at c.args.cx.now.rows c.args.list) c.loop-i.i _ is_x c.list_len-i-end.ensures.fit in
+    let is_x = rw (children_at-grows _ _ c.loop-i.invariant.0.extends.rows c.args.list (in_range _ _ _ c.requires.list)) at c.list_child-item.ensures in
+    let fit = item-fits (λ x. IsItem (list_sort c.args.list) (child_sort x)) (children_at c.args.cx.now.rows c.args.list) c.loop-i.i _ is_x c.list_len-count.ensures.fit in
     let o = c.in_ok-folded.ensures.outcome.1 in
     record { item = o.owned; fit = rw (c.sort.ensures, o.like) fit }
 
 pub fold_items-returns-in_err-check_item : goal.fold_items-returns-in_err-check_item
 fold_items-returns-in_err-check_item g t c =
     let p = err_from_is_err_and c.from_residual-in_err-check_item.result c.from_residual-in_err-check_item.ensures.1 in
-    let is_x = rw (children_at-grows _ _ c.loop-i.invariant.extends.rows c.args.list (in_range _ _ _ c.requires.list)) at c.list_child-item.ensures in
-    let part = item-part _ (children_at c.args.cx.now.rows c.args.list) c.loop-i.i _ is_x c.list_len-i-end.ensures.parts in
-    let tree = list_is_items _ c.args.list (children_at c.args.cx.now.rows c.args.list) c.list_len-i-end.ensures.means in
+    let is_x = rw (children_at-grows _ _ c.loop-i.invariant.0.extends.rows c.args.list (in_range _ _ _ c.requires.list)) at c.list_child-item.ensures in
+    let part = item-part _ (children_at c.args.cx.now.rows c.args.list) c.loop-i.i _ is_x c.list_len-count.ensures.parts in
+    let tree = list_is_items _ c.args.list (children_at c.args.cx.now.rows c.args.list) c.list_len-count.ensures.means in
     let h = rw c.sort.ensures at c.in_err-check_item.ensures in
-    rw p.1 (items_one_unwanted tree c.loop-i.invariant is_x part c.in_ok-folded.ensures h.err
+    rw p.1 (items_one_unwanted tree c.loop-i.invariant.0 is_x part c.in_ok-folded.ensures h.err
     (λ u bad. (c.in_err-check_item.field-0.0, (p.2, no_clause_unbuilt c.fold_child.new.cx u _ h.refusal bad))))
 
-pub fold_items-returns-in_err-push : goal.fold_items-returns-in_err-push
-fold_items-returns-in_err-push g t c =
-    let p = err_from_is_err_and c.from_residual-in_err-push.result c.from_residual-in_err-push.ensures.1 in
-    let is_x = rw (children_at-grows _ _ c.loop-i.invariant.extends.rows c.args.list (in_range _ _ _ c.requires.list)) at c.list_child-item.ensures in
-    let part = item-part _ (children_at c.args.cx.now.rows c.args.list) c.loop-i.i _ is_x c.list_len-i-end.ensures.parts in
-    let tree = list_is_items _ c.args.list (children_at c.args.cx.now.rows c.args.list) c.list_len-i-end.ensures.means in
-    let fit = item-fits (λ x. IsItem (list_sort c.args.list) (child_sort x)) (children_at c.args.cx.now.rows c.args.list) c.loop-i.i _ is_x c.list_len-i-end.ensures.fit in
-    let h = rw c.sort.ensures at c.in_ok-check_item.ensures in
-    rw p.1 (items_stop tree (so_far_more c.loop-i.invariant is_x part fit c.in_ok-folded.ensures h.ok refl)
-    (λ u. (c.in_err-push.field-0.0, (p.2, memory_unbuilt c.fold_child.new.cx u _ c.in_err-push.ensures.memory))))
+pub fold_items-push_reserved-requires : goal.fold_items-push_reserved-requires
+fold_items-push_reserved-requires g t c =
+    let lt = rw c.list_len-count.ensures.len at c.loop-i-test.true in
+    let filled = c.loop-i.invariant.1 in
+    let room = c.loop-i.invariant.2 in
+    omega (arith, lt, filled, room)
 
 pub fold_items-loop-i-preserved : goal.fold_items-loop-i-preserved
 fold_items-loop-i-preserved g t c =
-    let is_x = rw (children_at-grows _ _ c.loop-i.invariant.extends.rows c.args.list (in_range _ _ _ c.requires.list)) at c.list_child-item.ensures in
-    let part = item-part _ (children_at c.args.cx.now.rows c.args.list) c.loop-i.i _ is_x c.list_len-i-end.ensures.parts in
-    let fit = item-fits (λ x. IsItem (list_sort c.args.list) (child_sort x)) (children_at c.args.cx.now.rows c.args.list) c.loop-i.i _ is_x c.list_len-i-end.ensures.fit in
+    let is_x = rw (children_at-grows _ _ c.loop-i.invariant.0.extends.rows c.args.list (in_range _ _ _ c.requires.list)) at c.list_child-item.ensures in
+    let part = item-part _ (children_at c.args.cx.now.rows c.args.list) c.loop-i.i _ is_x c.list_len-count.ensures.parts in
+    let fit = item-fits (λ x. IsItem (list_sort c.args.list) (child_sort x)) (children_at c.args.cx.now.rows c.args.list) c.loop-i.i _ is_x c.list_len-count.ensures.fit in
     let h = rw c.sort.ensures at c.in_ok-check_item.ensures in
-    so_far_more c.loop-i.invariant is_x part fit c.in_ok-folded.ensures h.ok c.in_ok-push.ensures.ok
+    let longer : length c.push_reserved.new.self.items ≡ c.loop-i.i + 1 = ap length c.push_reserved.ensures.items ∙ length_push _ _ ∙ ap (λ n. n + 1) c.loop-i.invariant.1 in
+    (so_far_more c.loop-i.invariant.0 is_x part fit c.in_ok-folded.ensures h.ok c.push_reserved.ensures.items, longer, rw c.push_reserved.ensures.capacity c.loop-i.invariant.2)
 
 pub fold_items-returns : goal.fold_items-returns
 fold_items-returns g t c =
-    let tree = list_is_items _ c.args.list (children_at c.args.cx.now.rows c.args.list) c.list_len-i-end.ensures.means in
-    let all = rw c.list_len-i-end.ensures.len at c.loop-i-test.false in
-    items_fold _ tree c.loop-i.invariant all
+    let tree = list_is_items _ c.args.list (children_at c.args.cx.now.rows c.args.list) c.list_len-count.ensures.means in
+    let all = rw c.list_len-count.ensures.len at c.loop-i-test.false in
+    items_fold _ tree c.loop-i.invariant.0 all
 
 pub fold_clauses-returns-in_err-list : goal.fold_clauses-returns-in_err-list
 fold_clauses-returns-in_err-list g t c =

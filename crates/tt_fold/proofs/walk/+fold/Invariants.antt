@@ -1,4 +1,4 @@
-use Rattle.std.proofs.Common.{◌+◌, ◌*◌}
+use Rattle.std.proofs.Common.{◌+◌, ◌*◌, ◌≡◌, ◌≤◌, length}
 use Rattle.tt_kinds.specs.Parts.{node_table, node_number, list_table, list_number, list_sort}
 use Rattle.tt_kinds.specs.declared.table.Table.TheVariants.{ClauseLists}
 use Rattle.tt_interner.specs.Rows.{age}
@@ -43,3 +43,4 @@ abbrev pub invariant-fold_items-loop-i : goal.invariant-fold_items-loop-i
 invariant-fold_items-loop-i g l =
     FoldsSoFar g.F.Core.owned g.F.Core.meaning g.F.Core.hooks
     l.initial.cx l.initial.folder (list_sort l.list) (children_at l.initial.cx.rows l.list) l.i l.items.items l.cx l.folder
+    × (length l.items.items ≡ l.i) × (length (children_at l.initial.cx.rows l.list) ≤ l.items.capacity)
