@@ -126,49 +126,70 @@ fn is_declared(cx: &Interner, id: DefId, kind: DeclarationKind) -> Result<bool, 
     Ok(declaration(cx, id)?.kind == kind)
 }
 
-fn types_are_declared(cx: &mut Interner) -> Result<bool, Refusal> {
+fn opaque(cx: &mut Interner) -> Result<bool, Refusal> {
     let name = cx.symbol("T")?;
-    let opaque = cx.declare_opaque(name)?;
-    let free = cx.declare_free(name)?;
-    let foreign = cx.declare_foreign(name)?;
-    Ok(
-        is_declared(cx, opaque.into(), DeclarationKind::Opaque)?
-            && is_declared(cx, free.into(), DeclarationKind::Free)?
-            && is_declared(cx, foreign.into(), DeclarationKind::Foreign)?,
-    )
+    let id = cx.declare_opaque(name)?;
+    is_declared(cx, id.into(), DeclarationKind::Opaque)
 }
 
-fn bodies_are_declared(cx: &mut Interner) -> Result<bool, Refusal> {
+fn free(cx: &mut Interner) -> Result<bool, Refusal> {
+    let name = cx.symbol("T")?;
+    let id = cx.declare_free(name)?;
+    is_declared(cx, id.into(), DeclarationKind::Free)
+}
+
+fn foreign(cx: &mut Interner) -> Result<bool, Refusal> {
+    let name = cx.symbol("T")?;
+    let id = cx.declare_foreign(name)?;
+    is_declared(cx, id.into(), DeclarationKind::Foreign)
+}
+
+fn closure(cx: &mut Interner) -> Result<bool, Refusal> {
     let name = cx.symbol("f")?;
-    let closure = cx.declare_closure(name)?;
-    let answering = cx.declare_coroutine_closure(name)?;
-    let coroutine = cx.declare_coroutine(name)?;
-    let constant = cx.declare_const(name)?;
-    Ok(
-        is_declared(cx, closure.into(), DeclarationKind::Closure)?
-            && is_declared(cx, answering.into(), DeclarationKind::CoroutineClosure)?
-            && is_declared(cx, coroutine.into(), DeclarationKind::Coroutine)?
-            && is_declared(cx, constant.into(), DeclarationKind::Const)?,
-    )
+    let id = cx.declare_closure(name)?;
+    is_declared(cx, id.into(), DeclarationKind::Closure)
 }
 
-fn implementations_are_declared(cx: &mut Interner) -> Result<bool, Refusal> {
-    let name = cx.symbol("Out")?;
+fn coroutine_closure(cx: &mut Interner) -> Result<bool, Refusal> {
+    let name = cx.symbol("f")?;
+    let id = cx.declare_coroutine_closure(name)?;
+    is_declared(cx, id.into(), DeclarationKind::CoroutineClosure)
+}
+
+fn coroutine(cx: &mut Interner) -> Result<bool, Refusal> {
+    let name = cx.symbol("f")?;
+    let id = cx.declare_coroutine(name)?;
+    is_declared(cx, id.into(), DeclarationKind::Coroutine)
+}
+
+fn constant(cx: &mut Interner) -> Result<bool, Refusal> {
+    let name = cx.symbol("N")?;
+    let id = cx.declare_const(name)?;
+    is_declared(cx, id.into(), DeclarationKind::Const)
+}
+
+// An implementation, and one of its associated types.
+fn inherent(cx: &mut Interner) -> Result<bool, Refusal> {
+    let name = cx.symbol("impl")?;
     let implementation = cx.declare_impl(name)?;
-    let inherent = cx.declare_inherent(name, implementation)?;
+    let item = cx.symbol("Out")?;
+    let id = cx.declare_inherent(item, implementation)?;
     Ok(
         is_declared(cx, implementation.into(), DeclarationKind::Impl)?
-            && is_declared(
-                cx,
-                inherent.into(),
-                DeclarationKind::Inherent(implementation),
-            )?,
+            && is_declared(cx, id.into(), DeclarationKind::Inherent(implementation))?,
     )
+}
+
+fn each_kind_is_declared_holds(cx: &mut Interner) -> Result<bool, Refusal> {
+    Ok(opaque(cx)? && free(cx)? && foreign(cx)? && closure(cx)?)
+}
+
+fn each_body_is_declared_holds(cx: &mut Interner) -> Result<bool, Refusal> {
+    Ok(coroutine_closure(cx)? && coroutine(cx)? && constant(cx)? && inherent(cx)?)
 }
 
 #[test]
 fn each_kind_is_declared(rt: HostRuntime) {
-    holds_anew(&rt, rt.alloc(), types_are_declared);
-    holds_anew(&rt, rt.alloc(), bodies_are_declared);
-    holds_anew(&rt, rt.alloc(), implementations_are_declared);
+    holds_anew(&rt, rt.alloc(), each_kind_is_declared_holds);
+    holds_anew(&rt, rt.alloc(), each_body_is_declared_holds);
 }

@@ -8,16 +8,25 @@ fn precedes<T: Ord>(first: &T, second: &T) -> bool {
     first.cmp(second) == Ordering::Less && second.cmp(first) == Ordering::Greater
 }
 
-// The placeholder of this universe for the variable of this number.
-fn placeholder(universe: u32, var: u32) -> Placeholder<BoundVar> {
-    Placeholder::new(UniverseIndex::from_u32(universe), BoundVar::from_u32(var))
+// By their universes, and then by what they stand for.
+fn are_placeholders_ordered() -> bool {
+    let zero = BoundVar::from_u32(0);
+    let one = BoundVar::from_u32(1);
+    let near = Placeholder::new(UniverseIndex::from_u32(0), one);
+    let far = Placeholder::new(UniverseIndex::from_u32(1), zero);
+    let last = Placeholder::new(UniverseIndex::from_u32(1), one);
+    precedes(&near, &far) && precedes(&far, &last)
+}
+
+// By their values.
+fn are_early_binders_ordered() -> bool {
+    let first = EarlyBinder::bind(BoundVar::from_u32(0));
+    let second = EarlyBinder::bind(BoundVar::from_u32(1));
+    precedes(&first, &second)
 }
 
 #[test]
 fn orders_of_parts(rt: HostRuntime) {
-    assert!(rt; precedes(&placeholder(0, 5), &placeholder(1, 0)));
-    assert!(rt; precedes(&placeholder(1, 0), &placeholder(1, 2)));
-    let first = EarlyBinder::bind(BoundVar::from_u32(0));
-    let second = EarlyBinder::bind(BoundVar::from_u32(1));
-    assert!(rt; precedes(&first, &second));
+    assert!(rt; are_placeholders_ordered());
+    assert!(rt; are_early_binders_ordered());
 }
