@@ -15,7 +15,7 @@ use Rattle.tt_kinds.specs.declared.handle.Clauses.{Clauses}
 use Rattle.tt_kinds.specs.declared.handle.GenericArgs.{GenericArgs}
 use Rattle.tt_kinds.specs.declared.ty_kind.TyKind.{TyKind}
 use Rattle.tt_kinds.specs.declared.const_kind.ConstKind.{ConstKind}
-use Rattle.tt_interner.specs.Rows.{Row, type_row, const_row, pat_row, predicate_row, existential_row, clauses_row, tys_row, consts_row, args_row, pats_row, vars_row, existentials_row, text_row, declared_row, row_table, row_shape, table, size, meaning, AreRows}
+use Rattle.tt_interner.specs.Rows.{Row, type_row, const_row, pat_row, predicate_row, existential_row, clauses_row, tys_row, consts_row, args_row, pats_row, vars_row, existentials_row, assumptions_row, text_row, declared_row, row_table, row_shape, table, size, meaning, AreRows}
 use Rattle.tt_interner.proofs.RowLaws.{IsNewest, place_cases, meaning-old, meaning-new}
 use Rattle.tt_interner.proofs.Trees.{Means-row}
 use Rattle.tt_interner.specs.Stored.{IsAt}
@@ -82,6 +82,7 @@ row_is f (args_row args) = tt
 row_is f (pats_row ps) = tt
 row_is f (vars_row vs) = tt
 row_is f (existentials_row ps) = tt
+row_is f (assumptions_row ps) = tt
 row_is f (text_row bytes) = tt
 row_is f (declared_row n d) = tt
 

@@ -12,7 +12,7 @@ use Rattle.tt_kinds.specs.Kinds.{Form, param, bound, plain, under, relabelled, f
 use Rattle.tt_kinds.specs.declared.table.Table.{Table}
 use Rattle.tt_kinds.specs.declared.handle.Clause.{Clause}
 use Rattle.tt_interner.specs.Clauses.{is_clause_part, is_clause_inside, is_clause_tree, HasOther}
-use Rattle.tt_interner.specs.Rows.{Row, type_row, const_row, pat_row, predicate_row, existential_row, clauses_row, tys_row, consts_row, args_row, pats_row, vars_row, existentials_row, text_row, declared_row, row_shape, table, size, meaning, AreRows, AreClauses, HoldsClauses}
+use Rattle.tt_interner.specs.Rows.{Row, type_row, const_row, pat_row, predicate_row, existential_row, clauses_row, tys_row, consts_row, args_row, pats_row, vars_row, existentials_row, assumptions_row, text_row, declared_row, row_shape, table, size, meaning, AreRows, AreClauses, HoldsClauses}
 use Rattle.tt_interner.specs.Stored.{IsNoClauseList}
 use Rattle.tt_interner.proofs.RowLaws.{IsNewest, place_cases, meaning-old, meaning-new}
 use Rattle.tt_fold.specs.Steps.{IsPartOf, tree_in}
@@ -153,6 +153,7 @@ row_fine rows (args_row args) holds h = h
 row_fine rows (pats_row ps) holds h = h
 row_fine rows (vars_row vs) holds h = h
 row_fine rows (existentials_row ps) holds h = h
+row_fine rows (assumptions_row ps) holds h = h
 row_fine rows (text_row bytes) holds h = h
 row_fine rows (declared_row n d) holds h = h
 

@@ -8,6 +8,7 @@ mod ValueSteps
 mod BareLaws
 mod RecordSteps
 mod VecSteps
+mod AssumptionSteps
 pub mod ClauseLaws
 pub mod ShiftLaws
 mod BoundLaws

@@ -4,3 +4,4 @@ pub mod Steps
 pub mod Stands
 pub mod Shift
 pub mod Parts
+pub mod Regions

@@ -1,6 +1,7 @@
 //! Folds: a term taken apart, changed and built again.
 #![tactic(auto)]
 
+mod assumptions;
 mod bare;
 mod containers;
 pub mod core_folder;
@@ -9,10 +10,12 @@ pub mod folder;
 mod handles;
 mod list_of_sort;
 mod records;
+pub mod region_replacer;
 pub mod shift;
 mod step_of_node;
 mod walk;
 
 pub use foldable::{TypeFoldable, TypeSuperFoldable};
 pub use folder::{FallibleTypeFolder, Step, TypeFolder};
+pub use region_replacer::{RegionReplacer, replace_regions};
 pub use shift::{shift_region, shift_vars};

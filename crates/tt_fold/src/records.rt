@@ -5,10 +5,10 @@ use crate::foldable::TypeFoldable;
 use crate::walk::fold_parts;
 use tt_interner::Interner;
 use tt_kinds::{
-    AliasTerm, AliasTy, ClauseKind, CoercePredicate, ExistentialPredicate, ExistentialProjection,
-    ExistentialTraitRef, FnSig, FnSigTys, HostEffectPredicate, NormalizesTo, OutlivesPredicate,
-    ParamEnv, PredicateKind, ProjectionPredicate, SubtypePredicate, TraitPredicate, TraitRef,
-    TypeAndMut, UnsafeBinderInner,
+    AliasTerm, AliasTy, ClauseKind, CoercePredicate, CoroutineWitnessTypes, ExistentialPredicate,
+    ExistentialProjection, ExistentialTraitRef, FnSig, FnSigTys, HostEffectPredicate, NormalizesTo,
+    OutlivesPredicate, ParamEnv, PredicateKind, ProjectionPredicate, SubtypePredicate,
+    TraitPredicate, TraitRef, TypeAndMut, UnsafeBinderInner,
 };
 
 impl TypeFoldable for FnSigTys {
@@ -33,6 +33,18 @@ impl TypeFoldable for FnSig {
             inputs_and_output,
             fn_sig_kind: self.fn_sig_kind,
         })
+    }
+}
+
+impl TypeFoldable for CoroutineWitnessTypes {
+    fn fold_core<M, F: Core<M>>(
+        self,
+        cx: &mut Interner,
+        folder: &mut F,
+    ) -> Result<CoroutineWitnessTypes, F::Error> {
+        let types = self.types.fold_core::<M, F>(cx, folder)?;
+        let assumptions = self.assumptions.fold_core::<M, F>(cx, folder)?;
+        Ok(CoroutineWitnessTypes { types, assumptions })
     }
 }
 

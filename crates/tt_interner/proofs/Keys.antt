@@ -17,6 +17,10 @@ use Rattle.tt_kinds.specs.contracts.generic_arg.GenericArgPartialEq.TheImpl as a
 use Rattle.tt_kinds.specs.contracts.generic_arg.GenericArgEq.TheImpl.Laws as arg_laws
 use Rattle.tt_kinds.specs.contracts.bound.BoundVariableKindPartialEq.TheImpl as vars
 use Rattle.tt_kinds.specs.contracts.bound.BoundVariableKindEq.TheImpl.Laws as var_laws
+use Rattle.tt_kinds.specs.declared.predicate.OutlivesPredicate.{OutlivesPredicate}
+use Rattle.tt_kinds.specs.declared.region_kind.RegionKind.{RegionKind}
+use Rattle.tt_kinds.specs.contracts.region_kind.RegionKindPartialEq.TheImpl as regions
+use Rattle.tt_kinds.specs.contracts.region_kind.RegionKindEq.TheImpl.Laws as region_laws
 use Rattle.tt_kinds.specs.declared.handle.Const.{Const}
 use Rattle.tt_kinds.specs.declared.handle.Pat.{Pat}
 use Rattle.tt_kinds.specs.declared.handle.Clause.{Clause}
@@ -42,8 +46,8 @@ use Rattle.tt_kinds.specs.contracts.handle.ClausePartialEq.TheImpl as clauses
 use Rattle.tt_kinds.specs.contracts.handle.ClauseEq.TheImpl.Laws as clause_laws
 use Rattle.tt_kinds.specs.contracts.handle.PolyExistentialPredicatePartialEq.TheImpl as existentials
 use Rattle.tt_kinds.specs.contracts.handle.PolyExistentialPredicateEq.TheImpl.Laws as existential_laws
-use Rattle.tt_interner.specs.Rows.{Row, type_row, const_row, pat_row, predicate_row, existential_row, clauses_row, tys_row, consts_row, args_row, pats_row, vars_row, existentials_row, text_row}
-use Rattle.tt_interner.proofs.KeyLemmas.{both, ty_exact, const_handle_exact, pat_handle_exact, clause_handle_exact, existential_handle_exact, two_exact, arg_exact, var_exact, kind_exact}
+use Rattle.tt_interner.specs.Rows.{Row, type_row, const_row, pat_row, predicate_row, existential_row, clauses_row, tys_row, consts_row, args_row, pats_row, vars_row, existentials_row, assumptions_row, text_row}
+use Rattle.tt_interner.proofs.KeyLemmas.{both, ty_exact, const_handle_exact, pat_handle_exact, clause_handle_exact, existential_handle_exact, two_exact, arg_exact, region_exact, var_exact, kind_exact}
 use Rattle.tt_interner.proofs.KindKeys.{const_kind_exact, pattern_kind_exact, predicate_kind_exact, existential_kind_exact}
 use Rattle.tt_interner.proofs.FoundLemmas.{IsKey}
 
@@ -88,6 +92,21 @@ clauses_key items = key_by (pointwise (clauses.ghosts).eq) (pointwise_exact (cla
 
 pub existentials_key : {K : Type 0} (items : K → List PolyExistentialPredicate) (xs : List PolyExistentialPredicate) → IsKey (λ k. pointwise (existentials.ghosts).eq xs (items k)) (λ k. existentials_row (items k)) (existentials_row xs)
 existentials_key items = key_by (pointwise (existentials.ghosts).eq) (pointwise_exact (existentials.ghosts).eq existential_handle_exact) (lists_equiv existential_laws.laws-law).refl items existentials_row (λ a b e. cc)
+
+-- assumptions, by the tests of what outlives and of the region
+abbrev assumption_eq : OutlivesPredicate GenericArgKind → OutlivesPredicate GenericArgKind → Bool
+assumption_eq a b = (args.ghosts).eq a.0 b.0 && (regions.ghosts).eq a.1 b.1
+
+assumption_exact : (a b : OutlivesPredicate GenericArgKind) → assumption_eq a b ≡ true → a ≡ b
+assumption_exact a b = two_exact (λ x r. record { 0 = x; 1 = r }) ((args.ghosts).eq a.0 b.0) ((regions.ghosts).eq a.1 b.1) (arg_exact a.0 b.0) (region_exact a.1 b.1)
+
+assumptions_same : (xs : List (OutlivesPredicate GenericArgKind)) → pointwise assumption_eq xs xs ≡ true
+assumptions_same [] = refl
+assumptions_same (x ∷ xs) =
+    let first = (arg_laws.laws-law).refl x.0 in let second = (region_laws.laws-law).refl x.1 in let others = assumptions_same xs in cc
+
+pub assumptions_key : {K : Type 0} (items : K → List (OutlivesPredicate GenericArgKind)) (xs : List (OutlivesPredicate GenericArgKind)) → IsKey (λ k. pointwise assumption_eq xs (items k)) (λ k. assumptions_row (items k)) (assumptions_row xs)
+assumptions_key items = key_by (pointwise assumption_eq) (pointwise_exact assumption_eq assumption_exact) assumptions_same items assumptions_row (λ a b e. cc)
 
 pub const_key : (x : ConstKind) → IsKey ((const_kinds.ghosts).eq x) const_row (const_row x)
 const_key = key_by (const_kinds.ghosts).eq const_kind_exact (const_kind_laws.laws-law).refl (λ k. k) const_row (λ a b e. cc)

@@ -10,6 +10,7 @@ pub mod FoundLemmas
 pub mod StoresLemmas
 pub mod InfoLemmas
 pub mod TableLemmas
+pub mod PutLemmas
 pub mod DeclarationLemmas
 pub mod Keys
 pub mod NodeLemmas

@@ -25,6 +25,7 @@ use Rattle.tt_kinds.specs.declared.const_kind.ConstKind.{ConstKind}
 use Rattle.tt_kinds.specs.declared.const_kind.ConstKind.TheVariants as const
 use Rattle.tt_kinds.specs.declared.pattern.PatternKind.{PatternKind}
 use Rattle.tt_kinds.specs.declared.pattern.PatternKind.TheVariants as pattern
+use Rattle.tt_kinds.specs.declared.predicate.OutlivesPredicate.{OutlivesPredicate}
 use Rattle.tt_kinds.specs.declared.predicate_kind.ClauseKind.{ClauseKind}
 use Rattle.tt_kinds.specs.declared.predicate_kind.ClauseKind.TheVariants as clause
 use Rattle.tt_kinds.specs.declared.predicate_kind.AliasRelationDirection.{AliasRelationDirection}
@@ -33,7 +34,7 @@ use Rattle.tt_kinds.specs.declared.predicate_kind.PredicateKind.TheVariants as p
 use Rattle.tt_kinds.specs.declared.existential.ExistentialPredicate.{ExistentialPredicate}
 use Rattle.tt_kinds.specs.declared.existential.ExistentialPredicate.TheVariants as existential
 use Rattle.tt_kinds.specs.declared.table.Table.{Table}
-use Rattle.tt_kinds.specs.declared.table.Table.TheVariants.{Types, Consts, TypeLists, ConstLists, PatternLists, ExistentialLists, VarLists, Symbols}
+use Rattle.tt_kinds.specs.declared.table.Table.TheVariants.{Types, Consts, TypeLists, ConstLists, PatternLists, ExistentialLists, AssumptionLists, VarLists, Symbols}
 use Rattle.tt_kinds.specs.Label.{Sort, type_sort, const_sort, RegionName, anonymous, printed, named, environment, VarKind, region_variable, type_variable, const_variable, FreeRegion, static_region, erased_region, region_var, error_region, late_param_region, placeholder_region, TypeLabel, bool_type, char_type, int_type, uint_type, float_type, str_type, never_type, placeholder_type, infer_type, error_type, ref_type, raw_ptr_type, slice_type, tuple_type, fn_ptr_type, foreign_type, adt_type, array_type, pat_type, unsafe_binder_type, dynamic_type, closure_type, coroutine_closure_type, coroutine_type, coroutine_witness_type, alias_type, ConstLabel, infer_const, placeholder_const, unevaluated_const, leaf_const, branch_const, error_const, expr_const, PatternLabel, range_pattern, or_pattern, not_null_pattern, RecordLabel, trait_record, host_effect_record, region_outlives_record, type_outlives_record, projection_record, const_has_type_record, well_formed_record, const_evaluatable_record, unstable_feature_record, dyn_compatible_record, subtype_record, coerce_record, const_equate_record, ambiguous_record, normalizes_to_record, alias_relate_record, existential_trait_record, existential_projection_record, auto_trait_record, Label, type_label, const_label, pattern_label, predicate_label, existential_label, clause_list_label, list_label, var_list_label, text_label, declaration_label, record_label, error_label, label_table}
 use Rattle.tt_kinds.specs.Tree as tree
 use Rattle.tt_kinds.specs.Tree.{Depth, at, canonical}
@@ -42,7 +43,8 @@ use Rattle.tt_kinds.specs.Parts.{term_child}
 use Rattle.tt_kinds.specs.Shape.{Shape, Shapes, param, bound, region, term, node, binder, stored, none, also, append, Meaning, fill, name_of, text_of, vars_of, item_shapes, sort_table}
 use Rattle.tt_kinds.specs.Kinds as form
 use Rattle.tt_kinds.specs.Kinds.{Form, ty_form, const_form, form_shape, relabelled, value_form, clause_form, predicate_form, existential_form, parts_shapes, child_shapes, term_shape, ty_kind_shape, const_kind_shape, pattern_kind_shape, region_shape, ty_shape, const_shape, arg_shape, pat_shape, existential_shape, clause_shape}
-use Rattle.tt_interner.specs.Rows.{Row, type_row, const_row, pat_row, predicate_row, existential_row, clauses_row, tys_row, consts_row, args_row, pats_row, vars_row, existentials_row, text_row, declared_row, row_table, row_shape}
+use Rattle.tt_kinds.specs.Values.{assumption_shape}
+use Rattle.tt_interner.specs.Rows.{Row, type_row, const_row, pat_row, predicate_row, existential_row, clauses_row, tys_row, consts_row, args_row, pats_row, vars_row, existentials_row, assumptions_row, text_row, declared_row, row_table, row_shape}
 use Rattle.tt_interner.proofs.Fill.{tree_table, label_table-rename}
 
 -- the index of a variable, as a kind has it
@@ -195,11 +197,16 @@ existential_from (existential_projection_record d) ss =
 existential_from (auto_trait_record d) ss = existential.AutoTrait (record { number = d })
 existential_from _ ss = existential.AutoTrait (record { number = 0 })
 
+abbrev assumption_from : Shape → OutlivesPredicate GenericArgKind
+assumption_from (node l ss) = record { 0 = arg_from (part_at 0 ss); 1 = region_from (part_at 1 ss) }
+assumption_from _ = record { 0 = arg.Lifetime ReStatic; 1 = ReStatic }
+
 abbrev list_from : Table → Shapes → Row
 list_from TypeLists ss = tys_row (items_from (λ s. record { number = number_from s }) ss)
 list_from ConstLists ss = consts_row (items_from (λ s. record { number = number_from s }) ss)
 list_from PatternLists ss = pats_row (items_from (λ s. record { number = number_from s }) ss)
 list_from ExistentialLists ss = existentials_row (items_from (λ s. record { number = number_from s }) ss)
+list_from AssumptionLists ss = assumptions_row (items_from assumption_from ss)
 list_from _ ss = args_row (items_from arg_from ss)
 
 abbrev label_from : Label ℕ → Shapes → Row
@@ -268,6 +275,11 @@ arg_from-arg_shape : (a : GenericArgKind) → arg_from (arg_shape a) ≡ a
 arg_from-arg_shape (arg.«Type» t) = refl
 arg_from-arg_shape (arg.Const c) = refl
 arg_from-arg_shape (arg.Lifetime r) = arg_from-region_shape r ∙ ap arg.Lifetime (region_from-region_shape r)
+
+assumption_back : (p : OutlivesPredicate GenericArgKind) → assumption_from (assumption_shape p) ≡ p
+assumption_back p =
+    let args = arg_from-arg_shape p.0 in let regions = region_from-region_shape p.1 in
+    λ i. record { 0 = args i; 1 = regions i }
 
 var_from-var_kind : (v : BoundVariableKind) → var_from (var_kind v) ≡ v
 var_from-var_kind (variable.Ty k) = refl
@@ -399,6 +411,7 @@ row_from-row_shape (args_row args) = ap args_row (items_from-item_shapes arg_sha
 row_from-row_shape (pats_row ps) = ap pats_row (items_from-item_shapes pat_shape (λ s. record { number = number_from s }) (λ p. refl) ps)
 row_from-row_shape (vars_row vs) = ap vars_row (vars_from-vars vs)
 row_from-row_shape (existentials_row ps) = ap existentials_row (items_from-item_shapes existential_shape (λ s. record { number = number_from s }) (λ p. refl) ps)
+row_from-row_shape (assumptions_row ps) = ap assumptions_row (items_from-item_shapes assumption_shape assumption_from assumption_back ps)
 row_from-row_shape (text_row bytes) = refl
 row_from-row_shape (declared_row n d) = refl
 
@@ -428,6 +441,7 @@ root_of_row f (args_row args) = refl
 root_of_row f (pats_row ps) = refl
 root_of_row f (vars_row vs) = refl
 root_of_row f (existentials_row ps) = refl
+root_of_row f (assumptions_row ps) = refl
 root_of_row f (text_row bytes) = refl
 root_of_row f (declared_row n d) = refl
 

@@ -148,3 +148,49 @@ module _ {H : Type 0} (number : H → ℕ) (old : Terms) (r : Row) where
     cause = ⊎_elim (λ memory. subst (IsCause old r) (sym memory) tt) (λ past. subst (IsCause old r) (sym past.0) (is_new, (let h = past.1 in omega arith))) cause;
     full = λ past. let refused = full (omega arith) in let same : e ≡ TableFull = cc in ap Err same;
   }
+
+-- the same of another handle
+module _ {H G : Type 0} (number : H → ℕ) (number' : G → ℕ) (old new : Terms) (r : Row) where
+  pub Builds-ok_as : (h : H) (g : G) → number' g ≡ number h → Builds (Ok h) number old new r → Builds (Ok g) number' old new r
+  Builds-ok_as h g same b = record {
+    in_range = rw same b.in_range;
+    means = rw same b.means;
+    grows = b.grows;
+    stored = rw same b.stored;
+    limit = b.limit;
+    counters = b.counters;
+    found = λ n at. let f = b.found n at in ((g, refl, same ∙ ap number (ok_one _ _ refl f.0.1) ∙ f.0.2), f.1);
+    err = tt;
+    absent = tt;
+    cause = tt;
+    deep = λ deep. absurd (ok_err _ _ refl (b.deep deep));
+    full = λ n s past. absurd (ok_err _ _ refl (b.full n s past));
+  }
+    where
+      ok_one : (a : H) (result : Result H Refusal) → result ≡ Ok h → result ≡ Ok a → h ≡ a
+      ok_one a result p q = cc
+
+      ok_err : (e : Refusal) (result : Result H Refusal) → result ≡ Ok h → result ≡ Err e → ⊥
+      ok_err e result p q = cc
+
+  pub Builds-err_as : (e : Refusal) → Builds (Err e) number old new r → Builds (Err e) number' old new r
+  Builds-err_as e b = record {
+    in_range = tt;
+    means = tt;
+    grows = b.grows;
+    stored = tt;
+    limit = b.limit;
+    counters = b.counters;
+    found = λ n at. absurd (err_ok _ _ refl (b.found n at).0.1);
+    err = b.err;
+    absent = b.absent;
+    cause = b.cause;
+    deep = λ deep. ap Err (err_one _ _ refl (b.deep deep));
+    full = λ n s past. ap Err (err_one _ _ refl (b.full n s past));
+  }
+    where
+      err_ok : (a : H) (result : Result H Refusal) → result ≡ Err e → result ≡ Ok a → ⊥
+      err_ok a result p q = cc
+
+      err_one : (u : Refusal) (result : Result H Refusal) → result ≡ Err e → result ≡ Err u → e ≡ u
+      err_one u result p q = cc

@@ -15,7 +15,7 @@ use Rattle.tt_index.specs.declared.refusal.Refusal.{Refusal}
 use Rattle.tt_index.specs.declared.refusal.Refusal.TheVariants.{Memory, TableFull}
 use Rattle.tt_kinds.specs.Label.{clause_list_label, list_label, var_list_label, text_label}
 use Rattle.tt_kinds.specs.Shape.{none, fill, IsPart, HasParts, IsTooDeep}
-use Rattle.tt_interner.specs.Rows.{Row, clauses_row, tys_row, consts_row, args_row, pats_row, vars_row, existentials_row, text_row, row_table, row_shape, is_in, table, size, meaning, IsNew, HoldsClauses, AreRows}
+use Rattle.tt_interner.specs.Rows.{Row, clauses_row, tys_row, consts_row, args_row, pats_row, vars_row, existentials_row, assumptions_row, text_row, row_table, row_shape, is_in, table, size, meaning, IsNew, HoldsClauses, AreRows}
 use Rattle.tt_interner.specs.Stored.{Terms, Counters, Adds, IsInfo, HasFirst, IsAt, first_rows}
 use Rattle.tt_interner.specs.Tables.{Entry, Tables, entries_of, with_entries, push, rows_of, infos_of, reversed, merged, rows_in_order, entries_by, listed_by, AreInfos, AreTables, Keeps, no_info}
 use Rattle.tt_interner.proofs.RowLaws.{in_table, is_in_own, table-other, table-new, meaning-old, meaning-new, slice_get-push_before, slice_get-push_last, row-old}
@@ -370,13 +370,13 @@ first_tables = record {
   pattern_lists = first_of (pats_row []) ∷ [];
   var_lists = first_of (vars_row []) ∷ [];
   existential_lists = first_of (existentials_row []) ∷ [];
-  assumption_lists = [];
+  assumption_lists = first_of (assumptions_row []) ∷ [];
   symbols = first_of (text_row (39 ∷ 95 ∷ [])) ∷ [];
   declarations = [];
 }
 
 abbrev pub first_order : List Table
-first_order = TypeLists ∷ ArgLists ∷ VarLists ∷ ConstLists ∷ PatternLists ∷ ClauseLists ∷ ExistentialLists ∷ Symbols ∷ []
+first_order = TypeLists ∷ ArgLists ∷ VarLists ∷ ConstLists ∷ PatternLists ∷ ClauseLists ∷ ExistentialLists ∷ AssumptionLists ∷ Symbols ∷ []
 
 rows_first : rows_in_order first_order first_tables ≡ first_rows
 unfolding rows_in_order merged
@@ -400,8 +400,10 @@ AreTables-first limit some small =
     (info_term (meaning (pats_row [] ∷ consts_row [] ∷ vars_row [] ∷ args_row [] ∷ tys_row [] ∷ [])) no_info clause_list_label none refl (infos_none _)) in
     let existentials = AreTables-push (clauses_row [] ∷ pats_row [] ∷ consts_row [] ∷ vars_row [] ∷ args_row [] ∷ tys_row [] ∷ []) _ limit (first_of (existentials_row [])) clauses (tt, tt) (λ d. d) tt ((λ e. cc), ((λ e. cc), ((λ e. cc), ((λ e. cc), ((λ e. cc), ((λ e. cc), tt)))))) some
     (info_node (meaning (clauses_row [] ∷ pats_row [] ∷ consts_row [] ∷ vars_row [] ∷ args_row [] ∷ tys_row [] ∷ [])) no_info (list_label ExistentialLists) refl) in
-    AreTables-push (existentials_row [] ∷ clauses_row [] ∷ pats_row [] ∷ consts_row [] ∷ vars_row [] ∷ args_row [] ∷ tys_row [] ∷ []) _ limit (first_of (text_row (39 ∷ 95 ∷ []))) existentials (tt, tt) (λ d. d) tt ((λ e. cc), ((λ e. cc), ((λ e. cc), ((λ e. cc), ((λ e. cc), ((λ e. cc), ((λ e. cc), tt))))))) some
-    (info_node (meaning (existentials_row [] ∷ clauses_row [] ∷ pats_row [] ∷ consts_row [] ∷ vars_row [] ∷ args_row [] ∷ tys_row [] ∷ [])) no_info (text_label (39 ∷ 95 ∷ [])) refl)
+    let assumptions = AreTables-push (existentials_row [] ∷ clauses_row [] ∷ pats_row [] ∷ consts_row [] ∷ vars_row [] ∷ args_row [] ∷ tys_row [] ∷ []) _ limit (first_of (assumptions_row [])) existentials (tt, tt) (λ d. d) tt ((λ e. cc), ((λ e. cc), ((λ e. cc), ((λ e. cc), ((λ e. cc), ((λ e. cc), ((λ e. cc), tt))))))) some
+    (info_node (meaning (existentials_row [] ∷ clauses_row [] ∷ pats_row [] ∷ consts_row [] ∷ vars_row [] ∷ args_row [] ∷ tys_row [] ∷ [])) no_info (list_label AssumptionLists) refl) in
+    AreTables-push (assumptions_row [] ∷ existentials_row [] ∷ clauses_row [] ∷ pats_row [] ∷ consts_row [] ∷ vars_row [] ∷ args_row [] ∷ tys_row [] ∷ []) _ limit (first_of (text_row (39 ∷ 95 ∷ []))) assumptions (tt, tt) (λ d. d) tt ((λ e. cc), ((λ e. cc), ((λ e. cc), ((λ e. cc), ((λ e. cc), ((λ e. cc), ((λ e. cc), ((λ e. cc), tt)))))))) some
+    (info_node (meaning (assumptions_row [] ∷ existentials_row [] ∷ clauses_row [] ∷ pats_row [] ∷ consts_row [] ∷ vars_row [] ∷ args_row [] ∷ tys_row [] ∷ [])) no_info (text_label (39 ∷ 95 ∷ [])) refl)
 
 pub Keeps-first : (order : List Table) (ts : Tables) (limit : ℕ) → order ≡ first_order → ts ≡ first_tables → 0 < limit → limit ≤ 4294967040 → Keeps order ts limit
 Keeps-first order ts limit is_order is_ts some small = rw (is_order, is_ts) (record {
@@ -434,6 +436,7 @@ has_first order ts limit keeps = subst HasFirst (sym keeps.first.1) (record {
   pats = IsAt-added keeps.first.0 first_rows (pats_row []) 0 refl;
   clauses = IsAt-added keeps.first.0 first_rows (clauses_row []) 0 refl;
   existentials = IsAt-added keeps.first.0 first_rows (existentials_row []) 0 refl;
+  assumptions = IsAt-added keeps.first.0 first_rows (assumptions_row []) 0 refl;
   text = IsAt-added keeps.first.0 first_rows (text_row (39 ∷ 95 ∷ [])) 0 refl;
 })
 
@@ -452,7 +455,7 @@ pub record HaveFirst (ts : Tables) : Type 0 where
   pub clause_lists : ts.clause_lists ≡ first_of (clauses_row []) ∷ []
   pub existential_lists : ts.existential_lists ≡ first_of (existentials_row []) ∷ []
   pub symbols : ts.symbols ≡ first_of (text_row (39 ∷ 95 ∷ [])) ∷ []
-  pub assumption_lists : ts.assumption_lists ≡ []
+  pub assumption_lists : ts.assumption_lists ≡ first_of (assumptions_row []) ∷ []
   pub declarations : ts.declarations ≡ []
 
 pub are_first_tables : (ts : Tables) → HaveFirst ts → ts ≡ first_tables

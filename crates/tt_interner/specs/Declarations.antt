@@ -7,6 +7,8 @@ use Rattle.tt_kinds.specs.declared.id.DefId.{DefId}
 use Rattle.tt_kinds.specs.declared.declaration.Declaration.{Declaration}
 use Rattle.tt_kinds.specs.declared.declaration.DeclarationKind.{DeclarationKind}
 use Rattle.tt_kinds.specs.declared.declaration.DeclarationKind.TheVariants as kind
+use Rattle.tt_kinds.specs.declared.declaration.DeclarationSort.{DeclarationSort}
+use Rattle.tt_kinds.specs.Declaration.{sort_of}
 use Rattle.tt_kinds.specs.declared.bound.BoundRegionKind.{BoundRegionKind}
 use Rattle.tt_kinds.specs.declared.bound.BoundRegionKind.TheVariants as region
 use Rattle.tt_kinds.specs.declared.table.Table.TheVariants.{Declarations}
@@ -23,6 +25,10 @@ declaration_of _ = record { kind = kind.Param; name = record { number = 0 } }
 -- what is declared under an id
 unfoldable pub declared_at : List Row → DefId → Declaration
 declared_at rows id = declaration_of (row_at rows Declarations id.number)
+
+-- a declaration has this number, and is of this sort
+abbrev pub IsOfSort : List Row → DeclarationSort → ℕ → Type 0
+IsOfSort rows sort number = (number < size rows Declarations) × (sort_of (declared_at rows (record { number = number })).kind ≡ sort)
 
 -- a declaration of this kind and name is added, or refused
 pub record Declares {H : Type 0} (result : Result H Refusal) (number : H → ℕ) (old new : Terms) (kind : DeclarationKind) (name : Symbol) : Type 0 where

@@ -1,12 +1,11 @@
 -- What an interner's fields hold.
-use Rattle.std.specs.Prelude.{[]}
 use Rattle.std.specs.String.{string_bytes}
 use Rattle.tt_interner.specs.declared.interner.Interner.TheInside.{Inside}
-use Rattle.tt_interner.specs.Rows.{type_row, const_row, pat_row, predicate_row, existential_row, clauses_row, tys_row, consts_row, args_row, pats_row, vars_row, existentials_row, text_row}
+use Rattle.tt_interner.specs.Rows.{type_row, const_row, pat_row, predicate_row, existential_row, clauses_row, tys_row, consts_row, args_row, pats_row, vars_row, existentials_row, assumptions_row, text_row}
 use Rattle.tt_interner.specs.Stored.{Terms}
 use Rattle.tt_interner.specs.Tables.{Tables, no_info, entries_by, declared_entries, rows_in_order, Keeps}
 
--- the tables, of which those without a map are empty
+-- the tables
 abbrev pub tables : Inside → Tables
 tables i = record {
   types = entries_by type_row (λ v. v) i.types.entries;
@@ -21,7 +20,7 @@ tables i = record {
   pattern_lists = entries_by (λ k. pats_row k.items) (λ v. v) i.pattern_lists.entries;
   var_lists = entries_by (λ k. vars_row k.items) (λ v. v) i.var_lists.entries;
   existential_lists = entries_by (λ k. existentials_row k.items) (λ v. v) i.existential_lists.entries;
-  assumption_lists = [];
+  assumption_lists = entries_by (λ k. assumptions_row k.items) (λ v. v) i.assumption_lists.entries;
   symbols = entries_by (λ k. text_row (string_bytes k)) (λ v. no_info) i.symbols.entries;
   declarations = declared_entries 0 i.declarations.items;
 }

@@ -4,6 +4,7 @@ use Rattle.tt_kinds.specs.Tree as tree
 use Rattle.tt_kinds.specs.Label.{text_label}
 use Rattle.tt_kinds.specs.Shape.{Shape, Shapes, param, bound, region, term, node, binder, stored, none, also, Meaning, fill, Sizes, HasParts, IsTooDeep}
 use Rattle.tt_kinds.specs.Kinds.{ty_kind_shape, const_kind_shape, pattern_kind_shape, predicate_kind_shape, existential_kind_shape, clauses_row_shape, tys_row_shape, consts_row_shape, args_row_shape, pats_row_shape, vars_row_shape, existentials_row_shape, text_row_shape, declaration_row_shape}
+use Rattle.tt_kinds.specs.Values.{assumptions_row_shape}
 use Rattle.tt_kinds.specs.declared.handle.Ty.{Ty}
 use Rattle.tt_kinds.specs.declared.handle.Const.{Const}
 use Rattle.tt_kinds.specs.declared.handle.Pat.{Pat}
@@ -13,6 +14,7 @@ use Rattle.tt_kinds.specs.declared.declaration.Declaration.{Declaration}
 use Rattle.tt_kinds.specs.declared.binder.Binder.{Binder}
 use Rattle.tt_kinds.specs.declared.const_kind.ConstKind.{ConstKind}
 use Rattle.tt_kinds.specs.declared.pattern.PatternKind.{PatternKind}
+use Rattle.tt_kinds.specs.declared.predicate.OutlivesPredicate.{OutlivesPredicate}
 use Rattle.tt_kinds.specs.declared.predicate_kind.PredicateKind.{PredicateKind}
 use Rattle.tt_kinds.specs.declared.existential.ExistentialPredicate.{ExistentialPredicate}
 use Rattle.tt_kinds.specs.declared.generic_arg.GenericArgKind.{GenericArgKind}
@@ -38,6 +40,7 @@ pub data Row : Type 0 where
   pats_row : List Pat → Row
   vars_row : List BoundVariableKind → Row
   existentials_row : List PolyExistentialPredicate → Row
+  assumptions_row : List (OutlivesPredicate GenericArgKind) → Row
   text_row : List ℕ → Row
   -- a declaration, and its place among the declarations: two of them may have one name
   declared_row : ℕ → Declaration → Row
@@ -56,6 +59,7 @@ row_table (args_row args) = ArgLists
 row_table (pats_row pats) = PatternLists
 row_table (vars_row vars) = VarLists
 row_table (existentials_row ps) = ExistentialLists
+row_table (assumptions_row ps) = AssumptionLists
 row_table (text_row bytes) = Symbols
 row_table (declared_row n d) = Declarations
 
@@ -73,6 +77,7 @@ row_shape (args_row args) = args_row_shape args
 row_shape (pats_row pats) = pats_row_shape pats
 row_shape (vars_row vars) = vars_row_shape vars
 row_shape (existentials_row ps) = existentials_row_shape ps
+row_shape (assumptions_row ps) = assumptions_row_shape ps
 row_shape (text_row bytes) = text_row_shape bytes
 row_shape (declared_row n d) = declaration_row_shape n d
 

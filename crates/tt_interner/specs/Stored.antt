@@ -16,7 +16,7 @@ use Rattle.tt_kinds.specs.Reading.{outer_binder}
 use Rattle.tt_kinds.specs.Shape.{fill, fill_all, IsTooDeep}
 use Rattle.tt_interner.specs.Clauses.{HasOther}
 use Rattle.tt_interner.specs.Children.{items_row}
-use Rattle.tt_interner.specs.Rows.{Row, clauses_row, tys_row, consts_row, args_row, pats_row, vars_row, existentials_row, text_row, row_table, row_shape, table, size, meaning, IsNew, Grows}
+use Rattle.tt_interner.specs.Rows.{Row, clauses_row, tys_row, consts_row, args_row, pats_row, vars_row, existentials_row, assumptions_row, text_row, row_table, row_shape, table, size, meaning, IsNew, Grows}
 
 -- how often a folder took a type apart: the argument folder, and the shifter
 pub record Counters : Type 0 where
@@ -54,7 +54,7 @@ IsAt rows r n = slice_get (table (row_table r) rows) n ≡ Some r
 -- what an interner has from the start, newest first: the empty lists, and the name `'_`
 abbrev pub first_rows : List Row
 first_rows =
-    text_row (39 ∷ 95 ∷ []) ∷ existentials_row [] ∷ clauses_row [] ∷ pats_row [] ∷ consts_row [] ∷ vars_row [] ∷ args_row [] ∷ tys_row [] ∷ []
+    text_row (39 ∷ 95 ∷ []) ∷ assumptions_row [] ∷ existentials_row [] ∷ clauses_row [] ∷ pats_row [] ∷ consts_row [] ∷ vars_row [] ∷ args_row [] ∷ tys_row [] ∷ []
 
 -- the rows that the defaults of the handles name
 pub record HasFirst (rows : List Row) : Type 0 where
@@ -65,6 +65,7 @@ pub record HasFirst (rows : List Row) : Type 0 where
   pub pats : IsAt rows (pats_row []) 0
   pub clauses : IsAt rows (clauses_row []) 0
   pub existentials : IsAt rows (existentials_row []) 0
+  pub assumptions : IsAt rows (assumptions_row []) 0
   pub text : IsAt rows (text_row (39 ∷ 95 ∷ [])) 0
 
 -- r was stored under the number, or is now the newest row

@@ -1,6 +1,6 @@
 //! Lists of children, and the typed lists that they stand for.
 
-ghost use Rattle.std.specs.Prelude.{◌≡◌, ◌<◌, ◌≤◌, length, slice_get, take, map, All, IfOk, Some};
+ghost use Rattle.std.specs.Prelude.{◌≡◌, ◌<◌, length, slice_get, map, All, IfOk, Some};
 ghost use Rattle.tt_kinds.specs.Parts.{child_sort, IsItem};
 ghost use Rattle.tt_kinds.specs.Shape.{AreParts};
 ghost use Rattle.tt_kinds.specs.Kinds.{children_shapes};
@@ -50,9 +50,6 @@ pub(crate) trait ListItem: Copy + Drop {
 
     ghost as_child: { Self → Child };
 
-    /// Some item, which stands in places that aren't used.
-    fn filler() -> Self;
-
     /// The item that stands as this child.
     fn from_child(child: &Child) -> Self
         requires { IsItem sort (child_sort child.now) }
@@ -61,18 +58,10 @@ pub(crate) trait ListItem: Copy + Drop {
 
 /// What a list of one sort holds, with the call that stores it.
 pub(crate) trait StoredItem: ListItem {
-    /// The stored list of these items. They have to be of the interner.
-    fn store(cx: &mut Interner, items: &[Self]) -> Result<List, Refusal>
-        requires { AreParts (size cx.old.rows) (children_shapes (map Self.as_child items.now)) }
-        ensures { StoresList result cx.old cx.new Self.sort (map Self.as_child items.now) };
-
-    /// The stored list of the items that stand as these children, of which there are at most 8. They are looked up from
-    /// the stack.
-    fn store_few(cx: &mut Interner, children: &[Child]) -> Result<List, Refusal>
-        requires few { length children.now ≤ 8 }
-        requires parts { AreParts (size cx.old.rows) (children_shapes children.now) }
-        requires fit { All (λ c. IsItem Self.sort (child_sort c)) children.now }
-        ensures { StoresList result cx.old cx.new Self.sort children.now };
+    /// The stored list of these items, which are kept as the list's. They have to be of the interner.
+    fn store(cx: &mut Interner, items: Vec<Self>) -> Result<List, Refusal>
+        requires { AreParts (size cx.old.rows) (children_shapes (map Self.as_child items.items)) }
+        ensures { StoresList result cx.old cx.new Self.sort (map Self.as_child items.items) };
 }
 
 impl ListItem for Ty {
@@ -83,27 +72,24 @@ impl ListItem for Ty {
 
     ghost as_child = { ty_child };
 
-    fn filler() -> Ty {
-        Ty::from_number(0)
-    }
-
     fn from_child(child: &Child) -> Ty {
         child.ty()
     }
 }
 
 impl StoredItem for Ty {
-    fn store(cx: &mut Interner, items: &[Ty]) -> Result<List, Refusal> {
-        let list = match cx.mk_tys(items) {
+    ghost use Rattle.tt_kinds.specs.declared.parts.ListSort.TheVariants.{Tys};
+    ghost use Rattle.tt_interner.specs.Children.{ty_child};
+
+    fn store(cx: &mut Interner, items: Vec<Ty>) -> Result<List, Refusal>
+        requires { AreParts (size cx.old.rows) (children_shapes (map ty_child items.items)) }
+        ensures { StoresList result cx.old cx.new Tys (map ty_child items.items) }
+    {
+        let list = match cx.put_tys(items) {
             Ok(list) => list,
             Err(e) => return Err(e),
         };
         Ok(List::Tys(list))
-    }
-
-    fn store_few(cx: &mut Interner, children: &[Child]) -> Result<List, Refusal> {
-        let few: [Ty; 8] = collect_few(children);
-        Ty::store(cx, &few[..children.len()])
     }
 }
 
@@ -115,10 +101,6 @@ impl ListItem for Const {
 
     ghost as_child = { const_child };
 
-    fn filler() -> Const {
-        Const::from_number(0)
-    }
-
     fn from_child(child: &Child) -> Const {
         match child {
             Child::Node(Node::Const(constant)) => *constant,
@@ -128,17 +110,18 @@ impl ListItem for Const {
 }
 
 impl StoredItem for Const {
-    fn store(cx: &mut Interner, items: &[Const]) -> Result<List, Refusal> {
-        let list = match cx.mk_consts(items) {
+    ghost use Rattle.tt_kinds.specs.declared.parts.ListSort.TheVariants.{Consts};
+    ghost use Rattle.tt_interner.specs.Children.{const_child};
+
+    fn store(cx: &mut Interner, items: Vec<Const>) -> Result<List, Refusal>
+        requires { AreParts (size cx.old.rows) (children_shapes (map const_child items.items)) }
+        ensures { StoresList result cx.old cx.new Consts (map const_child items.items) }
+    {
+        let list = match cx.put_consts(items) {
             Ok(list) => list,
             Err(e) => return Err(e),
         };
         Ok(List::Consts(list))
-    }
-
-    fn store_few(cx: &mut Interner, children: &[Child]) -> Result<List, Refusal> {
-        let few: [Const; 8] = collect_few(children);
-        Const::store(cx, &few[..children.len()])
     }
 }
 
@@ -150,10 +133,6 @@ impl ListItem for Pat {
 
     ghost as_child = { pat_child };
 
-    fn filler() -> Pat {
-        Pat::from_number(0)
-    }
-
     fn from_child(child: &Child) -> Pat {
         match child {
             Child::Node(Node::Pat(pat)) => *pat,
@@ -163,17 +142,18 @@ impl ListItem for Pat {
 }
 
 impl StoredItem for Pat {
-    fn store(cx: &mut Interner, items: &[Pat]) -> Result<List, Refusal> {
-        let list = match cx.mk_pat_list(items) {
+    ghost use Rattle.tt_kinds.specs.declared.parts.ListSort.TheVariants.{Pats};
+    ghost use Rattle.tt_interner.specs.Children.{pat_child};
+
+    fn store(cx: &mut Interner, items: Vec<Pat>) -> Result<List, Refusal>
+        requires { AreParts (size cx.old.rows) (children_shapes (map pat_child items.items)) }
+        ensures { StoresList result cx.old cx.new Pats (map pat_child items.items) }
+    {
+        let list = match cx.put_pat_list(items) {
             Ok(list) => list,
             Err(e) => return Err(e),
         };
         Ok(List::Pats(list))
-    }
-
-    fn store_few(cx: &mut Interner, children: &[Child]) -> Result<List, Refusal> {
-        let few: [Pat; 8] = collect_few(children);
-        Pat::store(cx, &few[..children.len()])
     }
 }
 
@@ -185,10 +165,6 @@ impl ListItem for PolyExistentialPredicate {
 
     ghost as_child = { existential_child };
 
-    fn filler() -> PolyExistentialPredicate {
-        PolyExistentialPredicate::from_number(0)
-    }
-
     fn from_child(child: &Child) -> PolyExistentialPredicate {
         match child {
             Child::Node(Node::Existential(predicate)) => *predicate,
@@ -198,17 +174,18 @@ impl ListItem for PolyExistentialPredicate {
 }
 
 impl StoredItem for PolyExistentialPredicate {
-    fn store(cx: &mut Interner, items: &[PolyExistentialPredicate]) -> Result<List, Refusal> {
-        let list = match cx.mk_existential_list(items) {
+    ghost use Rattle.tt_kinds.specs.declared.parts.ListSort.TheVariants.{Existentials};
+    ghost use Rattle.tt_interner.specs.Children.{existential_child};
+
+    fn store(cx: &mut Interner, items: Vec<PolyExistentialPredicate>) -> Result<List, Refusal>
+        requires { AreParts (size cx.old.rows) (children_shapes (map existential_child items.items)) }
+        ensures { StoresList result cx.old cx.new Existentials (map existential_child items.items) }
+    {
+        let list = match cx.put_existentials(items) {
             Ok(list) => list,
             Err(e) => return Err(e),
         };
         Ok(List::Existentials(list))
-    }
-
-    fn store_few(cx: &mut Interner, children: &[Child]) -> Result<List, Refusal> {
-        let few: [PolyExistentialPredicate; 8] = collect_few(children);
-        PolyExistentialPredicate::store(cx, &few[..children.len()])
     }
 }
 
@@ -220,10 +197,6 @@ impl ListItem for Clause {
 
     ghost as_child = { clause_child };
 
-    fn filler() -> Clause {
-        Clause::from_number(0)
-    }
-
     fn from_child(child: &Child) -> Clause {
         match child {
             Child::Node(Node::Predicate(predicate)) => Clause::from_number(predicate.number()),
@@ -233,21 +206,22 @@ impl ListItem for Clause {
 }
 
 impl StoredItem for Clause {
+    ghost use Rattle.tt_kinds.specs.declared.parts.ListSort.TheVariants.{Clauses};
+    ghost use Rattle.tt_interner.specs.Children.{clause_child};
+
     // Children are predicates of any kind, so each is looked at.
-    fn store(cx: &mut Interner, items: &[Clause]) -> Result<List, Refusal> {
-        if !cx.are_clauses(items) {
+    fn store(cx: &mut Interner, items: Vec<Clause>) -> Result<List, Refusal>
+        requires { AreParts (size cx.old.rows) (children_shapes (map clause_child items.items)) }
+        ensures { StoresList result cx.old cx.new Clauses (map clause_child items.items) }
+    {
+        if !cx.are_clauses(items.as_slice()) {
             return Err(Refusal::NotAClause);
         }
-        let list = match cx.mk_clauses(items) {
+        let list = match cx.put_clauses(items) {
             Ok(list) => list,
             Err(e) => return Err(e),
         };
         Ok(List::Clauses(list))
-    }
-
-    fn store_few(cx: &mut Interner, children: &[Child]) -> Result<List, Refusal> {
-        let few: [Clause; 8] = collect_few(children);
-        Clause::store(cx, &few[..children.len()])
     }
 }
 
@@ -258,10 +232,6 @@ impl ListItem for GenericArg {
     ghost sort = { Args };
 
     ghost as_child = { arg_child };
-
-    fn filler() -> GenericArg {
-        GenericArg::from(Ty::from_number(0))
-    }
 
     fn from_child(child: &Child) -> GenericArg {
         match child {
@@ -274,31 +244,19 @@ impl ListItem for GenericArg {
 }
 
 impl StoredItem for GenericArg {
-    fn store(cx: &mut Interner, items: &[GenericArg]) -> Result<List, Refusal> {
-        let list = match cx.mk_args(items) {
+    ghost use Rattle.tt_kinds.specs.declared.parts.ListSort.TheVariants.{Args};
+    ghost use Rattle.tt_interner.specs.Children.{arg_child};
+
+    fn store(cx: &mut Interner, items: Vec<GenericArg>) -> Result<List, Refusal>
+        requires { AreParts (size cx.old.rows) (children_shapes (map arg_child items.items)) }
+        ensures { StoresList result cx.old cx.new Args (map arg_child items.items) }
+    {
+        let list = match cx.put_args(items) {
             Ok(list) => list,
             Err(e) => return Err(e),
         };
         Ok(List::Args(list))
     }
-
-    fn store_few(cx: &mut Interner, children: &[Child]) -> Result<List, Refusal> {
-        let few: [GenericArg; 8] = collect_few(children);
-        GenericArg::store(cx, &few[..children.len()])
-    }
-}
-
-/// The items that stand as these children, of which there are at most as many as the array has places.
-pub(crate) fn collect_few<T: ListItem>(children: &[Child]) -> [T; 8]
-    requires few { length children.now ≤ 8 }
-    requires fit { All (λ c. IsItem T.sort (child_sort c)) children.now }
-    ensures { map T.as_child (take (length children.now) result) ≡ children.now }
-{
-    let mut items = [T::filler(); 8];
-    for index in 0..children.len() {
-        items[index] = T::from_child(&children[index]);
-    }
-    items
 }
 
 /// The items that stand as these children.
@@ -313,7 +271,7 @@ pub(crate) fn collect<T: ListItem>(alloc: Global, children: &[Child]) -> Result<
     Ok(items)
 }
 
-/// The stored list of the items that stand as these children. Lists of few items are looked up from the stack.
+/// The stored list of the items that stand as these children.
 pub(crate) fn store_items<T: StoredItem>(
     cx: &mut Interner,
     children: &[Child],
@@ -322,12 +280,9 @@ pub(crate) fn store_items<T: StoredItem>(
     requires fit { All (λ c. IsItem T.sort (child_sort c)) children.now }
     ensures { StoresList result cx.old cx.new T.sort children.now }
 {
-    if children.len() <= 8 {
-        return T::store_few(cx, children);
-    }
-    let many: Vec<T> = match collect(cx.allocator(), children) {
-        Ok(many) => many,
+    let items: Vec<T> = match collect(cx.allocator(), children) {
+        Ok(items) => items,
         Err(_) => return Err(Refusal::Memory),
     };
-    T::store(cx, many.as_slice())
+    T::store(cx, items)
 }

@@ -9,7 +9,8 @@ use std::alloc::Global;
 use tt_flags::FlagComputation;
 use tt_index::Refusal;
 use tt_kinds::{
-    BoundVariableKind, Clause, Const, GenericArg, Pat, PolyExistentialPredicate, Table, Ty,
+    BoundVariableKind, Clause, Const, GenericArg, OutlivesPredicate, Pat, PolyExistentialPredicate,
+    Table, Ty,
 };
 
 /// Tables of the empty list alone, of lists of types, of arguments, of variables and of constants.
@@ -21,12 +22,13 @@ pub(crate) struct FirstLists {
     pub(crate) const_lists: IndexMap<Vec<Const>, FlagComputation>,
 }
 
-/// Tables of the empty list alone, of lists of patterns, of clauses and of existential predicates.
+/// Tables of the empty list alone, of lists of patterns, of clauses, of existential predicates and of assumptions.
 #[derive(Drop)]
 pub(crate) struct MoreLists {
     pub(crate) pattern_lists: IndexMap<Vec<Pat>, FlagComputation>,
     pub(crate) clause_lists: IndexMap<Vec<Clause>, FlagComputation>,
     pub(crate) existential_lists: IndexMap<Vec<PolyExistentialPredicate>, FlagComputation>,
+    pub(crate) assumption_lists: IndexMap<Vec<OutlivesPredicate<GenericArg>>, FlagComputation>,
 }
 
 /// The first of these tables, noted in the order.
@@ -64,10 +66,11 @@ pub(crate) fn first_lists(alloc: Global, order: &mut Vec<Table>) -> Result<First
 
 /// The other tables, noted in the order.
 pub(crate) fn more_lists(alloc: Global, order: &mut Vec<Table>) -> Result<MoreLists, Refusal>
-    ensures order { OnOk result (order.new.items ≡ order.old.items ++ Table.PatternLists ∷ Table.ClauseLists ∷ Table.ExistentialLists ∷ []) }
+    ensures order { OnOk result (order.new.items ≡ order.old.items ++ Table.PatternLists ∷ Table.ClauseLists ∷ Table.ExistentialLists ∷ Table.AssumptionLists ∷ []) }
     ensures patterns { IfOk result (λ lists. listed_by (λ k. k.items) lists.pattern_lists.entries ≡ ([], no_info) ∷ []) }
     ensures clauses { IfOk result (λ lists. listed_by (λ k. k.items) lists.clause_lists.entries ≡ ([], no_info) ∷ []) }
     ensures existentials { IfOk result (λ lists. listed_by (λ k. k.items) lists.existential_lists.entries ≡ ([], no_info) ∷ []) }
+    ensures assumptions { IfOk result (λ lists. listed_by (λ k. k.items) lists.assumption_lists.entries ≡ ([], no_info) ∷ []) }
     ensures cause { IfErr result (λ e. e ≡ Refusal.Memory) }
 {
     let pattern_lists = match first_list(alloc, order, Table::PatternLists) {
@@ -82,9 +85,14 @@ pub(crate) fn more_lists(alloc: Global, order: &mut Vec<Table>) -> Result<MoreLi
         Ok(lists) => lists,
         Err(e) => return Err(e),
     };
+    let assumption_lists = match first_list(alloc, order, Table::AssumptionLists) {
+        Ok(lists) => lists,
+        Err(e) => return Err(e),
+    };
     Ok(MoreLists {
         pattern_lists,
         clause_lists,
         existential_lists,
+        assumption_lists,
     })
 }

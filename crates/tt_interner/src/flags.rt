@@ -20,8 +20,9 @@ use tt_index::DebruijnIndex;
 use tt_kinds::{
     AliasTyKind, Binder, BoundExistentialPredicates, BoundVarIndexKind, BoundVarKinds,
     BoundVariableKind, Child, Clause, Clauses, Const, ConstKind, Consts, GenericArg,
-    GenericArgKind, GenericArgs, InferConst, InferTy, Kind, List, Node, Parts, Pat, PatList,
-    PolyExistentialPredicate, Predicate, PredicateKind, Region, Ty, TyKind, Tys,
+    GenericArgKind, GenericArgs, InferConst, InferTy, Kind, List, Node, OutlivesPredicate, Parts,
+    Pat, PatList, PolyExistentialPredicate, Predicate, PredicateKind, Region, RegionAssumptions,
+    Ty, TyKind, Tys,
 };
 
 /// What has its flags and its outer exclusive binder at hand. What stands in it has to be of the interner.
@@ -202,6 +203,22 @@ impl Flags for BoundExistentialPredicates {
     }
 }
 
+impl Flags for RegionAssumptions {
+    ghost use Rattle.tt_kinds.specs.Values.{assumptions_shape};
+
+    ghost flags_shape = { assumptions_shape };
+
+    #[tactic(auto, unfolding(tt_kinds::specs::Shape::IsPart, tt_kinds::specs::Shape::fill))]
+    fn flags(&self, cx: &Interner) -> TypeFlags {
+        cx.assumptions_info(*self).flags
+    }
+
+    #[tactic(auto, unfolding(tt_kinds::specs::Shape::IsPart, tt_kinds::specs::Shape::fill))]
+    fn outer_exclusive_binder(&self, cx: &Interner) -> DebruijnIndex {
+        cx.assumptions_info(*self).outer_exclusive_binder
+    }
+}
+
 impl Flags for Tys {
     ghost use Rattle.tt_kinds.specs.Kinds.{tys_shape};
 
@@ -285,6 +302,24 @@ impl Flags for GenericArg {
             GenericArgKind::Type(ty) => ty.outer_exclusive_binder(cx),
             GenericArgKind::Const(constant) => constant.outer_exclusive_binder(cx),
         }
+    }
+}
+
+impl Flags for OutlivesPredicate<GenericArg> {
+    ghost use Rattle.tt_kinds.specs.Values.{assumption_shape};
+
+    ghost flags_shape = { assumption_shape };
+
+    #[tactic(auto, unfolding(tt_kinds::specs::Shape::IsPart, tt_kinds::specs::Shape::fill))]
+    fn flags(&self, cx: &Interner) -> TypeFlags {
+        self.0.flags(cx).union(self.1.flags())
+    }
+
+    #[tactic(auto, unfolding(tt_kinds::specs::Shape::IsPart, tt_kinds::specs::Shape::fill))]
+    fn outer_exclusive_binder(&self, cx: &Interner) -> DebruijnIndex {
+        let first = self.0.outer_exclusive_binder(cx);
+        let second = self.1.outer_exclusive_binder();
+        if first < second { second } else { first }
     }
 }
 

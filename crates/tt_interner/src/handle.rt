@@ -9,8 +9,9 @@ ghost use Rattle.tt_interner.specs.Stored.{IsAt};
 use crate::interner::Interner;
 use tt_kinds::{
     Binder, BoundExistentialPredicates, BoundVarKinds, BoundVariableKind, Clause, Clauses, Const,
-    ConstKind, Consts, ExistentialPredicate, GenericArg, GenericArgs, Pat, PatList, PatternKind,
-    PolyExistentialPredicate, Predicate, PredicateKind, Symbol, Ty, TyKind, Tys,
+    ConstKind, Consts, ExistentialPredicate, GenericArg, GenericArgs, OutlivesPredicate, Pat,
+    PatList, PatternKind, PolyExistentialPredicate, Predicate, PredicateKind, RegionAssumptions,
+    Symbol, Ty, TyKind, Tys,
 };
 
 /// A handle of a stored term that has a kind.
@@ -233,6 +234,23 @@ impl InternedList for BoundExistentialPredicates {
 
     fn as_slice<'a>(self, cx: &'a Interner) -> &'a [PolyExistentialPredicate] {
         cx.existentials(self)
+    }
+}
+
+impl InternedList for RegionAssumptions {
+    ghost use Rattle.tt_interner.specs.Rows.{assumptions_row};
+    ghost use Rattle.tt_kinds.specs.declared.table.Table.TheVariants.{AssumptionLists};
+
+    type Item = OutlivesPredicate<GenericArg>;
+
+    ghost list_number = { λ list. list.number };
+
+    ghost list_table = { AssumptionLists };
+
+    ghost row_of_items = { assumptions_row };
+
+    fn as_slice<'a>(self, cx: &'a Interner) -> &'a [OutlivesPredicate<GenericArg>] {
+        cx.assumptions(self)
     }
 }
 

@@ -5,11 +5,13 @@ ghost use Rattle.tt_interner.specs.Rows.{AreRows};
 ghost use Rattle.tt_interner.specs.Stored.{counted, first_rows, HasFirst};
 ghost use Rattle.tt_interner.specs.Laws.{AreInterned};
 
+mod assumptions;
 mod consts;
 mod declarations;
 mod existentials;
 mod lists;
 mod owns;
+mod owns_ids;
 mod owns_kinds;
 mod patterns;
 mod predicates;
@@ -26,7 +28,8 @@ use tt_flags::FlagComputation;
 use tt_index::{GREATEST_INDEX, Refusal};
 use tt_kinds::{
     Binder, BoundVariableKind, Clause, Const, ConstKind, Declaration, ExistentialPredicate,
-    GenericArg, Pat, PatternKind, PolyExistentialPredicate, PredicateKind, Table, Ty, TyKind,
+    GenericArg, OutlivesPredicate, Pat, PatternKind, PolyExistentialPredicate, PredicateKind,
+    Table, Ty, TyKind,
 };
 
 /// Keeps each type, constant, pattern, predicate, list and text once, so that equal handles of one table stand for the same term.
@@ -46,6 +49,7 @@ pub struct Interner {
     pattern_lists: IndexMap<Vec<Pat>, FlagComputation>,
     var_lists: IndexMap<Vec<BoundVariableKind>, FlagComputation>,
     existential_lists: IndexMap<Vec<PolyExistentialPredicate>, FlagComputation>,
+    assumption_lists: IndexMap<Vec<OutlivesPredicate<GenericArg>>, FlagComputation>,
     symbols: IndexMap<String, ()>,
     // an id's number is its declaration's place
     declarations: Vec<Declaration>,
@@ -117,6 +121,7 @@ impl Interner {
             pattern_lists: more.pattern_lists,
             var_lists: first.var_lists,
             existential_lists: more.existential_lists,
+            assumption_lists: more.assumption_lists,
             symbols,
             declarations: Vec::new(alloc),
             order,

@@ -5,7 +5,7 @@ ghost use Rattle.std.specs.Cmp.Lexicographic.{pointwise};
 ghost use Rattle.std.specs.Str.{bytes_eq};
 ghost use Rattle.std.specs.String.{string_bytes};
 ghost use Rattle.tt_interner.specs.Tables.{listed_by, no_info};
-ghost use Rattle.indexmap.specs.IndexMap.{get, index_of, keys, values, index_map_len};
+ghost use Rattle.indexmap.specs.IndexMap.{get, index_of, index_of_by, keys, values, index_map_len};
 
 use indexmap::IndexMap;
 use std::alloc::Global;
@@ -50,29 +50,49 @@ pub(crate) fn add<K: Eq + Hash + Drop, V: Drop>(
     }
 }
 
-/// Adds a new kind to a table of kinds, as `add`.
-pub(crate) fn add_kind<K: Copy + Eq + Hash + Drop>(
+/// Finds a key in a table that has at most `limit`, or adds it as `add` does, by one look-up where there is room. What is there
+/// has the same information beside it. Answers the entry's number.
+pub(crate) fn find_or_insert<K: Eq + Hash + Drop>(
     order: &mut Vec<Table>,
     limit: u32,
     table: Table,
     entries: &mut IndexMap<K, FlagComputation>,
-    kind: &K,
+    key: K,
     info: FlagComputation,
 ) -> Result<u32, Refusal>
-    requires { get K.eq entries.old kind.now ≡ None }
-    ensures order { OnOk result (order.new.items ≡ order.old.items ++ table ∷ []) }
-    ensures entries { OnOk result (entries.new.entries ≡ entries.old.entries ++ (kind.now, info) ∷ []) }
-    ensures number { IfOk result (λ n. (n ≡ length entries.old.entries) × (n < limit)) }
+    requires few { length entries.old.entries ≤ limit }
+    requires same { (there : FlagComputation) → get K.eq entries.old key ≡ Some there → there ≡ info }
+    ensures found { (n : ℕ) → index_of K.eq entries.old key ≡ Some n → (result ≡ Ok n) × (order.new.items ≡ order.old.items) × (entries.new.entries ≡ entries.old.entries) }
+    ensures order { index_of K.eq entries.old key ≡ None → OnOk result (order.new.items ≡ order.old.items ++ table ∷ []) }
+    ensures entries { index_of K.eq entries.old key ≡ None → OnOk result (entries.new.entries ≡ entries.old.entries ++ (key, info) ∷ []) }
+    ensures number { index_of K.eq entries.old key ≡ None → IfOk result (λ n. (n ≡ length entries.old.entries) × (n < limit)) }
     ensures order_stays { OnErr result (order.new.items ≡ order.old.items) }
     ensures entries_stay { OnErr result (entries.new.entries ≡ entries.old.entries) }
     ensures cause { IfErr result (λ e. (e ≡ Refusal.Memory) ⊎ ((e ≡ Refusal.TableFull) × (limit ≤ length entries.old.entries))) }
-    ensures full { limit ≤ length entries.old.entries → result ≡ Err Refusal.TableFull }
+    ensures full { index_of K.eq entries.old key ≡ None → limit ≤ length entries.old.entries → result ≡ Err Refusal.TableFull }
 {
-    add(order, limit, table, entries, *kind, info)
+    if entries.len() >= limit as usize {
+        return find_or(entries, &key, Refusal::TableFull);
+    }
+    match order.reserve(1) {
+        Ok(()) => {}
+        Err(_) => return find_or(entries, &key, Refusal::Memory),
+    }
+    let place = match entries.insert_full(key, info) {
+        Ok(place) => place,
+        Err(_) => return Err(Refusal::Memory),
+    };
+    match place {
+        (number, Some(_)) => Ok(number as u32),
+        (number, None) => match order.push(table) {
+            Ok(()) => Ok(number as u32),
+            Err(_) => unreachable!(),
+        },
+    }
 }
 
-/// Finds a kind in a table of kinds that has at most `limit`, or adds it as `add` does, by one look-up where there is room. What is there
-/// has the same information beside it. Answers the entry's number.
+/// Finds or adds a kind in a table of kinds, as `find_or_insert`.
+#[inline(always)]
 pub(crate) fn find_or_add<K: Copy + Eq + Hash + Drop>(
     order: &mut Vec<Table>,
     limit: u32,
@@ -92,36 +112,22 @@ pub(crate) fn find_or_add<K: Copy + Eq + Hash + Drop>(
     ensures cause { IfErr result (λ e. (e ≡ Refusal.Memory) ⊎ ((e ≡ Refusal.TableFull) × (limit ≤ length entries.old.entries))) }
     ensures full { index_of K.eq entries.old kind.now ≡ None → limit ≤ length entries.old.entries → result ≡ Err Refusal.TableFull }
 {
-    if entries.len() >= limit as usize {
-        return find_or(entries, kind, Refusal::TableFull);
-    }
-    match order.reserve(1) {
-        Ok(()) => {}
-        Err(_) => return find_or(entries, kind, Refusal::Memory),
-    }
-    match entries.insert_full(*kind, info) {
-        Ok((number, Some(_))) => Ok(number as u32),
-        Ok((number, None)) => match order.push(table) {
-            Ok(()) => Ok(number as u32),
-            Err(_) => unreachable!(),
-        },
-        Err(_) => Err(Refusal::Memory),
-    }
+    find_or_insert(order, limit, table, entries, *kind, info)
 }
 
-// The number of a kind in a table of kinds, and the refusal where it isn't there.
+// The number of a key in a table, and the refusal where it isn't there.
 #[inline(never)]
-fn find_or<K: Copy + Eq + Hash + Drop>(
+fn find_or<K: Eq + Hash + Drop>(
     entries: &IndexMap<K, FlagComputation>,
-    kind: &K,
+    key: &K,
     refusal: Refusal,
 ) -> Result<u32, Refusal>
     requires { length entries.now.entries ≤ 4294967295 }
-    ensures found { (n : ℕ) → index_of K.eq entries.now kind.now ≡ Some n → result ≡ Ok n }
-    ensures absent { index_of K.eq entries.now kind.now ≡ None → result ≡ Err refusal }
+    ensures found { (n : ℕ) → index_of K.eq entries.now key.now ≡ Some n → result ≡ Ok n }
+    ensures absent { index_of K.eq entries.now key.now ≡ None → result ≡ Err refusal }
     ensures cause { IfErr result (λ e. e ≡ refusal) }
 {
-    match entries.get_index_of(kind) {
+    match entries.get_index_of(key) {
         Some(number) => Ok(number as u32),
         None => Err(refusal),
     }
@@ -151,6 +157,31 @@ pub(crate) fn add_list<T: Copy + Eq + Hash + Drop>(
     match Vec::from_slice(*entries.allocator(), items) {
         Ok(key) => add(order, limit, table, entries, key, info),
         Err(_) => Err(Refusal::Memory),
+    }
+}
+
+/// Finds a list in a table of lists, or adds it as `add` does. Answers the entry's number.
+pub(crate) fn find_or_add_list<T: Copy + Eq + Hash + Drop>(
+    order: &mut Vec<Table>,
+    limit: u32,
+    table: Table,
+    entries: &mut IndexMap<Vec<T>, FlagComputation>,
+    items: &[T],
+    info: FlagComputation,
+) -> Result<u32, Refusal>
+    requires { length entries.old.entries ≤ limit }
+    ensures found { (n : ℕ) → index_of_by (λ k. pointwise T.eq items.now k.items) entries.old ≡ Some n → (result ≡ Ok n) × (order.new.items ≡ order.old.items) × (entries.new.entries ≡ entries.old.entries) }
+    ensures order { index_of_by (λ k. pointwise T.eq items.now k.items) entries.old ≡ None → OnOk result (order.new.items ≡ order.old.items ++ table ∷ []) }
+    ensures entries { index_of_by (λ k. pointwise T.eq items.now k.items) entries.old ≡ None → OnOk result (listed_by (λ k. k.items) entries.new.entries ≡ listed_by (λ k. k.items) entries.old.entries ++ (items.now, info) ∷ []) }
+    ensures number { index_of_by (λ k. pointwise T.eq items.now k.items) entries.old ≡ None → IfOk result (λ n. (n ≡ length entries.old.entries) × (n < limit)) }
+    ensures order_stays { OnErr result (order.new.items ≡ order.old.items) }
+    ensures entries_stay { OnErr result (entries.new.entries ≡ entries.old.entries) }
+    ensures cause { IfErr result (λ e. (e ≡ Refusal.Memory) ⊎ ((e ≡ Refusal.TableFull) × (limit ≤ length entries.old.entries))) }
+    ensures full { index_of_by (λ k. pointwise T.eq items.now k.items) entries.old ≡ None → limit ≤ length entries.old.entries → result ≡ Err Refusal.TableFull }
+{
+    match entries.get_index_of(items) {
+        Some(number) => Ok(number as u32),
+        None => add_list(order, limit, table, entries, items, info),
     }
 }
 

@@ -16,6 +16,7 @@ pub mod Rigid
 pub mod Alias
 pub mod ValTree
 pub mod Predicate
+pub mod Declaration
 pub mod RegionKind
 pub mod FnSig
 pub mod Shape

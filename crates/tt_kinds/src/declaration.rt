@@ -1,5 +1,8 @@
 //! Declarations: what ids name.
 
+ghost use Rattle.std.specs.Prelude.{◌≡◌};
+ghost use Rattle.tt_kinds.specs.Declaration.{sort_of};
+
 use crate::handle::Symbol;
 use crate::id::{ImplId, TraitId};
 
@@ -35,6 +38,60 @@ pub enum DeclarationKind {
     Const,
     /// A parameter: of a type, a region or a constant.
     Param,
+}
+
+/// The sort of a declaration: what is declared, without what its declaration says beside.
+#[derive(Clone, Copy, Debug, PartialEq, Eq, Hash)]
+pub enum DeclarationSort {
+    /// A trait.
+    Trait,
+    /// An associated type of a trait.
+    AssocTy,
+    /// An implementation: of a trait, or of a type's own items.
+    Impl,
+    /// An associated type of an implementation, which is no trait's.
+    Inherent,
+    /// A struct, an enum or a union.
+    Adt,
+    /// An opaque type.
+    Opaque,
+    /// A type alias that stands for itself.
+    Free,
+    /// A type that is declared elsewhere.
+    Foreign,
+    /// A closure.
+    Closure,
+    /// A closure that answers a coroutine.
+    CoroutineClosure,
+    /// A coroutine.
+    Coroutine,
+    /// A constant whose value is computed when it is asked for.
+    Const,
+    /// A parameter: of a type, a region or a constant.
+    Param,
+}
+
+impl DeclarationKind {
+    /// The sort of the declaration.
+    pub fn sort(&self) -> DeclarationSort
+        ensures { result ≡ sort_of self.now }
+    {
+        match self {
+            DeclarationKind::Trait { .. } => DeclarationSort::Trait,
+            DeclarationKind::AssocTy(_) => DeclarationSort::AssocTy,
+            DeclarationKind::Impl => DeclarationSort::Impl,
+            DeclarationKind::Inherent(_) => DeclarationSort::Inherent,
+            DeclarationKind::Adt => DeclarationSort::Adt,
+            DeclarationKind::Opaque => DeclarationSort::Opaque,
+            DeclarationKind::Free => DeclarationSort::Free,
+            DeclarationKind::Foreign => DeclarationSort::Foreign,
+            DeclarationKind::Closure => DeclarationSort::Closure,
+            DeclarationKind::CoroutineClosure => DeclarationSort::CoroutineClosure,
+            DeclarationKind::Coroutine => DeclarationSort::Coroutine,
+            DeclarationKind::Const => DeclarationSort::Const,
+            DeclarationKind::Param => DeclarationSort::Param,
+        }
+    }
 }
 
 /// A declaration: what is declared, and its name. Two declarations may have one name.

@@ -49,6 +49,7 @@ pub use const_kind::ValTreeKind;
 pub use const_kind::ValueConst;
 pub use declaration::Declaration;
 pub use declaration::DeclarationKind;
+pub use declaration::DeclarationSort;
 pub use error_guaranteed::ErrorGuaranteed;
 pub use existential::ExistentialPredicate;
 pub use existential::ExistentialProjection;

@@ -11,7 +11,7 @@ use Rattle.tt_kinds.specs.Shape.{Shapes, none, also, append, rename_label, renam
 use Rattle.tt_kinds.specs.Kinds.{Form, param, bound, plain, under, ty_form, const_form, kind_form, relabelled, form_binder, form_parts, form_shape, kind_sort, kind_shape, region_shape, child_shapes, parts_shapes, children_shapes, items_tree}
 use Rattle.tt_kinds.specs.declared.parts.Kind.{Kind}
 use Rattle.tt_kinds.specs.declared.table.Table.{Table}
-use Rattle.tt_interner.specs.Rows.{Row, type_row, const_row, pat_row, predicate_row, existential_row, clauses_row, tys_row, consts_row, args_row, pats_row, existentials_row, vars_row, text_row, declared_row, row_table, row_shape, table, size, meaning}
+use Rattle.tt_interner.specs.Rows.{Row, type_row, const_row, pat_row, predicate_row, existential_row, clauses_row, tys_row, consts_row, args_row, pats_row, existentials_row, assumptions_row, vars_row, text_row, declared_row, row_table, row_shape, table, size, meaning}
 use Rattle.tt_interner.proofs.RowLaws.{place_cases, IsNewest, meaning-old, meaning-new}
 use Rattle.tt_kinds.specs.declared.parts.Child.{Child}
 use Rattle.tt_kinds.specs.declared.parts.Node.{Node}
@@ -62,6 +62,7 @@ root-row f (consts_row cs) = refl
 root-row f (args_row args) = refl
 root-row f (pats_row ps) = refl
 root-row f (existentials_row ps) = refl
+root-row f (assumptions_row ps) = refl
 root-row f (vars_row vs) = refl
 root-row f (text_row bytes) = refl
 root-row f (declared_row n d) = refl

@@ -1,14 +1,14 @@
 //! The visit of handles, and of the small values around them.
 
 use crate::stored::{visit_inside, visit_list, visit_node};
-use crate::visitable::{TypeSuperVisitable, TypeVisitable};
+use crate::visitable::{TypeSuperVisitable, TypeVisitable, visit_values};
 use crate::visitor::TypeVisitor;
 use std::ops::ControlFlow;
 use tt_interner::Interner;
 use tt_kinds::{
     BoundExistentialPredicates, Clause, Clauses, Const, Consts, GenericArg, GenericArgKind,
-    GenericArgs, List, Node, Pat, PatList, PolyExistentialPredicate, Predicate, Region, Term,
-    TermKind, Ty, Tys,
+    GenericArgs, List, Node, Pat, PatList, PolyExistentialPredicate, Predicate, Region,
+    RegionAssumptions, Term, TermKind, Ty, Tys,
 };
 
 impl TypeVisitable for Ty {
@@ -233,6 +233,22 @@ impl TypeVisitable for BoundExistentialPredicates {
         visitor: &mut V,
     ) -> ControlFlow<V::Break, ()> {
         visit_list(cx, visitor, List::Existentials(*self))
+    }
+}
+
+impl TypeVisitable for RegionAssumptions {
+    ghost use Rattle.tt_kinds.specs.Values.{assumptions_shape};
+
+    ghost shape = { assumptions_shape };
+
+    #[tactic(auto, unfolding(tt_kinds::specs::Shape::IsPart, tt_kinds::specs::Shape::fill))]
+    fn visit_with<V: TypeVisitor>(
+        &self,
+        cx: &Interner,
+        visitor: &mut V,
+    ) -> ControlFlow<V::Break, ()> {
+        cx.are_rows();
+        visit_values(cx, visitor, cx.assumptions(*self))
     }
 }
 

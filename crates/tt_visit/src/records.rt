@@ -11,10 +11,10 @@ use crate::visitor::TypeVisitor;
 use std::ops::ControlFlow;
 use tt_interner::Interner;
 use tt_kinds::{
-    AliasTerm, AliasTy, Child, ClauseKind, CoercePredicate, ExistentialPredicate,
-    ExistentialProjection, ExistentialTraitRef, FnSig, FnSigTys, HostEffectPredicate, Node,
-    NormalizesTo, OutlivesPredicate, ParamEnv, Parts, PredicateKind, ProjectionPredicate,
-    SubtypePredicate, TraitPredicate, TraitRef, TypeAndMut, UnsafeBinderInner,
+    AliasTerm, AliasTy, Child, ClauseKind, CoercePredicate, CoroutineWitnessTypes,
+    ExistentialPredicate, ExistentialProjection, ExistentialTraitRef, FnSig, FnSigTys,
+    HostEffectPredicate, Node, NormalizesTo, OutlivesPredicate, ParamEnv, Parts, PredicateKind,
+    ProjectionPredicate, SubtypePredicate, TraitPredicate, TraitRef, TypeAndMut, UnsafeBinderInner,
 };
 
 impl TypeVisitable for FnSigTys {
@@ -44,6 +44,24 @@ impl TypeVisitable for FnSig {
         visitor: &mut V,
     ) -> ControlFlow<V::Break, ()> {
         self.inputs_and_output.visit_with(cx, visitor)
+    }
+}
+
+impl TypeVisitable for CoroutineWitnessTypes {
+    ghost use Rattle.tt_kinds.specs.Values.{witness_types_shape};
+
+    ghost shape = { witness_types_shape };
+
+    #[tactic(auto, unfolding(tt_kinds::specs::Shape::IsPart, tt_kinds::specs::Shape::fill))]
+    fn visit_with<V: TypeVisitor>(
+        &self,
+        cx: &Interner,
+        visitor: &mut V,
+    ) -> ControlFlow<V::Break, ()> {
+        match self.types.visit_with(cx, visitor) {
+            ControlFlow::Break(b) => ControlFlow::Break(b),
+            ControlFlow::Continue(_) => self.assumptions.visit_with(cx, visitor),
+        }
     }
 }
 

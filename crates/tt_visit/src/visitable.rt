@@ -210,7 +210,7 @@ impl<T: TypeVisitable> TypeVisitable for &[T] {
 }
 
 // The visit of values in order.
-fn visit_values<T: TypeVisitable, V: TypeVisitor>(
+pub(crate) fn visit_values<T: TypeVisitable, V: TypeVisitor>(
     cx: &Interner,
     visitor: &mut V,
     values: &[T],

@@ -33,7 +33,7 @@ use Rattle.type_terms.specs.declared.run.call.Call.{Call}
 use Rattle.type_terms.specs.declared.run.call.Call.TheVariants as call
 use Rattle.type_terms.specs.CallForm.{Named, one, a_term, region_tree, IsRegionTooDeep, item_positions, items_positions, IsItemTooDeep, AreItemsTooDeep, arg_item, arg_items}
 use Rattle.type_terms.specs.Told.{Told, term, told_all, HasFullTable}
-use Rattle.type_terms.specs.Means.{Term, term_at, tree_at, positions, AreTerms, Suits, argument, arguments, IsAllowed, MayRefuse, want_of_memory, full_table, no_term, unfit, unsuited}
+use Rattle.type_terms.specs.Means.{Term, term_at, tree_at, positions, AreTerms, Suits, Tells, argument, arguments, IsAllowed, MayRefuse, want_of_memory, full_table, no_term, unfit, unsuited}
 use Rattle.type_terms.specs.Build.{IsUnbuilt, IsPartOf, IsRegionOf, IsArgumentOf, GivesArgument, AreArgumentsOf, GivesArguments}
 use Rattle.type_terms.proofs.PartLaws.{all_placed-grow, items-none, items-more}
 
@@ -82,11 +82,13 @@ arguments-more old new e cs xs c a x h k = record {
 }
 
 -- a position without a term
-pub absent-refused : (P : Type 0) (rows : List Row) (earlier : List Answer) (n : Named) (ns : List Named) (c : Call) → positions c ≡ n ∷ ns → (r : Refusal) → r ≡ NoSuchAnswer
+pub absent-refused : (P : Type 0) (rows : List Row) (earlier : List Answer) (n : Named) (ns : List Named) (c : Call) → positions c ≡ n ∷ ns
+    → (Tells (told_all rows earlier) n.want n.position → IsSomeAnd (term_at (told_all rows earlier) n.position) (Suits (told_all rows earlier) n.want))
+    → (r : Refusal) → r ≡ NoSuchAnswer
     → ((rows : List Row) → term_at (told_all rows earlier) n.position ≡ None) → MayRefuse P (told_all rows earlier) c r
-absent-refused P rows earlier n ns c q r i h =
+absent-refused P rows earlier n ns c q w r i h =
     no_term (λ a. let b = subst (λ (qs : List Named). AreTerms (told_all rows earlier) qs) q a in
-    subst (λ (o : Option Term). IsSomeAnd o (Suits (told_all rows earlier) n.want)) (h rows) b.0) i
+    subst (λ (o : Option Term). IsSomeAnd o (Suits (told_all rows earlier) n.want)) (h rows) (w b.0)) i
 
 module _ (e : List Told) (p : ℕ) (table : Table) (u : Tree Depth) (at : term_at e p ≡ Some (record { table = table; tree = u })) where
   is_term : IsSomeAnd (term_at e p) (λ t. Unit {0})

@@ -9,3 +9,4 @@ pub mod NameLaws
 pub mod KindLaws
 pub mod FoldLaws
 pub mod QueryLaws
+pub mod DeclareLaws

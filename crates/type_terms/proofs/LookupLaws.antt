@@ -8,6 +8,8 @@ use Rattle.tt_index.specs.declared.refusal.Refusal.{Refusal}
 use Rattle.tt_index.specs.declared.refusal.Refusal.TheVariants.{NoSuchAnswer}
 use Rattle.tt_kinds.specs.Tree.{Tree, Depth}
 use Rattle.tt_kinds.specs.Shape.{fill, stored, IsPart}
+use Rattle.tt_kinds.specs.declared.declaration.DeclarationSort.{DeclarationSort}
+use Rattle.tt_kinds.specs.declared.id.DefId.{DefId}
 use Rattle.tt_kinds.specs.declared.table.Table.{Table}
 use Rattle.tt_kinds.specs.declared.table.Table.TheVariants.{Types, Consts, Patterns, Predicates, ClauseLists, ArgLists}
 use Rattle.tt_kinds.specs.declared.handle.Ty.{Ty}
@@ -23,13 +25,18 @@ use Rattle.type_terms.specs.declared.run.answer.Answer.{Answer}
 use Rattle.type_terms.specs.declared.run.answer.Answer.TheVariants as answer
 use Rattle.type_terms.specs.CallForm.{of_table, one, a_term}
 use Rattle.type_terms.specs.Told.{told, told_all, IsOwned, AreOwned}
-use Rattle.type_terms.specs.Means.{Term, as_term, term_at, Suits}
-use Rattle.type_terms.specs.Build.{IsAnswerAt, IsHandle, IsOther, IsUnbuilt, no_term, IsPartOf}
+use Rattle.type_terms.specs.Means.{Term, as_term, term_at, Suits, Id, as_id, id_at}
+use Rattle.type_terms.specs.Build.{IsAnswerAt, IsIdAt, HasNoId, IsHandle, IsOther, IsUnbuilt, no_term, IsPartOf}
 
 pub term_at-told : (rows : List Row) (earlier : List Answer) (p : ℕ) → (p ≡ 0 → ⊥)
     → term_at (told_all rows earlier) p ≡ as_term (option_map (told rows) (slice_get earlier (p - 1)))
 term_at-told rows earlier zero h = absurd (h refl)
 term_at-told rows earlier (suc n) h = let e : suc n - 1 ≡ n = omega arith in rw (e, slice_get-map (told rows) earlier n) refl
+
+pub id_at-told : (rows : List Row) (earlier : List Answer) (p : ℕ) → (p ≡ 0 → ⊥)
+    → id_at (told_all rows earlier) p ≡ as_id (option_map (told rows) (slice_get earlier (p - 1)))
+id_at-told rows earlier zero h = absurd (h refl)
+id_at-told rows earlier (suc n) h = let e : suc n - 1 ≡ n = omega arith in rw (e, slice_get-map (told rows) earlier n) refl
 
 owned-at : (rows : List Row) (answers : List Answer) (n : ℕ) (a : Answer) → AreOwned rows answers → slice_get answers n ≡ Some a → IsOwned rows a
 owned-at rows [] n a h e = absurd (cc)
@@ -39,11 +46,31 @@ owned-at rows (b ∷ answers) (suc n) a h e = owned-at rows answers n a h.1 e
 pub found : (earlier : List Answer) (p : ℕ) (a : Answer) → (p ≡ 0 → ⊥) → slice_get earlier (p - 1) ≡ Some a → IsAnswerAt earlier p a
 found earlier p a h e = record {
   means = λ rows. rw (term_at-told rows earlier p h, e) refl;
+  is_id = λ rows. rw (id_at-told rows earlier p h, e) refl;
   owned = λ rows o. owned-at rows earlier (p - 1) a o e;
 }
 
 pub absent : (earlier : List Answer) (p : ℕ) → (p ≡ 0 → ⊥) → slice_get earlier (p - 1) ≡ None → (rows : List Row) → term_at (told_all rows earlier) p ≡ None
 absent earlier p h e rows = rw (term_at-told rows earlier p h, e) refl
+
+pub absent-id : (earlier : List Answer) (p : ℕ) → (p ≡ 0 → ⊥) → slice_get earlier (p - 1) ≡ None → (rows : List Row) → id_at (told_all rows earlier) p ≡ None
+absent-id earlier p h e rows = rw (id_at-told rows earlier p h, e) refl
+
+-- the id at a position
+pub id-found : (earlier : List Answer) (p : ℕ) (a : Answer) (s : DeclarationSort) (id : DefId) → IsAnswerAt earlier p a → a ≡ answer.Id s id → IsIdAt earlier p s id.number
+id-found earlier p a s id at is rows = at.is_id rows ∙ ap (λ (b : Answer). as_id (Some (told rows b))) is
+
+-- no answer at the position
+pub no-id-absent : (earlier : List Answer) (p : ℕ) (s : DeclarationSort) → ((rows : List Row) → id_at (told_all rows earlier) p ≡ None) → HasNoId earlier p s
+no-id-absent earlier p s none rows h = subst (λ (o : Option Id). IsSomeAnd o (λ i. i.sort ≡ s)) (none rows) h
+
+-- the answer at the position is no id of the sort
+other-id : (rows : List Row) (a : Answer) (s : DeclarationSort) → ((id : DefId) → a ≡ answer.Id s id → ⊥) → IsSomeAnd (as_id (Some (told rows a))) (λ i. i.sort ≡ s) → ⊥
+other-id rows (answer.Id r id) s not same = not id (ap (λ (t : DeclarationSort). answer.Id t id) same)
+other-id rows _ s not h = absurd h
+
+pub no-id-other : (earlier : List Answer) (p : ℕ) (a : Answer) (s : DeclarationSort) → IsAnswerAt earlier p a → ((id : DefId) → a ≡ answer.Id s id → ⊥) → HasNoId earlier p s
+no-id-other earlier p a s at not rows h = other-id rows a s not (subst (λ (o : Option Id). IsSomeAnd o (λ i. i.sort ≡ s)) (at.is_id rows) h)
 
 -- the handle at a position
 module _ (terms : Terms) (earlier : List Answer) (p : ℕ) (a : Answer) (table : Table) (n : ℕ) (at : IsAnswerAt earlier p a) (is : IsHandle a table n) where
@@ -109,6 +136,7 @@ no-handle (answer.Pat x) f g h i j k rows = absurd (h x refl)
 no-handle (answer.Predicate x) f g h i j k rows = absurd (i x refl)
 no-handle (answer.Clauses x) f g h i j k rows = absurd (j x refl)
 no-handle (answer.Args x) f g h i j k rows = absurd (k x refl)
+no-handle (answer.Id s d) f g h i j k rows = refl
 no-handle (answer.Truth b) f g h i j k rows = refl
 no-handle (answer.Info flags outer) f g h i j k rows = refl
 no-handle (answer.Refused r) f g h i j k rows = refl

@@ -1,15 +1,18 @@
 -- What was told stays told while rows grow, and a run goes on by one call.
-use Rattle.std.proofs.Common.{◌≡◌, List, [], ◌∷◌, ◌++◌, refl, ap, sym, subst, arith, append_assoc, append-nil}
+use Rattle.std.proofs.Common.{◌≡◌, List, [], ◌∷◌, ◌++◌, refl, ap, sym, ◌∙◌, subst, arith, append_assoc, append-nil}
 use Rattle.std.proofs.lemmas.List.{map-append}
 use Rattle.tt_index.specs.declared.refusal.Refusal.{Refusal}
-use Rattle.tt_kinds.specs.declared.table.Table.TheVariants.{Types, Consts, Patterns, Predicates, ClauseLists, ArgLists}
+use Rattle.tt_kinds.specs.declared.table.Table.TheVariants.{Types, Consts, Patterns, Predicates, ClauseLists, ArgLists, Declarations}
+use Rattle.tt_kinds.specs.declared.declaration.Declaration.{Declaration}
+use Rattle.tt_kinds.specs.Declaration.{sort_of}
 use Rattle.tt_interner.specs.Rows.{Row, Grows}
 use Rattle.tt_interner.specs.Stored.{Terms, Extends}
 use Rattle.tt_interner.proofs.Growth.{Extends-refl, Extends-trans, size-grows, in_range-grows, meaning-grows}
+use Rattle.tt_interner.proofs.DeclarationLemmas.{declared_at-grows}
 use Rattle.type_terms.specs.declared.run.call.Call.{Call}
 use Rattle.type_terms.specs.declared.run.answer.Answer.{Answer}
 use Rattle.type_terms.specs.declared.run.answer.Answer.TheVariants as answer
-use Rattle.type_terms.specs.Told.{Told, term, truth, info, refused, bad, told, told_all, IsOwned, AreOwned, HasFullTable}
+use Rattle.type_terms.specs.Told.{Told, term, declared, truth, info, refused, bad, told, told_all, IsOwned, AreOwned, HasFullTable}
 use Rattle.type_terms.specs.Means.{MayRefuse, want_of_memory, full_table, no_term, too_deep, unfit, unsuited, IsAllowed, Means}
 
 module _ (old new : List Row) (g : Grows old new) where
@@ -20,6 +23,7 @@ module _ (old new : List Row) (g : Grows old new) where
   told-grows (answer.Predicate t) h = ap (term Predicates) (meaning-grows old new g Predicates t.number h)
   told-grows (answer.Clauses t) h = ap (term ClauseLists) (meaning-grows old new g ClauseLists t.number h)
   told-grows (answer.Args t) h = ap (term ArgLists) (meaning-grows old new g ArgLists t.number h)
+  told-grows (answer.Id s d) h = refl
   told-grows (answer.Truth b) h = refl
   told-grows (answer.Info flags outer) h = refl
   told-grows (answer.Refused r) h = refl
@@ -32,6 +36,8 @@ module _ (old new : List Row) (g : Grows old new) where
   IsOwned-grows (answer.Predicate t) h = in_range-grows old new g Predicates t.number h
   IsOwned-grows (answer.Clauses t) h = in_range-grows old new g ClauseLists t.number h
   IsOwned-grows (answer.Args t) h = in_range-grows old new g ArgLists t.number h
+  IsOwned-grows (answer.Id s d) h =
+      (in_range-grows old new g Declarations d.number h.0, ap (λ (x : Declaration). sort_of x.kind) (declared_at-grows old new g (record { number = d.number }) h.0) ∙ h.1)
   IsOwned-grows (answer.Truth b) h = tt
   IsOwned-grows (answer.Info flags outer) h = tt
   IsOwned-grows (answer.Refused r) h = tt
@@ -68,6 +74,7 @@ module _ (P Q : Type 0) (f : P → Q) where
 
   IsAllowed-fuller : (e : List Told) (c : Call) (t : Told) → IsAllowed P e c t → IsAllowed Q e c t
   IsAllowed-fuller e c (term table t) h = h
+  IsAllowed-fuller e c (declared s n) h = h
   IsAllowed-fuller e c (truth b) h = h
   IsAllowed-fuller e c (info flags outer) h = h
   IsAllowed-fuller e c (refused r) h = MayRefuse-fuller e c r h

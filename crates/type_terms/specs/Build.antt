@@ -15,6 +15,7 @@ use Rattle.tt_kinds.specs.declared.region_kind.RegionKind.{RegionKind}
 use Rattle.tt_kinds.specs.declared.bound.BoundRegionKind.{BoundRegionKind}
 use Rattle.tt_kinds.specs.declared.bound.BoundVariableKind.{BoundVariableKind}
 use Rattle.tt_kinds.specs.declared.handle.BoundVarKinds.{BoundVarKinds}
+use Rattle.tt_kinds.specs.declared.declaration.DeclarationSort.{DeclarationSort}
 use Rattle.tt_kinds.specs.declared.table.Table.{Table}
 use Rattle.tt_kinds.specs.declared.table.Table.TheVariants.{VarLists}
 use Rattle.tt_interner.specs.Rows.{Row, size, meaning, AreClauses}
@@ -30,9 +31,9 @@ use Rattle.tt_binder.specs.Arguments.{arguments as built_arguments}
 use Rattle.tt_kinds.specs.declared.generic_arg.GenericArgKind.{GenericArgKind}
 use Rattle.std.specs.declared.alloc.Global.{Global}
 use Rattle.std.specs.declared.vec.Vec.{Vec}
-use Rattle.type_terms.specs.CallForm.{CallForm, Named, Item, Part, called, variable_kind, item_tree, items_trees, part_tree, parts_trees, item_positions, items_positions, part_positions, parts_positions, IsItemTooDeep, AreItemsTooDeep, IsPartTooDeep, ArePartsTooDeep, form_positions, form_tree, IsFormTooDeep, arg_item, arg_items, clause_items, RecordCall, record_tree}
+use Rattle.type_terms.specs.CallForm.{of_id, CallForm, Named, Item, Part, called, variable_kind, item_tree, items_trees, part_tree, parts_trees, item_positions, items_positions, part_positions, parts_positions, IsItemTooDeep, AreItemsTooDeep, IsPartTooDeep, ArePartsTooDeep, form_positions, form_tree, IsFormTooDeep, arg_item, arg_items, clause_items, RecordCall, record_tree}
 use Rattle.type_terms.specs.Told.{Told, term, told, told_all, handle_table, IsOwned, AreOwned, HasFullTable}
-use Rattle.type_terms.specs.Means.{as_term, term_at, tree_at, argument, arguments, AreTerms, IsAllowed, MayRefuse}
+use Rattle.type_terms.specs.Means.{as_term, term_at, as_id, id_at, Tells, tree_at, argument, arguments, AreTerms, IsAllowed, MayRefuse}
 
 -- the answer is the handle of this number in the table
 pub record IsHandle (a : Answer) (table : Table) (number : ℕ) : Type 0 where
@@ -43,6 +44,14 @@ pub record IsHandle (a : Answer) (table : Table) (number : ℕ) : Type 0 where
 -- the answer is no handle of the table
 abbrev pub IsOther : Answer → Table → Type 0
 IsOther a table = (rows : List Row) → IsSomeAnd (as_term (Some (told rows a))) (λ u. u.table ≡ table) → ⊥
+
+-- the id at the position is this one, of this sort
+abbrev pub IsIdAt : List Answer → ℕ → DeclarationSort → ℕ → Type 0
+IsIdAt earlier p s n = (rows : List Row) → id_at (told_all rows earlier) p ≡ Some (record { sort = s; number = n })
+
+-- no id of this sort is at the position
+abbrev pub HasNoId : List Answer → ℕ → DeclarationSort → Type 0
+HasNoId earlier p s = (rows : List Row) → Tells (told_all rows earlier) (of_id s) p → ⊥
 
 -- both answers are handles of one table
 abbrev pub AreAlike : Answer → Answer → Type 0
@@ -56,6 +65,7 @@ IsInfoOf t _ = ⊥
 -- this is the answer at the position
 pub record IsAnswerAt (earlier : List Answer) (position : ℕ) (a : Answer) : Type 0 where
   pub means : (rows : List Row) → term_at (told_all rows earlier) position ≡ as_term (Some (told rows a))
+  pub is_id : (rows : List Row) → id_at (told_all rows earlier) position ≡ as_id (Some (told rows a))
   pub owned : (rows : List Row) → AreOwned rows earlier → IsOwned rows a
 
 -- why a part of a term was not built: named are the positions that it names, and deep says that it needs the greatest index

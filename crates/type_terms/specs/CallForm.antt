@@ -36,10 +36,14 @@ use Rattle.type_terms.specs.declared.run.call.PredicateCall.{PredicateCall}
 use Rattle.type_terms.specs.declared.run.call.ExistentialKindCall.{ExistentialKindCall}
 use Rattle.type_terms.specs.declared.run.call.ExistentialKindCall.TheVariants as existential
 use Rattle.type_terms.specs.declared.run.call.ExistentialCall.{ExistentialCall}
+use Rattle.type_terms.specs.declared.run.call.DeclarationKindCall.{DeclarationKindCall}
+use Rattle.type_terms.specs.declared.run.call.DeclarationKindCall.TheVariants as declares
+use Rattle.tt_kinds.specs.declared.declaration.DeclarationSort.{DeclarationSort}
+use Rattle.tt_kinds.specs.declared.declaration.DeclarationSort.TheVariants as sort
 use Rattle.type_terms.specs.declared.run.call.TyCall.{TyCall}
 use Rattle.type_terms.specs.declared.run.call.TyCall.TheVariants as ty
 
--- what a call asks of the term at a position
+-- what a call asks of what is told at a position
 pub data Want : Type 0 where
   -- it is of the table
   of_table : Table → Want
@@ -51,6 +55,8 @@ pub data Want : Type 0 where
   of_any : Want
   -- it has flags: it is no list of arguments
   with_flags : Want
+  -- it is no term but the id of a declaration of this sort
+  of_id : DeclarationSort → Want
 
 -- a position that a call names
 pub record Named : Type 0 where
@@ -331,6 +337,28 @@ form_positions (bound s d e) = []
 form_positions (plain l ps) = parts_positions ps
 form_positions (under l vs m ps) = parts_positions ps
 form_positions (trait_object xs r) = all_positions existential_positions xs
+
+-- the sort of what a call declares
+abbrev pub declared_sort : DeclarationKindCall → DeclarationSort
+declared_sort (declares.Trait params) = sort.Trait
+declared_sort (declares.AssocTy p) = sort.AssocTy
+declared_sort declares.Impl = sort.Impl
+declared_sort (declares.Inherent p) = sort.Inherent
+declared_sort declares.Adt = sort.Adt
+declared_sort declares.Opaque = sort.Opaque
+declared_sort declares.Free = sort.Free
+declared_sort declares.Foreign = sort.Foreign
+declared_sort declares.Closure = sort.Closure
+declared_sort declares.CoroutineClosure = sort.CoroutineClosure
+declared_sort declares.Coroutine = sort.Coroutine
+declared_sort declares.Const = sort.Const
+declared_sort declares.Param = sort.Param
+
+-- the position of the trait or the implementation that a declaration names
+abbrev pub declared_positions : DeclarationKindCall → List Named
+declared_positions (declares.AssocTy p) = record { want = of_id sort.Trait; position = p } ∷ []
+declared_positions (declares.Inherent p) = record { want = of_id sort.Impl; position = p } ∷ []
+declared_positions _ = []
 
 -- the trees of a list, in order
 abbrev pub all_trees : {X : Type 0} → (X → Tree Depth) → List X → Forest Depth

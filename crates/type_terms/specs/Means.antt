@@ -9,6 +9,7 @@ use Rattle.tt_kinds.specs.Reading.{read, move, outer_binder, Fits}
 use Rattle.tt_kinds.specs.Argument.{Argument, put, readings}
 use Rattle.tt_kinds.specs.Scan.{scan}
 use Rattle.tt_kinds.specs.Cause.{Cause}
+use Rattle.tt_kinds.specs.declared.declaration.DeclarationSort.{DeclarationSort}
 use Rattle.tt_kinds.specs.declared.table.Table.{Table}
 use Rattle.tt_kinds.specs.declared.table.Table.TheVariants.{Types, Consts, Patterns, Predicates, ClauseLists, ArgLists}
 use Rattle.tt_interner.specs.Clauses.{is_clause_tree}
@@ -16,8 +17,8 @@ use Rattle.type_terms.specs.declared.run.call.ArgCall.{ArgCall}
 use Rattle.type_terms.specs.declared.run.call.ArgCall.TheVariants as arg
 use Rattle.type_terms.specs.declared.run.call.Call.{Call}
 use Rattle.type_terms.specs.declared.run.call.Call.TheVariants as call
-use Rattle.type_terms.specs.CallForm.{Want, of_table, of_clause, as_at, of_any, with_flags, Named, arg_items, args_part, ty_form, const_form, pat_form, predicate_form, clause_items, clauses_tree, form_positions, items_positions, part_positions, form_tree, part_tree, region_tree, IsFormTooDeep, IsPartTooDeep, AreItemsTooDeep}
-use Rattle.type_terms.specs.Told.{Told, term, truth, info, refused, bad}
+use Rattle.type_terms.specs.CallForm.{Want, of_table, of_clause, as_at, of_any, with_flags, of_id, Named, arg_items, args_part, ty_form, const_form, pat_form, predicate_form, declared_sort, declared_positions, clause_items, clauses_tree, form_positions, items_positions, part_positions, form_tree, part_tree, region_tree, IsFormTooDeep, IsPartTooDeep, AreItemsTooDeep}
+use Rattle.type_terms.specs.Told.{Told, term, declared, truth, info, refused, bad}
 
 -- a term with its table
 pub record Term : Type 0 where
@@ -33,6 +34,21 @@ as_term _ = None
 abbrev pub term_at : List Told → ℕ → Option Term
 term_at earlier zero = None
 term_at earlier (suc n) = as_term (slice_get earlier n)
+
+-- an id with the sort of its declaration
+pub record Id : Type 0 where
+  pub sort : DeclarationSort
+  pub number : ℕ
+
+-- the id that was told
+abbrev pub as_id : Option Told → Option Id
+as_id (Some (declared s n)) = Some (record { sort = s; number = n })
+as_id _ = None
+
+-- the id at a position, counted from 1
+abbrev pub id_at : List Told → ℕ → Option Id
+id_at earlier zero = None
+id_at earlier (suc n) = as_id (slice_get earlier n)
 
 -- the tree of a term
 abbrev pub tree_of : Option Term → Tree Depth
@@ -64,6 +80,7 @@ positions (call.Pat k) = form_positions (pat_form k)
 positions (call.Predicate k) = form_positions (predicate_form k)
 positions (call.Clauses ps) = items_positions (clause_items ps.items)
 positions (call.Args args) = part_positions (args_part args.items)
+positions (call.Declare d) = declared_positions d.kind
 positions (call.Shift p n) = any p ∷ []
 positions (call.Instantiate p args) = any p ∷ items_positions (arg_items args.items)
 positions (call.Equal p q) = any p ∷ record { want = as_at p; position = q } ∷ []
@@ -77,13 +94,19 @@ Suits earlier of_clause u = (u.table ≡ Predicates) × IsTrue (is_clause_tree u
 Suits earlier (as_at p) u = table_at earlier p ≡ Some u.table
 Suits earlier of_any u = ⊤
 Suits earlier with_flags u = u.table ≢ ArgLists
+Suits earlier (of_id s) u = ⊥
 
--- each position tells a term as it is wanted there
+-- the position tells what is wanted there: an id of the sort, or a term
+abbrev pub Tells : List Told → Want → ℕ → Type 0
+Tells earlier (of_id s) p = IsSomeAnd (id_at earlier p) (λ i. i.sort ≡ s)
+Tells earlier w p = IsSomeAnd (term_at earlier p) (Suits earlier w)
+
+-- each position tells a term or an id as it is wanted there
 abbrev pub AreTerms : List Told → List Named → Type 0
 AreTerms earlier [] = ⊤
-AreTerms earlier (n ∷ ns) = IsSomeAnd (term_at earlier n.position) (Suits earlier n.want) × AreTerms earlier ns
+AreTerms earlier (n ∷ ns) = Tells earlier n.want n.position × AreTerms earlier ns
 
--- each position that the call names tells a term as it is wanted there
+-- each position that the call names tells a term or an id as it is wanted there
 abbrev pub NamesTerms : List Told → Call → Type 0
 NamesTerms earlier c = AreTerms earlier (positions c)
 
@@ -115,6 +138,7 @@ BuildsOrFolds (call.Pat k) = ⊤
 BuildsOrFolds (call.Predicate k) = ⊤
 BuildsOrFolds (call.Clauses ps) = ⊤
 BuildsOrFolds (call.Args args) = ⊤
+BuildsOrFolds (call.Declare d) = ⊤
 BuildsOrFolds (call.Shift p n) = ⊤
 BuildsOrFolds (call.Instantiate p args) = ⊤
 BuildsOrFolds _ = ⊥
@@ -172,10 +196,22 @@ abbrev pub GivesInfo : List Told → Call → ℕ → ℕ → Type 0
 GivesInfo earlier (call.Info p) flags outer = (flags ≡ scan (tree_at earlier p)) × (outer ≡ outer_binder (tree_at earlier p))
 GivesInfo earlier _ flags outer = ⊥
 
+-- no declaration that was told gave this number
+abbrev pub IsNewId : List Told → ℕ → Type 0
+IsNewId [] n = ⊤
+IsNewId (declared s m ∷ ts) n = (m ≢ n) × IsNewId ts n
+IsNewId (t ∷ ts) n = IsNewId ts n
+
+-- the id is a new one, of a declaration of the sort that the call declares
+abbrev pub GivesId : List Told → Call → DeclarationSort → ℕ → Type 0
+GivesId earlier (call.Declare d) s n = (s ≡ declared_sort d.kind) × IsNewId earlier n
+GivesId earlier _ s n = ⊥
+
 -- the call may be answered so after what was told earlier; full says that some table holds its limit
 abbrev pub IsAllowed : Type 0 → List Told → Call → Told → Type 0
 IsAllowed full earlier c (term table t) =
     NamesTerms earlier c × (IsTooDeep c → ⊥) × (given_table earlier c ≡ Some table) × Gives earlier c t × ((r : Refusal) → HasCause earlier c r → ⊥)
+IsAllowed full earlier c (declared s n) = NamesTerms earlier c × GivesId earlier c s n
 IsAllowed full earlier c (truth b) = NamesTerms earlier c × GivesTruth earlier c b
 IsAllowed full earlier c (info flags outer) = NamesTerms earlier c × GivesInfo earlier c flags outer
 IsAllowed full earlier c (refused r) = MayRefuse full earlier c r

@@ -3,16 +3,20 @@ use Rattle.std.specs.Prelude.{ℕ, ◌<◌, ◌≤◌, Bool, List, [], ◌∷◌
 use Rattle.tt_index.specs.declared.refusal.Refusal.{Refusal}
 use Rattle.tt_kinds.specs.Tree.{Depth, Tree}
 use Rattle.tt_kinds.specs.declared.table.Table.{Table}
+use Rattle.tt_kinds.specs.declared.declaration.DeclarationSort.{DeclarationSort}
 use Rattle.tt_kinds.specs.declared.table.Table.TheVariants.{Types, Consts, Patterns, Predicates, ClauseLists, ArgLists}
 use Rattle.tt_interner.specs.Rows.{Row, size, meaning}
 use Rattle.tt_interner.specs.Stored.{Terms}
+use Rattle.tt_interner.specs.Declarations.{IsOfSort}
 use Rattle.type_terms.specs.declared.run.answer.Answer.{Answer}
 use Rattle.type_terms.specs.declared.run.answer.Answer.TheVariants as answer
 
--- what an answer tells: a term, a truth value, flags and an outer exclusive binder, a refusal, or that there was no call
+-- what an answer tells: a term, an id, a truth value, flags and an outer exclusive binder, a refusal, or that there was no call
 pub data Told : Type 0 where
   -- a term of the table
   term : Table → Tree Depth → Told
+  -- the id of a declaration of this sort: its number
+  declared : DeclarationSort → ℕ → Told
   truth : Bool → Told
   info : ℕ → ℕ → Told
   refused : Refusal → Told
@@ -26,6 +30,7 @@ told rows (answer.Pat p) = term Patterns (meaning rows Patterns p.number)
 told rows (answer.Predicate p) = term Predicates (meaning rows Predicates p.number)
 told rows (answer.Clauses l) = term ClauseLists (meaning rows ClauseLists l.number)
 told rows (answer.Args l) = term ArgLists (meaning rows ArgLists l.number)
+told rows (answer.Id sort id) = declared sort id.number
 told rows (answer.Truth b) = truth b
 told rows (answer.Info flags outer) = info flags.bits outer
 told rows (answer.Refused r) = refused r
@@ -55,7 +60,7 @@ handle_number _ = 0
 abbrev pub told_all : List Row → List Answer → List Told
 told_all rows answers = map (told rows) answers
 
--- the handle, if there is one, is in range
+-- the handle, if there is one, is in range; the id, if there is one, is that of a declaration of its sort
 abbrev pub IsOwned : List Row → Answer → Type 0
 IsOwned rows (answer.Ty t) = t.number < size rows Types
 IsOwned rows (answer.Const c) = c.number < size rows Consts
@@ -63,9 +68,10 @@ IsOwned rows (answer.Pat p) = p.number < size rows Patterns
 IsOwned rows (answer.Predicate p) = p.number < size rows Predicates
 IsOwned rows (answer.Clauses l) = l.number < size rows ClauseLists
 IsOwned rows (answer.Args l) = l.number < size rows ArgLists
+IsOwned rows (answer.Id sort id) = IsOfSort rows sort id.number
 IsOwned rows _ = ⊤
 
--- all handles are in range
+-- all handles and ids are so
 abbrev pub AreOwned : List Row → List Answer → Type 0
 AreOwned rows [] = ⊤
 AreOwned rows (a ∷ answers) = IsOwned rows a × AreOwned rows answers

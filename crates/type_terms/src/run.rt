@@ -5,6 +5,7 @@ mod build;
 pub mod call;
 mod clauses;
 mod consts;
+mod declare;
 mod existentials;
 pub mod fault;
 mod fold;
@@ -25,9 +26,9 @@ mod words;
 
 pub use answer::Answer;
 pub use call::{
-    ArgCall, Call, ClauseCall, ConstCall, ExistentialCall, ExistentialKindCall, ItemCall, PatCall,
-    PredicateCall, PredicateKindCall, RegionCall, RegionNameCall, TermCall, TyCall, ValTreeCall,
-    VariableCall,
+    ArgCall, Call, ClauseCall, ConstCall, DeclarationKindCall, DeclareCall, ExistentialCall,
+    ExistentialKindCall, ItemCall, PatCall, PredicateCall, PredicateKindCall, RegionCall,
+    RegionNameCall, TermCall, TyCall, ValTreeCall, VariableCall,
 };
 pub use fault::Fault;
 pub use runner::{answer_next, run_calls};

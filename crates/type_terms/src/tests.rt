@@ -1,5 +1,7 @@
 //! What the contracts don't say: printed lines, reading and writing, and that calls succeed where memory is ample.
 
+mod assumptions;
+mod bare;
 mod calls;
 mod declarations;
 mod env;
@@ -20,8 +22,10 @@ use std::alloc::Global;
 use std::process::Abort;
 use std::test::Fail;
 
-// A script and what it prints.
+// A script under its name, and what it prints.
+#[derive(Clone, Copy)]
 struct Example {
+    name: &'static str,
     script: &'static str,
     lines: &'static str,
 }
@@ -33,9 +37,14 @@ fn run(alloc: Global, script: &str) -> Result<String, Fail> {
     Ok(String::from_utf8(output)?)
 }
 
+// The text is the one that is wanted under this name.
+fn agree(rt: &impl Abort, name: &str, text: &str, wanted: &str) {
+    assert_eq!(rt; text, wanted, "{name}");
+}
+
 // The script prints its lines.
-fn check(rt: &impl Abort, alloc: Global, worked: &Example) -> Result<(), Fail> {
+fn check(rt: &impl Abort, alloc: Global, worked: Example) -> Result<(), Fail> {
     let output = run(alloc, worked.script)?;
-    assert_eq!(rt; output.as_str(), worked.lines);
+    agree(rt, worked.name, output.as_str(), worked.lines);
     Ok(())
 }

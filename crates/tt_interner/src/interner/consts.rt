@@ -1,51 +1,19 @@
 //! Constants, and lists of constants.
 
-ghost use Rattle.std.specs.Prelude.{◌≡◌, ◌<◌, MatchOption};
-ghost use Rattle.tt_kinds.specs.Shape.{item_shapes, AreParts, HasParts, IsTooDeep};
+ghost use Rattle.std.specs.Prelude.{◌≡◌, ◌<◌};
+ghost use Rattle.tt_kinds.specs.Shape.{item_shapes, AreParts, HasParts};
 ghost use Rattle.tt_kinds.specs.Kinds.{const_kind_shape, const_shape};
-ghost use Rattle.tt_interner.specs.Rows.{const_row, consts_row, size, meaning, IsNew};
-ghost use Rattle.tt_interner.specs.Stored.{IsAt, IsInfo, Adds, Builds};
+ghost use Rattle.tt_interner.specs.Rows.{const_row, consts_row, size, meaning};
+ghost use Rattle.tt_interner.specs.Stored.{IsAt, IsInfo, Builds};
 
 use super::Interner;
 use crate::flags::{ForKind, OwnFlags, items_info};
-use crate::tables::{add_kind, add_list, info_at, key_at};
+use crate::tables::{find_or_add, find_or_add_list, find_or_insert, info_at, key_at};
 use tt_flags::FlagComputation;
 use tt_index::Refusal;
 use tt_kinds::{Const, ConstKind, Consts, Table};
 
 impl Interner {
-    // The constant of this kind, if it is stored.
-    fn find_const(&self, kind: &ConstKind) -> Option<Const>
-        ensures { MatchOption result (IsNew (const_row kind.now) self.now.rows) (λ handle. IsAt self.now.rows (const_row kind.now) handle.number) }
-    {
-        match self.consts.get_index_of(kind) {
-            Some(number) => Some(Const::from_number(number as u32)),
-            None => None,
-        }
-    }
-
-    // Stores a new constant.
-    fn add_const(&mut self, kind: &ConstKind) -> Result<Const, Refusal>
-        requires parts { HasParts (size self.old.rows) (const_kind_shape kind.now) }
-        requires shallow { IsTooDeep (const_kind_shape kind.now) → ⊥ }
-        requires is_new { IsNew (const_row kind.now) self.old.rows }
-        ensures { Adds result (λ handle. handle.number) self.old self.new (const_row kind.now) }
-    {
-        let info = FlagComputation::for_const_kind(self, kind);
-        let number = match add_kind(
-            &mut self.order,
-            self.limit,
-            Table::Consts,
-            &mut self.consts,
-            kind,
-            info,
-        ) {
-            Ok(number) => number,
-            Err(e) => return Err(e),
-        };
-        Ok(Const::from_number(number))
-    }
-
     /// The constant of this kind. What stands in the kind has to be of this interner; [`Interner::owns_const_kind`] tests it.
     ///
     /// It is refused with `GreatestIndex` where the kind is a bound variable with the greatest index, with `TableFull` where
@@ -58,10 +26,19 @@ impl Interner {
         if kind.is_too_deep() {
             return Err(Refusal::GreatestIndex);
         }
-        match self.find_const(&kind) {
-            Some(handle) => Ok(handle),
-            None => self.add_const(&kind),
-        }
+        let info = FlagComputation::for_const_kind(self, &kind);
+        let number = match find_or_add(
+            &mut self.order,
+            self.limit,
+            Table::Consts,
+            &mut self.consts,
+            &kind,
+            info,
+        ) {
+            Ok(number) => number,
+            Err(e) => return Err(e),
+        };
+        Ok(Const::from_number(number))
     }
 
     /// What a stored constant is, in the interner's memory. It has to be of this interner; [`Interner::owns_const`] tests it.
@@ -82,24 +59,16 @@ impl Interner {
 }
 
 impl Interner {
-    // The list of these constants, if it is stored.
-    fn find_consts(&self, items: &[Const]) -> Option<Consts>
-        ensures { MatchOption result (IsNew (consts_row items.now) self.now.rows) (λ list. IsAt self.now.rows (consts_row items.now) list.number) }
-    {
-        match self.const_lists.get_index_of(items) {
-            Some(number) => Some(Consts::from_number(number as u32)),
-            None => None,
-        }
-    }
-
-    // Stores a new list.
-    fn add_consts(&mut self, items: &[Const]) -> Result<Consts, Refusal>
-        requires parts { AreParts (size self.old.rows) (item_shapes const_shape items.now) }
-        requires is_new { IsNew (consts_row items.now) self.old.rows }
-        ensures { Adds result (λ list. list.number) self.old self.new (consts_row items.now) }
+    /// The list of these constants, in order. They have to be of this interner; [`Interner::owns_const`] tests it.
+    ///
+    /// It is refused with `TableFull` where the list is new and the table has as many rows as it may have, and with
+    /// `Memory`.
+    pub fn mk_consts(&mut self, items: &[Const]) -> Result<Consts, Refusal>
+        requires { AreParts (size self.old.rows) (item_shapes const_shape items.now) }
+        ensures { Builds result (λ list. list.number) self.old self.new (consts_row items.now) }
     {
         let info = items_info(self, items);
-        let number = match add_list(
+        let number = match find_or_add_list(
             &mut self.order,
             self.limit,
             Table::ConstLists,
@@ -113,19 +82,24 @@ impl Interner {
         Ok(Consts::from_number(number))
     }
 
-    /// The list of these constants, in order. They have to be of this interner; [`Interner::owns_const`] tests it.
-    ///
-    /// It is refused with `TableFull` where the list is new and the table has as many rows as it may have, and with
-    /// `Memory`.
-    pub fn mk_consts(&mut self, items: &[Const]) -> Result<Consts, Refusal>
-        requires { AreParts (size self.old.rows) (item_shapes const_shape items.now) }
-        ensures { Builds result (λ list. list.number) self.old self.new (consts_row items.now) }
+    // The same of items that are kept as the list's, by one look-up.
+    pub(crate) fn put_consts(&mut self, items: Vec<Const>) -> Result<Consts, Refusal>
+        requires { AreParts (size self.old.rows) (item_shapes const_shape items.items) }
+        ensures { Builds result (λ list. list.number) self.old self.new (consts_row items.items) }
     {
-        self.are_rows();
-        match self.find_consts(items) {
-            Some(list) => Ok(list),
-            None => self.add_consts(items),
-        }
+        let info = items_info(self, items.as_slice());
+        let number = match find_or_insert(
+            &mut self.order,
+            self.limit,
+            Table::ConstLists,
+            &mut self.const_lists,
+            items,
+            info,
+        ) {
+            Ok(number) => number,
+            Err(e) => return Err(e),
+        };
+        Ok(Consts::from_number(number))
     }
 
     /// The constants of a list, in the interner's memory. The list has to be of this interner; [`Interner::owns_consts`]

@@ -49,8 +49,9 @@ fn add_declaration(
 }
 
 impl Interner {
-    // Makes a declaration.
-    fn declare(&mut self, kind: DeclarationKind, name: Symbol) -> Result<DefId, Refusal>
+    /// Declares something of this kind under this name, as the call for its kind does; [`Interner::declare_trait`] says when
+    /// it is refused.
+    pub fn declare(&mut self, kind: DeclarationKind, name: Symbol) -> Result<DefId, Refusal>
         requires { name.number < size self.old.rows Table.Symbols }
         ensures { Declares result (λ id. id.number) self.old self.new kind name }
     {

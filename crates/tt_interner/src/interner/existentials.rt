@@ -1,14 +1,14 @@
 //! Existential predicates, each under its binder, and lists of them.
 
-ghost use Rattle.std.specs.Prelude.{◌≡◌, ◌<◌, MatchOption};
+ghost use Rattle.std.specs.Prelude.{◌≡◌, ◌<◌};
 ghost use Rattle.tt_kinds.specs.Shape.{item_shapes, AreParts, HasParts};
 ghost use Rattle.tt_kinds.specs.Kinds.{existential_kind_shape, existential_shape};
-ghost use Rattle.tt_interner.specs.Rows.{existential_row, existentials_row, size, meaning, IsNew};
-ghost use Rattle.tt_interner.specs.Stored.{IsAt, IsInfo, Adds, Builds};
+ghost use Rattle.tt_interner.specs.Rows.{existential_row, existentials_row, size, meaning};
+ghost use Rattle.tt_interner.specs.Stored.{IsAt, IsInfo, Builds};
 
 use super::Interner;
 use crate::flags::{items_info, kind_info};
-use crate::tables::{add_kind, add_list, info_at, key_at};
+use crate::tables::{find_or_add, find_or_add_list, find_or_insert, info_at, key_at};
 use tt_flags::FlagComputation;
 use tt_index::Refusal;
 use tt_kinds::{
@@ -16,43 +16,6 @@ use tt_kinds::{
 };
 
 impl Interner {
-    // The existential predicate of this kind, if it is stored.
-    fn find_existential(
-        &self,
-        kind: &Binder<ExistentialPredicate>,
-    ) -> Option<PolyExistentialPredicate>
-        ensures { MatchOption result (IsNew (existential_row kind.now) self.now.rows) (λ handle. IsAt self.now.rows (existential_row kind.now) handle.number) }
-    {
-        match self.existentials.get_index_of(kind) {
-            Some(number) => Some(PolyExistentialPredicate::from_number(number as u32)),
-            None => None,
-        }
-    }
-
-    // Stores a new existential predicate.
-    fn add_existential(
-        &mut self,
-        kind: &Binder<ExistentialPredicate>,
-    ) -> Result<PolyExistentialPredicate, Refusal>
-        requires parts { HasParts (size self.old.rows) (existential_kind_shape kind.now) }
-        requires is_new { IsNew (existential_row kind.now) self.old.rows }
-        ensures { Adds result (λ handle. handle.number) self.old self.new (existential_row kind.now) }
-    {
-        let info = kind_info(self, &Kind::Existential(*kind));
-        let number = match add_kind(
-            &mut self.order,
-            self.limit,
-            Table::Existentials,
-            &mut self.existentials,
-            kind,
-            info,
-        ) {
-            Ok(number) => number,
-            Err(e) => return Err(e),
-        };
-        Ok(PolyExistentialPredicate::from_number(number))
-    }
-
     /// The existential predicate of this kind under this binder. What stands in it has to be of this interner;
     /// [`Interner::owns_existential_kind`] tests it.
     ///
@@ -65,11 +28,19 @@ impl Interner {
         requires { HasParts (size self.old.rows) (existential_kind_shape kind) }
         ensures { Builds result (λ handle. handle.number) self.old self.new (existential_row kind) }
     {
-        self.are_rows();
-        match self.find_existential(&kind) {
-            Some(handle) => Ok(handle),
-            None => self.add_existential(&kind),
-        }
+        let info = kind_info(self, &Kind::Existential(kind));
+        let number = match find_or_add(
+            &mut self.order,
+            self.limit,
+            Table::Existentials,
+            &mut self.existentials,
+            &kind,
+            info,
+        ) {
+            Ok(number) => number,
+            Err(e) => return Err(e),
+        };
+        Ok(PolyExistentialPredicate::from_number(number))
     }
 
     /// What a stored existential predicate is, in the interner's memory. It has to be of this interner; [`Interner::owns_existential`] tests it.
@@ -93,30 +64,19 @@ impl Interner {
 }
 
 impl Interner {
-    // The list of these existential predicates, if it is stored.
-    fn find_existentials(
-        &self,
-        items: &[PolyExistentialPredicate],
-    ) -> Option<BoundExistentialPredicates>
-        ensures { MatchOption result (IsNew (existentials_row items.now) self.now.rows) (λ list. IsAt self.now.rows (existentials_row items.now) list.number) }
-    {
-        match self.existential_lists.get_index_of(items) {
-            Some(number) => Some(BoundExistentialPredicates::from_number(number as u32)),
-            None => None,
-        }
-    }
-
-    // Stores a new list.
-    fn add_existentials(
+    /// The list of these existential predicates, in order. They have to be of this interner; [`Interner::owns_existential`] tests it.
+    ///
+    /// It is refused with `TableFull` where the list is new and the table has as many rows as it may have, and with
+    /// `Memory`.
+    pub fn mk_existential_list(
         &mut self,
         items: &[PolyExistentialPredicate],
     ) -> Result<BoundExistentialPredicates, Refusal>
-        requires parts { AreParts (size self.old.rows) (item_shapes existential_shape items.now) }
-        requires is_new { IsNew (existentials_row items.now) self.old.rows }
-        ensures { Adds result (λ list. list.number) self.old self.new (existentials_row items.now) }
+        requires { AreParts (size self.old.rows) (item_shapes existential_shape items.now) }
+        ensures { Builds result (λ list. list.number) self.old self.new (existentials_row items.now) }
     {
         let info = items_info(self, items);
-        let number = match add_list(
+        let number = match find_or_add_list(
             &mut self.order,
             self.limit,
             Table::ExistentialLists,
@@ -130,22 +90,27 @@ impl Interner {
         Ok(BoundExistentialPredicates::from_number(number))
     }
 
-    /// The list of these existential predicates, in order. They have to be of this interner; [`Interner::owns_existential`] tests it.
-    ///
-    /// It is refused with `TableFull` where the list is new and the table has as many rows as it may have, and with
-    /// `Memory`.
-    pub fn mk_existential_list(
+    // The same of items that are kept as the list's, by one look-up.
+    pub(crate) fn put_existentials(
         &mut self,
-        items: &[PolyExistentialPredicate],
+        items: Vec<PolyExistentialPredicate>,
     ) -> Result<BoundExistentialPredicates, Refusal>
-        requires { AreParts (size self.old.rows) (item_shapes existential_shape items.now) }
-        ensures { Builds result (λ list. list.number) self.old self.new (existentials_row items.now) }
+        requires { AreParts (size self.old.rows) (item_shapes existential_shape items.items) }
+        ensures { Builds result (λ list. list.number) self.old self.new (existentials_row items.items) }
     {
-        self.are_rows();
-        match self.find_existentials(items) {
-            Some(list) => Ok(list),
-            None => self.add_existentials(items),
-        }
+        let info = items_info(self, items.as_slice());
+        let number = match find_or_insert(
+            &mut self.order,
+            self.limit,
+            Table::ExistentialLists,
+            &mut self.existential_lists,
+            items,
+            info,
+        ) {
+            Ok(number) => number,
+            Err(e) => return Err(e),
+        };
+        Ok(BoundExistentialPredicates::from_number(number))
     }
 
     /// The existential predicates of a list, in the interner's memory. The list has to be of this interner; [`Interner::owns_existentials`]

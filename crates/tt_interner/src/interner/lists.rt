@@ -1,37 +1,30 @@
 //! Lists of types, of generic arguments and of a binder's variables.
 
-ghost use Rattle.std.specs.Prelude.{◌≡◌, ◌<◌, MatchOption};
+ghost use Rattle.std.specs.Prelude.{◌≡◌, ◌<◌};
 ghost use Rattle.tt_kinds.specs.Shape.{item_shapes, AreParts, HasParts};
 ghost use Rattle.tt_kinds.specs.Kinds.{ty_shape, arg_shape, vars_row_shape};
-ghost use Rattle.tt_interner.specs.Rows.{tys_row, args_row, vars_row, size, meaning, IsNew};
-ghost use Rattle.tt_interner.specs.Stored.{IsAt, IsInfo, Adds, Builds};
+ghost use Rattle.tt_interner.specs.Rows.{tys_row, args_row, vars_row, size, meaning};
+ghost use Rattle.tt_interner.specs.Stored.{IsAt, IsInfo, Builds};
 
 use super::Interner;
 use crate::flags::{items_info, vars_info};
-use crate::tables::{add_list, info_at, key_at};
+use crate::tables::{find_or_add_list, find_or_insert, info_at, key_at};
 use tt_flags::FlagComputation;
 use tt_index::Refusal;
 use tt_kinds::{BoundVarKinds, BoundVariableKind, GenericArg, GenericArgs, Table, Ty, Tys};
 
 impl Interner {
-    // The list of these types, if it is stored.
-    fn find_tys(&self, items: &[Ty]) -> Option<Tys>
-        ensures { MatchOption result (IsNew (tys_row items.now) self.now.rows) (λ list. IsAt self.now.rows (tys_row items.now) list.number) }
-    {
-        match self.type_lists.get_index_of(items) {
-            Some(number) => Some(Tys::from_number(number as u32)),
-            None => None,
-        }
-    }
-
-    // Stores a new list.
-    fn add_tys(&mut self, items: &[Ty]) -> Result<Tys, Refusal>
-        requires parts { AreParts (size self.old.rows) (item_shapes ty_shape items.now) }
-        requires is_new { IsNew (tys_row items.now) self.old.rows }
-        ensures { Adds result (λ list. list.number) self.old self.new (tys_row items.now) }
+    /// The list of these types, in order. They have to be of this interner; [`Interner::owns_ty`]
+    /// tests it.
+    ///
+    /// It is refused with `TableFull` where the list is new and the table has as many rows as it may have, and with
+    /// `Memory`.
+    pub fn mk_tys(&mut self, items: &[Ty]) -> Result<Tys, Refusal>
+        requires { AreParts (size self.old.rows) (item_shapes ty_shape items.now) }
+        ensures { Builds result (λ list. list.number) self.old self.new (tys_row items.now) }
     {
         let info = items_info(self, items);
-        let number = match add_list(
+        let number = match find_or_add_list(
             &mut self.order,
             self.limit,
             Table::TypeLists,
@@ -45,20 +38,24 @@ impl Interner {
         Ok(Tys::from_number(number))
     }
 
-    /// The list of these types, in order. They have to be of this interner; [`Interner::owns_ty`]
-    /// tests it.
-    ///
-    /// It is refused with `TableFull` where the list is new and the table has as many rows as it may have, and with
-    /// `Memory`.
-    pub fn mk_tys(&mut self, items: &[Ty]) -> Result<Tys, Refusal>
-        requires { AreParts (size self.old.rows) (item_shapes ty_shape items.now) }
-        ensures { Builds result (λ list. list.number) self.old self.new (tys_row items.now) }
+    // The same of items that are kept as the list's, by one look-up.
+    pub(crate) fn put_tys(&mut self, items: Vec<Ty>) -> Result<Tys, Refusal>
+        requires { AreParts (size self.old.rows) (item_shapes ty_shape items.items) }
+        ensures { Builds result (λ list. list.number) self.old self.new (tys_row items.items) }
     {
-        self.are_rows();
-        match self.find_tys(items) {
-            Some(list) => Ok(list),
-            None => self.add_tys(items),
-        }
+        let info = items_info(self, items.as_slice());
+        let number = match find_or_insert(
+            &mut self.order,
+            self.limit,
+            Table::TypeLists,
+            &mut self.type_lists,
+            items,
+            info,
+        ) {
+            Ok(number) => number,
+            Err(e) => return Err(e),
+        };
+        Ok(Tys::from_number(number))
     }
 
     /// The types of a list, in the interner's memory. The list has to be of this interner; [`Interner::owns_tys`]
@@ -80,24 +77,17 @@ impl Interner {
 }
 
 impl Interner {
-    // The list of these generic arguments, if it is stored.
-    fn find_args(&self, items: &[GenericArg]) -> Option<GenericArgs>
-        ensures { MatchOption result (IsNew (args_row items.now) self.now.rows) (λ list. IsAt self.now.rows (args_row items.now) list.number) }
-    {
-        match self.arg_lists.get_index_of(items) {
-            Some(number) => Some(GenericArgs::from_number(number as u32)),
-            None => None,
-        }
-    }
-
-    // Stores a new list.
-    fn add_args(&mut self, items: &[GenericArg]) -> Result<GenericArgs, Refusal>
-        requires parts { AreParts (size self.old.rows) (item_shapes arg_shape items.now) }
-        requires is_new { IsNew (args_row items.now) self.old.rows }
-        ensures { Adds result (λ list. list.number) self.old self.new (args_row items.now) }
+    /// The list of these generic arguments, in order. They have to be of this interner;
+    /// [`Interner::owns_arg`] tests it.
+    ///
+    /// It is refused with `TableFull` where the list is new and the table has as many rows as it may have, and with
+    /// `Memory`.
+    pub fn mk_args(&mut self, items: &[GenericArg]) -> Result<GenericArgs, Refusal>
+        requires { AreParts (size self.old.rows) (item_shapes arg_shape items.now) }
+        ensures { Builds result (λ list. list.number) self.old self.new (args_row items.now) }
     {
         let info = items_info(self, items);
-        let number = match add_list(
+        let number = match find_or_add_list(
             &mut self.order,
             self.limit,
             Table::ArgLists,
@@ -111,20 +101,24 @@ impl Interner {
         Ok(GenericArgs::from_number(number))
     }
 
-    /// The list of these generic arguments, in order. They have to be of this interner;
-    /// [`Interner::owns_arg`] tests it.
-    ///
-    /// It is refused with `TableFull` where the list is new and the table has as many rows as it may have, and with
-    /// `Memory`.
-    pub fn mk_args(&mut self, items: &[GenericArg]) -> Result<GenericArgs, Refusal>
-        requires { AreParts (size self.old.rows) (item_shapes arg_shape items.now) }
-        ensures { Builds result (λ list. list.number) self.old self.new (args_row items.now) }
+    // The same of items that are kept as the list's, by one look-up.
+    pub(crate) fn put_args(&mut self, items: Vec<GenericArg>) -> Result<GenericArgs, Refusal>
+        requires { AreParts (size self.old.rows) (item_shapes arg_shape items.items) }
+        ensures { Builds result (λ list. list.number) self.old self.new (args_row items.items) }
     {
-        self.are_rows();
-        match self.find_args(items) {
-            Some(list) => Ok(list),
-            None => self.add_args(items),
-        }
+        let info = items_info(self, items.as_slice());
+        let number = match find_or_insert(
+            &mut self.order,
+            self.limit,
+            Table::ArgLists,
+            &mut self.arg_lists,
+            items,
+            info,
+        ) {
+            Ok(number) => number,
+            Err(e) => return Err(e),
+        };
+        Ok(GenericArgs::from_number(number))
     }
 
     /// The generic arguments of a list, in the interner's memory. The list has to be of this interner; [`Interner::owns_args`]
@@ -146,24 +140,17 @@ impl Interner {
 }
 
 impl Interner {
-    // The list of these variables of a binder, if it is stored.
-    fn find_bound_vars(&self, items: &[BoundVariableKind]) -> Option<BoundVarKinds>
-        ensures { MatchOption result (IsNew (vars_row items.now) self.now.rows) (λ list. IsAt self.now.rows (vars_row items.now) list.number) }
-    {
-        match self.var_lists.get_index_of(items) {
-            Some(number) => Some(BoundVarKinds::from_number(number as u32)),
-            None => None,
-        }
-    }
-
-    // Stores a new list.
-    fn add_bound_vars(&mut self, items: &[BoundVariableKind]) -> Result<BoundVarKinds, Refusal>
-        requires parts { HasParts (size self.old.rows) (vars_row_shape items.now) }
-        requires is_new { IsNew (vars_row items.now) self.old.rows }
-        ensures { Adds result (λ list. list.number) self.old self.new (vars_row items.now) }
+    /// The list of these variables of a binder, in order. The texts that they are called by have to be of this interner;
+    /// [`Interner::owns_bound_var`] tests it.
+    ///
+    /// It is refused with `TableFull` where the list is new and the table has as many rows as it may have, and with
+    /// `Memory`.
+    pub fn mk_bound_vars(&mut self, items: &[BoundVariableKind]) -> Result<BoundVarKinds, Refusal>
+        requires { HasParts (size self.old.rows) (vars_row_shape items.now) }
+        ensures { Builds result (λ list. list.number) self.old self.new (vars_row items.now) }
     {
         let info = vars_info(items);
-        let number = match add_list(
+        let number = match find_or_add_list(
             &mut self.order,
             self.limit,
             Table::VarLists,
@@ -175,22 +162,6 @@ impl Interner {
             Err(e) => return Err(e),
         };
         Ok(BoundVarKinds::from_number(number))
-    }
-
-    /// The list of these variables of a binder, in order. The texts that they are called by have to be of this interner;
-    /// [`Interner::owns_bound_var`] tests it.
-    ///
-    /// It is refused with `TableFull` where the list is new and the table has as many rows as it may have, and with
-    /// `Memory`.
-    pub fn mk_bound_vars(&mut self, items: &[BoundVariableKind]) -> Result<BoundVarKinds, Refusal>
-        requires { HasParts (size self.old.rows) (vars_row_shape items.now) }
-        ensures { Builds result (λ list. list.number) self.old self.new (vars_row items.now) }
-    {
-        self.are_rows();
-        match self.find_bound_vars(items) {
-            Some(list) => Ok(list),
-            None => self.add_bound_vars(items),
-        }
     }
 
     /// The variables of a binder of a list, in the interner's memory. The list has to be of this interner; [`Interner::owns_bound_vars`]

@@ -4,13 +4,15 @@ ghost use Rattle.std.specs.Prelude.{◌<◌, ◌↔◌, IsTrue};
 ghost use Rattle.tt_kinds.specs.Bound.{region_name, var_kind};
 ghost use Rattle.tt_kinds.specs.Shape.{IsPart, IsNamed, IsNamedKind};
 ghost use Rattle.tt_kinds.specs.Kinds.{region_shape, arg_shape};
+ghost use Rattle.tt_kinds.specs.Values.{assumption_shape};
 ghost use Rattle.tt_interner.specs.Rows.{size, IsClause};
 
 use super::Interner;
 use tt_kinds::{
     BoundExistentialPredicates, BoundRegionKind, BoundVarKinds, BoundVariableKind, Clause, Clauses,
-    Const, Consts, GenericArg, GenericArgKind, GenericArgs, Pat, PatList, PolyExistentialPredicate,
-    Predicate, Region, RegionKind, Symbol, Table, Ty, Tys,
+    Const, Consts, GenericArg, GenericArgKind, GenericArgs, OutlivesPredicate, Pat, PatList,
+    PolyExistentialPredicate, Predicate, Region, RegionAssumptions, RegionKind, Symbol, Table, Ty,
+    Tys,
 };
 
 impl Interner {
@@ -110,6 +112,13 @@ impl Interner {
         (list.number() as usize) < self.existential_lists.len()
     }
 
+    /// Whether the number is that of a list of assumptions on regions.
+    pub fn owns_assumptions(&self, list: RegionAssumptions) -> bool
+        ensures { IsTrue result ↔ (list.number < size self.now.rows Table.AssumptionLists) }
+    {
+        (list.number() as usize) < self.assumption_lists.len()
+    }
+
     /// Whether the number is that of a text.
     pub fn owns_symbol(&self, symbol: Symbol) -> bool
         ensures { IsTrue result ↔ (symbol.number < size self.now.rows Table.Symbols) }
@@ -163,5 +172,13 @@ impl Interner {
             GenericArgKind::Type(ty) => self.owns_ty(ty),
             GenericArgKind::Const(constant) => self.owns_const(constant),
         }
+    }
+
+    /// Whether all that stands in the assumption is of this interner.
+    #[tactic(auto, unfolding(tt_kinds::specs::Shape::IsPart))]
+    pub fn owns_assumption(&self, assumption: &OutlivesPredicate<GenericArg>) -> bool
+        ensures { IsTrue result ↔ IsPart (size self.now.rows) (assumption_shape assumption.now) }
+    {
+        self.owns_arg(&assumption.0) && self.owns_region(&assumption.1)
     }
 }

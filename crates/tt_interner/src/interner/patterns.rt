@@ -1,50 +1,19 @@
 //! Patterns, and lists of patterns.
 
-ghost use Rattle.std.specs.Prelude.{◌≡◌, ◌<◌, MatchOption};
+ghost use Rattle.std.specs.Prelude.{◌≡◌, ◌<◌};
 ghost use Rattle.tt_kinds.specs.Shape.{item_shapes, AreParts, HasParts};
 ghost use Rattle.tt_kinds.specs.Kinds.{pattern_kind_shape, pat_shape};
-ghost use Rattle.tt_interner.specs.Rows.{pat_row, pats_row, size, meaning, IsNew};
-ghost use Rattle.tt_interner.specs.Stored.{IsAt, IsInfo, Adds, Builds};
+ghost use Rattle.tt_interner.specs.Rows.{pat_row, pats_row, size, meaning};
+ghost use Rattle.tt_interner.specs.Stored.{IsAt, IsInfo, Builds};
 
 use super::Interner;
 use crate::flags::{items_info, kind_info};
-use crate::tables::{add_kind, add_list, info_at, key_at};
+use crate::tables::{find_or_add, find_or_add_list, find_or_insert, info_at, key_at};
 use tt_flags::FlagComputation;
 use tt_index::Refusal;
 use tt_kinds::{Kind, Pat, PatList, PatternKind, Table};
 
 impl Interner {
-    // The pattern of this kind, if it is stored.
-    fn find_pat(&self, kind: &PatternKind) -> Option<Pat>
-        ensures { MatchOption result (IsNew (pat_row kind.now) self.now.rows) (λ handle. IsAt self.now.rows (pat_row kind.now) handle.number) }
-    {
-        match self.patterns.get_index_of(kind) {
-            Some(number) => Some(Pat::from_number(number as u32)),
-            None => None,
-        }
-    }
-
-    // Stores a new pattern.
-    fn add_pat(&mut self, kind: &PatternKind) -> Result<Pat, Refusal>
-        requires parts { HasParts (size self.old.rows) (pattern_kind_shape kind.now) }
-        requires is_new { IsNew (pat_row kind.now) self.old.rows }
-        ensures { Adds result (λ handle. handle.number) self.old self.new (pat_row kind.now) }
-    {
-        let info = kind_info(self, &Kind::Pat(*kind));
-        let number = match add_kind(
-            &mut self.order,
-            self.limit,
-            Table::Patterns,
-            &mut self.patterns,
-            kind,
-            info,
-        ) {
-            Ok(number) => number,
-            Err(e) => return Err(e),
-        };
-        Ok(Pat::from_number(number))
-    }
-
     /// The pattern of this kind. What stands in the kind has to be of this interner; [`Interner::owns_pattern_kind`] tests it.
     ///
     /// It is refused with `TableFull` where the pattern is new and the table has as many rows as it may have, and
@@ -53,11 +22,19 @@ impl Interner {
         requires { HasParts (size self.old.rows) (pattern_kind_shape kind) }
         ensures { Builds result (λ handle. handle.number) self.old self.new (pat_row kind) }
     {
-        self.are_rows();
-        match self.find_pat(&kind) {
-            Some(handle) => Ok(handle),
-            None => self.add_pat(&kind),
-        }
+        let info = kind_info(self, &Kind::Pat(kind));
+        let number = match find_or_add(
+            &mut self.order,
+            self.limit,
+            Table::Patterns,
+            &mut self.patterns,
+            &kind,
+            info,
+        ) {
+            Ok(number) => number,
+            Err(e) => return Err(e),
+        };
+        Ok(Pat::from_number(number))
     }
 
     /// What a stored pattern is, in the interner's memory. It has to be of this interner; [`Interner::owns_pat`] tests it.
@@ -78,24 +55,16 @@ impl Interner {
 }
 
 impl Interner {
-    // The list of these patterns, if it is stored.
-    fn find_pat_list(&self, items: &[Pat]) -> Option<PatList>
-        ensures { MatchOption result (IsNew (pats_row items.now) self.now.rows) (λ list. IsAt self.now.rows (pats_row items.now) list.number) }
-    {
-        match self.pattern_lists.get_index_of(items) {
-            Some(number) => Some(PatList::from_number(number as u32)),
-            None => None,
-        }
-    }
-
-    // Stores a new list.
-    fn add_pat_list(&mut self, items: &[Pat]) -> Result<PatList, Refusal>
-        requires parts { AreParts (size self.old.rows) (item_shapes pat_shape items.now) }
-        requires is_new { IsNew (pats_row items.now) self.old.rows }
-        ensures { Adds result (λ list. list.number) self.old self.new (pats_row items.now) }
+    /// The list of these patterns, in order. They have to be of this interner; [`Interner::owns_pat`] tests it.
+    ///
+    /// It is refused with `TableFull` where the list is new and the table has as many rows as it may have, and with
+    /// `Memory`.
+    pub fn mk_pat_list(&mut self, items: &[Pat]) -> Result<PatList, Refusal>
+        requires { AreParts (size self.old.rows) (item_shapes pat_shape items.now) }
+        ensures { Builds result (λ list. list.number) self.old self.new (pats_row items.now) }
     {
         let info = items_info(self, items);
-        let number = match add_list(
+        let number = match find_or_add_list(
             &mut self.order,
             self.limit,
             Table::PatternLists,
@@ -109,19 +78,24 @@ impl Interner {
         Ok(PatList::from_number(number))
     }
 
-    /// The list of these patterns, in order. They have to be of this interner; [`Interner::owns_pat`] tests it.
-    ///
-    /// It is refused with `TableFull` where the list is new and the table has as many rows as it may have, and with
-    /// `Memory`.
-    pub fn mk_pat_list(&mut self, items: &[Pat]) -> Result<PatList, Refusal>
-        requires { AreParts (size self.old.rows) (item_shapes pat_shape items.now) }
-        ensures { Builds result (λ list. list.number) self.old self.new (pats_row items.now) }
+    // The same of items that are kept as the list's, by one look-up.
+    pub(crate) fn put_pat_list(&mut self, items: Vec<Pat>) -> Result<PatList, Refusal>
+        requires { AreParts (size self.old.rows) (item_shapes pat_shape items.items) }
+        ensures { Builds result (λ list. list.number) self.old self.new (pats_row items.items) }
     {
-        self.are_rows();
-        match self.find_pat_list(items) {
-            Some(list) => Ok(list),
-            None => self.add_pat_list(items),
-        }
+        let info = items_info(self, items.as_slice());
+        let number = match find_or_insert(
+            &mut self.order,
+            self.limit,
+            Table::PatternLists,
+            &mut self.pattern_lists,
+            items,
+            info,
+        ) {
+            Ok(number) => number,
+            Err(e) => return Err(e),
+        };
+        Ok(PatList::from_number(number))
     }
 
     /// The patterns of a list, in the interner's memory. The list has to be of this interner; [`Interner::owns_pat_list`]

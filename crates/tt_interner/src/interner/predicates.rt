@@ -1,50 +1,19 @@
 //! Predicates, and lists of clauses.
 
-ghost use Rattle.std.specs.Prelude.{◌≡◌, ◌<◌, ◌↔◌, IsTrue, MatchOption};
+ghost use Rattle.std.specs.Prelude.{◌≡◌, ◌<◌, ◌↔◌, IsTrue};
 ghost use Rattle.tt_kinds.specs.Shape.{HasParts};
 ghost use Rattle.tt_kinds.specs.Kinds.{predicate_kind_shape};
-ghost use Rattle.tt_interner.specs.Rows.{predicate_row, clauses_row, size, meaning, IsNew, AreClauses};
-ghost use Rattle.tt_interner.specs.Stored.{IsAt, IsInfo, Adds, Builds};
+ghost use Rattle.tt_interner.specs.Rows.{predicate_row, clauses_row, size, meaning, AreClauses};
+ghost use Rattle.tt_interner.specs.Stored.{IsAt, IsInfo, Builds};
 
 use super::Interner;
 use crate::flags::{ForKind, items_info};
-use crate::tables::{add_kind, add_list, info_at, key_at};
+use crate::tables::{find_or_add, find_or_add_list, find_or_insert, info_at, key_at};
 use tt_flags::FlagComputation;
 use tt_index::Refusal;
 use tt_kinds::{Binder, Clause, Clauses, Predicate, PredicateKind, Table};
 
 impl Interner {
-    // The predicate of this kind, if it is stored.
-    fn find_predicate(&self, kind: &Binder<PredicateKind>) -> Option<Predicate>
-        ensures { MatchOption result (IsNew (predicate_row kind.now) self.now.rows) (λ handle. IsAt self.now.rows (predicate_row kind.now) handle.number) }
-    {
-        match self.predicates.get_index_of(kind) {
-            Some(number) => Some(Predicate::from_number(number as u32)),
-            None => None,
-        }
-    }
-
-    // Stores a new predicate.
-    fn add_predicate(&mut self, kind: &Binder<PredicateKind>) -> Result<Predicate, Refusal>
-        requires parts { HasParts (size self.old.rows) (predicate_kind_shape kind.now) }
-        requires is_new { IsNew (predicate_row kind.now) self.old.rows }
-        ensures { Adds result (λ handle. handle.number) self.old self.new (predicate_row kind.now) }
-    {
-        let info = FlagComputation::for_predicate(self, kind);
-        let number = match add_kind(
-            &mut self.order,
-            self.limit,
-            Table::Predicates,
-            &mut self.predicates,
-            kind,
-            info,
-        ) {
-            Ok(number) => number,
-            Err(e) => return Err(e),
-        };
-        Ok(Predicate::from_number(number))
-    }
-
     /// The predicate of this kind under this binder. What stands in it has to be of this interner;
     /// [`Interner::owns_predicate_kind`] tests it.
     ///
@@ -54,11 +23,19 @@ impl Interner {
         requires { HasParts (size self.old.rows) (predicate_kind_shape kind) }
         ensures { Builds result (λ handle. handle.number) self.old self.new (predicate_row kind) }
     {
-        self.are_rows();
-        match self.find_predicate(&kind) {
-            Some(handle) => Ok(handle),
-            None => self.add_predicate(&kind),
-        }
+        let info = FlagComputation::for_predicate(self, &kind);
+        let number = match find_or_add(
+            &mut self.order,
+            self.limit,
+            Table::Predicates,
+            &mut self.predicates,
+            &kind,
+            info,
+        ) {
+            Ok(number) => number,
+            Err(e) => return Err(e),
+        };
+        Ok(Predicate::from_number(number))
     }
 
     /// What a stored predicate is, in the interner's memory. It has to be of this interner; [`Interner::owns_predicate`] tests it.
@@ -79,24 +56,16 @@ impl Interner {
 }
 
 impl Interner {
-    // The list of these clauses, if it is stored.
-    fn find_clauses(&self, items: &[Clause]) -> Option<Clauses>
-        ensures { MatchOption result (IsNew (clauses_row items.now) self.now.rows) (λ list. IsAt self.now.rows (clauses_row items.now) list.number) }
-    {
-        match self.clause_lists.get_index_of(items) {
-            Some(number) => Some(Clauses::from_number(number as u32)),
-            None => None,
-        }
-    }
-
-    // Stores a new list.
-    fn add_clauses(&mut self, items: &[Clause]) -> Result<Clauses, Refusal>
-        requires clauses { AreClauses self.old.rows items.now }
-        requires is_new { IsNew (clauses_row items.now) self.old.rows }
-        ensures { Adds result (λ list. list.number) self.old self.new (clauses_row items.now) }
+    /// The list of these clauses, in order. They have to be of this interner, and clauses; [`Interner::owns_clause`] tests it.
+    ///
+    /// It is refused with `TableFull` where the list is new and the table has as many rows as it may have, and with
+    /// `Memory`.
+    pub fn mk_clauses(&mut self, items: &[Clause]) -> Result<Clauses, Refusal>
+        requires { AreClauses self.old.rows items.now }
+        ensures { Builds result (λ list. list.number) self.old self.new (clauses_row items.now) }
     {
         let info = items_info(self, items);
-        let number = match add_list(
+        let number = match find_or_add_list(
             &mut self.order,
             self.limit,
             Table::ClauseLists,
@@ -110,19 +79,24 @@ impl Interner {
         Ok(Clauses::from_number(number))
     }
 
-    /// The list of these clauses, in order. They have to be of this interner, and clauses; [`Interner::owns_clause`] tests it.
-    ///
-    /// It is refused with `TableFull` where the list is new and the table has as many rows as it may have, and with
-    /// `Memory`.
-    pub fn mk_clauses(&mut self, items: &[Clause]) -> Result<Clauses, Refusal>
-        requires { AreClauses self.old.rows items.now }
-        ensures { Builds result (λ list. list.number) self.old self.new (clauses_row items.now) }
+    // The same of items that are kept as the list's, by one look-up.
+    pub(crate) fn put_clauses(&mut self, items: Vec<Clause>) -> Result<Clauses, Refusal>
+        requires { AreClauses self.old.rows items.items }
+        ensures { Builds result (λ list. list.number) self.old self.new (clauses_row items.items) }
     {
-        self.are_rows();
-        match self.find_clauses(items) {
-            Some(list) => Ok(list),
-            None => self.add_clauses(items),
-        }
+        let info = items_info(self, items.as_slice());
+        let number = match find_or_insert(
+            &mut self.order,
+            self.limit,
+            Table::ClauseLists,
+            &mut self.clause_lists,
+            items,
+            info,
+        ) {
+            Ok(number) => number,
+            Err(e) => return Err(e),
+        };
+        Ok(Clauses::from_number(number))
     }
 
     /// Whether each is a clause of this interner.

@@ -20,24 +20,11 @@ impl Child {
     pub fn is_like(&self, other: &Child) -> bool
         ensures { IsTrue result ↔ (child_sort other.now ≡ child_sort self.now) }
     {
-        match self {
-            Child::Absent => matches!(other, Child::Absent),
-            Child::Region(_) => matches!(other, Child::Region(_)),
-            Child::Node(Node::Ty(_)) => matches!(other, Child::Node(Node::Ty(_))),
-            Child::Node(Node::Const(_)) => matches!(other, Child::Node(Node::Const(_))),
-            Child::Node(Node::Pat(_)) => matches!(other, Child::Node(Node::Pat(_))),
-            Child::Node(Node::Predicate(_)) => matches!(other, Child::Node(Node::Predicate(_))),
-            Child::Node(Node::Existential(_)) => matches!(other, Child::Node(Node::Existential(_))),
-            Child::Node(Node::Clauses(_)) => matches!(other, Child::Node(Node::Clauses(_))),
-            Child::List(List::Tys(_)) => matches!(other, Child::List(List::Tys(_))),
-            Child::List(List::Consts(_)) => matches!(other, Child::List(List::Consts(_))),
-            Child::List(List::Args(_)) => matches!(other, Child::List(List::Args(_))),
-            Child::List(List::Pats(_)) => matches!(other, Child::List(List::Pats(_))),
-            Child::List(List::Existentials(_)) => matches!(
-                other,
-                Child::List(List::Existentials(_))
-            ),
-            Child::List(List::Clauses(_)) => matches!(other, Child::List(List::Clauses(_))),
+        match (self, other) {
+            (Child::Absent, Child::Absent) | (Child::Region(_), Child::Region(_)) => true,
+            (Child::Node(node), Child::Node(other)) => node.table() == other.table(),
+            (Child::List(list), Child::List(other)) => list.sort() == other.sort(),
+            _ => false,
         }
     }
 }

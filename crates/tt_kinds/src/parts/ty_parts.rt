@@ -58,19 +58,8 @@ impl TyKind {
                 Child::List(List::Existentials(*predicates)),
                 Child::Region(*region),
             ),
-            TyKind::Bool
-            | TyKind::Char
-            | TyKind::Int(_)
-            | TyKind::Uint(_)
-            | TyKind::Float(_)
-            | TyKind::Foreign(_)
-            | TyKind::Str
-            | TyKind::Never
-            | TyKind::Param(_)
-            | TyKind::Bound(_, _)
-            | TyKind::Placeholder(_)
-            | TyKind::Infer(_)
-            | TyKind::Error(_) => Parts::none(),
+            // The other kinds hold no region, no stored term and no list.
+            _ => Parts::none(),
         }
     }
 

@@ -2,7 +2,7 @@
 
 use tt_flags::TypeFlags;
 use tt_index::{DebruijnIndex, Refusal};
-use tt_kinds::{Clauses, Const, GenericArgs, Pat, Predicate, Ty};
+use tt_kinds::{Clauses, Const, DeclarationSort, DefId, GenericArgs, Pat, Predicate, Ty};
 
 /// The answer to a [`Call`](crate::Call).
 #[derive(Clone, Copy, Debug, PartialEq, Eq)]
@@ -19,6 +19,8 @@ pub enum Answer {
     Clauses(Clauses),
     /// The list of generic arguments that was.
     Args(GenericArgs),
+    /// The id of the declaration that was made, and what it is of.
+    Id(DeclarationSort, DefId),
     /// Whether two terms are the same.
     Truth(bool),
     /// What is kept beside a term.

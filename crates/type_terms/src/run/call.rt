@@ -304,6 +304,50 @@ pub enum ArgCall {
     Const(u32),
 }
 
+/// What is declared. It is such a [`DeclarationKind`](tt_kinds::DeclarationKind), with the position of the call that answered
+/// it in the place of an id.
+#[derive(Clone, Copy, Debug, PartialEq, Eq)]
+pub enum DeclarationKindCall {
+    /// A trait.
+    Trait {
+        /// How many parameters it has, the self type among them.
+        params: u32,
+    },
+    /// An associated type of the trait that the call at this position declared.
+    AssocTy(u32),
+    /// An implementation: of a trait, or of a type's own items.
+    Impl,
+    /// An associated type of the implementation that the call at this position declared.
+    Inherent(u32),
+    /// A struct, an enum or a union.
+    Adt,
+    /// An opaque type.
+    Opaque,
+    /// A type alias that stands for itself.
+    Free,
+    /// A type that is declared elsewhere.
+    Foreign,
+    /// A closure.
+    Closure,
+    /// A closure that answers a coroutine.
+    CoroutineClosure,
+    /// A coroutine.
+    Coroutine,
+    /// A constant whose value is computed when it is asked for.
+    Const,
+    /// A parameter: of a type, a region or a constant.
+    Param,
+}
+
+/// A declaration to be made. Each such call gives a new id, whichever names are there.
+#[derive(Debug, PartialEq, Eq, Drop)]
+pub struct DeclareCall {
+    /// What is declared.
+    pub kind: DeclarationKindCall,
+    /// Its name.
+    pub name: String,
+}
+
 /// A call of the library. A position names the answer of an earlier call of the list: the first call has position 1.
 #[derive(Debug, PartialEq, Eq, Drop)]
 pub enum Call {
@@ -319,6 +363,8 @@ pub enum Call {
     Clauses(Vec<u32>),
     /// Builds the list of generic arguments.
     Args(Vec<ArgCall>),
+    /// Makes the declaration.
+    Declare(DeclareCall),
     /// Shifts the term at the position into so many new binders.
     Shift(u32, u32),
     /// Instantiates the term at the position with the arguments.

@@ -187,7 +187,11 @@ pub fn table_of(answer: &Answer) -> Option<Table>
         Answer::Predicate(_) => Some(Table::Predicates),
         Answer::Clauses(_) => Some(Table::ClauseLists),
         Answer::Args(_) => Some(Table::ArgLists),
-        Answer::Truth(_) | Answer::Info { .. } | Answer::Refused(_) | Answer::Bad => None,
+        Answer::Id(..)
+        | Answer::Truth(_)
+        | Answer::Info { .. }
+        | Answer::Refused(_)
+        | Answer::Bad => None,
     }
 }
 
@@ -202,6 +206,10 @@ pub fn number_of(answer: &Answer) -> u32
         Answer::Predicate(predicate) => predicate.number(),
         Answer::Clauses(clauses) => clauses.number(),
         Answer::Args(args) => args.number(),
-        Answer::Truth(_) | Answer::Info { .. } | Answer::Refused(_) | Answer::Bad => 0,
+        Answer::Id(..)
+        | Answer::Truth(_)
+        | Answer::Info { .. }
+        | Answer::Refused(_)
+        | Answer::Bad => 0,
     }
 }

@@ -1,25 +1,27 @@
 //! Earlier answers, by their positions.
 
-ghost use Rattle.std.specs.Prelude.{◌≡◌, IfOk, IfErr, None, List, [], ◌∷◌};
+ghost use Rattle.std.specs.Prelude.{◌≡◌, IfOk, IfErr, None, List, [], ◌∷◌, MatchOption};
 ghost use Rattle.tt_index.specs.declared.refusal.Refusal.TheVariants.{NoSuchAnswer};
 ghost use Rattle.tt_kinds.specs.Shape.{stored, also, none};
 ghost use Rattle.tt_interner.specs.Rows.{Row};
 ghost use Rattle.tt_interner.specs.Stored.{Terms};
 ghost use Rattle.type_terms.specs.CallForm.{one, a_term, terms_at};
 ghost use Rattle.type_terms.specs.Told.{told_all, AreOwned};
-ghost use Rattle.type_terms.specs.Means.{term_at};
-ghost use Rattle.type_terms.specs.Build.{IsAnswerAt, GivesPart, GivesParts, GivesItems};
+ghost use Rattle.type_terms.specs.Means.{term_at, id_at};
+ghost use Rattle.type_terms.specs.Build.{IsAnswerAt, IsIdAt, HasNoId, GivesPart, GivesParts, GivesItems};
 
 use crate::run::answer::Answer;
 use crate::run::handle::Handle;
 use std::alloc::Global;
 use tt_index::Refusal;
+use tt_kinds::{DeclarationSort, DefId};
 
 /// The answer at the position, counted from 1. It is refused with `NoSuchAnswer` where there is none.
 pub fn answer_at<'a>(earlier: &'a [Answer], position: u32) -> Result<&'a Answer, Refusal>
     ensures ok { IfOk result (λ answer. IsAnswerAt earlier.now position answer.now) }
     ensures cause { IfErr result (λ e. e ≡ NoSuchAnswer) }
     ensures absent { IfErr result (λ e. (rows : List Row) → term_at (told_all rows earlier.now) position ≡ None) }
+    ensures no_id { IfErr result (λ e. (rows : List Row) → id_at (told_all rows earlier.now) position ≡ None) }
 {
     if position == 0 {
         return Err(Refusal::NoSuchAnswer);
@@ -27,6 +29,33 @@ pub fn answer_at<'a>(earlier: &'a [Answer], position: u32) -> Result<&'a Answer,
     match earlier.get(position as usize - 1) {
         Some(answer) => Ok(answer),
         None => Err(Refusal::NoSuchAnswer),
+    }
+}
+
+/// The id at the position. It is refused with `NoSuchAnswer` where the answer there is absent or no id of this sort.
+pub fn declared_at(
+    earlier: &[Answer],
+    position: u32,
+    sort: DeclarationSort,
+) -> Result<DefId, Refusal>
+    ensures ok { IfOk result (λ id. IsIdAt earlier.now position sort id.number) }
+    ensures cause { IfErr result (λ e. e ≡ NoSuchAnswer) }
+    ensures absent { IfErr result (λ e. HasNoId earlier.now position sort) }
+{
+    let answer = answer_at(earlier, position)?;
+    match id_of_sort(answer, sort) {
+        Some(id) => Ok(id),
+        None => Err(Refusal::NoSuchAnswer),
+    }
+}
+
+// The id that the answer is, and `None` where it is none of this sort.
+fn id_of_sort(answer: &Answer, sort: DeclarationSort) -> Option<DefId>
+    ensures { MatchOption result ((id : DefId) → answer.now ≡ Answer.Id sort id → ⊥) (λ id. answer.now ≡ Answer.Id sort id) }
+{
+    match answer {
+        Answer::Id(found, id) => { if *found == sort { Some(*id) } else { None } }
+        _ => None,
     }
 }
 

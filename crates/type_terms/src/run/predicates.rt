@@ -1,7 +1,7 @@
 //! The building of predicates.
 
 ghost use Rattle.std.specs.Prelude.{[], ◌∷◌, List};
-ghost use Rattle.tt_kinds.specs.Label.{host_effect_record, unstable_feature_record, projection_record, region_outlives_record, type_outlives_record};
+ghost use Rattle.tt_kinds.specs.Label.{subtype_record, coerce_record, host_effect_record, unstable_feature_record, projection_record, region_outlives_record, type_outlives_record};
 ghost use Rattle.tt_kinds.specs.Shape.{also, append};
 ghost use Rattle.tt_kinds.specs.Parts.{term_child};
 ghost use Rattle.tt_kinds.specs.Kinds.{predicate_form as form_of_predicate};
@@ -85,21 +85,8 @@ fn predicate_kind(
             a_is_expected,
             a,
             b,
-        } => {
-            let pair = handle_pair::<Ty, Ty>(earlier, *a, *b)?;
-            Ok(PredicateKind::Subtype(SubtypePredicate {
-                a_is_expected: *a_is_expected,
-                a: pair.0,
-                b: pair.1,
-            }))
-        }
-        PredicateKindCall::Coerce(a, b) => {
-            let pair = handle_pair::<Ty, Ty>(earlier, *a, *b)?;
-            Ok(PredicateKind::Coerce(CoercePredicate {
-                a: pair.0,
-                b: pair.1,
-            }))
-        }
+        } => subtype(earlier, *a_is_expected, *a, *b),
+        PredicateKindCall::Coerce(a, b) => coerce(earlier, *a, *b),
         PredicateKindCall::ConstEquate(a, b) => {
             let pair = handle_pair::<Const, Const>(earlier, *a, *b)?;
             Ok(PredicateKind::ConstEquate(pair.0, pair.1))
@@ -119,6 +106,34 @@ fn predicate_kind(
             Ok(PredicateKind::AliasRelate(pair.0, pair.1, *direction))
         }
     }
+}
+
+// A type is a subtype of another.
+fn subtype(
+    earlier: &[Answer],
+    a_is_expected: bool,
+    a: u32,
+    b: u32,
+) -> Result<PredicateKind, Refusal>
+    ensures { (terms : Terms) → AreOwned terms.rows earlier.now → GivesRecord terms (told_all terms.rows earlier.now) (labelled (subtype_record a_is_expected) (one (a_term Table.Types a) ∷ one (a_term Table.Types b) ∷ [])) form_of_predicate result }
+{
+    let pair = handle_pair::<Ty, Ty>(earlier, a, b)?;
+    Ok(PredicateKind::Subtype(SubtypePredicate {
+        a_is_expected,
+        a: pair.0,
+        b: pair.1,
+    }))
+}
+
+// A type can be coerced to another.
+fn coerce(earlier: &[Answer], a: u32, b: u32) -> Result<PredicateKind, Refusal>
+    ensures { (terms : Terms) → AreOwned terms.rows earlier.now → GivesRecord terms (told_all terms.rows earlier.now) (labelled coerce_record (one (a_term Table.Types a) ∷ one (a_term Table.Types b) ∷ [])) form_of_predicate result }
+{
+    let pair = handle_pair::<Ty, Ty>(earlier, a, b)?;
+    Ok(PredicateKind::Coerce(CoercePredicate {
+        a: pair.0,
+        b: pair.1,
+    }))
 }
 
 // What the clause says.

@@ -15,7 +15,8 @@ pub fn print_answer(output: &mut String, number: usize, answer: &Answer) -> Resu
         | Answer::Pat(_)
         | Answer::Predicate(_)
         | Answer::Clauses(_)
-        | Answer::Args(_) => output.push_str(": ok\n"),
+        | Answer::Args(_)
+        | Answer::Id(..) => output.push_str(": ok\n"),
         Answer::Truth(true) => output.push_str(": yes\n"),
         Answer::Truth(false) => output.push_str(": no\n"),
         Answer::Info { flags, outer } => {

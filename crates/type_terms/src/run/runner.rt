@@ -12,6 +12,7 @@ use crate::run::build::build_ty;
 use crate::run::call::Call;
 use crate::run::clauses::build_clauses;
 use crate::run::consts::{build_args_answer, build_const};
+use crate::run::declare::declare_at;
 use crate::run::fold::{instantiate_at, shift_at};
 use crate::run::pats::build_pat;
 use crate::run::predicates::build_predicate;
@@ -69,6 +70,7 @@ fn answer_call(cx: &mut Interner, earlier: &[Answer], call: &Call) -> Answer
             outcome_answer(build_clauses(cx, earlier, positions.as_slice()))
         }
         Call::Args(args) => outcome_answer(build_args_answer(cx, earlier, args.as_slice())),
+        Call::Declare(declaration) => outcome_answer(declare_at(cx, earlier, declaration)),
         Call::Shift(position, amount) => {
             outcome_answer(shift_at(cx, earlier, *position, *amount))
         }

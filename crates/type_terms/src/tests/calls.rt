@@ -1,12 +1,16 @@
 //! Calls of each kind, as values.
 
+use super::agree;
+use super::owned::holds_anew;
 use crate::{
     AdtId, Answer, ArgCall, BoundVar, BoundVarIndexKind, Call, ClauseCall, ConstCall,
-    DebruijnIndex, DefId, ExistentialCall, ExistentialKindCall, GREATEST_INDEX, InferConst,
-    Interner, ItemCall, Mutability, PatCall, PredicateCall, PredicateKindCall, Refusal, RegionCall,
-    RegionNameCall, ScalarInt, TermCall, TraitId, TyCall, UniverseIndex, ValTreeCall, run_calls,
+    DebruijnIndex, DeclarationKindCall, DeclareCall, DefId, ExistentialCall, ExistentialKindCall,
+    GREATEST_INDEX, InferConst, Interner, ItemCall, Mutability, PatCall, PredicateCall,
+    PredicateKindCall, Refusal, RegionCall, RegionNameCall, ScalarInt, TermCall, TraitId, TyCall,
+    UniverseIndex, ValTreeCall, run_calls,
 };
 use std::alloc::{AllocError, Global};
+use std::process::Abort;
 use std::test::Fail;
 
 // What kind of answer it is, in a word.
@@ -18,6 +22,7 @@ fn word(answer: &Answer) -> &'static str {
         Answer::Predicate(_) => "predicate ",
         Answer::Clauses(_) => "clauses ",
         Answer::Args(_) => "args ",
+        Answer::Id(..) => "id ",
         Answer::Truth(true) => "yes ",
         Answer::Truth(false) => "no ",
         Answer::Info { .. } => "info ",
@@ -26,6 +31,40 @@ fn word(answer: &Answer) -> &'static str {
         Answer::Refused(_) => "refused ",
         Answer::Bad => "bad ",
     }
+}
+
+// What the calls of a list are about.
+#[derive(Clone, Copy)]
+enum Subject {
+    Constants,
+    Arguments,
+    Patterns,
+    Predicates,
+    Regions,
+    TraitObjects,
+    Declarations,
+}
+
+// The call of this number of the subject's list.
+fn call(alloc: Global, subject: Subject, number: u32) -> Result<Call, AllocError> {
+    match subject {
+        Subject::Constants => constant_call(alloc, number),
+        Subject::Arguments => argument_call(alloc, number),
+        Subject::Patterns => pattern_call(alloc, number),
+        Subject::Predicates => predicate_call(alloc, number),
+        Subject::Regions => Ok(region_call(number)),
+        Subject::TraitObjects => object_call(alloc, number),
+        Subject::Declarations => declaration_call(alloc, number),
+    }
+}
+
+// So many calls of the subject's list.
+fn calls(alloc: Global, subject: Subject, count: u32) -> Result<Vec<Call>, AllocError> {
+    let mut calls = Vec::new(alloc);
+    for index in 0..count {
+        calls.push(call(alloc, subject, index + 1)?)?;
+    }
+    Ok(calls)
 }
 
 // The words of the answers to the calls, on a new interner.
@@ -39,6 +78,52 @@ fn words(alloc: Global, calls: &[Call]) -> Result<String, Fail> {
         words.push_str(word(answer))?;
     }
     Ok(words)
+}
+
+// So many calls of the subject's list have answers of these words.
+fn check(
+    rt: &impl Abort,
+    alloc: Global,
+    subject: Subject,
+    count: u32,
+    wanted: &str,
+) -> Result<(), Fail> {
+    let calls = calls(alloc, subject, count)?;
+    let words = words(alloc, calls.as_slice())?;
+    agree(rt, "the answers", words.as_str(), wanted);
+    Ok(())
+}
+
+#[test]
+fn lists_of_calls(rt: HostRuntime) -> Result<(), Fail> {
+    for (subject, count, wanted) in [
+        (
+            Subject::Constants,
+            9,
+            "type const const const type no info none none ",
+        ),
+        (Subject::Arguments, 7, "type args type args none yes none "),
+        (
+            Subject::Patterns,
+            9,
+            "const pattern pattern pattern type type info no none ",
+        ),
+        (
+            Subject::Predicates,
+            9,
+            "type predicate predicate clauses none clauses info clauses yes ",
+        ),
+        (Subject::Regions, 5, "type type type no deep "),
+        (Subject::TraitObjects, 5, "type type type none no "),
+        (
+            Subject::Declarations,
+            10,
+            "id id id none id id none none none none ",
+        ),
+    ] {
+        check(&rt, rt.alloc(), subject, count, wanted)?;
+    }
+    Ok(())
 }
 
 // A call of this number of a list.
@@ -60,20 +145,6 @@ fn constant_call(alloc: Global, number: u32) -> Result<Call, AllocError> {
         8 => Ok(Call::Ty(TyCall::Slice(2))),
         _ => Ok(Call::Ty(TyCall::Array(2, 1))),
     }
-}
-
-#[test]
-fn constants(rt: HostRuntime) -> Result<(), Fail> {
-    let mut calls = Vec::new(rt.alloc());
-    for number in 1..10 {
-        calls.push(constant_call(rt.alloc(), number)?)?;
-    }
-    let words = words(rt.alloc(), calls.as_slice())?;
-    assert_eq!(rt;
-        words.as_str(),
-        "type const const const type no info none none "
-    );
-    Ok(())
 }
 
 // The list of the type that the first call answered.
@@ -99,17 +170,6 @@ fn argument_call(alloc: Global, number: u32) -> Result<Call, AllocError> {
     }
 }
 
-#[test]
-fn arguments(rt: HostRuntime) -> Result<(), Fail> {
-    let mut calls = Vec::new(rt.alloc());
-    for number in 1..8 {
-        calls.push(argument_call(rt.alloc(), number)?)?;
-    }
-    let words = words(rt.alloc(), calls.as_slice())?;
-    assert_eq!(rt; words.as_str(), "type args type args none yes none ");
-    Ok(())
-}
-
 // A call of this number of a list.
 fn pattern_call(alloc: Global, number: u32) -> Result<Call, AllocError> {
     match number {
@@ -123,20 +183,6 @@ fn pattern_call(alloc: Global, number: u32) -> Result<Call, AllocError> {
         8 => Ok(Call::Equal(2, 4)),
         _ => Ok(Call::Pat(PatCall::Range { start: 1, end: 5 })),
     }
-}
-
-#[test]
-fn patterns(rt: HostRuntime) -> Result<(), Fail> {
-    let mut calls = Vec::new(rt.alloc());
-    for number in 1..10 {
-        calls.push(pattern_call(rt.alloc(), number)?)?;
-    }
-    let words = words(rt.alloc(), calls.as_slice())?;
-    assert_eq!(rt;
-        words.as_str(),
-        "const pattern pattern pattern type type info no none "
-    );
-    Ok(())
 }
 
 // The predicate of this kind under a binder of no variables.
@@ -165,20 +211,6 @@ fn predicate_call(alloc: Global, number: u32) -> Result<Call, AllocError> {
     }
 }
 
-#[test]
-fn predicates(rt: HostRuntime) -> Result<(), Fail> {
-    let mut calls = Vec::new(rt.alloc());
-    for number in 1..10 {
-        calls.push(predicate_call(rt.alloc(), number)?)?;
-    }
-    let words = words(rt.alloc(), calls.as_slice())?;
-    assert_eq!(rt;
-        words.as_str(),
-        "type predicate predicate clauses none clauses info clauses yes "
-    );
-    Ok(())
-}
-
 // The region of this number.
 fn region(number: u32) -> RegionCall {
     let var = BoundVar::from_u32(0);
@@ -205,17 +237,6 @@ fn region_call(number: u32) -> Call {
         4 => Call::Equal(2, 3),
         _ => Call::Ty(TyCall::Ref(region(2), 1, Mutability::Not)),
     }
-}
-
-#[test]
-fn regions(rt: HostRuntime) -> Result<(), Fail> {
-    let mut calls = Vec::new(rt.alloc());
-    for number in 1..6 {
-        calls.push(region_call(number))?;
-    }
-    let words = words(rt.alloc(), calls.as_slice())?;
-    assert_eq!(rt; words.as_str(), "type type type no deep ");
-    Ok(())
 }
 
 // The trait object of this alone.
@@ -252,13 +273,43 @@ fn object_call(alloc: Global, number: u32) -> Result<Call, AllocError> {
     }
 }
 
-#[test]
-fn trait_objects(rt: HostRuntime) -> Result<(), Fail> {
-    let mut calls = Vec::new(rt.alloc());
-    for number in 1..6 {
-        calls.push(object_call(rt.alloc(), number)?)?;
+// A declaration of this number of a list. All have one name.
+fn declaration(alloc: Global, number: u32) -> Result<Call, AllocError> {
+    let kind = match number {
+        1 | 2 => DeclarationKindCall::Trait { params: 1 },
+        3 => DeclarationKindCall::AssocTy(2),
+        4 => DeclarationKindCall::AssocTy(3),
+        5 => DeclarationKindCall::Impl,
+        6 => DeclarationKindCall::Inherent(5),
+        _ => DeclarationKindCall::Inherent(1),
+    };
+    let name = String::from_str(alloc, "Iterator")?;
+    Ok(Call::Declare(DeclareCall { kind, name }))
+}
+
+// A call of this number of a list.
+fn declaration_call(alloc: Global, number: u32) -> Result<Call, AllocError> {
+    match number {
+        8 => Ok(Call::Equal(1, 1)),
+        9 => Ok(Call::Info(1)),
+        10 => Ok(Call::Shift(1, 1)),
+        _ => declaration(alloc, number),
     }
-    let words = words(rt.alloc(), calls.as_slice())?;
-    assert_eq!(rt; words.as_str(), "type type type none no ");
-    Ok(())
+}
+
+// Whether two declarations of one name, of two traits, were given two ids.
+fn two_ids(cx: &mut Interner) -> Result<bool, Refusal> {
+    let mut calls = Vec::new(cx.allocator());
+    calls.push(declaration(cx.allocator(), 1)?)?;
+    calls.push(declaration(cx.allocator(), 2)?)?;
+    let answers = run_calls(cx, calls.as_slice())?;
+    match answers.as_slice() {
+        [Answer::Id(_, first), Answer::Id(_, second)] => Ok(first != second),
+        _ => Ok(false),
+    }
+}
+
+#[test]
+fn each_declaration_has_its_id(rt: HostRuntime) {
+    holds_anew(&rt, rt.alloc(), two_ids);
 }

@@ -2,8 +2,8 @@
 
 use super::owned::{NOT_OWNED, holds_anew, holds_within};
 use crate::{
-    AdtId, BoundRegionKind, Declaration, DeclarationKind, DefId, Interner, Refusal, RegionName,
-    Symbol, TraitId,
+    AdtId, BoundRegionKind, Declaration, DeclarationKind, DeclarationSort, DefId, Interner,
+    Refusal, RegionName, Symbol, TraitId,
 };
 
 // A data type of this name.
@@ -73,6 +73,8 @@ fn kinds_are_kept(cx: &mut Interner) -> Result<bool, Refusal> {
     Ok(
         declaration(cx, item.into())? == Declaration { kind, name }
             && declaration(cx, iterator.into())?.kind == DeclarationKind::Trait { params: 1 }
+            && cx.owns_trait_id(iterator)
+            && cx.owns_trait_assoc_ty_id(item)
             && !cx.owns_def_id(DefId::from_number(2)),
     )
 }
@@ -129,43 +131,46 @@ fn is_declared(cx: &Interner, id: DefId, kind: DeclarationKind) -> Result<bool, 
 fn opaque(cx: &mut Interner) -> Result<bool, Refusal> {
     let name = cx.symbol("T")?;
     let id = cx.declare_opaque(name)?;
-    is_declared(cx, id.into(), DeclarationKind::Opaque)
+    Ok(cx.owns_opaque_ty_id(id) && is_declared(cx, id.into(), DeclarationKind::Opaque)?)
 }
 
 fn free(cx: &mut Interner) -> Result<bool, Refusal> {
     let name = cx.symbol("T")?;
     let id = cx.declare_free(name)?;
-    is_declared(cx, id.into(), DeclarationKind::Free)
+    Ok(cx.owns_free_ty_alias_id(id) && is_declared(cx, id.into(), DeclarationKind::Free)?)
 }
 
 fn foreign(cx: &mut Interner) -> Result<bool, Refusal> {
     let name = cx.symbol("T")?;
     let id = cx.declare_foreign(name)?;
-    is_declared(cx, id.into(), DeclarationKind::Foreign)
+    Ok(cx.owns_foreign_id(id) && is_declared(cx, id.into(), DeclarationKind::Foreign)?)
 }
 
 fn closure(cx: &mut Interner) -> Result<bool, Refusal> {
     let name = cx.symbol("f")?;
     let id = cx.declare_closure(name)?;
-    is_declared(cx, id.into(), DeclarationKind::Closure)
+    Ok(cx.owns_closure_id(id) && is_declared(cx, id.into(), DeclarationKind::Closure)?)
 }
 
 fn coroutine_closure(cx: &mut Interner) -> Result<bool, Refusal> {
     let name = cx.symbol("f")?;
     let id = cx.declare_coroutine_closure(name)?;
-    is_declared(cx, id.into(), DeclarationKind::CoroutineClosure)
+    Ok(
+        cx.owns_coroutine_closure_id(id)
+            && is_declared(cx, id.into(), DeclarationKind::CoroutineClosure)?,
+    )
 }
 
 fn coroutine(cx: &mut Interner) -> Result<bool, Refusal> {
     let name = cx.symbol("f")?;
     let id = cx.declare_coroutine(name)?;
-    is_declared(cx, id.into(), DeclarationKind::Coroutine)
+    Ok(cx.owns_coroutine_id(id) && is_declared(cx, id.into(), DeclarationKind::Coroutine)?)
 }
 
 fn constant(cx: &mut Interner) -> Result<bool, Refusal> {
     let name = cx.symbol("N")?;
     let id = cx.declare_const(name)?;
-    is_declared(cx, id.into(), DeclarationKind::Const)
+    Ok(cx.owns_unevaluated_const_id(id) && is_declared(cx, id.into(), DeclarationKind::Const)?)
 }
 
 // An implementation, and one of its associated types.
@@ -176,7 +181,9 @@ fn inherent(cx: &mut Interner) -> Result<bool, Refusal> {
     let id = cx.declare_inherent(item, implementation)?;
     Ok(
         is_declared(cx, implementation.into(), DeclarationKind::Impl)?
-            && is_declared(cx, id.into(), DeclarationKind::Inherent(implementation))?,
+            && is_declared(cx, id.into(), DeclarationKind::Inherent(implementation))?
+            && cx.owns_impl_id(implementation)
+            && cx.owns_inherent_assoc_ty_id(id),
     )
 }
 
@@ -192,4 +199,20 @@ fn each_body_is_declared_holds(cx: &mut Interner) -> Result<bool, Refusal> {
 fn each_kind_is_declared(rt: HostRuntime) {
     holds_anew(&rt, rt.alloc(), each_kind_is_declared_holds);
     holds_anew(&rt, rt.alloc(), each_body_is_declared_holds);
+}
+
+fn other_sorts_are_refused(cx: &mut Interner) -> Result<bool, Refusal> {
+    let id = adt(cx, "Vec")?;
+    let def_id = DefId::from(id);
+    Ok(
+        cx.owns_adt_id(id)
+            && !cx.owns_trait_id(TraitId::from_number(id.number()))
+            && !cx.owns_id_of_sort(def_id, DeclarationSort::Param)
+            && !cx.owns_adt_id(AdtId::from_number(1)),
+    )
+}
+
+#[test]
+fn ids_of_other_sorts(rt: HostRuntime) {
+    holds_anew(&rt, rt.alloc(), other_sorts_are_refused);
 }

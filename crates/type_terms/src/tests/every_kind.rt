@@ -39,7 +39,7 @@ impl Flagged for Clauses {
 }
 
 // A kind whose term can be built, and can then tell what is kept beside it.
-trait Built {
+pub trait Built {
     // The flags and the outer exclusive binder of the term.
     fn info_of_term(&self, cx: &mut Interner) -> Result<(u32, u32), Refusal>;
 }
@@ -73,7 +73,7 @@ impl Built for PredicateKind {
 }
 
 // Whether the term of each kind has these flags and this outer exclusive binder.
-fn are_infos<K: Built>(cx: &mut Interner, rows: &[(K, u32, u32)]) -> Result<bool, Refusal> {
+pub fn are_infos<K: Built>(cx: &mut Interner, rows: &[(K, u32, u32)]) -> Result<bool, Refusal> {
     for row in rows {
         if row.0.info_of_term(cx)? != (row.1, row.2) {
             return Ok(false);
@@ -102,7 +102,7 @@ fn two_patterns(cx: &mut Interner, first: Pat, second: Pat) -> Result<PatList, R
 }
 
 // The list of these constants.
-fn consts(cx: &mut Interner, items: &[Const]) -> Result<Consts, Refusal> {
+pub fn consts(cx: &mut Interner, items: &[Const]) -> Result<Consts, Refusal> {
     if are_owned(cx, items) {
         cx.mk_consts(items)
     } else {
@@ -399,8 +399,10 @@ fn trait_objects(rt: HostRuntime) {
 
 fn variables_of_constants_holds(cx: &mut Interner) -> Result<bool, Refusal> {
     let name = cx.symbol("N")?;
+    let first = BoundVar::from_u32(0);
     let var = BoundVar::from_u32(1);
     let far = BoundVarIndexKind::Bound(DebruijnIndex::from_u32(4));
+    let as_far = BoundVarIndexKind::Bound(DebruijnIndex::from_u32(4));
     let canonical = BoundVarIndexKind::Canonical;
     let universe = UniverseIndex::from_u32(3);
     are_infos(
@@ -414,6 +416,11 @@ fn variables_of_constants_holds(cx: &mut Interner) -> Result<bool, Refusal> {
             ),
             (ConstKind::Infer(InferConst::Fresh(0)), 0x800000, 0),
             (ConstKind::Bound(far, BoundConst::new(var)), 0x100000, 5),
+            (
+                ConstKind::Bound(as_far, BoundConst::new(first)),
+                0x100000,
+                5,
+            ),
             (
                 ConstKind::Bound(canonical, BoundConst::new(var)),
                 0x4100000,

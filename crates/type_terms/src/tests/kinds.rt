@@ -4,18 +4,18 @@ ghost use Rattle.std.specs.Prelude.{⊤, refl};
 ghost use Rattle.tt_kinds.specs.Kinds.{predicate_shape};
 ghost use Rattle.tt_fold.specs.Steps.{IsPartOf};
 
+use super::every_kind::are_infos;
 use super::owned::{
     NOT_OWNED, Owned, args, bound_region, holds_anew, instance, is_instance, one_region, param_ty,
     ref_ty, region_variable, ty, u32_ty,
 };
 use super::values::{Flagged, info};
 use crate::{
-    AliasTerm, AliasTy, AliasTyKind, AsClause, Binder, BoundConst, BoundExistentialPredicates,
-    BoundTyKind, BoundVar, BoundVarIndexKind, BoundVarKinds, BoundVariableKind, Clause, ClauseKind,
-    Clauses, Const, ConstKind, CoroutineId, DebruijnIndex, DefId, ExistentialPredicate,
-    ExistentialProjection, GenericArg, GenericArgs, IntTy, Interner, NormalizesTo,
-    OutlivesPredicate, Predicate, PredicateKind, Refusal, Region, RegionKind, RegionVid, Step,
-    Term, TraitAssocTyId, Ty, TyKind, TypeFoldable, TypeFolder, UnevaluatedConst,
+    AliasTerm, AliasTy, AliasTyKind, AsClause, Binder, BoundExistentialPredicates, BoundTyKind,
+    BoundVarKinds, BoundVariableKind, Clause, ClauseKind, Clauses, Const, ConstKind, CoroutineId,
+    DefId, ExistentialPredicate, ExistentialProjection, GenericArg, GenericArgs, IntTy, Interner,
+    NormalizesTo, OutlivesPredicate, Predicate, PredicateKind, Refusal, Region, RegionKind,
+    RegionVid, Step, Term, TraitAssocTyId, Ty, TyKind, TypeFoldable, TypeFolder, UnevaluatedConst,
     UnevaluatedConstId, UnsafeBinderInner,
 };
 
@@ -121,63 +121,54 @@ pub fn info_of_predicate(
     info(cx, &term)
 }
 
-fn flags_of_coroutines_and_aliases_holds(cx: &mut Interner) -> Result<bool, Refusal> {
-    let args = one_param(cx)?;
-    let id = CoroutineId::from_number(0);
-    let def_id = TraitAssocTyId::from_number(0);
-    let kind = AliasTyKind::Projection { def_id };
-    Ok(
-        info_of_kind(cx, TyKind::Coroutine(id, args)) == Ok((0x2000001, 0))
-            && info_of_kind(cx, TyKind::CoroutineWitness(id, args)) == Ok((0x1, 0))
-            && info_of_kind(cx, TyKind::Alias(AliasTy { args, kind })) == Ok((0x401, 0)),
-    )
+// What stands under the binder of this type is bound outside of it.
+fn open_binder(cx: &mut Interner) -> Result<UnsafeBinderInner, Refusal> {
+    let number = u32_ty(cx)?;
+    let reference = ref_ty(cx, bound_region(1)?, number)?;
+    let vars = one_region(cx)?;
+    Ok(UnsafeBinderInner::from(Binder::bind_with_vars(reference, vars)))
 }
 
-#[test]
-fn flags_of_coroutines_and_aliases(rt: HostRuntime) {
-    holds_anew(&rt, rt.alloc(), flags_of_coroutines_and_aliases_holds);
-}
-
-fn flags_of_trait_objects_holds(cx: &mut Interner) -> Result<bool, Refusal> {
+// The list of the predicate that an associated item is the type parameter of index 0.
+fn projection_on_a_parameter(cx: &mut Interner) -> Result<BoundExistentialPredicates, Refusal> {
     let parameter = param_ty(cx, 0)?;
     let projection = ExistentialProjection {
         def_id: DefId::from_number(0),
         args: GenericArgs::default(),
         term: Term::from(parameter),
     };
-    let list = one_existential(cx, ExistentialPredicate::Projection(projection))?;
+    one_existential(cx, ExistentialPredicate::Projection(projection))
+}
+
+fn flags_of_types_holds(cx: &mut Interner) -> Result<bool, Refusal> {
+    let args = one_param(cx)?;
+    let list = projection_on_a_parameter(cx)?;
     let erased = Region::new(RegionKind::ReErased)?;
-    Ok(info_of_kind(cx, TyKind::Dynamic(list, erased)) == Ok((0x200001, 0)))
+    let inner = open_binder(cx)?;
+    let id = CoroutineId::from_number(0);
+    let def_id = TraitAssocTyId::from_number(0);
+    let kind = AliasTyKind::Projection { def_id };
+    are_infos(
+        cx,
+        &[
+            (TyKind::Coroutine(id, args), 0x2000001, 0),
+            (TyKind::CoroutineWitness(id, args), 0x1, 0),
+            (TyKind::Alias(AliasTy { args, kind }), 0x401, 0),
+            (TyKind::Dynamic(list, erased), 0x200001, 0),
+            (TyKind::UnsafeBinder(inner), 0x1040000, 1),
+        ],
+    )
 }
 
 #[test]
-fn flags_of_trait_objects(rt: HostRuntime) {
-    holds_anew(&rt, rt.alloc(), flags_of_trait_objects_holds);
+fn flags_of_types(rt: HostRuntime) {
+    holds_anew(&rt, rt.alloc(), flags_of_types_holds);
 }
 
-fn flags_of_unsafe_binders_holds(cx: &mut Interner) -> Result<bool, Refusal> {
-    let number = u32_ty(cx)?;
-    let reference = ref_ty(cx, bound_region(1)?, number)?;
-    let vars = one_region(cx)?;
-    let inner = UnsafeBinderInner::from(Binder::bind_with_vars(reference, vars));
-    Ok(info_of_kind(cx, TyKind::UnsafeBinder(inner)) == Ok((0x1040000, 1)))
-}
-
-#[test]
-fn flags_of_unsafe_binders(rt: HostRuntime) {
-    holds_anew(&rt, rt.alloc(), flags_of_unsafe_binders_holds);
-}
-
-fn flags_of_bound_constants_holds(cx: &mut Interner) -> Result<bool, Refusal> {
-    let index = BoundVarIndexKind::Bound(DebruijnIndex::from_u32(4));
-    let variable = BoundConst::new(BoundVar::from_u32(0));
-    let bound = constant(cx, ConstKind::Bound(index, variable))?;
-    Ok(info(cx, &bound) == Ok((0x100000, 5)))
-}
-
-#[test]
-fn flags_of_bound_constants(rt: HostRuntime) {
-    holds_anew(&rt, rt.alloc(), flags_of_bound_constants_holds);
+// A binder's list of one type.
+#[tactic(auto, unfolding(tt_kinds::specs::Shape::IsPart))]
+fn one_type(cx: &mut Interner) -> Result<BoundVarKinds, Refusal> {
+    cx.mk_bound_vars(&[BoundVariableKind::Ty(BoundTyKind::Anon)])
 }
 
 fn flags_of_predicates_holds(cx: &mut Interner) -> Result<bool, Refusal> {
@@ -187,30 +178,18 @@ fn flags_of_predicates_holds(cx: &mut Interner) -> Result<bool, Refusal> {
     };
     let term = Term::from(u32_ty(cx)?);
     let normalizes = PredicateKind::NormalizesTo(NormalizesTo { alias, term });
-    Ok(info_of_predicate(cx, normalizes, BoundVarKinds::default()) == Ok((0x1, 0)))
+    let parameter = Term::from(param_ty(cx, 0)?);
+    let clause = PredicateKind::Clause(ClauseKind::WellFormed(parameter));
+    let vars = one_type(cx)?;
+    Ok(
+        info_of_predicate(cx, normalizes, BoundVarKinds::default()) == Ok((0x1, 0))
+            && info_of_predicate(cx, clause, vars) == Ok((0x1000001, 0)),
+    )
 }
 
 #[test]
 fn flags_of_predicates(rt: HostRuntime) {
     holds_anew(&rt, rt.alloc(), flags_of_predicates_holds);
-}
-
-// A binder's list of one type.
-#[tactic(auto, unfolding(tt_kinds::specs::Shape::IsPart))]
-fn one_type(cx: &mut Interner) -> Result<BoundVarKinds, Refusal> {
-    cx.mk_bound_vars(&[BoundVariableKind::Ty(BoundTyKind::Anon)])
-}
-
-fn flags_of_clauses_holds(cx: &mut Interner) -> Result<bool, Refusal> {
-    let parameter = param_ty(cx, 0)?;
-    let vars = one_type(cx)?;
-    let clause = PredicateKind::Clause(ClauseKind::WellFormed(Term::from(parameter)));
-    Ok(info_of_predicate(cx, clause, vars) == Ok((0x1000001, 0)))
-}
-
-#[test]
-fn flags_of_clauses(rt: HostRuntime) {
-    holds_anew(&rt, rt.alloc(), flags_of_clauses_holds);
 }
 
 // The stored clause `u32: '?0`, under a binder of these variables.

@@ -1,6 +1,6 @@
 //! Calls of the library.
 
-use super::owned::{args, holds_anew, holds_within, is_refused_anew};
+use super::owned::{args, holds_anew, holds_within};
 use crate::run::line::parse_line;
 use crate::{
     Answer, Call, GenericArg, GenericArgs, Interner, Refusal, Region, RegionKind, RegionVid,
@@ -55,39 +55,26 @@ fn limit_of_rows(rt: HostRuntime) {
     holds_within(&rt, rt.alloc(), 2, limit_of_rows_holds);
 }
 
-#[test]
-fn limit_of_no_row(rt: HostRuntime) {
-    is_refused_anew(&rt, rt.alloc(), 0, Refusal::TableFull);
-}
-
-fn index_out_of_range_holds(cx: &mut Interner) -> Result<bool, Refusal> {
-    let answer = last_answer(cx, "param 1\ni32\ninst %1 %2\n")?;
-    Ok(answer == Answer::Refused(Refusal::ArgOutOfRange { index: 1 }))
-}
-
-#[test]
-fn index_out_of_range(rt: HostRuntime) {
-    holds_anew(&rt, rt.alloc(), index_out_of_range_holds);
-}
-
-fn region_for_a_type_holds(cx: &mut Interner) -> Result<bool, Refusal> {
-    let answer = last_answer(cx, "param 0\ninst %1 'static\n")?;
-    Ok(answer == Answer::Refused(Refusal::ArgKind { index: 0 }))
+// Scripts whose last call is refused, each with the refusal.
+fn last_calls_are_refused_holds(cx: &mut Interner) -> Result<bool, Refusal> {
+    let index = Refusal::ArgOutOfRange { index: 1 };
+    let kind = Refusal::ArgKind { index: 0 };
+    let variable = Refusal::RegionVariable(RegionVid::from_u32(0));
+    for (lines, refusal) in [
+        ("param 1\ni32\ninst %1 %2\n", index),
+        ("param 0\ninst %1 'static\n", kind),
+        ("param 0\nref '?0 %1\ni32\ninst %2 %3\n", variable),
+    ] {
+        if last_answer(cx, lines)? != Answer::Refused(refusal) {
+            return Ok(false);
+        }
+    }
+    Ok(true)
 }
 
 #[test]
-fn region_for_a_type(rt: HostRuntime) {
-    holds_anew(&rt, rt.alloc(), region_for_a_type_holds);
-}
-
-fn region_variable_holds(cx: &mut Interner) -> Result<bool, Refusal> {
-    let answer = last_answer(cx, "param 0\nref '?0 %1\ni32\ninst %2 %3\n")?;
-    Ok(answer == Answer::Refused(Refusal::RegionVariable(RegionVid::from_u32(0))))
-}
-
-#[test]
-fn region_variable(rt: HostRuntime) {
-    holds_anew(&rt, rt.alloc(), region_variable_holds);
+fn last_calls_are_refused(rt: HostRuntime) {
+    holds_anew(&rt, rt.alloc(), last_calls_are_refused_holds);
 }
 
 fn memory_for_each_new_term_holds(cx: &mut Interner) -> Result<bool, Refusal> {

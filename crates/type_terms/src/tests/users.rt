@@ -14,9 +14,10 @@ use super::owned::{
 };
 use crate::{
     Binder, BoundVarKinds, Clauses, Const, Core, ErrorGuaranteed, FallibleTypeFolder, FnSigTys,
-    GenericArg, Interner, Kind, List, Next, Node, Predicate, Refusal, Region, RegionKind, Step, Ty,
-    TyKind, TypeFoldable, TypeFolder, TypeSuperFoldable, TypeSuperVisitable, TypeVisitable,
-    TypeVisitor, Tys, visit_kind, visit_list, visit_node,
+    GenericArg, Interner, Kind, List, Next, Node, Predicate, Refusal, Region, RegionKind,
+    RegionReplacer, Step, Ty, TyKind, TypeFoldable, TypeFolder, TypeSuperFoldable,
+    TypeSuperVisitable, TypeVisitable, TypeVisitor, Tys, replace_regions, visit_kind, visit_list,
+    visit_node,
 };
 use std::ops::ControlFlow;
 
@@ -723,4 +724,65 @@ fn a_loan_is_shifted_and_instantiated_holds(cx: &mut Interner) -> Result<bool, R
 #[test]
 fn a_loan_is_shifted_and_instantiated(rt: HostRuntime) {
     holds_anew(&rt, rt.alloc(), a_loan_is_shifted_and_instantiated_holds);
+}
+
+// Puts one region in the places of all.
+#[derive(Drop)]
+struct OneForAll {
+    region: Region,
+}
+
+impl RegionReplacer for OneForAll {
+    type Error = Refusal;
+
+    ghost use Rattle.tt_interner.proofs.Growth.{IsPart-grows, fill-grows};
+
+    ghost Meaning = { Tree Depth };
+
+    ghost meaning = { λ rows s. tree_in rows (region_shape s.region) };
+
+    ghost owned = { λ rows s. IsPartOf rows (region_shape s.region) };
+
+    ghost hooks = { record {
+      on_region = λ s t r s'. (r ≡ s.state) × (s' ≡ s);
+      region_fails = λ unbuilt s t e s'. ⊥;
+    } };
+
+    fn replace_region(&mut self, _cx: &mut Interner, _region: Region) -> Result<Region, Refusal> {
+        Ok(self.region)
+    }
+
+    ghost still_owned = { λ old new s g h. IsPart-grows old new g (region_shape s.region) h };
+
+    ghost still_means = { λ old new s g h. fill-grows old new g (region_shape s.region) h };
+}
+
+// The value with one region in the places of all of its regions.
+fn with_region<T: Owned>(cx: &mut Interner, value: T, region: Region) -> Result<T, Refusal> {
+    if value.is_owned(cx) && region.is_owned(cx) {
+        replace_regions(cx, value, &mut OneForAll { region })
+    } else {
+        Err(NOT_OWNED)
+    }
+}
+
+fn regions_are_replaced_holds(cx: &mut Interner) -> Result<bool, Refusal> {
+    let number = u32_ty(cx)?;
+    let region = bound_region(0)?;
+    let fixed = Region::new(RegionKind::ReStatic)?;
+    let one = ref_ty(cx, region, number)?;
+    let two = ref_ty(cx, region, one)?;
+    let fixed_one = ref_ty(cx, fixed, number)?;
+    let fixed_two = ref_ty(cx, fixed, fixed_one)?;
+    let vars = one_region(cx)?;
+    Ok(
+        with_region(cx, (two, region), fixed) == Ok((fixed_two, fixed))
+            && with_region(cx, Binder::bind_with_vars(one, vars), fixed)
+                == Ok(Binder::bind_with_vars(fixed_one, vars)),
+    )
+}
+
+#[test]
+fn regions_are_replaced(rt: HostRuntime) {
+    holds_anew(&rt, rt.alloc(), regions_are_replaced_holds);
 }

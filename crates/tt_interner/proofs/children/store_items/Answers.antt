@@ -1,6 +1,5 @@
 -- by the items
-use Rattle.std.proofs.Common.{sym, ap, subst, ◌∙◌}
-use Rattle.std.specs.Prelude.{map}
+use Rattle.std.proofs.Common.{sym, subst}
 use Rattle.tt_kinds.specs.Shape.{AreParts}
 use Rattle.tt_kinds.specs.Kinds.{children_shapes}
 use Rattle.tt_interner.specs.Rows.{size}
@@ -9,10 +8,10 @@ use Rattle.tt_interner.proofs.NodeLemmas.{StoresList-memory}
 use Rattle.tt_interner.proofs.children.store_items.Goals as goal
 
 pub store-requires : goal.store-requires
-store-requires g c = subst (λ cs. AreParts (size c.args.cx.now.rows) (children_shapes cs)) (sym (ap (map g.T.ListItem.as_child) c.as_slice.ensures.value ∙ c.in-Ok.ensures)) c.requires.parts
+store-requires g c = subst (λ cs. AreParts (size c.args.cx.now.rows) (children_shapes cs)) (sym c.in-Ok.ensures) c.requires.parts
 
 pub returns-in-Err : goal.returns-in-Err
 returns-in-Err g c = StoresList-memory _ g.T.ListItem.sort c.args.children.now
 
 pub returns : goal.returns
-returns g c = subst (StoresList c.store.result _ _ g.T.ListItem.sort) (ap (map g.T.ListItem.as_child) c.as_slice.ensures.value ∙ c.in-Ok.ensures) c.store.ensures
+returns g c = subst (StoresList c.store.result _ _ g.T.ListItem.sort) c.in-Ok.ensures c.store.ensures

@@ -6,12 +6,13 @@ use Rattle.tt_kinds.specs.declared.table.Table.TheVariants.{Types}
 use Rattle.tt_kinds.specs.declared.parts.Node.TheVariants as node
 use Rattle.tt_kinds.specs.Kinds.{ty_shape}
 use Rattle.tt_interner.specs.Rows.{meaning}
+use Rattle.tt_interner.proofs.Growth.{Extends-refl}
 use Rattle.tt_fold.specs.Walk.{is_type_tree}
 use Rattle.tt_fold.specs.Steps.{tree_in, IsRefused}
 use Rattle.tt_fold.proofs.PartLaws.{in_range}
 use Rattle.tt_fold.proofs.FormLaws.{kind-type}
 use Rattle.tt_fold.proofs.FoldSteps.{node_is_kind}
-use Rattle.tt_fold.proofs.BoundLaws.{type_tree, type_inside, term_replaced, term_descends, term_refused, bound_outer}
+use Rattle.tt_fold.proofs.BoundLaws.{type_tree, type_inside, term_kept, term_replaced, term_descends, term_refused, bound_outer}
 use Rattle.tt_fold.proofs.ShiftLaws.{same_standing, counted_standing}
 use Rattle.tt_fold.proofs.shift.ShifterTypeFolder.fold_ty.Goals as goal
 
@@ -65,3 +66,17 @@ returns-in-None-clause-result c =
         term_descends (record { amount = c.args.self.now.amount; under = c.args.self.now.current_index }) (tree_in c.args.cx.now.rows (ty_shape c.args.ty)) (rw tree inside) far,
       ),
     )
+
+pub returns-then-not-moves-clause-result : goal.returns-then-not-moves-clause-result
+returns-then-not-moves-clause-result c =
+    let closed = rw c.outer_exclusive_binder.ensures at c.if-not-moves.ensures.1 in
+    (tt, tt, (refl, term_kept (record { amount = c.args.self.now.amount; under = c.args.self.now.current_index }) (tree_in c.args.cx.now.rows (ty_shape c.args.ty)) closed))
+
+pub returns-then-not-moves-clause-extends : goal.returns-then-not-moves-clause-extends
+returns-then-not-moves-clause-extends c = Extends-refl _
+
+pub returns-in_err-shifted-in-Some-clause-extends : goal.returns-in_err-shifted-in-Some-clause-extends
+returns-in_err-shifted-in-Some-clause-extends c = c.in_err-shifted-in-Some.ensures.extends
+
+pub returns-in_ok-shifted-in-Some-clause-extends : goal.returns-in_ok-shifted-in-Some-clause-extends
+returns-in_ok-shifted-in-Some-clause-extends c = c.in_ok-shifted-in-Some.ensures.extends

@@ -7,11 +7,11 @@ use Rattle.tt_interner.specs.Rows.{existentials_row, size}
 use Rattle.tt_interner.proofs.NodeLemmas.{is_row_of_existentials, existentials_shapes, StoresList-ok, StoresList-err}
 use Rattle.tt_interner.proofs.children.PolyExistentialPredicateStoredItem.store.Goals as goal
 
-pub mk_existential_list-requires : goal.mk_existential_list-requires
-mk_existential_list-requires c = subst (AreParts (size c.args.cx.now.rows)) (existentials_shapes c.args.items.now) c.requires
+pub put_existentials-requires : goal.put_existentials-requires
+put_existentials-requires c = subst (AreParts (size c.args.cx.now.rows)) (existentials_shapes c.args.items.items) c.requires
 
 pub returns-in-Err : goal.returns-in-Err
-returns-in-Err c = StoresList-err (λ list. list.number) _ _ sort.Existentials (existentials_row c.args.items.now) _ (is_row_of_existentials c.args.items.now) (λ bad. bad) c.in-Err.e c.in-Err.ensures
+returns-in-Err c = StoresList-err (λ list. list.number) _ _ sort.Existentials (existentials_row c.args.items.items) _ (is_row_of_existentials c.args.items.items) (λ bad. bad) c.in-Err.e c.in-Err.ensures
 
 pub returns : goal.returns
-returns c = StoresList-ok (λ list. list.number) _ _ sort.Existentials (existentials_row c.args.items.now) _ (is_row_of_existentials c.args.items.now) (λ bad. bad) c.in-Ok.list c.in-Ok.ensures (stored_list.Existentials c.in-Ok.list) refl refl
+returns c = StoresList-ok (λ list. list.number) _ _ sort.Existentials (existentials_row c.args.items.items) _ (is_row_of_existentials c.args.items.items) (λ bad. bad) c.in-Ok.list c.in-Ok.ensures (stored_list.Existentials c.in-Ok.list) refl refl

@@ -1,10 +1,34 @@
--- what is found stays, and what is not is added
+-- the list is found or added
+use Rattle.std.proofs.Common.{refl, ap}
 use Rattle.tt_interner.specs.Rows.{vars_row}
-use Rattle.tt_interner.proofs.StoresLemmas.{Builds-found, Builds-added}
+use Rattle.tt_interner.specs.Kept.{tables}
+use Rattle.std.specs.Prelude.{map}
+use Rattle.tt_kinds.specs.Label.{var_list_label}
+use Rattle.tt_kinds.specs.Bound.{var_kind}
+use Rattle.tt_kinds.specs.Shape.{IsPart}
+use Rattle.tt_interner.proofs.InfoLemmas.{info_node}
+use Rattle.tt_interner.proofs.TableLemmas.{entries_by-added}
+use Rattle.tt_interner.proofs.PutLemmas.{few, put_kept, built, built_refused}
+use Rattle.tt_interner.proofs.Keys.{vars_key}
 use Rattle.tt_interner.proofs.interner.Interner.mk_bound_vars.Goals as goal
 
-pub returns-in-Some : goal.returns-in-Some
-returns-in-Some c = Builds-found (λ list. list.number) _ (vars_row c.args.items.now) c.are_rows.ensures.are _ c.in-Some.ensures
+pub find_or_add_list-requires : goal.find_or_add_list-requires
+find_or_add_list-requires c = few c.self.inside.order.items (tables c.self.inside) _ _ _ c.self.view_is c.self.invariant (λ k. vars_row k.items) _ (vars_row c.args.items.now) (vars_key (λ k. k.items) c.args.items.now) c.self.inside.var_lists.entries refl
 
-pub returns-in-None : goal.returns-in-None
-returns-in-None c = Builds-added (λ list. list.number) _ (vars_row c.args.items.now) c.are_rows.ensures.are _ _ c.in-None.ensures (λ deep. deep) c.add_bound_vars.ensures
+pub invariant_of-self-2 : goal.invariant_of-self-2
+unfolding IsPart
+invariant_of-self-2 c = put_kept c.self.inside.order.items (tables c.self.inside) _ _ _ c.self.view_is c.self.invariant (λ k. vars_row k.items) _ (vars_row c.args.items.now) (vars_key (λ k. k.items) c.args.items.now) c.self.inside.var_lists.entries refl c.vars_info-info.result (info_node _ _ (var_list_label (map var_kind c.args.items.now)) c.vars_info-info.ensures)
+    _ _ refl _ c.in-Ok.ensures.found _ refl c.in-Ok.ensures.order (λ none. entries_by-added (λ k. k.items) vars_row (λ v. v) c.self.inside.var_lists.entries _ c.args.items.now c.vars_info-info.result (c.in-Ok.ensures.entries none)) c.in-Ok.ensures.number
+    c.requires (λ deep. deep) tt
+
+pub returns : goal.returns
+unfolding IsPart
+returns c = built c.self.inside.order.items (tables c.self.inside) _ _ _ c.self.view_is c.self.invariant (λ k. vars_row k.items) _ (vars_row c.args.items.now) (vars_key (λ k. k.items) c.args.items.now) c.self.inside.var_lists.entries refl c.vars_info-info.result (info_node _ _ (var_list_label (map var_kind c.args.items.now)) c.vars_info-info.ensures)
+    _ _ refl _ c.in-Ok.ensures.found _ refl c.in-Ok.ensures.order (λ none. entries_by-added (λ k. k.items) vars_row (λ v. v) c.self.inside.var_lists.entries _ c.args.items.now c.vars_info-info.result (c.in-Ok.ensures.entries none)) c.in-Ok.ensures.number
+    (λ list. list.number) c.from_number.result (ap (λ list. list.number) c.from_number.ensures) (λ deep. deep)
+
+pub returns-in-Err : goal.returns-in-Err
+unfolding IsPart
+returns-in-Err c = built_refused c.self.inside.order.items (tables c.self.inside) _ _ _ c.self.view_is c.self.invariant (λ k. vars_row k.items) _ (vars_row c.args.items.now) (vars_key (λ k. k.items) c.args.items.now) c.self.inside.var_lists.entries refl c.vars_info-info.result (info_node _ _ (var_list_label (map var_kind c.args.items.now)) c.vars_info-info.ensures)
+    _ _ refl _ c.in-Err.ensures.found _ refl c.in-Err.ensures.order_stays c.in-Err.ensures.entries_stay c.in-Err.ensures.cause c.in-Err.ensures.full
+    (λ list. list.number) (λ deep. deep)

@@ -1,15 +1,35 @@
--- what is found stays, and what is not is added
-use Rattle.std.proofs.Common.{refl}
+-- it is found or added
+use Rattle.std.proofs.Common.{refl, ap, ◌∙◌}
 use Rattle.std.proofs.lemmas.Bool.{false≢true}
 use Rattle.tt_interner.specs.Rows.{const_row}
-use Rattle.tt_interner.proofs.StoresLemmas.{Builds-deep, Builds-found, Builds-added}
+use Rattle.tt_interner.specs.Tables.{entries_by}
+use Rattle.tt_interner.specs.Kept.{tables}
+use Rattle.tt_interner.proofs.StoresLemmas.{Builds-deep}
+use Rattle.tt_interner.proofs.TableLemmas.{entries_by-push}
+use Rattle.tt_interner.proofs.PutLemmas.{few, same, put_kept, built, built_refused}
+use Rattle.tt_interner.proofs.Keys.{const_key}
 use Rattle.tt_interner.proofs.interner.Interner.mk_const.Goals as goal
+
+pub find_or_add-requires-clause-few : goal.find_or_add-requires-clause-few
+find_or_add-requires-clause-few c = few c.self.inside.order.items (tables c.self.inside) _ _ _ c.self.view_is c.self.invariant const_row _ (const_row c.args.kind) (const_key c.args.kind) c.self.inside.consts.entries refl
+
+pub find_or_add-requires-clause-same : goal.find_or_add-requires-clause-same
+find_or_add-requires-clause-same c = same c.self.inside.order.items (tables c.self.inside) _ _ _ c.self.view_is c.self.invariant const_row _ (const_row c.args.kind) (const_key c.args.kind) c.self.inside.consts.entries refl c.for_const_kind-info.result c.for_const_kind-info.ensures
+
+pub invariant_of-self-2 : goal.invariant_of-self-2
+invariant_of-self-2 c = put_kept c.self.inside.order.items (tables c.self.inside) _ _ _ c.self.view_is c.self.invariant const_row _ (const_row c.args.kind) (const_key c.args.kind) c.self.inside.consts.entries refl c.for_const_kind-info.result c.for_const_kind-info.ensures
+    _ _ refl _ c.in-Ok.ensures.found _ refl c.in-Ok.ensures.order (λ none. ap (entries_by const_row (λ v. v)) (c.in-Ok.ensures.entries none) ∙ entries_by-push const_row (λ v. v) c.self.inside.consts.entries c.args.kind c.for_const_kind-info.result) c.in-Ok.ensures.number
+    c.requires (λ deep. false≢true (c.if-is_too_deep.ensures.1 deep)) tt
+
+pub returns : goal.returns
+returns c = built c.self.inside.order.items (tables c.self.inside) _ _ _ c.self.view_is c.self.invariant const_row _ (const_row c.args.kind) (const_key c.args.kind) c.self.inside.consts.entries refl c.for_const_kind-info.result c.for_const_kind-info.ensures
+    _ _ refl _ c.in-Ok.ensures.found _ refl c.in-Ok.ensures.order (λ none. ap (entries_by const_row (λ v. v)) (c.in-Ok.ensures.entries none) ∙ entries_by-push const_row (λ v. v) c.self.inside.consts.entries c.args.kind c.for_const_kind-info.result) c.in-Ok.ensures.number
+    (λ handle. handle.number) c.from_number.result (ap (λ handle. handle.number) c.from_number.ensures) (λ deep. false≢true (c.if-is_too_deep.ensures.1 deep))
+
+pub returns-in-Err : goal.returns-in-Err
+returns-in-Err c = built_refused c.self.inside.order.items (tables c.self.inside) _ _ _ c.self.view_is c.self.invariant const_row _ (const_row c.args.kind) (const_key c.args.kind) c.self.inside.consts.entries refl c.for_const_kind-info.result c.for_const_kind-info.ensures
+    _ _ refl _ c.in-Err.ensures.found _ refl c.in-Err.ensures.order_stays c.in-Err.ensures.entries_stay c.in-Err.ensures.cause c.in-Err.ensures.full
+    (λ handle. handle.number) (λ deep. false≢true (c.if-is_too_deep.ensures.1 deep))
 
 pub returns-then-is_too_deep : goal.returns-then-is_too_deep
 returns-then-is_too_deep c = Builds-deep (λ handle. handle.number) _ (const_row c.args.kind) c.are_rows.ensures.are (c.if-is_too_deep.ensures.0 refl)
-
-pub returns-in-Some : goal.returns-in-Some
-returns-in-Some c = Builds-found (λ handle. handle.number) _ (const_row c.args.kind) c.are_rows.ensures.are _ c.in-Some.ensures
-
-pub returns-in-None : goal.returns-in-None
-returns-in-None c = Builds-added (λ handle. handle.number) _ (const_row c.args.kind) c.are_rows.ensures.are _ _ c.in-None.ensures (λ deep. false≢true (c.if-is_too_deep.ensures.1 deep)) c.add_const.ensures

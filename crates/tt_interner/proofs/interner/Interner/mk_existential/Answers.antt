@@ -1,10 +1,30 @@
--- what is found stays, and what is not is added
+-- it is found or added
+use Rattle.std.proofs.Common.{refl, ap, ◌∙◌}
 use Rattle.tt_interner.specs.Rows.{existential_row}
-use Rattle.tt_interner.proofs.StoresLemmas.{Builds-found, Builds-added}
+use Rattle.tt_interner.specs.Tables.{entries_by}
+use Rattle.tt_interner.specs.Kept.{tables}
+use Rattle.tt_interner.proofs.TableLemmas.{entries_by-push}
+use Rattle.tt_interner.proofs.PutLemmas.{few, same, put_kept, built, built_refused}
+use Rattle.tt_interner.proofs.Keys.{existential_key}
 use Rattle.tt_interner.proofs.interner.Interner.mk_existential.Goals as goal
 
-pub returns-in-Some : goal.returns-in-Some
-returns-in-Some c = Builds-found (λ handle. handle.number) _ (existential_row c.args.kind) c.are_rows.ensures.are _ c.in-Some.ensures
+pub find_or_add-requires-clause-few : goal.find_or_add-requires-clause-few
+find_or_add-requires-clause-few c = few c.self.inside.order.items (tables c.self.inside) _ _ _ c.self.view_is c.self.invariant existential_row _ (existential_row c.args.kind) (existential_key c.args.kind) c.self.inside.existentials.entries refl
 
-pub returns-in-None : goal.returns-in-None
-returns-in-None c = Builds-added (λ handle. handle.number) _ (existential_row c.args.kind) c.are_rows.ensures.are _ _ c.in-None.ensures (λ deep. deep) c.add_existential.ensures
+pub find_or_add-requires-clause-same : goal.find_or_add-requires-clause-same
+find_or_add-requires-clause-same c = same c.self.inside.order.items (tables c.self.inside) _ _ _ c.self.view_is c.self.invariant existential_row _ (existential_row c.args.kind) (existential_key c.args.kind) c.self.inside.existentials.entries refl c.kind_info-info.result c.kind_info-info.ensures
+
+pub invariant_of-self-2 : goal.invariant_of-self-2
+invariant_of-self-2 c = put_kept c.self.inside.order.items (tables c.self.inside) _ _ _ c.self.view_is c.self.invariant existential_row _ (existential_row c.args.kind) (existential_key c.args.kind) c.self.inside.existentials.entries refl c.kind_info-info.result c.kind_info-info.ensures
+    _ _ refl _ c.in-Ok.ensures.found _ refl c.in-Ok.ensures.order (λ none. ap (entries_by existential_row (λ v. v)) (c.in-Ok.ensures.entries none) ∙ entries_by-push existential_row (λ v. v) c.self.inside.existentials.entries c.args.kind c.kind_info-info.result) c.in-Ok.ensures.number
+    c.requires (λ deep. deep) tt
+
+pub returns : goal.returns
+returns c = built c.self.inside.order.items (tables c.self.inside) _ _ _ c.self.view_is c.self.invariant existential_row _ (existential_row c.args.kind) (existential_key c.args.kind) c.self.inside.existentials.entries refl c.kind_info-info.result c.kind_info-info.ensures
+    _ _ refl _ c.in-Ok.ensures.found _ refl c.in-Ok.ensures.order (λ none. ap (entries_by existential_row (λ v. v)) (c.in-Ok.ensures.entries none) ∙ entries_by-push existential_row (λ v. v) c.self.inside.existentials.entries c.args.kind c.kind_info-info.result) c.in-Ok.ensures.number
+    (λ handle. handle.number) c.from_number.result (ap (λ handle. handle.number) c.from_number.ensures) (λ deep. deep)
+
+pub returns-in-Err : goal.returns-in-Err
+returns-in-Err c = built_refused c.self.inside.order.items (tables c.self.inside) _ _ _ c.self.view_is c.self.invariant existential_row _ (existential_row c.args.kind) (existential_key c.args.kind) c.self.inside.existentials.entries refl c.kind_info-info.result c.kind_info-info.ensures
+    _ _ refl _ c.in-Err.ensures.found _ refl c.in-Err.ensures.order_stays c.in-Err.ensures.entries_stay c.in-Err.ensures.cause c.in-Err.ensures.full
+    (λ handle. handle.number) (λ deep. deep)

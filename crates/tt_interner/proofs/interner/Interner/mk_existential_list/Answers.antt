@@ -1,10 +1,28 @@
--- what is found stays, and what is not is added
+-- the list is found or added
+use Rattle.std.proofs.Common.{refl, ap}
 use Rattle.tt_interner.specs.Rows.{existentials_row}
-use Rattle.tt_interner.proofs.StoresLemmas.{Builds-found, Builds-added}
+use Rattle.tt_interner.specs.Kept.{tables}
+use Rattle.tt_kinds.specs.declared.table.Table.TheVariants.{ExistentialLists}
+use Rattle.tt_interner.proofs.InfoLemmas.{info_list}
+use Rattle.tt_interner.proofs.TableLemmas.{entries_by-added}
+use Rattle.tt_interner.proofs.PutLemmas.{few, put_kept, built, built_refused}
+use Rattle.tt_interner.proofs.Keys.{existentials_key}
 use Rattle.tt_interner.proofs.interner.Interner.mk_existential_list.Goals as goal
 
-pub returns-in-Some : goal.returns-in-Some
-returns-in-Some c = Builds-found (λ list. list.number) _ (existentials_row c.args.items.now) c.are_rows.ensures.are _ c.in-Some.ensures
+pub find_or_add_list-requires : goal.find_or_add_list-requires
+find_or_add_list-requires c = few c.self.inside.order.items (tables c.self.inside) _ _ _ c.self.view_is c.self.invariant (λ k. existentials_row k.items) _ (existentials_row c.args.items.now) (existentials_key (λ k. k.items) c.args.items.now) c.self.inside.existential_lists.entries refl
 
-pub returns-in-None : goal.returns-in-None
-returns-in-None c = Builds-added (λ list. list.number) _ (existentials_row c.args.items.now) c.are_rows.ensures.are _ _ c.in-None.ensures (λ deep. deep) c.add_existentials.ensures
+pub invariant_of-self-2 : goal.invariant_of-self-2
+invariant_of-self-2 c = put_kept c.self.inside.order.items (tables c.self.inside) _ _ _ c.self.view_is c.self.invariant (λ k. existentials_row k.items) _ (existentials_row c.args.items.now) (existentials_key (λ k. k.items) c.args.items.now) c.self.inside.existential_lists.entries refl c.items_info-info.result (info_list _ _ ExistentialLists _ c.items_info-info.ensures)
+    _ _ refl _ c.in-Ok.ensures.found _ refl c.in-Ok.ensures.order (λ none. entries_by-added (λ k. k.items) existentials_row (λ v. v) c.self.inside.existential_lists.entries _ c.args.items.now c.items_info-info.result (c.in-Ok.ensures.entries none)) c.in-Ok.ensures.number
+    (tt, c.requires) (λ deep. deep) tt
+
+pub returns : goal.returns
+returns c = built c.self.inside.order.items (tables c.self.inside) _ _ _ c.self.view_is c.self.invariant (λ k. existentials_row k.items) _ (existentials_row c.args.items.now) (existentials_key (λ k. k.items) c.args.items.now) c.self.inside.existential_lists.entries refl c.items_info-info.result (info_list _ _ ExistentialLists _ c.items_info-info.ensures)
+    _ _ refl _ c.in-Ok.ensures.found _ refl c.in-Ok.ensures.order (λ none. entries_by-added (λ k. k.items) existentials_row (λ v. v) c.self.inside.existential_lists.entries _ c.args.items.now c.items_info-info.result (c.in-Ok.ensures.entries none)) c.in-Ok.ensures.number
+    (λ list. list.number) c.from_number.result (ap (λ list. list.number) c.from_number.ensures) (λ deep. deep)
+
+pub returns-in-Err : goal.returns-in-Err
+returns-in-Err c = built_refused c.self.inside.order.items (tables c.self.inside) _ _ _ c.self.view_is c.self.invariant (λ k. existentials_row k.items) _ (existentials_row c.args.items.now) (existentials_key (λ k. k.items) c.args.items.now) c.self.inside.existential_lists.entries refl c.items_info-info.result (info_list _ _ ExistentialLists _ c.items_info-info.ensures)
+    _ _ refl _ c.in-Err.ensures.found _ refl c.in-Err.ensures.order_stays c.in-Err.ensures.entries_stay c.in-Err.ensures.cause c.in-Err.ensures.full
+    (λ list. list.number) (λ deep. deep)

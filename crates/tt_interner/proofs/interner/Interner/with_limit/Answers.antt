@@ -1,17 +1,17 @@
 -- the tables have their first rows
 use Rattle.std.proofs.Common.{◌≡◌, List, [], ◌∷◌, ◌++◌, refl, ap, arith, ◌∙◌}
 use Rattle.std.specs.String.{string_bytes}
-use Rattle.tt_interner.specs.Rows.{type_row, const_row, pat_row, predicate_row, existential_row, clauses_row, tys_row, consts_row, args_row, pats_row, vars_row, existentials_row, text_row}
+use Rattle.tt_interner.specs.Rows.{type_row, const_row, pat_row, predicate_row, existential_row, clauses_row, tys_row, consts_row, args_row, pats_row, vars_row, existentials_row, assumptions_row, text_row}
 use Rattle.tt_kinds.specs.declared.table.Table.{Table}
-use Rattle.tt_kinds.specs.declared.table.Table.TheVariants.{TypeLists, ArgLists, VarLists, ConstLists, PatternLists, ClauseLists, ExistentialLists, Symbols}
+use Rattle.tt_kinds.specs.declared.table.Table.TheVariants.{TypeLists, ArgLists, VarLists, ConstLists, PatternLists, ClauseLists, ExistentialLists, AssumptionLists, Symbols}
 use Rattle.tt_interner.specs.Tables.{no_info, entries_by, declared_entries}
 use Rattle.tt_interner.proofs.TableLemmas.{Keeps-first, rows_are_first, are_first_tables, entries_by-first, first_order}
 use Rattle.tt_interner.proofs.interner.Interner.with_limit.Goals as goal
 
 -- the order of the first entries
-in_first_order : (a b c d : List Table) → a ≡ [] → b ≡ a ++ TypeLists ∷ ArgLists ∷ VarLists ∷ ConstLists ∷ [] → c ≡ b ++ PatternLists ∷ ClauseLists ∷ ExistentialLists ∷ [] → d ≡ c ++ Symbols ∷ [] → d ≡ first_order
+in_first_order : (a b c d : List Table) → a ≡ [] → b ≡ a ++ TypeLists ∷ ArgLists ∷ VarLists ∷ ConstLists ∷ [] → c ≡ b ++ PatternLists ∷ ClauseLists ∷ ExistentialLists ∷ AssumptionLists ∷ [] → d ≡ c ++ Symbols ∷ [] → d ≡ first_order
 in_first_order a b c d p q r s =
-    s ∙ ap (λ l. l ++ Symbols ∷ []) (r ∙ ap (λ l. l ++ PatternLists ∷ ClauseLists ∷ ExistentialLists ∷ []) (q ∙ ap (λ l. l ++ TypeLists ∷ ArgLists ∷ VarLists ∷ ConstLists ∷ []) p))
+    s ∙ ap (λ l. l ++ Symbols ∷ []) (r ∙ ap (λ l. l ++ PatternLists ∷ ClauseLists ∷ ExistentialLists ∷ AssumptionLists ∷ []) (q ∙ ap (λ l. l ++ TypeLists ∷ ArgLists ∷ VarLists ∷ ConstLists ∷ []) p))
 
 pub invariant_of-result : goal.invariant_of-result
 invariant_of-result c = Keeps-first _ _ _
@@ -30,7 +30,7 @@ invariant_of-result c = Keeps-first _ _ _
       clause_lists = entries_by-first (λ k. k.items) clauses_row (λ v. v) c.in-Ok-more_lists.lists.clause_lists.entries [] no_info c.in-Ok-more_lists.ensures.clauses;
       existential_lists = entries_by-first (λ k. k.items) existentials_row (λ v. v) c.in-Ok-more_lists.lists.existential_lists.entries [] no_info c.in-Ok-more_lists.ensures.existentials;
       symbols = entries_by-first (λ k. string_bytes k) text_row (λ v. no_info) c.in-Ok-first_text.symbols.entries (39 ∷ 95 ∷ []) tt c.in-Ok-first_text.ensures.entries;
-      assumption_lists = refl;
+      assumption_lists = entries_by-first (λ k. k.items) assumptions_row (λ v. v) c.in-Ok-more_lists.lists.assumption_lists.entries [] no_info c.in-Ok-more_lists.ensures.assumptions;
       declarations = ap (declared_entries 0) c.new-6.ensures.items;
     }))
     (omega arith) (omega arith)
@@ -52,6 +52,6 @@ returns-clause-rows c = rows_are_first _ _
       clause_lists = entries_by-first (λ k. k.items) clauses_row (λ v. v) c.in-Ok-more_lists.lists.clause_lists.entries [] no_info c.in-Ok-more_lists.ensures.clauses;
       existential_lists = entries_by-first (λ k. k.items) existentials_row (λ v. v) c.in-Ok-more_lists.lists.existential_lists.entries [] no_info c.in-Ok-more_lists.ensures.existentials;
       symbols = entries_by-first (λ k. string_bytes k) text_row (λ v. no_info) c.in-Ok-first_text.symbols.entries (39 ∷ 95 ∷ []) tt c.in-Ok-first_text.ensures.entries;
-      assumption_lists = refl;
+      assumption_lists = entries_by-first (λ k. k.items) assumptions_row (λ v. v) c.in-Ok-more_lists.lists.assumption_lists.entries [] no_info c.in-Ok-more_lists.ensures.assumptions;
       declarations = ap (declared_entries 0) c.new-6.ensures.items;
     }))

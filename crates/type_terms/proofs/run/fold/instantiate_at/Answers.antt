@@ -16,7 +16,7 @@ use Rattle.type_terms.proofs.run.fold.instantiate_at.Goals as goal
 pub returns-in_err-answer-clause-answers : goal.returns-in_err-answer-clause-answers
 returns-in_err-answer-clause-answers c = λ list same.
     answer-passed c.args.cx.now (told_all c.args.cx.now.rows c.args.earlier.now) (call.Instantiate c.args.position list) c.from_residual.result c.in_err-answer.field-0.0 c.from_residual.ensures.1
-    (absent-refused (HasFullTable c.args.cx.now) c.args.cx.now.rows c.args.earlier.now (any c.args.position) (items_positions (arg_items list.items)) (call.Instantiate c.args.position list) refl c.in_err-answer.field-0.0
+    (absent-refused (HasFullTable c.args.cx.now) c.args.cx.now.rows c.args.earlier.now (any c.args.position) (items_positions (arg_items list.items)) (call.Instantiate c.args.position list) refl (λ h. h) c.in_err-answer.field-0.0
     c.in_err-answer.ensures.cause c.in_err-answer.ensures.absent)
 
 pub returns-in_err-args-clause-answers : goal.returns-in_err-args-clause-answers
@@ -145,7 +145,7 @@ pub returns-clause-answers : goal.returns-clause-answers
 returns-clause-answers c = λ list same. record {
   owned = tt;
   ok = tt;
-  err = absent-refused (HasFullTable c.build_args.new.cx) c.args.cx.now.rows c.args.earlier.now (any c.args.position) (items_positions (arg_items list.items)) (call.Instantiate c.args.position list) refl _ refl
+  err = absent-refused (HasFullTable c.build_args.new.cx) c.args.cx.now.rows c.args.earlier.now (any c.args.position) (items_positions (arg_items list.items)) (call.Instantiate c.args.position list) refl (λ h. h) _ refl
       (nothing-told c.args.earlier.now c.args.position c.in_ok-answer.answer.now c.in_ok-answer.ensures.ok
       (no-handle c.in_ok-answer.answer.now c.in_default.not-Ty c.in_default.not-Const c.in_default.not-Pat c.in_default.not-Predicate c.in_default.not-Clauses c.in_default.not-Args));
 }

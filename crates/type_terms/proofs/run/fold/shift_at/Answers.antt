@@ -11,7 +11,7 @@ use Rattle.type_terms.proofs.run.fold.shift_at.Goals as goal
 pub returns-in_err-answer-clause-answers : goal.returns-in_err-answer-clause-answers
 returns-in_err-answer-clause-answers c =
     answer-passed c.args.cx.now (told_all c.args.cx.now.rows c.args.earlier.now) (call.Shift c.args.position c.args.amount) c.from_residual.result c.in_err-answer.field-0.0 c.from_residual.ensures.1
-    (absent-refused (HasFullTable c.args.cx.now) c.args.cx.now.rows c.args.earlier.now (any c.args.position) [] (call.Shift c.args.position c.args.amount) refl c.in_err-answer.field-0.0
+    (absent-refused (HasFullTable c.args.cx.now) c.args.cx.now.rows c.args.earlier.now (any c.args.position) [] (call.Shift c.args.position c.args.amount) refl (λ h. h) c.in_err-answer.field-0.0
     c.in_err-answer.ensures.cause c.in_err-answer.ensures.absent)
 
 pub shifted-requires : goal.shifted-requires
@@ -72,7 +72,7 @@ pub returns-in_default-clause-answers : goal.returns-in_default-clause-answers
 returns-in_default-clause-answers c = record {
   owned = tt;
   ok = tt;
-  err = absent-refused (HasFullTable c.args.cx.now) c.args.cx.now.rows c.args.earlier.now (any c.args.position) [] (call.Shift c.args.position c.args.amount) refl _ refl
+  err = absent-refused (HasFullTable c.args.cx.now) c.args.cx.now.rows c.args.earlier.now (any c.args.position) [] (call.Shift c.args.position c.args.amount) refl (λ h. h) _ refl
       (nothing-told c.args.earlier.now c.args.position c.in_ok-answer.answer.now c.in_ok-answer.ensures.ok
       (no-handle c.in_ok-answer.answer.now c.in_default.not-Ty c.in_default.not-Const c.in_default.not-Pat c.in_default.not-Predicate c.in_default.not-Clauses c.in_default.not-Args));
 }

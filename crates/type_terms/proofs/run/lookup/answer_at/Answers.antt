@@ -1,7 +1,7 @@
 use Rattle.std.proofs.Common.{◌-◌, ◌≤◌, length, refl, arith}
 use Rattle.std.proofs.lemmas.Option.{slice_get_read, slice_get_past}
 use Rattle.std.proofs.lemmas.Grind.{common_steps}
-use Rattle.type_terms.proofs.LookupLaws.{found, absent}
+use Rattle.type_terms.proofs.LookupLaws.{found, absent, absent-id}
 use Rattle.type_terms.proofs.run.lookup.answer_at.Goals as goal
 
 pub returns-in-Some-clause-ok : goal.returns-in-Some-clause-ok
@@ -13,3 +13,8 @@ pub returns-in-None-clause-absent : goal.returns-in-None-clause-absent
 returns-in-None-clause-absent c =
     let past : length c.args.earlier.now ≤ c.args.position - 1 = grind (arith, common_steps, c.in-None.ensures.lookup) in
     absent c.args.earlier.now c.args.position c.if-position-eq0.false (slice_get_past c.args.earlier.now (c.args.position - 1) past)
+
+pub returns-in-None-clause-no_id : goal.returns-in-None-clause-no_id
+returns-in-None-clause-no_id c =
+    let past : length c.args.earlier.now ≤ c.args.position - 1 = grind (arith, common_steps, c.in-None.ensures.lookup) in
+    absent-id c.args.earlier.now c.args.position c.if-position-eq0.false (slice_get_past c.args.earlier.now (c.args.position - 1) past)

@@ -1,10 +1,10 @@
 use Rattle.std.proofs.Common.{[], ◌∷◌, refl}
-use Rattle.tt_kinds.specs.Label.{dyn_compatible_record, subtype_record, coerce_record, const_equate_record, ambiguous_record, normalizes_to_record, alias_relate_record}
+use Rattle.tt_kinds.specs.Label.{dyn_compatible_record, const_equate_record, ambiguous_record, normalizes_to_record, alias_relate_record}
 use Rattle.tt_kinds.specs.Shape as shape
 use Rattle.tt_kinds.specs.Shape.{append}
 use Rattle.tt_kinds.specs.Parts.{term_child}
-use Rattle.tt_kinds.specs.Kinds.{predicate_form, ty_shape, const_shape, args_shape, child_shapes}
-use Rattle.tt_kinds.specs.declared.table.Table.TheVariants.{Types, Consts}
+use Rattle.tt_kinds.specs.Kinds.{predicate_form, const_shape, args_shape, child_shapes}
+use Rattle.tt_kinds.specs.declared.table.Table.TheVariants.{Consts}
 use Rattle.type_terms.specs.CallForm.{labelled, one, a_term, args_part, term_part}
 use Rattle.type_terms.specs.Told.{told_all}
 use Rattle.type_terms.proofs.PartLaws.{record-passed, record-placed, parts-none}
@@ -15,42 +15,18 @@ returns-in-DynCompatible-clause-kind c =
     let e = told_all c.args.cx.now.rows c.args.earlier.now in
     rw (c.in-DynCompatible.is) (record { ok = record-placed c.args.cx.now e (labelled (dyn_compatible_record c.in-DynCompatible.id.number) []) (dyn_compatible_record c.in-DynCompatible.id.number) shape.none (parts-none c.args.cx.now e) tt refl; err = tt })
 
-pub returns-in_err-pair-in-Subtype-clause-kind : goal.returns-in_err-pair-in-Subtype-clause-kind
-returns-in_err-pair-in-Subtype-clause-kind c =
-    let e = told_all c.args.cx.now.rows c.args.earlier.now in
-    let r = c.in_err-pair-in-Subtype in
-    rw (c.in-Subtype.is)
-    (record-passed c.args.cx.now e (labelled (subtype_record c.in-Subtype.a_is_expected) (one (a_term Types c.in-Subtype.a) ∷ one (a_term Types c.in-Subtype.b) ∷ [])) predicate_form c.from_residual.result r.field-0.0 c.from_residual.ensures.1
-    ((r.ensures c.args.cx.now c.requires).err))
+pub returns-in-Subtype-clause-kind : goal.returns-in-Subtype-clause-kind
+returns-in-Subtype-clause-kind c = rw (c.in-Subtype.is) (c.subtype.ensures c.args.cx.now c.requires)
 
-pub returns-in_ok-pair-in-Subtype-clause-kind : goal.returns-in_ok-pair-in-Subtype-clause-kind
-returns-in_ok-pair-in-Subtype-clause-kind c =
-    let e = told_all c.args.cx.now.rows c.args.earlier.now in
-    let r = c.in_ok-pair-in-Subtype in
-    rw (c.in-Subtype.is)
-    (record { ok = record-placed c.args.cx.now e (labelled (subtype_record c.in-Subtype.a_is_expected) (one (a_term Types c.in-Subtype.a) ∷ one (a_term Types c.in-Subtype.b) ∷ [])) (subtype_record c.in-Subtype.a_is_expected) (shape.also (ty_shape r.pair.0) (shape.also (ty_shape r.pair.1) shape.none)) ((r.ensures c.args.cx.now c.requires).ok) tt refl; err = tt })
-
-pub returns-in_err-pair-in-Coerce-clause-kind : goal.returns-in_err-pair-in-Coerce-clause-kind
-returns-in_err-pair-in-Coerce-clause-kind c =
-    let e = told_all c.args.cx.now.rows c.args.earlier.now in
-    let r = c.in_err-pair-in-Coerce in
-    rw (c.in-Coerce.is)
-    (record-passed c.args.cx.now e (labelled coerce_record (one (a_term Types c.in-Coerce.a) ∷ one (a_term Types c.in-Coerce.b) ∷ [])) predicate_form c.from_residual-in_err-pair-in-Coerce.result r.field-0.0 c.from_residual-in_err-pair-in-Coerce.ensures.1
-    ((r.ensures c.args.cx.now c.requires).err))
-
-pub returns-in_ok-pair-in-Coerce-clause-kind : goal.returns-in_ok-pair-in-Coerce-clause-kind
-returns-in_ok-pair-in-Coerce-clause-kind c =
-    let e = told_all c.args.cx.now.rows c.args.earlier.now in
-    let r = c.in_ok-pair-in-Coerce in
-    rw (c.in-Coerce.is)
-    (record { ok = record-placed c.args.cx.now e (labelled coerce_record (one (a_term Types c.in-Coerce.a) ∷ one (a_term Types c.in-Coerce.b) ∷ [])) coerce_record (shape.also (ty_shape r.pair.0) (shape.also (ty_shape r.pair.1) shape.none)) ((r.ensures c.args.cx.now c.requires).ok) tt refl; err = tt })
+pub returns-in-Coerce-clause-kind : goal.returns-in-Coerce-clause-kind
+returns-in-Coerce-clause-kind c = rw (c.in-Coerce.is) (c.coerce.ensures c.args.cx.now c.requires)
 
 pub returns-in_err-pair-in-ConstEquate-clause-kind : goal.returns-in_err-pair-in-ConstEquate-clause-kind
 returns-in_err-pair-in-ConstEquate-clause-kind c =
     let e = told_all c.args.cx.now.rows c.args.earlier.now in
     let r = c.in_err-pair-in-ConstEquate in
     rw (c.in-ConstEquate.is)
-    (record-passed c.args.cx.now e (labelled const_equate_record (one (a_term Consts c.in-ConstEquate.a) ∷ one (a_term Consts c.in-ConstEquate.b) ∷ [])) predicate_form c.from_residual-in_err-pair-in-ConstEquate.result r.field-0.0 c.from_residual-in_err-pair-in-ConstEquate.ensures.1
+    (record-passed c.args.cx.now e (labelled const_equate_record (one (a_term Consts c.in-ConstEquate.a) ∷ one (a_term Consts c.in-ConstEquate.b) ∷ [])) predicate_form c.from_residual.result r.field-0.0 c.from_residual.ensures.1
     ((r.ensures c.args.cx.now c.requires).err))
 
 pub returns-in_ok-pair-in-ConstEquate-clause-kind : goal.returns-in_ok-pair-in-ConstEquate-clause-kind

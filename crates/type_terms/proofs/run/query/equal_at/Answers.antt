@@ -9,7 +9,7 @@ use Rattle.type_terms.proofs.run.query.equal_at.Goals as goal
 
 pub returns-in_default : goal.returns-in_default
 returns-in_default c =
-    absent-refused (HasFullTable c.args.cx.now) c.args.cx.now.rows c.args.earlier.now (any c.args.first) (record { want = as_at c.args.first; position = c.args.second } ∷ []) (call.Equal c.args.first c.args.second) refl _ refl
+    absent-refused (HasFullTable c.args.cx.now) c.args.cx.now.rows c.args.earlier.now (any c.args.first) (record { want = as_at c.args.first; position = c.args.second } ∷ []) (call.Equal c.args.first c.args.second) refl (λ h. h) _ refl
     c.in_default.ensures.absent
 
 pub returns-in_default-answer_at : goal.returns-in_default-answer_at

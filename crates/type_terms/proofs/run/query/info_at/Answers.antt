@@ -12,7 +12,7 @@ use Rattle.type_terms.proofs.run.query.info_at.Goals as goal
 
 pub returns-in_default : goal.returns-in_default
 returns-in_default c =
-    absent-refused (HasFullTable c.args.cx.now) c.args.cx.now.rows c.args.earlier.now (record { want = with_flags; position = c.args.position }) [] (call.Info c.args.position) refl _ refl c.in_default.ensures.absent
+    absent-refused (HasFullTable c.args.cx.now) c.args.cx.now.rows c.args.earlier.now (record { want = with_flags; position = c.args.position }) [] (call.Info c.args.position) refl (λ h. h) _ refl c.in_default.ensures.absent
 
 pub info-requires : goal.info-requires
 info-requires c =

@@ -1,0 +1,26 @@
+-- What a folder does that answers regions alone.
+use Rattle.std.specs.Prelude.{◌≡◌}
+use Rattle.tt_kinds.specs.Tree.{Depth, Tree}
+use Rattle.tt_fold.specs.Walk.{Hooks, descend}
+
+-- What the one hook of such a folder may do: M is what its state means, and E its errors. What it fails with may be that a tree
+-- is not built: it is told which errors say so of which trees.
+pub record RegionHooks (M E : Type 0) : Type 1 where
+  -- state, region, answer, state
+  pub on_region : M → Tree Depth → Tree Depth → M → Type 0
+  pub region_fails : (Tree Depth → E → Type 0) → M → Tree Depth → E → M → Type 0
+
+-- the hooks of a folder that enters each term, keeps what was built again, and passes binders with its state as it was
+abbrev pub only_regions : {M E : Type 0} → RegionHooks M E → Hooks M E
+only_regions H = record {
+  on_region = H.on_region;
+  region_fails = H.region_fails;
+  on_term = λ s t a s'. (a ≡ descend) × (s' ≡ s);
+  term_fails = λ unbuilt s t e s'. ⊥;
+  after_term = λ s t u r s'. (r ≡ u) × (s' ≡ s);
+  after_fails = λ unbuilt s t u e s'. ⊥;
+  enter = λ s vs s'. s' ≡ s;
+  enter_fails = λ unbuilt s vs e s'. ⊥;
+  leave = λ s vs s'. s' ≡ s;
+  leave_fails = λ unbuilt s vs e s'. ⊥;
+}

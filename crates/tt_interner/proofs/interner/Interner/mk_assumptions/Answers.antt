@@ -1,0 +1,28 @@
+-- the list is found or added
+use Rattle.std.proofs.Common.{refl, ap}
+use Rattle.tt_interner.specs.Rows.{assumptions_row}
+use Rattle.tt_interner.specs.Kept.{tables}
+use Rattle.tt_kinds.specs.declared.table.Table.TheVariants.{AssumptionLists}
+use Rattle.tt_interner.proofs.InfoLemmas.{info_list}
+use Rattle.tt_interner.proofs.TableLemmas.{entries_by-added}
+use Rattle.tt_interner.proofs.PutLemmas.{few, put_kept, built, built_refused}
+use Rattle.tt_interner.proofs.Keys.{assumptions_key}
+use Rattle.tt_interner.proofs.interner.Interner.mk_assumptions.Goals as goal
+
+pub find_or_add_list-requires : goal.find_or_add_list-requires
+find_or_add_list-requires c = few c.self.inside.order.items (tables c.self.inside) _ _ _ c.self.view_is c.self.invariant (λ k. assumptions_row k.items) _ (assumptions_row c.args.items.now) (assumptions_key (λ k. k.items) c.args.items.now) c.self.inside.assumption_lists.entries refl
+
+pub invariant_of-self-2 : goal.invariant_of-self-2
+invariant_of-self-2 c = put_kept c.self.inside.order.items (tables c.self.inside) _ _ _ c.self.view_is c.self.invariant (λ k. assumptions_row k.items) _ (assumptions_row c.args.items.now) (assumptions_key (λ k. k.items) c.args.items.now) c.self.inside.assumption_lists.entries refl c.items_info-info.result (info_list _ _ AssumptionLists _ c.items_info-info.ensures)
+    _ _ refl _ c.in-Ok.ensures.found _ refl c.in-Ok.ensures.order (λ none. entries_by-added (λ k. k.items) assumptions_row (λ v. v) c.self.inside.assumption_lists.entries _ c.args.items.now c.items_info-info.result (c.in-Ok.ensures.entries none)) c.in-Ok.ensures.number
+    (tt, c.requires) (λ deep. deep) tt
+
+pub returns : goal.returns
+returns c = built c.self.inside.order.items (tables c.self.inside) _ _ _ c.self.view_is c.self.invariant (λ k. assumptions_row k.items) _ (assumptions_row c.args.items.now) (assumptions_key (λ k. k.items) c.args.items.now) c.self.inside.assumption_lists.entries refl c.items_info-info.result (info_list _ _ AssumptionLists _ c.items_info-info.ensures)
+    _ _ refl _ c.in-Ok.ensures.found _ refl c.in-Ok.ensures.order (λ none. entries_by-added (λ k. k.items) assumptions_row (λ v. v) c.self.inside.assumption_lists.entries _ c.args.items.now c.items_info-info.result (c.in-Ok.ensures.entries none)) c.in-Ok.ensures.number
+    (λ list. list.number) c.from_number.result (ap (λ list. list.number) c.from_number.ensures) (λ deep. deep)
+
+pub returns-in-Err : goal.returns-in-Err
+returns-in-Err c = built_refused c.self.inside.order.items (tables c.self.inside) _ _ _ c.self.view_is c.self.invariant (λ k. assumptions_row k.items) _ (assumptions_row c.args.items.now) (assumptions_key (λ k. k.items) c.args.items.now) c.self.inside.assumption_lists.entries refl c.items_info-info.result (info_list _ _ AssumptionLists _ c.items_info-info.ensures)
+    _ _ refl _ c.in-Err.ensures.found _ refl c.in-Err.ensures.order_stays c.in-Err.ensures.entries_stay c.in-Err.ensures.cause c.in-Err.ensures.full
+    (λ list. list.number) (λ deep. deep)

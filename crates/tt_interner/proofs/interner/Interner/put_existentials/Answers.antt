@@ -1,0 +1,32 @@
+-- the list is found or added
+use Rattle.std.proofs.Common.{refl, ap, ◌∙◌}
+use Rattle.tt_interner.specs.Tables.{entries_by}
+use Rattle.tt_interner.specs.Rows.{existentials_row}
+use Rattle.tt_interner.specs.Kept.{tables}
+use Rattle.tt_kinds.specs.declared.table.Table.TheVariants.{ExistentialLists}
+use Rattle.tt_interner.proofs.InfoLemmas.{info_list}
+use Rattle.tt_interner.proofs.TableLemmas.{entries_by-push}
+use Rattle.tt_interner.proofs.PutLemmas.{few, same, put_kept, built, built_refused}
+use Rattle.tt_interner.proofs.Keys.{existentials_key}
+use Rattle.tt_interner.proofs.interner.Interner.put_existentials.Goals as goal
+
+pub find_or_insert-requires-clause-few : goal.find_or_insert-requires-clause-few
+find_or_insert-requires-clause-few c = few c.self.inside.order.items (tables c.self.inside) _ _ _ c.self.view_is c.self.invariant (λ k. existentials_row k.items) _ (existentials_row c.args.items.items) (existentials_key (λ k. k.items) c.args.items.items) c.self.inside.existential_lists.entries refl
+
+pub find_or_insert-requires-clause-same : goal.find_or_insert-requires-clause-same
+find_or_insert-requires-clause-same c = same c.self.inside.order.items (tables c.self.inside) _ _ _ c.self.view_is c.self.invariant (λ k. existentials_row k.items) _ (existentials_row c.args.items.items) (existentials_key (λ k. k.items) c.args.items.items) c.self.inside.existential_lists.entries refl c.items_info-info.result (info_list _ _ ExistentialLists _ (rw c.as_slice.ensures.value at c.items_info-info.ensures))
+
+pub invariant_of-self-2 : goal.invariant_of-self-2
+invariant_of-self-2 c = put_kept c.self.inside.order.items (tables c.self.inside) _ _ _ c.self.view_is c.self.invariant (λ k. existentials_row k.items) _ (existentials_row c.args.items.items) (existentials_key (λ k. k.items) c.args.items.items) c.self.inside.existential_lists.entries refl c.items_info-info.result (info_list _ _ ExistentialLists _ (rw c.as_slice.ensures.value at c.items_info-info.ensures))
+    _ _ refl _ c.in-Ok.ensures.found _ refl c.in-Ok.ensures.order (λ none. ap (entries_by (λ k. existentials_row k.items) (λ v. v)) (c.in-Ok.ensures.entries none) ∙ entries_by-push (λ k. existentials_row k.items) (λ v. v) c.self.inside.existential_lists.entries c.args.items c.items_info-info.result) c.in-Ok.ensures.number
+    (tt, c.requires) (λ deep. deep) tt
+
+pub returns : goal.returns
+returns c = built c.self.inside.order.items (tables c.self.inside) _ _ _ c.self.view_is c.self.invariant (λ k. existentials_row k.items) _ (existentials_row c.args.items.items) (existentials_key (λ k. k.items) c.args.items.items) c.self.inside.existential_lists.entries refl c.items_info-info.result (info_list _ _ ExistentialLists _ (rw c.as_slice.ensures.value at c.items_info-info.ensures))
+    _ _ refl _ c.in-Ok.ensures.found _ refl c.in-Ok.ensures.order (λ none. ap (entries_by (λ k. existentials_row k.items) (λ v. v)) (c.in-Ok.ensures.entries none) ∙ entries_by-push (λ k. existentials_row k.items) (λ v. v) c.self.inside.existential_lists.entries c.args.items c.items_info-info.result) c.in-Ok.ensures.number
+    (λ list. list.number) c.from_number.result (ap (λ list. list.number) c.from_number.ensures) (λ deep. deep)
+
+pub returns-in-Err : goal.returns-in-Err
+returns-in-Err c = built_refused c.self.inside.order.items (tables c.self.inside) _ _ _ c.self.view_is c.self.invariant (λ k. existentials_row k.items) _ (existentials_row c.args.items.items) (existentials_key (λ k. k.items) c.args.items.items) c.self.inside.existential_lists.entries refl c.items_info-info.result (info_list _ _ ExistentialLists _ (rw c.as_slice.ensures.value at c.items_info-info.ensures))
+    _ _ refl _ c.in-Err.ensures.found _ refl c.in-Err.ensures.order_stays c.in-Err.ensures.entries_stay c.in-Err.ensures.cause c.in-Err.ensures.full
+    (λ list. list.number) (λ deep. deep)

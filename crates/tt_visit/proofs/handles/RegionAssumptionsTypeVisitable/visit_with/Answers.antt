@@ -1,0 +1,19 @@
+-- the visit of its assumptions in order
+use Rattle.std.proofs.Common.{refl}
+use Rattle.tt_kinds.specs.Shape.{IsPart, fill, fill_all}
+use Rattle.tt_kinds.specs.declared.table.Table.TheVariants.{AssumptionLists}
+use Rattle.tt_interner.specs.Rows.{assumptions_row}
+use Rattle.tt_interner.proofs.Trees.{Means-row}
+use Rattle.tt_visit.specs.Visit.{node_seen, node_broke}
+use Rattle.tt_visit.proofs.VisitSteps.{flow-weaker}
+use Rattle.tt_visit.proofs.handles.RegionAssumptionsTypeVisitable.visit_with.Goals as goal
+
+pub visit_values-requires : goal.visit_values-requires
+unfolding IsPart
+visit_values-requires g c = (Means-row _ c.are_rows.ensures.are AssumptionLists _ (assumptions_row c.assumptions.result.now) c.assumptions.ensures).parts.1
+
+pub returns : goal.returns
+unfolding fill fill_all
+returns g c =
+    let is = (Means-row _ c.are_rows.ensures.are AssumptionLists _ (assumptions_row c.assumptions.result.now) c.assumptions.ensures).tree in
+    flow-weaker c.visit_values.result c.visit_values.ensures (λ _ h. rw is (node_seen refl h)) (λ b h. rw is (node_broke refl h))
