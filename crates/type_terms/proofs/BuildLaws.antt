@@ -114,7 +114,7 @@ term-placed number old new e form row (Err r) h b = record {
 
 -- a reason why a part was not built is one why the call is refused
 pub unbuilt-refused : (P : Type 0) (e : List Told) (c : Call) (ns : List Named) (deep : Type 0) (r : Refusal)
-    → BuildsOrFolds c → (NamesTerms e c → AreTerms e ns) → (deep → means.IsTooDeep c)
+    → BuildsOrFolds c → (NamesTerms e c → AreTerms e ns) → (deep → means.IsTooDeep e c)
     → IsUnbuilt P e ns deep r → MayRefuse P e c r
 unbuilt-refused P e c ns deep r b n d (build.no_memory i) = want_of_memory b i
 unbuilt-refused P e c ns deep r b n d (build.no_row p i) = full_table b p i
@@ -131,7 +131,7 @@ module _ (old new : Terms) (e : List Told) (c : Call) (form : CallForm) (row : R
       rw (t, b.means, h.means) (allowed h.named (λ d. let y = b.deep (h.deep.1 d) in absurd (cc)))
 
   pub kind-refused : {H : Type 0} (number : H → ℕ) (r : Refusal) → Builds {H = H} (Err r) number old new row
-      → BuildsOrFolds c → (NamesTerms e c → AreTerms e (form_positions form)) → (call_forms.IsFormTooDeep form → means.IsTooDeep c)
+      → BuildsOrFolds c → (NamesTerms e c → AreTerms e (form_positions form)) → (call_forms.IsFormTooDeep form → means.IsTooDeep e c)
       → MayRefuse (HasFullTable new) e c r
   kind-refused number r b builds n d =
       unbuilt-refused (HasFullTable new) e c (form_positions form) (call_forms.IsFormTooDeep form) r builds n d

@@ -82,7 +82,7 @@ arguments-more old new e cs xs c a x h k = record {
 }
 
 -- a position without a term
-pub absent-refused : (P : Type 0) (rows : List Row) (earlier : List Answer) (n : Named) (ns : List Named) (c : Call) → positions c ≡ n ∷ ns
+pub absent-refused : (P : Type 0) (rows : List Row) (earlier : List Answer) (n : Named) (ns : List Named) (c : Call) → positions (told_all rows earlier) c ≡ n ∷ ns
     → (Tells (told_all rows earlier) n.want n.position → IsSomeAnd (term_at (told_all rows earlier) n.position) (Suits (told_all rows earlier) n.want))
     → (r : Refusal) → r ≡ NoSuchAnswer
     → ((rows : List Row) → term_at (told_all rows earlier) n.position ≡ None) → MayRefuse P (told_all rows earlier) c r

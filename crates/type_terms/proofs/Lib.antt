@@ -1,6 +1,7 @@
 mod NumberLaws
 pub mod RunLaws
 pub mod LookupLaws
+pub mod IdLaws
 pub mod ResultLaws
 pub mod PartLaws
 pub mod ClauseLaws

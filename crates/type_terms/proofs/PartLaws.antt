@@ -113,6 +113,21 @@ pub parts-two : (terms : Terms) (e : List Told) (p q : Part) (s u : Shape) → I
     → ArePartsOf terms e (p ∷ q ∷ []) (shape.also s (shape.also u shape.none))
 parts-two terms e p q s u h k = parts-also terms e p (q ∷ []) s (shape.also u shape.none) h (parts-one terms e q u k)
 
+-- the positions that those of a list name
+module _ {X : Type 0} (names_of : X → List Named) where
+  pub named-append : (e : List Told) (xs : List X) (x : X) → AreTerms e (all_positions names_of xs) → AreTerms e (names_of x)
+      → AreTerms e (all_positions names_of (xs ++ x ∷ []))
+  named-append e [] x h k = AreTerms-append e (names_of x) [] k tt
+  named-append e (w ∷ xs) x h k =
+      AreTerms-append e (names_of w) (all_positions names_of (xs ++ x ∷ [])) (AreTerms-first e (names_of w) (all_positions names_of xs) h)
+      (named-append e xs x (AreTerms-second e (names_of w) (all_positions names_of xs) h) k)
+
+  pub named-among : (e : List Told) (xs : List X) (i : ℕ) (x : X) → slice_get xs i ≡ Some x → AreTerms e (all_positions names_of xs) → AreTerms e (names_of x)
+  named-among e [] i x h k = absurd (cc)
+  named-among e (w ∷ xs) zero x h k =
+      let same : w ≡ x = cc in subst (λ (y : X). AreTerms e (names_of y)) same (AreTerms-first e (names_of w) (all_positions names_of xs) k)
+  named-among e (w ∷ xs) (suc i) x h k = named-among e xs i x h (AreTerms-second e (names_of w) (all_positions names_of xs) k)
+
 -- those of a list in order, and the values
 module _ {X T : Type 0} (tree_of : (ℕ → Tree Depth) → X → Tree Depth) (names_of : X → List Named) (deep_of : X → Type 0) (of_value : T → Shape) where
   parts-append : (size : Sizes) (ys : List T) (y : T) → AreParts size (item_shapes of_value ys) → IsPart size (of_value y)
@@ -133,13 +148,6 @@ module _ {X T : Type 0} (tree_of : (ℕ → Tree Depth) → X → Tree Depth) (n
       let rest : fill_all f (item_shapes of_value ys) ≡ all_trees (tree_of at) xs = cc in
       rw (first, trees-append f at xs ys x y rest k) refl
 
-  named-append : (e : List Told) (xs : List X) (x : X) → AreTerms e (all_positions names_of xs) → AreTerms e (names_of x)
-      → AreTerms e (all_positions names_of (xs ++ x ∷ []))
-  named-append e [] x h k = AreTerms-append e (names_of x) [] k tt
-  named-append e (w ∷ xs) x h k =
-      AreTerms-append e (names_of w) (all_positions names_of (xs ++ x ∷ [])) (AreTerms-first e (names_of w) (all_positions names_of xs) h)
-      (named-append e xs x (AreTerms-second e (names_of w) (all_positions names_of xs) h) k)
-
   shallow-append : (xs : List X) (x : X) → (AnyIsDeep deep_of xs → ⊥) → (deep_of x → ⊥) → AnyIsDeep deep_of (xs ++ x ∷ []) → ⊥
   shallow-append [] x h k d = elim d [ inl y ↦ k y | inr y ↦ y ]
   shallow-append (w ∷ xs) x h k d = elim d [ inl y ↦ h (inl y) | inr y ↦ shallow-append xs x (λ z. h (inr z)) k y ]
@@ -155,15 +163,9 @@ module _ {X T : Type 0} (tree_of : (ℕ → Tree Depth) → X → Tree Depth) (n
   all-more terms e xs ys x y h k = record {
     parts = parts-append (size terms.rows) ys y h.parts k.part;
     means = trees-append (meaning terms.rows) (tree_at e) xs ys x y h.means k.means;
-    named = named-append e xs x h.named k.named;
+    named = named-append names_of e xs x h.named k.named;
     shallow = shallow-append xs x h.shallow k.shallow;
   }
-
-  named-among : (e : List Told) (xs : List X) (i : ℕ) (x : X) → slice_get xs i ≡ Some x → AreTerms e (all_positions names_of xs) → AreTerms e (names_of x)
-  named-among e [] i x h k = absurd (cc)
-  named-among e (w ∷ xs) zero x h k =
-      let same : w ≡ x = cc in subst (λ (y : X). AreTerms e (names_of y)) same (AreTerms-first e (names_of w) (all_positions names_of xs) k)
-  named-among e (w ∷ xs) (suc i) x h k = named-among e xs i x h (AreTerms-second e (names_of w) (all_positions names_of xs) k)
 
   deep-among : (xs : List X) (i : ℕ) (x : X) → slice_get xs i ≡ Some x → deep_of x → AnyIsDeep deep_of xs
   deep-among [] i x h d = absurd (cc)
@@ -174,7 +176,7 @@ module _ {X T : Type 0} (tree_of : (ℕ → Tree Depth) → X → Tree Depth) (n
   pub unbuilt-one : (P : Type 0) (e : List Told) (xs : List X) (i : ℕ) (x : X) (r : Refusal) → slice_get xs i ≡ Some x
       → IsUnbuilt P e (names_of x) (deep_of x) r → IsUnbuilt P e (all_positions names_of xs) (AnyIsDeep deep_of xs) r
   unbuilt-one P e xs i x r h u =
-      IsUnbuilt-weaker P e e (names_of x) (all_positions names_of xs) (deep_of x) (AnyIsDeep deep_of xs) r (named-among e xs i x h) (deep-among xs i x h) u
+      IsUnbuilt-weaker P e e (names_of x) (all_positions names_of xs) (deep_of x) (AnyIsDeep deep_of xs) r (named-among names_of e xs i x h) (deep-among xs i x h) u
 
 -- where one is in a list, its image is in the list of images
 pub get-mapped : {A B : Type 0} (f : A → B) (xs : List A) (i : ℕ) (x : A) → slice_get xs i ≡ Some x → slice_get (map f xs) i ≡ Some (f x)

@@ -18,6 +18,10 @@ use Rattle.type_terms.specs.declared.run.call.RegionCall.{RegionCall}
 use Rattle.type_terms.specs.declared.run.call.RegionCall.TheVariants.{ReEarlyParam, ReBound, ReLateParam, ReStatic, ReVar, RePlaceholder, ReErased, ReError}
 use Rattle.type_terms.specs.declared.run.call.ArgCall.{ArgCall}
 use Rattle.type_terms.specs.declared.run.call.ArgCall.TheVariants as arg
+use Rattle.tt_kinds.specs.declared.alias.AliasTyKind.{AliasTyKind}
+use Rattle.tt_kinds.specs.declared.alias.AliasTyKind.TheVariants as alias_kind
+use Rattle.type_terms.specs.declared.run.call.AliasCall.{AliasCall}
+use Rattle.type_terms.specs.declared.run.call.AliasCall.TheVariants as alias
 use Rattle.type_terms.specs.declared.run.call.ItemCall.{ItemCall}
 use Rattle.type_terms.specs.declared.run.call.ItemCall.TheVariants as item
 use Rattle.type_terms.specs.declared.run.call.ValTreeCall.{ValTreeCall}
@@ -57,6 +61,8 @@ pub data Want : Type 0 where
   with_flags : Want
   -- it is no term but the id of a declaration of this sort
   of_id : DeclarationSort → Want
+  -- it is the id of a declaration of any sort
+  of_any_id : Want
 
 -- a position that a call names
 pub record Named : Type 0 where
@@ -144,72 +150,15 @@ ty_entry b = record { var = b.var; kind = type_variable b.kind }
 abbrev pub const_entry : BoundConst → Entry Name
 const_entry b = record { var = b.var; kind = const_variable }
 
--- what a type with arguments is of
-abbrev pub item_type : ItemCall → TypeLabel
-item_type (item.Adt d) = adt_type d.number
-item_type (item.Closure d) = closure_type d.number
-item_type (item.CoroutineClosure d) = coroutine_closure_type d.number
-item_type (item.Coroutine d) = coroutine_type d.number
-item_type (item.CoroutineWitness d) = coroutine_witness_type d.number
-item_type (item.Alias k) = alias_type k
-
 -- a type or a constant
 abbrev pub term_part : TermCall → Part
 term_part (term.Ty p) = one (a_term Types p)
 term_part (term.Const p) = one (a_term Consts p)
 
--- the existential predicates that can be built, without their binder
-abbrev pub existential_record : ExistentialKindCall → RecordCall
-existential_record (existential.Trait d args) = labelled (existential_trait_record d.number) (args_part args.items ∷ [])
-existential_record (existential.Projection d args t) = labelled (existential_projection_record d.number) (args_part args.items ∷ term_part t ∷ [])
-existential_record (existential.AutoTrait d) = labelled (auto_trait_record d.number) []
-
--- the existential predicates that can be built
-abbrev pub existential_form : ExistentialCall → ExistentialForm
-existential_form x = record { vars = map variable_kind x.vars.items; under = existential_record x.kind }
-
--- the types that can be built
-abbrev pub ty_form : TyCall → CallForm
-ty_form ty.Bool = plain (type_label bool_type) []
-ty_form ty.Char = plain (type_label char_type) []
-ty_form (ty.Int i) = plain (type_label (int_type i)) []
-ty_form (ty.Uint i) = plain (type_label (uint_type i)) []
-ty_form (ty.Float f) = plain (type_label (float_type f)) []
-ty_form (ty.Foreign d) = plain (type_label (foreign_type d.number)) []
-ty_form ty.Str = plain (type_label str_type) []
-ty_form ty.Never = plain (type_label never_type) []
-ty_form (ty.Param index name) = param type_sort index (string_bytes name)
-ty_form (ty.Bound i b) = bound type_sort (depth i) (ty_entry b)
-ty_form (ty.Placeholder p) = plain (type_label (placeholder_type p)) []
-ty_form (ty.Infer i) = plain (type_label (infer_type i)) []
-ty_form (ty.Error e) = plain (type_label (error_type e.0)) []
-ty_form (ty.Ref r t m) = plain (type_label (ref_type m)) (one (a_region r) ∷ one (a_term Types t) ∷ [])
-ty_form (ty.RawPtr t m) = plain (type_label (raw_ptr_type m)) (one (a_term Types t) ∷ [])
-ty_form (ty.Slice t) = plain (type_label slice_type) (one (a_term Types t) ∷ [])
-ty_form (ty.Array t c) = plain (type_label array_type) (one (a_term Types t) ∷ one (a_term Consts c) ∷ [])
-ty_form (ty.Tuple ts) = plain (type_label tuple_type) (a_list TypeLists (terms_at Types ts.items) ∷ [])
-ty_form (ty.FnPtr vars ts h) =
-    under (type_label (fn_ptr_type h)) (map variable_kind vars.items) fn_sig_tys_record (a_list TypeLists (terms_at Types ts.items) ∷ [])
-ty_form (ty.Item i args) = plain (type_label (item_type i)) (args_part args.items ∷ [])
-ty_form (ty.Dynamic xs r) = trait_object (map existential_form xs.items) r
-ty_form (ty.Pat t p) = plain (type_label pat_type) (one (a_term Types t) ∷ one (a_term Patterns p) ∷ [])
-ty_form (ty.UnsafeBinder vars t) = under (type_label unsafe_binder_type) (map variable_kind vars.items) unsafe_binder_record (one (a_term Types t) ∷ [])
-
 -- the values that can be built, of the type at the position
 abbrev pub value_form : ℕ → ValTreeCall → CallForm
 value_form t (valtree.Leaf s) = plain (const_label (leaf_const s.bits s.size)) (one (a_term Types t) ∷ [])
 value_form t (valtree.Branch cs) = plain (const_label branch_const) (one (a_term Types t) ∷ a_list ConstLists (terms_at Consts cs.items) ∷ [])
-
--- the constants that can be built
-abbrev pub const_form : ConstCall → CallForm
-const_form (const.Param index name) = param const_sort index (string_bytes name)
-const_form (const.Infer i) = plain (const_label (infer_const i)) []
-const_form (const.Bound i b) = bound const_sort (depth i) (const_entry b)
-const_form (const.Placeholder p) = plain (const_label (placeholder_const p)) []
-const_form (const.Unevaluated d args) = plain (const_label (unevaluated_const d.number)) (args_part args.items ∷ [])
-const_form (const.Value t v) = value_form t v
-const_form (const.Error e) = plain (const_label (error_const e.0)) []
-const_form (const.Expr tag args) = plain (const_label (expr_const tag)) (args_part args.items ∷ [])
 
 -- the patterns that can be built
 abbrev pub pat_form : PatCall → CallForm
@@ -217,32 +166,98 @@ pat_form (pat.Range start end) = plain (pattern_label range_pattern) (one (a_ter
 pat_form (pat.Or ps) = plain (pattern_label or_pattern) (a_list PatternLists (terms_at Patterns ps.items) ∷ [])
 pat_form pat.NotNull = plain (pattern_label not_null_pattern) []
 
--- the clauses that can be built, without their binder
-abbrev pub clause_record : ClauseCall → RecordCall
-clause_record (clause.Trait d args) = labelled (trait_record d.number) (args_part args.items ∷ [])
-clause_record (clause.RegionOutlives r s) = labelled region_outlives_record (one (a_region r) ∷ one (a_region s) ∷ [])
-clause_record (clause.TypeOutlives t r) = labelled type_outlives_record (one (a_term Types t) ∷ one (a_region r) ∷ [])
-clause_record (clause.Projection d args t) = labelled (projection_record d.number) (args_part args.items ∷ term_part t ∷ [])
-clause_record (clause.ConstArgHasType c t) = labelled const_has_type_record (one (a_term Consts c) ∷ one (a_term Types t) ∷ [])
-clause_record (clause.WellFormed t) = labelled well_formed_record (term_part t ∷ [])
-clause_record (clause.ConstEvaluatable c) = labelled const_evaluatable_record (one (a_term Consts c) ∷ [])
-clause_record (clause.HostEffect d args constness) = labelled (host_effect_record d.number constness) (args_part args.items ∷ [])
-clause_record (clause.UnstableFeature name) = labelled (unstable_feature_record (string_bytes name)) []
+-- the number of the id at each position
+module _ (ids : ℕ → ℕ) where
+  -- what an alias is
+  abbrev pub alias_of : AliasCall → AliasTyKind
+  alias_of (alias.Projection p) = alias_kind.Projection (record { number = ids p })
+  alias_of (alias.Inherent p) = alias_kind.Inherent (record { number = ids p })
+  alias_of (alias.Opaque p) = alias_kind.Opaque (record { number = ids p })
+  alias_of (alias.Free p) = alias_kind.Free (record { number = ids p })
 
--- the predicates that can be built, without their binder
-abbrev pub predicate_record : PredicateKindCall → RecordCall
-predicate_record (predicate.Clause c) = clause_record c
-predicate_record (predicate.DynCompatible d) = labelled (dyn_compatible_record d.number) []
-predicate_record (predicate.Subtype expected a b) = labelled (subtype_record expected) (one (a_term Types a) ∷ one (a_term Types b) ∷ [])
-predicate_record (predicate.Coerce a b) = labelled coerce_record (one (a_term Types a) ∷ one (a_term Types b) ∷ [])
-predicate_record (predicate.ConstEquate a b) = labelled const_equate_record (one (a_term Consts a) ∷ one (a_term Consts b) ∷ [])
-predicate_record predicate.Ambiguous = labelled ambiguous_record []
-predicate_record (predicate.NormalizesTo d args t) = labelled (normalizes_to_record d.number) (args_part args.items ∷ term_part t ∷ [])
-predicate_record (predicate.AliasRelate a b r) = labelled (alias_relate_record r) (term_part a ∷ term_part b ∷ [])
+  -- what a type with arguments is of
+  abbrev pub item_type : ItemCall → TypeLabel
+  item_type (item.Adt p) = adt_type (ids p)
+  item_type (item.Closure p) = closure_type (ids p)
+  item_type (item.CoroutineClosure p) = coroutine_closure_type (ids p)
+  item_type (item.Coroutine p) = coroutine_type (ids p)
+  item_type (item.CoroutineWitness p) = coroutine_witness_type (ids p)
+  item_type (item.Alias k) = alias_type (alias_of k)
 
--- the predicates that can be built
-abbrev pub predicate_form : PredicateCall → CallForm
-predicate_form p = under predicate_label (map variable_kind p.vars.items) (predicate_record p.kind).label (predicate_record p.kind).parts
+  -- the existential predicates that can be built, without their binder
+  abbrev pub existential_record : ExistentialKindCall → RecordCall
+  existential_record (existential.Trait p args) = labelled (existential_trait_record (ids p)) (args_part args.items ∷ [])
+  existential_record (existential.Projection p args t) = labelled (existential_projection_record (ids p)) (args_part args.items ∷ term_part t ∷ [])
+  existential_record (existential.AutoTrait p) = labelled (auto_trait_record (ids p)) []
+
+  -- the existential predicates that can be built
+  abbrev pub existential_form : ExistentialCall → ExistentialForm
+  existential_form x = record { vars = map variable_kind x.vars.items; under = existential_record x.kind }
+
+  -- the types that can be built
+  abbrev pub ty_form : TyCall → CallForm
+  ty_form ty.Bool = plain (type_label bool_type) []
+  ty_form ty.Char = plain (type_label char_type) []
+  ty_form (ty.Int i) = plain (type_label (int_type i)) []
+  ty_form (ty.Uint i) = plain (type_label (uint_type i)) []
+  ty_form (ty.Float f) = plain (type_label (float_type f)) []
+  ty_form (ty.Foreign p) = plain (type_label (foreign_type (ids p))) []
+  ty_form ty.Str = plain (type_label str_type) []
+  ty_form ty.Never = plain (type_label never_type) []
+  ty_form (ty.Param index name) = param type_sort index (string_bytes name)
+  ty_form (ty.Bound i b) = bound type_sort (depth i) (ty_entry b)
+  ty_form (ty.Placeholder p) = plain (type_label (placeholder_type p)) []
+  ty_form (ty.Infer i) = plain (type_label (infer_type i)) []
+  ty_form (ty.Error e) = plain (type_label (error_type e.0)) []
+  ty_form (ty.Ref r t m) = plain (type_label (ref_type m)) (one (a_region r) ∷ one (a_term Types t) ∷ [])
+  ty_form (ty.RawPtr t m) = plain (type_label (raw_ptr_type m)) (one (a_term Types t) ∷ [])
+  ty_form (ty.Slice t) = plain (type_label slice_type) (one (a_term Types t) ∷ [])
+  ty_form (ty.Array t c) = plain (type_label array_type) (one (a_term Types t) ∷ one (a_term Consts c) ∷ [])
+  ty_form (ty.Tuple ts) = plain (type_label tuple_type) (a_list TypeLists (terms_at Types ts.items) ∷ [])
+  ty_form (ty.FnPtr vars ts h) =
+      under (type_label (fn_ptr_type h)) (map variable_kind vars.items) fn_sig_tys_record (a_list TypeLists (terms_at Types ts.items) ∷ [])
+  ty_form (ty.Item i args) = plain (type_label (item_type i)) (args_part args.items ∷ [])
+  ty_form (ty.Dynamic xs r) = trait_object (map existential_form xs.items) r
+  ty_form (ty.Pat t p) = plain (type_label pat_type) (one (a_term Types t) ∷ one (a_term Patterns p) ∷ [])
+  ty_form (ty.UnsafeBinder vars t) = under (type_label unsafe_binder_type) (map variable_kind vars.items) unsafe_binder_record (one (a_term Types t) ∷ [])
+
+  -- the constants that can be built
+  abbrev pub const_form : ConstCall → CallForm
+  const_form (const.Param index name) = param const_sort index (string_bytes name)
+  const_form (const.Infer i) = plain (const_label (infer_const i)) []
+  const_form (const.Bound i b) = bound const_sort (depth i) (const_entry b)
+  const_form (const.Placeholder p) = plain (const_label (placeholder_const p)) []
+  const_form (const.Unevaluated p args) = plain (const_label (unevaluated_const (ids p))) (args_part args.items ∷ [])
+  const_form (const.Value t v) = value_form t v
+  const_form (const.Error e) = plain (const_label (error_const e.0)) []
+  const_form (const.Expr tag args) = plain (const_label (expr_const tag)) (args_part args.items ∷ [])
+
+  -- the clauses that can be built, without their binder
+  abbrev pub clause_record : ClauseCall → RecordCall
+  clause_record (clause.Trait p args) = labelled (trait_record (ids p)) (args_part args.items ∷ [])
+  clause_record (clause.RegionOutlives r s) = labelled region_outlives_record (one (a_region r) ∷ one (a_region s) ∷ [])
+  clause_record (clause.TypeOutlives t r) = labelled type_outlives_record (one (a_term Types t) ∷ one (a_region r) ∷ [])
+  clause_record (clause.Projection p args t) = labelled (projection_record (ids p)) (args_part args.items ∷ term_part t ∷ [])
+  clause_record (clause.ConstArgHasType c t) = labelled const_has_type_record (one (a_term Consts c) ∷ one (a_term Types t) ∷ [])
+  clause_record (clause.WellFormed t) = labelled well_formed_record (term_part t ∷ [])
+  clause_record (clause.ConstEvaluatable c) = labelled const_evaluatable_record (one (a_term Consts c) ∷ [])
+  clause_record (clause.HostEffect p args constness) = labelled (host_effect_record (ids p) constness) (args_part args.items ∷ [])
+  clause_record (clause.UnstableFeature name) = labelled (unstable_feature_record (string_bytes name)) []
+
+  -- the predicates that can be built, without their binder
+  abbrev pub predicate_record : PredicateKindCall → RecordCall
+  predicate_record (predicate.Clause c) = clause_record c
+  predicate_record (predicate.DynCompatible p) = labelled (dyn_compatible_record (ids p)) []
+  predicate_record (predicate.Subtype expected a b) = labelled (subtype_record expected) (one (a_term Types a) ∷ one (a_term Types b) ∷ [])
+  predicate_record (predicate.Coerce a b) = labelled coerce_record (one (a_term Types a) ∷ one (a_term Types b) ∷ [])
+  predicate_record (predicate.ConstEquate a b) = labelled const_equate_record (one (a_term Consts a) ∷ one (a_term Consts b) ∷ [])
+  predicate_record predicate.Ambiguous = labelled ambiguous_record []
+  predicate_record (predicate.NormalizesTo p args t) = labelled (normalizes_to_record (ids p)) (args_part args.items ∷ term_part t ∷ [])
+  predicate_record (predicate.AliasRelate a b r) = labelled (alias_relate_record r) (term_part a ∷ term_part b ∷ [])
+
+  -- the predicates that can be built
+  abbrev pub predicate_form : PredicateCall → CallForm
+  predicate_form p = under predicate_label (map variable_kind p.vars.items) (predicate_record p.kind).label (predicate_record p.kind).parts
 
 -- clauses as items of a list
 abbrev pub clause_items : List ℕ → List Item
@@ -337,6 +352,66 @@ form_positions (bound s d e) = []
 form_positions (plain l ps) = parts_positions ps
 form_positions (under l vs m ps) = parts_positions ps
 form_positions (trait_object xs r) = all_positions existential_positions xs
+
+-- the position of an id of the sort
+abbrev pub an_id : DeclarationSort → ℕ → List Named
+an_id s p = record { want = of_id s; position = p } ∷ []
+
+-- the position of an id of any sort
+abbrev pub any_id : ℕ → List Named
+any_id p = record { want = of_any_id; position = p } ∷ []
+
+-- the position of the id that an alias names
+abbrev pub alias_ids : AliasCall → List Named
+alias_ids (alias.Projection p) = an_id sort.AssocTy p
+alias_ids (alias.Inherent p) = an_id sort.Inherent p
+alias_ids (alias.Opaque p) = an_id sort.Opaque p
+alias_ids (alias.Free p) = an_id sort.Free p
+
+-- the position of the id that an item names
+abbrev pub item_ids : ItemCall → List Named
+item_ids (item.Adt p) = an_id sort.Adt p
+item_ids (item.Closure p) = an_id sort.Closure p
+item_ids (item.CoroutineClosure p) = an_id sort.CoroutineClosure p
+item_ids (item.Coroutine p) = an_id sort.Coroutine p
+item_ids (item.CoroutineWitness p) = an_id sort.Coroutine p
+item_ids (item.Alias k) = alias_ids k
+
+-- the position of the id that an existential predicate's kind names
+abbrev pub existential_kind_ids : ExistentialKindCall → List Named
+existential_kind_ids (existential.Trait p args) = an_id sort.Trait p
+existential_kind_ids (existential.Projection p args t) = any_id p
+existential_kind_ids (existential.AutoTrait p) = an_id sort.Trait p
+
+-- the position of the id that an existential predicate names
+abbrev pub existential_ids : ExistentialCall → List Named
+existential_ids x = existential_kind_ids x.kind
+
+-- the positions of ids that a type names
+abbrev pub ty_ids : TyCall → List Named
+ty_ids (ty.Foreign p) = an_id sort.Foreign p
+ty_ids (ty.Item i args) = item_ids i
+ty_ids (ty.Dynamic xs r) = all_positions existential_ids xs.items
+ty_ids _ = []
+
+-- the position of the id that a constant names
+abbrev pub const_ids : ConstCall → List Named
+const_ids (const.Unevaluated p args) = an_id sort.Const p
+const_ids _ = []
+
+-- the position of the id that a clause names
+abbrev pub clause_ids : ClauseCall → List Named
+clause_ids (clause.Trait p args) = an_id sort.Trait p
+clause_ids (clause.Projection p args t) = any_id p
+clause_ids (clause.HostEffect p args constness) = an_id sort.Trait p
+clause_ids _ = []
+
+-- the position of the id that a predicate names
+abbrev pub predicate_ids : PredicateKindCall → List Named
+predicate_ids (predicate.Clause c) = clause_ids c
+predicate_ids (predicate.DynCompatible p) = an_id sort.Trait p
+predicate_ids (predicate.NormalizesTo p args t) = any_id p
+predicate_ids _ = []
 
 -- the sort of what a call declares
 abbrev pub declared_sort : DeclarationKindCall → DeclarationSort

@@ -17,7 +17,7 @@ use Rattle.type_terms.specs.declared.run.call.ArgCall.{ArgCall}
 use Rattle.type_terms.specs.declared.run.call.ArgCall.TheVariants as arg
 use Rattle.type_terms.specs.declared.run.call.Call.{Call}
 use Rattle.type_terms.specs.declared.run.call.Call.TheVariants as call
-use Rattle.type_terms.specs.CallForm.{Want, of_table, of_clause, as_at, of_any, with_flags, of_id, Named, arg_items, args_part, ty_form, const_form, pat_form, predicate_form, declared_sort, declared_positions, clause_items, clauses_tree, form_positions, items_positions, part_positions, form_tree, part_tree, region_tree, IsFormTooDeep, IsPartTooDeep, AreItemsTooDeep}
+use Rattle.type_terms.specs.CallForm.{Want, of_table, of_clause, as_at, of_any, with_flags, of_id, of_any_id, Named, arg_items, args_part, ty_ids, const_ids, predicate_ids, ty_form, const_form, pat_form, predicate_form, declared_sort, declared_positions, clause_items, clauses_tree, form_positions, items_positions, part_positions, form_tree, part_tree, region_tree, IsFormTooDeep, IsPartTooDeep, AreItemsTooDeep}
 use Rattle.type_terms.specs.Told.{Told, term, declared, truth, info, refused, bad}
 
 -- a term with its table
@@ -50,6 +50,15 @@ abbrev pub id_at : List Told → ℕ → Option Id
 id_at earlier zero = None
 id_at earlier (suc n) = as_id (slice_get earlier n)
 
+-- the number of an id, and 0 where there is none
+abbrev pub number_of : Option Id → ℕ
+number_of None = 0
+number_of (Some i) = i.number
+
+-- the number of the id at a position
+abbrev pub number_at : List Told → ℕ → ℕ
+number_at earlier p = number_of (id_at earlier p)
+
 -- the tree of a term
 abbrev pub tree_of : Option Term → Tree Depth
 tree_of None = tree.region erased_region
@@ -72,20 +81,27 @@ table_at earlier p = table_of (term_at earlier p)
 abbrev pub any : ℕ → Named
 any p = record { want = of_any; position = p }
 
+-- the positions of ids that a building call names
+abbrev pub ids : Call → List Named
+ids (call.Ty k) = ty_ids k
+ids (call.Const k) = const_ids k
+ids (call.Predicate k) = predicate_ids k.kind
+ids _ = []
+
 -- the positions that a call names
-abbrev pub positions : Call → List Named
-positions (call.Ty k) = form_positions (ty_form k)
-positions (call.Const k) = form_positions (const_form k)
-positions (call.Pat k) = form_positions (pat_form k)
-positions (call.Predicate k) = form_positions (predicate_form k)
-positions (call.Clauses ps) = items_positions (clause_items ps.items)
-positions (call.Args args) = part_positions (args_part args.items)
-positions (call.Declare d) = declared_positions d.kind
-positions (call.Shift p n) = any p ∷ []
-positions (call.Instantiate p args) = any p ∷ items_positions (arg_items args.items)
-positions (call.Equal p q) = any p ∷ record { want = as_at p; position = q } ∷ []
-positions (call.Info p) = record { want = with_flags; position = p } ∷ []
-positions call.Bad = []
+abbrev pub positions : List Told → Call → List Named
+positions earlier (call.Ty k) = ty_ids k ++ form_positions (ty_form (number_at earlier) k)
+positions earlier (call.Const k) = const_ids k ++ form_positions (const_form (number_at earlier) k)
+positions earlier (call.Pat k) = form_positions (pat_form k)
+positions earlier (call.Predicate k) = predicate_ids k.kind ++ form_positions (predicate_form (number_at earlier) k)
+positions earlier (call.Clauses ps) = items_positions (clause_items ps.items)
+positions earlier (call.Args args) = part_positions (args_part args.items)
+positions earlier (call.Declare d) = declared_positions d.kind
+positions earlier (call.Shift p n) = any p ∷ []
+positions earlier (call.Instantiate p args) = any p ∷ items_positions (arg_items args.items)
+positions earlier (call.Equal p q) = any p ∷ record { want = as_at p; position = q } ∷ []
+positions earlier (call.Info p) = record { want = with_flags; position = p } ∷ []
+positions earlier call.Bad = []
 
 -- the term is as it is wanted
 abbrev pub Suits : List Told → Want → Term → Type 0
@@ -95,10 +111,12 @@ Suits earlier (as_at p) u = table_at earlier p ≡ Some u.table
 Suits earlier of_any u = ⊤
 Suits earlier with_flags u = u.table ≢ ArgLists
 Suits earlier (of_id s) u = ⊥
+Suits earlier of_any_id u = ⊥
 
--- the position tells what is wanted there: an id of the sort, or a term
+-- the position tells what is wanted there: an id of the sort or of any, or a term
 abbrev pub Tells : List Told → Want → ℕ → Type 0
 Tells earlier (of_id s) p = IsSomeAnd (id_at earlier p) (λ i. i.sort ≡ s)
+Tells earlier of_any_id p = IsSomeAnd (id_at earlier p) (λ i. ⊤)
 Tells earlier w p = IsSomeAnd (term_at earlier p) (Suits earlier w)
 
 -- each position tells a term or an id as it is wanted there
@@ -108,17 +126,17 @@ AreTerms earlier (n ∷ ns) = Tells earlier n.want n.position × AreTerms earlie
 
 -- each position that the call names tells a term or an id as it is wanted there
 abbrev pub NamesTerms : List Told → Call → Type 0
-NamesTerms earlier c = AreTerms earlier (positions c)
+NamesTerms earlier c = AreTerms earlier (positions earlier c)
 
 -- a bound index of the call's kind or regions is the greatest
-abbrev pub IsTooDeep : Call → Type 0
-IsTooDeep (call.Ty k) = IsFormTooDeep (ty_form k)
-IsTooDeep (call.Const k) = IsFormTooDeep (const_form k)
-IsTooDeep (call.Pat k) = IsFormTooDeep (pat_form k)
-IsTooDeep (call.Predicate k) = IsFormTooDeep (predicate_form k)
-IsTooDeep (call.Args args) = IsPartTooDeep (args_part args.items)
-IsTooDeep (call.Instantiate p args) = AreItemsTooDeep (arg_items args.items)
-IsTooDeep _ = ⊥
+abbrev pub IsTooDeep : List Told → Call → Type 0
+IsTooDeep earlier (call.Ty k) = IsFormTooDeep (ty_form (number_at earlier) k)
+IsTooDeep earlier (call.Const k) = IsFormTooDeep (const_form (number_at earlier) k)
+IsTooDeep earlier (call.Pat k) = IsFormTooDeep (pat_form k)
+IsTooDeep earlier (call.Predicate k) = IsFormTooDeep (predicate_form (number_at earlier) k)
+IsTooDeep earlier (call.Args args) = IsPartTooDeep (args_part args.items)
+IsTooDeep earlier (call.Instantiate p args) = AreItemsTooDeep (arg_items args.items)
+IsTooDeep earlier _ = ⊥
 
 -- an argument with its tree
 abbrev pub argument : List Told → ArgCall → Argument Depth
@@ -163,10 +181,10 @@ given_table earlier _ = None
 
 -- the term is what the call builds, or what the fold gives
 abbrev pub Gives : List Told → Call → Tree Depth → Type 0
-Gives earlier (call.Ty k) t = t ≡ form_tree (tree_at earlier) (ty_form k)
-Gives earlier (call.Const k) t = t ≡ form_tree (tree_at earlier) (const_form k)
+Gives earlier (call.Ty k) t = t ≡ form_tree (tree_at earlier) (ty_form (number_at earlier) k)
+Gives earlier (call.Const k) t = t ≡ form_tree (tree_at earlier) (const_form (number_at earlier) k)
 Gives earlier (call.Pat k) t = t ≡ form_tree (tree_at earlier) (pat_form k)
-Gives earlier (call.Predicate k) t = t ≡ form_tree (tree_at earlier) (predicate_form k)
+Gives earlier (call.Predicate k) t = t ≡ form_tree (tree_at earlier) (predicate_form (number_at earlier) k)
 Gives earlier (call.Clauses ps) t = t ≡ clauses_tree (tree_at earlier) ps.items
 Gives earlier (call.Args args) t = t ≡ part_tree (tree_at earlier) (args_part args.items)
 Gives earlier c t = folded earlier c ≡ Some (read 0 t)
@@ -181,7 +199,7 @@ pub data MayRefuse (full : Type 0) (earlier : List Told) (c : Call) (r : Refusal
   want_of_memory : BuildsOrFolds c → r ≡ Memory → MayRefuse full earlier c r
   full_table : BuildsOrFolds c → full → r ≡ TableFull → MayRefuse full earlier c r
   no_term : (NamesTerms earlier c → ⊥) → r ≡ NoSuchAnswer → MayRefuse full earlier c r
-  too_deep : IsTooDeep c → r ≡ GreatestIndex → MayRefuse full earlier c r
+  too_deep : IsTooDeep earlier c → r ≡ GreatestIndex → MayRefuse full earlier c r
   -- what the fold gives doesn't fit
   unfit : NamesTerms earlier c → IsSomeAnd (folded earlier c) (λ t. Fits t → ⊥) → r ≡ GreatestIndex → MayRefuse full earlier c r
   unsuited : NamesTerms earlier c → HasCause earlier c r → MayRefuse full earlier c r
@@ -210,7 +228,7 @@ GivesId earlier _ s n = ⊥
 -- the call may be answered so after what was told earlier; full says that some table holds its limit
 abbrev pub IsAllowed : Type 0 → List Told → Call → Told → Type 0
 IsAllowed full earlier c (term table t) =
-    NamesTerms earlier c × (IsTooDeep c → ⊥) × (given_table earlier c ≡ Some table) × Gives earlier c t × ((r : Refusal) → HasCause earlier c r → ⊥)
+    NamesTerms earlier c × (IsTooDeep earlier c → ⊥) × (given_table earlier c ≡ Some table) × Gives earlier c t × ((r : Refusal) → HasCause earlier c r → ⊥)
 IsAllowed full earlier c (declared s n) = NamesTerms earlier c × GivesId earlier c s n
 IsAllowed full earlier c (truth b) = NamesTerms earlier c × GivesTruth earlier c b
 IsAllowed full earlier c (info flags outer) = NamesTerms earlier c × GivesInfo earlier c flags outer

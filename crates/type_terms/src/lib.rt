@@ -3,6 +3,7 @@
 
 pub mod run;
 
+pub use run::AliasCall;
 pub use run::Answer;
 pub use run::ArgCall;
 pub use run::Call;

@@ -10,6 +10,7 @@ mod existentials;
 pub mod fault;
 mod fold;
 mod handle;
+mod ids;
 pub(crate) mod line;
 mod lookup;
 mod number;
@@ -26,9 +27,9 @@ mod words;
 
 pub use answer::Answer;
 pub use call::{
-    ArgCall, Call, ClauseCall, ConstCall, DeclarationKindCall, DeclareCall, ExistentialCall,
-    ExistentialKindCall, ItemCall, PatCall, PredicateCall, PredicateKindCall, RegionCall,
-    RegionNameCall, TermCall, TyCall, ValTreeCall, VariableCall,
+    AliasCall, ArgCall, Call, ClauseCall, ConstCall, DeclarationKindCall, DeclareCall,
+    ExistentialCall, ExistentialKindCall, ItemCall, PatCall, PredicateCall, PredicateKindCall,
+    RegionCall, RegionNameCall, TermCall, TyCall, ValTreeCall, VariableCall,
 };
 pub use fault::Fault;
 pub use runner::{answer_next, run_calls};

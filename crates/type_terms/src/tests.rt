@@ -22,10 +22,8 @@ use std::alloc::Global;
 use std::process::Abort;
 use std::test::Fail;
 
-// A script under its name, and what it prints.
-#[derive(Clone, Copy)]
+// A script and what it prints.
 struct Example {
-    name: &'static str,
     script: &'static str,
     lines: &'static str,
 }
@@ -37,14 +35,14 @@ fn run(alloc: Global, script: &str) -> Result<String, Fail> {
     Ok(String::from_utf8(output)?)
 }
 
-// The text is the one that is wanted under this name.
-fn agree(rt: &impl Abort, name: &str, text: &str, wanted: &str) {
-    assert_eq!(rt; text, wanted, "{name}");
+// The text is the one that is wanted.
+fn agree(rt: &impl Abort, text: &str, wanted: &str) {
+    assert_eq!(rt; text, wanted);
 }
 
 // The script prints its lines.
-fn check(rt: &impl Abort, alloc: Global, worked: Example) -> Result<(), Fail> {
+fn check(rt: &impl Abort, alloc: Global, worked: &Example) -> Result<(), Fail> {
     let output = run(alloc, worked.script)?;
-    agree(rt, worked.name, output.as_str(), worked.lines);
+    agree(rt, output.as_str(), worked.lines);
     Ok(())
 }

@@ -2,36 +2,42 @@
 
 ghost use Rattle.std.specs.Prelude.{◌≡◌, map, [], ◌∷◌, List};
 ghost use Rattle.tt_kinds.specs.Tree as tree;
-ghost use Rattle.tt_kinds.specs.Label.{region_sort, type_sort, type_label, ref_type, array_type, pat_type, unsafe_binder_type, unsafe_binder_record, fn_ptr_type, fn_sig_tys_record, late_param_region, placeholder_region};
+ghost use Rattle.tt_kinds.specs.Label.{region_sort, type_sort, type_label, foreign_type, ref_type, array_type, pat_type, unsafe_binder_type, unsafe_binder_record, fn_ptr_type, fn_sig_tys_record, late_param_region, placeholder_region};
 ghost use Rattle.tt_kinds.specs.Bound.{depth};
 ghost use Rattle.tt_kinds.specs.Shape.{IsGreatest};
 ghost use Rattle.tt_kinds.specs.Shape as shape;
 ghost use Rattle.tt_kinds.specs.Kinds.{ty_kind_shape, args_shape};
+ghost use Rattle.tt_interner.specs.Rows.{Row};
 ghost use Rattle.tt_interner.specs.Stored.{Terms, Extends};
 ghost use Rattle.type_terms.specs.declared.run.call.Call.TheVariants.{Ty as BuildsTy};
-ghost use Rattle.type_terms.specs.CallForm.{ty_form, param, plain, under, one, a_region, a_term, a_list, terms_at, args_part, item_type, called, variable_kind, region_entry, region_tree, IsRegionTooDeep};
+ghost use Rattle.type_terms.specs.CallForm.{ty_ids, ty_form, alias_of, param, plain, under, one, a_region, a_term, a_list, terms_at, args_part, item_type, called, variable_kind, region_entry, region_tree, IsRegionTooDeep};
 ghost use Rattle.type_terms.specs.Told.{Told, told_all, AreOwned};
+ghost use Rattle.type_terms.specs.Means.{number_at, AreTerms};
 ghost use Rattle.type_terms.specs.Build.{GivesName, GivesVariable, GivesVariables, GivesRegion, GivesKind, Answers};
 
 use crate::run::answer::Answer;
-use crate::run::call::{ArgCall, ItemCall, RegionCall, RegionNameCall, TyCall, VariableCall};
+use crate::run::call::{
+    AliasCall, ArgCall, ItemCall, RegionCall, RegionNameCall, TyCall, VariableCall,
+};
 use crate::run::existentials::dynamic_kind;
+use crate::run::ids::number_at;
 use crate::run::lookup::{handle_at, handle_pair};
 use crate::run::parts::{build_arg_list, build_tys};
 use tt_index::{BoundVar, Mutability, Refusal, UniverseIndex};
 use tt_interner::Interner;
 use tt_kinds::{
-    AliasTy, Binder, BoundRegion, BoundRegionKind, BoundVarIndexKind, BoundVarKinds,
-    BoundVariableKind, Const, DefId, EarlyParamRegion, FnHeader, FnSigTys, GenericArgs,
-    LateParamRegion, ParamTy, Pat, Placeholder, Region, RegionKind, Table, Ty, TyKind,
-    UnsafeBinderInner,
+    AdtId, AliasTy, AliasTyKind, Binder, BoundRegion, BoundRegionKind, BoundVarIndexKind,
+    BoundVarKinds, BoundVariableKind, ClosureId, Const, CoroutineClosureId, CoroutineId, DefId,
+    EarlyParamRegion, FnHeader, FnSigTys, ForeignId, FreeTyAliasId, GenericArgs, InherentAssocTyId,
+    LateParamRegion, OpaqueTyId, ParamTy, Pat, Placeholder, Region, RegionKind, Table,
+    TraitAssocTyId, Ty, TyKind, UnsafeBinderInner,
 };
 
-/// The type that the call names, over the earlier answers.
+/// The type that the call names, over the earlier answers, where the ids that it names are there.
 pub fn build_ty(cx: &mut Interner, earlier: &[Answer], call: &TyCall) -> Result<Answer, Refusal>
     requires { AreOwned cx.old.rows earlier.now }
     ensures extends { Extends cx.old cx.new }
-    ensures answers { Answers cx.new (told_all cx.old.rows earlier.now) (BuildsTy call.now) result }
+    ensures answers { AreTerms (told_all cx.old.rows earlier.now) (ty_ids call.now) → Answers cx.new (told_all cx.old.rows earlier.now) (BuildsTy call.now) result }
 {
     match ty_kind(cx, earlier, call) {
         Ok(kind) => {
@@ -46,7 +52,7 @@ pub fn build_ty(cx: &mut Interner, earlier: &[Answer], call: &TyCall) -> Result<
 fn ty_kind(cx: &mut Interner, earlier: &[Answer], call: &TyCall) -> Result<TyKind, Refusal>
     requires { AreOwned cx.old.rows earlier.now }
     ensures extends { Extends cx.old cx.new }
-    ensures kind { GivesKind cx.new (told_all cx.old.rows earlier.now) (ty_form call.now) ty_kind_shape result }
+    ensures kind { GivesKind cx.new (told_all cx.old.rows earlier.now) (ty_form (number_at (told_all cx.old.rows earlier.now)) call.now) ty_kind_shape result }
 {
     match call {
         TyCall::Bool => Ok(TyKind::Bool),
@@ -54,7 +60,7 @@ fn ty_kind(cx: &mut Interner, earlier: &[Answer], call: &TyCall) -> Result<TyKin
         TyCall::Int(width) => Ok(TyKind::Int(*width)),
         TyCall::Uint(width) => Ok(TyKind::Uint(*width)),
         TyCall::Float(width) => Ok(TyKind::Float(*width)),
-        TyCall::Foreign(id) => Ok(TyKind::Foreign(*id)),
+        TyCall::Foreign(position) => Ok(foreign_kind(earlier, *position)),
         TyCall::Str => Ok(TyKind::Str),
         TyCall::Never => Ok(TyKind::Never),
         TyCall::Param { index, name } => param_kind(cx, *index, name.as_str()),
@@ -79,6 +85,13 @@ fn ty_kind(cx: &mut Interner, earlier: &[Answer], call: &TyCall) -> Result<TyKin
         TyCall::Pat(ty, pat) => pat_kind(earlier, *ty, *pat),
         TyCall::UnsafeBinder { vars, ty } => unsafe_binder_kind(cx, earlier, vars.as_slice(), *ty),
     }
+}
+
+// The kind of a type that is declared elsewhere.
+fn foreign_kind(earlier: &[Answer], position: u32) -> TyKind
+    ensures { (rows : List Row) → ty_kind_shape result ≡ shape.term (type_label (foreign_type (number_at (told_all rows earlier.now) position))) shape.none }
+{
+    TyKind::Foreign(ForeignId::from_number(number_at(earlier, position)))
 }
 
 // The kind of a parameter.
@@ -149,23 +162,57 @@ fn item_kind(
 ) -> Result<TyKind, Refusal>
     requires { AreOwned cx.old.rows earlier.now }
     ensures extends { Extends cx.old cx.new }
-    ensures kind { GivesKind cx.new (told_all cx.old.rows earlier.now) (plain (type_label (item_type item)) (args_part args.now ∷ [])) ty_kind_shape result }
+    ensures kind { GivesKind cx.new (told_all cx.old.rows earlier.now) (plain (type_label (item_type (number_at (told_all cx.old.rows earlier.now)) item)) (args_part args.now ∷ [])) ty_kind_shape result }
 {
     let args = build_arg_list(cx, earlier, args)?;
-    Ok(type_of_item(item, args))
+    Ok(type_of_item(earlier, item, args))
 }
 
 // The type of an item with these arguments.
-fn type_of_item(item: ItemCall, args: GenericArgs) -> TyKind
-    ensures { ty_kind_shape result ≡ shape.term (type_label (item_type item)) (shape.also (args_shape args) shape.none) }
+fn type_of_item(earlier: &[Answer], item: ItemCall, args: GenericArgs) -> TyKind
+    ensures { (rows : List Row) → ty_kind_shape result ≡ shape.term (type_label (item_type (number_at (told_all rows earlier.now)) item)) (shape.also (args_shape args) shape.none) }
 {
     match item {
-        ItemCall::Adt(id) => TyKind::Adt(id, args),
-        ItemCall::Closure(id) => TyKind::Closure(id, args),
-        ItemCall::CoroutineClosure(id) => TyKind::CoroutineClosure(id, args),
-        ItemCall::Coroutine(id) => TyKind::Coroutine(id, args),
-        ItemCall::CoroutineWitness(id) => TyKind::CoroutineWitness(id, args),
-        ItemCall::Alias(kind) => TyKind::Alias(AliasTy { args, kind }),
+        ItemCall::Adt(position) => {
+            TyKind::Adt(AdtId::from_number(number_at(earlier, position)), args)
+        }
+        ItemCall::Closure(position) => {
+            TyKind::Closure(ClosureId::from_number(number_at(earlier, position)), args)
+        }
+        ItemCall::CoroutineClosure(position) => {
+            let id = CoroutineClosureId::from_number(number_at(earlier, position));
+            TyKind::CoroutineClosure(id, args)
+        }
+        ItemCall::Coroutine(position) => {
+            TyKind::Coroutine(CoroutineId::from_number(number_at(earlier, position)), args)
+        }
+        ItemCall::CoroutineWitness(position) => {
+            TyKind::CoroutineWitness(CoroutineId::from_number(number_at(earlier, position)), args)
+        }
+        ItemCall::Alias(alias) => {
+            let kind = alias_kind(earlier, alias);
+            TyKind::Alias(AliasTy { args, kind })
+        }
+    }
+}
+
+// What the alias is.
+fn alias_kind(earlier: &[Answer], alias: AliasCall) -> AliasTyKind
+    ensures { (rows : List Row) → result ≡ alias_of (number_at (told_all rows earlier.now)) alias }
+{
+    match alias {
+        AliasCall::Projection(position) => AliasTyKind::Projection {
+            def_id: TraitAssocTyId::from_number(number_at(earlier, position)),
+        },
+        AliasCall::Inherent(position) => AliasTyKind::Inherent {
+            def_id: InherentAssocTyId::from_number(number_at(earlier, position)),
+        },
+        AliasCall::Opaque(position) => AliasTyKind::Opaque {
+            def_id: OpaqueTyId::from_number(number_at(earlier, position)),
+        },
+        AliasCall::Free(position) => AliasTyKind::Free {
+            def_id: FreeTyAliasId::from_number(number_at(earlier, position)),
+        },
     }
 }
 

@@ -4,10 +4,9 @@ use tt_index::{
     BoundVar, DebruijnIndex, FloatTy, IntTy, Mutability, RegionVid, UintTy, UniverseIndex,
 };
 use tt_kinds::{
-    AdtId, AliasRelationDirection, AliasTyKind, BoundConst, BoundConstness, BoundTy, BoundTyKind,
-    BoundVarIndexKind, ClosureId, CoroutineClosureId, CoroutineId, DefId, ErrorGuaranteed,
-    FnHeader, ForeignId, InferConst, InferTy, PlaceholderConst, PlaceholderType, ScalarInt,
-    TraitId, UnevaluatedConstId,
+    AliasRelationDirection, BoundConst, BoundConstness, BoundTy, BoundTyKind, BoundVarIndexKind,
+    DefId, ErrorGuaranteed, FnHeader, InferConst, InferTy, PlaceholderConst, PlaceholderType,
+    ScalarInt,
 };
 
 /// What a bound region of a call is called. It is what [`BoundRegionKind`](tt_kinds::BoundRegionKind) is, with a symbol as
@@ -64,25 +63,39 @@ pub enum RegionCall {
     ReError(ErrorGuaranteed),
 }
 
-/// What a type with generic arguments is of.
+/// What an alias stands for. It is such an [`AliasTyKind`](tt_kinds::AliasTyKind), with the position of the call that
+/// declared it in the place of its id.
+#[derive(Clone, Copy, Debug, PartialEq, Eq)]
+pub enum AliasCall {
+    /// An associated type of a trait, which an implementation gives.
+    Projection(u32),
+    /// An associated type of an implementation that is no trait's.
+    Inherent(u32),
+    /// An opaque type.
+    Opaque(u32),
+    /// A type alias that stands for itself.
+    Free(u32),
+}
+
+/// What a type with generic arguments is of: the position of the call that declared it.
 #[derive(Clone, Copy, Debug, PartialEq, Eq)]
 pub enum ItemCall {
     /// A struct, an enum or a union.
-    Adt(AdtId),
+    Adt(u32),
     /// A closure.
-    Closure(ClosureId),
+    Closure(u32),
     /// A closure that answers a coroutine.
-    CoroutineClosure(CoroutineClosureId),
+    CoroutineClosure(u32),
     /// A coroutine.
-    Coroutine(CoroutineId),
-    /// What a coroutine keeps while it waits.
-    CoroutineWitness(CoroutineId),
+    Coroutine(u32),
+    /// What the coroutine keeps while it waits.
+    CoroutineWitness(u32),
     /// An alias.
-    Alias(AliasTyKind),
+    Alias(AliasCall),
 }
 
 /// A type to be built. It is such a [`TyKind`](tt_kinds::TyKind), with a symbol as its text and, in the place of a
-/// handle, the position of the call that answered it, counted from 1.
+/// handle or of an id of an item, the position of the call that answered it, counted from 1.
 #[derive(Debug, PartialEq, Eq, Drop)]
 pub enum TyCall {
     /// `bool`.
@@ -96,7 +109,7 @@ pub enum TyCall {
     /// A number of floating point.
     Float(FloatTy),
     /// A type that is declared elsewhere.
-    Foreign(ForeignId),
+    Foreign(u32),
     /// `str`.
     Str,
     /// `!`, the type without values.
@@ -161,7 +174,7 @@ pub enum ValTreeCall {
 }
 
 /// A constant to be built. It is such a [`ConstKind`](tt_kinds::ConstKind), with a symbol as its text and positions in the
-/// places of handles.
+/// places of handles and of the id of what is computed.
 #[derive(Debug, PartialEq, Eq, Drop)]
 pub enum ConstCall {
     /// A constant parameter of an item.
@@ -178,7 +191,7 @@ pub enum ConstCall {
     /// A constant that a binder bound which has been entered.
     Placeholder(PlaceholderConst),
     /// A constant whose value isn't computed yet: what computes it, for these generic arguments.
-    Unevaluated(UnevaluatedConstId, Vec<ArgCall>),
+    Unevaluated(u32, Vec<ArgCall>),
     /// A value, with its type first.
     Value(u32, ValTreeCall),
     /// A constant of which an error was reported.
@@ -212,17 +225,17 @@ pub enum TermCall {
     Const(u32),
 }
 
-/// What a clause says. It is such a [`ClauseKind`](tt_kinds::ClauseKind), with positions in the places of handles.
+/// What a clause says. It is such a [`ClauseKind`](tt_kinds::ClauseKind), with positions in the places of handles and ids.
 #[derive(Debug, PartialEq, Eq, Drop)]
 pub enum ClauseCall {
     /// A type implements a trait: the trait, and its generic arguments, the type first.
-    Trait(TraitId, Vec<ArgCall>),
+    Trait(u32, Vec<ArgCall>),
     /// A region outlives another.
     RegionOutlives(RegionCall, RegionCall),
     /// A type outlives a region.
     TypeOutlives(u32, RegionCall),
-    /// An alias stands for a term: the alias, its generic arguments and the term.
-    Projection(DefId, Vec<ArgCall>, TermCall),
+    /// An alias stands for a term: the alias, declared as anything, its generic arguments and the term.
+    Projection(u32, Vec<ArgCall>, TermCall),
     /// A constant has a type.
     ConstArgHasType(u32, u32),
     /// A term is well formed.
@@ -230,18 +243,19 @@ pub enum ClauseCall {
     /// A constant can be computed.
     ConstEvaluatable(u32),
     /// A type implements a trait so that it can be used in constants.
-    HostEffect(TraitId, Vec<ArgCall>, BoundConstness),
+    HostEffect(u32, Vec<ArgCall>, BoundConstness),
     /// A feature of this name that isn't stable has to be on.
     UnstableFeature(String),
 }
 
-/// What a predicate says. It is such a [`PredicateKind`](tt_kinds::PredicateKind), with positions in the places of handles.
+/// What a predicate says. It is such a [`PredicateKind`](tt_kinds::PredicateKind), with positions in the places of handles
+/// and ids.
 #[derive(Debug, PartialEq, Eq, Drop)]
 pub enum PredicateKindCall {
     /// A clause.
     Clause(ClauseCall),
     /// Trait objects of the trait can be made.
-    DynCompatible(TraitId),
+    DynCompatible(u32),
     /// A type is a subtype of another.
     Subtype {
         /// Whether the first type is what was expected.
@@ -257,22 +271,22 @@ pub enum PredicateKindCall {
     ConstEquate(u32, u32),
     /// It isn't known whether anything holds.
     Ambiguous,
-    /// An alias normalizes to a term: the alias, its generic arguments and the term.
-    NormalizesTo(DefId, Vec<ArgCall>, TermCall),
+    /// An alias normalizes to a term: the alias, declared as anything, its generic arguments and the term.
+    NormalizesTo(u32, Vec<ArgCall>, TermCall),
     /// Two terms, aliases or not, are related.
     AliasRelate(TermCall, TermCall, AliasRelationDirection),
 }
 
 /// What a trait object says of the type that it hides. It is such an [`ExistentialPredicate`](tt_kinds::ExistentialPredicate),
-/// with positions in the places of handles.
+/// with positions in the places of handles and ids.
 #[derive(Debug, PartialEq, Eq, Drop)]
 pub enum ExistentialKindCall {
     /// It implements a trait with these generic arguments.
-    Trait(TraitId, Vec<ArgCall>),
-    /// An associated item of its trait, with these generic arguments, is a term.
-    Projection(DefId, Vec<ArgCall>, TermCall),
+    Trait(u32, Vec<ArgCall>),
+    /// An associated item of its trait, declared as anything, with these generic arguments, is a term.
+    Projection(u32, Vec<ArgCall>, TermCall),
     /// It implements a trait that has no items.
-    AutoTrait(TraitId),
+    AutoTrait(u32),
 }
 
 /// An existential predicate to be built.

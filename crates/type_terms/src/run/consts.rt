@@ -8,22 +8,24 @@ ghost use Rattle.tt_kinds.specs.Kinds.{const_kind_shape};
 ghost use Rattle.tt_interner.specs.Stored.{Extends};
 ghost use Rattle.type_terms.specs.declared.run.call.ArgCall.{ArgCall};
 ghost use Rattle.type_terms.specs.declared.run.call.Call.TheVariants.{Const as BuildsConst, Args as BuildsArgs};
-ghost use Rattle.type_terms.specs.CallForm.{const_form, value_form, param, plain, one, a_term, a_list, terms_at};
+ghost use Rattle.type_terms.specs.CallForm.{const_ids, const_form, value_form, param, plain, one, a_term, a_list, terms_at};
 ghost use Rattle.type_terms.specs.Told.{Told, told_all, AreOwned};
+ghost use Rattle.type_terms.specs.Means.{number_at, AreTerms};
 ghost use Rattle.type_terms.specs.Build.{GivesKind, Answers};
 
 use crate::run::answer::Answer;
 use crate::run::call::{ArgCall, ConstCall, ValTreeCall};
+use crate::run::ids::number_at;
 use crate::run::lookup::handle_at;
 use crate::run::parts::{build_arg_list, build_consts};
 use tt_index::Refusal;
 use tt_interner::Interner;
 use tt_kinds::{
-    ConstKind, ExprConst, ParamConst, ScalarInt, Table, Ty, UnevaluatedConst, ValTree, ValTreeKind,
-    ValueConst,
+    ConstKind, ExprConst, ParamConst, ScalarInt, Table, Ty, UnevaluatedConst, UnevaluatedConstId,
+    ValTree, ValTreeKind, ValueConst,
 };
 
-/// The constant that the call names, over the earlier answers.
+/// The constant that the call names, over the earlier answers, where the id that it names is there.
 pub fn build_const(
     cx: &mut Interner,
     earlier: &[Answer],
@@ -31,7 +33,7 @@ pub fn build_const(
 ) -> Result<Answer, Refusal>
     requires { AreOwned cx.old.rows earlier.now }
     ensures extends { Extends cx.old cx.new }
-    ensures answers { Answers cx.new (told_all cx.old.rows earlier.now) (BuildsConst call.now) result }
+    ensures answers { AreTerms (told_all cx.old.rows earlier.now) (const_ids call.now) → Answers cx.new (told_all cx.old.rows earlier.now) (BuildsConst call.now) result }
 {
     match const_kind(cx, earlier, call) {
         Ok(kind) => {
@@ -60,16 +62,17 @@ pub fn build_args_answer(
 fn const_kind(cx: &mut Interner, earlier: &[Answer], call: &ConstCall) -> Result<ConstKind, Refusal>
     requires { AreOwned cx.old.rows earlier.now }
     ensures extends { Extends cx.old cx.new }
-    ensures kind { GivesKind cx.new (told_all cx.old.rows earlier.now) (const_form call.now) const_kind_shape result }
+    ensures kind { GivesKind cx.new (told_all cx.old.rows earlier.now) (const_form (number_at (told_all cx.old.rows earlier.now)) call.now) const_kind_shape result }
 {
     match call {
         ConstCall::Param { index, name } => param_kind(cx, *index, name.as_str()),
         ConstCall::Infer(infer) => Ok(ConstKind::Infer(*infer)),
         ConstCall::Bound(index, bound) => Ok(ConstKind::Bound(*index, *bound)),
         ConstCall::Placeholder(placeholder) => Ok(ConstKind::Placeholder(*placeholder)),
-        ConstCall::Unevaluated(def, args) => {
+        ConstCall::Unevaluated(position, args) => {
             let args = build_arg_list(cx, earlier, args.as_slice())?;
-            Ok(ConstKind::Unevaluated(UnevaluatedConst { def: *def, args }))
+            let def = UnevaluatedConstId::from_number(number_at(earlier, *position));
+            Ok(ConstKind::Unevaluated(UnevaluatedConst { def, args }))
         }
         ConstCall::Value(ty, valtree) => value_kind(cx, earlier, *ty, valtree),
         ConstCall::Error(token) => Ok(ConstKind::Error(*token)),

@@ -6,12 +6,13 @@ ghost use Rattle.tt_kinds.specs.Kinds.{ty_kind_shape, existential_shape, existen
 ghost use Rattle.tt_interner.specs.Stored.{Extends};
 ghost use Rattle.type_terms.specs.CallForm.{existential_form, existential_record, existential_tree, existentials_tree, existential_positions, all_positions, IsExistentialTooDeep, AnyIsDeep, trait_object};
 ghost use Rattle.type_terms.specs.Told.{told_all, AreOwned};
-ghost use Rattle.type_terms.specs.Means.{tree_at};
+ghost use Rattle.type_terms.specs.Means.{number_at, tree_at};
 ghost use Rattle.type_terms.specs.Build.{GivesPlaced, GivesRecord, GivesKind};
 
 use crate::run::answer::Answer;
 use crate::run::build::{build_region, build_vars};
 use crate::run::call::{ExistentialCall, ExistentialKindCall, RegionCall};
+use crate::run::ids::{def_at, trait_at};
 use crate::run::parts::build_arg_list;
 use crate::run::predicates::args_and_term;
 use tt_index::Refusal;
@@ -30,7 +31,7 @@ pub fn dynamic_kind(
 ) -> Result<TyKind, Refusal>
     requires { AreOwned cx.old.rows earlier.now }
     ensures extends { Extends cx.old cx.new }
-    ensures kind { GivesKind cx.new (told_all cx.old.rows earlier.now) (trait_object (map existential_form existentials.now) region.now) ty_kind_shape result }
+    ensures kind { GivesKind cx.new (told_all cx.old.rows earlier.now) (trait_object (map (existential_form (number_at (told_all cx.old.rows earlier.now))) existentials.now) region.now) ty_kind_shape result }
 {
     let existentials = build_existentials(cx, earlier, existentials)?;
     let region = build_region(cx, region)?;
@@ -45,7 +46,7 @@ fn build_existentials(
 ) -> Result<BoundExistentialPredicates, Refusal>
     requires { AreOwned cx.old.rows earlier.now }
     ensures extends { Extends cx.old cx.new }
-    ensures list { let e = told_all cx.old.rows earlier.now in let forms = map existential_form calls.now in
+    ensures list { let e = told_all cx.old.rows earlier.now in let forms = map (existential_form (number_at e)) calls.now in
         GivesPlaced cx.new e (existentials_tree (tree_at e) forms) (all_positions existential_positions forms) (AnyIsDeep IsExistentialTooDeep forms) existentials_shape result }
 {
     let mut built = Vec::with_capacity(cx.allocator(), calls.len())?;
@@ -64,7 +65,7 @@ fn build_existential(
 ) -> Result<PolyExistentialPredicate, Refusal>
     requires { AreOwned cx.old.rows earlier.now }
     ensures extends { Extends cx.old cx.new }
-    ensures existential { let e = told_all cx.old.rows earlier.now in let form = existential_form call.now in
+    ensures existential { let e = told_all cx.old.rows earlier.now in let form = existential_form (number_at e) call.now in
         GivesPlaced cx.new e (existential_tree (tree_at e) form) (existential_positions form) (IsExistentialTooDeep form) existential_shape result }
 {
     let kind = existential_kind(cx, earlier, &call.kind)?;
@@ -80,24 +81,26 @@ fn existential_kind(
 ) -> Result<ExistentialPredicate, Refusal>
     requires { AreOwned cx.old.rows earlier.now }
     ensures extends { Extends cx.old cx.new }
-    ensures kind { GivesRecord cx.new (told_all cx.old.rows earlier.now) (existential_record call.now) form_of_existential result }
+    ensures kind { GivesRecord cx.new (told_all cx.old.rows earlier.now) (existential_record (number_at (told_all cx.old.rows earlier.now)) call.now) form_of_existential result }
 {
     match call {
-        ExistentialKindCall::Trait(def_id, args) => {
+        ExistentialKindCall::Trait(position, args) => {
             let args = build_arg_list(cx, earlier, args.as_slice())?;
             Ok(ExistentialPredicate::Trait(ExistentialTraitRef {
-                def_id: *def_id,
+                def_id: trait_at(earlier, *position),
                 args,
             }))
         }
-        ExistentialKindCall::Projection(def_id, args, term) => {
+        ExistentialKindCall::Projection(position, args, term) => {
             let pair = args_and_term(cx, earlier, args.as_slice(), *term)?;
             Ok(ExistentialPredicate::Projection(ExistentialProjection {
-                def_id: *def_id,
+                def_id: def_at(earlier, *position),
                 args: pair.0,
                 term: pair.1,
             }))
         }
-        ExistentialKindCall::AutoTrait(id) => Ok(ExistentialPredicate::AutoTrait(*id)),
+        ExistentialKindCall::AutoTrait(position) => {
+            Ok(ExistentialPredicate::AutoTrait(trait_at(earlier, *position)))
+        }
     }
 }

@@ -1,15 +1,16 @@
 //! The building of predicates.
 
 ghost use Rattle.std.specs.Prelude.{[], ◌∷◌, List};
-ghost use Rattle.tt_kinds.specs.Label.{subtype_record, coerce_record, host_effect_record, unstable_feature_record, projection_record, region_outlives_record, type_outlives_record};
+ghost use Rattle.tt_kinds.specs.Label.{subtype_record, coerce_record, host_effect_record, unstable_feature_record, projection_record, normalizes_to_record, region_outlives_record, type_outlives_record};
 ghost use Rattle.tt_kinds.specs.Shape.{also, append};
 ghost use Rattle.tt_kinds.specs.Parts.{term_child};
 ghost use Rattle.tt_kinds.specs.Kinds.{predicate_form as form_of_predicate};
 ghost use Rattle.tt_kinds.specs.Kinds.{child_shapes, clause_form, predicate_kind_shape, args_shape, term_shape};
 ghost use Rattle.tt_interner.specs.Stored.{Terms, Extends};
 ghost use Rattle.type_terms.specs.declared.run.call.Call.TheVariants.{Predicate as BuildsPredicate};
-ghost use Rattle.type_terms.specs.CallForm.{predicate_form, predicate_record, clause_record, labelled, one, a_region, a_term, args_part, term_part};
+ghost use Rattle.type_terms.specs.CallForm.{predicate_ids, predicate_form, predicate_record, clause_record, labelled, one, a_region, a_term, args_part, term_part};
 ghost use Rattle.type_terms.specs.Told.{Told, told_all, AreOwned};
+ghost use Rattle.type_terms.specs.Means.{number_at, AreTerms};
 ghost use Rattle.type_terms.specs.Build.{GivesPart, GivesParts, GivesRecord, GivesKind, Answers};
 
 use crate::run::answer::Answer;
@@ -17,17 +18,18 @@ use crate::run::build::{build_region, build_vars};
 use crate::run::call::{
     ArgCall, ClauseCall, PredicateCall, PredicateKindCall, RegionCall, TermCall,
 };
+use crate::run::ids::{def_at, trait_at};
 use crate::run::lookup::{handle_at, handle_pair};
 use crate::run::parts::build_arg_list;
 use tt_index::Refusal;
 use tt_interner::Interner;
 use tt_kinds::{
-    AliasTerm, Binder, BoundConstness, ClauseKind, CoercePredicate, Const, DefId, GenericArgs,
+    AliasTerm, Binder, BoundConstness, ClauseKind, CoercePredicate, Const, GenericArgs,
     HostEffectPredicate, NormalizesTo, OutlivesPredicate, PredicateKind, ProjectionPredicate,
-    SubtypePredicate, Table, Term, TraitId, TraitPredicate, TraitRef, Ty,
+    SubtypePredicate, Table, Term, TraitPredicate, TraitRef, Ty,
 };
 
-/// The predicate that the call names, over the earlier answers.
+/// The predicate that the call names, over the earlier answers, where the id that it names is there.
 pub fn build_predicate(
     cx: &mut Interner,
     earlier: &[Answer],
@@ -35,7 +37,7 @@ pub fn build_predicate(
 ) -> Result<Answer, Refusal>
     requires { AreOwned cx.old.rows earlier.now }
     ensures extends { Extends cx.old cx.new }
-    ensures answers { Answers cx.new (told_all cx.old.rows earlier.now) (BuildsPredicate call.now) result }
+    ensures answers { AreTerms (told_all cx.old.rows earlier.now) (predicate_ids call.now.kind) → Answers cx.new (told_all cx.old.rows earlier.now) (BuildsPredicate call.now) result }
 {
     match bound_kind(cx, earlier, call) {
         Ok(kind) => {
@@ -54,7 +56,7 @@ fn bound_kind(
 ) -> Result<Binder<PredicateKind>, Refusal>
     requires { AreOwned cx.old.rows earlier.now }
     ensures extends { Extends cx.old cx.new }
-    ensures kind { GivesKind cx.new (told_all cx.old.rows earlier.now) (predicate_form call.now) predicate_kind_shape result }
+    ensures kind { GivesKind cx.new (told_all cx.old.rows earlier.now) (predicate_form (number_at (told_all cx.old.rows earlier.now)) call.now) predicate_kind_shape result }
 {
     match predicate_kind(cx, earlier, &call.kind) {
         Ok(kind) => {
@@ -73,14 +75,16 @@ fn predicate_kind(
 ) -> Result<PredicateKind, Refusal>
     requires { AreOwned cx.old.rows earlier.now }
     ensures extends { Extends cx.old cx.new }
-    ensures kind { GivesRecord cx.new (told_all cx.old.rows earlier.now) (predicate_record call.now) form_of_predicate result }
+    ensures kind { GivesRecord cx.new (told_all cx.old.rows earlier.now) (predicate_record (number_at (told_all cx.old.rows earlier.now)) call.now) form_of_predicate result }
 {
     match call {
         PredicateKindCall::Clause(clause) => match clause_kind(cx, earlier, clause) {
             Ok(kind) => Ok(PredicateKind::Clause(kind)),
             Err(refusal) => Err(refusal),
         },
-        PredicateKindCall::DynCompatible(id) => Ok(PredicateKind::DynCompatible(*id)),
+        PredicateKindCall::DynCompatible(position) => {
+            Ok(PredicateKind::DynCompatible(trait_at(earlier, *position)))
+        }
         PredicateKindCall::Subtype {
             a_is_expected,
             a,
@@ -92,14 +96,8 @@ fn predicate_kind(
             Ok(PredicateKind::ConstEquate(pair.0, pair.1))
         }
         PredicateKindCall::Ambiguous => Ok(PredicateKind::Ambiguous),
-        PredicateKindCall::NormalizesTo(id, args, term) => {
-            let pair = args_and_term(cx, earlier, args.as_slice(), *term)?;
-            let alias = AliasTerm {
-                args: pair.0,
-                def_id: *id,
-            };
-            let term = pair.1;
-            Ok(PredicateKind::NormalizesTo(NormalizesTo { alias, term }))
+        PredicateKindCall::NormalizesTo(position, args, term) => {
+            normalizes_to(cx, earlier, *position, args.as_slice(), *term)
         }
         PredicateKindCall::AliasRelate(a, b, direction) => {
             let pair = term_pair(earlier, *a, *b)?;
@@ -136,6 +134,27 @@ fn coerce(earlier: &[Answer], a: u32, b: u32) -> Result<PredicateKind, Refusal>
     }))
 }
 
+// An alias normalizes to a term.
+fn normalizes_to(
+    cx: &mut Interner,
+    earlier: &[Answer],
+    position: u32,
+    args: &[ArgCall],
+    term: TermCall,
+) -> Result<PredicateKind, Refusal>
+    requires { AreOwned cx.old.rows earlier.now }
+    ensures extends { Extends cx.old cx.new }
+    ensures kind { GivesRecord cx.new (told_all cx.old.rows earlier.now) (labelled (normalizes_to_record (number_at (told_all cx.old.rows earlier.now) position)) (args_part args.now ∷ term_part term ∷ [])) form_of_predicate result }
+{
+    let pair = args_and_term(cx, earlier, args, term)?;
+    let alias = AliasTerm {
+        args: pair.0,
+        def_id: def_at(earlier, position),
+    };
+    let term = pair.1;
+    Ok(PredicateKind::NormalizesTo(NormalizesTo { alias, term }))
+}
+
 // What the clause says.
 fn clause_kind(
     cx: &mut Interner,
@@ -144,21 +163,21 @@ fn clause_kind(
 ) -> Result<ClauseKind, Refusal>
     requires { AreOwned cx.old.rows earlier.now }
     ensures extends { Extends cx.old cx.new }
-    ensures kind { GivesRecord cx.new (told_all cx.old.rows earlier.now) (clause_record call.now) clause_form result }
+    ensures kind { GivesRecord cx.new (told_all cx.old.rows earlier.now) (clause_record (number_at (told_all cx.old.rows earlier.now)) call.now) clause_form result }
 {
     match call {
-        ClauseCall::Trait(def_id, args) => {
+        ClauseCall::Trait(position, args) => {
             let args = build_arg_list(cx, earlier, args.as_slice())?;
             let trait_ref = TraitRef {
-                def_id: *def_id,
+                def_id: trait_at(earlier, *position),
                 args,
             };
             Ok(ClauseKind::Trait(TraitPredicate { trait_ref }))
         }
         ClauseCall::RegionOutlives(longer, shorter) => region_outlives(cx, longer, shorter),
         ClauseCall::TypeOutlives(ty, region) => type_outlives(cx, earlier, *ty, region),
-        ClauseCall::Projection(def_id, args, term) => {
-            projection(cx, earlier, *def_id, args.as_slice(), *term)
+        ClauseCall::Projection(position, args, term) => {
+            projection(cx, earlier, *position, args.as_slice(), *term)
         }
         ClauseCall::ConstArgHasType(constant, ty) => {
             let pair = handle_pair::<Const, Ty>(earlier, *constant, *ty)?;
@@ -169,8 +188,8 @@ fn clause_kind(
             let constant = handle_at::<Const>(earlier, *constant)?;
             Ok(ClauseKind::ConstEvaluatable(constant))
         }
-        ClauseCall::HostEffect(def_id, args, constness) => {
-            host_effect(cx, earlier, *def_id, args.as_slice(), *constness)
+        ClauseCall::HostEffect(position, args, constness) => {
+            host_effect(cx, earlier, *position, args.as_slice(), *constness)
         }
         ClauseCall::UnstableFeature(name) => unstable_feature(cx, name.as_str()),
     }
@@ -180,15 +199,16 @@ fn clause_kind(
 fn host_effect(
     cx: &mut Interner,
     earlier: &[Answer],
-    def_id: TraitId,
+    position: u32,
     args: &[ArgCall],
     constness: BoundConstness,
 ) -> Result<ClauseKind, Refusal>
     requires { AreOwned cx.old.rows earlier.now }
     ensures extends { Extends cx.old cx.new }
-    ensures kind { GivesRecord cx.new (told_all cx.old.rows earlier.now) (labelled (host_effect_record def_id.number constness) (args_part args.now ∷ [])) clause_form result }
+    ensures kind { GivesRecord cx.new (told_all cx.old.rows earlier.now) (labelled (host_effect_record (number_at (told_all cx.old.rows earlier.now) position) constness) (args_part args.now ∷ [])) clause_form result }
 {
     let args = build_arg_list(cx, earlier, args)?;
+    let def_id = trait_at(earlier, position);
     let trait_ref = TraitRef { def_id, args };
     Ok(ClauseKind::HostEffect(HostEffectPredicate {
         trait_ref,
@@ -209,18 +229,18 @@ fn unstable_feature(cx: &mut Interner, name: &str) -> Result<ClauseKind, Refusal
 fn projection(
     cx: &mut Interner,
     earlier: &[Answer],
-    def_id: DefId,
+    position: u32,
     args: &[ArgCall],
     term: TermCall,
 ) -> Result<ClauseKind, Refusal>
     requires { AreOwned cx.old.rows earlier.now }
     ensures extends { Extends cx.old cx.new }
-    ensures kind { GivesRecord cx.new (told_all cx.old.rows earlier.now) (labelled (projection_record def_id.number) (args_part args.now ∷ term_part term ∷ [])) clause_form result }
+    ensures kind { GivesRecord cx.new (told_all cx.old.rows earlier.now) (labelled (projection_record (number_at (told_all cx.old.rows earlier.now) position)) (args_part args.now ∷ term_part term ∷ [])) clause_form result }
 {
     let pair = args_and_term(cx, earlier, args, term)?;
     let projection_term = AliasTerm {
         args: pair.0,
-        def_id,
+        def_id: def_at(earlier, position),
     };
     Ok(ClauseKind::Projection(ProjectionPredicate {
         projection_term,

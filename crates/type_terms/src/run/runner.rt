@@ -5,7 +5,7 @@ ghost use Rattle.std.specs.Vec.{vec_len, vec_capacity};
 ghost use Rattle.type_terms.specs.declared.run.call.Call.{Call};
 ghost use Rattle.tt_interner.specs.Stored.{Extends};
 ghost use Rattle.type_terms.specs.Told.{told, told_all, HasFullTable, IsOwned, AreOwned};
-ghost use Rattle.type_terms.specs.Means.{IsAllowed, Means};
+ghost use Rattle.type_terms.specs.Means.{ids, AreTerms, IsAllowed, Means};
 
 use crate::run::answer::Answer;
 use crate::run::build::build_ty;
@@ -14,6 +14,7 @@ use crate::run::clauses::build_clauses;
 use crate::run::consts::{build_args_answer, build_const};
 use crate::run::declare::declare_at;
 use crate::run::fold::{instantiate_at, shift_at};
+use crate::run::ids::names_ids;
 use crate::run::pats::build_pat;
 use crate::run::predicates::build_predicate;
 use crate::run::query::{equal_at, info_at};
@@ -57,6 +58,21 @@ pub fn answer_next(cx: &mut Interner, answers: &mut Vec<Answer>, call: &Call) ->
 // The answer to a call after these answers.
 fn answer_call(cx: &mut Interner, earlier: &[Answer], call: &Call) -> Answer
     requires { AreOwned cx.old.rows earlier.now }
+    ensures extends { Extends cx.old cx.new }
+    ensures owned { IsOwned cx.new.rows result }
+    ensures allowed { IsAllowed (HasFullTable cx.new) (told_all cx.old.rows earlier.now) call.now (told cx.new.rows result) }
+{
+    if names_ids(earlier, call) {
+        answer_named(cx, earlier, call)
+    } else {
+        Answer::Refused(Refusal::NoSuchAnswer)
+    }
+}
+
+// The answer to a call whose ids are there.
+fn answer_named(cx: &mut Interner, earlier: &[Answer], call: &Call) -> Answer
+    requires owned { AreOwned cx.old.rows earlier.now }
+    requires named { AreTerms (told_all cx.old.rows earlier.now) (ids call.now) }
     ensures extends { Extends cx.old cx.new }
     ensures owned { IsOwned cx.new.rows result }
     ensures allowed { IsAllowed (HasFullTable cx.new) (told_all cx.old.rows earlier.now) call.now (told cx.new.rows result) }

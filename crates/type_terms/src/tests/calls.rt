@@ -3,11 +3,11 @@
 use super::agree;
 use super::owned::holds_anew;
 use crate::{
-    AdtId, Answer, ArgCall, BoundVar, BoundVarIndexKind, Call, ClauseCall, ConstCall,
-    DebruijnIndex, DeclarationKindCall, DeclareCall, DefId, ExistentialCall, ExistentialKindCall,
-    GREATEST_INDEX, InferConst, Interner, ItemCall, Mutability, PatCall, PredicateCall,
-    PredicateKindCall, Refusal, RegionCall, RegionNameCall, ScalarInt, TermCall, TraitId, TyCall,
-    UniverseIndex, ValTreeCall, run_calls,
+    AliasCall, Answer, ArgCall, BoundConstness, BoundVar, BoundVarIndexKind, Call, ClauseCall,
+    ConstCall, DebruijnIndex, DeclarationKindCall, DeclareCall, DefId, ExistentialCall,
+    ExistentialKindCall, GREATEST_INDEX, InferConst, Interner, ItemCall, Mutability, PatCall,
+    PredicateCall, PredicateKindCall, Refusal, RegionCall, RegionNameCall, ScalarInt, TermCall,
+    TyCall, UniverseIndex, ValTreeCall, run_calls,
 };
 use std::alloc::{AllocError, Global};
 use std::process::Abort;
@@ -43,6 +43,8 @@ enum Subject {
     Regions,
     TraitObjects,
     Declarations,
+    Ids,
+    IdsInPredicates,
 }
 
 // The call of this number of the subject's list.
@@ -55,6 +57,8 @@ fn call(alloc: Global, subject: Subject, number: u32) -> Result<Call, AllocError
         Subject::Regions => Ok(region_call(number)),
         Subject::TraitObjects => object_call(alloc, number),
         Subject::Declarations => declaration_call(alloc, number),
+        Subject::Ids => id_call(alloc, number),
+        Subject::IdsInPredicates => predicate_of_id_call(alloc, number),
     }
 }
 
@@ -90,7 +94,7 @@ fn check(
 ) -> Result<(), Fail> {
     let calls = calls(alloc, subject, count)?;
     let words = words(alloc, calls.as_slice())?;
-    agree(rt, "the answers", words.as_str(), wanted);
+    agree(rt, words.as_str(), wanted);
     Ok(())
 }
 
@@ -102,7 +106,11 @@ fn lists_of_calls(rt: HostRuntime) -> Result<(), Fail> {
             9,
             "type const const const type no info none none ",
         ),
-        (Subject::Arguments, 7, "type args type args none yes none "),
+        (
+            Subject::Arguments,
+            9,
+            "type args id type args none yes none none ",
+        ),
         (
             Subject::Patterns,
             9,
@@ -114,11 +122,25 @@ fn lists_of_calls(rt: HostRuntime) -> Result<(), Fail> {
             "type predicate predicate clauses none clauses info clauses yes ",
         ),
         (Subject::Regions, 5, "type type type no deep "),
-        (Subject::TraitObjects, 5, "type type type none no "),
+        (
+            Subject::TraitObjects,
+            8,
+            "type id type type none no none none ",
+        ),
         (
             Subject::Declarations,
             10,
             "id id id none id id none none none none ",
+        ),
+        (
+            Subject::Ids,
+            12,
+            "id id id id id type none type none type const none ",
+        ),
+        (
+            Subject::IdsInPredicates,
+            10,
+            "id id type predicate predicate predicate none predicate predicate none ",
         ),
     ] {
         check(&rt, rt.alloc(), subject, count, wanted)?;
@@ -159,14 +181,13 @@ fn argument_call(alloc: Global, number: u32) -> Result<Call, AllocError> {
     match number {
         1 => Ok(Call::Ty(TyCall::Bool)),
         2 => Ok(Call::Args(one_argument(alloc)?)),
-        3 => {
-            let item = ItemCall::Adt(AdtId::from_number(0));
-            Ok(Call::Ty(TyCall::Item(item, one_argument(alloc)?)))
-        }
-        4 => Ok(Call::Shift(2, 1)),
-        5 => Ok(Call::Info(2)),
-        6 => Ok(Call::Equal(2, 4)),
-        _ => Ok(Call::Equal(1, 2)),
+        3 => declare(alloc, DeclarationKindCall::Adt),
+        4 => Ok(Call::Ty(TyCall::Item(ItemCall::Adt(3), one_argument(alloc)?))),
+        5 => Ok(Call::Shift(2, 1)),
+        6 => Ok(Call::Info(2)),
+        7 => Ok(Call::Equal(2, 5)),
+        8 => Ok(Call::Equal(1, 2)),
+        _ => Ok(Call::Ty(TyCall::Item(ItemCall::Closure(3), one_argument(alloc)?))),
     }
 }
 
@@ -249,13 +270,12 @@ fn trait_object(alloc: Global, kind: ExistentialKindCall) -> Result<Call, AllocE
     Ok(Call::Ty(TyCall::Dynamic(existentials, RegionCall::ReStatic)))
 }
 
-// A trait object of which an associated item is the type at the position.
+// A trait object of which the item that was declared second is the type at the position.
 fn with_item(alloc: Global, position: u32) -> Result<Call, AllocError> {
-    let item = DefId::from_number(0);
     let term = TermCall::Ty(position);
     trait_object(
         alloc,
-        ExistentialKindCall::Projection(item, Vec::new(alloc), term),
+        ExistentialKindCall::Projection(2, Vec::new(alloc), term),
     )
 }
 
@@ -263,17 +283,23 @@ fn with_item(alloc: Global, position: u32) -> Result<Call, AllocError> {
 fn object_call(alloc: Global, number: u32) -> Result<Call, AllocError> {
     match number {
         1 => Ok(Call::Ty(TyCall::Bool)),
-        2 => trait_object(
-            alloc,
-            ExistentialKindCall::AutoTrait(TraitId::from_number(0)),
-        ),
-        3 => with_item(alloc, 1),
-        4 => with_item(alloc, 9),
-        _ => Ok(Call::Equal(2, 3)),
+        2 => declare(alloc, DeclarationKindCall::Trait { params: 1 }),
+        3 => trait_object(alloc, ExistentialKindCall::AutoTrait(2)),
+        4 => with_item(alloc, 1),
+        5 => with_item(alloc, 9),
+        6 => Ok(Call::Equal(3, 4)),
+        7 => trait_object(alloc, ExistentialKindCall::AutoTrait(1)),
+        _ => trait_object(alloc, ExistentialKindCall::Trait(3, Vec::new(alloc))),
     }
 }
 
-// A declaration of this number of a list. All have one name.
+// A declaration of this kind. All have one name.
+fn declare(alloc: Global, kind: DeclarationKindCall) -> Result<Call, AllocError> {
+    let name = String::from_str(alloc, "Iterator")?;
+    Ok(Call::Declare(DeclareCall { kind, name }))
+}
+
+// A declaration of this number of a list.
 fn declaration(alloc: Global, number: u32) -> Result<Call, AllocError> {
     let kind = match number {
         1 | 2 => DeclarationKindCall::Trait { params: 1 },
@@ -283,8 +309,7 @@ fn declaration(alloc: Global, number: u32) -> Result<Call, AllocError> {
         6 => DeclarationKindCall::Inherent(5),
         _ => DeclarationKindCall::Inherent(1),
     };
-    let name = String::from_str(alloc, "Iterator")?;
-    Ok(Call::Declare(DeclareCall { kind, name }))
+    declare(alloc, kind)
 }
 
 // A call of this number of a list.
@@ -294,6 +319,56 @@ fn declaration_call(alloc: Global, number: u32) -> Result<Call, AllocError> {
         9 => Ok(Call::Info(1)),
         10 => Ok(Call::Shift(1, 1)),
         _ => declaration(alloc, number),
+    }
+}
+
+// A call of this number of a list. Some of those that build name an id of another sort.
+fn id_call(alloc: Global, number: u32) -> Result<Call, AllocError> {
+    match number {
+        1 => declare(alloc, DeclarationKindCall::Trait { params: 1 }),
+        2 => declare(alloc, DeclarationKindCall::AssocTy(1)),
+        3 => declare(alloc, DeclarationKindCall::Foreign),
+        4 => declare(alloc, DeclarationKindCall::Opaque),
+        5 => declare(alloc, DeclarationKindCall::Const),
+        6 => Ok(Call::Ty(TyCall::Foreign(3))),
+        7 => Ok(Call::Ty(TyCall::Foreign(4))),
+        8 => Ok(alias(alloc, AliasCall::Projection(2))),
+        9 => Ok(alias(alloc, AliasCall::Opaque(2))),
+        10 => Ok(alias(alloc, AliasCall::Opaque(4))),
+        11 => Ok(Call::Const(ConstCall::Unevaluated(5, Vec::new(alloc)))),
+        _ => Ok(Call::Const(ConstCall::Unevaluated(1, Vec::new(alloc)))),
+    }
+}
+
+// The type of the alias, without arguments.
+fn alias(alloc: Global, alias: AliasCall) -> Call {
+    Call::Ty(TyCall::Item(ItemCall::Alias(alias), Vec::new(alloc)))
+}
+
+// A call of this number of a list.
+fn predicate_of_id_call(alloc: Global, number: u32) -> Result<Call, AllocError> {
+    match number {
+        1 => declare(alloc, DeclarationKindCall::Trait { params: 1 }),
+        2 => declare(alloc, DeclarationKindCall::AssocTy(1)),
+        3 => Ok(Call::Ty(TyCall::Bool)),
+        _ => Ok(predicate(alloc, predicate_of_id(alloc, number))),
+    }
+}
+
+// What the predicate of this number of the list says. The trait is declared first, its associated type second.
+fn predicate_of_id(alloc: Global, number: u32) -> PredicateKindCall {
+    let term = TermCall::Ty(3);
+    match number {
+        4 => PredicateKindCall::Clause(ClauseCall::Trait(1, Vec::new(alloc))),
+        5 => PredicateKindCall::Clause(ClauseCall::Projection(2, Vec::new(alloc), term)),
+        6 => {
+            let constness = BoundConstness::Const;
+            PredicateKindCall::Clause(ClauseCall::HostEffect(1, Vec::new(alloc), constness))
+        }
+        7 => PredicateKindCall::Clause(ClauseCall::Trait(2, Vec::new(alloc))),
+        8 => PredicateKindCall::DynCompatible(1),
+        9 => PredicateKindCall::NormalizesTo(2, Vec::new(alloc), term),
+        _ => PredicateKindCall::NormalizesTo(3, Vec::new(alloc), term),
     }
 }
 

@@ -3,45 +3,146 @@
 use super::{Example, check};
 use std::test::Fail;
 
-const SPELLED: [Example; 3] = [
-    Example {
-        name: "line ends",
-        script: "\r\n  u32  \r\n\n i32\nu8\r",
-        lines: "1: ok\n2: ok\n3: bad line\n",
-    },
-    Example {
-        name: "words",
-        script: "\
-            bool\nchar\nstr\nnever\ni8\ni16\ni32\ni64\ni128\nisize\nu8\nu16\nu32\nu64\nu128\n\
-            usize\nparam 4294967295\nrefmut 'static %1\nptr %1\nptrmut %1\nslice %1\n\
-            fn 255 %1\ncbound 0\ninfer 4294967040\nplaceholder 0 4294967040\n\
-            error 4294967295\nref 'erased %1\nref 'p4294967295 %1\nref 'e4294967295 %1\n\
-            ref '?4294967040 %0000001\n",
-        lines: "\
-            1: ok\n2: ok\n3: ok\n4: ok\n5: ok\n6: ok\n7: ok\n8: ok\n9: ok\n10: ok\n11: ok\n\
-            12: ok\n13: ok\n14: ok\n15: ok\n16: ok\n17: ok\n18: ok\n19: ok\n20: ok\n21: ok\n\
-            22: ok\n23: ok\n24: ok\n25: ok\n26: ok\n27: ok\n28: ok\n29: ok\n30: ok\n",
-    },
-    Example {
-        name: "bad lines",
-        script: "\
-            Bool\nbool bool\nparam\nparam 4294967296\nparam -1\nparam 1x\nfn 1\nfn\n\
-            infer 4294967041\nplaceholder 0 4294967041\nref %1 %1\nref 'static\nref 'e %1\n\
-            ref '^0 %1\nref '^.0 %1\nref 'staticx %1\ntuple 1\ntuple %\ninst\nshift %1\n\
-            shift %1 %1\ninfo 1\n\tbool\n\u{e9}\nerase %1\n",
-        lines: "\
-            1: bad line\n2: bad line\n3: bad line\n4: bad line\n5: bad line\n6: bad line\n\
-            7: bad line\n8: bad line\n9: bad line\n10: bad line\n11: bad line\n12: bad line\n\
-            13: bad line\n14: bad line\n15: bad line\n16: bad line\n17: bad line\n\
-            18: bad line\n19: bad line\n20: bad line\n21: bad line\n22: bad line\n\
-            23: bad line\n24: bad line\n25: bad line\n",
-    },
-];
+const LINE_ENDS: Example = Example {
+    script: "\r\n  u32  \r\n\n i32\nu8\r",
+    lines: "1: ok\n2: ok\n3: bad line\n",
+};
+
+const WORDS: Example = Example {
+    script: "\
+bool
+char
+str
+never
+i8
+i16
+i32
+i64
+i128
+isize
+u8
+u16
+u32
+u64
+u128
+usize
+param 4294967295
+refmut 'static %1
+ptr %1
+ptrmut %1
+slice %1
+fn 255 %1
+cbound 0
+infer 4294967040
+placeholder 0 4294967040
+error 4294967295
+ref 'erased %1
+ref 'p4294967295 %1
+ref 'e4294967295 %1
+ref '?4294967040 %0000001
+",
+    lines: "\
+1: ok
+2: ok
+3: ok
+4: ok
+5: ok
+6: ok
+7: ok
+8: ok
+9: ok
+10: ok
+11: ok
+12: ok
+13: ok
+14: ok
+15: ok
+16: ok
+17: ok
+18: ok
+19: ok
+20: ok
+21: ok
+22: ok
+23: ok
+24: ok
+25: ok
+26: ok
+27: ok
+28: ok
+29: ok
+30: ok
+",
+};
+
+const BAD_LINES: Example = Example {
+    script: "\
+Bool
+bool bool
+param
+param 4294967296
+param -1
+param 1x
+fn 1
+fn
+infer 4294967041
+placeholder 0 4294967041
+ref %1 %1
+ref 'static
+ref 'e %1
+ref '^0 %1
+ref '^.0 %1
+ref 'staticx %1
+tuple 1
+tuple %
+inst
+shift %1
+shift %1 %1
+info 1
+\tbool
+\u{e9}
+erase %1
+",
+    lines: "\
+1: bad line
+2: bad line
+3: bad line
+4: bad line
+5: bad line
+6: bad line
+7: bad line
+8: bad line
+9: bad line
+10: bad line
+11: bad line
+12: bad line
+13: bad line
+14: bad line
+15: bad line
+16: bad line
+17: bad line
+18: bad line
+19: bad line
+20: bad line
+21: bad line
+22: bad line
+23: bad line
+24: bad line
+25: bad line
+",
+};
 
 #[test]
-fn spelled_scripts(rt: HostRuntime) -> Result<(), Fail> {
-    for spelled in SPELLED {
-        check(&rt, rt.alloc(), spelled)?;
-    }
-    Ok(())
+fn line_ends(rt: HostRuntime) -> Result<(), Fail> {
+    check(&rt, rt.alloc(), &LINE_ENDS)
+}
+
+#[test]
+fn words(rt: HostRuntime) -> Result<(), Fail> {
+    check(&rt, rt.alloc(), &WORDS)
+}
+
+#[test]
+fn bad_lines(rt: HostRuntime) -> Result<(), Fail> {
+    check(&rt, rt.alloc(), &BAD_LINES)
 }

@@ -3,166 +3,599 @@
 use super::{Example, check, run};
 use std::test::Fail;
 
+const ANSWERS_THAT_ARE_NO_TERMS: Example = Example {
+    script: "\
+u32
+equal %1 %1
+shift %2 1
+",
+    lines: "\
+1: ok
+2: yes
+3: refused NoSuchAnswer
+",
+};
+
+const ARGUMENT_OUT_OF_RANGE: Example = Example {
+    script: "\
+param 0
+param 1
+tuple %1 %2
+i32
+inst %3 %4
+",
+    lines: "\
+1: ok
+2: ok
+3: ok
+4: ok
+5: refused ArgOutOfRange
+",
+};
+
+const ARGUMENT_UNDER_BINDER: Example = Example {
+    script: "\
+param 0
+tuple
+fn 0 %1 %2
+tuple %1 %3
+i32
+ref '^0.0 %5
+inst %4 %6
+info %7
+ref '^1.0 %5
+fn 0 %9 %2
+tuple %6 %10
+equal %7 %11
+",
+    lines: "\
+1: ok
+2: ok
+3: ok
+4: ok
+5: ok
+6: ok
+7: ok
+8: flags 00040000 outer 1
+9: ok
+10: ok
+11: ok
+12: yes
+",
+};
+
+const BAD_ARGUMENTS: Example = Example {
+    script: "\
+param 1
+i32
+inst %1 %2
+param 0
+inst %4 'static
+",
+    lines: "\
+1: ok
+2: ok
+3: refused ArgOutOfRange
+4: ok
+5: refused ArgKind
+",
+};
+
+const BOUND_REGION: Example = Example {
+    script: "\
+u32
+ref '^2.0 %1
+info %2
+",
+    lines: "\
+1: ok
+2: ok
+3: flags 00040000 outer 3
+",
+};
+
+const CANONICAL_REGION: Example = Example {
+    script: "\
+u32
+ref 'c.0 %1
+shift %2 5
+equal %3 %2
+info %2
+",
+    lines: "\
+1: ok
+2: ok
+3: ok
+4: yes
+5: flags 04040000 outer 0
+",
+};
+
+const COMPOSITION: Example = Example {
+    script: "\
+param 0
+param 1
+tuple %1 %2
+i32
+inst %3 %2 %4
+u8
+u16
+inst %5 %6 %7
+inst %3 %7 %4
+equal %8 %9
+",
+    lines: "\
+1: ok
+2: ok
+3: ok
+4: ok
+5: ok
+6: ok
+7: ok
+8: ok
+9: ok
+10: yes
+",
+};
+
+const EMPTY_INPUT: Example = Example {
+    script: "",
+    lines: "",
+};
+
+const FIRST_TYPES: Example = Example {
+    script: "\
+u32
+u32
+i32
+equal %1 %2
+equal %1 %3
+info %1
+",
+    lines: "\
+1: ok
+2: ok
+3: ok
+4: yes
+5: no
+6: flags 00000000 outer 0
+",
+};
+
+const GREATEST_BOUND_REGION: Example = Example {
+    script: "\
+u32
+ref '^4294967039.0 %1
+info %2
+shift %2 1
+shift %2 0
+equal %5 %2
+",
+    lines: "\
+1: ok
+2: ok
+3: flags 00040000 outer 4294967040
+4: refused GreatestIndex
+5: ok
+6: yes
+",
+};
+
+const GREATEST_BOUND_TYPE: Example = Example {
+    script: "\
+bound 4294967039 0
+info %1
+shift %1 1
+bound 4294967040 0
+bound 4294967041 0
+",
+    lines: "\
+1: ok
+2: flags 00080000 outer 4294967040
+3: refused GreatestIndex
+4: refused GreatestIndex
+5: bad line
+",
+};
+
+const GREATEST_INDEX_UNDER_BINDER: Example = Example {
+    script: "\
+param 0
+tuple
+fn 0 %1 %2
+bound 4294967039 0
+inst %3 %4
+inst %1 %4
+equal %6 %4
+",
+    lines: "\
+1: ok
+2: ok
+3: ok
+4: ok
+5: refused GreatestIndex
+6: ok
+7: yes
+",
+};
+
+const GREATEST_THAT_FITS: Example = Example {
+    script: "\
+param 0
+tuple
+fn 0 %1 %2
+bound 4294967038 0
+inst %3 %4
+info %5
+",
+    lines: "\
+1: ok
+2: ok
+3: ok
+4: ok
+5: ok
+6: flags 00080000 outer 4294967039
+",
+};
+
+const LIMITS_OF_WORDS: Example = Example {
+    script: "\
+u32
+ref '^4294967040.0 %1
+ref '^4294967041.0 %1
+fn 256 %1
+tuple %0
+tuple %4294967296
+equal %1
+",
+    lines: "\
+1: ok
+2: refused GreatestIndex
+3: bad line
+4: bad line
+5: refused NoSuchAnswer
+6: bad line
+7: bad line
+",
+};
+
+const NESTED_BINDERS: Example = Example {
+    script: "\
+isize
+char
+tuple
+ref '^0.0 %1
+ref '^1.0 %1
+fn 1 %4 %5 %3
+ref '^0.0 %2
+fn 1 %6 %7 %3
+info %6
+info %8
+",
+    lines: "\
+1: ok
+2: ok
+3: ok
+4: ok
+5: ok
+6: ok
+7: ok
+8: ok
+9: flags 01040000 outer 1
+10: flags 01040000 outer 0
+",
+};
+
+const NO_ARGUMENTS: Example = Example {
+    script: "\
+param 0
+inst %1
+u32
+ref '?0 %3
+inst %4
+equal %5 %4
+",
+    lines: "\
+1: ok
+2: refused NoArguments
+3: ok
+4: ok
+5: ok
+6: yes
+",
+};
+
+const NO_CALLS: Example = Example {
+    script: "\
+ref 'static %9
+foo
+info %1
+",
+    lines: "\
+1: refused NoSuchAnswer
+2: bad line
+3: refused NoSuchAnswer
+",
+};
+
+const POINTER_WITH_TWO_REGIONS: Example = Example {
+    script: "\
+u32
+ref '^0.0 %1
+fn 2 %2 %2
+info %3
+",
+    lines: "\
+1: ok
+2: ok
+3: ok
+4: flags 01040000 outer 0
+",
+};
+
+const REGION_VARIABLE_BESIDE_A_PARAMETER: Example = Example {
+    script: "\
+param 0
+ref '?0 %1
+i32
+inst %2 %3
+info %2
+",
+    lines: "\
+1: ok
+2: ok
+3: ok
+4: refused RegionVariable
+5: flags 00020211 outer 0
+",
+};
+
+const REGION_VARIABLE_WITHOUT_PARAMETERS: Example = Example {
+    script: "\
+u32
+ref '?0 %1
+i32
+inst %2 %3
+equal %4 %2
+info %2
+",
+    lines: "\
+1: ok
+2: ok
+3: ok
+4: ok
+5: yes
+6: flags 00020210 outer 0
+",
+};
+
+const SHIFT_OF_A_CLOSED_TYPE: Example = Example {
+    script: "\
+u32
+shift %1 4294967295
+equal %1 %2
+",
+    lines: "\
+1: ok
+2: ok
+3: yes
+",
+};
+
+const SHIFT_UNDER_BINDER: Example = Example {
+    script: "\
+u32
+tuple
+ref '^0.0 %1
+ref '^1.0 %1
+fn 1 %3 %4 %2
+info %5
+shift %5 2
+info %7
+ref '^3.0 %1
+fn 1 %3 %9 %2
+equal %7 %10
+",
+    lines: "\
+1: ok
+2: ok
+3: ok
+4: ok
+5: ok
+6: flags 01040000 outer 1
+7: ok
+8: flags 01040000 outer 3
+9: ok
+10: ok
+11: yes
+",
+};
+
+const SHIFT_UP_TO_THE_GREATEST: Example = Example {
+    script: "\
+u32
+ref '^0.0 %1
+shift %2 4294967295
+shift %2 4294967039
+info %4
+",
+    lines: "\
+1: ok
+2: ok
+3: refused GreatestIndex
+4: ok
+5: flags 00040000 outer 4294967040
+",
+};
+
+const UNUSED_BINDER_VARIABLE: Example = Example {
+    script: "\
+tuple
+fn 1 %1
+info %2
+",
+    lines: "\
+1: ok
+2: ok
+3: flags 01000000 outer 0
+",
+};
+
+// Either cause may be named.
+const TWO_CAUSES: &str = "\
+param 0
+param 1
+tuple %1 %2
+inst %3 'static
+";
+
 /// All worked scripts but the one with two causes.
-pub const WORKED: [Example; 24] = [
-    Example {
-        name: "answers that are no terms",
-        script: "u32\nequal %1 %1\nshift %2 1\n",
-        lines: "1: ok\n2: yes\n3: refused NoSuchAnswer\n",
-    },
-    Example {
-        name: "argument out of range",
-        script: "param 0\nparam 1\ntuple %1 %2\ni32\ninst %3 %4\n",
-        lines: "1: ok\n2: ok\n3: ok\n4: ok\n5: refused ArgOutOfRange\n",
-    },
-    Example {
-        name: "argument under binder",
-        script: "\
-            param 0\ntuple\nfn 0 %1 %2\ntuple %1 %3\ni32\nref '^0.0 %5\ninst %4 %6\ninfo %7\n\
-            ref '^1.0 %5\nfn 0 %9 %2\ntuple %6 %10\nequal %7 %11\n",
-        lines: "\
-            1: ok\n2: ok\n3: ok\n4: ok\n5: ok\n6: ok\n7: ok\n8: flags 00040000 outer 1\n\
-            9: ok\n10: ok\n11: ok\n12: yes\n",
-    },
-    Example {
-        name: "bad arguments",
-        script: "param 1\ni32\ninst %1 %2\nparam 0\ninst %4 'static\n",
-        lines: "1: ok\n2: ok\n3: refused ArgOutOfRange\n4: ok\n5: refused ArgKind\n",
-    },
-    Example {
-        name: "bound region",
-        script: "u32\nref '^2.0 %1\ninfo %2\n",
-        lines: "1: ok\n2: ok\n3: flags 00040000 outer 3\n",
-    },
-    Example {
-        name: "canonical region",
-        script: "u32\nref 'c.0 %1\nshift %2 5\nequal %3 %2\ninfo %2\n",
-        lines: "1: ok\n2: ok\n3: ok\n4: yes\n5: flags 04040000 outer 0\n",
-    },
-    Example {
-        name: "composition",
-        script: "\
-            param 0\nparam 1\ntuple %1 %2\ni32\ninst %3 %2 %4\nu8\nu16\ninst %5 %6 %7\n\
-            inst %3 %7 %4\nequal %8 %9\n",
-        lines: "1: ok\n2: ok\n3: ok\n4: ok\n5: ok\n6: ok\n7: ok\n8: ok\n9: ok\n10: yes\n",
-    },
-    Example {
-        name: "empty input",
-        script: "",
-        lines: "",
-    },
-    Example {
-        name: "first types",
-        script: "u32\nu32\ni32\nequal %1 %2\nequal %1 %3\ninfo %1\n",
-        lines: "1: ok\n2: ok\n3: ok\n4: yes\n5: no\n6: flags 00000000 outer 0\n",
-    },
-    Example {
-        name: "greatest bound region",
-        script: "u32\nref '^4294967039.0 %1\ninfo %2\nshift %2 1\nshift %2 0\nequal %5 %2\n",
-        lines: "\
-            1: ok\n2: ok\n3: flags 00040000 outer 4294967040\n4: refused GreatestIndex\n\
-            5: ok\n6: yes\n",
-    },
-    Example {
-        name: "greatest bound type",
-        script: "bound 4294967039 0\ninfo %1\nshift %1 1\nbound 4294967040 0\nbound 4294967041 0\n",
-        lines: "\
-            1: ok\n2: flags 00080000 outer 4294967040\n3: refused GreatestIndex\n\
-            4: refused GreatestIndex\n5: bad line\n",
-    },
-    Example {
-        name: "greatest index under binder",
-        script: "\
-            param 0\ntuple\nfn 0 %1 %2\nbound 4294967039 0\ninst %3 %4\ninst %1 %4\n\
-            equal %6 %4\n",
-        lines: "1: ok\n2: ok\n3: ok\n4: ok\n5: refused GreatestIndex\n6: ok\n7: yes\n",
-    },
-    Example {
-        name: "greatest that fits",
-        script: "param 0\ntuple\nfn 0 %1 %2\nbound 4294967038 0\ninst %3 %4\ninfo %5\n",
-        lines: "1: ok\n2: ok\n3: ok\n4: ok\n5: ok\n6: flags 00080000 outer 4294967039\n",
-    },
-    Example {
-        name: "limits of words",
-        script: "\
-            u32\nref '^4294967040.0 %1\nref '^4294967041.0 %1\nfn 256 %1\ntuple %0\n\
-            tuple %4294967296\nequal %1\n",
-        lines: "\
-            1: ok\n2: refused GreatestIndex\n3: bad line\n4: bad line\n\
-            5: refused NoSuchAnswer\n6: bad line\n7: bad line\n",
-    },
-    Example {
-        name: "nested binders",
-        script: "\
-            isize\nchar\ntuple\nref '^0.0 %1\nref '^1.0 %1\nfn 1 %4 %5 %3\nref '^0.0 %2\n\
-            fn 1 %6 %7 %3\ninfo %6\ninfo %8\n",
-        lines: "\
-            1: ok\n2: ok\n3: ok\n4: ok\n5: ok\n6: ok\n7: ok\n8: ok\n\
-            9: flags 01040000 outer 1\n10: flags 01040000 outer 0\n",
-    },
-    Example {
-        name: "no arguments",
-        script: "param 0\ninst %1\nu32\nref '?0 %3\ninst %4\nequal %5 %4\n",
-        lines: "1: ok\n2: refused NoArguments\n3: ok\n4: ok\n5: ok\n6: yes\n",
-    },
-    Example {
-        name: "no calls",
-        script: "ref 'static %9\nfoo\ninfo %1\n",
-        lines: "1: refused NoSuchAnswer\n2: bad line\n3: refused NoSuchAnswer\n",
-    },
-    Example {
-        name: "pointer with two regions",
-        script: "u32\nref '^0.0 %1\nfn 2 %2 %2\ninfo %3\n",
-        lines: "1: ok\n2: ok\n3: ok\n4: flags 01040000 outer 0\n",
-    },
-    Example {
-        name: "region variable beside a parameter",
-        script: "param 0\nref '?0 %1\ni32\ninst %2 %3\ninfo %2\n",
-        lines: "1: ok\n2: ok\n3: ok\n4: refused RegionVariable\n5: flags 00020211 outer 0\n",
-    },
-    Example {
-        name: "region variable without parameters",
-        script: "u32\nref '?0 %1\ni32\ninst %2 %3\nequal %4 %2\ninfo %2\n",
-        lines: "1: ok\n2: ok\n3: ok\n4: ok\n5: yes\n6: flags 00020210 outer 0\n",
-    },
-    Example {
-        name: "shift of a closed type",
-        script: "u32\nshift %1 4294967295\nequal %1 %2\n",
-        lines: "1: ok\n2: ok\n3: yes\n",
-    },
-    Example {
-        name: "shift under binder",
-        script: "\
-            u32\ntuple\nref '^0.0 %1\nref '^1.0 %1\nfn 1 %3 %4 %2\ninfo %5\nshift %5 2\n\
-            info %7\nref '^3.0 %1\nfn 1 %3 %9 %2\nequal %7 %10\n",
-        lines: "\
-            1: ok\n2: ok\n3: ok\n4: ok\n5: ok\n6: flags 01040000 outer 1\n7: ok\n\
-            8: flags 01040000 outer 3\n9: ok\n10: ok\n11: yes\n",
-    },
-    Example {
-        name: "shift up to the greatest",
-        script: "u32\nref '^0.0 %1\nshift %2 4294967295\nshift %2 4294967039\ninfo %4\n",
-        lines: "\
-            1: ok\n2: ok\n3: refused GreatestIndex\n4: ok\n\
-            5: flags 00040000 outer 4294967040\n",
-    },
-    Example {
-        name: "unused binder variable",
-        script: "tuple\nfn 1 %1\ninfo %2\n",
-        lines: "1: ok\n2: ok\n3: flags 01000000 outer 0\n",
-    },
+pub const WORKED: [&Example; 24] = [
+    &ANSWERS_THAT_ARE_NO_TERMS,
+    &ARGUMENT_OUT_OF_RANGE,
+    &ARGUMENT_UNDER_BINDER,
+    &BAD_ARGUMENTS,
+    &BOUND_REGION,
+    &CANONICAL_REGION,
+    &COMPOSITION,
+    &EMPTY_INPUT,
+    &FIRST_TYPES,
+    &GREATEST_BOUND_REGION,
+    &GREATEST_BOUND_TYPE,
+    &GREATEST_INDEX_UNDER_BINDER,
+    &GREATEST_THAT_FITS,
+    &LIMITS_OF_WORDS,
+    &NESTED_BINDERS,
+    &NO_ARGUMENTS,
+    &NO_CALLS,
+    &POINTER_WITH_TWO_REGIONS,
+    &REGION_VARIABLE_BESIDE_A_PARAMETER,
+    &REGION_VARIABLE_WITHOUT_PARAMETERS,
+    &SHIFT_OF_A_CLOSED_TYPE,
+    &SHIFT_UNDER_BINDER,
+    &SHIFT_UP_TO_THE_GREATEST,
+    &UNUSED_BINDER_VARIABLE,
 ];
 
 #[test]
-fn worked_scripts(rt: HostRuntime) -> Result<(), Fail> {
-    for worked in WORKED {
-        check(&rt, rt.alloc(), worked)?;
-    }
-    Ok(())
+fn answers_that_are_no_terms(rt: HostRuntime) -> Result<(), Fail> {
+    check(&rt, rt.alloc(), &ANSWERS_THAT_ARE_NO_TERMS)
 }
 
-// Either cause may be named.
-const TWO_CAUSES: &str = "param 0\nparam 1\ntuple %1 %2\ninst %3 'static\n";
+#[test]
+fn argument_out_of_range(rt: HostRuntime) -> Result<(), Fail> {
+    check(&rt, rt.alloc(), &ARGUMENT_OUT_OF_RANGE)
+}
+
+#[test]
+fn argument_under_binder(rt: HostRuntime) -> Result<(), Fail> {
+    check(&rt, rt.alloc(), &ARGUMENT_UNDER_BINDER)
+}
+
+#[test]
+fn bad_arguments(rt: HostRuntime) -> Result<(), Fail> {
+    check(&rt, rt.alloc(), &BAD_ARGUMENTS)
+}
+
+#[test]
+fn bound_region(rt: HostRuntime) -> Result<(), Fail> {
+    check(&rt, rt.alloc(), &BOUND_REGION)
+}
+
+#[test]
+fn canonical_region(rt: HostRuntime) -> Result<(), Fail> {
+    check(&rt, rt.alloc(), &CANONICAL_REGION)
+}
+
+#[test]
+fn composition(rt: HostRuntime) -> Result<(), Fail> {
+    check(&rt, rt.alloc(), &COMPOSITION)
+}
+
+#[test]
+fn empty_input(rt: HostRuntime) -> Result<(), Fail> {
+    check(&rt, rt.alloc(), &EMPTY_INPUT)
+}
+
+#[test]
+fn first_types(rt: HostRuntime) -> Result<(), Fail> {
+    check(&rt, rt.alloc(), &FIRST_TYPES)
+}
+
+#[test]
+fn greatest_bound_region(rt: HostRuntime) -> Result<(), Fail> {
+    check(&rt, rt.alloc(), &GREATEST_BOUND_REGION)
+}
+
+#[test]
+fn greatest_bound_type(rt: HostRuntime) -> Result<(), Fail> {
+    check(&rt, rt.alloc(), &GREATEST_BOUND_TYPE)
+}
+
+#[test]
+fn greatest_index_under_binder(rt: HostRuntime) -> Result<(), Fail> {
+    check(&rt, rt.alloc(), &GREATEST_INDEX_UNDER_BINDER)
+}
+
+#[test]
+fn greatest_that_fits(rt: HostRuntime) -> Result<(), Fail> {
+    check(&rt, rt.alloc(), &GREATEST_THAT_FITS)
+}
+
+#[test]
+fn limits_of_words(rt: HostRuntime) -> Result<(), Fail> {
+    check(&rt, rt.alloc(), &LIMITS_OF_WORDS)
+}
+
+#[test]
+fn nested_binders(rt: HostRuntime) -> Result<(), Fail> {
+    check(&rt, rt.alloc(), &NESTED_BINDERS)
+}
+
+#[test]
+fn no_arguments(rt: HostRuntime) -> Result<(), Fail> {
+    check(&rt, rt.alloc(), &NO_ARGUMENTS)
+}
+
+#[test]
+fn no_calls(rt: HostRuntime) -> Result<(), Fail> {
+    check(&rt, rt.alloc(), &NO_CALLS)
+}
+
+#[test]
+fn pointer_with_two_regions(rt: HostRuntime) -> Result<(), Fail> {
+    check(&rt, rt.alloc(), &POINTER_WITH_TWO_REGIONS)
+}
+
+#[test]
+fn region_variable_beside_a_parameter(rt: HostRuntime) -> Result<(), Fail> {
+    check(&rt, rt.alloc(), &REGION_VARIABLE_BESIDE_A_PARAMETER)
+}
+
+#[test]
+fn region_variable_without_parameters(rt: HostRuntime) -> Result<(), Fail> {
+    check(&rt, rt.alloc(), &REGION_VARIABLE_WITHOUT_PARAMETERS)
+}
+
+#[test]
+fn shift_of_a_closed_type(rt: HostRuntime) -> Result<(), Fail> {
+    check(&rt, rt.alloc(), &SHIFT_OF_A_CLOSED_TYPE)
+}
+
+#[test]
+fn shift_under_binder(rt: HostRuntime) -> Result<(), Fail> {
+    check(&rt, rt.alloc(), &SHIFT_UNDER_BINDER)
+}
+
+#[test]
+fn shift_up_to_the_greatest(rt: HostRuntime) -> Result<(), Fail> {
+    check(&rt, rt.alloc(), &SHIFT_UP_TO_THE_GREATEST)
+}
+
+#[test]
+fn unused_binder_variable(rt: HostRuntime) -> Result<(), Fail> {
+    check(&rt, rt.alloc(), &UNUSED_BINDER_VARIABLE)
+}
 
 #[test]
 fn two_causes(rt: HostRuntime) -> Result<(), Fail> {

@@ -8,6 +8,7 @@ use Rattle.tt_kinds.specs.declared.table.Table.TheVariants.{Types, TypeLists}
 use Rattle.tt_kinds.specs.declared.ty_kind.TyKind.TheVariants as ty
 use Rattle.type_terms.specs.CallForm.{plain, one, a_term, a_list, terms_at, ty_entry}
 use Rattle.type_terms.specs.Told.{told_all, HasFullTable}
+use Rattle.type_terms.specs.Means.{number_at}
 use Rattle.type_terms.proofs.PartLaws.{kind-passed, plain-kind, parts-one, unbuilt-first}
 use Rattle.type_terms.proofs.KindLaws.{leaf-kind, bound-kind}
 use Rattle.type_terms.proofs.run.build.ty_kind.Goals as goal
@@ -116,7 +117,9 @@ returns-in_ok-build_tys-in-Tuple-clause-kind c =
 pub returns-in-Foreign-clause-kind : goal.returns-in-Foreign-clause-kind
 returns-in-Foreign-clause-kind c =
     rw (c.in-Foreign.is)
-    (leaf-kind ty_kind_shape c.args.cx.now (told_all c.args.cx.now.rows c.args.earlier.now) (type_label (foreign_type c.in-Foreign.id.number)) (type_label (foreign_type c.in-Foreign.id.number)) (ty.Foreign c.in-Foreign.id) refl tt refl)
+    (let e = told_all c.args.cx.now.rows c.args.earlier.now in
+    let label = foreign_type (number_at e c.in-Foreign.position) in
+    leaf-kind ty_kind_shape c.args.cx.now e (type_label label) (type_label label) c.foreign_kind.result (c.foreign_kind.ensures c.args.cx.now.rows) tt refl)
 
 pub returns-in-Array-clause-kind : goal.returns-in-Array-clause-kind
 returns-in-Array-clause-kind c = rw (c.in-Array.is) (c.array_kind.ensures c.args.cx.now c.requires)

@@ -7,6 +7,7 @@ use Rattle.tt_kinds.specs.Kinds.{const_kind_shape, args_shape}
 use Rattle.tt_kinds.specs.declared.const_kind.ConstKind.TheVariants as const
 use Rattle.type_terms.specs.CallForm.{plain, args_part, const_entry}
 use Rattle.type_terms.specs.Told.{told_all, HasFullTable}
+use Rattle.type_terms.specs.Means.{number_at}
 use Rattle.type_terms.proofs.PartLaws.{kind-passed, plain-kind, parts-one, unbuilt-first}
 use Rattle.type_terms.proofs.KindLaws.{leaf-kind, bound-kind}
 use Rattle.type_terms.proofs.run.consts.const_kind.Goals as goal
@@ -37,7 +38,7 @@ returns-in_err-args-in-Unevaluated-clause-kind c =
     let part = args_part c.in-Unevaluated.args.items in
     let r = c.in_err-args-in-Unevaluated in
     rw (c.in-Unevaluated.is)
-    (kind-passed c.build_arg_list.new.cx e (plain (const_label (unevaluated_const c.in-Unevaluated.def.number)) (part ∷ [])) const_kind_shape c.from_residual.result r.field-0.0 c.from_residual.ensures.1
+    (kind-passed c.build_arg_list.new.cx e (plain (const_label (unevaluated_const (number_at e c.in-Unevaluated.position))) (part ∷ [])) const_kind_shape c.from_residual.result r.field-0.0 c.from_residual.ensures.1
     (unbuilt-first (HasFullTable c.build_arg_list.new.cx) e part [] r.field-0.0 (rw (← c.as_slice.ensures.value) r.ensures.list.err)))
 
 pub returns-in_ok-args-in-Unevaluated-clause-kind : goal.returns-in_ok-args-in-Unevaluated-clause-kind
@@ -47,8 +48,9 @@ returns-in_ok-args-in-Unevaluated-clause-kind c =
     let r = c.in_ok-args-in-Unevaluated in
     rw (c.in-Unevaluated.is)
     (record {
-      ok = plain-kind c.build_arg_list.new.cx e (const_label (unevaluated_const c.in-Unevaluated.def.number)) (part ∷ []) (const_label (unevaluated_const c.in-Unevaluated.def.number)) (shape.also (args_shape r.args) shape.none)
-          (parts-one c.build_arg_list.new.cx e part (args_shape r.args) (rw (← c.as_slice.ensures.value) r.ensures.list.ok)) tt refl;
+      ok = plain-kind c.build_arg_list.new.cx e (const_label (unevaluated_const (number_at e c.in-Unevaluated.position))) (part ∷ []) (const_label (unevaluated_const c.from_number-def.result.number)) (shape.also (args_shape r.args) shape.none)
+          (parts-one c.build_arg_list.new.cx e part (args_shape r.args) (rw (← c.as_slice.ensures.value) r.ensures.list.ok)) tt
+          (rw (c.from_number-def.ensures, c.number_at.ensures c.args.cx.now.rows) refl);
       err = tt;
     })
 

@@ -6,7 +6,7 @@ use Rattle.tt_interner.specs.Rows.{existential_row}
 use Rattle.tt_interner.proofs.Growth.{Extends-trans}
 use Rattle.type_terms.specs.CallForm.{existential_form, existential_record, existential_tree, existential_positions, IsExistentialTooDeep, under}
 use Rattle.type_terms.specs.Told.{told_all, HasFullTable}
-use Rattle.type_terms.specs.Means.{tree_at}
+use Rattle.type_terms.specs.Means.{number_at, tree_at}
 use Rattle.std.proofs.Common.{map}
 use Rattle.type_terms.specs.CallForm.{variable_kind}
 use Rattle.type_terms.proofs.PartLaws.{placed-passed, bound-record, placed-grows, unbuilt-always}
@@ -16,7 +16,7 @@ use Rattle.type_terms.proofs.run.existentials.build_existential.Goals as goal
 pub returns-in_err-kind-clause-existential : goal.returns-in_err-kind-clause-existential
 returns-in_err-kind-clause-existential c =
     let e = told_all c.args.cx.now.rows c.args.earlier.now in
-    let form = existential_form c.args.call.now in
+    let form = existential_form (number_at e) c.args.call.now in
     placed-passed c.existential_kind.new.cx e (existential_tree (tree_at e) form) (existential_positions form) (IsExistentialTooDeep form) existential_shape c.from_residual.result c.in_err-kind.field-0.0 c.from_residual.ensures.1
     c.in_err-kind.ensures.kind.err
 
@@ -26,7 +26,7 @@ returns-in_err-vars-clause-extends c = Extends-trans c.existential_kind.ensures.
 pub returns-in_err-vars-clause-existential : goal.returns-in_err-vars-clause-existential
 returns-in_err-vars-clause-existential c =
     let e = told_all c.args.cx.now.rows c.args.earlier.now in
-    let form = existential_form c.args.call.now in
+    let form = existential_form (number_at e) c.args.call.now in
     placed-passed c.build_vars.new.cx e (existential_tree (tree_at e) form) (existential_positions form) (IsExistentialTooDeep form) existential_shape c.from_residual-in_err-vars.result c.in_err-vars.field-0.0 c.from_residual-in_err-vars.ensures.1
     (unbuilt-always (HasFullTable c.build_vars.new.cx) e (existential_positions form) (IsExistentialTooDeep form) c.in_err-vars.field-0.0 c.in_err-vars.ensures.vars.err)
 
@@ -34,7 +34,7 @@ pub mk_existential-requires : goal.mk_existential-requires
 mk_existential-requires c =
     let terms = c.build_vars.new.cx in
     rw (c.bind_with_vars.ensures)
-    (bound-record terms (told_all c.args.cx.now.rows c.args.earlier.now) existential_label c.args.call.now.vars.items (existential_record c.args.call.now.kind) existential_label c.in_ok-vars.vars
+    (bound-record terms (told_all c.args.cx.now.rows c.args.earlier.now) existential_label c.args.call.now.vars.items (existential_record (number_at (told_all c.args.cx.now.rows c.args.earlier.now)) c.args.call.now.kind) existential_label c.in_ok-vars.vars
     (record_shape (kinds.existential_form c.in_ok-kind.kind))
     (placed-grows c.existential_kind.new.cx terms c.build_vars.ensures.extends c.in_ok-kind.ensures.kind.ok)
     (rw (← c.as_slice.ensures.value) c.in_ok-vars.ensures.vars.ok) tt refl).parts
@@ -46,10 +46,10 @@ pub returns-clause-existential : goal.returns-clause-existential
 returns-clause-existential c =
     let terms = c.build_vars.new.cx in
     let e = told_all c.args.cx.now.rows c.args.earlier.now in
-    let r = existential_record c.args.call.now.kind in
+    let r = existential_record (number_at e) c.args.call.now.kind in
     let given = term-placed (λ h. h.number) terms c.mk_existential.new.self e (under existential_label (map variable_kind c.args.call.now.vars.items) r.label r.parts) (existential_row c.bind_with_vars.result) c.mk_existential.result
     (rw (c.bind_with_vars.ensures)
-    (bound-record terms e existential_label c.args.call.now.vars.items (existential_record c.args.call.now.kind) existential_label c.in_ok-vars.vars
+    (bound-record terms e existential_label c.args.call.now.vars.items (existential_record (number_at (told_all c.args.cx.now.rows c.args.earlier.now)) c.args.call.now.kind) existential_label c.in_ok-vars.vars
     (record_shape (kinds.existential_form c.in_ok-kind.kind))
     (placed-grows c.existential_kind.new.cx terms c.build_vars.ensures.extends c.in_ok-kind.ensures.kind.ok)
     (rw (← c.as_slice.ensures.value) c.in_ok-vars.ensures.vars.ok) tt refl)) c.mk_existential.ensures in

@@ -5,6 +5,7 @@ use Rattle.tt_kinds.specs.Kinds as kinds
 use Rattle.tt_interner.proofs.Growth.{Extends-trans}
 use Rattle.type_terms.specs.CallForm.{predicate_form, predicate_record, form_positions, IsFormTooDeep}
 use Rattle.type_terms.specs.Told.{told_all, HasFullTable}
+use Rattle.type_terms.specs.Means.{number_at}
 use Rattle.type_terms.proofs.PartLaws.{kind-passed, bound-record, placed-grows, unbuilt-always}
 use Rattle.type_terms.proofs.run.predicates.bound_kind.Goals as goal
 
@@ -13,7 +14,7 @@ returns-in_err-vars-in-Ok-clause-extends c = Extends-trans c.predicate_kind.ensu
 
 pub returns-in_err-vars-in-Ok-clause-kind : goal.returns-in_err-vars-in-Ok-clause-kind
 returns-in_err-vars-in-Ok-clause-kind c =
-    let form = predicate_form c.args.call.now in
+    let form = predicate_form (number_at (told_all c.args.cx.now.rows c.args.earlier.now)) c.args.call.now in
     let r = c.in_err-vars-in-Ok in
     kind-passed c.build_vars.new.cx (told_all c.args.cx.now.rows c.args.earlier.now) form predicate_kind_shape c.from_residual.result r.field-0.0 c.from_residual.ensures.1
     (unbuilt-always (HasFullTable c.build_vars.new.cx) (told_all c.args.cx.now.rows c.args.earlier.now) (form_positions form) (IsFormTooDeep form) r.field-0.0 r.ensures.vars.err)
@@ -26,7 +27,7 @@ returns-in_ok-vars-in-Ok-clause-kind c =
     let terms = c.build_vars.new.cx in
     record {
       ok = rw (c.bind_with_vars.ensures)
-          (bound-record terms (told_all c.args.cx.now.rows c.args.earlier.now) predicate_label c.args.call.now.vars.items (predicate_record c.args.call.now.kind) predicate_label c.in_ok-vars-in-Ok.vars
+          (bound-record terms (told_all c.args.cx.now.rows c.args.earlier.now) predicate_label c.args.call.now.vars.items (predicate_record (number_at (told_all c.args.cx.now.rows c.args.earlier.now)) c.args.call.now.kind) predicate_label c.in_ok-vars-in-Ok.vars
           (record_shape (kinds.predicate_form c.in-Ok.kind))
           (placed-grows c.predicate_kind.new.cx terms c.build_vars.ensures.extends c.in-Ok.ensures.kind.ok)
           (rw (← c.as_slice.ensures.value) c.in_ok-vars-in-Ok.ensures.vars.ok) tt refl);

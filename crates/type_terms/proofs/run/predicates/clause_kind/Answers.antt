@@ -1,4 +1,4 @@
-use Rattle.std.proofs.Common.{[], ◌∷◌, refl}
+use Rattle.std.proofs.Common.{[], ◌∷◌, refl, ap}
 use Rattle.tt_kinds.specs.Label.{trait_record, const_has_type_record, well_formed_record, const_evaluatable_record}
 use Rattle.tt_kinds.specs.Shape as shape
 use Rattle.tt_kinds.specs.Shape.{append}
@@ -6,6 +6,7 @@ use Rattle.tt_kinds.specs.Kinds.{clause_form, ty_shape, const_shape, args_shape,
 use Rattle.tt_kinds.specs.declared.table.Table.TheVariants.{Types, Consts}
 use Rattle.type_terms.specs.CallForm.{labelled, one, a_term, args_part, term_part}
 use Rattle.type_terms.specs.Told.{told_all, HasFullTable}
+use Rattle.type_terms.specs.Means.{number_at}
 use Rattle.type_terms.proofs.PartLaws.{record-passed, record-placed, parts-one, unbuilt-first, term-child}
 use Rattle.type_terms.proofs.run.predicates.clause_kind.Goals as goal
 
@@ -14,7 +15,7 @@ returns-in_err-args-in-Trait-clause-kind c =
     let e = told_all c.args.cx.now.rows c.args.earlier.now in
     let r = c.in_err-args-in-Trait in
     rw (c.in-Trait.is)
-    (record-passed c.build_arg_list.new.cx e (labelled (trait_record c.in-Trait.def_id.number) (args_part c.in-Trait.args.items ∷ [])) clause_form c.from_residual.result r.field-0.0 c.from_residual.ensures.1
+    (record-passed c.build_arg_list.new.cx e (labelled (trait_record (number_at e c.in-Trait.position)) (args_part c.in-Trait.args.items ∷ [])) clause_form c.from_residual.result r.field-0.0 c.from_residual.ensures.1
     (unbuilt-first (HasFullTable c.build_arg_list.new.cx) e (args_part c.in-Trait.args.items) [] r.field-0.0 (rw (← c.as_slice.ensures.value) r.ensures.list.err)))
 
 pub returns-in_ok-args-in-Trait-clause-kind : goal.returns-in_ok-args-in-Trait-clause-kind
@@ -22,7 +23,7 @@ returns-in_ok-args-in-Trait-clause-kind c =
     let e = told_all c.args.cx.now.rows c.args.earlier.now in
     let r = c.in_ok-args-in-Trait in
     rw (c.in-Trait.is)
-    (record { ok = record-placed c.build_arg_list.new.cx e (labelled (trait_record c.in-Trait.def_id.number) (args_part c.in-Trait.args.items ∷ [])) (trait_record c.in-Trait.def_id.number) (shape.also (args_shape r.args) shape.none) (parts-one c.build_arg_list.new.cx e (args_part c.in-Trait.args.items) (args_shape r.args) (rw (← c.as_slice.ensures.value) r.ensures.list.ok)) tt refl; err = tt })
+    (record { ok = record-placed c.build_arg_list.new.cx e (labelled (trait_record (number_at e c.in-Trait.position)) (args_part c.in-Trait.args.items ∷ [])) (trait_record c.trait_at.result.number) (shape.also (args_shape r.args) shape.none) (parts-one c.build_arg_list.new.cx e (args_part c.in-Trait.args.items) (args_shape r.args) (rw (← c.as_slice.ensures.value) r.ensures.list.ok)) tt (ap trait_record (c.trait_at.ensures c.args.cx.now.rows)); err = tt })
 
 pub returns-in_err-pair-in-ConstArgHasType-clause-kind : goal.returns-in_err-pair-in-ConstArgHasType-clause-kind
 returns-in_err-pair-in-ConstArgHasType-clause-kind c =

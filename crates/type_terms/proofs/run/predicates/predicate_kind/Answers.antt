@@ -1,19 +1,20 @@
-use Rattle.std.proofs.Common.{[], ◌∷◌, refl}
-use Rattle.tt_kinds.specs.Label.{dyn_compatible_record, const_equate_record, ambiguous_record, normalizes_to_record, alias_relate_record}
+use Rattle.std.proofs.Common.{[], ◌∷◌, refl, ap}
+use Rattle.tt_kinds.specs.Label.{dyn_compatible_record, const_equate_record, ambiguous_record, alias_relate_record}
 use Rattle.tt_kinds.specs.Shape as shape
 use Rattle.tt_kinds.specs.Shape.{append}
 use Rattle.tt_kinds.specs.Parts.{term_child}
-use Rattle.tt_kinds.specs.Kinds.{predicate_form, const_shape, args_shape, child_shapes}
+use Rattle.tt_kinds.specs.Kinds.{predicate_form, const_shape, child_shapes}
 use Rattle.tt_kinds.specs.declared.table.Table.TheVariants.{Consts}
-use Rattle.type_terms.specs.CallForm.{labelled, one, a_term, args_part, term_part}
+use Rattle.type_terms.specs.CallForm.{labelled, one, a_term, term_part}
 use Rattle.type_terms.specs.Told.{told_all}
+use Rattle.type_terms.specs.Means.{number_at}
 use Rattle.type_terms.proofs.PartLaws.{record-passed, record-placed, parts-none}
 use Rattle.type_terms.proofs.run.predicates.predicate_kind.Goals as goal
 
 pub returns-in-DynCompatible-clause-kind : goal.returns-in-DynCompatible-clause-kind
 returns-in-DynCompatible-clause-kind c =
     let e = told_all c.args.cx.now.rows c.args.earlier.now in
-    rw (c.in-DynCompatible.is) (record { ok = record-placed c.args.cx.now e (labelled (dyn_compatible_record c.in-DynCompatible.id.number) []) (dyn_compatible_record c.in-DynCompatible.id.number) shape.none (parts-none c.args.cx.now e) tt refl; err = tt })
+    rw (c.in-DynCompatible.is) (record { ok = record-placed c.args.cx.now e (labelled (dyn_compatible_record (number_at e c.in-DynCompatible.position)) []) (dyn_compatible_record c.trait_at.result.number) shape.none (parts-none c.args.cx.now e) tt (ap dyn_compatible_record (c.trait_at.ensures c.args.cx.now.rows)); err = tt })
 
 pub returns-in-Subtype-clause-kind : goal.returns-in-Subtype-clause-kind
 returns-in-Subtype-clause-kind c = rw (c.in-Subtype.is) (c.subtype.ensures c.args.cx.now c.requires)
@@ -40,21 +41,6 @@ pub returns-in-Ambiguous-clause-kind : goal.returns-in-Ambiguous-clause-kind
 returns-in-Ambiguous-clause-kind c =
     let e = told_all c.args.cx.now.rows c.args.earlier.now in
     rw (c.in-Ambiguous.is) (record { ok = record-placed c.args.cx.now e (labelled ambiguous_record []) ambiguous_record shape.none (parts-none c.args.cx.now e) tt refl; err = tt })
-
-pub returns-in_err-pair-in-NormalizesTo-clause-kind : goal.returns-in_err-pair-in-NormalizesTo-clause-kind
-returns-in_err-pair-in-NormalizesTo-clause-kind c =
-    let e = told_all c.args.cx.now.rows c.args.earlier.now in
-    let r = c.in_err-pair-in-NormalizesTo in
-    rw (c.in-NormalizesTo.is)
-    (record-passed c.args_and_term.new.cx e (labelled (normalizes_to_record c.in-NormalizesTo.id.number) (args_part c.in-NormalizesTo.args.items ∷ term_part c.in-NormalizesTo.term ∷ [])) predicate_form c.from_residual-in_err-pair-in-NormalizesTo.result r.field-0.0 c.from_residual-in_err-pair-in-NormalizesTo.ensures.1
-    (rw (← c.as_slice.ensures.value) r.ensures.parts.err))
-
-pub returns-in_ok-pair-in-NormalizesTo-clause-kind : goal.returns-in_ok-pair-in-NormalizesTo-clause-kind
-returns-in_ok-pair-in-NormalizesTo-clause-kind c =
-    let e = told_all c.args.cx.now.rows c.args.earlier.now in
-    let r = c.in_ok-pair-in-NormalizesTo in
-    rw (c.in-NormalizesTo.is)
-    (record { ok = record-placed c.args_and_term.new.cx e (labelled (normalizes_to_record c.in-NormalizesTo.id.number) (args_part c.in-NormalizesTo.args.items ∷ term_part c.in-NormalizesTo.term ∷ [])) (normalizes_to_record c.in-NormalizesTo.id.number) (shape.also (args_shape r.pair.0) (child_shapes (term_child r.pair.1))) (rw (← c.as_slice.ensures.value) r.ensures.parts.ok) tt refl; err = tt })
 
 pub returns-in_err-pair-in-AliasRelate-clause-kind : goal.returns-in_err-pair-in-AliasRelate-clause-kind
 returns-in_err-pair-in-AliasRelate-clause-kind c =

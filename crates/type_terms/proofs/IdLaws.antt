@@ -1,0 +1,44 @@
+-- The ids that calls name, over plain variables.
+use Rattle.std.proofs.Common.{◌≡◌, ◌↔◌, ℕ, List, true, false, IsTrue, Some, None, refl, ◌∙◌}
+use Rattle.tt_kinds.specs.declared.declaration.DeclarationSort.{DeclarationSort}
+use Rattle.tt_kinds.specs.declared.id.DefId.{DefId}
+use Rattle.tt_interner.specs.Rows.{Row}
+use Rattle.type_terms.specs.declared.run.answer.Answer.{Answer}
+use Rattle.type_terms.specs.declared.run.answer.Answer.TheVariants as answer
+use Rattle.type_terms.specs.declared.run.call.Call.{Call}
+use Rattle.type_terms.specs.declared.run.call.Call.TheVariants as call
+use Rattle.type_terms.specs.CallForm.{of_id, an_id, any_id, ty_ids, const_ids, predicate_ids, ty_form, const_form, predicate_form, form_positions}
+use Rattle.type_terms.specs.Told.{Told, told, told_all}
+use Rattle.type_terms.specs.Means.{as_id, id_at, number_at, ids, Tells, AreTerms, NamesTerms}
+use Rattle.type_terms.specs.Build.{IsAnswerAt}
+use Rattle.type_terms.proofs.PartLaws.{AreTerms-first}
+
+-- the answer is no id
+no-id : (a : Answer) → ((s : DeclarationSort) (d : DefId) → a ≡ answer.Id s d → ⊥) → (rows : List Row) → as_id (Some (told rows a)) ≡ None
+no-id (answer.Id s d) f rows = absurd (f s d refl)
+no-id _ f rows = refl
+
+pub no-id-at : (earlier : List Answer) (p : ℕ) (a : Answer) → IsAnswerAt earlier p a → ((s : DeclarationSort) (d : DefId) → a ≡ answer.Id s d → ⊥)
+    → (rows : List Row) → id_at (told_all rows earlier) p ≡ None
+no-id-at earlier p a at f rows = at.is_id rows ∙ no-id a f rows
+
+-- what stands at a position that has to tell an id of the sort, or of any
+module _ (e : List Told) (p : ℕ) where
+  pub sort-told : (s : DeclarationSort) (n : ℕ) → id_at e p ≡ Some (record { sort = s; number = n }) → IsTrue true ↔ AreTerms e (an_id s p)
+  sort-told s n at = rw at (λ h. (refl, tt), λ h. refl)
+
+  pub no-sort-told : (s : DeclarationSort) → (Tells e (of_id s) p → ⊥) → IsTrue false ↔ AreTerms e (an_id s p)
+  no-sort-told s none = (λ h. absurd (cc), λ h. absurd (none h.0))
+
+  pub any-told : (s : DeclarationSort) (n : ℕ) → id_at e p ≡ Some (record { sort = s; number = n }) → IsTrue true ↔ AreTerms e (any_id p)
+  any-told s n at = rw at (λ h. (tt, tt), λ h. refl)
+
+  pub none-told : id_at e p ≡ None → IsTrue false ↔ AreTerms e (any_id p)
+  none-told at = rw at (λ h. absurd (cc), λ h. absurd h.0)
+
+-- the ids are among what the call names
+pub ids-named : (e : List Told) (c : Call) → NamesTerms e c → AreTerms e (ids c)
+ids-named e (call.Ty k) h = AreTerms-first e (ty_ids k) (form_positions (ty_form (number_at e) k)) h
+ids-named e (call.Const k) h = AreTerms-first e (const_ids k) (form_positions (const_form (number_at e) k)) h
+ids-named e (call.Predicate k) h = AreTerms-first e (predicate_ids k.kind) (form_positions (predicate_form (number_at e) k)) h
+ids-named e _ h = tt
