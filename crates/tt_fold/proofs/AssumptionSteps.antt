@@ -1,8 +1,8 @@
 -- The fold of a list of assumptions, from that of a vector of them.
-use Rattle.std.proofs.Common.{◌≡◌, List, Ok, Err, Some, None, refl, ap, sym, ◌∙◌}
+use Rattle.std.proofs.Common.{◌≡◌, List, Ok, Err, refl, ap}
 use Rattle.tt_index.specs.declared.refusal.Refusal.{Refusal}
 use Rattle.tt_index.specs.declared.refusal.Refusal.TheVariants.{Memory, TableFull, NotAClause}
-use Rattle.tt_kinds.specs.Label.{Label, Name, list_label, record_label, sequence_record}
+use Rattle.tt_kinds.specs.Label.{list_label, record_label, sequence_record}
 use Rattle.tt_kinds.specs.Tree as tree
 use Rattle.tt_kinds.specs.Tree.{Depth, Tree, Forest}
 use Rattle.tt_kinds.specs.Shape.{IsPart, AreParts, fill, item_shapes}
@@ -11,8 +11,8 @@ use Rattle.tt_kinds.specs.declared.generic_arg.GenericArgKind.{GenericArgKind}
 use Rattle.tt_kinds.specs.declared.handle.RegionAssumptions.{RegionAssumptions}
 use Rattle.tt_kinds.specs.declared.predicate.OutlivesPredicate.{OutlivesPredicate}
 use Rattle.tt_kinds.specs.declared.table.Table.TheVariants.{AssumptionLists}
-use Rattle.tt_interner.specs.Rows.{Row, assumptions_row, row_table, size, meaning, AreRows}
-use Rattle.tt_interner.specs.Stored.{Terms, Extends, IsAt, IsCause, IsUnbuilt, Builds}
+use Rattle.tt_interner.specs.Rows.{Row, assumptions_row, size, meaning, AreRows}
+use Rattle.tt_interner.specs.Stored.{Terms, IsAt, IsCause, IsUnbuilt, Builds}
 use Rattle.tt_interner.proofs.Fill.{tree_table}
 use Rattle.tt_interner.proofs.Growth.{Extends-refl, Extends-trans}
 use Rattle.tt_interner.proofs.ShapeLaws.{root_of_row}

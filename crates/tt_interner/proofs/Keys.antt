@@ -18,7 +18,6 @@ use Rattle.tt_kinds.specs.contracts.generic_arg.GenericArgEq.TheImpl.Laws as arg
 use Rattle.tt_kinds.specs.contracts.bound.BoundVariableKindPartialEq.TheImpl as vars
 use Rattle.tt_kinds.specs.contracts.bound.BoundVariableKindEq.TheImpl.Laws as var_laws
 use Rattle.tt_kinds.specs.declared.predicate.OutlivesPredicate.{OutlivesPredicate}
-use Rattle.tt_kinds.specs.declared.region_kind.RegionKind.{RegionKind}
 use Rattle.tt_kinds.specs.contracts.region_kind.RegionKindPartialEq.TheImpl as regions
 use Rattle.tt_kinds.specs.contracts.region_kind.RegionKindEq.TheImpl.Laws as region_laws
 use Rattle.tt_kinds.specs.declared.handle.Const.{Const}
