@@ -6,7 +6,7 @@ use Rattle.tt_kinds.specs.Label.{list_label, record_label, sequence_record}
 use Rattle.tt_kinds.specs.Tree as tree
 use Rattle.tt_kinds.specs.Tree.{Depth, Tree, Forest}
 use Rattle.tt_kinds.specs.Shape.{IsPart, AreParts, fill, item_shapes}
-use Rattle.tt_kinds.specs.Values.{assumption_shape, assumptions_shape}
+use Rattle.tt_kinds.specs.Values.{assumption_shape, assumptions_shape, sequence_shape}
 use Rattle.tt_kinds.specs.declared.generic_arg.GenericArgKind.{GenericArgKind}
 use Rattle.tt_kinds.specs.declared.handle.RegionAssumptions.{RegionAssumptions}
 use Rattle.tt_kinds.specs.declared.predicate.OutlivesPredicate.{OutlivesPredicate}
@@ -17,7 +17,6 @@ use Rattle.tt_interner.proofs.Fill.{tree_table}
 use Rattle.tt_interner.proofs.Growth.{Extends-refl, Extends-trans}
 use Rattle.tt_interner.proofs.ShapeLaws.{root_of_row}
 use Rattle.tt_interner.proofs.Trees.{Means-row}
-use Rattle.tt_visit.specs.Steps.{sequence_shape}
 use Rattle.tt_fold.specs.Walk.{Hooks, Walks, WalksAll, Fails, at_region, replaced, kept, descended, passed, at_node, region_failed, term_failed, descent_failed, passed_failed, node_failed, node_not_built, stopped}
 use Rattle.tt_fold.specs.Counts.{Standing, stands}
 use Rattle.tt_fold.specs.Steps.{Folds, IsPartOf, IsPartBy, tree_in, tree_by, IsErrorOfUnbuilt}

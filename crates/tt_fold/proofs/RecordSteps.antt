@@ -4,12 +4,11 @@ use Rattle.tt_kinds.specs.Label.{Name, RecordLabel, unsafe_binder_record, record
 use Rattle.tt_kinds.specs.Tree.{Depth, Tree}
 use Rattle.tt_kinds.specs.Shape as shape
 use Rattle.tt_kinds.specs.Shape.{Shape, Sizes, IsPart, IsNamedRecord, IsNamedLabel, rename_record, name_of, fill}
-use Rattle.tt_kinds.specs.Values.{one_record, two_record}
+use Rattle.tt_kinds.specs.Values.{one_record, two_record, unsafe_binder_shape}
 use Rattle.tt_kinds.specs.Kinds.{RecordForm, replenished, record_shape, parts_shapes, ty_shape, binder_shape}
 use Rattle.tt_kinds.specs.declared.handle.Ty.{Ty}
 use Rattle.tt_kinds.specs.declared.binder.Binder.{Binder}
 use Rattle.tt_kinds.specs.declared.ty_kind.UnsafeBinderInner.{UnsafeBinderInner}
-use Rattle.tt_visit.specs.Steps.{unsafe_binder_shape}
 use Rattle.tt_kinds.specs.declared.parts.Parts.{Parts}
 use Rattle.tt_interner.specs.Rows.{Row, size, meaning}
 use Rattle.tt_interner.specs.Stored.{Terms}

@@ -9,7 +9,7 @@ use Rattle.tt_kinds.specs.Shape.{Shape, Shapes, IsPart, append, item_shapes, fil
 use Rattle.tt_interner.specs.Rows.{Row}
 use Rattle.tt_interner.specs.Stored.{Terms}
 use Rattle.tt_interner.proofs.Growth.{Extends-refl, Extends-trans, AreParts-grows, fill-grows, fill_all-grows}
-use Rattle.tt_visit.specs.Steps.{sequence_shape}
+use Rattle.tt_kinds.specs.Values.{sequence_shape}
 use Rattle.tt_fold.specs.Walk.{Hooks, Walks, WalksAll, Fails, at_node, done, node_failed, here, stopped}
 use Rattle.tt_fold.specs.Counts.{Standing}
 use Rattle.tt_fold.specs.Steps.{Folds, IsPartOf, tree_in, IsPartBy, tree_by}

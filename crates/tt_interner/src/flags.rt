@@ -318,8 +318,7 @@ impl Flags for OutlivesPredicate<GenericArg> {
     #[tactic(auto, unfolding(tt_kinds::specs::Shape::IsPart, tt_kinds::specs::Shape::fill))]
     fn outer_exclusive_binder(&self, cx: &Interner) -> DebruijnIndex {
         let first = self.0.outer_exclusive_binder(cx);
-        let second = self.1.outer_exclusive_binder();
-        if first < second { second } else { first }
+        first.max(self.1.outer_exclusive_binder())
     }
 }
 

@@ -5,11 +5,12 @@ ghost use Rattle.tt_interner.specs.Rows.{AreRows};
 ghost use Rattle.tt_interner.specs.Stored.{counted, first_rows, HasFirst};
 ghost use Rattle.tt_interner.specs.Laws.{AreInterned};
 
+mod args;
 mod assumptions;
+mod bound_vars;
 mod consts;
 mod declarations;
 mod existentials;
-mod lists;
 mod owns;
 mod owns_ids;
 mod owns_kinds;

@@ -1,13 +1,21 @@
 -- Kinds of types, constants and patterns that aren't stored, and tokens of errors by themselves.
 use Rattle.std.specs.Prelude.{ℕ, Option, Some, None}
-use Rattle.tt_kinds.specs.Label.{Sort, type_sort, const_sort, RecordLabel, bare_param_record, bare_bound_record, bare_type_record, bare_const_record, bare_pattern_record, record_label, error_label, error_of_type, error_of_const}
+use Rattle.tt_kinds.specs.Label.{Sort, type_sort, const_sort, RecordLabel, bare_param_record, bare_bound_record, bare_type_record, bare_const_record, bare_pattern_record, record_label, error_label, error_of_type, error_of_const, leaf_const, branch_const}
 use Rattle.tt_kinds.specs.Tree.{Depth, at, canonical}
 use Rattle.tt_kinds.specs.Shape as shape
 use Rattle.tt_kinds.specs.Shape.{Shape, Shapes, append}
-use Rattle.tt_kinds.specs.Kinds.{Form, param, bound, plain, under, ty_form, const_form, pattern_form, RecordForm, labelled, record_shape, parts_shapes}
+use Rattle.tt_kinds.specs.Kinds.{Form, param, bound, plain, under, ty_form, const_form, pattern_form, RecordForm, labelled, record_shape, parts_shapes, consts_shape}
+use Rattle.tt_kinds.specs.Values.{one_record}
 use Rattle.tt_kinds.specs.declared.pattern.PatternKind.{PatternKind}
 use Rattle.tt_kinds.specs.declared.ty_kind.TyKind.{TyKind}
 use Rattle.tt_kinds.specs.declared.const_kind.ConstKind.{ConstKind}
+use Rattle.tt_kinds.specs.declared.const_kind.ConstKind.TheVariants as const
+use Rattle.tt_kinds.specs.declared.const_kind.UnevaluatedConst.{UnevaluatedConst}
+use Rattle.tt_kinds.specs.declared.const_kind.ExprConst.{ExprConst}
+use Rattle.tt_kinds.specs.declared.const_kind.ValueConst.{ValueConst}
+use Rattle.tt_kinds.specs.declared.const_kind.ValTree.{ValTree}
+use Rattle.tt_kinds.specs.declared.const_kind.ValTreeKind.{ValTreeKind}
+use Rattle.tt_kinds.specs.declared.const_kind.ValTreeKind.TheVariants as valtree
 
 -- the token of this error
 abbrev pub token_shape : ℕ → Shape
@@ -47,3 +55,24 @@ bare_pattern_form k = labelled (bare_pattern_record (pattern_form k).label) (pat
 -- a pattern's kind
 abbrev pub bare_pattern_shape : PatternKind → Shape
 bare_pattern_shape k = record_shape (bare_pattern_form k)
+
+-- a constant that isn't computed yet, as a kind that isn't stored
+abbrev pub unevaluated_shape : UnevaluatedConst → Shape
+unevaluated_shape u = bare_const_shape (const.Unevaluated u)
+
+-- an expression over constants, as a kind that isn't stored
+abbrev pub expression_shape : ExprConst → Shape
+expression_shape e = bare_const_shape (const.Expr e)
+
+-- a value with its type, as a kind that isn't stored
+abbrev pub value_shape : ValueConst → Shape
+value_shape v = bare_const_shape (const.Value v)
+
+-- what a value is made of: what its kind says of it, without the type
+abbrev pub valtree_kind_shape : ValTreeKind → Shape
+valtree_kind_shape (valtree.Leaf s) = shape.node (record_label (bare_const_record (leaf_const s.bits s.size))) shape.none
+valtree_kind_shape (valtree.Branch cs) = one_record (bare_const_record branch_const) (consts_shape cs)
+
+-- a value without its type
+abbrev pub valtree_shape : ValTree → Shape
+valtree_shape v = valtree_kind_shape v.kind

@@ -1,6 +1,6 @@
 -- Values that have no row of their own: records, and what stands in them.
-use Rattle.std.specs.Prelude.{ℕ, List}
-use Rattle.tt_kinds.specs.Label.{RecordLabel, trait_ref_record, alias_term_record, alias_ty_record, outlives_record, type_and_mut_record, fn_sig_record, param_env_record, witness_types_record, projection_record, normalizes_to_record, trait_record, host_effect_record, subtype_record, coerce_record, record_label, list_label}
+use Rattle.std.specs.Prelude.{ℕ, Option, Some, None, Result, Ok, Err, List}
+use Rattle.tt_kinds.specs.Label.{RecordLabel, trait_ref_record, alias_term_record, alias_ty_record, outlives_record, type_and_mut_record, fn_sig_record, param_env_record, witness_types_record, projection_record, normalizes_to_record, trait_record, host_effect_record, subtype_record, coerce_record, record_label, list_label, pair_record, triple_record, absent_record, present_record, sequence_record, existential_trait_record, existential_projection_record, unsafe_binder_record}
 use Rattle.tt_kinds.specs.Shape as shape
 use Rattle.tt_kinds.specs.Shape.{Shape, item_shapes}
 use Rattle.tt_kinds.specs.Kinds.{region_shape, arg_shape, ty_shape, tys_shape, args_shape, clauses_shape, term_shape, clause_form, predicate_form, existential_form, record_shape}
@@ -12,6 +12,7 @@ use Rattle.tt_kinds.specs.declared.alias.AliasTerm.{AliasTerm}
 use Rattle.tt_kinds.specs.declared.fn_sig.FnSig.{FnSig}
 use Rattle.tt_kinds.specs.declared.fn_sig.CoroutineWitnessTypes.{CoroutineWitnessTypes}
 use Rattle.tt_kinds.specs.declared.ty_kind.TypeAndMut.{TypeAndMut}
+use Rattle.tt_kinds.specs.declared.ty_kind.UnsafeBinderInner.{UnsafeBinderInner}
 use Rattle.tt_kinds.specs.declared.predicate.TraitRef.{TraitRef}
 use Rattle.tt_kinds.specs.declared.predicate.TraitPredicate.{TraitPredicate}
 use Rattle.tt_kinds.specs.declared.predicate.HostEffectPredicate.{HostEffectPredicate}
@@ -24,6 +25,8 @@ use Rattle.tt_kinds.specs.declared.predicate.ParamEnv.{ParamEnv}
 use Rattle.tt_kinds.specs.declared.predicate_kind.ClauseKind.{ClauseKind}
 use Rattle.tt_kinds.specs.declared.predicate_kind.PredicateKind.{PredicateKind}
 use Rattle.tt_kinds.specs.declared.existential.ExistentialPredicate.{ExistentialPredicate}
+use Rattle.tt_kinds.specs.declared.existential.ExistentialTraitRef.{ExistentialTraitRef}
+use Rattle.tt_kinds.specs.declared.existential.ExistentialProjection.{ExistentialProjection}
 
 -- a record of one value
 abbrev pub one_record : RecordLabel ℕ → Shape → Shape
@@ -32,6 +35,29 @@ one_record l s = shape.node (record_label l) (shape.also s shape.none)
 -- a record of two values
 abbrev pub two_record : RecordLabel ℕ → Shape → Shape → Shape
 two_record l s u = shape.node (record_label l) (shape.also s (shape.also u shape.none))
+
+-- two values
+abbrev pub pair_shape : {S T : Type 0} → (S → Shape) → (T → Shape) → S × T → Shape
+pair_shape of_first of_second p = shape.node (record_label pair_record) (shape.also (of_first p.0) (shape.also (of_second p.1) shape.none))
+
+-- three values
+abbrev pub triple_shape : {S T U : Type 0} → (S → Shape) → (T → Shape) → (U → Shape) → S × T × U → Shape
+triple_shape of_first of_second of_third p =
+    shape.node (record_label triple_record) (shape.also (of_first p.0) (shape.also (of_second p.1) (shape.also (of_third p.2) shape.none)))
+
+-- a value, if there is one
+abbrev pub option_shape : {T : Type 0} → (T → Shape) → Option T → Shape
+option_shape of_value None = shape.node (record_label absent_record) shape.none
+option_shape of_value (Some x) = shape.node (record_label present_record) (shape.also (of_value x) shape.none)
+
+-- a value or an error
+abbrev pub result_shape : {T E : Type 0} → (T → Shape) → (E → Shape) → Result T E → Shape
+result_shape of_value of_error (Ok x) = shape.node (record_label present_record) (shape.also (of_value x) shape.none)
+result_shape of_value of_error (Err e) = shape.node (record_label absent_record) (shape.also (of_error e) shape.none)
+
+-- values in order
+abbrev pub sequence_shape : {T : Type 0} → (T → Shape) → List T → Shape
+sequence_shape of_item xs = shape.node (record_label sequence_record) (item_shapes of_item xs)
 
 -- a trait with its arguments
 abbrev pub trait_ref_shape : TraitRef → Shape
@@ -100,6 +126,18 @@ subtype_shape p = two_record (subtype_record p.a_is_expected) (ty_shape p.a) (ty
 -- a type can be coerced to another
 abbrev pub coerce_shape : CoercePredicate → Shape
 coerce_shape p = two_record coerce_record (ty_shape p.a) (ty_shape p.b)
+
+-- a trait with the arguments behind the hidden type
+abbrev pub existential_trait_ref_shape : ExistentialTraitRef → Shape
+existential_trait_ref_shape t = one_record (existential_trait_record t.def_id.number) (args_shape t.args)
+
+-- what an associated type or constant of the hidden type is
+abbrev pub existential_projection_shape : ExistentialProjection → Shape
+existential_projection_shape p = two_record (existential_projection_record p.def_id.number) (args_shape p.args) (term_shape p.term)
+
+-- a type under a binder, as an unsafe binder has it
+abbrev pub unsafe_binder_shape : UnsafeBinderInner → Shape
+unsafe_binder_shape i = shape.binder i.0.bound_vars.number (one_record unsafe_binder_record (ty_shape i.0.value))
 
 -- what a clause says, without its binder
 abbrev pub clause_record_shape : ClauseKind → Shape

@@ -69,7 +69,7 @@ impl TypeVisitable for ErrorGuaranteed {
 }
 
 impl TypeVisitable for UnevaluatedConst {
-    ghost use Rattle.tt_visit.specs.Steps.{unevaluated_shape};
+    ghost use Rattle.tt_kinds.specs.Bare.{unevaluated_shape};
 
     ghost shape = { unevaluated_shape };
 
@@ -84,7 +84,7 @@ impl TypeVisitable for UnevaluatedConst {
 }
 
 impl TypeVisitable for ExprConst {
-    ghost use Rattle.tt_visit.specs.Steps.{expression_shape};
+    ghost use Rattle.tt_kinds.specs.Bare.{expression_shape};
 
     ghost shape = { expression_shape };
 
@@ -99,7 +99,7 @@ impl TypeVisitable for ExprConst {
 }
 
 impl TypeVisitable for ValueConst {
-    ghost use Rattle.tt_visit.specs.Steps.{value_shape};
+    ghost use Rattle.tt_kinds.specs.Bare.{value_shape};
 
     ghost shape = { value_shape };
 
@@ -113,7 +113,7 @@ impl TypeVisitable for ValueConst {
 }
 
 impl TypeVisitable for ValTree {
-    ghost use Rattle.tt_visit.specs.Steps.{valtree_shape};
+    ghost use Rattle.tt_kinds.specs.Bare.{valtree_shape};
 
     ghost shape = { valtree_shape };
 

@@ -306,7 +306,7 @@ impl TypeVisitable for ExistentialPredicate {
 }
 
 impl TypeVisitable for ExistentialTraitRef {
-    ghost use Rattle.tt_visit.specs.Steps.{existential_trait_ref_shape};
+    ghost use Rattle.tt_kinds.specs.Values.{existential_trait_ref_shape};
 
     ghost shape = { existential_trait_ref_shape };
 
@@ -321,7 +321,7 @@ impl TypeVisitable for ExistentialTraitRef {
 }
 
 impl TypeVisitable for ExistentialProjection {
-    ghost use Rattle.tt_visit.specs.Steps.{existential_projection_shape};
+    ghost use Rattle.tt_kinds.specs.Values.{existential_projection_shape};
 
     ghost shape = { existential_projection_shape };
 
@@ -339,7 +339,7 @@ impl TypeVisitable for ExistentialProjection {
 }
 
 impl TypeVisitable for UnsafeBinderInner {
-    ghost use Rattle.tt_visit.specs.Steps.{unsafe_binder_shape};
+    ghost use Rattle.tt_kinds.specs.Values.{unsafe_binder_shape};
 
     ghost shape = { unsafe_binder_shape };
 

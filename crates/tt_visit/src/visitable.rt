@@ -80,7 +80,7 @@ impl<T: TypeVisitable + Copy> TypeSuperVisitable for Binder<T> {
 }
 
 impl<A: TypeVisitable, B: TypeVisitable> TypeVisitable for (A, B) {
-    ghost use Rattle.tt_visit.specs.Steps.{pair_shape};
+    ghost use Rattle.tt_kinds.specs.Values.{pair_shape};
 
     ghost shape = { pair_shape A.shape B.shape };
 
@@ -98,7 +98,7 @@ impl<A: TypeVisitable, B: TypeVisitable> TypeVisitable for (A, B) {
 }
 
 impl<A: TypeVisitable, B: TypeVisitable, C: TypeVisitable> TypeVisitable for (A, B, C) {
-    ghost use Rattle.tt_visit.specs.Steps.{triple_shape};
+    ghost use Rattle.tt_kinds.specs.Values.{triple_shape};
 
     ghost shape = { triple_shape A.shape B.shape C.shape };
 
@@ -120,7 +120,7 @@ impl<A: TypeVisitable, B: TypeVisitable, C: TypeVisitable> TypeVisitable for (A,
 }
 
 impl<T: TypeVisitable> TypeVisitable for Option<T> {
-    ghost use Rattle.tt_visit.specs.Steps.{option_shape};
+    ghost use Rattle.tt_kinds.specs.Values.{option_shape};
 
     ghost shape = { option_shape T.shape };
 
@@ -138,7 +138,7 @@ impl<T: TypeVisitable> TypeVisitable for Option<T> {
 }
 
 impl<T: TypeVisitable, E: TypeVisitable> TypeVisitable for Result<T, E> {
-    ghost use Rattle.tt_visit.specs.Steps.{result_shape};
+    ghost use Rattle.tt_kinds.specs.Values.{result_shape};
 
     ghost shape = { result_shape T.shape E.shape };
 
@@ -180,7 +180,7 @@ impl<T: TypeVisitable> TypeVisitable for Rc<T> {
 }
 
 impl<T: TypeVisitable> TypeVisitable for Vec<T> {
-    ghost use Rattle.tt_visit.specs.Steps.{sequence_shape};
+    ghost use Rattle.tt_kinds.specs.Values.{sequence_shape};
 
     ghost shape = { λ values. sequence_shape T.shape values.items };
 
@@ -195,7 +195,7 @@ impl<T: TypeVisitable> TypeVisitable for Vec<T> {
 }
 
 impl<T: TypeVisitable> TypeVisitable for &[T] {
-    ghost use Rattle.tt_visit.specs.Steps.{sequence_shape};
+    ghost use Rattle.tt_kinds.specs.Values.{sequence_shape};
 
     ghost shape = { λ values. sequence_shape T.shape values.now };
 

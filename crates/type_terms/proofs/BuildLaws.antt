@@ -29,7 +29,7 @@ use Rattle.type_terms.specs.CallForm as call_forms
 use Rattle.type_terms.specs.CallForm.{CallForm, Named, Item, a_list, items_positions, AreItemsTooDeep, form_positions}
 use Rattle.type_terms.specs.Told.{Told, term, told, HasFullTable}
 use Rattle.type_terms.specs.Means as means
-use Rattle.type_terms.specs.Means.{tree_at, AreTerms, NamesTerms, BuildsOrFolds, IsAllowed, MayRefuse, want_of_memory, full_table, no_term, too_deep}
+use Rattle.type_terms.specs.Means.{number_at, tree_at, AreTerms, NamesTerms, BuildsOrFolds, IsAllowed, MayRefuse, want_of_memory, full_table, no_term, too_deep}
 use Rattle.type_terms.specs.Build as build
 use Rattle.type_terms.specs.Build.{IsUnbuilt, no_memory, no_row, no_index, IsNameOf, IsRegionOf, GivesRegion, ArePlaced, AreItemsOf, GivesPart, GivesPlaced, IsKindOf, Answers}
 use Rattle.type_terms.proofs.RunLaws.{HasFullTable-extends}
@@ -96,7 +96,7 @@ list-placed number old new e t ts ns deep ss row (Err r) h same is_node b = reco
 -- the stored term of a kind
 pub term-placed : {H : Type 0} (number : H → ℕ) (old new : Terms) (e : List Told) (form : CallForm) (row : Row) (result : Result H Refusal)
     → IsKindOf old e form (row_shape row) → Builds result number old new row
-    → GivesPlaced new e (call_forms.form_tree (tree_at e) form) (form_positions form) (call_forms.IsFormTooDeep form) (λ h. stored (row_table row) (number h)) result
+    → GivesPlaced new e (call_forms.form_tree (number_at e) (tree_at e) form) (form_positions form) (call_forms.IsFormTooDeep form) (λ h. stored (row_table row) (number h)) result
 unfolding fill IsPart
 term-placed number old new e form row (Ok l) h b = record {
   ok = record {
@@ -125,7 +125,7 @@ unbuilt-refused P e c ns deep r b n d (build.no_index h i) = too_deep (d h) i
 module _ (old new : Terms) (e : List Told) (c : Call) (form : CallForm) (row : Row) (h : IsKindOf old e form (row_shape row)) where
   pub kind-allowed : {H : Type 0} (number : H → ℕ) (x : H) (a : Answer) → Builds (Ok x) number old new row
       → told new.rows a ≡ term (row_table row) (meaning new.rows (row_table row) (number x))
-      → (AreTerms e (form_positions form) → (call_forms.IsFormTooDeep form → ⊥) → IsAllowed (HasFullTable new) e c (term (row_table row) (call_forms.form_tree (tree_at e) form)))
+      → (AreTerms e (form_positions form) → (call_forms.IsFormTooDeep form → ⊥) → IsAllowed (HasFullTable new) e c (term (row_table row) (call_forms.form_tree (number_at e) (tree_at e) form)))
       → IsAllowed (HasFullTable new) e c (told new.rows a)
   kind-allowed number x a b t allowed =
       rw (t, b.means, h.means) (allowed h.named (λ d. let y = b.deep (h.deep.1 d) in absurd (cc)))
@@ -165,12 +165,12 @@ not_both (index.Bound d) s g = omega arith
 not_both index.Canonical s g = g
 
 -- a bound region
-pub region-bound : (terms : Terms) (i : BoundVarIndexKind) (b : BoundRegion) (name : RegionNameCall) (result : Result RegionKind Refusal)
-    → IsNameOf terms name b.kind
+pub region-bound : (terms : Terms) (ids : ℕ → ℕ) (i : BoundVarIndexKind) (b : BoundRegion) (name : RegionNameCall) (result : Result RegionKind Refusal)
+    → IsNameOf terms ids name b.kind
     → (IsBelowGreatest (depth i) → result ≡ Ok (ReBound i b)) → ((IsBelowGreatest (depth i) → ⊥) → result ≡ Err GreatestIndex)
-    → GivesRegion terms (tree.bound region_sort (depth i) (call_forms.region_entry b.var name)) (IsGreatest (depth i)) result
+    → GivesRegion terms (tree.bound region_sort (depth i) (call_forms.region_entry ids b.var name)) (IsGreatest (depth i)) result
 unfolding fill IsPart
-region-bound terms i b name result n ok deep = elim (IsBelowGreatest-or-not i) [
+region-bound terms ids i b name result n ok deep = elim (IsBelowGreatest-or-not i) [
   | inl s ↦
       rw (ok s) (record {
         ok = record {

@@ -31,11 +31,11 @@ use Rattle.type_terms.specs.declared.run.call.ArgCall.{ArgCall}
 use Rattle.type_terms.specs.declared.run.call.ArgCall.TheVariants as arg
 use Rattle.type_terms.specs.declared.run.call.Call.{Call}
 use Rattle.type_terms.specs.declared.run.call.Call.TheVariants as call
-use Rattle.type_terms.specs.CallForm.{Named, one, a_term, region_tree, IsRegionTooDeep, item_positions, items_positions, IsItemTooDeep, AreItemsTooDeep, arg_item, arg_items}
+use Rattle.type_terms.specs.CallForm.{Named, one, a_term, region_tree, IsRegionTooDeep, item_positions, items_positions, IsItemTooDeep, AreItemsTooDeep, arg_item, arg_items, args_ids}
 use Rattle.type_terms.specs.Told.{Told, term, told_all, HasFullTable}
-use Rattle.type_terms.specs.Means.{Term, term_at, tree_at, positions, AreTerms, Suits, Tells, argument, arguments, IsAllowed, MayRefuse, want_of_memory, full_table, no_term, unfit, unsuited}
+use Rattle.type_terms.specs.Means.{Term, term_at, number_at, tree_at, positions, AreTerms, Suits, Tells, argument, arguments, IsAllowed, MayRefuse, want_of_memory, full_table, no_term, unfit, unsuited}
 use Rattle.type_terms.specs.Build.{IsUnbuilt, IsPartOf, IsRegionOf, IsArgumentOf, GivesArgument, AreArgumentsOf, GivesArguments}
-use Rattle.type_terms.proofs.PartLaws.{all_placed-grow, items-none, items-more}
+use Rattle.type_terms.proofs.PartLaws.{AreTerms-append, all_placed-grow, items-none, items-more}
 
 -- one argument
 pub type-argument : (terms : Terms) (e : List Told) (p : ℕ) (t : Ty) → IsPartOf terms e (one (a_term Types p)) (stored Types t.number)
@@ -52,7 +52,7 @@ const-argument terms e p t h = record {
   means = ap (λ (x : Tree Depth). record { sort = const_sort; value = x }) h.means;
 }
 
-pub region-argument : (terms : Terms) (e : List Told) (c : RegionCall) (r : RegionKind) → IsRegionOf terms (region_tree c) (IsRegionTooDeep c) r
+pub region-argument : (terms : Terms) (e : List Told) (c : RegionCall) (r : RegionKind) → IsRegionOf terms (region_tree (number_at e) c) (IsRegionTooDeep c) r
     → IsArgumentOf terms e (arg.Lifetime c) (kind.Lifetime r)
 region-argument terms e c r h = record {
   item = record { part = h.part; means = h.means; named = tt; shallow = h.shallow };
@@ -121,7 +121,10 @@ module _ (e : List Told) (p : ℕ) (table : Table) (u : Tree Depth) (at : term_a
     (λ r c. c),
   )
 
-  module _ (list : Vec ArgCall Global) (named : AreTerms e (items_positions (arg_items list.items))) where
+  module _ (list : Vec ArgCall Global) (ids : AreTerms e (args_ids list.items)) (items : AreTerms e (items_positions (arg_items list.items))) where
+    named : AreTerms e (args_ids list.items ++ items_positions (arg_items list.items))
+    named = AreTerms-append e (args_ids list.items) (items_positions (arg_items list.items)) ids items
+
     -- why an instantiation is refused
     inst-reason : (new : Terms) (r : Refusal) → IsReason new (arguments e list.items) (tree_at e p) r → MayRefuse (HasFullTable new) e (call.Instantiate p list) r
     inst-reason new Memory h = want_of_memory tt refl

@@ -1,5 +1,5 @@
 -- The ids that calls name, over plain variables.
-use Rattle.std.proofs.Common.{◌≡◌, ◌↔◌, ℕ, List, true, false, IsTrue, Some, None, refl, ◌∙◌}
+use Rattle.std.proofs.Common.{◌≡◌, ◌↔◌, ◌++◌, ℕ, List, Bool, true, false, IsTrue, Some, None, refl, ◌∙◌}
 use Rattle.tt_kinds.specs.declared.declaration.DeclarationSort.{DeclarationSort}
 use Rattle.tt_kinds.specs.declared.id.DefId.{DefId}
 use Rattle.tt_interner.specs.Rows.{Row}
@@ -7,11 +7,11 @@ use Rattle.type_terms.specs.declared.run.answer.Answer.{Answer}
 use Rattle.type_terms.specs.declared.run.answer.Answer.TheVariants as answer
 use Rattle.type_terms.specs.declared.run.call.Call.{Call}
 use Rattle.type_terms.specs.declared.run.call.Call.TheVariants as call
-use Rattle.type_terms.specs.CallForm.{of_id, an_id, any_id, ty_ids, const_ids, predicate_ids, ty_form, const_form, predicate_form, form_positions}
+use Rattle.type_terms.specs.CallForm.{Named, of_id, an_id, any_id, args_ids, ty_ids, const_ids, predicate_ids, arg_items, args_part, ty_form, const_form, predicate_form, form_positions, items_positions, part_positions}
 use Rattle.type_terms.specs.Told.{Told, told, told_all}
-use Rattle.type_terms.specs.Means.{as_id, id_at, number_at, ids, Tells, AreTerms, NamesTerms}
+use Rattle.type_terms.specs.Means.{as_id, id_at, number_at, id_positions, Tells, AreTerms, NamesTerms}
 use Rattle.type_terms.specs.Build.{IsAnswerAt}
-use Rattle.type_terms.proofs.PartLaws.{AreTerms-first}
+use Rattle.type_terms.proofs.PartLaws.{AreTerms-append, AreTerms-first, AreTerms-second}
 
 -- the answer is no id
 no-id : (a : Answer) → ((s : DeclarationSort) (d : DefId) → a ≡ answer.Id s d → ⊥) → (rows : List Row) → as_id (Some (told rows a)) ≡ None
@@ -36,9 +36,19 @@ module _ (e : List Told) (p : ℕ) where
   pub none-told : id_at e p ≡ None → IsTrue false ↔ AreTerms e (any_id p)
   none-told at = rw at (λ h. absurd (cc), λ h. absurd h.0)
 
+-- what stands at the positions of two lists
+module _ (e : List Told) (ms ns : List Named) where
+  pub both-told : (b : Bool) → AreTerms e ms → IsTrue b ↔ AreTerms e ns → IsTrue b ↔ AreTerms e (ms ++ ns)
+  both-told b h k = (λ t. AreTerms-append e ms ns h (k.0 t), λ a. k.1 (AreTerms-second e ms ns a))
+
+  pub first-untold : (b : Bool) → b ≡ false → IsTrue b ↔ AreTerms e ms → IsTrue b ↔ AreTerms e (ms ++ ns)
+  first-untold b f k = (λ t. absurd (cc), λ a. k.1 (AreTerms-first e ms ns a))
+
 -- the ids are among what the call names
-pub ids-named : (e : List Told) (c : Call) → NamesTerms e c → AreTerms e (ids c)
+pub ids-named : (e : List Told) (c : Call) → NamesTerms e c → AreTerms e (id_positions c)
 ids-named e (call.Ty k) h = AreTerms-first e (ty_ids k) (form_positions (ty_form (number_at e) k)) h
 ids-named e (call.Const k) h = AreTerms-first e (const_ids k) (form_positions (const_form (number_at e) k)) h
-ids-named e (call.Predicate k) h = AreTerms-first e (predicate_ids k.kind) (form_positions (predicate_form (number_at e) k)) h
+ids-named e (call.Predicate k) h = AreTerms-first e (predicate_ids k) (form_positions (predicate_form (number_at e) k)) h
+ids-named e (call.Args args) h = AreTerms-first e (args_ids args.items) (part_positions (args_part args.items)) h
+ids-named e (call.Instantiate p args) h = AreTerms-first e (args_ids args.items) (items_positions (arg_items args.items)) h.1
 ids-named e _ h = tt

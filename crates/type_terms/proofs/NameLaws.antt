@@ -22,20 +22,20 @@ use Rattle.type_terms.specs.Build.{IsUnbuilt, GivesName, IsVariableOf, GivesVari
 use Rattle.type_terms.proofs.BuildLaws.{unstored, Builds-extends}
 
 -- what a question mark passes on
-pub name-passed : (terms : Terms) (c : RegionNameCall) (result : Result BoundRegionKind Refusal) (r : Refusal) → IsErrAnd result (λ x. x ≡ r)
-    → IsUnbuilt (HasFullTable terms) [] [] ⊥ r → GivesName terms c result
-name-passed terms c (Ok k) r h u = absurd h
-name-passed terms c (Err x) r h u = record { ok = tt; err = rw h u }
+pub name-passed : (terms : Terms) (ids : ℕ → ℕ) (c : RegionNameCall) (result : Result BoundRegionKind Refusal) (r : Refusal) → IsErrAnd result (λ x. x ≡ r)
+    → IsUnbuilt (HasFullTable terms) [] [] ⊥ r → GivesName terms ids c result
+name-passed terms ids c (Ok k) r h u = absurd h
+name-passed terms ids c (Err x) r h u = record { ok = tt; err = rw h u }
 
-pub variable-passed : (terms : Terms) (c : VariableCall) (result : Result BoundVariableKind Refusal) (r : Refusal) → IsErrAnd result (λ x. x ≡ r)
-    → IsUnbuilt (HasFullTable terms) [] [] ⊥ r → GivesVariable terms c result
-variable-passed terms c (Ok k) r h u = absurd h
-variable-passed terms c (Err x) r h u = record { ok = tt; err = rw h u }
+pub variable-passed : (terms : Terms) (ids : ℕ → ℕ) (c : VariableCall) (result : Result BoundVariableKind Refusal) (r : Refusal) → IsErrAnd result (λ x. x ≡ r)
+    → IsUnbuilt (HasFullTable terms) [] [] ⊥ r → GivesVariable terms ids c result
+variable-passed terms ids c (Ok k) r h u = absurd h
+variable-passed terms ids c (Err x) r h u = record { ok = tt; err = rw h u }
 
-pub variables-passed : (terms : Terms) (cs : List VariableCall) (result : Result BoundVarKinds Refusal) (r : Refusal) → IsErrAnd result (λ x. x ≡ r)
-    → IsUnbuilt (HasFullTable terms) [] [] ⊥ r → GivesVariables terms cs result
-variables-passed terms cs (Ok k) r h u = absurd h
-variables-passed terms cs (Err x) r h u = record { ok = tt; err = rw h u }
+pub variables-passed : (terms : Terms) (ids : ℕ → ℕ) (cs : List VariableCall) (result : Result BoundVarKinds Refusal) (r : Refusal) → IsErrAnd result (λ x. x ≡ r)
+    → IsUnbuilt (HasFullTable terms) [] [] ⊥ r → GivesVariables terms ids cs result
+variables-passed terms ids cs (Ok k) r h u = absurd h
+variables-passed terms ids cs (Err x) r h u = record { ok = tt; err = rw h u }
 
 -- one variable more
 kinds-append : (size : Sizes) (vs : List (VarKind ℕ)) (v : VarKind ℕ) → AreNamedKinds size vs → IsNamedKind size v → AreNamedKinds size (vs ++ v ∷ [])
@@ -53,28 +53,28 @@ kinds-still : (old new : Terms) (vs : List BoundVariableKind) → Extends old ne
 unfolding fill IsPart
 kinds-still old new vs x h = ap vars_of (row-grows old.rows new.rows x.rows (vars_row_shape vs) (h, tt))
 
-pub variables-nothing : (terms : Terms) → AreVariablesOf terms [] []
-variables-nothing terms = record { parts = tt; means = refl }
+pub variables-nothing : (terms : Terms) (ids : ℕ → ℕ) → AreVariablesOf terms ids [] []
+variables-nothing terms ids = record { parts = tt; means = refl }
 
-pub variables-more : (old new : Terms) (cs : List VariableCall) (vs : List BoundVariableKind) (c : VariableCall) (v : BoundVariableKind)
-    → Extends old new → AreVariablesOf old cs vs → IsVariableOf new c v → AreVariablesOf new (cs ++ c ∷ []) (vs ++ v ∷ [])
-variables-more old new cs vs c v x h k = record {
+pub variables-more : (old new : Terms) (ids : ℕ → ℕ) (cs : List VariableCall) (vs : List BoundVariableKind) (c : VariableCall) (v : BoundVariableKind)
+    → Extends old new → AreVariablesOf old ids cs vs → IsVariableOf new ids c v → AreVariablesOf new ids (cs ++ c ∷ []) (vs ++ v ∷ [])
+variables-more old new ids cs vs c v x h k = record {
   parts = rw (map-append var_kind vs (v ∷ [])) (kinds-append (size new.rows) (map var_kind vs) (var_kind v) (kinds-grow old new vs x h.parts) k.part);
-  means = rw (map-append var_kind vs (v ∷ []), map-append (rename_kind (name_of (meaning new.rows))) (map var_kind vs) (var_kind v ∷ []), map-append variable_kind cs (c ∷ []), kinds-still old new vs x h.parts, h.means, k.means) refl;
+  means = rw (map-append var_kind vs (v ∷ []), map-append (rename_kind (name_of (meaning new.rows))) (map var_kind vs) (var_kind v ∷ []), map-append (variable_kind ids) cs (c ∷ []), kinds-still old new vs x h.parts, h.means, k.means) refl;
 }
 
 -- the stored list of variables
-pub variables-built : (old new : Terms) (cs : List VariableCall) (vs : List BoundVariableKind) (result : Result BoundVarKinds Refusal)
-    → AreVariablesOf old cs vs → Builds result (λ l. l.number) old new (vars_row vs) → GivesVariables new cs result
+pub variables-built : (old new : Terms) (ids : ℕ → ℕ) (cs : List VariableCall) (vs : List BoundVariableKind) (result : Result BoundVarKinds Refusal)
+    → AreVariablesOf old ids cs vs → Builds result (λ l. l.number) old new (vars_row vs) → GivesVariables new ids cs result
 unfolding fill
-variables-built old new cs vs (Ok l) h b = record {
+variables-built old new ids cs vs (Ok l) h b = record {
   ok = record {
     in_range = b.in_range;
     means = b.means ∙ ap (λ ks. node (var_list_label ks) none) h.means;
   };
   err = tt;
 }
-variables-built old new cs vs (Err r) h b = record {
+variables-built old new ids cs vs (Err r) h b = record {
   ok = tt;
   err = unstored old new (Builds-extends (Err r) (λ l. l.number) old new (vars_row vs) b) (vars_row vs) [] [] ⊥ (λ d. d) r b.cause;
 }

@@ -25,7 +25,7 @@ use Rattle.type_terms.specs.declared.run.call.RegionCall.{RegionCall}
 use Rattle.type_terms.specs.declared.run.call.VariableCall.{VariableCall}
 use Rattle.type_terms.specs.CallForm.{ExistentialForm, trait_object, existentials_tree, existential_positions, IsExistentialTooDeep, all_trees, all_positions, AnyIsDeep, Named, Item, Part, one, a_region, CallForm, plain, under, variable_kind, region_tree, IsRegionTooDeep, item_tree, item_positions, items_positions, part_positions, parts_positions, IsItemTooDeep, AreItemsTooDeep, IsPartTooDeep, ArePartsTooDeep, form_positions, IsFormTooDeep, RecordCall, record_tree}
 use Rattle.type_terms.specs.Told.{Told, HasFullTable}
-use Rattle.type_terms.specs.Means.{tree_at, AreTerms}
+use Rattle.type_terms.specs.Means.{number_at, tree_at, AreTerms}
 use Rattle.type_terms.specs.Build as build
 use Rattle.type_terms.specs.Build.{IsUnbuilt, IsPlaced, ArePlaced, IsItemOf, AreItemsOf, IsPartOf, ArePartsOf, GivesPart, GivesParts, GivesPlaced, GivesItems, IsRegionOf, GivesRegion, IsVariableListOf, IsKindOf, GivesKind, GivesRecord}
 
@@ -129,40 +129,40 @@ module _ {X : Type 0} (names_of : X → List Named) where
   named-among e (w ∷ xs) (suc i) x h k = named-among e xs i x h (AreTerms-second e (names_of w) (all_positions names_of xs) k)
 
 -- those of a list in order, and the values
-module _ {X T : Type 0} (tree_of : (ℕ → Tree Depth) → X → Tree Depth) (names_of : X → List Named) (deep_of : X → Type 0) (of_value : T → Shape) where
+module _ {X T : Type 0} (tree_of : (ℕ → ℕ) → (ℕ → Tree Depth) → X → Tree Depth) (names_of : X → List Named) (deep_of : X → Type 0) (of_value : T → Shape) where
   parts-append : (size : Sizes) (ys : List T) (y : T) → AreParts size (item_shapes of_value ys) → IsPart size (of_value y)
       → AreParts size (item_shapes of_value (ys ++ y ∷ []))
   unfolding IsPart
   parts-append size [] y h k = (k, tt)
   parts-append size (z ∷ ys) y h k = (h.0, parts-append size ys y h.1 k)
 
-  trees-append : (f : shape.Meaning) (at : ℕ → Tree Depth) (xs : List X) (ys : List T) (x : X) (y : T)
-      → fill_all f (item_shapes of_value ys) ≡ all_trees (tree_of at) xs → fill f (of_value y) ≡ tree_of at x
-      → fill_all f (item_shapes of_value (ys ++ y ∷ [])) ≡ all_trees (tree_of at) (xs ++ x ∷ [])
+  trees-append : (f : shape.Meaning) (ids : ℕ → ℕ) (at : ℕ → Tree Depth) (xs : List X) (ys : List T) (x : X) (y : T)
+      → fill_all f (item_shapes of_value ys) ≡ all_trees (tree_of ids at) xs → fill f (of_value y) ≡ tree_of ids at x
+      → fill_all f (item_shapes of_value (ys ++ y ∷ [])) ≡ all_trees (tree_of ids at) (xs ++ x ∷ [])
   unfolding fill
-  trees-append f at [] [] x y h k = rw k refl
-  trees-append f at [] (z ∷ ys) x y h k = absurd (cc)
-  trees-append f at (w ∷ xs) [] x y h k = absurd (cc)
-  trees-append f at (w ∷ xs) (z ∷ ys) x y h k =
-      let first : fill f (of_value z) ≡ tree_of at w = cc in
-      let rest : fill_all f (item_shapes of_value ys) ≡ all_trees (tree_of at) xs = cc in
-      rw (first, trees-append f at xs ys x y rest k) refl
+  trees-append f ids at [] [] x y h k = rw k refl
+  trees-append f ids at [] (z ∷ ys) x y h k = absurd (cc)
+  trees-append f ids at (w ∷ xs) [] x y h k = absurd (cc)
+  trees-append f ids at (w ∷ xs) (z ∷ ys) x y h k =
+      let first : fill f (of_value z) ≡ tree_of ids at w = cc in
+      let rest : fill_all f (item_shapes of_value ys) ≡ all_trees (tree_of ids at) xs = cc in
+      rw (first, trees-append f ids at xs ys x y rest k) refl
 
   shallow-append : (xs : List X) (x : X) → (AnyIsDeep deep_of xs → ⊥) → (deep_of x → ⊥) → AnyIsDeep deep_of (xs ++ x ∷ []) → ⊥
   shallow-append [] x h k d = elim d [ inl y ↦ k y | inr y ↦ y ]
   shallow-append (w ∷ xs) x h k d = elim d [ inl y ↦ h (inl y) | inr y ↦ shallow-append xs x (λ z. h (inr z)) k y ]
 
-  pub all-none : (terms : Terms) (e : List Told) → ArePlaced terms e (all_trees (tree_of (tree_at e)) []) (all_positions names_of []) (AnyIsDeep deep_of []) (item_shapes of_value [])
+  pub all-none : (terms : Terms) (e : List Told) → ArePlaced terms e (all_trees (tree_of (number_at e) (tree_at e)) []) (all_positions names_of []) (AnyIsDeep deep_of []) (item_shapes of_value [])
   unfolding fill IsPart
   all-none terms e = record { parts = tt; means = refl; named = tt; shallow = λ d. d }
 
   pub all-more : (terms : Terms) (e : List Told) (xs : List X) (ys : List T) (x : X) (y : T)
-      → ArePlaced terms e (all_trees (tree_of (tree_at e)) xs) (all_positions names_of xs) (AnyIsDeep deep_of xs) (item_shapes of_value ys)
-      → IsPlaced terms e (tree_of (tree_at e) x) (names_of x) (deep_of x) (of_value y)
-      → ArePlaced terms e (all_trees (tree_of (tree_at e)) (xs ++ x ∷ [])) (all_positions names_of (xs ++ x ∷ [])) (AnyIsDeep deep_of (xs ++ x ∷ [])) (item_shapes of_value (ys ++ y ∷ []))
+      → ArePlaced terms e (all_trees (tree_of (number_at e) (tree_at e)) xs) (all_positions names_of xs) (AnyIsDeep deep_of xs) (item_shapes of_value ys)
+      → IsPlaced terms e (tree_of (number_at e) (tree_at e) x) (names_of x) (deep_of x) (of_value y)
+      → ArePlaced terms e (all_trees (tree_of (number_at e) (tree_at e)) (xs ++ x ∷ [])) (all_positions names_of (xs ++ x ∷ [])) (AnyIsDeep deep_of (xs ++ x ∷ [])) (item_shapes of_value (ys ++ y ∷ []))
   all-more terms e xs ys x y h k = record {
     parts = parts-append (size terms.rows) ys y h.parts k.part;
-    means = trees-append (meaning terms.rows) (tree_at e) xs ys x y h.means k.means;
+    means = trees-append (meaning terms.rows) (number_at e) (tree_at e) xs ys x y h.means k.means;
     named = named-append names_of e xs x h.named k.named;
     shallow = shallow-append xs x h.shallow k.shallow;
   }
@@ -201,7 +201,7 @@ module _ {C T : Type 0} (item : C → Item) (of_value : T → Shape) where
   unbuilt-among P e cs i c r h u = unbuilt-one item_tree item_positions IsItemTooDeep of_value P e (map item cs) i (item c) r (get-mapped item cs i c h) u
 
 -- a region
-pub region-part : (terms : Terms) (e : List Told) (c : RegionCall) (r : RegionKind) → IsRegionOf terms (region_tree c) (IsRegionTooDeep c) r
+pub region-part : (terms : Terms) (e : List Told) (c : RegionCall) (r : RegionKind) → IsRegionOf terms (region_tree (number_at e) c) (IsRegionTooDeep c) r
     → IsPartOf terms e (one (a_region c)) (region_shape r)
 region-part terms e c r h = record { part = h.part; means = h.means; named = tt; shallow = h.shallow }
 
@@ -224,10 +224,10 @@ plain-kind terms e l ps m ss h n q = record {
 -- the same where the children stand in a record under a binder
 pub under-kind : (terms : Terms) (e : List Told) (l : Label Name) (vs : List VariableCall) (k : RecordLabel Name) (ps : List Part)
     (m : Label ℕ) (vars : BoundVarKinds) (n : RecordLabel ℕ) (ss : Shapes)
-    → ArePartsOf terms e ps ss → IsVariableListOf terms vs vars
+    → ArePartsOf terms e ps ss → IsVariableListOf terms (number_at e) vs vars
     → IsNamedLabel (size terms.rows) m → rename_label (name_of (meaning terms.rows)) m ≡ l
     → IsNamedRecord (size terms.rows) n → rename_record (name_of (meaning terms.rows)) n ≡ k
-    → IsKindOf terms e (under l (map variable_kind vs) k ps)
+    → IsKindOf terms e (under l (map (variable_kind (number_at e)) vs) k ps)
     (shape.term m (shape.also (shape.binder vars.number (shape.node (record_label n) ss)) shape.none))
 unfolding fill IsPart
 under-kind terms e l vs k ps m vars n ss h v nl ql nr qr = record {
@@ -240,7 +240,7 @@ under-kind terms e l vs k ps m vars n ss h v nl ql nr qr = record {
 -- what stands under a predicate's binder
 pub record-placed : (terms : Terms) (e : List Told) (r : RecordCall) (n : RecordLabel ℕ) (ss : Shapes) → ArePartsOf terms e r.parts ss
     → IsNamedRecord (size terms.rows) n → rename_record (name_of (meaning terms.rows)) n ≡ r.label
-    → IsPlaced terms e (record_tree (tree_at e) r) (parts_positions r.parts) (ArePartsTooDeep r.parts) (shape.node (record_label n) ss)
+    → IsPlaced terms e (record_tree (number_at e) (tree_at e) r) (parts_positions r.parts) (ArePartsTooDeep r.parts) (shape.node (record_label n) ss)
 unfolding fill IsPart
 record-placed terms e r n ss h k q = record {
   part = (refl, k, h.parts);
@@ -250,9 +250,9 @@ record-placed terms e r n ss h k q = record {
 }
 
 pub bound-record : (terms : Terms) (e : List Told) (l : Label Name) (vs : List VariableCall) (r : RecordCall) (m : Label ℕ) (vars : BoundVarKinds) (s : Shape)
-    → IsPlaced terms e (record_tree (tree_at e) r) (parts_positions r.parts) (ArePartsTooDeep r.parts) s → IsVariableListOf terms vs vars
+    → IsPlaced terms e (record_tree (number_at e) (tree_at e) r) (parts_positions r.parts) (ArePartsTooDeep r.parts) s → IsVariableListOf terms (number_at e) vs vars
     → IsNamedLabel (size terms.rows) m → rename_label (name_of (meaning terms.rows)) m ≡ l
-    → IsKindOf terms e (under l (map variable_kind vs) r.label r.parts) (shape.term m (shape.also (shape.binder vars.number s) shape.none))
+    → IsKindOf terms e (under l (map (variable_kind (number_at e)) vs) r.label r.parts) (shape.term m (shape.also (shape.binder vars.number s) shape.none))
 unfolding fill IsPart
 bound-record terms e l vs r m vars s h v n q = record {
   parts = (n, ((v.in_range, h.part), tt));
@@ -287,8 +287,8 @@ placed-passed terms e t ns deep of_value (Err x) r h k = record { ok = tt; err =
 
 -- the kind of a trait object
 pub dynamic-kind : (terms : Terms) (e : List Told) (xs : List ExistentialForm) (c : RegionCall) (s : Shape) (r : RegionKind)
-    → IsPlaced terms e (existentials_tree (tree_at e) xs) (all_positions existential_positions xs) (AnyIsDeep IsExistentialTooDeep xs) s
-    → IsRegionOf terms (region_tree c) (IsRegionTooDeep c) r
+    → IsPlaced terms e (existentials_tree (number_at e) (tree_at e) xs) (all_positions existential_positions xs) (AnyIsDeep IsExistentialTooDeep xs) s
+    → IsRegionOf terms (region_tree (number_at e) c) (IsRegionTooDeep c) r
     → IsKindOf terms e (trait_object xs c) (shape.term (type_label dynamic_type) (shape.also s (shape.also (region_shape r) shape.none)))
 unfolding fill IsPart
 dynamic-kind terms e xs c s r h k = record {

@@ -33,7 +33,7 @@ use Rattle.std.specs.declared.alloc.Global.{Global}
 use Rattle.std.specs.declared.vec.Vec.{Vec}
 use Rattle.type_terms.specs.CallForm.{of_id, CallForm, Named, Item, Part, called, variable_kind, item_tree, items_trees, part_tree, parts_trees, item_positions, items_positions, part_positions, parts_positions, IsItemTooDeep, AreItemsTooDeep, IsPartTooDeep, ArePartsTooDeep, form_positions, form_tree, IsFormTooDeep, arg_item, arg_items, clause_items, RecordCall, record_tree}
 use Rattle.type_terms.specs.Told.{Told, term, told, told_all, handle_table, IsOwned, AreOwned, HasFullTable}
-use Rattle.type_terms.specs.Means.{as_term, term_at, as_id, id_at, Tells, tree_at, argument, arguments, AreTerms, IsAllowed, MayRefuse}
+use Rattle.type_terms.specs.Means.{as_term, term_at, as_id, id_at, number_at, Tells, tree_at, argument, arguments, AreTerms, IsAllowed, MayRefuse}
 
 -- the answer is the handle of this number in the table
 pub record IsHandle (a : Answer) (table : Table) (number : ℕ) : Type 0 where
@@ -75,39 +75,39 @@ pub data IsUnbuilt (full : Type 0) (earlier : List Told) (named : List Named) (d
   no_term : (AreTerms earlier named → ⊥) → e ≡ NoSuchAnswer → IsUnbuilt full earlier named deep e
   no_index : deep → e ≡ GreatestIndex → IsUnbuilt full earlier named deep e
 
--- a bound region is called so
-pub record IsNameOf (terms : Terms) (call : RegionNameCall) (k : BoundRegionKind) : Type 0 where
+-- a bound region is called so, where these are the numbers of the ids at positions
+pub record IsNameOf (terms : Terms) (ids : ℕ → ℕ) (call : RegionNameCall) (k : BoundRegionKind) : Type 0 where
   pub part : IsNamed (size terms.rows) (region_name k)
-  pub means : rename_region (name_of (meaning terms.rows)) (region_name k) ≡ called call
+  pub means : rename_region (name_of (meaning terms.rows)) (region_name k) ≡ called ids call
 
 -- the result is that name, or a refusal with a reason
-pub record GivesName (terms : Terms) (call : RegionNameCall) (result : Result BoundRegionKind Refusal) : Type 0 where
-  pub ok : IfOk result (IsNameOf terms call)
+pub record GivesName (terms : Terms) (ids : ℕ → ℕ) (call : RegionNameCall) (result : Result BoundRegionKind Refusal) : Type 0 where
+  pub ok : IfOk result (IsNameOf terms ids call)
   pub err : IfErr result (IsUnbuilt (HasFullTable terms) [] [] ⊥)
 
 -- the variable is the one that the call names
-pub record IsVariableOf (terms : Terms) (call : VariableCall) (v : BoundVariableKind) : Type 0 where
+pub record IsVariableOf (terms : Terms) (ids : ℕ → ℕ) (call : VariableCall) (v : BoundVariableKind) : Type 0 where
   pub part : IsNamedKind (size terms.rows) (var_kind v)
-  pub means : rename_kind (name_of (meaning terms.rows)) (var_kind v) ≡ variable_kind call
+  pub means : rename_kind (name_of (meaning terms.rows)) (var_kind v) ≡ variable_kind ids call
 
 -- the result is that variable, or a refusal with a reason
-pub record GivesVariable (terms : Terms) (call : VariableCall) (result : Result BoundVariableKind Refusal) : Type 0 where
-  pub ok : IfOk result (IsVariableOf terms call)
+pub record GivesVariable (terms : Terms) (ids : ℕ → ℕ) (call : VariableCall) (result : Result BoundVariableKind Refusal) : Type 0 where
+  pub ok : IfOk result (IsVariableOf terms ids call)
   pub err : IfErr result (IsUnbuilt (HasFullTable terms) [] [] ⊥)
 
 -- the variables are those that the calls name
-pub record AreVariablesOf (terms : Terms) (calls : List VariableCall) (vs : List BoundVariableKind) : Type 0 where
+pub record AreVariablesOf (terms : Terms) (ids : ℕ → ℕ) (calls : List VariableCall) (vs : List BoundVariableKind) : Type 0 where
   pub parts : AreNamedKinds (size terms.rows) (map var_kind vs)
-  pub means : map (rename_kind (name_of (meaning terms.rows))) (map var_kind vs) ≡ map variable_kind calls
+  pub means : map (rename_kind (name_of (meaning terms.rows))) (map var_kind vs) ≡ map (variable_kind ids) calls
 
 -- the list is that of the variables
-pub record IsVariableListOf (terms : Terms) (calls : List VariableCall) (list : BoundVarKinds) : Type 0 where
+pub record IsVariableListOf (terms : Terms) (ids : ℕ → ℕ) (calls : List VariableCall) (list : BoundVarKinds) : Type 0 where
   pub in_range : list.number < size terms.rows VarLists
-  pub means : meaning terms.rows VarLists list.number ≡ node (var_list_label (map variable_kind calls)) none
+  pub means : meaning terms.rows VarLists list.number ≡ node (var_list_label (map (variable_kind ids) calls)) none
 
 -- the result is that list, or a refusal with a reason
-pub record GivesVariables (terms : Terms) (calls : List VariableCall) (result : Result BoundVarKinds Refusal) : Type 0 where
-  pub ok : IfOk result (IsVariableListOf terms calls)
+pub record GivesVariables (terms : Terms) (ids : ℕ → ℕ) (calls : List VariableCall) (result : Result BoundVarKinds Refusal) : Type 0 where
+  pub ok : IfOk result (IsVariableListOf terms ids calls)
   pub err : IfErr result (IsUnbuilt (HasFullTable terms) [] [] ⊥)
 
 -- the region has this tree
@@ -137,19 +137,19 @@ pub record ArePlaced (terms : Terms) (earlier : List Told) (ts : Forest Depth) (
 
 -- the value is what the call puts in the item's place
 abbrev pub IsItemOf : Terms → List Told → Item → Shape → Type 0
-IsItemOf terms earlier i s = IsPlaced terms earlier (item_tree (tree_at earlier) i) (item_positions i) (IsItemTooDeep i) s
+IsItemOf terms earlier i s = IsPlaced terms earlier (item_tree (number_at earlier) (tree_at earlier) i) (item_positions i) (IsItemTooDeep i) s
 
 -- the values are what the call puts in the items' places
 abbrev pub AreItemsOf : Terms → List Told → List Item → Shapes → Type 0
-AreItemsOf terms earlier is ss = ArePlaced terms earlier (items_trees (tree_at earlier) is) (items_positions is) (AreItemsTooDeep is) ss
+AreItemsOf terms earlier is ss = ArePlaced terms earlier (items_trees (number_at earlier) (tree_at earlier) is) (items_positions is) (AreItemsTooDeep is) ss
 
 -- the value is what the call puts in the child's place
 abbrev pub IsPartOf : Terms → List Told → Part → Shape → Type 0
-IsPartOf terms earlier p s = IsPlaced terms earlier (part_tree (tree_at earlier) p) (part_positions p) (IsPartTooDeep p) s
+IsPartOf terms earlier p s = IsPlaced terms earlier (part_tree (number_at earlier) (tree_at earlier) p) (part_positions p) (IsPartTooDeep p) s
 
 -- the values are what the call puts in the children's places
 abbrev pub ArePartsOf : Terms → List Told → List Part → Shapes → Type 0
-ArePartsOf terms earlier ps ss = ArePlaced terms earlier (parts_trees (tree_at earlier) ps) (parts_positions ps) (ArePartsTooDeep ps) ss
+ArePartsOf terms earlier ps ss = ArePlaced terms earlier (parts_trees (number_at earlier) (tree_at earlier) ps) (parts_positions ps) (ArePartsTooDeep ps) ss
 
 -- the result has this tree, or is a refusal with a reason
 pub record GivesPlaced {H : Type 0} (terms : Terms) (earlier : List Told) (t : Tree Depth) (names : List Named) (deep : Type 0) (shape : H → Shape) (result : Result H Refusal) : Type 0 where
@@ -174,7 +174,7 @@ pub record GivesParts {H : Type 0} (terms : Terms) (earlier : List Told) (ps : L
 -- the shape of a kind is the one that the call names
 pub record IsKindOf (terms : Terms) (earlier : List Told) (form : CallForm) (s : Shape) : Type 0 where
   pub parts : HasParts (size terms.rows) s
-  pub means : fill (meaning terms.rows) s ≡ form_tree (tree_at earlier) form
+  pub means : fill (meaning terms.rows) s ≡ form_tree (number_at earlier) (tree_at earlier) form
   pub named : AreTerms earlier (form_positions form)
   pub deep : shape.IsTooDeep s ↔ IsFormTooDeep form
 
@@ -185,7 +185,7 @@ pub record GivesKind {K : Type 0} (terms : Terms) (earlier : List Told) (form : 
 
 -- the result is what stands under the predicate's binder, or a refusal with a reason
 pub record GivesRecord {K : Type 0} (terms : Terms) (earlier : List Told) (r : RecordCall) (form : K → RecordForm) (result : Result K Refusal) : Type 0 where
-  pub ok : IfOk result (λ k. IsPlaced terms earlier (record_tree (tree_at earlier) r) (parts_positions r.parts) (ArePartsTooDeep r.parts) (record_shape (form k)))
+  pub ok : IfOk result (λ k. IsPlaced terms earlier (record_tree (number_at earlier) (tree_at earlier) r) (parts_positions r.parts) (ArePartsTooDeep r.parts) (record_shape (form k)))
   pub err : IfErr result (IsUnbuilt (HasFullTable terms) earlier (parts_positions r.parts) (ArePartsTooDeep r.parts))
 
 -- the clauses are those at the positions

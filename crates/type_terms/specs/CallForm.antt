@@ -1,4 +1,4 @@
--- What building calls build: the tree over the trees at the positions that they name, and what they ask of the terms there.
+-- What building calls build: the tree over the trees and the ids at the positions that they name, and what they ask of what is there.
 use Rattle.std.specs.Prelude.{ℕ, List, [], ◌∷◌, ◌++◌, map, ◌⊎◌}
 use Rattle.std.specs.String.{string_bytes}
 use Rattle.tt_kinds.specs.Label.{Name, Sort, region_sort, type_sort, const_sort, RegionName, anonymous, printed, named, environment, VarKind, region_variable, type_variable, const_variable, Entry, static_region, erased_region, region_var, error_region, late_param_region, placeholder_region, TypeLabel, bool_type, char_type, int_type, uint_type, float_type, str_type, never_type, placeholder_type, infer_type, error_type, ref_type, raw_ptr_type, slice_type, tuple_type, fn_ptr_type, foreign_type, adt_type, array_type, closure_type, coroutine_closure_type, coroutine_type, coroutine_witness_type, alias_type, infer_const, placeholder_const, unevaluated_const, leaf_const, branch_const, error_const, expr_const, pat_type, unsafe_binder_type, range_pattern, or_pattern, not_null_pattern, unsafe_binder_record, trait_record, host_effect_record, region_outlives_record, type_outlives_record, projection_record, const_has_type_record, well_formed_record, const_evaluatable_record, unstable_feature_record, dyn_compatible_record, subtype_record, coerce_record, const_equate_record, ambiguous_record, normalizes_to_record, alias_relate_record, dynamic_type, existential_trait_record, existential_projection_record, auto_trait_record, RecordLabel, fn_sig_tys_record, Label, type_label, const_label, pattern_label, predicate_label, existential_label, clause_list_label, list_label, record_label}
@@ -8,10 +8,13 @@ use Rattle.tt_kinds.specs.Bound.{depth}
 use Rattle.tt_kinds.specs.Shape.{IsGreatest}
 use Rattle.tt_kinds.specs.declared.table.Table.{Table}
 use Rattle.tt_kinds.specs.declared.table.Table.TheVariants.{Types, Consts, Patterns, TypeLists, ConstLists, ArgLists, PatternLists, ExistentialLists}
-use Rattle.tt_kinds.specs.declared.bound.BoundTy.{BoundTy}
+use Rattle.tt_kinds.specs.declared.bound.BoundTyKind.{BoundTyKind}
+use Rattle.tt_kinds.specs.declared.bound.BoundTyKind.TheVariants as bound_ty_kind
 use Rattle.tt_kinds.specs.declared.bound.BoundConst.{BoundConst}
 use Rattle.type_terms.specs.declared.run.call.RegionNameCall.{RegionNameCall}
 use Rattle.type_terms.specs.declared.run.call.RegionNameCall.TheVariants as region_name
+use Rattle.type_terms.specs.declared.run.call.BoundTyKindCall.{BoundTyKindCall}
+use Rattle.type_terms.specs.declared.run.call.BoundTyKindCall.TheVariants as ty_name
 use Rattle.type_terms.specs.declared.run.call.VariableCall.{VariableCall}
 use Rattle.type_terms.specs.declared.run.call.VariableCall.TheVariants as variable
 use Rattle.type_terms.specs.declared.run.call.RegionCall.{RegionCall}
@@ -125,27 +128,6 @@ pub data CallForm : Type 0 where
   -- a trait object: its existential predicates, and its region
   trait_object : List ExistentialForm → RegionCall → CallForm
 
--- what a bound region is called
-abbrev pub called : RegionNameCall → RegionName Name
-called region_name.Anon = anonymous
-called (region_name.NamedForPrinting text) = printed (string_bytes text)
-called (region_name.Named d) = named d.number
-called region_name.ClosureEnv = environment
-
--- a variable of a binder's list
-abbrev pub variable_kind : VariableCall → VarKind Name
-variable_kind (variable.Ty k) = type_variable k
-variable_kind (variable.Region k) = region_variable (called k)
-variable_kind variable.Const = const_variable
-
--- what a bound region says of itself
-abbrev pub region_entry : ℕ → RegionNameCall → Entry Name
-region_entry var name = record { var = var; kind = region_variable (called name) }
-
--- what a bound type says of itself
-abbrev pub ty_entry : BoundTy → Entry Name
-ty_entry b = record { var = b.var; kind = type_variable b.kind }
-
 -- what a bound constant says of itself
 abbrev pub const_entry : BoundConst → Entry Name
 const_entry b = record { var = b.var; kind = const_variable }
@@ -168,6 +150,43 @@ pat_form pat.NotNull = plain (pattern_label not_null_pattern) []
 
 -- the number of the id at each position
 module _ (ids : ℕ → ℕ) where
+  -- what a bound region is called
+  abbrev pub called : RegionNameCall → RegionName Name
+  called region_name.Anon = anonymous
+  called (region_name.NamedForPrinting text) = printed (string_bytes text)
+  called (region_name.Named p) = named (ids p)
+  called region_name.ClosureEnv = environment
+
+  -- what a bound type is called
+  abbrev pub ty_called : BoundTyKindCall → BoundTyKind
+  ty_called ty_name.Anon = bound_ty_kind.Anon
+  ty_called (ty_name.Param p) = bound_ty_kind.Param (record { number = ids p })
+
+  -- a variable of a binder's list
+  abbrev pub variable_kind : VariableCall → VarKind Name
+  variable_kind (variable.Ty k) = type_variable (ty_called k)
+  variable_kind (variable.Region k) = region_variable (called k)
+  variable_kind variable.Const = const_variable
+
+  -- what a bound region says of itself
+  abbrev pub region_entry : ℕ → RegionNameCall → Entry Name
+  region_entry var name = record { var = var; kind = region_variable (called name) }
+
+  -- what a bound type says of itself
+  abbrev pub ty_entry : ℕ → BoundTyKindCall → Entry Name
+  ty_entry var name = record { var = var; kind = type_variable (ty_called name) }
+
+  -- the tree of a region
+  abbrev pub region_tree : RegionCall → Tree Depth
+  region_tree (ReEarlyParam index name) = tree.param region_sort index (string_bytes name)
+  region_tree (ReBound i var name) = tree.bound region_sort (depth i) (region_entry var name)
+  region_tree (ReLateParam p name) = tree.region (late_param_region (ids p) (called name))
+  region_tree ReStatic = tree.region static_region
+  region_tree (ReVar v) = tree.region (region_var v)
+  region_tree (RePlaceholder u var name) = tree.region (placeholder_region u var (called name))
+  region_tree ReErased = tree.region erased_region
+  region_tree (ReError e) = tree.region (error_region e.0)
+
   -- what an alias is
   abbrev pub alias_of : AliasCall → AliasTyKind
   alias_of (alias.Projection p) = alias_kind.Projection (record { number = ids p })
@@ -205,8 +224,8 @@ module _ (ids : ℕ → ℕ) where
   ty_form ty.Str = plain (type_label str_type) []
   ty_form ty.Never = plain (type_label never_type) []
   ty_form (ty.Param index name) = param type_sort index (string_bytes name)
-  ty_form (ty.Bound i b) = bound type_sort (depth i) (ty_entry b)
-  ty_form (ty.Placeholder p) = plain (type_label (placeholder_type p)) []
+  ty_form (ty.Bound i var name) = bound type_sort (depth i) (ty_entry var name)
+  ty_form (ty.Placeholder u var name) = plain (type_label (placeholder_type (record { universe = u; bound = record { var = var; kind = ty_called name } }))) []
   ty_form (ty.Infer i) = plain (type_label (infer_type i)) []
   ty_form (ty.Error e) = plain (type_label (error_type e.0)) []
   ty_form (ty.Ref r t m) = plain (type_label (ref_type m)) (one (a_region r) ∷ one (a_term Types t) ∷ [])
@@ -262,17 +281,6 @@ module _ (ids : ℕ → ℕ) where
 -- clauses as items of a list
 abbrev pub clause_items : List ℕ → List Item
 clause_items ps = map a_clause ps
-
--- the tree of a region
-abbrev pub region_tree : RegionCall → Tree Depth
-region_tree (ReEarlyParam index name) = tree.param region_sort index (string_bytes name)
-region_tree (ReBound i var name) = tree.bound region_sort (depth i) (region_entry var name)
-region_tree (ReLateParam d name) = tree.region (late_param_region d.number (called name))
-region_tree ReStatic = tree.region static_region
-region_tree (ReVar v) = tree.region (region_var v)
-region_tree (RePlaceholder u var name) = tree.region (placeholder_region u var (called name))
-region_tree ReErased = tree.region erased_region
-region_tree (ReError e) = tree.region (error_region e.0)
 
 -- the region is bound by the binder of the greatest index
 abbrev pub IsRegionTooDeep : RegionCall → Type 0
@@ -361,6 +369,42 @@ an_id s p = record { want = of_id s; position = p } ∷ []
 abbrev pub any_id : ℕ → List Named
 any_id p = record { want = of_any_id; position = p } ∷ []
 
+-- the position of the id that a bound region's name names
+abbrev pub name_ids : RegionNameCall → List Named
+name_ids (region_name.Named p) = any_id p
+name_ids _ = []
+
+-- the position of the id that a bound type's name names
+abbrev pub ty_name_ids : BoundTyKindCall → List Named
+ty_name_ids ty_name.Anon = []
+ty_name_ids (ty_name.Param p) = any_id p
+
+-- the position of the id that a variable names
+abbrev pub variable_ids : VariableCall → List Named
+variable_ids (variable.Ty k) = ty_name_ids k
+variable_ids (variable.Region k) = name_ids k
+variable_ids variable.Const = []
+
+-- the positions of ids that variables name
+abbrev pub variables_ids : List VariableCall → List Named
+variables_ids vars = all_positions variable_ids vars
+
+-- the positions of ids that a region names
+abbrev pub region_ids : RegionCall → List Named
+region_ids (ReBound i var name) = name_ids name
+region_ids (ReLateParam p name) = any_id p ++ name_ids name
+region_ids (RePlaceholder u var name) = name_ids name
+region_ids _ = []
+
+-- the positions of ids that an argument names
+abbrev pub arg_ids : ArgCall → List Named
+arg_ids (arg.Lifetime r) = region_ids r
+arg_ids _ = []
+
+-- the positions of ids that arguments name
+abbrev pub args_ids : List ArgCall → List Named
+args_ids args = all_positions arg_ids args
+
 -- the position of the id that an alias names
 abbrev pub alias_ids : AliasCall → List Named
 alias_ids (alias.Projection p) = an_id sort.AssocTy p
@@ -377,41 +421,57 @@ item_ids (item.Coroutine p) = an_id sort.Coroutine p
 item_ids (item.CoroutineWitness p) = an_id sort.Coroutine p
 item_ids (item.Alias k) = alias_ids k
 
--- the position of the id that an existential predicate's kind names
+-- the positions of ids that an existential predicate's kind names
 abbrev pub existential_kind_ids : ExistentialKindCall → List Named
-existential_kind_ids (existential.Trait p args) = an_id sort.Trait p
-existential_kind_ids (existential.Projection p args t) = any_id p
+existential_kind_ids (existential.Trait p args) = an_id sort.Trait p ++ args_ids args.items
+existential_kind_ids (existential.Projection p args t) = any_id p ++ args_ids args.items
 existential_kind_ids (existential.AutoTrait p) = an_id sort.Trait p
 
--- the position of the id that an existential predicate names
+-- the positions of ids that an existential predicate names
 abbrev pub existential_ids : ExistentialCall → List Named
-existential_ids x = existential_kind_ids x.kind
+existential_ids x = existential_kind_ids x.kind ++ variables_ids x.vars.items
+
+-- the positions of ids that existential predicates name
+abbrev pub existentials_ids : List ExistentialCall → List Named
+existentials_ids xs = all_positions existential_ids xs
 
 -- the positions of ids that a type names
 abbrev pub ty_ids : TyCall → List Named
 ty_ids (ty.Foreign p) = an_id sort.Foreign p
-ty_ids (ty.Item i args) = item_ids i
-ty_ids (ty.Dynamic xs r) = all_positions existential_ids xs.items
+ty_ids (ty.Bound i var name) = ty_name_ids name
+ty_ids (ty.Placeholder u var name) = ty_name_ids name
+ty_ids (ty.Ref r t m) = region_ids r
+ty_ids (ty.FnPtr vars ts h) = variables_ids vars.items
+ty_ids (ty.Item i args) = item_ids i ++ args_ids args.items
+ty_ids (ty.Dynamic xs r) = existentials_ids xs.items ++ region_ids r
+ty_ids (ty.UnsafeBinder vars t) = variables_ids vars.items
 ty_ids _ = []
 
--- the position of the id that a constant names
+-- the positions of ids that a constant names
 abbrev pub const_ids : ConstCall → List Named
-const_ids (const.Unevaluated p args) = an_id sort.Const p
+const_ids (const.Unevaluated p args) = an_id sort.Const p ++ args_ids args.items
+const_ids (const.Expr tag args) = args_ids args.items
 const_ids _ = []
 
--- the position of the id that a clause names
+-- the positions of ids that a clause names
 abbrev pub clause_ids : ClauseCall → List Named
-clause_ids (clause.Trait p args) = an_id sort.Trait p
-clause_ids (clause.Projection p args t) = any_id p
-clause_ids (clause.HostEffect p args constness) = an_id sort.Trait p
+clause_ids (clause.Trait p args) = an_id sort.Trait p ++ args_ids args.items
+clause_ids (clause.RegionOutlives r s) = region_ids r ++ region_ids s
+clause_ids (clause.TypeOutlives t r) = region_ids r
+clause_ids (clause.Projection p args t) = any_id p ++ args_ids args.items
+clause_ids (clause.HostEffect p args constness) = an_id sort.Trait p ++ args_ids args.items
 clause_ids _ = []
 
--- the position of the id that a predicate names
-abbrev pub predicate_ids : PredicateKindCall → List Named
-predicate_ids (predicate.Clause c) = clause_ids c
-predicate_ids (predicate.DynCompatible p) = an_id sort.Trait p
-predicate_ids (predicate.NormalizesTo p args t) = any_id p
-predicate_ids _ = []
+-- the positions of ids that a predicate's kind names
+abbrev pub predicate_kind_ids : PredicateKindCall → List Named
+predicate_kind_ids (predicate.Clause c) = clause_ids c
+predicate_kind_ids (predicate.DynCompatible p) = an_id sort.Trait p
+predicate_kind_ids (predicate.NormalizesTo p args t) = any_id p ++ args_ids args.items
+predicate_kind_ids _ = []
+
+-- the positions of ids that a predicate names
+abbrev pub predicate_ids : PredicateCall → List Named
+predicate_ids p = predicate_kind_ids p.kind ++ variables_ids p.vars.items
 
 -- the sort of what a call declares
 abbrev pub declared_sort : DeclarationKindCall → DeclarationSort
@@ -440,11 +500,11 @@ abbrev pub all_trees : {X : Type 0} → (X → Tree Depth) → List X → Forest
 all_trees of_one [] = none
 all_trees of_one (x ∷ xs) = also (of_one x) (all_trees of_one xs)
 
--- the tree at each position
-module _ (at : ℕ → Tree Depth) where
+-- the number of the id and the tree at each position
+module _ (ids : ℕ → ℕ) (at : ℕ → Tree Depth) where
   -- the tree of an item
   abbrev pub item_tree : Item → Tree Depth
-  item_tree (a_region r) = region_tree r
+  item_tree (a_region r) = region_tree ids r
   item_tree (a_term t p) = at p
   item_tree (a_clause p) = at p
 
@@ -484,4 +544,4 @@ module _ (at : ℕ → Tree Depth) where
   form_tree (bound s d e) = tree.bound s d e
   form_tree (plain l ps) = tree.term l (parts_trees ps)
   form_tree (under l vs m ps) = tree.term l (also (tree.binder vs (tree.node (record_label m) (parts_trees ps))) none)
-  form_tree (trait_object xs r) = tree.term (type_label dynamic_type) (also (existentials_tree xs) (also (region_tree r) none))
+  form_tree (trait_object xs r) = tree.term (type_label dynamic_type) (also (existentials_tree xs) (also (region_tree ids r) none))

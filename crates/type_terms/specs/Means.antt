@@ -17,7 +17,7 @@ use Rattle.type_terms.specs.declared.run.call.ArgCall.{ArgCall}
 use Rattle.type_terms.specs.declared.run.call.ArgCall.TheVariants as arg
 use Rattle.type_terms.specs.declared.run.call.Call.{Call}
 use Rattle.type_terms.specs.declared.run.call.Call.TheVariants as call
-use Rattle.type_terms.specs.CallForm.{Want, of_table, of_clause, as_at, of_any, with_flags, of_id, of_any_id, Named, arg_items, args_part, ty_ids, const_ids, predicate_ids, ty_form, const_form, pat_form, predicate_form, declared_sort, declared_positions, clause_items, clauses_tree, form_positions, items_positions, part_positions, form_tree, part_tree, region_tree, IsFormTooDeep, IsPartTooDeep, AreItemsTooDeep}
+use Rattle.type_terms.specs.CallForm.{Want, of_table, of_clause, as_at, of_any, with_flags, of_id, of_any_id, Named, arg_items, args_part, args_ids, ty_ids, const_ids, predicate_ids, ty_form, const_form, pat_form, predicate_form, declared_sort, declared_positions, clause_items, clauses_tree, form_positions, items_positions, part_positions, form_tree, part_tree, region_tree, IsFormTooDeep, IsPartTooDeep, AreItemsTooDeep}
 use Rattle.type_terms.specs.Told.{Told, term, declared, truth, info, refused, bad}
 
 -- a term with its table
@@ -81,24 +81,26 @@ table_at earlier p = table_of (term_at earlier p)
 abbrev pub any : ℕ → Named
 any p = record { want = of_any; position = p }
 
--- the positions of ids that a building call names
-abbrev pub ids : Call → List Named
-ids (call.Ty k) = ty_ids k
-ids (call.Const k) = const_ids k
-ids (call.Predicate k) = predicate_ids k.kind
-ids _ = []
+-- the positions of ids that a call names, but for one that declares
+abbrev pub id_positions : Call → List Named
+id_positions (call.Ty k) = ty_ids k
+id_positions (call.Const k) = const_ids k
+id_positions (call.Predicate k) = predicate_ids k
+id_positions (call.Args args) = args_ids args.items
+id_positions (call.Instantiate p args) = args_ids args.items
+id_positions _ = []
 
 -- the positions that a call names
 abbrev pub positions : List Told → Call → List Named
 positions earlier (call.Ty k) = ty_ids k ++ form_positions (ty_form (number_at earlier) k)
 positions earlier (call.Const k) = const_ids k ++ form_positions (const_form (number_at earlier) k)
 positions earlier (call.Pat k) = form_positions (pat_form k)
-positions earlier (call.Predicate k) = predicate_ids k.kind ++ form_positions (predicate_form (number_at earlier) k)
+positions earlier (call.Predicate k) = predicate_ids k ++ form_positions (predicate_form (number_at earlier) k)
 positions earlier (call.Clauses ps) = items_positions (clause_items ps.items)
-positions earlier (call.Args args) = part_positions (args_part args.items)
+positions earlier (call.Args args) = args_ids args.items ++ part_positions (args_part args.items)
 positions earlier (call.Declare d) = declared_positions d.kind
 positions earlier (call.Shift p n) = any p ∷ []
-positions earlier (call.Instantiate p args) = any p ∷ items_positions (arg_items args.items)
+positions earlier (call.Instantiate p args) = any p ∷ (args_ids args.items ++ items_positions (arg_items args.items))
 positions earlier (call.Equal p q) = any p ∷ record { want = as_at p; position = q } ∷ []
 positions earlier (call.Info p) = record { want = with_flags; position = p } ∷ []
 positions earlier call.Bad = []
@@ -140,7 +142,7 @@ IsTooDeep earlier _ = ⊥
 
 -- an argument with its tree
 abbrev pub argument : List Told → ArgCall → Argument Depth
-argument earlier (arg.Lifetime r) = record { sort = region_sort; value = region_tree r }
+argument earlier (arg.Lifetime r) = record { sort = region_sort; value = region_tree (number_at earlier) r }
 argument earlier (arg.«Type» p) = record { sort = type_sort; value = tree_at earlier p }
 argument earlier (arg.Const p) = record { sort = const_sort; value = tree_at earlier p }
 
@@ -181,12 +183,12 @@ given_table earlier _ = None
 
 -- the term is what the call builds, or what the fold gives
 abbrev pub Gives : List Told → Call → Tree Depth → Type 0
-Gives earlier (call.Ty k) t = t ≡ form_tree (tree_at earlier) (ty_form (number_at earlier) k)
-Gives earlier (call.Const k) t = t ≡ form_tree (tree_at earlier) (const_form (number_at earlier) k)
-Gives earlier (call.Pat k) t = t ≡ form_tree (tree_at earlier) (pat_form k)
-Gives earlier (call.Predicate k) t = t ≡ form_tree (tree_at earlier) (predicate_form (number_at earlier) k)
-Gives earlier (call.Clauses ps) t = t ≡ clauses_tree (tree_at earlier) ps.items
-Gives earlier (call.Args args) t = t ≡ part_tree (tree_at earlier) (args_part args.items)
+Gives earlier (call.Ty k) t = t ≡ form_tree (number_at earlier) (tree_at earlier) (ty_form (number_at earlier) k)
+Gives earlier (call.Const k) t = t ≡ form_tree (number_at earlier) (tree_at earlier) (const_form (number_at earlier) k)
+Gives earlier (call.Pat k) t = t ≡ form_tree (number_at earlier) (tree_at earlier) (pat_form k)
+Gives earlier (call.Predicate k) t = t ≡ form_tree (number_at earlier) (tree_at earlier) (predicate_form (number_at earlier) k)
+Gives earlier (call.Clauses ps) t = t ≡ clauses_tree (number_at earlier) (tree_at earlier) ps.items
+Gives earlier (call.Args args) t = t ≡ part_tree (number_at earlier) (tree_at earlier) (args_part args.items)
 Gives earlier c t = folded earlier c ≡ Some (read 0 t)
 
 -- the arguments don't suit the term

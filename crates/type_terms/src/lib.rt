@@ -6,6 +6,7 @@ pub mod run;
 pub use run::AliasCall;
 pub use run::Answer;
 pub use run::ArgCall;
+pub use run::BoundTyKindCall;
 pub use run::Call;
 pub use run::ClauseCall;
 pub use run::ConstCall;

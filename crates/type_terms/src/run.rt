@@ -27,9 +27,9 @@ mod words;
 
 pub use answer::Answer;
 pub use call::{
-    AliasCall, ArgCall, Call, ClauseCall, ConstCall, DeclarationKindCall, DeclareCall,
-    ExistentialCall, ExistentialKindCall, ItemCall, PatCall, PredicateCall, PredicateKindCall,
-    RegionCall, RegionNameCall, TermCall, TyCall, ValTreeCall, VariableCall,
+    AliasCall, ArgCall, BoundTyKindCall, Call, ClauseCall, ConstCall, DeclarationKindCall,
+    DeclareCall, ExistentialCall, ExistentialKindCall, ItemCall, PatCall, PredicateCall,
+    PredicateKindCall, RegionCall, RegionNameCall, TermCall, TyCall, ValTreeCall, VariableCall,
 };
 pub use fault::Fault;
 pub use runner::{answer_next, run_calls};

@@ -12,6 +12,7 @@ mod kinds;
 mod library;
 mod orders;
 mod owned;
+mod readme;
 mod spelling;
 mod users;
 mod values;

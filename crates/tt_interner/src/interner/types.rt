@@ -1,17 +1,17 @@
-//! Types.
+//! Types, and lists of them.
 
 ghost use Rattle.std.specs.Prelude.{◌≡◌, ◌<◌};
-ghost use Rattle.tt_kinds.specs.Shape.{HasParts, IsTooDeep};
-ghost use Rattle.tt_kinds.specs.Kinds.{ty_kind_shape};
-ghost use Rattle.tt_interner.specs.Rows.{type_row, size, meaning};
+ghost use Rattle.tt_kinds.specs.Shape.{AreParts, HasParts, IsTooDeep, item_shapes};
+ghost use Rattle.tt_kinds.specs.Kinds.{ty_kind_shape, ty_shape};
+ghost use Rattle.tt_interner.specs.Rows.{type_row, tys_row, size, meaning};
 ghost use Rattle.tt_interner.specs.Stored.{IsAt, IsInfo, Puts, Builds};
 
 use super::Interner;
-use crate::flags::{ForKind, OwnFlags};
-use crate::tables::{find_or_add, info_at, key_at};
+use crate::flags::{ForKind, OwnFlags, items_info};
+use crate::tables::{find_or_add, find_or_add_list, find_or_insert, info_at, key_at};
 use tt_flags::FlagComputation;
 use tt_index::Refusal;
-use tt_kinds::{Table, Ty, TyKind};
+use tt_kinds::{Table, Ty, TyKind, Tys};
 
 impl Interner {
     // Finds a type of this kind, or stores it.
@@ -66,5 +66,68 @@ impl Interner {
         ensures { IsInfo result (meaning self.now.rows Table.Types ty.number) }
     {
         info_at(&self.types, ty.number())
+    }
+}
+
+impl Interner {
+    /// The list of these types, in order. They have to be of this interner; [`Interner::owns_ty`]
+    /// tests it.
+    ///
+    /// It is refused with `TableFull` where the list is new and the table has as many rows as it may have, and with
+    /// `Memory`.
+    pub fn mk_tys(&mut self, items: &[Ty]) -> Result<Tys, Refusal>
+        requires { AreParts (size self.old.rows) (item_shapes ty_shape items.now) }
+        ensures { Builds result (λ list. list.number) self.old self.new (tys_row items.now) }
+    {
+        let info = items_info(self, items);
+        let number = match find_or_add_list(
+            &mut self.order,
+            self.limit,
+            Table::TypeLists,
+            &mut self.type_lists,
+            items,
+            info,
+        ) {
+            Ok(number) => number,
+            Err(e) => return Err(e),
+        };
+        Ok(Tys::from_number(number))
+    }
+
+    // The same of items that are kept as the list's, by one look-up.
+    pub(crate) fn put_tys(&mut self, items: Vec<Ty>) -> Result<Tys, Refusal>
+        requires { AreParts (size self.old.rows) (item_shapes ty_shape items.items) }
+        ensures { Builds result (λ list. list.number) self.old self.new (tys_row items.items) }
+    {
+        let info = items_info(self, items.as_slice());
+        let number = match find_or_insert(
+            &mut self.order,
+            self.limit,
+            Table::TypeLists,
+            &mut self.type_lists,
+            items,
+            info,
+        ) {
+            Ok(number) => number,
+            Err(e) => return Err(e),
+        };
+        Ok(Tys::from_number(number))
+    }
+
+    /// The types of a list, in the interner's memory. The list has to be of this interner; [`Interner::owns_tys`]
+    /// tests it.
+    pub fn tys(&self, list: Tys) -> &[Ty]
+        requires { list.number < size self.now.rows Table.TypeLists }
+        ensures { IsAt self.now.rows (tys_row result.now) list.number }
+    {
+        key_at(&self.type_lists, list.number()).as_slice()
+    }
+
+    // What is kept beside a list of types.
+    pub(crate) fn tys_info(&self, list: Tys) -> FlagComputation
+        requires { list.number < size self.now.rows Table.TypeLists }
+        ensures { IsInfo result (meaning self.now.rows Table.TypeLists list.number) }
+    {
+        info_at(&self.type_lists, list.number())
     }
 }

@@ -2,7 +2,7 @@
 
 ghost use Rattle.std.specs.Prelude.{◌≡◌, map, [], ◌∷◌, List};
 ghost use Rattle.tt_kinds.specs.Tree as tree;
-ghost use Rattle.tt_kinds.specs.Label.{region_sort, type_sort, type_label, foreign_type, ref_type, array_type, pat_type, unsafe_binder_type, unsafe_binder_record, fn_ptr_type, fn_sig_tys_record, late_param_region, placeholder_region};
+ghost use Rattle.tt_kinds.specs.Label.{region_sort, type_sort, type_variable, type_label, placeholder_type, foreign_type, ref_type, array_type, pat_type, unsafe_binder_type, unsafe_binder_record, fn_ptr_type, fn_sig_tys_record, late_param_region, placeholder_region};
 ghost use Rattle.tt_kinds.specs.Bound.{depth};
 ghost use Rattle.tt_kinds.specs.Shape.{IsGreatest};
 ghost use Rattle.tt_kinds.specs.Shape as shape;
@@ -10,27 +10,27 @@ ghost use Rattle.tt_kinds.specs.Kinds.{ty_kind_shape, args_shape};
 ghost use Rattle.tt_interner.specs.Rows.{Row};
 ghost use Rattle.tt_interner.specs.Stored.{Terms, Extends};
 ghost use Rattle.type_terms.specs.declared.run.call.Call.TheVariants.{Ty as BuildsTy};
-ghost use Rattle.type_terms.specs.CallForm.{ty_ids, ty_form, alias_of, param, plain, under, one, a_region, a_term, a_list, terms_at, args_part, item_type, called, variable_kind, region_entry, region_tree, IsRegionTooDeep};
+ghost use Rattle.type_terms.specs.CallForm.{ty_ids, ty_form, alias_of, param, plain, under, one, a_region, a_term, a_list, terms_at, args_part, item_type, called, ty_called, variable_kind, region_entry, region_tree, IsRegionTooDeep};
 ghost use Rattle.type_terms.specs.Told.{Told, told_all, AreOwned};
 ghost use Rattle.type_terms.specs.Means.{number_at, AreTerms};
 ghost use Rattle.type_terms.specs.Build.{GivesName, GivesVariable, GivesVariables, GivesRegion, GivesKind, Answers};
 
 use crate::run::answer::Answer;
 use crate::run::call::{
-    AliasCall, ArgCall, ItemCall, RegionCall, RegionNameCall, TyCall, VariableCall,
+    AliasCall, ArgCall, BoundTyKindCall, ItemCall, RegionCall, RegionNameCall, TyCall, VariableCall,
 };
 use crate::run::existentials::dynamic_kind;
-use crate::run::ids::number_at;
+use crate::run::ids::{def_at, number_at};
 use crate::run::lookup::{handle_at, handle_pair};
 use crate::run::parts::{build_arg_list, build_tys};
 use tt_index::{BoundVar, Mutability, Refusal, UniverseIndex};
 use tt_interner::Interner;
 use tt_kinds::{
-    AdtId, AliasTy, AliasTyKind, Binder, BoundRegion, BoundRegionKind, BoundVarIndexKind,
-    BoundVarKinds, BoundVariableKind, ClosureId, Const, CoroutineClosureId, CoroutineId, DefId,
-    EarlyParamRegion, FnHeader, FnSigTys, ForeignId, FreeTyAliasId, GenericArgs, InherentAssocTyId,
-    LateParamRegion, OpaqueTyId, ParamTy, Pat, Placeholder, Region, RegionKind, Table,
-    TraitAssocTyId, Ty, TyKind, UnsafeBinderInner,
+    AdtId, AliasTy, AliasTyKind, Binder, BoundRegion, BoundRegionKind, BoundTy, BoundTyKind,
+    BoundVarIndexKind, BoundVarKinds, BoundVariableKind, ClosureId, Const, CoroutineClosureId,
+    CoroutineId, EarlyParamRegion, FnHeader, FnSigTys, ForeignId, FreeTyAliasId, GenericArgs,
+    InherentAssocTyId, LateParamRegion, OpaqueTyId, ParamTy, Pat, Placeholder, Region, RegionKind,
+    Table, TraitAssocTyId, Ty, TyKind, UnsafeBinderInner,
 };
 
 /// The type that the call names, over the earlier answers, where the ids that it names are there.
@@ -64,8 +64,10 @@ fn ty_kind(cx: &mut Interner, earlier: &[Answer], call: &TyCall) -> Result<TyKin
         TyCall::Str => Ok(TyKind::Str),
         TyCall::Never => Ok(TyKind::Never),
         TyCall::Param { index, name } => param_kind(cx, *index, name.as_str()),
-        TyCall::Bound(index, bound) => Ok(TyKind::Bound(*index, *bound)),
-        TyCall::Placeholder(placeholder) => Ok(TyKind::Placeholder(*placeholder)),
+        TyCall::Bound(index, var, name) => Ok(bound_kind(earlier, *index, *var, *name)),
+        TyCall::Placeholder(universe, var, name) => {
+            Ok(placeholder_kind(earlier, *universe, *var, *name))
+        }
         TyCall::Infer(infer) => Ok(TyKind::Infer(*infer)),
         TyCall::Error(token) => Ok(TyKind::Error(*token)),
         TyCall::Ref(region, ty, mutability) => ref_kind(cx, earlier, region, *ty, *mutability),
@@ -94,6 +96,43 @@ fn foreign_kind(earlier: &[Answer], position: u32) -> TyKind
     TyKind::Foreign(ForeignId::from_number(number_at(earlier, position)))
 }
 
+// The kind of a bound type.
+fn bound_kind(
+    earlier: &[Answer],
+    index: BoundVarIndexKind,
+    var: BoundVar,
+    name: BoundTyKindCall,
+) -> TyKind
+    ensures { (rows : List Row) → ty_kind_shape result ≡ shape.bound type_sort (depth index) (record { var = var; kind = type_variable (ty_called (number_at (told_all rows earlier.now)) name) }) }
+{
+    let kind = ty_name(earlier, name);
+    TyKind::Bound(index, BoundTy { var, kind })
+}
+
+// The kind of a type whose binder was entered.
+fn placeholder_kind(
+    earlier: &[Answer],
+    universe: UniverseIndex,
+    var: BoundVar,
+    name: BoundTyKindCall,
+) -> TyKind
+    ensures { (rows : List Row) → ty_kind_shape result ≡ shape.term (type_label (placeholder_type (record { universe = universe; bound = record { var = var; kind = ty_called (number_at (told_all rows earlier.now)) name } }))) shape.none }
+{
+    let kind = ty_name(earlier, name);
+    let bound = BoundTy { var, kind };
+    TyKind::Placeholder(Placeholder { universe, bound })
+}
+
+// What a bound type is called.
+fn ty_name(earlier: &[Answer], name: BoundTyKindCall) -> BoundTyKind
+    ensures { (rows : List Row) → result ≡ ty_called (number_at (told_all rows earlier.now)) name }
+{
+    match name {
+        BoundTyKindCall::Anon => BoundTyKind::Anon,
+        BoundTyKindCall::Param(position) => BoundTyKind::Param(def_at(earlier, position)),
+    }
+}
+
 // The kind of a parameter.
 fn param_kind(cx: &mut Interner, index: u32, name: &str) -> Result<TyKind, Refusal>
     ensures extends { Extends cx.old cx.new }
@@ -116,7 +155,7 @@ fn ref_kind(
     ensures kind { GivesKind cx.new (told_all cx.old.rows earlier.now) (plain (type_label (ref_type mutability)) (one (a_region region.now) ∷ one (a_term Table.Types position) ∷ [])) ty_kind_shape result }
 {
     let ty = handle_at(earlier, position)?;
-    let region = build_region(cx, region)?;
+    let region = build_region(cx, earlier, region)?;
     Ok(TyKind::Ref(region, ty, mutability))
 }
 
@@ -145,10 +184,10 @@ fn unsafe_binder_kind(
 ) -> Result<TyKind, Refusal>
     requires { AreOwned cx.old.rows earlier.now }
     ensures extends { Extends cx.old cx.new }
-    ensures kind { GivesKind cx.new (told_all cx.old.rows earlier.now) (under (type_label unsafe_binder_type) (map variable_kind vars.now) unsafe_binder_record (one (a_term Table.Types ty) ∷ [])) ty_kind_shape result }
+    ensures kind { GivesKind cx.new (told_all cx.old.rows earlier.now) (under (type_label unsafe_binder_type) (map (variable_kind (number_at (told_all cx.old.rows earlier.now))) vars.now) unsafe_binder_record (one (a_term Table.Types ty) ∷ [])) ty_kind_shape result }
 {
     let ty = handle_at::<Ty>(earlier, ty)?;
-    let vars = build_vars(cx, vars)?;
+    let vars = build_vars(cx, earlier, vars)?;
     let binder = Binder::bind_with_vars(ty, vars);
     Ok(TyKind::UnsafeBinder(UnsafeBinderInner::from(binder)))
 }
@@ -226,43 +265,55 @@ fn fn_ptr_kind(
 ) -> Result<TyKind, Refusal>
     requires { AreOwned cx.old.rows earlier.now }
     ensures extends { Extends cx.old cx.new }
-    ensures kind { GivesKind cx.new (told_all cx.old.rows earlier.now) (under (type_label (fn_ptr_type header)) (map variable_kind vars.now) fn_sig_tys_record (a_list Table.TypeLists (terms_at Table.Types inputs_and_output.now) ∷ [])) ty_kind_shape result }
+    ensures kind { GivesKind cx.new (told_all cx.old.rows earlier.now) (under (type_label (fn_ptr_type header)) (map (variable_kind (number_at (told_all cx.old.rows earlier.now))) vars.now) fn_sig_tys_record (a_list Table.TypeLists (terms_at Table.Types inputs_and_output.now) ∷ [])) ty_kind_shape result }
 {
     let inputs_and_output = build_tys(cx, earlier, inputs_and_output)?;
-    let vars = build_vars(cx, vars)?;
+    let vars = build_vars(cx, earlier, vars)?;
     let types = Binder::bind_with_vars(FnSigTys { inputs_and_output }, vars);
     Ok(TyKind::FnPtr(types, header))
 }
 
 /// The list of the variables.
-pub fn build_vars(cx: &mut Interner, vars: &[VariableCall]) -> Result<BoundVarKinds, Refusal>
+pub fn build_vars(
+    cx: &mut Interner,
+    earlier: &[Answer],
+    vars: &[VariableCall],
+) -> Result<BoundVarKinds, Refusal>
     ensures extends { Extends cx.old cx.new }
-    ensures vars { GivesVariables cx.new vars.now result }
+    ensures vars { (rows : List Row) → GivesVariables cx.new (number_at (told_all rows earlier.now)) vars.now result }
 {
     let mut built = Vec::with_capacity(cx.allocator(), vars.len())?;
     for var in vars {
-        let var = build_var(cx, var)?;
+        let var = build_var(cx, earlier, var)?;
         built.push(var)?;
     }
     cx.mk_bound_vars(built.as_slice())
 }
 
 // A variable of a binder's list.
-fn build_var(cx: &mut Interner, var: &VariableCall) -> Result<BoundVariableKind, Refusal>
+fn build_var(
+    cx: &mut Interner,
+    earlier: &[Answer],
+    var: &VariableCall,
+) -> Result<BoundVariableKind, Refusal>
     ensures extends { Extends cx.old cx.new }
-    ensures var { GivesVariable cx.new var.now result }
+    ensures var { (rows : List Row) → GivesVariable cx.new (number_at (told_all rows earlier.now)) var.now result }
 {
     match var {
-        VariableCall::Ty(kind) => Ok(BoundVariableKind::Ty(*kind)),
-        VariableCall::Region(name) => Ok(BoundVariableKind::Region(build_name(cx, name)?)),
+        VariableCall::Ty(name) => Ok(BoundVariableKind::Ty(ty_name(earlier, *name))),
+        VariableCall::Region(name) => Ok(BoundVariableKind::Region(build_name(cx, earlier, name)?)),
         VariableCall::Const => Ok(BoundVariableKind::Const),
     }
 }
 
 // What a bound region is called.
-fn build_name(cx: &mut Interner, name: &RegionNameCall) -> Result<BoundRegionKind, Refusal>
+fn build_name(
+    cx: &mut Interner,
+    earlier: &[Answer],
+    name: &RegionNameCall,
+) -> Result<BoundRegionKind, Refusal>
     ensures extends { Extends cx.old cx.new }
-    ensures name { GivesName cx.new name.now result }
+    ensures name { (rows : List Row) → GivesName cx.new (number_at (told_all rows earlier.now)) name.now result }
 {
     match name {
         RegionNameCall::Anon => Ok(BoundRegionKind::Anon),
@@ -270,24 +321,28 @@ fn build_name(cx: &mut Interner, name: &RegionNameCall) -> Result<BoundRegionKin
             let symbol = cx.symbol(text.as_str())?;
             Ok(BoundRegionKind::NamedForPrinting(symbol))
         }
-        RegionNameCall::Named(id) => Ok(BoundRegionKind::Named(*id)),
+        RegionNameCall::Named(position) => Ok(BoundRegionKind::Named(def_at(earlier, *position))),
         RegionNameCall::ClosureEnv => Ok(BoundRegionKind::ClosureEnv),
     }
 }
 
 /// The region that the call names.
-pub fn build_region(cx: &mut Interner, call: &RegionCall) -> Result<Region, Refusal>
+pub fn build_region(
+    cx: &mut Interner,
+    earlier: &[Answer],
+    call: &RegionCall,
+) -> Result<Region, Refusal>
     ensures extends { Extends cx.old cx.new }
-    ensures region { GivesRegion cx.new (region_tree call.now) (IsRegionTooDeep call.now) result }
+    ensures region { (rows : List Row) → GivesRegion cx.new (region_tree (number_at (told_all rows earlier.now)) call.now) (IsRegionTooDeep call.now) result }
 {
     match call {
         RegionCall::ReEarlyParam { index, name } => build_early_param(cx, *index, name.as_str()),
-        RegionCall::ReBound(index, var, name) => build_bound(cx, *index, *var, name),
-        RegionCall::ReLateParam(scope, name) => build_late_param(cx, *scope, name),
+        RegionCall::ReBound(index, var, name) => build_bound(cx, earlier, *index, *var, name),
+        RegionCall::ReLateParam(scope, name) => build_late_param(cx, earlier, *scope, name),
         RegionCall::ReStatic => Region::new(RegionKind::ReStatic),
         RegionCall::ReVar(variable) => Region::new(RegionKind::ReVar(*variable)),
         RegionCall::RePlaceholder(universe, var, name) => {
-            build_placeholder(cx, *universe, *var, name)
+            build_placeholder(cx, earlier, *universe, *var, name)
         }
         RegionCall::ReErased => Region::new(RegionKind::ReErased),
         RegionCall::ReError(token) => Region::new(RegionKind::ReError(*token)),
@@ -306,27 +361,30 @@ fn build_early_param(cx: &mut Interner, index: u32, name: &str) -> Result<Region
 // A region parameter, seen from inside its item.
 fn build_late_param(
     cx: &mut Interner,
-    scope: DefId,
+    earlier: &[Answer],
+    scope: u32,
     name: &RegionNameCall,
 ) -> Result<Region, Refusal>
     ensures extends { Extends cx.old cx.new }
-    ensures region { GivesRegion cx.new (tree.region (late_param_region scope.number (called name.now))) ⊥ result }
+    ensures region { (rows : List Row) → GivesRegion cx.new (tree.region (late_param_region (number_at (told_all rows earlier.now) scope) (called (number_at (told_all rows earlier.now)) name.now))) ⊥ result }
 {
-    let kind = build_name(cx, name)?;
+    let kind = build_name(cx, earlier, name)?;
+    let scope = def_at(earlier, scope);
     Region::new(RegionKind::ReLateParam(LateParamRegion { scope, kind }))
 }
 
 // A region whose binder was entered.
 fn build_placeholder(
     cx: &mut Interner,
+    earlier: &[Answer],
     universe: UniverseIndex,
     var: BoundVar,
     name: &RegionNameCall,
 ) -> Result<Region, Refusal>
     ensures extends { Extends cx.old cx.new }
-    ensures region { GivesRegion cx.new (tree.region (placeholder_region universe var (called name.now))) ⊥ result }
+    ensures region { (rows : List Row) → GivesRegion cx.new (tree.region (placeholder_region universe var (called (number_at (told_all rows earlier.now)) name.now))) ⊥ result }
 {
-    let kind = build_name(cx, name)?;
+    let kind = build_name(cx, earlier, name)?;
     let bound = BoundRegion { var, kind };
     Region::new(RegionKind::RePlaceholder(Placeholder { universe, bound }))
 }
@@ -334,13 +392,14 @@ fn build_placeholder(
 // A bound region.
 fn build_bound(
     cx: &mut Interner,
+    earlier: &[Answer],
     index: BoundVarIndexKind,
     var: BoundVar,
     name: &RegionNameCall,
 ) -> Result<Region, Refusal>
     ensures extends { Extends cx.old cx.new }
-    ensures region { GivesRegion cx.new (tree.bound region_sort (depth index) (region_entry var name.now)) (IsGreatest (depth index)) result }
+    ensures region { (rows : List Row) → GivesRegion cx.new (tree.bound region_sort (depth index) (region_entry (number_at (told_all rows earlier.now)) var name.now)) (IsGreatest (depth index)) result }
 {
-    let kind = build_name(cx, name)?;
+    let kind = build_name(cx, earlier, name)?;
     Region::new(RegionKind::ReBound(index, BoundRegion { var, kind }))
 }

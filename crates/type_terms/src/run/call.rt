@@ -4,38 +4,48 @@ use tt_index::{
     BoundVar, DebruijnIndex, FloatTy, IntTy, Mutability, RegionVid, UintTy, UniverseIndex,
 };
 use tt_kinds::{
-    AliasRelationDirection, BoundConst, BoundConstness, BoundTy, BoundTyKind, BoundVarIndexKind,
-    DefId, ErrorGuaranteed, FnHeader, InferConst, InferTy, PlaceholderConst, PlaceholderType,
-    ScalarInt,
+    AliasRelationDirection, BoundConst, BoundConstness, BoundVarIndexKind, ErrorGuaranteed,
+    FnHeader, InferConst, InferTy, PlaceholderConst, ScalarInt,
 };
 
 /// What a bound region of a call is called. It is what [`BoundRegionKind`](tt_kinds::BoundRegionKind) is, with a symbol as
-/// its text.
+/// its text and an id as the position of the call that declared it.
 #[derive(Debug, PartialEq, Eq, Drop)]
 pub enum RegionNameCall {
     /// It has no name.
     Anon,
     /// It has no declaration, and is printed by this name.
     NamedForPrinting(String),
-    /// It is declared.
-    Named(DefId),
+    /// It is declared, as anything, by the call at this position.
+    Named(u32),
     /// The region of a closure's own environment.
     ClosureEnv,
 }
 
+/// What a bound type of a call is called. It is such a [`BoundTyKind`](tt_kinds::BoundTyKind), with the position of the call
+/// that declared it in the place of its id.
+#[derive(Clone, Copy, Debug, PartialEq, Eq)]
+pub enum BoundTyKindCall {
+    /// It has no name.
+    Anon,
+    /// It is declared, as anything, by the call at this position.
+    Param(u32),
+}
+
 /// A variable of a binder of a call. It is what [`BoundVariableKind`](tt_kinds::BoundVariableKind) is, with a symbol as its
-/// text.
+/// text and a position in the place of an id.
 #[derive(Debug, PartialEq, Eq, Drop)]
 pub enum VariableCall {
     /// It stands for a type.
-    Ty(BoundTyKind),
+    Ty(BoundTyKindCall),
     /// It stands for a region.
     Region(RegionNameCall),
     /// It stands for a constant.
     Const,
 }
 
-/// A region of a call. It names such a [`RegionKind`](tt_kinds::RegionKind), a symbol by its text.
+/// A region of a call. It names such a [`RegionKind`](tt_kinds::RegionKind), a symbol by its text and an id by the position
+/// of the call that declared it.
 #[derive(Debug, PartialEq, Eq, Drop)]
 pub enum RegionCall {
     /// A region parameter of an item.
@@ -48,8 +58,9 @@ pub enum RegionCall {
     /// A region that a binder binds: its binder, its place in the binder's list, and what it is called. A call with a bound
     /// index at the greatest one is refused.
     ReBound(BoundVarIndexKind, BoundVar, RegionNameCall),
-    /// A region parameter of an item, seen from inside the item: the item, and what the region is called.
-    ReLateParam(DefId, RegionNameCall),
+    /// A region parameter of an item, seen from inside the item: the item, declared as anything, and what the region is
+    /// called.
+    ReLateParam(u32, RegionNameCall),
     /// `'static`.
     ReStatic,
     /// A region variable of inference.
@@ -95,7 +106,7 @@ pub enum ItemCall {
 }
 
 /// A type to be built. It is such a [`TyKind`](tt_kinds::TyKind), with a symbol as its text and, in the place of a
-/// handle or of an id of an item, the position of the call that answered it, counted from 1.
+/// handle or of an id, the position of the call that answered it, counted from 1.
 #[derive(Debug, PartialEq, Eq, Drop)]
 pub enum TyCall {
     /// `bool`.
@@ -121,10 +132,12 @@ pub enum TyCall {
         /// Its name.
         name: String,
     },
-    /// A type that a binder binds. A call with a bound index at the greatest one is refused.
-    Bound(BoundVarIndexKind, BoundTy),
-    /// A type that a binder bound which has been entered.
-    Placeholder(PlaceholderType),
+    /// A type that a binder binds: its binder, its place in the binder's list, and what it is called. A call with a bound
+    /// index at the greatest one is refused.
+    Bound(BoundVarIndexKind, BoundVar, BoundTyKindCall),
+    /// A type that a binder bound which has been entered: the universe in which it can be named, its place in the binder's
+    /// list, and what it is called.
+    Placeholder(UniverseIndex, BoundVar, BoundTyKindCall),
     /// A type variable of inference.
     Infer(InferTy),
     /// A type of which an error was reported.

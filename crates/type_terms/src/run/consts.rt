@@ -8,7 +8,7 @@ ghost use Rattle.tt_kinds.specs.Kinds.{const_kind_shape};
 ghost use Rattle.tt_interner.specs.Stored.{Extends};
 ghost use Rattle.type_terms.specs.declared.run.call.ArgCall.{ArgCall};
 ghost use Rattle.type_terms.specs.declared.run.call.Call.TheVariants.{Const as BuildsConst, Args as BuildsArgs};
-ghost use Rattle.type_terms.specs.CallForm.{const_ids, const_form, value_form, param, plain, one, a_term, a_list, terms_at};
+ghost use Rattle.type_terms.specs.CallForm.{args_ids, const_ids, const_form, value_form, param, plain, one, a_term, a_list, terms_at};
 ghost use Rattle.type_terms.specs.Told.{Told, told_all, AreOwned};
 ghost use Rattle.type_terms.specs.Means.{number_at, AreTerms};
 ghost use Rattle.type_terms.specs.Build.{GivesKind, Answers};
@@ -25,7 +25,7 @@ use tt_kinds::{
     ValTree, ValTreeKind, ValueConst,
 };
 
-/// The constant that the call names, over the earlier answers, where the id that it names is there.
+/// The constant that the call names, over the earlier answers, where the ids that it names are there.
 pub fn build_const(
     cx: &mut Interner,
     earlier: &[Answer],
@@ -44,7 +44,7 @@ pub fn build_const(
     }
 }
 
-/// The list of the generic arguments that the call names, over the earlier answers.
+/// The list of the generic arguments that the call names, over the earlier answers, where the ids that it names are there.
 pub fn build_args_answer(
     cx: &mut Interner,
     earlier: &[Answer],
@@ -52,7 +52,7 @@ pub fn build_args_answer(
 ) -> Result<Answer, Refusal>
     requires { AreOwned cx.old.rows earlier.now }
     ensures extends { Extends cx.old cx.new }
-    ensures answers { (list : Vec ArgCall Global) → list.items ≡ args.now → Answers cx.new (told_all cx.old.rows earlier.now) (BuildsArgs list) result }
+    ensures answers { (list : Vec ArgCall Global) → list.items ≡ args.now → AreTerms (told_all cx.old.rows earlier.now) (args_ids list.items) → Answers cx.new (told_all cx.old.rows earlier.now) (BuildsArgs list) result }
 {
     let args = build_arg_list(cx, earlier, args)?;
     Ok(Answer::Args(args))

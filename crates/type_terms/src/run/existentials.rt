@@ -34,7 +34,7 @@ pub fn dynamic_kind(
     ensures kind { GivesKind cx.new (told_all cx.old.rows earlier.now) (trait_object (map (existential_form (number_at (told_all cx.old.rows earlier.now))) existentials.now) region.now) ty_kind_shape result }
 {
     let existentials = build_existentials(cx, earlier, existentials)?;
-    let region = build_region(cx, region)?;
+    let region = build_region(cx, earlier, region)?;
     Ok(TyKind::Dynamic(existentials, region))
 }
 
@@ -47,7 +47,7 @@ fn build_existentials(
     requires { AreOwned cx.old.rows earlier.now }
     ensures extends { Extends cx.old cx.new }
     ensures list { let e = told_all cx.old.rows earlier.now in let forms = map (existential_form (number_at e)) calls.now in
-        GivesPlaced cx.new e (existentials_tree (tree_at e) forms) (all_positions existential_positions forms) (AnyIsDeep IsExistentialTooDeep forms) existentials_shape result }
+        GivesPlaced cx.new e (existentials_tree (number_at e) (tree_at e) forms) (all_positions existential_positions forms) (AnyIsDeep IsExistentialTooDeep forms) existentials_shape result }
 {
     let mut built = Vec::with_capacity(cx.allocator(), calls.len())?;
     for call in calls {
@@ -66,10 +66,10 @@ fn build_existential(
     requires { AreOwned cx.old.rows earlier.now }
     ensures extends { Extends cx.old cx.new }
     ensures existential { let e = told_all cx.old.rows earlier.now in let form = existential_form (number_at e) call.now in
-        GivesPlaced cx.new e (existential_tree (tree_at e) form) (existential_positions form) (IsExistentialTooDeep form) existential_shape result }
+        GivesPlaced cx.new e (existential_tree (number_at e) (tree_at e) form) (existential_positions form) (IsExistentialTooDeep form) existential_shape result }
 {
     let kind = existential_kind(cx, earlier, &call.kind)?;
-    let vars = build_vars(cx, call.vars.as_slice())?;
+    let vars = build_vars(cx, earlier, call.vars.as_slice())?;
     cx.mk_existential(Binder::bind_with_vars(kind, vars))
 }
 

@@ -8,8 +8,9 @@ ghost use Rattle.tt_interner.specs.Stored.{Extends};
 ghost use Rattle.tt_binder.specs.Arguments.{AreArguments};
 ghost use Rattle.type_terms.specs.declared.run.call.ArgCall.{ArgCall};
 ghost use Rattle.type_terms.specs.declared.run.call.Call.TheVariants.{Shift as Shifts, Instantiate as Instantiates};
+ghost use Rattle.type_terms.specs.CallForm.{args_ids};
 ghost use Rattle.type_terms.specs.Told.{Told, told_all, AreOwned};
-ghost use Rattle.type_terms.specs.Means.{term_at};
+ghost use Rattle.type_terms.specs.Means.{term_at, AreTerms};
 ghost use Rattle.type_terms.specs.Build.{Answers, AreArgumentsOf};
 
 use crate::run::answer::Answer;
@@ -56,7 +57,7 @@ fn shifted<T: Handle>(cx: &mut Interner, term: T, amount: u32) -> Result<Answer,
     Ok(shifted.into_answer())
 }
 
-/// The term at the position, instantiated.
+/// The term at the position, instantiated, where the ids that the arguments name are there.
 pub fn instantiate_at(
     cx: &mut Interner,
     earlier: &[Answer],
@@ -65,7 +66,7 @@ pub fn instantiate_at(
 ) -> Result<Answer, Refusal>
     requires { AreOwned cx.old.rows earlier.now }
     ensures extends { Extends cx.old cx.new }
-    ensures answers { (list : Vec ArgCall Global) → list.items ≡ args.now → Answers cx.new (told_all cx.old.rows earlier.now) (Instantiates position list) result }
+    ensures answers { (list : Vec ArgCall Global) → list.items ≡ args.now → AreTerms (told_all cx.old.rows earlier.now) (args_ids list.items) → Answers cx.new (told_all cx.old.rows earlier.now) (Instantiates position list) result }
 {
     let answer = answer_at(earlier, position)?;
     let args = build_args(cx, earlier, args)?;
@@ -89,7 +90,7 @@ fn instantiated<T: Handle>(
     requires term { T.number term < size cx.old.rows T.table }
     requires args { AreArguments cx.old.rows args.now }
     ensures extends { Extends cx.old cx.new }
-    ensures answers { (earlier : List Told) (p : ℕ) (list : Vec ArgCall Global) → term_at earlier p ≡ Some (record { table = T.table; tree = meaning cx.old.rows T.table (T.number term) }) → AreArgumentsOf cx.old earlier list.items args.now → Answers cx.new earlier (Instantiates p list) result }
+    ensures answers { (earlier : List Told) (p : ℕ) (list : Vec ArgCall Global) → term_at earlier p ≡ Some (record { table = T.table; tree = meaning cx.old.rows T.table (T.number term) }) → AreTerms earlier (args_ids list.items) → AreArgumentsOf cx.old earlier list.items args.now → Answers cx.new earlier (Instantiates p list) result }
 {
     let instance = EarlyBinder::bind(term).instantiate(cx, args)?;
     Ok(instance.skip_norm_wip().into_answer())

@@ -1,16 +1,17 @@
 //! Ids, by the positions of the calls that declared them.
 
-ghost use Rattle.std.specs.Prelude.{◌≡◌, ◌↔◌, IsTrue, None, List, MatchOption};
+ghost use Rattle.std.specs.Prelude.{◌≡◌, ◌↔◌, ◌++◌, IsTrue, None, List, MatchOption};
 ghost use Rattle.tt_interner.specs.Rows.{Row};
-ghost use Rattle.type_terms.specs.CallForm.{an_id, any_id, alias_ids, item_ids, existential_kind_ids, existential_ids, ty_ids, const_ids, clause_ids, predicate_ids, all_positions};
+ghost use Rattle.type_terms.specs.CallForm.{an_id, any_id, name_ids, ty_name_ids, variable_ids, variables_ids, region_ids, arg_ids, args_ids, alias_ids, item_ids, existential_kind_ids, existential_ids, existentials_ids, ty_ids, const_ids, clause_ids, predicate_kind_ids, predicate_ids};
 ghost use Rattle.type_terms.specs.Told.{told_all};
-ghost use Rattle.type_terms.specs.Means.{id_at, number_at, ids, AreTerms};
+ghost use Rattle.type_terms.specs.Means.{id_at, number_at, id_positions, AreTerms};
 ghost use Rattle.type_terms.specs.Build.{IsIdAt};
 
 use crate::run::answer::Answer;
 use crate::run::call::{
-    AliasCall, Call, ClauseCall, ConstCall, ExistentialCall, ExistentialKindCall, ItemCall,
-    PredicateKindCall, TyCall,
+    AliasCall, ArgCall, BoundTyKindCall, Call, ClauseCall, ConstCall, ExistentialCall,
+    ExistentialKindCall, ItemCall, PredicateCall, PredicateKindCall, RegionCall, RegionNameCall,
+    TyCall, VariableCall,
 };
 use crate::run::lookup::{answer_at, declared_at};
 use tt_kinds::{DeclarationSort, DefId, TraitId};
@@ -55,12 +56,14 @@ pub fn def_at(earlier: &[Answer], position: u32) -> DefId
 
 /// Whether an id of the sort that is wanted stands at each position of the call that has to tell one.
 pub fn names_ids(earlier: &[Answer], call: &Call) -> bool
-    ensures { (rows : List Row) → IsTrue result ↔ AreTerms (told_all rows earlier.now) (ids call.now) }
+    ensures { (rows : List Row) → IsTrue result ↔ AreTerms (told_all rows earlier.now) (id_positions call.now) }
 {
     match call {
         Call::Ty(kind) => names_ty_ids(earlier, kind),
-        Call::Const(kind) => names_const_id(earlier, kind),
-        Call::Predicate(predicate) => names_predicate_id(earlier, &predicate.kind),
+        Call::Const(kind) => names_const_ids(earlier, kind),
+        Call::Predicate(predicate) => names_predicate_ids(earlier, predicate),
+        Call::Args(args) => names_args_ids(earlier, args.as_slice()),
+        Call::Instantiate(_, args) => names_args_ids(earlier, args.as_slice()),
         _ => true,
     }
 }
@@ -85,21 +88,138 @@ fn is_any_id(earlier: &[Answer], position: u32) -> bool
     }
 }
 
-// Whether those of the type do.
+// Whether an id of this sort is at the position, and those that the arguments name are there.
+fn is_id_with(earlier: &[Answer], position: u32, sort: DeclarationSort, args: &[ArgCall]) -> bool
+    ensures { (rows : List Row) → IsTrue result ↔ AreTerms (told_all rows earlier.now) (an_id sort position ++ args_ids args.now) }
+{
+    is_id(earlier, position, sort) && names_args_ids(earlier, args)
+}
+
+// Whether an id of any sort is, and those that the arguments name.
+fn is_any_id_with(earlier: &[Answer], position: u32, args: &[ArgCall]) -> bool
+    ensures { (rows : List Row) → IsTrue result ↔ AreTerms (told_all rows earlier.now) (any_id position ++ args_ids args.now) }
+{
+    is_any_id(earlier, position) && names_args_ids(earlier, args)
+}
+
+// Whether that of the bound region's name is there.
+fn names_name_id(earlier: &[Answer], call: &RegionNameCall) -> bool
+    ensures { (rows : List Row) → IsTrue result ↔ AreTerms (told_all rows earlier.now) (name_ids call.now) }
+{
+    match call {
+        RegionNameCall::Named(position) => is_any_id(earlier, *position),
+        _ => true,
+    }
+}
+
+// Whether that of the bound type's name is.
+fn names_ty_name_id(earlier: &[Answer], call: BoundTyKindCall) -> bool
+    ensures { (rows : List Row) → IsTrue result ↔ AreTerms (told_all rows earlier.now) (ty_name_ids call) }
+{
+    match call {
+        BoundTyKindCall::Anon => true,
+        BoundTyKindCall::Param(position) => is_any_id(earlier, position),
+    }
+}
+
+// Whether that of the variable is.
+fn names_variable_id(earlier: &[Answer], call: &VariableCall) -> bool
+    ensures { (rows : List Row) → IsTrue result ↔ AreTerms (told_all rows earlier.now) (variable_ids call.now) }
+{
+    match call {
+        VariableCall::Ty(name) => names_ty_name_id(earlier, *name),
+        VariableCall::Region(name) => names_name_id(earlier, name),
+        VariableCall::Const => true,
+    }
+}
+
+// Whether those of the variables are.
+fn names_variables_ids(earlier: &[Answer], calls: &[VariableCall]) -> bool
+    ensures { (rows : List Row) → IsTrue result ↔ AreTerms (told_all rows earlier.now) (variables_ids calls.now) }
+{
+    for call in calls {
+        if !names_variable_id(earlier, call) {
+            return false;
+        }
+    }
+    true
+}
+
+// Whether those of the region are.
+fn names_region_ids(earlier: &[Answer], call: &RegionCall) -> bool
+    ensures { (rows : List Row) → IsTrue result ↔ AreTerms (told_all rows earlier.now) (region_ids call.now) }
+{
+    match call {
+        RegionCall::ReBound(_, _, name) => names_name_id(earlier, name),
+        RegionCall::ReLateParam(scope, name) => names_late_ids(earlier, *scope, name),
+        RegionCall::RePlaceholder(_, _, name) => names_name_id(earlier, name),
+        _ => true,
+    }
+}
+
+// Whether those of a region parameter, seen from inside its item, are.
+fn names_late_ids(earlier: &[Answer], scope: u32, name: &RegionNameCall) -> bool
+    ensures { (rows : List Row) → IsTrue result ↔ AreTerms (told_all rows earlier.now) (any_id scope ++ name_ids name.now) }
+{
+    is_any_id(earlier, scope) && names_name_id(earlier, name)
+}
+
+// Whether those of both regions are.
+fn names_both_ids(earlier: &[Answer], first: &RegionCall, second: &RegionCall) -> bool
+    ensures { (rows : List Row) → IsTrue result ↔ AreTerms (told_all rows earlier.now) (region_ids first.now ++ region_ids second.now) }
+{
+    names_region_ids(earlier, first) && names_region_ids(earlier, second)
+}
+
+// Whether those of the argument are.
+fn names_arg_ids(earlier: &[Answer], call: &ArgCall) -> bool
+    ensures { (rows : List Row) → IsTrue result ↔ AreTerms (told_all rows earlier.now) (arg_ids call.now) }
+{
+    match call {
+        ArgCall::Lifetime(region) => names_region_ids(earlier, region),
+        _ => true,
+    }
+}
+
+// Whether those of the arguments are.
+fn names_args_ids(earlier: &[Answer], calls: &[ArgCall]) -> bool
+    ensures { (rows : List Row) → IsTrue result ↔ AreTerms (told_all rows earlier.now) (args_ids calls.now) }
+{
+    for call in calls {
+        if !names_arg_ids(earlier, call) {
+            return false;
+        }
+    }
+    true
+}
+
+// Whether those of the type are.
 fn names_ty_ids(earlier: &[Answer], call: &TyCall) -> bool
     ensures { (rows : List Row) → IsTrue result ↔ AreTerms (told_all rows earlier.now) (ty_ids call.now) }
 {
     match call {
         TyCall::Foreign(position) => is_id(earlier, *position, DeclarationSort::Foreign),
-        TyCall::Item(item, _) => names_item_id(earlier, *item),
-        TyCall::Dynamic(existentials, _) => {
-            names_existential_ids(earlier, existentials.as_slice())
+        TyCall::Bound(_, _, name) => names_ty_name_id(earlier, *name),
+        TyCall::Placeholder(_, _, name) => names_ty_name_id(earlier, *name),
+        TyCall::Ref(region, _, _) => names_region_ids(earlier, region),
+        TyCall::FnPtr { vars, .. } => names_variables_ids(earlier, vars.as_slice()),
+        TyCall::Item(item, args) => names_item_ids(earlier, *item, args.as_slice()),
+        TyCall::Dynamic(existentials, region) => {
+            names_object_ids(earlier, existentials.as_slice(), region)
         }
+        TyCall::UnsafeBinder { vars, .. } => names_variables_ids(earlier, vars.as_slice()),
         _ => true,
     }
 }
 
-// Whether that of the item does.
+// Whether that of the item is, and those of its arguments.
+fn names_item_ids(earlier: &[Answer], call: ItemCall, args: &[ArgCall]) -> bool
+    ensures { (rows : List Row) → IsTrue result ↔ AreTerms (told_all rows earlier.now) (item_ids call ++ args_ids args.now) }
+{
+    names_item_id(earlier, call) && names_args_ids(earlier, args)
+}
+
+// Whether that of the item is.
 fn names_item_id(earlier: &[Answer], call: ItemCall) -> bool
     ensures { (rows : List Row) → IsTrue result ↔ AreTerms (told_all rows earlier.now) (item_ids call) }
 {
@@ -117,7 +237,7 @@ fn names_item_id(earlier: &[Answer], call: ItemCall) -> bool
     }
 }
 
-// Whether that of the alias does.
+// Whether that of the alias is.
 fn names_alias_id(earlier: &[Answer], call: AliasCall) -> bool
     ensures { (rows : List Row) → IsTrue result ↔ AreTerms (told_all rows earlier.now) (alias_ids call) }
 {
@@ -129,65 +249,103 @@ fn names_alias_id(earlier: &[Answer], call: AliasCall) -> bool
     }
 }
 
-// Whether those of the existential predicates do.
-fn names_existential_ids(earlier: &[Answer], calls: &[ExistentialCall]) -> bool
-    ensures { (rows : List Row) → IsTrue result ↔ AreTerms (told_all rows earlier.now) (all_positions existential_ids calls.now) }
+// Whether those of a trait object are.
+fn names_object_ids(earlier: &[Answer], calls: &[ExistentialCall], region: &RegionCall) -> bool
+    ensures { (rows : List Row) → IsTrue result ↔ AreTerms (told_all rows earlier.now) (existentials_ids calls.now ++ region_ids region.now) }
+{
+    names_existentials_ids(earlier, calls) && names_region_ids(earlier, region)
+}
+
+// Whether those of the existential predicates are.
+fn names_existentials_ids(earlier: &[Answer], calls: &[ExistentialCall]) -> bool
+    ensures { (rows : List Row) → IsTrue result ↔ AreTerms (told_all rows earlier.now) (existentials_ids calls.now) }
 {
     for call in calls {
-        if !names_existential_id(earlier, &call.kind) {
+        if !names_existential_ids(earlier, call) {
             return false;
         }
     }
     true
 }
 
-// Whether that of the existential predicate does.
-fn names_existential_id(earlier: &[Answer], call: &ExistentialKindCall) -> bool
+// Whether those of the existential predicate are.
+fn names_existential_ids(earlier: &[Answer], call: &ExistentialCall) -> bool
+    ensures { (rows : List Row) → IsTrue result ↔ AreTerms (told_all rows earlier.now) (existential_ids call.now) }
+{
+    names_existential_kind_ids(earlier, &call.kind)
+        && names_variables_ids(earlier, call.vars.as_slice())
+}
+
+// Whether those of what the existential predicate says are.
+fn names_existential_kind_ids(earlier: &[Answer], call: &ExistentialKindCall) -> bool
     ensures { (rows : List Row) → IsTrue result ↔ AreTerms (told_all rows earlier.now) (existential_kind_ids call.now) }
 {
     match call {
-        ExistentialKindCall::Trait(position, _) => {
-            is_id(earlier, *position, DeclarationSort::Trait)
+        ExistentialKindCall::Trait(position, args) => {
+            is_id_with(earlier, *position, DeclarationSort::Trait, args.as_slice())
         }
-        ExistentialKindCall::Projection(position, _, _) => is_any_id(earlier, *position),
+        ExistentialKindCall::Projection(position, args, _) => {
+            is_any_id_with(earlier, *position, args.as_slice())
+        }
         ExistentialKindCall::AutoTrait(position) => {
             is_id(earlier, *position, DeclarationSort::Trait)
         }
     }
 }
 
-// Whether that of the constant does.
-fn names_const_id(earlier: &[Answer], call: &ConstCall) -> bool
+// Whether those of the constant are.
+fn names_const_ids(earlier: &[Answer], call: &ConstCall) -> bool
     ensures { (rows : List Row) → IsTrue result ↔ AreTerms (told_all rows earlier.now) (const_ids call.now) }
 {
     match call {
-        ConstCall::Unevaluated(position, _) => is_id(earlier, *position, DeclarationSort::Const),
+        ConstCall::Unevaluated(position, args) => {
+            is_id_with(earlier, *position, DeclarationSort::Const, args.as_slice())
+        }
+        ConstCall::Expr(_, args) => names_args_ids(earlier, args.as_slice()),
         _ => true,
     }
 }
 
-// Whether that of the clause does.
-fn names_clause_id(earlier: &[Answer], call: &ClauseCall) -> bool
+// Whether those of the clause are.
+fn names_clause_ids(earlier: &[Answer], call: &ClauseCall) -> bool
     ensures { (rows : List Row) → IsTrue result ↔ AreTerms (told_all rows earlier.now) (clause_ids call.now) }
 {
     match call {
-        ClauseCall::Trait(position, _) => is_id(earlier, *position, DeclarationSort::Trait),
-        ClauseCall::Projection(position, _, _) => is_any_id(earlier, *position),
-        ClauseCall::HostEffect(position, _, _) => is_id(earlier, *position, DeclarationSort::Trait),
+        ClauseCall::Trait(position, args) => {
+            is_id_with(earlier, *position, DeclarationSort::Trait, args.as_slice())
+        }
+        ClauseCall::RegionOutlives(longer, shorter) => names_both_ids(earlier, longer, shorter),
+        ClauseCall::TypeOutlives(_, region) => names_region_ids(earlier, region),
+        ClauseCall::Projection(position, args, _) => {
+            is_any_id_with(earlier, *position, args.as_slice())
+        }
+        ClauseCall::HostEffect(position, args, _) => {
+            is_id_with(earlier, *position, DeclarationSort::Trait, args.as_slice())
+        }
         _ => true,
     }
 }
 
-// Whether that of the predicate does.
-fn names_predicate_id(earlier: &[Answer], call: &PredicateKindCall) -> bool
+// Whether those of the predicate are.
+fn names_predicate_ids(earlier: &[Answer], call: &PredicateCall) -> bool
     ensures { (rows : List Row) → IsTrue result ↔ AreTerms (told_all rows earlier.now) (predicate_ids call.now) }
 {
+    names_predicate_kind_ids(earlier, &call.kind)
+        && names_variables_ids(earlier, call.vars.as_slice())
+}
+
+// Whether those of what the predicate says are.
+fn names_predicate_kind_ids(earlier: &[Answer], call: &PredicateKindCall) -> bool
+    ensures { (rows : List Row) → IsTrue result ↔ AreTerms (told_all rows earlier.now) (predicate_kind_ids call.now) }
+{
     match call {
-        PredicateKindCall::Clause(clause) => names_clause_id(earlier, clause),
+        PredicateKindCall::Clause(clause) => names_clause_ids(earlier, clause),
         PredicateKindCall::DynCompatible(position) => {
             is_id(earlier, *position, DeclarationSort::Trait)
         }
-        PredicateKindCall::NormalizesTo(position, _, _) => is_any_id(earlier, *position),
+        PredicateKindCall::NormalizesTo(position, args, _) => {
+            is_any_id_with(earlier, *position, args.as_slice())
+        }
         _ => true,
     }
 }

@@ -93,6 +93,6 @@ fn build_arg(cx: &mut Interner, earlier: &[Answer], arg: &ArgCall) -> Result<Gen
     match arg {
         ArgCall::Type(position) => Ok(GenericArg::from(handle_at::<Ty>(earlier, *position)?)),
         ArgCall::Const(position) => Ok(GenericArg::from(handle_at::<Const>(earlier, *position)?)),
-        ArgCall::Lifetime(region) => Ok(GenericArg::from(build_region(cx, region)?)),
+        ArgCall::Lifetime(region) => Ok(GenericArg::from(build_region(cx, earlier, region)?)),
     }
 }

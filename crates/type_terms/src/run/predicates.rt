@@ -6,6 +6,7 @@ ghost use Rattle.tt_kinds.specs.Shape.{also, append};
 ghost use Rattle.tt_kinds.specs.Parts.{term_child};
 ghost use Rattle.tt_kinds.specs.Kinds.{predicate_form as form_of_predicate};
 ghost use Rattle.tt_kinds.specs.Kinds.{child_shapes, clause_form, predicate_kind_shape, args_shape, term_shape};
+ghost use Rattle.tt_interner.specs.Rows.{Row};
 ghost use Rattle.tt_interner.specs.Stored.{Terms, Extends};
 ghost use Rattle.type_terms.specs.declared.run.call.Call.TheVariants.{Predicate as BuildsPredicate};
 ghost use Rattle.type_terms.specs.CallForm.{predicate_ids, predicate_form, predicate_record, clause_record, labelled, one, a_region, a_term, args_part, term_part};
@@ -29,7 +30,7 @@ use tt_kinds::{
     SubtypePredicate, Table, Term, TraitPredicate, TraitRef, Ty,
 };
 
-/// The predicate that the call names, over the earlier answers, where the id that it names is there.
+/// The predicate that the call names, over the earlier answers, where the ids that it names are there.
 pub fn build_predicate(
     cx: &mut Interner,
     earlier: &[Answer],
@@ -37,7 +38,7 @@ pub fn build_predicate(
 ) -> Result<Answer, Refusal>
     requires { AreOwned cx.old.rows earlier.now }
     ensures extends { Extends cx.old cx.new }
-    ensures answers { AreTerms (told_all cx.old.rows earlier.now) (predicate_ids call.now.kind) → Answers cx.new (told_all cx.old.rows earlier.now) (BuildsPredicate call.now) result }
+    ensures answers { AreTerms (told_all cx.old.rows earlier.now) (predicate_ids call.now) → Answers cx.new (told_all cx.old.rows earlier.now) (BuildsPredicate call.now) result }
 {
     match bound_kind(cx, earlier, call) {
         Ok(kind) => {
@@ -60,7 +61,7 @@ fn bound_kind(
 {
     match predicate_kind(cx, earlier, &call.kind) {
         Ok(kind) => {
-            let vars = build_vars(cx, call.vars.as_slice())?;
+            let vars = build_vars(cx, earlier, call.vars.as_slice())?;
             Ok(Binder::bind_with_vars(kind, vars))
         }
         Err(refusal) => Err(refusal),
@@ -174,7 +175,9 @@ fn clause_kind(
             };
             Ok(ClauseKind::Trait(TraitPredicate { trait_ref }))
         }
-        ClauseCall::RegionOutlives(longer, shorter) => region_outlives(cx, longer, shorter),
+        ClauseCall::RegionOutlives(longer, shorter) => region_outlives(
+            cx, earlier, longer, shorter,
+        ),
         ClauseCall::TypeOutlives(ty, region) => type_outlives(cx, earlier, *ty, region),
         ClauseCall::Projection(position, args, term) => {
             projection(cx, earlier, *position, args.as_slice(), *term)
@@ -251,14 +254,15 @@ fn projection(
 // A region outlives another.
 fn region_outlives(
     cx: &mut Interner,
+    earlier: &[Answer],
     longer: &RegionCall,
     shorter: &RegionCall,
 ) -> Result<ClauseKind, Refusal>
     ensures extends { Extends cx.old cx.new }
-    ensures kind { (e : List Told) → GivesRecord cx.new e (labelled region_outlives_record (one (a_region longer.now) ∷ one (a_region shorter.now) ∷ [])) clause_form result }
+    ensures kind { (rows : List Row) → GivesRecord cx.new (told_all rows earlier.now) (labelled region_outlives_record (one (a_region longer.now) ∷ one (a_region shorter.now) ∷ [])) clause_form result }
 {
-    let longer = build_region(cx, longer)?;
-    let shorter = build_region(cx, shorter)?;
+    let longer = build_region(cx, earlier, longer)?;
+    let shorter = build_region(cx, earlier, shorter)?;
     Ok(ClauseKind::RegionOutlives(OutlivesPredicate(longer, shorter)))
 }
 
@@ -274,7 +278,7 @@ fn type_outlives(
     ensures kind { GivesRecord cx.new (told_all cx.old.rows earlier.now) (labelled type_outlives_record (one (a_term Table.Types ty) ∷ one (a_region region.now) ∷ [])) clause_form result }
 {
     let ty = handle_at::<Ty>(earlier, ty)?;
-    let region = build_region(cx, region)?;
+    let region = build_region(cx, earlier, region)?;
     Ok(ClauseKind::TypeOutlives(OutlivesPredicate(ty, region)))
 }
 

@@ -5,7 +5,7 @@ ghost use Rattle.std.specs.Vec.{vec_len, vec_capacity};
 ghost use Rattle.type_terms.specs.declared.run.call.Call.{Call};
 ghost use Rattle.tt_interner.specs.Stored.{Extends};
 ghost use Rattle.type_terms.specs.Told.{told, told_all, HasFullTable, IsOwned, AreOwned};
-ghost use Rattle.type_terms.specs.Means.{ids, AreTerms, IsAllowed, Means};
+ghost use Rattle.type_terms.specs.Means.{id_positions, AreTerms, IsAllowed, Means};
 
 use crate::run::answer::Answer;
 use crate::run::build::build_ty;
@@ -72,7 +72,7 @@ fn answer_call(cx: &mut Interner, earlier: &[Answer], call: &Call) -> Answer
 // The answer to a call whose ids are there.
 fn answer_named(cx: &mut Interner, earlier: &[Answer], call: &Call) -> Answer
     requires owned { AreOwned cx.old.rows earlier.now }
-    requires named { AreTerms (told_all cx.old.rows earlier.now) (ids call.now) }
+    requires named { AreTerms (told_all cx.old.rows earlier.now) (id_positions call.now) }
     ensures extends { Extends cx.old cx.new }
     ensures owned { IsOwned cx.new.rows result }
     ensures allowed { IsAllowed (HasFullTable cx.new) (told_all cx.old.rows earlier.now) call.now (told cx.new.rows result) }

@@ -1,6 +1,6 @@
 //! Lines that build types.
 
-use crate::run::call::{RegionNameCall, TyCall, VariableCall};
+use crate::run::call::{BoundTyKindCall, RegionNameCall, TyCall, VariableCall};
 use crate::run::line::{LineError, number, position, positions};
 use crate::run::region_word::{anonymous, parse_region};
 use crate::run::words::Words;
@@ -9,10 +9,7 @@ use tt_index::{
     BoundVar, DebruijnIndex, ExternAbi, GREATEST_INDEX, IntTy, Mutability, Safety, TyVid, UintTy,
     UniverseIndex,
 };
-use tt_kinds::{
-    BoundTy, BoundTyKind, BoundVarIndexKind, ErrorGuaranteed, FnHeader, FnSigKind, InferTy,
-    Placeholder,
-};
+use tt_kinds::{BoundVarIndexKind, ErrorGuaranteed, FnHeader, FnSigKind, InferTy};
 
 /// The type of this first word and the further words of its line, as many of them as it takes.
 pub fn parse_ty(alloc: Global, first: &[u8], words: &mut Words) -> Result<TyCall, LineError> {
@@ -37,17 +34,21 @@ fn parse_leaf(first: &[u8], words: &mut Words) -> Result<TyCall, LineError> {
     match first {
         b"bound" => {
             let binder = DebruijnIndex::from_u32(number(words, GREATEST_INDEX)?);
-            Ok(TyCall::Bound(BoundVarIndexKind::Bound(binder), variable(words)?))
+            let var = variable(words)?;
+            Ok(TyCall::Bound(BoundVarIndexKind::Bound(binder), var, BoundTyKindCall::Anon))
         }
-        b"cbound" => Ok(TyCall::Bound(BoundVarIndexKind::Canonical, variable(words)?)),
+        b"cbound" => {
+            let var = variable(words)?;
+            Ok(TyCall::Bound(BoundVarIndexKind::Canonical, var, BoundTyKindCall::Anon))
+        }
         b"infer" => {
             let number = number(words, GREATEST_INDEX)?;
             Ok(TyCall::Infer(InferTy::TyVar(TyVid::from_u32(number))))
         }
-        b"placeholder" => Ok(TyCall::Placeholder(Placeholder {
-            universe: UniverseIndex::from_u32(number(words, GREATEST_INDEX)?),
-            bound: variable(words)?,
-        })),
+        b"placeholder" => {
+            let universe = UniverseIndex::from_u32(number(words, GREATEST_INDEX)?);
+            Ok(TyCall::Placeholder(universe, variable(words)?, BoundTyKindCall::Anon))
+        }
         b"error" => Ok(TyCall::Error(ErrorGuaranteed(number(words, u32::MAX)?))),
         _ => parse_name(first).ok_or(LineError::Bad),
     }
@@ -86,12 +87,9 @@ fn reference(
     Ok(TyCall::Ref(region, position(words)?, mutability))
 }
 
-// The variable without a name whose number is the next word.
-fn variable(words: &mut Words) -> Result<BoundTy, LineError> {
-    Ok(BoundTy {
-        var: BoundVar::from_u32(number(words, GREATEST_INDEX)?),
-        kind: BoundTyKind::Anon,
-    })
+// The place in a binder's list that the next word is.
+fn variable(words: &mut Words) -> Result<BoundVar, LineError> {
+    Ok(BoundVar::from_u32(number(words, GREATEST_INDEX)?))
 }
 
 // A safe function pointer of Rust's convention: the number of its binder's regions, and its types, at least one.

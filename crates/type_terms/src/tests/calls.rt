@@ -3,11 +3,11 @@
 use super::agree;
 use super::owned::holds_anew;
 use crate::{
-    AliasCall, Answer, ArgCall, BoundConstness, BoundVar, BoundVarIndexKind, Call, ClauseCall,
-    ConstCall, DebruijnIndex, DeclarationKindCall, DeclareCall, DefId, ExistentialCall,
+    AliasCall, Answer, ArgCall, BoundConstness, BoundTyKindCall, BoundVar, BoundVarIndexKind, Call,
+    ClauseCall, ConstCall, DebruijnIndex, DeclarationKindCall, DeclareCall, ExistentialCall,
     ExistentialKindCall, GREATEST_INDEX, InferConst, Interner, ItemCall, Mutability, PatCall,
     PredicateCall, PredicateKindCall, Refusal, RegionCall, RegionNameCall, ScalarInt, TermCall,
-    TyCall, UniverseIndex, ValTreeCall, run_calls,
+    TyCall, UniverseIndex, ValTreeCall, VariableCall, run_calls,
 };
 use std::alloc::{AllocError, Global};
 use std::process::Abort;
@@ -45,6 +45,7 @@ enum Subject {
     Declarations,
     Ids,
     IdsInPredicates,
+    IdsInRegions,
 }
 
 // The call of this number of the subject's list.
@@ -54,11 +55,12 @@ fn call(alloc: Global, subject: Subject, number: u32) -> Result<Call, AllocError
         Subject::Arguments => argument_call(alloc, number),
         Subject::Patterns => pattern_call(alloc, number),
         Subject::Predicates => predicate_call(alloc, number),
-        Subject::Regions => Ok(region_call(number)),
+        Subject::Regions => region_call(alloc, number),
         Subject::TraitObjects => object_call(alloc, number),
         Subject::Declarations => declaration_call(alloc, number),
         Subject::Ids => id_call(alloc, number),
         Subject::IdsInPredicates => predicate_of_id_call(alloc, number),
+        Subject::IdsInRegions => id_in_region_call(alloc, number),
     }
 }
 
@@ -121,7 +123,7 @@ fn lists_of_calls(rt: HostRuntime) -> Result<(), Fail> {
             9,
             "type predicate predicate clauses none clauses info clauses yes ",
         ),
-        (Subject::Regions, 5, "type type type no deep "),
+        (Subject::Regions, 6, "type id type type no deep "),
         (
             Subject::TraitObjects,
             8,
@@ -232,11 +234,11 @@ fn predicate_call(alloc: Global, number: u32) -> Result<Call, AllocError> {
     }
 }
 
-// The region of this number.
+// The region of this number, where the second call declares.
 fn region(number: u32) -> RegionCall {
     let var = BoundVar::from_u32(0);
     match number {
-        0 => RegionCall::ReLateParam(DefId::from_number(0), RegionNameCall::Anon),
+        0 => RegionCall::ReLateParam(2, RegionNameCall::Anon),
         1 => RegionCall::RePlaceholder(UniverseIndex::from_u32(0), var, RegionNameCall::Anon),
         _ => {
             let greatest = DebruijnIndex::from_u32(GREATEST_INDEX);
@@ -250,14 +252,75 @@ fn region(number: u32) -> RegionCall {
 }
 
 // A call of this number of a list.
-fn region_call(number: u32) -> Call {
+fn region_call(alloc: Global, number: u32) -> Result<Call, AllocError> {
     match number {
-        1 => Call::Ty(TyCall::Bool),
-        2 => Call::Ty(TyCall::Ref(region(0), 1, Mutability::Not)),
-        3 => Call::Ty(TyCall::Ref(region(1), 1, Mutability::Not)),
-        4 => Call::Equal(2, 3),
-        _ => Call::Ty(TyCall::Ref(region(2), 1, Mutability::Not)),
+        1 => Ok(Call::Ty(TyCall::Bool)),
+        2 => declare(alloc, DeclarationKindCall::Adt),
+        3 => Ok(reference(region(0))),
+        4 => Ok(reference(region(1))),
+        5 => Ok(Call::Equal(3, 4)),
+        _ => Ok(reference(region(2))),
     }
+}
+
+// The reference with this region to the type that the first call answered.
+fn reference(region: RegionCall) -> Call {
+    Call::Ty(TyCall::Ref(region, 1, Mutability::Not))
+}
+
+// That type under a binder of this variable.
+fn under_binder(alloc: Global, var: VariableCall) -> Result<Call, AllocError> {
+    let mut vars = Vec::new(alloc);
+    vars.push(var)?;
+    Ok(Call::Ty(TyCall::UnsafeBinder { vars, ty: 1 }))
+}
+
+// The list of one region, which is called by the id at the position.
+fn named_region(alloc: Global, position: u32) -> Result<Vec<ArgCall>, AllocError> {
+    let universe = UniverseIndex::from_u32(0);
+    let var = BoundVar::from_u32(0);
+    let name = RegionNameCall::Named(position);
+    let mut args = Vec::new(alloc);
+    args.push(ArgCall::Lifetime(RegionCall::RePlaceholder(universe, var, name)))?;
+    Ok(args)
+}
+
+// A call of this number of a list. The first answers a type and the second declares. Of each two that follow, the one names
+// the type where an id has to be, and the other the declaration.
+fn id_in_region_call(alloc: Global, number: u32) -> Result<Call, AllocError> {
+    let position = if number % 2 == 0 { 2 } else { 1 };
+    let universe = UniverseIndex::from_u32(0);
+    let var = BoundVar::from_u32(0);
+    let name = BoundTyKindCall::Param(position);
+    match number {
+        1 => Ok(Call::Ty(TyCall::Bool)),
+        2 => declare(alloc, DeclarationKindCall::Adt),
+        3 | 4 => {
+            let anonymous = RegionNameCall::Anon;
+            Ok(reference(RegionCall::ReLateParam(position, anonymous)))
+        }
+        5 | 6 => {
+            let named = RegionNameCall::Named(position);
+            Ok(reference(RegionCall::ReLateParam(2, named)))
+        }
+        7 | 8 => under_binder(alloc, VariableCall::Region(RegionNameCall::Named(position))),
+        9 | 10 => under_binder(alloc, VariableCall::Ty(name)),
+        11 | 12 => Ok(Call::Ty(TyCall::Bound(BoundVarIndexKind::Canonical, var, name))),
+        13 | 14 => Ok(Call::Ty(TyCall::Placeholder(universe, var, name))),
+        15 | 16 => Ok(Call::Args(named_region(alloc, position)?)),
+        _ => Ok(Call::Instantiate(1, named_region(alloc, position)?)),
+    }
+}
+
+#[test]
+fn ids_in_regions_and_variables(rt: HostRuntime) -> Result<(), Fail> {
+    check(
+        &rt,
+        rt.alloc(),
+        Subject::IdsInRegions,
+        18,
+        "type id none type none type none type none type none type none type none args none type ",
+    )
 }
 
 // The trait object of this alone.

@@ -2,7 +2,7 @@ use Rattle.std.proofs.Common.{refl}
 use Rattle.std.proofs.lemmas.Result.{err_from_is_err_and}
 use Rattle.tt_kinds.specs.Label.{bare_const_record, expr_const}
 use Rattle.tt_kinds.specs.Kinds.{args_shape}
-use Rattle.tt_visit.specs.Steps.{expression_shape}
+use Rattle.tt_kinds.specs.Bare.{expression_shape}
 use Rattle.tt_fold.proofs.RecordSteps.{one-inner, one_fails, one_folds}
 use Rattle.tt_fold.proofs.bare.ExprConstTypeFoldable.fold_core.Goals as goal
 

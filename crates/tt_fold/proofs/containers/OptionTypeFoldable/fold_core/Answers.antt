@@ -1,7 +1,7 @@
 use Rattle.std.proofs.Common.{refl}
 use Rattle.std.proofs.lemmas.Result.{err_from_is_err_and}
 use Rattle.tt_kinds.specs.Label.{present_record, absent_record}
-use Rattle.tt_visit.specs.Steps.{option_shape}
+use Rattle.tt_kinds.specs.Values.{option_shape}
 use Rattle.tt_fold.proofs.RecordSteps.{one-inner, one_fails, one_folds, none_folds}
 use Rattle.tt_fold.proofs.containers.OptionTypeFoldable.fold_core.Goals as goal
 

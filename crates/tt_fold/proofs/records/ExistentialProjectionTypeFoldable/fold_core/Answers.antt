@@ -2,7 +2,7 @@ use Rattle.std.proofs.Common.{refl}
 use Rattle.std.proofs.lemmas.Result.{err_from_is_err_and}
 use Rattle.tt_kinds.specs.Label.{existential_projection_record}
 use Rattle.tt_kinds.specs.Kinds.{args_shape, term_shape}
-use Rattle.tt_visit.specs.Steps.{existential_projection_shape}
+use Rattle.tt_kinds.specs.Values.{existential_projection_shape}
 use Rattle.tt_interner.proofs.Growth.{IsPart-grows}
 use Rattle.tt_fold.proofs.RecordSteps.{two-first, two-second, two_first_fails, two_second_fails, two_folds}
 use Rattle.tt_fold.proofs.records.ExistentialProjectionTypeFoldable.fold_core.Goals as goal

@@ -1,12 +1,14 @@
-use Rattle.std.proofs.Common.{ap}
-use Rattle.tt_kinds.specs.Label.{late_param_region}
-use Rattle.tt_kinds.specs.Tree as tree
+use Rattle.std.proofs.Common.{refl}
 use Rattle.tt_kinds.specs.Shape.{fill, IsPart}
-use Rattle.type_terms.proofs.BuildLaws.{region-shallow}
+use Rattle.type_terms.proofs.BuildLaws.{region-shallow, region-passed}
 use Rattle.type_terms.proofs.run.build.build_late_param.Goals as goal
+
+pub returns-in_err-kind-clause-region : goal.returns-in_err-kind-clause-region
+returns-in_err-kind-clause-region c = λ rows.
+    region-passed c.build_name.new.cx _ ⊥ c.from_residual.result c.in_err-kind.field-0.0 c.from_residual.ensures.1 (c.in_err-kind.ensures.name rows).err
 
 pub returns-clause-region : goal.returns-clause-region
 unfolding fill IsPart
-returns-clause-region c =
-    region-shallow c.build_name.new.cx _ _ ⊥ c.new.result c.new.ensures.ok tt (λ d. d) c.in_ok-kind.ensures.name.ok.part
-    (ap (λ n. tree.region (late_param_region c.args.scope.number n)) c.in_ok-kind.ensures.name.ok.means)
+returns-clause-region c = λ rows.
+    region-shallow c.build_name.new.cx _ _ ⊥ c.new.result c.new.ensures.ok tt (λ d. d) (c.in_ok-kind.ensures.name rows).ok.part
+    (rw (c.def_at-scope.ensures rows, (c.in_ok-kind.ensures.name rows).ok.means) refl)

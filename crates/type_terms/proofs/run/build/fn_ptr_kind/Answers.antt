@@ -6,6 +6,7 @@ use Rattle.tt_kinds.specs.declared.table.Table.TheVariants.{Types, TypeLists}
 use Rattle.tt_interner.proofs.Growth.{Extends-trans}
 use Rattle.type_terms.specs.CallForm.{under, a_list, terms_at, variable_kind, form_positions, IsFormTooDeep}
 use Rattle.type_terms.specs.Told.{told_all, HasFullTable}
+use Rattle.type_terms.specs.Means.{number_at}
 use Rattle.type_terms.proofs.PartLaws.{kind-passed, under-kind, parts-one, placed-grows, unbuilt-first, unbuilt-always}
 use Rattle.type_terms.proofs.run.build.fn_ptr_kind.Goals as goal
 
@@ -13,7 +14,7 @@ pub returns-in_err-inputs_and_output-clause-kind : goal.returns-in_err-inputs_an
 returns-in_err-inputs_and_output-clause-kind c =
     let e = told_all c.args.cx.now.rows c.args.earlier.now in
     let part = a_list TypeLists (terms_at Types c.args.inputs_and_output.now) in
-    let form = under (type_label (fn_ptr_type c.args.header)) (map variable_kind c.args.vars.now) fn_sig_tys_record (part ∷ []) in
+    let form = under (type_label (fn_ptr_type c.args.header)) (map (variable_kind (number_at e)) c.args.vars.now) fn_sig_tys_record (part ∷ []) in
     kind-passed c.build_tys.new.cx e form ty_kind_shape c.from_residual.result c.in_err-inputs_and_output.field-0.0 c.from_residual.ensures.1
     (unbuilt-first (HasFullTable c.build_tys.new.cx) e part [] c.in_err-inputs_and_output.field-0.0 c.in_err-inputs_and_output.ensures.list.err)
 
@@ -24,9 +25,9 @@ pub returns-in_err-vars-clause-kind : goal.returns-in_err-vars-clause-kind
 returns-in_err-vars-clause-kind c =
     let e = told_all c.args.cx.now.rows c.args.earlier.now in
     let part = a_list TypeLists (terms_at Types c.args.inputs_and_output.now) in
-    let form = under (type_label (fn_ptr_type c.args.header)) (map variable_kind c.args.vars.now) fn_sig_tys_record (part ∷ []) in
+    let form = under (type_label (fn_ptr_type c.args.header)) (map (variable_kind (number_at e)) c.args.vars.now) fn_sig_tys_record (part ∷ []) in
     kind-passed c.build_vars.new.cx e form ty_kind_shape c.from_residual-in_err-vars.result c.in_err-vars.field-0.0 c.from_residual-in_err-vars.ensures.1
-    (unbuilt-always (HasFullTable c.build_vars.new.cx) e (form_positions form) (IsFormTooDeep form) c.in_err-vars.field-0.0 c.in_err-vars.ensures.vars.err)
+    (unbuilt-always (HasFullTable c.build_vars.new.cx) e (form_positions form) (IsFormTooDeep form) c.in_err-vars.field-0.0 (c.in_err-vars.ensures.vars c.args.cx.now.rows).err)
 
 pub returns-clause-extends : goal.returns-clause-extends
 returns-clause-extends c = Extends-trans c.build_tys.ensures.extends c.build_vars.ensures.extends
@@ -42,6 +43,6 @@ returns-clause-kind c =
           (under-kind terms e (type_label (fn_ptr_type c.args.header)) c.args.vars.now fn_sig_tys_record (part ∷ []) (type_label (fn_ptr_type c.args.header)) c.in_ok-vars.vars fn_sig_tys_record
           (shape.also list shape.none)
           (parts-one terms e part list (placed-grows c.build_tys.new.cx terms c.build_vars.ensures.extends c.in_ok-inputs_and_output.ensures.list.ok))
-          c.in_ok-vars.ensures.vars.ok tt refl tt refl);
+          (c.in_ok-vars.ensures.vars c.args.cx.now.rows).ok tt refl tt refl);
       err = tt;
     }

@@ -23,7 +23,7 @@ returns-in_err-region-clause-kind c =
     let ty = one (a_term Types c.args.position) in
     kind-passed c.build_region.new.cx e (plain (type_label (ref_type c.args.mutability)) (region ∷ ty ∷ [])) ty_kind_shape c.from_residual-in_err-region.result c.in_err-region.field-0.0 c.from_residual-in_err-region.ensures.1
     (unbuilt-first (HasFullTable c.build_region.new.cx) e region (ty ∷ []) c.in_err-region.field-0.0
-    (region-unbuilt (HasFullTable c.build_region.new.cx) e c.args.region.now c.in_err-region.field-0.0 c.in_err-region.ensures.region.err))
+    (region-unbuilt (HasFullTable c.build_region.new.cx) e c.args.region.now c.in_err-region.field-0.0 (c.in_err-region.ensures.region c.args.cx.now.rows).err))
 
 pub returns-clause-kind : goal.returns-clause-kind
 returns-clause-kind c =
@@ -34,7 +34,7 @@ returns-clause-kind c =
     record {
       ok = plain-kind c.build_region.new.cx e label (region ∷ ty ∷ []) (type_label (ref_type c.args.mutability)) (shape.also (region_shape c.in_ok-region.region) (shape.also (ty_shape c.in_ok-ty.ty) shape.none))
           (parts-two c.build_region.new.cx e region ty (region_shape c.in_ok-region.region) (ty_shape c.in_ok-ty.ty)
-          (region-part c.build_region.new.cx e c.args.region.now c.in_ok-region.region c.in_ok-region.ensures.region.ok)
+          (region-part c.build_region.new.cx e c.args.region.now c.in_ok-region.region (c.in_ok-region.ensures.region c.args.cx.now.rows).ok)
           (placed-grows c.args.cx.now c.build_region.new.cx c.build_region.ensures.extends (c.in_ok-ty.ensures c.args.cx.now c.requires).ok)) tt refl;
       err = tt;
     }

@@ -1,12 +1,11 @@
 use Rattle.std.proofs.Common.{◌∷◌, [], refl}
-use Rattle.tt_kinds.specs.Bound as kinds
 use Rattle.tt_kinds.specs.Bound.{depth}
-use Rattle.tt_kinds.specs.Label.{type_sort, type_label, bool_type, char_type, int_type, uint_type, float_type, str_type, never_type, placeholder_type, infer_type, error_type, raw_ptr_type, slice_type, tuple_type, foreign_type}
+use Rattle.tt_kinds.specs.Label.{type_sort, type_variable, type_label, bool_type, char_type, int_type, uint_type, float_type, str_type, never_type, placeholder_type, infer_type, error_type, raw_ptr_type, slice_type, tuple_type, foreign_type}
 use Rattle.tt_kinds.specs.Kinds.{ty_kind_shape, ty_shape, tys_shape}
 use Rattle.tt_kinds.specs.Shape as shape
 use Rattle.tt_kinds.specs.declared.table.Table.TheVariants.{Types, TypeLists}
 use Rattle.tt_kinds.specs.declared.ty_kind.TyKind.TheVariants as ty
-use Rattle.type_terms.specs.CallForm.{plain, one, a_term, a_list, terms_at, ty_entry}
+use Rattle.type_terms.specs.CallForm.{plain, one, a_term, a_list, terms_at, ty_called, ty_entry}
 use Rattle.type_terms.specs.Told.{told_all, HasFullTable}
 use Rattle.type_terms.specs.Means.{number_at}
 use Rattle.type_terms.proofs.PartLaws.{kind-passed, plain-kind, parts-one, unbuilt-first}
@@ -35,7 +34,12 @@ pub returns-in-Never-clause-kind : goal.returns-in-Never-clause-kind
 returns-in-Never-clause-kind c = rw (c.in-Never.is) (leaf-kind ty_kind_shape c.args.cx.now (told_all c.args.cx.now.rows c.args.earlier.now) (type_label never_type) (type_label never_type) ty.Never refl tt refl)
 
 pub returns-in-Placeholder-clause-kind : goal.returns-in-Placeholder-clause-kind
-returns-in-Placeholder-clause-kind c = rw (c.in-Placeholder.is) (leaf-kind ty_kind_shape c.args.cx.now (told_all c.args.cx.now.rows c.args.earlier.now) (type_label (placeholder_type c.in-Placeholder.placeholder)) (type_label (placeholder_type c.in-Placeholder.placeholder)) (ty.Placeholder c.in-Placeholder.placeholder) refl tt refl)
+returns-in-Placeholder-clause-kind c =
+    rw (c.in-Placeholder.is)
+    (let e = told_all c.args.cx.now.rows c.args.earlier.now in
+    let p = c.in-Placeholder in
+    let label = placeholder_type (record { universe = p.universe; bound = record { var = p.var; kind = ty_called (number_at e) p.name } }) in
+    leaf-kind ty_kind_shape c.args.cx.now e (type_label label) (type_label label) c.placeholder_kind.result (c.placeholder_kind.ensures c.args.cx.now.rows) tt refl)
 
 pub returns-in-Infer-clause-kind : goal.returns-in-Infer-clause-kind
 returns-in-Infer-clause-kind c = rw (c.in-Infer.is) (leaf-kind ty_kind_shape c.args.cx.now (told_all c.args.cx.now.rows c.args.earlier.now) (type_label (infer_type c.in-Infer.infer)) (type_label (infer_type c.in-Infer.infer)) (ty.Infer c.in-Infer.infer) refl tt refl)
@@ -46,8 +50,11 @@ returns-in-Error-clause-kind c = rw (c.in-Error.is) (leaf-kind ty_kind_shape c.a
 pub returns-in-Bound-clause-kind : goal.returns-in-Bound-clause-kind
 returns-in-Bound-clause-kind c =
     rw (c.in-Bound.is)
-    (record {
-      ok = bound-kind c.args.cx.now (told_all c.args.cx.now.rows c.args.earlier.now) type_sort (depth c.in-Bound.index) (kinds.ty_entry c.in-Bound.bound) (ty_entry c.in-Bound.bound) tt refl;
+    (let e = told_all c.args.cx.now.rows c.args.earlier.now in
+    let b = c.in-Bound in
+    record {
+      ok = rw (c.bound_kind.ensures c.args.cx.now.rows)
+          (bound-kind c.args.cx.now e type_sort (depth b.index) (record { var = b.var; kind = type_variable (ty_called (number_at e) b.name) }) (ty_entry (number_at e) b.var b.name) tt refl);
       err = tt;
     })
 

@@ -17,7 +17,7 @@ pub returns-in_err-kind-clause-existential : goal.returns-in_err-kind-clause-exi
 returns-in_err-kind-clause-existential c =
     let e = told_all c.args.cx.now.rows c.args.earlier.now in
     let form = existential_form (number_at e) c.args.call.now in
-    placed-passed c.existential_kind.new.cx e (existential_tree (tree_at e) form) (existential_positions form) (IsExistentialTooDeep form) existential_shape c.from_residual.result c.in_err-kind.field-0.0 c.from_residual.ensures.1
+    placed-passed c.existential_kind.new.cx e (existential_tree (number_at e) (tree_at e) form) (existential_positions form) (IsExistentialTooDeep form) existential_shape c.from_residual.result c.in_err-kind.field-0.0 c.from_residual.ensures.1
     c.in_err-kind.ensures.kind.err
 
 pub returns-in_err-vars-clause-extends : goal.returns-in_err-vars-clause-extends
@@ -27,8 +27,8 @@ pub returns-in_err-vars-clause-existential : goal.returns-in_err-vars-clause-exi
 returns-in_err-vars-clause-existential c =
     let e = told_all c.args.cx.now.rows c.args.earlier.now in
     let form = existential_form (number_at e) c.args.call.now in
-    placed-passed c.build_vars.new.cx e (existential_tree (tree_at e) form) (existential_positions form) (IsExistentialTooDeep form) existential_shape c.from_residual-in_err-vars.result c.in_err-vars.field-0.0 c.from_residual-in_err-vars.ensures.1
-    (unbuilt-always (HasFullTable c.build_vars.new.cx) e (existential_positions form) (IsExistentialTooDeep form) c.in_err-vars.field-0.0 c.in_err-vars.ensures.vars.err)
+    placed-passed c.build_vars.new.cx e (existential_tree (number_at e) (tree_at e) form) (existential_positions form) (IsExistentialTooDeep form) existential_shape c.from_residual-in_err-vars.result c.in_err-vars.field-0.0 c.from_residual-in_err-vars.ensures.1
+    (unbuilt-always (HasFullTable c.build_vars.new.cx) e (existential_positions form) (IsExistentialTooDeep form) c.in_err-vars.field-0.0 (c.in_err-vars.ensures.vars c.args.cx.now.rows).err)
 
 pub mk_existential-requires : goal.mk_existential-requires
 mk_existential-requires c =
@@ -37,7 +37,7 @@ mk_existential-requires c =
     (bound-record terms (told_all c.args.cx.now.rows c.args.earlier.now) existential_label c.args.call.now.vars.items (existential_record (number_at (told_all c.args.cx.now.rows c.args.earlier.now)) c.args.call.now.kind) existential_label c.in_ok-vars.vars
     (record_shape (kinds.existential_form c.in_ok-kind.kind))
     (placed-grows c.existential_kind.new.cx terms c.build_vars.ensures.extends c.in_ok-kind.ensures.kind.ok)
-    (rw (← c.as_slice.ensures.value) c.in_ok-vars.ensures.vars.ok) tt refl).parts
+    (rw (← c.as_slice.ensures.value) (c.in_ok-vars.ensures.vars c.args.cx.now.rows).ok) tt refl).parts
 
 pub returns-clause-extends : goal.returns-clause-extends
 returns-clause-extends c = Extends-trans (Extends-trans c.existential_kind.ensures.extends c.build_vars.ensures.extends) (record { rows = c.mk_existential.ensures.grows; limit = c.mk_existential.ensures.limit })
@@ -47,10 +47,10 @@ returns-clause-existential c =
     let terms = c.build_vars.new.cx in
     let e = told_all c.args.cx.now.rows c.args.earlier.now in
     let r = existential_record (number_at e) c.args.call.now.kind in
-    let given = term-placed (λ h. h.number) terms c.mk_existential.new.self e (under existential_label (map variable_kind c.args.call.now.vars.items) r.label r.parts) (existential_row c.bind_with_vars.result) c.mk_existential.result
+    let given = term-placed (λ h. h.number) terms c.mk_existential.new.self e (under existential_label (map (variable_kind (number_at e)) c.args.call.now.vars.items) r.label r.parts) (existential_row c.bind_with_vars.result) c.mk_existential.result
     (rw (c.bind_with_vars.ensures)
     (bound-record terms e existential_label c.args.call.now.vars.items (existential_record (number_at (told_all c.args.cx.now.rows c.args.earlier.now)) c.args.call.now.kind) existential_label c.in_ok-vars.vars
     (record_shape (kinds.existential_form c.in_ok-kind.kind))
     (placed-grows c.existential_kind.new.cx terms c.build_vars.ensures.extends c.in_ok-kind.ensures.kind.ok)
-    (rw (← c.as_slice.ensures.value) c.in_ok-vars.ensures.vars.ok) tt refl)) c.mk_existential.ensures in
+    (rw (← c.as_slice.ensures.value) (c.in_ok-vars.ensures.vars c.args.cx.now.rows).ok) tt refl)) c.mk_existential.ensures in
     record { ok = given.ok; err = given.err }

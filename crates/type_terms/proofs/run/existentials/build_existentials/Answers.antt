@@ -34,7 +34,7 @@ returns-in_err-existential-clause-list c =
     let here = slice_get_read c.args.calls.now (length c.args.calls.now) c.loop-call.call-index c.call-item.result refl inside c.call-item.is in
     let e = told_all c.args.cx.now.rows c.args.earlier.now in
     let forms = map (existential_form (number_at e)) c.args.calls.now in
-    placed-passed c.build_existential.new.cx e (existentials_tree (tree_at e) forms) (all_positions existential_positions forms) (AnyIsDeep IsExistentialTooDeep forms) existentials_shape
+    placed-passed c.build_existential.new.cx e (existentials_tree (number_at e) (tree_at e) forms) (all_positions existential_positions forms) (AnyIsDeep IsExistentialTooDeep forms) existentials_shape
     c.from_residual-in_err-existential.result c.in_err-existential.field-0.0 c.from_residual-in_err-existential.ensures.1
     (unbuilt-one existential_tree existential_positions IsExistentialTooDeep existential_shape (HasFullTable c.build_existential.new.cx) e forms c.loop-call.call-index (existential_form (number_at (told_all c.args.cx.now.rows c.args.earlier.now)) c.call-item.result) c.in_err-existential.field-0.0
     (get-mapped (existential_form (number_at e)) c.args.calls.now c.loop-call.call-index c.call-item.result here) (rw (← same) c.in_err-existential.ensures.existential.err))
@@ -63,7 +63,7 @@ returns-clause-list c =
     let ended : length c.args.calls.now ≤ c.loop-call.call-index = omega arith in
     let e = told_all c.args.cx.now.rows c.args.earlier.now in
     let forms = map (existential_form (number_at e)) c.args.calls.now in
-    let placed = subst (λ (cs : List ExistentialCall). ArePlaced c.loop-call.cx e (all_trees (existential_tree (tree_at e)) (map (existential_form (number_at e)) cs)) (all_positions existential_positions (map (existential_form (number_at e)) cs))
+    let placed = subst (λ (cs : List ExistentialCall). ArePlaced c.loop-call.cx e (all_trees (existential_tree (number_at e) (tree_at e)) (map (existential_form (number_at e)) cs)) (all_positions existential_positions (map (existential_form (number_at e)) cs))
     (AnyIsDeep IsExistentialTooDeep (map (existential_form (number_at e)) cs)) (item_shapes existential_shape c.loop-call.built.items)) (take_all c.loop-call.call-index c.args.calls.now ended) c.loop-call.invariant.1 in
-    list-placed (λ l. l.number) c.loop-call.cx c.mk_existential_list.new.self e ExistentialLists (all_trees (existential_tree (tree_at e)) forms) (all_positions existential_positions forms) (AnyIsDeep IsExistentialTooDeep forms)
+    list-placed (λ l. l.number) c.loop-call.cx c.mk_existential_list.new.self e ExistentialLists (all_trees (existential_tree (number_at e) (tree_at e)) forms) (all_positions existential_positions forms) (AnyIsDeep IsExistentialTooDeep forms)
     (item_shapes existential_shape c.loop-call.built.items) (existentials_row c.loop-call.built.items) c.mk_existential_list.result placed refl refl (rw (← c.as_slice.ensures.value) c.mk_existential_list.ensures)

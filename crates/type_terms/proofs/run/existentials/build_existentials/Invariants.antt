@@ -11,5 +11,5 @@ use Rattle.type_terms.proofs.run.existentials.build_existentials.Given as goal
 abbrev pub invariant-loop-call : goal.invariant-loop-call
 invariant-loop-call l =
     let forms = map (existential_form (number_at (told_all l.fn.cx.rows l.earlier))) (take l.call-index l.calls) in
-    Extends l.fn.cx l.cx × ArePlaced l.cx (told_all l.fn.cx.rows l.earlier) (all_trees (existential_tree (tree_at (told_all l.fn.cx.rows l.earlier))) forms) (all_positions existential_positions forms)
+    Extends l.fn.cx l.cx × ArePlaced l.cx (told_all l.fn.cx.rows l.earlier) (all_trees (existential_tree (number_at (told_all l.fn.cx.rows l.earlier)) (tree_at (told_all l.fn.cx.rows l.earlier))) forms) (all_positions existential_positions forms)
     (AnyIsDeep IsExistentialTooDeep forms) (item_shapes existential_shape l.built.items)

@@ -24,7 +24,7 @@ returns-in_err-region-clause-kind c =
     let e = told_all c.args.cx.now.rows c.args.earlier.now in
     let form = trait_object (map (existential_form (number_at (told_all c.args.cx.now.rows c.args.earlier.now))) c.args.existentials.now) c.args.region.now in
     kind-passed c.build_region.new.cx e form ty_kind_shape c.from_residual-in_err-region.result c.in_err-region.field-0.0 c.from_residual-in_err-region.ensures.1
-    (IsUnbuilt-weaker (HasFullTable c.build_region.new.cx) _ e _ (form_positions form) (IsRegionTooDeep c.args.region.now) (IsFormTooDeep form) c.in_err-region.field-0.0 (λ n. tt) inr c.in_err-region.ensures.region.err)
+    (IsUnbuilt-weaker (HasFullTable c.build_region.new.cx) _ e _ (form_positions form) (IsRegionTooDeep c.args.region.now) (IsFormTooDeep form) c.in_err-region.field-0.0 (λ n. tt) inr (c.in_err-region.ensures.region c.args.cx.now.rows).err)
 
 pub returns-clause-extends : goal.returns-clause-extends
 returns-clause-extends c = Extends-trans c.build_existentials.ensures.extends c.build_region.ensures.extends
@@ -32,6 +32,6 @@ returns-clause-extends c = Extends-trans c.build_existentials.ensures.extends c.
 pub returns-clause-kind : goal.returns-clause-kind
 returns-clause-kind c = record {
   ok = dynamic-kind c.build_region.new.cx (told_all c.args.cx.now.rows c.args.earlier.now) (map (existential_form (number_at (told_all c.args.cx.now.rows c.args.earlier.now))) c.args.existentials.now) c.args.region.now (existentials_shape c.in_ok-existentials.existentials) c.in_ok-region.region
-      (placed-grows c.build_existentials.new.cx c.build_region.new.cx c.build_region.ensures.extends c.in_ok-existentials.ensures.list.ok) c.in_ok-region.ensures.region.ok;
+      (placed-grows c.build_existentials.new.cx c.build_region.new.cx c.build_region.ensures.extends c.in_ok-existentials.ensures.list.ok) (c.in_ok-region.ensures.region c.args.cx.now.rows).ok;
   err = tt;
 }

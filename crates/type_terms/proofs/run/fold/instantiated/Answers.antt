@@ -13,19 +13,19 @@ instantiate-requires-clause-value g c = rw (c.bind.ensures, g.met.T.Handle.is_st
 
 pub returns-in_err-instance-clause-answers : goal.returns-in_err-instance-clause-answers
 unfolding fill
-returns-in_err-instance-clause-answers g c = λ e p list at args.
+returns-in_err-instance-clause-answers g c = λ e p list at ids args.
     answer-passed c.instantiate.new.cx e (call.Instantiate p list) c.from_residual.result c.in_err-instance.field-0.0 c.from_residual.ensures.1
-    (inst-refused e p g.T.Handle.table (meaning c.args.cx.now.rows g.T.Handle.table (g.T.Handle.number c.args.term)) at list args.items.named
+    (inst-refused e p g.T.Handle.table (meaning c.args.cx.now.rows g.T.Handle.table (g.T.Handle.number c.args.term)) at list ids args.items.named
     c.instantiate.new.cx (arguments c.args.cx.now.rows c.args.args.now) c.in_err-instance.field-0.0 args.means
     (rw (c.bind.ensures, g.met.T.Handle.is_stored c.args.term) at c.in_err-instance.ensures.err))
 
 pub returns-clause-answers : goal.returns-clause-answers
 unfolding fill IsPart
-returns-clause-answers g c = λ e p list at args. record {
+returns-clause-answers g c = λ e p list at ids args. record {
   owned = c.into_answer.ensures.owns c.instantiate.new.cx.rows
       (rw (c.skip_norm_wip.ensures) (rw (g.met.T.Handle.is_stored c.in_ok-instance.instance.value) at c.in_ok-instance.ensures.in_range));
   ok = rw (c.into_answer.ensures.told c.instantiate.new.cx.rows, c.skip_norm_wip.ensures)
-      (inst-allowed e p g.T.Handle.table (meaning c.args.cx.now.rows g.T.Handle.table (g.T.Handle.number c.args.term)) at list args.items.named
+      (inst-allowed e p g.T.Handle.table (meaning c.args.cx.now.rows g.T.Handle.table (g.T.Handle.number c.args.term)) at list ids args.items.named
       (HasFullTable c.instantiate.new.cx) (arguments c.args.cx.now.rows c.args.args.now)
       (meaning c.instantiate.new.cx.rows g.T.Handle.table (g.T.Handle.number c.in_ok-instance.instance.value)) args.means args.items.shallow
       (rw (c.bind.ensures, g.met.T.Handle.is_stored c.args.term, g.met.T.Handle.is_stored c.in_ok-instance.instance.value) at c.in_ok-instance.ensures.plain)

@@ -1,27 +1,12 @@
-use Rattle.std.proofs.Common.{◌<◌, ◌≤◌, length, refl, sym, ◌∙◌, arith}
-use Rattle.std.proofs.lemmas.List.{take_more, take_all}
-use Rattle.std.proofs.lemmas.Option.{slice_get_read}
-use Rattle.type_terms.specs.CallForm.{existential_ids}
+use Rattle.type_terms.specs.CallForm.{existential_kind_ids, variables_ids}
 use Rattle.type_terms.specs.Told.{told_all}
-use Rattle.type_terms.proofs.PartLaws.{named-append, named-among}
+use Rattle.type_terms.proofs.IdLaws.{both-told, first-untold}
 use Rattle.type_terms.proofs.run.ids.names_existential_ids.Goals as goal
 
-pub returns-then-not-names_existential_id : goal.returns-then-not-names_existential_id
-returns-then-not-names_existential_id c = λ rows.
-    let inside : c.loop-call.call-index < length c.args.calls.now = omega arith in
-    let here = slice_get_read c.args.calls.now (length c.args.calls.now) c.loop-call.call-index c.call-item.result refl inside c.call-item.is in (
-      (λ h. absurd (cc)),
-      (λ h. sym c.if-not-names_existential_id.true ∙ (c.names_existential_id.ensures rows).1
-          (named-among existential_ids (told_all rows c.args.earlier.now) c.args.calls.now c.loop-call.call-index c.call-item.result here h)),
-    )
+pub returns-then-names_existential_kind_ids : goal.returns-then-names_existential_kind_ids
+returns-then-names_existential_kind_ids c = λ rows.
+    both-told (told_all rows c.args.earlier.now) (existential_kind_ids c.args.call.now.kind) (variables_ids c.args.call.now.vars.items) _ ((c.names_existential_kind_ids.ensures rows).0 c.if-names_existential_kind_ids.true) (rw (← c.as_slice.ensures.value) (c.names_variables_ids.ensures rows))
 
-pub loop-call-preserved : goal.loop-call-preserved
-loop-call-preserved c = λ rows.
-    let inside : c.loop-call.call-index < length c.args.calls.now = omega arith in
-    rw (take_more c.args.calls.now c.loop-call.call-index c.call-item.result inside, ← c.call-item.is)
-    (named-append existential_ids (told_all rows c.args.earlier.now) _ c.call-item.result (c.loop-call.invariant rows) ((c.names_existential_id.ensures rows).0 c.if-not-names_existential_id.false))
-
-pub returns : goal.returns
-returns c = λ rows.
-    let ended : length c.args.calls.now ≤ c.loop-call.call-index = omega arith in
-    ((λ h. rw (← take_all c.loop-call.call-index c.args.calls.now ended) (c.loop-call.invariant rows)), (λ h. refl))
+pub returns-else-names_existential_kind_ids : goal.returns-else-names_existential_kind_ids
+returns-else-names_existential_kind_ids c = λ rows.
+    first-untold (told_all rows c.args.earlier.now) (existential_kind_ids c.args.call.now.kind) (variables_ids c.args.call.now.vars.items) _ c.if-names_existential_kind_ids.false (c.names_existential_kind_ids.ensures rows)

@@ -20,12 +20,12 @@ returns-in_err-build_region-in-Lifetime-clause-arg c =
     rw (c.in-Lifetime.is)
     (argument-passed c.build_region.new.cx (told_all c.args.cx.now.rows c.args.earlier.now) (arg.Lifetime c.in-Lifetime.region) c.from_residual-in_err-build_region-in-Lifetime.result c.in_err-build_region-in-Lifetime.field-0.0
     c.from_residual-in_err-build_region-in-Lifetime.ensures.1
-    (region-unbuilt (HasFullTable c.build_region.new.cx) (told_all c.args.cx.now.rows c.args.earlier.now) c.in-Lifetime.region c.in_err-build_region-in-Lifetime.field-0.0 c.in_err-build_region-in-Lifetime.ensures.region.err))
+    (region-unbuilt (HasFullTable c.build_region.new.cx) (told_all c.args.cx.now.rows c.args.earlier.now) c.in-Lifetime.region c.in_err-build_region-in-Lifetime.field-0.0 (c.in_err-build_region-in-Lifetime.ensures.region c.args.cx.now.rows).err))
 
 pub returns-in_ok-build_region-in-Lifetime-clause-arg : goal.returns-in_ok-build_region-in-Lifetime-clause-arg
 returns-in_ok-build_region-in-Lifetime-clause-arg c =
     rw (c.in-Lifetime.is, c.from-in-Lifetime.ensures)
-    (record { ok = region-argument c.build_region.new.cx (told_all c.args.cx.now.rows c.args.earlier.now) c.in-Lifetime.region c.in_ok-build_region-in-Lifetime.field-0 c.in_ok-build_region-in-Lifetime.ensures.region.ok; err = tt })
+    (record { ok = region-argument c.build_region.new.cx (told_all c.args.cx.now.rows c.args.earlier.now) c.in-Lifetime.region c.in_ok-build_region-in-Lifetime.field-0 (c.in_ok-build_region-in-Lifetime.ensures.region c.args.cx.now.rows).ok; err = tt })
 
 pub returns-in_err-handle_at-in-Const-clause-arg : goal.returns-in_err-handle_at-in-Const-clause-arg
 returns-in_err-handle_at-in-Const-clause-arg c =

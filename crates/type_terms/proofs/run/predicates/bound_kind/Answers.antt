@@ -17,7 +17,7 @@ returns-in_err-vars-in-Ok-clause-kind c =
     let form = predicate_form (number_at (told_all c.args.cx.now.rows c.args.earlier.now)) c.args.call.now in
     let r = c.in_err-vars-in-Ok in
     kind-passed c.build_vars.new.cx (told_all c.args.cx.now.rows c.args.earlier.now) form predicate_kind_shape c.from_residual.result r.field-0.0 c.from_residual.ensures.1
-    (unbuilt-always (HasFullTable c.build_vars.new.cx) (told_all c.args.cx.now.rows c.args.earlier.now) (form_positions form) (IsFormTooDeep form) r.field-0.0 r.ensures.vars.err)
+    (unbuilt-always (HasFullTable c.build_vars.new.cx) (told_all c.args.cx.now.rows c.args.earlier.now) (form_positions form) (IsFormTooDeep form) r.field-0.0 (r.ensures.vars c.args.cx.now.rows).err)
 
 pub returns-in_ok-vars-in-Ok-clause-extends : goal.returns-in_ok-vars-in-Ok-clause-extends
 returns-in_ok-vars-in-Ok-clause-extends c = Extends-trans c.predicate_kind.ensures.extends c.build_vars.ensures.extends
@@ -30,6 +30,6 @@ returns-in_ok-vars-in-Ok-clause-kind c =
           (bound-record terms (told_all c.args.cx.now.rows c.args.earlier.now) predicate_label c.args.call.now.vars.items (predicate_record (number_at (told_all c.args.cx.now.rows c.args.earlier.now)) c.args.call.now.kind) predicate_label c.in_ok-vars-in-Ok.vars
           (record_shape (kinds.predicate_form c.in-Ok.kind))
           (placed-grows c.predicate_kind.new.cx terms c.build_vars.ensures.extends c.in-Ok.ensures.kind.ok)
-          (rw (← c.as_slice.ensures.value) c.in_ok-vars-in-Ok.ensures.vars.ok) tt refl);
+          (rw (← c.as_slice.ensures.value) (c.in_ok-vars-in-Ok.ensures.vars c.args.cx.now.rows).ok) tt refl);
       err = tt;
     }

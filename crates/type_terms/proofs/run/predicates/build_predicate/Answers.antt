@@ -19,7 +19,7 @@ returns-in_err-predicate-in-Ok-clause-answers c = λ ids.
     let form = predicate_form (number_at e) c.args.call.now in
     answer-passed c.mk_predicate.new.self e (call.Predicate c.args.call.now) c.from_residual.result c.in_err-predicate-in-Ok.field-0.0 c.from_residual.ensures.1
     (kind-refused c.bound_kind.new.cx c.mk_predicate.new.self e (call.Predicate c.args.call.now) form (predicate_row c.in-Ok.kind) c.in-Ok.ensures.kind.ok
-    (λ h. h.number) c.in_err-predicate-in-Ok.field-0.0 c.in_err-predicate-in-Ok.ensures tt (AreTerms-second e (predicate_ids c.args.call.now.kind) (form_positions form)) (λ d. d))
+    (λ h. h.number) c.in_err-predicate-in-Ok.field-0.0 c.in_err-predicate-in-Ok.ensures tt (AreTerms-second e (predicate_ids c.args.call.now) (form_positions form)) (λ d. d))
 
 pub returns-in_ok-predicate-in-Ok-clause-extends : goal.returns-in_ok-predicate-in-Ok-clause-extends
 returns-in_ok-predicate-in-Ok-clause-extends c = Extends-trans c.bound_kind.ensures.extends (record { rows = c.mk_predicate.ensures.grows; limit = c.mk_predicate.ensures.limit })
@@ -31,7 +31,7 @@ returns-in_ok-predicate-in-Ok-clause-answers c = λ ids.
     record {
       owned = c.in_ok-predicate-in-Ok.ensures.in_range;
       ok = kind-allowed c.bound_kind.new.cx c.mk_predicate.new.self e (call.Predicate c.args.call.now) form (predicate_row c.in-Ok.kind) c.in-Ok.ensures.kind.ok
-          (λ h. h.number) c.in_ok-predicate-in-Ok.predicate (answer.Predicate c.in_ok-predicate-in-Ok.predicate) c.in_ok-predicate-in-Ok.ensures refl (λ n d. (AreTerms-append e (predicate_ids c.args.call.now.kind) (form_positions form) ids n, d, refl, refl, λ r x. x));
+          (λ h. h.number) c.in_ok-predicate-in-Ok.predicate (answer.Predicate c.in_ok-predicate-in-Ok.predicate) c.in_ok-predicate-in-Ok.ensures refl (λ n d. (AreTerms-append e (predicate_ids c.args.call.now) (form_positions form) ids n, d, refl, refl, λ r x. x));
       err = tt;
     }
 
@@ -43,5 +43,5 @@ returns-in-Err-clause-answers c = λ ids.
       owned = tt;
       ok = tt;
       err = unbuilt-refused (HasFullTable c.bound_kind.new.cx) e (call.Predicate c.args.call.now) (form_positions form) (IsFormTooDeep form) _
-          tt (AreTerms-second e (predicate_ids c.args.call.now.kind) (form_positions form)) (λ d. d) c.in-Err.ensures.kind.err;
+          tt (AreTerms-second e (predicate_ids c.args.call.now) (form_positions form)) (λ d. d) c.in-Err.ensures.kind.err;
     }

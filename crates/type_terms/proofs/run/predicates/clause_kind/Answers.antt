@@ -74,3 +74,6 @@ returns-in_ok-term_at-in-WellFormed-clause-kind c =
           (parts-one c.args.cx.now e (term_part c.in-WellFormed.term) (term_shape r.field-0) (r.ensures c.args.cx.now c.requires).ok) tt refl);
       err = tt;
     })
+
+pub returns-in-RegionOutlives-clause-kind : goal.returns-in-RegionOutlives-clause-kind
+returns-in-RegionOutlives-clause-kind c = rw (c.in-RegionOutlives.is) (c.region_outlives.ensures.kind c.args.cx.now.rows)

@@ -23,7 +23,7 @@ returns-in_err-region-clause-kind c =
     let q = one (a_region c.args.region.now) in
     let terms = c.build_region.new.cx in
     record-passed terms e (labelled type_outlives_record (p ∷ q ∷ [])) clause_form c.from_residual-in_err-region.result c.in_err-region.field-0.0 c.from_residual-in_err-region.ensures.1
-    (unbuilt-second (HasFullTable terms) e p q [] c.in_err-region.field-0.0 (region-unbuilt (HasFullTable terms) e c.args.region.now c.in_err-region.field-0.0 c.in_err-region.ensures.region.err))
+    (unbuilt-second (HasFullTable terms) e p q [] c.in_err-region.field-0.0 (region-unbuilt (HasFullTable terms) e c.args.region.now c.in_err-region.field-0.0 (c.in_err-region.ensures.region c.args.cx.now.rows).err))
 
 pub returns-clause-kind : goal.returns-clause-kind
 returns-clause-kind c =
@@ -36,6 +36,6 @@ returns-clause-kind c =
           (shape.also (ty_shape c.in_ok-ty.ty) (shape.also (region_shape c.in_ok-region.region) shape.none))
           (parts-two terms e p q (ty_shape c.in_ok-ty.ty) (region_shape c.in_ok-region.region)
           (placed-grows c.args.cx.now terms c.build_region.ensures.extends (c.in_ok-ty.ensures c.args.cx.now c.requires).ok)
-          (region-part terms e c.args.region.now c.in_ok-region.region c.in_ok-region.ensures.region.ok)) tt refl;
+          (region-part terms e c.args.region.now c.in_ok-region.region (c.in_ok-region.ensures.region c.args.cx.now.rows).ok)) tt refl;
       err = tt;
     }

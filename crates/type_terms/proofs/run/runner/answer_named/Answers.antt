@@ -45,24 +45,24 @@ returns-in-Shift-clause-allowed c =
 pub returns-in-Instantiate-clause-owned : goal.returns-in-Instantiate-clause-owned
 returns-in-Instantiate-clause-owned c =
     answered-owned c.instantiate_at.new.cx c.args.earlier.now c.args.cx.now.rows (call.Instantiate c.in-Instantiate.position c.in-Instantiate.args) c.instantiate_at.result
-    c.outcome_answer-in-Instantiate.result (c.instantiate_at.ensures.answers c.in-Instantiate.args (sym c.as_slice-in-Instantiate.ensures.value)) c.outcome_answer-in-Instantiate.ensures
+    c.outcome_answer-in-Instantiate.result (c.instantiate_at.ensures.answers c.in-Instantiate.args (sym c.as_slice-in-Instantiate.ensures.value) (rw (c.in-Instantiate.is) at c.requires.named)) c.outcome_answer-in-Instantiate.ensures
 
 pub returns-in-Instantiate-clause-allowed : goal.returns-in-Instantiate-clause-allowed
 returns-in-Instantiate-clause-allowed c =
     rw (c.in-Instantiate.is)
     (answered-allowed c.instantiate_at.new.cx c.args.earlier.now c.args.cx.now.rows (call.Instantiate c.in-Instantiate.position c.in-Instantiate.args) c.instantiate_at.result
-    c.outcome_answer-in-Instantiate.result (c.instantiate_at.ensures.answers c.in-Instantiate.args (sym c.as_slice-in-Instantiate.ensures.value)) c.outcome_answer-in-Instantiate.ensures)
+    c.outcome_answer-in-Instantiate.result (c.instantiate_at.ensures.answers c.in-Instantiate.args (sym c.as_slice-in-Instantiate.ensures.value) (rw (c.in-Instantiate.is) at c.requires.named)) c.outcome_answer-in-Instantiate.ensures)
 
 pub returns-in-Args-clause-owned : goal.returns-in-Args-clause-owned
 returns-in-Args-clause-owned c =
     answered-owned c.build_args_answer.new.cx c.args.earlier.now c.args.cx.now.rows (call.Args c.in-Args.args) c.build_args_answer.result
-    c.outcome_answer-in-Args.result (c.build_args_answer.ensures.answers c.in-Args.args (sym c.as_slice-in-Args.ensures.value)) c.outcome_answer-in-Args.ensures
+    c.outcome_answer-in-Args.result (c.build_args_answer.ensures.answers c.in-Args.args (sym c.as_slice-in-Args.ensures.value) (rw (c.in-Args.is) at c.requires.named)) c.outcome_answer-in-Args.ensures
 
 pub returns-in-Args-clause-allowed : goal.returns-in-Args-clause-allowed
 returns-in-Args-clause-allowed c =
     rw (c.in-Args.is)
     (answered-allowed c.build_args_answer.new.cx c.args.earlier.now c.args.cx.now.rows (call.Args c.in-Args.args) c.build_args_answer.result
-    c.outcome_answer-in-Args.result (c.build_args_answer.ensures.answers c.in-Args.args (sym c.as_slice-in-Args.ensures.value)) c.outcome_answer-in-Args.ensures)
+    c.outcome_answer-in-Args.result (c.build_args_answer.ensures.answers c.in-Args.args (sym c.as_slice-in-Args.ensures.value) (rw (c.in-Args.is) at c.requires.named)) c.outcome_answer-in-Args.ensures)
 
 pub returns-in-Clauses-clause-owned : goal.returns-in-Clauses-clause-owned
 returns-in-Clauses-clause-owned c =

@@ -1,0 +1,77 @@
+//! Lists of generic arguments.
+
+ghost use Rattle.std.specs.Prelude.{◌≡◌, ◌<◌};
+ghost use Rattle.tt_kinds.specs.Shape.{item_shapes, AreParts};
+ghost use Rattle.tt_kinds.specs.Kinds.{arg_shape};
+ghost use Rattle.tt_interner.specs.Rows.{args_row, size, meaning};
+ghost use Rattle.tt_interner.specs.Stored.{IsAt, IsInfo, Builds};
+
+use super::Interner;
+use crate::flags::items_info;
+use crate::tables::{find_or_add_list, find_or_insert, info_at, key_at};
+use tt_flags::FlagComputation;
+use tt_index::Refusal;
+use tt_kinds::{GenericArg, GenericArgs, Table};
+
+impl Interner {
+    /// The list of these generic arguments, in order. They have to be of this interner;
+    /// [`Interner::owns_arg`] tests it.
+    ///
+    /// It is refused with `TableFull` where the list is new and the table has as many rows as it may have, and with
+    /// `Memory`.
+    pub fn mk_args(&mut self, items: &[GenericArg]) -> Result<GenericArgs, Refusal>
+        requires { AreParts (size self.old.rows) (item_shapes arg_shape items.now) }
+        ensures { Builds result (λ list. list.number) self.old self.new (args_row items.now) }
+    {
+        let info = items_info(self, items);
+        let number = match find_or_add_list(
+            &mut self.order,
+            self.limit,
+            Table::ArgLists,
+            &mut self.arg_lists,
+            items,
+            info,
+        ) {
+            Ok(number) => number,
+            Err(e) => return Err(e),
+        };
+        Ok(GenericArgs::from_number(number))
+    }
+
+    // The same of items that are kept as the list's, by one look-up.
+    pub(crate) fn put_args(&mut self, items: Vec<GenericArg>) -> Result<GenericArgs, Refusal>
+        requires { AreParts (size self.old.rows) (item_shapes arg_shape items.items) }
+        ensures { Builds result (λ list. list.number) self.old self.new (args_row items.items) }
+    {
+        let info = items_info(self, items.as_slice());
+        let number = match find_or_insert(
+            &mut self.order,
+            self.limit,
+            Table::ArgLists,
+            &mut self.arg_lists,
+            items,
+            info,
+        ) {
+            Ok(number) => number,
+            Err(e) => return Err(e),
+        };
+        Ok(GenericArgs::from_number(number))
+    }
+
+    /// The generic arguments of a list, in the interner's memory. The list has to be of this interner; [`Interner::owns_args`]
+    /// tests it.
+    pub fn args(&self, list: GenericArgs) -> &[GenericArg]
+        requires { list.number < size self.now.rows Table.ArgLists }
+        ensures { IsAt self.now.rows (args_row result.now) list.number }
+    {
+        key_at(&self.arg_lists, list.number()).as_slice()
+    }
+
+    // What is kept beside a list of generic arguments.
+    pub(crate) fn args_info(&self, list: GenericArgs) -> FlagComputation
+        requires { list.number < size self.now.rows Table.ArgLists }
+        ensures { IsInfo result (meaning self.now.rows Table.ArgLists list.number) }
+    {
+        info_at(&self.arg_lists, list.number())
+    }
+}
