@@ -9,3 +9,5 @@ pub mod Laws
 pub mod Env
 pub mod Nodes
 pub mod Declarations
+pub mod Collect
+pub mod Views

@@ -14,6 +14,7 @@ mod existentials;
 mod owns;
 mod owns_ids;
 mod owns_kinds;
+mod owns_views;
 mod patterns;
 mod predicates;
 mod symbols;

@@ -2,6 +2,7 @@
 #![tactic(auto)]
 
 mod children;
+mod collect;
 pub mod env;
 mod first;
 pub mod flags;

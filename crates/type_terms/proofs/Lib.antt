@@ -11,3 +11,4 @@ pub mod KindLaws
 pub mod FoldLaws
 pub mod QueryLaws
 pub mod DeclareLaws
+pub mod IterLaws

@@ -3,6 +3,7 @@
 mod assumptions;
 mod bare;
 mod calls;
+mod collect;
 mod declarations;
 mod env;
 mod errors;
@@ -16,6 +17,7 @@ mod readme;
 mod spelling;
 mod users;
 mod values;
+mod views;
 mod worked;
 
 use crate::run_script;

@@ -1,12 +1,15 @@
 //! Lists of generic arguments.
 
-ghost use Rattle.std.specs.Prelude.{◌≡◌, ◌<◌};
+ghost use Rattle.std.specs.Prelude.{◌≡◌, ◌<◌, List};
+ghost use Rattle.std.specs.Iterator.{Drains, IsFinite};
 ghost use Rattle.tt_kinds.specs.Shape.{item_shapes, AreParts};
 ghost use Rattle.tt_kinds.specs.Kinds.{arg_shape};
+ghost use Rattle.tt_interner.specs.Collect.{BuildsFrom};
 ghost use Rattle.tt_interner.specs.Rows.{args_row, size, meaning};
 ghost use Rattle.tt_interner.specs.Stored.{IsAt, IsInfo, Builds};
 
 use super::Interner;
+use crate::collect::collected;
 use crate::flags::items_info;
 use crate::tables::{find_or_add_list, find_or_insert, info_at, key_at};
 use tt_flags::FlagComputation;
@@ -36,6 +39,23 @@ impl Interner {
             Err(e) => return Err(e),
         };
         Ok(GenericArgs::from_number(number))
+    }
+
+    /// The list of all items of the iterator, in order, as [`Interner::mk_args`] answers it. The iterator has to end, and its items
+    /// to be of this interner.
+    ///
+    /// It is refused with `Memory` also where there is none for the items, which are collected before the list is looked up.
+    pub fn mk_args_from_iter<I: Iterator<Item = GenericArg> + Drop>(
+        &mut self,
+        iter: I,
+    ) -> Result<GenericArgs, Refusal>
+        requires can { I.can_next iter }
+        requires ends { IsFinite (I.remaining iter) }
+        requires items { (items : List _) → Drains I.next_gives iter items → AreParts (size self.old.rows) (item_shapes arg_shape items) }
+        ensures { BuildsFrom result (λ list. list.number) self.old self.new args_row I.next_gives iter }
+    {
+        let items = collected(self.allocator(), iter)?;
+        self.put_args(items)
     }
 
     // The same of items that are kept as the list's, by one look-up.

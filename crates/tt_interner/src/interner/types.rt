@@ -1,12 +1,15 @@
 //! Types, and lists of them.
 
-ghost use Rattle.std.specs.Prelude.{◌≡◌, ◌<◌};
+ghost use Rattle.std.specs.Prelude.{◌≡◌, ◌<◌, List};
+ghost use Rattle.std.specs.Iterator.{Drains, IsFinite};
 ghost use Rattle.tt_kinds.specs.Shape.{AreParts, HasParts, IsTooDeep, item_shapes};
 ghost use Rattle.tt_kinds.specs.Kinds.{ty_kind_shape, ty_shape};
+ghost use Rattle.tt_interner.specs.Collect.{BuildsFrom};
 ghost use Rattle.tt_interner.specs.Rows.{type_row, tys_row, size, meaning};
 ghost use Rattle.tt_interner.specs.Stored.{IsAt, IsInfo, Puts, Builds};
 
 use super::Interner;
+use crate::collect::collected;
 use crate::flags::{ForKind, OwnFlags, items_info};
 use crate::tables::{find_or_add, find_or_add_list, find_or_insert, info_at, key_at};
 use tt_flags::FlagComputation;
@@ -92,6 +95,23 @@ impl Interner {
             Err(e) => return Err(e),
         };
         Ok(Tys::from_number(number))
+    }
+
+    /// The list of all items of the iterator, in order, as [`Interner::mk_tys`] answers it. The iterator has to end, and its items
+    /// to be of this interner.
+    ///
+    /// It is refused with `Memory` also where there is none for the items, which are collected before the list is looked up.
+    pub fn mk_type_list_from_iter<I: Iterator<Item = Ty> + Drop>(
+        &mut self,
+        iter: I,
+    ) -> Result<Tys, Refusal>
+        requires can { I.can_next iter }
+        requires ends { IsFinite (I.remaining iter) }
+        requires items { (items : List _) → Drains I.next_gives iter items → AreParts (size self.old.rows) (item_shapes ty_shape items) }
+        ensures { BuildsFrom result (λ list. list.number) self.old self.new tys_row I.next_gives iter }
+    {
+        let items = collected(self.allocator(), iter)?;
+        self.put_tys(items)
     }
 
     // The same of items that are kept as the list's, by one look-up.

@@ -181,6 +181,24 @@ pub fn args(cx: &mut Interner, items: &[GenericArg]) -> Result<GenericArgs, Refu
     }
 }
 
+// The list of these types, by an iterator of them.
+pub fn tys_from_iter(cx: &mut Interner, items: &[Ty]) -> Result<Tys, Refusal> {
+    if are_owned(cx, items) {
+        cx.mk_type_list_from_iter(items.iter().copied())
+    } else {
+        Err(NOT_OWNED)
+    }
+}
+
+// The list of these arguments, by an iterator of them.
+pub fn args_from_iter(cx: &mut Interner, items: &[GenericArg]) -> Result<GenericArgs, Refusal> {
+    if are_owned(cx, items) {
+        cx.mk_args_from_iter(items.iter().copied())
+    } else {
+        Err(NOT_OWNED)
+    }
+}
+
 // `u32`.
 pub fn u32_ty(cx: &mut Interner) -> Result<Ty, Refusal> {
     ty(cx, TyKind::Uint(UintTy::U32))

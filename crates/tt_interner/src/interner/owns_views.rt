@@ -1,0 +1,31 @@
+//! Whether views lie in lists of an interner.
+
+ghost use Rattle.std.specs.Prelude.{◌↔◌, IsTrue};
+ghost use Rattle.tt_interner.specs.Views.{AreInputs, LiesInList};
+
+use super::Interner;
+use tt_kinds::{FnInputTys, GenericArgsSlice};
+
+impl Interner {
+    /// Whether the view's list is one of types, and has a last one.
+    pub fn owns_input_tys(&self, view: FnInputTys) -> bool
+        ensures { IsTrue result ↔ AreInputs self.now.rows view }
+    {
+        let list = view.inputs_and_output();
+        if !self.owns_tys(list) {
+            return false;
+        }
+        !self.tys(list).is_empty()
+    }
+
+    /// Whether the view's list is one of generic arguments, and has all of the view's places.
+    pub fn owns_args_slice(&self, view: GenericArgsSlice) -> bool
+        ensures { IsTrue result ↔ LiesInList self.now.rows view }
+    {
+        let list = view.args();
+        if !self.owns_args(list) {
+            return false;
+        }
+        view.start() as usize + view.len() as usize <= self.args(list).len()
+    }
+}
