@@ -1,5 +1,5 @@
 -- The steps of the argument folder's hooks.
-use Rattle.std.proofs.Common.{inl, inr, ◌≡◌, ℕ, zero, suc, ◌<◌, ◌≤◌, List, [], ◌∷◌, refl, sym, ap, subst, ◌∙◌, arith, true, false}
+use Rattle.std.proofs.Common.{inl, inr, ◌≡◌, ℕ, zero, suc, ◌<◌, List, [], ◌∷◌, refl, sym, ap, subst, ◌∙◌, arith, true, false}
 use Rattle.std.specs.Prelude.{◌≢◌, IsTrue, Option, Some, None, slice_get, option_map, Result, Ok, Err}
 use Rattle.std.proofs.lemmas.Option.{slice_get-map, slice_get_cases}
 use Rattle.std.proofs.lemmas.List.{length-map}
@@ -40,7 +40,7 @@ use Rattle.tt_fold.specs.Stands.{itself}
 use Rattle.tt_fold.specs.Counts.{Standing}
 use Rattle.tt_fold.specs.Walk.{replace, descend}
 use Rattle.tt_binder.specs.Arguments.{arg_sort, argument_of, arguments, AreArguments}
-use Rattle.tt_binder.specs.Instantiation.{Instantiation, Instantiates, without, too_far, LeafRefuses, unshifted, IsParam, OnTerm, given_argument, taken_apart, gone_into, after_shift, one_more}
+use Rattle.tt_binder.specs.Instantiation.{Instantiation, Instantiates, without, too_far, LeafRefuses, unshifted, IsShiftCount, IsParam, OnTerm, given_argument, taken_apart, gone_into, after_shift, one_more}
 use Rattle.tt_binder.specs.Untouched.{IsUntouched}
 use Rattle.tt_binder.proofs.RowArguments.{IsTypeTree, IsClauseTree}
 
@@ -228,7 +228,7 @@ same_standing : (s s' : Standing Instantiation) (d n : ℕ) → s'.state ≡ s.s
 same_standing s s' d n state descents shifts = ap3 (λ q x y. record { state = q; counters = record { descents = x; shift_descents = y } }) state descents shifts
 
 pub given_step : (s s' : Standing Instantiation) (t r : Tree Depth) (o : Sort) (i : ℕ) (name : Name) → t ≡ param o i name → s'.state ≡ s.state → s'.counters.descents ≡ s.counters.descents
-    → s.counters.shift_descents ≤ s'.counters.shift_descents → Instantiates s.state.args s.state.binders_passed (param o i name) r → OnTerm s t (replace r) s'
+    → IsShiftCount s s'.counters.shift_descents → Instantiates s.state.args s.state.binders_passed (param o i name) r → OnTerm s t (replace r) s'
 given_step s s' t r o i name is state descents more done =
     let same = same_standing s s' s.counters.descents s'.counters.shift_descents state descents refl in
     subst (λ q. OnTerm s t (replace r) q) (sym same) (subst (λ u. OnTerm s u (replace r) (after_shift s s'.counters.shift_descents)) (sym is) (given_argument s'.counters.shift_descents more done))

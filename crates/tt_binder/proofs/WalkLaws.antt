@@ -161,7 +161,7 @@ mutual
   -- a walk instantiates, and leaves the state
   pub does : {s s' : Standing Instantiation} {t r : Tree Depth} → Walks arg_hooks s t r s' → Does s t r s'
   does {s} (at_region is h) = rw h.0 (record { stays = stays-still s; does = h.1 })
-  does {s} (replaced is (given_argument n more d)) = record { stays = record { state = refl; rises = record { descents = omega arith; shift_descents = more } }; does = d }
+  does {s} (replaced is (given_argument n more d)) = record { stays = record { state = refl; rises = record { descents = omega arith; shift_descents = more.0 } }; does = d }
   does {s} (kept {t} is (left_alone kind h)) = record { stays = stays-still s; does = left_done s.state.args s.state.binders_passed t h (hides_none t kind h) }
   does {s} {s'} {t} (descended is (taken_apart kind g) d) =
       let n = does_rebuilt d (descend-gone t (taken_apart {s = s} kind g)) in
@@ -326,7 +326,7 @@ module _ (unbuilt : Tree Depth → Refusal → Type 0) where
     -- nor does a refused walk lower a count
     pub fails_up : {s s' : Standing Instantiation} {t : Tree Depth} {e : Refusal} → Fails arg_hooks unbuilt s t e s' → Rises s.counters s'.counters
     fails_up (region_failed is h) = rises-same (ap (λ q. q.counters) h.0)
-    fails_up {s} {s'} (term_failed is h) = record { descents = omega (arith, h.0); shift_descents = h.1 }
+    fails_up {s} {s'} (term_failed is h) = record { descents = omega (arith, h.0); shift_descents = h.1.0 }
     fails_up (descent_failed is (taken_apart kind g) d) = rises-more (fails_up_rebuilt d)
     fails_up (descent_failed is (gone_into other kind g) d) = fails_up_rebuilt d
     fails_up (descent_failed is (const_gone_into kind) d) = fails_up_rebuilt d

@@ -60,6 +60,10 @@ one_more s = record { state = s.state; counters = record { descents = counted s.
 abbrev pub after_shift : Standing Instantiation → ℕ → Standing Instantiation
 after_shift s n = record { state = s.state; counters = record { descents = s.counters.descents; shift_descents = n } }
 
+-- the shifter's count may be n after an argument's shift: it stays where the argument is placed under no binder
+abbrev pub IsShiftCount : Standing Instantiation → ℕ → Type 0
+IsShiftCount s n = (s.counters.shift_descents ≤ n) × (s.state.binders_passed ≡ 0 → n ≡ s.counters.shift_descents)
+
 -- the tree is a type's, a predicate's or a clause list's
 abbrev pub IsTypeOrClause : Tree Depth → Type 0
 IsTypeOrClause (param s i name) = IsTrue (is_type_sort s)
@@ -81,7 +85,7 @@ IsInnerConst _ = ⊥
 -- what the hook that comes before a term's children answers
 pub data OnTerm : Standing Instantiation → Tree Depth → Answer → Standing Instantiation → Type 0 where
   -- a parameter's argument takes its place
-  given_argument : {s : Standing Instantiation} {o : Sort} {i : ℕ} {name : Name} {r : Tree Depth} (n : ℕ) → s.counters.shift_descents ≤ n
+  given_argument : {s : Standing Instantiation} {o : Sort} {i : ℕ} {name : Name} {r : Tree Depth} (n : ℕ) → IsShiftCount s n
       → Instantiates s.state.args s.state.binders_passed (param o i name) r → OnTerm s (param o i name) (replace r) (after_shift s n)
   -- a type, a predicate or a clause list that holds no parameter stays
   left_alone : {s : Standing Instantiation} {t : Tree Depth} → IsTypeOrClause t → holds_param t ≡ false → OnTerm s t keep s
@@ -99,7 +103,7 @@ arg_hooks = record {
   on_region = λ s t r s'. (s' ≡ s) × Instantiates s.state.args s.state.binders_passed t r;
   region_fails = λ unbuilt s t e s'. (s' ≡ s) × LeafRefuses unbuilt s.state.args s.state.binders_passed t e;
   on_term = OnTerm;
-  term_fails = λ unbuilt s t e s'. (s'.counters.descents ≡ s.counters.descents) × (s.counters.shift_descents ≤ s'.counters.shift_descents)
+  term_fails = λ unbuilt s t e s'. (s'.counters.descents ≡ s.counters.descents) × IsShiftCount s s'.counters.shift_descents
       × LeafRefuses unbuilt s.state.args s.state.binders_passed t e;
   after_term = λ s t u r s'. (s' ≡ s) × (r ≡ u);
   after_fails = λ unbuilt s t u e s'. ⊥;

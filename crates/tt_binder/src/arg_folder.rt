@@ -108,6 +108,7 @@ fn type_argument<S: SliceLike>(
     ensures extends { Extends cx.old cx.new }
     ensures descents { cx.new.counters.descents ≡ cx.old.counters.descents }
     ensures shift_descents { cx.old.counters.shift_descents ≤ cx.new.counters.shift_descents }
+    ensures unshifted { binders_passed ≡ 0 → cx.new ≡ cx.old }
     ensures result { (name : Name) → MatchResult
         result
         (λ ty. IsPartOf cx.new.rows (ty_shape ty) × Instantiates (arguments cx.old.rows (S.items cx.old.rows args)) binders_passed (param type_sort index name) (tree_in cx.new.rows (ty_shape ty)))
@@ -131,6 +132,7 @@ fn const_argument<S: SliceLike>(
     ensures extends { Extends cx.old cx.new }
     ensures descents { cx.new.counters.descents ≡ cx.old.counters.descents }
     ensures shift_descents { cx.old.counters.shift_descents ≤ cx.new.counters.shift_descents }
+    ensures unshifted { binders_passed ≡ 0 → cx.new ≡ cx.old }
     ensures result { (name : Name) → MatchResult
         result
         (λ constant. IsPartOf cx.new.rows (const_shape constant) × Instantiates (arguments cx.old.rows (S.items cx.old.rows args)) binders_passed (param const_sort index name) (tree_in cx.new.rows (const_shape constant)))
@@ -310,10 +312,10 @@ impl<S: SliceLike> TypeFolder for ArgFolder<S> {
     ghost use Rattle.tt_binder.specs.ArgumentLaws.{AreArguments-still, state-still, some-still};
 
     ghost still_owned = { λ old new s g h. (
-      S.still_owned old new s.args g h.0,
-      AreArguments-still old new (S.items old s.args) (S.items new s.args) g (S.still_items old new s.args g h.0) h.1,
-      some-still (S.items old s.args) (S.items new s.args) (S.still_items old new s.args g h.0) h.2,
+      S.still_owned old new s.args g.grows h.0,
+      AreArguments-still old new (S.items old s.args) (S.items new s.args) g.grows (S.still_items old new s.args g.grows h.0) h.1,
+      some-still (S.items old s.args) (S.items new s.args) (S.still_items old new s.args g.grows h.0) h.2,
     ) };
 
-    ghost still_means = { λ old new s g h. state-still old new (S.items old s.args) (S.items new s.args) s.binders_passed g (S.still_items old new s.args g h.0) h.1 };
+    ghost still_means = { λ old new s g h. state-still old new (S.items old s.args) (S.items new s.args) s.binders_passed g.grows (S.still_items old new s.args g.grows h.0) h.1 };
 }

@@ -45,6 +45,9 @@ pub trait Instantiate<T: TypeFoldable + Copy>: Copy {
     /// does every type, predicate and list of clauses without parameters. Where there are no arguments, region variables
     /// aren't looked for. Each place of the value where a type stands that holds a parameter and is none adds at most one to
     /// the interner's count of descents; constants, predicates and lists of clauses add none of their own.
+    ///
+    /// A value that is itself a parameter is refused only for want of an argument that fits: else its argument takes its place
+    /// as it stands, without a shift, and neither of the interner's counts of descents rises.
     fn instantiate<S: SliceLike>(
         self,
         cx: &mut Interner,
@@ -67,7 +70,10 @@ pub trait Instantiate<T: TypeFoldable + Copy>: Copy {
         ensures same { ComesBack (arguments cx.old.rows (S.items cx.old.rows args)) (tree_by T.shape cx.old.rows (declared self)) → (result ≡ Ok (record { value = declared self })) × (cx.new ≡ cx.old) }
         ensures same_type { (n : ℕ) → T.shape (declared self) ≡ stored Types n → holds_param (tree_by T.shape cx.old.rows (declared self)) ≡ false → (result ≡ Ok (record { value = declared self })) × (cx.new ≡ cx.old) }
         ensures same_clauses { (table : Table) (n : ℕ) → IsOfClauses table → T.shape (declared self) ≡ stored table n → holds_param (tree_by T.shape cx.old.rows (declared self)) ≡ false → (result ≡ Ok (record { value = declared self })) × (cx.new ≡ cx.old) }
-        ensures parameter { (s : Sort) (i : ℕ) (name : Name) → tree_by T.shape cx.old.rows (declared self) ≡ param s i name → IfErr result (Cause (param s i name) (arguments cx.old.rows (S.items cx.old.rows args))) };
+        ensures parameter { (s : Sort) (i : ℕ) (name : Name) → tree_by T.shape cx.old.rows (declared self) ≡ param s i name → IfErr result (Cause (param s i name) (arguments cx.old.rows (S.items cx.old.rows args))) }
+        ensures parameter_counts { (s : Sort) (i : ℕ) (name : Name)
+            → tree_by T.shape cx.old.rows (declared self) ≡ param s i name
+            → cx.new.counters ≡ cx.old.counters };
 }
 
 // The value where there are no arguments.
@@ -101,6 +107,9 @@ fn instantiate_value<T: TypeFoldable + Copy, S: SliceLike>(
         (λ e. IsReason cx.new (arguments cx.old.rows (S.items cx.old.rows args)) (tree_by T.shape cx.old.rows value) e) }
     ensures same { ComesBack (arguments cx.old.rows (S.items cx.old.rows args)) (tree_by T.shape cx.old.rows value) → (result ≡ Ok value) × (cx.new ≡ cx.old) }
     ensures parameter { (s : Sort) (i : ℕ) (name : Name) → tree_by T.shape cx.old.rows value ≡ param s i name → IfErr result (Cause (param s i name) (arguments cx.old.rows (S.items cx.old.rows args))) }
+    ensures parameter_counts { (s : Sort) (i : ℕ) (name : Name)
+        → tree_by T.shape cx.old.rows value ≡ param s i name
+        → cx.new.counters ≡ cx.old.counters }
 {
     if args.is_empty(cx) {
         return without_arguments(cx, value);

@@ -149,7 +149,8 @@ impl TypeFlags {
     pub const fn bits(self) -> u32
         ensures { result ≡ self.bits }
     {
-        self.bits
+        let TypeFlags { bits } = self;
+        bits
     }
 
     /// Whether no flag is set.
@@ -219,14 +220,15 @@ impl Flags for TypeFlags {
     }
 
     fn from_bits_retain(bits: u32) -> TypeFlags {
-        TypeFlags { bits }
+        TypeFlags::from_bits_retain(bits)
     }
 }
 
+/// The set without flags.
 impl Default for TypeFlags {
-    fn default() -> TypeFlags
-        ensures { result ≡ record { bits = 0 } }
-    {
+    ghost is_default = { λ flags. flags ≡ record { bits = 0 } };
+
+    fn default() -> TypeFlags {
         TypeFlags::empty()
     }
 }

@@ -70,7 +70,7 @@ values-failed same (node_not_built {us} w b) = node_not_built w (same us b)
 -- a vector is never stored: only for want of memory is it not built, and then nothing is
 vector-unbuilt : (terms : Terms) (us : Forest Depth) (u : Tree Depth) (r : Refusal) → IsUnbuilt terms (sequence us) r → IsUnbuilt terms u r
 vector-unbuilt terms us u Memory h = tt
-vector-unbuilt terms us u TableFull h = let root = root_of_row (meaning terms.rows) h.0 in let same = ap tree_table h.1 in absurd (cc)
+vector-unbuilt terms us u TableFull h = let root = root_of_row (meaning terms.rows) h.row in let same = ap tree_table h.fills in absurd (cc)
 vector-unbuilt terms us u NotAClause h = absurd h
 vector-unbuilt terms us u _ h = absurd h
 
@@ -78,11 +78,11 @@ pub vector-error : {E : Type 0} (gives : Refusal → E → Type 0) (terms : Term
 vector-error gives terms e us h = (h.0, (h.1.0, vector-unbuilt terms us (listed us) h.0 h.1.1))
 
 -- why a list of assumptions was not stored
-pub not_stored : (terms : Terms) (ps : Assumptions) (r : Refusal) → IsCause terms (assumptions_row ps) r → IsUnbuilt terms (listed (trees_of terms.rows ps)) r
+pub not_stored : (terms : Terms) (ps : Assumptions) (r : Refusal) → AreParts (size terms.rows) (item_shapes assumption_shape ps) → IsCause terms (assumptions_row ps) r → IsUnbuilt terms (listed (trees_of terms.rows ps)) r
 unfolding fill
-not_stored terms ps Memory h = tt
-not_stored terms ps TableFull h = (assumptions_row ps, refl, h.0, h.1)
-not_stored terms ps _ h = absurd h
+not_stored terms ps Memory parts h = tt
+not_stored terms ps TableFull parts h = record { row = assumptions_row ps; fills = refl; parts = (tt, parts); new = h.0; full = h.1 }
+not_stored terms ps _ parts h = absurd h
 
 module _ {M E S : Type 0} {owned : List Row → S → Type 0} {means : List Row → S → M} {H : Hooks (Standing M) E} {unbuilt : Tree Depth → E → Type 0} (l : RegionAssumptions) where
   -- the memory for the copy was refused

@@ -13,7 +13,7 @@ use Rattle.tt_kinds.specs.Reading.{place, reach, outer_binder, FitsAt}
 use Rattle.tt_kinds.specs.Plain.{shifted}
 use Rattle.tt_kinds.proofs.ReadingLaws.{place-outer, shifted-outer}
 use Rattle.tt_kinds.specs.Bound.{depth, ty_entry, const_entry}
-use Rattle.tt_kinds.specs.Shape.{Shape, bound, stored, IsGreatest, IsTooDeep, Meaning, fill}
+use Rattle.tt_kinds.specs.Shape.{Shape, bound, stored, HasParts, IsGreatest, IsTooDeep, Meaning, fill}
 use Rattle.tt_kinds.specs.Kinds as forms
 use Rattle.tt_kinds.specs.Kinds.{Form, form_shape, relabelled, ty_form, value_form, const_form, kind_table, kind_shape, ty_kind_shape, const_kind_shape}
 use Rattle.tt_kinds.specs.declared.handle.Ty.{Ty}
@@ -111,11 +111,11 @@ module _ (f : Meaning) (s : Shift) (o : Sort) (i : BoundVarIndexKind) (e : Entry
 pub bound_built : {H : Type 0} (number : H → ℕ) (t : Table) (row : BoundVarIndexKind → Row) (o : Sort) (e : Entry ℕ)
     → ((j : BoundVarIndexKind) → row_table (row j) ≡ t) → ((j : BoundVarIndexKind) → row_shape (row j) ≡ bound_shape o j e)
     → (terms terms1 : Terms) (s : Shift) (i j : BoundVarIndexKind) (result : Result H Refusal) → IsOuter s.under i → j ≡ moved_index s.amount s.under i
-    → Builds result number terms terms1 (row j)
+    → HasParts (size terms.rows) (row_shape (row j)) → Builds result number terms terms1 (row j)
     → MatchResult result
     (λ h. IsPartOf terms1.rows (stored t (number h)) × (tree_in terms1.rows (stored t (number h)) ≡ moved_tree s (tree_in terms.rows (bound_shape o i e))))
     (λ r. IsTooGreat r (IsTooFar s (tree_in terms.rows (bound_shape o i e))) ⊎ IsRefused terms1 (moved_tree s (tree_in terms.rows (bound_shape o i e))) r)
-bound_built {H} number t row o e of_table of_shape terms terms1 s i j result out same built = go result built
+bound_built {H} number t row o e of_table of_shape terms terms1 s i j result out same parts built = go result built
   where
     moved : tree_in terms.rows (row_shape (row j)) ≡ moved_tree s (tree_in terms.rows (bound_shape o i e))
     moved = ap (tree_in terms.rows) (of_shape j) ∙ ap (λ j. tree_in terms.rows (bound_shape o j e)) same ∙ bound-moved (meaning terms.rows) s o i e
@@ -126,7 +126,7 @@ bound_built {H} number t row o e of_table of_shape terms terms1 s i j result out
     why : (r : Refusal) → IsCause terms (row j) r
         → IsTooGreat r (IsTooFar s (tree_in terms.rows (bound_shape o i e))) ⊎ IsRefused terms (moved_tree s (tree_in terms.rows (bound_shape o i e))) r
     why Memory cause = inr (Memory, (refl, tt))
-    why TableFull cause = inr (TableFull, (refl, (row j, moved, cause.0, cause.1)))
+    why TableFull cause = inr (TableFull, (refl, record { row = row j; fills = moved; parts = parts; new = cause.0; full = cause.1 }))
     why GreatestIndex cause = inl (refl, too_deep cause)
     why _ cause = absurd cause
 

@@ -51,6 +51,20 @@ no_bad_list _ h bad = bad
 pub never_bad : {u t : Tree Depth} → StandsIn u t → KeepsClauses t → IsNoClauseList u → ⊥
 never_bad {u} m h bad = no_bad_list u (stands-keeps m h) bad
 
+-- where no bad list stands in a tree, it is such a tree
+mutual
+  pub keeps-fine : (t : Tree Depth) → ((u : Tree Depth) → StandsIn u t → IsNoClauseList u → ⊥) → KeepsClauses t
+  keeps-fine (tree.param s i name) h = tt
+  keeps-fine (tree.bound s d e) h = tt
+  keeps-fine (tree.region r) h = tt
+  keeps-fine (tree.term l ts) h = (h (tree.term l ts) itself, all-keep-fine ts (λ u m. h u (in_term m)))
+  keeps-fine (tree.node l ts) h = all-keep-fine ts (λ u m. h u (in_node m))
+  keeps-fine (tree.binder vs t) h = keeps-fine t (λ u m. h u (in_binder m))
+
+  all-keep-fine : (ts : Forest Depth) → ((u : Tree Depth) → StandsAmong u ts → IsNoClauseList u → ⊥) → KeepsClauses_all ts
+  all-keep-fine none h = tt
+  all-keep-fine (also t ts) h = (keeps-fine t (λ u m. h u (in_first m)), all-keep-fine ts (λ u m. h u (in_later m)))
+
 -- other indices and other trees for parameters leave clauses what they are
 module _ (index : ℕ → Depth → Depth) (parameter : ℕ → Sort → ℕ → Name → Tree Depth) where
   clause_part : (k : ℕ) (t : Tree Depth) → is_clause_part t ≡ true → is_clause_part (rebuild index parameter k t) ≡ true

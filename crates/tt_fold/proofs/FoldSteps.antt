@@ -104,11 +104,17 @@ stored_node_tree rows rows1 u k h t =
     stored_tree rows1 (node_table u) (node_number u) ∙ ap (λ x. meaning rows1 x (node_number u)) t ∙ m
 
 -- why a term was not stored
-pub not_stored : (terms : Terms) (k : Kind) (r : Refusal) → (IsTooDeep (kind_shape k) → ⊥) → IsCause terms (kind_row k) r → IsUnbuilt terms (tree_in terms.rows (kind_shape k)) r
-not_stored terms k Memory shallow h = tt
-not_stored terms k TableFull shallow h = (kind_row k, ap (tree_in terms.rows) (kind_row-shape k), h.0, h.1)
-not_stored terms k GreatestIndex shallow h = absurd (shallow (rw (kind_row-shape k) at h))
-not_stored terms k _ shallow h = absurd h
+pub not_stored : (terms : Terms) (k : Kind) (r : Refusal) → HasParts (size terms.rows) (kind_shape k) → (IsTooDeep (kind_shape k) → ⊥) → IsCause terms (kind_row k) r → IsUnbuilt terms (tree_in terms.rows (kind_shape k)) r
+not_stored terms k Memory parts shallow h = tt
+not_stored terms k TableFull parts shallow h = record {
+  row = kind_row k;
+  fills = ap (tree_in terms.rows) (kind_row-shape k);
+  parts = rw (kind_row-shape k) parts;
+  new = h.0;
+  full = h.1;
+}
+not_stored terms k GreatestIndex parts shallow h = absurd (shallow (rw (kind_row-shape k) at h))
+not_stored terms k _ parts shallow h = absurd h
 
 -- a list that was stored
 pub stored_list : (rows : Listed Row) (u : List) (sort : ListSort) → list_sort u ≡ sort → list_number u < size rows (sort_list_table sort) → IsPartOf rows (list_shape u)

@@ -14,4 +14,7 @@ pub mod ShiftLaws
 mod BoundLaws
 pub mod MovingLaws
 pub mod CounterLaws
+mod RegionFolderLaws
+mod RegionFolderSteps
+pub mod RegionAnswers
 mod Examples

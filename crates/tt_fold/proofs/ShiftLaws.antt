@@ -1,5 +1,5 @@
 -- The shifter's walk shifts the tree.
-use Rattle.std.proofs.Common.{zero, List, Result, Ok, Err, IfOk, IfErr, MatchResult, ◌≡◌, ℕ, suc, ◌+◌, ◌-◌, ◌<◌, ◌≤◌, ◌⊎◌, inl, inr, true, false, ltb, refl, ap, sym, subst, ◌∙◌, arith}
+use Rattle.std.proofs.Common.{zero, List, [], Result, Ok, Err, IfOk, IfErr, MatchResult, ◌≡◌, ℕ, suc, ◌+◌, ◌-◌, ◌<◌, ◌≤◌, ◌⊎◌, inl, inr, true, false, ltb, refl, ap, sym, subst, ◌∙◌, arith}
 use Rattle.std.proofs.lemmas.Bool.{cases_Bool, cases_lt, ltb-false, le-ltb, lt-ltb}
 use Rattle.std.specs.Prelude.{⊤}
 use Rattle.tt_index.specs.Greatest.{greatest}
@@ -11,6 +11,8 @@ use Rattle.tt_kinds.specs.Reading.{place, read, read_all, move, outer_binder, Fi
 use Rattle.tt_kinds.specs.Plain.{shifted, shift_tree, shift_forest}
 use Rattle.tt_kinds.proofs.OuterLaws.{shift_tree-low, shift_tree-zero}
 use Rattle.tt_kinds.proofs.PlainLaws.{shift_tree-shift_tree}
+use Rattle.tt_kinds.specs.Matched.{MatchedUnder}
+use Rattle.tt_kinds.proofs.MatchedLaws.{MatchedUnder-move}
 use Rattle.tt_kinds.proofs.ReadingLaws.{place-own, place-outer, shifted-outer, read-shift_tree, read-injective, move-injective}
 use Rattle.tt_kinds.specs.Bound.{depth, IsBelowGreatest}
 use Rattle.tt_kinds.specs.RegionKind.{IsShallow}
@@ -28,7 +30,7 @@ use Rattle.tt_fold.specs.Steps.{Folds, IsPartOf, tree_in, IsPartBy, tree_by, IsR
 use Rattle.tt_fold.proofs.ClauseLaws.{KeepsClauses, never_bad, shift-keeps}
 use Rattle.tt_fold.proofs.WantedLaws.{first-unwanted, later-unwanted, unwanted-list}
 use Rattle.tt_fold.specs.Stands.{StandsIn, itself, in_term as stands_in_term, in_node as stands_in_node, in_binder as stands_in_binder, StandsAmong, in_first, in_later}
-use Rattle.tt_fold.specs.Shift.{Shift, moved_tree, IsTooFar, answer_inside, shift_answer, shift_hooks, count_descent, IsTooGreat, moved_index, moved_region, IsShiftedRegion, IsShiftRefusal}
+use Rattle.tt_fold.specs.Shift.{Shift, moved_tree, IsTooFar, answer_inside, shift_answer, shift_hooks, count_descent, IsTooGreat, moved_index, moved_region, IsShiftedRegion, IsShiftRefusal, ShiftsOn, ComesOf, KeepsMatched}
 
 -- a count never falls
 pub counted-up : (n : ℕ) → n ≤ counted n
@@ -368,11 +370,27 @@ pub stays : (n : ℕ) (t : Tree Depth) → (n ≡ 0) ⊎ (outer_binder t ≡ 0) 
 stays n t (inl none_added) = rw none_added (shift_tree-zero 0 t)
 stays n t (inr closed) = shift_tree-low 0 n t (omega (arith, closed))
 
+pub keep_apart : (n : ℕ) (t u : Tree Depth) → shift_tree 0 n t ≡ shift_tree 0 n u → t ≡ u
+keep_apart n t u e = read-injective 0 t u (move-injective n (read 0 t) (read 0 u) (sym (read-shift_tree n 0 t) ∙ ap (read 0) e ∙ read-shift_tree n 0 u))
+
+-- the laws of a shifted tree
+pub shifts_on : (n : ℕ) (t r : Tree Depth) → r ≡ shift_tree 0 n t → ShiftsOn n t r
+shifts_on n t r h = λ m. ap (shift_tree 0 m) h ∙ shift_tree-shift_tree 0 m n t
+
+pub comes_of : (n : ℕ) (t r : Tree Depth) → r ≡ shift_tree 0 n t → ComesOf n t r
+comes_of n t r h = λ u e. keep_apart n u t (e ∙ h)
+
+pub keeps_matched : (n : ℕ) (t r : Tree Depth) → r ≡ shift_tree 0 n t → KeepsMatched t r
+keeps_matched n t r h = λ m. subst (λ q. MatchedUnder [] q) (sym (ap (read 0) h ∙ read-shift_tree n 0 t)) (MatchedUnder-move n [] (read 0 t) m)
+
 -- what a shift of a whole value promises
 pub record IsShift {T : Type 0} (shape : T → Shape) (n : ℕ) (terms : Terms) (x : T) (result : Result T Refusal) (terms' : Terms) : Type 0 where
   pub tree : IfOk result (λ y. tree_by shape terms'.rows y ≡ shift_tree 0 n (tree_by shape terms.rows x))
   pub plain : IfOk result (λ y. read 0 (tree_by shape terms'.rows y) ≡ move n (read 0 (tree_by shape terms.rows x)))
   pub err : IfErr result (IsShiftRefusal terms' n (tree_by shape terms.rows x))
+  pub adds_up : IfOk result (λ y. ShiftsOn n (tree_by shape terms.rows x) (tree_by shape terms'.rows y))
+  pub tells_apart : IfOk result (λ y. ComesOf n (tree_by shape terms.rows x) (tree_by shape terms'.rows y))
+  pub matched : IfOk result (λ y. KeepsMatched (tree_by shape terms.rows x) (tree_by shape terms'.rows y))
   pub descents : terms'.counters.descents ≡ terms.counters.descents
   pub up : terms.counters.shift_descents ≤ terms'.counters.shift_descents
 
@@ -403,17 +421,14 @@ pub shift_outcome : {S T : Type 0} {owned : List Row → S → Type 0} {means : 
 shift_outcome {shape} {terms} {x} n (Ok y) start keeps d =
     let w = shifts d.outcome.2 in
     let tree = rw start at w.shifted in
-    record { tree = tree; plain = ap (read 0) tree ∙ read-shift_tree n 0 (tree_by shape terms.rows x); err = tt; descents = w.counts.descents; up = w.counts.up }
+    record { tree = tree; plain = ap (read 0) tree ∙ read-shift_tree n 0 (tree_by shape terms.rows x); err = tt; adds_up = shifts_on n _ _ tree; tells_apart = comes_of n _ _ tree; matched = keeps_matched n _ _ tree; descents = w.counts.descents; up = w.counts.up }
 shift_outcome {shape} {terms} {terms'} {x} n (Err e) start keeps d =
     let f = refused (IsRefused terms') d.outcome in
     let cause = rw start at f.cause in
-    record { tree = tt; plain = tt; err = shift_refusal terms' n (tree_by shape terms.rows x) e (shift-keeps n (tree_by shape terms.rows x) keeps) cause; descents = f.counts.descents; up = f.counts.up }
+    record { tree = tt; plain = tt; adds_up = tt; tells_apart = tt; matched = tt; err = shift_refusal terms' n (tree_by shape terms.rows x) e (shift-keeps n (tree_by shape terms.rows x) keeps) cause; descents = f.counts.descents; up = f.counts.up }
 
 pub add_up : (m n : ℕ) (t : Tree Depth) → shift_tree 0 m (shift_tree 0 n t) ≡ shift_tree 0 (m + n) t
 add_up m n t = shift_tree-shift_tree 0 m n t
-
-pub keep_apart : (n : ℕ) (t u : Tree Depth) → shift_tree 0 n t ≡ shift_tree 0 n u → t ≡ u
-keep_apart n t u e = read-injective 0 t u (move-injective n (read 0 t) (read 0 u) (sym (read-shift_tree n 0 t) ∙ ap (read 0) e ∙ read-shift_tree n 0 u))
 
 pub closed : (n t : ℕ) → (0 < t → false ≡ true) → (n ≡ 0) ⊎ (t ≡ 0)
 closed n zero h = inr refl

@@ -1,7 +1,11 @@
 pub mod Walk
 pub mod Counts
+pub mod Growth
+pub mod GrowthLaws
 pub mod Steps
 pub mod Stands
 pub mod Shift
 pub mod Parts
+pub mod RegionFolder
+pub mod RegionFolderGrowth
 pub mod Regions

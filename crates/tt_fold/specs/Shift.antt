@@ -1,9 +1,10 @@
 -- The shifter's hooks.
-use Rattle.std.specs.Prelude.{◌≡◌, ℕ, suc, ◌+◌, ◌-◌, ◌≤◌, ◌<◌, ◌⊎◌, Option, Some, None, nat_lt, if◌then◌else◌, length, ⊤}
+use Rattle.std.specs.Prelude.{◌≡◌, [], ℕ, suc, ◌+◌, ◌-◌, ◌≤◌, ◌<◌, ◌⊎◌, Option, Some, None, nat_lt, if◌then◌else◌, length, ⊤}
 use Rattle.tt_index.specs.Greatest.{greatest}
 use Rattle.tt_index.specs.declared.refusal.Refusal.{Refusal}
 use Rattle.tt_index.specs.declared.refusal.Refusal.TheVariants.{Memory, TableFull, GreatestIndex}
 use Rattle.tt_kinds.specs.Tree.{Depth, Tree, param, bound, region, term, node, binder}
+use Rattle.tt_kinds.specs.Matched.{MatchedUnder}
 use Rattle.tt_kinds.specs.Reading.{read, move, outer_binder, Fits, FitsUnder}
 use Rattle.tt_kinds.specs.Shape.{Meaning, fill}
 use Rattle.tt_kinds.specs.Kinds.{region_shape}
@@ -156,6 +157,18 @@ IsShiftRefusal terms n t Memory = ⊤
 IsShiftRefusal terms n t TableFull = IsPartUnbuilt terms (shift_tree 0 n t) TableFull
 IsShiftRefusal terms n t GreatestIndex = Fits (move n (read 0 t)) → ⊥
 IsShiftRefusal terms n t _ = ⊥
+
+-- the shifted tree, shifted again by m, is the tree shifted by the sum
+abbrev pub ShiftsOn : ℕ → Tree Depth → Tree Depth → Type 0
+ShiftsOn n t r = (m : ℕ) → shift_tree 0 m r ≡ shift_tree 0 (m + n) t
+
+-- the shifted tree comes of no other tree
+abbrev pub ComesOf : ℕ → Tree Depth → Tree Depth → Type 0
+ComesOf n t r = (u : Tree Depth) → shift_tree 0 n u ≡ r → u ≡ t
+
+-- where the tree's own variables match their binders' lists, the shifted tree's do
+abbrev pub KeepsMatched : Tree Depth → Tree Depth → Type 0
+KeepsMatched t r = MatchedUnder [] (read 0 t) → MatchedUnder [] (read 0 r)
 
 -- shifts in turn are one shift by the sum
 abbrev pub ShiftsAddUp : Type 0

@@ -3,8 +3,9 @@
 ghost use Rattle.std.specs.Prelude.{◌≡◌, List, MatchResult};
 ghost use Rattle.tt_index.specs.declared.refusal.Refusal.{Refusal};
 ghost use Rattle.tt_kinds.specs.Kinds.{node_shape, region_shape};
-ghost use Rattle.tt_interner.specs.Rows.{Row, Grows};
+ghost use Rattle.tt_interner.specs.Rows.{Row};
 ghost use Rattle.tt_interner.specs.Stored.{Extends};
+ghost use Rattle.tt_fold.specs.Growth.{AddsTerms};
 ghost use Rattle.tt_fold.specs.Walk.{Hooks};
 ghost use Rattle.tt_fold.specs.Counts.{Standing, stands};
 ghost use Rattle.tt_fold.specs.Steps.{answer_of, Goes, HasVars, IsPartOf, IsErrorOfUnbuilt, tree_in, vars_in};
@@ -93,10 +94,10 @@ pub trait Core<M> {
             (λ _. owned cx.new.rows self.new × hooks.leave (stands meaning cx.old self.old) (vars_in cx.old.rows vars) (stands meaning cx.new self.new))
             (λ e. hooks.leave_fails (IsErrorOfUnbuilt Self.Error.from_gives cx.new) (stands meaning cx.old self.old) (vars_in cx.old.rows vars) e (stands meaning cx.new self.new)) };
 
-    // More rows change no meaning.
-    ghost still_owned: { (old new : List Row) (s : Self) → Grows old new → owned old s → owned new s };
+    // New terms and lists change no meaning.
+    ghost still_owned: { (old new : List Row) (s : Self) → AddsTerms old new → owned old s → owned new s };
 
-    ghost still_means: { (old new : List Row) (s : Self) → Grows old new → owned old s → meaning new s ≡ meaning old s };
+    ghost still_means: { (old new : List Row) (s : Self) → AddsTerms old new → owned old s → meaning new s ≡ meaning old s };
 }
 
 /// The mark of [`TypeFolder`].

@@ -3,8 +3,9 @@
 ghost use Rattle.std.specs.Prelude.{◌≡◌, List, MatchResult};
 ghost use Rattle.tt_index.specs.declared.refusal.Refusal.{Refusal};
 ghost use Rattle.tt_kinds.specs.Kinds.{clauses_shape, const_shape, predicate_shape, region_shape, ty_shape};
-ghost use Rattle.tt_interner.specs.Rows.{Row, Grows};
+ghost use Rattle.tt_interner.specs.Rows.{Row};
 ghost use Rattle.tt_interner.specs.Stored.{Extends};
+ghost use Rattle.tt_fold.specs.Growth.{AddsTerms};
 ghost use Rattle.tt_fold.specs.Walk.{Hooks};
 ghost use Rattle.tt_fold.specs.Counts.{Standing, stands};
 ghost use Rattle.tt_fold.specs.Steps.{answer_of, HasVars, IsPartOf, IsRefused, IsErrorOfUnbuilt, OwnsStep, tree_in, vars_in};
@@ -178,10 +179,10 @@ pub trait TypeFolder {
             (λ _. owned cx.new.rows self.new × hooks.leave (stands meaning cx.old self.old) (vars_in cx.old.rows vars) (stands meaning cx.new self.new))
             (λ e. hooks.leave_fails (IsRefused cx.new) (stands meaning cx.old self.old) (vars_in cx.old.rows vars) e (stands meaning cx.new self.new)) };
 
-    // More rows change no meaning.
-    ghost still_owned: { (old new : List Row) (s : Self) → Grows old new → owned old s → owned new s };
+    // New terms and lists change no meaning.
+    ghost still_owned: { (old new : List Row) (s : Self) → AddsTerms old new → owned old s → owned new s };
 
-    ghost still_means: { (old new : List Row) (s : Self) → Grows old new → owned old s → meaning new s ≡ meaning old s };
+    ghost still_means: { (old new : List Row) (s : Self) → AddsTerms old new → owned old s → meaning new s ≡ meaning old s };
 }
 
 /// A folder with errors of its own. Its methods are those of [`TypeFolder`].
@@ -341,8 +342,8 @@ pub trait FallibleTypeFolder {
             (λ _. owned cx.new.rows self.new × hooks.leave (stands meaning cx.old self.old) (vars_in cx.old.rows vars) (stands meaning cx.new self.new))
             (λ e. hooks.leave_fails (IsErrorOfUnbuilt Self.Error.from_gives cx.new) (stands meaning cx.old self.old) (vars_in cx.old.rows vars) e (stands meaning cx.new self.new)) };
 
-    // More rows change no meaning.
-    ghost still_owned: { (old new : List Row) (s : Self) → Grows old new → owned old s → owned new s };
+    // New terms and lists change no meaning.
+    ghost still_owned: { (old new : List Row) (s : Self) → AddsTerms old new → owned old s → owned new s };
 
-    ghost still_means: { (old new : List Row) (s : Self) → Grows old new → owned old s → meaning new s ≡ meaning old s };
+    ghost still_means: { (old new : List Row) (s : Self) → AddsTerms old new → owned old s → meaning new s ≡ meaning old s };
 }

@@ -10,6 +10,7 @@ pub mod folder;
 mod handles;
 mod list_of_sort;
 mod records;
+pub mod region_folder;
 pub mod region_replacer;
 pub mod shift;
 mod step_of_node;
@@ -17,5 +18,6 @@ mod walk;
 
 pub use foldable::{TypeFoldable, TypeSuperFoldable};
 pub use folder::{FallibleTypeFolder, Step, TypeFolder};
+pub use region_folder::{RegionFolder, fold_regions, region_folders_place};
 pub use region_replacer::{RegionReplacer, replace_regions};
 pub use shift::{shift_region, shift_vars};

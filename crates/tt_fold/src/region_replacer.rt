@@ -2,8 +2,9 @@
 
 ghost use Rattle.std.specs.Prelude.{◌≡◌, List, MatchResult};
 ghost use Rattle.tt_kinds.specs.Kinds.{region_shape};
-ghost use Rattle.tt_interner.specs.Rows.{Row, Grows};
+ghost use Rattle.tt_interner.specs.Rows.{Row};
 ghost use Rattle.tt_interner.specs.Stored.{Extends};
+ghost use Rattle.tt_fold.specs.Growth.{AddsTerms};
 ghost use Rattle.tt_fold.specs.Counts.{Standing, stands};
 ghost use Rattle.tt_fold.specs.Regions.{only_regions, RegionHooks};
 ghost use Rattle.tt_fold.specs.Steps.{Folds, IsErrorOfUnbuilt, IsPartBy, IsPartOf, tree_by, tree_in};
@@ -44,10 +45,10 @@ pub trait RegionReplacer {
             (λ r. owned cx.new.rows self.new × IsPartOf cx.new.rows (region_shape r) × hooks.on_region (stands meaning cx.old self.old) (tree_in cx.old.rows (region_shape region)) (tree_in cx.new.rows (region_shape r)) (stands meaning cx.new self.new))
             (λ e. hooks.region_fails (IsErrorOfUnbuilt Self.Error.from_gives cx.new) (stands meaning cx.old self.old) (tree_in cx.old.rows (region_shape region)) e (stands meaning cx.new self.new)) };
 
-    // More rows change no meaning.
-    ghost still_owned: { (old new : List Row) (s : Self) → Grows old new → owned old s → owned new s };
+    // New terms and lists change no meaning.
+    ghost still_owned: { (old new : List Row) (s : Self) → AddsTerms old new → owned old s → owned new s };
 
-    ghost still_means: { (old new : List Row) (s : Self) → Grows old new → owned old s → meaning new s ≡ meaning old s };
+    ghost still_means: { (old new : List Row) (s : Self) → AddsTerms old new → owned old s → meaning new s ≡ meaning old s };
 }
 
 /// The mark of [`RegionReplacer`].

@@ -8,7 +8,7 @@ ghost use Rattle.tt_kinds.specs.Plain.{shift_tree};
 ghost use Rattle.tt_kinds.specs.Kinds.{const_kind_shape, const_shape, region_shape, ty_kind_shape, ty_shape};
 ghost use Rattle.tt_interner.specs.Stored.{Extends};
 ghost use Rattle.tt_fold.specs.Steps.{IsPartBy, IsPartOf, IsRefused, tree_by, tree_in};
-ghost use Rattle.tt_fold.specs.Shift.{bound_const_of, bound_ty_of, IsOuter, IsTooFar, IsTooGreat, moved_tree, IsPast, IsShiftedRegion, IsShiftRefusal, moved_index, moved_region, moving_positions, Shift, ShiftsAddUp, ShiftsKeepApart};
+ghost use Rattle.tt_fold.specs.Shift.{bound_const_of, bound_ty_of, IsOuter, IsTooFar, IsTooGreat, moved_tree, IsPast, IsShiftedRegion, IsShiftRefusal, moved_index, moved_region, moving_positions, ComesOf, KeepsMatched, Shift, ShiftsAddUp, ShiftsKeepApart, ShiftsOn};
 
 use crate::foldable::TypeFoldable;
 use crate::folder::{Step, TypeFolder};
@@ -303,6 +303,9 @@ pub fn shift_vars<T: TypeFoldable>(cx: &mut Interner, value: T, amount: u32) -> 
     ensures in_range { IfOk result (λ shifted. IsPartBy T.shape cx.new.rows shifted) }
     ensures plain { IfOk result (λ shifted. read 0 (tree_by T.shape cx.new.rows shifted) ≡ move amount (read 0 (tree_by T.shape cx.old.rows value))) }
     ensures tree { IfOk result (λ shifted. tree_by T.shape cx.new.rows shifted ≡ shift_tree 0 amount (tree_by T.shape cx.old.rows value)) }
+    ensures adds_up { IfOk result (λ shifted. ShiftsOn amount (tree_by T.shape cx.old.rows value) (tree_by T.shape cx.new.rows shifted)) }
+    ensures tells_apart { IfOk result (λ shifted. ComesOf amount (tree_by T.shape cx.old.rows value) (tree_by T.shape cx.new.rows shifted)) }
+    ensures matched { IfOk result (λ shifted. KeepsMatched (tree_by T.shape cx.old.rows value) (tree_by T.shape cx.new.rows shifted)) }
     ensures err { IfErr result (IsShiftRefusal cx.new amount (tree_by T.shape cx.old.rows value)) }
     ensures same { (amount ≡ 0) ⊎ (outer_binder (tree_by T.shape cx.old.rows value) ≡ 0) → (result ≡ Ok value) × (cx.new ≡ cx.old) }
     ensures descents { cx.new.counters.descents ≡ cx.old.counters.descents }

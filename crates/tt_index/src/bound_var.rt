@@ -46,7 +46,8 @@ impl BoundVar {
         ensures number { result ≡ self }
         ensures fits { result ≤ greatest }
     {
-        self.value
+        let BoundVar { value } = self;
+        value
     }
 
     /// The number, for use as a position in a list.
@@ -54,7 +55,7 @@ impl BoundVar {
         ensures number { result ≡ self }
         ensures fits { result ≤ greatest }
     {
-        self.value as usize
+        self.as_u32() as usize
     }
 }
 

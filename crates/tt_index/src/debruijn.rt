@@ -56,7 +56,8 @@ impl DebruijnIndex {
         ensures number { result ≡ self }
         ensures fits { result ≤ greatest }
     {
-        self.value
+        let DebruijnIndex { value } = self;
+        value
     }
 
     /// The number, for use as a position in a list.
@@ -64,7 +65,7 @@ impl DebruijnIndex {
         ensures number { result ≡ self }
         ensures fits { result ≤ greatest }
     {
-        self.value as usize
+        self.as_u32() as usize
     }
 
     /// Whether the index stays within [`GREATEST_INDEX`] when it moves into `amount` new binders.

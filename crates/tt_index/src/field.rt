@@ -46,7 +46,8 @@ impl FieldIdx {
         ensures number { result ≡ self }
         ensures fits { result ≤ greatest }
     {
-        self.value
+        let FieldIdx { value } = self;
+        value
     }
 
     /// The number, for use as a position in a list.
@@ -54,7 +55,7 @@ impl FieldIdx {
         ensures number { result ≡ self }
         ensures fits { result ≤ greatest }
     {
-        self.value as usize
+        self.as_u32() as usize
     }
 }
 
@@ -112,7 +113,8 @@ impl VariantIdx {
         ensures number { result ≡ self }
         ensures fits { result ≤ greatest }
     {
-        self.value
+        let VariantIdx { value } = self;
+        value
     }
 
     /// The number, for use as a position in a list.
@@ -120,7 +122,7 @@ impl VariantIdx {
         ensures number { result ≡ self }
         ensures fits { result ≤ greatest }
     {
-        self.value as usize
+        self.as_u32() as usize
     }
 }
 

@@ -52,7 +52,8 @@ impl UniverseIndex {
         ensures number { result ≡ self }
         ensures fits { result ≤ greatest }
     {
-        self.value
+        let UniverseIndex { value } = self;
+        value
     }
 
     /// The number, for use as a position in a list.
@@ -60,7 +61,7 @@ impl UniverseIndex {
         ensures number { result ≡ self }
         ensures fits { result ≤ greatest }
     {
-        self.value as usize
+        self.as_u32() as usize
     }
 
     /// Whether there is a next universe: whether this is below [`GREATEST_INDEX`].

@@ -46,7 +46,8 @@ impl RegionVid {
         ensures number { result ≡ self }
         ensures fits { result ≤ greatest }
     {
-        self.value
+        let RegionVid { value } = self;
+        value
     }
 
     /// The number, for use as a position in a list.
@@ -54,7 +55,7 @@ impl RegionVid {
         ensures number { result ≡ self }
         ensures fits { result ≤ greatest }
     {
-        self.value as usize
+        self.as_u32() as usize
     }
 }
 
@@ -111,7 +112,8 @@ impl TyVid {
         ensures number { result ≡ self }
         ensures fits { result ≤ greatest }
     {
-        self.value
+        let TyVid { value } = self;
+        value
     }
 
     /// The number, for use as a position in a list.
@@ -119,7 +121,7 @@ impl TyVid {
         ensures number { result ≡ self }
         ensures fits { result ≤ greatest }
     {
-        self.value as usize
+        self.as_u32() as usize
     }
 }
 
@@ -176,7 +178,8 @@ impl IntVid {
         ensures number { result ≡ self }
         ensures fits { result ≤ greatest }
     {
-        self.value
+        let IntVid { value } = self;
+        value
     }
 
     /// The number, for use as a position in a list.
@@ -184,7 +187,7 @@ impl IntVid {
         ensures number { result ≡ self }
         ensures fits { result ≤ greatest }
     {
-        self.value as usize
+        self.as_u32() as usize
     }
 }
 
@@ -241,7 +244,8 @@ impl FloatVid {
         ensures number { result ≡ self }
         ensures fits { result ≤ greatest }
     {
-        self.value
+        let FloatVid { value } = self;
+        value
     }
 
     /// The number, for use as a position in a list.
@@ -249,7 +253,7 @@ impl FloatVid {
         ensures number { result ≡ self }
         ensures fits { result ≤ greatest }
     {
-        self.value as usize
+        self.as_u32() as usize
     }
 }
 
@@ -306,7 +310,8 @@ impl ConstVid {
         ensures number { result ≡ self }
         ensures fits { result ≤ greatest }
     {
-        self.value
+        let ConstVid { value } = self;
+        value
     }
 
     /// The number, for use as a position in a list.
@@ -314,7 +319,7 @@ impl ConstVid {
         ensures number { result ≡ self }
         ensures fits { result ≤ greatest }
     {
-        self.value as usize
+        self.as_u32() as usize
     }
 }
 

@@ -1,7 +1,8 @@
 -- Clauses, and lists of them.
-use Rattle.std.proofs.Common.{◌≡◌, ℕ, ◌<◌, Bool, true, false, ⊎_elim, inl, inr, List, [], ◌∷◌, get_or, drop, length, ◌+◌, ◌≤◌, refl, sym, ap, subst, ◌∙◌}
+use Rattle.std.proofs.Common.{◌≡◌, ℕ, ◌<◌, Bool, true, false, ⊎_elim, inl, inr, List, [], ◌∷◌, get_or, drop, length, ◌+◌, ◌≤◌, arith, refl, sym, ap, subst, ◌∙◌}
 use Rattle.std.specs.Prelude.{map, not}
 use Rattle.std.proofs.lemmas.Bool.{false≢true}
+use Rattle.std.proofs.lemmas.Option.{none-some, same_Some, slice_get_within}
 use Rattle.std.proofs.Math.Numerals.{add-one}
 use Rattle.std.proofs.Math.Seq.{drop-cons}
 use Rattle.std.proofs.Math.ListN.{drop_of_length-le}
@@ -11,16 +12,17 @@ use Rattle.tt_kinds.specs.declared.predicate_kind.ClauseKind.{ClauseKind}
 use Rattle.tt_kinds.specs.declared.predicate_kind.ClauseKind.TheVariants as clause
 use Rattle.tt_kinds.specs.declared.predicate_kind.PredicateKind.{PredicateKind}
 use Rattle.tt_kinds.specs.declared.predicate_kind.PredicateKind.TheVariants as predicate
-use Rattle.tt_kinds.specs.declared.table.Table.TheVariants.{Predicates}
+use Rattle.tt_kinds.specs.declared.table.Table.TheVariants.{Predicates, ClauseLists}
 use Rattle.tt_kinds.specs.Label.{Name, is_clause_record}
 use Rattle.tt_kinds.specs.Predicate.{is_clause_kind}
 use Rattle.tt_kinds.specs.Shape.{item_shapes, name_of, rename_record, fill, fill_all, IsPart, AreParts}
 use Rattle.tt_kinds.specs.Kinds.{clause_shape, children_shapes, clause_form, predicate_form}
-use Rattle.tt_interner.specs.Rows.{Row, predicate_row, size, meaning, AreRows, IsClause, AreClauses}
+use Rattle.tt_interner.specs.Rows.{Row, predicate_row, clauses_row, table, size, meaning, AreRows, IsClause, AreClauses, HoldsClauses}
 use Rattle.tt_interner.specs.Clauses.{is_clause_tree, HasOther}
 use Rattle.tt_interner.specs.Children.{clause_child}
 use Rattle.tt_interner.specs.Stored.{IsAt}
-use Rattle.tt_interner.proofs.Trees.{Means-row}
+use Rattle.tt_interner.proofs.RowLaws.{place_cases, row-old, size-more, meaning-old}
+use Rattle.tt_interner.proofs.Trees.{Means-row, row_at_newest}
 
 -- clauses are in range
 pub clauses_in_range : (rows : List Row) (cs : List Clause) → AreClauses rows cs → AreParts (size rows) (item_shapes clause_shape cs)
@@ -44,6 +46,23 @@ other_there rows (c ∷ cs) p not_all = by (is_clause_tree (meaning rows Predica
         → HasOther (fill_all (meaning rows) (children_shapes (map clause_child (c ∷ cs))))
     by false e rest = inl (ap not e)
     by true e rest = inr (rest (λ h. not_all (record { within = p.0; clause = e }, h)))
+
+-- clauses stay clauses where a row comes
+AreClauses-more : (r : Row) (rows : List Row) (cs : List Clause) → AreClauses rows cs → AreClauses (r ∷ rows) cs
+AreClauses-more r rows [] h = tt
+AreClauses-more r rows (c ∷ cs) h =
+    let within = h.0.within in
+    let more = size-more r rows Predicates in
+    (record { within = omega arith; clause = rw (meaning-old r rows Predicates c.number within) h.0.clause }, AreClauses-more r rows cs h.1)
+
+-- a stored list of clauses holds clauses alone
+pub clauses_stored : (rows : List Row) → AreRows rows → (cs : List Clause) (n : ℕ) → IsAt rows (clauses_row cs) n → AreClauses rows cs
+unfolding table AreRows
+clauses_stored [] are cs n at = absurd (none-some (clauses_row cs) at)
+clauses_stored (r ∷ rows) are cs n at = AreClauses-more r rows cs (⊎_elim
+    (λ old. clauses_stored rows are.4 cs n (sym (row-old r rows ClauseLists n old) ∙ at))
+    (λ newest. subst (HoldsClauses rows) (same_Some r (clauses_row cs) (sym (row_at_newest r rows ClauseLists n newest) ∙ at)) are.3)
+    (place_cases r rows ClauseLists n (slice_get_within (table ClauseLists (r ∷ rows)) n (clauses_row cs) at)))
 
 clause_label : (name : ℕ → Name) (k : ClauseKind) → is_clause_record (rename_record name (clause_form k).label) ≡ true
 clause_label name (clause.Trait p) = refl

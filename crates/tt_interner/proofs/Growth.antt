@@ -1,6 +1,7 @@
 -- More rows change nothing that a shape means.
 use Rattle.std.proofs.Common.{◌≡◌, ℕ, zero, suc, ◌<◌, ◌≤◌, List, [], ◌∷◌, ◌++◌, refl, ap, sym, ◌∙◌, arith, append_assoc}
 use Rattle.std.specs.Prelude.{map}
+use Rattle.std.proofs.lemmas.Option.{slice_get_within}
 use Rattle.tt_kinds.specs.declared.table.Table.{Table}
 use Rattle.tt_kinds.specs.declared.table.Table.TheVariants.{VarLists, Symbols}
 use Rattle.tt_kinds.specs.Label.{RegionName, anonymous, printed, named, environment, VarKind, region_variable, type_variable, const_variable, FreeRegion, static_region, erased_region, region_var, error_region, late_param_region, placeholder_region, RecordLabel, fn_sig_tys_record, pair_record, triple_record, absent_record, present_record, sequence_record, unsafe_binder_record, trait_record, host_effect_record, region_outlives_record, type_outlives_record, projection_record, const_has_type_record, well_formed_record, const_evaluatable_record, unstable_feature_record, dyn_compatible_record, subtype_record, coerce_record, const_equate_record, ambiguous_record, normalizes_to_record, alias_relate_record, existential_trait_record, existential_projection_record, auto_trait_record, trait_ref_record, alias_term_record, alias_ty_record, outlives_record, type_and_mut_record, fn_sig_record, param_env_record, witness_types_record, bare_param_record, bare_bound_record, bare_type_record, bare_const_record, bare_pattern_record, Label, type_label, const_label, pattern_label, predicate_label, existential_label, clause_list_label, list_label, var_list_label, text_label, declaration_label, record_label, error_label}
@@ -10,11 +11,11 @@ use Rattle.tt_kinds.specs.Shape.{Shape, Shapes, param, bound, region, term, node
 use Rattle.tt_kinds.specs.Parts.{node_table, node_number, list_table, list_number}
 use Rattle.tt_kinds.specs.declared.parts.Node.{Node}
 use Rattle.tt_kinds.specs.declared.parts.List.{List as StoredList}
-use Rattle.tt_interner.specs.Rows.{Row, text_row, size, meaning, age, Grows}
+use Rattle.tt_interner.specs.Rows.{Row, text_row, row_table, table, size, meaning, age, Grows}
 use Rattle.tt_interner.specs.Children.{children_of, children_at}
 use Rattle.tt_interner.specs.Nodes.{row_kind, stored_kind}
-use Rattle.tt_interner.specs.Stored.{Terms, Extends}
-use Rattle.tt_interner.proofs.RowLaws.{keeps, keeps_age, get_or-keeps}
+use Rattle.tt_interner.specs.Stored.{Terms, Extends, IsAt}
+use Rattle.tt_interner.proofs.RowLaws.{keeps, keeps_age, slice_get-keeps, get_or-keeps}
 
 -- parts in range stay in range where tables grow
 module _ (small large : Sizes) (more : (t : Table) → small t ≤ large t) where
@@ -285,3 +286,8 @@ children_at-grows old new g l h = ap children_of (rw g.kept (get_or-keeps g.more
 pub stored_kind-grows : (old new : List Row) → Grows old new → (n : Node) → node_number n < size old (node_table n) → stored_kind new n ≡ stored_kind old n
 unfolding stored_kind
 stored_kind-grows old new g n h = ap row_kind (rw g.kept (get_or-keeps g.more old (node_table n) (node_number n) (text_row []) h))
+
+-- a row keeps its number
+pub IsAt-grows : (old new : List Row) → Grows old new → (r : Row) (n : ℕ) → IsAt old r n → IsAt new r n
+IsAt-grows old new g r n at =
+    rw g.kept (slice_get-keeps g.more old (row_table r) n (slice_get_within (table (row_table r) old) n r at) ∙ at)

@@ -30,13 +30,13 @@ use Rattle.tt_kinds.specs.Parts.{child_sort, IsItem, node_table, node_number, li
 use Rattle.tt_kinds.specs.Kinds
 use Rattle.tt_kinds.specs.Kinds.{Form, relabelled, refilled, form_binder, form_parts, form_shape, kind_form, kind_sort, ty_shape, const_shape, arg_shape, pat_shape, existential_shape, clause_shape, child_shapes, parts_shapes, children_shapes, items_shape, items_tree, kind_shape, kind_table}
 use Rattle.tt_interner.specs.Rows.{Row, type_row, const_row, pat_row, predicate_row, existential_row, clauses_row, tys_row, consts_row, args_row, pats_row, existentials_row, text_row, kind_row, row_table, row_shape, table, size, meaning, age, AreRows, IsOlder, AreOlder, AreClauses}
-use Rattle.tt_interner.specs.Stored.{Terms, IsAt, IsCause, IsUnbuilt, IsNoClauseList, StoresList, Builds}
+use Rattle.tt_interner.specs.Stored.{Terms, IsAt, IsCause, IsUnbuilt, IsNoClauseList, children_tree, most_in_place, StoresList, Builds}
 use Rattle.tt_interner.specs.Nodes.{row_kind, stored_kind, BuildsLike}
 use Rattle.tt_interner.specs.Children.{ty_child, const_child, arg_child, pat_child, existential_child, clause_child, children_of, children_at, child_ty, child_const, child_arg, child_pat, child_existential, child_clause, items_row}
 use Rattle.tt_interner.proofs.RowLaws.{IsNewest, place_cases, row-old, row-new, age-old, age-new}
 use Rattle.tt_interner.proofs.Growth.{Extends-refl}
 use Rattle.tt_interner.proofs.Trees.{Means-row, row_within}
-use Rattle.tt_interner.proofs.ClauseLemmas.{other_there}
+use Rattle.tt_interner.proofs.ClauseLemmas.{other_there, clauses_stored}
 
 -- a handle came before all rows that are there
 pub age_within : (rows : List Row) (t : Table) (n : ℕ) → n < size rows t → age rows t n < length rows
@@ -399,7 +399,7 @@ pub same-sort : (j k : Kind) → kind_table j ≡ kind_table k → kind_sort j �
 same-sort j k h = by_table j ∙ ap sort_of_table h ∙ sym (by_table k)
 
 -- a form with other children in range is in range
-refilled_parts : (size : Sizes) (s : Sort) (q : Parts) (f : Form (Label ℕ)) → HasParts size (form_shape s f) → AreParts size (parts_shapes q) → HasParts size (form_shape s (refilled q f))
+pub refilled_parts : (size : Sizes) (s : Sort) (q : Parts) (f : Form (Label ℕ)) → HasParts size (form_shape s f) → AreParts size (parts_shapes q) → HasParts size (form_shape s (refilled q f))
 unfolding AreParts
 refilled_parts size s q (Kinds.param i name) h p = h
 refilled_parts size s q (Kinds.bound d e) h p = h
@@ -417,20 +417,35 @@ pub builds_like : (result : Result Node Refusal) (old new : Terms) (n : Node) (k
 builds_like result old new n k j q is table form builds of_table =
     record { kind = j; table = table; form = rw is form; builds = builds; of_table = rw table at of_table }
 
+-- a list of items in range is in range
+list_parts : (size : Sizes) (s : ListSort) (ss : Shapes) → AreParts size ss → HasParts size (items_shape s ss)
+list_parts size sort.Tys ss p = (tt, p)
+list_parts size sort.Consts ss p = (tt, p)
+list_parts size sort.Args ss p = (tt, p)
+list_parts size sort.Pats ss p = (tt, p)
+list_parts size sort.Existentials ss p = (tt, p)
+list_parts size sort.Clauses ss p = (tt, p)
+
 -- a refused list
-IsUnbuilt-from : (terms : Terms) (r : Row) (s : ListSort) (ss : Shapes) → row_shape r ≡ items_shape s ss → (e : Refusal) → IsCause terms r e → IsUnbuilt terms (items_tree s (fill_all (meaning terms.rows) ss)) e
-IsUnbuilt-from terms r s ss is Memory h = tt
-IsUnbuilt-from terms r s ss is TableFull h = (r, ap (fill (meaning terms.rows)) is ∙ fill_items (meaning terms.rows) s ss, h.0, h.1)
-IsUnbuilt-from terms r s ss is GreatestIndex h = absurd (items_shallow s ss (subst IsTooDeep is h))
-IsUnbuilt-from terms r s ss is NoArguments h = absurd h
-IsUnbuilt-from terms r s ss is (ArgOutOfRange i) h = absurd h
-IsUnbuilt-from terms r s ss is (ArgKind i) h = absurd h
-IsUnbuilt-from terms r s ss is (RegionVariable v) h = absurd h
-IsUnbuilt-from terms r s ss is NotAClause h = absurd h
-IsUnbuilt-from terms r s ss is NoSuchAnswer h = absurd h
+IsUnbuilt-from : (terms : Terms) (r : Row) (s : ListSort) (ss : Shapes) → row_shape r ≡ items_shape s ss → AreParts (size terms.rows) ss → (e : Refusal) → IsCause terms r e → IsUnbuilt terms (items_tree s (fill_all (meaning terms.rows) ss)) e
+IsUnbuilt-from terms r s ss is parts Memory h = tt
+IsUnbuilt-from terms r s ss is parts TableFull h = record {
+  row = r;
+  fills = ap (fill (meaning terms.rows)) is ∙ fill_items (meaning terms.rows) s ss;
+  parts = subst (HasParts (size terms.rows)) (sym is) (list_parts (size terms.rows) s ss parts);
+  new = h.0;
+  full = h.1;
+}
+IsUnbuilt-from terms r s ss is parts GreatestIndex h = absurd (items_shallow s ss (subst IsTooDeep is h))
+IsUnbuilt-from terms r s ss is parts NoArguments h = absurd h
+IsUnbuilt-from terms r s ss is parts (ArgOutOfRange i) h = absurd h
+IsUnbuilt-from terms r s ss is parts (ArgKind i) h = absurd h
+IsUnbuilt-from terms r s ss is parts (RegionVariable v) h = absurd h
+IsUnbuilt-from terms r s ss is parts NotAClause h = absurd h
+IsUnbuilt-from terms r s ss is parts NoSuchAnswer h = absurd h
 
 module _ {H : Type 0} (number : H → ℕ) (old new : Terms) (s : ListSort) (r : Row) (cs : List Child) (is : IsRowOf s r cs)
-    (fine : IsNoClauseList (items_tree s (fill_all (meaning old.rows) (children_shapes cs))) → ⊥) where
+    (fine : IsNoClauseList (children_tree old.rows s cs) → ⊥) where
   -- what a typed call stores is the list of the children
   pub StoresList-ok : (h : H) → Builds (Ok h) number old new r → (l : StoredList) → list_number l ≡ number h → list_sort l ≡ s → StoresList (Ok l) old new s cs
   StoresList-ok h builds l same of_sort = record {
@@ -443,38 +458,66 @@ module _ {H : Type 0} (number : H → ℕ) (old new : Terms) (s : ListSort) (r :
     refused = fine;
     of_sort = of_sort;
     stored = rw (same, is.row) builds.stored;
+    found = λ n at. let f = builds.found n (rw is.row at at) in inl ((l, refl, same ∙ ap number (ok_one f.0.0 _ refl f.0.1) ∙ f.0.2), f.1);
+    full = λ new_row no_other past. absurd (ok_err _ refl (builds.full (rw is.row at new_row) shallow (rw (← is.in_table) at past)));
+    other = λ bad. absurd (fine bad);
   }
+    where
+      shallow : IsTooDeep (row_shape r) → ⊥
+      shallow deep = items_shallow s (children_shapes cs) (subst IsTooDeep is.shape deep)
 
-  pub StoresList-err : (e : Refusal) → Builds {H = H} (Err e) number old new r → StoresList (Err e) old new s cs
-  StoresList-err e builds = record {
+      ok_one : (a : H) (result : Result H Refusal) → result ≡ Ok h → result ≡ Ok a → h ≡ a
+      ok_one a result p q = cc
+
+      ok_err : (result : Result H Refusal) → result ≡ Ok h → result ≡ Err TableFull → ⊥
+      ok_err result p q = cc
+
+  pub StoresList-err : AreParts (size old.rows) (children_shapes cs) → (e : Refusal) → Builds {H = H} (Err e) number old new r → StoresList (Err e) old new s cs
+  StoresList-err parts e builds = record {
     in_range = tt;
     means = tt;
     extends = record { rows = builds.grows; limit = builds.limit };
     counters = builds.counters;
     err = builds.err;
-    cause = IsUnbuilt-from old r s (children_shapes cs) is.shape e builds.cause;
+    cause = IsUnbuilt-from old r s (children_shapes cs) is.shape parts e builds.cause;
     refused = tt;
     of_sort = tt;
     stored = tt;
+    found = λ n at. absurd (err_ok _ _ refl (builds.found n (rw is.row at at)).0.1);
+    full = λ new_row no_other past. inl (ap Err (err_one _ refl (builds.full (rw is.row at new_row) shallow (rw (← is.in_table) at past))));
+    other = λ bad. absurd (fine bad);
   }
+    where
+      shallow : IsTooDeep (row_shape r) → ⊥
+      shallow deep = items_shallow s (children_shapes cs) (subst IsTooDeep is.shape deep)
+
+      err_ok : (a : H) (result : Result H Refusal) → result ≡ Err e → result ≡ Ok a → ⊥
+      err_ok a result p q = cc
+
+      err_one : (result : Result H Refusal) → result ≡ Err e → result ≡ Err TableFull → e ≡ TableFull
+      err_one result p q = cc
 
 -- a list of clauses with another item
-pub StoresList-other : (old : Terms) (cs : List Clause) → AreParts (size old.rows) (children_shapes (map clause_child cs)) → (AreClauses old.rows cs → ⊥) → StoresList (Err NotAClause) old old sort.Clauses (map clause_child cs)
-StoresList-other old cs parts not_all = record {
+pub StoresList-other : (old : Terms) → AreRows old.rows → (cs : List Clause) → AreParts (size old.rows) (children_shapes (map clause_child cs)) → (AreClauses old.rows cs → ⊥)
+    → StoresList (Err NotAClause) old old sort.Clauses (map clause_child cs)
+StoresList-other old are cs parts not_all = let bad = other_there old.rows cs (subst (AreParts (size old.rows)) (clauses_shapes cs) parts) not_all in record {
   in_range = tt;
   means = tt;
   extends = Extends-refl old;
   counters = refl;
   err = refl;
-  cause = other_there old.rows cs (subst (AreParts (size old.rows)) (clauses_shapes cs) parts) not_all;
+  cause = bad;
   refused = tt;
   of_sort = tt;
   stored = tt;
+  found = λ n at. absurd (not_all (clauses_stored old.rows are cs n (rw (is_row_of_clauses cs).row at at)));
+  full = λ new_row no_other past. absurd (no_other bad);
+  other = λ b. inl refl;
 }
 
 -- want of memory for the items
-pub StoresList-memory : (old : Terms) (s : ListSort) (cs : List Child) → StoresList (Err Memory) old old s cs
-StoresList-memory old s cs = record {
+pub StoresList-memory : (old : Terms) (s : ListSort) (cs : List Child) → most_in_place < length cs → StoresList (Err Memory) old old s cs
+StoresList-memory old s cs many = record {
   in_range = tt;
   means = tt;
   extends = Extends-refl old;
@@ -484,4 +527,7 @@ StoresList-memory old s cs = record {
   refused = tt;
   of_sort = tt;
   stored = tt;
+  found = λ n at. inr (many, refl);
+  full = λ new_row no_other past. inr (many, refl);
+  other = λ bad. inr (many, refl);
 }

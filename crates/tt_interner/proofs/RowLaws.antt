@@ -184,7 +184,7 @@ keeps_age [] rows t n h = refl
 keeps_age (r ∷ added) rows t n h = age-old r (added ++ rows) t n (keeps added rows t n h).0 ∙ keeps_age added rows t n h
 
 -- and its row
-slice_get-keeps : (added rows : List Row) (t : Table) (n : ℕ) → n < size rows t → slice_get (table t (added ++ rows)) n ≡ slice_get (table t rows) n
+pub slice_get-keeps : (added rows : List Row) (t : Table) (n : ℕ) → n < size rows t → slice_get (table t (added ++ rows)) n ≡ slice_get (table t rows) n
 slice_get-keeps [] rows t n h = refl
 slice_get-keeps (r ∷ added) rows t n h = row-old r (added ++ rows) t n (keeps added rows t n h).0 ∙ slice_get-keeps added rows t n h
 

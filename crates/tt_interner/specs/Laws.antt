@@ -4,6 +4,7 @@ use Rattle.tt_kinds.specs.declared.table.Table.{Table}
 use Rattle.tt_kinds.specs.declared.table.Table.TheVariants.{Declarations}
 use Rattle.tt_kinds.specs.declared.id.DefId.{DefId}
 use Rattle.tt_interner.specs.Rows.{Row, size, meaning, AreRows, Grows}
+use Rattle.tt_interner.specs.Stored.{IsAt}
 use Rattle.tt_interner.specs.Declarations.{declared_at}
 
 -- handles in range are equal exactly when their trees are
@@ -17,6 +18,10 @@ EqualTrees = (rows : List Row) → AreRows rows → AreInterned rows
 -- handles in range stay in range and keep their trees, whatever rows come
 abbrev pub KeepsTrees : Type 0
 KeepsTrees = (old new : List Row) → Grows old new → (t : Table) (n : ℕ) → n < size old t → (n < size new t) × (meaning new t n ≡ meaning old t n)
+
+-- a row that is stored under a number is stored under that number, whatever rows come
+abbrev pub KeepsRows : Type 0
+KeepsRows = (old new : List Row) → Grows old new → (r : Row) (n : ℕ) → IsAt old r n → IsAt new r n
 
 -- what is declared under an id stays, whatever rows come
 abbrev pub KeepsDeclarations : Type 0

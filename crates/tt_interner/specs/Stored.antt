@@ -1,5 +1,5 @@
 -- What contracts see of an interner, and what its calls promise.
-use Rattle.std.specs.Prelude.{◌≡◌, ℕ, ◌+◌, ◌<◌, ◌≤◌, List, [], ◌∷◌, Result, Ok, Err, IfOk, OnOk, OnErr, IfErr, Some, ◌⊎◌, ⊤, slice_get, nat_lt, cond}
+use Rattle.std.specs.Prelude.{◌≡◌, ℕ, ◌+◌, ◌<◌, ◌≤◌, List, [], ◌∷◌, Result, Ok, Err, IfOk, OnOk, OnErr, IfErr, Some, ◌⊎◌, ⊤, length, slice_get, nat_lt, cond}
 use Rattle.tt_flags.specs.declared.flag_computation.FlagComputation.{FlagComputation}
 use Rattle.tt_index.specs.declared.refusal.Refusal.{Refusal}
 use Rattle.tt_index.specs.declared.refusal.Refusal.TheVariants.{Memory, TableFull, GreatestIndex, NotAClause}
@@ -13,7 +13,7 @@ use Rattle.tt_kinds.specs.declared.parts.ListSort.{ListSort}
 use Rattle.tt_kinds.specs.declared.parts.Child.{Child}
 use Rattle.tt_kinds.specs.Scan.{scan}
 use Rattle.tt_kinds.specs.Reading.{outer_binder}
-use Rattle.tt_kinds.specs.Shape.{fill, fill_all, IsTooDeep}
+use Rattle.tt_kinds.specs.Shape.{fill, fill_all, HasParts, IsTooDeep}
 use Rattle.tt_interner.specs.Clauses.{HasOther}
 use Rattle.tt_interner.specs.Children.{items_row}
 use Rattle.tt_interner.specs.Rows.{Row, clauses_row, tys_row, consts_row, args_row, pats_row, vars_row, existentials_row, assumptions_row, text_row, row_table, row_shape, table, size, meaning, IsNew, Grows}
@@ -116,12 +116,32 @@ abbrev pub IsNoClauseList : Tree Depth → Type 0
 IsNoClauseList (tree.term clause_list_label ts) = HasOther ts
 IsNoClauseList _ = ⊥
 
+-- a row for the tree is new though its handles are in range, and its table holds its limit
+pub record HasNoRoom (terms : Terms) (u : Tree Depth) : Type 0 where
+  pub row : Row
+  pub fills : fill (meaning terms.rows) (row_shape row) ≡ u
+  pub parts : HasParts (size terms.rows) (row_shape row)
+  pub new : IsNew row terms.rows
+  pub full : terms.limit ≤ size terms.rows (row_table row)
+
 -- why the term of this tree was not stored: want of memory, it is new and its table holds its limit, or it is a list of clauses with an item that is none
 abbrev pub IsUnbuilt : Terms → Tree Depth → Refusal → Type 0
 IsUnbuilt terms u Memory = ⊤
-IsUnbuilt terms u TableFull = (r : Row) × (fill (meaning terms.rows) (row_shape r) ≡ u) × IsNew r terms.rows × (terms.limit ≤ size terms.rows (row_table r))
+IsUnbuilt terms u TableFull = HasNoRoom terms u
 IsUnbuilt terms u NotAClause = IsNoClauseList u
 IsUnbuilt terms u _ = ⊥
+
+-- the tree of the list of these children
+abbrev pub children_tree : List Row → ListSort → List Child → Tree Depth
+children_tree rows sort items = items_tree sort (fill_all (meaning rows) (children_shapes items))
+
+-- how many children of a list are collected without memory
+abbrev pub most_in_place : ℕ
+most_in_place = 8
+
+-- there are more children than that, and the memory for them was refused
+abbrev pub LacksItems : Result StoredList Refusal → List Child → Type 0
+LacksItems result items = (most_in_place < length items) × (result ≡ Err Memory)
 
 -- the result is the list of these children, which is added if it is new
 pub record StoresList (result : Result StoredList Refusal) (old new : Terms) (sort : ListSort) (items : List Child) : Type 0 where
@@ -135,3 +155,9 @@ pub record StoresList (result : Result StoredList Refusal) (old new : Terms) (so
   pub refused : OnOk result (IsNoClauseList (items_tree sort (fill_all (meaning old.rows) (children_shapes items))) → ⊥)
   pub of_sort : IfOk result (λ l. list_sort l ≡ sort)
   pub stored : IfOk result (λ l. Stores old.rows new.rows (items_row sort items) (list_number l))
+  -- what is there is found; what is new is refused where its table is full, as a list of clauses with another item is
+  pub found : (n : ℕ) → IsAt old.rows (items_row sort items) n
+      → (((l : StoredList) × (result ≡ Ok l) × (list_number l ≡ n)) × (new ≡ old)) ⊎ LacksItems result items
+  pub full : IsNew (items_row sort items) old.rows → (IsNoClauseList (children_tree old.rows sort items) → ⊥)
+      → old.limit ≤ size old.rows (sort_list_table sort) → (result ≡ Err TableFull) ⊎ LacksItems result items
+  pub other : IsNoClauseList (children_tree old.rows sort items) → (result ≡ Err NotAClause) ⊎ LacksItems result items

@@ -1,6 +1,6 @@
 //! Lists of children, and the typed lists that they stand for.
 
-ghost use Rattle.std.specs.Prelude.{◌≡◌, ◌<◌, length, slice_get, map, All, IfOk, Some};
+ghost use Rattle.std.specs.Prelude.{◌≡◌, ◌<◌, ◌≤◌, length, slice_get, take, map, All, IfOk, Some};
 ghost use Rattle.tt_kinds.specs.Parts.{child_sort, IsItem};
 ghost use Rattle.tt_kinds.specs.Shape.{AreParts};
 ghost use Rattle.tt_kinds.specs.Kinds.{children_shapes};
@@ -8,7 +8,7 @@ ghost use Rattle.tt_kinds.specs.declared.parts.ListSort.{ListSort};
 ghost use Rattle.tt_kinds.specs.declared.parts.Child.{Child};
 ghost use Rattle.tt_interner.specs.Rows.{size};
 ghost use Rattle.tt_interner.specs.Children.{arg_child, clause_child};
-ghost use Rattle.tt_interner.specs.Stored.{StoresList};
+ghost use Rattle.tt_interner.specs.Stored.{most_in_place, StoresList};
 
 use crate::interner::Interner;
 use std::alloc::{AllocError, Global};
@@ -56,8 +56,19 @@ pub(crate) trait ListItem: Copy + Drop {
         ensures { as_child result ≡ child.now };
 }
 
-/// What a list of one sort holds, with the call that stores it.
+// So many items of a list are collected without memory.
+const MOST_IN_PLACE: usize = 8;
+
+/// What a list of one sort holds, with the calls that store it.
 pub(crate) trait StoredItem: ListItem {
+    /// The stored list of the items that stand as these children, which are collected in place: what is there is found
+    /// without memory.
+    fn store_few(cx: &mut Interner, children: &[Child]) -> Result<List, Refusal>
+        requires parts { AreParts (size cx.old.rows) (children_shapes children.now) }
+        requires fit { All (λ c. IsItem Self.sort (child_sort c)) children.now }
+        requires few { length children.now ≤ most_in_place }
+        ensures { StoresList result cx.old cx.new Self.sort children.now };
+
     /// The stored list of these items, which are kept as the list's. They have to be of the interner.
     fn store(cx: &mut Interner, items: Vec<Self>) -> Result<List, Refusal>
         requires { AreParts (size cx.old.rows) (children_shapes (map Self.as_child items.items)) }
@@ -80,6 +91,20 @@ impl ListItem for Ty {
 impl StoredItem for Ty {
     ghost use Rattle.tt_kinds.specs.declared.parts.ListSort.TheVariants.{Tys};
     ghost use Rattle.tt_interner.specs.Children.{ty_child};
+
+    fn store_few(cx: &mut Interner, children: &[Child]) -> Result<List, Refusal>
+        requires parts { AreParts (size cx.old.rows) (children_shapes children.now) }
+        requires fit { All (λ c. IsItem Tys (child_sort c)) children.now }
+        requires few { length children.now ≤ most_in_place }
+        ensures { StoresList result cx.old cx.new Tys children.now }
+    {
+        let mut places = [Ty::from_number(0); MOST_IN_PLACE];
+        put_items(&mut places, children);
+        match cx.mk_tys(&places[..children.len()]) {
+            Ok(tys) => Ok(List::Tys(tys)),
+            Err(e) => Err(e),
+        }
+    }
 
     fn store(cx: &mut Interner, items: Vec<Ty>) -> Result<List, Refusal>
         requires { AreParts (size cx.old.rows) (children_shapes (map ty_child items.items)) }
@@ -113,6 +138,20 @@ impl StoredItem for Const {
     ghost use Rattle.tt_kinds.specs.declared.parts.ListSort.TheVariants.{Consts};
     ghost use Rattle.tt_interner.specs.Children.{const_child};
 
+    fn store_few(cx: &mut Interner, children: &[Child]) -> Result<List, Refusal>
+        requires parts { AreParts (size cx.old.rows) (children_shapes children.now) }
+        requires fit { All (λ c. IsItem Consts (child_sort c)) children.now }
+        requires few { length children.now ≤ most_in_place }
+        ensures { StoresList result cx.old cx.new Consts children.now }
+    {
+        let mut places = [Const::from_number(0); MOST_IN_PLACE];
+        put_items(&mut places, children);
+        match cx.mk_consts(&places[..children.len()]) {
+            Ok(consts) => Ok(List::Consts(consts)),
+            Err(e) => Err(e),
+        }
+    }
+
     fn store(cx: &mut Interner, items: Vec<Const>) -> Result<List, Refusal>
         requires { AreParts (size cx.old.rows) (children_shapes (map const_child items.items)) }
         ensures { StoresList result cx.old cx.new Consts (map const_child items.items) }
@@ -145,6 +184,20 @@ impl StoredItem for Pat {
     ghost use Rattle.tt_kinds.specs.declared.parts.ListSort.TheVariants.{Pats};
     ghost use Rattle.tt_interner.specs.Children.{pat_child};
 
+    fn store_few(cx: &mut Interner, children: &[Child]) -> Result<List, Refusal>
+        requires parts { AreParts (size cx.old.rows) (children_shapes children.now) }
+        requires fit { All (λ c. IsItem Pats (child_sort c)) children.now }
+        requires few { length children.now ≤ most_in_place }
+        ensures { StoresList result cx.old cx.new Pats children.now }
+    {
+        let mut places = [Pat::from_number(0); MOST_IN_PLACE];
+        put_items(&mut places, children);
+        match cx.mk_pat_list(&places[..children.len()]) {
+            Ok(pats) => Ok(List::Pats(pats)),
+            Err(e) => Err(e),
+        }
+    }
+
     fn store(cx: &mut Interner, items: Vec<Pat>) -> Result<List, Refusal>
         requires { AreParts (size cx.old.rows) (children_shapes (map pat_child items.items)) }
         ensures { StoresList result cx.old cx.new Pats (map pat_child items.items) }
@@ -176,6 +229,20 @@ impl ListItem for PolyExistentialPredicate {
 impl StoredItem for PolyExistentialPredicate {
     ghost use Rattle.tt_kinds.specs.declared.parts.ListSort.TheVariants.{Existentials};
     ghost use Rattle.tt_interner.specs.Children.{existential_child};
+
+    fn store_few(cx: &mut Interner, children: &[Child]) -> Result<List, Refusal>
+        requires parts { AreParts (size cx.old.rows) (children_shapes children.now) }
+        requires fit { All (λ c. IsItem Existentials (child_sort c)) children.now }
+        requires few { length children.now ≤ most_in_place }
+        ensures { StoresList result cx.old cx.new Existentials children.now }
+    {
+        let mut places = [PolyExistentialPredicate::from_number(0); MOST_IN_PLACE];
+        put_items(&mut places, children);
+        match cx.mk_existential_list(&places[..children.len()]) {
+            Ok(predicates) => Ok(List::Existentials(predicates)),
+            Err(e) => Err(e),
+        }
+    }
 
     fn store(cx: &mut Interner, items: Vec<PolyExistentialPredicate>) -> Result<List, Refusal>
         requires { AreParts (size cx.old.rows) (children_shapes (map existential_child items.items)) }
@@ -210,10 +277,30 @@ impl StoredItem for Clause {
     ghost use Rattle.tt_interner.specs.Children.{clause_child};
 
     // Children are predicates of any kind, so each is looked at.
+    fn store_few(cx: &mut Interner, children: &[Child]) -> Result<List, Refusal>
+        requires parts { AreParts (size cx.old.rows) (children_shapes children.now) }
+        requires fit { All (λ c. IsItem Clauses (child_sort c)) children.now }
+        requires few { length children.now ≤ most_in_place }
+        ensures { StoresList result cx.old cx.new Clauses children.now }
+    {
+        let mut places = [Clause::from_number(0); MOST_IN_PLACE];
+        put_items(&mut places, children);
+        let items = &places[..children.len()];
+        cx.are_rows();
+        if !cx.are_clauses(items) {
+            return Err(Refusal::NotAClause);
+        }
+        match cx.mk_clauses(items) {
+            Ok(clauses) => Ok(List::Clauses(clauses)),
+            Err(e) => Err(e),
+        }
+    }
+
     fn store(cx: &mut Interner, items: Vec<Clause>) -> Result<List, Refusal>
         requires { AreParts (size cx.old.rows) (children_shapes (map clause_child items.items)) }
         ensures { StoresList result cx.old cx.new Clauses (map clause_child items.items) }
     {
+        cx.are_rows();
         if !cx.are_clauses(items.as_slice()) {
             return Err(Refusal::NotAClause);
         }
@@ -247,6 +334,20 @@ impl StoredItem for GenericArg {
     ghost use Rattle.tt_kinds.specs.declared.parts.ListSort.TheVariants.{Args};
     ghost use Rattle.tt_interner.specs.Children.{arg_child};
 
+    fn store_few(cx: &mut Interner, children: &[Child]) -> Result<List, Refusal>
+        requires parts { AreParts (size cx.old.rows) (children_shapes children.now) }
+        requires fit { All (λ c. IsItem Args (child_sort c)) children.now }
+        requires few { length children.now ≤ most_in_place }
+        ensures { StoresList result cx.old cx.new Args children.now }
+    {
+        let mut places = [GenericArg::from(Ty::from_number(0)); MOST_IN_PLACE];
+        put_items(&mut places, children);
+        match cx.mk_args(&places[..children.len()]) {
+            Ok(args) => Ok(List::Args(args)),
+            Err(e) => Err(e),
+        }
+    }
+
     fn store(cx: &mut Interner, items: Vec<GenericArg>) -> Result<List, Refusal>
         requires { AreParts (size cx.old.rows) (children_shapes (map arg_child items.items)) }
         ensures { StoresList result cx.old cx.new Args (map arg_child items.items) }
@@ -256,6 +357,17 @@ impl StoredItem for GenericArg {
             Err(e) => return Err(e),
         };
         Ok(List::Args(list))
+    }
+}
+
+// Puts the items that stand as these children into the first places.
+fn put_items<T: ListItem>(places: &mut [T], children: &[Child])
+    requires fit { All (λ c. IsItem T.sort (child_sort c)) children.now }
+    requires room { length children.now ≤ length places.old }
+    ensures { map T.as_child (take (length children.now) places.new) ≡ children.now }
+{
+    for (i, child) in children.iter().enumerate() {
+        places[i] = T::from_child(child);
     }
 }
 
@@ -271,7 +383,7 @@ pub(crate) fn collect<T: ListItem>(alloc: Global, children: &[Child]) -> Result<
     Ok(items)
 }
 
-/// The stored list of the items that stand as these children.
+/// The stored list of the items that stand as these children. More than a few are kept as the list's, by one look-up.
 pub(crate) fn store_items<T: StoredItem>(
     cx: &mut Interner,
     children: &[Child],
@@ -280,6 +392,9 @@ pub(crate) fn store_items<T: StoredItem>(
     requires fit { All (λ c. IsItem T.sort (child_sort c)) children.now }
     ensures { StoresList result cx.old cx.new T.sort children.now }
 {
+    if children.len() <= MOST_IN_PLACE {
+        return T::store_few(cx, children);
+    }
     let items: Vec<T> = match collect(cx.allocator(), children) {
         Ok(items) => items,
         Err(_) => return Err(Refusal::Memory),

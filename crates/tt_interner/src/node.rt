@@ -1,11 +1,11 @@
 //! Stored terms and lists of all tables, as walks see them: by their kinds, and by their children.
 
-ghost use Rattle.std.specs.Prelude.{◌≡◌, ◌≢◌, ◌<◌, IfOk, IfErr, OnOk, OnErr, All, length, slice_get, Some};
+ghost use Rattle.std.specs.Prelude.{◌≡◌, ◌≢◌, ℕ, ◌<◌, ◌≤◌, ◌⊎◌, Ok, Err, IfOk, IfErr, OnOk, OnErr, All, length, slice_get, Some};
 ghost use Rattle.tt_kinds.specs.Shape.{HasParts, AreParts, fill, fill_all};
 ghost use Rattle.tt_kinds.specs.Parts.{node_table, node_number, list_table, list_number, list_sort, sort_list_table, child_sort, AreLike, IsItem};
 ghost use Rattle.tt_kinds.specs.Kinds.{form_binder, form_parts, kind_form, kind_table, kind_shape, parts_shapes, children_shapes, items_tree};
-ghost use Rattle.tt_interner.specs.Rows.{kind_row, size, meaning, age, IsOlder, AreOlder};
-ghost use Rattle.tt_interner.specs.Stored.{Builds, Extends, IsAt, IsNoClauseList, IsUnbuilt, Stores};
+ghost use Rattle.tt_interner.specs.Rows.{kind_row, size, meaning, age, IsNew, IsOlder, AreOlder};
+ghost use Rattle.tt_interner.specs.Stored.{Builds, Extends, IsAt, IsNoClauseList, IsUnbuilt, LacksItems, Stores, children_tree};
 ghost use Rattle.tt_interner.specs.Children.{children_at, items_row};
 ghost use Rattle.tt_interner.specs.Nodes.{stored_kind, BuildsLike};
 
@@ -34,6 +34,7 @@ impl Interner {
         requires owned { node_number node < size self.now.rows (node_table node) }
         requires has_kind { node_table node ≢ Table.ClauseLists }
         ensures table { kind_table result ≡ node_table node }
+        ensures kind { result ≡ stored_kind self.now.rows node }
         ensures parts { HasParts (size self.now.rows) (kind_shape result) }
         ensures means { meaning self.now.rows (node_table node) (node_number node) ≡ fill (meaning self.now.rows) (kind_shape result) }
         ensures older { IsOlder self.now.rows (age self.now.rows (node_table node) (node_number node)) (kind_shape result) }
@@ -236,7 +237,8 @@ impl Interner {
     }
 
     /// The stored list of these children. They have to be of this interner, and of the sort that the list holds. Refused as
-    /// [`Interner::mk_tys`] is, and a list of clauses with `NotAClause` where a child is no clause.
+    /// [`Interner::mk_tys`] is, and a list of clauses with `NotAClause` where a child is no clause. More than eight
+    /// children are collected in memory before the list is looked up, so `Memory` may also come of a list that is there.
     pub fn store_list(&mut self, sort: ListSort, items: &[Child]) -> Result<List, Refusal>
         requires parts { AreParts (size self.old.rows) (children_shapes items.now) }
         requires fit { All (λ c. IsItem sort (child_sort c)) items.now }
@@ -249,6 +251,15 @@ impl Interner {
         ensures refused { OnOk result (IsNoClauseList (items_tree sort (fill_all (meaning self.old.rows) (children_shapes items.now))) → ⊥) }
         ensures sort { IfOk result (λ l. list_sort l ≡ sort) }
         ensures stored { IfOk result (λ l. Stores self.old.rows self.new.rows (items_row sort items.now) (list_number l)) }
+        ensures found { (n : ℕ) → IsAt self.old.rows (items_row sort items.now) n
+            → (((l : _) × (result ≡ Ok l) × (list_number l ≡ n)) × (self.new ≡ self.old))
+            ⊎ LacksItems result items.now }
+        ensures full { IsNew (items_row sort items.now) self.old.rows
+            → (IsNoClauseList (children_tree self.old.rows sort items.now) → ⊥)
+            → self.old.limit ≤ size self.old.rows (sort_list_table sort)
+            → (result ≡ Err Refusal.TableFull) ⊎ LacksItems result items.now }
+        ensures other { IsNoClauseList (children_tree self.old.rows sort items.now)
+            → (result ≡ Err Refusal.NotAClause) ⊎ LacksItems result items.now }
     {
         match sort {
             ListSort::Tys => store_items::<Ty>(self, items),

@@ -51,7 +51,7 @@ pub(crate) fn add<K: Eq + Hash + Drop, V: Drop>(
 }
 
 /// Finds a key in a table that has at most `limit`, or adds it as `add` does, by one look-up where there is room. What is there
-/// has the same information beside it. Answers the entry's number.
+/// has the same information beside it, and is found without growth. Answers the entry's number.
 pub(crate) fn find_or_insert<K: Eq + Hash + Drop>(
     order: &mut Vec<Table>,
     limit: u32,
@@ -74,9 +74,16 @@ pub(crate) fn find_or_insert<K: Eq + Hash + Drop>(
     if entries.len() >= limit as usize {
         return find_or(entries, &key, Refusal::TableFull);
     }
-    match order.reserve(1) {
-        Ok(()) => {}
-        Err(_) => return find_or(entries, &key, Refusal::Memory),
+    // What is there takes no room, so where there is none to spare it is looked up first.
+    if order.len() >= order.capacity() {
+        match find_or(entries, &key, Refusal::Memory) {
+            Ok(number) => return Ok(number),
+            Err(_) => {}
+        }
+        match order.reserve(1) {
+            Ok(()) => {}
+            Err(_) => return Err(Refusal::Memory),
+        }
     }
     let place = match entries.insert_full(key, info) {
         Ok(place) => place,

@@ -228,6 +228,13 @@ captured_pointer = three_references (region_at (at 0)) (region_at (at 0)) (regio
 regions_captured : placed 0 met_pointer (region_at (at 0) ∷ region_at (at 0) ∷ []) ≡ captured_pointer
 regions_captured = refl
 
+-- what is not met keeps its place, also where an answer is left over
+type_parameter_stays : placed 0 (param type_sort 0 []) (region static_region ∷ []) ≡ param type_sort 0 []
+type_parameter_stays = refl
+
+own_region_stays : placed 1 (region_at (at 0)) (region static_region ∷ []) ≡ region_at (at 0)
+own_region_stays = refl
+
 captured_flags : (scan captured_pointer ≡ 0x1040000) × (outer_binder captured_pointer ≡ 0)
 captured_flags = (refl, refl)
 

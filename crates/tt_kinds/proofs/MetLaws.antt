@@ -16,15 +16,16 @@ placed_all-append k t ts xs ys e = rw (← e, take-append_seam xs ys, drop-appen
 abbrev pub standing_regions : List Met → List (Tree Depth)
 standing_regions ms = map (λ m. m.standing) ms
 
-standing_leaf : (s : Sort) (k : ℕ) (t : Tree Depth) → placed_leaf t (standing_regions (met_leaf s t k)) ≡ t
+standing_leaf : (s : Sort) (k : ℕ) (t : Tree Depth) → placed_leaf (met_leaf s t k) t (standing_regions (met_leaf s t k)) ≡ t
 standing_leaf region_sort k t = refl
 standing_leaf type_sort k t = refl
 standing_leaf const_sort k t = refl
 
-standing_bound : (s : Sort) (k : ℕ) (d : Depth) (t : Tree Depth) → placed_leaf t (standing_regions (met_bound s d t k)) ≡ t
+standing_bound : (s : Sort) (k : ℕ) (d : Depth) (t : Tree Depth) →
+    placed_leaf (met_bound s d t k) t (standing_regions (met_bound s d t k)) ≡ t
 standing_bound s k (at d) t = chosen (nat_lt d k)
   where
-    chosen : (b : Bool) → placed_leaf t (standing_regions (if b then [] else met_leaf s t k)) ≡ t
+    chosen : (b : Bool) → let ms = if b then [] else met_leaf s t k in placed_leaf ms t (standing_regions ms) ≡ t
     chosen true = refl
     chosen false = standing_leaf s k t
 standing_bound s k canonical t = refl

@@ -32,17 +32,18 @@ abbrev mutual
   met_all k none = []
   met_all k (also t ts) = met k t ++ met_all k ts
 
--- the first answer, or the leaf where there is none
-abbrev pub placed_leaf : Tree Depth → List (Tree Depth) → Tree Depth
-placed_leaf t [] = t
-placed_leaf t (a ∷ answers) = a
+-- the first answer where the leaf is met, and else the leaf
+abbrev pub placed_leaf : List Met → Tree Depth → List (Tree Depth) → Tree Depth
+placed_leaf [] t answers = t
+placed_leaf (m ∷ ms) t [] = t
+placed_leaf (m ∷ ms) t (a ∷ answers) = a
 
 abbrev mutual
   -- the tree under k binders with the regions met in it replaced, one after the other, by the answers as they stand
   pub placed : ℕ → Tree Depth → List (Tree Depth) → Tree Depth
-  placed k (param s i name) answers = placed_leaf (param s i name) answers
-  placed k (bound s d e) answers = placed_leaf (bound s d e) answers
-  placed k (region r) answers = placed_leaf (region r) answers
+  placed k (param s i name) answers = placed_leaf (met k (param s i name)) (param s i name) answers
+  placed k (bound s d e) answers = placed_leaf (met k (bound s d e)) (bound s d e) answers
+  placed k (region r) answers = placed_leaf (met k (region r)) (region r) answers
   placed k (term l ts) answers = term l (placed_all k ts answers)
   placed k (node l ts) answers = node l (placed_all k ts answers)
   placed k (binder vs t) answers = binder vs (placed (suc k) t answers)

@@ -24,7 +24,7 @@ pub enum AliasTyKind {
         /// The opaque type.
         def_id: OpaqueTyId,
     },
-    /// A type alias that stands for itself.
+    /// A type alias whose bounds are checked, and which can always be normalized away.
     Free {
         /// The alias.
         def_id: FreeTyAliasId,

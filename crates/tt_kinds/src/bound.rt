@@ -146,7 +146,8 @@ impl BoundRegion {
     pub fn var(self) -> BoundVar
         ensures { result ≡ self.var }
     {
-        self.var
+        let BoundRegion { var, kind: _ } = self;
+        var
     }
 
     /// Whether the list's entry says the same of it.
@@ -171,7 +172,8 @@ impl BoundTy {
     pub fn var(self) -> BoundVar
         ensures { result ≡ self.var }
     {
-        self.var
+        let BoundTy { var, kind: _ } = self;
+        var
     }
 
     /// Whether the list's entry says the same of it.
@@ -203,7 +205,8 @@ impl BoundConst {
     pub fn var(self) -> BoundVar
         ensures { result ≡ self.var }
     {
-        self.var
+        let BoundConst { var } = self;
+        var
     }
 
     /// Whether the list's entry says the same of it.

@@ -24,7 +24,7 @@ pub enum DeclarationKind {
     Adt,
     /// An opaque type, such as `impl Trait` as a result.
     Opaque,
-    /// A type alias that stands for itself.
+    /// A type alias whose bounds are checked, and which can always be normalized away.
     Free,
     /// A type that is declared elsewhere, of which nothing is known here.
     Foreign,
@@ -55,7 +55,7 @@ pub enum DeclarationSort {
     Adt,
     /// An opaque type.
     Opaque,
-    /// A type alias that stands for itself.
+    /// A type alias whose bounds are checked, and which can always be normalized away.
     Free,
     /// A type that is declared elsewhere.
     Foreign,

@@ -23,7 +23,8 @@ impl Ty {
     pub fn number(self) -> u32
         ensures { result ≡ self.number }
     {
-        self.number
+        let Ty { number } = self;
+        number
     }
 }
 
@@ -45,7 +46,8 @@ impl Const {
     pub fn number(self) -> u32
         ensures { result ≡ self.number }
     {
-        self.number
+        let Const { number } = self;
+        number
     }
 }
 
@@ -67,7 +69,8 @@ impl Pat {
     pub fn number(self) -> u32
         ensures { result ≡ self.number }
     {
-        self.number
+        let Pat { number } = self;
+        number
     }
 }
 
@@ -89,7 +92,8 @@ impl Predicate {
     pub fn number(self) -> u32
         ensures { result ≡ self.number }
     {
-        self.number
+        let Predicate { number } = self;
+        number
     }
 }
 
@@ -111,7 +115,8 @@ impl Clause {
     pub fn number(self) -> u32
         ensures { result ≡ self.number }
     {
-        self.number
+        let Clause { number } = self;
+        number
     }
 }
 
@@ -134,7 +139,8 @@ impl PolyExistentialPredicate {
     pub fn number(self) -> u32
         ensures { result ≡ self.number }
     {
-        self.number
+        let PolyExistentialPredicate { number } = self;
+        number
     }
 }
 
@@ -158,7 +164,8 @@ impl Clauses {
     pub fn number(self) -> u32
         ensures { result ≡ self.number }
     {
-        self.number
+        let Clauses { number } = self;
+        number
     }
 }
 
@@ -182,7 +189,8 @@ impl GenericArgs {
     pub fn number(self) -> u32
         ensures { result ≡ self.number }
     {
-        self.number
+        let GenericArgs { number } = self;
+        number
     }
 }
 
@@ -206,7 +214,8 @@ impl Tys {
     pub fn number(self) -> u32
         ensures { result ≡ self.number }
     {
-        self.number
+        let Tys { number } = self;
+        number
     }
 }
 
@@ -230,7 +239,8 @@ impl Consts {
     pub fn number(self) -> u32
         ensures { result ≡ self.number }
     {
-        self.number
+        let Consts { number } = self;
+        number
     }
 }
 
@@ -254,7 +264,8 @@ impl PatList {
     pub fn number(self) -> u32
         ensures { result ≡ self.number }
     {
-        self.number
+        let PatList { number } = self;
+        number
     }
 }
 
@@ -278,7 +289,8 @@ impl BoundVarKinds {
     pub fn number(self) -> u32
         ensures { result ≡ self.number }
     {
-        self.number
+        let BoundVarKinds { number } = self;
+        number
     }
 }
 
@@ -302,7 +314,8 @@ impl BoundExistentialPredicates {
     pub fn number(self) -> u32
         ensures { result ≡ self.number }
     {
-        self.number
+        let BoundExistentialPredicates { number } = self;
+        number
     }
 }
 
@@ -326,7 +339,8 @@ impl RegionAssumptions {
     pub fn number(self) -> u32
         ensures { result ≡ self.number }
     {
-        self.number
+        let RegionAssumptions { number } = self;
+        number
     }
 }
 
@@ -350,6 +364,7 @@ impl Symbol {
     pub fn number(self) -> u32
         ensures { result ≡ self.number }
     {
-        self.number
+        let Symbol { number } = self;
+        number
     }
 }

@@ -22,7 +22,8 @@ impl DefId {
     pub fn number(self) -> u32
         ensures { result ≡ self.number }
     {
-        self.number
+        let DefId { number } = self;
+        number
     }
 }
 
@@ -44,7 +45,8 @@ impl AdtId {
     pub fn number(self) -> u32
         ensures { result ≡ self.number }
     {
-        self.number
+        let AdtId { number } = self;
+        number
     }
 }
 
@@ -74,7 +76,8 @@ impl ForeignId {
     pub fn number(self) -> u32
         ensures { result ≡ self.number }
     {
-        self.number
+        let ForeignId { number } = self;
+        number
     }
 }
 
@@ -104,7 +107,8 @@ impl FunctionId {
     pub fn number(self) -> u32
         ensures { result ≡ self.number }
     {
-        self.number
+        let FunctionId { number } = self;
+        number
     }
 }
 
@@ -134,7 +138,8 @@ impl ClosureId {
     pub fn number(self) -> u32
         ensures { result ≡ self.number }
     {
-        self.number
+        let ClosureId { number } = self;
+        number
     }
 }
 
@@ -164,7 +169,8 @@ impl CoroutineClosureId {
     pub fn number(self) -> u32
         ensures { result ≡ self.number }
     {
-        self.number
+        let CoroutineClosureId { number } = self;
+        number
     }
 }
 
@@ -194,7 +200,8 @@ impl CoroutineId {
     pub fn number(self) -> u32
         ensures { result ≡ self.number }
     {
-        self.number
+        let CoroutineId { number } = self;
+        number
     }
 }
 
@@ -224,7 +231,8 @@ impl TraitId {
     pub fn number(self) -> u32
         ensures { result ≡ self.number }
     {
-        self.number
+        let TraitId { number } = self;
+        number
     }
 }
 
@@ -254,7 +262,8 @@ impl ImplId {
     pub fn number(self) -> u32
         ensures { result ≡ self.number }
     {
-        self.number
+        let ImplId { number } = self;
+        number
     }
 }
 
@@ -284,7 +293,8 @@ impl UnevaluatedConstId {
     pub fn number(self) -> u32
         ensures { result ≡ self.number }
     {
-        self.number
+        let UnevaluatedConstId { number } = self;
+        number
     }
 }
 
@@ -314,7 +324,8 @@ impl TraitAssocTyId {
     pub fn number(self) -> u32
         ensures { result ≡ self.number }
     {
-        self.number
+        let TraitAssocTyId { number } = self;
+        number
     }
 }
 
@@ -344,7 +355,8 @@ impl InherentAssocTyId {
     pub fn number(self) -> u32
         ensures { result ≡ self.number }
     {
-        self.number
+        let InherentAssocTyId { number } = self;
+        number
     }
 }
 
@@ -374,7 +386,8 @@ impl OpaqueTyId {
     pub fn number(self) -> u32
         ensures { result ≡ self.number }
     {
-        self.number
+        let OpaqueTyId { number } = self;
+        number
     }
 }
 
@@ -386,7 +399,7 @@ impl From<OpaqueTyId> for DefId {
     }
 }
 
-/// A type alias that stands for itself.
+/// A type alias whose bounds are checked, and which can always be normalized away.
 #[derive(Clone, Copy, Debug, PartialEq, Eq, Hash)]
 pub struct FreeTyAliasId {
     number: u32,
@@ -404,7 +417,8 @@ impl FreeTyAliasId {
     pub fn number(self) -> u32
         ensures { result ≡ self.number }
     {
-        self.number
+        let FreeTyAliasId { number } = self;
+        number
     }
 }
 

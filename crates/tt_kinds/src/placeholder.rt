@@ -56,7 +56,8 @@ impl Placeholder<BoundRegion> {
     pub fn var(self) -> BoundVar
         ensures { result ≡ self.bound.var }
     {
-        self.bound.var
+        let BoundRegion { var, kind: _ } = self.bound;
+        var
     }
 
     /// The placeholder of this universe for the region at this place, which has no name.
@@ -78,7 +79,8 @@ impl Placeholder<BoundTy> {
     pub fn var(self) -> BoundVar
         ensures { result ≡ self.bound.var }
     {
-        self.bound.var
+        let BoundTy { var, kind: _ } = self.bound;
+        var
     }
 
     /// The placeholder of this universe for the type at this place, which has no name.
@@ -100,7 +102,8 @@ impl Placeholder<BoundConst> {
     pub fn var(self) -> BoundVar
         ensures { result ≡ self.bound.var }
     {
-        self.bound.var
+        let BoundConst { var } = self.bound;
+        var
     }
 
     /// The placeholder of this universe for the constant at this place, which has no name.

@@ -201,7 +201,7 @@ impl IntVarValue {
     pub fn is_unknown(self) -> bool
         ensures { IsTrue result ↔ (self ≡ int.Unknown) }
     {
-        !self.is_known()
+        matches!(self, IntVarValue::Unknown)
     }
 }
 
@@ -229,6 +229,6 @@ impl FloatVarValue {
     pub fn is_unknown(self) -> bool
         ensures { IsTrue result ↔ (self ≡ float.Unknown) }
     {
-        !self.is_known()
+        matches!(self, FloatVarValue::Unknown)
     }
 }

@@ -43,7 +43,7 @@ mutual
       let first : outer_binder t ≤ greatest = range-outer t h.0 in let rest : outer_binder_all ts ≤ greatest = range_all-outer ts h.1 in omega arith
 
 -- neither a list nor a record is a region or a term with a hook
-no-leaf : (l : Label Name) → (node_root l ≡ a_region) ⊎ (node_root l ≡ hooked) → ⊥
+pub no-leaf : (l : Label Name) → (node_root l ≡ a_region) ⊎ (node_root l ≡ hooked) → ⊥
 no-leaf (type_label x) (inl e) = let never = e in cc
 no-leaf (type_label x) (inr e) = let never = e in cc
 no-leaf (const_label x) (inl e) = let never = e in cc
@@ -70,7 +70,7 @@ no-leaf (error_label x) (inl e) = let never = e in cc
 no-leaf (error_label x) (inr e) = let never = e in cc
 
 -- no term is a region
-term-no-region : (l : Label Name) → term_root l ≡ a_region → ⊥
+pub term-no-region : (l : Label Name) → term_root l ≡ a_region → ⊥
 term-no-region (type_label x) e = let never = e in cc
 term-no-region (const_label x) e = let never = e in cc
 term-no-region (pattern_label x) e = let never = e in cc

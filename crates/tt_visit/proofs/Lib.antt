@@ -6,3 +6,4 @@ pub mod Found
 pub mod HasTypeFlagsLaws
 pub mod HasEscapingVarsLaws
 pub mod HasErrorLaws
+pub mod MeetsRegionsLaws

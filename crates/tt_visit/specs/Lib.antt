@@ -4,3 +4,4 @@ pub mod Steps
 pub mod HasTypeFlags
 pub mod HasEscapingVars
 pub mod HasError
+pub mod MeetsRegions

@@ -1,7 +1,8 @@
 //! Questions that are asked of every value that a visitor can go over.
 
-ghost use Rattle.std.specs.Prelude.{IfErr, IfOk, IsTrue, None, Some, true, false, ◌+◌, ◌<◌, ◌≡◌, ◌≢◌, ◌≤◌, ◌↔◌, bit_and};
+ghost use Rattle.std.specs.Prelude.{[], IfErr, IfOk, IsTrue, None, Some, true, false, ◌+◌, ◌<◌, ◌≡◌, ◌≢◌, ◌≤◌, ◌↔◌, bit_and};
 ghost use Rattle.tt_index.specs.Greatest.{greatest};
+ghost use Rattle.tt_kinds.specs.Met.{met};
 ghost use Rattle.tt_kinds.specs.Param.{holds_param};
 ghost use Rattle.tt_kinds.specs.Reading.{outer_binder};
 ghost use Rattle.tt_kinds.specs.Scan.{scan};
@@ -14,6 +15,7 @@ ghost use Rattle.tt_visit.specs.HasTypeFlags.{Meets, Misses};
 use crate::has_error::HasErrorVisitor;
 use crate::has_escaping_vars::{HasEscapingVarsVisitor, InRangeVisitor};
 use crate::has_type_flags::HasTypeFlagsVisitor;
+use crate::meets_regions::{MeetsRegionsVisitor, are_regions_in_range};
 use crate::visitable::TypeVisitable;
 use std::ops::ControlFlow;
 use tt_flags::TypeFlags;
@@ -172,7 +174,29 @@ pub trait TypeVisitableExt: TypeVisitable {
         requires { IsPart (size cx.now.rows) (Self.shape self.now) }
         ensures { IsTrue result ↔ Meets 0x20000 (scan (fill (meaning cx.now.rows) (Self.shape self.now))) }
     {
-        self.has_type_flags(cx, TypeFlags::HAS_FREE_REGIONS)
+        self.has_free_regions(cx)
+    }
+
+    /// Returns whether a region stands in the value that the value doesn't bind itself and that is no variable of a
+    /// canonical query: one of those that a fold of regions asks its closure about. Erased regions, `'static` and those
+    /// of an error are among them.
+    ///
+    /// A term is taken apart only where its regions are all bound, and some variable in it is bound outside of the
+    /// value.
+    final fn meets_regions(&self, cx: &Interner) -> bool
+        requires { IsPart (size cx.now.rows) (Self.shape self.now) }
+        ensures { IsTrue result ↔ (met 0 (fill (meaning cx.now.rows) (Self.shape self.now)) ≢ []) }
+    {
+        let mut visitor = MeetsRegionsVisitor::new();
+        match self.visit_with(cx, &mut visitor) {
+            ControlFlow::Break(_) => true,
+            // what was passed over holds bound regions of the value's own alone, since their indices are in range
+            ControlFlow::Continue(_) => {
+                let unbound = TypeFlags::HAS_FREE_REGIONS.union(TypeFlags::HAS_RE_ERASED);
+                visitor.has_skipped()
+                    && (self.has_type_flags(cx, unbound) || !are_regions_in_range(cx, self))
+            }
+        }
     }
 
     /// Whether a bound region stands in the value, bound inside of it or outside.

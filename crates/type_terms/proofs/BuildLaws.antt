@@ -1,5 +1,5 @@
 -- The steps of a building call, over plain variables.
-use Rattle.std.proofs.Common.{◌≡◌, ℕ, List, [], Result, Ok, Err, refl, ap, ◌∙◌, subst, arith, inl, inr}
+use Rattle.std.proofs.Common.{◌≡◌, ℕ, ◌<◌, List, [], ◌∷◌, Result, Ok, Err, refl, ap, sym, ◌∙◌, subst, arith, inl, inr}
 use Rattle.std.specs.Prelude.{IsErrAnd, ◌⊎◌}
 use Rattle.tt_index.specs.declared.refusal.Refusal.{Refusal}
 use Rattle.tt_index.specs.declared.refusal.Refusal.TheVariants.{Memory, TableFull, GreatestIndex, NoArguments, ArgOutOfRange, ArgKind, RegionVariable, NotAClause, NoSuchAnswer}
@@ -11,7 +11,7 @@ use Rattle.tt_kinds.specs.Tree.{Tree, Forest, Depth, node}
 use Rattle.tt_kinds.specs.Bound.{depth, IsBelowGreatest}
 use Rattle.tt_kinds.specs.RegionKind.{IsShallow}
 use Rattle.tt_kinds.specs.Shape as shape
-use Rattle.tt_kinds.specs.Shape.{Shape, Shapes, stored, fill, name_of, IsPart, IsTooDeep, IsGreatest}
+use Rattle.tt_kinds.specs.Shape.{Shape, Shapes, stored, fill, name_of, HasParts, IsPart, IsTooDeep, IsGreatest}
 use Rattle.tt_kinds.specs.Kinds.{text_row_shape, region_shape}
 use Rattle.tt_kinds.specs.declared.bound.BoundVarIndexKind.{BoundVarIndexKind}
 use Rattle.tt_kinds.specs.declared.bound.BoundVarIndexKind.TheVariants as index
@@ -19,20 +19,25 @@ use Rattle.tt_kinds.specs.declared.bound.BoundRegion.{BoundRegion}
 use Rattle.tt_kinds.specs.declared.region_kind.RegionKind.TheVariants.{ReBound}
 use Rattle.tt_kinds.specs.declared.region_kind.RegionKind.{RegionKind}
 use Rattle.tt_kinds.specs.declared.table.Table.{Table}
-use Rattle.tt_kinds.specs.declared.table.Table.TheVariants.{Symbols}
-use Rattle.tt_interner.specs.Rows.{Row, row_table, row_shape, size, meaning}
+use Rattle.tt_kinds.specs.declared.table.Table.TheVariants.{Types, Consts, Patterns, Predicates, ClauseLists, ArgLists, Symbols, Declarations}
+use Rattle.tt_interner.specs.Rows.{Row, row_table, row_shape, size, meaning, IsNew, AreRows}
+use Rattle.tt_interner.proofs.Growth.{size-grows}
+use Rattle.tt_interner.proofs.Trees.{row_within, Means-row, IsNew-row, distinct}
+use Rattle.tt_interner.proofs.Fill.{fill-one_row}
+use Rattle.tt_interner.proofs.ShapeLaws.{shape_one}
 use Rattle.tt_interner.specs.Stored.{Terms, Extends, Builds, IsCause}
 use Rattle.type_terms.specs.declared.run.answer.Answer.{Answer}
+use Rattle.type_terms.specs.declared.run.answer.Answer.TheVariants as answer
 use Rattle.type_terms.specs.declared.run.call.RegionNameCall.{RegionNameCall}
 use Rattle.type_terms.specs.declared.run.call.Call.{Call}
 use Rattle.type_terms.specs.CallForm as call_forms
 use Rattle.type_terms.specs.CallForm.{CallForm, Named, Item, a_list, items_positions, AreItemsTooDeep, form_positions}
-use Rattle.type_terms.specs.Told.{Told, term, told, HasFullTable}
+use Rattle.type_terms.specs.Told.{Told, term, refused, told, told_all, AreOwned, HasFullTable, IsStored, Setting, setting}
 use Rattle.type_terms.specs.Means as means
-use Rattle.type_terms.specs.Means.{number_at, tree_at, AreTerms, NamesTerms, BuildsOrFolds, IsAllowed, MayRefuse, want_of_memory, full_table, no_term, too_deep}
+use Rattle.type_terms.specs.Means.{number_at, tree_at, AreTerms, NamesTerms, BuildsOrFolds, IsTold, IsThere, AddsNothing, IsAllowed, MayRefuse, want_of_memory, full_table, no_term, too_deep}
 use Rattle.type_terms.specs.Build as build
 use Rattle.type_terms.specs.Build.{IsUnbuilt, no_memory, no_row, no_index, IsNameOf, IsRegionOf, GivesRegion, ArePlaced, AreItemsOf, GivesPart, GivesPlaced, IsKindOf, Answers}
-use Rattle.type_terms.proofs.RunLaws.{HasFullTable-extends}
+use Rattle.type_terms.proofs.RunLaws.{HasFullTable-extends, IsStored-grows, IsAllowed-wider}
 
 -- why a row was not stored is such a reason
 pub unstored : (old new : Terms) → Extends old new → (row : Row) (e : List Told) (ps : List Named) (deep : Type 0) → (IsTooDeep (row_shape row) → deep)
@@ -112,30 +117,85 @@ term-placed number old new e form row (Err r) h b = record {
   err = unstored old new (Builds-extends (Err r) number old new row b) row e (form_positions form) (call_forms.IsFormTooDeep form) h.deep.0 r b.cause;
 }
 
+-- the term at the number has the tree
+stored-as : (rows : List Row) (table t : Table) (n : ℕ) (u : Tree Depth) → n < size rows table → (table ≡ t) × (meaning rows table n ≡ u) → IsStored rows t u
+stored-as rows table t n u within h = subst (λ (x : Table). IsStored rows x u) h.0 (record { number = n; within = within; means = h.1 })
+
 -- a reason why a part was not built is one why the call is refused
-pub unbuilt-refused : (P : Type 0) (e : List Told) (c : Call) (ns : List Named) (deep : Type 0) (r : Refusal)
-    → BuildsOrFolds c → (NamesTerms e c → AreTerms e ns) → (deep → means.IsTooDeep e c)
-    → IsUnbuilt P e ns deep r → MayRefuse P e c r
-unbuilt-refused P e c ns deep r b n d (build.no_memory i) = want_of_memory b i
-unbuilt-refused P e c ns deep r b n d (build.no_row p i) = full_table b p i
-unbuilt-refused P e c ns deep r b n d (build.no_term h i) = no_term (λ a. h (n a)) i
-unbuilt-refused P e c ns deep r b n d (build.no_index h i) = too_deep (d h) i
+pub unbuilt-refused : (s : Setting) (e : List Told) (c : Call) (ns : List Named) (deep : Type 0) (r : Refusal)
+    → BuildsOrFolds c → (AddsNothing s e c → r ≡ NoSuchAnswer) → (NamesTerms e c → AreTerms e ns) → (deep → means.IsTooDeep e c)
+    → IsUnbuilt s.full e ns deep r → MayRefuse s e c r
+unbuilt-refused s e c ns deep r b g n d (build.no_memory i) = want_of_memory (b, λ a. let no = g a in absurd (cc)) i
+unbuilt-refused s e c ns deep r b g n d (build.no_row p i) = full_table (b, λ a. let no = g a in absurd (cc)) p i
+unbuilt-refused s e c ns deep r b g n d (build.no_term h i) = no_term (λ a. h (n a)) i
+unbuilt-refused s e c ns deep r b g n d (build.no_index h i) = too_deep (d h) i
+
+-- a term that was told is stored
+told-stored : (rows : List Row) (answers : List Answer) (t : Table) (u : Tree Depth) → AreOwned rows answers → IsTold (told_all rows answers) t u → IsStored rows t u
+told-stored rows [] t u o h = absurd h
+told-stored rows (answer.Ty x ∷ answers) t u o h = elim h [ inl k ↦ stored-as rows Types t x.number u o.0 k | inr k ↦ told-stored rows answers t u o.1 k ]
+told-stored rows (answer.Const x ∷ answers) t u o h = elim h [ inl k ↦ stored-as rows Consts t x.number u o.0 k | inr k ↦ told-stored rows answers t u o.1 k ]
+told-stored rows (answer.Pat x ∷ answers) t u o h = elim h [ inl k ↦ stored-as rows Patterns t x.number u o.0 k | inr k ↦ told-stored rows answers t u o.1 k ]
+told-stored rows (answer.Predicate x ∷ answers) t u o h = elim h [ inl k ↦ stored-as rows Predicates t x.number u o.0 k | inr k ↦ told-stored rows answers t u o.1 k ]
+told-stored rows (answer.Clauses x ∷ answers) t u o h = elim h [ inl k ↦ stored-as rows ClauseLists t x.number u o.0 k | inr k ↦ told-stored rows answers t u o.1 k ]
+told-stored rows (answer.Args x ∷ answers) t u o h = elim h [ inl k ↦ stored-as rows ArgLists t x.number u o.0 k | inr k ↦ told-stored rows answers t u o.1 k ]
+told-stored rows (answer.Id x d ∷ answers) t u o h = told-stored rows answers t u o.1 h
+told-stored rows (answer.Truth x ∷ answers) t u o h = told-stored rows answers t u o.1 h
+told-stored rows (answer.Info x y ∷ answers) t u o h = told-stored rows answers t u o.1 h
+told-stored rows (answer.Refused x ∷ answers) t u o h = told-stored rows answers t u o.1 h
+told-stored rows (answer.Bad ∷ answers) t u o h = told-stored rows answers t u o.1 h
+
+-- what is there is stored
+there-stored : (start old new : Terms) → Extends start old → (answers : List Answer) → AreOwned start.rows answers → (t : Table) (f : CallForm)
+    → IsThere (setting start new) (told_all start.rows answers) t f
+    → IsStored old.rows t (call_forms.form_tree (number_at (told_all start.rows answers)) (tree_at (told_all start.rows answers)) f)
+there-stored start old new x answers o t f h = IsStored-grows start.rows old.rows x.rows t _ (elim h.1 [ inl k ↦ k | inr k ↦ told-stored start.rows answers t _ o k ])
+
+-- a new row's term isn't stored
+new-not-stored : (rows : List Row) → AreRows rows → (r : Row) → HasParts (size rows) (row_shape r) → IsNew r rows → IsStored rows (row_table r) (fill (meaning rows) (row_shape r)) → ⊥
+new-not-stored rows are r parts new s =
+    let at = row_within rows (row_table r) s.number s.within in
+    let means = Means-row rows are (row_table r) s.number at.0 at.1 in
+    let same = fill-one_row (size rows) (meaning rows) (distinct rows are) (row_shape at.0) (row_shape r) means.parts parts (sym means.tree ∙ s.means) in
+    IsNew-row r rows new (row_table r) s.number at.0 at.1 (shape_one at.0 r same)
 
 -- the term of the kind that the call names is its answer
-module _ (old new : Terms) (e : List Told) (c : Call) (form : CallForm) (row : Row) (h : IsKindOf old e form (row_shape row)) where
+module _ (start old new : Terms) (e : List Told) (c : Call) (form : CallForm) (row : Row) (h : IsKindOf old e form (row_shape row)) where
   pub kind-allowed : {H : Type 0} (number : H → ℕ) (x : H) (a : Answer) → Builds (Ok x) number old new row
       → told new.rows a ≡ term (row_table row) (meaning new.rows (row_table row) (number x))
-      → (AreTerms e (form_positions form) → (call_forms.IsFormTooDeep form → ⊥) → IsAllowed (HasFullTable new) e c (term (row_table row) (call_forms.form_tree (number_at e) (tree_at e) form)))
-      → IsAllowed (HasFullTable new) e c (told new.rows a)
+      → (AreTerms e (form_positions form) → (call_forms.IsFormTooDeep form → ⊥) → IsAllowed (setting start new) e c (term (row_table row) (call_forms.form_tree (number_at e) (tree_at e) form)))
+      → IsAllowed (setting start new) e c (told new.rows a)
   kind-allowed number x a b t allowed =
       rw (t, b.means, h.means) (allowed h.named (λ d. let y = b.deep (h.deep.1 d) in absurd (cc)))
 
   pub kind-refused : {H : Type 0} (number : H → ℕ) (r : Refusal) → Builds {H = H} (Err r) number old new row
-      → BuildsOrFolds c → (NamesTerms e c → AreTerms e (form_positions form)) → (call_forms.IsFormTooDeep form → means.IsTooDeep e c)
-      → MayRefuse (HasFullTable new) e c r
-  kind-refused number r b builds n d =
-      unbuilt-refused (HasFullTable new) e c (form_positions form) (call_forms.IsFormTooDeep form) r builds n d
+      → BuildsOrFolds c → (AddsNothing (setting start new) e c → ⊥)
+      → (NamesTerms e c → AreTerms e (form_positions form)) → (call_forms.IsFormTooDeep form → means.IsTooDeep e c)
+      → MayRefuse (setting start new) e c r
+  kind-refused number r b builds g n d =
+      unbuilt-refused (setting start new) e c (form_positions form) (call_forms.IsFormTooDeep form) r builds (λ a. absurd (g a)) n d
       (unstored old new (Builds-extends (Err r) number old new row b) row e (form_positions form) (call_forms.IsFormTooDeep form) h.deep.0 r b.cause)
+
+-- what is there isn't refused
+pub there-built : {H : Type 0} (number : H → ℕ) (start old new : Terms) (answers : List Answer) (form : CallForm) (row : Row) (r : Refusal)
+    → IsKindOf old (told_all start.rows answers) form (row_shape row) → Builds {H = H} (Err r) number old new row → AreRows old.rows → Extends start old → AreOwned start.rows answers
+    → IsThere (setting start new) (told_all start.rows answers) (row_table row) form → ⊥
+there-built number start old new answers form row r h b are x o there =
+    let s = there-stored start old new x answers o (row_table row) form there in
+    new-not-stored old.rows are row h.parts b.absent (subst (λ (t : Tree Depth). IsStored old.rows (row_table row) t) (sym h.means) s)
+
+-- what an answer is from later terms it is from earlier ones
+pub Answers-earlier : (start old new : Terms) (e : List Told) (c : Call) (result : Result Answer Refusal) → Extends start old → Answers old new e c result → Answers start new e c result
+Answers-earlier start old new e c (Ok a) x h = record {
+  owned = h.owned;
+  ok = IsAllowed-wider (setting old new) (setting start new) (λ f. f) (size-grows start.rows old.rows x.rows Declarations) (IsStored-grows start.rows old.rows x.rows) e c (told new.rows a) h.ok;
+  err = tt;
+}
+Answers-earlier start old new e c (Err r) x h = record {
+  owned = tt;
+  ok = tt;
+  err = IsAllowed-wider (setting old new) (setting start new) (λ f. f) (size-grows start.rows old.rows x.rows Declarations) (IsStored-grows start.rows old.rows x.rows) e c (refused r) h.err;
+}
 
 -- what a question mark passes on
 pub region-passed : (terms : Terms) (t : Tree Depth) (deep : Type 0) (result : Result RegionKind Refusal) (r : Refusal) → IsErrAnd result (λ x. x ≡ r)
@@ -143,13 +203,13 @@ pub region-passed : (terms : Terms) (t : Tree Depth) (deep : Type 0) (result : R
 region-passed terms t deep (Ok k) r h u = absurd h
 region-passed terms t deep (Err x) r h u = record { ok = tt; err = rw h u }
 
-pub answer-passed : (terms : Terms) (e : List Told) (c : Call) (result : Result Answer Refusal) (r : Refusal) → IsErrAnd result (λ x. x ≡ r)
-    → MayRefuse (HasFullTable terms) e c r → Answers terms e c result
-answer-passed terms e c (Ok k) r h u = absurd h
-answer-passed terms e c (Err x) r h u = record { owned = tt; ok = tt; err = rw h u }
+pub answer-passed : (start terms : Terms) (e : List Told) (c : Call) (result : Result Answer Refusal) (r : Refusal) → IsErrAnd result (λ x. x ≡ r)
+    → MayRefuse (setting start terms) e c r → Answers start terms e c result
+answer-passed start terms e c (Ok k) r h u = absurd h
+answer-passed start terms e c (Err x) r h u = record { owned = tt; ok = tt; err = rw h u }
 
 -- a region's index is below the greatest, or it isn't
-IsBelowGreatest-or-not : (i : BoundVarIndexKind) → IsBelowGreatest (depth i) ⊎ IsGreatest (depth i)
+pub IsBelowGreatest-or-not : (i : BoundVarIndexKind) → IsBelowGreatest (depth i) ⊎ IsGreatest (depth i)
 IsBelowGreatest-or-not (index.Bound d) = cases_lt d greatest
 IsBelowGreatest-or-not index.Canonical = inl tt
 
@@ -160,7 +220,7 @@ pub region-shallow : (terms : Terms) (k : RegionKind) (t : Tree Depth) (deep : T
 region-shallow terms k t deep result ok s n p m =
     rw (ok s) (record { ok = record { part = p; means = m; shallow = n }; err = tt })
 
-not_both : (i : BoundVarIndexKind) → IsBelowGreatest (depth i) → IsGreatest (depth i) → ⊥
+pub not_both : (i : BoundVarIndexKind) → IsBelowGreatest (depth i) → IsGreatest (depth i) → ⊥
 not_both (index.Bound d) s g = omega arith
 not_both index.Canonical s g = g
 

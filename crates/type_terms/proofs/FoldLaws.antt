@@ -1,6 +1,6 @@
 -- The calls that fold terms, and the arguments of calls, over plain variables.
-use Rattle.std.proofs.Common.{◌≡◌, ℕ, List, [], ◌∷◌, ◌++◌, Some, None, Option, Result, Ok, Err, refl, ap, sym, ◌∙◌, subst}
-use Rattle.std.specs.Prelude.{IsErrAnd, IsSomeAnd}
+use Rattle.std.proofs.Common.{◌≡◌, ℕ, false, inl, List, [], ◌∷◌, ◌++◌, Some, None, Option, Result, Ok, Err, refl, ap, sym, ◌∙◌, subst}
+use Rattle.std.specs.Prelude.{IsErrAnd, IsSomeAnd, ◌⊎◌}
 use Rattle.std.specs.declared.alloc.Global.{Global}
 use Rattle.std.specs.declared.vec.Vec.{Vec}
 use Rattle.std.proofs.lemmas.List.{map-append}
@@ -9,7 +9,8 @@ use Rattle.tt_index.specs.declared.refusal.Refusal.TheVariants.{Memory, TableFul
 use Rattle.tt_kinds.specs.Label.{region_sort, type_sort, const_sort}
 use Rattle.tt_kinds.specs.Tree.{Tree, Depth, Place}
 use Rattle.tt_kinds.specs.Argument.{Argument, put, readings}
-use Rattle.tt_kinds.specs.Reading.{read, move}
+use Rattle.tt_kinds.specs.Param.{holds_param}
+use Rattle.tt_kinds.specs.Reading.{read, move, outer_binder}
 use Rattle.tt_fold.specs.Shift.{IsShiftRefusal}
 use Rattle.tt_kinds.specs.Shape.{stored}
 use Rattle.tt_kinds.specs.Kinds.{arg_shape}
@@ -21,10 +22,11 @@ use Rattle.tt_kinds.specs.declared.generic_arg.GenericArgKind.TheVariants as kin
 use Rattle.tt_kinds.specs.declared.table.Table.{Table}
 use Rattle.tt_kinds.specs.declared.table.Table.TheVariants.{Types, Consts}
 use Rattle.tt_interner.specs.Rows.{Row, row_table}
+use Rattle.tt_interner.specs.Stored as Stored
 use Rattle.tt_interner.specs.Stored.{Terms, Extends}
 use Rattle.tt_binder.specs.Arguments.{argument_of}
 use Rattle.tt_binder.specs.ArgumentLaws.{arguments-still}
-use Rattle.tt_binder.specs.Instance.{HasNoCause, IsPlain, IsReason}
+use Rattle.tt_binder.specs.Instance.{HasNoCause, IsPlain, IsReason, ComesBack}
 use Rattle.type_terms.specs.declared.run.answer.Answer.{Answer}
 use Rattle.type_terms.specs.declared.run.call.RegionCall.{RegionCall}
 use Rattle.type_terms.specs.declared.run.call.ArgCall.{ArgCall}
@@ -32,7 +34,7 @@ use Rattle.type_terms.specs.declared.run.call.ArgCall.TheVariants as arg
 use Rattle.type_terms.specs.declared.run.call.Call.{Call}
 use Rattle.type_terms.specs.declared.run.call.Call.TheVariants as call
 use Rattle.type_terms.specs.CallForm.{Named, one, a_term, region_tree, IsRegionTooDeep, item_positions, items_positions, IsItemTooDeep, AreItemsTooDeep, arg_item, arg_items, args_ids}
-use Rattle.type_terms.specs.Told.{Told, term, told_all, HasFullTable}
+use Rattle.type_terms.specs.Told.{Told, term, told_all, HasFullTable, Setting, setting}
 use Rattle.type_terms.specs.Means.{Term, term_at, number_at, tree_at, positions, AreTerms, Suits, Tells, argument, arguments, IsAllowed, MayRefuse, want_of_memory, full_table, no_term, unfit, unsuited}
 use Rattle.type_terms.specs.Build.{IsUnbuilt, IsPartOf, IsRegionOf, IsArgumentOf, GivesArgument, AreArgumentsOf, GivesArguments}
 use Rattle.type_terms.proofs.PartLaws.{AreTerms-append, all_placed-grow, items-none, items-more}
@@ -82,13 +84,17 @@ arguments-more old new e cs xs c a x h k = record {
 }
 
 -- a position without a term
-pub absent-refused : (P : Type 0) (rows : List Row) (earlier : List Answer) (n : Named) (ns : List Named) (c : Call) → positions (told_all rows earlier) c ≡ n ∷ ns
+pub absent-refused : (P : Setting) (rows : List Row) (earlier : List Answer) (n : Named) (ns : List Named) (c : Call) → positions (told_all rows earlier) c ≡ n ∷ ns
     → (Tells (told_all rows earlier) n.want n.position → IsSomeAnd (term_at (told_all rows earlier) n.position) (Suits (told_all rows earlier) n.want))
     → (r : Refusal) → r ≡ NoSuchAnswer
     → ((rows : List Row) → term_at (told_all rows earlier) n.position ≡ None) → MayRefuse P (told_all rows earlier) c r
 absent-refused P rows earlier n ns c q w r i h =
     no_term (λ a. let b = subst (λ (qs : List Named). AreTerms (told_all rows earlier) qs) q a in
     subst (λ (o : Option Term). IsSomeAnd o (Suits (told_all rows earlier) n.want)) (h rows) (w b.0)) i
+
+-- the refusal for a full table names one
+pub full-table : (terms : Terms) (u : Tree Depth) → Stored.IsUnbuilt terms u TableFull → HasFullTable terms
+full-table terms u h = record { table = row_table h.row; full = h.full }
 
 module _ (e : List Told) (p : ℕ) (table : Table) (u : Tree Depth) (at : term_at e p ≡ Some (record { table = table; tree = u })) where
   is_term : IsSomeAnd (term_at e p) (λ t. Unit {0})
@@ -97,22 +103,26 @@ module _ (e : List Told) (p : ℕ) (table : Table) (u : Tree Depth) (at : term_a
   tree-is : tree_at e p ≡ u
   tree-is = rw at refl
 
-  -- why a shift is refused
-  shift-reason : (new : Terms) (n : ℕ) (r : Refusal) → IsShiftRefusal new n (tree_at e p) r → MayRefuse (HasFullTable new) e (call.Shift p n) r
-  shift-reason new n Memory h = want_of_memory tt refl
-  shift-reason new n TableFull h = full_table tt (record { table = row_table h.2.0; full = h.2.3 }) refl
-  shift-reason new n GreatestIndex h = unfit (is_term, tt) h refl
-  shift-reason new n NoArguments h = absurd h
-  shift-reason new n (ArgOutOfRange i) h = absurd h
-  shift-reason new n (ArgKind i) h = absurd h
-  shift-reason new n (RegionVariable v) h = absurd h
-  shift-reason new n NotAClause h = absurd h
-  shift-reason new n NoSuchAnswer h = absurd h
+  -- why a shift that builds is refused
+  shift-reason : (old new : Terms) (n : ℕ) (r : Refusal) → ((n ≡ 0) ⊎ (outer_binder (tree_at e p) ≡ 0) → ⊥) → IsShiftRefusal new n (tree_at e p) r
+      → MayRefuse (setting old new) e (call.Shift p n) r
+  shift-reason old new n Memory g h = want_of_memory (tt, g) refl
+  shift-reason old new n TableFull g h = full_table (tt, g) (full-table new h.0 h.2) refl
+  shift-reason old new n GreatestIndex g h = unfit (is_term, tt) h refl
+  shift-reason old new n NoArguments g h = absurd h
+  shift-reason old new n (ArgOutOfRange i) g h = absurd h
+  shift-reason old new n (ArgKind i) g h = absurd h
+  shift-reason old new n (RegionVariable v) g h = absurd h
+  shift-reason old new n NotAClause g h = absurd h
+  shift-reason old new n NoSuchAnswer g h = absurd h
 
-  pub shift-refused : (new : Terms) (n : ℕ) (r : Refusal) → IsShiftRefusal new n u r → MayRefuse (HasFullTable new) e (call.Shift p n) r
-  shift-refused new n r h = shift-reason new n r (subst (λ (t : Tree Depth). IsShiftRefusal new n t r) (sym tree-is) h)
+  pub shift-refused : (old new : Terms) (n : ℕ) (r : Refusal) → ((n ≡ 0) ⊎ (outer_binder u ≡ 0) → ⊥) → IsShiftRefusal new n u r
+      → MayRefuse (setting old new) e (call.Shift p n) r
+  shift-refused old new n r g h =
+      shift-reason old new n r (subst (λ (t : Tree Depth). (n ≡ 0) ⊎ (outer_binder t ≡ 0) → ⊥) (sym tree-is) g)
+      (subst (λ (t : Tree Depth). IsShiftRefusal new n t r) (sym tree-is) h)
 
-  pub shift-allowed : (P : Type 0) (n : ℕ) (v : Tree Depth) → read 0 v ≡ move n (read 0 u) → IsAllowed P e (call.Shift p n) (term table v)
+  pub shift-allowed : (P : Setting) (n : ℕ) (v : Tree Depth) → read 0 v ≡ move n (read 0 u) → IsAllowed P e (call.Shift p n) (term table v)
   shift-allowed P n v m = (
     (is_term, tt),
     (λ d. d),
@@ -125,25 +135,27 @@ module _ (e : List Told) (p : ℕ) (table : Table) (u : Tree Depth) (at : term_a
     named : AreTerms e (args_ids list.items ++ items_positions (arg_items list.items))
     named = AreTerms-append e (args_ids list.items) (items_positions (arg_items list.items)) ids items
 
-    -- why an instantiation is refused
-    inst-reason : (new : Terms) (r : Refusal) → IsReason new (arguments e list.items) (tree_at e p) r → MayRefuse (HasFullTable new) e (call.Instantiate p list) r
-    inst-reason new Memory h = want_of_memory tt refl
-    inst-reason new TableFull h = full_table tt (record { table = row_table h.2.0; full = h.2.3 }) refl
-    inst-reason new GreatestIndex h = unfit (is_term, named) h refl
-    inst-reason new NoArguments h = unsuited (is_term, named) h
-    inst-reason new (ArgOutOfRange i) h = unsuited (is_term, named) h
-    inst-reason new (ArgKind i) h = unsuited (is_term, named) h
-    inst-reason new (RegionVariable v) h = unsuited (is_term, named) h
-    inst-reason new NotAClause h = unsuited (is_term, named) h
-    inst-reason new NoSuchAnswer h = unsuited (is_term, named) h
+    -- why an instantiation that builds is refused
+    inst-reason : (old new : Terms) (r : Refusal) → ((list.items ≡ []) × (holds_param (tree_at e p) ≡ false) → ⊥)
+        → IsReason new (arguments e list.items) (tree_at e p) r → MayRefuse (setting old new) e (call.Instantiate p list) r
+    inst-reason old new Memory g h = want_of_memory (tt, g) refl
+    inst-reason old new TableFull g h = full_table (tt, g) (full-table new h.0 h.2) refl
+    inst-reason old new GreatestIndex g h = unfit (is_term, named) h refl
+    inst-reason old new NoArguments g h = unsuited (is_term, named) h
+    inst-reason old new (ArgOutOfRange i) g h = unsuited (is_term, named) h
+    inst-reason old new (ArgKind i) g h = unsuited (is_term, named) h
+    inst-reason old new (RegionVariable v) g h = unsuited (is_term, named) h
+    inst-reason old new NotAClause g h = unsuited (is_term, named) h
+    inst-reason old new NoSuchAnswer g h = unsuited (is_term, named) h
 
-    pub inst-refused : (new : Terms) (args : List (Argument Depth)) (r : Refusal) → args ≡ arguments e list.items → IsReason new args u r
-        → MayRefuse (HasFullTable new) e (call.Instantiate p list) r
-    inst-refused new args r same h =
-        inst-reason new r (subst (λ (t : Tree Depth). IsReason new (arguments e list.items) t r) (sym tree-is)
+    pub inst-refused : (old new : Terms) (args : List (Argument Depth)) (r : Refusal) → args ≡ arguments e list.items → (ComesBack args u → ⊥)
+        → IsReason new args u r → MayRefuse (setting old new) e (call.Instantiate p list) r
+    inst-refused old new args r same g h =
+        inst-reason old new r (λ a. g (record { no_param = ap holds_param (sym tree-is) ∙ a.1; hides = inl (same ∙ ap (λ (cs : List ArgCall). arguments e cs) a.0) }))
+        (subst (λ (t : Tree Depth). IsReason new (arguments e list.items) t r) (sym tree-is)
         (subst (λ (ys : List (Argument Depth)). IsReason new ys u r) same h))
 
-    pub inst-allowed : (P : Type 0) (args : List (Argument Depth)) (v : Tree Depth) → args ≡ arguments e list.items → (AreItemsTooDeep (arg_items list.items) → ⊥)
+    pub inst-allowed : (P : Setting) (args : List (Argument Depth)) (v : Tree Depth) → args ≡ arguments e list.items → (AreItemsTooDeep (arg_items list.items) → ⊥)
         → IsPlain args u v → HasNoCause args u → IsAllowed P e (call.Instantiate p list) (term table v)
     inst-allowed P args v same shallow plain none = (
       (is_term, named),

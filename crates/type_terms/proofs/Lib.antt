@@ -9,6 +9,7 @@ pub mod BuildLaws
 pub mod NameLaws
 pub mod KindLaws
 pub mod FoldLaws
+pub mod EraseLaws
 pub mod QueryLaws
 pub mod DeclareLaws
 pub mod IterLaws

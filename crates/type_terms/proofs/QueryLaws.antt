@@ -20,7 +20,7 @@ use Rattle.type_terms.specs.declared.run.answer.Answer.TheVariants as answer
 use Rattle.type_terms.specs.declared.run.call.Call.{Call}
 use Rattle.type_terms.specs.declared.run.call.Call.TheVariants as call
 use Rattle.type_terms.specs.CallForm.{as_at}
-use Rattle.type_terms.specs.Told.{told, told_all, truth, term, handle_table, handle_number, IsOwned, AreOwned, HasFullTable}
+use Rattle.type_terms.specs.Told.{told, told_all, truth, term, handle_table, handle_number, IsOwned, AreOwned, Setting, setting}
 use Rattle.type_terms.specs.Means.{Term, as_term, term_at, tree_of, table_of, table_at, Suits, IsAllowed, MayRefuse, no_term}
 use Rattle.type_terms.specs.Build.{IsAnswerAt, AreAlike, IsInfoOf, Answers}
 
@@ -87,7 +87,7 @@ module _ (rows : List Row) (earlier : List Answer) (p q : ℕ) (a b : Answer) (h
   table-second : table_at (told_all rows earlier) q ≡ handle_table b
   table-second = ap table_of (k.means rows) ∙ told-table rows b
 
-  pub equal-allowed : (P : Type 0) (r : Bool) → AreOwned rows earlier → AreAlike a b
+  pub equal-allowed : (P : Setting) (r : Bool) → AreOwned rows earlier → AreAlike a b
       → ((t : Table) (n m : ℕ) → n < size rows t → m < size rows t → (meaning rows t n ≡ meaning rows t m) ↔ (n ≡ m))
       → r ≡ eqb (handle_number a) (handle_number b) → IsAllowed P (told_all rows earlier) (call.Equal p q) (truth r)
   equal-allowed P r o l i e =
@@ -109,19 +109,19 @@ module _ (rows : List Row) (earlier : List Answer) (p q : ℕ) (a b : Answer) (h
       )
 
   -- the answers are of two tables, or one of them is no term
-  pub unlike-refused : (P : Type 0) → (AreAlike a b → ⊥) → MayRefuse P (told_all rows earlier) (call.Equal p q) NoSuchAnswer
+  pub unlike-refused : (P : Setting) → (AreAlike a b → ⊥) → MayRefuse P (told_all rows earlier) (call.Equal p q) NoSuchAnswer
   unlike-refused P n =
       no_term (λ m. let s = table-of-suited (term_at (told_all rows earlier) q) (table_at (told_all rows earlier) p) m.1.0 in
       n (subst (λ (t : Option Table). IsSome t) table-first s.0, sym table-first ∙ s.1 ∙ table-second)) refl
 
 -- the second of two positions tells no term
-pub second-absent : (P : Type 0) (rows : List Row) (earlier : List Answer) (p q : ℕ) → ((rows : List Row) → term_at (told_all rows earlier) q ≡ None)
+pub second-absent : (P : Setting) (rows : List Row) (earlier : List Answer) (p q : ℕ) → ((rows : List Row) → term_at (told_all rows earlier) q ≡ None)
     → MayRefuse P (told_all rows earlier) (call.Equal p q) NoSuchAnswer
 second-absent P rows earlier p q h =
     no_term (λ m. subst (λ (o : Option Term). IsSomeAnd o (Suits (told_all rows earlier) (as_at p))) (h rows) m.1.0) refl
 
 -- what is kept beside a term
-pub info-allowed : (P : Type 0) (rows : List Row) (earlier : List Answer) (p : ℕ) (t : Table) (u : Tree Depth) (a : Answer)
+pub info-allowed : (P : Setting) (rows : List Row) (earlier : List Answer) (p : ℕ) (t : Table) (u : Tree Depth) (a : Answer)
     → term_at (told_all rows earlier) p ≡ Some (record { table = t; tree = u }) → t ≢ ArgLists → IsInfoOf u a
     → IsAllowed P (told_all rows earlier) (call.Info p) (told rows a)
 info-allowed P rows earlier p t u (answer.Info flags outer) at n h =
@@ -129,7 +129,7 @@ info-allowed P rows earlier p t u (answer.Info flags outer) at n h =
 info-allowed P rows earlier p t u _ at n h = absurd h
 
 -- a list of arguments has no flags
-pub args-refused : (P : Type 0) (rows : List Row) (earlier : List Answer) (p : ℕ) (a : Answer) → IsAnswerAt earlier p a
+pub args-refused : (P : Setting) (rows : List Row) (earlier : List Answer) (p : ℕ) (a : Answer) → IsAnswerAt earlier p a
     → ((u : Term) → as_term (Some (told rows a)) ≡ Some u → u.table ≡ ArgLists) → MayRefuse P (told_all rows earlier) (call.Info p) NoSuchAnswer
 args-refused P rows earlier p a at only =
     no_term (λ m. no-flags (as_term (Some (told rows a))) only (subst (λ (o : Option Term). IsSomeAnd o (λ u. u.table ≢ ArgLists)) (at.means rows) m.0)) refl
@@ -155,13 +155,13 @@ only-args (answer.Args x) f g h i j rows u e = let same : record { table = ArgLi
 only-args _ f g h i j rows u e = absurd (cc)
 
 -- the answer of a call that gives a term
-pub answered-allowed : (terms : Terms) (earlier : List Answer) (rows : List Row) (c : Call) (result : Result Answer Refusal) (a : Answer) → Answers terms (told_all rows earlier) c result
+pub answered-allowed : (start terms : Terms) (earlier : List Answer) (rows : List Row) (c : Call) (result : Result Answer Refusal) (a : Answer) → Answers start terms (told_all rows earlier) c result
     → MatchResult result (λ b. a ≡ b) (λ e. a ≡ answer.Refused e)
-    → IsAllowed (HasFullTable terms) (told_all rows earlier) c (told terms.rows a)
-answered-allowed terms earlier rows c (Ok b) a h e = rw e h.ok
-answered-allowed terms earlier rows c (Err r) a h e = rw e h.err
+    → IsAllowed (setting start terms) (told_all rows earlier) c (told terms.rows a)
+answered-allowed start terms earlier rows c (Ok b) a h e = rw e h.ok
+answered-allowed start terms earlier rows c (Err r) a h e = rw e h.err
 
-pub answered-owned : (terms : Terms) (earlier : List Answer) (rows : List Row) (c : Call) (result : Result Answer Refusal) (a : Answer) → Answers terms (told_all rows earlier) c result
+pub answered-owned : (start terms : Terms) (earlier : List Answer) (rows : List Row) (c : Call) (result : Result Answer Refusal) (a : Answer) → Answers start terms (told_all rows earlier) c result
     → MatchResult result (λ b. a ≡ b) (λ e. a ≡ answer.Refused e) → IsOwned terms.rows a
-answered-owned terms earlier rows c (Ok b) a h e = rw e h.owned
-answered-owned terms earlier rows c (Err r) a h e = rw e tt
+answered-owned start terms earlier rows c (Ok b) a h e = rw e h.owned
+answered-owned start terms earlier rows c (Err r) a h e = rw e tt

@@ -1,21 +1,46 @@
 -- What was told stays told while rows grow, and a run goes on by one call.
-use Rattle.std.proofs.Common.{◌≡◌, List, [], ◌∷◌, ◌++◌, refl, ap, sym, ◌∙◌, subst, arith, append_assoc, append-nil}
+use Rattle.std.proofs.Common.{◌≡◌, ℕ, ◌<◌, ◌≤◌, List, [], ◌∷◌, ◌++◌, refl, ap, sym, ◌∙◌, subst, arith, append_assoc, append-nil, inl, inr}
 use Rattle.std.proofs.lemmas.List.{map-append}
 use Rattle.tt_index.specs.declared.refusal.Refusal.{Refusal}
-use Rattle.tt_kinds.specs.declared.table.Table.TheVariants.{Types, Consts, Patterns, Predicates, ClauseLists, ArgLists, Declarations}
+use Rattle.tt_kinds.specs.Label.{Name}
+use Rattle.tt_kinds.specs.Shape.{Sizes, HasParts, text_of, name_of}
+use Rattle.tt_kinds.specs.Tree.{Tree, Depth}
+use Rattle.tt_kinds.specs.declared.id.DefId.{DefId}
+use Rattle.tt_kinds.specs.declared.table.Table.{Table}
+use Rattle.tt_kinds.specs.declared.table.Table.TheVariants.{Types, Consts, Patterns, Predicates, ClauseLists, ArgLists, Symbols, Declarations}
 use Rattle.tt_kinds.specs.declared.declaration.Declaration.{Declaration}
+use Rattle.tt_kinds.specs.declared.declaration.DeclarationKind.{DeclarationKind}
+use Rattle.tt_kinds.specs.declared.declaration.DeclarationSort.{DeclarationSort}
 use Rattle.tt_kinds.specs.Declaration.{sort_of}
-use Rattle.tt_interner.specs.Rows.{Row, Grows}
+use Rattle.tt_interner.specs.Rows.{Row, declared_row, text_row, table, row_table, row_shape, size, meaning, AreRows, Grows}
+use Rattle.tt_interner.specs.Declarations.{declared_at, declaration_of}
 use Rattle.tt_interner.specs.Stored.{Terms, Extends}
 use Rattle.tt_interner.proofs.Growth.{Extends-refl, Extends-trans, size-grows, in_range-grows, meaning-grows}
 use Rattle.tt_interner.proofs.DeclarationLemmas.{declared_at-grows}
+use Rattle.tt_interner.specs.Env.{row_at}
+use Rattle.tt_interner.proofs.Trees.{Means-row}
+use Rattle.std.proofs.lemmas.Option.{slice_get-get_or}
 use Rattle.type_terms.specs.declared.run.call.Call.{Call}
+use Rattle.type_terms.specs.declared.run.call.Call.TheVariants as call
 use Rattle.type_terms.specs.declared.run.answer.Answer.{Answer}
 use Rattle.type_terms.specs.declared.run.answer.Answer.TheVariants as answer
-use Rattle.type_terms.specs.Told.{Told, term, declared, truth, info, refused, bad, told, told_all, IsOwned, AreOwned, HasFullTable}
-use Rattle.type_terms.specs.Means.{MayRefuse, want_of_memory, full_table, no_term, too_deep, unfit, unsuited, IsAllowed, Means}
+use Rattle.type_terms.specs.Told.{Told, term, declared, truth, info, refused, bad, told, told_all, IsOwned, AreOwned, HasFullTable, IsStored, Setting, setting}
+use Rattle.type_terms.specs.Means.{AddsNothing, Grows as GrowsIn, MayRefuse, want_of_memory, full_table, no_term, too_deep, unfit, unsuited, GivesId, Declares, IsAllowed, Means}
 
-module _ (old new : List Row) (g : Grows old new) where
+-- the name of a declaration's row is a text
+name-in-row : (bounds : Sizes) (q : Row) → row_table q ≡ Declarations → HasParts bounds (row_shape q) → (declaration_of q).name.number < bounds Symbols
+name-in-row bounds (declared_row n d) is parts = parts.0
+name-in-row bounds _ is parts = absurd (cc)
+
+-- the name of what is declared is a text
+name-in-range : (rows : List Row) → AreRows rows → (id : DefId) → id.number < size rows Declarations → (declared_at rows id).name.number < size rows Symbols
+unfolding declared_at
+name-in-range rows are id h =
+    let q = row_at rows Declarations id.number in
+    let means = Means-row rows are Declarations id.number q (slice_get-get_or (table Declarations rows) id.number (text_row []) h) in
+    name-in-row (size rows) q means.same_table means.parts
+
+module _ (old new : List Row) (g : Grows old new) (are : AreRows old) where
   pub told-grows : (a : Answer) → IsOwned old a → told new a ≡ told old a
   told-grows (answer.Ty t) h = ap (term Types) (meaning-grows old new g Types t.number h)
   told-grows (answer.Const t) h = ap (term Consts) (meaning-grows old new g Consts t.number h)
@@ -23,12 +48,21 @@ module _ (old new : List Row) (g : Grows old new) where
   told-grows (answer.Predicate t) h = ap (term Predicates) (meaning-grows old new g Predicates t.number h)
   told-grows (answer.Clauses t) h = ap (term ClauseLists) (meaning-grows old new g ClauseLists t.number h)
   told-grows (answer.Args t) h = ap (term ArgLists) (meaning-grows old new g ArgLists t.number h)
-  told-grows (answer.Id s d) h = refl
+  told-grows (answer.Id s d) h =
+      let within = name-in-range old are d h.0 in
+      let same = declared_at-grows old new g d h.0 in
+      let text = ap text_of (meaning-grows old new g Symbols (declared_at old d).name.number within) in
+      rw (same, text) refl
   told-grows (answer.Truth b) h = refl
   told-grows (answer.Info flags outer) h = refl
   told-grows (answer.Refused r) h = refl
   told-grows answer.Bad h = refl
 
+  pub told_all-grows : (answers : List Answer) → AreOwned old answers → told_all new answers ≡ told_all old answers
+  told_all-grows [] h = refl
+  told_all-grows (a ∷ answers) h = rw (told-grows a h.0, told_all-grows answers h.1) refl
+
+module _ (old new : List Row) (g : Grows old new) where
   pub IsOwned-grows : (a : Answer) → IsOwned old a → IsOwned new a
   IsOwned-grows (answer.Ty t) h = in_range-grows old new g Types t.number h
   IsOwned-grows (answer.Const t) h = in_range-grows old new g Consts t.number h
@@ -43,13 +77,16 @@ module _ (old new : List Row) (g : Grows old new) where
   IsOwned-grows (answer.Refused r) h = tt
   IsOwned-grows answer.Bad h = tt
 
-  pub told_all-grows : (answers : List Answer) → AreOwned old answers → told_all new answers ≡ told_all old answers
-  told_all-grows [] h = refl
-  told_all-grows (a ∷ answers) h = rw (told-grows a h.0, told_all-grows answers h.1) refl
-
   pub AreOwned-grows : (answers : List Answer) → AreOwned old answers → AreOwned new answers
   AreOwned-grows [] h = tt
   AreOwned-grows (a ∷ answers) h = (IsOwned-grows a h.0, AreOwned-grows answers h.1)
+
+  pub IsStored-grows : (t : Table) (u : Tree Depth) → IsStored old t u → IsStored new t u
+  IsStored-grows t u h = record {
+    number = h.number;
+    within = in_range-grows old new g t h.number h.within;
+    means = meaning-grows old new g t h.number h.within ∙ h.means;
+  }
 
 pub AreOwned-append : (rows : List Row) (answers : List Answer) (a : Answer) → AreOwned rows answers → IsOwned rows a
     → AreOwned rows (answers ++ a ∷ [])
@@ -62,67 +99,86 @@ HasFullTable-extends old new e h =
     let more = size-grows old.rows new.rows e.rows h.table in
     record { table = h.table; full = rw e.limit (omega (arith, h.full)) }
 
--- what is allowed with fewer full tables is allowed with more
-module _ (P Q : Type 0) (f : P → Q) where
-  MayRefuse-fuller : (e : List Told) (c : Call) (r : Refusal) → MayRefuse P e c r → MayRefuse Q e c r
-  MayRefuse-fuller e c r (want_of_memory b i) = want_of_memory b i
-  MayRefuse-fuller e c r (full_table b p i) = full_table b (f p) i
-  MayRefuse-fuller e c r (no_term n i) = no_term n i
-  MayRefuse-fuller e c r (too_deep d i) = too_deep d i
-  MayRefuse-fuller e c r (unfit n u i) = unfit n u i
-  MayRefuse-fuller e c r (unsuited n s) = unsuited n s
+-- what is allowed stays allowed with more full tables, and with fewer declarations and terms before the calls
+module _ (s t : Setting) (full : s.full → t.full) (fewer : t.declarations ≤ s.declarations) (stored : (table : Table) (u : Tree Depth) → t.stored table u → s.stored table u) where
+  AddsNothing-fewer : (e : List Told) (c : Call) → AddsNothing t e c → AddsNothing s e c
+  AddsNothing-fewer e (call.Ty k) h = (h.0, elim h.1 [ inl a ↦ inl (stored _ _ a) | inr b ↦ inr b ])
+  AddsNothing-fewer e (call.Const k) h = (h.0, elim h.1 [ inl a ↦ inl (stored _ _ a) | inr b ↦ inr b ])
+  AddsNothing-fewer e (call.Pat k) h = (h.0, elim h.1 [ inl a ↦ inl (stored _ _ a) | inr b ↦ inr b ])
+  AddsNothing-fewer e (call.Predicate k) h = absurd h
+  AddsNothing-fewer e (call.Clauses ps) h = absurd h
+  AddsNothing-fewer e (call.Args args) h = absurd h
+  AddsNothing-fewer e (call.Declare d) h = absurd h
+  AddsNothing-fewer e (call.Shift p n) h = h
+  AddsNothing-fewer e (call.EraseRegions p) h = h
+  AddsNothing-fewer e (call.Instantiate p args) h = h
+  AddsNothing-fewer e (call.Equal p q) h = absurd h
+  AddsNothing-fewer e (call.Info p) h = absurd h
+  AddsNothing-fewer e call.Bad h = absurd h
 
-  IsAllowed-fuller : (e : List Told) (c : Call) (t : Told) → IsAllowed P e c t → IsAllowed Q e c t
-  IsAllowed-fuller e c (term table t) h = h
-  IsAllowed-fuller e c (declared s n) h = h
-  IsAllowed-fuller e c (truth b) h = h
-  IsAllowed-fuller e c (info flags outer) h = h
-  IsAllowed-fuller e c (refused r) h = MayRefuse-fuller e c r h
-  IsAllowed-fuller e c bad h = h
+  grows-more : (e : List Told) (c : Call) → GrowsIn s e c → GrowsIn t e c
+  grows-more e c h = (h.0, λ a. h.1 (AddsNothing-fewer e c a))
 
-  pub Means-fuller : (e : List Told) (cs : List Call) (ts : List Told) → Means P e cs ts → Means Q e cs ts
-  Means-fuller e [] [] h = tt
-  Means-fuller e [] (t ∷ ts) h = absurd h
-  Means-fuller e (c ∷ cs) [] h = absurd h
-  Means-fuller e (c ∷ cs) (t ∷ ts) h = (IsAllowed-fuller e c t h.0, Means-fuller (e ++ t ∷ []) cs ts h.1)
+  MayRefuse-wider : (e : List Told) (c : Call) (r : Refusal) → MayRefuse s e c r → MayRefuse t e c r
+  MayRefuse-wider e c r (want_of_memory b i) = want_of_memory (grows-more e c b) i
+  MayRefuse-wider e c r (full_table b p i) = full_table (grows-more e c b) (full p) i
+  MayRefuse-wider e c r (no_term n i) = no_term n i
+  MayRefuse-wider e c r (too_deep d i) = too_deep d i
+  MayRefuse-wider e c r (unfit n u i) = unfit n u i
+  MayRefuse-wider e c r (unsuited n h) = unsuited n h
+
+  Declares-wider : (e : List Told) (c : Call) (sort : DeclarationSort) (n : ℕ) (kind : DeclarationKind) (name : Name) → Declares s e c sort n kind name → Declares t e c sort n kind name
+  Declares-wider e (call.Declare d) sort n kind name h = record {
+    sorted = h.sorted;
+    declares = h.declares;
+    called = h.called;
+    new = let above = h.new in omega (arith, fewer);
+    later = h.later;
+  }
+  Declares-wider e _ sort n kind name h = absurd h
+
+  pub IsAllowed-wider : (e : List Told) (c : Call) (u : Told) → IsAllowed s e c u → IsAllowed t e c u
+  IsAllowed-wider e c (term table v) h = h
+  IsAllowed-wider e c (declared sort n kind name) h = (h.0, Declares-wider e c sort n kind name h.1)
+  IsAllowed-wider e c (truth b) h = h
+  IsAllowed-wider e c (info flags outer) h = h
+  IsAllowed-wider e c (refused r) h = MayRefuse-wider e c r h
+  IsAllowed-wider e c bad h = h
+
+  pub Means-wider : (e : List Told) (cs : List Call) (ts : List Told) → Means s e cs ts → Means t e cs ts
+  Means-wider e [] [] h = tt
+  Means-wider e [] (u ∷ ts) h = absurd h
+  Means-wider e (c ∷ cs) [] h = absurd h
+  Means-wider e (c ∷ cs) (u ∷ ts) h = (IsAllowed-wider e c u h.0, Means-wider (e ++ u ∷ []) cs ts h.1)
 
 -- one call more
-pub Means-append : (P : Type 0) (e : List Told) (cs : List Call) (ts : List Told) (c : Call) (t : Told)
-    → Means P e cs ts → IsAllowed P (e ++ ts) c t → Means P e (cs ++ c ∷ []) (ts ++ t ∷ [])
-Means-append P e [] [] c t h k = (subst (λ (x : List Told). IsAllowed P x c t) (simp append-nil) k, tt)
-Means-append P e [] (u ∷ ts) c t h k = absurd h
-Means-append P e (d ∷ cs) [] c t h k = absurd h
-Means-append P e (d ∷ cs) (u ∷ ts) c t h k =
-    (h.0, Means-append P (e ++ u ∷ []) cs ts c t h.1 (subst (λ (x : List Told). IsAllowed P x c t) (sym (append_assoc e (u ∷ []) ts)) k))
+pub Means-append : (s : Setting) (e : List Told) (cs : List Call) (ts : List Told) (c : Call) (t : Told)
+    → Means s e cs ts → IsAllowed s (e ++ ts) c t → Means s e (cs ++ c ∷ []) (ts ++ t ∷ [])
+Means-append s e [] [] c t h k = (subst (λ (x : List Told). IsAllowed s x c t) (simp append-nil) k, tt)
+Means-append s e [] (u ∷ ts) c t h k = absurd h
+Means-append s e (d ∷ cs) [] c t h k = absurd h
+Means-append s e (d ∷ cs) (u ∷ ts) c t h k =
+    (h.0, Means-append s (e ++ u ∷ []) cs ts c t h.1 (subst (λ (x : List Told). IsAllowed s x c t) (sym (append_assoc e (u ∷ []) ts)) k))
 
 -- the answers are those of the calls, from the terms at the start
 pub record Ran (start now : Terms) (calls : List Call) (answers : List Answer) : Type 0 where
   pub extends : Extends start now
   pub owned : AreOwned now.rows answers
-  pub means : Means (HasFullTable now) [] calls (told_all now.rows answers)
+  pub means : Means (setting start now) [] calls (told_all now.rows answers)
 
 pub ran-nothing : (terms : Terms) → Ran terms terms [] []
 ran-nothing terms = record { extends = Extends-refl terms; owned = tt; means = tt }
 
-pub ran-more : (start old new : Terms) (calls : List Call) (answers : List Answer) (c : Call) (a : Answer)
-    → Ran start old calls answers → Extends old new → IsOwned new.rows a
-    → IsAllowed (HasFullTable new) (told_all old.rows answers) c (told new.rows a)
-    → Ran start new (calls ++ c ∷ []) (answers ++ a ∷ [])
-ran-more start old new calls answers c a h e o k =
-    let same = told_all-grows old.rows new.rows e.rows answers h.owned in
-    record {
-      extends = Extends-trans h.extends e;
-      owned = AreOwned-append new.rows answers a (AreOwned-grows old.rows new.rows e.rows answers h.owned) o;
-      means = rw (map-append (told new.rows) answers (a ∷ []), same)
-          (Means-append (HasFullTable new) [] calls (told_all old.rows answers) c (told new.rows a)
-          (Means-fuller (HasFullTable old) (HasFullTable new) (HasFullTable-extends old new e) [] calls (told_all old.rows answers) h.means) k);
-    }
-
 -- a call after those that were answered, whatever they were
-pub ran-one-more : (old new : Terms) (calls : List Call) (answers : List Answer) (c : Call) (a : Answer)
-    → AreOwned old.rows answers → Extends old new → IsOwned new.rows a
-    → IsAllowed (HasFullTable new) (told_all old.rows answers) c (told new.rows a)
-    → Means (HasFullTable old) [] calls (told_all old.rows answers)
-    → Means (HasFullTable new) [] (calls ++ c ∷ []) (told_all new.rows (answers ++ a ∷ []))
-ran-one-more old new calls answers c a h e o k m =
-    (ran-more old old new calls answers c a (record { extends = Extends-refl old; owned = h; means = m }) e o k).means
+pub ran-more : (start old new : Terms) (calls : List Call) (answers : List Answer) (c : Call) (a : Answer)
+    → Extends start old → AreOwned old.rows answers → AreRows old.rows → Extends old new
+    → IsAllowed (setting old new) (told_all old.rows answers) c (told new.rows a)
+    → Means (setting start old) [] calls (told_all old.rows answers)
+    → Means (setting start new) [] (calls ++ c ∷ []) (told_all new.rows (answers ++ a ∷ []))
+ran-more start old new calls answers c a x h are e k m =
+    let same = told_all-grows old.rows new.rows e.rows are answers h in
+    let more = size-grows start.rows old.rows x.rows Declarations in
+    rw (map-append (told new.rows) answers (a ∷ []), same)
+    (Means-append (setting start new) [] calls (told_all old.rows answers) c (told new.rows a)
+    (Means-wider (setting start old) (setting start new) (HasFullTable-extends old new e) (omega arith) (λ t u i. i) [] calls (told_all old.rows answers) m)
+    (IsAllowed-wider (setting old new) (setting start new) (λ f. f) more (IsStored-grows start.rows old.rows x.rows) (told_all old.rows answers) c (told new.rows a) k))

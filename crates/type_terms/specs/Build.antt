@@ -1,5 +1,5 @@
 -- What the steps of a building call promise.
-use Rattle.std.specs.Prelude.{◌≡◌, ◌↔◌, ℕ, ◌<◌, List, [], map, Result, IfOk, IfErr, Some, IsSome, IsSomeAnd}
+use Rattle.std.specs.Prelude.{◌≡◌, ◌↔◌, ℕ, ◌<◌, List, [], ◌∷◌, ◌++◌, map, Result, IfOk, IfErr, Some, IsSome, IsSomeAnd}
 use Rattle.tt_index.specs.declared.refusal.Refusal.{Refusal}
 use Rattle.tt_index.specs.declared.refusal.Refusal.TheVariants.{Memory, TableFull, GreatestIndex, NoSuchAnswer}
 use Rattle.tt_kinds.specs.Label.{var_list_label}
@@ -32,7 +32,7 @@ use Rattle.tt_kinds.specs.declared.generic_arg.GenericArgKind.{GenericArgKind}
 use Rattle.std.specs.declared.alloc.Global.{Global}
 use Rattle.std.specs.declared.vec.Vec.{Vec}
 use Rattle.type_terms.specs.CallForm.{of_id, CallForm, Named, Item, Part, called, variable_kind, item_tree, items_trees, part_tree, parts_trees, item_positions, items_positions, part_positions, parts_positions, IsItemTooDeep, AreItemsTooDeep, IsPartTooDeep, ArePartsTooDeep, form_positions, form_tree, IsFormTooDeep, arg_item, arg_items, clause_items, RecordCall, record_tree}
-use Rattle.type_terms.specs.Told.{Told, term, told, told_all, handle_table, IsOwned, AreOwned, HasFullTable}
+use Rattle.type_terms.specs.Told.{Told, term, told, told_all, handle_table, IsOwned, AreOwned, HasFullTable, setting}
 use Rattle.type_terms.specs.Means.{as_term, term_at, as_id, id_at, number_at, Tells, tree_at, argument, arguments, AreTerms, IsAllowed, MayRefuse}
 
 -- the answer is the handle of this number in the table
@@ -213,8 +213,14 @@ pub record GivesArguments (terms : Terms) (earlier : List Told) (calls : List Ar
   pub ok : IfOk result (λ args. AreArgumentsOf terms earlier calls args.items)
   pub err : IfErr result (IsUnbuilt (HasFullTable terms) earlier (items_positions (arg_items calls)) (AreItemsTooDeep (arg_items calls)))
 
--- the result may be the call's answer
-pub record Answers (terms : Terms) (earlier : List Told) (call : Call) (result : Result Answer Refusal) : Type 0 where
-  pub owned : IfOk result (IsOwned terms.rows)
-  pub ok : IfOk result (λ a. IsAllowed (HasFullTable terms) earlier call (told terms.rows a))
-  pub err : IfErr result (MayRefuse (HasFullTable terms) earlier call)
+-- the result may be the call's answer, as the terms grow from the old ones to the new ones
+pub record Answers (old new : Terms) (earlier : List Told) (call : Call) (result : Result Answer Refusal) : Type 0 where
+  pub owned : IfOk result (IsOwned new.rows)
+  pub ok : IfOk result (λ a. IsAllowed (setting old new) earlier call (told new.rows a))
+  pub err : IfErr result (MayRefuse (setting old new) earlier call)
+
+-- the answers have one more, which may be the call's answer
+pub record AddsAnswer (old new : Terms) (before : List Answer) (call : Call) (after : List Answer) : Type 0 where
+  pub answer : Answer
+  pub added : after ≡ before ++ answer ∷ []
+  pub allowed : IsAllowed (setting old new) (told_all old.rows before) call (told new.rows answer)

@@ -1,5 +1,5 @@
 -- What building calls build: the tree over the trees and the ids at the positions that they name, and what they ask of what is there.
-use Rattle.std.specs.Prelude.{ℕ, List, [], ◌∷◌, ◌++◌, map, ◌⊎◌}
+use Rattle.std.specs.Prelude.{ℕ, List, [], ◌∷◌, ◌++◌, map, ◌⊎◌, ⊤}
 use Rattle.std.specs.String.{string_bytes}
 use Rattle.tt_kinds.specs.Label.{Name, Sort, region_sort, type_sort, const_sort, RegionName, anonymous, printed, named, environment, VarKind, region_variable, type_variable, const_variable, Entry, static_region, erased_region, region_var, error_region, late_param_region, placeholder_region, TypeLabel, bool_type, char_type, int_type, uint_type, float_type, str_type, never_type, placeholder_type, infer_type, error_type, ref_type, raw_ptr_type, slice_type, tuple_type, fn_ptr_type, foreign_type, adt_type, array_type, closure_type, coroutine_closure_type, coroutine_type, coroutine_witness_type, alias_type, infer_const, placeholder_const, unevaluated_const, leaf_const, branch_const, error_const, expr_const, pat_type, unsafe_binder_type, range_pattern, or_pattern, not_null_pattern, unsafe_binder_record, trait_record, host_effect_record, region_outlives_record, type_outlives_record, projection_record, const_has_type_record, well_formed_record, const_evaluatable_record, unstable_feature_record, dyn_compatible_record, subtype_record, coerce_record, const_equate_record, ambiguous_record, normalizes_to_record, alias_relate_record, dynamic_type, existential_trait_record, existential_projection_record, auto_trait_record, RecordLabel, fn_sig_tys_record, Label, type_label, const_label, pattern_label, predicate_label, existential_label, clause_list_label, list_label, record_label}
 use Rattle.tt_kinds.specs.Tree as tree
@@ -45,6 +45,8 @@ use Rattle.type_terms.specs.declared.run.call.ExistentialKindCall.TheVariants as
 use Rattle.type_terms.specs.declared.run.call.ExistentialCall.{ExistentialCall}
 use Rattle.type_terms.specs.declared.run.call.DeclarationKindCall.{DeclarationKindCall}
 use Rattle.type_terms.specs.declared.run.call.DeclarationKindCall.TheVariants as declares
+use Rattle.tt_kinds.specs.declared.declaration.DeclarationKind.{DeclarationKind}
+use Rattle.tt_kinds.specs.declared.declaration.DeclarationKind.TheVariants as kind
 use Rattle.tt_kinds.specs.declared.declaration.DeclarationSort.{DeclarationSort}
 use Rattle.tt_kinds.specs.declared.declaration.DeclarationSort.TheVariants as sort
 use Rattle.type_terms.specs.declared.run.call.TyCall.{TyCall}
@@ -324,6 +326,26 @@ IsFormTooDeep (plain l ps) = ArePartsTooDeep ps
 IsFormTooDeep (under l vs m ps) = ArePartsTooDeep ps
 IsFormTooDeep (trait_object xs r) = AnyIsDeep IsExistentialTooDeep xs ⊎ IsRegionTooDeep r
 
+-- the child is a handle
+abbrev pub IsOfHandle : Part → Type 0
+IsOfHandle (one (a_region r)) = ⊥
+IsOfHandle (one (a_term t p)) = ⊤
+IsOfHandle (one (a_clause p)) = ⊥
+IsOfHandle (a_list t is) = ⊥
+
+-- the children are handles
+abbrev pub AreOfHandles : List Part → Type 0
+AreOfHandles [] = ⊤
+AreOfHandles (p ∷ ps) = IsOfHandle p × AreOfHandles ps
+
+-- what is built has no parts but handles: no text, no region, no list and no binder
+abbrev pub IsOfHandles : CallForm → Type 0
+IsOfHandles (param s i name) = ⊥
+IsOfHandles (bound s d e) = ⊤
+IsOfHandles (plain l ps) = AreOfHandles ps
+IsOfHandles (under l vs m ps) = ⊥
+IsOfHandles (trait_object xs r) = ⊥
+
 -- the position that an item names
 abbrev pub item_positions : Item → List Named
 item_positions (a_region r) = []
@@ -488,6 +510,22 @@ declared_sort declares.CoroutineClosure = sort.CoroutineClosure
 declared_sort declares.Coroutine = sort.Coroutine
 declared_sort declares.Const = sort.Const
 declared_sort declares.Param = sort.Param
+
+-- what a call declares, where these are the numbers of the ids at positions
+abbrev pub declared_kind : (ℕ → ℕ) → DeclarationKindCall → DeclarationKind
+declared_kind ids (declares.Trait params) = kind.Trait params
+declared_kind ids (declares.AssocTy p) = kind.AssocTy (record { number = ids p })
+declared_kind ids declares.Impl = kind.Impl
+declared_kind ids (declares.Inherent p) = kind.Inherent (record { number = ids p })
+declared_kind ids declares.Adt = kind.Adt
+declared_kind ids declares.Opaque = kind.Opaque
+declared_kind ids declares.Free = kind.Free
+declared_kind ids declares.Foreign = kind.Foreign
+declared_kind ids declares.Closure = kind.Closure
+declared_kind ids declares.CoroutineClosure = kind.CoroutineClosure
+declared_kind ids declares.Coroutine = kind.Coroutine
+declared_kind ids declares.Const = kind.Const
+declared_kind ids declares.Param = kind.Param
 
 -- the position of the trait or the implementation that a declaration names
 abbrev pub declared_positions : DeclarationKindCall → List Named

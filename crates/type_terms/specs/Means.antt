@@ -1,14 +1,18 @@
 -- The answers that a list of calls may have. Nothing is looked up in a table: each handle is taken as its tree.
-use Rattle.std.specs.Prelude.{◌≡◌, ◌≢◌, ◌↔◌, ℕ, suc, zero, Bool, IsTrue, List, [], ◌∷◌, ◌++◌, map, Option, Some, None, IsSomeAnd, slice_get, ⊤}
+use Rattle.std.specs.Prelude.{◌≡◌, ◌≢◌, ◌↔◌, ◌⊎◌, ℕ, ◌<◌, ◌≤◌, suc, zero, Bool, false, IsTrue, List, [], ◌∷◌, ◌++◌, map, Option, Some, None, IsSomeAnd, slice_get, ⊤}
+use Rattle.std.specs.String.{string_bytes}
 use Rattle.tt_index.specs.declared.refusal.Refusal.{Refusal}
 use Rattle.tt_index.specs.declared.refusal.Refusal.TheVariants.{Memory, TableFull, GreatestIndex, NoSuchAnswer}
-use Rattle.tt_kinds.specs.Label.{region_sort, type_sort, const_sort, erased_region}
+use Rattle.tt_kinds.specs.Label.{Name, region_sort, type_sort, const_sort, erased_region}
 use Rattle.tt_kinds.specs.Tree as tree
 use Rattle.tt_kinds.specs.Tree.{Depth, Place, Tree}
 use Rattle.tt_kinds.specs.Reading.{read, move, outer_binder, Fits}
 use Rattle.tt_kinds.specs.Argument.{Argument, put, readings}
 use Rattle.tt_kinds.specs.Scan.{scan}
 use Rattle.tt_kinds.specs.Cause.{Cause}
+use Rattle.tt_kinds.specs.Met.{met, placed}
+use Rattle.tt_kinds.specs.Param.{holds_param}
+use Rattle.tt_kinds.specs.declared.declaration.DeclarationKind.{DeclarationKind}
 use Rattle.tt_kinds.specs.declared.declaration.DeclarationSort.{DeclarationSort}
 use Rattle.tt_kinds.specs.declared.table.Table.{Table}
 use Rattle.tt_kinds.specs.declared.table.Table.TheVariants.{Types, Consts, Patterns, Predicates, ClauseLists, ArgLists}
@@ -16,9 +20,10 @@ use Rattle.tt_interner.specs.Clauses.{is_clause_tree}
 use Rattle.type_terms.specs.declared.run.call.ArgCall.{ArgCall}
 use Rattle.type_terms.specs.declared.run.call.ArgCall.TheVariants as arg
 use Rattle.type_terms.specs.declared.run.call.Call.{Call}
+use Rattle.type_terms.specs.declared.run.call.DeclareCall.{DeclareCall}
 use Rattle.type_terms.specs.declared.run.call.Call.TheVariants as call
-use Rattle.type_terms.specs.CallForm.{Want, of_table, of_clause, as_at, of_any, with_flags, of_id, of_any_id, Named, arg_items, args_part, args_ids, ty_ids, const_ids, predicate_ids, ty_form, const_form, pat_form, predicate_form, declared_sort, declared_positions, clause_items, clauses_tree, form_positions, items_positions, part_positions, form_tree, part_tree, region_tree, IsFormTooDeep, IsPartTooDeep, AreItemsTooDeep}
-use Rattle.type_terms.specs.Told.{Told, term, declared, truth, info, refused, bad}
+use Rattle.type_terms.specs.CallForm.{CallForm, IsOfHandles, form_tree, Want, of_table, of_clause, as_at, of_any, with_flags, of_id, of_any_id, Named, arg_items, args_part, args_ids, ty_ids, const_ids, predicate_ids, ty_form, const_form, pat_form, predicate_form, declared_sort, declared_kind, declared_positions, clause_items, clauses_tree, form_positions, items_positions, part_positions, part_tree, region_tree, IsFormTooDeep, IsPartTooDeep, AreItemsTooDeep}
+use Rattle.type_terms.specs.Told.{Setting, Told, term, declared, truth, info, refused, bad}
 
 -- a term with its table
 pub record Term : Type 0 where
@@ -42,7 +47,7 @@ pub record Id : Type 0 where
 
 -- the id that was told
 abbrev pub as_id : Option Told → Option Id
-as_id (Some (declared s n)) = Some (record { sort = s; number = n })
+as_id (Some (declared s n k name)) = Some (record { sort = s; number = n })
 as_id _ = None
 
 -- the id at a position, counted from 1
@@ -100,6 +105,7 @@ positions earlier (call.Clauses ps) = items_positions (clause_items ps.items)
 positions earlier (call.Args args) = args_ids args.items ++ part_positions (args_part args.items)
 positions earlier (call.Declare d) = declared_positions d.kind
 positions earlier (call.Shift p n) = any p ∷ []
+positions earlier (call.EraseRegions p) = any p ∷ []
 positions earlier (call.Instantiate p args) = any p ∷ (args_ids args.items ++ items_positions (arg_items args.items))
 positions earlier (call.Equal p q) = any p ∷ record { want = as_at p; position = q } ∷ []
 positions earlier (call.Info p) = record { want = with_flags; position = p } ∷ []
@@ -160,12 +166,18 @@ BuildsOrFolds (call.Clauses ps) = ⊤
 BuildsOrFolds (call.Args args) = ⊤
 BuildsOrFolds (call.Declare d) = ⊤
 BuildsOrFolds (call.Shift p n) = ⊤
+BuildsOrFolds (call.EraseRegions p) = ⊤
 BuildsOrFolds (call.Instantiate p args) = ⊤
 BuildsOrFolds _ = ⊥
+
+-- the tree with the erased region in the place of each region that is neither its own nor apart
+abbrev pub erased : Tree Depth → Tree Depth
+erased t = placed 0 t (map (λ m. tree.region erased_region) (met 0 t))
 
 -- the reading of the term that a fold gives
 abbrev pub folded : List Told → Call → Option (Tree Place)
 folded earlier (call.Shift p n) = Some (move n (read 0 (tree_at earlier p)))
+folded earlier (call.EraseRegions p) = Some (read 0 (erased (tree_at earlier p)))
 folded earlier (call.Instantiate p args) = Some (put (readings (arguments earlier args.items)) (read 0 (tree_at earlier p)))
 folded earlier _ = None
 
@@ -178,6 +190,7 @@ given_table earlier (call.Predicate k) = Some Predicates
 given_table earlier (call.Clauses ps) = Some ClauseLists
 given_table earlier (call.Args args) = Some ArgLists
 given_table earlier (call.Shift p n) = table_at earlier p
+given_table earlier (call.EraseRegions p) = table_at earlier p
 given_table earlier (call.Instantiate p args) = table_at earlier p
 given_table earlier _ = None
 
@@ -189,6 +202,7 @@ Gives earlier (call.Pat k) t = t ≡ form_tree (number_at earlier) (tree_at earl
 Gives earlier (call.Predicate k) t = t ≡ form_tree (number_at earlier) (tree_at earlier) (predicate_form (number_at earlier) k)
 Gives earlier (call.Clauses ps) t = t ≡ clauses_tree (number_at earlier) (tree_at earlier) ps.items
 Gives earlier (call.Args args) t = t ≡ part_tree (number_at earlier) (tree_at earlier) (args_part args.items)
+Gives earlier (call.EraseRegions p) t = t ≡ erased (tree_at earlier p)
 Gives earlier c t = folded earlier c ≡ Some (read 0 t)
 
 -- the arguments don't suit the term
@@ -196,15 +210,41 @@ abbrev pub HasCause : List Told → Call → Refusal → Type 0
 HasCause earlier (call.Instantiate p args) r = Cause (tree_at earlier p) (arguments earlier args.items) r
 HasCause earlier _ r = ⊥
 
+-- the term was told
+abbrev pub IsTold : List Told → Table → Tree Depth → Type 0
+IsTold [] table u = ⊥
+IsTold (term t v ∷ earlier) table u = ((t ≡ table) × (v ≡ u)) ⊎ IsTold earlier table u
+IsTold (t ∷ earlier) table u = IsTold earlier table u
+
+-- the term that is built has no parts but handles, and it is there: it was stored before the calls, or told
+abbrev pub IsThere : Setting → List Told → Table → CallForm → Type 0
+IsThere s earlier table f =
+    IsOfHandles f
+    × (s.stored table (form_tree (number_at earlier) (tree_at earlier) f) ⊎ IsTold earlier table (form_tree (number_at earlier) (tree_at earlier) f))
+
+-- the call adds nothing: what it builds is there, or what it folds stays as it is
+abbrev pub AddsNothing : Setting → List Told → Call → Type 0
+AddsNothing s earlier (call.Ty k) = IsThere s earlier Types (ty_form (number_at earlier) k)
+AddsNothing s earlier (call.Const k) = IsThere s earlier Consts (const_form (number_at earlier) k)
+AddsNothing s earlier (call.Pat k) = IsThere s earlier Patterns (pat_form k)
+AddsNothing s earlier (call.Shift p n) = (n ≡ 0) ⊎ (outer_binder (tree_at earlier p) ≡ 0)
+AddsNothing s earlier (call.EraseRegions p) = met 0 (tree_at earlier p) ≡ []
+AddsNothing s earlier (call.Instantiate p args) = (args.items ≡ []) × (holds_param (tree_at earlier p) ≡ false)
+AddsNothing s earlier _ = ⊥
+
+-- the call may need memory or a row
+abbrev pub Grows : Setting → List Told → Call → Type 0
+Grows s earlier c = BuildsOrFolds c × (AddsNothing s earlier c → ⊥)
+
 -- why a call may be refused
-pub data MayRefuse (full : Type 0) (earlier : List Told) (c : Call) (r : Refusal) : Type 0 where
-  want_of_memory : BuildsOrFolds c → r ≡ Memory → MayRefuse full earlier c r
-  full_table : BuildsOrFolds c → full → r ≡ TableFull → MayRefuse full earlier c r
-  no_term : (NamesTerms earlier c → ⊥) → r ≡ NoSuchAnswer → MayRefuse full earlier c r
-  too_deep : IsTooDeep earlier c → r ≡ GreatestIndex → MayRefuse full earlier c r
+pub data MayRefuse (s : Setting) (earlier : List Told) (c : Call) (r : Refusal) : Type 0 where
+  want_of_memory : Grows s earlier c → r ≡ Memory → MayRefuse s earlier c r
+  full_table : Grows s earlier c → s.full → r ≡ TableFull → MayRefuse s earlier c r
+  no_term : (NamesTerms earlier c → ⊥) → r ≡ NoSuchAnswer → MayRefuse s earlier c r
+  too_deep : IsTooDeep earlier c → r ≡ GreatestIndex → MayRefuse s earlier c r
   -- what the fold gives doesn't fit
-  unfit : NamesTerms earlier c → IsSomeAnd (folded earlier c) (λ t. Fits t → ⊥) → r ≡ GreatestIndex → MayRefuse full earlier c r
-  unsuited : NamesTerms earlier c → HasCause earlier c r → MayRefuse full earlier c r
+  unfit : NamesTerms earlier c → IsSomeAnd (folded earlier c) (λ t. Fits t → ⊥) → r ≡ GreatestIndex → MayRefuse s earlier c r
+  unsuited : NamesTerms earlier c → HasCause earlier c r → MayRefuse s earlier c r
 
 -- the truth value is whether the two terms are the same
 abbrev pub GivesTruth : List Told → Call → Bool → Type 0
@@ -216,30 +256,39 @@ abbrev pub GivesInfo : List Told → Call → ℕ → ℕ → Type 0
 GivesInfo earlier (call.Info p) flags outer = (flags ≡ scan (tree_at earlier p)) × (outer ≡ outer_binder (tree_at earlier p))
 GivesInfo earlier _ flags outer = ⊥
 
--- no declaration that was told gave this number
-abbrev pub IsNewId : List Told → ℕ → Type 0
-IsNewId [] n = ⊤
-IsNewId (declared s m ∷ ts) n = (m ≢ n) × IsNewId ts n
-IsNewId (t ∷ ts) n = IsNewId ts n
+-- the number is above each id that was told
+abbrev pub IsAbove : List Told → ℕ → Type 0
+IsAbove [] n = ⊤
+IsAbove (declared s m k name ∷ ts) n = (m < n) × IsAbove ts n
+IsAbove (t ∷ ts) n = IsAbove ts n
 
--- the id is a new one, of a declaration of the sort that the call declares
-abbrev pub GivesId : List Told → Call → DeclarationSort → ℕ → Type 0
-GivesId earlier (call.Declare d) s n = (s ≡ declared_sort d.kind) × IsNewId earlier n
-GivesId earlier _ s n = ⊥
+-- the id is a new one, of the declaration that the call makes: of that sort, kind and name
+pub record GivesId (s : Setting) (earlier : List Told) (call : DeclareCall) (sort : DeclarationSort) (n : ℕ) (kind : DeclarationKind) (name : Name) : Type 0 where
+  pub sorted : sort ≡ declared_sort call.kind
+  pub declares : kind ≡ declared_kind (number_at earlier) call.kind
+  pub called : name ≡ string_bytes call.name
+  -- no declaration that was there before the calls has its number, and none that was told
+  pub new : s.declarations ≤ n
+  pub later : IsAbove earlier n
 
--- the call may be answered so after what was told earlier; full says that some table holds its limit
-abbrev pub IsAllowed : Type 0 → List Told → Call → Told → Type 0
-IsAllowed full earlier c (term table t) =
+-- the call declares, and the id is that of its declaration
+abbrev pub Declares : Setting → List Told → Call → DeclarationSort → ℕ → DeclarationKind → Name → Type 0
+Declares s earlier (call.Declare d) sort n kind name = GivesId s earlier d sort n kind name
+Declares s earlier _ sort n kind name = ⊥
+
+-- the call may be answered so after what was told earlier
+abbrev pub IsAllowed : Setting → List Told → Call → Told → Type 0
+IsAllowed s earlier c (term table t) =
     NamesTerms earlier c × (IsTooDeep earlier c → ⊥) × (given_table earlier c ≡ Some table) × Gives earlier c t × ((r : Refusal) → HasCause earlier c r → ⊥)
-IsAllowed full earlier c (declared s n) = NamesTerms earlier c × GivesId earlier c s n
-IsAllowed full earlier c (truth b) = NamesTerms earlier c × GivesTruth earlier c b
-IsAllowed full earlier c (info flags outer) = NamesTerms earlier c × GivesInfo earlier c flags outer
-IsAllowed full earlier c (refused r) = MayRefuse full earlier c r
-IsAllowed full earlier c bad = c ≡ call.Bad
+IsAllowed s earlier c (declared sort n kind name) = NamesTerms earlier c × Declares s earlier c sort n kind name
+IsAllowed s earlier c (truth b) = NamesTerms earlier c × GivesTruth earlier c b
+IsAllowed s earlier c (info flags outer) = NamesTerms earlier c × GivesInfo earlier c flags outer
+IsAllowed s earlier c (refused r) = MayRefuse s earlier c r
+IsAllowed s earlier c bad = c ≡ call.Bad
 
 -- each call, after what was told earlier, is answered as it may be
-abbrev pub Means : Type 0 → List Told → List Call → List Told → Type 0
-Means full earlier [] [] = ⊤
-Means full earlier [] (t ∷ ts) = ⊥
-Means full earlier (c ∷ calls) [] = ⊥
-Means full earlier (c ∷ calls) (t ∷ ts) = IsAllowed full earlier c t × Means full (earlier ++ t ∷ []) calls ts
+abbrev pub Means : Setting → List Told → List Call → List Told → Type 0
+Means s earlier [] [] = ⊤
+Means s earlier [] (t ∷ ts) = ⊥
+Means s earlier (c ∷ calls) [] = ⊥
+Means s earlier (c ∷ calls) (t ∷ ts) = IsAllowed s earlier c t × Means s (earlier ++ t ∷ []) calls ts

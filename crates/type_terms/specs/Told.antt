@@ -1,13 +1,16 @@
 -- What answers tell, each handle taken as its tree.
-use Rattle.std.specs.Prelude.{ℕ, ◌<◌, ◌≤◌, Bool, List, [], ◌∷◌, map, Option, Some, None, ⊤}
+use Rattle.std.specs.Prelude.{◌≡◌, ℕ, ◌<◌, ◌≤◌, Bool, List, [], ◌∷◌, map, Option, Some, None, ⊤}
 use Rattle.tt_index.specs.declared.refusal.Refusal.{Refusal}
+use Rattle.tt_kinds.specs.Label.{Name}
+use Rattle.tt_kinds.specs.Shape.{name_of}
 use Rattle.tt_kinds.specs.Tree.{Depth, Tree}
 use Rattle.tt_kinds.specs.declared.table.Table.{Table}
+use Rattle.tt_kinds.specs.declared.declaration.DeclarationKind.{DeclarationKind}
 use Rattle.tt_kinds.specs.declared.declaration.DeclarationSort.{DeclarationSort}
-use Rattle.tt_kinds.specs.declared.table.Table.TheVariants.{Types, Consts, Patterns, Predicates, ClauseLists, ArgLists}
+use Rattle.tt_kinds.specs.declared.table.Table.TheVariants.{Types, Consts, Patterns, Predicates, ClauseLists, ArgLists, Declarations}
 use Rattle.tt_interner.specs.Rows.{Row, size, meaning}
 use Rattle.tt_interner.specs.Stored.{Terms}
-use Rattle.tt_interner.specs.Declarations.{IsOfSort}
+use Rattle.tt_interner.specs.Declarations.{IsOfSort, declared_at}
 use Rattle.type_terms.specs.declared.run.answer.Answer.{Answer}
 use Rattle.type_terms.specs.declared.run.answer.Answer.TheVariants as answer
 
@@ -15,8 +18,8 @@ use Rattle.type_terms.specs.declared.run.answer.Answer.TheVariants as answer
 pub data Told : Type 0 where
   -- a term of the table
   term : Table → Tree Depth → Told
-  -- the id of a declaration of this sort: its number
-  declared : DeclarationSort → ℕ → Told
+  -- the id of a declaration of this sort: its number, what is declared, and its name
+  declared : DeclarationSort → ℕ → DeclarationKind → Name → Told
   truth : Bool → Told
   info : ℕ → ℕ → Told
   refused : Refusal → Told
@@ -30,7 +33,7 @@ told rows (answer.Pat p) = term Patterns (meaning rows Patterns p.number)
 told rows (answer.Predicate p) = term Predicates (meaning rows Predicates p.number)
 told rows (answer.Clauses l) = term ClauseLists (meaning rows ClauseLists l.number)
 told rows (answer.Args l) = term ArgLists (meaning rows ArgLists l.number)
-told rows (answer.Id sort id) = declared sort id.number
+told rows (answer.Id sort id) = declared sort id.number (declared_at rows id).kind (name_of (meaning rows) (declared_at rows id).name.number)
 told rows (answer.Truth b) = truth b
 told rows (answer.Info flags outer) = info flags.bits outer
 told rows (answer.Refused r) = refused r
@@ -80,3 +83,22 @@ AreOwned rows (a ∷ answers) = IsOwned rows a × AreOwned rows answers
 pub record HasFullTable (terms : Terms) : Type 0 where
   pub table : Table
   pub full : terms.limit ≤ size terms.rows table
+
+-- a term of the table is stored in the rows and has this tree
+pub record IsStored (rows : List Row) (table : Table) (tree : Tree Depth) : Type 0 where
+  pub number : ℕ
+  pub within : number < size rows table
+  pub means : meaning rows table number ≡ tree
+
+-- what is known of an interner while calls are answered
+pub record Setting : Type 1 where
+  -- some table holds its limit at the end
+  pub full : Type 0
+  -- how many declarations there were before the calls
+  pub declarations : ℕ
+  -- a term of the table with this tree was stored before the calls
+  pub stored : Table → Tree Depth → Type 0
+
+-- an interner that has the old terms before the calls, and the new ones at the end
+abbrev pub setting : Terms → Terms → Setting
+setting old new = record { full = HasFullTable new; declarations = size old.rows Declarations; stored = IsStored old.rows }

@@ -14,6 +14,7 @@ mod library;
 mod orders;
 mod owned;
 mod readme;
+mod regions;
 mod spelling;
 mod users;
 mod values;

@@ -43,9 +43,9 @@ impl Interner {
         }
     }
 
-    // Whether the child, if there is one, is of this interner.
+    /// Whether the child, if there is one, is of this interner.
     #[tactic(auto, unfolding(tt_kinds::specs::Shape::IsPart))]
-    fn owns_child(&self, child: &Child) -> bool
+    pub fn owns_child(&self, child: &Child) -> bool
         ensures { IsTrue result ↔ AreParts (size self.now.rows) (child_shapes child.now) }
     {
         match child {

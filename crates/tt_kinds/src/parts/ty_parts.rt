@@ -44,10 +44,10 @@ impl TyKind {
                 Child::Node(Node::Ty(*ty)),
                 Child::Node(Node::Pat(*pat)),
             ),
-            TyKind::Ref(region, ty, _) => Parts::two(
-                Child::Region(*region),
-                Child::Node(Node::Ty(*ty)),
-            ),
+            TyKind::Ref(region, ty, _) => {
+                let referent = Child::Node(Node::Ty(*ty));
+                Parts::two(Child::Region(*region), referent)
+            }
             TyKind::RawPtr(ty, _) | TyKind::Slice(ty) => Parts::one(Child::Node(Node::Ty(*ty))),
             TyKind::Tuple(tys) => Parts::one(Child::List(List::Tys(*tys))),
             TyKind::FnPtr(types, _) => Parts::one(Child::List(List::Tys(

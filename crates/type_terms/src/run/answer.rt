@@ -7,7 +7,7 @@ use tt_kinds::{Clauses, Const, DeclarationSort, DefId, GenericArgs, Pat, Predica
 /// The answer to a [`Call`](crate::Call).
 #[derive(Clone, Copy, Debug, PartialEq, Eq)]
 pub enum Answer {
-    /// The type that was built, shifted or instantiated.
+    /// The type that was built, or that a fold gave.
     Ty(Ty),
     /// The constant that was.
     Const(Const),

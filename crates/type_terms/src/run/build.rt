@@ -1,6 +1,7 @@
 //! The building of terms.
 
-ghost use Rattle.std.specs.Prelude.{◌≡◌, map, [], ◌∷◌, List};
+ghost use Rattle.std.specs.Prelude.{◌≡◌, IfErr, map, [], ◌∷◌, List};
+ghost use Rattle.tt_index.specs.declared.refusal.Refusal.TheVariants.{NoSuchAnswer};
 ghost use Rattle.tt_kinds.specs.Tree as tree;
 ghost use Rattle.tt_kinds.specs.Label.{region_sort, type_sort, type_variable, type_label, placeholder_type, foreign_type, ref_type, array_type, pat_type, unsafe_binder_type, unsafe_binder_record, fn_ptr_type, fn_sig_tys_record, late_param_region, placeholder_region};
 ghost use Rattle.tt_kinds.specs.Bound.{depth};
@@ -10,7 +11,7 @@ ghost use Rattle.tt_kinds.specs.Kinds.{ty_kind_shape, args_shape};
 ghost use Rattle.tt_interner.specs.Rows.{Row};
 ghost use Rattle.tt_interner.specs.Stored.{Terms, Extends};
 ghost use Rattle.type_terms.specs.declared.run.call.Call.TheVariants.{Ty as BuildsTy};
-ghost use Rattle.type_terms.specs.CallForm.{ty_ids, ty_form, alias_of, param, plain, under, one, a_region, a_term, a_list, terms_at, args_part, item_type, called, ty_called, variable_kind, region_entry, region_tree, IsRegionTooDeep};
+ghost use Rattle.type_terms.specs.CallForm.{IsOfHandles, ty_ids, ty_form, alias_of, param, plain, under, one, a_region, a_term, a_list, terms_at, args_part, item_type, called, ty_called, variable_kind, region_entry, region_tree, IsRegionTooDeep};
 ghost use Rattle.type_terms.specs.Told.{Told, told_all, AreOwned};
 ghost use Rattle.type_terms.specs.Means.{number_at, AreTerms};
 ghost use Rattle.type_terms.specs.Build.{GivesName, GivesVariable, GivesVariables, GivesRegion, GivesKind, Answers};
@@ -37,10 +38,12 @@ use tt_kinds::{
 pub fn build_ty(cx: &mut Interner, earlier: &[Answer], call: &TyCall) -> Result<Answer, Refusal>
     requires { AreOwned cx.old.rows earlier.now }
     ensures extends { Extends cx.old cx.new }
-    ensures answers { AreTerms (told_all cx.old.rows earlier.now) (ty_ids call.now) → Answers cx.new (told_all cx.old.rows earlier.now) (BuildsTy call.now) result }
+    ensures answers { AreTerms (told_all cx.old.rows earlier.now) (ty_ids call.now) → Answers cx.old cx.new (told_all cx.old.rows earlier.now) (BuildsTy call.now) result }
 {
     match ty_kind(cx, earlier, call) {
         Ok(kind) => {
+            // The rows stand once each, so that a type that is there is found.
+            cx.are_rows();
             let ty = cx.mk_ty(kind)?;
             Ok(Answer::Ty(ty))
         }
@@ -53,6 +56,7 @@ fn ty_kind(cx: &mut Interner, earlier: &[Answer], call: &TyCall) -> Result<TyKin
     requires { AreOwned cx.old.rows earlier.now }
     ensures extends { Extends cx.old cx.new }
     ensures kind { GivesKind cx.new (told_all cx.old.rows earlier.now) (ty_form (number_at (told_all cx.old.rows earlier.now)) call.now) ty_kind_shape result }
+    ensures handles { IfErr result (λ e. IsOfHandles (ty_form (number_at (told_all cx.old.rows earlier.now)) call.now) → e ≡ NoSuchAnswer) }
 {
     match call {
         TyCall::Bool => Ok(TyKind::Bool),
@@ -161,7 +165,8 @@ fn ref_kind(
 
 // The kind of an array.
 fn array_kind(earlier: &[Answer], ty: u32, length: u32) -> Result<TyKind, Refusal>
-    ensures { (terms : Terms) → AreOwned terms.rows earlier.now → GivesKind terms (told_all terms.rows earlier.now) (plain (type_label array_type) (one (a_term Table.Types ty) ∷ one (a_term Table.Consts length) ∷ [])) ty_kind_shape result }
+    ensures cause { IfErr result (λ e. e ≡ NoSuchAnswer) }
+    ensures kind { (terms : Terms) → AreOwned terms.rows earlier.now → GivesKind terms (told_all terms.rows earlier.now) (plain (type_label array_type) (one (a_term Table.Types ty) ∷ one (a_term Table.Consts length) ∷ [])) ty_kind_shape result }
 {
     let pair = handle_pair::<Ty, Const>(earlier, ty, length)?;
     Ok(TyKind::Array(pair.0, pair.1))
@@ -169,7 +174,8 @@ fn array_kind(earlier: &[Answer], ty: u32, length: u32) -> Result<TyKind, Refusa
 
 // The kind of a type that a pattern restricts.
 fn pat_kind(earlier: &[Answer], ty: u32, pat: u32) -> Result<TyKind, Refusal>
-    ensures { (terms : Terms) → AreOwned terms.rows earlier.now → GivesKind terms (told_all terms.rows earlier.now) (plain (type_label pat_type) (one (a_term Table.Types ty) ∷ one (a_term Table.Patterns pat) ∷ [])) ty_kind_shape result }
+    ensures cause { IfErr result (λ e. e ≡ NoSuchAnswer) }
+    ensures kind { (terms : Terms) → AreOwned terms.rows earlier.now → GivesKind terms (told_all terms.rows earlier.now) (plain (type_label pat_type) (one (a_term Table.Types ty) ∷ one (a_term Table.Patterns pat) ∷ [])) ty_kind_shape result }
 {
     let pair = handle_pair::<Ty, Pat>(earlier, ty, pat)?;
     Ok(TyKind::Pat(pair.0, pair.1))

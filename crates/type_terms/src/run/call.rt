@@ -84,7 +84,7 @@ pub enum AliasCall {
     Inherent(u32),
     /// An opaque type.
     Opaque(u32),
-    /// A type alias that stands for itself.
+    /// A type alias whose bounds are checked, and which can always be normalized away.
     Free(u32),
 }
 
@@ -350,7 +350,7 @@ pub enum DeclarationKindCall {
     Adt,
     /// An opaque type.
     Opaque,
-    /// A type alias that stands for itself.
+    /// A type alias whose bounds are checked, and which can always be normalized away.
     Free,
     /// A type that is declared elsewhere.
     Foreign,
@@ -396,6 +396,9 @@ pub enum Call {
     Shift(u32, u32),
     /// Instantiates the term at the position with the arguments.
     Instantiate(u32, Vec<ArgCall>),
+    /// Replaces each region of the term at the position by the erased one, but for those that the term's own binders bind, and
+    /// the canonical ones.
+    EraseRegions(u32),
     /// Asks whether the terms at two positions are the same.
     Equal(u32, u32),
     /// Asks for the flags and the outer exclusive binder of the term at the position.

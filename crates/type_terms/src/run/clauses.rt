@@ -25,7 +25,7 @@ pub fn build_clauses(
 ) -> Result<Answer, Refusal>
     requires { AreOwned cx.old.rows earlier.now }
     ensures extends { Extends cx.old cx.new }
-    ensures answers { (list : Vec ℕ Global) → list.items ≡ positions.now → Answers cx.new (told_all cx.old.rows earlier.now) (BuildsClauses list) result }
+    ensures answers { (list : Vec ℕ Global) → list.items ≡ positions.now → Answers cx.old cx.new (told_all cx.old.rows earlier.now) (BuildsClauses list) result }
 {
     let clauses = clauses_at(cx, earlier, positions)?;
     let list = cx.mk_clauses(clauses.as_slice())?;

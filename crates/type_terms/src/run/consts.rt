@@ -2,13 +2,14 @@
 
 ghost use Rattle.std.specs.declared.alloc.Global.{Global};
 ghost use Rattle.std.specs.declared.vec.Vec.{Vec};
-ghost use Rattle.std.specs.Prelude.{◌≡◌, [], ◌∷◌, List};
+ghost use Rattle.std.specs.Prelude.{◌≡◌, IfErr, [], ◌∷◌, List};
+ghost use Rattle.tt_index.specs.declared.refusal.Refusal.TheVariants.{NoSuchAnswer};
 ghost use Rattle.tt_kinds.specs.Label.{const_sort, const_label, leaf_const, branch_const};
 ghost use Rattle.tt_kinds.specs.Kinds.{const_kind_shape};
 ghost use Rattle.tt_interner.specs.Stored.{Extends};
 ghost use Rattle.type_terms.specs.declared.run.call.ArgCall.{ArgCall};
 ghost use Rattle.type_terms.specs.declared.run.call.Call.TheVariants.{Const as BuildsConst, Args as BuildsArgs};
-ghost use Rattle.type_terms.specs.CallForm.{args_ids, const_ids, const_form, value_form, param, plain, one, a_term, a_list, terms_at};
+ghost use Rattle.type_terms.specs.CallForm.{IsOfHandles, args_ids, const_ids, const_form, value_form, param, plain, one, a_term, a_list, terms_at};
 ghost use Rattle.type_terms.specs.Told.{Told, told_all, AreOwned};
 ghost use Rattle.type_terms.specs.Means.{number_at, AreTerms};
 ghost use Rattle.type_terms.specs.Build.{GivesKind, Answers};
@@ -33,10 +34,12 @@ pub fn build_const(
 ) -> Result<Answer, Refusal>
     requires { AreOwned cx.old.rows earlier.now }
     ensures extends { Extends cx.old cx.new }
-    ensures answers { AreTerms (told_all cx.old.rows earlier.now) (const_ids call.now) → Answers cx.new (told_all cx.old.rows earlier.now) (BuildsConst call.now) result }
+    ensures answers { AreTerms (told_all cx.old.rows earlier.now) (const_ids call.now) → Answers cx.old cx.new (told_all cx.old.rows earlier.now) (BuildsConst call.now) result }
 {
     match const_kind(cx, earlier, call) {
         Ok(kind) => {
+            // The rows stand once each, so that a constant that is there is found.
+            cx.are_rows();
             let constant = cx.mk_const(kind)?;
             Ok(Answer::Const(constant))
         }
@@ -52,7 +55,7 @@ pub fn build_args_answer(
 ) -> Result<Answer, Refusal>
     requires { AreOwned cx.old.rows earlier.now }
     ensures extends { Extends cx.old cx.new }
-    ensures answers { (list : Vec ArgCall Global) → list.items ≡ args.now → AreTerms (told_all cx.old.rows earlier.now) (args_ids list.items) → Answers cx.new (told_all cx.old.rows earlier.now) (BuildsArgs list) result }
+    ensures answers { (list : Vec ArgCall Global) → list.items ≡ args.now → AreTerms (told_all cx.old.rows earlier.now) (args_ids list.items) → Answers cx.old cx.new (told_all cx.old.rows earlier.now) (BuildsArgs list) result }
 {
     let args = build_arg_list(cx, earlier, args)?;
     Ok(Answer::Args(args))
@@ -63,6 +66,7 @@ fn const_kind(cx: &mut Interner, earlier: &[Answer], call: &ConstCall) -> Result
     requires { AreOwned cx.old.rows earlier.now }
     ensures extends { Extends cx.old cx.new }
     ensures kind { GivesKind cx.new (told_all cx.old.rows earlier.now) (const_form (number_at (told_all cx.old.rows earlier.now)) call.now) const_kind_shape result }
+    ensures handles { IfErr result (λ e. IsOfHandles (const_form (number_at (told_all cx.old.rows earlier.now)) call.now) → e ≡ NoSuchAnswer) }
 {
     match call {
         ConstCall::Param { index, name } => param_kind(cx, *index, name.as_str()),
@@ -102,6 +106,7 @@ fn value_kind(
     requires { AreOwned cx.old.rows earlier.now }
     ensures extends { Extends cx.old cx.new }
     ensures kind { GivesKind cx.new (told_all cx.old.rows earlier.now) (value_form ty valtree.now) const_kind_shape result }
+    ensures handles { IfErr result (λ e. IsOfHandles (value_form ty valtree.now) → e ≡ NoSuchAnswer) }
 {
     match valtree {
         ValTreeCall::Leaf(leaf) => leaf_kind(cx, earlier, ty, *leaf),
@@ -117,7 +122,8 @@ fn leaf_kind(
     leaf: ScalarInt,
 ) -> Result<ConstKind, Refusal>
     requires { AreOwned cx.now.rows earlier.now }
-    ensures { GivesKind cx.now (told_all cx.now.rows earlier.now) (plain (const_label (leaf_const leaf.bits leaf.size)) (one (a_term Table.Types ty) ∷ [])) const_kind_shape result }
+    ensures cause { IfErr result (λ e. e ≡ NoSuchAnswer) }
+    ensures kind { GivesKind cx.now (told_all cx.now.rows earlier.now) (plain (const_label (leaf_const leaf.bits leaf.size)) (one (a_term Table.Types ty) ∷ [])) const_kind_shape result }
 {
     let ty = handle_at::<Ty>(earlier, ty)?;
     let valtree = ValTree::from(ValTreeKind::Leaf(leaf));

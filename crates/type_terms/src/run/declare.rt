@@ -6,9 +6,9 @@ ghost use Rattle.tt_kinds.specs.Declaration.{sort_of};
 ghost use Rattle.tt_interner.specs.Rows.{Row};
 ghost use Rattle.tt_interner.specs.Stored.{Extends};
 ghost use Rattle.type_terms.specs.declared.run.call.Call.TheVariants.{Declare as Declares};
-ghost use Rattle.type_terms.specs.CallForm.{declared_sort, declared_positions};
+ghost use Rattle.type_terms.specs.CallForm.{declared_sort, declared_kind, declared_positions};
 ghost use Rattle.type_terms.specs.Told.{told_all, AreOwned};
-ghost use Rattle.type_terms.specs.Means.{AreTerms};
+ghost use Rattle.type_terms.specs.Means.{number_at, AreTerms};
 ghost use Rattle.type_terms.specs.Build.{Answers};
 
 use crate::run::answer::Answer;
@@ -26,7 +26,7 @@ pub fn declare_at(
 ) -> Result<Answer, Refusal>
     requires { AreOwned cx.old.rows earlier.now }
     ensures extends { Extends cx.old cx.new }
-    ensures answers { Answers cx.new (told_all cx.old.rows earlier.now) (Declares call.now) result }
+    ensures answers { Answers cx.old cx.new (told_all cx.old.rows earlier.now) (Declares call.now) result }
 {
     let kind = declared_kind(earlier, &call.kind)?;
     let name = cx.symbol(call.name.as_str())?;
@@ -37,6 +37,7 @@ pub fn declare_at(
 // What is declared.
 fn declared_kind(earlier: &[Answer], call: &DeclarationKindCall) -> Result<DeclarationKind, Refusal>
     ensures sort { IfOk result (λ kind. sort_of kind ≡ declared_sort call.now) }
+    ensures kind { IfOk result (λ kind. (rows : List Row) → kind ≡ declared_kind (number_at (told_all rows earlier.now)) call.now) }
     ensures named { IfOk result (λ kind. (rows : List Row) → AreTerms (told_all rows earlier.now) (declared_positions call.now)) }
     ensures cause { IfErr result (λ e. e ≡ NoSuchAnswer) }
     ensures absent { IfErr result (λ e. (rows : List Row) → AreTerms (told_all rows earlier.now) (declared_positions call.now) → ⊥) }

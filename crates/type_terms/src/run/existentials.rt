@@ -49,6 +49,8 @@ fn build_existentials(
     ensures list { let e = told_all cx.old.rows earlier.now in let forms = map (existential_form (number_at e)) calls.now in
         GivesPlaced cx.new e (existentials_tree (number_at e) (tree_at e) forms) (all_positions existential_positions forms) (AnyIsDeep IsExistentialTooDeep forms) existentials_shape result }
 {
+    // What an id tells stays as the interner grows.
+    cx.are_rows();
     let mut built = Vec::with_capacity(cx.allocator(), calls.len())?;
     for call in calls {
         let existential = build_existential(cx, earlier, call)?;

@@ -7,7 +7,7 @@ ghost use Rattle.tt_interner.specs.Rows.{size, meaning};
 ghost use Rattle.tt_interner.specs.Stored.{Extends};
 ghost use Rattle.tt_binder.specs.Arguments.{AreArguments};
 ghost use Rattle.type_terms.specs.declared.run.call.ArgCall.{ArgCall};
-ghost use Rattle.type_terms.specs.declared.run.call.Call.TheVariants.{Shift as Shifts, Instantiate as Instantiates};
+ghost use Rattle.type_terms.specs.declared.run.call.Call.TheVariants.{Shift as Shifts, EraseRegions as Erases, Instantiate as Instantiates};
 ghost use Rattle.type_terms.specs.CallForm.{args_ids};
 ghost use Rattle.type_terms.specs.Told.{Told, told_all, AreOwned};
 ghost use Rattle.type_terms.specs.Means.{term_at, AreTerms};
@@ -19,10 +19,10 @@ use crate::run::handle::Handle;
 use crate::run::lookup::answer_at;
 use crate::run::parts::build_args;
 use tt_binder::Instantiate;
-use tt_fold::shift_vars;
+use tt_fold::{fold_regions, shift_vars};
 use tt_index::Refusal;
 use tt_interner::Interner;
-use tt_kinds::{EarlyBinder, GenericArg};
+use tt_kinds::{EarlyBinder, GenericArg, Region, RegionKind};
 
 /// The term at the position, shifted.
 pub fn shift_at(
@@ -33,7 +33,7 @@ pub fn shift_at(
 ) -> Result<Answer, Refusal>
     requires { AreOwned cx.old.rows earlier.now }
     ensures extends { Extends cx.old cx.new }
-    ensures answers { Answers cx.new (told_all cx.old.rows earlier.now) (Shifts position amount) result }
+    ensures answers { Answers cx.old cx.new (told_all cx.old.rows earlier.now) (Shifts position amount) result }
 {
     let answer = answer_at(earlier, position)?;
     match answer {
@@ -51,10 +51,41 @@ pub fn shift_at(
 fn shifted<T: Handle>(cx: &mut Interner, term: T, amount: u32) -> Result<Answer, Refusal>
     requires { T.number term < size cx.old.rows T.table }
     ensures extends { Extends cx.old cx.new }
-    ensures answers { (earlier : List Told) (p : ℕ) → term_at earlier p ≡ Some (record { table = T.table; tree = meaning cx.old.rows T.table (T.number term) }) → Answers cx.new earlier (Shifts p amount) result }
+    ensures answers { (earlier : List Told) (p : ℕ) → term_at earlier p ≡ Some (record { table = T.table; tree = meaning cx.old.rows T.table (T.number term) }) → Answers cx.old cx.new earlier (Shifts p amount) result }
 {
     let shifted = shift_vars(cx, term, amount)?;
     Ok(shifted.into_answer())
+}
+
+/// The term at the position, with its regions erased.
+pub fn erase_at(cx: &mut Interner, earlier: &[Answer], position: u32) -> Result<Answer, Refusal>
+    requires { AreOwned cx.old.rows earlier.now }
+    ensures extends { Extends cx.old cx.new }
+    ensures answers { Answers cx.old cx.new (told_all cx.old.rows earlier.now) (Erases position) result }
+{
+    let answer = answer_at(earlier, position)?;
+    match answer {
+        Answer::Ty(ty) => erased(cx, *ty),
+        Answer::Const(constant) => erased(cx, *constant),
+        Answer::Pat(pat) => erased(cx, *pat),
+        Answer::Predicate(predicate) => erased(cx, *predicate),
+        Answer::Clauses(clauses) => erased(cx, *clauses),
+        Answer::Args(args) => erased(cx, *args),
+        _ => Err(Refusal::NoSuchAnswer),
+    }
+}
+
+// The term, with its regions erased.
+fn erased<T: Handle>(cx: &mut Interner, term: T) -> Result<Answer, Refusal>
+    requires { T.number term < size cx.old.rows T.table }
+    ensures extends { Extends cx.old cx.new }
+    ensures answers { (earlier : List Told) (p : ℕ) →
+        term_at earlier p ≡ Some (record { table = T.table; tree = meaning cx.old.rows T.table (T.number term) }) →
+        Answers cx.old cx.new earlier (Erases p) result }
+{
+    let region = Region::new(RegionKind::ReErased)?;
+    let erased = fold_regions(cx, term, move |_, _| region)?;
+    Ok(erased.into_answer())
 }
 
 /// The term at the position, instantiated, where the ids that the arguments name are there.
@@ -66,7 +97,7 @@ pub fn instantiate_at(
 ) -> Result<Answer, Refusal>
     requires { AreOwned cx.old.rows earlier.now }
     ensures extends { Extends cx.old cx.new }
-    ensures answers { (list : Vec ArgCall Global) → list.items ≡ args.now → AreTerms (told_all cx.old.rows earlier.now) (args_ids list.items) → Answers cx.new (told_all cx.old.rows earlier.now) (Instantiates position list) result }
+    ensures answers { (list : Vec ArgCall Global) → list.items ≡ args.now → AreTerms (told_all cx.old.rows earlier.now) (args_ids list.items) → Answers cx.old cx.new (told_all cx.old.rows earlier.now) (Instantiates position list) result }
 {
     let answer = answer_at(earlier, position)?;
     let args = build_args(cx, earlier, args)?;
@@ -90,7 +121,7 @@ fn instantiated<T: Handle>(
     requires term { T.number term < size cx.old.rows T.table }
     requires args { AreArguments cx.old.rows args.now }
     ensures extends { Extends cx.old cx.new }
-    ensures answers { (earlier : List Told) (p : ℕ) (list : Vec ArgCall Global) → term_at earlier p ≡ Some (record { table = T.table; tree = meaning cx.old.rows T.table (T.number term) }) → AreTerms earlier (args_ids list.items) → AreArgumentsOf cx.old earlier list.items args.now → Answers cx.new earlier (Instantiates p list) result }
+    ensures answers { (earlier : List Told) (p : ℕ) (list : Vec ArgCall Global) → term_at earlier p ≡ Some (record { table = T.table; tree = meaning cx.old.rows T.table (T.number term) }) → AreTerms earlier (args_ids list.items) → AreArgumentsOf cx.old earlier list.items args.now → Answers cx.old cx.new earlier (Instantiates p list) result }
 {
     let instance = EarlyBinder::bind(term).instantiate(cx, args)?;
     Ok(instance.skip_norm_wip().into_answer())

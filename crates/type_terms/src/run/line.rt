@@ -48,6 +48,7 @@ fn parse_call(alloc: Global, first: &[u8], words: &mut Words) -> Result<Call, Li
     let call = match first {
         b"shift" => Call::Shift(position(words)?, number(words, u32::MAX)?),
         b"inst" => Call::Instantiate(position(words)?, arguments(alloc, words)?),
+        b"erase" => Call::EraseRegions(position(words)?),
         b"equal" => Call::Equal(position(words)?, position(words)?),
         b"info" => Call::Info(position(words)?),
         _ => Call::Ty(parse_ty(alloc, first, words)?),

@@ -61,7 +61,8 @@ fn id_of_sort(answer: &Answer, sort: DeclarationSort) -> Option<DefId>
 
 /// The handle at the position. It is refused with `NoSuchAnswer` where the answer there is absent or no handle of its table.
 pub fn handle_at<T: Handle>(earlier: &[Answer], position: u32) -> Result<T, Refusal>
-    ensures { (terms : Terms) → AreOwned terms.rows earlier.now → GivesPart terms (told_all terms.rows earlier.now) (one (a_term T.table position)) (λ handle. stored T.table (T.number handle)) result }
+    ensures cause { IfErr result (λ e. e ≡ NoSuchAnswer) }
+    ensures part { (terms : Terms) → AreOwned terms.rows earlier.now → GivesPart terms (told_all terms.rows earlier.now) (one (a_term T.table position)) (λ handle. stored T.table (T.number handle)) result }
 {
     let answer = answer_at(earlier, position)?;
     match T::from_answer(answer) {
@@ -76,7 +77,8 @@ pub fn handle_pair<A: Handle, B: Handle>(
     first: u32,
     second: u32,
 ) -> Result<(A, B), Refusal>
-    ensures { (terms : Terms) → AreOwned terms.rows earlier.now → GivesParts terms (told_all terms.rows earlier.now) (one (a_term A.table first) ∷ one (a_term B.table second) ∷ []) (λ pair. also (stored A.table (A.number pair.0)) (also (stored B.table (B.number pair.1)) none)) result }
+    ensures cause { IfErr result (λ e. e ≡ NoSuchAnswer) }
+    ensures parts { (terms : Terms) → AreOwned terms.rows earlier.now → GivesParts terms (told_all terms.rows earlier.now) (one (a_term A.table first) ∷ one (a_term B.table second) ∷ []) (λ pair. also (stored A.table (A.number pair.0)) (also (stored B.table (B.number pair.1)) none)) result }
 {
     let first = handle_at(earlier, first)?;
     let second = handle_at(earlier, second)?;

@@ -1,5 +1,6 @@
 //! The parts of kinds: lists of terms, and generic arguments.
 
+ghost use Rattle.std.specs.Prelude.{◌≡◌, [], IsOk};
 ghost use Rattle.tt_kinds.specs.Kinds.{tys_shape, consts_shape, pats_shape, args_shape};
 ghost use Rattle.tt_interner.specs.Stored.{Extends};
 ghost use Rattle.type_terms.specs.CallForm.{a_list, args_part, terms_at};
@@ -75,7 +76,10 @@ pub fn build_args(
     requires { AreOwned cx.old.rows earlier.now }
     ensures extends { Extends cx.old cx.new }
     ensures args { GivesArguments cx.new (told_all cx.old.rows earlier.now) args.now result }
+    ensures none { args.now ≡ [] → IsOk result }
 {
+    // What an id tells stays as the interner grows.
+    cx.are_rows();
     let mut built = Vec::with_capacity(cx.allocator(), args.len())?;
     for arg in args {
         let arg = build_arg(cx, earlier, arg)?;

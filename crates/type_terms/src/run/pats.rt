@@ -1,10 +1,11 @@
 //! The building of patterns.
 
-ghost use Rattle.std.specs.Prelude.{[], ◌∷◌};
+ghost use Rattle.std.specs.Prelude.{◌≡◌, IfErr, [], ◌∷◌};
+ghost use Rattle.tt_index.specs.declared.refusal.Refusal.TheVariants.{NoSuchAnswer};
 ghost use Rattle.tt_kinds.specs.Kinds.{pattern_kind_shape};
 ghost use Rattle.tt_interner.specs.Stored.{Extends};
 ghost use Rattle.type_terms.specs.declared.run.call.Call.TheVariants.{Pat as BuildsPat};
-ghost use Rattle.type_terms.specs.CallForm.{pat_form};
+ghost use Rattle.type_terms.specs.CallForm.{IsOfHandles, pat_form};
 ghost use Rattle.type_terms.specs.Told.{told_all, AreOwned};
 ghost use Rattle.type_terms.specs.Build.{GivesKind, Answers};
 
@@ -20,10 +21,12 @@ use tt_kinds::{Const, PatternKind};
 pub fn build_pat(cx: &mut Interner, earlier: &[Answer], call: &PatCall) -> Result<Answer, Refusal>
     requires { AreOwned cx.old.rows earlier.now }
     ensures extends { Extends cx.old cx.new }
-    ensures answers { Answers cx.new (told_all cx.old.rows earlier.now) (BuildsPat call.now) result }
+    ensures answers { Answers cx.old cx.new (told_all cx.old.rows earlier.now) (BuildsPat call.now) result }
 {
     match pattern_kind(cx, earlier, call) {
         Ok(kind) => {
+            // The rows stand once each, so that a pattern that is there is found.
+            cx.are_rows();
             let pat = cx.mk_pat(kind)?;
             Ok(Answer::Pat(pat))
         }
@@ -40,6 +43,7 @@ fn pattern_kind(
     requires { AreOwned cx.old.rows earlier.now }
     ensures extends { Extends cx.old cx.new }
     ensures kind { GivesKind cx.new (told_all cx.old.rows earlier.now) (pat_form call.now) pattern_kind_shape result }
+    ensures handles { IfErr result (λ e. IsOfHandles (pat_form call.now) → e ≡ NoSuchAnswer) }
 {
     match call {
         PatCall::Range { start, end } => {

@@ -38,7 +38,7 @@ pub fn build_predicate(
 ) -> Result<Answer, Refusal>
     requires { AreOwned cx.old.rows earlier.now }
     ensures extends { Extends cx.old cx.new }
-    ensures answers { AreTerms (told_all cx.old.rows earlier.now) (predicate_ids call.now) → Answers cx.new (told_all cx.old.rows earlier.now) (BuildsPredicate call.now) result }
+    ensures answers { AreTerms (told_all cx.old.rows earlier.now) (predicate_ids call.now) → Answers cx.old cx.new (told_all cx.old.rows earlier.now) (BuildsPredicate call.now) result }
 {
     match bound_kind(cx, earlier, call) {
         Ok(kind) => {

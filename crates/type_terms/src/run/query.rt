@@ -3,7 +3,7 @@
 ghost use Rattle.std.specs.Prelude.{◌<◌, ◌↔◌, IsTrue};
 ghost use Rattle.tt_interner.specs.Rows.{size, meaning};
 ghost use Rattle.type_terms.specs.declared.run.call.Call.TheVariants.{Equal as AsksEqual, Info as AsksInfo};
-ghost use Rattle.type_terms.specs.Told.{told, told_all, AreOwned, HasFullTable};
+ghost use Rattle.type_terms.specs.Told.{told, told_all, AreOwned, setting};
 ghost use Rattle.type_terms.specs.Means.{IsAllowed};
 ghost use Rattle.type_terms.specs.Build.{AreAlike, IsInfoOf};
 
@@ -16,7 +16,7 @@ use tt_interner::Interner;
 /// Whether the terms at two positions are the same. They have to be of one table.
 pub fn equal_at(cx: &Interner, earlier: &[Answer], first: u32, second: u32) -> Answer
     requires { AreOwned cx.now.rows earlier.now }
-    ensures { IsAllowed (HasFullTable cx.now) (told_all cx.now.rows earlier.now) (AsksEqual first second) (told cx.now.rows result) }
+    ensures { IsAllowed (setting cx.now cx.now) (told_all cx.now.rows earlier.now) (AsksEqual first second) (told cx.now.rows result) }
 {
     let Ok(first) = answer_at(earlier, first) else {
         return Answer::Refused(Refusal::NoSuchAnswer);
@@ -44,7 +44,7 @@ fn are_alike(first: &Answer, second: &Answer) -> bool
 /// The flags and the outer exclusive binder of the term at the position. A list of generic arguments is none.
 pub fn info_at(cx: &Interner, earlier: &[Answer], position: u32) -> Answer
     requires { AreOwned cx.now.rows earlier.now }
-    ensures { IsAllowed (HasFullTable cx.now) (told_all cx.now.rows earlier.now) (AsksInfo position) (told cx.now.rows result) }
+    ensures { IsAllowed (setting cx.now cx.now) (told_all cx.now.rows earlier.now) (AsksInfo position) (told cx.now.rows result) }
 {
     let Ok(answer) = answer_at(earlier, position) else {
         return Answer::Refused(Refusal::NoSuchAnswer);

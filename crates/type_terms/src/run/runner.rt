@@ -3,9 +3,10 @@
 ghost use Rattle.std.specs.Prelude.{◌≡◌, ◌<◌, ◌∷◌, ◌++◌, IsOk, IfOk, IfErr, OnOk, OnErr, MatchResult, List, []};
 ghost use Rattle.std.specs.Vec.{vec_len, vec_capacity};
 ghost use Rattle.type_terms.specs.declared.run.call.Call.{Call};
-ghost use Rattle.tt_interner.specs.Stored.{Extends};
-ghost use Rattle.type_terms.specs.Told.{told, told_all, HasFullTable, IsOwned, AreOwned};
+ghost use Rattle.tt_interner.specs.Stored.{Terms, Extends};
+ghost use Rattle.type_terms.specs.Told.{told, told_all, setting, IsOwned, AreOwned};
 ghost use Rattle.type_terms.specs.Means.{id_positions, AreTerms, IsAllowed, Means};
+ghost use Rattle.type_terms.specs.Build.{AddsAnswer};
 
 use crate::run::answer::Answer;
 use crate::run::build::build_ty;
@@ -13,7 +14,7 @@ use crate::run::call::Call;
 use crate::run::clauses::build_clauses;
 use crate::run::consts::{build_args_answer, build_const};
 use crate::run::declare::declare_at;
-use crate::run::fold::{instantiate_at, shift_at};
+use crate::run::fold::{erase_at, instantiate_at, shift_at};
 use crate::run::ids::names_ids;
 use crate::run::pats::build_pat;
 use crate::run::predicates::build_predicate;
@@ -27,7 +28,7 @@ use tt_interner::Interner;
 pub fn run_calls(cx: &mut Interner, calls: &[Call]) -> Result<Vec<Answer>, Refusal>
     ensures extends { Extends cx.old cx.new }
     ensures owned { IfOk result (λ answers. AreOwned cx.new.rows answers.items) }
-    ensures means { IfOk result (λ answers. Means (HasFullTable cx.new) [] calls.now (told_all cx.new.rows answers.items)) }
+    ensures means { IfOk result (λ answers. Means (setting cx.old cx.new) [] calls.now (told_all cx.new.rows answers.items)) }
     ensures cause { IfErr result (λ e. e ≡ Refusal.Memory) }
 {
     let mut answers = Vec::with_capacity(cx.allocator(), calls.len())?;
@@ -45,11 +46,16 @@ pub fn answer_next(cx: &mut Interner, answers: &mut Vec<Answer>, call: &Call) ->
     requires { AreOwned cx.old.rows answers.old.items }
     ensures extends { Extends cx.old cx.new }
     ensures owned { AreOwned cx.new.rows answers.new.items }
-    ensures means { OnOk result ((before : List Call) → Means (HasFullTable cx.old) [] before (told_all cx.old.rows answers.old.items) → Means (HasFullTable cx.new) [] (before ++ call.now ∷ []) (told_all cx.new.rows answers.new.items)) }
+    ensures allowed { OnOk result (AddsAnswer cx.old cx.new answers.old.items call.now answers.new.items) }
+    ensures means { OnOk result ((first : Terms) (before : List Call) → Extends first cx.old →
+        Means (setting first cx.old) [] before (told_all cx.old.rows answers.old.items) →
+        Means (setting first cx.new) [] (before ++ call.now ∷ []) (told_all cx.new.rows answers.new.items)) }
     ensures cause { IfErr result (λ e. e ≡ Refusal.Memory) }
     ensures stay { OnErr result (answers.new.items ≡ answers.old.items) }
     ensures room { vec_len answers.old < vec_capacity answers.old → IsOk result }
 {
+    // Each declaration's name is one of the interner's texts, so that what an id tells stays as the interner grows.
+    cx.are_rows();
     let answer = answer_call(cx, answers.as_slice(), call);
     answers.push(answer)?;
     Ok(())
@@ -60,7 +66,7 @@ fn answer_call(cx: &mut Interner, earlier: &[Answer], call: &Call) -> Answer
     requires { AreOwned cx.old.rows earlier.now }
     ensures extends { Extends cx.old cx.new }
     ensures owned { IsOwned cx.new.rows result }
-    ensures allowed { IsAllowed (HasFullTable cx.new) (told_all cx.old.rows earlier.now) call.now (told cx.new.rows result) }
+    ensures allowed { IsAllowed (setting cx.old cx.new) (told_all cx.old.rows earlier.now) call.now (told cx.new.rows result) }
 {
     if names_ids(earlier, call) {
         answer_named(cx, earlier, call)
@@ -75,7 +81,7 @@ fn answer_named(cx: &mut Interner, earlier: &[Answer], call: &Call) -> Answer
     requires named { AreTerms (told_all cx.old.rows earlier.now) (id_positions call.now) }
     ensures extends { Extends cx.old cx.new }
     ensures owned { IsOwned cx.new.rows result }
-    ensures allowed { IsAllowed (HasFullTable cx.new) (told_all cx.old.rows earlier.now) call.now (told cx.new.rows result) }
+    ensures allowed { IsAllowed (setting cx.old cx.new) (told_all cx.old.rows earlier.now) call.now (told cx.new.rows result) }
 {
     match call {
         Call::Ty(kind) => outcome_answer(build_ty(cx, earlier, kind)),
@@ -96,6 +102,7 @@ fn answer_named(cx: &mut Interner, earlier: &[Answer], call: &Call) -> Answer
             *position,
             args.as_slice(),
         )),
+        Call::EraseRegions(position) => outcome_answer(erase_at(cx, earlier, *position)),
         Call::Equal(first, second) => equal_at(cx, earlier, *first, *second),
         Call::Info(position) => info_at(cx, earlier, *position),
         Call::Bad => Answer::Bad,

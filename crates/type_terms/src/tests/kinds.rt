@@ -339,7 +339,7 @@ impl TypeFolder for OnePredicate {
         Ok(())
     }
 
-    ghost still_owned = { λ old new s g h. IsPart-grows old new g (predicate_shape s.to) h };
+    ghost still_owned = { λ old new s g h. IsPart-grows old new g.grows (predicate_shape s.to) h };
 
     ghost still_means = { λ old new s g h. refl };
 }

@@ -40,6 +40,7 @@ ref 'erased %1
 ref 'p4294967295 %1
 ref 'e4294967295 %1
 ref '?4294967040 %0000001
+erase %1
 ",
     lines: "\
 1: ok
@@ -72,6 +73,7 @@ ref '?4294967040 %0000001
 28: ok
 29: ok
 30: ok
+31: ok
 ",
 };
 
@@ -101,7 +103,9 @@ shift %1 %1
 info 1
 \tbool
 \u{e9}
-erase %1
+erase
+erase %1 %1
+erase 1
 ",
     lines: "\
 1: bad line
@@ -129,6 +133,8 @@ erase %1
 23: bad line
 24: bad line
 25: bad line
+26: bad line
+27: bad line
 ",
 };
 

@@ -327,9 +327,9 @@ impl TypeFolder for StandIn {
         Ok(())
     }
 
-    ghost still_owned = { λ old new s g h. IsPart-grows old new g (ty_shape s.to) h };
+    ghost still_owned = { λ old new s g h. IsPart-grows old new g.grows (ty_shape s.to) h };
 
-    ghost still_means = { λ old new s g h. fill-grows old new g (ty_shape s.to) h };
+    ghost still_means = { λ old new s g h. fill-grows old new g.grows (ty_shape s.to) h };
 }
 
 // The value with one type in the places of another.
@@ -752,9 +752,9 @@ impl RegionReplacer for OneForAll {
         Ok(self.region)
     }
 
-    ghost still_owned = { λ old new s g h. IsPart-grows old new g (region_shape s.region) h };
+    ghost still_owned = { λ old new s g h. IsPart-grows old new g.grows (region_shape s.region) h };
 
-    ghost still_means = { λ old new s g h. fill-grows old new g (region_shape s.region) h };
+    ghost still_means = { λ old new s g h. fill-grows old new g.grows (region_shape s.region) h };
 }
 
 // The value with one region in the places of all of its regions.

@@ -143,6 +143,31 @@ const EMPTY_INPUT: Example = Example {
     lines: "",
 };
 
+const ERASE: Example = Example {
+    script: "\
+u32
+tuple
+ref '^0.0 %1
+ref '^1.0 %1
+ref 'static %1
+fn 1 %3 %4 %5 %2
+erase %6
+info %6
+info %7
+",
+    lines: "\
+1: ok
+2: ok
+3: ok
+4: ok
+5: ok
+6: ok
+7: ok
+8: flags 01060000 outer 1
+9: flags 01240000 outer 0
+",
+};
+
 const FIRST_TYPES: Example = Example {
     script: "\
 u32
@@ -450,7 +475,7 @@ inst %3 'static
 ";
 
 /// All worked scripts but the one with two causes.
-pub const WORKED: [&Example; 24] = [
+pub const WORKED: [&Example; 25] = [
     &ANSWERS_THAT_ARE_NO_TERMS,
     &ARGUMENT_OUT_OF_RANGE,
     &ARGUMENT_UNDER_BINDER,
@@ -459,6 +484,7 @@ pub const WORKED: [&Example; 24] = [
     &CANONICAL_REGION,
     &COMPOSITION,
     &EMPTY_INPUT,
+    &ERASE,
     &FIRST_TYPES,
     &GREATEST_BOUND_REGION,
     &GREATEST_BOUND_TYPE,
@@ -515,6 +541,11 @@ fn composition(rt: HostRuntime) -> Result<(), Fail> {
 #[test]
 fn empty_input(rt: HostRuntime) -> Result<(), Fail> {
     check(&rt, rt.alloc(), &EMPTY_INPUT)
+}
+
+#[test]
+fn erase(rt: HostRuntime) -> Result<(), Fail> {
+    check(&rt, rt.alloc(), &ERASE)
 }
 
 #[test]

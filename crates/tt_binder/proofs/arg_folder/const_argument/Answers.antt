@@ -25,3 +25,9 @@ pub returns-clause-result : goal.returns-clause-result
 returns-clause-result g c =
     let a = argument_given c.args.cx.now.rows (g.S.SliceLike.items c.args.cx.now.rows c.args.args) const_sort c.args.index (arg.Const c.in_ok-constant.constant) c.in_ok-constant.ensures.ok refl in
     λ name. (c.in_ok-shifted.ensures.in_range, given_done _ c.args.binders_passed const_sort c.args.index name _ _ a c.in_ok-shifted.ensures.tree)
+
+pub returns-in_err-shifted-clause-unshifted : goal.returns-in_err-shifted-clause-unshifted
+returns-in_err-shifted-clause-unshifted g c = λ e. (c.shift_vars.ensures.same (inl e)).1
+
+pub returns-clause-unshifted : goal.returns-clause-unshifted
+returns-clause-unshifted g c = λ e. (c.shift_vars.ensures.same (inl e)).1

@@ -25,3 +25,9 @@ pub returns-clause-result : goal.returns-clause-result
 returns-clause-result g c =
     let a = argument_given c.args.cx.now.rows (g.S.SliceLike.items c.args.cx.now.rows c.args.args) type_sort c.args.index (arg.«Type» c.in_ok-argument.argument) c.in_ok-argument.ensures.ok refl in
     λ name. (c.in_ok-shifted.ensures.in_range, given_done _ c.args.binders_passed type_sort c.args.index name _ _ a c.in_ok-shifted.ensures.tree)
+
+pub returns-in_err-shifted-clause-unshifted : goal.returns-in_err-shifted-clause-unshifted
+returns-in_err-shifted-clause-unshifted g c = λ e. (c.shift_vars.ensures.same (inl e)).1
+
+pub returns-clause-unshifted : goal.returns-clause-unshifted
+returns-clause-unshifted g c = λ e. (c.shift_vars.ensures.same (inl e)).1

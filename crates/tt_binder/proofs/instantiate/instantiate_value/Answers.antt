@@ -8,7 +8,7 @@ use Rattle.tt_binder.specs.Arguments.{arguments}
 use Rattle.tt_binder.proofs.WalkLaws.{does, fails_up}
 use Rattle.tt_binder.proofs.PositionLaws.{few}
 use Rattle.tt_binder.proofs.ClauseLaws.{instance_keeps}
-use Rattle.tt_binder.proofs.InstanceLaws.{empty_err, empty_outcome, instance_back, instance_walked, param_refused, reason_empty, reason_refused}
+use Rattle.tt_binder.proofs.InstanceLaws.{empty_err, empty_outcome, instance_back, instance_walked, param_refused, param_still, param_refused_still, reason_empty, reason_refused}
 use Rattle.tt_binder.proofs.instantiate.instantiate_value.Goals as goal
 
 pub returns-then-is_empty-clause-result : goal.returns-then-is_empty-clause-result
@@ -69,3 +69,13 @@ returns-then-is_empty-clause-positions g c = on_ok c.without_arguments.result (o
 
 pub returns-clause-positions : goal.returns-clause-positions
 returns-clause-positions g c = few c.in_ok-folded.ensures.outcome.2 0
+
+pub returns-in_err-folded-clause-parameter_counts : goal.returns-in_err-folded-clause-parameter_counts
+returns-in_err-folded-clause-parameter_counts g c = λ s i name is.
+    param_refused_still (IsRefused c.fold_with.new.cx) c.in_err-folded.ensures.outcome (arguments c.args.cx.now.rows (g.S.SliceLike.items c.args.cx.now.rows c.args.args))
+    (ap (λ folder. record { args = arguments c.args.cx.now.rows (g.S.SliceLike.items c.args.cx.now.rows folder.args); binders_passed = folder.binders_passed }) c.new-folder.ensures) s i name is
+
+pub returns-clause-parameter_counts : goal.returns-clause-parameter_counts
+returns-clause-parameter_counts g c = λ s i name is.
+    param_still c.in_ok-folded.ensures.outcome.2 (arguments c.args.cx.now.rows (g.S.SliceLike.items c.args.cx.now.rows c.args.args))
+    (ap (λ folder. record { args = arguments c.args.cx.now.rows (g.S.SliceLike.items c.args.cx.now.rows folder.args); binders_passed = folder.binders_passed }) c.new-folder.ensures) s i name is

@@ -4,7 +4,7 @@ use Rattle.tt_kinds.specs.Plain.{shift_tree}
 use Rattle.tt_kinds.proofs.ReadingLaws.{read-shift_tree}
 use Rattle.tt_fold.specs.Steps.{tree_by}
 use Rattle.tt_fold.proofs.ClauseLaws.{value_keeps}
-use Rattle.tt_fold.proofs.ShiftLaws.{shift_outcome, stays, closed}
+use Rattle.tt_fold.proofs.ShiftLaws.{shift_outcome, stays, closed, shifts_on, comes_of, keeps_matched}
 use Rattle.tt_fold.proofs.MovingLaws.{few_outcome}
 use Rattle.tt_fold.proofs.shift.shift_vars.Goals.{then-amount-eq0-via-then-amount-eq0, then-amount-eq0-via-else-amount-eq0+then-not-has_escaping_bound_vars}
 use Rattle.tt_fold.proofs.shift.shift_vars.Goals as goal
@@ -41,3 +41,36 @@ returns-clause-shift_descents g c = (shift_outcome c.args.amount c.fold_with.res
 
 pub returns-clause-positions : goal.returns-clause-positions
 returns-clause-positions g c = few_outcome g.T.TypeVisitable.shape c.args.amount c.fold_with.result refl c.fold_with.ensures
+
+pub returns-then-amount-eq0-clause-adds_up : goal.returns-then-amount-eq0-clause-adds_up
+returns-then-amount-eq0-clause-adds_up g c =
+    let t = tree_by g.T.TypeVisitable.shape c.args.cx.now.rows c.args.value in
+    shifts_on c.args.amount t t (sym (stays c.args.amount t (elim c.then-amount-eq0.branch [
+      | then-amount-eq0-via-then-amount-eq0 w ↦ inl w.if-amount-eq0.true
+      | then-amount-eq0-via-else-amount-eq0+then-not-has_escaping_bound_vars w ↦ closed c.args.amount (outer_binder t) w.if-not-has_escaping_bound_vars.ensures.1
+    ])))
+
+pub returns-clause-adds_up : goal.returns-clause-adds_up
+returns-clause-adds_up g c = (shift_outcome c.args.amount c.fold_with.result refl (value_keeps _ c.are_rows.ensures.are (g.T.TypeVisitable.shape c.args.value) c.requires) c.fold_with.ensures).adds_up
+
+pub returns-then-amount-eq0-clause-tells_apart : goal.returns-then-amount-eq0-clause-tells_apart
+returns-then-amount-eq0-clause-tells_apart g c =
+    let t = tree_by g.T.TypeVisitable.shape c.args.cx.now.rows c.args.value in
+    comes_of c.args.amount t t (sym (stays c.args.amount t (elim c.then-amount-eq0.branch [
+      | then-amount-eq0-via-then-amount-eq0 w ↦ inl w.if-amount-eq0.true
+      | then-amount-eq0-via-else-amount-eq0+then-not-has_escaping_bound_vars w ↦ closed c.args.amount (outer_binder t) w.if-not-has_escaping_bound_vars.ensures.1
+    ])))
+
+pub returns-clause-tells_apart : goal.returns-clause-tells_apart
+returns-clause-tells_apart g c = (shift_outcome c.args.amount c.fold_with.result refl (value_keeps _ c.are_rows.ensures.are (g.T.TypeVisitable.shape c.args.value) c.requires) c.fold_with.ensures).tells_apart
+
+pub returns-then-amount-eq0-clause-matched : goal.returns-then-amount-eq0-clause-matched
+returns-then-amount-eq0-clause-matched g c =
+    let t = tree_by g.T.TypeVisitable.shape c.args.cx.now.rows c.args.value in
+    keeps_matched c.args.amount t t (sym (stays c.args.amount t (elim c.then-amount-eq0.branch [
+      | then-amount-eq0-via-then-amount-eq0 w ↦ inl w.if-amount-eq0.true
+      | then-amount-eq0-via-else-amount-eq0+then-not-has_escaping_bound_vars w ↦ closed c.args.amount (outer_binder t) w.if-not-has_escaping_bound_vars.ensures.1
+    ])))
+
+pub returns-clause-matched : goal.returns-clause-matched
+returns-clause-matched g c = (shift_outcome c.args.amount c.fold_with.result refl (value_keeps _ c.are_rows.ensures.are (g.T.TypeVisitable.shape c.args.value) c.requires) c.fold_with.ensures).matched

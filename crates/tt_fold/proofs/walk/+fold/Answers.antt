@@ -2,17 +2,19 @@ use Rattle.std.proofs.Common.{◌≡◌, ◌+◌, length, refl, ap, sym, ◌∙�
 use Rattle.std.proofs.lemmas.List.{length_push}
 use Rattle.std.proofs.lemmas.Result.{err_from_is_err_and}
 use Rattle.tt_kinds.specs.Parts.{list_sort, child_sort, IsItem}
-use Rattle.tt_kinds.specs.Shape.{IsTooDeep}
+use Rattle.tt_kinds.specs.Shape.{HasParts, IsTooDeep}
 use Rattle.tt_kinds.specs.Kinds.{kind_form, kind_sort, kind_shape, child_shapes}
+use Rattle.tt_interner.specs.Rows.{size}
 use Rattle.tt_interner.specs.Children.{children_at}
 use Rattle.tt_interner.specs.Nodes.{stored_kind}
-use Rattle.tt_interner.proofs.Growth.{Extends-refl, Extends-trans, age-grows, IsPart-grows, AreParts-grows, fill-grows, children_at-grows, stored_kind-grows}
-use Rattle.tt_interner.proofs.NodeLemmas.{same-sort}
+use Rattle.tt_interner.proofs.Growth.{Extends-refl, Extends-trans, age-grows, HasParts-grows, IsPart-grows, AreParts-grows, fill-grows, children_at-grows, stored_kind-grows}
+use Rattle.tt_interner.proofs.NodeLemmas.{same-sort, refilled_parts}
 use Rattle.tt_fold.specs.Parts.{child_weight}
 use Rattle.tt_fold.specs.Walk.{replaced, kept, term_failed, in_enter_failed}
 use Rattle.tt_fold.proofs.PartLaws.{in_range, only_part, left_parts, right_parts, vars-kept, weight-grows, weights-grow}
 use Rattle.tt_fold.proofs.FormLaws.{is_inner, not-deep, form-parts, form-binder, form-older, item-older, item-part, item-fits}
 use Rattle.tt_fold.proofs.FoldSteps.{node_is_kind, stands-still, stored_list, stored_list_tree, list_is_items, memory_unbuilt, no_clause_unbuilt, stored_node, stored_node_tree, not_stored, inside_leaf, inside_fails, inside_not_built, inside_rebuilt, descend_ends, descend_fails, node_descends, open_contents, under_parts_fail, under_leave_fails, under_folds, parts_first_fails, parts_second_fails, parts_fold, child_absent, child_region_fails, child_region, child_node_fails, child_node, child_list_fails, child_list, node_passed, so_far_none, so_far_more, items_one_fails, items_one_unwanted, items_stop, items_fold, listed_fails, listed_not_stored, listed_stored, list_folds, clauses_fail, clauses_fold, clauses_node_fails, clauses_node, node_is_term, node_is_passed, other_node, other_list}
+use Rattle.tt_fold.specs.GrowthLaws.{stored-adds, kind-no_symbol, items-no_symbol}
 use Rattle.tt_fold.proofs.walk.+fold.Goals as goal
 
 pub fold_node-fold_inside-requires : goal.fold_node-fold_inside-requires
@@ -131,7 +133,9 @@ fold_inside-returns-in_err-rebuilt g t c =
     let form = rw (stored_kind-grows _ _ f.extends.rows c.args.node (in_range _ _ _ c.requires.node)) at h.form in
     let sort = same-sort h.kind k (h.table ∙ sym is.table) in
     let shallow : IsTooDeep (kind_shape h.kind) → ⊥ = rw (sort, form) (not-deep (kind_sort k) c.in_ok-parts.parts (kind_form k) inner) in
-    let cause = not_stored c.fold_contents.new.cx h.kind _ shallow h.builds.cause in
+    let parts : HasParts (size c.fold_contents.new.cx.rows) (kind_shape h.kind) =
+    rw (sort, form) (refilled_parts (size c.fold_contents.new.cx.rows) (kind_sort k) c.in_ok-parts.parts (kind_form k) (HasParts-grows _ _ f.extends.rows (kind_shape k) is.parts) c.in_ok-parts.ensures.outcome.1.owned) in
+    let cause = not_stored c.fold_contents.new.cx h.kind _ parts shallow h.builds.cause in
     let binder = form-binder _ (kind_sort k) (kind_form k) is.parts in
     rw p.1 (inside_not_built k h.kind (node_is_kind _ _ k is.means) is.parts inner binder form sort f h.builds.err (c.in_err-rebuilt.field-0.0, (p.2, rw h.builds.err cause)))
 
@@ -147,10 +151,11 @@ fold_inside-returns g t c =
     let binder = form-binder _ (kind_sort k) (kind_form k) is.parts in
     let o = c.in_ok-parts.ensures.outcome.0 in
     let grows = h.builds.grows in
+    let adds = stored-adds (kind-no_symbol h.kind) h.builds.stored in
     let of_kind = h.of_table ∙ sym h.table in
     inside_rebuilt k h.kind (node_is_kind _ _ k is.means) is.parts inner binder form sort f (record { rows = grows; limit = h.builds.limit })
-    (g.met.F.Core.still_owned _ _ _ grows o)
-    (stands-still g.F.Core.meaning c.fold_contents.new.cx c.store_like.new.self c.fold_contents.new.folder (g.met.F.Core.still_means _ _ _ grows o) h.builds.counters)
+    (g.met.F.Core.still_owned _ _ _ adds o)
+    (stands-still g.F.Core.meaning c.fold_contents.new.cx c.store_like.new.self c.fold_contents.new.folder (g.met.F.Core.still_means _ _ _ adds o) h.builds.counters)
     (stored_node _ _ _ h.kind h.builds.in_range of_kind h.table)
     (stored_node_tree _ _ _ h.kind h.builds.means of_kind)
 
@@ -293,8 +298,9 @@ pub fold_listed-returns : goal.fold_listed-returns
 fold_listed-returns g t c =
     let h = rw (c.sort.ensures, c.as_slice.ensures) at c.in_ok-new_list.ensures in
     let o = c.in_ok-fold_items.ensures.outcome.0 in
-    listed_stored c.in_ok-fold_items.ensures h.extends (g.met.F.Core.still_owned _ _ _ h.extends.rows o)
-    (stands-still g.F.Core.meaning c.fold_items.new.cx c.store_list.new.self c.fold_items.new.folder (g.met.F.Core.still_means _ _ _ h.extends.rows o) h.counters)
+    let adds = stored-adds (items-no_symbol _ _) h.stored in
+    listed_stored c.in_ok-fold_items.ensures h.extends (g.met.F.Core.still_owned _ _ _ adds o)
+    (stands-still g.F.Core.meaning c.fold_items.new.cx c.store_list.new.self c.fold_items.new.folder (g.met.F.Core.still_means _ _ _ adds o) h.counters)
     (stored_list _ _ _ h.sort h.in_range) h.sort (stored_list_tree _ _ _ h.sort ∙ h.means)
 
 pub fold_items-list_len-count-requires : goal.fold_items-list_len-count-requires

@@ -1,10 +1,11 @@
 -- an entry that is there stays, and another goes last
-use Rattle.std.proofs.Common.{◌≡◌, Some, Ok, ap, sym, ◌∙◌}
+use Rattle.std.proofs.Common.{◌≡◌, Some, Ok, ap, sym, refl, ◌∙◌}
 use Rattle.indexmap.specs.IndexMap.{get}
 use Rattle.indexmap.proofs.CallerLemmas.{insert_entry-new}
 use Rattle.indexmap.proofs.MapLemmas.{Found-position, or_len-first}
 use Rattle.tt_interner.proofs.FoundLemmas.{no_place, no_value, insert_entry-same}
 use Rattle.tt_interner.proofs.tables.find_or_insert.Goals as goal
+use Rattle.tt_interner.proofs.tables.find_or_insert.Goals.{then-len-capacity+in-Err+in-Ok-reserve, else-len-capacity}
 
 pub returns-in_default-Some-clause-found : goal.returns-in_default-Some-clause-found
 returns-in_default-Some-clause-found g c n place =
@@ -12,7 +13,7 @@ returns-in_default-Some-clause-found g c n place =
     let same : get g.K.PartialEq.eq c.args.entries.now c.args.key ≡ Some c.args.info = there ∙ ap Some (c.requires.same _ there) in
     let first = (Found-position (g.K.PartialEq.eq c.args.key) c.args.entries.now.entries n place).first in (
       ap Ok (c.in-Ok-insert_full.ensures.index ∙ or_len-first (g.K.PartialEq.eq c.args.key) c.args.entries.now.entries n first),
-      c.reserve.ensures.items,
+      elim c.if-len-capacity.branch [ then-len-capacity+in-Err+in-Ok-reserve w ↦ rw w.order-is w.reserve.ensures.items | else-len-capacity w ↦ rw w.order-is refl ],
       c.in-Ok-insert_full.ensures.entries ∙ insert_entry-same g.K.PartialEq.eq c.args.key c.args.info c.args.entries.now.entries same,
     )
 

@@ -21,7 +21,7 @@ pub returns-in_err-new-in-Some-clause-result : goal.returns-in_err-new-in-Some-c
 returns-in_err-new-in-Some-clause-result g c =
     let p = err_from_is_err_and c.from_residual.result c.from_residual.ensures.1 in
     let found = param_by_index type_sort c.in-Some.index (tree_in c.args.cx.now.rows (ty_shape c.args.ty)) c.in-Some.ensures in
-    rw (p.1, p.2) (c.type_argument.ensures.descents, c.type_argument.ensures.shift_descents, leaf_at _ _ _ _ _ _ found.1 (c.in_err-new-in-Some.ensures.result found.0))
+    rw (p.1, p.2) (c.type_argument.ensures.descents, (c.type_argument.ensures.shift_descents, λ z. ap (λ x. x.counters.shift_descents) (c.type_argument.ensures.unshifted z)), leaf_at _ _ _ _ _ _ found.1 (c.in_err-new-in-Some.ensures.result found.0))
 
 pub returns-in_ok-new-in-Some-clause-result : goal.returns-in_ok-new-in-Some-clause-result
 returns-in_ok-new-in-Some-clause-result g c =
@@ -40,7 +40,7 @@ returns-in_ok-new-in-Some-clause-result g c =
       ),
       h.0,
       given_step _ _ _ _ _ _ _ found.1 (state-still old new (g.S.SliceLike.items old args) (g.S.SliceLike.items new args) c.args.self.now.binders_passed grows same owned.1)
-          c.type_argument.ensures.descents c.type_argument.ensures.shift_descents h.1,
+          c.type_argument.ensures.descents (c.type_argument.ensures.shift_descents, λ z. ap (λ x. x.counters.shift_descents) (c.type_argument.ensures.unshifted z)) h.1,
     )
 
 pub returns-in-None-clause-result : goal.returns-in-None-clause-result

@@ -1,7 +1,9 @@
 -- a copy of the assumptions is folded, and what came of them is stored
+use Rattle.std.proofs.Common.{refl}
 use Rattle.std.proofs.lemmas.Result.{err_from_is_err_and}
 use Rattle.tt_fold.proofs.FoldSteps.{memory_unbuilt, stands-still}
 use Rattle.tt_fold.proofs.AssumptionSteps.{sequence-part, sequence-parts, vector-error, not_stored, copy_stops, assumptions_fail, assumptions_not_stored, assumptions_stored}
+use Rattle.tt_fold.specs.GrowthLaws.{stored-adds}
 use Rattle.tt_fold.proofs.assumptions.RegionAssumptionsTypeFoldable.fold_core.Goals as goal
 
 pub returns-in_err-items : goal.returns-in_err-items
@@ -27,11 +29,12 @@ returns-in_err-list g c =
     let p = err_from_is_err_and c.from_residual-in_err-list.result c.from_residual-in_err-list.ensures.1 in
     let b = rw c.as_slice.ensures.value at c.in_err-list.ensures in
     rw p.1 (assumptions_not_stored c.args.self (λ v. v.items) c.are_rows.ensures.are (rw c.in_ok-items.ensures.ok c.assumptions.ensures) c.in_ok-folded.ensures b.err
-    (c.in_err-list.field-0.0, (p.2, rw b.err (not_stored c.fold_core.new.cx _ _ b.cause))))
+    (c.in_err-list.field-0.0, (p.2, rw b.err (not_stored c.fold_core.new.cx _ _ (sequence-parts _ _ c.in_ok-folded.ensures.outcome.1) b.cause))))
 
 pub returns : goal.returns
 returns g c =
     let b = rw c.as_slice.ensures.value at c.in_ok-list.ensures in
     let o = c.in_ok-folded.ensures.outcome.0 in
-    assumptions_stored c.args.self (λ v. v.items) c.are_rows.ensures.are (rw c.in_ok-items.ensures.ok c.assumptions.ensures) c.in_ok-list.list c.in_ok-folded.ensures b (g.met.F.Core.still_owned _ _ _ b.grows o)
-    (stands-still g.F.Core.meaning c.fold_core.new.cx c.mk_assumptions.new.self c.fold_core.new.folder (g.met.F.Core.still_means _ _ _ b.grows o) b.counters)
+    let adds = stored-adds refl b.stored in
+    assumptions_stored c.args.self (λ v. v.items) c.are_rows.ensures.are (rw c.in_ok-items.ensures.ok c.assumptions.ensures) c.in_ok-list.list c.in_ok-folded.ensures b (g.met.F.Core.still_owned _ _ _ adds o)
+    (stands-still g.F.Core.meaning c.fold_core.new.cx c.mk_assumptions.new.self c.fold_core.new.folder (g.met.F.Core.still_means _ _ _ adds o) b.counters)

@@ -11,7 +11,7 @@ pub returns-in-Ok-clause-result : goal.returns-in-Ok-clause-result
 returns-in-Ok-clause-result c =
     bound_built (λ h. h.number) Consts (λ j. const_row (kind.Bound j c.args.bound_const)) const_sort (const_entry c.args.bound_const) (λ _. refl) (λ _. refl)
     c.args.cx.now c.mk_const.new.self (record { amount = c.args.self.amount; under = c.args.self.current_index }) c.args.index c.in-Ok.shifted _
-    c.requires c.in-Ok.ensures c.mk_const.ensures
+    c.requires c.in-Ok.ensures tt c.mk_const.ensures
 
 pub returns-in-Err-clause-result : goal.returns-in-Err-clause-result
 returns-in-Err-clause-result c =

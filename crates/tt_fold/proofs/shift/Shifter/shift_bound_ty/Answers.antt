@@ -11,7 +11,7 @@ pub returns-in-Ok-clause-result : goal.returns-in-Ok-clause-result
 returns-in-Ok-clause-result c =
     bound_built (λ h. h.number) Types (λ j. type_row (kind.Bound j c.args.bound_ty)) type_sort (ty_entry c.args.bound_ty) (λ _. refl) (λ _. refl)
     c.args.cx.now c.mk_ty.new.self (record { amount = c.args.self.amount; under = c.args.self.current_index }) c.args.index c.in-Ok.shifted _
-    c.requires c.in-Ok.ensures c.mk_ty.ensures
+    c.requires c.in-Ok.ensures tt c.mk_ty.ensures
 
 pub returns-in-Err-clause-result : goal.returns-in-Err-clause-result
 returns-in-Err-clause-result c =

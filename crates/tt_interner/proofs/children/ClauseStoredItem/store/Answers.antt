@@ -9,10 +9,10 @@ use Rattle.tt_interner.proofs.ClauseLemmas.{no_other}
 use Rattle.tt_interner.proofs.children.ClauseStoredItem.store.Goals as goal
 
 pub returns-in-Err : goal.returns-in-Err
-returns-in-Err c = StoresList-err (λ list. list.number) _ _ sort.Clauses (clauses_row c.args.items.items) _ (is_row_of_clauses c.args.items.items) (no_other _ c.args.items.items (rw c.as_slice.ensures.value at (c.if-not-are_clauses.ensures.0 refl))) c.in-Err.e c.in-Err.ensures
+returns-in-Err c = StoresList-err (λ list. list.number) _ _ sort.Clauses (clauses_row c.args.items.items) _ (is_row_of_clauses c.args.items.items) (no_other _ c.args.items.items (rw c.as_slice.ensures.value at (c.if-not-are_clauses.ensures.0 refl))) c.requires c.in-Err.e c.in-Err.ensures
 
 pub returns : goal.returns
 returns c = StoresList-ok (λ list. list.number) _ _ sort.Clauses (clauses_row c.args.items.items) _ (is_row_of_clauses c.args.items.items) (no_other _ c.args.items.items (rw c.as_slice.ensures.value at (c.if-not-are_clauses.ensures.0 refl))) c.in-Ok.list c.in-Ok.ensures (stored_list.Clauses c.in-Ok.list) refl refl
 
 pub returns-then-not-are_clauses : goal.returns-then-not-are_clauses
-returns-then-not-are_clauses c = StoresList-other _ c.args.items.items c.requires (λ h. false≢true (c.if-not-are_clauses.ensures.1 (rw c.as_slice.ensures.value h)))
+returns-then-not-are_clauses c = StoresList-other _ c.are_rows.ensures.are c.args.items.items c.requires (λ h. false≢true (c.if-not-are_clauses.ensures.1 (rw c.as_slice.ensures.value h)))

@@ -11,7 +11,7 @@ pub put_pat_list-requires : goal.put_pat_list-requires
 put_pat_list-requires c = subst (AreParts (size c.args.cx.now.rows)) (pats_shapes c.args.items.items) c.requires
 
 pub returns-in-Err : goal.returns-in-Err
-returns-in-Err c = StoresList-err (λ list. list.number) _ _ sort.Pats (pats_row c.args.items.items) _ (is_row_of_pats c.args.items.items) (λ bad. bad) c.in-Err.e c.in-Err.ensures
+returns-in-Err c = StoresList-err (λ list. list.number) _ _ sort.Pats (pats_row c.args.items.items) _ (is_row_of_pats c.args.items.items) (λ bad. bad) c.requires c.in-Err.e c.in-Err.ensures
 
 pub returns : goal.returns
 returns c = StoresList-ok (λ list. list.number) _ _ sort.Pats (pats_row c.args.items.items) _ (is_row_of_pats c.args.items.items) (λ bad. bad) c.in-Ok.list c.in-Ok.ensures (stored_list.Pats c.in-Ok.list) refl refl

@@ -11,7 +11,7 @@ pub put_existentials-requires : goal.put_existentials-requires
 put_existentials-requires c = subst (AreParts (size c.args.cx.now.rows)) (existentials_shapes c.args.items.items) c.requires
 
 pub returns-in-Err : goal.returns-in-Err
-returns-in-Err c = StoresList-err (λ list. list.number) _ _ sort.Existentials (existentials_row c.args.items.items) _ (is_row_of_existentials c.args.items.items) (λ bad. bad) c.in-Err.e c.in-Err.ensures
+returns-in-Err c = StoresList-err (λ list. list.number) _ _ sort.Existentials (existentials_row c.args.items.items) _ (is_row_of_existentials c.args.items.items) (λ bad. bad) c.requires c.in-Err.e c.in-Err.ensures
 
 pub returns : goal.returns
 returns c = StoresList-ok (λ list. list.number) _ _ sort.Existentials (existentials_row c.args.items.items) _ (is_row_of_existentials c.args.items.items) (λ bad. bad) c.in-Ok.list c.in-Ok.ensures (stored_list.Existentials c.in-Ok.list) refl refl

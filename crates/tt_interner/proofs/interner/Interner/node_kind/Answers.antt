@@ -1,5 +1,6 @@
 -- by the row of the term
-use Rattle.tt_interner.proofs.NodeLemmas.{is_node}
+use Rattle.std.proofs.Common.{sym}
+use Rattle.tt_interner.proofs.NodeLemmas.{is_node, kind_there}
 use Rattle.tt_interner.proofs.interner.Interner.node_kind.Goals as goal
 
 pub returns-clause-parts : goal.returns-clause-parts
@@ -10,3 +11,6 @@ returns-clause-means c = (is_node _ c.are_rows.ensures.are c.args.node c.kind_at
 
 pub returns-clause-older : goal.returns-clause-older
 returns-clause-older c = (is_node _ c.are_rows.ensures.are c.args.node c.kind_at.result c.kind_at.ensures.table c.kind_at.ensures.row).older
+
+pub returns-clause-kind : goal.returns-clause-kind
+returns-clause-kind c = sym (kind_there _ c.args.node c.kind_at.result c.kind_at.ensures.table c.kind_at.ensures.row)

@@ -8,14 +8,14 @@ use Rattle.type_terms.specs.Told.{told_all}
 use Rattle.type_terms.proofs.PartLaws.{kind-passed, plain-kind}
 use Rattle.type_terms.proofs.run.build.array_kind.Goals as goal
 
-pub returns-in_err-pair : goal.returns-in_err-pair
-returns-in_err-pair c = λ terms o.
+pub returns-in_err-pair-clause-kind : goal.returns-in_err-pair-clause-kind
+returns-in_err-pair-clause-kind c = λ terms o.
     kind-passed terms (told_all terms.rows c.args.earlier.now) (plain (type_label array_type) (one (a_term Types c.args.ty) ∷ one (a_term Consts c.args.length) ∷ [])) ty_kind_shape
-    c.from_residual.result c.in_err-pair.field-0.0 c.from_residual.ensures.1 (c.in_err-pair.ensures terms o).err
+    c.from_residual.result c.in_err-pair.field-0.0 c.from_residual.ensures.1 (c.in_err-pair.ensures.parts terms o).err
 
-pub returns : goal.returns
-returns c = λ terms o. record {
+pub returns-clause-kind : goal.returns-clause-kind
+returns-clause-kind c = λ terms o. record {
   ok = plain-kind terms (told_all terms.rows c.args.earlier.now) (type_label array_type) (one (a_term Types c.args.ty) ∷ one (a_term Consts c.args.length) ∷ []) (type_label array_type)
-      (shape.also (ty_shape c.in_ok-pair.pair.0) (shape.also (const_shape c.in_ok-pair.pair.1) shape.none)) (c.in_ok-pair.ensures terms o).ok tt refl;
+      (shape.also (ty_shape c.in_ok-pair.pair.0) (shape.also (const_shape c.in_ok-pair.pair.1) shape.none)) (c.in_ok-pair.ensures.parts terms o).ok tt refl;
   err = tt;
 }

@@ -14,7 +14,7 @@ returns-in_err-ty-clause-kind c =
     let region = one (a_region c.args.region.now) in
     let ty = one (a_term Types c.args.position) in
     kind-passed c.args.cx.now e (plain (type_label (ref_type c.args.mutability)) (region ∷ ty ∷ [])) ty_kind_shape c.from_residual.result c.in_err-ty.field-0.0 c.from_residual.ensures.1
-    (unbuilt-second (HasFullTable c.args.cx.now) e region ty [] c.in_err-ty.field-0.0 (c.in_err-ty.ensures c.args.cx.now c.requires).err)
+    (unbuilt-second (HasFullTable c.args.cx.now) e region ty [] c.in_err-ty.field-0.0 (c.in_err-ty.ensures.part c.args.cx.now c.requires).err)
 
 pub returns-in_err-region-clause-kind : goal.returns-in_err-region-clause-kind
 returns-in_err-region-clause-kind c =
@@ -35,6 +35,6 @@ returns-clause-kind c =
       ok = plain-kind c.build_region.new.cx e label (region ∷ ty ∷ []) (type_label (ref_type c.args.mutability)) (shape.also (region_shape c.in_ok-region.region) (shape.also (ty_shape c.in_ok-ty.ty) shape.none))
           (parts-two c.build_region.new.cx e region ty (region_shape c.in_ok-region.region) (ty_shape c.in_ok-ty.ty)
           (region-part c.build_region.new.cx e c.args.region.now c.in_ok-region.region (c.in_ok-region.ensures.region c.args.cx.now.rows).ok)
-          (placed-grows c.args.cx.now c.build_region.new.cx c.build_region.ensures.extends (c.in_ok-ty.ensures c.args.cx.now c.requires).ok)) tt refl;
+          (placed-grows c.args.cx.now c.build_region.new.cx c.build_region.ensures.extends (c.in_ok-ty.ensures.part c.args.cx.now c.requires).ok)) tt refl;
       err = tt;
     }

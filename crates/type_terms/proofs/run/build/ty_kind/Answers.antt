@@ -65,7 +65,7 @@ returns-in_err-handle_at-in-RawPtr-clause-kind c =
     let r = c.in_err-handle_at-in-RawPtr in
     rw (c.in-RawPtr.is)
     (kind-passed c.args.cx.now e (plain (type_label (raw_ptr_type c.in-RawPtr.mutability)) (part ∷ [])) ty_kind_shape c.from_residual.result r.field-0.0 c.from_residual.ensures.1
-    (unbuilt-first (HasFullTable c.args.cx.now) e part [] r.field-0.0 (r.ensures c.args.cx.now c.requires).err))
+    (unbuilt-first (HasFullTable c.args.cx.now) e part [] r.field-0.0 (r.ensures.part c.args.cx.now c.requires).err))
 
 pub returns-in_ok-handle_at-in-RawPtr-clause-kind : goal.returns-in_ok-handle_at-in-RawPtr-clause-kind
 returns-in_ok-handle_at-in-RawPtr-clause-kind c =
@@ -75,7 +75,7 @@ returns-in_ok-handle_at-in-RawPtr-clause-kind c =
     rw (c.in-RawPtr.is)
     (record {
       ok = plain-kind c.args.cx.now e (type_label (raw_ptr_type c.in-RawPtr.mutability)) (part ∷ []) (type_label (raw_ptr_type c.in-RawPtr.mutability)) (shape.also (ty_shape r.field-0) shape.none)
-          (parts-one c.args.cx.now e part (ty_shape r.field-0) (r.ensures c.args.cx.now c.requires).ok) tt refl;
+          (parts-one c.args.cx.now e part (ty_shape r.field-0) (r.ensures.part c.args.cx.now c.requires).ok) tt refl;
       err = tt;
     })
 
@@ -86,7 +86,7 @@ returns-in_err-handle_at-in-Slice-clause-kind c =
     let r = c.in_err-handle_at-in-Slice in
     rw (c.in-Slice.is)
     (kind-passed c.args.cx.now e (plain (type_label slice_type) (part ∷ [])) ty_kind_shape c.from_residual-in_err-handle_at-in-Slice.result r.field-0.0 c.from_residual-in_err-handle_at-in-Slice.ensures.1
-    (unbuilt-first (HasFullTable c.args.cx.now) e part [] r.field-0.0 (r.ensures c.args.cx.now c.requires).err))
+    (unbuilt-first (HasFullTable c.args.cx.now) e part [] r.field-0.0 (r.ensures.part c.args.cx.now c.requires).err))
 
 pub returns-in_ok-handle_at-in-Slice-clause-kind : goal.returns-in_ok-handle_at-in-Slice-clause-kind
 returns-in_ok-handle_at-in-Slice-clause-kind c =
@@ -96,7 +96,7 @@ returns-in_ok-handle_at-in-Slice-clause-kind c =
     rw (c.in-Slice.is)
     (record {
       ok = plain-kind c.args.cx.now e (type_label slice_type) (part ∷ []) (type_label slice_type) (shape.also (ty_shape r.field-0) shape.none)
-          (parts-one c.args.cx.now e part (ty_shape r.field-0) (r.ensures c.args.cx.now c.requires).ok) tt refl;
+          (parts-one c.args.cx.now e part (ty_shape r.field-0) (r.ensures.part c.args.cx.now c.requires).ok) tt refl;
       err = tt;
     })
 
@@ -129,7 +129,7 @@ returns-in-Foreign-clause-kind c =
     leaf-kind ty_kind_shape c.args.cx.now e (type_label label) (type_label label) c.foreign_kind.result (c.foreign_kind.ensures c.args.cx.now.rows) tt refl)
 
 pub returns-in-Array-clause-kind : goal.returns-in-Array-clause-kind
-returns-in-Array-clause-kind c = rw (c.in-Array.is) (c.array_kind.ensures c.args.cx.now c.requires)
+returns-in-Array-clause-kind c = rw (c.in-Array.is) (c.array_kind.ensures.kind c.args.cx.now c.requires)
 
 pub returns-in-Pat-clause-kind : goal.returns-in-Pat-clause-kind
-returns-in-Pat-clause-kind c = rw (c.in-Pat.is) (c.pat_kind.ensures c.args.cx.now c.requires)
+returns-in-Pat-clause-kind c = rw (c.in-Pat.is) (c.pat_kind.ensures.kind c.args.cx.now c.requires)

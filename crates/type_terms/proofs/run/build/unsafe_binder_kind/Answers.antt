@@ -15,7 +15,7 @@ returns-in_err-ty-clause-kind c =
     let part = one (a_term Types c.args.ty) in
     let form = under (type_label unsafe_binder_type) (map (variable_kind (number_at e)) c.args.vars.now) unsafe_binder_record (part ∷ []) in
     kind-passed c.args.cx.now e form ty_kind_shape c.from_residual.result c.in_err-ty.field-0.0 c.from_residual.ensures.1
-    (unbuilt-first (HasFullTable c.args.cx.now) e part [] c.in_err-ty.field-0.0 (c.in_err-ty.ensures c.args.cx.now c.requires).err)
+    (unbuilt-first (HasFullTable c.args.cx.now) e part [] c.in_err-ty.field-0.0 (c.in_err-ty.ensures.part c.args.cx.now c.requires).err)
 
 pub returns-in_err-vars-clause-kind : goal.returns-in_err-vars-clause-kind
 returns-in_err-vars-clause-kind c =
@@ -34,7 +34,7 @@ returns-clause-kind c =
       ok = rw (c.from.ensures, c.bind_with_vars-binder.ensures)
           (under-kind terms e (type_label unsafe_binder_type) c.args.vars.now unsafe_binder_record (part ∷ []) (type_label unsafe_binder_type) c.in_ok-vars.vars unsafe_binder_record
           (shape.also (ty_shape c.in_ok-ty.ty) shape.none)
-          (parts-one terms e part (ty_shape c.in_ok-ty.ty) (placed-grows c.args.cx.now terms c.build_vars.ensures.extends (c.in_ok-ty.ensures c.args.cx.now c.requires).ok))
+          (parts-one terms e part (ty_shape c.in_ok-ty.ty) (placed-grows c.args.cx.now terms c.build_vars.ensures.extends (c.in_ok-ty.ensures.part c.args.cx.now c.requires).ok))
           (c.in_ok-vars.ensures.vars c.args.cx.now.rows).ok tt refl tt refl);
       err = tt;
     }

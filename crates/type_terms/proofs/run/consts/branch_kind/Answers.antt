@@ -14,7 +14,7 @@ returns-in_err-ty-clause-kind c =
     let p = one (a_term Types c.args.ty) in
     let q = a_list ConstLists (terms_at Consts c.args.branch.now) in
     kind-passed c.args.cx.now e (plain (const_label branch_const) (p ∷ q ∷ [])) const_kind_shape c.from_residual.result c.in_err-ty.field-0.0 c.from_residual.ensures.1
-    (unbuilt-first (HasFullTable c.args.cx.now) e p (q ∷ []) c.in_err-ty.field-0.0 (c.in_err-ty.ensures c.args.cx.now c.requires).err)
+    (unbuilt-first (HasFullTable c.args.cx.now) e p (q ∷ []) c.in_err-ty.field-0.0 (c.in_err-ty.ensures.part c.args.cx.now c.requires).err)
 
 pub returns-in_err-branch-clause-kind : goal.returns-in_err-branch-clause-kind
 returns-in_err-branch-clause-kind c =
@@ -34,6 +34,6 @@ returns-clause-kind c =
       ok = rw (c.from-valtree.ensures)
           (plain-kind terms e (const_label branch_const) (p ∷ q ∷ []) (const_label branch_const) (shape.also (ty_shape c.in_ok-ty.ty) (shape.also (consts_shape c.in_ok-branch.branch) shape.none))
           (parts-two terms e p q (ty_shape c.in_ok-ty.ty) (consts_shape c.in_ok-branch.branch)
-          (placed-grows c.args.cx.now terms c.build_consts.ensures.extends (c.in_ok-ty.ensures c.args.cx.now c.requires).ok) c.in_ok-branch.ensures.list.ok) tt refl);
+          (placed-grows c.args.cx.now terms c.build_consts.ensures.extends (c.in_ok-ty.ensures.part c.args.cx.now c.requires).ok) c.in_ok-branch.ensures.list.ok) tt refl);
       err = tt;
     }

@@ -28,3 +28,11 @@ returns-in_err-id-in-Inherent-clause-absent c =
 pub returns-in_ok-id-in-Inherent-clause-named : goal.returns-in_ok-id-in-Inherent-clause-named
 returns-in_ok-id-in-Inherent-clause-named c = λ rows.
     rw (c.in-Inherent.is, c.in_ok-id-in-Inherent.ensures.ok rows) (refl, tt)
+
+pub returns-in_ok-id-in-AssocTy-clause-kind : goal.returns-in_ok-id-in-AssocTy-clause-kind
+returns-in_ok-id-in-AssocTy-clause-kind c = λ rows.
+    rw (c.in-AssocTy.is, c.in_ok-id-in-AssocTy.ensures.ok rows, c.from_number.ensures, c.number.ensures) refl
+
+pub returns-in_ok-id-in-Inherent-clause-kind : goal.returns-in_ok-id-in-Inherent-clause-kind
+returns-in_ok-id-in-Inherent-clause-kind c = λ rows.
+    rw (c.in-Inherent.is, c.in_ok-id-in-Inherent.ensures.ok rows, c.from_number-in-Inherent.ensures, c.number-in-Inherent.ensures) refl

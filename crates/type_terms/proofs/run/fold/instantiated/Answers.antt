@@ -2,7 +2,7 @@ use Rattle.tt_kinds.specs.Shape.{IsPart, fill}
 use Rattle.tt_interner.specs.Rows.{meaning}
 use Rattle.tt_binder.specs.Arguments.{arguments}
 use Rattle.type_terms.specs.declared.run.call.Call.TheVariants as call
-use Rattle.type_terms.specs.Told.{HasFullTable}
+use Rattle.type_terms.specs.Told.{setting}
 use Rattle.type_terms.proofs.BuildLaws.{answer-passed}
 use Rattle.type_terms.proofs.FoldLaws.{inst-refused, inst-allowed}
 use Rattle.type_terms.proofs.run.fold.instantiated.Goals as goal
@@ -14,9 +14,10 @@ instantiate-requires-clause-value g c = rw (c.bind.ensures, g.met.T.Handle.is_st
 pub returns-in_err-instance-clause-answers : goal.returns-in_err-instance-clause-answers
 unfolding fill
 returns-in_err-instance-clause-answers g c = λ e p list at ids args.
-    answer-passed c.instantiate.new.cx e (call.Instantiate p list) c.from_residual.result c.in_err-instance.field-0.0 c.from_residual.ensures.1
+    answer-passed c.args.cx.now c.instantiate.new.cx e (call.Instantiate p list) c.from_residual.result c.in_err-instance.field-0.0 c.from_residual.ensures.1
     (inst-refused e p g.T.Handle.table (meaning c.args.cx.now.rows g.T.Handle.table (g.T.Handle.number c.args.term)) at list ids args.items.named
-    c.instantiate.new.cx (arguments c.args.cx.now.rows c.args.args.now) c.in_err-instance.field-0.0 args.means
+    c.args.cx.now c.instantiate.new.cx (arguments c.args.cx.now.rows c.args.args.now) c.in_err-instance.field-0.0 args.means
+    (λ a. let came = ((rw (c.bind.ensures, g.met.T.Handle.is_stored c.args.term) at c.in_err-instance.ensures.same) a).0 in absurd (cc))
     (rw (c.bind.ensures, g.met.T.Handle.is_stored c.args.term) at c.in_err-instance.ensures.err))
 
 pub returns-clause-answers : goal.returns-clause-answers
@@ -26,7 +27,7 @@ returns-clause-answers g c = λ e p list at ids args. record {
       (rw (c.skip_norm_wip.ensures) (rw (g.met.T.Handle.is_stored c.in_ok-instance.instance.value) at c.in_ok-instance.ensures.in_range));
   ok = rw (c.into_answer.ensures.told c.instantiate.new.cx.rows, c.skip_norm_wip.ensures)
       (inst-allowed e p g.T.Handle.table (meaning c.args.cx.now.rows g.T.Handle.table (g.T.Handle.number c.args.term)) at list ids args.items.named
-      (HasFullTable c.instantiate.new.cx) (arguments c.args.cx.now.rows c.args.args.now)
+      (setting c.args.cx.now c.instantiate.new.cx) (arguments c.args.cx.now.rows c.args.args.now)
       (meaning c.instantiate.new.cx.rows g.T.Handle.table (g.T.Handle.number c.in_ok-instance.instance.value)) args.means args.items.shallow
       (rw (c.bind.ensures, g.met.T.Handle.is_stored c.args.term, g.met.T.Handle.is_stored c.in_ok-instance.instance.value) at c.in_ok-instance.ensures.plain)
       (rw (c.bind.ensures, g.met.T.Handle.is_stored c.args.term) at c.in_ok-instance.ensures.no_cause));

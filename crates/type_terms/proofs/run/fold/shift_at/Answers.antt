@@ -1,7 +1,7 @@
 use Rattle.std.proofs.Common.{[], refl}
 use Rattle.tt_kinds.specs.declared.table.Table.TheVariants.{Types, Consts, Patterns, Predicates, ClauseLists, ArgLists}
 use Rattle.type_terms.specs.declared.run.call.Call.TheVariants as call
-use Rattle.type_terms.specs.Told.{told_all, HasFullTable}
+use Rattle.type_terms.specs.Told.{told_all, setting}
 use Rattle.type_terms.specs.Means.{any}
 use Rattle.type_terms.proofs.BuildLaws.{answer-passed}
 use Rattle.type_terms.proofs.LookupLaws.{told-at, in_range-at, ty-handle, const-handle, pat-handle, predicate-handle, clauses-handle, args-handle, no-handle, nothing-told}
@@ -10,8 +10,8 @@ use Rattle.type_terms.proofs.run.fold.shift_at.Goals as goal
 
 pub returns-in_err-answer-clause-answers : goal.returns-in_err-answer-clause-answers
 returns-in_err-answer-clause-answers c =
-    answer-passed c.args.cx.now (told_all c.args.cx.now.rows c.args.earlier.now) (call.Shift c.args.position c.args.amount) c.from_residual.result c.in_err-answer.field-0.0 c.from_residual.ensures.1
-    (absent-refused (HasFullTable c.args.cx.now) c.args.cx.now.rows c.args.earlier.now (any c.args.position) [] (call.Shift c.args.position c.args.amount) refl (λ h. h) c.in_err-answer.field-0.0
+    answer-passed c.args.cx.now c.args.cx.now (told_all c.args.cx.now.rows c.args.earlier.now) (call.Shift c.args.position c.args.amount) c.from_residual.result c.in_err-answer.field-0.0 c.from_residual.ensures.1
+    (absent-refused (setting c.args.cx.now c.args.cx.now) c.args.cx.now.rows c.args.earlier.now (any c.args.position) [] (call.Shift c.args.position c.args.amount) refl (λ h. h) c.in_err-answer.field-0.0
     c.in_err-answer.ensures.cause c.in_err-answer.ensures.absent)
 
 pub shifted-requires : goal.shifted-requires
@@ -72,7 +72,7 @@ pub returns-in_default-clause-answers : goal.returns-in_default-clause-answers
 returns-in_default-clause-answers c = record {
   owned = tt;
   ok = tt;
-  err = absent-refused (HasFullTable c.args.cx.now) c.args.cx.now.rows c.args.earlier.now (any c.args.position) [] (call.Shift c.args.position c.args.amount) refl (λ h. h) _ refl
+  err = absent-refused (setting c.args.cx.now c.args.cx.now) c.args.cx.now.rows c.args.earlier.now (any c.args.position) [] (call.Shift c.args.position c.args.amount) refl (λ h. h) _ refl
       (nothing-told c.args.earlier.now c.args.position c.in_ok-answer.answer.now c.in_ok-answer.ensures.ok
       (no-handle c.in_ok-answer.answer.now c.in_default.not-Ty c.in_default.not-Const c.in_default.not-Pat c.in_default.not-Predicate c.in_default.not-Clauses c.in_default.not-Args));
 }

@@ -21,14 +21,14 @@ returns-in_err-handle g c = λ terms o.
     c.from_residual-in_err-handle.result c.in_err-handle.field-0.0 c.from_residual-in_err-handle.ensures.1
     (unbuilt-among (a_term g.T.Handle.table) (λ handle. stored g.T.Handle.table (g.T.Handle.number handle)) (HasFullTable terms) (told_all terms.rows c.args.earlier.now) c.args.positions.now
     c.loop-position.position-index (get_or c.args.positions.now c.loop-position.position-index 0) c.in_err-handle.field-0.0
-    (slice_get-get_or c.args.positions.now c.loop-position.position-index 0 inside) (c.in_err-handle.ensures terms o).err)
+    (slice_get-get_or c.args.positions.now c.loop-position.position-index 0 inside) (c.in_err-handle.ensures.part terms o).err)
 
 pub loop-position-preserved : goal.loop-position-preserved
 loop-position-preserved g c = λ terms o.
     let inside : c.loop-position.position-index < length c.args.positions.now = omega arith in
     rw (take_more c.args.positions.now c.loop-position.position-index 0 inside, c.in_ok-push.ensures.items)
     (items-more (a_term g.T.Handle.table) (λ handle. stored g.T.Handle.table (g.T.Handle.number handle)) terms (told_all terms.rows c.args.earlier.now) _ _ _ _
-    (c.loop-position.invariant terms o) (c.in_ok-handle.ensures terms o).ok)
+    (c.loop-position.invariant terms o) (c.in_ok-handle.ensures.part terms o).ok)
 
 pub returns : goal.returns
 returns g c = λ terms o.

@@ -8,12 +8,12 @@ pub returns-in_err-handle_at-in-Type-clause-arg : goal.returns-in_err-handle_at-
 returns-in_err-handle_at-in-Type-clause-arg c =
     rw (c.in-Type.is)
     (argument-passed c.args.cx.now (told_all c.args.cx.now.rows c.args.earlier.now) (arg.«Type» c.in-Type.position) c.from_residual.result c.in_err-handle_at-in-Type.field-0.0 c.from_residual.ensures.1
-    (c.in_err-handle_at-in-Type.ensures c.args.cx.now c.requires).err)
+    (c.in_err-handle_at-in-Type.ensures.part c.args.cx.now c.requires).err)
 
 pub returns-in_ok-handle_at-in-Type-clause-arg : goal.returns-in_ok-handle_at-in-Type-clause-arg
 returns-in_ok-handle_at-in-Type-clause-arg c =
     rw (c.in-Type.is, c.from.ensures)
-    (record { ok = type-argument c.args.cx.now (told_all c.args.cx.now.rows c.args.earlier.now) c.in-Type.position c.in_ok-handle_at-in-Type.field-0 (c.in_ok-handle_at-in-Type.ensures c.args.cx.now c.requires).ok; err = tt })
+    (record { ok = type-argument c.args.cx.now (told_all c.args.cx.now.rows c.args.earlier.now) c.in-Type.position c.in_ok-handle_at-in-Type.field-0 (c.in_ok-handle_at-in-Type.ensures.part c.args.cx.now c.requires).ok; err = tt })
 
 pub returns-in_err-build_region-in-Lifetime-clause-arg : goal.returns-in_err-build_region-in-Lifetime-clause-arg
 returns-in_err-build_region-in-Lifetime-clause-arg c =
@@ -31,9 +31,9 @@ pub returns-in_err-handle_at-in-Const-clause-arg : goal.returns-in_err-handle_at
 returns-in_err-handle_at-in-Const-clause-arg c =
     rw (c.in-Const.is)
     (argument-passed c.args.cx.now (told_all c.args.cx.now.rows c.args.earlier.now) (arg.Const c.in-Const.position) c.from_residual-in_err-handle_at-in-Const.result c.in_err-handle_at-in-Const.field-0.0 c.from_residual-in_err-handle_at-in-Const.ensures.1
-    (c.in_err-handle_at-in-Const.ensures c.args.cx.now c.requires).err)
+    (c.in_err-handle_at-in-Const.ensures.part c.args.cx.now c.requires).err)
 
 pub returns-in_ok-handle_at-in-Const-clause-arg : goal.returns-in_ok-handle_at-in-Const-clause-arg
 returns-in_ok-handle_at-in-Const-clause-arg c =
     rw (c.in-Const.is, c.from-in-Const.ensures)
-    (record { ok = const-argument c.args.cx.now (told_all c.args.cx.now.rows c.args.earlier.now) c.in-Const.position c.in_ok-handle_at-in-Const.field-0 (c.in_ok-handle_at-in-Const.ensures c.args.cx.now c.requires).ok; err = tt })
+    (record { ok = const-argument c.args.cx.now (told_all c.args.cx.now.rows c.args.earlier.now) c.in-Const.position c.in_ok-handle_at-in-Const.field-0 (c.in_ok-handle_at-in-Const.ensures.part c.args.cx.now c.requires).ok; err = tt })

@@ -16,7 +16,7 @@ returns-in_err-pair-in-Range-clause-kind c =
     let r = c.in_err-pair-in-Range in
     rw (c.in-Range.is)
     (kind-passed c.args.cx.now e (plain (pattern_label range_pattern) (one (a_term Consts c.in-Range.start) ∷ one (a_term Consts c.in-Range.end) ∷ [])) pattern_kind_shape c.from_residual.result r.field-0.0 c.from_residual.ensures.1
-    (r.ensures c.args.cx.now c.requires).err)
+    (r.ensures.parts c.args.cx.now c.requires).err)
 
 pub returns-in_ok-pair-in-Range-clause-kind : goal.returns-in_ok-pair-in-Range-clause-kind
 returns-in_ok-pair-in-Range-clause-kind c =
@@ -25,7 +25,7 @@ returns-in_ok-pair-in-Range-clause-kind c =
     rw (c.in-Range.is)
     (record {
       ok = plain-kind c.args.cx.now e (pattern_label range_pattern) (one (a_term Consts c.in-Range.start) ∷ one (a_term Consts c.in-Range.end) ∷ []) (pattern_label range_pattern)
-          (shape.also (const_shape r.pair.0) (shape.also (const_shape r.pair.1) shape.none)) (r.ensures c.args.cx.now c.requires).ok tt refl;
+          (shape.also (const_shape r.pair.0) (shape.also (const_shape r.pair.1) shape.none)) (r.ensures.parts c.args.cx.now c.requires).ok tt refl;
       err = tt;
     })
 

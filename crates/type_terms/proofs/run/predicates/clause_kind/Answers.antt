@@ -31,14 +31,14 @@ returns-in_err-pair-in-ConstArgHasType-clause-kind c =
     let r = c.in_err-pair-in-ConstArgHasType in
     rw (c.in-ConstArgHasType.is)
     (record-passed c.args.cx.now e (labelled const_has_type_record (one (a_term Consts c.in-ConstArgHasType.constant) ∷ one (a_term Types c.in-ConstArgHasType.ty) ∷ [])) clause_form c.from_residual-in_err-pair-in-ConstArgHasType.result r.field-0.0 c.from_residual-in_err-pair-in-ConstArgHasType.ensures.1
-    ((r.ensures c.args.cx.now c.requires).err))
+    ((r.ensures.parts c.args.cx.now c.requires).err))
 
 pub returns-in_ok-pair-in-ConstArgHasType-clause-kind : goal.returns-in_ok-pair-in-ConstArgHasType-clause-kind
 returns-in_ok-pair-in-ConstArgHasType-clause-kind c =
     let e = told_all c.args.cx.now.rows c.args.earlier.now in
     let r = c.in_ok-pair-in-ConstArgHasType in
     rw (c.in-ConstArgHasType.is)
-    (record { ok = record-placed c.args.cx.now e (labelled const_has_type_record (one (a_term Consts c.in-ConstArgHasType.constant) ∷ one (a_term Types c.in-ConstArgHasType.ty) ∷ [])) const_has_type_record (shape.also (const_shape r.pair.0) (shape.also (ty_shape r.pair.1) shape.none)) ((r.ensures c.args.cx.now c.requires).ok) tt refl; err = tt })
+    (record { ok = record-placed c.args.cx.now e (labelled const_has_type_record (one (a_term Consts c.in-ConstArgHasType.constant) ∷ one (a_term Types c.in-ConstArgHasType.ty) ∷ [])) const_has_type_record (shape.also (const_shape r.pair.0) (shape.also (ty_shape r.pair.1) shape.none)) ((r.ensures.parts c.args.cx.now c.requires).ok) tt refl; err = tt })
 
 pub returns-in_err-constant-in-ConstEvaluatable-clause-kind : goal.returns-in_err-constant-in-ConstEvaluatable-clause-kind
 returns-in_err-constant-in-ConstEvaluatable-clause-kind c =
@@ -46,14 +46,14 @@ returns-in_err-constant-in-ConstEvaluatable-clause-kind c =
     let r = c.in_err-constant-in-ConstEvaluatable in
     rw (c.in-ConstEvaluatable.is)
     (record-passed c.args.cx.now e (labelled const_evaluatable_record (one (a_term Consts c.in-ConstEvaluatable.constant) ∷ [])) clause_form c.from_residual-in_err-constant-in-ConstEvaluatable.result r.field-0.0 c.from_residual-in_err-constant-in-ConstEvaluatable.ensures.1
-    (unbuilt-first (HasFullTable c.args.cx.now) e (one (a_term Consts c.in-ConstEvaluatable.constant)) [] r.field-0.0 (r.ensures c.args.cx.now c.requires).err))
+    (unbuilt-first (HasFullTable c.args.cx.now) e (one (a_term Consts c.in-ConstEvaluatable.constant)) [] r.field-0.0 (r.ensures.part c.args.cx.now c.requires).err))
 
 pub returns-in_ok-constant-in-ConstEvaluatable-clause-kind : goal.returns-in_ok-constant-in-ConstEvaluatable-clause-kind
 returns-in_ok-constant-in-ConstEvaluatable-clause-kind c =
     let e = told_all c.args.cx.now.rows c.args.earlier.now in
     let r = c.in_ok-constant-in-ConstEvaluatable in
     rw (c.in-ConstEvaluatable.is)
-    (record { ok = record-placed c.args.cx.now e (labelled const_evaluatable_record (one (a_term Consts c.in-ConstEvaluatable.constant) ∷ [])) const_evaluatable_record (shape.also (const_shape r.constant) shape.none) (parts-one c.args.cx.now e (one (a_term Consts c.in-ConstEvaluatable.constant)) (const_shape r.constant) (r.ensures c.args.cx.now c.requires).ok) tt refl; err = tt })
+    (record { ok = record-placed c.args.cx.now e (labelled const_evaluatable_record (one (a_term Consts c.in-ConstEvaluatable.constant) ∷ [])) const_evaluatable_record (shape.also (const_shape r.constant) shape.none) (parts-one c.args.cx.now e (one (a_term Consts c.in-ConstEvaluatable.constant)) (const_shape r.constant) (r.ensures.part c.args.cx.now c.requires).ok) tt refl; err = tt })
 
 pub returns-in_err-term_at-in-WellFormed-clause-kind : goal.returns-in_err-term_at-in-WellFormed-clause-kind
 returns-in_err-term_at-in-WellFormed-clause-kind c =

@@ -28,14 +28,14 @@ returns-in_err-pair-in-ConstEquate-clause-kind c =
     let r = c.in_err-pair-in-ConstEquate in
     rw (c.in-ConstEquate.is)
     (record-passed c.args.cx.now e (labelled const_equate_record (one (a_term Consts c.in-ConstEquate.a) ∷ one (a_term Consts c.in-ConstEquate.b) ∷ [])) predicate_form c.from_residual.result r.field-0.0 c.from_residual.ensures.1
-    ((r.ensures c.args.cx.now c.requires).err))
+    ((r.ensures.parts c.args.cx.now c.requires).err))
 
 pub returns-in_ok-pair-in-ConstEquate-clause-kind : goal.returns-in_ok-pair-in-ConstEquate-clause-kind
 returns-in_ok-pair-in-ConstEquate-clause-kind c =
     let e = told_all c.args.cx.now.rows c.args.earlier.now in
     let r = c.in_ok-pair-in-ConstEquate in
     rw (c.in-ConstEquate.is)
-    (record { ok = record-placed c.args.cx.now e (labelled const_equate_record (one (a_term Consts c.in-ConstEquate.a) ∷ one (a_term Consts c.in-ConstEquate.b) ∷ [])) const_equate_record (shape.also (const_shape r.pair.0) (shape.also (const_shape r.pair.1) shape.none)) ((r.ensures c.args.cx.now c.requires).ok) tt refl; err = tt })
+    (record { ok = record-placed c.args.cx.now e (labelled const_equate_record (one (a_term Consts c.in-ConstEquate.a) ∷ one (a_term Consts c.in-ConstEquate.b) ∷ [])) const_equate_record (shape.also (const_shape r.pair.0) (shape.also (const_shape r.pair.1) shape.none)) ((r.ensures.parts c.args.cx.now c.requires).ok) tt refl; err = tt })
 
 pub returns-in-Ambiguous-clause-kind : goal.returns-in-Ambiguous-clause-kind
 returns-in-Ambiguous-clause-kind c =

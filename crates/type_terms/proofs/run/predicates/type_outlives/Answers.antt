@@ -14,7 +14,7 @@ returns-in_err-ty-clause-kind c =
     let p = one (a_term Types c.args.ty) in
     let q = one (a_region c.args.region.now) in
     record-passed c.args.cx.now e (labelled type_outlives_record (p ∷ q ∷ [])) clause_form c.from_residual.result c.in_err-ty.field-0.0 c.from_residual.ensures.1
-    (unbuilt-first (HasFullTable c.args.cx.now) e p (q ∷ []) c.in_err-ty.field-0.0 (c.in_err-ty.ensures c.args.cx.now c.requires).err)
+    (unbuilt-first (HasFullTable c.args.cx.now) e p (q ∷ []) c.in_err-ty.field-0.0 (c.in_err-ty.ensures.part c.args.cx.now c.requires).err)
 
 pub returns-in_err-region-clause-kind : goal.returns-in_err-region-clause-kind
 returns-in_err-region-clause-kind c =
@@ -35,7 +35,7 @@ returns-clause-kind c =
       ok = record-placed terms e (labelled type_outlives_record (p ∷ q ∷ [])) type_outlives_record
           (shape.also (ty_shape c.in_ok-ty.ty) (shape.also (region_shape c.in_ok-region.region) shape.none))
           (parts-two terms e p q (ty_shape c.in_ok-ty.ty) (region_shape c.in_ok-region.region)
-          (placed-grows c.args.cx.now terms c.build_region.ensures.extends (c.in_ok-ty.ensures c.args.cx.now c.requires).ok)
+          (placed-grows c.args.cx.now terms c.build_region.ensures.extends (c.in_ok-ty.ensures.part c.args.cx.now c.requires).ok)
           (region-part terms e c.args.region.now c.in_ok-region.region (c.in_ok-region.ensures.region c.args.cx.now.rows).ok)) tt refl;
       err = tt;
     }

@@ -1,4 +1,4 @@
-use Rattle.type_terms.proofs.RunLaws.{AreOwned-grows, AreOwned-append, ran-one-more}
+use Rattle.type_terms.proofs.RunLaws.{AreOwned-grows, AreOwned-append, ran-more}
 use Rattle.type_terms.proofs.run.runner.answer_next.Goals as goal
 
 pub returns-in_err-push-clause-owned : goal.returns-in_err-push-clause-owned
@@ -10,8 +10,15 @@ returns-clause-owned c =
     rw c.in_ok-push.ensures.items
     (AreOwned-append _ _ _ (AreOwned-grows _ _ c.answer_call-answer.ensures.extends.rows _ c.requires) c.answer_call-answer.ensures.owned)
 
+pub returns-clause-allowed : goal.returns-clause-allowed
+returns-clause-allowed c = record {
+  answer = c.answer_call-answer.result;
+  added = c.in_ok-push.ensures.items;
+  allowed = rw (← c.as_slice.ensures.value) c.answer_call-answer.ensures.allowed;
+}
+
 pub returns-clause-means : goal.returns-clause-means
-returns-clause-means c before means =
+returns-clause-means c first before extends means =
     rw c.in_ok-push.ensures.items
-    (ran-one-more _ _ before _ _ _ c.requires c.answer_call-answer.ensures.extends c.answer_call-answer.ensures.owned
+    (ran-more first _ _ before _ _ _ extends c.requires c.are_rows.ensures.are c.answer_call-answer.ensures.extends
     (rw (← c.as_slice.ensures.value) c.answer_call-answer.ensures.allowed) means)

@@ -12,4 +12,4 @@ loop-call-preserved c =
     let h = c.in_ok-answer_next.ensures in
     let ran = c.loop-call.invariant in
     rw (take_more c.args.calls.now c.loop-call.call-index c.call-item.result inside, ← c.call-item.is)
-    (record { extends = Extends-trans ran.extends h.extends; owned = h.owned; means = h.means (take c.loop-call.call-index c.args.calls.now) ran.means })
+    (record { extends = Extends-trans ran.extends h.extends; owned = h.owned; means = h.means c.args.cx.now (take c.loop-call.call-index c.args.calls.now) ran.extends ran.means })

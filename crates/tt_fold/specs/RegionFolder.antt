@@ -1,0 +1,174 @@
+-- What a folder of regions asks its closure, and where it places the answers.
+use Rattle.std.specs.Prelude.{◌≡◌, ℕ, suc, ◌-◌, ◌<◌, ◌≤◌, ◌⊎◌, Bool, true, false, not, nat_lt, List, [], ◌∷◌, ◌++◌, map, ⊤}
+use Rattle.std.specs.List.{FoldsTo}
+use Rattle.tt_index.specs.Greatest.{greatest}
+use Rattle.tt_index.specs.declared.refusal.Refusal.{Refusal}
+use Rattle.tt_index.specs.declared.refusal.Refusal.TheVariants.{Memory, TableFull, GreatestIndex}
+use Rattle.tt_kinds.specs.Label.{Name, text_label}
+use Rattle.tt_kinds.specs.Tree.{Depth, Tree, param, bound, region, term, node, binder, Forest, none, also}
+use Rattle.tt_kinds.specs.Met.{Met, met, placed}
+use Rattle.tt_kinds.specs.Shape.{fill, IsPart, name_of}
+use Rattle.tt_kinds.specs.Kinds.{region_shape}
+use Rattle.tt_kinds.specs.declared.bound.BoundVarIndexKind.{BoundVarIndexKind}
+use Rattle.tt_kinds.specs.declared.bound.BoundVarIndexKind.TheVariants.{Bound, Canonical}
+use Rattle.tt_kinds.specs.declared.region_kind.RegionKind.{RegionKind}
+use Rattle.tt_kinds.specs.declared.region_kind.RegionKind.TheVariants.{ReEarlyParam, ReBound, ReLateParam, ReStatic, ReVar, RePlaceholder, ReErased, ReError}
+use Rattle.tt_interner.specs.Rows.{Row, meaning}
+use Rattle.tt_interner.specs.Stored.{Counters, Terms, IsNoClauseList, IsUnbuilt}
+use Rattle.tt_fold.specs.Walk.{Hooks, keep, descend, Walks, Fails}
+use Rattle.tt_fold.specs.Counts.{Standing, keeps_counters}
+use Rattle.tt_fold.specs.Steps.{IsRefused}
+use Rattle.tt_fold.specs.Stands.{StandsIn}
+
+-- the variable's binder is none of the k around it, and it is no variable of a canonical query
+abbrev pub is_outside : ℕ → BoundVarIndexKind → Bool
+is_outside k (Bound d) = not (nat_lt d k)
+is_outside k Canonical = false
+
+-- a folder of regions asks about the region under k binders
+abbrev pub is_met : ℕ → RegionKind → Bool
+is_met k (ReEarlyParam p) = true
+is_met k (ReBound i b) = is_outside k i
+is_met k (ReLateParam p) = true
+is_met k ReStatic = true
+is_met k (ReVar v) = true
+is_met k (RePlaceholder p) = true
+is_met k ReErased = true
+is_met k (ReError e) = true
+
+-- the texts of the rows' symbols
+abbrev pub names_in : List Row → ℕ → Name
+names_in rows n = name_of (meaning rows) n
+
+-- where there are so many symbols, the region's name is one of them
+abbrev pub HasName : ℕ → RegionKind → Type 0
+HasName symbols r = IsPart (λ t. symbols) (region_shape r)
+
+-- the tree of a region whose symbols have these texts
+abbrev pub region_tree : (ℕ → Name) → RegionKind → Tree Depth
+region_tree names r = fill (λ t n. node (text_label (names n)) none) (region_shape r)
+
+-- a call of the closure: a region, how many binders stand around it, and the answer
+pub record RegionCall : Type 0 where
+  pub region : RegionKind
+  pub depth : ℕ
+  pub answer : RegionKind
+
+-- the regions that were asked about, with the binders above them
+abbrev pub asked : (ℕ → Name) → List RegionCall → List Met
+asked names calls = map (λ c. record { standing = region_tree names c.region; under = c.depth }) calls
+
+-- what the closure answered, in order
+abbrev pub answered : (ℕ → Name) → List RegionCall → List (Tree Depth)
+answered names calls = map (λ c. region_tree names c.answer) calls
+
+-- where a folder of regions stands: its closure, how many binders it passed, and the texts of the symbols
+pub record Asking (F : Type 0) : Type 0 where
+  pub closure : F
+  pub under : ℕ
+  pub names : ℕ → Name
+
+-- the same, one binder further in
+abbrev pub deeper : {F : Type 0} → Asking F → Asking F
+deeper s = record { closure = s.closure; under = suc s.under; names = s.names }
+
+-- the same, one binder further out
+abbrev pub higher : {F : Type 0} → Asking F → Asking F
+higher s = record { closure = s.closure; under = s.under - 1; names = s.names }
+
+abbrev mutual
+  -- under k binders no more binders than the greatest index counts stand one under another
+  pub BindersFit : ℕ → Tree Depth → Type 0
+  BindersFit k (param s i name) = ⊤
+  BindersFit k (bound s d e) = ⊤
+  BindersFit k (region r) = ⊤
+  BindersFit k (term l ts) = BindersFit_all k ts
+  BindersFit k (node l ts) = BindersFit_all k ts
+  BindersFit k (binder vs t) = (k < greatest) × BindersFit (suc k) t
+
+  pub BindersFit_all : ℕ → Forest Depth → Type 0
+  BindersFit_all k none = ⊤
+  BindersFit_all k (also t ts) = BindersFit k t × BindersFit_all k ts
+
+-- Why a fold of the regions in a tree ended after these answers: the memory for something new was refused, a term or a list
+-- that has the answers in it, whatever the next ones are, is new and its table is full, or binders stand too deep.
+abbrev pub IsPlacingRefusal : Terms → Tree Depth → List (Tree Depth) → Refusal → Type 0
+IsPlacingRefusal terms t answers Memory = ⊤
+IsPlacingRefusal terms t answers TableFull =
+    (u : Tree Depth) × ((more : List (Tree Depth)) → StandsIn u (placed 0 t (answers ++ more))) × IsUnbuilt terms u TableFull
+IsPlacingRefusal terms t answers GreatestIndex = BindersFit 0 t → ⊥
+IsPlacingRefusal terms t answers _ = ⊥
+
+module _ {F : Type 0} (step : F → RegionKind → ℕ → RegionKind → F → Type 0) where
+  -- the calls were made one after the other, each from the state that the one before left
+  abbrev pub AreMade : F → List RegionCall → F → Type 0
+  AreMade f calls g = FoldsTo (λ p c q. step p c.region c.depth c.answer q) f calls g
+
+  -- asked about each of the regions in turn, from the state that the call before left, the closure answers a region whose
+  -- name is one of the symbols, as each region has it that it is asked about
+  abbrev pub AnswersEach : ℕ → F → List (RegionKind × ℕ) → Type 0
+  AnswersEach symbols f [] = ⊤
+  AnswersEach symbols f (c ∷ calls) = HasName symbols c.0 → (answer : RegionKind) (g : F) → step f c.0 c.1 answer g →
+      HasName symbols answer × AnswersEach symbols g calls
+
+  -- so it does whatever the regions are
+  pub record AnswersRegions (symbols : ℕ) (f : F) : Type 0 where
+    pub at : (calls : List (RegionKind × ℕ)) → AnswersEach symbols f calls
+
+  -- the closure was asked about exactly the regions met in t, in order, and the answers stand in their places in u
+  pub record Places (names : ℕ → Name) (f : F) (t u : Tree Depth) : Type 0 where
+    pub calls : List RegionCall
+    pub last : F
+    pub made : AreMade f calls last
+    pub are_met : asked names calls ≡ met 0 t
+    pub are_placed : u ≡ placed 0 t (answered names calls)
+
+  -- the closure was asked about the first of the regions met in t, in order, and then the fold was refused
+  pub record PlacesSome (names : ℕ → Name) (terms : Terms) (f : F) (t : Tree Depth) (e : Refusal) : Type 0 where
+    pub calls : List RegionCall
+    pub last : F
+    pub rest : List Met
+    pub made : AreMade f calls last
+    pub are_first : asked names calls ++ rest ≡ met 0 t
+    pub refused : IsPlacingRefusal terms t (answered names calls) e
+
+  -- the closure is asked about a region, and its answer stands there
+  pub record Asks (s : Asking F) (t r : Tree Depth) (s' : Asking F) : Type 0 where
+    pub region : RegionKind
+    pub answer : RegionKind
+    pub is_region : t ≡ region_tree s.names region
+    pub is_answer : r ≡ region_tree s.names answer
+    pub stepped : step s.closure region s.under answer s'.closure
+    pub under : s'.under ≡ s.under
+    pub names : s'.names ≡ s.names
+
+  -- what a folder of regions does: it asks about each region that is met, and keeps only terms in which none is
+  abbrev pub region_hooks : Hooks (Asking F) Refusal
+  region_hooks = record {
+    on_region = λ s t r s'. ((met s.under t ≡ record { standing = t; under = s.under } ∷ []) × Asks s t r s')
+        ⊎ ((met s.under t ≡ []) × (s' ≡ s) × (r ≡ t));
+    region_fails = λ unbuilt s t e s'. ⊥;
+    on_term = λ s t a s'. (s' ≡ s) × ((a ≡ descend) ⊎ ((a ≡ keep) × (met s.under t ≡ [])));
+    term_fails = λ unbuilt s t e s'. ⊥;
+    after_term = λ s t u r s'. (s' ≡ s) × (r ≡ u);
+    after_fails = λ unbuilt s t u e s'. ⊥;
+    enter = λ s vs s'. s' ≡ deeper s;
+    enter_fails = λ unbuilt s vs e s'. (s' ≡ s) × (e ≡ GreatestIndex) × (greatest ≤ s.under);
+    leave = λ s vs s'. s' ≡ higher s;
+    leave_fails = λ unbuilt s vs e s'. ⊥;
+  }
+
+  -- where a folder of regions stands that was just made of the closure, beside the counts
+  abbrev pub just_made : (ℕ → Name) → F → Counters → Standing (Asking F)
+  just_made names f counters = record { state = record { closure = f; under = 0; names = names }; counters = counters }
+
+  -- the walk of a folder of regions that was just made asks about the regions met, and places the answers
+  abbrev pub RegionFoldersPlace : Type 0
+  RegionFoldersPlace = (names : ℕ → Name) (f : F) (counters : Counters) (t u : Tree Depth) (s' : Standing (Asking F)) →
+      Walks (keeps_counters region_hooks) (just_made names f counters) t u s' → Places names f t u
+
+  -- where it ends early, in a tree whose lists of clauses hold clauses alone, it asked about the first of them
+  abbrev pub RegionFoldersPlaceSome : Type 0
+  RegionFoldersPlaceSome = (names : ℕ → Name) (f : F) (counters : Counters) (terms : Terms) (t : Tree Depth) (e : Refusal) (s' : Standing (Asking F)) →
+      ((u : Tree Depth) → StandsIn u t → IsNoClauseList u → ⊥) →
+      Fails (keeps_counters region_hooks) (IsRefused terms) (just_made names f counters) t e s' → PlacesSome names terms f t e

@@ -1,0 +1,216 @@
+//! Folds of regions by a closure.
+
+ghost use Rattle.std.specs.Prelude.{◌≡◌, [], IfErr, IfOk, Ok};
+ghost use Rattle.tt_kinds.specs.Met.{met};
+ghost use Rattle.tt_kinds.specs.declared.table.Table.TheVariants.{Symbols};
+ghost use Rattle.tt_interner.specs.Rows.{size};
+ghost use Rattle.tt_interner.specs.Stored.{Extends};
+ghost use Rattle.tt_fold.specs.RegionFolder.{AnswersRegions, is_met, names_in, Places, PlacesSome, RegionFoldersPlace, RegionFoldersPlaceSome};
+ghost use Rattle.tt_fold.specs.Steps.{IsPartBy, tree_by};
+
+use crate::foldable::TypeFoldable;
+use crate::folder::{Step, TypeFolder};
+use tt_flags::TypeFlags;
+use tt_index::{DebruijnIndex, Refusal};
+use tt_interner::{Flags, Interner};
+use tt_kinds::{
+    BoundVarIndexKind, BoundVarKinds, Clauses, Const, Predicate, Region, RegionKind, Ty,
+};
+use tt_visit::TypeVisitableExt;
+
+/// Asks a closure about each region of a value that the value doesn't bind itself, with the number of binders passed, and
+/// places its answers as they stand.
+///
+/// Erased regions are asked about too, variables of a canonical query are not. The closure is asked at every place, also where
+/// a handle stands in several. An answer that is bound by one of the binders passed is so bound afterwards: nothing is shifted.
+#[derive(Drop)]
+pub struct RegionFolder<F> {
+    f: F,
+    // how many binders of the value stand around the place that was reached
+    current_index: DebruijnIndex,
+}
+
+// Returns whether a region under so many binders is bound by none of them, and no variable of a canonical query.
+fn meets(region: Region, current_index: DebruijnIndex) -> bool
+    ensures { result ≡ is_met current_index region }
+{
+    match region.kind() {
+        RegionKind::ReBound(index, _) => match index {
+            BoundVarIndexKind::Bound(debruijn) => !(debruijn < current_index),
+            BoundVarIndexKind::Canonical => false,
+        },
+        _ => true,
+    }
+}
+
+impl<F: FnMut(Region, DebruijnIndex) -> Region> RegionFolder<F> {
+    /// Returns the folder that asks this closure, before any binder is passed.
+    pub fn new(f: F) -> RegionFolder<F>
+        ensures closure { result.f ≡ f }
+        ensures innermost { result.current_index ≡ 0 }
+    {
+        RegionFolder {
+            f,
+            current_index: DebruijnIndex::INNERMOST,
+        }
+    }
+}
+
+impl<F: FnMut(Region, DebruijnIndex) -> Region> TypeFolder for RegionFolder<F> {
+    ghost use Rattle.tt_fold.specs.Counts.{keeps_counters};
+    ghost use Rattle.tt_fold.specs.RegionFolder.{Asking, region_hooks};
+
+    ghost Meaning = { Asking F };
+
+    ghost meaning = { λ rows s. record { closure = s.f; under = s.current_index; names = names_in rows } };
+
+    ghost owned = { λ rows s. F.IsAlwaysCallable s.f × AnswersRegions (λ p region depth answer q. F.step p region depth answer q) (size rows Symbols) s.f };
+
+    ghost hooks = { keeps_counters (region_hooks (λ p region depth answer q. F.step p region depth answer q)) };
+
+    fn fold_region(&mut self, _cx: &mut Interner, region: Region) -> Result<Region, Refusal> {
+        if meets(region, self.current_index) {
+            let answer = (self.f)(region, self.current_index);
+            Ok(answer)
+        } else {
+            Ok(region)
+        }
+    }
+
+    fn fold_ty(&mut self, cx: &mut Interner, ty: Ty) -> Result<Step<Ty>, Refusal> {
+        if ty.flags(cx).intersects(TypeFlags::HAS_REGIONS) {
+            Ok(Step::Descend)
+        } else {
+            Ok(Step::Keep)
+        }
+    }
+
+    fn after_ty(&mut self, _cx: &mut Interner, _before: Ty, rebuilt: Ty) -> Result<Ty, Refusal> {
+        Ok(rebuilt)
+    }
+
+    fn fold_const(&mut self, cx: &mut Interner, constant: Const) -> Result<Step<Const>, Refusal> {
+        if constant.flags(cx).intersects(TypeFlags::HAS_REGIONS) {
+            Ok(Step::Descend)
+        } else {
+            Ok(Step::Keep)
+        }
+    }
+
+    fn after_const(
+        &mut self,
+        _cx: &mut Interner,
+        _before: Const,
+        rebuilt: Const,
+    ) -> Result<Const, Refusal> {
+        Ok(rebuilt)
+    }
+
+    fn fold_predicate(
+        &mut self,
+        cx: &mut Interner,
+        predicate: Predicate,
+    ) -> Result<Step<Predicate>, Refusal> {
+        if predicate.flags(cx).intersects(TypeFlags::HAS_REGIONS) {
+            Ok(Step::Descend)
+        } else {
+            Ok(Step::Keep)
+        }
+    }
+
+    fn after_predicate(
+        &mut self,
+        _cx: &mut Interner,
+        _before: Predicate,
+        rebuilt: Predicate,
+    ) -> Result<Predicate, Refusal> {
+        Ok(rebuilt)
+    }
+
+    fn fold_clauses(
+        &mut self,
+        cx: &mut Interner,
+        clauses: Clauses,
+    ) -> Result<Step<Clauses>, Refusal> {
+        if clauses.flags(cx).intersects(TypeFlags::HAS_REGIONS) {
+            Ok(Step::Descend)
+        } else {
+            Ok(Step::Keep)
+        }
+    }
+
+    fn after_clauses(
+        &mut self,
+        _cx: &mut Interner,
+        _before: Clauses,
+        rebuilt: Clauses,
+    ) -> Result<Clauses, Refusal> {
+        Ok(rebuilt)
+    }
+
+    fn fold_binder(&mut self, _cx: &mut Interner, _vars: BoundVarKinds) -> Result<(), Refusal> {
+        if self.current_index.can_shift_in(1) {
+            self.current_index.shift_in(1);
+            Ok(())
+        } else {
+            Err(Refusal::GreatestIndex)
+        }
+    }
+
+    fn after_binder(&mut self, _cx: &mut Interner, _vars: BoundVarKinds) -> Result<(), Refusal> {
+        if self.current_index.can_shift_out(1) {
+            self.current_index.shift_out(1);
+        }
+        Ok(())
+    }
+
+    ghost use Rattle.tt_fold.specs.RegionFolderGrowth.{names-stay, answers-stay};
+
+    ghost still_owned = { λ old new s g h. (h.0, answers-stay old new g h.1) };
+
+    ghost still_means = { λ old new s g h. names-stay old new s.f s.current_index g };
+}
+
+/// Returns the value with each region that it doesn't bind itself replaced by what the closure answers about it, as it stands:
+/// an answer is not shifted, so one whose index is below the number of binders passed is bound by one of them afterwards.
+///
+/// The closure is asked about every such region in order, with the number of binders of the value that stand around it: erased
+/// and static regions and those of errors too, but no variable of a canonical query. It is asked at every place, also where one
+/// handle stands in several. Its answers have to be regions of this interner.
+///
+/// It is refused with `Memory` where the memory for something new is refused, with `TableFull` where a term or a list of the
+/// result is not stored yet and its table has as many rows as it may have, and with `GreatestIndex` where more binders than the
+/// greatest index counts stand one under another. Where there is no such region it is the value itself, the closure is not
+/// asked, and nothing is built. It follows the compiler's `fold_regions`.
+pub fn fold_regions<T: TypeFoldable, F: FnMut(Region, DebruijnIndex) -> Region + Drop>(
+    cx: &mut Interner,
+    value: T,
+    f: F,
+) -> Result<T, Refusal>
+    requires value { IsPartBy T.shape cx.old.rows value }
+    requires callable { F.IsAlwaysCallable f }
+    requires answers { AnswersRegions (λ p region depth answer q. F.step p region depth answer q) (size cx.old.rows Symbols) f }
+    ensures extends { Extends cx.old cx.new }
+    ensures counters { cx.new.counters ≡ cx.old.counters }
+    ensures in_range { IfOk result (λ folded. IsPartBy T.shape cx.new.rows folded) }
+    ensures placed { IfOk result (λ folded. Places (λ p region depth answer q. F.step p region depth answer q)
+        (names_in cx.old.rows) f (tree_by T.shape cx.old.rows value) (tree_by T.shape cx.new.rows folded)) }
+    ensures err { IfErr result (PlacesSome (λ p region depth answer q. F.step p region depth answer q)
+        (names_in cx.old.rows) cx.new f (tree_by T.shape cx.old.rows value)) }
+    ensures same { met 0 (tree_by T.shape cx.old.rows value) ≡ [] → (result ≡ Ok value) × (cx.new ≡ cx.old) }
+{
+    if !value.meets_regions(cx) {
+        return Ok(value);
+    }
+    // Each stored list of clauses holds clauses alone, so none with answers placed is refused for an item.
+    cx.are_rows();
+    let mut folder = RegionFolder::new(f);
+    value.fold_with(cx, &mut folder)
+}
+
+/// A folder of regions that was just made asks and places by [`TypeFoldable::fold_with`] as [`fold_regions`] does. It does
+/// nothing; the contract gives callers the facts.
+pub fn region_folders_place<F: FnMut(Region, DebruijnIndex) -> Region>()
+    ensures placed { RegionFoldersPlace (λ p region depth answer q. F.step p region depth answer q) }
+    ensures ended { RegionFoldersPlaceSome (λ p region depth answer q. F.step p region depth answer q) }
+{}

@@ -1,0 +1,245 @@
+//! The visitor that looks for regions which a fold of regions asks its closure about.
+
+ghost use Rattle.std.specs.Prelude.{IsTrue, false, ◌<◌, ◌≡◌, ◌↔◌};
+ghost use Rattle.std.specs.ControlFlow.{MatchControlFlow};
+ghost use Rattle.tt_kinds.specs.Reading.{outer_binder};
+ghost use Rattle.tt_kinds.specs.Scan.{scan};
+ghost use Rattle.tt_kinds.specs.Shape.{IsPart, fill};
+ghost use Rattle.tt_kinds.specs.Tree.{Depth, Tree};
+ghost use Rattle.tt_interner.specs.Rows.{meaning, size};
+ghost use Rattle.tt_visit.specs.HasTypeFlags.{Misses};
+ghost use Rattle.tt_visit.specs.declared.visitor.Next.TheVariants.{Skip};
+ghost use Rattle.tt_visit.specs.MeetsRegions.{AreInRange, Looks, MeetsSome};
+
+use crate::visitable::TypeVisitable;
+use crate::visitor::{Next, TypeVisitor};
+use std::ops::ControlFlow;
+use tt_flags::TypeFlags;
+use tt_index::DebruijnIndex;
+use tt_interner::{Flags, Interner};
+use tt_kinds::{BoundVarKinds, Clauses, Const, ErrorGuaranteed, Predicate, Region, Ty};
+
+/// What a visit breaks with where it meets a region.
+#[derive(Clone, Copy, Debug, PartialEq, Eq)]
+pub struct MetRegion;
+
+/// Breaks at the first region, type, constant, predicate or list of clauses that holds a region which the visited value
+/// doesn't bind itself and which is no variable of a canonical query.
+///
+/// A term is taken apart only where its flags and its outer exclusive binder leave open whether it holds such a region:
+/// where all its regions are bound, and some variable is bound outside of the visited value.
+///
+/// Inside binders that are too many for an index each bound region is the value's own. So such a binder's value is
+/// passed over, and the visitor keeps in mind that it was: there a region that isn't bound remains to be looked for.
+#[derive(Clone, Copy, Debug)]
+pub struct MeetsRegionsVisitor {
+    // the innermost binder outside of the visited value, as counted from where the visit stands
+    outer_index: DebruijnIndex,
+    skipped: bool,
+}
+
+impl MeetsRegionsVisitor {
+    /// The visitor that stands outside each binder of the value.
+    pub fn new() -> MeetsRegionsVisitor
+        ensures { result ≡ record { outer_index = 0; skipped = false } }
+    {
+        MeetsRegionsVisitor {
+            outer_index: DebruijnIndex::INNERMOST,
+            skipped: false,
+        }
+    }
+
+    /// Whether a binder's value was passed over.
+    pub fn has_skipped(self) -> bool
+        ensures { result ≡ self.skipped }
+    {
+        self.skipped
+    }
+
+    // Whether what has this outer exclusive binder holds a variable that is bound outside of the visited value.
+    fn reaches_out(self, outer_exclusive_binder: DebruijnIndex) -> bool
+        ensures { IsTrue result ↔ (self.outer_index < outer_exclusive_binder) }
+    {
+        outer_exclusive_binder > self.outer_index
+    }
+
+    // What these flags and this outer exclusive binder tell of the regions in a term.
+    fn look(
+        self,
+        flags: TypeFlags,
+        outer_exclusive_binder: DebruijnIndex,
+    ) -> ControlFlow<MetRegion, Next>
+        ensures { (t : Tree Depth)
+            → flags.bits ≡ scan t
+            → outer_exclusive_binder ≡ outer_binder t
+            → MatchControlFlow
+            result
+            (λ next. Looks self.outer_index t next)
+            (λ b. MeetsSome self.outer_index t) }
+    {
+        let unbound = TypeFlags::HAS_FREE_REGIONS.union(TypeFlags::HAS_RE_ERASED);
+        if unbound.intersects(flags) {
+            ControlFlow::Break(MetRegion)
+        } else if !TypeFlags::HAS_RE_BOUND.intersects(flags) {
+            ControlFlow::Continue(Next::Skip)
+        } else if self.reaches_out(outer_exclusive_binder) {
+            ControlFlow::Continue(Next::Descend)
+        } else {
+            ControlFlow::Continue(Next::Skip)
+        }
+    }
+}
+
+impl TypeVisitor for MeetsRegionsVisitor {
+    type Break = MetRegion;
+
+    ghost use Rattle.tt_visit.specs.MeetsRegions.{RegionSearch, meets_hooks};
+
+    ghost Meaning = { RegionSearch };
+
+    ghost meaning = { λ _ s. record { depth = s.outer_index; skipped = s.skipped } };
+
+    ghost hooks = { meets_hooks };
+
+    fn visit_region(&mut self, _cx: &Interner, region: Region) -> ControlFlow<MetRegion, ()> {
+        match self.look(region.flags(), region.outer_exclusive_binder()) {
+            ControlFlow::Continue(Next::Skip) => ControlFlow::Continue(()),
+            // the region itself is the variable that is bound outside
+            ControlFlow::Continue(Next::Descend) => ControlFlow::Break(MetRegion),
+            ControlFlow::Break(b) => ControlFlow::Break(b),
+        }
+    }
+
+    fn visit_error(
+        &mut self,
+        _cx: &Interner,
+        _error: ErrorGuaranteed,
+    ) -> ControlFlow<MetRegion, ()> {
+        ControlFlow::Continue(())
+    }
+
+    fn visit_ty(&mut self, cx: &Interner, ty: Ty) -> ControlFlow<MetRegion, Next> {
+        self.look(ty.flags(cx), ty.outer_exclusive_binder(cx))
+    }
+
+    fn visit_const(&mut self, cx: &Interner, constant: Const) -> ControlFlow<MetRegion, Next> {
+        self.look(constant.flags(cx), constant.outer_exclusive_binder(cx))
+    }
+
+    fn visit_predicate(
+        &mut self,
+        cx: &Interner,
+        predicate: Predicate,
+    ) -> ControlFlow<MetRegion, Next> {
+        self.look(predicate.flags(cx), predicate.outer_exclusive_binder(cx))
+    }
+
+    fn visit_clauses(&mut self, cx: &Interner, clauses: Clauses) -> ControlFlow<MetRegion, Next> {
+        self.look(clauses.flags(cx), clauses.outer_exclusive_binder(cx))
+    }
+
+    fn visit_binder(
+        &mut self,
+        _cx: &Interner,
+        _vars: BoundVarKinds,
+    ) -> ControlFlow<MetRegion, Next> {
+        if self.outer_index.can_shift_in(1) {
+            self.outer_index.shift_in(1);
+            ControlFlow::Continue(Next::Descend)
+        } else {
+            self.skipped = true;
+            ControlFlow::Continue(Next::Skip)
+        }
+    }
+
+    fn leave_binder(&mut self, _cx: &Interner, _vars: BoundVarKinds) {
+        if self.outer_index.can_shift_out(1) {
+            self.outer_index.shift_out(1);
+        }
+    }
+}
+
+// Goes over a value, and into each term that holds a bound region, only to learn that the index of each is in range.
+#[derive(Clone, Copy, Debug)]
+struct RegionsInRangeVisitor;
+
+impl TypeVisitor for RegionsInRangeVisitor {
+    type Break = MetRegion;
+
+    ghost use Rattle.std.specs.Prelude.{⊤};
+    ghost use Rattle.tt_visit.specs.MeetsRegions.{region_range_hooks};
+
+    ghost Meaning = { ⊤ };
+
+    ghost meaning = { λ _ s. tt };
+
+    ghost hooks = { region_range_hooks };
+
+    fn visit_region(&mut self, _cx: &Interner, region: Region) -> ControlFlow<MetRegion, ()> {
+        let _fits = region.outer_exclusive_binder().as_u32();
+        ControlFlow::Continue(())
+    }
+
+    fn visit_error(
+        &mut self,
+        _cx: &Interner,
+        _error: ErrorGuaranteed,
+    ) -> ControlFlow<MetRegion, ()> {
+        ControlFlow::Continue(())
+    }
+
+    fn visit_ty(&mut self, cx: &Interner, ty: Ty) -> ControlFlow<MetRegion, Next> {
+        ControlFlow::Continue(next_at(ty.flags(cx)))
+    }
+
+    fn visit_const(&mut self, cx: &Interner, constant: Const) -> ControlFlow<MetRegion, Next> {
+        ControlFlow::Continue(next_at(constant.flags(cx)))
+    }
+
+    fn visit_predicate(
+        &mut self,
+        cx: &Interner,
+        predicate: Predicate,
+    ) -> ControlFlow<MetRegion, Next> {
+        ControlFlow::Continue(next_at(predicate.flags(cx)))
+    }
+
+    fn visit_clauses(&mut self, cx: &Interner, clauses: Clauses) -> ControlFlow<MetRegion, Next> {
+        ControlFlow::Continue(next_at(clauses.flags(cx)))
+    }
+
+    fn visit_binder(
+        &mut self,
+        _cx: &Interner,
+        _vars: BoundVarKinds,
+    ) -> ControlFlow<MetRegion, Next> {
+        ControlFlow::Continue(Next::Descend)
+    }
+
+    fn leave_binder(&mut self, _cx: &Interner, _vars: BoundVarKinds) {}
+}
+
+// What comes next at a term with these flags: what stands inside where a bound region does, and else what comes after.
+fn next_at(flags: TypeFlags) -> Next
+    ensures { result ≡ Skip → Misses 0x40000 flags.bits }
+{
+    if TypeFlags::HAS_RE_BOUND.intersects(flags) {
+        Next::Descend
+    } else {
+        Next::Skip
+    }
+}
+
+/// Whether each bound region in the value, however deep it stands, has an index below the greatest. So the answer is
+/// always true; the contract gives callers the fact. Each term that holds a bound region is taken apart.
+pub(crate) fn are_regions_in_range<T: TypeVisitable>(cx: &Interner, value: &T) -> bool
+    requires { IsPart (size cx.now.rows) (T.shape value.now) }
+    ensures holds { IsTrue result }
+    ensures each { AreInRange (fill (meaning cx.now.rows) (T.shape value.now)) }
+{
+    let mut visitor = RegionsInRangeVisitor;
+    match value.visit_with(cx, &mut visitor) {
+        ControlFlow::Break(_) => false,
+        ControlFlow::Continue(_) => true,
+    }
+}
