@@ -18,12 +18,13 @@ use Rattle.tt_kinds.proofs.MatchedLaws.{MatchedUnder-put}
 use Rattle.tt_kinds.proofs.ParamLaws.{inst_tree-none, holds_param-put, EachParam-none, IsGeneric-from_test}
 use Rattle.tt_kinds.proofs.CauseLaws.{Cause-never, Cause-no_arguments, Cause-out_of_range, Cause-kind}
 use Rattle.tt_interner.specs.Rows.{Row, size}
-use Rattle.tt_interner.specs.Stored.{Counters, Terms, IsUnbuilt}
+use Rattle.tt_interner.specs.Stored.{Terms, IsUnbuilt}
 use Rattle.tt_fold.specs.Counts.{Standing}
-use Rattle.tt_fold.specs.Steps.{IsPartOf, IsRefused, tree_in}
+use Rattle.tt_fold.specs.Steps.{IsPartOf, IsRefused, tree_in, refusals_of}
+use Rattle.tt_fold.proofs.WantedLaws.{refusals-tell}
 use Rattle.tt_fold.specs.Stands.{StandsIn}
-use Rattle.tt_fold.specs.Walk.{Walks, at_region, replaced, kept, descended, passed, at_node, at_binder, Fails, region_failed, term_failed, descent_failed, passed_failed, enter_failed, under_failed, leave_failed, node_failed, node_not_built}
-use Rattle.tt_binder.specs.Instantiation.{Instantiation, Instantiates, Refuses, without, too_far, caused, LeafRefuses, for_cause, unshifted, IsTypeOrClause, given_argument, left_alone, taken_apart, gone_into, const_gone_into, arg_hooks}
+use Rattle.tt_fold.specs.Walk.{Errors, Walks, Fails, region_failed, term_failed, descent_failed, passed_failed, enter_failed, under_failed, leave_failed, node_failed, node_not_built}
+use Rattle.tt_binder.specs.Instantiation.{Instantiation, Instantiates, Refuses, without, too_far, caused, LeafRefuses, for_cause, unshifted, IsTypeOrClause, taken_apart, gone_into, const_gone_into, arg_hooks}
 use Rattle.tt_binder.specs.Instance.{HasNoCause, Composes, Commutes, StaysMatched, LeavesNoParam, IsInstance, IsReason, ComesBack, IsOfClauses}
 use Rattle.tt_binder.proofs.FlagLaws.{hides_none}
 use Rattle.tt_binder.proofs.RowArguments.{type_stays, clause_stays}
@@ -111,8 +112,8 @@ reason_unbuilt terms u args t (RegionVariable x) keeps stands h = absurd h
 
 -- why the folder's walk from outside of each binder is refused
 pub reason_refused : (terms : Terms) (args : List (Argument Depth)) (s s' : Standing Instantiation) (t : Tree Depth) (e : Refusal) → s.state ≡ record { args = args; binders_passed = 0 }
-    → KeepsClauses (inst_tree 0 args t) → Fails arg_hooks (IsRefused terms) s t e s' → IsReason terms args t e
-reason_refused terms args s s' t e is keeps f = at_root (subst (λ q. Refuses (IsRefused terms) q.args q.binders_passed t e) is (refuses (IsRefused terms) f))
+    → KeepsClauses (inst_tree 0 args t) → Fails arg_hooks (refusals_of terms) s t e s' → IsReason terms args t e
+reason_refused terms args s s' t e is keeps f = at_root (subst (λ q. Refuses (IsRefused terms) q.args q.binders_passed t e) is (refuses (refusals_of terms) (refusals-tell terms) f))
   where
     at_root : Refuses (IsRefused terms) args 0 t e → IsReason terms args t e
     at_root (without u stands h) = rw h.1.0 (reason_unbuilt terms u args t h.0 keeps stands h.1.1)
@@ -124,12 +125,12 @@ leaf_caused : (unbuilt : Tree Depth → Refusal → Type 0) (args : List (Argume
 leaf_caused unbuilt args t e (for_cause h) = h
 leaf_caused unbuilt args t e (unshifted below h) = absurd (omega (arith, below))
 
-module _ (unbuilt : Tree Depth → Refusal → Type 0) (args : List (Argument Depth)) where
+module _ (errors : Errors Refusal) (args : List (Argument Depth)) where
   -- a value that is itself a parameter is refused only for a cause
-  pub param_refused : {s s' : Standing Instantiation} {t : Tree Depth} {e : Refusal} → Fails arg_hooks unbuilt s t e s' → s.state ≡ record { args = args; binders_passed = 0 }
+  pub param_refused : {s s' : Standing Instantiation} {t : Tree Depth} {e : Refusal} → Fails arg_hooks errors s t e s' → s.state ≡ record { args = args; binders_passed = 0 }
       → (o : Sort) (i : ℕ) (name : Name) → t ≡ param o i name → Cause (param o i name) args e
-  param_refused {t} {e} (region_failed is h) state o i name same = rw same at (leaf_caused unbuilt args t e (subst (λ q. LeafRefuses unbuilt q.args q.binders_passed t e) state h.1))
-  param_refused {t} {e} (term_failed is h) state o i name same = rw same at (leaf_caused unbuilt args t e (subst (λ q. LeafRefuses unbuilt q.args q.binders_passed t e) state h.2))
+  param_refused {t} {e} (region_failed is h) state o i name same = rw same at (leaf_caused errors.unbuilt args t e (subst (λ q. LeafRefuses errors.unbuilt q.args q.binders_passed t e) state h.1))
+  param_refused {t} {e} (term_failed is h) state o i name same = rw same at (leaf_caused errors.unbuilt args t e (subst (λ q. LeafRefuses errors.unbuilt q.args q.binders_passed t e) state h.2))
   param_refused (descent_failed is (taken_apart kind g) d) state o i name same = absurd (cc)
   param_refused (descent_failed is (gone_into other kind g) d) state o i name same = absurd (cc)
   param_refused (descent_failed is (const_gone_into kind) d) state o i name same = let never = rw same at kind in absurd never
@@ -139,40 +140,6 @@ module _ (unbuilt : Tree Depth → Refusal → Type 0) (args : List (Argument De
   param_refused (leave_failed enter w h) state o i name same = absurd h
   param_refused (node_failed d) state o i name same = absurd (cc)
   param_refused (node_not_built w b) state o i name same = absurd (cc)
-
--- where a value is itself a parameter, nothing is taken apart and nothing shifted: the counts stay
-same_counts : (d : ℕ) (c : Counters) (n : ℕ) → d ≡ c.descents → n ≡ c.shift_descents → (let x : Counters = record { descents = d; shift_descents = n } in x) ≡ c
-same_counts d c n p q = rw (p, q) refl
-
-none_passed : (args : List (Argument Depth)) (q : Instantiation) → q ≡ record { args = args; binders_passed = 0 } → q.binders_passed ≡ 0
-none_passed args q e = ap (λ x. x.binders_passed) e
-
-pub param_still : {s s' : Standing Instantiation} {t r : Tree Depth} → Walks arg_hooks s t r s' → (args : List (Argument Depth)) → s.state ≡ record { args = args; binders_passed = 0 }
-    → (o : Sort) (i : ℕ) (name : Name) → t ≡ param o i name → s'.counters ≡ s.counters
-param_still (at_region is h) args state o i name same = ap (λ q. q.counters) h.0
-param_still {s} (replaced is (given_argument n more d)) args state o i name same = same_counts s.counters.descents s.counters n refl (more.1 (none_passed args s.state state))
-param_still (kept is (left_alone kind h)) args state o i name same = refl
-param_still (descended is (taken_apart kind g) d) args state o i name same = absurd (cc)
-param_still (descended is (gone_into other kind g) d) args state o i name same = absurd (cc)
-param_still (descended is (const_gone_into kind) d) args state o i name same = let never = rw same at kind in absurd never
-param_still {t} (passed is d) args state o i name same = let never = rw same at (passed-gone t is) in absurd never
-param_still (at_node w) args state o i name same = absurd (cc)
-param_still (at_binder enter w leave) args state o i name same = absurd (cc)
-
-pub param_refused_still : (unbuilt : Tree Depth → Refusal → Type 0) {s s' : Standing Instantiation} {t : Tree Depth} {e : Refusal} → Fails arg_hooks unbuilt s t e s'
-    → (args : List (Argument Depth)) → s.state ≡ record { args = args; binders_passed = 0 } → (o : Sort) (i : ℕ) (name : Name) → t ≡ param o i name → s'.counters ≡ s.counters
-param_refused_still unbuilt (region_failed is h) args state o i name same = ap (λ q. q.counters) h.0
-param_refused_still unbuilt {s} {s'} (term_failed is h) args state o i name same =
-    same_counts s'.counters.descents s.counters s'.counters.shift_descents h.0 (h.1.1 (none_passed args s.state state))
-param_refused_still unbuilt (descent_failed is (taken_apart kind g) d) args state o i name same = absurd (cc)
-param_refused_still unbuilt (descent_failed is (gone_into other kind g) d) args state o i name same = absurd (cc)
-param_refused_still unbuilt (descent_failed is (const_gone_into kind) d) args state o i name same = let never = rw same at kind in absurd never
-param_refused_still unbuilt {t} (passed_failed is d) args state o i name same = let never = rw same at (passed-gone t is) in absurd never
-param_refused_still unbuilt (enter_failed h) args state o i name same = absurd (cc)
-param_refused_still unbuilt (under_failed enter d) args state o i name same = absurd (cc)
-param_refused_still unbuilt (leave_failed enter w h) args state o i name same = absurd h
-param_refused_still unbuilt (node_failed d) args state o i name same = absurd (cc)
-param_refused_still unbuilt (node_not_built w b) args state o i name same = absurd (cc)
 
 -- what is said of a value where there are no arguments
 pub empty_outcome : {T : Type 0} (result : Result T Refusal) (value : T) (b : Bool) (P : T → Type 0) (E : Refusal → Type 0)

@@ -6,3 +6,4 @@ pub mod UntouchedLaws
 pub mod PositionLaws
 pub mod ClauseLaws
 pub mod InstanceLaws
+pub mod StillLaws

@@ -17,9 +17,9 @@ use Rattle.tt_kinds.proofs.ChildLaws.{Among, here as among_here, later as among_
 use Rattle.tt_interner.specs.Stored.{Counters, counted, IsNoClauseList}
 use Rattle.tt_fold.specs.Counts.{Standing}
 use Rattle.tt_fold.specs.Stands.{itself, in_term as stands_in_term, in_node as stands_in_node, in_binder as stands_in_binder, StandsAmong, in_first, in_later}
-use Rattle.tt_fold.specs.Walk.{descend, IsPassed, Walks, Descends, WalksInside, WalksAll, at_region, replaced, kept, descended, passed, rebuilt, at_node, at_binder, in_term, in_param, in_bound, done, next, Fails, DescentFails, InsideFails, FailsAll, region_failed, term_failed, descent_failed, passed_failed, enter_failed, under_failed, leave_failed, node_failed, node_not_built, stopped, inside_failed, not_built, after_failed, in_term_failed, here, later, no_clause, Wanted, any_trees, wanted_in, HasUnwanted}
+use Rattle.tt_fold.specs.Walk.{Errors, descend, IsPassed, Walks, Descends, WalksInside, WalksAll, at_region, replaced, kept, descended, passed, rebuilt, at_node, at_binder, in_term, in_param, in_bound, done, next, Fails, DescentFails, InsideFails, FailsAll, region_failed, term_failed, descent_failed, passed_failed, enter_failed, under_failed, leave_failed, node_failed, node_not_built, stopped, inside_failed, not_built, after_failed, in_term_failed, here, later, no_clause, Wanted, any_trees, wanted_in, HasUnwanted}
 use Rattle.tt_fold.proofs.ShiftLaws.{counted-up}
-use Rattle.tt_fold.proofs.WantedLaws.{first-unwanted, later-unwanted, unwanted-list}
+use Rattle.tt_fold.proofs.WantedLaws.{first-unwanted, later-unwanted, unwanted-list, TellsOfLists}
 use Rattle.tt_binder.specs.Instantiation.{Instantiation, Instantiates, Refuses, without, too_far, caused, LeafRefuses, for_cause, unshifted, deeper, shallower, IsInnerConst, OnTerm, given_argument, left_alone, taken_apart, gone_into, const_gone_into, arg_hooks}
 use Rattle.tt_binder.proofs.FlagLaws.{hides_none}
 
@@ -284,47 +284,48 @@ inside_up (in_term w fit) = (does_all w).stays.rises
 inside_up in_param = rises-same refl
 inside_up in_bound = rises-same refl
 
-module _ (unbuilt : Tree Depth → Refusal → Type 0) where
-  at_leaf : (args : List (Argument Depth)) (k : ℕ) (t : Tree Depth) (e : Refusal) → LeafRefuses unbuilt args k t e → Refuses unbuilt args k t e
+module _ (errors : Errors Refusal) where
+  at_leaf : (args : List (Argument Depth)) (k : ℕ) (t : Tree Depth) (e : Refusal) → LeafRefuses errors.unbuilt args k t e → Refuses errors.unbuilt args k t e
   at_leaf args k t e (for_cause h) = caused h
   at_leaf args k t e (unshifted below h) = h
 
-  mutual
-    -- a refused walk has a reason
-    pub refuses : {s s' : Standing Instantiation} {t : Tree Depth} {e : Refusal} → Fails arg_hooks unbuilt s t e s' → Refuses unbuilt s.state.args s.state.binders_passed t e
-    refuses {s} {t} {e} (region_failed is h) = at_leaf s.state.args s.state.binders_passed t e h.1
-    refuses {s} {t} {e} (term_failed is h) = at_leaf s.state.args s.state.binders_passed t e h.2
-    refuses {s} {s'} {t} (descent_failed is (taken_apart kind g) d) = refuses_rebuilt d (descend-gone t (taken_apart {s = s} kind g))
-    refuses {s} {s'} {t} (descent_failed is (gone_into other kind g) d) = refuses_rebuilt d (descend-gone t (gone_into {s = s} other kind g))
-    refuses {s} {s'} {t} (descent_failed is (const_gone_into kind) d) = refuses_rebuilt d (const-gone t kind)
-    refuses {t} (passed_failed is d) = refuses_inside d (passed-gone t is)
-    refuses {s} (enter_failed {vs} {t} {e} h) = too_deep unbuilt s.state.args s.state.binders_passed vs t e h.1 h.2
-    refuses {s} (under_failed {vs} {t} {e} enter d) = refuses_binder unbuilt s.state.args s.state.binders_passed vs t e (rw enter at (refuses d))
-    refuses (leave_failed enter w h) = absurd h
-    refuses {s} (node_failed {l} {ts} {e} d) = refuses_node unbuilt s.state.args s.state.binders_passed l ts e (refuses_all d)
-    refuses {s} (node_not_built {l} {ts} {us} {e} w b) =
-        without (inst_tree s.state.binders_passed s.state.args (node l ts)) itself (subst (λ vs. unbuilt (node l vs) e) (does_all w).does.plain b)
+  module _ (tells : TellsOfLists errors) where
+    mutual
+      -- a refused walk has a reason
+      pub refuses : {s s' : Standing Instantiation} {t : Tree Depth} {e : Refusal} → Fails arg_hooks errors s t e s' → Refuses errors.unbuilt s.state.args s.state.binders_passed t e
+      refuses {s} {t} {e} (region_failed is h) = at_leaf s.state.args s.state.binders_passed t e h.1
+      refuses {s} {t} {e} (term_failed is h) = at_leaf s.state.args s.state.binders_passed t e h.2
+      refuses {s} {s'} {t} (descent_failed is (taken_apart kind g) d) = refuses_rebuilt d (descend-gone t (taken_apart {s = s} kind g))
+      refuses {s} {s'} {t} (descent_failed is (gone_into other kind g) d) = refuses_rebuilt d (descend-gone t (gone_into {s = s} other kind g))
+      refuses {s} {s'} {t} (descent_failed is (const_gone_into kind) d) = refuses_rebuilt d (const-gone t kind)
+      refuses {t} (passed_failed is d) = refuses_inside d (passed-gone t is)
+      refuses {s} (enter_failed {vs} {t} {e} h) = too_deep errors.unbuilt s.state.args s.state.binders_passed vs t e h.1 h.2
+      refuses {s} (under_failed {vs} {t} {e} enter d) = refuses_binder errors.unbuilt s.state.args s.state.binders_passed vs t e (rw enter at (refuses d))
+      refuses (leave_failed enter w h) = absurd h
+      refuses {s} (node_failed {l} {ts} {e} d) = refuses_node errors.unbuilt s.state.args s.state.binders_passed l ts e (refuses_all d)
+      refuses {s} (node_not_built {l} {ts} {us} {e} w b) =
+          without (inst_tree s.state.binders_passed s.state.args (node l ts)) itself (subst (λ vs. errors.unbuilt (node l vs) e) (does_all w).does.plain b)
 
-    refuses_rebuilt : {s s' : Standing Instantiation} {t : Tree Depth} {e : Refusal} → DescentFails arg_hooks unbuilt s t e s' → IsGoneInto t → Refuses unbuilt s.state.args s.state.binders_passed t e
-    refuses_rebuilt (inside_failed d) gone = refuses_inside d gone
-    refuses_rebuilt (after_failed w h) gone = absurd h
+      refuses_rebuilt : {s s' : Standing Instantiation} {t : Tree Depth} {e : Refusal} → DescentFails arg_hooks errors s t e s' → IsGoneInto t → Refuses errors.unbuilt s.state.args s.state.binders_passed t e
+      refuses_rebuilt (inside_failed d) gone = refuses_inside d gone
+      refuses_rebuilt (after_failed w h) gone = absurd h
 
-    refuses_inside : {s s' : Standing Instantiation} {t : Tree Depth} {e : Refusal} → InsideFails arg_hooks unbuilt s t e s' → IsGoneInto t → Refuses unbuilt s.state.args s.state.binders_passed t e
-    refuses_inside {s} (in_term_failed {l} {ts} {e} d) gone = refuses_term unbuilt s.state.args s.state.binders_passed l ts e gone (refuses_all d)
-    refuses_inside {s} (not_built {t} {u} {e} w b) gone =
-        without (inst_tree s.state.binders_passed s.state.args t) itself (subst (λ v. unbuilt v e) (does_inside w gone).does.plain b)
+      refuses_inside : {s s' : Standing Instantiation} {t : Tree Depth} {e : Refusal} → InsideFails arg_hooks errors s t e s' → IsGoneInto t → Refuses errors.unbuilt s.state.args s.state.binders_passed t e
+      refuses_inside {s} (in_term_failed {l} {ts} {e} d) gone = refuses_term errors.unbuilt s.state.args s.state.binders_passed l ts e gone (refuses_all d)
+      refuses_inside {s} (not_built {t} {u} {e} w b) gone =
+          without (inst_tree s.state.binders_passed s.state.args t) itself (subst (λ v. errors.unbuilt v e) (does_inside w gone).does.plain b)
 
-    refuses_all : {w : Wanted} {s s' : Standing Instantiation} {ts : Forest Depth} {e : Refusal} → FailsAll arg_hooks unbuilt w s ts e s' → RefusesAll unbuilt w s.state.args s.state.binders_passed ts e
-    refuses_all (stopped h) = without_any h
-    refuses_all {w} {s} (here {t} {ts} {e} d) = refuses_first unbuilt s.state.args s.state.binders_passed w t ts e (refuses d)
-    refuses_all {w} {s} (no_clause {t} {ts} g bad h) =
-        let known = subst (λ v. HasUnwanted w (also v none)) (does g).does.plain bad in
-        without_lists (first-unwanted w (inst_tree s.state.binders_passed s.state.args t) (inst_forest s.state.binders_passed s.state.args ts) known) h
-    refuses_all {w} {s} (later {t} {ts} {e} g fit d) = refuses_later unbuilt s.state.args s.state.binders_passed w t ts e (rw (does g).stays.state at (refuses_all d))
+      refuses_all : {w : Wanted} {s s' : Standing Instantiation} {ts : Forest Depth} {e : Refusal} → FailsAll arg_hooks errors w s ts e s' → RefusesAll errors.unbuilt w s.state.args s.state.binders_passed ts e
+      refuses_all (stopped h) = without_any h
+      refuses_all {w} {s} (here {t} {ts} {e} d) = refuses_first errors.unbuilt s.state.args s.state.binders_passed w t ts e (refuses d)
+      refuses_all {w} {s} (no_clause {t} {ts} {e} g bad h) =
+          let known = subst (λ v. HasUnwanted w (also v none)) (does g).does.plain bad in
+          without_lists (first-unwanted w (inst_tree s.state.binders_passed s.state.args t) (inst_forest s.state.binders_passed s.state.args ts) known) (λ v none. tells v e none h)
+      refuses_all {w} {s} (later {t} {ts} {e} g fit d) = refuses_later errors.unbuilt s.state.args s.state.binders_passed w t ts e (rw (does g).stays.state at (refuses_all d))
 
   mutual
     -- nor does a refused walk lower a count
-    pub fails_up : {s s' : Standing Instantiation} {t : Tree Depth} {e : Refusal} → Fails arg_hooks unbuilt s t e s' → Rises s.counters s'.counters
+    pub fails_up : {s s' : Standing Instantiation} {t : Tree Depth} {e : Refusal} → Fails arg_hooks errors s t e s' → Rises s.counters s'.counters
     fails_up (region_failed is h) = rises-same (ap (λ q. q.counters) h.0)
     fails_up {s} {s'} (term_failed is h) = record { descents = omega (arith, h.0); shift_descents = h.1.0 }
     fails_up (descent_failed is (taken_apart kind g) d) = rises-more (fails_up_rebuilt d)
@@ -337,15 +338,15 @@ module _ (unbuilt : Tree Depth → Refusal → Type 0) where
     fails_up (node_failed d) = fails_up_all d
     fails_up (node_not_built w b) = (does_all w).stays.rises
 
-    fails_up_rebuilt : {s s' : Standing Instantiation} {t : Tree Depth} {e : Refusal} → DescentFails arg_hooks unbuilt s t e s' → Rises s.counters s'.counters
+    fails_up_rebuilt : {s s' : Standing Instantiation} {t : Tree Depth} {e : Refusal} → DescentFails arg_hooks errors s t e s' → Rises s.counters s'.counters
     fails_up_rebuilt (inside_failed d) = fails_up_inside d
     fails_up_rebuilt (after_failed w h) = absurd h
 
-    fails_up_inside : {s s' : Standing Instantiation} {t : Tree Depth} {e : Refusal} → InsideFails arg_hooks unbuilt s t e s' → Rises s.counters s'.counters
+    fails_up_inside : {s s' : Standing Instantiation} {t : Tree Depth} {e : Refusal} → InsideFails arg_hooks errors s t e s' → Rises s.counters s'.counters
     fails_up_inside (in_term_failed d) = fails_up_all d
     fails_up_inside (not_built w b) = inside_up w
 
-    fails_up_all : {w : Wanted} {s s' : Standing Instantiation} {ts : Forest Depth} {e : Refusal} → FailsAll arg_hooks unbuilt w s ts e s' → Rises s.counters s'.counters
+    fails_up_all : {w : Wanted} {s s' : Standing Instantiation} {ts : Forest Depth} {e : Refusal} → FailsAll arg_hooks errors w s ts e s' → Rises s.counters s'.counters
     fails_up_all (stopped h) = rises-same refl
     fails_up_all (here d) = fails_up d
     fails_up_all (no_clause w bad h) = (does w).stays.rises

@@ -42,3 +42,13 @@ arguments-still old new xs ys g same h = rw same (arguments-grows old new xs g h
 pub state-still : (old new : List Row) (xs ys : List GenericArgKind) (k : ℕ) → Grows old new → ys ≡ xs → AreArguments old xs
     → (let state : Instantiation = record { args = arguments new ys; binders_passed = k } in state) ≡ record { args = arguments old xs; binders_passed = k }
 state-still old new xs ys k g same h = ap (λ args. record { args = args; binders_passed = k }) (arguments-still old new xs ys g same h)
+
+-- what a folder with arguments owns, it owns with more rows
+pub owned-still : {S : Type 0} {items : List Row → S → List GenericArgKind} {owns : List Row → S → Type 0}
+    → ((old new : List Row) (x : S) → Grows old new → owns old x → owns new x)
+    → ((old new : List Row) (x : S) → Grows old new → owns old x → items new x ≡ items old x)
+    → (old new : List Row) (x : S) → Grows old new
+    → owns old x × AreArguments old (items old x) × (items old x ≢ []) → owns new x × AreArguments new (items new x) × (items new x ≢ [])
+owned-still {items} still_owned still_items old new x g h =
+    let same = still_items old new x g h.0 in
+    (still_owned old new x g h.0, AreArguments-still old new (items old x) (items new x) g same h.1, some-still (items old x) (items new x) same h.2)

@@ -113,6 +113,11 @@ arg_hooks = record {
   leave_fails = λ unbuilt s vs e s'. ⊥;
 }
 
+-- the tree is a parameter under no binder: its argument takes its place as it stands
+abbrev pub IsOpenParam : ℕ → Tree Depth → Type 0
+IsOpenParam binders_passed (param o i name) = binders_passed ≡ 0
+IsOpenParam binders_passed _ = ⊥
+
 -- the tree is a parameter of the sort and the index
 abbrev pub IsParam : Sort → ℕ → Tree Depth → Type 0
 IsParam sort index (param s i name) = (s ≡ sort) × (i ≡ index)

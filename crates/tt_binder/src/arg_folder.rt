@@ -9,7 +9,7 @@ ghost use Rattle.tt_interner.specs.Rows.{Row};
 ghost use Rattle.tt_interner.specs.Stored.{Extends};
 ghost use Rattle.tt_fold.specs.Steps.{IsPartOf, IsRefused, tree_in};
 ghost use Rattle.tt_binder.specs.Arguments.{AreArguments, arguments};
-ghost use Rattle.tt_binder.specs.Instantiation.{Instantiation, Instantiates, LeafRefuses, IsParam, arg_hooks};
+ghost use Rattle.tt_binder.specs.Instantiation.{Instantiation, Instantiates, IsOpenParam, LeafRefuses, IsParam, arg_hooks};
 
 use crate::slice_like::SliceLike;
 use tt_flags::TypeFlags;
@@ -201,6 +201,8 @@ impl<S: SliceLike> TypeFolder for ArgFolder<S> {
 
     ghost hooks = { arg_hooks };
 
+    ghost touches_nothing = { λ rows s t. IsOpenParam s.binders_passed t };
+
     fn fold_region(&mut self, cx: &mut Interner, region: Region) -> Result<Region, Refusal> {
         match region.kind() {
             RegionKind::ReEarlyParam(parameter) => {
@@ -309,13 +311,9 @@ impl<S: SliceLike> TypeFolder for ArgFolder<S> {
         Ok(())
     }
 
-    ghost use Rattle.tt_binder.specs.ArgumentLaws.{AreArguments-still, state-still, some-still};
+    ghost use Rattle.tt_binder.specs.ArgumentLaws.{owned-still, state-still};
 
-    ghost still_owned = { λ old new s g h. (
-      S.still_owned old new s.args g.grows h.0,
-      AreArguments-still old new (S.items old s.args) (S.items new s.args) g.grows (S.still_items old new s.args g.grows h.0) h.1,
-      some-still (S.items old s.args) (S.items new s.args) (S.still_items old new s.args g.grows h.0) h.2,
-    ) };
+    ghost still_owned = { λ old new s g h. owned-still S.still_owned S.still_items old new s.args g.grows h };
 
     ghost still_means = { λ old new s g h. state-still old new (S.items old s.args) (S.items new s.args) s.binders_passed g.grows (S.still_items old new s.args g.grows h.0) h.1 };
 }

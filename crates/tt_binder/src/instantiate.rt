@@ -47,7 +47,7 @@ pub trait Instantiate<T: TypeFoldable + Copy>: Copy {
     /// the interner's count of descents; constants, predicates and lists of clauses add none of their own.
     ///
     /// A value that is itself a parameter is refused only for want of an argument that fits: else its argument takes its place
-    /// as it stands, without a shift, and neither of the interner's counts of descents rises.
+    /// as it stands, without a shift. Nothing is built then, and the interner stays as it is, also where the value is refused.
     fn instantiate<S: SliceLike>(
         self,
         cx: &mut Interner,
@@ -71,9 +71,9 @@ pub trait Instantiate<T: TypeFoldable + Copy>: Copy {
         ensures same_type { (n : ℕ) → T.shape (declared self) ≡ stored Types n → holds_param (tree_by T.shape cx.old.rows (declared self)) ≡ false → (result ≡ Ok (record { value = declared self })) × (cx.new ≡ cx.old) }
         ensures same_clauses { (table : Table) (n : ℕ) → IsOfClauses table → T.shape (declared self) ≡ stored table n → holds_param (tree_by T.shape cx.old.rows (declared self)) ≡ false → (result ≡ Ok (record { value = declared self })) × (cx.new ≡ cx.old) }
         ensures parameter { (s : Sort) (i : ℕ) (name : Name) → tree_by T.shape cx.old.rows (declared self) ≡ param s i name → IfErr result (Cause (param s i name) (arguments cx.old.rows (S.items cx.old.rows args))) }
-        ensures parameter_counts { (s : Sort) (i : ℕ) (name : Name)
+        ensures parameter_still { (s : Sort) (i : ℕ) (name : Name)
             → tree_by T.shape cx.old.rows (declared self) ≡ param s i name
-            → cx.new.counters ≡ cx.old.counters };
+            → cx.new ≡ cx.old };
 }
 
 // The value where there are no arguments.
@@ -107,9 +107,9 @@ fn instantiate_value<T: TypeFoldable + Copy, S: SliceLike>(
         (λ e. IsReason cx.new (arguments cx.old.rows (S.items cx.old.rows args)) (tree_by T.shape cx.old.rows value) e) }
     ensures same { ComesBack (arguments cx.old.rows (S.items cx.old.rows args)) (tree_by T.shape cx.old.rows value) → (result ≡ Ok value) × (cx.new ≡ cx.old) }
     ensures parameter { (s : Sort) (i : ℕ) (name : Name) → tree_by T.shape cx.old.rows value ≡ param s i name → IfErr result (Cause (param s i name) (arguments cx.old.rows (S.items cx.old.rows args))) }
-    ensures parameter_counts { (s : Sort) (i : ℕ) (name : Name)
+    ensures parameter_still { (s : Sort) (i : ℕ) (name : Name)
         → tree_by T.shape cx.old.rows value ≡ param s i name
-        → cx.new.counters ≡ cx.old.counters }
+        → cx.new ≡ cx.old }
 {
     if args.is_empty(cx) {
         return without_arguments(cx, value);

@@ -17,7 +17,7 @@ use Rattle.tt_interner.proofs.Fill.{tree_table}
 use Rattle.tt_interner.proofs.Growth.{Extends-refl, Extends-trans}
 use Rattle.tt_interner.proofs.ShapeLaws.{root_of_row}
 use Rattle.tt_interner.proofs.Trees.{Means-row}
-use Rattle.tt_fold.specs.Walk.{Hooks, Walks, WalksAll, Fails, at_region, replaced, kept, descended, passed, at_node, region_failed, term_failed, descent_failed, passed_failed, node_failed, node_not_built, stopped}
+use Rattle.tt_fold.specs.Walk.{Errors, Hooks, Walks, WalksAll, Fails, at_region, replaced, kept, descended, passed, at_node, region_failed, term_failed, descent_failed, passed_failed, node_failed, node_not_built, stopped}
 use Rattle.tt_fold.specs.Counts.{Standing, stands}
 use Rattle.tt_fold.specs.Steps.{Folds, IsPartOf, IsPartBy, tree_in, tree_by, IsErrorOfUnbuilt}
 use Rattle.tt_fold.specs.Parts.{trees_in}
@@ -58,8 +58,8 @@ values-walked (descended is h d) = absurd (let never = is in cc)
 values-walked (passed is w) = absurd (let never = is in cc)
 values-walked (at_node w) = w
 
-values-failed : {M E : Type 0} {H : Hooks M E} {unbuilt : Tree Depth → E → Type 0} {s s' : M} {ts : Forest Depth} {e : E}
-    → ((us : Forest Depth) → unbuilt (sequence us) e → unbuilt (listed us) e) → Fails H unbuilt s (sequence ts) e s' → Fails H unbuilt s (listed ts) e s'
+values-failed : {M E : Type 0} {H : Hooks M E} {errors : Errors E} {s s' : M} {ts : Forest Depth} {e : E}
+    → ((us : Forest Depth) → errors.unbuilt (sequence us) e → errors.unbuilt (listed us) e) → Fails H errors s (sequence ts) e s' → Fails H errors s (listed ts) e s'
 values-failed same (region_failed is h) = absurd (let never = is in cc)
 values-failed same (term_failed is h) = absurd (let never = is in cc)
 values-failed same (descent_failed is h d) = absurd (let never = is in cc)
@@ -84,37 +84,38 @@ not_stored terms ps Memory parts h = tt
 not_stored terms ps TableFull parts h = record { row = assumptions_row ps; fills = refl; parts = (tt, parts); new = h.0; full = h.1 }
 not_stored terms ps _ parts h = absurd h
 
-module _ {M E S : Type 0} {owned : List Row → S → Type 0} {means : List Row → S → M} {H : Hooks (Standing M) E} {unbuilt : Tree Depth → E → Type 0} (l : RegionAssumptions) where
+module _ {M E S : Type 0} {owned : List Row → S → Type 0} {means : List Row → S → M} {H : Hooks (Standing M) E} {errors : Errors E} (l : RegionAssumptions) where
   -- the memory for the copy was refused
-  pub copy_stops : {terms : Terms} {s : S} (ps : Assumptions) {e : E} → AreRows terms.rows → IsAt terms.rows (assumptions_row ps) l.number → ((u : Tree Depth) → unbuilt u e)
-      → Folds owned means (IsPartBy assumptions_shape) (tree_by assumptions_shape) (Walks H) (Fails H unbuilt) terms s l (Err e) terms s
+  pub copy_stops : {terms : Terms} {s : S} (ps : Assumptions) {e : E} → AreRows terms.rows → IsAt terms.rows (assumptions_row ps) l.number → owned terms.rows s → ((u : Tree Depth) → errors.unbuilt u e)
+      → Folds owned means (IsPartBy assumptions_shape) (tree_by assumptions_shape) (Walks H) (Fails H errors) terms s l (Err e) terms s
   unfolding fill
-  copy_stops {terms} ps are at b = record { extends = Extends-refl terms; outcome = rw (list-is terms.rows are l ps at) (node_failed (stopped b)) }
+  copy_stops {terms} ps are at o b = record { extends = Extends-refl terms; is_owned = o; outcome = rw (list-is terms.rows are l ps at) (node_failed (stopped b)) }
 
   module _ {V : Type 0} (items : V → Assumptions) {terms terms1 : Terms} {s s1 : S} {v : V} (are : AreRows terms.rows) (at : IsAt terms.rows (assumptions_row (items v)) l.number) where
     -- an assumption was not folded
-    pub assumptions_fail : {e : E} → ((us : Forest Depth) → unbuilt (sequence us) e → unbuilt (listed us) e)
-        → Folds owned means (IsPartBy (λ v. sequence_shape assumption_shape (items v))) (tree_by (λ v. sequence_shape assumption_shape (items v))) (Walks H) (Fails H unbuilt) terms s v (Err e) terms1 s1
-        → Folds owned means (IsPartBy assumptions_shape) (tree_by assumptions_shape) (Walks H) (Fails H unbuilt) terms s l (Err e) terms1 s1
+    pub assumptions_fail : {e : E} → ((us : Forest Depth) → errors.unbuilt (sequence us) e → errors.unbuilt (listed us) e)
+        → Folds owned means (IsPartBy (λ v. sequence_shape assumption_shape (items v))) (tree_by (λ v. sequence_shape assumption_shape (items v))) (Walks H) (Fails H errors) terms s v (Err e) terms1 s1
+        → Folds owned means (IsPartBy assumptions_shape) (tree_by assumptions_shape) (Walks H) (Fails H errors) terms s l (Err e) terms1 s1
     unfolding fill
-    assumptions_fail same d = record { extends = d.extends; outcome = rw (list-is terms.rows are l (items v) at) (values-failed same d.outcome) }
+    assumptions_fail same d = record { extends = d.extends; is_owned = d.is_owned; outcome = rw (list-is terms.rows are l (items v) at) (values-failed same d.outcome) }
 
     -- all were, and the list of what came of them is not stored
-    pub assumptions_not_stored : {terms2 : Terms} {w : V} {e : E} {other : Tree Depth → E → Type 0}
+    pub assumptions_not_stored : {terms2 : Terms} {w : V} {e : E} {other : Errors E}
         → Folds owned means (IsPartBy (λ v. sequence_shape assumption_shape (items v))) (tree_by (λ v. sequence_shape assumption_shape (items v))) (Walks H) (Fails H other) terms s v (Ok w) terms1 s1
-        → terms2 ≡ terms1 → unbuilt (listed (trees_of terms1.rows (items w))) e
-        → Folds owned means (IsPartBy assumptions_shape) (tree_by assumptions_shape) (Walks H) (Fails H unbuilt) terms s l (Err e) terms2 s1
+        → terms2 ≡ terms1 → errors.unbuilt (listed (trees_of terms1.rows (items w))) e
+        → Folds owned means (IsPartBy assumptions_shape) (tree_by assumptions_shape) (Walks H) (Fails H errors) terms s l (Err e) terms2 s1
     unfolding fill
     assumptions_not_stored d same b =
-        rw same (record { extends = d.extends; outcome = rw (list-is terms.rows are l (items v) at) (node_not_built (values-walked d.outcome.2) b) })
+        rw same (record { extends = d.extends; is_owned = d.is_owned; outcome = rw (list-is terms.rows are l (items v) at) (node_not_built (values-walked d.outcome.1) b) })
 
     -- or it is
-    pub assumptions_stored : {terms2 : Terms} {w : V} {other : Tree Depth → E → Type 0} (h : RegionAssumptions)
+    pub assumptions_stored : {terms2 : Terms} {w : V} {other : Errors E} (h : RegionAssumptions)
         → Folds owned means (IsPartBy (λ v. sequence_shape assumption_shape (items v))) (tree_by (λ v. sequence_shape assumption_shape (items v))) (Walks H) (Fails H other) terms s v (Ok w) terms1 s1
         → Builds (Ok h) (λ l. l.number) terms1 terms2 (assumptions_row (items w)) → owned terms2.rows s1 → stands means terms2 s1 ≡ stands means terms1 s1
-        → Folds owned means (IsPartBy assumptions_shape) (tree_by assumptions_shape) (Walks H) (Fails H unbuilt) terms s l (Ok h) terms2 s1
+        → Folds owned means (IsPartBy assumptions_shape) (tree_by assumptions_shape) (Walks H) (Fails H errors) terms s l (Ok h) terms2 s1
     unfolding fill IsPart
     assumptions_stored h d b o still = record {
       extends = Extends-trans d.extends (record { rows = b.grows; limit = b.limit });
-      outcome = (o, b.in_range, rw (list-is terms.rows are l (items v) at, b.means, still) (at_node (values-walked d.outcome.2)));
+      is_owned = o;
+      outcome = (b.in_range, rw (list-is terms.rows are l (items v) at, b.means, still) (at_node (values-walked d.outcome.1)));
     }

@@ -13,7 +13,7 @@ use Rattle.tt_interner.specs.Rows.{Row, Grows}
 use Rattle.tt_interner.specs.Stored.{Terms}
 use Rattle.tt_interner.proofs.Growth.{Extends-refl, IsPart-grows}
 use Rattle.tt_kinds.specs.Bare.{token_shape, token_shapes, index_of, bare_shape}
-use Rattle.tt_fold.specs.Walk.{Hooks, Walks, WalksAll, at_node, at_binder, done, next, WalksUnder, in_open, in_binder, Fails, FailsUnder, enter_failed, under_failed, leave_failed, node_failed, here, in_open_failed, in_enter_failed, in_under_failed, in_leave_failed}
+use Rattle.tt_fold.specs.Walk.{Errors, Hooks, Walks, WalksAll, at_node, at_binder, done, next, WalksUnder, in_open, in_binder, Fails, FailsUnder, enter_failed, under_failed, leave_failed, node_failed, here, in_open_failed, in_enter_failed, in_under_failed, in_leave_failed}
 use Rattle.tt_fold.specs.Counts.{Standing}
 use Rattle.tt_fold.specs.Steps.{Folds, IsPartOf, IsPartBy, tree_in, tree_by}
 use Rattle.tt_fold.specs.Parts.{ArePartsOf, ArePartsFor, HasBinder, binder_in, parts_trees, trees_in}
@@ -96,9 +96,9 @@ module _ {L : Type 0} (sort : Sort) (record_of : L → RecordLabel ℕ) (token_o
         vars-grow g vars u.0.0,
       ) (at_node (WalksAll-append (token_walks old rows (token_of l)) (WalksAll-one (at_binder enter (at_node w) leave))))
 
-  fails-bare : {M E : Type 0} {H : Hooks M E} {unbuilt : Tree Depth → E → Type 0} {s s1 : M} {e : E} (rows : List Row) (f : Form L)
-      → FailsUnder H unbuilt (binder_in rows (form_binder f)) s (trees_in rows (parts_shapes (form_parts f))) e s1
-      → Fails H unbuilt s (tree_in rows (bare_shape sort record_of token_of f)) e s1
+  fails-bare : {M E : Type 0} {H : Hooks M E} {errors : Errors E} {s s1 : M} {e : E} (rows : List Row) (f : Form L)
+      → FailsUnder H errors (binder_in rows (form_binder f)) s (trees_in rows (parts_shapes (form_parts f))) e s1
+      → Fails H errors s (tree_in rows (bare_shape sort record_of token_of f)) e s1
   unfolding fill
   fails-bare rows (param i name) (in_open_failed w) = node_failed w
   fails-bare rows (bound d e) (in_open_failed w) = node_failed w
@@ -114,38 +114,38 @@ module _ {L : Type 0} (sort : Sort) (record_of : L → RecordLabel ℕ) (token_o
       (node_failed (FailsAll-append (token_walks rows rows (token_of l)) (λ h. h) (here (leave_failed enter (at_node w) h))))
 
   -- the fold of the parts is that of the kind
-  module _ {M E S : Type 0} {owned : List Row → S → Type 0} {means : List Row → S → M} {H : Hooks (Standing M) E} {unbuilt : Tree Depth → E → Type 0} {T : Type 0} (of : T → Form L) where
+  module _ {M E S : Type 0} {owned : List Row → S → Type 0} {means : List Row → S → M} {H : Hooks (Standing M) E} {errors : Errors E} {T : Type 0} (of : T → Form L) where
     pub bare_fails : {terms terms1 : Terms} {s s1 : S} {x : T} {e : E}
         → Folds owned means (ArePartsFor (form_parts (of x))) parts_trees
-        (WalksUnder H (binder_in terms.rows (form_binder (of x)))) (FailsUnder H unbuilt (binder_in terms.rows (form_binder (of x))))
+        (WalksUnder H (binder_in terms.rows (form_binder (of x)))) (FailsUnder H errors (binder_in terms.rows (form_binder (of x))))
         terms s (form_parts (of x)) (Err e) terms1 s1
         → Folds owned means (IsPartBy (λ x. bare_shape sort record_of token_of (of x))) (tree_by (λ x. bare_shape sort record_of token_of (of x)))
-        (Walks H) (Fails H unbuilt) terms s x (Err e) terms1 s1
-    bare_fails {terms} {x} d = record { extends = d.extends; outcome = fails-bare terms.rows (of x) d.outcome }
+        (Walks H) (Fails H errors) terms s x (Err e) terms1 s1
+    bare_fails {terms} {x} d = record { extends = d.extends; is_owned = d.is_owned; outcome = fails-bare terms.rows (of x) d.outcome }
 
     pub bare_folds : {terms terms1 : Terms} {s s1 : S} {x y : T} {q : Parts} → IsPartOf terms.rows (bare_shape sort record_of token_of (of x)) → of y ≡ refilled q (of x)
         → Folds owned means (ArePartsFor (form_parts (of x))) parts_trees
-        (WalksUnder H (binder_in terms.rows (form_binder (of x)))) (FailsUnder H unbuilt (binder_in terms.rows (form_binder (of x))))
+        (WalksUnder H (binder_in terms.rows (form_binder (of x)))) (FailsUnder H errors (binder_in terms.rows (form_binder (of x))))
         terms s (form_parts (of x)) (Ok q) terms1 s1
         → Folds owned means (IsPartBy (λ x. bare_shape sort record_of token_of (of x))) (tree_by (λ x. bare_shape sort record_of token_of (of x)))
-        (Walks H) (Fails H unbuilt) terms s x (Ok y) terms1 s1
+        (Walks H) (Fails H errors) terms s x (Ok y) terms1 s1
     bare_folds {terms} {terms1} {x} {q} part same d =
         let o = d.outcome in
         record {
           extends = d.extends;
+          is_owned = d.is_owned;
           outcome = (
-            o.0,
-            rw same (bare-refilled terms.rows terms1.rows d.extends.rows q (of x) part o.1.owned),
-            rw same (walks-bare terms.rows terms1.rows d.extends.rows q (of x) part o.2),
+            rw same (bare-refilled terms.rows terms1.rows d.extends.rows q (of x) part o.0.owned),
+            rw same (walks-bare terms.rows terms1.rows d.extends.rows q (of x) part o.1),
           );
         }
 
 -- a token by itself
-module _ {M E S : Type 0} {owned : List Row → S → Type 0} {means : List Row → S → M} {H : Hooks (Standing M) E} {unbuilt : Tree Depth → E → Type 0} where
+module _ {M E S : Type 0} {owned : List Row → S → Type 0} {means : List Row → S → M} {H : Hooks (Standing M) E} {errors : Errors E} where
   pub token_folds : {terms : Terms} {s : S} (error : ErrorGuaranteed) → owned terms.rows s
-      → Folds owned means (IsPartBy (λ error. token_shape error.0)) (tree_by (λ error. token_shape error.0)) (Walks H) (Fails H unbuilt) terms s error (Ok error) terms s
+      → Folds owned means (IsPartBy (λ error. token_shape error.0)) (tree_by (λ error. token_shape error.0)) (Walks H) (Fails H errors) terms s error (Ok error) terms s
   unfolding fill IsPart
-  token_folds {terms} error o = record { extends = Extends-refl terms; outcome = (o, (refl, tt, tt), at_node done) }
+  token_folds {terms} error o = record { extends = Extends-refl terms; is_owned = o; outcome = ((refl, tt, tt), at_node done) }
 
 -- a value with its type, as a kind of constants
 abbrev pub value_in : ValueConst → Form ConstLabel

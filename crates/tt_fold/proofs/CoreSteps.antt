@@ -30,31 +30,33 @@ module _ {T : Type 0} (f : T → Node) (shape : T → Shape) (same : (x : T) →
 
   module _ {M E S : Type 0} {owned : List Row → S → Type 0} {means : List Row → S → M} (H : Hooks (Standing M) E) {unbuilt : Tree Depth → E → Type 0} {terms terms1 : Terms} {s s1 : S} where
     -- before a term
-    pub asks : {n : Node} (x : T) (r : Result (Step T) E) → n ≡ f x → Extends terms terms1
+    pub asks : {n : Node} (x : T) (r : Result (Step T) E) → n ≡ f x → Extends terms terms1 → owned terms1.rows s1
         → MatchResult r
-        (λ p. owned terms1.rows s1 × OwnsStep shape terms1.rows p × H.on_term (stands means terms s) (tree_in terms.rows (shape x)) (answer_of shape terms1.rows p) (stands means terms1 s1))
+        (λ p. OwnsStep shape terms1.rows p × H.on_term (stands means terms s) (tree_in terms.rows (shape x)) (answer_of shape terms1.rows p) (stands means terms1 s1))
         (λ e. H.term_fails unbuilt (stands means terms s) (tree_in terms.rows (shape x)) e (stands means terms1 s1))
         → Goes owned means
         (λ rows p m m'. IsStepFor n rows p × H.on_term m (node_tree terms.rows n) (answer_of node_shape rows p) m')
         (λ m e m'. H.term_fails unbuilt m (node_tree terms.rows n) e m')
         terms s (map_ok (map_step f) r) terms1 s1
-    asks {n} x (Ok p) is extends h = record {
+    asks {n} x (Ok p) is extends o h = record {
       extends = extends;
-      outcome = (h.0, (step_is_for terms1.rows n x p is h.1, rw (is, same x, step_answer terms1.rows p) h.2));
+      is_owned = o;
+      outcome = (step_is_for terms1.rows n x p is h.0, rw (is, same x, step_answer terms1.rows p) h.1);
     }
-    asks {n} x (Err e) is extends h = record { extends = extends; outcome = rw (is, same x) h }
+    asks {n} x (Err e) is extends o h = record { extends = extends; is_owned = o; outcome = rw (is, same x) h }
 
     -- after a term
-    pub asks_after : {n m : Node} (x y : T) (r : Result T E) → n ≡ f x → m ≡ f y → Extends terms terms1
+    pub asks_after : {n m : Node} (x y : T) (r : Result T E) → n ≡ f x → m ≡ f y → Extends terms terms1 → owned terms1.rows s1
         → MatchResult r
-        (λ z. owned terms1.rows s1 × IsPartOf terms1.rows (shape z) × H.after_term (stands means terms s) (tree_in terms.rows (shape x)) (tree_in terms.rows (shape y)) (tree_in terms1.rows (shape z)) (stands means terms1 s1))
+        (λ z. IsPartOf terms1.rows (shape z) × H.after_term (stands means terms s) (tree_in terms.rows (shape x)) (tree_in terms.rows (shape y)) (tree_in terms1.rows (shape z)) (stands means terms1 s1))
         (λ e. H.after_fails unbuilt (stands means terms s) (tree_in terms.rows (shape x)) (tree_in terms.rows (shape y)) e (stands means terms1 s1))
         → Goes owned means
         (λ rows z p p'. IsNodeFor n rows z × H.after_term p (node_tree terms.rows n) (node_tree terms.rows m) (node_tree rows z) p')
         (λ p e p'. H.after_fails unbuilt p (node_tree terms.rows n) (node_tree terms.rows m) e p')
         terms s (map_ok f r) terms1 s1
-    asks_after {n} x y (Ok z) is is_rebuilt extends h = record {
+    asks_after {n} x y (Ok z) is is_rebuilt extends o h = record {
       extends = extends;
-      outcome = (h.0, (is_for terms1.rows n x z is h.1, rw (is, is_rebuilt, same x, same y, same z) h.2));
+      is_owned = o;
+      outcome = (is_for terms1.rows n x z is h.0, rw (is, is_rebuilt, same x, same y, same z) h.1);
     }
-    asks_after {n} x y (Err e) is is_rebuilt extends h = record { extends = extends; outcome = rw (is, is_rebuilt, same x, same y) h }
+    asks_after {n} x y (Err e) is is_rebuilt extends o h = record { extends = extends; is_owned = o; outcome = rw (is, is_rebuilt, same x, same y) h }

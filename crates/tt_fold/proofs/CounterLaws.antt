@@ -4,7 +4,7 @@ use Rattle.std.proofs.lemmas.Result.{MatchResult-weaker}
 use Rattle.tt_kinds.specs.Tree.{Depth, Tree, Forest}
 use Rattle.tt_interner.specs.Rows.{Row}
 use Rattle.tt_interner.specs.Stored.{Terms}
-use Rattle.tt_fold.specs.Walk.{Hooks, Walks, Descends, WalksInside, WalksAll, at_region, replaced, kept, descended, passed, rebuilt, at_node, at_binder, in_term, in_param, in_bound, done, next, Fails, DescentFails, InsideFails, FailsAll, region_failed, term_failed, descent_failed, enter_failed, under_failed, leave_failed, node_failed, node_not_built, passed_failed, inside_failed, not_built, after_failed, in_term_failed, stopped, here, later, no_clause, Wanted}
+use Rattle.tt_fold.specs.Walk.{Hooks, Errors, Walks, Descends, WalksInside, WalksAll, at_region, replaced, kept, descended, passed, rebuilt, at_node, at_binder, in_term, in_param, in_bound, done, next, Fails, DescentFails, InsideFails, FailsAll, region_failed, term_failed, descent_failed, enter_failed, under_failed, leave_failed, node_failed, node_not_built, passed_failed, inside_failed, not_built, after_failed, in_term_failed, stopped, here, later, no_clause, Wanted}
 use Rattle.tt_fold.specs.Counts.{Standing, Quietly, keeps_counters}
 use Rattle.tt_fold.specs.Steps.{Folds}
 
@@ -31,9 +31,9 @@ module _ {M E : Type 0} (H : Hooks M E) where
     all-quietly done = (done, refl)
     all-quietly (next w more) = let p = walks-quietly w in let q = all-quietly more in (next p.0 q.0, q.1 ∙ p.1)
 
-module _ {M E : Type 0} (H : Hooks M E) (unbuilt : Tree Depth → E → Type 0) where
+module _ {M E : Type 0} (H : Hooks M E) (errors : Errors E) where
   mutual
-    pub fails-quietly : {s s' : Standing M} {t : Tree Depth} {e : E} → Fails (keeps_counters H) unbuilt s t e s' → Quietly (λ m m'. Fails H unbuilt m t e m') s s'
+    pub fails-quietly : {s s' : Standing M} {t : Tree Depth} {e : E} → Fails (keeps_counters H) errors s t e s' → Quietly (λ m m'. Fails H errors m t e m') s s'
     fails-quietly (region_failed is h) = (region_failed is h.0, h.1)
     fails-quietly (term_failed is h) = (term_failed is h.0, h.1)
     fails-quietly (descent_failed is h d) = let p = descent_fails-quietly d in (descent_failed is h.0 p.0, p.1 ∙ h.1)
@@ -44,15 +44,15 @@ module _ {M E : Type 0} (H : Hooks M E) (unbuilt : Tree Depth → E → Type 0) 
     fails-quietly (node_failed d) = let p = fails_all-quietly d in (node_failed p.0, p.1)
     fails-quietly (node_not_built w u) = let p = all-quietly H w in (node_not_built p.0 u, p.1)
 
-    descent_fails-quietly : {s s' : Standing M} {t : Tree Depth} {e : E} → DescentFails (keeps_counters H) unbuilt s t e s' → Quietly (λ m m'. DescentFails H unbuilt m t e m') s s'
+    descent_fails-quietly : {s s' : Standing M} {t : Tree Depth} {e : E} → DescentFails (keeps_counters H) errors s t e s' → Quietly (λ m m'. DescentFails H errors m t e m') s s'
     descent_fails-quietly (inside_failed d) = let p = inside_fails-quietly d in (inside_failed p.0, p.1)
     descent_fails-quietly (after_failed w h) = let p = inside-quietly H w in (after_failed p.0 h.0, h.1 ∙ p.1)
 
-    inside_fails-quietly : {s s' : Standing M} {t : Tree Depth} {e : E} → InsideFails (keeps_counters H) unbuilt s t e s' → Quietly (λ m m'. InsideFails H unbuilt m t e m') s s'
+    inside_fails-quietly : {s s' : Standing M} {t : Tree Depth} {e : E} → InsideFails (keeps_counters H) errors s t e s' → Quietly (λ m m'. InsideFails H errors m t e m') s s'
     inside_fails-quietly (in_term_failed d) = let p = fails_all-quietly d in (in_term_failed p.0, p.1)
     inside_fails-quietly (not_built w u) = let p = inside-quietly H w in (not_built p.0 u, p.1)
 
-    fails_all-quietly : {w : Wanted} {s s' : Standing M} {ts : Forest Depth} {e : E} → FailsAll (keeps_counters H) unbuilt w s ts e s' → Quietly (λ m m'. FailsAll H unbuilt w m ts e m') s s'
+    fails_all-quietly : {w : Wanted} {s s' : Standing M} {ts : Forest Depth} {e : E} → FailsAll (keeps_counters H) errors w s ts e s' → Quietly (λ m m'. FailsAll H errors w m ts e m') s s'
     fails_all-quietly (stopped u) = (stopped u, refl)
     fails_all-quietly (here d) = let p = fails-quietly d in (here p.0, p.1)
     fails_all-quietly (no_clause w bad b) = let p = walks-quietly H w in (no_clause p.0 bad b, p.1)
@@ -64,8 +64,8 @@ either_way (Err e) h = h
 
 -- a fold by such a folder leaves the counts, whatever comes of it
 pub fold-keeps_counters : {M E S T : Type 0} (owned : List Row → S → Type 0) (means : List Row → S → M) (owns : List Row → T → Type 0) (tree : List Row → T → Tree Depth)
-    (H : Hooks M E) (unbuilt : Tree Depth → E → Type 0) (terms terms' : Terms) (s s' : S) (x : T) (r : Result T E)
-    → Folds owned means owns tree (Walks (keeps_counters H)) (Fails (keeps_counters H) unbuilt) terms s x r terms' s'
+    (H : Hooks M E) (errors : Errors E) (terms terms' : Terms) (s s' : S) (x : T) (r : Result T E)
+    → Folds owned means owns tree (Walks (keeps_counters H)) (Fails (keeps_counters H) errors) terms s x r terms' s'
     → terms'.counters ≡ terms.counters
-fold-keeps_counters owned means owns tree H unbuilt terms terms' s s' x r d =
-    either_way r (MatchResult-weaker r d.outcome (λ y h. (walks-quietly H h.2).1) (λ e h. (fails-quietly H unbuilt h).1))
+fold-keeps_counters owned means owns tree H errors terms terms' s s' x r d =
+    either_way r (MatchResult-weaker r d.outcome (λ y h. (walks-quietly H h.1).1) (λ e h. (fails-quietly H errors h).1))

@@ -4,8 +4,7 @@ use Rattle.tt_index.specs.declared.refusal.Refusal.{Refusal}
 use Rattle.tt_index.specs.declared.refusal.Refusal.TheVariants.{NotAClause}
 use Rattle.tt_kinds.specs.Label.{Name, RecordLabel, region_outlives_record, ambiguous_record, predicate_label, clause_list_label, record_label}
 use Rattle.tt_kinds.specs.Tree.{Depth, Tree, term, node, binder, none, also}
-use Rattle.tt_interner.specs.Stored.{IsNoClauseList}
-use Rattle.tt_fold.specs.Walk.{Answer, replace, descend, Hooks, Walks, at_region, replaced, kept, descended, passed, rebuilt, next, in_term, Fails, region_failed, term_failed, descent_failed, passed_failed, inside_failed, not_built, after_failed, in_term_failed, stopped, here, no_clause, later}
+use Rattle.tt_fold.specs.Walk.{Errors, Answer, replace, descend, Hooks, Walks, at_region, replaced, kept, descended, passed, rebuilt, next, in_term, Fails, region_failed, term_failed, descent_failed, passed_failed, inside_failed, not_built, after_failed, in_term_failed, stopped, here, no_clause, later}
 
 -- a predicate without parts
 abbrev predicate : RecordLabel Name → Tree Depth
@@ -44,9 +43,9 @@ replacing = record {
   leave_fails = λ unbuilt s vs e s'. ⊥;
 }
 
--- with memory for all: only a list of clauses with an item that is none is not built
-abbrev unbuilt : Tree Depth → Refusal → Type 0
-unbuilt u e = (e ≡ NotAClause) × IsNoClauseList u
+-- with memory for all, and room in each table: only an item of a list of clauses can be wrong
+abbrev errors : Errors Refusal
+errors = record { unbuilt = λ u e. ⊥; unwanted = λ e. e ≡ NotAClause }
 
 -- a clause becomes `ambiguous`, and is counted
 one_replaced : {s s' : ℕ} {m : RecordLabel Name} {u : Tree Depth} → Walks replacing s (predicate m) u s' → (u ≡ ambiguous) × (s' ≡ suc s)
@@ -57,7 +56,7 @@ one_replaced (descended is h d) = absurd (cc (h.0))
 one_replaced (passed is w) = absurd (cc)
 
 -- no walk of a clause fails
-none_fails : {s s' : ℕ} {m : RecordLabel Name} {e : Refusal} → Fails replacing unbuilt s (predicate m) e s' → ⊥
+none_fails : {s s' : ℕ} {m : RecordLabel Name} {e : Refusal} → Fails replacing errors s (predicate m) e s' → ⊥
 none_fails (region_failed is h) = h
 none_fails (term_failed is h) = h
 none_fails (descent_failed is h d) = cc (h.0)
@@ -72,12 +71,12 @@ never_walks (descended is h (rebuilt (in_term (next w more) fit) after)) = fit (
 never_walks (passed is w) = cc
 
 -- each fails at the first one, for which the folder was asked once
-ends_at_first : {s' : ℕ} {e : Refusal} → Fails replacing unbuilt 0 two_clauses e s' → (e ≡ NotAClause) × (s' ≡ 1)
+ends_at_first : {s' : ℕ} {e : Refusal} → Fails replacing errors 0 two_clauses e s' → (e ≡ NotAClause) × (s' ≡ 1)
 ends_at_first (region_failed is h) = absurd h
 ends_at_first (term_failed is h) = absurd h
-ends_at_first (descent_failed is h (inside_failed (in_term_failed (stopped b)))) = absurd ((b ambiguous).1)
+ends_at_first (descent_failed is h (inside_failed (in_term_failed (stopped b)))) = absurd (b ambiguous)
 ends_at_first (descent_failed is h (inside_failed (in_term_failed (here f)))) = absurd (none_fails f)
-ends_at_first (descent_failed is h (inside_failed (in_term_failed (no_clause w bad b)))) = ((b (term clause_list_label (also ambiguous none)) (inl refl)).0, (one_replaced w).1 ∙ ap suc h.1)
+ends_at_first (descent_failed is h (inside_failed (in_term_failed (no_clause w bad b)))) = (b, (one_replaced w).1 ∙ ap suc h.1)
 ends_at_first (descent_failed is h (inside_failed (in_term_failed (later w fit f)))) = absurd (fit (inl (rw (one_replaced w).0 refl)))
 ends_at_first (descent_failed is h (inside_failed (not_built (in_term (next w more) fit) b))) = absurd (fit (inl (rw (one_replaced w).0 refl)))
 ends_at_first (descent_failed is h (after_failed w f)) = absurd f

@@ -2,6 +2,7 @@ pub mod PartLaws
 pub mod WantedLaws
 mod FormLaws
 mod WalkLaws
+mod StillLaws
 mod CoreSteps
 mod FoldSteps
 mod ValueSteps

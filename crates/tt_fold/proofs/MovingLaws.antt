@@ -9,9 +9,9 @@ use Rattle.tt_kinds.specs.Shape.{Shape}
 use Rattle.tt_index.specs.declared.refusal.Refusal.{Refusal}
 use Rattle.tt_interner.specs.Rows.{Row}
 use Rattle.tt_interner.specs.Stored.{Counters, Terms, counted}
-use Rattle.tt_fold.specs.Walk.{keep, descend, Walks, Descends, WalksInside, WalksAll, at_region, replaced, kept, descended, passed, rebuilt, at_node, at_binder, in_term, in_param, in_bound, done, next, Fails, DescentFails, InsideFails, FailsAll, region_failed, term_failed, descent_failed, enter_failed, under_failed, leave_failed, node_failed, node_not_built, passed_failed, inside_failed, not_built, after_failed, in_term_failed, stopped, here, later, no_clause, Wanted}
+use Rattle.tt_fold.specs.Walk.{Errors, keep, descend, Walks, Descends, WalksInside, WalksAll, at_region, replaced, kept, descended, passed, rebuilt, at_node, at_binder, in_term, in_param, in_bound, done, next, Fails, DescentFails, InsideFails, FailsAll, region_failed, term_failed, descent_failed, enter_failed, under_failed, leave_failed, node_failed, node_not_built, passed_failed, inside_failed, not_built, after_failed, in_term_failed, stopped, here, later, no_clause, Wanted}
 use Rattle.tt_fold.specs.Counts.{Standing}
-use Rattle.tt_fold.specs.Steps.{Folds, IsPartBy, tree_by, IsRefused}
+use Rattle.tt_fold.specs.Steps.{Folds, IsPartBy, tree_by, refusals_of}
 use Rattle.tt_fold.specs.Shift.{Shift, answer_inside, shift_answer, shift_hooks, count_descent, moving_positions}
 use Rattle.tt_fold.proofs.ShiftLaws.{answer-descends, shifts}
 
@@ -90,9 +90,9 @@ mutual
       omega (arith, first, rest, both)
 
 -- nor does a walk that ends with an error
-module _ (unbuilt : Tree Depth → Refusal → Type 0) where
+module _ (errors : Errors Refusal) where
   mutual
-    few_then_failed : {s s' : Standing Shift} {t : Tree Depth} {e : Refusal} → Fails shift_hooks unbuilt s t e s'
+    few_then_failed : {s s' : Standing Shift} {t : Tree Depth} {e : Refusal} → Fails shift_hooks errors s t e s'
         → s'.counters.shift_descents ≤ s.counters.shift_descents + length (moving_types s.state.under t)
     few_then_failed {s} {s'} (region_failed is h) = let same = ap (λ q. q.counters.shift_descents) h.0 in omega (arith, same)
     few_then_failed {s} {s'} (term_failed is h) = let same = ap (λ q. q.counters.shift_descents) h.0 in omega (arith, same)
@@ -106,17 +106,17 @@ module _ (unbuilt : Tree Depth → Refusal → Type 0) where
     few_then_failed (node_failed d) = few_then_failed_all d
     few_then_failed (node_not_built w b) = few_all w
 
-    few_then_failed_rebuilt : {s s' : Standing Shift} {t : Tree Depth} {e : Refusal} → DescentFails shift_hooks unbuilt s t e s'
+    few_then_failed_rebuilt : {s s' : Standing Shift} {t : Tree Depth} {e : Refusal} → DescentFails shift_hooks errors s t e s'
         → s'.counters.shift_descents ≤ s.counters.shift_descents + inside s.state.under t
     few_then_failed_rebuilt (inside_failed d) = few_then_failed_inside d
     few_then_failed_rebuilt (after_failed w h) = absurd h
 
-    few_then_failed_inside : {s s' : Standing Shift} {t : Tree Depth} {e : Refusal} → InsideFails shift_hooks unbuilt s t e s'
+    few_then_failed_inside : {s s' : Standing Shift} {t : Tree Depth} {e : Refusal} → InsideFails shift_hooks errors s t e s'
         → s'.counters.shift_descents ≤ s.counters.shift_descents + inside s.state.under t
     few_then_failed_inside (in_term_failed d) = few_then_failed_all d
     few_then_failed_inside (not_built w b) = few_inside w
 
-    few_then_failed_all : {w : Wanted} {s s' : Standing Shift} {ts : Forest Depth} {e : Refusal} → FailsAll shift_hooks unbuilt w s ts e s'
+    few_then_failed_all : {w : Wanted} {s s' : Standing Shift} {ts : Forest Depth} {e : Refusal} → FailsAll shift_hooks errors w s ts e s'
         → s'.counters.shift_descents ≤ s.counters.shift_descents + length (moving_types_among s.state.under ts)
     few_then_failed_all (stopped b) = omega arith
     few_then_failed_all {s} (here {t} {ts} d) =
@@ -137,7 +137,7 @@ module _ (unbuilt : Tree Depth → Refusal → Type 0) where
 pub few_outcome : {S T : Type 0} {owned : List Row → S → Type 0} {means : List Row → S → Shift} (shape : T → Shape) {terms terms' : Terms} {s s' : S} {x : T}
     (n : ℕ) (result : Result T Refusal)
     → means terms.rows s ≡ record { amount = n; under = 0 }
-    → Folds owned means (IsPartBy shape) (tree_by shape) (Walks shift_hooks) (Fails shift_hooks (IsRefused terms')) terms s x result terms' s'
+    → Folds owned means (IsPartBy shape) (tree_by shape) (Walks shift_hooks) (Fails shift_hooks (refusals_of terms')) terms s x result terms' s'
     → terms'.counters.shift_descents ≤ terms.counters.shift_descents + moving_positions (tree_by shape terms.rows x)
-few_outcome shape n (Ok y) start d = rw start at (few d.outcome.2)
-few_outcome shape {terms'} n (Err e) start d = rw start at (few_then_failed (IsRefused terms') d.outcome)
+few_outcome shape n (Ok y) start d = rw start at (few d.outcome.1)
+few_outcome shape {terms'} n (Err e) start d = rw start at (few_then_failed (refusals_of terms') d.outcome)

@@ -1,7 +1,6 @@
 -- The folds of records, from those of what stands in them.
 use Rattle.std.proofs.Common.{◌≡◌, ℕ, List, Ok, Err, refl}
 use Rattle.tt_kinds.specs.Label.{Name, RecordLabel, unsafe_binder_record, record_label}
-use Rattle.tt_kinds.specs.Tree.{Depth, Tree}
 use Rattle.tt_kinds.specs.Shape as shape
 use Rattle.tt_kinds.specs.Shape.{Shape, Sizes, IsPart, IsNamedRecord, IsNamedLabel, rename_record, name_of, fill}
 use Rattle.tt_kinds.specs.Values.{one_record, two_record, unsafe_binder_shape}
@@ -15,7 +14,7 @@ use Rattle.tt_interner.specs.Stored.{Terms}
 use Rattle.tt_interner.proofs.Growth.{Extends-refl, Extends-trans, IsPart-grows, fill-grows}
 use Rattle.tt_fold.specs.Parts.{ArePartsOf, ArePartsFor, parts_trees}
 use Rattle.tt_fold.proofs.FormLaws.{keeps_label}
-use Rattle.tt_fold.specs.Walk.{Hooks, any_trees, Walks, WalksAll, FailsAll, at_node, done, next, Fails, node_failed, here, later}
+use Rattle.tt_fold.specs.Walk.{Errors, Hooks, any_trees, Walks, WalksAll, FailsAll, at_node, done, next, Fails, node_failed, here, later}
 use Rattle.tt_fold.specs.Counts.{Standing}
 use Rattle.tt_fold.specs.Steps.{Folds, IsPartOf, IsPartBy, tree_by}
 
@@ -78,147 +77,151 @@ record-part : (rows : List Row) (f : RecordForm) → IsNamedLabel (size rows) (r
 unfolding IsPart
 record-part rows f named h = (refl, named, h)
 
-module _ {M E S : Type 0} {owned : List Row → S → Type 0} {means : List Row → S → M} {H : Hooks (Standing M) E} {unbuilt : Tree Depth → E → Type 0} where
+module _ {M E S : Type 0} {owned : List Row → S → Type 0} {means : List Row → S → M} {H : Hooks (Standing M) E} {errors : Errors E} where
   -- a record of nothing
   pub none_folds : {T : Type 0} (of : T → Shape) (l : RecordLabel ℕ) {terms : Terms} {s : S} → IsNameless l → (x y : T) → of x ≡ shape.node (record_label l) shape.none → of y ≡ shape.node (record_label l) shape.none
       → owned terms.rows s
-      → Folds owned means (IsPartBy of) (tree_by of) (Walks H) (Fails H unbuilt) terms s x (Ok y) terms s
+      → Folds owned means (IsPartBy of) (tree_by of) (Walks H) (Fails H errors) terms s x (Ok y) terms s
   unfolding fill IsPart
   none_folds of l {terms} plain x y at_x at_y o =
-      record { extends = Extends-refl terms; outcome = (o, rw at_y (refl, plain.named (size terms.rows), tt), rw (at_x, at_y) (at_node done)) }
+      record { extends = Extends-refl terms; is_owned = o; outcome = (rw at_y (refl, plain.named (size terms.rows), tt), rw (at_x, at_y) (at_node done)) }
 
   -- a record of one value
   module _ {T A : Type 0} (of : T → Shape) (a : A → Shape) (l : RecordLabel ℕ) where
     pub one_fails : {terms terms1 : Terms} {s s1 : S} {e : E} (x : T) (u : A) → of x ≡ one_record l (a u)
-        → Folds owned means (IsPartBy a) (tree_by a) (Walks H) (Fails H unbuilt) terms s u (Err e) terms1 s1
-        → Folds owned means (IsPartBy of) (tree_by of) (Walks H) (Fails H unbuilt) terms s x (Err e) terms1 s1
+        → Folds owned means (IsPartBy a) (tree_by a) (Walks H) (Fails H errors) terms s u (Err e) terms1 s1
+        → Folds owned means (IsPartBy of) (tree_by of) (Walks H) (Fails H errors) terms s x (Err e) terms1 s1
     unfolding fill
-    one_fails x u at_x d = record { extends = d.extends; outcome = rw at_x (node_failed (here d.outcome)) }
+    one_fails x u at_x d = record { extends = d.extends; is_owned = d.is_owned; outcome = rw at_x (node_failed (here d.outcome)) }
 
     pub one_folds : {terms terms1 : Terms} {s s1 : S} → IsNameless l → (x y : T) (u v : A) → of x ≡ one_record l (a u) → of y ≡ one_record l (a v)
-        → Folds owned means (IsPartBy a) (tree_by a) (Walks H) (Fails H unbuilt) terms s u (Ok v) terms1 s1
-        → Folds owned means (IsPartBy of) (tree_by of) (Walks H) (Fails H unbuilt) terms s x (Ok y) terms1 s1
+        → Folds owned means (IsPartBy a) (tree_by a) (Walks H) (Fails H errors) terms s u (Ok v) terms1 s1
+        → Folds owned means (IsPartBy of) (tree_by of) (Walks H) (Fails H errors) terms s x (Ok y) terms1 s1
     unfolding fill
     one_folds {terms} {terms1} plain x y u v at_x at_y d =
         let o = d.outcome in
         record {
           extends = d.extends;
+          is_owned = d.is_owned;
           outcome = (
-            o.0,
-            rw at_y (one-part terms1.rows l (a v) plain o.1),
-            rw (at_x, at_y, plain.same (name_of (meaning terms.rows)) (name_of (meaning terms1.rows))) (at_node (next o.2 done)),
+            rw at_y (one-part terms1.rows l (a v) plain o.0),
+            rw (at_x, at_y, plain.same (name_of (meaning terms.rows)) (name_of (meaning terms1.rows))) (at_node (next o.1 done)),
           );
         }
 
   -- a record of two values
   module _ {T A B : Type 0} (of : T → Shape) (a : A → Shape) (b : B → Shape) (l : RecordLabel ℕ) where
     pub two_first_fails : {terms terms1 : Terms} {s s1 : S} {e : E} (x : T) (u : A) (v : B) → of x ≡ two_record l (a u) (b v)
-        → Folds owned means (IsPartBy a) (tree_by a) (Walks H) (Fails H unbuilt) terms s u (Err e) terms1 s1
-        → Folds owned means (IsPartBy of) (tree_by of) (Walks H) (Fails H unbuilt) terms s x (Err e) terms1 s1
+        → Folds owned means (IsPartBy a) (tree_by a) (Walks H) (Fails H errors) terms s u (Err e) terms1 s1
+        → Folds owned means (IsPartBy of) (tree_by of) (Walks H) (Fails H errors) terms s x (Err e) terms1 s1
     unfolding fill
-    two_first_fails x u v at_x d = record { extends = d.extends; outcome = rw at_x (node_failed (here d.outcome)) }
+    two_first_fails x u v at_x d = record { extends = d.extends; is_owned = d.is_owned; outcome = rw at_x (node_failed (here d.outcome)) }
 
-    pub two_second_fails : {terms terms1 terms2 : Terms} {s s1 s2 : S} {e : E} {other : Tree Depth → E → Type 0} (x : T) (u y : A) (v : B) → of x ≡ two_record l (a u) (b v)
+    pub two_second_fails : {terms terms1 terms2 : Terms} {s s1 s2 : S} {e : E} {other : Errors E} (x : T) (u y : A) (v : B) → of x ≡ two_record l (a u) (b v)
         → IsPartBy b terms.rows v
         → Folds owned means (IsPartBy a) (tree_by a) (Walks H) (Fails H other) terms s u (Ok y) terms1 s1
-        → Folds owned means (IsPartBy b) (tree_by b) (Walks H) (Fails H unbuilt) terms1 s1 v (Err e) terms2 s2
-        → Folds owned means (IsPartBy of) (tree_by of) (Walks H) (Fails H unbuilt) terms s x (Err e) terms2 s2
+        → Folds owned means (IsPartBy b) (tree_by b) (Walks H) (Fails H errors) terms1 s1 v (Err e) terms2 s2
+        → Folds owned means (IsPartBy of) (tree_by of) (Walks H) (Fails H errors) terms s x (Err e) terms2 s2
     unfolding fill
     two_second_fails x u y v at_x part d1 d2 =
         let o = rw (fill-grows _ _ d1.extends.rows (b v) part) at d2.outcome in
-        record { extends = Extends-trans d1.extends d2.extends; outcome = rw at_x (node_failed (later d1.outcome.2 (λ h. h) (here o))) }
+        record { extends = Extends-trans d1.extends d2.extends; is_owned = d2.is_owned; outcome = rw at_x (node_failed (later d1.outcome.1 (λ h. h) (here o))) }
 
-    pub two_folds : {terms terms1 terms2 : Terms} {s s1 s2 : S} {other : Tree Depth → E → Type 0} → IsNameless l → (x z : T) (u y : A) (v w : B)
+    pub two_folds : {terms terms1 terms2 : Terms} {s s1 s2 : S} {other : Errors E} → IsNameless l → (x z : T) (u y : A) (v w : B)
         → of x ≡ two_record l (a u) (b v) → of z ≡ two_record l (a y) (b w) → IsPartBy b terms.rows v
         → Folds owned means (IsPartBy a) (tree_by a) (Walks H) (Fails H other) terms s u (Ok y) terms1 s1
-        → Folds owned means (IsPartBy b) (tree_by b) (Walks H) (Fails H unbuilt) terms1 s1 v (Ok w) terms2 s2
-        → Folds owned means (IsPartBy of) (tree_by of) (Walks H) (Fails H unbuilt) terms s x (Ok z) terms2 s2
+        → Folds owned means (IsPartBy b) (tree_by b) (Walks H) (Fails H errors) terms1 s1 v (Ok w) terms2 s2
+        → Folds owned means (IsPartBy of) (tree_by of) (Walks H) (Fails H errors) terms s x (Ok z) terms2 s2
     unfolding fill
     two_folds {terms} {terms2} plain x z u y v w at_x at_z part d1 d2 =
         let o = rw (fill-grows _ _ d1.extends.rows (b v) part) at d2.outcome in
-        let first = rw (← fill-grows _ _ d2.extends.rows (a y) d1.outcome.1) at d1.outcome.2 in
+        let first = rw (← fill-grows _ _ d2.extends.rows (a y) d1.outcome.0) at d1.outcome.1 in
         record {
           extends = Extends-trans d1.extends d2.extends;
+          is_owned = d2.is_owned;
           outcome = (
-            o.0,
-            rw at_z (two-part terms2.rows l (a y) (b w) plain (IsPart-grows _ _ d2.extends.rows (a y) d1.outcome.1) o.1),
-            rw (at_x, at_z, plain.same (name_of (meaning terms.rows)) (name_of (meaning terms2.rows))) (at_node (next first (next o.2 done))),
+            rw at_z (two-part terms2.rows l (a y) (b w) plain (IsPart-grows _ _ d2.extends.rows (a y) d1.outcome.0) o.0),
+            rw (at_x, at_z, plain.same (name_of (meaning terms.rows)) (name_of (meaning terms2.rows))) (at_node (next first (next o.1 done))),
           );
         }
 
   -- a record of three values
   module _ {T A B C : Type 0} (of : T → Shape) (a : A → Shape) (b : B → Shape) (c : C → Shape) (l : RecordLabel ℕ) where
     pub three_first_fails : {terms terms1 : Terms} {s s1 : S} {e : E} (x : T) (u : A) (v : B) (w : C) → of x ≡ three_record l (a u) (b v) (c w)
-        → Folds owned means (IsPartBy a) (tree_by a) (Walks H) (Fails H unbuilt) terms s u (Err e) terms1 s1
-        → Folds owned means (IsPartBy of) (tree_by of) (Walks H) (Fails H unbuilt) terms s x (Err e) terms1 s1
+        → Folds owned means (IsPartBy a) (tree_by a) (Walks H) (Fails H errors) terms s u (Err e) terms1 s1
+        → Folds owned means (IsPartBy of) (tree_by of) (Walks H) (Fails H errors) terms s x (Err e) terms1 s1
     unfolding fill
-    three_first_fails x u v w at_x d = record { extends = d.extends; outcome = rw at_x (node_failed (here d.outcome)) }
+    three_first_fails x u v w at_x d = record { extends = d.extends; is_owned = d.is_owned; outcome = rw at_x (node_failed (here d.outcome)) }
 
-    pub three_second_fails : {terms terms1 terms2 : Terms} {s s1 s2 : S} {e : E} {other : Tree Depth → E → Type 0} (x : T) (u p : A) (v : B) (w : C)
+    pub three_second_fails : {terms terms1 terms2 : Terms} {s s1 s2 : S} {e : E} {other : Errors E} (x : T) (u p : A) (v : B) (w : C)
         → of x ≡ three_record l (a u) (b v) (c w) → IsPartBy b terms.rows v
         → Folds owned means (IsPartBy a) (tree_by a) (Walks H) (Fails H other) terms s u (Ok p) terms1 s1
-        → Folds owned means (IsPartBy b) (tree_by b) (Walks H) (Fails H unbuilt) terms1 s1 v (Err e) terms2 s2
-        → Folds owned means (IsPartBy of) (tree_by of) (Walks H) (Fails H unbuilt) terms s x (Err e) terms2 s2
+        → Folds owned means (IsPartBy b) (tree_by b) (Walks H) (Fails H errors) terms1 s1 v (Err e) terms2 s2
+        → Folds owned means (IsPartBy of) (tree_by of) (Walks H) (Fails H errors) terms s x (Err e) terms2 s2
     unfolding fill
     three_second_fails x u p v w at_x part d1 d2 =
         let o = rw (fill-grows _ _ d1.extends.rows (b v) part) at d2.outcome in
-        record { extends = Extends-trans d1.extends d2.extends; outcome = rw at_x (node_failed (later d1.outcome.2 (λ h. h) (here o))) }
+        record { extends = Extends-trans d1.extends d2.extends; is_owned = d2.is_owned; outcome = rw at_x (node_failed (later d1.outcome.1 (λ h. h) (here o))) }
 
-    pub three_third_fails : {terms terms1 terms2 terms3 : Terms} {s s1 s2 s3 : S} {e : E} {other another : Tree Depth → E → Type 0} (x : T) (u p : A) (v q : B) (w : C)
+    pub three_third_fails : {terms terms1 terms2 terms3 : Terms} {s s1 s2 s3 : S} {e : E} {other another : Errors E} (x : T) (u p : A) (v q : B) (w : C)
         → of x ≡ three_record l (a u) (b v) (c w) → IsPartBy b terms.rows v → IsPartBy c terms.rows w
         → Folds owned means (IsPartBy a) (tree_by a) (Walks H) (Fails H other) terms s u (Ok p) terms1 s1
         → Folds owned means (IsPartBy b) (tree_by b) (Walks H) (Fails H another) terms1 s1 v (Ok q) terms2 s2
-        → Folds owned means (IsPartBy c) (tree_by c) (Walks H) (Fails H unbuilt) terms2 s2 w (Err e) terms3 s3
-        → Folds owned means (IsPartBy of) (tree_by of) (Walks H) (Fails H unbuilt) terms s x (Err e) terms3 s3
+        → Folds owned means (IsPartBy c) (tree_by c) (Walks H) (Fails H errors) terms2 s2 w (Err e) terms3 s3
+        → Folds owned means (IsPartBy of) (tree_by of) (Walks H) (Fails H errors) terms s x (Err e) terms3 s3
     unfolding fill
     three_third_fails x u p v q w at_x part last d1 d2 d3 =
         let o = rw (fill-grows _ _ d1.extends.rows (b v) part) at d2.outcome in
         let f = rw (fill-grows _ _ (Extends-trans d1.extends d2.extends).rows (c w) last) at d3.outcome in
-        record { extends = Extends-trans d1.extends (Extends-trans d2.extends d3.extends); outcome = rw at_x (node_failed (later d1.outcome.2 (λ h. h) (later o.2 (λ h. h) (here f)))) }
+        record {
+          extends = Extends-trans d1.extends (Extends-trans d2.extends d3.extends);
+          is_owned = d3.is_owned;
+          outcome = rw at_x (node_failed (later d1.outcome.1 (λ h. h) (later o.1 (λ h. h) (here f))));
+        }
 
-    pub three_folds : {terms terms1 terms2 terms3 : Terms} {s s1 s2 s3 : S} {other another : Tree Depth → E → Type 0} → IsNameless l → (x z : T) (u p : A) (v q : B) (w r : C)
+    pub three_folds : {terms terms1 terms2 terms3 : Terms} {s s1 s2 s3 : S} {other another : Errors E} → IsNameless l → (x z : T) (u p : A) (v q : B) (w r : C)
         → of x ≡ three_record l (a u) (b v) (c w) → of z ≡ three_record l (a p) (b q) (c r) → IsPartBy b terms.rows v → IsPartBy c terms.rows w
         → Folds owned means (IsPartBy a) (tree_by a) (Walks H) (Fails H other) terms s u (Ok p) terms1 s1
         → Folds owned means (IsPartBy b) (tree_by b) (Walks H) (Fails H another) terms1 s1 v (Ok q) terms2 s2
-        → Folds owned means (IsPartBy c) (tree_by c) (Walks H) (Fails H unbuilt) terms2 s2 w (Ok r) terms3 s3
-        → Folds owned means (IsPartBy of) (tree_by of) (Walks H) (Fails H unbuilt) terms s x (Ok z) terms3 s3
+        → Folds owned means (IsPartBy c) (tree_by c) (Walks H) (Fails H errors) terms2 s2 w (Ok r) terms3 s3
+        → Folds owned means (IsPartBy of) (tree_by of) (Walks H) (Fails H errors) terms s x (Ok z) terms3 s3
     unfolding fill
     three_folds {terms} {terms3} plain x z u p v q w r at_x at_z part last d1 d2 d3 =
         let o = rw (fill-grows _ _ d1.extends.rows (b v) part) at d2.outcome in
         let f = rw (fill-grows _ _ (Extends-trans d1.extends d2.extends).rows (c w) last) at d3.outcome in
         let later_terms = Extends-trans d2.extends d3.extends in
-        let first = rw (← fill-grows _ _ later_terms.rows (a p) d1.outcome.1) at d1.outcome.2 in
-        let second = rw (← fill-grows _ _ d3.extends.rows (b q) o.1) at o.2 in
+        let first = rw (← fill-grows _ _ later_terms.rows (a p) d1.outcome.0) at d1.outcome.1 in
+        let second = rw (← fill-grows _ _ d3.extends.rows (b q) o.0) at o.1 in
         record {
           extends = Extends-trans d1.extends later_terms;
+          is_owned = d3.is_owned;
           outcome = (
-            f.0,
-            rw at_z (three-part terms3.rows l (a p) (b q) (c r) plain (IsPart-grows _ _ later_terms.rows (a p) d1.outcome.1) (IsPart-grows _ _ d3.extends.rows (b q) o.1) f.1),
-            rw (at_x, at_z, plain.same (name_of (meaning terms.rows)) (name_of (meaning terms3.rows))) (at_node (next first (next second (next f.2 done)))),
+            rw at_z (three-part terms3.rows l (a p) (b q) (c r) plain (IsPart-grows _ _ later_terms.rows (a p) d1.outcome.0) (IsPart-grows _ _ d3.extends.rows (b q) o.0) f.0),
+            rw (at_x, at_z, plain.same (name_of (meaning terms.rows)) (name_of (meaning terms3.rows))) (at_node (next first (next second (next f.1 done)))),
           );
         }
 
   -- what a kind without a row says: a record of its parts
   module _ {T : Type 0} (of : T → RecordForm) where
     pub parts_fail : {terms terms1 : Terms} {s s1 : S} {x : T} {e : E}
-        → Folds owned means (ArePartsFor (of x).parts) parts_trees (WalksAll H) (FailsAll H unbuilt any_trees) terms s (of x).parts (Err e) terms1 s1
-        → Folds owned means (IsPartBy (λ x. record_shape (of x))) (tree_by (λ x. record_shape (of x))) (Walks H) (Fails H unbuilt) terms s x (Err e) terms1 s1
+        → Folds owned means (ArePartsFor (of x).parts) parts_trees (WalksAll H) (FailsAll H errors any_trees) terms s (of x).parts (Err e) terms1 s1
+        → Folds owned means (IsPartBy (λ x. record_shape (of x))) (tree_by (λ x. record_shape (of x))) (Walks H) (Fails H errors) terms s x (Err e) terms1 s1
     unfolding fill
-    parts_fail d = record { extends = d.extends; outcome = node_failed d.outcome }
+    parts_fail d = record { extends = d.extends; is_owned = d.is_owned; outcome = node_failed d.outcome }
 
     pub parts_fold : {terms terms1 : Terms} {s s1 : S} {x y : T} {q : Parts} → IsPartOf terms.rows (record_shape (of x)) → of y ≡ replenished q (of x)
-        → Folds owned means (ArePartsFor (of x).parts) parts_trees (WalksAll H) (FailsAll H unbuilt any_trees) terms s (of x).parts (Ok q) terms1 s1
-        → Folds owned means (IsPartBy (λ x. record_shape (of x))) (tree_by (λ x. record_shape (of x))) (Walks H) (Fails H unbuilt) terms s x (Ok y) terms1 s1
+        → Folds owned means (ArePartsFor (of x).parts) parts_trees (WalksAll H) (FailsAll H errors any_trees) terms s (of x).parts (Ok q) terms1 s1
+        → Folds owned means (IsPartBy (λ x. record_shape (of x))) (tree_by (λ x. record_shape (of x))) (Walks H) (Fails H errors) terms s x (Ok y) terms1 s1
     unfolding fill
     parts_fold {terms} {terms1} {x} {q} part same d =
         let o = d.outcome in
         let label = keeps_label terms.rows terms1.rows d.extends.rows (record_label (of x).label) (record_named terms.rows (of x) part) in
         record {
           extends = d.extends;
+          is_owned = d.is_owned;
           outcome = (
-            o.0,
-            rw same (record-part terms1.rows (replenished q (of x)) label.named o.1.owned),
-            rw (same, label.same) (at_node o.2),
+            rw same (record-part terms1.rows (replenished q (of x)) label.named o.0.owned),
+            rw (same, label.same) (at_node o.1),
           );
         }
 
@@ -233,25 +236,25 @@ pub unsafe_type : (rows : List Row) (i : UnsafeBinderInner) → IsPartOf rows (u
 unfolding IsPart
 unsafe_type rows i h = one-inner rows unsafe_binder_record (ty_shape i.0.value) h.1
 
-module _ {M E S : Type 0} {owned : List Row → S → Type 0} {means : List Row → S → M} {H : Hooks (Standing M) E} {unbuilt : Tree Depth → E → Type 0} where
+module _ {M E S : Type 0} {owned : List Row → S → Type 0} {means : List Row → S → M} {H : Hooks (Standing M) E} {errors : Errors E} where
   -- the record of the type was folded
   pub unsafe_value_fails : {terms terms1 : Terms} {s s1 : S} {e : E} (t : Ty)
-      → Folds owned means (IsPartBy ty_shape) (tree_by ty_shape) (Walks H) (Fails H unbuilt) terms s t (Err e) terms1 s1
-      → Folds owned means (IsPartBy unsafe_value) (tree_by unsafe_value) (Walks H) (Fails H unbuilt) terms s t (Err e) terms1 s1
+      → Folds owned means (IsPartBy ty_shape) (tree_by ty_shape) (Walks H) (Fails H errors) terms s t (Err e) terms1 s1
+      → Folds owned means (IsPartBy unsafe_value) (tree_by unsafe_value) (Walks H) (Fails H errors) terms s t (Err e) terms1 s1
   unsafe_value_fails t d = one_fails unsafe_value ty_shape unsafe_binder_record t t refl d
 
   pub unsafe_value_folds : {terms terms1 : Terms} {s s1 : S} (t u : Ty)
-      → Folds owned means (IsPartBy ty_shape) (tree_by ty_shape) (Walks H) (Fails H unbuilt) terms s t (Ok u) terms1 s1
-      → Folds owned means (IsPartBy unsafe_value) (tree_by unsafe_value) (Walks H) (Fails H unbuilt) terms s t (Ok u) terms1 s1
+      → Folds owned means (IsPartBy ty_shape) (tree_by ty_shape) (Walks H) (Fails H errors) terms s t (Ok u) terms1 s1
+      → Folds owned means (IsPartBy unsafe_value) (tree_by unsafe_value) (Walks H) (Fails H errors) terms s t (Ok u) terms1 s1
   unsafe_value_folds t u d = one_folds unsafe_value ty_shape unsafe_binder_record (record { same = λ f g. refl; named = λ size. tt }) t u t u refl refl d
 
   -- the binder in it was folded
   pub unsafe_fails : {terms terms1 : Terms} {s s1 : S} {e : E} (i : UnsafeBinderInner)
-      → Folds owned means (IsPartBy (binder_shape unsafe_value)) (tree_by (binder_shape unsafe_value)) (Walks H) (Fails H unbuilt) terms s i.0 (Err e) terms1 s1
-      → Folds owned means (IsPartBy unsafe_binder_shape) (tree_by unsafe_binder_shape) (Walks H) (Fails H unbuilt) terms s i (Err e) terms1 s1
-  unsafe_fails i d = record { extends = d.extends; outcome = d.outcome }
+      → Folds owned means (IsPartBy (binder_shape unsafe_value)) (tree_by (binder_shape unsafe_value)) (Walks H) (Fails H errors) terms s i.0 (Err e) terms1 s1
+      → Folds owned means (IsPartBy unsafe_binder_shape) (tree_by unsafe_binder_shape) (Walks H) (Fails H errors) terms s i (Err e) terms1 s1
+  unsafe_fails i d = record { extends = d.extends; is_owned = d.is_owned; outcome = d.outcome }
 
   pub unsafe_folds : {terms terms1 : Terms} {s s1 : S} {b : Binder Ty} (i j : UnsafeBinderInner) → j.0.value ≡ b.value → j.0.bound_vars ≡ b.bound_vars
-      → Folds owned means (IsPartBy (binder_shape unsafe_value)) (tree_by (binder_shape unsafe_value)) (Walks H) (Fails H unbuilt) terms s i.0 (Ok b) terms1 s1
-      → Folds owned means (IsPartBy unsafe_binder_shape) (tree_by unsafe_binder_shape) (Walks H) (Fails H unbuilt) terms s i (Ok j) terms1 s1
-  unsafe_folds {b} i j value vars d = record { extends = d.extends; outcome = (d.outcome.0, rw (value, vars) d.outcome.1, rw (value, vars) d.outcome.2) }
+      → Folds owned means (IsPartBy (binder_shape unsafe_value)) (tree_by (binder_shape unsafe_value)) (Walks H) (Fails H errors) terms s i.0 (Ok b) terms1 s1
+      → Folds owned means (IsPartBy unsafe_binder_shape) (tree_by unsafe_binder_shape) (Walks H) (Fails H errors) terms s i (Ok j) terms1 s1
+  unsafe_folds {b} i j value vars d = record { extends = d.extends; is_owned = d.is_owned; outcome = (rw (value, vars) d.outcome.0, rw (value, vars) d.outcome.1) }

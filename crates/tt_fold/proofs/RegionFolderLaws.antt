@@ -1,9 +1,8 @@
 -- A folder of regions asks about exactly the regions that are met, and places the answers.
-use Rattle.std.proofs.Common.{◌≡◌, ℕ, suc, ◌+◌, ◌-◌, ◌<◌, ◌≤◌, ◌⊎◌, inl, inr, Bool, true, false, List, [], ◌∷◌, ◌++◌, length, take, refl, sym, ap, subst, ◌∙◌, arith, append_assoc}
-use Rattle.std.specs.Prelude.{map, nat_lt, if◌then◌else◌, IsTrue, not}
+use Rattle.std.proofs.Common.{◌≡◌, ℕ, suc, ◌+◌, ◌-◌, inl, inr, Bool, true, false, List, [], ◌∷◌, ◌++◌, length, take, refl, sym, ap, subst, ◌∙◌, arith, append_assoc}
+use Rattle.std.specs.Prelude.{nat_lt, if◌then◌else◌, IsTrue, not}
 use Rattle.std.proofs.lemmas.List.{map-append, append-nil, length-map, length-append}
 use Rattle.std.proofs.Math.Seq.{take-append-add}
-use Rattle.tt_index.specs.Greatest.{greatest}
 use Rattle.tt_index.specs.declared.refusal.Refusal.{Refusal}
 use Rattle.tt_index.specs.declared.refusal.Refusal.TheVariants.{GreatestIndex}
 use Rattle.tt_kinds.specs.Label.{Name, Sort, region_sort, type_sort, const_sort, Entry, Label, type_label, const_label, pattern_label, predicate_label, existential_label, clause_list_label, list_label, record_label}
@@ -12,11 +11,11 @@ use Rattle.tt_kinds.specs.Met.{Met, met_leaf, met, met_all, placed_leaf, placed,
 use Rattle.tt_kinds.specs.declared.region_kind.RegionKind.{RegionKind}
 use Rattle.tt_kinds.proofs.MetLaws.{placed_all-append}
 use Rattle.tt_interner.specs.Stored.{IsNoClauseList}
-use Rattle.tt_interner.specs.Clauses.{is_clause_part, is_clause_inside, is_clause_tree, HasOther}
-use Rattle.tt_visit.specs.Root.{a_region, hooked, unhooked, root}
-use Rattle.tt_fold.specs.Walk.{Hooks, IsRegion, IsTerm, IsPassed, replace, keep, descend, Walks, Descends, WalksInside, WalksAll, at_region, replaced, kept, descended, passed, rebuilt, at_node, at_binder, in_term, in_param, in_bound, done, next, Fails, DescentFails, InsideFails, FailsAll, region_failed, term_failed, descent_failed, enter_failed, under_failed, leave_failed, node_failed, node_not_built, passed_failed, inside_failed, not_built, after_failed, in_term_failed, stopped, here, later, no_clause, Wanted, any_trees, clause_trees, wanted_in, HasUnwanted}
+use Rattle.tt_interner.specs.Clauses.{is_clause_part, is_clause_inside, is_clause_tree}
+use Rattle.tt_visit.specs.Root.{a_region, hooked, unhooked}
+use Rattle.tt_fold.specs.Walk.{Errors, Hooks, IsRegion, IsTerm, IsPassed, Walks, Descends, WalksInside, WalksAll, at_region, replaced, kept, descended, passed, rebuilt, at_node, at_binder, in_term, in_param, in_bound, done, next, Fails, DescentFails, InsideFails, FailsAll, region_failed, term_failed, descent_failed, enter_failed, under_failed, leave_failed, node_failed, node_not_built, passed_failed, inside_failed, not_built, after_failed, in_term_failed, stopped, here, later, no_clause, Wanted, any_trees, clause_trees, wanted_in, HasUnwanted}
 use Rattle.tt_fold.specs.Stands.{StandsIn, StandsAmong, itself, in_term as stands_in_term, in_node as stands_in_node, in_binder as stands_in_binder, in_first, in_later}
-use Rattle.tt_fold.specs.RegionFolder.{RegionCall, asked, answered, region_tree, Asking, deeper, higher, BindersFit, BindersFit_all, AreMade, Asks, region_hooks}
+use Rattle.tt_fold.specs.RegionFolder.{RegionCall, asked, answered, region_tree, Asking, BindersFit, BindersFit_all, AreMade, region_hooks}
 use Rattle.tt_fold.proofs.ClauseLaws.{KeepsClauses, KeepsClauses_all}
 use Rattle.tt_fold.proofs.WantedLaws.{first-unwanted, later-unwanted, unwanted-list}
 
@@ -265,21 +264,21 @@ module _ {F : Type 0} (step : F → RegionKind → ℕ → RegionKind → F → 
           names = n.names ∙ m.names;
         }
 
-  module _ (unbuilt : Tree Depth → Refusal → Type 0) where
+  module _ (errors : Errors Refusal) where
     -- the walk asks about the first regions met in t, and then ends
     pub record AskedSome (s : Asking F) (t : Tree Depth) (e : Refusal) (s' : Asking F) : Type 0 where
       pub calls : List RegionCall
       pub rest : List Met
       pub made : AreMade step s.closure calls s'.closure
       pub are_first : asked s.names calls ++ rest ≡ met s.under t
-      pub why : Why unbuilt (λ u answers. StandsIn u (placed s.under t answers)) (BindersFit s.under t) (answered s.names calls) e
+      pub why : Why errors.unbuilt (λ u answers. StandsIn u (placed s.under t answers)) (BindersFit s.under t) (answered s.names calls) e
 
     record AskedSomeAll (s : Asking F) (ts : Forest Depth) (e : Refusal) (s' : Asking F) : Type 0 where
       calls : List RegionCall
       rest : List Met
       made : AreMade step s.closure calls s'.closure
       are_first : asked s.names calls ++ rest ≡ met_all s.under ts
-      why : Why unbuilt (λ u answers. StandsAmong u (placed_all s.under ts answers)) (BindersFit_all s.under ts) (answered s.names calls) e
+      why : Why errors.unbuilt (λ u answers. StandsAmong u (placed_all s.under ts answers)) (BindersFit_all s.under ts) (answered s.names calls) e
 
     -- the first answers for a tree among others
     first-answers : (s : Asking F) (t : Tree Depth) (calls : List RegionCall) (rest : List Met) (more : List (Tree Depth)) → asked s.names calls ++ rest ≡ met s.under t
@@ -290,7 +289,7 @@ module _ {F : Type 0} (step : F → RegionKind → ℕ → RegionKind → F → 
         rw count (take-append-add (answered s.names calls) more (length rest))
 
     mutual
-      pub asks_some : {s s' : Asking F} {t : Tree Depth} {e : Refusal} → Fails (region_hooks step) unbuilt s t e s' → KeepsClauses t → AskedSome s t e s'
+      pub asks_some : {s s' : Asking F} {t : Tree Depth} {e : Refusal} → Fails (region_hooks step) errors s t e s' → KeepsClauses t → AskedSome s t e s'
       asks_some (region_failed is h) keeps = absurd h
       asks_some (term_failed is h) keeps = absurd h
       asks_some (descent_failed {t} is h d) keeps = rw h.0 at (some_descent d (term-other t is) keeps)
@@ -319,11 +318,11 @@ module _ {F : Type 0} (step : F → RegionKind → ℕ → RegionKind → F → 
             why = one_unbuilt (node l us) (λ more. subst (λ vs. StandsIn (node l us) (node l vs)) (m.are_placed more) itself) (λ bad. bad) b;
           }
 
-      some_descent : {s s' : Asking F} {t : Tree Depth} {e : Refusal} → DescentFails (region_hooks step) unbuilt s t e s' → (IsRegion t → ⊥) → KeepsClauses t → AskedSome s t e s'
+      some_descent : {s s' : Asking F} {t : Tree Depth} {e : Refusal} → DescentFails (region_hooks step) errors s t e s' → (IsRegion t → ⊥) → KeepsClauses t → AskedSome s t e s'
       some_descent (inside_failed d) other keeps = some_inside d other keeps
       some_descent (after_failed w a) other keeps = absurd a
 
-      some_inside : {s s' : Asking F} {t : Tree Depth} {e : Refusal} → InsideFails (region_hooks step) unbuilt s t e s' → (IsRegion t → ⊥) → KeepsClauses t → AskedSome s t e s'
+      some_inside : {s s' : Asking F} {t : Tree Depth} {e : Refusal} → InsideFails (region_hooks step) errors s t e s' → (IsRegion t → ⊥) → KeepsClauses t → AskedSome s t e s'
       some_inside (in_term_failed {l} {ts} d) other keeps =
           let m = some_all d (λ bad. keeps.0 (unwanted-list l ts bad)) keeps.1 in
           record { calls = m.calls; rest = m.rest; made = m.made; are_first = m.are_first; why = why-weaker (λ u h more. stands_in_term (h more)) (λ fits. fits) m.why }
@@ -337,7 +336,7 @@ module _ {F : Type 0} (step : F → RegionKind → ℕ → RegionKind → F → 
             why = one_unbuilt u (λ more. subst (λ v. StandsIn u v) (m.are_placed more) itself) (inside-fine w) b;
           }
 
-      some_all : {w : Wanted} {s s' : Asking F} {ts : Forest Depth} {e : Refusal} → FailsAll (region_hooks step) unbuilt w s ts e s' → (HasUnwanted w ts → ⊥) → KeepsClauses_all ts
+      some_all : {w : Wanted} {s s' : Asking F} {ts : Forest Depth} {e : Refusal} → FailsAll (region_hooks step) errors w s ts e s' → (HasUnwanted w ts → ⊥) → KeepsClauses_all ts
           → AskedSomeAll s ts e s'
       some_all {s} {ts} (stopped b) fine keeps = record { calls = []; rest = met_all s.under ts; made = refl; are_first = refl; why = all_unbuilt b }
       some_all {s} (here {t} {ts} d) fine keeps =
@@ -358,9 +357,9 @@ module _ {F : Type 0} (step : F → RegionKind → ℕ → RegionKind → F → 
           let m = some_all d (λ bad. fine (later-unwanted w t ts bad)) keeps.1 in
           let first_more : asked s.names m.calls ++ m.rest ≡ met_all s.under ts =
           subst (λ names. asked names m.calls ++ m.rest ≡ met_all s.under ts) a.names (subst (λ k. asked s1.names m.calls ++ m.rest ≡ met_all k ts) a.under m.are_first) in
-          let why : Why unbuilt (λ v answers. StandsAmong v (placed_all s.under ts answers)) (BindersFit_all s.under ts) (answered s.names m.calls) e =
-          subst (λ names. Why unbuilt (λ v answers. StandsAmong v (placed_all s.under ts answers)) (BindersFit_all s.under ts) (answered names m.calls) e) a.names
-          (subst (λ k. Why unbuilt (λ v answers. StandsAmong v (placed_all k ts answers)) (BindersFit_all k ts) (answered s1.names m.calls) e) a.under m.why) in
+          let why : Why errors.unbuilt (λ v answers. StandsAmong v (placed_all s.under ts answers)) (BindersFit_all s.under ts) (answered s.names m.calls) e =
+          subst (λ names. Why errors.unbuilt (λ v answers. StandsAmong v (placed_all s.under ts answers)) (BindersFit_all s.under ts) (answered names m.calls) e) a.names
+          (subst (λ k. Why errors.unbuilt (λ v answers. StandsAmong v (placed_all k ts answers)) (BindersFit_all k ts) (answered s1.names m.calls) e) a.under m.why) in
           record {
             calls = a.calls ++ m.calls;
             rest = m.rest;

@@ -1,9 +1,9 @@
 -- What the hooks of a folder of regions do, and what comes of a fold.
-use Rattle.std.proofs.Common.{◌≡◌, ℕ, zero, suc, ◌<◌, arith, Bool, true, false, List, [], ◌∷◌, ◌++◌, Result, Ok, Err, IfOk, IfErr, refl, sym, ap, subst, ◌∙◌, inl, inr, ◌⊎◌, append-nil}
+use Rattle.std.proofs.Common.{◌≡◌, ℕ, zero, suc, arith, Bool, true, false, List, [], ◌∷◌, ◌++◌, Result, Ok, Err, IfOk, IfErr, refl, sym, ap, ◌∙◌, inl, inr, append-nil}
 use Rattle.std.specs.Prelude.{not, nat_lt, bit_and, ◌≢◌, IsTrue, if◌then◌else◌}
 use Rattle.std.proofs.lemmas.Nat.{and_comm}
 use Rattle.tt_index.specs.declared.refusal.Refusal.{Refusal}
-use Rattle.tt_index.specs.declared.refusal.Refusal.TheVariants.{Memory, TableFull, GreatestIndex, NotAClause}
+use Rattle.tt_index.specs.declared.refusal.Refusal.TheVariants.{Memory, TableFull, NotAClause}
 use Rattle.tt_kinds.specs.Label.{Name, static_region, region_sort}
 use Rattle.tt_kinds.specs.Tree.{Depth, Tree, region}
 use Rattle.tt_kinds.specs.Met.{Met, met_leaf, met, placed}
@@ -11,7 +11,6 @@ use Rattle.tt_kinds.specs.Scan.{scan}
 use Rattle.tt_kinds.specs.Shape as shape
 use Rattle.tt_kinds.specs.Shape.{Shape, Shapes, Sizes, fill, IsPart, IsNamedKind, HasParts}
 use Rattle.tt_kinds.specs.Kinds.{region_shape}
-use Rattle.tt_kinds.specs.declared.bound.BoundVarIndexKind.{BoundVarIndexKind}
 use Rattle.tt_kinds.specs.declared.bound.BoundVarIndexKind.TheVariants.{Bound, Canonical}
 use Rattle.tt_kinds.specs.declared.region_kind.RegionKind.{RegionKind}
 use Rattle.tt_kinds.specs.declared.region_kind.RegionKind.TheVariants.{ReEarlyParam, ReBound, ReLateParam, ReStatic, ReVar, RePlaceholder, ReErased, ReError}
@@ -21,12 +20,12 @@ use Rattle.tt_interner.specs.Stored.{Counters, Terms, IsUnbuilt, IsNoClauseList}
 use Rattle.tt_fold.specs.Walk.{Walks, Fails}
 use Rattle.tt_fold.specs.Stands.{StandsIn}
 use Rattle.tt_fold.specs.Counts.{Standing, keeps_counters}
-use Rattle.tt_fold.specs.Steps.{Folds, IsPartOf, tree_in, IsPartBy, tree_by, IsRefused}
-use Rattle.tt_fold.specs.RegionFolder.{is_outside, is_met, names_in, HasName, region_tree, RegionCall, answered, Asking, BindersFit, IsPlacingRefusal, AnswersRegions, Asks, Places, PlacesSome, region_hooks, just_made, RegionFoldersPlace, RegionFoldersPlaceSome}
+use Rattle.tt_fold.specs.Steps.{Folds, IsPartOf, tree_in, IsPartBy, tree_by, IsRefused, refusals_of}
+use Rattle.tt_fold.specs.RegionFolder.{is_met, names_in, HasName, region_tree, answered, Asking, BindersFit, IsPlacingRefusal, AnswersRegions, Places, PlacesSome, region_hooks, just_made, RegionFoldersPlace, RegionFoldersPlaceSome}
 use Rattle.tt_visit.proofs.MeetsRegionsLaws.{met-none}
 use Rattle.tt_fold.proofs.ClauseLaws.{KeepsClauses, keeps-fine}
 use Rattle.tt_fold.proofs.CounterLaws.{walks-quietly, fails-quietly}
-use Rattle.tt_fold.proofs.RegionFolderLaws.{placed-none, Asked, asks, AskedSome, asks_some, Why, all_unbuilt, one_unbuilt, too_deep}
+use Rattle.tt_fold.proofs.RegionFolderLaws.{placed-none, asks, asks_some, Why, all_unbuilt, one_unbuilt, too_deep}
 
 -- a region's tree among the rows
 pub region-tree : (rows : List Row) (r : RegionKind) → tree_in rows (region_shape r) ≡ region_tree (names_in rows) r
@@ -175,9 +174,9 @@ module _ {F : Type 0} (step : F → RegionKind → ℕ → RegionKind → F → 
       }
 
   walk_ends : (names : ℕ → Name) (f : F) (counters : Counters) (terms : Terms) (t : Tree Depth) (e : Refusal) (s' : Standing (Asking F)) → KeepsClauses t
-      → Fails (keeps_counters (region_hooks step)) (IsRefused terms) (just_made step names f counters) t e s' → PlacesSome step names terms f t e
+      → Fails (keeps_counters (region_hooks step)) (refusals_of terms) (just_made step names f counters) t e s' → PlacesSome step names terms f t e
   walk_ends names f counters terms t e s' keeps d =
-      let m = asks_some step (IsRefused terms) (fails-quietly (region_hooks step) (IsRefused terms) d).0 keeps in
+      let m = asks_some step (refusals_of terms) (fails-quietly (region_hooks step) (refusals_of terms) d).0 keeps in
       record {
         calls = m.calls;
         last = s'.state.closure;
@@ -197,11 +196,11 @@ pub record IsFolded {F T : Type 0} (step : F → RegionKind → ℕ → RegionKi
 
 pub folded : {F S T : Type 0} {step : F → RegionKind → ℕ → RegionKind → F → Type 0} {owned : List Row → S → Type 0} {means : List Row → S → Asking F}
     {terms terms' : Terms} {s s' : S} {x : T} (shape : T → Shape) (f : F) (result : Result T Refusal)
-    → Folds owned means (IsPartBy shape) (tree_by shape) (Walks (keeps_counters (region_hooks step))) (Fails (keeps_counters (region_hooks step)) (IsRefused terms')) terms s x result terms' s'
+    → Folds owned means (IsPartBy shape) (tree_by shape) (Walks (keeps_counters (region_hooks step))) (Fails (keeps_counters (region_hooks step)) (refusals_of terms')) terms s x result terms' s'
     → means terms.rows s ≡ record { closure = f; under = 0; names = names_in terms.rows } → KeepsClauses (tree_by shape terms.rows x)
     → IsFolded step shape f terms x result terms'
 folded {step} {terms} {x} shape f (Ok y) d start keeps =
-    record { placed = walk_places step (names_in terms.rows) f terms.counters (tree_by shape terms.rows x) _ _ (rw start at d.outcome.2); err = tt }
+    record { placed = walk_places step (names_in terms.rows) f terms.counters (tree_by shape terms.rows x) _ _ (rw start at d.outcome.1); err = tt }
 folded {step} {terms} {terms'} {x} shape f (Err e) d start keeps =
     record { placed = tt; err = walk_ends step (names_in terms.rows) f terms.counters terms' (tree_by shape terms.rows x) e _ keeps (rw start at d.outcome) }
 

@@ -1,7 +1,6 @@
 -- The shifter's walk shifts the tree.
 use Rattle.std.proofs.Common.{zero, List, [], Result, Ok, Err, IfOk, IfErr, MatchResult, ◌≡◌, ℕ, suc, ◌+◌, ◌-◌, ◌<◌, ◌≤◌, ◌⊎◌, inl, inr, true, false, ltb, refl, ap, sym, subst, ◌∙◌, arith}
 use Rattle.std.proofs.lemmas.Bool.{cases_Bool, cases_lt, ltb-false, le-ltb, lt-ltb}
-use Rattle.std.specs.Prelude.{⊤}
 use Rattle.tt_index.specs.Greatest.{greatest}
 use Rattle.tt_index.specs.declared.refusal.Refusal.{Refusal}
 use Rattle.tt_index.specs.declared.refusal.Refusal.TheVariants.{Memory, TableFull, GreatestIndex, NotAClause}
@@ -24,11 +23,11 @@ use Rattle.tt_kinds.specs.declared.region_kind.RegionKind.{RegionKind}
 use Rattle.tt_kinds.specs.declared.region_kind.RegionKind.TheVariants.{ReEarlyParam, ReBound, ReLateParam, ReStatic, ReVar, RePlaceholder, ReErased, ReError}
 use Rattle.tt_interner.specs.Rows.{Row, size, meaning}
 use Rattle.tt_interner.specs.Stored.{Terms, Counters, counted, IsUnbuilt, IsNoClauseList}
-use Rattle.tt_fold.specs.Walk.{is_type_tree, IsPassed, replace, keep, descend, Walks, Descends, WalksInside, WalksAll, at_region, replaced, kept, descended, passed, rebuilt, at_node, at_binder, in_term, in_param, in_bound, done, next, Fails, DescentFails, InsideFails, FailsAll, region_failed, term_failed, descent_failed, enter_failed, under_failed, leave_failed, node_failed, node_not_built, passed_failed, inside_failed, not_built, after_failed, in_term_failed, stopped, here, later, no_clause, Wanted, wanted_in, HasUnwanted}
+use Rattle.tt_fold.specs.Walk.{Errors, is_type_tree, IsPassed, replace, keep, descend, Walks, Descends, WalksInside, WalksAll, at_region, replaced, kept, descended, passed, rebuilt, at_node, at_binder, in_term, in_param, in_bound, done, next, Fails, DescentFails, InsideFails, FailsAll, region_failed, term_failed, descent_failed, enter_failed, under_failed, leave_failed, node_failed, node_not_built, passed_failed, inside_failed, not_built, after_failed, in_term_failed, stopped, here, later, no_clause, Wanted, wanted_in, HasUnwanted}
 use Rattle.tt_fold.specs.Counts.{Standing}
-use Rattle.tt_fold.specs.Steps.{Folds, IsPartOf, tree_in, IsPartBy, tree_by, IsRefused}
+use Rattle.tt_fold.specs.Steps.{Folds, IsPartOf, tree_in, IsPartBy, tree_by, IsRefused, refusals_of}
 use Rattle.tt_fold.proofs.ClauseLaws.{KeepsClauses, never_bad, shift-keeps}
-use Rattle.tt_fold.proofs.WantedLaws.{first-unwanted, later-unwanted, unwanted-list}
+use Rattle.tt_fold.proofs.WantedLaws.{first-unwanted, later-unwanted, unwanted-list, TellsOfLists, refusals-tell}
 use Rattle.tt_fold.specs.Stands.{StandsIn, itself, in_term as stands_in_term, in_node as stands_in_node, in_binder as stands_in_binder, StandsAmong, in_first, in_later}
 use Rattle.tt_fold.specs.Shift.{Shift, moved_tree, IsTooFar, answer_inside, shift_answer, shift_hooks, count_descent, IsTooGreat, moved_index, moved_region, IsShiftedRegion, IsShiftRefusal, ShiftsOn, ComesOf, KeepsMatched}
 
@@ -171,28 +170,28 @@ RefusedAmong unbuilt w s ts e s' =
     let moved = shift_forest s.state.under s.state.amount ts in
     Refused unbuilt (λ u. StandsAmong u moved) (HasUnwanted w moved) s e (FitsUnder_all s.state.under (read_all s.state.under moved)) s'
 
-module _ (unbuilt : Tree Depth → Refusal → Type 0) where
+module _ (errors : Errors Refusal) (tells : TellsOfLists errors) where
   because : {e : Refusal} {A B : Tree Depth → Type 0} {C D : Type 0} {P Q : Type 0} → ((u : Tree Depth) → A u → B u) → (C → D) → (Q → P)
-      → Why unbuilt A C e P → Why unbuilt B D e Q
+      → Why errors.unbuilt A C e P → Why errors.unbuilt B D e Q
   because into bad f (all_unbuilt b) = all_unbuilt b
   because into bad f (one_unbuilt u h b) = one_unbuilt u (into u h) b
   because into bad f (lists_unbuilt h b) = lists_unbuilt (bad h) b
   because into bad f (too_great is unfit) = too_great is (λ q. unfit (f q))
 
   weaker : {s s' : Standing Shift} {e : Refusal} {A B : Tree Depth → Type 0} {C D : Type 0} {P Q : Type 0} → ((u : Tree Depth) → A u → B u) → (C → D) → (Q → P)
-      → Refused unbuilt A C s e P s' → Refused unbuilt B D s e Q s'
+      → Refused errors.unbuilt A C s e P s' → Refused errors.unbuilt B D s e Q s'
   weaker into bad f r = record { counts = r.counts; cause = because into bad f r.cause }
 
   -- a list of clauses is not built where an item is none
   in_list : {e : Refusal} {P : Type 0} (l : Label Name) (us : Forest Depth)
-      → Why unbuilt (λ u. StandsAmong u us) (HasUnwanted (wanted_in l) us) e P → Why unbuilt (λ u. StandsIn u (term l us)) ⊥ e P
+      → Why errors.unbuilt (λ u. StandsAmong u us) (HasUnwanted (wanted_in l) us) e P → Why errors.unbuilt (λ u. StandsIn u (term l us)) ⊥ e P
   in_list l us (all_unbuilt b) = all_unbuilt b
   in_list l us (one_unbuilt u h b) = one_unbuilt u (stands_in_term h) b
   in_list l us (lists_unbuilt h b) = one_unbuilt (term l us) itself (b (term l us) (unwanted-list l us h))
   in_list l us (too_great is unfit) = too_great is unfit
 
   mutual
-    refused : {s s' : Standing Shift} {t : Tree Depth} {e : Refusal} → Fails shift_hooks unbuilt s t e s' → RefusedAt unbuilt s t e s'
+    refused : {s s' : Standing Shift} {t : Tree Depth} {e : Refusal} → Fails shift_hooks errors s t e s' → RefusedAt errors.unbuilt s t e s'
     refused (region_failed is h) = record { counts = counts-same (ap (λ s. s.counters) h.0); cause = too_great h.1.0 h.1.1 }
     refused {s} (term_failed {t} is h) = record {
       counts = counts-same (ap (λ s. s.counters) h.0);
@@ -210,27 +209,27 @@ module _ (unbuilt : Tree Depth → Refusal → Type 0) where
     refused (node_failed d) = weaker (λ u h. stands_in_node h) (λ h. h) (λ fits. fits) (refused_all d)
     refused {s} (node_not_built {l} {ts} {us} {e} w b) =
         let m = shifts_all w in
-        record { counts = m.counts; cause = one_unbuilt (node l (shift_forest s.state.under s.state.amount ts)) itself (subst (λ vs. unbuilt (node l vs) e) m.shifted b) }
+        record { counts = m.counts; cause = one_unbuilt (node l (shift_forest s.state.under s.state.amount ts)) itself (subst (λ vs. errors.unbuilt (node l vs) e) m.shifted b) }
 
-    refused_descent : {s s' : Standing Shift} {t : Tree Depth} {e : Refusal} → DescentFails shift_hooks unbuilt s t e s' → descend ≡ answer_inside s.state t
-        → RefusedAt unbuilt s t e s'
+    refused_descent : {s s' : Standing Shift} {t : Tree Depth} {e : Refusal} → DescentFails shift_hooks errors s t e s' → descend ≡ answer_inside s.state t
+        → RefusedAt errors.unbuilt s t e s'
     refused_descent (inside_failed d) h = refused_inside d h
     refused_descent (after_failed w a) h = absurd a
 
-    refused_inside : {s s' : Standing Shift} {t : Tree Depth} {e : Refusal} → InsideFails shift_hooks unbuilt s t e s' → descend ≡ answer_inside s.state t
-        → RefusedAt unbuilt s t e s'
+    refused_inside : {s s' : Standing Shift} {t : Tree Depth} {e : Refusal} → InsideFails shift_hooks errors s t e s' → descend ≡ answer_inside s.state t
+        → RefusedAt errors.unbuilt s t e s'
     refused_inside (in_term_failed {l} d) h = let r = refused_all d in record { counts = r.counts; cause = in_list l _ r.cause }
     refused_inside {s} (not_built {t} {u} {e} w b) h =
         let m = shifts_inside w h in
-        record { counts = m.counts; cause = one_unbuilt (moved_tree s.state t) itself (subst (λ v. unbuilt v e) m.shifted b) }
+        record { counts = m.counts; cause = one_unbuilt (moved_tree s.state t) itself (subst (λ v. errors.unbuilt v e) m.shifted b) }
 
-    refused_all : {w : Wanted} {s s' : Standing Shift} {ts : Forest Depth} {e : Refusal} → FailsAll shift_hooks unbuilt w s ts e s' → RefusedAmong unbuilt w s ts e s'
+    refused_all : {w : Wanted} {s s' : Standing Shift} {ts : Forest Depth} {e : Refusal} → FailsAll shift_hooks errors w s ts e s' → RefusedAmong errors.unbuilt w s ts e s'
     refused_all (stopped b) = record { counts = counts-same refl; cause = all_unbuilt b }
     refused_all (here d) = weaker (λ u h. in_first h) (λ h. absurd h) (λ fits. fits.0) (refused d)
-    refused_all {w} {s} (no_clause {t} {u} {ts} g bad b) =
+    refused_all {w} {s} (no_clause {t} {u} {ts} {e} g bad b) =
         let m = shifts g in
         let among = first-unwanted w (moved_tree s.state t) (shift_forest s.state.under s.state.amount ts) (subst (λ v. HasUnwanted w (also v none)) m.shifted bad) in
-        record { counts = m.counts; cause = lists_unbuilt among b }
+        record { counts = m.counts; cause = lists_unbuilt among (λ v none. tells v e none b) }
     refused_all {w} {s} (later {t} {ts} g fit d) =
         let m = shifts g in
         let r = rw m.state at (refused_all d) in
@@ -336,10 +335,10 @@ moved_err f n r (Err e) low h = (h.0, too_far f n r low h.1)
 pub region_hook : (rows : List Row) (s : Standing Shift) (r : RegionKind) (result : Result RegionKind Refusal) → IsShallow r → IsPartOf rows (region_shape r)
     → IsMoved s.state.amount s.state.under r result
     → MatchResult result
-    (λ q. ⊤ × IsPartOf rows (region_shape q) × ((s ≡ s) × (tree_in rows (region_shape q) ≡ moved_tree s.state (tree_in rows (region_shape r)))))
+    (λ q. IsPartOf rows (region_shape q) × ((s ≡ s) × (tree_in rows (region_shape q) ≡ moved_tree s.state (tree_in rows (region_shape r)))))
     (λ e. (s ≡ s) × IsTooGreat e (IsTooFar s.state (tree_in rows (region_shape r))))
 region_hook rows s r (Ok q) low part h =
-    (tt, rw h.0 (region-named (size rows) s.state.amount s.state.under r part), (refl, rw h.0 (region-moved (meaning rows) s.state.amount s.state.under r)))
+    (rw h.0 (region-named (size rows) s.state.amount s.state.under r part), (refl, rw h.0 (region-moved (meaning rows) s.state.amount s.state.under r)))
 region_hook rows s r (Err e) low part h =
     (refl, (h.0, λ fits. h.1 (region-shallow (meaning rows) s.state.amount s.state.under r low fits)))
 
@@ -416,14 +415,14 @@ shift_refusal terms n t e keeps why = elim why [
 pub shift_outcome : {S T : Type 0} {owned : List Row → S → Type 0} {means : List Row → S → Shift} {shape : T → Shape} {terms terms' : Terms} {s s' : S} {x : T}
     (n : ℕ) (result : Result T Refusal)
     → means terms.rows s ≡ record { amount = n; under = 0 } → KeepsClauses (tree_by shape terms.rows x)
-    → Folds owned means (IsPartBy shape) (tree_by shape) (Walks shift_hooks) (Fails shift_hooks (IsRefused terms')) terms s x result terms' s'
+    → Folds owned means (IsPartBy shape) (tree_by shape) (Walks shift_hooks) (Fails shift_hooks (refusals_of terms')) terms s x result terms' s'
     → IsShift shape n terms x result terms'
 shift_outcome {shape} {terms} {x} n (Ok y) start keeps d =
-    let w = shifts d.outcome.2 in
+    let w = shifts d.outcome.1 in
     let tree = rw start at w.shifted in
     record { tree = tree; plain = ap (read 0) tree ∙ read-shift_tree n 0 (tree_by shape terms.rows x); err = tt; adds_up = shifts_on n _ _ tree; tells_apart = comes_of n _ _ tree; matched = keeps_matched n _ _ tree; descents = w.counts.descents; up = w.counts.up }
 shift_outcome {shape} {terms} {terms'} {x} n (Err e) start keeps d =
-    let f = refused (IsRefused terms') d.outcome in
+    let f = refused (refusals_of terms') (refusals-tell terms') d.outcome in
     let cause = rw start at f.cause in
     record { tree = tt; plain = tt; adds_up = tt; tells_apart = tt; matched = tt; err = shift_refusal terms' n (tree_by shape terms.rows x) e (shift-keeps n (tree_by shape terms.rows x) keeps) cause; descents = f.counts.descents; up = f.counts.up }
 

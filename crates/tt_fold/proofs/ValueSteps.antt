@@ -1,7 +1,6 @@
 -- The folds of values that are not stored, from those of what stands in them.
 use Rattle.std.proofs.Common.{◌≡◌, List, Result, Ok, Err, MatchResult}
 use Rattle.std.proofs.lemmas.Result.{MatchResult-weaker}
-use Rattle.tt_kinds.specs.Tree.{Depth, Tree}
 use Rattle.tt_kinds.specs.Shape.{Shape, IsPart, fill}
 use Rattle.tt_kinds.specs.Kinds.{node_shape, region_shape, binder_shape}
 use Rattle.tt_kinds.specs.declared.parts.Node.{Node}
@@ -10,7 +9,7 @@ use Rattle.tt_kinds.specs.declared.region_kind.RegionKind.{RegionKind}
 use Rattle.tt_interner.specs.Rows.{Row}
 use Rattle.tt_interner.specs.Stored.{Terms, Extends}
 use Rattle.tt_interner.proofs.Growth.{Extends-trans, IsPart-grows, fill-grows}
-use Rattle.tt_fold.specs.Walk.{Hooks, Walks, at_region, at_binder, Fails, region_failed, enter_failed, under_failed, leave_failed, WalksInside, InsideFails, SuperWalks, super_term, super_binder, SuperFails, super_term_failed, super_binder_failed}
+use Rattle.tt_fold.specs.Walk.{Errors, Hooks, Walks, at_region, at_binder, Fails, region_failed, enter_failed, under_failed, leave_failed, WalksInside, InsideFails, SuperWalks, super_term, super_binder, SuperFails, super_term_failed, super_binder_failed}
 use Rattle.tt_fold.specs.Counts.{Standing, stands}
 use Rattle.tt_fold.specs.Steps.{Folds, IsPartOf, tree_in, IsPartBy, tree_by, HasVars, vars_in}
 use Rattle.tt_fold.specs.Parts.{node_tree, IsNodeFor}
@@ -31,55 +30,56 @@ unfolding IsPart
 binder-part of_value rows x h k = (h, k)
 
 module _ {M E S : Type 0} {owned : List Row → S → Type 0} {means : List Row → S → M} {H : Hooks (Standing M) E} where
-  pub region_folds : {terms terms1 : Terms} {s s1 : S} (unbuilt : Tree Depth → E → Type 0) (x : RegionKind) (r : Result RegionKind E)
-      → Extends terms terms1
+  pub region_folds : {terms terms1 : Terms} {s s1 : S} (errors : Errors E) (x : RegionKind) (r : Result RegionKind E)
+      → Extends terms terms1 → owned terms1.rows s1
       → MatchResult r
-      (λ y. owned terms1.rows s1 × IsPartOf terms1.rows (region_shape y)
+      (λ y. IsPartOf terms1.rows (region_shape y)
       × H.on_region (stands means terms s) (tree_in terms.rows (region_shape x)) (tree_in terms1.rows (region_shape y)) (stands means terms1 s1))
-      (λ e. H.region_fails unbuilt (stands means terms s) (tree_in terms.rows (region_shape x)) e (stands means terms1 s1))
-      → Folds owned means (IsPartBy region_shape) (tree_by region_shape) (Walks H) (Fails H unbuilt) terms s x r terms1 s1
-  region_folds {terms} unbuilt x r extends d = record {
+      (λ e. H.region_fails errors.unbuilt (stands means terms s) (tree_in terms.rows (region_shape x)) e (stands means terms1 s1))
+      → Folds owned means (IsPartBy region_shape) (tree_by region_shape) (Walks H) (Fails H errors) terms s x r terms1 s1
+  region_folds {terms} errors x r extends o d = record {
     extends = extends;
-    outcome = MatchResult-weaker r d (λ y h. (h.0, h.1, at_region (region-is terms.rows x) h.2)) (λ e h. region_failed (region-is terms.rows x) h);
+    is_owned = o;
+    outcome = MatchResult-weaker r d (λ y h. (h.0, at_region (region-is terms.rows x) h.1)) (λ e h. region_failed (region-is terms.rows x) h);
   }
 
-  module _ {unbuilt : Tree Depth → E → Type 0} where
+  module _ {errors : Errors E} where
     -- binders
     module _ {T : Type 0} (of_value : T → Shape) where
       pub binder_enter_fails : {terms terms1 : Terms} {s s1 : S} {x : Binder T} {e : E}
-          → Extends terms terms1 → H.enter_fails unbuilt (stands means terms s) (vars_in terms.rows x.bound_vars) e (stands means terms1 s1)
-          → Folds owned means (IsPartBy (binder_shape of_value)) (tree_by (binder_shape of_value)) (Walks H) (Fails H unbuilt) terms s x (Err e) terms1 s1
+          → Extends terms terms1 → owned terms1.rows s1 → H.enter_fails errors.unbuilt (stands means terms s) (vars_in terms.rows x.bound_vars) e (stands means terms1 s1)
+          → Folds owned means (IsPartBy (binder_shape of_value)) (tree_by (binder_shape of_value)) (Walks H) (Fails H errors) terms s x (Err e) terms1 s1
       unfolding fill
-      binder_enter_fails extends h = record { extends = extends; outcome = enter_failed h }
+      binder_enter_fails extends o h = record { extends = extends; is_owned = o; outcome = enter_failed h }
 
       pub binder_value_fails : {terms terms1 terms2 : Terms} {s s1 s2 : S} {x : Binder T} {e : E}
           → IsPartBy of_value terms.rows x.value → Extends terms terms1
           → H.enter (stands means terms s) (vars_in terms.rows x.bound_vars) (stands means terms1 s1)
-          → Folds owned means (IsPartBy of_value) (tree_by of_value) (Walks H) (Fails H unbuilt) terms1 s1 x.value (Err e) terms2 s2
-          → Folds owned means (IsPartBy (binder_shape of_value)) (tree_by (binder_shape of_value)) (Walks H) (Fails H unbuilt) terms s x (Err e) terms2 s2
+          → Folds owned means (IsPartBy of_value) (tree_by of_value) (Walks H) (Fails H errors) terms1 s1 x.value (Err e) terms2 s2
+          → Folds owned means (IsPartBy (binder_shape of_value)) (tree_by (binder_shape of_value)) (Walks H) (Fails H errors) terms s x (Err e) terms2 s2
       unfolding fill
       binder_value_fails {x} part extends enter d =
           let o = rw (fill-grows _ _ extends.rows (of_value x.value) part) at d.outcome in
-          record { extends = Extends-trans extends d.extends; outcome = under_failed enter o }
+          record { extends = Extends-trans extends d.extends; is_owned = d.is_owned; outcome = under_failed enter o }
 
-      pub binder_leave_fails : {terms terms1 terms2 terms3 : Terms} {s s1 s2 s3 : S} {x : Binder T} {y : T} {e : E} {other : Tree Depth → E → Type 0}
+      pub binder_leave_fails : {terms terms1 terms2 terms3 : Terms} {s s1 s2 s3 : S} {x : Binder T} {y : T} {e : E} {other : Errors E}
           → HasVars terms.rows x.bound_vars → IsPartBy of_value terms.rows x.value → Extends terms terms1
           → H.enter (stands means terms s) (vars_in terms.rows x.bound_vars) (stands means terms1 s1)
           → Folds owned means (IsPartBy of_value) (tree_by of_value) (Walks H) (Fails H other) terms1 s1 x.value (Ok y) terms2 s2
-          → Extends terms2 terms3 → H.leave_fails unbuilt (stands means terms2 s2) (vars_in terms2.rows x.bound_vars) e (stands means terms3 s3)
-          → Folds owned means (IsPartBy (binder_shape of_value)) (tree_by (binder_shape of_value)) (Walks H) (Fails H unbuilt) terms s x (Err e) terms3 s3
+          → Extends terms2 terms3 → owned terms3.rows s3 → H.leave_fails errors.unbuilt (stands means terms2 s2) (vars_in terms2.rows x.bound_vars) e (stands means terms3 s3)
+          → Folds owned means (IsPartBy (binder_shape of_value)) (tree_by (binder_shape of_value)) (Walks H) (Fails H errors) terms s x (Err e) terms3 s3
       unfolding fill
-      binder_leave_fails {x} has part extends enter d more leave =
+      binder_leave_fails {x} has part extends enter d more owned3 leave =
           let o = rw (fill-grows _ _ extends.rows (of_value x.value) part) at d.outcome in
           let l = rw (vars-grow (Extends-trans extends d.extends).rows x.bound_vars has) at leave in
-          record { extends = Extends-trans extends (Extends-trans d.extends more); outcome = leave_failed enter o.2 l }
+          record { extends = Extends-trans extends (Extends-trans d.extends more); is_owned = owned3; outcome = leave_failed enter o.1 l }
 
-      pub binder_folds : {terms terms1 terms2 terms3 : Terms} {s s1 s2 s3 : S} {x : Binder T} {y : T} {other : Tree Depth → E → Type 0}
+      pub binder_folds : {terms terms1 terms2 terms3 : Terms} {s s1 s2 s3 : S} {x : Binder T} {y : T} {other : Errors E}
           → HasVars terms.rows x.bound_vars → IsPartBy of_value terms.rows x.value → Extends terms terms1
           → H.enter (stands means terms s) (vars_in terms.rows x.bound_vars) (stands means terms1 s1)
           → Folds owned means (IsPartBy of_value) (tree_by of_value) (Walks H) (Fails H other) terms1 s1 x.value (Ok y) terms2 s2
           → Extends terms2 terms3 → owned terms3.rows s3 → H.leave (stands means terms2 s2) (vars_in terms2.rows x.bound_vars) (stands means terms3 s3)
-          → Folds owned means (IsPartBy (binder_shape of_value)) (tree_by (binder_shape of_value)) (Walks H) (Fails H unbuilt) terms s x (Ok (record { value = y; bound_vars = x.bound_vars })) terms3 s3
+          → Folds owned means (IsPartBy (binder_shape of_value)) (tree_by (binder_shape of_value)) (Walks H) (Fails H errors) terms s x (Ok (record { value = y; bound_vars = x.bound_vars })) terms3 s3
       unfolding fill
       binder_folds {terms} {terms3} {x} {y} has part extends enter d more owned3 leave =
           let o = rw (fill-grows _ _ extends.rows (of_value x.value) part) at d.outcome in
@@ -87,49 +87,49 @@ module _ {M E S : Type 0} {owned : List Row → S → Type 0} {means : List Row 
           let l = rw (vars-grow before.rows x.bound_vars has) at leave in
           let whole = Extends-trans before more in
           let same_vars : vars_in terms3.rows x.bound_vars ≡ vars_in terms.rows x.bound_vars = vars-grow whole.rows x.bound_vars has in
-          let same = fill-grows _ _ more.rows (of_value y) o.1 in
+          let same = fill-grows _ _ more.rows (of_value y) o.0 in
           record {
             extends = whole;
+            is_owned = owned3;
             outcome = (
-              owned3,
-              binder-part of_value terms3.rows (record { value = y; bound_vars = x.bound_vars }) (vars-kept whole.rows x.bound_vars has) (IsPart-grows _ _ more.rows (of_value y) o.1),
-              rw (same, same_vars) (at_binder enter o.2 l),
+              binder-part of_value terms3.rows (record { value = y; bound_vars = x.bound_vars }) (vars-kept whole.rows x.bound_vars has) (IsPart-grows _ _ more.rows (of_value y) o.0),
+              rw (same, same_vars) (at_binder enter o.1 l),
             );
           }
 
       -- without the binder's own hooks
       pub super_binder_fails : {terms terms1 : Terms} {s s1 : S} {x : Binder T} {e : E}
-          → Folds owned means (IsPartBy of_value) (tree_by of_value) (Walks H) (Fails H unbuilt) terms s x.value (Err e) terms1 s1
-          → Folds owned means (IsPartBy (binder_shape of_value)) (tree_by (binder_shape of_value)) (SuperWalks H) (SuperFails H unbuilt) terms s x (Err e) terms1 s1
+          → Folds owned means (IsPartBy of_value) (tree_by of_value) (Walks H) (Fails H errors) terms s x.value (Err e) terms1 s1
+          → Folds owned means (IsPartBy (binder_shape of_value)) (tree_by (binder_shape of_value)) (SuperWalks H) (SuperFails H errors) terms s x (Err e) terms1 s1
       unfolding fill
-      super_binder_fails d = record { extends = d.extends; outcome = super_binder_failed d.outcome }
+      super_binder_fails d = record { extends = d.extends; is_owned = d.is_owned; outcome = super_binder_failed d.outcome }
 
       pub super_binder_folds : {terms terms1 : Terms} {s s1 : S} {x : Binder T} {y : T}
           → HasVars terms.rows x.bound_vars
-          → Folds owned means (IsPartBy of_value) (tree_by of_value) (Walks H) (Fails H unbuilt) terms s x.value (Ok y) terms1 s1
-          → Folds owned means (IsPartBy (binder_shape of_value)) (tree_by (binder_shape of_value)) (SuperWalks H) (SuperFails H unbuilt) terms s x (Ok (record { value = y; bound_vars = x.bound_vars })) terms1 s1
+          → Folds owned means (IsPartBy of_value) (tree_by of_value) (Walks H) (Fails H errors) terms s x.value (Ok y) terms1 s1
+          → Folds owned means (IsPartBy (binder_shape of_value)) (tree_by (binder_shape of_value)) (SuperWalks H) (SuperFails H errors) terms s x (Ok (record { value = y; bound_vars = x.bound_vars })) terms1 s1
       unfolding fill
       super_binder_folds {terms1} {x} {y} has d =
           let o = d.outcome in
           record {
             extends = d.extends;
+            is_owned = d.is_owned;
             outcome = (
-              o.0,
-              binder-part of_value terms1.rows (record { value = y; bound_vars = x.bound_vars }) (vars-kept d.extends.rows x.bound_vars has) o.1,
-              rw (vars-grow d.extends.rows x.bound_vars has) (super_binder o.2),
+              binder-part of_value terms1.rows (record { value = y; bound_vars = x.bound_vars }) (vars-kept d.extends.rows x.bound_vars has) o.0,
+              rw (vars-grow d.extends.rows x.bound_vars has) (super_binder o.1),
             );
           }
 
     -- a stored term without its own hook
     module _ {T : Type 0} (f : T → Node) (shape : T → Shape) (same : (x : T) → node_shape (f x) ≡ shape x) where
       pub super_term_fails : {terms terms1 : Terms} {s s1 : S} {t : T} {e : E}
-          → Folds owned means (IsNodeFor (f t)) node_tree (WalksInside H) (InsideFails H unbuilt) terms s (f t) (Err e) terms1 s1
-          → Folds owned means (IsPartBy shape) (tree_by shape) (SuperWalks H) (SuperFails H unbuilt) terms s t (Err e) terms1 s1
-      super_term_fails {t} d = record { extends = d.extends; outcome = rw (← same t) (super_term_failed d.outcome) }
+          → Folds owned means (IsNodeFor (f t)) node_tree (WalksInside H) (InsideFails H errors) terms s (f t) (Err e) terms1 s1
+          → Folds owned means (IsPartBy shape) (tree_by shape) (SuperWalks H) (SuperFails H errors) terms s t (Err e) terms1 s1
+      super_term_fails {t} d = record { extends = d.extends; is_owned = d.is_owned; outcome = rw (← same t) (super_term_failed d.outcome) }
 
       pub super_term_folds : {terms terms1 : Terms} {s s1 : S} {t u : T} {n : Node} → n ≡ f u
-          → Folds owned means (IsNodeFor (f t)) node_tree (WalksInside H) (InsideFails H unbuilt) terms s (f t) (Ok n) terms1 s1
-          → Folds owned means (IsPartBy shape) (tree_by shape) (SuperWalks H) (SuperFails H unbuilt) terms s t (Ok u) terms1 s1
+          → Folds owned means (IsNodeFor (f t)) node_tree (WalksInside H) (InsideFails H errors) terms s (f t) (Ok n) terms1 s1
+          → Folds owned means (IsPartBy shape) (tree_by shape) (SuperWalks H) (SuperFails H errors) terms s t (Ok u) terms1 s1
       super_term_folds {t} {u} is d =
           let o = rw is at d.outcome in
-          record { extends = d.extends; outcome = (o.0, rw (← same u) o.1.owned, rw (← same t, ← same u) (super_term o.2)) }
+          record { extends = d.extends; is_owned = d.is_owned; outcome = (rw (← same u) o.0.owned, rw (← same t, ← same u) (super_term o.1)) }

@@ -10,7 +10,7 @@ use Rattle.tt_interner.specs.Rows.{Row}
 use Rattle.tt_interner.specs.Stored.{Terms}
 use Rattle.tt_interner.proofs.Growth.{Extends-refl, Extends-trans, AreParts-grows, fill-grows, fill_all-grows}
 use Rattle.tt_kinds.specs.Values.{sequence_shape}
-use Rattle.tt_fold.specs.Walk.{Hooks, Walks, WalksAll, Fails, at_node, done, node_failed, here, stopped}
+use Rattle.tt_fold.specs.Walk.{Errors, Hooks, Walks, WalksAll, Fails, at_node, done, node_failed, here, stopped}
 use Rattle.tt_fold.specs.Counts.{Standing}
 use Rattle.tt_fold.specs.Steps.{Folds, IsPartOf, tree_in, IsPartBy, tree_by}
 use Rattle.tt_fold.specs.Parts.{ArePartsOf, trees_in, FoldsValues}
@@ -60,7 +60,7 @@ module _ {T : Type 0} (of : T → Shape) where
         let split : list ≡ p.front ++ x ∷ left = p.split ∙ ap (λ r. p.front ++ r) taken in
         part-after terms.rows p.front x left (rw split at (sequence-parts terms.rows list parts))
 
-    pub values_more : {terms terms1 terms2 : Terms} {s s1 s2 : S} {list values more rest left : List T} {x y : T} {other : Tree Depth → E → Type 0}
+    pub values_more : {terms terms1 terms2 : Terms} {s s1 s2 : S} {list values more rest left : List T} {x y : T} {other : Errors E}
         → IsPartOf terms.rows (sequence_shape of list) → FoldsValues of owned means H terms s list values rest terms1 s1 → rest ≡ x ∷ left
         → Folds owned means (IsPartBy of) (tree_by of) (Walks H) (Fails H other) terms1 s1 x (Ok y) terms2 s2
         → more ≡ values ++ y ∷ []
@@ -70,44 +70,45 @@ module _ {T : Type 0} (of : T → Shape) where
         let o = rw (fill-grows _ _ p.extends.rows (of x) (value_part parts p taken)) at d.outcome in
         let before = rw (← fill_all-grows _ _ d.extends.rows (item_shapes of values) p.are_values) at p.walked in
         let one : WalksAll H _ (trees_in terms.rows (item_shapes of (x ∷ []))) (trees_in terms2.rows (item_shapes of (y ∷ []))) _ =
-        rw (one_tree terms.rows (of x), one_tree terms2.rows (of y)) (WalksAll-one o.2) in
+        rw (one_tree terms.rows (of x), one_tree terms2.rows (of y)) (WalksAll-one o.1) in
         rw added (record {
           front = p.front ++ x ∷ [];
           split = split ∙ sym (append_assoc p.front (x ∷ []) left);
           extends = Extends-trans p.extends d.extends;
-          is_owned = o.0;
-          are_values = rw (shapes-append values (y ∷ [])) (append_parts terms2.rows (item_shapes of values) (item_shapes of (y ∷ [])) (AreParts-grows _ _ d.extends.rows (item_shapes of values) p.are_values) (one_part terms2.rows (of y) o.1));
+          is_owned = d.is_owned;
+          are_values = rw (shapes-append values (y ∷ [])) (append_parts terms2.rows (item_shapes of values) (item_shapes of (y ∷ [])) (AreParts-grows _ _ d.extends.rows (item_shapes of values) p.are_values) (one_part terms2.rows (of y) o.0));
           walked = rw (trees-append terms.rows p.front (x ∷ []), trees-append terms2.rows values (y ∷ [])) (WalksAll-append before one);
         })
 
-    module _ {unbuilt : Tree Depth → E → Type 0} {V : Type 0} (items : V → List T) where
+    module _ {errors : Errors E} {V : Type 0} (items : V → List T) where
       pub value_fails : {terms terms1 terms2 : Terms} {s s1 s2 : S} {v : V} {values rest left : List T} {x : T} {e : E}
           → IsPartOf terms.rows (sequence_shape of (items v)) → FoldsValues of owned means H terms s (items v) values rest terms1 s1 → rest ≡ x ∷ left
-          → Folds owned means (IsPartBy of) (tree_by of) (Walks H) (Fails H unbuilt) terms1 s1 x (Err e) terms2 s2
-          → Folds owned means (IsPartBy (λ v. sequence_shape of (items v))) (tree_by (λ v. sequence_shape of (items v))) (Walks H) (Fails H unbuilt) terms s v (Err e) terms2 s2
+          → Folds owned means (IsPartBy of) (tree_by of) (Walks H) (Fails H errors) terms1 s1 x (Err e) terms2 s2
+          → Folds owned means (IsPartBy (λ v. sequence_shape of (items v))) (tree_by (λ v. sequence_shape of (items v))) (Walks H) (Fails H errors) terms s v (Err e) terms2 s2
       unfolding fill
       value_fails {terms} {v} {left} {x} parts p taken d =
           let split : items v ≡ p.front ++ x ∷ left = p.split ∙ ap (λ r. p.front ++ r) taken in
           let o = rw (fill-grows _ _ p.extends.rows (of x) (value_part parts p taken)) at d.outcome in
           let is : trees_in terms.rows (item_shapes of (items v)) ≡ joined (trees_in terms.rows (item_shapes of p.front)) (trees_in terms.rows (item_shapes of (x ∷ left))) =
           ap (λ xs. trees_in terms.rows (item_shapes of xs)) split ∙ trees-append terms.rows p.front (x ∷ left) in
-          record { extends = Extends-trans p.extends d.extends; outcome = rw (sequence-tree terms.rows (items v), is) (node_failed (FailsAll-append p.walked (λ h. h) (here o))) }
+          record { extends = Extends-trans p.extends d.extends; is_owned = d.is_owned; outcome = rw (sequence-tree terms.rows (items v), is) (node_failed (FailsAll-append p.walked (λ h. h) (here o))) }
 
       pub values_stop : {terms terms1 : Terms} {s s1 : S} {v : V} {values rest : List T} {e : E}
-          → FoldsValues of owned means H terms s (items v) values rest terms1 s1 → ((u : Tree Depth) → unbuilt u e)
-          → Folds owned means (IsPartBy (λ v. sequence_shape of (items v))) (tree_by (λ v. sequence_shape of (items v))) (Walks H) (Fails H unbuilt) terms s v (Err e) terms1 s1
+          → FoldsValues of owned means H terms s (items v) values rest terms1 s1 → ((u : Tree Depth) → errors.unbuilt u e)
+          → Folds owned means (IsPartBy (λ v. sequence_shape of (items v))) (tree_by (λ v. sequence_shape of (items v))) (Walks H) (Fails H errors) terms s v (Err e) terms1 s1
       values_stop {terms} {v} {rest} p b =
           let is : trees_in terms.rows (item_shapes of (items v)) ≡ joined (trees_in terms.rows (item_shapes of p.front)) (trees_in terms.rows (item_shapes of rest)) =
           ap (λ xs. trees_in terms.rows (item_shapes of xs)) p.split ∙ trees-append terms.rows p.front rest in
-          record { extends = p.extends; outcome = rw (sequence-tree terms.rows (items v), is) (node_failed (FailsAll-append p.walked (λ h. h) (stopped b))) }
+          record { extends = p.extends; is_owned = p.is_owned; outcome = rw (sequence-tree terms.rows (items v), is) (node_failed (FailsAll-append p.walked (λ h. h) (stopped b))) }
 
       pub values_fold : {terms terms1 : Terms} {s s1 : S} {v w : V} {rest : List T}
           → FoldsValues of owned means H terms s (items v) (items w) rest terms1 s1 → rest ≡ []
-          → Folds owned means (IsPartBy (λ v. sequence_shape of (items v))) (tree_by (λ v. sequence_shape of (items v))) (Walks H) (Fails H unbuilt) terms s v (Ok w) terms1 s1
+          → Folds owned means (IsPartBy (λ v. sequence_shape of (items v))) (tree_by (λ v. sequence_shape of (items v))) (Walks H) (Fails H errors) terms s v (Ok w) terms1 s1
       values_fold {terms} {terms1} {v} {w} p empty =
           let split : items v ≡ p.front = p.split ∙ ap (λ r. p.front ++ r) empty ∙ append-nil p.front in
           let walked = rw (← split) at p.walked in
           record {
             extends = p.extends;
-            outcome = (p.is_owned, sequence-part terms1.rows (items w) p.are_values, rw (sequence-tree terms.rows (items v), sequence-tree terms1.rows (items w)) (at_node walked));
+            is_owned = p.is_owned;
+            outcome = (sequence-part terms1.rows (items w) p.are_values, rw (sequence-tree terms.rows (items v), sequence-tree terms1.rows (items w)) (at_node walked));
           }

@@ -12,7 +12,7 @@ use Rattle.tt_kinds.specs.declared.parts.Parts.{Parts}
 use Rattle.tt_kinds.specs.declared.parts.ListSort.{ListSort}
 use Rattle.tt_kinds.specs.declared.parts.ListSort.TheVariants as sorts
 use Rattle.tt_interner.specs.Rows.{Row}
-use Rattle.tt_fold.specs.Walk.{Hooks, Wanted, HasUnwanted, WalksItems, ItemsFail, items_failed, list_not_built, Walks, Fails, node_not_built, not_built, WalksAll, done, next, FailsAll, here, later, stopped, no_clause, WalksUnder, in_open, in_binder, FailsUnder, in_open_failed, in_enter_failed, in_under_failed, in_leave_failed, WalksInside, in_term, in_param, in_bound, InsideFails, in_term_failed, at_binder, at_node, enter_failed, under_failed, leave_failed, node_failed}
+use Rattle.tt_fold.specs.Walk.{Hooks, Errors, Wanted, HasUnwanted, WalksItems, ItemsFail, items_failed, list_not_built, Walks, Fails, node_not_built, not_built, WalksAll, done, next, FailsAll, here, later, stopped, no_clause, WalksUnder, in_open, in_binder, FailsUnder, in_open_failed, in_enter_failed, in_under_failed, in_leave_failed, WalksInside, in_term, in_param, in_bound, InsideFails, in_term_failed, at_binder, at_node, enter_failed, under_failed, leave_failed, node_failed}
 use Rattle.tt_fold.specs.Steps.{tree_in, vars_in}
 use Rattle.tt_fold.specs.Parts.{trees_in, binder_in, IsLeaf}
 use Rattle.tt_fold.proofs.PartLaws.{joined}
@@ -24,16 +24,16 @@ pub WalksAll-append : {M E : Type 0} {H : Hooks M E} {s s1 s2 : M} {ts us vs ws 
 WalksAll-append done b = b
 WalksAll-append (next a more) b = next a (WalksAll-append more b)
 
-module _ {M E : Type 0} {H : Hooks M E} {unbuilt : Tree Depth → E → Type 0} where
+module _ {M E : Type 0} {H : Hooks M E} {errors : Errors E} where
   pub FailsAll-append : {w : Wanted} {s s1 s2 : M} {ts us vs : Forest Depth} {e : E}
-      → WalksAll H s ts us s1 → (HasUnwanted w us → ⊥) → FailsAll H unbuilt w s1 vs e s2 → FailsAll H unbuilt w s (joined ts vs) e s2
+      → WalksAll H s ts us s1 → (HasUnwanted w us → ⊥) → FailsAll H errors w s1 vs e s2 → FailsAll H errors w s (joined ts vs) e s2
   FailsAll-append done fit b = b
   FailsAll-append {w} (next {u} {us} a more) fit b =
       later a (λ h. fit (first-unwanted w u us h)) (FailsAll-append more (λ h. fit (later-unwanted w u us h)) b)
 
   -- a failure in a list is one of a longer list
   pub FailsAll-before : {w : Wanted} {s s1 : M} {ts : Forest Depth} {e : E} (us : Forest Depth)
-      → FailsAll H unbuilt w s ts e s1 → FailsAll H unbuilt w s (joined ts us) e s1
+      → FailsAll H errors w s ts e s1 → FailsAll H errors w s (joined ts us) e s1
   FailsAll-before us (stopped b) = stopped b
   FailsAll-before us (here f) = here f
   FailsAll-before us (no_clause w bad b) = no_clause w bad b
@@ -58,9 +58,9 @@ module _ {M E : Type 0} {H : Hooks M E} (rows rows1 : List Row) (o : Sort) (q : 
       same_vars : Some (vars_in rows1 vars) ≡ Some (vars_in rows vars) → vars_in rows1 vars ≡ vars_in rows vars
       same_vars e = same_Some _ _ e
 
-pub fails_form : {M E : Type 0} {H : Hooks M E} {unbuilt : Tree Depth → E → Type 0} {s s1 : M} {e : E} (rows : List Row) (o : Sort) (f : Form (Label ℕ)) → IsInner f
-    → FailsUnder H unbuilt (binder_in rows (form_binder f)) s (trees_in rows (parts_shapes (form_parts f))) e s1
-    → InsideFails H unbuilt s (tree_in rows (form_shape o f)) e s1
+pub fails_form : {M E : Type 0} {H : Hooks M E} {errors : Errors E} {s s1 : M} {e : E} (rows : List Row) (o : Sort) (f : Form (Label ℕ)) → IsInner f
+    → FailsUnder H errors (binder_in rows (form_binder f)) s (trees_in rows (parts_shapes (form_parts f))) e s1
+    → InsideFails H errors s (tree_in rows (form_shape o f)) e s1
 unfolding fill
 fails_form rows o (param i name) is h = absurd is
 fails_form rows o (bound d e) is h = absurd is
@@ -92,8 +92,8 @@ walks_list sorts.Pats other w = rw (w.is_list, w.becomes) (at_node w.walked)
 walks_list sorts.Existentials other w = rw (w.is_list, w.becomes) (at_node w.walked)
 walks_list sorts.Clauses other w = absurd (other refl)
 
-pub fails_list : {M E : Type 0} {H : Hooks M E} {unbuilt : Tree Depth → E → Type 0} {s s1 : M} {t : Tree Depth} {e : E} (sort : ListSort) → (sort ≡ sorts.Clauses → ⊥)
-    → ItemsFail H unbuilt sort s t e s1 → Fails H unbuilt s t e s1
+pub fails_list : {M E : Type 0} {H : Hooks M E} {errors : Errors E} {s s1 : M} {t : Tree Depth} {e : E} (sort : ListSort) → (sort ≡ sorts.Clauses → ⊥)
+    → ItemsFail H errors sort s t e s1 → Fails H errors s t e s1
 fails_list sorts.Tys other (items_failed is d) = rw is (node_failed d)
 fails_list sorts.Consts other (items_failed is d) = rw is (node_failed d)
 fails_list sorts.Args other (items_failed is d) = rw is (node_failed d)
@@ -111,7 +111,7 @@ fails_list sorts.Clauses other (list_not_built is w fit b) = absurd (other refl)
 pub walks_clauses : {M E : Type 0} {H : Hooks M E} {s s1 : M} {t u : Tree Depth} → WalksItems H sorts.Clauses s t u s1 → WalksInside H s t u s1
 walks_clauses w = rw (w.is_list, w.becomes) (in_term w.walked w.fit)
 
-pub fails_clauses : {M E : Type 0} {H : Hooks M E} {unbuilt : Tree Depth → E → Type 0} {s s1 : M} {t : Tree Depth} {e : E}
-    → ItemsFail H unbuilt sorts.Clauses s t e s1 → InsideFails H unbuilt s t e s1
+pub fails_clauses : {M E : Type 0} {H : Hooks M E} {errors : Errors E} {s s1 : M} {t : Tree Depth} {e : E}
+    → ItemsFail H errors sorts.Clauses s t e s1 → InsideFails H errors s t e s1
 fails_clauses (items_failed is d) = rw is (in_term_failed d)
 fails_clauses (list_not_built is w fit b) = rw is (not_built (in_term w fit) b)

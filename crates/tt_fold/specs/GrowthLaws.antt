@@ -1,6 +1,6 @@
 -- What a fold stores is no symbol, and names stay where none comes.
-use Rattle.std.proofs.Common.{◌≡◌, ℕ, ◌<◌, Bool, false, cond, ◌&&◌, eqb, List, [], ◌∷◌, ◌++◌, length, refl, sym, ap, ◌∙◌, inl, inr, arith}
-use Rattle.tt_kinds.specs.Shape.{Sizes, name_of, fill, text_of}
+use Rattle.std.proofs.Common.{◌≡◌, ℕ, false, cond, ◌&&◌, eqb, List, [], ◌∷◌, ◌++◌, length, refl, ap, ◌∙◌, inl, inr}
+use Rattle.tt_kinds.specs.Shape.{name_of, fill, text_of}
 use Rattle.tt_kinds.specs.declared.table.Table.{Table}
 use Rattle.tt_kinds.specs.declared.table.Table.TheVariants.{Symbols}
 use Rattle.tt_kinds.specs.declared.parts.Kind.{Kind}
@@ -8,7 +8,7 @@ use Rattle.tt_kinds.specs.declared.parts.Kind.TheVariants as kind
 use Rattle.tt_kinds.specs.declared.parts.Child.{Child}
 use Rattle.tt_kinds.specs.declared.parts.ListSort.{ListSort}
 use Rattle.tt_kinds.specs.declared.parts.ListSort.TheVariants as sort
-use Rattle.tt_interner.specs.Rows.{Row, row_shape, kind_row, is_in, table, size, meaning, Grows}
+use Rattle.tt_interner.specs.Rows.{Row, row_shape, kind_row, is_in, table, size, meaning}
 use Rattle.tt_interner.specs.Stored.{Stores}
 use Rattle.tt_interner.specs.Children.{items_row}
 use Rattle.tt_interner.proofs.RowLaws.{table-other}

@@ -3,6 +3,7 @@ pub mod Counts
 pub mod Growth
 pub mod GrowthLaws
 pub mod Steps
+pub mod Still
 pub mod Stands
 pub mod Shift
 pub mod Parts

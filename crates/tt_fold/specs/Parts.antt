@@ -17,7 +17,7 @@ use Rattle.tt_interner.specs.Rows.{Row, size, meaning, age}
 use Rattle.tt_interner.specs.Stored.{Terms, Extends}
 use Rattle.tt_interner.specs.Children.{children_at}
 use Rattle.tt_visit.specs.Root.{hooked, table_root}
-use Rattle.tt_fold.specs.Walk.{Hooks, WalksAll, HasUnwanted, wanted_of, FailsAll}
+use Rattle.tt_fold.specs.Walk.{Hooks, Errors, WalksAll, HasUnwanted, wanted_of, FailsAll}
 use Rattle.tt_fold.specs.Counts.{Standing, stands}
 use Rattle.tt_fold.specs.Steps.{IsPartOf, tree_in, HasVars, vars_in}
 use Rattle.tt_fold.specs.declared.folder.Step.{Step}
@@ -138,13 +138,14 @@ pub record AreItems (sort : ListSort) (rows : Listed Row) (items : Listed Child)
 -- A fold took the children of the list of the terms, which make its tree, to a result with children to view, the terms to
 -- terms', and the folder's state s to s'.
 pub record FoldsItems {M E S V : Type 0} (view : V → Listed Child) (owned : Listed Row → S → Type 0) (means : Listed Row → S → M) (H : Hooks (Standing M) E)
-    (unbuilt : Tree Depth → E → Type 0) (terms : Terms) (s : S) (list : List) (r : Result V E) (terms' : Terms) (s' : S) : Type 0 where
+    (errors : Errors E) (terms : Terms) (s : S) (list : List) (r : Result V E) (terms' : Terms) (s' : S) : Type 0 where
   pub of_children : list_tree terms.rows list ≡ items_tree (list_sort list) (children_trees terms.rows (children_at terms.rows list))
   pub extends : Extends terms terms'
+  pub is_owned : owned terms'.rows s'
   pub outcome : MatchResult r
-      (λ items. owned terms'.rows s' × AreItems (list_sort list) terms'.rows (view items)
+      (λ items. AreItems (list_sort list) terms'.rows (view items)
       × WalksAll H (stands means terms s) (children_trees terms.rows (children_at terms.rows list)) (children_trees terms'.rows (view items)) (stands means terms' s'))
-      (λ e. FailsAll H unbuilt (wanted_of (list_sort list)) (stands means terms s) (children_trees terms.rows (children_at terms.rows list)) e (stands means terms' s'))
+      (λ e. FailsAll H errors (wanted_of (list_sort list)) (stands means terms s) (children_trees terms.rows (children_at terms.rows list)) e (stands means terms' s'))
 
 -- some values of the list were folded, from the terms and the state s to terms' and s', and gave the others; the rest is left
 pub record FoldsValues {M E S T : Type 0} (shape : T → Shape) (owned : Listed Row → S → Type 0) (means : Listed Row → S → M) (H : Hooks (Standing M) E)

@@ -17,7 +17,7 @@ use Rattle.tt_interner.specs.Rows.{Row, meaning}
 use Rattle.tt_interner.specs.Stored.{Counters, Terms, IsNoClauseList, IsUnbuilt}
 use Rattle.tt_fold.specs.Walk.{Hooks, keep, descend, Walks, Fails}
 use Rattle.tt_fold.specs.Counts.{Standing, keeps_counters}
-use Rattle.tt_fold.specs.Steps.{IsRefused}
+use Rattle.tt_fold.specs.Steps.{refusals_of}
 use Rattle.tt_fold.specs.Stands.{StandsIn}
 
 -- the variable's binder is none of the k around it, and it is no variable of a canonical query
@@ -171,4 +171,4 @@ module _ {F : Type 0} (step : F → RegionKind → ℕ → RegionKind → F → 
   abbrev pub RegionFoldersPlaceSome : Type 0
   RegionFoldersPlaceSome = (names : ℕ → Name) (f : F) (counters : Counters) (terms : Terms) (t : Tree Depth) (e : Refusal) (s' : Standing (Asking F)) →
       ((u : Tree Depth) → StandsIn u t → IsNoClauseList u → ⊥) →
-      Fails (keeps_counters region_hooks) (IsRefused terms) (just_made names f counters) t e s' → PlacesSome names terms f t e
+      Fails (keeps_counters region_hooks) (refusals_of terms) (just_made names f counters) t e s' → PlacesSome names terms f t e

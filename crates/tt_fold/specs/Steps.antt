@@ -1,14 +1,17 @@
 -- What the calls of a fold promise.
 use Rattle.std.specs.Prelude.{◌≡◌, ◌<◌, List, Result, MatchResult, ⊤}
 use Rattle.tt_index.specs.declared.refusal.Refusal.{Refusal}
+use Rattle.tt_index.specs.declared.refusal.Refusal.TheVariants.{NotAClause}
 use Rattle.tt_kinds.specs.Label.{Name, VarKind}
 use Rattle.tt_kinds.specs.Tree.{Depth, Tree}
 use Rattle.tt_kinds.specs.Shape.{Shape, IsPart, fill, vars_of}
+use Rattle.tt_kinds.specs.Kinds.{region_shape}
 use Rattle.tt_kinds.specs.declared.handle.BoundVarKinds.{BoundVarKinds}
+use Rattle.tt_kinds.specs.declared.region_kind.RegionKind.{RegionKind}
 use Rattle.tt_kinds.specs.declared.table.Table.TheVariants.{VarLists}
 use Rattle.tt_interner.specs.Rows.{Row, size, meaning}
 use Rattle.tt_interner.specs.Stored.{Terms, Extends, IsUnbuilt}
-use Rattle.tt_fold.specs.Walk.{Answer, replace, keep, descend}
+use Rattle.tt_fold.specs.Walk.{Answer, replace, keep, descend, Hooks, Errors}
 use Rattle.tt_fold.specs.Counts.{Standing, stands}
 use Rattle.tt_fold.specs.declared.folder.Step.{Step}
 use Rattle.tt_fold.specs.declared.folder.Step.TheVariants as step
@@ -53,9 +56,56 @@ OwnsStep shape rows step.Descend = ⊤
 abbrev pub IsErrorOfUnbuilt : {E : Type 0} → (Refusal → E → Type 0) → Terms → Tree Depth → E → Type 0
 IsErrorOfUnbuilt gives terms u e = (r : Refusal) × (gives r e × IsUnbuilt terms u r)
 
+-- what the errors say that refusals give
+abbrev pub errors_of : {E : Type 0} → (Refusal → E → Type 0) → Terms → Errors E
+errors_of gives terms = record { unbuilt = IsErrorOfUnbuilt gives terms; unwanted = gives NotAClause }
+
+-- the error is the refusal
+abbrev pub IsItself : Refusal → Refusal → Type 0
+IsItself r e = e ≡ r
+
+-- what refusals say that are errors
+abbrev pub refusals_of : Terms → Errors Refusal
+refusals_of terms = errors_of IsItself terms
+
 -- the refusal says that the tree is not built
 abbrev pub IsRefused : Terms → Tree Depth → Refusal → Type 0
-IsRefused terms = IsErrorOfUnbuilt (λ r e. e ≡ r) terms
+IsRefused terms = IsErrorOfUnbuilt IsItself terms
+
+-- A hook took the terms to terms' and the folder's state s to s', and answered r. `gives` says which error a refusal gives.
+module _ {M E S : Type 0} (means : List Row → S → M) (H : Hooks (Standing M) E) (gives : Refusal → E → Type 0) where
+  -- at a region
+  abbrev pub AnswersRegion : Terms → S → RegionKind → Result RegionKind E → Terms → S → Type 0
+  AnswersRegion terms s x r terms' s' = MatchResult r
+      (λ y. IsPartOf terms'.rows (region_shape y)
+      × H.on_region (stands means terms s) (tree_in terms.rows (region_shape x)) (tree_in terms'.rows (region_shape y)) (stands means terms' s'))
+      (λ e. H.region_fails (IsErrorOfUnbuilt gives terms') (stands means terms s) (tree_in terms.rows (region_shape x)) e (stands means terms' s'))
+
+  -- at a term, before what stands in it
+  abbrev pub AnswersTerm : {T : Type 0} → (T → Shape) → Terms → S → T → Result (Step T) E → Terms → S → Type 0
+  AnswersTerm shape terms s x r terms' s' = MatchResult r
+      (λ step. OwnsStep shape terms'.rows step
+      × H.on_term (stands means terms s) (tree_in terms.rows (shape x)) (answer_of shape terms'.rows step) (stands means terms' s'))
+      (λ e. H.term_fails (IsErrorOfUnbuilt gives terms') (stands means terms s) (tree_in terms.rows (shape x)) e (stands means terms' s'))
+
+  -- at the term x, after what stands in it: z is x with the results for what stands in it
+  abbrev pub RebuildsTerm : {T : Type 0} → (T → Shape) → Terms → S → T → T → Result T E → Terms → S → Type 0
+  RebuildsTerm shape terms s x z r terms' s' = MatchResult r
+      (λ y. IsPartOf terms'.rows (shape y)
+      × H.after_term (stands means terms s) (tree_in terms.rows (shape x)) (tree_in terms.rows (shape z)) (tree_in terms'.rows (shape y)) (stands means terms' s'))
+      (λ e. H.after_fails (IsErrorOfUnbuilt gives terms') (stands means terms s) (tree_in terms.rows (shape x)) (tree_in terms.rows (shape z)) e (stands means terms' s'))
+
+  -- before a binder's value
+  abbrev pub EntersBinder : {U : Type 0} → Terms → S → BoundVarKinds → Result U E → Terms → S → Type 0
+  EntersBinder terms s vars r terms' s' = MatchResult r
+      (λ _. H.enter (stands means terms s) (vars_in terms.rows vars) (stands means terms' s'))
+      (λ e. H.enter_fails (IsErrorOfUnbuilt gives terms') (stands means terms s) (vars_in terms.rows vars) e (stands means terms' s'))
+
+  -- after a binder's value
+  abbrev pub LeavesBinder : {U : Type 0} → Terms → S → BoundVarKinds → Result U E → Terms → S → Type 0
+  LeavesBinder terms s vars r terms' s' = MatchResult r
+      (λ _. H.leave (stands means terms s) (vars_in terms.rows vars) (stands means terms' s'))
+      (λ e. H.leave_fails (IsErrorOfUnbuilt gives terms') (stands means terms s) (vars_in terms.rows vars) e (stands means terms' s'))
 
 -- A call took the terms to terms' and the folder's state s to s', and answered r: what it says of an
 -- answer's value and of an error.
@@ -63,8 +113,9 @@ pub record Goes {M E S T : Type 0} (owned : List Row → S → Type 0) (means : 
     (good : List Row → T → Standing M → Standing M → Type 0) (fails : Standing M → E → Standing M → Type 0)
     (terms : Terms) (s : S) (r : Result T E) (terms' : Terms) (s' : S) : Type 0 where
   pub extends : Extends terms terms'
+  pub is_owned : owned terms'.rows s'
   pub outcome : MatchResult r
-      (λ y. owned terms'.rows s' × good terms'.rows y (stands means terms s) (stands means terms' s'))
+      (λ y. good terms'.rows y (stands means terms s) (stands means terms' s'))
       (λ e. fails (stands means terms s) e (stands means terms' s'))
 
 -- a fold took the value x of the terms to a result, the terms to terms', and the folder's state s to s'
@@ -73,7 +124,7 @@ pub record Folds {M E S T X : Type 0} (owned : List Row → S → Type 0) (means
     (walks : Standing M → X → X → Standing M → Type 0) (fails : Standing M → X → E → Standing M → Type 0)
     (terms : Terms) (s : S) (x : T) (r : Result T E) (terms' : Terms) (s' : S) : Type 0 where
   pub extends : Extends terms terms'
+  pub is_owned : owned terms'.rows s'
   pub outcome : MatchResult r
-      (λ y. owned terms'.rows s' × owns terms'.rows y
-      × walks (stands means terms s) (tree terms.rows x) (tree terms'.rows y) (stands means terms' s'))
+      (λ y. owns terms'.rows y × walks (stands means terms s) (tree terms.rows x) (tree terms'.rows y) (stands means terms' s'))
       (λ e. fails (stands means terms s) (tree terms.rows x) e (stands means terms' s'))

@@ -7,7 +7,6 @@ use Rattle.tt_kinds.specs.Kinds.{items_tree}
 use Rattle.tt_kinds.specs.declared.parts.ListSort.{ListSort}
 use Rattle.tt_kinds.specs.declared.parts.ListSort.TheVariants.{Clauses}
 use Rattle.tt_interner.specs.Clauses.{HasOther}
-use Rattle.tt_interner.specs.Stored.{IsNoClauseList}
 use Rattle.tt_visit.specs.Root.{a_region, hooked, unhooked, root}
 
 -- what a hook answers before a term's children
@@ -105,46 +104,58 @@ module _ {M E : Type 0} (H : Hooks M E) where
       next : {s s1 s' : M} {t u : Tree Depth} {ts us : Forest Depth}
           → Walks s t u s1 → WalksAll s1 ts us s' → WalksAll s (also t ts) (also u us) s'
 
--- The walk ends with an error and in a state. The error is that of a hook, or says that a tree was not built: then
--- `unbuilt u e` holds of the tree u that was to be stored, or of every tree where the memory for a list's items was refused,
--- or of every list of clauses with an item that is none, where such an item came of one.
-module _ {M E : Type 0} (H : Hooks M E) (unbuilt : Tree Depth → E → Type 0) where
+-- what a folder's errors may say
+pub record Errors (E : Type 0) : Type 1 where
+  -- the tree was not built
+  pub unbuilt : Tree Depth → E → Type 0
+  -- what came of an item is not what has to come
+  pub unwanted : E → Type 0
+
+-- The walk ends with an error and in a state. The error is that of a hook, or says that a tree was not built: the tree that was
+-- to be stored, or every tree where the memory for a list's items was refused. Or it says that no clause came of an item of a
+-- list of clauses.
+module _ {M E : Type 0} (H : Hooks M E) (errors : Errors E) where
   mutual
     pub data Fails : M → Tree Depth → E → M → Type 0 where
-      region_failed : {s s_end : M} {t : Tree Depth} {e : E} → IsRegion t → H.region_fails unbuilt s t e s_end → Fails s t e s_end
-      term_failed : {s s_end : M} {t : Tree Depth} {e : E} → IsTerm t → H.term_fails unbuilt s t e s_end → Fails s t e s_end
+      region_failed : {s s_end : M} {t : Tree Depth} {e : E} → IsRegion t → H.region_fails errors.unbuilt s t e s_end → Fails s t e s_end
+      term_failed : {s s_end : M} {t : Tree Depth} {e : E} → IsTerm t → H.term_fails errors.unbuilt s t e s_end → Fails s t e s_end
       descent_failed : {s s1 s_end : M} {t : Tree Depth} {e : E}
           → IsTerm t → H.on_term s t descend s1 → DescentFails s1 t e s_end → Fails s t e s_end
       passed_failed : {s s_end : M} {t : Tree Depth} {e : E} → IsPassed t → InsideFails s t e s_end → Fails s t e s_end
       enter_failed : {s s_end : M} {vs : List (VarKind Name)} {t : Tree Depth} {e : E}
-          → H.enter_fails unbuilt s vs e s_end → Fails s (binder vs t) e s_end
+          → H.enter_fails errors.unbuilt s vs e s_end → Fails s (binder vs t) e s_end
       under_failed : {s s1 s_end : M} {vs : List (VarKind Name)} {t : Tree Depth} {e : E}
           → H.enter s vs s1 → Fails s1 t e s_end → Fails s (binder vs t) e s_end
       leave_failed : {s s1 s2 s_end : M} {vs : List (VarKind Name)} {t u : Tree Depth} {e : E}
-          → H.enter s vs s1 → Walks H s1 t u s2 → H.leave_fails unbuilt s2 vs e s_end → Fails s (binder vs t) e s_end
+          → H.enter s vs s1 → Walks H s1 t u s2 → H.leave_fails errors.unbuilt s2 vs e s_end → Fails s (binder vs t) e s_end
       node_failed : {s s_end : M} {l : Label Name} {ts : Forest Depth} {e : E} → FailsAll any_trees s ts e s_end → Fails s (node l ts) e s_end
       node_not_built : {s s1 : M} {l : Label Name} {ts us : Forest Depth} {e : E}
-          → WalksAll H s ts us s1 → unbuilt (node l us) e → Fails s (node l ts) e s1
+          → WalksAll H s ts us s1 → errors.unbuilt (node l us) e → Fails s (node l ts) e s1
 
     -- the same for a term whose hook answered `descend`
     pub data DescentFails : M → Tree Depth → E → M → Type 0 where
       inside_failed : {s s_end : M} {t : Tree Depth} {e : E} → InsideFails s t e s_end → DescentFails s t e s_end
       after_failed : {s s1 s_end : M} {t u : Tree Depth} {e : E}
-          → WalksInside H s t u s1 → H.after_fails unbuilt s1 t u e s_end → DescentFails s t e s_end
+          → WalksInside H s t u s1 → H.after_fails errors.unbuilt s1 t u e s_end → DescentFails s t e s_end
 
     -- what stands in a term was not folded, or the term was not built again from it
     pub data InsideFails : M → Tree Depth → E → M → Type 0 where
       in_term_failed : {s s_end : M} {l : Label Name} {ts : Forest Depth} {e : E} → FailsAll (wanted_in l) s ts e s_end → InsideFails s (term l ts) e s_end
-      not_built : {s s1 : M} {t u : Tree Depth} {e : E} → WalksInside H s t u s1 → unbuilt u e → InsideFails s t e s1
+      not_built : {s s1 : M} {t u : Tree Depth} {e : E} → WalksInside H s t u s1 → errors.unbuilt u e → InsideFails s t e s1
 
     -- the same for trees in order: it goes on past a tree of which came what has to, and no further
     pub data FailsAll : Wanted → M → Forest Depth → E → M → Type 0 where
-      stopped : {w : Wanted} {s : M} {ts : Forest Depth} {e : E} → ((u : Tree Depth) → unbuilt u e) → FailsAll w s ts e s
+      stopped : {w : Wanted} {s : M} {ts : Forest Depth} {e : E} → ((u : Tree Depth) → errors.unbuilt u e) → FailsAll w s ts e s
       here : {w : Wanted} {s s_end : M} {t : Tree Depth} {ts : Forest Depth} {e : E} → Fails s t e s_end → FailsAll w s (also t ts) e s_end
       no_clause : {w : Wanted} {s s_end : M} {t u : Tree Depth} {ts : Forest Depth} {e : E}
-          → Walks H s t u s_end → HasUnwanted w (also u none) → ((v : Tree Depth) → IsNoClauseList v → unbuilt v e) → FailsAll w s (also t ts) e s_end
+          → Walks H s t u s_end → HasUnwanted w (also u none) → errors.unwanted e → FailsAll w s (also t ts) e s_end
       later : {w : Wanted} {s s1 s_end : M} {t u : Tree Depth} {ts : Forest Depth} {e : E}
           → Walks H s t u s1 → (HasUnwanted w (also u none) → ⊥) → FailsAll w s1 ts e s_end → FailsAll w s (also t ts) e s_end
+
+-- the same for a child: of one tree, and there is no failure where there is none
+module _ {M E : Type 0} (H : Hooks M E) (errors : Errors E) where
+  pub data ChildFails : M → Forest Depth → E → M → Type 0 where
+    child_failed : {s s_end : M} {t : Tree Depth} {e : E} → Fails H errors s t e s_end → ChildFails s (also t none) e s_end
 
 -- the walk of trees under a binder of the variables, if there is one
 module _ {M E : Type 0} (H : Hooks M E) where
@@ -154,15 +165,15 @@ module _ {M E : Type 0} (H : Hooks M E) where
         → H.enter s vs s1 → WalksAll H s1 ts us s2 → H.leave s2 vs s' → WalksUnder (Some vs) s ts us s'
 
 -- the same where it ends with an error
-module _ {M E : Type 0} (H : Hooks M E) (unbuilt : Tree Depth → E → Type 0) where
+module _ {M E : Type 0} (H : Hooks M E) (errors : Errors E) where
   pub data FailsUnder : Option (List (VarKind Name)) → M → Forest Depth → E → M → Type 0 where
-    in_open_failed : {s s_end : M} {ts : Forest Depth} {e : E} → FailsAll H unbuilt any_trees s ts e s_end → FailsUnder None s ts e s_end
+    in_open_failed : {s s_end : M} {ts : Forest Depth} {e : E} → FailsAll H errors any_trees s ts e s_end → FailsUnder None s ts e s_end
     in_enter_failed : {s s_end : M} {vs : List (VarKind Name)} {ts : Forest Depth} {e : E}
-        → H.enter_fails unbuilt s vs e s_end → FailsUnder (Some vs) s ts e s_end
+        → H.enter_fails errors.unbuilt s vs e s_end → FailsUnder (Some vs) s ts e s_end
     in_under_failed : {s s1 s_end : M} {vs : List (VarKind Name)} {ts : Forest Depth} {e : E}
-        → H.enter s vs s1 → FailsAll H unbuilt any_trees s1 ts e s_end → FailsUnder (Some vs) s ts e s_end
+        → H.enter s vs s1 → FailsAll H errors any_trees s1 ts e s_end → FailsUnder (Some vs) s ts e s_end
     in_leave_failed : {s s1 s2 s_end : M} {vs : List (VarKind Name)} {ts us : Forest Depth} {e : E}
-        → H.enter s vs s1 → WalksAll H s1 ts us s2 → H.leave_fails unbuilt s2 vs e s_end → FailsUnder (Some vs) s ts e s_end
+        → H.enter s vs s1 → WalksAll H s1 ts us s2 → H.leave_fails errors.unbuilt s2 vs e s_end → FailsUnder (Some vs) s ts e s_end
 
 -- the walk of a stored list's children, and the list of what came of them
 pub record WalksItems {M E : Type 0} (H : Hooks M E) (sort : ListSort) (s : M) (t u : Tree Depth) (s' : M) : Type 0 where
@@ -174,12 +185,12 @@ pub record WalksItems {M E : Type 0} (H : Hooks M E) (sort : ListSort) (s : M) (
   pub fit : HasUnwanted (wanted_of sort) results → ⊥
 
 -- the same where it ends with an error
-module _ {M E : Type 0} (H : Hooks M E) (unbuilt : Tree Depth → E → Type 0) (sort : ListSort) where
+module _ {M E : Type 0} (H : Hooks M E) (errors : Errors E) (sort : ListSort) where
   pub data ItemsFail : M → Tree Depth → E → M → Type 0 where
     items_failed : {s s_end : M} {t : Tree Depth} {ts : Forest Depth} {e : E}
-        → t ≡ items_tree sort ts → FailsAll H unbuilt (wanted_of sort) s ts e s_end → ItemsFail s t e s_end
+        → t ≡ items_tree sort ts → FailsAll H errors (wanted_of sort) s ts e s_end → ItemsFail s t e s_end
     list_not_built : {s s1 : M} {t : Tree Depth} {ts us : Forest Depth} {e : E}
-        → t ≡ items_tree sort ts → WalksAll H s ts us s1 → (HasUnwanted (wanted_of sort) us → ⊥) → unbuilt (items_tree sort us) e → ItemsFail s t e s1
+        → t ≡ items_tree sort ts → WalksAll H s ts us s1 → (HasUnwanted (wanted_of sort) us → ⊥) → errors.unbuilt (items_tree sort us) e → ItemsFail s t e s1
 
 -- the walk of a term, or of a value under a binder, without its own hooks
 module _ {M E : Type 0} (H : Hooks M E) where
@@ -188,7 +199,7 @@ module _ {M E : Type 0} (H : Hooks M E) where
     super_binder : {s s' : M} {vs : List (VarKind Name)} {t u : Tree Depth} → Walks H s t u s' → SuperWalks s (binder vs t) (binder vs u) s'
 
 -- the same where it ends with an error
-module _ {M E : Type 0} (H : Hooks M E) (unbuilt : Tree Depth → E → Type 0) where
+module _ {M E : Type 0} (H : Hooks M E) (errors : Errors E) where
   pub data SuperFails : M → Tree Depth → E → M → Type 0 where
-    super_term_failed : {s s_end : M} {t : Tree Depth} {e : E} → InsideFails H unbuilt s t e s_end → SuperFails s t e s_end
-    super_binder_failed : {s s_end : M} {vs : List (VarKind Name)} {t : Tree Depth} {e : E} → Fails H unbuilt s t e s_end → SuperFails s (binder vs t) e s_end
+    super_term_failed : {s s_end : M} {t : Tree Depth} {e : E} → InsideFails H errors s t e s_end → SuperFails s t e s_end
+    super_binder_failed : {s s_end : M} {vs : List (VarKind Name)} {t : Tree Depth} {e : E} → Fails H errors s t e s_end → SuperFails s (binder vs t) e s_end

@@ -1,14 +1,15 @@
 //! The trait under both traits of folders, so that one walk serves both.
 
-ghost use Rattle.std.specs.Prelude.{◌≡◌, List, MatchResult};
+ghost use Rattle.std.specs.Prelude.{◌≡◌, List};
 ghost use Rattle.tt_index.specs.declared.refusal.Refusal.{Refusal};
 ghost use Rattle.tt_kinds.specs.Kinds.{node_shape, region_shape};
+ghost use Rattle.tt_kinds.specs.Tree.{Depth, Tree};
 ghost use Rattle.tt_interner.specs.Rows.{Row};
 ghost use Rattle.tt_interner.specs.Stored.{Extends};
 ghost use Rattle.tt_fold.specs.Growth.{AddsTerms};
 ghost use Rattle.tt_fold.specs.Walk.{Hooks};
-ghost use Rattle.tt_fold.specs.Counts.{Standing, stands};
-ghost use Rattle.tt_fold.specs.Steps.{answer_of, Goes, HasVars, IsPartOf, IsErrorOfUnbuilt, tree_in, vars_in};
+ghost use Rattle.tt_fold.specs.Counts.{Standing};
+ghost use Rattle.tt_fold.specs.Steps.{answer_of, Goes, HasVars, IsPartOf, IsErrorOfUnbuilt, AnswersRegion, EntersBinder, LeavesBinder, tree_in};
 ghost use Rattle.tt_fold.specs.Parts.{HasHook, IsNodeFor, IsStepFor, node_tree};
 
 use crate::folder::{FallibleTypeFolder, Step, TypeFolder};
@@ -34,16 +35,19 @@ pub trait Core<M> {
 
     // What the hooks do.
     ghost hooks: { Hooks (Standing Self.Meaning) Self.Error };
+    // At which trees the hooks leave the terms as they are, among rows and in a state: at none, where a folder doesn't say.
+    ghost touches_nothing: { List Row → Self → Tree Depth → Type 0 } = { λ rows s t. ⊥ };
 
     /// At a region.
     fn core_region(&mut self, cx: &mut Interner, region: Region) -> Result<Region, Self::Error>
         requires owned { owned cx.old.rows self.old }
         requires region { IsPartOf cx.old.rows (region_shape region) }
         ensures extends { Extends cx.old cx.new }
-        ensures result { MatchResult
-            result
-            (λ r. owned cx.new.rows self.new × IsPartOf cx.new.rows (region_shape r) × hooks.on_region (stands meaning cx.old self.old) (tree_in cx.old.rows (region_shape region)) (tree_in cx.new.rows (region_shape r)) (stands meaning cx.new self.new))
-            (λ e. hooks.region_fails (IsErrorOfUnbuilt Self.Error.from_gives cx.new) (stands meaning cx.old self.old) (tree_in cx.old.rows (region_shape region)) e (stands meaning cx.new self.new)) };
+        ensures owned { owned cx.new.rows self.new }
+        ensures still { touches_nothing cx.old.rows self.old (tree_in cx.old.rows (region_shape region))
+            → cx.new ≡ cx.old }
+        ensures result { AnswersRegion meaning hooks Self.Error.from_gives
+            cx.old self.old region result cx.new self.new };
 
     /// At a stored term that has a hook, before what stands in it.
     #[inline(always)]
@@ -51,7 +55,8 @@ pub trait Core<M> {
         requires owned { owned cx.old.rows self.old }
         requires node { IsPartOf cx.old.rows (node_shape node) }
         requires hooked { HasHook node }
-        ensures { Goes owned meaning
+        ensures still { touches_nothing cx.old.rows self.old (node_tree cx.old.rows node) → cx.new ≡ cx.old }
+        ensures goes { Goes owned meaning
             (λ rows step s s'. IsStepFor node rows step × hooks.on_term s (node_tree cx.old.rows node) (answer_of node_shape rows step) s')
             (λ s e s'. hooks.term_fails (IsErrorOfUnbuilt Self.Error.from_gives cx.new) s (node_tree cx.old.rows node) e s')
             cx.old self.old result cx.new self.new };
@@ -79,20 +84,16 @@ pub trait Core<M> {
         requires owned { owned cx.old.rows self.old }
         requires vars { HasVars cx.old.rows vars }
         ensures extends { Extends cx.old cx.new }
-        ensures result { MatchResult
-            result
-            (λ _. owned cx.new.rows self.new × hooks.enter (stands meaning cx.old self.old) (vars_in cx.old.rows vars) (stands meaning cx.new self.new))
-            (λ e. hooks.enter_fails (IsErrorOfUnbuilt Self.Error.from_gives cx.new) (stands meaning cx.old self.old) (vars_in cx.old.rows vars) e (stands meaning cx.new self.new)) };
+        ensures owned { owned cx.new.rows self.new }
+        ensures result { EntersBinder meaning hooks Self.Error.from_gives cx.old self.old vars result cx.new self.new };
 
     /// After a binder's value.
     fn core_leave(&mut self, cx: &mut Interner, vars: BoundVarKinds) -> Result<(), Self::Error>
         requires owned { owned cx.old.rows self.old }
         requires vars { HasVars cx.old.rows vars }
         ensures extends { Extends cx.old cx.new }
-        ensures result { MatchResult
-            result
-            (λ _. owned cx.new.rows self.new × hooks.leave (stands meaning cx.old self.old) (vars_in cx.old.rows vars) (stands meaning cx.new self.new))
-            (λ e. hooks.leave_fails (IsErrorOfUnbuilt Self.Error.from_gives cx.new) (stands meaning cx.old self.old) (vars_in cx.old.rows vars) e (stands meaning cx.new self.new)) };
+        ensures owned { owned cx.new.rows self.new }
+        ensures result { LeavesBinder meaning hooks Self.Error.from_gives cx.old self.old vars result cx.new self.new };
 
     // New terms and lists change no meaning.
     ghost still_owned: { (old new : List Row) (s : Self) → AddsTerms old new → owned old s → owned new s };
@@ -116,6 +117,8 @@ impl<F: TypeFolder> Core<Plain> for F {
     ghost owned = { F.TypeFolder.owned };
 
     ghost hooks = { F.TypeFolder.hooks };
+
+    ghost touches_nothing = { F.TypeFolder.touches_nothing };
 
     fn core_region(&mut self, cx: &mut Interner, region: Region) -> Result<Region, Refusal> {
         self.fold_region(cx, region)
@@ -179,6 +182,8 @@ impl<F: FallibleTypeFolder> Core<Fallible> for F {
     ghost owned = { F.FallibleTypeFolder.owned };
 
     ghost hooks = { F.FallibleTypeFolder.hooks };
+
+    ghost touches_nothing = { F.FallibleTypeFolder.touches_nothing };
 
     fn core_region(&mut self, cx: &mut Interner, region: Region) -> Result<Region, F::Error> {
         self.try_fold_region(cx, region)

@@ -1,7 +1,8 @@
 //! Values that a folder can fold.
 
+ghost use Rattle.tt_fold.specs.Still.{StaysStill};
 ghost use Rattle.tt_fold.specs.Walk.{Fails, SuperFails, SuperWalks, Walks};
-ghost use Rattle.tt_fold.specs.Steps.{Folds, IsErrorOfUnbuilt, IsPartBy, IsRefused, tree_by};
+ghost use Rattle.tt_fold.specs.Steps.{Folds, IsPartBy, tree_by, errors_of, refusals_of};
 
 use crate::core_folder::{Core, Fallible, Plain};
 use crate::folder::{FallibleTypeFolder, TypeFolder};
@@ -17,8 +18,9 @@ pub trait TypeFoldable: TypeVisitable + Drop + Sized {
     fn fold_core<M, F: Core<M>>(self, cx: &mut Interner, folder: &mut F) -> Result<Self, F::Error>
         requires state { F.owned cx.old.rows folder.old }
         requires value { IsPartBy Self.shape cx.old.rows self }
-        ensures { Folds F.owned F.meaning (IsPartBy Self.shape) (tree_by Self.shape)
-            (Walks F.hooks) (Fails F.hooks (IsErrorOfUnbuilt F.Error.from_gives cx.new))
+        ensures still { StaysStill F.hooks F.touches_nothing F.meaning (Self.shape self) cx.old folder.old cx.new }
+        ensures folds { Folds F.owned F.meaning (IsPartBy Self.shape) (tree_by Self.shape)
+            (Walks F.hooks) (Fails F.hooks (errors_of F.Error.from_gives cx.new))
             cx.old folder.old self result cx.new folder.new };
 
     /// The value with what the folder answers in the places of its regions, types, constants, predicates and lists of clauses,
@@ -32,8 +34,9 @@ pub trait TypeFoldable: TypeVisitable + Drop + Sized {
     ) -> Result<Self, Refusal>
         requires state { F.owned cx.old.rows folder.old }
         requires value { IsPartBy Self.shape cx.old.rows self }
-        ensures { Folds F.owned F.meaning (IsPartBy Self.shape) (tree_by Self.shape)
-            (Walks F.hooks) (Fails F.hooks (IsRefused cx.new))
+        ensures still { StaysStill F.hooks F.touches_nothing F.meaning (Self.shape self) cx.old folder.old cx.new }
+        ensures folds { Folds F.owned F.meaning (IsPartBy Self.shape) (tree_by Self.shape)
+            (Walks F.hooks) (Fails F.hooks (refusals_of cx.new))
             cx.old folder.old self result cx.new folder.new }
     {
         self.fold_core::<Plain, F>(cx, folder)
@@ -47,8 +50,9 @@ pub trait TypeFoldable: TypeVisitable + Drop + Sized {
     ) -> Result<Self, F::Error>
         requires state { F.owned cx.old.rows folder.old }
         requires value { IsPartBy Self.shape cx.old.rows self }
-        ensures { Folds F.owned F.meaning (IsPartBy Self.shape) (tree_by Self.shape)
-            (Walks F.hooks) (Fails F.hooks (IsErrorOfUnbuilt F.Error.from_gives cx.new))
+        ensures still { StaysStill F.hooks F.touches_nothing F.meaning (Self.shape self) cx.old folder.old cx.new }
+        ensures folds { Folds F.owned F.meaning (IsPartBy Self.shape) (tree_by Self.shape)
+            (Walks F.hooks) (Fails F.hooks (errors_of F.Error.from_gives cx.new))
             cx.old folder.old self result cx.new folder.new }
     {
         self.fold_core::<Fallible, F>(cx, folder)
@@ -67,7 +71,7 @@ pub trait TypeSuperFoldable: TypeFoldable {
         requires state { F.owned cx.old.rows folder.old }
         requires value { IsPartBy Self.shape cx.old.rows self }
         ensures { Folds F.owned F.meaning (IsPartBy Self.shape) (tree_by Self.shape)
-            (SuperWalks F.hooks) (SuperFails F.hooks (IsErrorOfUnbuilt F.Error.from_gives cx.new))
+            (SuperWalks F.hooks) (SuperFails F.hooks (errors_of F.Error.from_gives cx.new))
             cx.old folder.old self result cx.new folder.new };
 
     /// The value with what stands in it folded, where the hooks at the value itself are not asked: those of a stored term, or those
@@ -80,7 +84,7 @@ pub trait TypeSuperFoldable: TypeFoldable {
         requires state { F.owned cx.old.rows folder.old }
         requires value { IsPartBy Self.shape cx.old.rows self }
         ensures { Folds F.owned F.meaning (IsPartBy Self.shape) (tree_by Self.shape)
-            (SuperWalks F.hooks) (SuperFails F.hooks (IsRefused cx.new))
+            (SuperWalks F.hooks) (SuperFails F.hooks (refusals_of cx.new))
             cx.old folder.old self result cx.new folder.new }
     {
         self.super_fold_core::<Plain, F>(cx, folder)
@@ -95,7 +99,7 @@ pub trait TypeSuperFoldable: TypeFoldable {
         requires state { F.owned cx.old.rows folder.old }
         requires value { IsPartBy Self.shape cx.old.rows self }
         ensures { Folds F.owned F.meaning (IsPartBy Self.shape) (tree_by Self.shape)
-            (SuperWalks F.hooks) (SuperFails F.hooks (IsErrorOfUnbuilt F.Error.from_gives cx.new))
+            (SuperWalks F.hooks) (SuperFails F.hooks (errors_of F.Error.from_gives cx.new))
             cx.old folder.old self result cx.new folder.new }
     {
         self.super_fold_core::<Fallible, F>(cx, folder)

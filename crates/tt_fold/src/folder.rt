@@ -1,14 +1,15 @@
 //! The traits of folders.
 
-ghost use Rattle.std.specs.Prelude.{◌≡◌, List, MatchResult};
+ghost use Rattle.std.specs.Prelude.{◌≡◌, List};
 ghost use Rattle.tt_index.specs.declared.refusal.Refusal.{Refusal};
 ghost use Rattle.tt_kinds.specs.Kinds.{clauses_shape, const_shape, predicate_shape, region_shape, ty_shape};
+ghost use Rattle.tt_kinds.specs.Tree.{Depth, Tree};
 ghost use Rattle.tt_interner.specs.Rows.{Row};
 ghost use Rattle.tt_interner.specs.Stored.{Extends};
 ghost use Rattle.tt_fold.specs.Growth.{AddsTerms};
 ghost use Rattle.tt_fold.specs.Walk.{Hooks};
-ghost use Rattle.tt_fold.specs.Counts.{Standing, stands};
-ghost use Rattle.tt_fold.specs.Steps.{answer_of, HasVars, IsPartOf, IsRefused, IsErrorOfUnbuilt, OwnsStep, tree_in, vars_in};
+ghost use Rattle.tt_fold.specs.Counts.{Standing};
+ghost use Rattle.tt_fold.specs.Steps.{HasVars, IsPartOf, AnswersRegion, AnswersTerm, RebuildsTerm, EntersBinder, LeavesBinder, IsItself, tree_in};
 
 use tt_index::Refusal;
 use tt_interner::Interner;
@@ -40,26 +41,27 @@ pub trait TypeFolder {
 
     // What the hooks do.
     ghost hooks: { Hooks (Standing Self.Meaning) Refusal };
+    // At which trees the hooks leave the terms as they are, among rows and in a state: at none, where a folder doesn't say.
+    ghost touches_nothing: { List Row → Self → Tree Depth → Type 0 } = { λ rows s t. ⊥ };
 
     /// What stands in the place of a region.
     fn fold_region(&mut self, cx: &mut Interner, region: Region) -> Result<Region, Refusal>
         requires owned { owned cx.old.rows self.old }
         requires region { IsPartOf cx.old.rows (region_shape region) }
         ensures extends { Extends cx.old cx.new }
-        ensures result { MatchResult
-            result
-            (λ r. owned cx.new.rows self.new × IsPartOf cx.new.rows (region_shape r) × hooks.on_region (stands meaning cx.old self.old) (tree_in cx.old.rows (region_shape region)) (tree_in cx.new.rows (region_shape r)) (stands meaning cx.new self.new))
-            (λ e. hooks.region_fails (IsRefused cx.new) (stands meaning cx.old self.old) (tree_in cx.old.rows (region_shape region)) e (stands meaning cx.new self.new)) };
+        ensures owned { owned cx.new.rows self.new }
+        ensures still { touches_nothing cx.old.rows self.old (tree_in cx.old.rows (region_shape region))
+            → cx.new ≡ cx.old }
+        ensures result { AnswersRegion meaning hooks IsItself cx.old self.old region result cx.new self.new };
 
     /// What to do at a type, before what stands in it.
     fn fold_ty(&mut self, cx: &mut Interner, ty: Ty) -> Result<Step<Ty>, Refusal>
         requires owned { owned cx.old.rows self.old }
         requires ty { IsPartOf cx.old.rows (ty_shape ty) }
         ensures extends { Extends cx.old cx.new }
-        ensures result { MatchResult
-            result
-            (λ step. owned cx.new.rows self.new × OwnsStep ty_shape cx.new.rows step × hooks.on_term (stands meaning cx.old self.old) (tree_in cx.old.rows (ty_shape ty)) (answer_of ty_shape cx.new.rows step) (stands meaning cx.new self.new))
-            (λ e. hooks.term_fails (IsRefused cx.new) (stands meaning cx.old self.old) (tree_in cx.old.rows (ty_shape ty)) e (stands meaning cx.new self.new)) };
+        ensures owned { owned cx.new.rows self.new }
+        ensures still { touches_nothing cx.old.rows self.old (tree_in cx.old.rows (ty_shape ty)) → cx.new ≡ cx.old }
+        ensures result { AnswersTerm meaning hooks IsItself ty_shape cx.old self.old ty result cx.new self.new };
 
     /// What stands in the place of a type that was entered: `rebuilt` is the type `before` with the results for what stands
     /// in it.
@@ -68,20 +70,20 @@ pub trait TypeFolder {
         requires before { IsPartOf cx.old.rows (ty_shape before) }
         requires rebuilt { IsPartOf cx.old.rows (ty_shape rebuilt) }
         ensures extends { Extends cx.old cx.new }
-        ensures result { MatchResult
-            result
-            (λ r. owned cx.new.rows self.new × IsPartOf cx.new.rows (ty_shape r) × hooks.after_term (stands meaning cx.old self.old) (tree_in cx.old.rows (ty_shape before)) (tree_in cx.old.rows (ty_shape rebuilt)) (tree_in cx.new.rows (ty_shape r)) (stands meaning cx.new self.new))
-            (λ e. hooks.after_fails (IsRefused cx.new) (stands meaning cx.old self.old) (tree_in cx.old.rows (ty_shape before)) (tree_in cx.old.rows (ty_shape rebuilt)) e (stands meaning cx.new self.new)) };
+        ensures owned { owned cx.new.rows self.new }
+        ensures result { RebuildsTerm meaning hooks IsItself ty_shape
+            cx.old self.old before rebuilt result cx.new self.new };
 
     /// What to do at a constant, before what stands in it.
     fn fold_const(&mut self, cx: &mut Interner, constant: Const) -> Result<Step<Const>, Refusal>
         requires owned { owned cx.old.rows self.old }
         requires constant { IsPartOf cx.old.rows (const_shape constant) }
         ensures extends { Extends cx.old cx.new }
-        ensures result { MatchResult
-            result
-            (λ step. owned cx.new.rows self.new × OwnsStep const_shape cx.new.rows step × hooks.on_term (stands meaning cx.old self.old) (tree_in cx.old.rows (const_shape constant)) (answer_of const_shape cx.new.rows step) (stands meaning cx.new self.new))
-            (λ e. hooks.term_fails (IsRefused cx.new) (stands meaning cx.old self.old) (tree_in cx.old.rows (const_shape constant)) e (stands meaning cx.new self.new)) };
+        ensures owned { owned cx.new.rows self.new }
+        ensures still { touches_nothing cx.old.rows self.old (tree_in cx.old.rows (const_shape constant))
+            → cx.new ≡ cx.old }
+        ensures result { AnswersTerm meaning hooks IsItself const_shape
+            cx.old self.old constant result cx.new self.new };
 
     /// What stands in the place of a constant that was entered, after what stands in it.
     fn after_const(
@@ -94,10 +96,9 @@ pub trait TypeFolder {
         requires before { IsPartOf cx.old.rows (const_shape before) }
         requires rebuilt { IsPartOf cx.old.rows (const_shape rebuilt) }
         ensures extends { Extends cx.old cx.new }
-        ensures result { MatchResult
-            result
-            (λ r. owned cx.new.rows self.new × IsPartOf cx.new.rows (const_shape r) × hooks.after_term (stands meaning cx.old self.old) (tree_in cx.old.rows (const_shape before)) (tree_in cx.old.rows (const_shape rebuilt)) (tree_in cx.new.rows (const_shape r)) (stands meaning cx.new self.new))
-            (λ e. hooks.after_fails (IsRefused cx.new) (stands meaning cx.old self.old) (tree_in cx.old.rows (const_shape before)) (tree_in cx.old.rows (const_shape rebuilt)) e (stands meaning cx.new self.new)) };
+        ensures owned { owned cx.new.rows self.new }
+        ensures result { RebuildsTerm meaning hooks IsItself const_shape
+            cx.old self.old before rebuilt result cx.new self.new };
 
     /// What to do at a predicate, before what stands in it. A clause is met here too.
     fn fold_predicate(
@@ -108,10 +109,11 @@ pub trait TypeFolder {
         requires owned { owned cx.old.rows self.old }
         requires predicate { IsPartOf cx.old.rows (predicate_shape predicate) }
         ensures extends { Extends cx.old cx.new }
-        ensures result { MatchResult
-            result
-            (λ step. owned cx.new.rows self.new × OwnsStep predicate_shape cx.new.rows step × hooks.on_term (stands meaning cx.old self.old) (tree_in cx.old.rows (predicate_shape predicate)) (answer_of predicate_shape cx.new.rows step) (stands meaning cx.new self.new))
-            (λ e. hooks.term_fails (IsRefused cx.new) (stands meaning cx.old self.old) (tree_in cx.old.rows (predicate_shape predicate)) e (stands meaning cx.new self.new)) };
+        ensures owned { owned cx.new.rows self.new }
+        ensures still { touches_nothing cx.old.rows self.old (tree_in cx.old.rows (predicate_shape predicate))
+            → cx.new ≡ cx.old }
+        ensures result { AnswersTerm meaning hooks IsItself predicate_shape
+            cx.old self.old predicate result cx.new self.new };
 
     /// What stands in the place of a predicate that was entered, after what stands in it.
     fn after_predicate(
@@ -124,10 +126,9 @@ pub trait TypeFolder {
         requires before { IsPartOf cx.old.rows (predicate_shape before) }
         requires rebuilt { IsPartOf cx.old.rows (predicate_shape rebuilt) }
         ensures extends { Extends cx.old cx.new }
-        ensures result { MatchResult
-            result
-            (λ r. owned cx.new.rows self.new × IsPartOf cx.new.rows (predicate_shape r) × hooks.after_term (stands meaning cx.old self.old) (tree_in cx.old.rows (predicate_shape before)) (tree_in cx.old.rows (predicate_shape rebuilt)) (tree_in cx.new.rows (predicate_shape r)) (stands meaning cx.new self.new))
-            (λ e. hooks.after_fails (IsRefused cx.new) (stands meaning cx.old self.old) (tree_in cx.old.rows (predicate_shape before)) (tree_in cx.old.rows (predicate_shape rebuilt)) e (stands meaning cx.new self.new)) };
+        ensures owned { owned cx.new.rows self.new }
+        ensures result { RebuildsTerm meaning hooks IsItself predicate_shape
+            cx.old self.old before rebuilt result cx.new self.new };
 
     /// What to do at a list of clauses, before the clauses.
     fn fold_clauses(
@@ -138,10 +139,11 @@ pub trait TypeFolder {
         requires owned { owned cx.old.rows self.old }
         requires clauses { IsPartOf cx.old.rows (clauses_shape clauses) }
         ensures extends { Extends cx.old cx.new }
-        ensures result { MatchResult
-            result
-            (λ step. owned cx.new.rows self.new × OwnsStep clauses_shape cx.new.rows step × hooks.on_term (stands meaning cx.old self.old) (tree_in cx.old.rows (clauses_shape clauses)) (answer_of clauses_shape cx.new.rows step) (stands meaning cx.new self.new))
-            (λ e. hooks.term_fails (IsRefused cx.new) (stands meaning cx.old self.old) (tree_in cx.old.rows (clauses_shape clauses)) e (stands meaning cx.new self.new)) };
+        ensures owned { owned cx.new.rows self.new }
+        ensures still { touches_nothing cx.old.rows self.old (tree_in cx.old.rows (clauses_shape clauses))
+            → cx.new ≡ cx.old }
+        ensures result { AnswersTerm meaning hooks IsItself clauses_shape
+            cx.old self.old clauses result cx.new self.new };
 
     /// What stands in the place of a list of clauses that was entered, after the clauses.
     fn after_clauses(
@@ -154,30 +156,25 @@ pub trait TypeFolder {
         requires before { IsPartOf cx.old.rows (clauses_shape before) }
         requires rebuilt { IsPartOf cx.old.rows (clauses_shape rebuilt) }
         ensures extends { Extends cx.old cx.new }
-        ensures result { MatchResult
-            result
-            (λ r. owned cx.new.rows self.new × IsPartOf cx.new.rows (clauses_shape r) × hooks.after_term (stands meaning cx.old self.old) (tree_in cx.old.rows (clauses_shape before)) (tree_in cx.old.rows (clauses_shape rebuilt)) (tree_in cx.new.rows (clauses_shape r)) (stands meaning cx.new self.new))
-            (λ e. hooks.after_fails (IsRefused cx.new) (stands meaning cx.old self.old) (tree_in cx.old.rows (clauses_shape before)) (tree_in cx.old.rows (clauses_shape rebuilt)) e (stands meaning cx.new self.new)) };
+        ensures owned { owned cx.new.rows self.new }
+        ensures result { RebuildsTerm meaning hooks IsItself clauses_shape
+            cx.old self.old before rebuilt result cx.new self.new };
 
     /// Comes before a binder's value.
     fn fold_binder(&mut self, cx: &mut Interner, vars: BoundVarKinds) -> Result<(), Refusal>
         requires owned { owned cx.old.rows self.old }
         requires vars { HasVars cx.old.rows vars }
         ensures extends { Extends cx.old cx.new }
-        ensures result { MatchResult
-            result
-            (λ _. owned cx.new.rows self.new × hooks.enter (stands meaning cx.old self.old) (vars_in cx.old.rows vars) (stands meaning cx.new self.new))
-            (λ e. hooks.enter_fails (IsRefused cx.new) (stands meaning cx.old self.old) (vars_in cx.old.rows vars) e (stands meaning cx.new self.new)) };
+        ensures owned { owned cx.new.rows self.new }
+        ensures result { EntersBinder meaning hooks IsItself cx.old self.old vars result cx.new self.new };
 
     /// Comes after a binder's value.
     fn after_binder(&mut self, cx: &mut Interner, vars: BoundVarKinds) -> Result<(), Refusal>
         requires owned { owned cx.old.rows self.old }
         requires vars { HasVars cx.old.rows vars }
         ensures extends { Extends cx.old cx.new }
-        ensures result { MatchResult
-            result
-            (λ _. owned cx.new.rows self.new × hooks.leave (stands meaning cx.old self.old) (vars_in cx.old.rows vars) (stands meaning cx.new self.new))
-            (λ e. hooks.leave_fails (IsRefused cx.new) (stands meaning cx.old self.old) (vars_in cx.old.rows vars) e (stands meaning cx.new self.new)) };
+        ensures owned { owned cx.new.rows self.new }
+        ensures result { LeavesBinder meaning hooks IsItself cx.old self.old vars result cx.new self.new };
 
     // New terms and lists change no meaning.
     ghost still_owned: { (old new : List Row) (s : Self) → AddsTerms old new → owned old s → owned new s };
@@ -199,26 +196,29 @@ pub trait FallibleTypeFolder {
 
     // What the hooks do.
     ghost hooks: { Hooks (Standing Self.Meaning) Self.Error };
+    // At which trees the hooks leave the terms as they are, among rows and in a state: at none, where a folder doesn't say.
+    ghost touches_nothing: { List Row → Self → Tree Depth → Type 0 } = { λ rows s t. ⊥ };
 
     /// What stands in the place of a region.
     fn try_fold_region(&mut self, cx: &mut Interner, region: Region) -> Result<Region, Self::Error>
         requires owned { owned cx.old.rows self.old }
         requires region { IsPartOf cx.old.rows (region_shape region) }
         ensures extends { Extends cx.old cx.new }
-        ensures result { MatchResult
-            result
-            (λ r. owned cx.new.rows self.new × IsPartOf cx.new.rows (region_shape r) × hooks.on_region (stands meaning cx.old self.old) (tree_in cx.old.rows (region_shape region)) (tree_in cx.new.rows (region_shape r)) (stands meaning cx.new self.new))
-            (λ e. hooks.region_fails (IsErrorOfUnbuilt Self.Error.from_gives cx.new) (stands meaning cx.old self.old) (tree_in cx.old.rows (region_shape region)) e (stands meaning cx.new self.new)) };
+        ensures owned { owned cx.new.rows self.new }
+        ensures still { touches_nothing cx.old.rows self.old (tree_in cx.old.rows (region_shape region))
+            → cx.new ≡ cx.old }
+        ensures result { AnswersRegion meaning hooks Self.Error.from_gives
+            cx.old self.old region result cx.new self.new };
 
     /// What to do at a type, before what stands in it.
     fn try_fold_ty(&mut self, cx: &mut Interner, ty: Ty) -> Result<Step<Ty>, Self::Error>
         requires owned { owned cx.old.rows self.old }
         requires ty { IsPartOf cx.old.rows (ty_shape ty) }
         ensures extends { Extends cx.old cx.new }
-        ensures result { MatchResult
-            result
-            (λ step. owned cx.new.rows self.new × OwnsStep ty_shape cx.new.rows step × hooks.on_term (stands meaning cx.old self.old) (tree_in cx.old.rows (ty_shape ty)) (answer_of ty_shape cx.new.rows step) (stands meaning cx.new self.new))
-            (λ e. hooks.term_fails (IsErrorOfUnbuilt Self.Error.from_gives cx.new) (stands meaning cx.old self.old) (tree_in cx.old.rows (ty_shape ty)) e (stands meaning cx.new self.new)) };
+        ensures owned { owned cx.new.rows self.new }
+        ensures still { touches_nothing cx.old.rows self.old (tree_in cx.old.rows (ty_shape ty)) → cx.new ≡ cx.old }
+        ensures result { AnswersTerm meaning hooks Self.Error.from_gives ty_shape
+            cx.old self.old ty result cx.new self.new };
 
     /// What stands in the place of a type that was entered: `rebuilt` is the type `before` with the results for what stands
     /// in it.
@@ -227,10 +227,9 @@ pub trait FallibleTypeFolder {
         requires before { IsPartOf cx.old.rows (ty_shape before) }
         requires rebuilt { IsPartOf cx.old.rows (ty_shape rebuilt) }
         ensures extends { Extends cx.old cx.new }
-        ensures result { MatchResult
-            result
-            (λ r. owned cx.new.rows self.new × IsPartOf cx.new.rows (ty_shape r) × hooks.after_term (stands meaning cx.old self.old) (tree_in cx.old.rows (ty_shape before)) (tree_in cx.old.rows (ty_shape rebuilt)) (tree_in cx.new.rows (ty_shape r)) (stands meaning cx.new self.new))
-            (λ e. hooks.after_fails (IsErrorOfUnbuilt Self.Error.from_gives cx.new) (stands meaning cx.old self.old) (tree_in cx.old.rows (ty_shape before)) (tree_in cx.old.rows (ty_shape rebuilt)) e (stands meaning cx.new self.new)) };
+        ensures owned { owned cx.new.rows self.new }
+        ensures result { RebuildsTerm meaning hooks Self.Error.from_gives ty_shape
+            cx.old self.old before rebuilt result cx.new self.new };
 
     /// What to do at a constant, before what stands in it.
     fn try_fold_const(
@@ -241,10 +240,11 @@ pub trait FallibleTypeFolder {
         requires owned { owned cx.old.rows self.old }
         requires constant { IsPartOf cx.old.rows (const_shape constant) }
         ensures extends { Extends cx.old cx.new }
-        ensures result { MatchResult
-            result
-            (λ step. owned cx.new.rows self.new × OwnsStep const_shape cx.new.rows step × hooks.on_term (stands meaning cx.old self.old) (tree_in cx.old.rows (const_shape constant)) (answer_of const_shape cx.new.rows step) (stands meaning cx.new self.new))
-            (λ e. hooks.term_fails (IsErrorOfUnbuilt Self.Error.from_gives cx.new) (stands meaning cx.old self.old) (tree_in cx.old.rows (const_shape constant)) e (stands meaning cx.new self.new)) };
+        ensures owned { owned cx.new.rows self.new }
+        ensures still { touches_nothing cx.old.rows self.old (tree_in cx.old.rows (const_shape constant))
+            → cx.new ≡ cx.old }
+        ensures result { AnswersTerm meaning hooks Self.Error.from_gives const_shape
+            cx.old self.old constant result cx.new self.new };
 
     /// What stands in the place of a constant that was entered, after what stands in it.
     fn after_const(
@@ -257,10 +257,9 @@ pub trait FallibleTypeFolder {
         requires before { IsPartOf cx.old.rows (const_shape before) }
         requires rebuilt { IsPartOf cx.old.rows (const_shape rebuilt) }
         ensures extends { Extends cx.old cx.new }
-        ensures result { MatchResult
-            result
-            (λ r. owned cx.new.rows self.new × IsPartOf cx.new.rows (const_shape r) × hooks.after_term (stands meaning cx.old self.old) (tree_in cx.old.rows (const_shape before)) (tree_in cx.old.rows (const_shape rebuilt)) (tree_in cx.new.rows (const_shape r)) (stands meaning cx.new self.new))
-            (λ e. hooks.after_fails (IsErrorOfUnbuilt Self.Error.from_gives cx.new) (stands meaning cx.old self.old) (tree_in cx.old.rows (const_shape before)) (tree_in cx.old.rows (const_shape rebuilt)) e (stands meaning cx.new self.new)) };
+        ensures owned { owned cx.new.rows self.new }
+        ensures result { RebuildsTerm meaning hooks Self.Error.from_gives const_shape
+            cx.old self.old before rebuilt result cx.new self.new };
 
     /// What to do at a predicate, before what stands in it. A clause is met here too.
     fn try_fold_predicate(
@@ -271,10 +270,11 @@ pub trait FallibleTypeFolder {
         requires owned { owned cx.old.rows self.old }
         requires predicate { IsPartOf cx.old.rows (predicate_shape predicate) }
         ensures extends { Extends cx.old cx.new }
-        ensures result { MatchResult
-            result
-            (λ step. owned cx.new.rows self.new × OwnsStep predicate_shape cx.new.rows step × hooks.on_term (stands meaning cx.old self.old) (tree_in cx.old.rows (predicate_shape predicate)) (answer_of predicate_shape cx.new.rows step) (stands meaning cx.new self.new))
-            (λ e. hooks.term_fails (IsErrorOfUnbuilt Self.Error.from_gives cx.new) (stands meaning cx.old self.old) (tree_in cx.old.rows (predicate_shape predicate)) e (stands meaning cx.new self.new)) };
+        ensures owned { owned cx.new.rows self.new }
+        ensures still { touches_nothing cx.old.rows self.old (tree_in cx.old.rows (predicate_shape predicate))
+            → cx.new ≡ cx.old }
+        ensures result { AnswersTerm meaning hooks Self.Error.from_gives predicate_shape
+            cx.old self.old predicate result cx.new self.new };
 
     /// What stands in the place of a predicate that was entered, after what stands in it.
     fn after_predicate(
@@ -287,10 +287,9 @@ pub trait FallibleTypeFolder {
         requires before { IsPartOf cx.old.rows (predicate_shape before) }
         requires rebuilt { IsPartOf cx.old.rows (predicate_shape rebuilt) }
         ensures extends { Extends cx.old cx.new }
-        ensures result { MatchResult
-            result
-            (λ r. owned cx.new.rows self.new × IsPartOf cx.new.rows (predicate_shape r) × hooks.after_term (stands meaning cx.old self.old) (tree_in cx.old.rows (predicate_shape before)) (tree_in cx.old.rows (predicate_shape rebuilt)) (tree_in cx.new.rows (predicate_shape r)) (stands meaning cx.new self.new))
-            (λ e. hooks.after_fails (IsErrorOfUnbuilt Self.Error.from_gives cx.new) (stands meaning cx.old self.old) (tree_in cx.old.rows (predicate_shape before)) (tree_in cx.old.rows (predicate_shape rebuilt)) e (stands meaning cx.new self.new)) };
+        ensures owned { owned cx.new.rows self.new }
+        ensures result { RebuildsTerm meaning hooks Self.Error.from_gives predicate_shape
+            cx.old self.old before rebuilt result cx.new self.new };
 
     /// What to do at a list of clauses, before the clauses.
     fn try_fold_clauses(
@@ -301,10 +300,11 @@ pub trait FallibleTypeFolder {
         requires owned { owned cx.old.rows self.old }
         requires clauses { IsPartOf cx.old.rows (clauses_shape clauses) }
         ensures extends { Extends cx.old cx.new }
-        ensures result { MatchResult
-            result
-            (λ step. owned cx.new.rows self.new × OwnsStep clauses_shape cx.new.rows step × hooks.on_term (stands meaning cx.old self.old) (tree_in cx.old.rows (clauses_shape clauses)) (answer_of clauses_shape cx.new.rows step) (stands meaning cx.new self.new))
-            (λ e. hooks.term_fails (IsErrorOfUnbuilt Self.Error.from_gives cx.new) (stands meaning cx.old self.old) (tree_in cx.old.rows (clauses_shape clauses)) e (stands meaning cx.new self.new)) };
+        ensures owned { owned cx.new.rows self.new }
+        ensures still { touches_nothing cx.old.rows self.old (tree_in cx.old.rows (clauses_shape clauses))
+            → cx.new ≡ cx.old }
+        ensures result { AnswersTerm meaning hooks Self.Error.from_gives clauses_shape
+            cx.old self.old clauses result cx.new self.new };
 
     /// What stands in the place of a list of clauses that was entered, after the clauses.
     fn after_clauses(
@@ -317,30 +317,25 @@ pub trait FallibleTypeFolder {
         requires before { IsPartOf cx.old.rows (clauses_shape before) }
         requires rebuilt { IsPartOf cx.old.rows (clauses_shape rebuilt) }
         ensures extends { Extends cx.old cx.new }
-        ensures result { MatchResult
-            result
-            (λ r. owned cx.new.rows self.new × IsPartOf cx.new.rows (clauses_shape r) × hooks.after_term (stands meaning cx.old self.old) (tree_in cx.old.rows (clauses_shape before)) (tree_in cx.old.rows (clauses_shape rebuilt)) (tree_in cx.new.rows (clauses_shape r)) (stands meaning cx.new self.new))
-            (λ e. hooks.after_fails (IsErrorOfUnbuilt Self.Error.from_gives cx.new) (stands meaning cx.old self.old) (tree_in cx.old.rows (clauses_shape before)) (tree_in cx.old.rows (clauses_shape rebuilt)) e (stands meaning cx.new self.new)) };
+        ensures owned { owned cx.new.rows self.new }
+        ensures result { RebuildsTerm meaning hooks Self.Error.from_gives clauses_shape
+            cx.old self.old before rebuilt result cx.new self.new };
 
     /// Comes before a binder's value.
     fn try_fold_binder(&mut self, cx: &mut Interner, vars: BoundVarKinds) -> Result<(), Self::Error>
         requires owned { owned cx.old.rows self.old }
         requires vars { HasVars cx.old.rows vars }
         ensures extends { Extends cx.old cx.new }
-        ensures result { MatchResult
-            result
-            (λ _. owned cx.new.rows self.new × hooks.enter (stands meaning cx.old self.old) (vars_in cx.old.rows vars) (stands meaning cx.new self.new))
-            (λ e. hooks.enter_fails (IsErrorOfUnbuilt Self.Error.from_gives cx.new) (stands meaning cx.old self.old) (vars_in cx.old.rows vars) e (stands meaning cx.new self.new)) };
+        ensures owned { owned cx.new.rows self.new }
+        ensures result { EntersBinder meaning hooks Self.Error.from_gives cx.old self.old vars result cx.new self.new };
 
     /// Comes after a binder's value.
     fn after_binder(&mut self, cx: &mut Interner, vars: BoundVarKinds) -> Result<(), Self::Error>
         requires owned { owned cx.old.rows self.old }
         requires vars { HasVars cx.old.rows vars }
         ensures extends { Extends cx.old cx.new }
-        ensures result { MatchResult
-            result
-            (λ _. owned cx.new.rows self.new × hooks.leave (stands meaning cx.old self.old) (vars_in cx.old.rows vars) (stands meaning cx.new self.new))
-            (λ e. hooks.leave_fails (IsErrorOfUnbuilt Self.Error.from_gives cx.new) (stands meaning cx.old self.old) (vars_in cx.old.rows vars) e (stands meaning cx.new self.new)) };
+        ensures owned { owned cx.new.rows self.new }
+        ensures result { LeavesBinder meaning hooks Self.Error.from_gives cx.old self.old vars result cx.new self.new };
 
     // New terms and lists change no meaning.
     ghost still_owned: { (old new : List Row) (s : Self) → AddsTerms old new → owned old s → owned new s };

@@ -1,13 +1,13 @@
 //! Folders that answer regions alone.
 
-ghost use Rattle.std.specs.Prelude.{◌≡◌, List, MatchResult};
+ghost use Rattle.std.specs.Prelude.{◌≡◌, List};
 ghost use Rattle.tt_kinds.specs.Kinds.{region_shape};
 ghost use Rattle.tt_interner.specs.Rows.{Row};
 ghost use Rattle.tt_interner.specs.Stored.{Extends};
 ghost use Rattle.tt_fold.specs.Growth.{AddsTerms};
-ghost use Rattle.tt_fold.specs.Counts.{Standing, stands};
+ghost use Rattle.tt_fold.specs.Counts.{Standing};
 ghost use Rattle.tt_fold.specs.Regions.{only_regions, RegionHooks};
-ghost use Rattle.tt_fold.specs.Steps.{Folds, IsErrorOfUnbuilt, IsPartBy, IsPartOf, tree_by, tree_in};
+ghost use Rattle.tt_fold.specs.Steps.{Folds, IsPartBy, IsPartOf, tree_by, AnswersRegion, errors_of};
 ghost use Rattle.tt_fold.specs.Walk.{Fails, Walks};
 
 use crate::core_folder::Core;
@@ -40,10 +40,9 @@ pub trait RegionReplacer {
         requires owned { owned cx.old.rows self.old }
         requires region { IsPartOf cx.old.rows (region_shape region) }
         ensures extends { Extends cx.old cx.new }
-        ensures result { MatchResult
-            result
-            (λ r. owned cx.new.rows self.new × IsPartOf cx.new.rows (region_shape r) × hooks.on_region (stands meaning cx.old self.old) (tree_in cx.old.rows (region_shape region)) (tree_in cx.new.rows (region_shape r)) (stands meaning cx.new self.new))
-            (λ e. hooks.region_fails (IsErrorOfUnbuilt Self.Error.from_gives cx.new) (stands meaning cx.old self.old) (tree_in cx.old.rows (region_shape region)) e (stands meaning cx.new self.new)) };
+        ensures owned { owned cx.new.rows self.new }
+        ensures result { AnswersRegion meaning (only_regions hooks) Self.Error.from_gives
+            cx.old self.old region result cx.new self.new };
 
     // New terms and lists change no meaning.
     ghost still_owned: { (old new : List Row) (s : Self) → AddsTerms old new → owned old s → owned new s };
@@ -109,7 +108,7 @@ pub fn replace_regions<T: TypeFoldable, F: RegionReplacer>(
     requires state { F.owned cx.old.rows folder.old }
     requires value { IsPartBy T.shape cx.old.rows value }
     ensures { Folds F.owned F.meaning (IsPartBy T.shape) (tree_by T.shape)
-        (Walks (only_regions F.hooks)) (Fails (only_regions F.hooks) (IsErrorOfUnbuilt F.Error.from_gives cx.new))
+        (Walks (only_regions F.hooks)) (Fails (only_regions F.hooks) (errors_of F.Error.from_gives cx.new))
         cx.old folder.old value result cx.new folder.new }
 {
     value.fold_core::<Regions, F>(cx, folder)

@@ -9,8 +9,9 @@ ghost use Rattle.tt_kinds.specs.Kinds.{child_shapes, clauses_shape, list_shape, 
 ghost use Rattle.tt_kinds.specs.Parts.{child_sort, IsItem, list_sort, node_table};
 ghost use Rattle.tt_kinds.specs.declared.parts.Node.TheVariants as node;
 ghost use Rattle.tt_visit.specs.Root.{table_root, unhooked};
-ghost use Rattle.tt_fold.specs.Walk.{any_trees, clause_trees, Descends, DescentFails, Fails, FailsAll, FailsUnder, HasUnwanted, InsideFails, ItemsFail, wanted_of, Walks, WalksAll, WalksInside, WalksItems, WalksUnder};
-ghost use Rattle.tt_fold.specs.Steps.{Folds, HasVars, IsPartOf, IsErrorOfUnbuilt, vars_in};
+ghost use Rattle.tt_fold.specs.Walk.{any_trees, clause_trees, Descends, DescentFails, Fails, FailsAll, FailsUnder, HasUnwanted, InsideFails, ItemsFail, wanted_of, Walks, WalksAll, WalksInside, WalksItems, WalksUnder, ChildFails};
+ghost use Rattle.tt_fold.specs.Steps.{Folds, HasVars, IsPartOf, vars_in, errors_of};
+ghost use Rattle.tt_fold.specs.Still.{StaysStill};
 ghost use Rattle.tt_fold.specs.Parts.{ArePartsFor, ArePartsOf, binder_in, child_trees, FoldsItems, HasBinder, HasHook, IsChildFor, IsLeaf, IsListFor, IsNodeFor, list_tree, node_tree, parts_trees};
 
 use crate::core_folder::Core;
@@ -45,8 +46,9 @@ pub(crate) fn fold_node<M, F: Core<M>>(
 ) -> Result<Node, F::Error>
     requires owned { F.owned cx.old.rows folder.old }
     requires node { IsPartOf cx.old.rows (node_shape node) }
-    ensures { Folds F.owned F.meaning (IsNodeFor node) node_tree
-        (Walks F.hooks) (Fails F.hooks (IsErrorOfUnbuilt F.Error.from_gives cx.new))
+    ensures still { StaysStill F.hooks F.touches_nothing F.meaning (node_shape node) cx.old folder.old cx.new }
+    ensures folds { Folds F.owned F.meaning (IsNodeFor node) node_tree
+        (Walks F.hooks) (Fails F.hooks (errors_of F.Error.from_gives cx.new))
         cx.old folder.old node result cx.new folder.new }
 {
     if !is_hooked(node) {
@@ -68,7 +70,7 @@ fn descend<M, F: Core<M>>(cx: &mut Interner, folder: &mut F, node: Node) -> Resu
     requires node { IsPartOf cx.old.rows (node_shape node) }
     requires hooked { HasHook node }
     ensures { Folds F.owned F.meaning (IsNodeFor node) node_tree
-        (Descends F.hooks) (DescentFails F.hooks (IsErrorOfUnbuilt F.Error.from_gives cx.new))
+        (Descends F.hooks) (DescentFails F.hooks (errors_of F.Error.from_gives cx.new))
         cx.old folder.old node result cx.new folder.new }
 {
     let rebuilt = fold_inside::<M, F>(cx, folder, node)?;
@@ -86,7 +88,7 @@ pub(crate) fn fold_inside<M, F: Core<M>>(
     requires owned { F.owned cx.old.rows folder.old }
     requires node { IsPartOf cx.old.rows (node_shape node) }
     ensures { Folds F.owned F.meaning (IsNodeFor node) node_tree
-        (WalksInside F.hooks) (InsideFails F.hooks (IsErrorOfUnbuilt F.Error.from_gives cx.new))
+        (WalksInside F.hooks) (InsideFails F.hooks (errors_of F.Error.from_gives cx.new))
         cx.old folder.old node result cx.new folder.new }
 {
     if let Node::Clauses(clauses) = node {
@@ -111,7 +113,7 @@ fn fold_clauses<M, F: Core<M>>(
     requires owned { F.owned cx.old.rows folder.old }
     requires clauses { IsPartOf cx.old.rows (clauses_shape clauses) }
     ensures { Folds F.owned F.meaning (IsNodeFor (node.Clauses clauses)) node_tree
-        (WalksInside F.hooks) (InsideFails F.hooks (IsErrorOfUnbuilt F.Error.from_gives cx.new))
+        (WalksInside F.hooks) (InsideFails F.hooks (errors_of F.Error.from_gives cx.new))
         cx.old folder.old (node.Clauses clauses) result cx.new folder.new }
 {
     let list = fold_listed::<M, F>(cx, folder, List::Clauses(clauses))?;
@@ -151,7 +153,7 @@ pub(crate) fn fold_contents<M, F: Core<M>>(
     requires binder { HasBinder cx.old.rows binder }
     requires parts { ArePartsOf cx.old.rows (parts_shapes parts) }
     ensures { Folds F.owned F.meaning (ArePartsFor parts) parts_trees
-        (WalksUnder F.hooks (binder_in cx.old.rows binder)) (FailsUnder F.hooks (IsErrorOfUnbuilt F.Error.from_gives cx.new) (binder_in cx.old.rows binder))
+        (WalksUnder F.hooks (binder_in cx.old.rows binder)) (FailsUnder F.hooks (errors_of F.Error.from_gives cx.new) (binder_in cx.old.rows binder))
         cx.old folder.old parts result cx.new folder.new }
 {
     match binder {
@@ -172,7 +174,7 @@ fn fold_under<M, F: Core<M>>(
     requires vars { HasVars cx.old.rows vars }
     requires parts { ArePartsOf cx.old.rows (parts_shapes parts) }
     ensures { Folds F.owned F.meaning (ArePartsFor parts) parts_trees
-        (WalksUnder F.hooks (Some (vars_in cx.old.rows vars))) (FailsUnder F.hooks (IsErrorOfUnbuilt F.Error.from_gives cx.new) (Some (vars_in cx.old.rows vars)))
+        (WalksUnder F.hooks (Some (vars_in cx.old.rows vars))) (FailsUnder F.hooks (errors_of F.Error.from_gives cx.new) (Some (vars_in cx.old.rows vars)))
         cx.old folder.old parts result cx.new folder.new }
 {
     folder.core_enter(cx, vars)?;
@@ -192,7 +194,7 @@ pub(crate) fn fold_parts<M, F: Core<M>>(
     requires owned { F.owned cx.old.rows folder.old }
     requires parts { ArePartsOf cx.old.rows (parts_shapes parts) }
     ensures { Folds F.owned F.meaning (ArePartsFor parts) parts_trees
-        (WalksAll F.hooks) (FailsAll F.hooks (IsErrorOfUnbuilt F.Error.from_gives cx.new) any_trees)
+        (WalksAll F.hooks) (FailsAll F.hooks (errors_of F.Error.from_gives cx.new) any_trees)
         cx.old folder.old parts result cx.new folder.new }
 {
     let first = fold_child::<M, F>(cx, folder, parts.first)?;
@@ -211,7 +213,7 @@ pub(crate) fn fold_child<M, F: Core<M>>(
     requires owned { F.owned cx.old.rows folder.old }
     requires child { ArePartsOf cx.old.rows (child_shapes child) }
     ensures { Folds F.owned F.meaning (IsChildFor child) child_trees
-        (WalksAll F.hooks) (FailsAll F.hooks (IsErrorOfUnbuilt F.Error.from_gives cx.new) any_trees)
+        (WalksAll F.hooks) (ChildFails F.hooks (errors_of F.Error.from_gives cx.new))
         cx.old folder.old child result cx.new folder.new }
 {
     match child {
@@ -241,7 +243,7 @@ pub(crate) fn fold_list<M, F: Core<M>>(
     requires owned { F.owned cx.old.rows folder.old }
     requires list { IsPartOf cx.old.rows (list_shape list) }
     ensures { Folds F.owned F.meaning (IsListFor list) list_tree
-        (Walks F.hooks) (Fails F.hooks (IsErrorOfUnbuilt F.Error.from_gives cx.new))
+        (Walks F.hooks) (Fails F.hooks (errors_of F.Error.from_gives cx.new))
         cx.old folder.old list result cx.new folder.new }
 {
     match list {
@@ -265,7 +267,7 @@ fn fold_listed<M, F: Core<M>>(
     requires owned { F.owned cx.old.rows folder.old }
     requires list { IsPartOf cx.old.rows (list_shape list) }
     ensures { Folds F.owned F.meaning (IsListFor list) list_tree
-        (WalksItems F.hooks (list_sort list)) (ItemsFail F.hooks (IsErrorOfUnbuilt F.Error.from_gives cx.new) (list_sort list))
+        (WalksItems F.hooks (list_sort list)) (ItemsFail F.hooks (errors_of F.Error.from_gives cx.new) (list_sort list))
         cx.old folder.old list result cx.new folder.new }
 {
     let mut items = Items::new(cx.allocator());
@@ -287,7 +289,7 @@ fn fold_items<M, F: Core<M>>(
     requires owned { F.owned cx.old.rows folder.old }
     requires list { IsPartOf cx.old.rows (list_shape list) }
     requires empty { items.old.items ≡ [] }
-    ensures { FoldsItems (λ _. items.new.items) F.owned F.meaning F.hooks (IsErrorOfUnbuilt F.Error.from_gives cx.new) cx.old folder.old list result cx.new folder.new }
+    ensures { FoldsItems (λ _. items.new.items) F.owned F.meaning F.hooks (errors_of F.Error.from_gives cx.new) cx.old folder.old list result cx.new folder.new }
 {
     let count = cx.list_len(list);
     reserve(items, count)?;

@@ -5,13 +5,13 @@ use Rattle.tt_index.specs.declared.refusal.Refusal.{Refusal}
 use Rattle.tt_index.specs.declared.refusal.Refusal.TheVariants.{Memory, TableFull, GreatestIndex, NoArguments, ArgOutOfRange, ArgKind, RegionVariable, NotAClause, NoSuchAnswer}
 use Rattle.std.proofs.lemmas.Bool.{cases_lt}
 use Rattle.tt_index.specs.Greatest.{greatest}
-use Rattle.tt_kinds.specs.Label.{Name, region_sort, list_label}
+use Rattle.tt_kinds.specs.Label.{Name, Sort, region_sort, list_label, text_label}
 use Rattle.tt_kinds.specs.Tree as tree
 use Rattle.tt_kinds.specs.Tree.{Tree, Forest, Depth, node}
 use Rattle.tt_kinds.specs.Bound.{depth, IsBelowGreatest}
 use Rattle.tt_kinds.specs.RegionKind.{IsShallow}
 use Rattle.tt_kinds.specs.Shape as shape
-use Rattle.tt_kinds.specs.Shape.{Shape, Shapes, stored, fill, name_of, HasParts, IsPart, IsTooDeep, IsGreatest}
+use Rattle.tt_kinds.specs.Shape.{Shape, Shapes, Sizes, Meaning, stored, fill, name_of, text_of, HasParts, IsPart, IsTooDeep, IsGreatest}
 use Rattle.tt_kinds.specs.Kinds.{text_row_shape, region_shape}
 use Rattle.tt_kinds.specs.declared.bound.BoundVarIndexKind.{BoundVarIndexKind}
 use Rattle.tt_kinds.specs.declared.bound.BoundVarIndexKind.TheVariants as index
@@ -20,16 +20,18 @@ use Rattle.tt_kinds.specs.declared.region_kind.RegionKind.TheVariants.{ReBound}
 use Rattle.tt_kinds.specs.declared.region_kind.RegionKind.{RegionKind}
 use Rattle.tt_kinds.specs.declared.table.Table.{Table}
 use Rattle.tt_kinds.specs.declared.table.Table.TheVariants.{Types, Consts, Patterns, Predicates, ClauseLists, ArgLists, Symbols, Declarations}
-use Rattle.tt_interner.specs.Rows.{Row, row_table, row_shape, size, meaning, IsNew, AreRows}
+use Rattle.tt_interner.specs.Rows.{Row, text_row, row_table, row_shape, size, meaning, IsNew, AreRows}
 use Rattle.tt_interner.proofs.Growth.{size-grows}
 use Rattle.tt_interner.proofs.Trees.{row_within, Means-row, IsNew-row, distinct}
 use Rattle.tt_interner.proofs.Fill.{fill-one_row}
-use Rattle.tt_interner.proofs.ShapeLaws.{shape_one}
+use Rattle.tt_interner.proofs.ShapeLaws.{shape_one, text_of_row}
 use Rattle.tt_interner.specs.Stored.{Terms, Extends, Builds, IsCause}
 use Rattle.type_terms.specs.declared.run.answer.Answer.{Answer}
 use Rattle.type_terms.specs.declared.run.answer.Answer.TheVariants as answer
 use Rattle.type_terms.specs.declared.run.call.RegionNameCall.{RegionNameCall}
 use Rattle.type_terms.specs.declared.run.call.Call.{Call}
+use Rattle.type_terms.specs.declared.run.call.PatCall.{PatCall}
+use Rattle.type_terms.specs.declared.run.call.PatCall.TheVariants as pat
 use Rattle.type_terms.specs.CallForm as call_forms
 use Rattle.type_terms.specs.CallForm.{CallForm, Named, Item, a_list, items_positions, AreItemsTooDeep, form_positions}
 use Rattle.type_terms.specs.Told.{Told, term, refused, told, told_all, AreOwned, HasFullTable, IsStored, Setting, setting}
@@ -158,6 +160,53 @@ new-not-stored rows are r parts new s =
     let means = Means-row rows are (row_table r) s.number at.0 at.1 in
     let same = fill-one_row (size rows) (meaning rows) (distinct rows are) (row_shape at.0) (row_shape r) means.parts parts (sym means.tree ∙ s.means) in
     IsNew-row r rows new (row_table r) s.number at.0 at.1 (shape_one at.0 r same)
+
+-- the name in the shape of a parameter
+param-name : (f : Meaning) (size_of : Sizes) (sh : Shape) (s : Sort) (i : ℕ) (name : Name) → HasParts size_of sh → fill f sh ≡ tree.param s i name → (n : ℕ) × (n < size_of Symbols) × (name_of f n ≡ name)
+unfolding fill
+param-name f size_of (shape.param o j n) s i name h e = (n, h, (let same = e in cc))
+param-name f size_of (shape.bound o d y) s i name h e = absurd (cc)
+param-name f size_of (shape.region r) s i name h e = absurd (cc)
+param-name f size_of (shape.term l ss) s i name h e = absurd (cc)
+param-name f size_of (shape.node l ss) s i name h e = absurd (cc)
+param-name f size_of (shape.binder n b) s i name h e = absurd h
+param-name f size_of (shape.stored t n) s i name h e = absurd h
+
+-- the name of a stored parameter is stored
+param-named : (rows : List Row) → AreRows rows → (t : Table) (s : Sort) (i : ℕ) (name : Name) → IsStored rows t (tree.param s i name) → IsStored rows Symbols (node (text_label name) tree.none)
+param-named rows are t s i name kept =
+    let at = row_within rows t kept.number kept.within in
+    let means = Means-row rows are t kept.number at.0 at.1 in
+    let has = param-name (meaning rows) (size rows) (row_shape at.0) s i name means.parts (sym means.tree ∙ kept.means) in
+    let text = row_within rows Symbols has.0 has.1 in
+    let says = Means-row rows are Symbols has.0 text.0 text.1 in
+    let is : text_of (fill (meaning rows) (row_shape text.0)) ≡ name = ap text_of (sym says.tree) ∙ has.2 in
+    record {
+      number = has.0;
+      within = has.1;
+      means = says.tree ∙ text_of_row (meaning rows) text.0 says.same_table ∙ ap (λ bytes. node (text_label bytes) tree.none) is;
+    }
+
+-- so a parameter whose name is no text isn't
+unnamed-absent : (rows : List Row) → AreRows rows → (t : Table) (ids : ℕ → ℕ) (trees : ℕ → Tree Depth) (f : CallForm)
+    → build.LacksName rows f → call_forms.IsParameter f → IsStored rows t (call_forms.form_tree ids trees f) → ⊥
+unfolding fill IsPart
+unnamed-absent rows are t ids trees (call_forms.param s i name) lacks p kept = new-not-stored rows are (text_row name) (tt, tt) lacks (param-named rows are t s i name kept)
+unnamed-absent rows are t ids trees _ lacks p kept = absurd p
+
+-- what is there is refused only where a position tells no term
+pub there-refused : (start old new : Terms) → Extends start old → (answers : List Answer) → AreOwned start.rows answers → AreRows old.rows → (t : Table) (f : CallForm) (r : Refusal)
+    → (call_forms.IsOfHandles f → r ≡ NoSuchAnswer) → build.LacksName old.rows f → IsThere (setting start new) (told_all start.rows answers) t f → r ≡ NoSuchAnswer
+there-refused start old new x answers o are t f r handles lacks there = elim there.0 [
+  | inl h ↦ handles h
+  | inr p ↦ absurd (unnamed-absent old.rows are t _ _ f lacks p (there-stored start old new x answers o t f there))
+]
+
+-- no pattern is a parameter
+pub no_parameter : (k : PatCall) → call_forms.IsParameter (call_forms.pat_form k) → ⊥
+no_parameter (pat.Range x y) h = h
+no_parameter (pat.Or ps) h = h
+no_parameter pat.NotNull h = h
 
 -- the term of the kind that the call names is its answer
 module _ (start old new : Terms) (e : List Told) (c : Call) (form : CallForm) (row : Row) (h : IsKindOf old e form (row_shape row)) where

@@ -1,5 +1,5 @@
 -- The calls that erase regions, over plain variables.
-use Rattle.std.proofs.Common.{◌≡◌, inl, inr, Result, Ok, Err, ℕ, suc, ◌<◌, List, [], ◌∷◌, Some, refl, ap, sym, ◌∙◌, subst}
+use Rattle.std.proofs.Common.{◌≡◌, inl, inr, Result, Ok, Err, ℕ, suc, List, [], ◌∷◌, Some, refl, ap, sym, ◌∙◌, subst}
 use Rattle.std.specs.Prelude.{IfOk, IsSomeAnd, map}
 use Rattle.tt_index.specs.declared.refusal.Refusal.{Refusal}
 use Rattle.tt_index.specs.declared.refusal.Refusal.TheVariants.{Memory, TableFull, GreatestIndex, NoArguments, ArgOutOfRange, ArgKind, RegionVariable, NotAClause, NoSuchAnswer}
@@ -7,7 +7,7 @@ use Rattle.tt_kinds.specs.Label.{Name, erased_region}
 use Rattle.tt_kinds.specs.Tree as tree
 use Rattle.tt_kinds.specs.Tree.{Depth, Tree, Forest}
 use Rattle.tt_kinds.specs.Met.{Met, met, placed, placed_all}
-use Rattle.tt_kinds.specs.Reading.{read, read_all, Fits, FitsUnder, FitsUnder_all}
+use Rattle.tt_kinds.specs.Reading.{read, read_all, FitsUnder, FitsUnder_all}
 use Rattle.tt_kinds.specs.Shape.{fill, IsPart}
 use Rattle.tt_kinds.specs.declared.region_kind.RegionKind.{RegionKind}
 use Rattle.tt_kinds.specs.declared.region_kind.RegionKind.TheVariants.{ReBound, ReErased}
@@ -18,7 +18,7 @@ use Rattle.tt_kinds.specs.declared.table.Table.{Table}
 use Rattle.tt_interner.specs.Stored.{Terms}
 use Rattle.tt_fold.specs.RegionFolder.{HasName, AnswersEach, AnswersRegions, RegionCall, BindersFit, BindersFit_all, asked, answered, region_tree, AreMade, Places, PlacesSome, IsPlacingRefusal}
 use Rattle.type_terms.specs.declared.run.call.Call.TheVariants as call
-use Rattle.type_terms.specs.Told.{Told, term, HasFullTable, Setting, setting}
+use Rattle.type_terms.specs.Told.{Told, term, Setting, setting}
 use Rattle.type_terms.specs.Means.{term_at, tree_at, erased, IsAllowed, MayRefuse, want_of_memory, full_table, unfit}
 use Rattle.type_terms.proofs.BuildLaws.{IsBelowGreatest-or-not, not_both}
 use Rattle.type_terms.proofs.FoldLaws.{full-table}

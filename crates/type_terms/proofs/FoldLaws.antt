@@ -1,6 +1,6 @@
 -- The calls that fold terms, and the arguments of calls, over plain variables.
-use Rattle.std.proofs.Common.{◌≡◌, ℕ, false, inl, List, [], ◌∷◌, ◌++◌, Some, None, Option, Result, Ok, Err, refl, ap, sym, ◌∙◌, subst}
-use Rattle.std.specs.Prelude.{IsErrAnd, IsSomeAnd, ◌⊎◌}
+use Rattle.std.proofs.Common.{◌≡◌, ◌<◌, ℕ, false, inl, inr, List, [], ◌∷◌, ◌++◌, Some, None, Option, Result, Ok, Err, refl, ap, sym, ◌∙◌, subst}
+use Rattle.std.specs.Prelude.{IsErrAnd, IsSomeAnd, IsTrue, Bool, true, not, ◌⊎◌, ◌↔◌}
 use Rattle.std.specs.declared.alloc.Global.{Global}
 use Rattle.std.specs.declared.vec.Vec.{Vec}
 use Rattle.std.proofs.lemmas.List.{map-append}
@@ -12,7 +12,7 @@ use Rattle.tt_kinds.specs.Argument.{Argument, put, readings}
 use Rattle.tt_kinds.specs.Param.{holds_param}
 use Rattle.tt_kinds.specs.Reading.{read, move, outer_binder}
 use Rattle.tt_fold.specs.Shift.{IsShiftRefusal}
-use Rattle.tt_kinds.specs.Shape.{stored}
+use Rattle.tt_kinds.specs.Shape.{stored, fill, IsPart}
 use Rattle.tt_kinds.specs.Kinds.{arg_shape}
 use Rattle.tt_kinds.specs.declared.handle.Ty.{Ty}
 use Rattle.tt_kinds.specs.declared.handle.Const.{Const}
@@ -20,24 +20,28 @@ use Rattle.tt_kinds.specs.declared.region_kind.RegionKind.{RegionKind}
 use Rattle.tt_kinds.specs.declared.generic_arg.GenericArgKind.{GenericArgKind}
 use Rattle.tt_kinds.specs.declared.generic_arg.GenericArgKind.TheVariants as kind
 use Rattle.tt_kinds.specs.declared.table.Table.{Table}
-use Rattle.tt_kinds.specs.declared.table.Table.TheVariants.{Types, Consts}
-use Rattle.tt_interner.specs.Rows.{Row, row_table}
+use Rattle.tt_kinds.specs.declared.table.Table.TheVariants.{Types, Consts, Patterns, Predicates, ClauseLists, ArgLists}
+use Rattle.tt_interner.specs.Rows.{Row, row_table, size, meaning}
 use Rattle.tt_interner.specs.Stored as Stored
 use Rattle.tt_interner.specs.Stored.{Terms, Extends}
 use Rattle.tt_binder.specs.Arguments.{argument_of}
 use Rattle.tt_binder.specs.ArgumentLaws.{arguments-still}
 use Rattle.tt_binder.specs.Instance.{HasNoCause, IsPlain, IsReason, ComesBack}
+use Rattle.tt_binder.proofs.InstanceLaws.{type_back, clauses_back, instance_back}
 use Rattle.type_terms.specs.declared.run.answer.Answer.{Answer}
+use Rattle.type_terms.specs.declared.run.answer.Answer.TheVariants as answer
 use Rattle.type_terms.specs.declared.run.call.RegionCall.{RegionCall}
 use Rattle.type_terms.specs.declared.run.call.ArgCall.{ArgCall}
 use Rattle.type_terms.specs.declared.run.call.ArgCall.TheVariants as arg
 use Rattle.type_terms.specs.declared.run.call.Call.{Call}
 use Rattle.type_terms.specs.declared.run.call.Call.TheVariants as call
 use Rattle.type_terms.specs.CallForm.{Named, one, a_term, region_tree, IsRegionTooDeep, item_positions, items_positions, IsItemTooDeep, AreItemsTooDeep, arg_item, arg_items, args_ids}
-use Rattle.type_terms.specs.Told.{Told, term, told_all, HasFullTable, Setting, setting}
-use Rattle.type_terms.specs.Means.{Term, term_at, number_at, tree_at, positions, AreTerms, Suits, Tells, argument, arguments, IsAllowed, MayRefuse, want_of_memory, full_table, no_term, unfit, unsuited}
-use Rattle.type_terms.specs.Build.{IsUnbuilt, IsPartOf, IsRegionOf, IsArgumentOf, GivesArgument, AreArgumentsOf, GivesArguments}
+use Rattle.type_terms.specs.Told.{Told, term, told, told_all, AreOwned, HasFullTable, Setting, setting}
+use Rattle.type_terms.specs.Means as means
+use Rattle.type_terms.specs.Means.{IsUnchanged, AddsNothing, NamesTerms, too_deep, Term, term_at, number_at, tree_at, positions, AreTerms, Suits, Tells, argument, arguments, IsAllowed, MayRefuse, want_of_memory, full_table, no_term, unfit, unsuited}
+use Rattle.type_terms.specs.Build.{IsUnusable, IsUsable, IsAnswerAt, IsHandle, IsUnchangedAt, IsUnbuilt, IsPartOf, IsRegionOf, IsArgumentOf, GivesArgument, AreArgumentsOf, GivesArguments}
 use Rattle.type_terms.proofs.PartLaws.{AreTerms-append, all_placed-grow, items-none, items-more}
+use Rattle.type_terms.proofs.LookupLaws.{told-at, in_range-at, ty-handle, const-handle, pat-handle, predicate-handle, clauses-handle, args-handle}
 
 -- one argument
 pub type-argument : (terms : Terms) (e : List Told) (p : ℕ) (t : Ty) → IsPartOf terms e (one (a_term Types p)) (stored Types t.number)
@@ -136,7 +140,7 @@ module _ (e : List Told) (p : ℕ) (table : Table) (u : Tree Depth) (at : term_a
     named = AreTerms-append e (args_ids list.items) (items_positions (arg_items list.items)) ids items
 
     -- why an instantiation that builds is refused
-    inst-reason : (old new : Terms) (r : Refusal) → ((list.items ≡ []) × (holds_param (tree_at e p) ≡ false) → ⊥)
+    inst-reason : (old new : Terms) (r : Refusal) → (((list.items ≡ []) × (holds_param (tree_at e p) ≡ false)) ⊎ IsSomeAnd (term_at e p) IsUnchanged → ⊥)
         → IsReason new (arguments e list.items) (tree_at e p) r → MayRefuse (setting old new) e (call.Instantiate p list) r
     inst-reason old new Memory g h = want_of_memory (tt, g) refl
     inst-reason old new TableFull g h = full_table (tt, g) (full-table new h.0 h.2) refl
@@ -149,9 +153,12 @@ module _ (e : List Told) (p : ℕ) (table : Table) (u : Tree Depth) (at : term_a
     inst-reason old new NoSuchAnswer g h = unsuited (is_term, named) h
 
     pub inst-refused : (old new : Terms) (args : List (Argument Depth)) (r : Refusal) → args ≡ arguments e list.items → (ComesBack args u → ⊥)
-        → IsReason new args u r → MayRefuse (setting old new) e (call.Instantiate p list) r
-    inst-refused old new args r same g h =
-        inst-reason old new r (λ a. g (record { no_param = ap holds_param (sym tree-is) ∙ a.1; hides = inl (same ∙ ap (λ (cs : List ArgCall). arguments e cs) a.0) }))
+        → (IsUnchanged (record { table = table; tree = u }) → ComesBack args u) → IsReason new args u r → MayRefuse (setting old new) e (call.Instantiate p list) r
+    inst-refused old new args r same g back h =
+        inst-reason old new r (λ a. elim a [
+          | inl b ↦ g (record { no_param = ap holds_param (sym tree-is) ∙ b.1; hides = inl (same ∙ ap (λ (cs : List ArgCall). arguments e cs) b.0) })
+          | inr b ↦ g (back (subst (λ (o : Option Term). IsSomeAnd o IsUnchanged) at b))
+        ])
         (subst (λ (t : Tree Depth). IsReason new (arguments e list.items) t r) (sym tree-is)
         (subst (λ (ys : List (Argument Depth)). IsReason new ys u r) same h))
 
@@ -165,3 +172,50 @@ module _ (e : List Told) (p : ℕ) (table : Table) (u : Tree Depth) (at : term_a
           ∙ ap (λ (ys : List (Argument Depth)). put (readings ys) (read 0 u)) (sym same) ∙ sym plain),
       λ r c. none r (rw (tree-is, ← same) at c),
     )
+
+-- a term that stays whatever the arguments are comes back
+pub unchanged-back : (rows : List Row) (args : List (Argument Depth)) (table : Table) (n : ℕ) → n < size rows table
+    → IsUnchanged (record { table = table; tree = meaning rows table n }) → ComesBack args (meaning rows table n)
+unfolding fill IsPart
+unchanged-back rows args Types n w h = type_back rows args (stored Types n) n refl w h.1
+unchanged-back rows args Predicates n w h = clauses_back rows args (stored Predicates n) Predicates n tt refl w h.1
+unchanged-back rows args ClauseLists n w h = clauses_back rows args (stored ClauseLists n) ClauseLists n tt refl w h.1
+unchanged-back rows args _ n w h = absurd h.0
+
+-- why an instantiation adds nothing
+pub inst-adds : (s : Setting) (e : List Told) (p : ℕ) (list : Vec ArgCall Global) {P : Type 0} → AddsNothing s e (call.Instantiate p list)
+    → (list.items ≡ [] → P) → (IsSomeAnd (term_at e p) IsUnchanged → P) → P
+inst-adds s e p list a f g = elim a [ inl b ↦ f b.0 | inr b ↦ g b ]
+
+-- arguments that can't be used are a reason
+pub unusable-refused : (s : Setting) (e : List Told) (c : Call) (ns : List Named) (deep : Type 0) (r : Refusal) → (NamesTerms e c → AreTerms e ns) → (deep → means.IsTooDeep e c)
+    → IsUnusable e ns deep r → MayRefuse s e c r
+unusable-refused s e c ns deep NoSuchAnswer n d h = no_term (λ a. h (n a)) refl
+unusable-refused s e c ns deep GreatestIndex n d h = too_deep (d h) refl
+unusable-refused s e c ns deep _ n d h = absurd h
+
+-- the answer that is given back where no argument changes it
+module _ (terms : Terms) (earlier : List Answer) (p : ℕ) (list : Vec ArgCall Global) (o : AreOwned terms.rows earlier) (ids : AreTerms (told_all terms.rows earlier) (args_ids list.items))
+    (usable : IsUsable (told_all terms.rows earlier) (items_positions (arg_items list.items)) (AreItemsTooDeep (arg_items list.items))) where
+  unchanged-term : (a : Answer) (table : Table) (n : ℕ) → IsAnswerAt earlier p a → IsHandle a table n → IsUnchanged (record { table = table; tree = meaning terms.rows table n })
+      → IsAllowed (setting terms terms) (told_all terms.rows earlier) (call.Instantiate p list) (term table (meaning terms.rows table n))
+  unchanged-term a table n found is u =
+      let args = arguments (told_all terms.rows earlier) list.items in
+      let same = instance_back args (meaning terms.rows table n) (unchanged-back terms.rows args table n (in_range-at terms earlier p a table n found is o) u) in
+      inst-allowed (told_all terms.rows earlier) p table (meaning terms.rows table n) (told-at terms earlier p a table n found is terms.rows) list ids usable.named
+      (setting terms terms) args (meaning terms.rows table n) refl usable.shallow same.plain same.no_cause
+
+  pub unchanged-allowed : (a : Answer) → IsUnchangedAt terms.rows earlier p a → IsAllowed (setting terms terms) (told_all terms.rows earlier) (call.Instantiate p list) (told terms.rows a)
+  unchanged-allowed (answer.Ty h) u = unchanged-term (answer.Ty h) Types h.number u.at (ty-handle (answer.Ty h) h refl) u.unchanged
+  unchanged-allowed (answer.Const h) u = unchanged-term (answer.Const h) Consts h.number u.at (const-handle (answer.Const h) h refl) u.unchanged
+  unchanged-allowed (answer.Pat h) u = unchanged-term (answer.Pat h) Patterns h.number u.at (pat-handle (answer.Pat h) h refl) u.unchanged
+  unchanged-allowed (answer.Predicate h) u = unchanged-term (answer.Predicate h) Predicates h.number u.at (predicate-handle (answer.Predicate h) h refl) u.unchanged
+  unchanged-allowed (answer.Clauses h) u = unchanged-term (answer.Clauses h) ClauseLists h.number u.at (clauses-handle (answer.Clauses h) h refl) u.unchanged
+  unchanged-allowed (answer.Args h) u = unchanged-term (answer.Args h) ArgLists h.number u.at (args-handle (answer.Args h) h refl) u.unchanged
+  unchanged-allowed _ u = absurd u.unchanged
+
+-- the test that no parameter stands
+pub none-held : (b h : Bool) → IsTrue b ↔ (h ≡ true) → IsTrue (not b) ↔ (h ≡ false)
+none-held true h e = (λ x. absurd (cc), λ n. let held = e.0 refl in absurd (cc))
+none-held false true e = (λ x. let held = e.1 refl in absurd (cc), λ n. absurd (cc))
+none-held false false e = (λ x. refl, λ n. refl)

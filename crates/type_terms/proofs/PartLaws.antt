@@ -7,6 +7,7 @@ use Rattle.std.proofs.lemmas.List.{map-append}
 use Rattle.std.specs.declared.alloc.Global.{Global}
 use Rattle.std.specs.declared.vec.Vec.{Vec}
 use Rattle.tt_index.specs.declared.refusal.Refusal.{Refusal}
+use Rattle.tt_index.specs.declared.refusal.Refusal.TheVariants.{GreatestIndex, NoSuchAnswer}
 use Rattle.tt_kinds.specs.Tree.{Tree, Depth, Forest}
 use Rattle.tt_kinds.specs.Label.{Name, Label, RecordLabel, record_label, type_label, dynamic_type}
 use Rattle.tt_kinds.specs.Shape as shape
@@ -27,7 +28,7 @@ use Rattle.type_terms.specs.CallForm.{ExistentialForm, trait_object, existential
 use Rattle.type_terms.specs.Told.{Told, HasFullTable}
 use Rattle.type_terms.specs.Means.{number_at, tree_at, AreTerms}
 use Rattle.type_terms.specs.Build as build
-use Rattle.type_terms.specs.Build.{IsUnbuilt, IsPlaced, ArePlaced, IsItemOf, AreItemsOf, IsPartOf, ArePartsOf, GivesPart, GivesParts, GivesPlaced, GivesItems, IsRegionOf, GivesRegion, IsVariableListOf, IsKindOf, GivesKind, GivesRecord}
+use Rattle.type_terms.specs.Build.{IsUnbuilt, IsUnusable, IsUsable, IsPlaced, ArePlaced, IsItemOf, AreItemsOf, IsPartOf, ArePartsOf, GivesPart, GivesParts, GivesPlaced, GivesItems, IsRegionOf, GivesRegion, IsVariableListOf, IsKindOf, GivesKind, GivesRecord}
 
 -- positions of two lists
 pub AreTerms-append : (e : List Told) (ms ns : List Named) → AreTerms e ms → AreTerms e ns → AreTerms e (ms ++ ns)
@@ -128,6 +129,17 @@ module _ {X : Type 0} (names_of : X → List Named) where
       let same : w ≡ x = cc in subst (λ (y : X). AreTerms e (names_of y)) same (AreTerms-first e (names_of w) (all_positions names_of xs) k)
   named-among e (w ∷ xs) (suc i) x h k = named-among e xs i x h (AreTerms-second e (names_of w) (all_positions names_of xs) k)
 
+-- those of a list that need the greatest index
+module _ {X : Type 0} (deep_of : X → Type 0) where
+  shallow-append : (xs : List X) (x : X) → (AnyIsDeep deep_of xs → ⊥) → (deep_of x → ⊥) → AnyIsDeep deep_of (xs ++ x ∷ []) → ⊥
+  shallow-append [] x h k d = elim d [ inl y ↦ k y | inr y ↦ y ]
+  shallow-append (w ∷ xs) x h k d = elim d [ inl y ↦ h (inl y) | inr y ↦ shallow-append xs x (λ z. h (inr z)) k y ]
+
+  deep-among : (xs : List X) (i : ℕ) (x : X) → slice_get xs i ≡ Some x → deep_of x → AnyIsDeep deep_of xs
+  deep-among [] i x h d = absurd (cc)
+  deep-among (w ∷ xs) zero x h d = let same : x ≡ w = cc in inl (subst deep_of same d)
+  deep-among (w ∷ xs) (suc i) x h d = inr (deep-among xs i x h d)
+
 -- those of a list in order, and the values
 module _ {X T : Type 0} (tree_of : (ℕ → ℕ) → (ℕ → Tree Depth) → X → Tree Depth) (names_of : X → List Named) (deep_of : X → Type 0) (of_value : T → Shape) where
   parts-append : (size : Sizes) (ys : List T) (y : T) → AreParts size (item_shapes of_value ys) → IsPart size (of_value y)
@@ -148,10 +160,6 @@ module _ {X T : Type 0} (tree_of : (ℕ → ℕ) → (ℕ → Tree Depth) → X 
       let rest : fill_all f (item_shapes of_value ys) ≡ all_trees (tree_of ids at) xs = cc in
       rw (first, trees-append f ids at xs ys x y rest k) refl
 
-  shallow-append : (xs : List X) (x : X) → (AnyIsDeep deep_of xs → ⊥) → (deep_of x → ⊥) → AnyIsDeep deep_of (xs ++ x ∷ []) → ⊥
-  shallow-append [] x h k d = elim d [ inl y ↦ k y | inr y ↦ y ]
-  shallow-append (w ∷ xs) x h k d = elim d [ inl y ↦ h (inl y) | inr y ↦ shallow-append xs x (λ z. h (inr z)) k y ]
-
   pub all-none : (terms : Terms) (e : List Told) → ArePlaced terms e (all_trees (tree_of (number_at e) (tree_at e)) []) (all_positions names_of []) (AnyIsDeep deep_of []) (item_shapes of_value [])
   unfolding fill IsPart
   all-none terms e = record { parts = tt; means = refl; named = tt; shallow = λ d. d }
@@ -164,19 +172,14 @@ module _ {X T : Type 0} (tree_of : (ℕ → ℕ) → (ℕ → Tree Depth) → X 
     parts = parts-append (size terms.rows) ys y h.parts k.part;
     means = trees-append (meaning terms.rows) (number_at e) (tree_at e) xs ys x y h.means k.means;
     named = named-append names_of e xs x h.named k.named;
-    shallow = shallow-append xs x h.shallow k.shallow;
+    shallow = shallow-append deep_of xs x h.shallow k.shallow;
   }
-
-  deep-among : (xs : List X) (i : ℕ) (x : X) → slice_get xs i ≡ Some x → deep_of x → AnyIsDeep deep_of xs
-  deep-among [] i x h d = absurd (cc)
-  deep-among (w ∷ xs) zero x h d = let same : x ≡ w = cc in inl (subst deep_of same d)
-  deep-among (w ∷ xs) (suc i) x h d = inr (deep-among xs i x h d)
 
   -- a reason of one of them is one of them all
   pub unbuilt-one : (P : Type 0) (e : List Told) (xs : List X) (i : ℕ) (x : X) (r : Refusal) → slice_get xs i ≡ Some x
       → IsUnbuilt P e (names_of x) (deep_of x) r → IsUnbuilt P e (all_positions names_of xs) (AnyIsDeep deep_of xs) r
   unbuilt-one P e xs i x r h u =
-      IsUnbuilt-weaker P e e (names_of x) (all_positions names_of xs) (deep_of x) (AnyIsDeep deep_of xs) r (named-among names_of e xs i x h) (deep-among xs i x h) u
+      IsUnbuilt-weaker P e e (names_of x) (all_positions names_of xs) (deep_of x) (AnyIsDeep deep_of xs) r (named-among names_of e xs i x h) (deep-among deep_of xs i x h) u
 
 -- where one is in a list, its image is in the list of images
 pub get-mapped : {A B : Type 0} (f : A → B) (xs : List A) (i : ℕ) (x : A) → slice_get xs i ≡ Some x → slice_get (map f xs) i ≡ Some (f x)
@@ -199,6 +202,41 @@ module _ {C T : Type 0} (item : C → Item) (of_value : T → Shape) where
       → IsUnbuilt P e (item_positions (item c)) (IsItemTooDeep (item c)) r
       → IsUnbuilt P e (items_positions (map item cs)) (AreItemsTooDeep (map item cs)) r
   unbuilt-among P e cs i c r h u = unbuilt-one item_tree item_positions IsItemTooDeep of_value P e (map item cs) i (item c) r (get-mapped item cs i c h) u
+
+-- what is named can't be used, where a part of it can't
+pub unusable-weaker : (e : List Told) (ps qs : List Named) (deep deeper : Type 0) (r : Refusal)
+    → (AreTerms e qs → AreTerms e ps) → (deep → deeper) → IsUnusable e ps deep r → IsUnusable e qs deeper r
+unusable-weaker e ps qs deep deeper NoSuchAnswer n f h = λ a. h (n a)
+unusable-weaker e ps qs deep deeper GreatestIndex n f h = f h
+unusable-weaker e ps qs deep deeper _ n f h = absurd h
+
+-- a handle that isn't there
+pub unbuilt-unusable : (P : Type 0) (e : List Told) (ns : List Named) (deep : Type 0) (r : Refusal) → r ≡ NoSuchAnswer → IsUnbuilt P e ns deep r → IsUnusable e ns deep r
+unbuilt-unusable P e ns deep r is (build.no_memory i) = absurd (cc)
+unbuilt-unusable P e ns deep r is (build.no_row p i) = absurd (cc)
+unbuilt-unusable P e ns deep r is (build.no_term h i) = subst (λ (x : Refusal). IsUnusable e ns deep x) (sym i) h
+unbuilt-unusable P e ns deep r is (build.no_index h i) = absurd (cc)
+
+-- items of calls that can be used
+module _ {C : Type 0} (item : C → Item) where
+  pub usable-none : (e : List Told) → IsUsable e (items_positions (map item [])) (AreItemsTooDeep (map item []))
+  usable-none e = record { named = tt; shallow = λ d. d }
+
+  pub usable-more : (e : List Told) (cs : List C) (c : C) → IsUsable e (items_positions (map item cs)) (AreItemsTooDeep (map item cs))
+      → IsUsable e (item_positions (item c)) (IsItemTooDeep (item c)) → IsUsable e (items_positions (map item (cs ++ c ∷ []))) (AreItemsTooDeep (map item (cs ++ c ∷ [])))
+  usable-more e cs c h k =
+      subst (λ (is : List Item). IsUsable e (items_positions is) (AreItemsTooDeep is)) (sym (map-append item cs (c ∷ [])))
+      (record {
+        named = named-append item_positions e (map item cs) (item c) h.named k.named;
+        shallow = shallow-append IsItemTooDeep (map item cs) (item c) h.shallow k.shallow;
+      })
+
+  pub unusable-among : (e : List Told) (cs : List C) (i : ℕ) (c : C) (r : Refusal) → slice_get cs i ≡ Some c
+      → IsUnusable e (item_positions (item c)) (IsItemTooDeep (item c)) r → IsUnusable e (items_positions (map item cs)) (AreItemsTooDeep (map item cs)) r
+  unusable-among e cs i c r h u =
+      let here = get-mapped item cs i c h in
+      unusable-weaker e (item_positions (item c)) (items_positions (map item cs)) (IsItemTooDeep (item c)) (AreItemsTooDeep (map item cs)) r
+      (named-among item_positions e (map item cs) i (item c) here) (deep-among IsItemTooDeep (map item cs) i (item c) here) u
 
 -- a region
 pub region-part : (terms : Terms) (e : List Told) (c : RegionCall) (r : RegionKind) → IsRegionOf terms (region_tree (number_at e) c) (IsRegionTooDeep c) r

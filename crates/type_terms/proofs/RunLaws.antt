@@ -3,7 +3,7 @@ use Rattle.std.proofs.Common.{◌≡◌, ℕ, ◌<◌, ◌≤◌, List, [], ◌�
 use Rattle.std.proofs.lemmas.List.{map-append}
 use Rattle.tt_index.specs.declared.refusal.Refusal.{Refusal}
 use Rattle.tt_kinds.specs.Label.{Name}
-use Rattle.tt_kinds.specs.Shape.{Sizes, HasParts, text_of, name_of}
+use Rattle.tt_kinds.specs.Shape.{Sizes, HasParts, text_of}
 use Rattle.tt_kinds.specs.Tree.{Tree, Depth}
 use Rattle.tt_kinds.specs.declared.id.DefId.{DefId}
 use Rattle.tt_kinds.specs.declared.table.Table.{Table}
@@ -12,10 +12,10 @@ use Rattle.tt_kinds.specs.declared.declaration.Declaration.{Declaration}
 use Rattle.tt_kinds.specs.declared.declaration.DeclarationKind.{DeclarationKind}
 use Rattle.tt_kinds.specs.declared.declaration.DeclarationSort.{DeclarationSort}
 use Rattle.tt_kinds.specs.Declaration.{sort_of}
-use Rattle.tt_interner.specs.Rows.{Row, declared_row, text_row, table, row_table, row_shape, size, meaning, AreRows, Grows}
+use Rattle.tt_interner.specs.Rows.{Row, declared_row, text_row, table, row_table, row_shape, size, AreRows, Grows}
 use Rattle.tt_interner.specs.Declarations.{declared_at, declaration_of}
 use Rattle.tt_interner.specs.Stored.{Terms, Extends}
-use Rattle.tt_interner.proofs.Growth.{Extends-refl, Extends-trans, size-grows, in_range-grows, meaning-grows}
+use Rattle.tt_interner.proofs.Growth.{Extends-refl, size-grows, in_range-grows, meaning-grows}
 use Rattle.tt_interner.proofs.DeclarationLemmas.{declared_at-grows}
 use Rattle.tt_interner.specs.Env.{row_at}
 use Rattle.tt_interner.proofs.Trees.{Means-row}
@@ -25,7 +25,7 @@ use Rattle.type_terms.specs.declared.run.call.Call.TheVariants as call
 use Rattle.type_terms.specs.declared.run.answer.Answer.{Answer}
 use Rattle.type_terms.specs.declared.run.answer.Answer.TheVariants as answer
 use Rattle.type_terms.specs.Told.{Told, term, declared, truth, info, refused, bad, told, told_all, IsOwned, AreOwned, HasFullTable, IsStored, Setting, setting}
-use Rattle.type_terms.specs.Means.{AddsNothing, Grows as GrowsIn, MayRefuse, want_of_memory, full_table, no_term, too_deep, unfit, unsuited, GivesId, Declares, IsAllowed, Means}
+use Rattle.type_terms.specs.Means.{AddsNothing, Grows as GrowsIn, MayRefuse, want_of_memory, full_table, no_term, too_deep, unfit, unsuited, Declares, IsAllowed, Means}
 
 -- the name of a declaration's row is a text
 name-in-row : (bounds : Sizes) (q : Row) → row_table q ≡ Declarations → HasParts bounds (row_shape q) → (declaration_of q).name.number < bounds Symbols

@@ -1,5 +1,5 @@
 -- What the steps of a building call promise.
-use Rattle.std.specs.Prelude.{◌≡◌, ◌↔◌, ℕ, ◌<◌, List, [], ◌∷◌, ◌++◌, map, Result, IfOk, IfErr, Some, IsSome, IsSomeAnd}
+use Rattle.std.specs.Prelude.{◌≡◌, ◌↔◌, ℕ, ◌<◌, List, [], ◌∷◌, ◌++◌, map, Result, IfOk, IfErr, Some, IsSome, IsSomeAnd, ⊤}
 use Rattle.tt_index.specs.declared.refusal.Refusal.{Refusal}
 use Rattle.tt_index.specs.declared.refusal.Refusal.TheVariants.{Memory, TableFull, GreatestIndex, NoSuchAnswer}
 use Rattle.tt_kinds.specs.Label.{var_list_label}
@@ -18,7 +18,7 @@ use Rattle.tt_kinds.specs.declared.handle.BoundVarKinds.{BoundVarKinds}
 use Rattle.tt_kinds.specs.declared.declaration.DeclarationSort.{DeclarationSort}
 use Rattle.tt_kinds.specs.declared.table.Table.{Table}
 use Rattle.tt_kinds.specs.declared.table.Table.TheVariants.{VarLists}
-use Rattle.tt_interner.specs.Rows.{Row, size, meaning, AreClauses}
+use Rattle.tt_interner.specs.Rows.{Row, text_row, size, meaning, IsNew, AreClauses}
 use Rattle.tt_interner.specs.Stored.{Terms}
 use Rattle.type_terms.specs.declared.run.answer.Answer.{Answer}
 use Rattle.type_terms.specs.declared.run.answer.Answer.TheVariants as answer
@@ -31,9 +31,9 @@ use Rattle.tt_binder.specs.Arguments.{arguments as built_arguments}
 use Rattle.tt_kinds.specs.declared.generic_arg.GenericArgKind.{GenericArgKind}
 use Rattle.std.specs.declared.alloc.Global.{Global}
 use Rattle.std.specs.declared.vec.Vec.{Vec}
-use Rattle.type_terms.specs.CallForm.{of_id, CallForm, Named, Item, Part, called, variable_kind, item_tree, items_trees, part_tree, parts_trees, item_positions, items_positions, part_positions, parts_positions, IsItemTooDeep, AreItemsTooDeep, IsPartTooDeep, ArePartsTooDeep, form_positions, form_tree, IsFormTooDeep, arg_item, arg_items, clause_items, RecordCall, record_tree}
+use Rattle.type_terms.specs.CallForm.{of_id, CallForm, param, Named, Item, Part, called, variable_kind, item_tree, items_trees, part_tree, parts_trees, item_positions, items_positions, part_positions, parts_positions, IsItemTooDeep, AreItemsTooDeep, IsPartTooDeep, ArePartsTooDeep, form_positions, form_tree, IsFormTooDeep, arg_item, arg_items, clause_items, RecordCall, record_tree}
 use Rattle.type_terms.specs.Told.{Told, term, told, told_all, handle_table, IsOwned, AreOwned, HasFullTable, setting}
-use Rattle.type_terms.specs.Means.{as_term, term_at, as_id, id_at, number_at, Tells, tree_at, argument, arguments, AreTerms, IsAllowed, MayRefuse}
+use Rattle.type_terms.specs.Means.{IsUnchanged, as_term, term_at, as_id, id_at, number_at, Tells, tree_at, argument, arguments, AreTerms, IsAllowed, MayRefuse}
 
 -- the answer is the handle of this number in the table
 pub record IsHandle (a : Answer) (table : Table) (number : ℕ) : Type 0 where
@@ -74,6 +74,27 @@ pub data IsUnbuilt (full : Type 0) (earlier : List Told) (named : List Named) (d
   no_row : full → e ≡ TableFull → IsUnbuilt full earlier named deep e
   no_term : (AreTerms earlier named → ⊥) → e ≡ NoSuchAnswer → IsUnbuilt full earlier named deep e
   no_index : deep → e ≡ GreatestIndex → IsUnbuilt full earlier named deep e
+
+-- the name of a parameter that is built is no text of the rows
+abbrev pub LacksName : List Row → CallForm → Type 0
+LacksName rows (param s i name) = IsNew (text_row name) rows
+LacksName rows _ = ⊤
+
+-- what is named can't be used: a position tells nothing that is wanted there, or the greatest index is needed
+abbrev pub IsUnusable : List Told → List Named → Type 0 → Refusal → Type 0
+IsUnusable earlier names deep NoSuchAnswer = AreTerms earlier names → ⊥
+IsUnusable earlier names deep GreatestIndex = deep
+IsUnusable earlier names deep _ = ⊥
+
+-- what is named can be used: each position tells what is wanted there, and the greatest index isn't needed
+pub record IsUsable (earlier : List Told) (names : List Named) (deep : Type 0) : Type 0 where
+  pub named : AreTerms earlier names
+  pub shallow : deep → ⊥
+
+-- this is the answer at the position, and it is a term that stays whatever the arguments are
+pub record IsUnchangedAt (rows : List Row) (earlier : List Answer) (position : ℕ) (a : Answer) : Type 0 where
+  pub at : IsAnswerAt earlier position a
+  pub unchanged : IsSomeAnd (as_term (Some (told rows a))) IsUnchanged
 
 -- a bound region is called so, where these are the numbers of the ids at positions
 pub record IsNameOf (terms : Terms) (ids : ℕ → ℕ) (call : RegionNameCall) (k : BoundRegionKind) : Type 0 where

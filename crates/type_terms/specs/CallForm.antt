@@ -338,6 +338,11 @@ abbrev pub AreOfHandles : List Part → Type 0
 AreOfHandles [] = ⊤
 AreOfHandles (p ∷ ps) = IsOfHandle p × AreOfHandles ps
 
+-- what is built is a parameter
+abbrev pub IsParameter : CallForm → Type 0
+IsParameter (param s i name) = ⊤
+IsParameter _ = ⊥
+
 -- what is built has no parts but handles: no text, no region, no list and no binder
 abbrev pub IsOfHandles : CallForm → Type 0
 IsOfHandles (param s i name) = ⊥

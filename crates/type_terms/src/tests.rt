@@ -1,5 +1,6 @@
 //! What the contracts don't say: printed lines, reading and writing, and that calls succeed where memory is ample.
 
+mod asked_again;
 mod assumptions;
 mod bare;
 mod calls;
@@ -7,12 +8,16 @@ mod collect;
 mod declarations;
 mod env;
 mod errors;
+mod every_fold;
 mod every_kind;
+mod every_list;
 mod faults;
+mod full;
 mod kinds;
 mod library;
 mod orders;
 mod owned;
+mod queries;
 mod readme;
 mod regions;
 mod spelling;

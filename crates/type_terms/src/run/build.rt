@@ -1,6 +1,6 @@
 //! The building of terms.
 
-ghost use Rattle.std.specs.Prelude.{◌≡◌, IfErr, map, [], ◌∷◌, List};
+ghost use Rattle.std.specs.Prelude.{◌≡◌, IfErr, map, [], ◌∷◌, List, OnErr};
 ghost use Rattle.tt_index.specs.declared.refusal.Refusal.TheVariants.{NoSuchAnswer};
 ghost use Rattle.tt_kinds.specs.Tree as tree;
 ghost use Rattle.tt_kinds.specs.Label.{region_sort, type_sort, type_variable, type_label, placeholder_type, foreign_type, ref_type, array_type, pat_type, unsafe_binder_type, unsafe_binder_record, fn_ptr_type, fn_sig_tys_record, late_param_region, placeholder_region};
@@ -8,13 +8,13 @@ ghost use Rattle.tt_kinds.specs.Bound.{depth};
 ghost use Rattle.tt_kinds.specs.Shape.{IsGreatest};
 ghost use Rattle.tt_kinds.specs.Shape as shape;
 ghost use Rattle.tt_kinds.specs.Kinds.{ty_kind_shape, args_shape};
-ghost use Rattle.tt_interner.specs.Rows.{Row};
+ghost use Rattle.tt_interner.specs.Rows.{Row, text_row, IsNew};
 ghost use Rattle.tt_interner.specs.Stored.{Terms, Extends};
 ghost use Rattle.type_terms.specs.declared.run.call.Call.TheVariants.{Ty as BuildsTy};
 ghost use Rattle.type_terms.specs.CallForm.{IsOfHandles, ty_ids, ty_form, alias_of, param, plain, under, one, a_region, a_term, a_list, terms_at, args_part, item_type, called, ty_called, variable_kind, region_entry, region_tree, IsRegionTooDeep};
 ghost use Rattle.type_terms.specs.Told.{Told, told_all, AreOwned};
 ghost use Rattle.type_terms.specs.Means.{number_at, AreTerms};
-ghost use Rattle.type_terms.specs.Build.{GivesName, GivesVariable, GivesVariables, GivesRegion, GivesKind, Answers};
+ghost use Rattle.type_terms.specs.Build.{GivesName, GivesVariable, GivesVariables, GivesRegion, GivesKind, Answers, LacksName};
 
 use crate::run::answer::Answer;
 use crate::run::call::{
@@ -47,7 +47,10 @@ pub fn build_ty(cx: &mut Interner, earlier: &[Answer], call: &TyCall) -> Result<
             let ty = cx.mk_ty(kind)?;
             Ok(Answer::Ty(ty))
         }
-        Err(refusal) => Err(refusal),
+        Err(refusal) => {
+            cx.are_rows();
+            Err(refusal)
+        }
     }
 }
 
@@ -57,6 +60,7 @@ fn ty_kind(cx: &mut Interner, earlier: &[Answer], call: &TyCall) -> Result<TyKin
     ensures extends { Extends cx.old cx.new }
     ensures kind { GivesKind cx.new (told_all cx.old.rows earlier.now) (ty_form (number_at (told_all cx.old.rows earlier.now)) call.now) ty_kind_shape result }
     ensures handles { IfErr result (λ e. IsOfHandles (ty_form (number_at (told_all cx.old.rows earlier.now)) call.now) → e ≡ NoSuchAnswer) }
+    ensures named { OnErr result (LacksName cx.new.rows (ty_form (number_at (told_all cx.old.rows earlier.now)) call.now)) }
 {
     match call {
         TyCall::Bool => Ok(TyKind::Bool),
@@ -141,6 +145,7 @@ fn ty_name(earlier: &[Answer], name: BoundTyKindCall) -> BoundTyKind
 fn param_kind(cx: &mut Interner, index: u32, name: &str) -> Result<TyKind, Refusal>
     ensures extends { Extends cx.old cx.new }
     ensures kind { (earlier : List Told) → GivesKind cx.new earlier (param type_sort index name.now) ty_kind_shape result }
+    ensures named { OnErr result (IsNew (text_row name.now) cx.new.rows) }
 {
     let name = cx.symbol(name)?;
     Ok(TyKind::Param(ParamTy { index, name }))

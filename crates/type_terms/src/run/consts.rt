@@ -2,17 +2,18 @@
 
 ghost use Rattle.std.specs.declared.alloc.Global.{Global};
 ghost use Rattle.std.specs.declared.vec.Vec.{Vec};
-ghost use Rattle.std.specs.Prelude.{◌≡◌, IfErr, [], ◌∷◌, List};
+ghost use Rattle.std.specs.Prelude.{◌≡◌, IfErr, [], ◌∷◌, List, OnErr};
 ghost use Rattle.tt_index.specs.declared.refusal.Refusal.TheVariants.{NoSuchAnswer};
 ghost use Rattle.tt_kinds.specs.Label.{const_sort, const_label, leaf_const, branch_const};
 ghost use Rattle.tt_kinds.specs.Kinds.{const_kind_shape};
+ghost use Rattle.tt_interner.specs.Rows.{text_row, IsNew};
 ghost use Rattle.tt_interner.specs.Stored.{Extends};
 ghost use Rattle.type_terms.specs.declared.run.call.ArgCall.{ArgCall};
 ghost use Rattle.type_terms.specs.declared.run.call.Call.TheVariants.{Const as BuildsConst, Args as BuildsArgs};
 ghost use Rattle.type_terms.specs.CallForm.{IsOfHandles, args_ids, const_ids, const_form, value_form, param, plain, one, a_term, a_list, terms_at};
 ghost use Rattle.type_terms.specs.Told.{Told, told_all, AreOwned};
 ghost use Rattle.type_terms.specs.Means.{number_at, AreTerms};
-ghost use Rattle.type_terms.specs.Build.{GivesKind, Answers};
+ghost use Rattle.type_terms.specs.Build.{GivesKind, Answers, LacksName};
 
 use crate::run::answer::Answer;
 use crate::run::call::{ArgCall, ConstCall, ValTreeCall};
@@ -43,7 +44,10 @@ pub fn build_const(
             let constant = cx.mk_const(kind)?;
             Ok(Answer::Const(constant))
         }
-        Err(refusal) => Err(refusal),
+        Err(refusal) => {
+            cx.are_rows();
+            Err(refusal)
+        }
     }
 }
 
@@ -67,6 +71,7 @@ fn const_kind(cx: &mut Interner, earlier: &[Answer], call: &ConstCall) -> Result
     ensures extends { Extends cx.old cx.new }
     ensures kind { GivesKind cx.new (told_all cx.old.rows earlier.now) (const_form (number_at (told_all cx.old.rows earlier.now)) call.now) const_kind_shape result }
     ensures handles { IfErr result (λ e. IsOfHandles (const_form (number_at (told_all cx.old.rows earlier.now)) call.now) → e ≡ NoSuchAnswer) }
+    ensures named { OnErr result (LacksName cx.new.rows (const_form (number_at (told_all cx.old.rows earlier.now)) call.now)) }
 {
     match call {
         ConstCall::Param { index, name } => param_kind(cx, *index, name.as_str()),
@@ -91,6 +96,7 @@ fn const_kind(cx: &mut Interner, earlier: &[Answer], call: &ConstCall) -> Result
 fn param_kind(cx: &mut Interner, index: u32, name: &str) -> Result<ConstKind, Refusal>
     ensures extends { Extends cx.old cx.new }
     ensures kind { (earlier : List Told) → GivesKind cx.new earlier (param const_sort index name.now) const_kind_shape result }
+    ensures named { OnErr result (IsNew (text_row name.now) cx.new.rows) }
 {
     let name = cx.symbol(name)?;
     Ok(ConstKind::Param(ParamConst { index, name }))

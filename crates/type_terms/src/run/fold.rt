@@ -1,28 +1,30 @@
 //! Calls that fold terms.
 
-ghost use Rattle.std.specs.Prelude.{◌≡◌, ◌<◌, Some, ℕ, List};
+ghost use Rattle.std.specs.Prelude.{◌≡◌, ◌<◌, ◌↔◌, IsTrue, IsSomeAnd, MatchOption, Some, false, ℕ, List};
 ghost use Rattle.std.specs.declared.alloc.Global.{Global};
 ghost use Rattle.std.specs.declared.vec.Vec.{Vec};
+ghost use Rattle.tt_kinds.specs.Param.{holds_param};
 ghost use Rattle.tt_interner.specs.Rows.{size, meaning};
 ghost use Rattle.tt_interner.specs.Stored.{Extends};
 ghost use Rattle.tt_binder.specs.Arguments.{AreArguments};
 ghost use Rattle.type_terms.specs.declared.run.call.ArgCall.{ArgCall};
 ghost use Rattle.type_terms.specs.declared.run.call.Call.TheVariants.{Shift as Shifts, EraseRegions as Erases, Instantiate as Instantiates};
 ghost use Rattle.type_terms.specs.CallForm.{args_ids};
-ghost use Rattle.type_terms.specs.Told.{Told, told_all, AreOwned};
-ghost use Rattle.type_terms.specs.Means.{term_at, AreTerms};
-ghost use Rattle.type_terms.specs.Build.{Answers, AreArgumentsOf};
+ghost use Rattle.type_terms.specs.Told.{Told, told, told_all, IsOwned, AreOwned};
+ghost use Rattle.type_terms.specs.Means.{as_term, term_at, AreTerms, IsUnchanged};
+ghost use Rattle.type_terms.specs.Build.{Answers, AreArgumentsOf, IsUnchangedAt};
 
 use crate::run::answer::Answer;
 use crate::run::call::ArgCall;
 use crate::run::handle::Handle;
 use crate::run::lookup::answer_at;
-use crate::run::parts::build_args;
+use crate::run::parts::{build_args, check_args};
 use tt_binder::Instantiate;
 use tt_fold::{fold_regions, shift_vars};
 use tt_index::Refusal;
 use tt_interner::Interner;
 use tt_kinds::{EarlyBinder, GenericArg, Region, RegionKind};
+use tt_visit::TypeVisitableExt;
 
 /// The term at the position, shifted.
 pub fn shift_at(
@@ -88,7 +90,8 @@ fn erased<T: Handle>(cx: &mut Interner, term: T) -> Result<Answer, Refusal>
     Ok(erased.into_answer())
 }
 
-/// The term at the position, instantiated, where the ids that the arguments name are there.
+/// The term at the position, instantiated, where the ids that the arguments name are there. A type, a predicate and a list of
+/// clauses in which no parameter stands comes back as it is, and no argument is built.
 pub fn instantiate_at(
     cx: &mut Interner,
     earlier: &[Answer],
@@ -97,7 +100,73 @@ pub fn instantiate_at(
 ) -> Result<Answer, Refusal>
     requires { AreOwned cx.old.rows earlier.now }
     ensures extends { Extends cx.old cx.new }
-    ensures answers { (list : Vec ArgCall Global) → list.items ≡ args.now → AreTerms (told_all cx.old.rows earlier.now) (args_ids list.items) → Answers cx.old cx.new (told_all cx.old.rows earlier.now) (Instantiates position list) result }
+    ensures answers { (list : Vec ArgCall Global) →
+        list.items ≡ args.now →
+        AreTerms (told_all cx.old.rows earlier.now) (args_ids list.items) →
+        Answers cx.old cx.new (told_all cx.old.rows earlier.now) (Instantiates position list) result }
+{
+    match unchanged_at(cx, earlier, position) {
+        Some(answer) => {
+            check_args(cx, earlier, args)?;
+            Ok(answer)
+        }
+        None => instantiate_changed(cx, earlier, position, args),
+    }
+}
+
+// The answer at the position, where it is a type, a predicate or a list of clauses in which no parameter stands.
+fn unchanged_at(cx: &Interner, earlier: &[Answer], position: u32) -> Option<Answer>
+    requires { AreOwned cx.now.rows earlier.now }
+    ensures { MatchOption
+        result
+        (IsSomeAnd (term_at (told_all cx.now.rows earlier.now) position) IsUnchanged → ⊥)
+        (IsUnchangedAt cx.now.rows earlier.now position) }
+{
+    let Ok(answer) = answer_at(earlier, position) else {
+        return None;
+    };
+    if is_unchanged(cx, answer) {
+        Some(*answer)
+    } else {
+        None
+    }
+}
+
+// Whether the answer is a type, a predicate or a list of clauses in which no parameter stands.
+fn is_unchanged(cx: &Interner, answer: &Answer) -> bool
+    requires { IsOwned cx.now.rows answer.now }
+    ensures { IsTrue result ↔ IsSomeAnd (as_term (Some (told cx.now.rows answer.now))) IsUnchanged }
+{
+    match answer {
+        Answer::Ty(ty) => has_no_param(cx, *ty),
+        Answer::Predicate(predicate) => has_no_param(cx, *predicate),
+        Answer::Clauses(clauses) => has_no_param(cx, *clauses),
+        _ => false,
+    }
+}
+
+// Whether no parameter stands in the term.
+fn has_no_param<T: Handle>(cx: &Interner, term: T) -> bool
+    requires { T.number term < size cx.now.rows T.table }
+    ensures { IsTrue result ↔ (holds_param (meaning cx.now.rows T.table (T.number term)) ≡ false) }
+{
+    !term.has_param(cx)
+}
+
+// The term at the position, instantiated, where arguments may change it.
+fn instantiate_changed(
+    cx: &mut Interner,
+    earlier: &[Answer],
+    position: u32,
+    args: &[ArgCall],
+) -> Result<Answer, Refusal>
+    requires owned { AreOwned cx.old.rows earlier.now }
+    requires changes { IsSomeAnd (term_at (told_all cx.old.rows earlier.now) position) IsUnchanged → ⊥ }
+    ensures extends { Extends cx.old cx.new }
+    ensures answers { (list : Vec ArgCall Global) →
+        list.items ≡ args.now →
+        AreTerms (told_all cx.old.rows earlier.now) (args_ids list.items) →
+        Answers cx.old cx.new (told_all cx.old.rows earlier.now) (Instantiates position list) result }
 {
     let answer = answer_at(earlier, position)?;
     let args = build_args(cx, earlier, args)?;

@@ -1,19 +1,26 @@
 //! The parts of kinds: lists of terms, and generic arguments.
 
-ghost use Rattle.std.specs.Prelude.{◌≡◌, [], IsOk};
+ghost use Rattle.std.specs.Prelude.{◌≡◌, [], IsOk, IfErr, OnOk};
+ghost use Rattle.tt_index.specs.declared.refusal.Refusal.TheVariants.{GreatestIndex};
+ghost use Rattle.tt_kinds.specs.Bound.{depth};
+ghost use Rattle.tt_kinds.specs.Shape.{IsGreatest};
 ghost use Rattle.tt_kinds.specs.Kinds.{tys_shape, consts_shape, pats_shape, args_shape};
 ghost use Rattle.tt_interner.specs.Stored.{Extends};
-ghost use Rattle.type_terms.specs.CallForm.{a_list, args_part, terms_at};
+ghost use Rattle.type_terms.specs.CallForm.{a_list, a_term, arg_item, arg_items, args_part, item_positions, items_positions, terms_at, AreItemsTooDeep, IsItemTooDeep, IsRegionTooDeep};
 ghost use Rattle.type_terms.specs.Told.{told_all, AreOwned};
-ghost use Rattle.type_terms.specs.Build.{GivesPart, GivesArgument, GivesArguments};
+ghost use Rattle.type_terms.specs.Build.{GivesPart, GivesArgument, GivesArguments, IsUnusable, IsUsable};
 
 use crate::run::answer::Answer;
 use crate::run::build::build_region;
-use crate::run::call::ArgCall;
+use crate::run::call::{ArgCall, RegionCall};
+use crate::run::handle::Handle;
 use crate::run::lookup::{handle_at, handles_at};
-use tt_index::Refusal;
+use tt_index::{BoundVar, Refusal};
 use tt_interner::Interner;
-use tt_kinds::{Const, Consts, GenericArg, GenericArgs, Pat, PatList, Table, Ty, Tys};
+use tt_kinds::{
+    BoundRegion, BoundRegionKind, BoundVarIndexKind, Const, Consts, GenericArg, GenericArgs, Pat,
+    PatList, Region, RegionKind, Table, Ty, Tys,
+};
 
 /// The list of the types at the positions.
 pub fn build_tys(cx: &mut Interner, earlier: &[Answer], positions: &[u32]) -> Result<Tys, Refusal>
@@ -99,4 +106,91 @@ fn build_arg(cx: &mut Interner, earlier: &[Answer], arg: &ArgCall) -> Result<Gen
         ArgCall::Const(position) => Ok(GenericArg::from(handle_at::<Const>(earlier, *position)?)),
         ArgCall::Lifetime(region) => Ok(GenericArg::from(build_region(cx, earlier, region)?)),
     }
+}
+
+/// Whether the arguments that a call names can be built, without building them. It is refused with `NoSuchAnswer` where a
+/// position tells no term of the argument's table, and with `GreatestIndex` where a bound region has that index.
+pub fn check_args(cx: &Interner, earlier: &[Answer], args: &[ArgCall]) -> Result<(), Refusal>
+    requires { AreOwned cx.now.rows earlier.now }
+    ensures ok { OnOk
+        result
+        (IsUsable
+        (told_all cx.now.rows earlier.now)
+        (items_positions (arg_items args.now))
+        (AreItemsTooDeep (arg_items args.now))) }
+    ensures err { IfErr
+        result
+        (IsUnusable
+        (told_all cx.now.rows earlier.now)
+        (items_positions (arg_items args.now))
+        (AreItemsTooDeep (arg_items args.now))) }
+{
+    for arg in args {
+        check_arg(cx, earlier, arg)?;
+    }
+    Ok(())
+}
+
+// Whether the argument can be built.
+fn check_arg(cx: &Interner, earlier: &[Answer], arg: &ArgCall) -> Result<(), Refusal>
+    requires { AreOwned cx.now.rows earlier.now }
+    ensures ok { OnOk
+        result
+        (IsUsable
+        (told_all cx.now.rows earlier.now)
+        (item_positions (arg_item arg.now))
+        (IsItemTooDeep (arg_item arg.now))) }
+    ensures err { IfErr
+        result
+        (IsUnusable
+        (told_all cx.now.rows earlier.now)
+        (item_positions (arg_item arg.now))
+        (IsItemTooDeep (arg_item arg.now))) }
+{
+    match arg {
+        ArgCall::Type(position) => check_handle::<Ty>(cx, earlier, *position),
+        ArgCall::Const(position) => check_handle::<Const>(cx, earlier, *position),
+        ArgCall::Lifetime(region) => check_region(region),
+    }
+}
+
+// Whether a handle of the table is at the position.
+fn check_handle<T: Handle>(cx: &Interner, earlier: &[Answer], position: u32) -> Result<(), Refusal>
+    requires { AreOwned cx.now.rows earlier.now }
+    ensures ok { OnOk
+        result
+        (IsUsable
+        (told_all cx.now.rows earlier.now)
+        (item_positions (a_term T.table position))
+        ⊥) }
+    ensures err { IfErr
+        result
+        (IsUnusable
+        (told_all cx.now.rows earlier.now)
+        (item_positions (a_term T.table position))
+        ⊥) }
+{
+    handle_at::<T>(earlier, position)?;
+    Ok(())
+}
+
+// Whether the region's index is below the greatest.
+fn check_region(region: &RegionCall) -> Result<(), Refusal>
+    ensures ok { OnOk result (IsRegionTooDeep region.now → ⊥) }
+    ensures err { IfErr result (λ e. (e ≡ GreatestIndex) × IsRegionTooDeep region.now) }
+{
+    match region {
+        RegionCall::ReBound(index, var, _) => check_index(*index, *var),
+        _ => Ok(()),
+    }
+}
+
+// Whether a region can be bound at the index.
+fn check_index(index: BoundVarIndexKind, var: BoundVar) -> Result<(), Refusal>
+    ensures ok { OnOk result (IsGreatest (depth index) → ⊥) }
+    ensures err { IfErr result (λ e. (e ≡ GreatestIndex) × IsGreatest (depth index)) }
+{
+    let kind = BoundRegionKind::Anon;
+    Region::new(RegionKind::ReBound(index, BoundRegion { var, kind }))?;
+    Ok(())
 }

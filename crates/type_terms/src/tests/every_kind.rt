@@ -83,7 +83,7 @@ pub fn are_infos<K: Built>(cx: &mut Interner, rows: &[(K, u32, u32)]) -> Result<
 }
 
 // The pattern of this kind.
-fn pattern(cx: &mut Interner, kind: PatternKind) -> Result<Pat, Refusal> {
+pub fn pattern(cx: &mut Interner, kind: PatternKind) -> Result<Pat, Refusal> {
     if cx.owns_pattern_kind(&kind) {
         cx.mk_pat(kind)
     } else {
@@ -93,7 +93,7 @@ fn pattern(cx: &mut Interner, kind: PatternKind) -> Result<Pat, Refusal> {
 
 // The list of these two patterns.
 #[tactic(auto, unfolding(tt_kinds::specs::Shape::IsPart))]
-fn two_patterns(cx: &mut Interner, first: Pat, second: Pat) -> Result<PatList, Refusal> {
+pub fn two_patterns(cx: &mut Interner, first: Pat, second: Pat) -> Result<PatList, Refusal> {
     if cx.owns_pat(first) && cx.owns_pat(second) {
         cx.mk_pat_list(&[first, second])
     } else {
@@ -111,7 +111,7 @@ pub fn consts(cx: &mut Interner, items: &[Const]) -> Result<Consts, Refusal> {
 }
 
 // The existential predicate of this kind under a binder of these variables.
-fn existential(
+pub fn existential(
     cx: &mut Interner,
     kind: ExistentialPredicate,
     vars: BoundVarKinds,
@@ -126,7 +126,7 @@ fn existential(
 
 // The list of these two existential predicates.
 #[tactic(auto, unfolding(tt_kinds::specs::Shape::IsPart))]
-fn two_existentials(
+pub fn two_existentials(
     cx: &mut Interner,
     first: PolyExistentialPredicate,
     second: PolyExistentialPredicate,

@@ -3,8 +3,8 @@
 use super::owned::{args, holds_anew, holds_within};
 use crate::run::line::parse_line;
 use crate::{
-    Answer, Call, GenericArg, GenericArgs, Interner, Refusal, Region, RegionKind, RegionVid,
-    run_calls,
+    Answer, ArgCall, Call, GenericArg, GenericArgs, Interner, Refusal, Region, RegionCall,
+    RegionKind, RegionVid, run_calls,
 };
 use std::alloc::{AllocError, Global};
 
@@ -89,6 +89,31 @@ fn memory_for_each_new_term_holds(cx: &mut Interner) -> Result<bool, Refusal> {
 #[test]
 fn memory_for_each_new_term(rt: HostRuntime) {
     holds_anew(&rt, rt.alloc(), memory_for_each_new_term_holds);
+}
+
+// A type without parameters is its own instance, though no text can be stored that names an argument.
+fn arguments_are_not_built_holds(cx: &mut Interner) -> Result<bool, Refusal> {
+    let alloc = cx.allocator();
+    let mut calls = parse_calls(alloc, "i32\n")?;
+    let name = String::from_str(alloc, "'a")?;
+    let lifetime = ArgCall::Lifetime(RegionCall::ReEarlyParam { index: 0, name });
+    calls.push(Call::Instantiate(1, vec![in alloc; lifetime]?))?;
+    let answers = run_calls(cx, calls.as_slice())?;
+    let absent = last_answer(cx, "i32\ninst %1 'p0 %3\n")?;
+    Ok(are_one_type(answers.as_slice()) && absent == Answer::Refused(Refusal::NoSuchAnswer))
+}
+
+// The same type twice.
+fn are_one_type(answers: &[Answer]) -> bool {
+    match answers {
+        [Answer::Ty(first), Answer::Ty(second)] => first == second,
+        _ => false,
+    }
+}
+
+#[test]
+fn arguments_are_not_built(rt: HostRuntime) {
+    holds_within(&rt, rt.alloc(), 1, arguments_are_not_built_holds);
 }
 
 fn arguments_are_stored_holds(cx: &mut Interner) -> Result<bool, Refusal> {

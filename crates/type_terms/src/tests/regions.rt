@@ -99,6 +99,11 @@ fn folded<T: Owned>(cx: &mut Interner, value: T, record: &mut Record) -> Result<
     }
 }
 
+// The value with the region variables from number 0 on in the places of its regions.
+pub fn renumbered<T: Owned>(cx: &mut Interner, value: T) -> Result<T, Refusal> {
+    folded(cx, value, &mut Record::new(Kind::Variable))
+}
+
 // The pointer to a function of these types under a binder of these variables.
 fn pointer(cx: &mut Interner, types: &[Ty], vars: BoundVarKinds) -> Result<Ty, Refusal> {
     let inputs_and_output = tys(cx, types)?;
@@ -108,13 +113,13 @@ fn pointer(cx: &mut Interner, types: &[Ty], vars: BoundVarKinds) -> Result<Ty, R
 }
 
 // `&'static u32`.
-fn static_ref(cx: &mut Interner) -> Result<Ty, Refusal> {
+pub fn static_ref(cx: &mut Interner) -> Result<Ty, Refusal> {
     let number = u32_ty(cx)?;
     ref_ty(cx, Region::new(RegionKind::ReStatic)?, number)
 }
 
 // `&'?N u32`.
-fn variable_ref(cx: &mut Interner, variable: u32) -> Result<Ty, Refusal> {
+pub fn variable_ref(cx: &mut Interner, variable: u32) -> Result<Ty, Refusal> {
     let number = u32_ty(cx)?;
     ref_ty(cx, answer(Kind::Variable, variable)?, number)
 }

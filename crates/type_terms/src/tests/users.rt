@@ -229,9 +229,9 @@ fn an_error_ends_the_visit(rt: HostRuntime) {
 
 // Puts one type in the places of another.
 #[derive(Drop)]
-struct StandIn {
-    from: Ty,
-    to: Ty,
+pub struct StandIn {
+    pub from: Ty,
+    pub to: Ty,
 }
 
 impl TypeFolder for StandIn {
@@ -333,7 +333,7 @@ impl TypeFolder for StandIn {
 }
 
 // The value with one type in the places of another.
-fn replaced<T: Owned>(cx: &mut Interner, value: T, from: Ty, to: Ty) -> Result<T, Refusal> {
+pub fn replaced<T: Owned>(cx: &mut Interner, value: T, from: Ty, to: Ty) -> Result<T, Refusal> {
     if value.is_owned(cx) && to.is_owned(cx) {
         value.fold_with(cx, &mut StandIn { from, to })
     } else {
@@ -356,7 +356,7 @@ fn replaced_inside<T: Owned + TypeSuperFoldable>(
 }
 
 // Whether the value with the types replaced is this one.
-fn is_replaced<T: Owned + PartialEq>(
+pub fn is_replaced<T: Owned + PartialEq>(
     cx: &mut Interner,
     value: T,
     from: Ty,
@@ -370,7 +370,7 @@ fn is_replaced<T: Owned + PartialEq>(
 }
 
 // The same without the value's own hook.
-fn is_replaced_inside<T: Owned + TypeSuperFoldable + PartialEq>(
+pub fn is_replaced_inside<T: Owned + TypeSuperFoldable + PartialEq>(
     cx: &mut Interner,
     value: T,
     from: Ty,

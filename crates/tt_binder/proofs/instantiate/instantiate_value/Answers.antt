@@ -3,12 +3,13 @@ use Rattle.std.specs.Prelude.{Result, Ok, Err, OnOk}
 use Rattle.std.proofs.lemmas.List.{nil_from_length}
 use Rattle.std.proofs.lemmas.Result.{err_from_is_err_and}
 use Rattle.tt_kinds.specs.Param.{holds_param}
-use Rattle.tt_fold.specs.Steps.{IsRefused, tree_by}
+use Rattle.tt_fold.specs.Steps.{refusals_of, tree_by}
 use Rattle.tt_binder.specs.Arguments.{arguments}
 use Rattle.tt_binder.proofs.WalkLaws.{does, fails_up}
 use Rattle.tt_binder.proofs.PositionLaws.{few}
 use Rattle.tt_binder.proofs.ClauseLaws.{instance_keeps}
-use Rattle.tt_binder.proofs.InstanceLaws.{empty_err, empty_outcome, instance_back, instance_walked, param_refused, param_still, param_refused_still, reason_empty, reason_refused}
+use Rattle.tt_binder.proofs.InstanceLaws.{empty_err, empty_outcome, instance_back, instance_walked, param_refused, reason_empty, reason_refused}
+use Rattle.tt_binder.proofs.StillLaws.{param_alone, param_ends}
 use Rattle.tt_binder.proofs.instantiate.instantiate_value.Goals as goal
 
 pub returns-then-is_empty-clause-result : goal.returns-then-is_empty-clause-result
@@ -32,33 +33,33 @@ returns-then-is_untouched-clause-result g c =
     (c.requires.value, instance_back (arguments c.args.cx.now.rows (g.S.SliceLike.items c.args.cx.now.rows c.args.args)) (tree_by g.T.TypeVisitable.shape c.args.cx.now.rows c.args.value) (record { no_param = left.0; hides = inr left.1 }))
 
 pub returns-in_err-folded-clause-descents : goal.returns-in_err-folded-clause-descents
-returns-in_err-folded-clause-descents g c = (fails_up _ c.in_err-folded.ensures.outcome).descents
+returns-in_err-folded-clause-descents g c = (fails_up _ c.in_err-folded.ensures.folds.outcome).descents
 
 pub returns-in_err-folded-clause-shift_descents : goal.returns-in_err-folded-clause-shift_descents
-returns-in_err-folded-clause-shift_descents g c = (fails_up _ c.in_err-folded.ensures.outcome).shift_descents
+returns-in_err-folded-clause-shift_descents g c = (fails_up _ c.in_err-folded.ensures.folds.outcome).shift_descents
 
 pub returns-in_err-folded-clause-result : goal.returns-in_err-folded-clause-result
 returns-in_err-folded-clause-result g c =
     let p = err_from_is_err_and c.from_residual.result c.from_residual.ensures.1 in
     rw (p.1, p.2) (reason_refused c.fold_with.new.cx (arguments c.args.cx.now.rows (g.S.SliceLike.items c.args.cx.now.rows c.args.args)) _ _ (tree_by g.T.TypeVisitable.shape c.args.cx.now.rows c.args.value) _ (ap (λ folder. record { args = arguments c.args.cx.now.rows (g.S.SliceLike.items c.args.cx.now.rows folder.args); binders_passed = folder.binders_passed }) c.new-folder.ensures)
     (instance_keeps c.args.cx.now.rows c.are_rows.ensures.are (g.S.SliceLike.items c.args.cx.now.rows c.args.args) c.is_empty.ensures.are (g.T.TypeVisitable.shape c.args.value) c.requires.value)
-    c.in_err-folded.ensures.outcome)
+    c.in_err-folded.ensures.folds.outcome)
 
 pub returns-in_err-folded-clause-parameter : goal.returns-in_err-folded-clause-parameter
 returns-in_err-folded-clause-parameter g c =
     let p = err_from_is_err_and c.from_residual.result c.from_residual.ensures.1 in
-    λ s i name is. rw (p.1, p.2) (param_refused (IsRefused c.fold_with.new.cx) (arguments c.args.cx.now.rows (g.S.SliceLike.items c.args.cx.now.rows c.args.args)) c.in_err-folded.ensures.outcome (ap (λ folder. record { args = arguments c.args.cx.now.rows (g.S.SliceLike.items c.args.cx.now.rows folder.args); binders_passed = folder.binders_passed }) c.new-folder.ensures) s i name is)
+    λ s i name is. rw (p.1, p.2) (param_refused (refusals_of c.fold_with.new.cx) (arguments c.args.cx.now.rows (g.S.SliceLike.items c.args.cx.now.rows c.args.args)) c.in_err-folded.ensures.folds.outcome (ap (λ folder. record { args = arguments c.args.cx.now.rows (g.S.SliceLike.items c.args.cx.now.rows folder.args); binders_passed = folder.binders_passed }) c.new-folder.ensures) s i name is)
 
 pub returns-clause-descents : goal.returns-clause-descents
-returns-clause-descents g c = (does c.in_ok-folded.ensures.outcome.2).stays.rises.descents
+returns-clause-descents g c = (does c.in_ok-folded.ensures.folds.outcome.1).stays.rises.descents
 
 pub returns-clause-shift_descents : goal.returns-clause-shift_descents
-returns-clause-shift_descents g c = (does c.in_ok-folded.ensures.outcome.2).stays.rises.shift_descents
+returns-clause-shift_descents g c = (does c.in_ok-folded.ensures.folds.outcome.1).stays.rises.shift_descents
 
 pub returns-clause-result : goal.returns-clause-result
 returns-clause-result g c =
-    let o = c.in_ok-folded.ensures.outcome in
-    (o.1, instance_walked (arguments c.args.cx.now.rows (g.S.SliceLike.items c.args.cx.now.rows c.args.args)) _ _ (tree_by g.T.TypeVisitable.shape c.args.cx.now.rows c.args.value) _ (ap (λ folder. record { args = arguments c.args.cx.now.rows (g.S.SliceLike.items c.args.cx.now.rows folder.args); binders_passed = folder.binders_passed }) c.new-folder.ensures) o.2)
+    let o = c.in_ok-folded.ensures.folds.outcome in
+    (o.0, instance_walked (arguments c.args.cx.now.rows (g.S.SliceLike.items c.args.cx.now.rows c.args.args)) _ _ (tree_by g.T.TypeVisitable.shape c.args.cx.now.rows c.args.value) _ (ap (λ folder. record { args = arguments c.args.cx.now.rows (g.S.SliceLike.items c.args.cx.now.rows folder.args); binders_passed = folder.binders_passed }) c.new-folder.ensures) o.1)
 
 on_ok : {T E P : Type 0} (r : Result T E) → P → OnOk r P
 on_ok (Ok x) h = h
@@ -68,14 +69,14 @@ pub returns-then-is_empty-clause-positions : goal.returns-then-is_empty-clause-p
 returns-then-is_empty-clause-positions g c = on_ok c.without_arguments.result (omega arith)
 
 pub returns-clause-positions : goal.returns-clause-positions
-returns-clause-positions g c = few c.in_ok-folded.ensures.outcome.2 0
+returns-clause-positions g c = few c.in_ok-folded.ensures.folds.outcome.1 0
 
-pub returns-in_err-folded-clause-parameter_counts : goal.returns-in_err-folded-clause-parameter_counts
-returns-in_err-folded-clause-parameter_counts g c = λ s i name is.
-    param_refused_still (IsRefused c.fold_with.new.cx) c.in_err-folded.ensures.outcome (arguments c.args.cx.now.rows (g.S.SliceLike.items c.args.cx.now.rows c.args.args))
-    (ap (λ folder. record { args = arguments c.args.cx.now.rows (g.S.SliceLike.items c.args.cx.now.rows folder.args); binders_passed = folder.binders_passed }) c.new-folder.ensures) s i name is
+pub returns-in_err-folded-clause-parameter_still : goal.returns-in_err-folded-clause-parameter_still
+returns-in_err-folded-clause-parameter_still g c = λ s i name is.
+    c.in_err-folded.ensures.still (param_alone c.args.cx.now.rows (g.T.TypeVisitable.shape c.args.value) c.requires.value s i name is)
+    (param_ends _ _ (tree_by g.T.TypeVisitable.shape c.args.cx.now.rows c.args.value) (ap (λ folder. folder.binders_passed) c.new-folder.ensures) s i name is)
 
-pub returns-clause-parameter_counts : goal.returns-clause-parameter_counts
-returns-clause-parameter_counts g c = λ s i name is.
-    param_still c.in_ok-folded.ensures.outcome.2 (arguments c.args.cx.now.rows (g.S.SliceLike.items c.args.cx.now.rows c.args.args))
-    (ap (λ folder. record { args = arguments c.args.cx.now.rows (g.S.SliceLike.items c.args.cx.now.rows folder.args); binders_passed = folder.binders_passed }) c.new-folder.ensures) s i name is
+pub returns-clause-parameter_still : goal.returns-clause-parameter_still
+returns-clause-parameter_still g c = λ s i name is.
+    c.in_ok-folded.ensures.still (param_alone c.args.cx.now.rows (g.T.TypeVisitable.shape c.args.value) c.requires.value s i name is)
+    (param_ends _ _ (tree_by g.T.TypeVisitable.shape c.args.cx.now.rows c.args.value) (ap (λ folder. folder.binders_passed) c.new-folder.ensures) s i name is)

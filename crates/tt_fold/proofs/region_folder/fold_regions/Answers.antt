@@ -11,15 +11,15 @@ pub fold_with-requires-clause-state : goal.fold_with-requires-clause-state
 fold_with-requires-clause-state g c = rw c.new-folder.ensures.closure (c.requires.callable, c.requires.answers)
 
 pub returns-clause-counters : goal.returns-clause-counters
-returns-clause-counters g c = fold-keeps_counters _ _ _ _ _ _ _ _ _ _ _ _ c.fold_with.ensures
+returns-clause-counters g c = fold-keeps_counters _ _ _ _ _ _ _ _ _ _ _ _ c.fold_with.ensures.folds
 
 pub returns-clause-placed : goal.returns-clause-placed
 returns-clause-placed g c =
-    (folded g.T.TypeVisitable.shape c.args.f c.fold_with.result c.fold_with.ensures (rw (c.new-folder.ensures.closure, c.new-folder.ensures.innermost) refl) (value_keeps _ c.are_rows.ensures.are (g.T.TypeVisitable.shape c.args.value) c.requires.value)).placed
+    (folded g.T.TypeVisitable.shape c.args.f c.fold_with.result c.fold_with.ensures.folds (rw (c.new-folder.ensures.closure, c.new-folder.ensures.innermost) refl) (value_keeps _ c.are_rows.ensures.are (g.T.TypeVisitable.shape c.args.value) c.requires.value)).placed
 
 pub returns-clause-err : goal.returns-clause-err
 returns-clause-err g c =
-    (folded g.T.TypeVisitable.shape c.args.f c.fold_with.result c.fold_with.ensures (rw (c.new-folder.ensures.closure, c.new-folder.ensures.innermost) refl) (value_keeps _ c.are_rows.ensures.are (g.T.TypeVisitable.shape c.args.value) c.requires.value)).err
+    (folded g.T.TypeVisitable.shape c.args.f c.fold_with.result c.fold_with.ensures.folds (rw (c.new-folder.ensures.closure, c.new-folder.ensures.innermost) refl) (value_keeps _ c.are_rows.ensures.are (g.T.TypeVisitable.shape c.args.value) c.requires.value)).err
 
 pub returns-then-not-meets_regions-clause-placed : goal.returns-then-not-meets_regions-clause-placed
 returns-then-not-meets_regions-clause-placed g c =

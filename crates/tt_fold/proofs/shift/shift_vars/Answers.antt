@@ -25,22 +25,22 @@ returns-then-amount-eq0-clause-plain g c =
     ap (read 0) same ∙ read-shift_tree c.args.amount 0 t
 
 pub returns-clause-plain : goal.returns-clause-plain
-returns-clause-plain g c = (shift_outcome c.args.amount c.fold_with.result refl (value_keeps _ c.are_rows.ensures.are (g.T.TypeVisitable.shape c.args.value) c.requires) c.fold_with.ensures).plain
+returns-clause-plain g c = (shift_outcome c.args.amount c.fold_with.result refl (value_keeps _ c.are_rows.ensures.are (g.T.TypeVisitable.shape c.args.value) c.requires) c.fold_with.ensures.folds).plain
 
 pub returns-clause-tree : goal.returns-clause-tree
-returns-clause-tree g c = (shift_outcome c.args.amount c.fold_with.result refl (value_keeps _ c.are_rows.ensures.are (g.T.TypeVisitable.shape c.args.value) c.requires) c.fold_with.ensures).tree
+returns-clause-tree g c = (shift_outcome c.args.amount c.fold_with.result refl (value_keeps _ c.are_rows.ensures.are (g.T.TypeVisitable.shape c.args.value) c.requires) c.fold_with.ensures.folds).tree
 
 pub returns-clause-err : goal.returns-clause-err
-returns-clause-err g c = (shift_outcome c.args.amount c.fold_with.result refl (value_keeps _ c.are_rows.ensures.are (g.T.TypeVisitable.shape c.args.value) c.requires) c.fold_with.ensures).err
+returns-clause-err g c = (shift_outcome c.args.amount c.fold_with.result refl (value_keeps _ c.are_rows.ensures.are (g.T.TypeVisitable.shape c.args.value) c.requires) c.fold_with.ensures.folds).err
 
 pub returns-clause-descents : goal.returns-clause-descents
-returns-clause-descents g c = (shift_outcome c.args.amount c.fold_with.result refl (value_keeps _ c.are_rows.ensures.are (g.T.TypeVisitable.shape c.args.value) c.requires) c.fold_with.ensures).descents
+returns-clause-descents g c = (shift_outcome c.args.amount c.fold_with.result refl (value_keeps _ c.are_rows.ensures.are (g.T.TypeVisitable.shape c.args.value) c.requires) c.fold_with.ensures.folds).descents
 
 pub returns-clause-shift_descents : goal.returns-clause-shift_descents
-returns-clause-shift_descents g c = (shift_outcome c.args.amount c.fold_with.result refl (value_keeps _ c.are_rows.ensures.are (g.T.TypeVisitable.shape c.args.value) c.requires) c.fold_with.ensures).up
+returns-clause-shift_descents g c = (shift_outcome c.args.amount c.fold_with.result refl (value_keeps _ c.are_rows.ensures.are (g.T.TypeVisitable.shape c.args.value) c.requires) c.fold_with.ensures.folds).up
 
 pub returns-clause-positions : goal.returns-clause-positions
-returns-clause-positions g c = few_outcome g.T.TypeVisitable.shape c.args.amount c.fold_with.result refl c.fold_with.ensures
+returns-clause-positions g c = few_outcome g.T.TypeVisitable.shape c.args.amount c.fold_with.result refl c.fold_with.ensures.folds
 
 pub returns-then-amount-eq0-clause-adds_up : goal.returns-then-amount-eq0-clause-adds_up
 returns-then-amount-eq0-clause-adds_up g c =
@@ -51,7 +51,7 @@ returns-then-amount-eq0-clause-adds_up g c =
     ])))
 
 pub returns-clause-adds_up : goal.returns-clause-adds_up
-returns-clause-adds_up g c = (shift_outcome c.args.amount c.fold_with.result refl (value_keeps _ c.are_rows.ensures.are (g.T.TypeVisitable.shape c.args.value) c.requires) c.fold_with.ensures).adds_up
+returns-clause-adds_up g c = (shift_outcome c.args.amount c.fold_with.result refl (value_keeps _ c.are_rows.ensures.are (g.T.TypeVisitable.shape c.args.value) c.requires) c.fold_with.ensures.folds).adds_up
 
 pub returns-then-amount-eq0-clause-tells_apart : goal.returns-then-amount-eq0-clause-tells_apart
 returns-then-amount-eq0-clause-tells_apart g c =
@@ -62,7 +62,7 @@ returns-then-amount-eq0-clause-tells_apart g c =
     ])))
 
 pub returns-clause-tells_apart : goal.returns-clause-tells_apart
-returns-clause-tells_apart g c = (shift_outcome c.args.amount c.fold_with.result refl (value_keeps _ c.are_rows.ensures.are (g.T.TypeVisitable.shape c.args.value) c.requires) c.fold_with.ensures).tells_apart
+returns-clause-tells_apart g c = (shift_outcome c.args.amount c.fold_with.result refl (value_keeps _ c.are_rows.ensures.are (g.T.TypeVisitable.shape c.args.value) c.requires) c.fold_with.ensures.folds).tells_apart
 
 pub returns-then-amount-eq0-clause-matched : goal.returns-then-amount-eq0-clause-matched
 returns-then-amount-eq0-clause-matched g c =
@@ -73,4 +73,4 @@ returns-then-amount-eq0-clause-matched g c =
     ])))
 
 pub returns-clause-matched : goal.returns-clause-matched
-returns-clause-matched g c = (shift_outcome c.args.amount c.fold_with.result refl (value_keeps _ c.are_rows.ensures.are (g.T.TypeVisitable.shape c.args.value) c.requires) c.fold_with.ensures).matched
+returns-clause-matched g c = (shift_outcome c.args.amount c.fold_with.result refl (value_keeps _ c.are_rows.ensures.are (g.T.TypeVisitable.shape c.args.value) c.requires) c.fold_with.ensures.folds).matched

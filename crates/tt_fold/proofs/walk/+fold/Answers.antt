@@ -13,7 +13,8 @@ use Rattle.tt_fold.specs.Parts.{child_weight}
 use Rattle.tt_fold.specs.Walk.{replaced, kept, term_failed, in_enter_failed}
 use Rattle.tt_fold.proofs.PartLaws.{in_range, only_part, left_parts, right_parts, vars-kept, weight-grows, weights-grow}
 use Rattle.tt_fold.proofs.FormLaws.{is_inner, not-deep, form-parts, form-binder, form-older, item-older, item-part, item-fits}
-use Rattle.tt_fold.proofs.FoldSteps.{node_is_kind, stands-still, stored_list, stored_list_tree, list_is_items, memory_unbuilt, no_clause_unbuilt, stored_node, stored_node_tree, not_stored, inside_leaf, inside_fails, inside_not_built, inside_rebuilt, descend_ends, descend_fails, node_descends, open_contents, under_parts_fail, under_leave_fails, under_folds, parts_first_fails, parts_second_fails, parts_fold, child_absent, child_region_fails, child_region, child_node_fails, child_node, child_list_fails, child_list, node_passed, so_far_none, so_far_more, items_one_fails, items_one_unwanted, items_stop, items_fold, listed_fails, listed_not_stored, listed_stored, list_folds, clauses_fail, clauses_fold, clauses_node_fails, clauses_node, node_is_term, node_is_passed, other_node, other_list}
+use Rattle.tt_fold.proofs.FoldSteps.{node_is_kind, stands-still, stored_list, stored_list_tree, list_is_items, memory_unbuilt, gives_no_clause, stored_node, stored_node_tree, not_stored, inside_leaf, inside_fails, inside_not_built, inside_rebuilt, descend_ends, descend_fails, node_descends, open_contents, under_parts_fail, under_leave_fails, under_folds, parts_first_fails, parts_second_fails, parts_fold, child_absent, child_region_fails, child_region, child_node_fails, child_node, child_list_fails, child_list, node_passed, so_far_none, so_far_more, items_one_fails, items_one_unwanted, items_stop, items_fold, listed_fails, listed_not_stored, listed_stored, list_folds, clauses_fail, clauses_fold, clauses_node_fails, clauses_node, node_is_term, node_is_passed, other_node, other_list}
+use Rattle.tt_fold.proofs.StillLaws.{not_hooked}
 use Rattle.tt_fold.specs.GrowthLaws.{stored-adds, kind-no_symbol, items-no_symbol}
 use Rattle.tt_fold.proofs.walk.+fold.Goals as goal
 
@@ -21,48 +22,67 @@ pub fold_node-fold_inside-requires : goal.fold_node-fold_inside-requires
 fold_node-fold_inside-requires g t c κs within =
     (omega arith, (within.0, (within.1.0, (within.1.1, (c.requires.owned, c.requires.node)))))
 
-pub fold_node-returns-then-not-is_hooked : goal.fold_node-returns-then-not-is_hooked
-fold_node-returns-then-not-is_hooked g t c =
+pub fold_node-returns-then-not-is_hooked-clause-folds : goal.fold_node-returns-then-not-is_hooked-clause-folds
+fold_node-returns-then-not-is_hooked-clause-folds g t c =
     node_passed (node_is_passed _ _ c.requires.node (c.if-not-is_hooked.ensures.passed refl)) c.fold_inside.ensures
 
 pub fold_node-core_term-requires-clause-hooked : goal.fold_node-core_term-requires-clause-hooked
 fold_node-core_term-requires-clause-hooked g t c =
     c.if-not-is_hooked.ensures.hooked refl
 
-pub fold_node-returns-in_err-step : goal.fold_node-returns-in_err-step
-fold_node-returns-in_err-step g t c =
+pub fold_node-returns-in_err-step-clause-folds : goal.fold_node-returns-in_err-step-clause-folds
+fold_node-returns-in_err-step-clause-folds g t c =
     let p = err_from_is_err_and c.from_residual.result c.from_residual.ensures.1 in
     let is = node_is_term _ _ c.requires.node (c.if-not-is_hooked.ensures.hooked refl) in
-    rw (p.1, p.2) (record { extends = c.in_err-step.ensures.extends; outcome = term_failed is c.in_err-step.ensures.outcome })
+    rw (p.1, p.2) (record { extends = c.in_err-step.ensures.goes.extends; is_owned = c.in_err-step.ensures.goes.is_owned; outcome = term_failed is c.in_err-step.ensures.goes.outcome })
 
 pub fold_node-descend-requires : goal.fold_node-descend-requires
 fold_node-descend-requires g t c κs within =
-    let h = c.in_ok-step.ensures in
+    let h = c.in_ok-step.ensures.goes in
     let same = age-grows _ _ h.extends.rows _ _ (in_range _ _ _ c.requires.node) in
     let hooked = c.if-not-is_hooked.ensures.hooked refl in
-    (omega (arith, same), (within.0, (within.1.0, (within.1.1, (h.outcome.0, (IsPart-grows _ _ h.extends.rows _ c.requires.node, hooked))))))
+    (omega (arith, same), (within.0, (within.1.0, (within.1.1, (h.is_owned, (IsPart-grows _ _ h.extends.rows _ c.requires.node, hooked))))))
 
-pub fold_node-returns-in-Replace : goal.fold_node-returns-in-Replace
-fold_node-returns-in-Replace g t c =
+pub fold_node-returns-in-Replace-clause-folds : goal.fold_node-returns-in-Replace-clause-folds
+fold_node-returns-in-Replace-clause-folds g t c =
     let is = node_is_term _ _ c.requires.node (c.if-not-is_hooked.ensures.hooked refl) in
-    let h = rw c.in-Replace.is at c.in_ok-step.ensures.outcome in
-    record { extends = c.in_ok-step.ensures.extends; outcome = (h.0, h.1.0, replaced is h.1.1) }
+    let h = rw c.in-Replace.is at c.in_ok-step.ensures.goes.outcome in
+    record { extends = c.in_ok-step.ensures.goes.extends; is_owned = c.in_ok-step.ensures.goes.is_owned; outcome = (h.0, replaced is h.1) }
 
-pub fold_node-returns-in-Keep : goal.fold_node-returns-in-Keep
-fold_node-returns-in-Keep g t c =
+pub fold_node-returns-in-Keep-clause-folds : goal.fold_node-returns-in-Keep-clause-folds
+fold_node-returns-in-Keep-clause-folds g t c =
     let is = node_is_term _ _ c.requires.node (c.if-not-is_hooked.ensures.hooked refl) in
-    let h = rw c.in-Keep.is at c.in_ok-step.ensures.outcome in
-    let extends = c.in_ok-step.ensures.extends in
+    let h = rw c.in-Keep.is at c.in_ok-step.ensures.goes.outcome in
+    let extends = c.in_ok-step.ensures.goes.extends in
     record {
       extends = extends;
-      outcome = (h.0, record { owned = IsPart-grows _ _ extends.rows _ c.requires.node; like = refl }, rw (fill-grows _ _ extends.rows _ c.requires.node) (kept is h.1.1));
+      is_owned = c.in_ok-step.ensures.goes.is_owned;
+      outcome = (record { owned = IsPart-grows _ _ extends.rows _ c.requires.node; like = refl }, rw (fill-grows _ _ extends.rows _ c.requires.node) (kept is h.1));
     }
 
-pub fold_node-returns-in-Descend : goal.fold_node-returns-in-Descend
-fold_node-returns-in-Descend g t c =
+pub fold_node-returns-in-Descend-clause-folds : goal.fold_node-returns-in-Descend-clause-folds
+fold_node-returns-in-Descend-clause-folds g t c =
     let is = node_is_term _ _ c.requires.node (c.if-not-is_hooked.ensures.hooked refl) in
-    let h = rw c.in-Descend.is at c.in_ok-step.ensures.outcome in
-    node_descends c.in_ok-step.ensures.extends c.requires.node is h.1.1 c.descend.ensures
+    let h = rw c.in-Descend.is at c.in_ok-step.ensures.goes.outcome in
+    node_descends c.in_ok-step.ensures.goes.extends c.requires.node is h.1 c.descend.ensures
+
+pub fold_node-returns-then-not-is_hooked-clause-still : goal.fold_node-returns-then-not-is_hooked-clause-still
+fold_node-returns-then-not-is_hooked-clause-still g t c =
+    λ alone ends. not_hooked _ (c.if-not-is_hooked.ensures.passed refl) alone
+
+pub fold_node-returns-in_err-step-clause-still : goal.fold_node-returns-in_err-step-clause-still
+fold_node-returns-in_err-step-clause-still g t c = λ alone ends. c.in_err-step.ensures.still ends.still
+
+pub fold_node-returns-in-Replace-clause-still : goal.fold_node-returns-in-Replace-clause-still
+fold_node-returns-in-Replace-clause-still g t c = λ alone ends. c.in_ok-step.ensures.still ends.still
+
+pub fold_node-returns-in-Keep-clause-still : goal.fold_node-returns-in-Keep-clause-still
+fold_node-returns-in-Keep-clause-still g t c = λ alone ends. c.in_ok-step.ensures.still ends.still
+
+pub fold_node-returns-in-Descend-clause-still : goal.fold_node-returns-in-Descend-clause-still
+fold_node-returns-in-Descend-clause-still g t c =
+    let h = rw c.in-Descend.is at c.in_ok-step.ensures.goes.outcome in
+    λ alone ends. absurd (ends.ends _ h.1)
 
 pub descend-fold_inside-requires : goal.descend-fold_inside-requires
 descend-fold_inside-requires g t c κs within =
@@ -114,7 +134,7 @@ fold_inside-returns-in_err-parts g t c =
 pub fold_inside-store_like-requires : goal.fold_inside-store_like-requires
 fold_inside-store_like-requires g t c =
     let grows = c.fold_contents.ensures.extends.rows in
-    let o = c.in_ok-parts.ensures.outcome.1 in
+    let o = c.in_ok-parts.ensures.outcome.0 in
     record {
       owned = in_range _ _ _ (IsPart-grows _ _ grows _ c.requires.node);
       has_kind = other_node c.args.node c.in_default.not-Clauses;
@@ -134,7 +154,7 @@ fold_inside-returns-in_err-rebuilt g t c =
     let sort = same-sort h.kind k (h.table ∙ sym is.table) in
     let shallow : IsTooDeep (kind_shape h.kind) → ⊥ = rw (sort, form) (not-deep (kind_sort k) c.in_ok-parts.parts (kind_form k) inner) in
     let parts : HasParts (size c.fold_contents.new.cx.rows) (kind_shape h.kind) =
-    rw (sort, form) (refilled_parts (size c.fold_contents.new.cx.rows) (kind_sort k) c.in_ok-parts.parts (kind_form k) (HasParts-grows _ _ f.extends.rows (kind_shape k) is.parts) c.in_ok-parts.ensures.outcome.1.owned) in
+    rw (sort, form) (refilled_parts (size c.fold_contents.new.cx.rows) (kind_sort k) c.in_ok-parts.parts (kind_form k) (HasParts-grows _ _ f.extends.rows (kind_shape k) is.parts) c.in_ok-parts.ensures.outcome.0.owned) in
     let cause = not_stored c.fold_contents.new.cx h.kind _ parts shallow h.builds.cause in
     let binder = form-binder _ (kind_sort k) (kind_form k) is.parts in
     rw p.1 (inside_not_built k h.kind (node_is_kind _ _ k is.means) is.parts inner binder form sort f h.builds.err (c.in_err-rebuilt.field-0.0, (p.2, rw h.builds.err cause)))
@@ -149,7 +169,7 @@ fold_inside-returns g t c =
     let form = rw (stored_kind-grows _ _ f.extends.rows c.args.node (in_range _ _ _ c.requires.node)) at h.form in
     let sort = same-sort h.kind k (h.table ∙ sym is.table) in
     let binder = form-binder _ (kind_sort k) (kind_form k) is.parts in
-    let o = c.in_ok-parts.ensures.outcome.0 in
+    let o = c.in_ok-parts.ensures.is_owned in
     let grows = h.builds.grows in
     let adds = stored-adds (kind-no_symbol h.kind) h.builds.stored in
     let of_kind = h.of_table ∙ sym h.table in
@@ -174,19 +194,19 @@ fold_contents-returns-in-None g t c =
 pub fold_under-returns-in_err-core_enter : goal.fold_under-returns-in_err-core_enter
 fold_under-returns-in_err-core_enter g t c =
     let p = err_from_is_err_and c.from_residual.result c.from_residual.ensures.1 in
-    rw (p.1, p.2) (record { extends = c.in_err-core_enter.ensures.extends; outcome = in_enter_failed c.in_err-core_enter.ensures.result })
+    rw (p.1, p.2) (record { extends = c.in_err-core_enter.ensures.extends; is_owned = c.in_err-core_enter.ensures.owned; outcome = in_enter_failed c.in_err-core_enter.ensures.result })
 
 pub fold_under-fold_parts-requires : goal.fold_under-fold_parts-requires
 fold_under-fold_parts-requires g t c κs within =
     let h = c.in_ok-core_enter.ensures in
     let same = weights-grow h.extends.rows _ c.requires.parts in
-    (omega (arith, same), (within.0, (within.1.0, (within.1.1, (h.result.0, AreParts-grows _ _ h.extends.rows _ c.requires.parts)))))
+    (omega (arith, same), (within.0, (within.1.0, (within.1.1, (h.owned, AreParts-grows _ _ h.extends.rows _ c.requires.parts)))))
 
 pub fold_under-returns-in_err-new_parts : goal.fold_under-returns-in_err-new_parts
 fold_under-returns-in_err-new_parts g t c =
     let p = err_from_is_err_and c.from_residual-in_err-new_parts.result c.from_residual-in_err-new_parts.ensures.1 in
     let h = c.in_ok-core_enter.ensures in
-    rw (p.1, p.2) (under_parts_fail _ c.requires.parts h.extends h.result.1 c.in_err-new_parts.ensures)
+    rw (p.1, p.2) (under_parts_fail _ c.requires.parts h.extends h.result c.in_err-new_parts.ensures)
 
 pub fold_under-core_leave-requires-clause-vars : goal.fold_under-core_leave-requires-clause-vars
 fold_under-core_leave-requires-clause-vars g t c =
@@ -197,13 +217,13 @@ fold_under-returns-in_err-core_leave g t c =
     let p = err_from_is_err_and c.from_residual-in_err-core_leave.result c.from_residual-in_err-core_leave.ensures.1 in
     let h = c.in_ok-core_enter.ensures in
     let l = c.in_err-core_leave.ensures in
-    rw (p.1, p.2) (under_leave_fails _ c.requires.vars c.requires.parts h.extends h.result.1 c.in_ok-new_parts.ensures l.extends l.result)
+    rw (p.1, p.2) (under_leave_fails _ c.requires.vars c.requires.parts h.extends h.result c.in_ok-new_parts.ensures l.extends l.owned l.result)
 
 pub fold_under-returns : goal.fold_under-returns
 fold_under-returns g t c =
     let h = c.in_ok-core_enter.ensures in
     let l = c.in_ok-core_leave.ensures in
-    under_folds _ c.requires.vars c.requires.parts h.extends h.result.1 c.in_ok-new_parts.ensures l.extends l.result.0 l.result.1
+    under_folds _ c.requires.vars c.requires.parts h.extends h.result c.in_ok-new_parts.ensures l.extends l.owned l.result
 
 pub fold_parts-fold_child-requires : goal.fold_parts-fold_child-requires
 fold_parts-fold_child-requires g t c κs within =
@@ -219,7 +239,7 @@ fold_parts-fold_child-requires-2 g t c κs within =
     let a = c.in_ok-first.ensures in
     let second = right_parts _ (child_shapes c.args.parts.first) (child_shapes c.args.parts.second) c.requires.parts in
     let same = weight-grows a.extends.rows _ second in
-    (omega (arith, same), (within.0, (within.1.0, (within.1.1, (a.outcome.0, AreParts-grows _ _ a.extends.rows _ second)))))
+    (omega (arith, same), (within.0, (within.1.0, (within.1.1, (a.is_owned, AreParts-grows _ _ a.extends.rows _ second)))))
 
 pub fold_parts-returns-in_err-second : goal.fold_parts-returns-in_err-second
 fold_parts-returns-in_err-second g t c =
@@ -242,12 +262,12 @@ pub fold_child-returns-in_err-new_region-in-Region : goal.fold_child-returns-in_
 fold_child-returns-in_err-new_region-in-Region g t c =
     let p = err_from_is_err_and c.from_residual.result c.from_residual.ensures.1 in
     let h = c.in_err-new_region-in-Region.ensures in
-    rw (p.1, p.2) (child_region_fails c.in-Region.is h.extends h.result)
+    rw (p.1, p.2) (child_region_fails c.in-Region.is h.extends h.owned h.result)
 
 pub fold_child-returns-in_ok-new_region-in-Region : goal.fold_child-returns-in_ok-new_region-in-Region
 fold_child-returns-in_ok-new_region-in-Region g t c =
     let h = c.in_ok-new_region-in-Region.ensures in
-    child_region c.in-Region.is h.extends h.result.0 h.result.1 h.result.2
+    child_region c.in-Region.is h.extends h.owned h.result.0 h.result.1
 
 pub fold_child-fold_node-requires : goal.fold_child-fold_node-requires
 fold_child-fold_node-requires g t c κs within =
@@ -258,11 +278,11 @@ fold_child-fold_node-requires g t c κs within =
 pub fold_child-returns-in_err-new_node-in-Node : goal.fold_child-returns-in_err-new_node-in-Node
 fold_child-returns-in_err-new_node-in-Node g t c =
     let p = err_from_is_err_and c.from_residual-in_err-new_node-in-Node.result c.from_residual-in_err-new_node-in-Node.ensures.1 in
-    rw (p.1, p.2) (child_node_fails c.in-Node.is c.in_err-new_node-in-Node.ensures)
+    rw (p.1, p.2) (child_node_fails c.in-Node.is c.in_err-new_node-in-Node.ensures.folds)
 
 pub fold_child-returns-in_ok-new_node-in-Node : goal.fold_child-returns-in_ok-new_node-in-Node
 fold_child-returns-in_ok-new_node-in-Node g t c =
-    child_node c.in-Node.is c.in_ok-new_node-in-Node.ensures
+    child_node c.in-Node.is c.in_ok-new_node-in-Node.ensures.folds
 
 pub fold_child-fold_list-requires : goal.fold_child-fold_list-requires
 fold_child-fold_list-requires g t c κs within =
@@ -297,7 +317,7 @@ fold_listed-returns-in_err-new_list g t c =
 pub fold_listed-returns : goal.fold_listed-returns
 fold_listed-returns g t c =
     let h = rw (c.sort.ensures, c.as_slice.ensures) at c.in_ok-new_list.ensures in
-    let o = c.in_ok-fold_items.ensures.outcome.0 in
+    let o = c.in_ok-fold_items.ensures.is_owned in
     let adds = stored-adds (items-no_symbol _ _) h.stored in
     listed_stored c.in_ok-fold_items.ensures h.extends (g.met.F.Core.still_owned _ _ _ adds o)
     (stands-still g.F.Core.meaning c.fold_items.new.cx c.store_list.new.self c.fold_items.new.folder (g.met.F.Core.still_means _ _ _ adds o) h.counters)
@@ -351,7 +371,7 @@ pub fold_items-check_item-requires : goal.fold_items-check_item-requires
 fold_items-check_item-requires g t c =
     let is_x = rw (children_at-grows _ _ c.loop-i.invariant.0.extends.rows c.args.list (in_range _ _ _ c.requires.list)) at c.list_child-item.ensures in
     let fit = item-fits (λ x. IsItem (list_sort c.args.list) (child_sort x)) (children_at c.args.cx.now.rows c.args.list) c.loop-i.i _ is_x c.list_len-count.ensures.fit in
-    let o = c.in_ok-folded.ensures.outcome.1 in
+    let o = c.in_ok-folded.ensures.outcome.0 in
     record { item = o.owned; fit = rw (c.sort.ensures, o.like) fit }
 
 pub fold_items-returns-in_err-check_item : goal.fold_items-returns-in_err-check_item
@@ -361,8 +381,7 @@ fold_items-returns-in_err-check_item g t c =
     let part = item-part _ (children_at c.args.cx.now.rows c.args.list) c.loop-i.i _ is_x c.list_len-count.ensures.parts in
     let tree = list_is_items _ c.args.list (children_at c.args.cx.now.rows c.args.list) c.list_len-count.ensures.means in
     let h = rw c.sort.ensures at c.in_err-check_item.ensures in
-    rw p.1 (items_one_unwanted tree c.loop-i.invariant.0 is_x part c.in_ok-folded.ensures h.err
-    (λ u bad. (c.in_err-check_item.field-0.0, (p.2, no_clause_unbuilt c.fold_child.new.cx u _ h.refusal bad))))
+    rw p.1 (items_one_unwanted tree c.loop-i.invariant.0 is_x part c.in_ok-folded.ensures h.err (gives_no_clause {E = g.row.F-Error.Denot} g.F.Error.From.from_gives _ _ h.refusal p.2))
 
 pub fold_items-push_reserved-requires : goal.fold_items-push_reserved-requires
 fold_items-push_reserved-requires g t c =
@@ -402,8 +421,8 @@ fold_list-returns-in_default g t c =
 pub fold_list-returns-in_err-node-in-Clauses : goal.fold_list-returns-in_err-node-in-Clauses
 fold_list-returns-in_err-node-in-Clauses g t c =
     let p = err_from_is_err_and c.from_residual.result c.from_residual.ensures.1 in
-    rw (p.1, p.2) (clauses_node_fails c.in-Clauses.is c.in_err-node-in-Clauses.ensures)
+    rw (p.1, p.2) (clauses_node_fails c.in-Clauses.is c.in_err-node-in-Clauses.ensures.folds)
 
 pub fold_list-returns-in_ok-node-in-Clauses : goal.fold_list-returns-in_ok-node-in-Clauses
 fold_list-returns-in_ok-node-in-Clauses g t c =
-    clauses_node c.in-Clauses.is c.clauses.ensures c.in_ok-node-in-Clauses.ensures
+    clauses_node c.in-Clauses.is c.clauses.ensures c.in_ok-node-in-Clauses.ensures.folds

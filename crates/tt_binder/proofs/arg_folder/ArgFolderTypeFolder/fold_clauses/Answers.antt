@@ -10,10 +10,10 @@ pub returns-then-intersects-clause-result : goal.returns-then-intersects-clause-
 returns-then-intersects-clause-result g c =
     let tree = tree_in c.args.cx.now.rows (clauses_shape c.args.clauses) in
     let held = meets_param tree c.flags.result.bits c.flags.ensures (c.intersects.ensures.0 c.if-intersects.true) in
-    (c.requires.owned, tt, gone_step _ tree (clauses_is c.args.cx.now.rows c.args.clauses c.requires.clauses) held)
+    (tt, gone_step _ tree (clauses_is c.args.cx.now.rows c.args.clauses c.requires.clauses) held)
 
 pub returns-else-intersects-clause-result : goal.returns-else-intersects-clause-result
 returns-else-intersects-clause-result g c =
     let tree = tree_in c.args.cx.now.rows (clauses_shape c.args.clauses) in
     let none = misses_param tree c.flags.result.bits c.intersects.result c.flags.ensures c.if-intersects.false c.intersects.ensures.1 in
-    (c.requires.owned, tt, left_alone (clause_kept tree (clauses_is c.args.cx.now.rows c.args.clauses c.requires.clauses)) none)
+    (tt, left_alone (clause_kept tree (clauses_is c.args.cx.now.rows c.args.clauses c.requires.clauses)) none)

@@ -20,7 +20,7 @@ returns-in_ok-new-in-ReEarlyParam-clause-result g c =
     let f = meaning c.args.cx.now.rows in
     let tree = param_region f c.args.region c.in-ReEarlyParam.parameter (sym c.kind.ensures.kind ∙ c.in-ReEarlyParam.is) in
     let h = c.in_ok-new-in-ReEarlyParam.ensures (name_of f c.in-ReEarlyParam.parameter.name.number) in
-    (c.requires.owned, h.0, (refl, done_at _ _ _ _ _ tree h.1))
+    (h.0, (refl, done_at _ _ _ _ _ tree h.1))
 
 pub returns-in-ReVar-clause-result : goal.returns-in-ReVar-clause-result
 returns-in-ReVar-clause-result g c = (
@@ -35,5 +35,7 @@ returns-in_default g c =
     let left = region_untouched (meaning c.args.cx.now.rows) c.args.region (λ p is. c.in_default.not-ReEarlyParam p (c.kind.ensures.kind ∙ is)) (λ v is. c.in_default.not-ReVar v (c.kind.ensures.kind ∙ is)) in
     record {
       extends = Extends-refl c.args.cx.now;
-      result = (c.requires.owned, c.requires.region, (refl, left_done _ _ _ left.0 left.1));
+      still = λ h. refl;
+      owned = c.requires.owned;
+      result = (c.requires.region, (refl, left_done _ _ _ left.0 left.1));
     }

@@ -10,11 +10,11 @@ pub fold_core-requires-clause-value : goal.fold_core-requires-clause-value
 fold_core-requires-clause-value g c =
     one-inner _ (bare_const_record (expr_const c.args.self.tag)) (args_shape (c.args.self.args)) c.requires.value
 
-pub returns-in_err-args : goal.returns-in_err-args
-returns-in_err-args g c =
+pub returns-in_err-args-clause-folds : goal.returns-in_err-args-clause-folds
+returns-in_err-args-clause-folds g c =
     let p = err_from_is_err_and c.from_residual.result c.from_residual.ensures.1 in
-    rw (p.1, p.2) (one_fails expression_shape args_shape (bare_const_record (expr_const c.args.self.tag)) c.args.self (c.args.self.args) refl c.in_err-args.ensures)
+    rw (p.1, p.2) (one_fails expression_shape args_shape (bare_const_record (expr_const c.args.self.tag)) c.args.self (c.args.self.args) refl c.in_err-args.ensures.folds)
 
-pub returns : goal.returns
-returns g c =
-    one_folds expression_shape args_shape (bare_const_record (expr_const c.args.self.tag)) (record { same = λ f g. refl; named = λ size. tt }) c.args.self _ (c.args.self.args) c.in_ok-args.args refl refl c.in_ok-args.ensures
+pub returns-clause-folds : goal.returns-clause-folds
+returns-clause-folds g c =
+    one_folds expression_shape args_shape (bare_const_record (expr_const c.args.self.tag)) (record { same = λ f g. refl; named = λ size. tt }) c.args.self _ (c.args.self.args) c.in_ok-args.args refl refl c.in_ok-args.ensures.folds

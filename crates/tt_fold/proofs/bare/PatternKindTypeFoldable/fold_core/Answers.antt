@@ -8,8 +8,8 @@ pub fold_parts-requires-clause-parts : goal.fold_parts-requires-clause-parts
 fold_parts-requires-clause-parts g c =
     rw c.parts.ensures (record-parts _ (bare_pattern_form c.args.self) c.requires.value)
 
-pub returns-in_err-parts : goal.returns-in_err-parts
-returns-in_err-parts g c =
+pub returns-in_err-parts-clause-folds : goal.returns-in_err-parts-clause-folds
+returns-in_err-parts-clause-folds g c =
     let p = err_from_is_err_and c.from_residual.result c.from_residual.ensures.1 in
     let d = rw c.parts.ensures at c.in_err-parts.ensures in
     rw (p.1, p.2) (parts_fail bare_pattern_form d)
@@ -17,9 +17,9 @@ returns-in_err-parts g c =
 pub with_parts-requires : goal.with_parts-requires
 with_parts-requires g c =
     let d = rw c.parts.ensures at c.in_ok-parts.ensures in
-    d.outcome.1.like
+    d.outcome.0.like
 
-pub returns : goal.returns
-returns g c =
+pub returns-clause-folds : goal.returns-clause-folds
+returns-clause-folds g c =
     let d = rw c.parts.ensures at c.in_ok-parts.ensures in
     parts_fold bare_pattern_form c.requires.value (rw c.with_parts.ensures refl) d

@@ -12,8 +12,8 @@ pub fold_contents-requires-clause-parts : goal.fold_contents-requires-clause-par
 fold_contents-requires-clause-parts g c =
     rw c.parts.ensures (bare-parts type_sort bare_type_record error_of_type _ (ty_form c.args.self) c.requires.value)
 
-pub returns-in_err-parts : goal.returns-in_err-parts
-returns-in_err-parts g c =
+pub returns-in_err-parts-clause-folds : goal.returns-in_err-parts-clause-folds
+returns-in_err-parts-clause-folds g c =
     let p = err_from_is_err_and c.from_residual.result c.from_residual.ensures.1 in
     let d = rw (c.parts.ensures, c.bound_vars.ensures) at c.in_err-parts.ensures in
     rw (p.1, p.2) (bare_fails type_sort bare_type_record error_of_type ty_form d)
@@ -21,9 +21,9 @@ returns-in_err-parts g c =
 pub with_parts-requires : goal.with_parts-requires
 with_parts-requires g c =
     let d = rw (c.parts.ensures, c.bound_vars.ensures) at c.in_ok-parts.ensures in
-    d.outcome.1.like
+    d.outcome.0.like
 
-pub returns : goal.returns
-returns g c =
+pub returns-clause-folds : goal.returns-clause-folds
+returns-clause-folds g c =
     let d = rw (c.parts.ensures, c.bound_vars.ensures) at c.in_ok-parts.ensures in
     bare_folds type_sort bare_type_record error_of_type ty_form c.requires.value c.with_parts.ensures d

@@ -10,15 +10,15 @@ pub fold_core-requires-clause-value : goal.fold_core-requires-clause-value
 fold_core-requires-clause-value g c =
     one-inner _ (bare_const_record branch_const) (consts_shape c.in-Branch.values) (rw (← c.kind.ensures, c.in-Branch.is) at c.requires.value)
 
-pub returns-in_err-new_values-in-Branch : goal.returns-in_err-new_values-in-Branch
-returns-in_err-new_values-in-Branch g c =
+pub returns-in_err-new_values-in-Branch-clause-folds : goal.returns-in_err-new_values-in-Branch-clause-folds
+returns-in_err-new_values-in-Branch-clause-folds g c =
     let p = err_from_is_err_and c.from_residual.result c.from_residual.ensures.1 in
-    rw (p.1, p.2) (one_fails valtree_shape consts_shape (bare_const_record branch_const) c.args.self c.in-Branch.values (rw (← c.kind.ensures, c.in-Branch.is) refl) c.in_err-new_values-in-Branch.ensures)
+    rw (p.1, p.2) (one_fails valtree_shape consts_shape (bare_const_record branch_const) c.args.self c.in-Branch.values (rw (← c.kind.ensures, c.in-Branch.is) refl) c.in_err-new_values-in-Branch.ensures.folds)
 
-pub returns-in_ok-new_values-in-Branch : goal.returns-in_ok-new_values-in-Branch
-returns-in_ok-new_values-in-Branch g c =
-    one_folds valtree_shape consts_shape (bare_const_record branch_const) (record { same = λ f g. refl; named = λ size. tt }) c.args.self _ c.in-Branch.values c.in_ok-new_values-in-Branch.new_values (rw (← c.kind.ensures, c.in-Branch.is) refl) (rw c.from-in-Branch.ensures refl) c.in_ok-new_values-in-Branch.ensures
+pub returns-in_ok-new_values-in-Branch-clause-folds : goal.returns-in_ok-new_values-in-Branch-clause-folds
+returns-in_ok-new_values-in-Branch-clause-folds g c =
+    one_folds valtree_shape consts_shape (bare_const_record branch_const) (record { same = λ f g. refl; named = λ size. tt }) c.args.self _ c.in-Branch.values c.in_ok-new_values-in-Branch.new_values (rw (← c.kind.ensures, c.in-Branch.is) refl) (rw c.from-in-Branch.ensures refl) c.in_ok-new_values-in-Branch.ensures.folds
 
-pub returns-in-Leaf : goal.returns-in-Leaf
-returns-in-Leaf g c =
+pub returns-in-Leaf-clause-folds : goal.returns-in-Leaf-clause-folds
+returns-in-Leaf-clause-folds g c =
     none_folds valtree_shape (bare_const_record (leaf_const c.in-Leaf.leaf.bits c.in-Leaf.leaf.size)) (record { same = λ f g. refl; named = λ size. tt }) c.args.self _ (rw (← c.kind.ensures, c.in-Leaf.is) refl) (rw c.from.ensures refl) c.requires.state

@@ -9,10 +9,10 @@ fold_core-requires-clause-value g c =
 pub returns-in_err-value : goal.returns-in_err-value
 returns-in_err-value g c =
     let p = err_from_is_err_and c.from_residual.result c.from_residual.ensures.1 in
-    let d = rw c.skip_binder.ensures at c.in_err-value.ensures in
+    let d = rw c.skip_binder.ensures at c.in_err-value.ensures.folds in
     rw (p.1, p.2) (super_binder_fails g.T.TypeVisitable.shape d)
 
 pub returns : goal.returns
 returns g c =
-    let d = rw c.skip_binder.ensures at c.in_ok-value.ensures in
+    let d = rw c.skip_binder.ensures at c.in_ok-value.ensures.folds in
     rw (c.bind_with_vars.ensures, c.bound_vars.ensures) (super_binder_folds g.T.TypeVisitable.shape (binder-has g.T.TypeVisitable.shape _ c.args.self c.requires.value) d)

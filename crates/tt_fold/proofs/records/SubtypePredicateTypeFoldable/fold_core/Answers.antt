@@ -11,20 +11,20 @@ pub fold_core-requires-clause-value : goal.fold_core-requires-clause-value
 fold_core-requires-clause-value g c =
     two-first _ (subtype_record c.args.self.a_is_expected) (ty_shape (c.args.self.a)) (ty_shape (c.args.self.b)) c.requires.value
 
-pub returns-in_err-a : goal.returns-in_err-a
-returns-in_err-a g c =
+pub returns-in_err-a-clause-folds : goal.returns-in_err-a-clause-folds
+returns-in_err-a-clause-folds g c =
     let p = err_from_is_err_and c.from_residual.result c.from_residual.ensures.1 in
-    rw (p.1, p.2) (two_first_fails subtype_shape ty_shape ty_shape (subtype_record c.args.self.a_is_expected) c.args.self (c.args.self.a) (c.args.self.b) refl c.in_err-a.ensures)
+    rw (p.1, p.2) (two_first_fails subtype_shape ty_shape ty_shape (subtype_record c.args.self.a_is_expected) c.args.self (c.args.self.a) (c.args.self.b) refl c.in_err-a.ensures.folds)
 
 pub fold_core-requires-2-clause-value : goal.fold_core-requires-2-clause-value
 fold_core-requires-2-clause-value g c =
-    IsPart-grows _ _ c.in_ok-a.ensures.extends.rows _ (two-second _ (subtype_record c.args.self.a_is_expected) (ty_shape (c.args.self.a)) (ty_shape (c.args.self.b)) c.requires.value)
+    IsPart-grows _ _ c.in_ok-a.ensures.folds.extends.rows _ (two-second _ (subtype_record c.args.self.a_is_expected) (ty_shape (c.args.self.a)) (ty_shape (c.args.self.b)) c.requires.value)
 
-pub returns-in_err-b : goal.returns-in_err-b
-returns-in_err-b g c =
+pub returns-in_err-b-clause-folds : goal.returns-in_err-b-clause-folds
+returns-in_err-b-clause-folds g c =
     let p = err_from_is_err_and c.from_residual-in_err-b.result c.from_residual-in_err-b.ensures.1 in
-    rw (p.1, p.2) (two_second_fails subtype_shape ty_shape ty_shape (subtype_record c.args.self.a_is_expected) c.args.self (c.args.self.a) c.in_ok-a.a (c.args.self.b) refl (two-second _ (subtype_record c.args.self.a_is_expected) (ty_shape (c.args.self.a)) (ty_shape (c.args.self.b)) c.requires.value) c.in_ok-a.ensures c.in_err-b.ensures)
+    rw (p.1, p.2) (two_second_fails subtype_shape ty_shape ty_shape (subtype_record c.args.self.a_is_expected) c.args.self (c.args.self.a) c.in_ok-a.a (c.args.self.b) refl (two-second _ (subtype_record c.args.self.a_is_expected) (ty_shape (c.args.self.a)) (ty_shape (c.args.self.b)) c.requires.value) c.in_ok-a.ensures.folds c.in_err-b.ensures.folds)
 
-pub returns : goal.returns
-returns g c =
-    two_folds subtype_shape ty_shape ty_shape (subtype_record c.args.self.a_is_expected) (record { same = λ f g. refl; named = λ size. tt }) c.args.self _ (c.args.self.a) c.in_ok-a.a (c.args.self.b) c.in_ok-b.b refl refl (two-second _ (subtype_record c.args.self.a_is_expected) (ty_shape (c.args.self.a)) (ty_shape (c.args.self.b)) c.requires.value) c.in_ok-a.ensures c.in_ok-b.ensures
+pub returns-clause-folds : goal.returns-clause-folds
+returns-clause-folds g c =
+    two_folds subtype_shape ty_shape ty_shape (subtype_record c.args.self.a_is_expected) (record { same = λ f g. refl; named = λ size. tt }) c.args.self _ (c.args.self.a) c.in_ok-a.a (c.args.self.b) c.in_ok-b.b refl refl (two-second _ (subtype_record c.args.self.a_is_expected) (ty_shape (c.args.self.a)) (ty_shape (c.args.self.b)) c.requires.value) c.in_ok-a.ensures.folds c.in_ok-b.ensures.folds

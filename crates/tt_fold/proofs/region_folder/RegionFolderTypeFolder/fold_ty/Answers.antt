@@ -8,4 +8,4 @@ pub returns-else-intersects-clause-result : goal.returns-else-intersects-clause-
 returns-else-intersects-clause-result g c =
     let none = none-flagged c.args.self.now.current_index (tree_in c.args.cx.now.rows (ty_shape c.args.ty)) c.flags.result.bits c.intersects.result
     c.flags.ensures c.if-intersects.false c.intersects.ensures.1 in
-    (c.requires.owned, tt, ((refl, inr (refl, none)), refl))
+    (tt, ((refl, inr (refl, none)), refl))

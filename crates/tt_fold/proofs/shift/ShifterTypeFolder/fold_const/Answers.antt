@@ -44,7 +44,6 @@ returns-in_ok-shifted-in-Some-clause-result c =
     let far = rw c.outer_exclusive_binder.ensures at (c.if-not-moves.ensures.0 refl) in
     let is = const_tree (meaning c.args.cx.now.rows) c.node_kind-kind.result c.in-Some.index c.in-Some.bound_const (sym c.bound_const.ensures ∙ c.in-Some.is) in
     let h = c.in_ok-shifted-in-Some.ensures in (
-      tt,
       h.result.0,
       (
         same_standing (record { amount = c.args.self.now.amount; under = c.args.self.now.current_index }) c.args.cx.now.counters c.shift_bound_const.new.cx.counters h.counters,
@@ -58,12 +57,12 @@ returns-in-None-clause-result c =
     let far = rw c.outer_exclusive_binder.ensures at (c.if-not-moves.ensures.0 refl) in
     let inside = const_inside (record { amount = c.args.self.now.amount; under = c.args.self.now.current_index }) (meaning c.args.cx.now.rows) c.node_kind-kind.result c.node_kind-kind.ensures.table (sym c.bound_const.ensures ∙ c.in-None.is) in
     let is_const : is_type_tree (tree_in c.args.cx.now.rows (const_shape c.args.constant)) ≡ false = rw tree (kind-const (meaning c.args.cx.now.rows) c.node_kind-kind.result c.node_kind-kind.ensures.table) in
-    (tt, tt, (uncounted_standing (record { amount = c.args.self.now.amount; under = c.args.self.now.current_index }) (tree_in c.args.cx.now.rows (const_shape c.args.constant)) c.args.cx.now.counters is_const, term_descends (record { amount = c.args.self.now.amount; under = c.args.self.now.current_index }) (tree_in c.args.cx.now.rows (const_shape c.args.constant)) (rw tree inside) far))
+    (tt, (uncounted_standing (record { amount = c.args.self.now.amount; under = c.args.self.now.current_index }) (tree_in c.args.cx.now.rows (const_shape c.args.constant)) c.args.cx.now.counters is_const, term_descends (record { amount = c.args.self.now.amount; under = c.args.self.now.current_index }) (tree_in c.args.cx.now.rows (const_shape c.args.constant)) (rw tree inside) far))
 
 pub returns-then-not-moves-clause-result : goal.returns-then-not-moves-clause-result
 returns-then-not-moves-clause-result c =
     let closed = rw c.outer_exclusive_binder.ensures at c.if-not-moves.ensures.1 in
-    (tt, tt, (refl, term_kept (record { amount = c.args.self.now.amount; under = c.args.self.now.current_index }) (tree_in c.args.cx.now.rows (const_shape c.args.constant)) closed))
+    (tt, (refl, term_kept (record { amount = c.args.self.now.amount; under = c.args.self.now.current_index }) (tree_in c.args.cx.now.rows (const_shape c.args.constant)) closed))
 
 pub returns-then-not-moves-clause-extends : goal.returns-then-not-moves-clause-extends
 returns-then-not-moves-clause-extends c = Extends-refl _

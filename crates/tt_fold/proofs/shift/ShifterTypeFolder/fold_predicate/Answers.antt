@@ -10,7 +10,6 @@ pub returns-then-moves-clause-result : goal.returns-then-moves-clause-result
 returns-then-moves-clause-result c =
     let far = rw c.outer_exclusive_binder.ensures at (c.if-moves.ensures.0 refl) in (
       tt,
-      tt,
       (
         uncounted_standing (record { amount = c.args.self.now.amount; under = c.args.self.now.current_index }) (tree_in c.args.cx.now.rows (predicate_shape c.args.predicate)) c.args.cx.now.counters (clauses_no_type c.args.cx.now.rows Predicates c.args.predicate.number tt c.requires.predicate),
         term_descends (record { amount = c.args.self.now.amount; under = c.args.self.now.current_index }) (tree_in c.args.cx.now.rows (predicate_shape c.args.predicate)) (clauses_inside (record { amount = c.args.self.now.amount; under = c.args.self.now.current_index }) c.args.cx.now.rows Predicates c.args.predicate.number tt c.requires.predicate) far,
@@ -20,4 +19,4 @@ returns-then-moves-clause-result c =
 pub returns-else-moves-clause-result : goal.returns-else-moves-clause-result
 returns-else-moves-clause-result c =
     let closed = rw c.outer_exclusive_binder.ensures at c.if-moves.ensures.1 in
-    (tt, tt, (refl, term_kept (record { amount = c.args.self.now.amount; under = c.args.self.now.current_index }) (tree_in c.args.cx.now.rows (predicate_shape c.args.predicate)) closed))
+    (tt, (refl, term_kept (record { amount = c.args.self.now.amount; under = c.args.self.now.current_index }) (tree_in c.args.cx.now.rows (predicate_shape c.args.predicate)) closed))

@@ -44,7 +44,6 @@ returns-in_ok-shifted-in-Some-clause-result c =
     let far = rw c.outer_exclusive_binder.ensures at (c.if-not-moves.ensures.0 refl) in
     let is = type_tree (meaning c.args.cx.now.rows) c.node_kind-kind.result c.in-Some.index c.in-Some.bound_ty (sym c.bound_ty.ensures ∙ c.in-Some.is) in
     let h = c.in_ok-shifted-in-Some.ensures in (
-      tt,
       h.result.0,
       (
         same_standing (record { amount = c.args.self.now.amount; under = c.args.self.now.current_index }) c.args.cx.now.counters c.shift_bound_ty.new.cx.counters h.counters,
@@ -60,7 +59,6 @@ returns-in-None-clause-result c =
     let is_type : is_type_tree (tree_in c.args.cx.now.rows (ty_shape c.args.ty)) ≡ true = rw tree (kind-type (meaning c.args.cx.now.rows) c.node_kind-kind.result c.node_kind-kind.ensures.table) in
     let h = c.count_shift_descent.ensures in (
       tt,
-      tt,
       (
         counted_standing (record { amount = c.args.self.now.amount; under = c.args.self.now.current_index }) (tree_in c.args.cx.now.rows (ty_shape c.args.ty)) c.args.cx.now.counters c.count_shift_descent.new.self.counters is_type h.descents h.shift_descents,
         term_descends (record { amount = c.args.self.now.amount; under = c.args.self.now.current_index }) (tree_in c.args.cx.now.rows (ty_shape c.args.ty)) (rw tree inside) far,
@@ -70,7 +68,7 @@ returns-in-None-clause-result c =
 pub returns-then-not-moves-clause-result : goal.returns-then-not-moves-clause-result
 returns-then-not-moves-clause-result c =
     let closed = rw c.outer_exclusive_binder.ensures at c.if-not-moves.ensures.1 in
-    (tt, tt, (refl, term_kept (record { amount = c.args.self.now.amount; under = c.args.self.now.current_index }) (tree_in c.args.cx.now.rows (ty_shape c.args.ty)) closed))
+    (tt, (refl, term_kept (record { amount = c.args.self.now.amount; under = c.args.self.now.current_index }) (tree_in c.args.cx.now.rows (ty_shape c.args.ty)) closed))
 
 pub returns-then-not-moves-clause-extends : goal.returns-then-not-moves-clause-extends
 returns-then-not-moves-clause-extends c = Extends-refl _

@@ -1,4 +1,5 @@
 use Rattle.std.proofs.Common.{refl}
+use Rattle.tt_kinds.specs.declared.table.Table.TheVariants.{Types}
 use Rattle.tt_interner.specs.Rows.{type_row}
 use Rattle.tt_interner.proofs.Growth.{Extends-trans}
 use Rattle.type_terms.specs.declared.run.answer.Answer.TheVariants as answer
@@ -7,7 +8,7 @@ use Rattle.type_terms.specs.CallForm.{ty_ids, ty_form, form_positions, IsFormToo
 use Rattle.type_terms.specs.Told.{told_all, setting}
 use Rattle.type_terms.specs.Means.{number_at}
 use Rattle.type_terms.proofs.PartLaws.{AreTerms-append, AreTerms-second}
-use Rattle.type_terms.proofs.BuildLaws.{answer-passed, unbuilt-refused, kind-allowed, kind-refused, there-built}
+use Rattle.type_terms.proofs.BuildLaws.{answer-passed, unbuilt-refused, kind-allowed, kind-refused, there-built, there-refused}
 use Rattle.type_terms.proofs.run.build.build_ty.Goals as goal
 
 pub returns-in_err-ty-in-Ok-clause-extends : goal.returns-in_err-ty-in-Ok-clause-extends
@@ -44,5 +45,5 @@ returns-in-Err-clause-answers c = λ ids.
       owned = tt;
       ok = tt;
       err = unbuilt-refused (setting c.args.cx.now c.ty_kind.new.cx) e (call.Ty c.args.call.now) (form_positions form) (IsFormTooDeep form) _
-          tt (λ a. c.in-Err.ensures.handles a.0) (AreTerms-second e (ty_ids c.args.call.now) (form_positions form)) (λ d. d) c.in-Err.ensures.kind.err;
+          tt (there-refused c.args.cx.now c.ty_kind.new.cx c.ty_kind.new.cx c.ty_kind.ensures.extends c.args.earlier.now c.requires c.are_rows-in-Err.ensures.are Types form _ c.in-Err.ensures.handles c.in-Err.ensures.named) (AreTerms-second e (ty_ids c.args.call.now) (form_positions form)) (λ d. d) c.in-Err.ensures.kind.err;
     }
