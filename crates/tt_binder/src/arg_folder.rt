@@ -15,7 +15,7 @@ use crate::slice_like::SliceLike;
 use tt_flags::TypeFlags;
 use tt_fold::{Step, TypeFolder, shift_region, shift_vars};
 use tt_index::{GREATEST_INDEX, Refusal};
-use tt_interner::{Flags, InternedKind, Interner};
+use tt_interner::{Flags, InternedKind, Interner, count_descent};
 use tt_kinds::{
     BoundVarKinds, Clauses, Const, ConstKind, GenericArgKind, Predicate, Region, RegionKind, Ty,
     TyKind,
@@ -225,7 +225,7 @@ impl<S: SliceLike> TypeFolder for ArgFolder<S> {
                 Ok(Step::Replace(new))
             }
             None => {
-                cx.count_descent();
+                count_descent(cx);
                 Ok(Step::Descend)
             }
         }

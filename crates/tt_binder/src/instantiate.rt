@@ -26,7 +26,7 @@ use tt_kinds::{EarlyBinder, Unnormalized};
 use tt_visit::TypeVisitableExt;
 
 /// A value of an item as it is declared, which arguments turn into one that is used elsewhere.
-pub trait Instantiate<T: TypeFoldable + Copy>: Copy {
+pub trait Instantiate<T: TypeFoldable>: Sized {
     // The value as it is declared.
     ghost declared: { Self → T };
 
@@ -77,7 +77,7 @@ pub trait Instantiate<T: TypeFoldable + Copy>: Copy {
 }
 
 // The value where there are no arguments.
-fn without_arguments<T: TypeFoldable + Copy>(cx: &Interner, value: T) -> Result<T, Refusal>
+fn without_arguments<T: TypeFoldable>(cx: &Interner, value: T) -> Result<T, Refusal>
     requires { IsPartBy T.shape cx.now.rows value }
     ensures some { holds_param (tree_by T.shape cx.now.rows value) ≡ true → result ≡ Err Refusal.NoArguments }
     ensures none { holds_param (tree_by T.shape cx.now.rows value) ≡ false → result ≡ Ok value }
@@ -90,7 +90,7 @@ fn without_arguments<T: TypeFoldable + Copy>(cx: &Interner, value: T) -> Result<
 }
 
 // The value instantiated.
-fn instantiate_value<T: TypeFoldable + Copy, S: SliceLike>(
+fn instantiate_value<T: TypeFoldable, S: SliceLike>(
     cx: &mut Interner,
     args: S,
     value: T,
@@ -124,7 +124,7 @@ fn instantiate_value<T: TypeFoldable + Copy, S: SliceLike>(
     Ok(folded)
 }
 
-impl<T: TypeFoldable + Copy> Instantiate<T> for EarlyBinder<T> {
+impl<T: TypeFoldable> Instantiate<T> for EarlyBinder<T> {
     ghost declared = { λ binder. binder.value };
 
     fn instantiate<S: SliceLike>(

@@ -8,3 +8,4 @@ mod untouched;
 
 pub use instantiate::Instantiate;
 pub use slice_like::SliceLike;
+pub use untouched::is_untouched;

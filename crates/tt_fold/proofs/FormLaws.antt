@@ -54,7 +54,7 @@ form-labels old new g s (plain l p) h = keeps_label old new g l h.0
 form-labels old new g s (under l vars m p) h = (keeps_label old new g l h.0, keeps_label old new g (record_label m) h.1.0.1.1)
 
 -- the trees of types
-type-type : (m : Meaning) (f : Form TypeLabel) → is_type_tree (fill m (form_shape type_sort (relabelled type_label f))) ≡ true
+pub type-type : (m : Meaning) (f : Form TypeLabel) → is_type_tree (fill m (form_shape type_sort (relabelled type_label f))) ≡ true
 unfolding fill
 type-type m (param i name) = refl
 type-type m (bound d e) = refl
@@ -69,7 +69,7 @@ kind-type m (kind.Predicate b) h = absurd (cc)
 kind-type m (kind.Existential b) h = absurd (cc)
 
 -- and of constants
-const-type : (m : Meaning) (f : Form ConstLabel) → is_type_tree (fill m (form_shape const_sort (relabelled const_label f))) ≡ false
+pub const-type : (m : Meaning) (f : Form ConstLabel) → is_type_tree (fill m (form_shape const_sort (relabelled const_label f))) ≡ false
 unfolding fill
 const-type m (param i name) = refl
 const-type m (bound d e) = refl

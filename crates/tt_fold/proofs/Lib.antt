@@ -13,6 +13,7 @@ mod AssumptionSteps
 pub mod ClauseLaws
 pub mod ShiftLaws
 mod BoundLaws
+mod TypeLaws
 pub mod MovingLaws
 pub mod CounterLaws
 mod RegionFolderLaws

@@ -10,3 +10,4 @@ pub mod Parts
 pub mod RegionFolder
 pub mod RegionFolderGrowth
 pub mod Regions
+pub mod Types

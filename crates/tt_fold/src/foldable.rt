@@ -106,7 +106,7 @@ pub trait TypeSuperFoldable: TypeFoldable {
     }
 }
 
-impl<T: TypeFoldable + Copy> TypeFoldable for Binder<T> {
+impl<T: TypeFoldable> TypeFoldable for Binder<T> {
     fn fold_core<M, F: Core<M>>(
         self,
         cx: &mut Interner,
@@ -120,13 +120,14 @@ impl<T: TypeFoldable + Copy> TypeFoldable for Binder<T> {
     }
 }
 
-impl<T: TypeFoldable + Copy> TypeSuperFoldable for Binder<T> {
+impl<T: TypeFoldable> TypeSuperFoldable for Binder<T> {
     fn super_fold_core<M, F: Core<M>>(
         self,
         cx: &mut Interner,
         folder: &mut F,
     ) -> Result<Binder<T>, F::Error> {
+        let bound_vars = self.bound_vars();
         let value = self.skip_binder().fold_core::<M, F>(cx, folder)?;
-        Ok(Binder::bind_with_vars(value, self.bound_vars()))
+        Ok(Binder::bind_with_vars(value, bound_vars))
     }
 }

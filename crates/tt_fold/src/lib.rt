@@ -14,6 +14,7 @@ pub mod region_folder;
 pub mod region_replacer;
 pub mod shift;
 mod step_of_node;
+pub mod type_replacer;
 mod walk;
 
 pub use foldable::{TypeFoldable, TypeSuperFoldable};
@@ -21,3 +22,4 @@ pub use folder::{FallibleTypeFolder, Step, TypeFolder};
 pub use region_folder::{RegionFolder, fold_regions, region_folders_place};
 pub use region_replacer::{RegionReplacer, replace_regions};
 pub use shift::{shift_region, shift_vars};
+pub use type_replacer::{TypeReplacer, replace_types};

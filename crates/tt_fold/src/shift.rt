@@ -13,7 +13,7 @@ ghost use Rattle.tt_fold.specs.Shift.{bound_const_of, bound_ty_of, IsOuter, IsTo
 use crate::foldable::TypeFoldable;
 use crate::folder::{Step, TypeFolder};
 use tt_index::{DebruijnIndex, Refusal};
-use tt_interner::{Flags, Interner};
+use tt_interner::{Flags, Interner, count_shift_descent};
 use tt_kinds::{
     BoundConst, BoundTy, BoundVarIndexKind, BoundVarKinds, Clauses, Const, ConstKind, Kind, Node,
     Predicate, Region, RegionKind, Ty, TyKind,
@@ -192,7 +192,7 @@ impl TypeFolder for Shifter {
                 Ok(Step::Replace(shifted))
             }
             None => {
-                cx.count_shift_descent();
+                count_shift_descent(cx);
                 Ok(Step::Descend)
             }
         }

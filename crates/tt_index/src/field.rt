@@ -139,20 +139,3 @@ impl Idx for VariantIdx {
         self.value as usize
     }
 }
-
-/// What is found about one field of a value's type. `T` is the type of types and `S` that of symbols.
-#[derive(Clone, Copy, Debug, PartialEq, Eq, Hash)]
-pub struct FieldInfo<T, S> {
-    /// The data type, closure or tuple whose field it is.
-    pub base: T,
-    /// The field's own type.
-    pub ty: T,
-    /// The name of its variant, where `base` is an enum.
-    pub variant: Option<S>,
-    /// The position of its variant.
-    pub variant_idx: VariantIdx,
-    /// Its name.
-    pub name: S,
-    /// Its position in the variant.
-    pub field_idx: FieldIdx,
-}

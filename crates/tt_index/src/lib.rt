@@ -19,7 +19,7 @@ pub use abi::ExternAbi;
 pub use bound_var::BoundVar;
 pub use closure_kind::ClosureKind;
 pub use debruijn::{DebruijnIndex, INNERMOST};
-pub use field::{FieldIdx, FieldInfo, VariantIdx};
+pub use field::{FieldIdx, VariantIdx};
 pub use idx::Idx;
 pub use index_vec::IndexVec;
 pub use numeric::{FloatTy, IntTy, UintTy};

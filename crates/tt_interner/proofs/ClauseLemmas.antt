@@ -91,6 +91,17 @@ unfolding fill
 clause_at rows are b n at =
     ap is_clause_tree (Means-row rows are Predicates n (predicate_row b) at).tree ∙ predicate_label_clause (name_of (meaning rows)) b.value
 
+-- a predicate that is no clause isn't told as one
+pub no-clause : (k : PredicateKind) → ((c : ClauseKind) → k ≡ predicate.Clause c → ⊥) → is_clause_kind k ≡ true → ⊥
+no-clause (predicate.Clause c) other is = other c refl
+no-clause (predicate.DynCompatible t) other is = false≢true is
+no-clause (predicate.Subtype p) other is = false≢true is
+no-clause (predicate.Coerce p) other is = false≢true is
+no-clause (predicate.ConstEquate a b) other is = false≢true is
+no-clause predicate.Ambiguous other is = false≢true is
+no-clause (predicate.NormalizesTo p) other is = false≢true is
+no-clause (predicate.AliasRelate a b r) other is = false≢true is
+
 -- a loop over clauses: the rest decides
 pub clauses_step : (rows : List Row) (cs : List Clause) (i : ℕ) (d : Clause) → i < length cs → AreClauses rows (drop i cs) → IsClause rows (get_or cs i d).number × AreClauses rows (drop (i + 1) cs)
 clauses_step rows cs i d h all = rw add-one (subst (AreClauses rows) (drop-cons cs i d h) all)

@@ -1,6 +1,10 @@
 -- Which predicates are clauses, as their trees say.
 use Rattle.std.specs.Prelude.{Bool, false, ◌⊎◌, IsTrue, not}
 use Rattle.tt_kinds.specs.Label.{predicate_label, record_label, is_clause_record}
+use Rattle.tt_kinds.specs.declared.binder.Binder.{Binder}
+use Rattle.tt_kinds.specs.declared.predicate_kind.ClauseKind.{ClauseKind}
+use Rattle.tt_kinds.specs.declared.predicate_kind.PredicateKind.{PredicateKind}
+use Rattle.tt_kinds.specs.declared.predicate_kind.PredicateKind.TheVariants as predicate
 use Rattle.tt_kinds.specs.Tree.{Tree, Forest, term, node, binder, none, also}
 
 -- what stands under a predicate's binder is a clause
@@ -22,3 +26,7 @@ is_clause_tree _ = false
 abbrev pub HasOther : {I : Type 0} → Forest I → Type 0
 HasOther none = ⊥
 HasOther (also t ts) = IsTrue (not (is_clause_tree t)) ⊎ HasOther ts
+
+-- the predicate that a clause is, under the same binder
+abbrev pub clause_predicate : Binder ClauseKind → Binder PredicateKind
+clause_predicate c = record { value = predicate.Clause c.value; bound_vars = c.bound_vars }

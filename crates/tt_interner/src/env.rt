@@ -117,7 +117,7 @@ fn bound_at(cx: &Interner, clause: Clause) -> Option<(Const, Ty)>
 {
     cx.are_rows();
     let predicate = Predicate::from_number(clause.number());
-    bound_of(cx.predicate_kind(predicate).skip_binder())
+    bound_of(*cx.predicate_kind(predicate).as_ref().skip_binder())
 }
 
 // The type that the clause gives the placeholder, if it gives it one.

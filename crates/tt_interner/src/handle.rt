@@ -3,15 +3,16 @@
 ghost use Rattle.std.specs.Prelude.{◌≡◌, ◌<◌, ℕ, List, MatchOption};
 ghost use Rattle.tt_kinds.specs.declared.table.Table.{Table};
 ghost use Rattle.tt_kinds.specs.declared.table.Table.TheVariants.{Predicates, Symbols};
-ghost use Rattle.tt_interner.specs.Rows.{Row, text_row, size, IsClause};
+ghost use Rattle.tt_interner.specs.Clauses.{clause_predicate};
+ghost use Rattle.tt_interner.specs.Rows.{Row, text_row, predicate_row, size, IsClause};
 ghost use Rattle.tt_interner.specs.Stored.{IsAt};
 
 use crate::interner::Interner;
 use tt_kinds::{
-    Binder, BoundExistentialPredicates, BoundVarKinds, BoundVariableKind, Clause, Clauses, Const,
-    ConstKind, Consts, ExistentialPredicate, GenericArg, GenericArgs, OutlivesPredicate, Pat,
-    PatList, PatternKind, PolyExistentialPredicate, Predicate, PredicateKind, RegionAssumptions,
-    Symbol, Ty, TyKind, Tys,
+    Binder, BoundExistentialPredicates, BoundVarKinds, BoundVariableKind, Clause, ClauseKind,
+    Clauses, Const, ConstKind, Consts, ExistentialPredicate, GenericArg, GenericArgs,
+    OutlivesPredicate, Pat, PatList, PatternKind, PolyExistentialPredicate, Predicate,
+    PredicateKind, RegionAssumptions, Symbol, Ty, TyKind, Tys,
 };
 
 /// A handle of a stored term that has a kind.
@@ -279,6 +280,11 @@ pub trait AsPredicate: Sized {
     /// The predicate that the clause is.
     fn as_predicate(self) -> Predicate
         ensures { result.number ≡ clause_number self };
+
+    /// What the clause is, under its binder.
+    fn kind(self, cx: &Interner) -> Binder<ClauseKind>
+        requires { IsClause cx.now.rows (clause_number self) }
+        ensures { IsAt cx.now.rows (predicate_row (clause_predicate result)) (clause_number self) };
 }
 
 impl AsPredicate for Clause {
@@ -286,6 +292,10 @@ impl AsPredicate for Clause {
 
     fn as_predicate(self) -> Predicate {
         Predicate::from_number(self.number())
+    }
+
+    fn kind(self, cx: &Interner) -> Binder<ClauseKind> {
+        cx.clause_kind(self)
     }
 }
 

@@ -2,13 +2,14 @@
 
 ghost use Rattle.std.specs.Prelude.{◌≡◌, ◌<◌, IfOk, IfErr, min};
 ghost use Rattle.tt_interner.specs.Rows.{AreRows};
-ghost use Rattle.tt_interner.specs.Stored.{counted, first_rows, HasFirst};
+ghost use Rattle.tt_interner.specs.Stored.{first_rows, HasFirst};
 ghost use Rattle.tt_interner.specs.Laws.{AreInterned};
 
 mod args;
 mod assumptions;
 mod bound_vars;
 mod consts;
+pub mod counters;
 mod declarations;
 mod existentials;
 mod owns;
@@ -166,25 +167,5 @@ impl Interner {
         ensures { result ≡ self.now.counters.shift_descents }
     {
         self.shift_descents
-    }
-
-    /// Counts that an argument folder takes a type apart.
-    pub fn count_descent(&mut self)
-        ensures rows { self.new.rows ≡ self.old.rows }
-        ensures limit { self.new.limit ≡ self.old.limit }
-        ensures descents { self.new.counters.descents ≡ counted self.old.counters.descents }
-        ensures shift_descents { self.new.counters.shift_descents ≡ self.old.counters.shift_descents }
-    {
-        self.descents = self.descents.saturating_add(1);
-    }
-
-    /// Counts that a shifter takes a type apart.
-    pub fn count_shift_descent(&mut self)
-        ensures rows { self.new.rows ≡ self.old.rows }
-        ensures limit { self.new.limit ≡ self.old.limit }
-        ensures descents { self.new.counters.descents ≡ self.old.counters.descents }
-        ensures shift_descents { self.new.counters.shift_descents ≡ counted self.old.counters.shift_descents }
-    {
-        self.shift_descents = self.shift_descents.saturating_add(1);
     }
 }

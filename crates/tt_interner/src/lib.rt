@@ -16,6 +16,7 @@ pub mod ty_info;
 pub use env::{ConstBounds, ConstTyFault, FindConstTy};
 pub use flags::{Flags, ForKind, OwnFlags};
 pub use handle::{AsClause, AsPredicate, InternedKind, InternedList, InternedText};
+pub use interner::counters::{count_descent, count_shift_descent};
 pub use interner::{Interner, RegionName};
 pub use laws::{
     equal_handles_for_equal_trees, growth_keeps_declarations, growth_keeps_rows, growth_keeps_trees,

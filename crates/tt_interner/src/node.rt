@@ -107,14 +107,14 @@ impl Interner {
                 let kind = self.predicate_kind(predicate);
                 Contents {
                     bound_vars: Some(kind.bound_vars()),
-                    parts: kind.skip_binder().parts(),
+                    parts: kind.as_ref().skip_binder().parts(),
                 }
             }
             Node::Existential(predicate) => {
                 let kind = self.existential_kind(predicate);
                 Contents {
                     bound_vars: Some(kind.bound_vars()),
-                    parts: kind.skip_binder().parts(),
+                    parts: kind.as_ref().skip_binder().parts(),
                 }
             }
             Node::Clauses(_) => unreachable!(),

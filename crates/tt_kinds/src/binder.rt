@@ -13,7 +13,7 @@ pub struct Binder<T> {
     bound_vars: BoundVarKinds,
 }
 
-impl<T: Copy> Binder<T> {
+impl<T> Binder<T> {
     /// The value under a binder of these variables.
     pub fn bind_with_vars(value: T, bound_vars: BoundVarKinds) -> Binder<T>
         ensures { result ≡ record { value = value; bound_vars = bound_vars } }
@@ -26,12 +26,24 @@ impl<T: Copy> Binder<T> {
     pub fn skip_binder(self) -> T
         ensures { result ≡ self.value }
     {
-        self.value
+        let Binder { value, .. } = self;
+        value
+    }
+
+    /// The value lent, under the same binder.
+    pub fn as_ref(&self) -> Binder<&T>
+        ensures value { result.value.now ≡ self.now.value }
+        ensures bound_vars { result.bound_vars ≡ self.now.bound_vars }
+    {
+        Binder {
+            value: &self.value,
+            bound_vars: self.bound_vars,
+        }
     }
 
     /// The variables that the binder binds.
-    pub fn bound_vars(self) -> BoundVarKinds
-        ensures { result ≡ self.bound_vars }
+    pub fn bound_vars(&self) -> BoundVarKinds
+        ensures { result ≡ self.now.bound_vars }
     {
         self.bound_vars
     }
@@ -44,7 +56,7 @@ pub struct EarlyBinder<T> {
     value: T,
 }
 
-impl<T: Copy> EarlyBinder<T> {
+impl<T> EarlyBinder<T> {
     /// The value, with its parameters still to be replaced.
     pub fn bind(value: T) -> EarlyBinder<T>
         ensures { result ≡ record { value = value } }
@@ -56,7 +68,8 @@ impl<T: Copy> EarlyBinder<T> {
     pub fn skip_binder(self) -> T
         ensures { result ≡ self.value }
     {
-        self.value
+        let EarlyBinder { value } = self;
+        value
     }
 }
 
@@ -66,7 +79,7 @@ pub struct Unnormalized<T> {
     value: T,
 }
 
-impl<T: Copy> Unnormalized<T> {
+impl<T> Unnormalized<T> {
     /// The value, marked as not normalized.
     pub fn new(value: T) -> Unnormalized<T>
         ensures { result ≡ record { value = value } }
@@ -78,6 +91,7 @@ impl<T: Copy> Unnormalized<T> {
     pub fn skip_norm_wip(self) -> T
         ensures { result ≡ self.value }
     {
-        self.value
+        let Unnormalized { value } = self;
+        value
     }
 }

@@ -176,7 +176,7 @@ impl TyKind {
 }
 
 /// What is known of an `IntVar`.
-#[derive(Clone, Copy, Debug, PartialEq, Eq)]
+#[derive(Clone, Copy, Debug, PartialEq, Eq, Hash)]
 pub enum IntVarValue {
     /// Nothing.
     Unknown,
@@ -206,7 +206,7 @@ impl IntVarValue {
 }
 
 /// What is known of a `FloatVar`.
-#[derive(Clone, Copy, Debug, PartialEq, Eq)]
+#[derive(Clone, Copy, Debug, PartialEq, Eq, Hash)]
 pub enum FloatVarValue {
     /// Nothing.
     Unknown,

@@ -17,7 +17,6 @@ use Rattle.tt_kinds.specs.declared.ty_kind.InferTy.{InferTy}
 use Rattle.tt_kinds.specs.declared.ty_kind.InferTy.TheVariants.{TyVar, IntVar, FloatVar, FreshTy, FreshIntTy, FreshFloatTy}
 use Rattle.tt_kinds.proofs.OuterLaws.{greatest_reach-deeper}
 use Rattle.tt_kinds.proofs.ReadingLaws.{place-outer}
-use Rattle.tt_visit.specs.declared.visitor.Next.TheVariants.{Descend}
 use Rattle.tt_visit.specs.Root.{a_region, hooked, root, error_of}
 use Rattle.tt_visit.specs.Visit.{Tells, TellingBreaks, GoesOver, GoesOverAll, region_seen, skipped, went_inside, token_seen, node_seen, unhooked_seen, binder_skipped, binder_seen, term_seen, param_seen, bound_seen, value_seen, all_seen, one_seen, Breaks, BreaksAll, region_broke, term_broke, inside_broke, unhooked_broke, token_broke, node_broke, enter_broke, under_broke, error_broke, term_inside_broke, value_broke, first_broke, later_broke}
 use Rattle.tt_visit.specs.HasTypeFlags.{Misses, Meets}

@@ -45,7 +45,7 @@ pub trait TypeSuperVisitable: TypeVisitable {
             (λ b. BreaksInside V.hooks (V.meaning cx.now.rows visitor.old) (fill (meaning cx.now.rows) (Self.shape self.now)) b (V.meaning cx.now.rows visitor.new)) };
 }
 
-impl<T: TypeVisitable + Copy> TypeVisitable for Binder<T> {
+impl<T: TypeVisitable> TypeVisitable for Binder<T> {
     ghost use Rattle.tt_kinds.specs.Kinds.{binder_shape};
 
     ghost shape = { binder_shape T.shape };
@@ -68,14 +68,14 @@ impl<T: TypeVisitable + Copy> TypeVisitable for Binder<T> {
     }
 }
 
-impl<T: TypeVisitable + Copy> TypeSuperVisitable for Binder<T> {
+impl<T: TypeVisitable> TypeSuperVisitable for Binder<T> {
     #[tactic(auto, unfolding(tt_kinds::specs::Shape::IsPart, tt_kinds::specs::Shape::fill))]
     fn super_visit_with<V: TypeVisitor>(
         &self,
         cx: &Interner,
         visitor: &mut V,
     ) -> ControlFlow<V::Break, ()> {
-        self.skip_binder().visit_with(cx, visitor)
+        self.as_ref().skip_binder().visit_with(cx, visitor)
     }
 }
 

@@ -5,7 +5,7 @@ use Rattle.tt_index.specs.declared.refusal.Refusal.{Refusal}
 use Rattle.tt_index.specs.declared.refusal.Refusal.TheVariants.{Memory, TableFull, GreatestIndex, NoArguments, ArgOutOfRange, ArgKind, RegionVariable, NotAClause, NoSuchAnswer}
 use Rattle.std.proofs.lemmas.Bool.{cases_lt}
 use Rattle.tt_index.specs.Greatest.{greatest}
-use Rattle.tt_kinds.specs.Label.{Name, Sort, region_sort, list_label, text_label}
+use Rattle.tt_kinds.specs.Label.{Name, region_sort, list_label}
 use Rattle.tt_kinds.specs.Tree as tree
 use Rattle.tt_kinds.specs.Tree.{Tree, Forest, Depth, node}
 use Rattle.tt_kinds.specs.Bound.{depth, IsBelowGreatest}
@@ -20,16 +20,16 @@ use Rattle.tt_kinds.specs.declared.region_kind.RegionKind.TheVariants.{ReBound}
 use Rattle.tt_kinds.specs.declared.region_kind.RegionKind.{RegionKind}
 use Rattle.tt_kinds.specs.declared.table.Table.{Table}
 use Rattle.tt_kinds.specs.declared.table.Table.TheVariants.{Types, Consts, Patterns, Predicates, ClauseLists, ArgLists, Symbols, Declarations}
-use Rattle.tt_interner.specs.Rows.{Row, text_row, row_table, row_shape, size, meaning, IsNew, AreRows}
+use Rattle.tt_interner.specs.Rows.{Row, row_table, row_shape, size, meaning, AreRows}
 use Rattle.tt_interner.proofs.Growth.{size-grows}
-use Rattle.tt_interner.proofs.Trees.{row_within, Means-row, IsNew-row, distinct}
-use Rattle.tt_interner.proofs.Fill.{fill-one_row}
-use Rattle.tt_interner.proofs.ShapeLaws.{shape_one, text_of_row}
 use Rattle.tt_interner.specs.Stored.{Terms, Extends, Builds, IsCause}
 use Rattle.type_terms.specs.declared.run.answer.Answer.{Answer}
 use Rattle.type_terms.specs.declared.run.answer.Answer.TheVariants as answer
 use Rattle.type_terms.specs.declared.run.call.RegionNameCall.{RegionNameCall}
 use Rattle.type_terms.specs.declared.run.call.Call.{Call}
+use Rattle.type_terms.specs.declared.run.call.ConstCall.{ConstCall}
+use Rattle.type_terms.specs.declared.run.call.ConstCall.TheVariants as const
+use Rattle.type_terms.specs.declared.run.call.ValTreeCall.TheVariants as valtree
 use Rattle.type_terms.specs.declared.run.call.PatCall.{PatCall}
 use Rattle.type_terms.specs.declared.run.call.PatCall.TheVariants as pat
 use Rattle.type_terms.specs.CallForm as call_forms
@@ -39,6 +39,7 @@ use Rattle.type_terms.specs.Means as means
 use Rattle.type_terms.specs.Means.{number_at, tree_at, AreTerms, NamesTerms, BuildsOrFolds, IsTold, IsThere, AddsNothing, IsAllowed, MayRefuse, want_of_memory, full_table, no_term, too_deep}
 use Rattle.type_terms.specs.Build as build
 use Rattle.type_terms.specs.Build.{IsUnbuilt, no_memory, no_row, no_index, IsNameOf, IsRegionOf, GivesRegion, ArePlaced, AreItemsOf, GivesPart, GivesPlaced, IsKindOf, Answers}
+use Rattle.type_terms.proofs.TextLaws.{new-not-stored, unnamed-absent, region-absent}
 use Rattle.type_terms.proofs.RunLaws.{HasFullTable-extends, IsStored-grows, IsAllowed-wider}
 
 -- why a row was not stored is such a reason
@@ -125,10 +126,10 @@ stored-as rows table t n u within h = subst (λ (x : Table). IsStored rows x u) 
 
 -- a reason why a part was not built is one why the call is refused
 pub unbuilt-refused : (s : Setting) (e : List Told) (c : Call) (ns : List Named) (deep : Type 0) (r : Refusal)
-    → BuildsOrFolds c → (AddsNothing s e c → r ≡ NoSuchAnswer) → (NamesTerms e c → AreTerms e ns) → (deep → means.IsTooDeep e c)
+    → BuildsOrFolds c → (AddsNothing s e c → build.IsForRoom r → ⊥) → (NamesTerms e c → AreTerms e ns) → (deep → means.IsTooDeep e c)
     → IsUnbuilt s.full e ns deep r → MayRefuse s e c r
-unbuilt-refused s e c ns deep r b g n d (build.no_memory i) = want_of_memory (b, λ a. let no = g a in absurd (cc)) i
-unbuilt-refused s e c ns deep r b g n d (build.no_row p i) = full_table (b, λ a. let no = g a in absurd (cc)) p i
+unbuilt-refused s e c ns deep r b g n d (build.no_memory i) = want_of_memory (b, λ a. g a (subst build.IsForRoom (sym i) tt)) i
+unbuilt-refused s e c ns deep r b g n d (build.no_row p i) = full_table (b, λ a. g a (subst build.IsForRoom (sym i) tt)) p i
 unbuilt-refused s e c ns deep r b g n d (build.no_term h i) = no_term (λ a. h (n a)) i
 unbuilt-refused s e c ns deep r b g n d (build.no_index h i) = too_deep (d h) i
 
@@ -153,54 +154,39 @@ there-stored : (start old new : Terms) → Extends start old → (answers : List
     → IsStored old.rows t (call_forms.form_tree (number_at (told_all start.rows answers)) (tree_at (told_all start.rows answers)) f)
 there-stored start old new x answers o t f h = IsStored-grows start.rows old.rows x.rows t _ (elim h.1 [ inl k ↦ k | inr k ↦ told-stored start.rows answers t _ o k ])
 
--- a new row's term isn't stored
-new-not-stored : (rows : List Row) → AreRows rows → (r : Row) → HasParts (size rows) (row_shape r) → IsNew r rows → IsStored rows (row_table r) (fill (meaning rows) (row_shape r)) → ⊥
-new-not-stored rows are r parts new s =
-    let at = row_within rows (row_table r) s.number s.within in
-    let means = Means-row rows are (row_table r) s.number at.0 at.1 in
-    let same = fill-one_row (size rows) (meaning rows) (distinct rows are) (row_shape at.0) (row_shape r) means.parts parts (sym means.tree ∙ s.means) in
-    IsNew-row r rows new (row_table r) s.number at.0 at.1 (shape_one at.0 r same)
+-- a refusal for another reason is none for want of room
+pub not-room : (r q : Refusal) → r ≡ q → (build.IsForRoom q → ⊥) → build.IsForRoom r → ⊥
+not-room r q h other room = other (subst build.IsForRoom h room)
 
--- the name in the shape of a parameter
-param-name : (f : Meaning) (size_of : Sizes) (sh : Shape) (s : Sort) (i : ℕ) (name : Name) → HasParts size_of sh → fill f sh ≡ tree.param s i name → (n : ℕ) × (n < size_of Symbols) × (name_of f n ≡ name)
-unfolding fill
-param-name f size_of (shape.param o j n) s i name h e = (n, h, (let same = e in cc))
-param-name f size_of (shape.bound o d y) s i name h e = absurd (cc)
-param-name f size_of (shape.region r) s i name h e = absurd (cc)
-param-name f size_of (shape.term l ss) s i name h e = absurd (cc)
-param-name f size_of (shape.node l ss) s i name h e = absurd (cc)
-param-name f size_of (shape.binder n b) s i name h e = absurd h
-param-name f size_of (shape.stored t n) s i name h e = absurd h
-
--- the name of a stored parameter is stored
-param-named : (rows : List Row) → AreRows rows → (t : Table) (s : Sort) (i : ℕ) (name : Name) → IsStored rows t (tree.param s i name) → IsStored rows Symbols (node (text_label name) tree.none)
-param-named rows are t s i name kept =
-    let at = row_within rows t kept.number kept.within in
-    let means = Means-row rows are t kept.number at.0 at.1 in
-    let has = param-name (meaning rows) (size rows) (row_shape at.0) s i name means.parts (sym means.tree ∙ kept.means) in
-    let text = row_within rows Symbols has.0 has.1 in
-    let says = Means-row rows are Symbols has.0 text.0 text.1 in
-    let is : text_of (fill (meaning rows) (row_shape text.0)) ≡ name = ap text_of (sym says.tree) ∙ has.2 in
-    record {
-      number = has.0;
-      within = has.1;
-      means = says.tree ∙ text_of_row (meaning rows) text.0 says.same_table ∙ ap (λ bytes. node (text_label bytes) tree.none) is;
-    }
-
--- so a parameter whose name is no text isn't
-unnamed-absent : (rows : List Row) → AreRows rows → (t : Table) (ids : ℕ → ℕ) (trees : ℕ → Tree Depth) (f : CallForm)
-    → build.LacksName rows f → call_forms.IsParameter f → IsStored rows t (call_forms.form_tree ids trees f) → ⊥
-unfolding fill IsPart
-unnamed-absent rows are t ids trees (call_forms.param s i name) lacks p kept = new-not-stored rows are (text_row name) (tt, tt) lacks (param-named rows are t s i name kept)
-unnamed-absent rows are t ids trees _ lacks p kept = absurd p
-
--- what is there is refused only where a position tells no term
+-- what is there isn't refused for want of room
 pub there-refused : (start old new : Terms) → Extends start old → (answers : List Answer) → AreOwned start.rows answers → AreRows old.rows → (t : Table) (f : CallForm) (r : Refusal)
-    → (call_forms.IsOfHandles f → r ≡ NoSuchAnswer) → build.LacksName old.rows f → IsThere (setting start new) (told_all start.rows answers) t f → r ≡ NoSuchAnswer
-there-refused start old new x answers o are t f r handles lacks there = elim there.0 [
-  | inl h ↦ handles h
-  | inr p ↦ absurd (unnamed-absent old.rows are t _ _ f lacks p (there-stored start old new x answers o t f there))
+    → (call_forms.IsOfHandles f → r ≡ NoSuchAnswer) → (call_forms.IsOfRegion f → build.IsForRoom r → build.LacksRegion old.rows f) → build.LacksName old.rows f
+    → IsThere (setting start new) (told_all start.rows answers) t f → build.IsForRoom r → ⊥
+there-refused start old new x answers o are t f r handles region lacks there room = elim there.0 [
+  | inl h ↦ not-room r NoSuchAnswer (handles h) (λ n. n) room
+  | inr q ↦ elim q [
+    | inl h ↦ region-absent old.rows are t _ _ f (region h room) h (there-stored start old new x answers o t f there)
+    | inr p ↦ unnamed-absent old.rows are t _ _ f lacks p (there-stored start old new x answers o t f there)
+  ]
 ]
+
+-- no constant has a region for its part
+pub no-region-in-const : (ids : ℕ → ℕ) (k : ConstCall) → call_forms.IsOfRegion (call_forms.const_form ids k) → ⊥
+no-region-in-const ids (const.Param index name) h = h
+no-region-in-const ids (const.Infer i) h = h
+no-region-in-const ids (const.Bound i b) h = h
+no-region-in-const ids (const.Placeholder p) h = h
+no-region-in-const ids (const.Unevaluated p args) h = h
+no-region-in-const ids (const.Value t (valtree.Leaf s)) h = h
+no-region-in-const ids (const.Value t (valtree.Branch cs)) h = h
+no-region-in-const ids (const.Error e) h = h
+no-region-in-const ids (const.Expr tag args) h = h
+
+-- nor has a pattern
+pub no-region-in-pattern : (k : PatCall) → call_forms.IsOfRegion (call_forms.pat_form k) → ⊥
+no-region-in-pattern (pat.Range x y) h = h
+no-region-in-pattern (pat.Or ps) h = h
+no-region-in-pattern pat.NotNull h = h
 
 -- no pattern is a parameter
 pub no_parameter : (k : PatCall) → call_forms.IsParameter (call_forms.pat_form k) → ⊥

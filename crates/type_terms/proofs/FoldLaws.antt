@@ -1,6 +1,6 @@
 -- The calls that fold terms, and the arguments of calls, over plain variables.
 use Rattle.std.proofs.Common.{◌≡◌, ◌<◌, ℕ, false, inl, inr, List, [], ◌∷◌, ◌++◌, Some, None, Option, Result, Ok, Err, refl, ap, sym, ◌∙◌, subst}
-use Rattle.std.specs.Prelude.{IsErrAnd, IsSomeAnd, IsTrue, Bool, true, not, ◌⊎◌, ◌↔◌}
+use Rattle.std.specs.Prelude.{IsErrAnd, IsSomeAnd, ◌⊎◌}
 use Rattle.std.specs.declared.alloc.Global.{Global}
 use Rattle.std.specs.declared.vec.Vec.{Vec}
 use Rattle.std.proofs.lemmas.List.{map-append}
@@ -12,7 +12,7 @@ use Rattle.tt_kinds.specs.Argument.{Argument, put, readings}
 use Rattle.tt_kinds.specs.Param.{holds_param}
 use Rattle.tt_kinds.specs.Reading.{read, move, outer_binder}
 use Rattle.tt_fold.specs.Shift.{IsShiftRefusal}
-use Rattle.tt_kinds.specs.Shape.{stored, fill, IsPart}
+use Rattle.tt_kinds.specs.Shape.{stored}
 use Rattle.tt_kinds.specs.Kinds.{arg_shape}
 use Rattle.tt_kinds.specs.declared.handle.Ty.{Ty}
 use Rattle.tt_kinds.specs.declared.handle.Const.{Const}
@@ -27,7 +27,7 @@ use Rattle.tt_interner.specs.Stored.{Terms, Extends}
 use Rattle.tt_binder.specs.Arguments.{argument_of}
 use Rattle.tt_binder.specs.ArgumentLaws.{arguments-still}
 use Rattle.tt_binder.specs.Instance.{HasNoCause, IsPlain, IsReason, ComesBack}
-use Rattle.tt_binder.proofs.InstanceLaws.{type_back, clauses_back, instance_back}
+use Rattle.tt_binder.proofs.InstanceLaws.{instance_back}
 use Rattle.type_terms.specs.declared.run.answer.Answer.{Answer}
 use Rattle.type_terms.specs.declared.run.answer.Answer.TheVariants as answer
 use Rattle.type_terms.specs.declared.run.call.RegionCall.{RegionCall}
@@ -176,11 +176,7 @@ module _ (e : List Told) (p : ℕ) (table : Table) (u : Tree Depth) (at : term_a
 -- a term that stays whatever the arguments are comes back
 pub unchanged-back : (rows : List Row) (args : List (Argument Depth)) (table : Table) (n : ℕ) → n < size rows table
     → IsUnchanged (record { table = table; tree = meaning rows table n }) → ComesBack args (meaning rows table n)
-unfolding fill IsPart
-unchanged-back rows args Types n w h = type_back rows args (stored Types n) n refl w h.1
-unchanged-back rows args Predicates n w h = clauses_back rows args (stored Predicates n) Predicates n tt refl w h.1
-unchanged-back rows args ClauseLists n w h = clauses_back rows args (stored ClauseLists n) ClauseLists n tt refl w h.1
-unchanged-back rows args _ n w h = absurd h.0
+unchanged-back rows args table n w h = record { no_param = h.0; hides = inr h.1 }
 
 -- why an instantiation adds nothing
 pub inst-adds : (s : Setting) (e : List Told) (p : ℕ) (list : Vec ArgCall Global) {P : Type 0} → AddsNothing s e (call.Instantiate p list)
@@ -213,9 +209,3 @@ module _ (terms : Terms) (earlier : List Answer) (p : ℕ) (list : Vec ArgCall G
   unchanged-allowed (answer.Clauses h) u = unchanged-term (answer.Clauses h) ClauseLists h.number u.at (clauses-handle (answer.Clauses h) h refl) u.unchanged
   unchanged-allowed (answer.Args h) u = unchanged-term (answer.Args h) ArgLists h.number u.at (args-handle (answer.Args h) h refl) u.unchanged
   unchanged-allowed _ u = absurd u.unchanged
-
--- the test that no parameter stands
-pub none-held : (b h : Bool) → IsTrue b ↔ (h ≡ true) → IsTrue (not b) ↔ (h ≡ false)
-none-held true h e = (λ x. absurd (cc), λ n. let held = e.0 refl in absurd (cc))
-none-held false true e = (λ x. let held = e.1 refl in absurd (cc), λ n. absurd (cc))
-none-held false false e = (λ x. refl, λ n. refl)

@@ -5,6 +5,7 @@ pub mod IdLaws
 pub mod ResultLaws
 pub mod PartLaws
 pub mod ClauseLaws
+pub mod TextLaws
 pub mod BuildLaws
 pub mod NameLaws
 pub mod KindLaws
@@ -12,4 +13,3 @@ pub mod FoldLaws
 pub mod EraseLaws
 pub mod QueryLaws
 pub mod DeclareLaws
-pub mod IterLaws

@@ -1,8 +1,8 @@
 -- What the steps of a building call promise.
-use Rattle.std.specs.Prelude.{◌≡◌, ◌↔◌, ℕ, ◌<◌, List, [], ◌∷◌, ◌++◌, map, Result, IfOk, IfErr, Some, IsSome, IsSomeAnd, ⊤}
+use Rattle.std.specs.Prelude.{◌≡◌, ◌↔◌, ℕ, ◌<◌, List, [], ◌∷◌, ◌++◌, map, Option, Result, IfOk, IfErr, Some, IsSome, IsSomeAnd, ⊤}
 use Rattle.tt_index.specs.declared.refusal.Refusal.{Refusal}
 use Rattle.tt_index.specs.declared.refusal.Refusal.TheVariants.{Memory, TableFull, GreatestIndex, NoSuchAnswer}
-use Rattle.tt_kinds.specs.Label.{var_list_label}
+use Rattle.tt_kinds.specs.Label.{Name, var_list_label}
 use Rattle.tt_kinds.specs.Tree.{Tree, Forest, Depth, node, none}
 use Rattle.tt_kinds.specs.Scan.{scan}
 use Rattle.tt_kinds.specs.Reading.{outer_binder}
@@ -31,7 +31,7 @@ use Rattle.tt_binder.specs.Arguments.{arguments as built_arguments}
 use Rattle.tt_kinds.specs.declared.generic_arg.GenericArgKind.{GenericArgKind}
 use Rattle.std.specs.declared.alloc.Global.{Global}
 use Rattle.std.specs.declared.vec.Vec.{Vec}
-use Rattle.type_terms.specs.CallForm.{of_id, CallForm, param, Named, Item, Part, called, variable_kind, item_tree, items_trees, part_tree, parts_trees, item_positions, items_positions, part_positions, parts_positions, IsItemTooDeep, AreItemsTooDeep, IsPartTooDeep, ArePartsTooDeep, form_positions, form_tree, IsFormTooDeep, arg_item, arg_items, clause_items, RecordCall, record_tree}
+use Rattle.type_terms.specs.CallForm.{of_id, CallForm, param, plain, one, a_region, region_text, Named, Item, Part, called, variable_kind, item_tree, items_trees, part_tree, parts_trees, item_positions, items_positions, part_positions, parts_positions, IsItemTooDeep, AreItemsTooDeep, IsPartTooDeep, ArePartsTooDeep, form_positions, form_tree, IsFormTooDeep, arg_item, arg_items, clause_items, RecordCall, record_tree}
 use Rattle.type_terms.specs.Told.{Told, term, told, told_all, handle_table, IsOwned, AreOwned, HasFullTable, setting}
 use Rattle.type_terms.specs.Means.{IsUnchanged, as_term, term_at, as_id, id_at, number_at, Tells, tree_at, argument, arguments, AreTerms, IsAllowed, MayRefuse}
 
@@ -79,6 +79,26 @@ pub data IsUnbuilt (full : Type 0) (earlier : List Told) (named : List Named) (d
 abbrev pub LacksName : List Row → CallForm → Type 0
 LacksName rows (param s i name) = IsNew (text_row name) rows
 LacksName rows _ = ⊤
+
+-- a region's text is none of the rows
+abbrev pub LacksText : List Row → Option Name → Type 0
+LacksText rows text = IsSomeAnd text (λ name. IsNew (text_row name) rows)
+
+-- the text of a region among the children is none of the rows
+abbrev pub AnyLacksText : List Row → List Part → Type 0
+AnyLacksText rows (one (a_region r) ∷ ps) = LacksText rows (region_text r)
+AnyLacksText rows _ = ⊥
+
+-- the text of the region that is built into the term is none of the rows
+abbrev pub LacksRegion : List Row → CallForm → Type 0
+LacksRegion rows (plain l ps) = AnyLacksText rows ps
+LacksRegion rows _ = ⊥
+
+-- the refusal is for want of memory or of a row
+abbrev pub IsForRoom : Refusal → Type 0
+IsForRoom Memory = ⊤
+IsForRoom TableFull = ⊤
+IsForRoom _ = ⊥
 
 -- what is named can't be used: a position tells nothing that is wanted there, or the greatest index is needed
 abbrev pub IsUnusable : List Told → List Named → Type 0 → Refusal → Type 0

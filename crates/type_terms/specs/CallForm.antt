@@ -1,5 +1,5 @@
 -- What building calls build: the tree over the trees and the ids at the positions that they name, and what they ask of what is there.
-use Rattle.std.specs.Prelude.{ℕ, List, [], ◌∷◌, ◌++◌, map, ◌⊎◌, ⊤}
+use Rattle.std.specs.Prelude.{ℕ, List, [], ◌∷◌, ◌++◌, map, ◌⊎◌, ⊤, Option, Some, None}
 use Rattle.std.specs.String.{string_bytes}
 use Rattle.tt_kinds.specs.Label.{Name, Sort, region_sort, type_sort, const_sort, RegionName, anonymous, printed, named, environment, VarKind, region_variable, type_variable, const_variable, Entry, static_region, erased_region, region_var, error_region, late_param_region, placeholder_region, TypeLabel, bool_type, char_type, int_type, uint_type, float_type, str_type, never_type, placeholder_type, infer_type, error_type, ref_type, raw_ptr_type, slice_type, tuple_type, fn_ptr_type, foreign_type, adt_type, array_type, closure_type, coroutine_closure_type, coroutine_type, coroutine_witness_type, alias_type, infer_const, placeholder_const, unevaluated_const, leaf_const, branch_const, error_const, expr_const, pat_type, unsafe_binder_type, range_pattern, or_pattern, not_null_pattern, unsafe_binder_record, trait_record, host_effect_record, region_outlives_record, type_outlives_record, projection_record, const_has_type_record, well_formed_record, const_evaluatable_record, unstable_feature_record, dyn_compatible_record, subtype_record, coerce_record, const_equate_record, ambiguous_record, normalizes_to_record, alias_relate_record, dynamic_type, existential_trait_record, existential_projection_record, auto_trait_record, RecordLabel, fn_sig_tys_record, Label, type_label, const_label, pattern_label, predicate_label, existential_label, clause_list_label, list_label, record_label}
 use Rattle.tt_kinds.specs.Tree as tree
@@ -149,6 +149,19 @@ abbrev pub pat_form : PatCall → CallForm
 pat_form (pat.Range start end) = plain (pattern_label range_pattern) (one (a_term Consts start) ∷ one (a_term Consts end) ∷ [])
 pat_form (pat.Or ps) = plain (pattern_label or_pattern) (a_list PatternLists (terms_at Patterns ps.items) ∷ [])
 pat_form pat.NotNull = plain (pattern_label not_null_pattern) []
+
+-- the text that a bound region is called, if it is called by one
+abbrev pub name_text : RegionNameCall → Option Name
+name_text (region_name.NamedForPrinting text) = Some (string_bytes text)
+name_text _ = None
+
+-- the text in a region, if there is one
+abbrev pub region_text : RegionCall → Option Name
+region_text (ReEarlyParam index name) = Some (string_bytes name)
+region_text (ReBound i var name) = name_text name
+region_text (ReLateParam p name) = name_text name
+region_text (RePlaceholder u var name) = name_text name
+region_text _ = None
 
 -- the number of the id at each position
 module _ (ids : ℕ → ℕ) where
@@ -337,6 +350,16 @@ IsOfHandle (a_list t is) = ⊥
 abbrev pub AreOfHandles : List Part → Type 0
 AreOfHandles [] = ⊤
 AreOfHandles (p ∷ ps) = IsOfHandle p × AreOfHandles ps
+
+-- the first child is a region, and the others are handles
+abbrev pub IsRegionFirst : List Part → Type 0
+IsRegionFirst (one (a_region r) ∷ ps) = AreOfHandles ps
+IsRegionFirst _ = ⊥
+
+-- what is built has a region and handles for its parts: no list and no binder
+abbrev pub IsOfRegion : CallForm → Type 0
+IsOfRegion (plain l ps) = IsRegionFirst ps
+IsOfRegion _ = ⊥
 
 -- what is built is a parameter
 abbrev pub IsParameter : CallForm → Type 0

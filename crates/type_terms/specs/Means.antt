@@ -17,12 +17,13 @@ use Rattle.tt_kinds.specs.declared.declaration.DeclarationSort.{DeclarationSort}
 use Rattle.tt_kinds.specs.declared.table.Table.{Table}
 use Rattle.tt_kinds.specs.declared.table.Table.TheVariants.{Types, Consts, Patterns, Predicates, ClauseLists, ArgLists}
 use Rattle.tt_interner.specs.Clauses.{is_clause_tree}
+use Rattle.tt_binder.specs.Untouched.{IsUntouched}
 use Rattle.type_terms.specs.declared.run.call.ArgCall.{ArgCall}
 use Rattle.type_terms.specs.declared.run.call.ArgCall.TheVariants as arg
 use Rattle.type_terms.specs.declared.run.call.Call.{Call}
 use Rattle.type_terms.specs.declared.run.call.DeclareCall.{DeclareCall}
 use Rattle.type_terms.specs.declared.run.call.Call.TheVariants as call
-use Rattle.type_terms.specs.CallForm.{CallForm, IsParameter, IsOfHandles, form_tree, Want, of_table, of_clause, as_at, of_any, with_flags, of_id, of_any_id, Named, arg_items, args_part, args_ids, ty_ids, const_ids, predicate_ids, ty_form, const_form, pat_form, predicate_form, declared_sort, declared_kind, declared_positions, clause_items, clauses_tree, form_positions, items_positions, part_positions, part_tree, region_tree, IsFormTooDeep, IsPartTooDeep, AreItemsTooDeep}
+use Rattle.type_terms.specs.CallForm.{CallForm, IsParameter, IsOfHandles, IsOfRegion, form_tree, Want, of_table, of_clause, as_at, of_any, with_flags, of_id, of_any_id, Named, arg_items, args_part, args_ids, ty_ids, const_ids, predicate_ids, ty_form, const_form, pat_form, predicate_form, declared_sort, declared_kind, declared_positions, clause_items, clauses_tree, form_positions, items_positions, part_positions, part_tree, region_tree, IsFormTooDeep, IsPartTooDeep, AreItemsTooDeep}
 use Rattle.type_terms.specs.Told.{Setting, Told, term, declared, truth, info, refused, bad}
 
 -- a term with its table
@@ -216,22 +217,15 @@ IsTold [] table u = ⊥
 IsTold (term t v ∷ earlier) table u = ((t ≡ table) × (v ≡ u)) ⊎ IsTold earlier table u
 IsTold (t ∷ earlier) table u = IsTold earlier table u
 
--- the term that is built is a parameter, or has no parts but handles, and it is there: it was stored before the calls, or told
+-- the term that is built is a parameter, or has no parts but handles and a region, and it is there: it was stored before the calls, or told
 abbrev pub IsThere : Setting → List Told → Table → CallForm → Type 0
 IsThere s earlier table f =
-    (IsOfHandles f ⊎ IsParameter f)
+    (IsOfHandles f ⊎ (IsOfRegion f ⊎ IsParameter f))
     × (s.stored table (form_tree (number_at earlier) (tree_at earlier) f) ⊎ IsTold earlier table (form_tree (number_at earlier) (tree_at earlier) f))
 
--- the table is that of types, of predicates or of lists of clauses
-abbrev pub IsOfTypesOrClauses : Table → Type 0
-IsOfTypesOrClauses Types = ⊤
-IsOfTypesOrClauses Predicates = ⊤
-IsOfTypesOrClauses ClauseLists = ⊤
-IsOfTypesOrClauses _ = ⊥
-
--- the term is a type, a predicate or a list of clauses in which no parameter stands: whatever the arguments are, it stays
+-- whatever the arguments are, the term stays: no parameter stands in it, and no region variable is exposed
 abbrev pub IsUnchanged : Term → Type 0
-IsUnchanged u = IsOfTypesOrClauses u.table × (holds_param u.tree ≡ false)
+IsUnchanged u = IsUntouched u.tree
 
 -- the call adds nothing: what it builds is there, or what it folds stays as it is
 abbrev pub AddsNothing : Setting → List Told → Call → Type 0

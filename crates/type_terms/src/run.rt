@@ -11,7 +11,7 @@ pub mod fault;
 mod fold;
 mod handle;
 mod ids;
-pub(crate) mod line;
+pub mod line;
 mod lookup;
 mod number;
 mod parts;
@@ -32,5 +32,6 @@ pub use call::{
     PredicateKindCall, RegionCall, RegionNameCall, TermCall, TyCall, ValTreeCall, VariableCall,
 };
 pub use fault::Fault;
+pub use line::parse_line;
 pub use runner::{answer_next, run_calls};
 pub use script::run_script;

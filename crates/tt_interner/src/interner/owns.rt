@@ -53,7 +53,10 @@ impl Interner {
         if !self.owns_predicate(predicate) {
             return false;
         }
-        self.predicate_kind(predicate).skip_binder().is_clause()
+        self.predicate_kind(predicate)
+            .as_ref()
+            .skip_binder()
+            .is_clause()
     }
 
     /// Whether the number is that of an existential predicate under its binder.

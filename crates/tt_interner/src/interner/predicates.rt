@@ -3,7 +3,8 @@
 ghost use Rattle.std.specs.Prelude.{◌≡◌, ◌<◌, ◌↔◌, IsTrue};
 ghost use Rattle.tt_kinds.specs.Shape.{HasParts};
 ghost use Rattle.tt_kinds.specs.Kinds.{predicate_kind_shape};
-ghost use Rattle.tt_interner.specs.Rows.{predicate_row, clauses_row, size, meaning, AreClauses};
+ghost use Rattle.tt_interner.specs.Clauses.{clause_predicate};
+ghost use Rattle.tt_interner.specs.Rows.{predicate_row, clauses_row, size, meaning, AreClauses, IsClause};
 ghost use Rattle.tt_interner.specs.Stored.{IsAt, IsInfo, Builds};
 
 use super::Interner;
@@ -11,7 +12,7 @@ use crate::flags::{ForKind, items_info};
 use crate::tables::{find_or_add, find_or_add_list, find_or_insert, info_at, key_at};
 use tt_flags::FlagComputation;
 use tt_index::Refusal;
-use tt_kinds::{Binder, Clause, Clauses, Predicate, PredicateKind, Table};
+use tt_kinds::{Binder, Clause, ClauseKind, Clauses, Predicate, PredicateKind, Table};
 
 impl Interner {
     /// The predicate of this kind under this binder. What stands in it has to be of this interner;
@@ -44,6 +45,20 @@ impl Interner {
         ensures { IsAt self.now.rows (predicate_row result.now) handle.number }
     {
         key_at(&self.predicates, handle.number())
+    }
+
+    /// What a stored clause is, under its binder. It has to be a clause of this interner; [`Interner::owns_clause`] tests it.
+    pub fn clause_kind(&self, clause: Clause) -> Binder<ClauseKind>
+        requires { IsClause self.now.rows clause.number }
+        ensures { IsAt self.now.rows (predicate_row (clause_predicate result)) clause.number }
+    {
+        // The rows say that a predicate is a clause by its tree.
+        self.are_rows();
+        let predicate = self.predicate_kind(Predicate::from_number(clause.number()));
+        match predicate.as_ref().skip_binder() {
+            PredicateKind::Clause(kind) => Binder::bind_with_vars(*kind, predicate.bound_vars()),
+            _ => unreachable!(),
+        }
     }
 
     // What is kept beside a stored predicate.

@@ -32,8 +32,8 @@ impl Kind {
             Kind::Ty(kind) => kind.parts(),
             Kind::Const(kind) => kind.parts(),
             Kind::Pat(kind) => kind.parts(),
-            Kind::Predicate(predicate) => predicate.skip_binder().parts(),
-            Kind::Existential(predicate) => predicate.skip_binder().parts(),
+            Kind::Predicate(predicate) => predicate.as_ref().skip_binder().parts(),
+            Kind::Existential(predicate) => predicate.as_ref().skip_binder().parts(),
         }
     }
 

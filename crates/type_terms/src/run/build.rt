@@ -11,10 +11,10 @@ ghost use Rattle.tt_kinds.specs.Kinds.{ty_kind_shape, args_shape};
 ghost use Rattle.tt_interner.specs.Rows.{Row, text_row, IsNew};
 ghost use Rattle.tt_interner.specs.Stored.{Terms, Extends};
 ghost use Rattle.type_terms.specs.declared.run.call.Call.TheVariants.{Ty as BuildsTy};
-ghost use Rattle.type_terms.specs.CallForm.{IsOfHandles, ty_ids, ty_form, alias_of, param, plain, under, one, a_region, a_term, a_list, terms_at, args_part, item_type, called, ty_called, variable_kind, region_entry, region_tree, IsRegionTooDeep};
+ghost use Rattle.type_terms.specs.CallForm.{IsOfHandles, IsOfRegion, name_text, region_text, ty_ids, ty_form, alias_of, param, plain, under, one, a_region, a_term, a_list, terms_at, args_part, item_type, called, ty_called, variable_kind, region_entry, region_tree, IsRegionTooDeep};
 ghost use Rattle.type_terms.specs.Told.{Told, told_all, AreOwned};
 ghost use Rattle.type_terms.specs.Means.{number_at, AreTerms};
-ghost use Rattle.type_terms.specs.Build.{GivesName, GivesVariable, GivesVariables, GivesRegion, GivesKind, Answers, LacksName};
+ghost use Rattle.type_terms.specs.Build.{IsForRoom, LacksText, LacksRegion, GivesName, GivesVariable, GivesVariables, GivesRegion, GivesKind, Answers, LacksName};
 
 use crate::run::answer::Answer;
 use crate::run::call::{
@@ -61,6 +61,9 @@ fn ty_kind(cx: &mut Interner, earlier: &[Answer], call: &TyCall) -> Result<TyKin
     ensures kind { GivesKind cx.new (told_all cx.old.rows earlier.now) (ty_form (number_at (told_all cx.old.rows earlier.now)) call.now) ty_kind_shape result }
     ensures handles { IfErr result (λ e. IsOfHandles (ty_form (number_at (told_all cx.old.rows earlier.now)) call.now) → e ≡ NoSuchAnswer) }
     ensures named { OnErr result (LacksName cx.new.rows (ty_form (number_at (told_all cx.old.rows earlier.now)) call.now)) }
+    ensures region { IfErr result (λ e. IsOfRegion (ty_form (number_at (told_all cx.old.rows earlier.now)) call.now)
+        → IsForRoom e
+        → LacksRegion cx.new.rows (ty_form (number_at (told_all cx.old.rows earlier.now)) call.now)) }
 {
     match call {
         TyCall::Bool => Ok(TyKind::Bool),
@@ -162,6 +165,7 @@ fn ref_kind(
     requires { AreOwned cx.old.rows earlier.now }
     ensures extends { Extends cx.old cx.new }
     ensures kind { GivesKind cx.new (told_all cx.old.rows earlier.now) (plain (type_label (ref_type mutability)) (one (a_region region.now) ∷ one (a_term Table.Types position) ∷ [])) ty_kind_shape result }
+    ensures room { IfErr result (λ e. IsForRoom e → LacksText cx.new.rows (region_text region.now)) }
 {
     let ty = handle_at(earlier, position)?;
     let region = build_region(cx, earlier, region)?;
@@ -325,6 +329,7 @@ fn build_name(
 ) -> Result<BoundRegionKind, Refusal>
     ensures extends { Extends cx.old cx.new }
     ensures name { (rows : List Row) → GivesName cx.new (number_at (told_all rows earlier.now)) name.now result }
+    ensures room { OnErr result (LacksText cx.new.rows (name_text name.now)) }
 {
     match name {
         RegionNameCall::Anon => Ok(BoundRegionKind::Anon),
@@ -345,6 +350,7 @@ pub fn build_region(
 ) -> Result<Region, Refusal>
     ensures extends { Extends cx.old cx.new }
     ensures region { (rows : List Row) → GivesRegion cx.new (region_tree (number_at (told_all rows earlier.now)) call.now) (IsRegionTooDeep call.now) result }
+    ensures room { IfErr result (λ e. IsForRoom e → LacksText cx.new.rows (region_text call.now)) }
 {
     match call {
         RegionCall::ReEarlyParam { index, name } => build_early_param(cx, *index, name.as_str()),
@@ -364,6 +370,7 @@ pub fn build_region(
 fn build_early_param(cx: &mut Interner, index: u32, name: &str) -> Result<Region, Refusal>
     ensures extends { Extends cx.old cx.new }
     ensures region { GivesRegion cx.new (tree.param region_sort index name.now) ⊥ result }
+    ensures room { OnErr result (IsNew (text_row name.now) cx.new.rows) }
 {
     let name = cx.symbol(name)?;
     Region::new(RegionKind::ReEarlyParam(EarlyParamRegion { index, name }))
@@ -378,6 +385,7 @@ fn build_late_param(
 ) -> Result<Region, Refusal>
     ensures extends { Extends cx.old cx.new }
     ensures region { (rows : List Row) → GivesRegion cx.new (tree.region (late_param_region (number_at (told_all rows earlier.now) scope) (called (number_at (told_all rows earlier.now)) name.now))) ⊥ result }
+    ensures room { OnErr result (LacksText cx.new.rows (name_text name.now)) }
 {
     let kind = build_name(cx, earlier, name)?;
     let scope = def_at(earlier, scope);
@@ -394,6 +402,7 @@ fn build_placeholder(
 ) -> Result<Region, Refusal>
     ensures extends { Extends cx.old cx.new }
     ensures region { (rows : List Row) → GivesRegion cx.new (tree.region (placeholder_region universe var (called (number_at (told_all rows earlier.now)) name.now))) ⊥ result }
+    ensures room { OnErr result (LacksText cx.new.rows (name_text name.now)) }
 {
     let kind = build_name(cx, earlier, name)?;
     let bound = BoundRegion { var, kind };
@@ -410,6 +419,7 @@ fn build_bound(
 ) -> Result<Region, Refusal>
     ensures extends { Extends cx.old cx.new }
     ensures region { (rows : List Row) → GivesRegion cx.new (tree.bound region_sort (depth index) (region_entry (number_at (told_all rows earlier.now)) var name.now)) (IsGreatest (depth index)) result }
+    ensures room { IfErr result (λ e. IsForRoom e → LacksText cx.new.rows (name_text name.now)) }
 {
     let kind = build_name(cx, earlier, name)?;
     Region::new(RegionKind::ReBound(index, BoundRegion { var, kind }))

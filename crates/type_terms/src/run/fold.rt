@@ -1,12 +1,12 @@
 //! Calls that fold terms.
 
-ghost use Rattle.std.specs.Prelude.{◌≡◌, ◌<◌, ◌↔◌, IsTrue, IsSomeAnd, MatchOption, Some, false, ℕ, List};
+ghost use Rattle.std.specs.Prelude.{◌≡◌, ◌<◌, ◌↔◌, IsTrue, IsSomeAnd, MatchOption, Some, ℕ, List};
 ghost use Rattle.std.specs.declared.alloc.Global.{Global};
 ghost use Rattle.std.specs.declared.vec.Vec.{Vec};
-ghost use Rattle.tt_kinds.specs.Param.{holds_param};
 ghost use Rattle.tt_interner.specs.Rows.{size, meaning};
 ghost use Rattle.tt_interner.specs.Stored.{Extends};
 ghost use Rattle.tt_binder.specs.Arguments.{AreArguments};
+ghost use Rattle.tt_binder.specs.Untouched.{IsUntouched};
 ghost use Rattle.type_terms.specs.declared.run.call.ArgCall.{ArgCall};
 ghost use Rattle.type_terms.specs.declared.run.call.Call.TheVariants.{Shift as Shifts, EraseRegions as Erases, Instantiate as Instantiates};
 ghost use Rattle.type_terms.specs.CallForm.{args_ids};
@@ -19,12 +19,11 @@ use crate::run::call::ArgCall;
 use crate::run::handle::Handle;
 use crate::run::lookup::answer_at;
 use crate::run::parts::{build_args, check_args};
-use tt_binder::Instantiate;
+use tt_binder::{Instantiate, is_untouched};
 use tt_fold::{fold_regions, shift_vars};
 use tt_index::Refusal;
 use tt_interner::Interner;
 use tt_kinds::{EarlyBinder, GenericArg, Region, RegionKind};
-use tt_visit::TypeVisitableExt;
 
 /// The term at the position, shifted.
 pub fn shift_at(
@@ -90,8 +89,8 @@ fn erased<T: Handle>(cx: &mut Interner, term: T) -> Result<Answer, Refusal>
     Ok(erased.into_answer())
 }
 
-/// The term at the position, instantiated, where the ids that the arguments name are there. A type, a predicate and a list of
-/// clauses in which no parameter stands comes back as it is, and no argument is built.
+/// The term at the position, instantiated, where the ids that the arguments name are there. A term without a parameter and an
+/// exposed region variable comes back as it is, and no argument is built.
 pub fn instantiate_at(
     cx: &mut Interner,
     earlier: &[Answer],
@@ -114,7 +113,7 @@ pub fn instantiate_at(
     }
 }
 
-// The answer at the position, where it is a type, a predicate or a list of clauses in which no parameter stands.
+// The answer at the position, where it is a term that stays whatever the arguments are.
 fn unchanged_at(cx: &Interner, earlier: &[Answer], position: u32) -> Option<Answer>
     requires { AreOwned cx.now.rows earlier.now }
     ensures { MatchOption
@@ -132,25 +131,28 @@ fn unchanged_at(cx: &Interner, earlier: &[Answer], position: u32) -> Option<Answ
     }
 }
 
-// Whether the answer is a type, a predicate or a list of clauses in which no parameter stands.
+// Whether the answer is a term that stays whatever the arguments are.
 fn is_unchanged(cx: &Interner, answer: &Answer) -> bool
     requires { IsOwned cx.now.rows answer.now }
     ensures { IsTrue result ↔ IsSomeAnd (as_term (Some (told cx.now.rows answer.now))) IsUnchanged }
 {
     match answer {
-        Answer::Ty(ty) => has_no_param(cx, *ty),
-        Answer::Predicate(predicate) => has_no_param(cx, *predicate),
-        Answer::Clauses(clauses) => has_no_param(cx, *clauses),
+        Answer::Ty(ty) => stays(cx, *ty),
+        Answer::Const(constant) => stays(cx, *constant),
+        Answer::Pat(pat) => stays(cx, *pat),
+        Answer::Predicate(predicate) => stays(cx, *predicate),
+        Answer::Clauses(clauses) => stays(cx, *clauses),
+        Answer::Args(args) => stays(cx, *args),
         _ => false,
     }
 }
 
-// Whether no parameter stands in the term.
-fn has_no_param<T: Handle>(cx: &Interner, term: T) -> bool
+// Whether no parameter stands in the term, and no region variable is exposed.
+fn stays<T: Handle>(cx: &Interner, term: T) -> bool
     requires { T.number term < size cx.now.rows T.table }
-    ensures { IsTrue result ↔ (holds_param (meaning cx.now.rows T.table (T.number term)) ≡ false) }
+    ensures { IsTrue result ↔ IsUntouched (meaning cx.now.rows T.table (T.number term)) }
 {
-    !term.has_param(cx)
+    is_untouched(cx, &term)
 }
 
 // The term at the position, instantiated, where arguments may change it.

@@ -15,4 +15,4 @@ returns-in_err-value g c =
 pub returns : goal.returns
 returns g c =
     let d = rw c.skip_binder.ensures at c.in_ok-value.ensures.folds in
-    rw (c.bind_with_vars.ensures, c.bound_vars.ensures) (super_binder_folds g.T.TypeVisitable.shape (binder-has g.T.TypeVisitable.shape _ c.args.self c.requires.value) d)
+    rw (c.bind_with_vars.ensures, c.bound_vars-bound_vars.ensures) (super_binder_folds g.T.TypeVisitable.shape (binder-has g.T.TypeVisitable.shape _ c.args.self c.requires.value) d)

@@ -60,7 +60,7 @@ returns-in-None-clause-result c =
     let h = c.count_shift_descent.ensures in (
       tt,
       (
-        counted_standing (record { amount = c.args.self.now.amount; under = c.args.self.now.current_index }) (tree_in c.args.cx.now.rows (ty_shape c.args.ty)) c.args.cx.now.counters c.count_shift_descent.new.self.counters is_type h.descents h.shift_descents,
+        counted_standing (record { amount = c.args.self.now.amount; under = c.args.self.now.current_index }) (tree_in c.args.cx.now.rows (ty_shape c.args.ty)) c.args.cx.now.counters c.count_shift_descent.new.cx.counters is_type h.descents h.shift_descents,
         term_descends (record { amount = c.args.self.now.amount; under = c.args.self.now.current_index }) (tree_in c.args.cx.now.rows (ty_shape c.args.ty)) (rw tree inside) far,
       ),
     )

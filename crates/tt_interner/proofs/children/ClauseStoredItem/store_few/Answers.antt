@@ -1,13 +1,11 @@
 -- by the typed call
 use Rattle.std.proofs.Common.{Err, refl, sym, subst, take, length}
-use Rattle.std.specs.Prelude.{map}
 use Rattle.std.proofs.lemmas.Bool.{false≢true}
 use Rattle.tt_index.specs.declared.refusal.Refusal.TheVariants.{NotAClause}
 use Rattle.tt_kinds.specs.declared.parts.List.TheVariants as stored_list
 use Rattle.tt_kinds.specs.declared.parts.ListSort.TheVariants as sort
 use Rattle.tt_kinds.specs.Shape.{AreParts}
 use Rattle.tt_kinds.specs.Kinds.{children_shapes}
-use Rattle.tt_interner.specs.Children.{clause_child}
 use Rattle.tt_interner.specs.Rows.{clauses_row, size}
 use Rattle.tt_interner.specs.Stored.{IsNoClauseList, StoresList, children_tree}
 use Rattle.tt_interner.proofs.NodeLemmas.{IsRowOf, is_row_of_clauses, StoresList-ok, StoresList-err, StoresList-other}

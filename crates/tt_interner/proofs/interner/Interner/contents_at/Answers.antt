@@ -29,10 +29,10 @@ pub returns-in-Predicate-clause-bound_vars : goal.returns-in-Predicate-clause-bo
 returns-in-Predicate-clause-bound_vars c = rw (c.in-Predicate.is, kind_there _ (node.Predicate c.in-Predicate.predicate) (kind.Predicate c.predicate_kind-kind.result.now) refl c.predicate_kind-kind.ensures) (ap Some c.bound_vars-in-Predicate.ensures)
 
 pub returns-in-Predicate-clause-children : goal.returns-in-Predicate-clause-children
-returns-in-Predicate-clause-children c = rw (c.in-Predicate.is, kind_there _ (node.Predicate c.in-Predicate.predicate) (kind.Predicate c.predicate_kind-kind.result.now) refl c.predicate_kind-kind.ensures) (c.parts-in-Predicate.ensures ∙ ap (λ v. (predicate_form v).parts) c.skip_binder.ensures)
+returns-in-Predicate-clause-children c = rw (c.in-Predicate.is, kind_there _ (node.Predicate c.in-Predicate.predicate) (kind.Predicate c.predicate_kind-kind.result.now) refl c.predicate_kind-kind.ensures) (c.parts-in-Predicate.ensures ∙ ap (λ v. (predicate_form v.now).parts) c.skip_binder.ensures ∙ ap (λ v. (predicate_form v).parts) c.as_ref.ensures.value)
 
 pub returns-in-Existential-clause-bound_vars : goal.returns-in-Existential-clause-bound_vars
 returns-in-Existential-clause-bound_vars c = rw (c.in-Existential.is, kind_there _ (node.Existential c.in-Existential.predicate) (kind.Existential c.existential_kind-kind.result.now) refl c.existential_kind-kind.ensures) (ap Some c.bound_vars-in-Existential.ensures)
 
 pub returns-in-Existential-clause-children : goal.returns-in-Existential-clause-children
-returns-in-Existential-clause-children c = rw (c.in-Existential.is, kind_there _ (node.Existential c.in-Existential.predicate) (kind.Existential c.existential_kind-kind.result.now) refl c.existential_kind-kind.ensures) (c.parts-in-Existential.ensures ∙ ap (λ v. (existential_form v).parts) c.skip_binder-in-Existential.ensures)
+returns-in-Existential-clause-children c = rw (c.in-Existential.is, kind_there _ (node.Existential c.in-Existential.predicate) (kind.Existential c.existential_kind-kind.result.now) refl c.existential_kind-kind.ensures) (c.parts-in-Existential.ensures ∙ ap (λ v. (existential_form v.now).parts) c.skip_binder-in-Existential.ensures ∙ ap (λ v. (existential_form v).parts) c.as_ref-in-Existential.ensures.value)

@@ -1,5 +1,6 @@
 -- by the predicate's tree
-use Rattle.std.proofs.Common.{◌≡◌, ◌<◌, refl, sym, ap, subst, ◌∙◌}
+use Rattle.std.proofs.Common.{◌≡◌, ◌<◌, Bor, refl, sym, ap, subst, ◌∙◌}
+use Rattle.tt_kinds.specs.declared.predicate_kind.PredicateKind.{PredicateKind}
 use Rattle.tt_kinds.specs.declared.table.Table.TheVariants.{Predicates}
 use Rattle.tt_kinds.specs.declared.handle.Predicate.{Predicate}
 use Rattle.tt_kinds.specs.Predicate.{is_clause_kind}
@@ -14,5 +15,5 @@ returns c =
     let same : c.from_number-predicate.result.number ≡ c.args.clause.number = ap (λ (p : Predicate). p.number) c.from_number-predicate.ensures ∙ c.number.ensures in
     let tree = clause_at rows c.are_rows.ensures.are c.predicate_kind.result.now c.from_number-predicate.result.number c.predicate_kind.ensures in
     let answer : c.is_clause.result ≡ is_clause_tree (meaning rows Predicates c.args.clause.number) =
-    c.is_clause.ensures ∙ ap is_clause_kind c.skip_binder.ensures ∙ sym tree ∙ ap (λ n. is_clause_tree (meaning rows Predicates n)) same in
+    c.is_clause.ensures ∙ ap (λ (b : Bor PredicateKind). is_clause_kind b.now) c.skip_binder.ensures ∙ ap is_clause_kind c.as_ref.ensures.value ∙ sym tree ∙ ap (λ n. is_clause_tree (meaning rows Predicates n)) same in
     (λ is. record { within = subst (λ n. n < size rows Predicates) same (c.if-not-owns_predicate.ensures.0 refl); clause = sym answer ∙ is }, λ h. answer ∙ h.clause)

@@ -6,4 +6,4 @@ use Rattle.tt_visit.proofs.visitable.BinderTypeSuperVisitable.super_visit_with.G
 pub returns : goal.returns
 unfolding fill
 returns g c =
-    flow-weaker c.visit_with.result (rw c.skip_binder.ensures at c.visit_with.ensures) (λ _ h. value_seen h) (λ b h. value_broke h)
+    flow-weaker c.visit_with.result (rw (c.skip_binder.ensures, c.as_ref.ensures.value) at c.visit_with.ensures) (λ _ h. value_seen h) (λ b h. value_broke h)

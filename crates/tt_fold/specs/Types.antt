@@ -1,0 +1,44 @@
+-- What a folder does that answers types alone.
+use Rattle.std.specs.Prelude.{◌≡◌, List, Result, MatchResult, true, false}
+use Rattle.tt_index.specs.declared.refusal.Refusal.{Refusal}
+use Rattle.tt_kinds.specs.Tree.{Depth, Tree}
+use Rattle.tt_kinds.specs.Kinds.{ty_shape}
+use Rattle.tt_kinds.specs.declared.handle.Ty.{Ty}
+use Rattle.tt_interner.specs.Rows.{Row}
+use Rattle.tt_interner.specs.Stored.{Terms}
+use Rattle.tt_fold.specs.Walk.{Hooks, Answer, descend, is_type_tree}
+use Rattle.tt_fold.specs.Counts.{Standing, stands}
+use Rattle.tt_fold.specs.Steps.{IsErrorOfUnbuilt, OwnsStep, answer_of, tree_in}
+use Rattle.tt_fold.specs.declared.folder.Step.{Step}
+
+-- What the one hook of such a folder may do: M is what its state means, and E its errors. What it fails with may be that a tree
+-- is not built: it is told which errors say so of which trees.
+pub record TypeHooks (M E : Type 0) : Type 1 where
+  -- state, type, answer, state
+  pub on_type : M → Tree Depth → Answer → M → Type 0
+  pub type_fails : (Tree Depth → E → Type 0) → M → Tree Depth → E → M → Type 0
+
+-- the hooks of a folder that answers types, keeps regions and what was built again, enters other terms, and passes binders with
+-- its state as it was
+abbrev pub only_types : {M E : Type 0} → TypeHooks M E → Hooks M E
+only_types H = record {
+  on_region = λ s t r s'. (r ≡ t) × (s' ≡ s);
+  region_fails = λ unbuilt s t e s'. ⊥;
+  on_term = λ s t a s'. (is_type_tree t ≡ true → H.on_type s t a s') × (is_type_tree t ≡ false → (a ≡ descend) × (s' ≡ s));
+  term_fails = λ unbuilt s t e s'. (is_type_tree t ≡ true) × H.type_fails unbuilt s t e s';
+  after_term = λ s t u r s'. (r ≡ u) × (s' ≡ s);
+  after_fails = λ unbuilt s t u e s'. ⊥;
+  enter = λ s vs s'. s' ≡ s;
+  enter_fails = λ unbuilt s vs e s'. ⊥;
+  leave = λ s vs s'. s' ≡ s;
+  leave_fails = λ unbuilt s vs e s'. ⊥;
+}
+
+-- The hook took the terms to terms' and the folder's state s to s', and answered r at the type x. `gives` says which error a
+-- refusal gives.
+abbrev pub AnswersType : {M E S : Type 0} → (List Row → S → M) → TypeHooks (Standing M) E → (Refusal → E → Type 0)
+    → Terms → S → Ty → Result (Step Ty) E → Terms → S → Type 0
+AnswersType means H gives terms s x r terms' s' = MatchResult r
+    (λ step. OwnsStep ty_shape terms'.rows step
+    × H.on_type (stands means terms s) (tree_in terms.rows (ty_shape x)) (answer_of ty_shape terms'.rows step) (stands means terms' s'))
+    (λ e. H.type_fails (IsErrorOfUnbuilt gives terms') (stands means terms s) (tree_in terms.rows (ty_shape x)) e (stands means terms' s'))

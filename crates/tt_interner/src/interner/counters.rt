@@ -1,0 +1,28 @@
+//! The counting of types that are taken apart.
+//!
+//! The folders above call it; it is no call of an interner's, so that who only uses a library of folders can't turn the counts.
+
+ghost use Rattle.std.specs.Prelude.{◌≡◌};
+ghost use Rattle.tt_interner.specs.Stored.{counted};
+
+use super::Interner;
+
+/// Counts that an argument folder takes a type apart.
+pub fn count_descent(cx: &mut Interner)
+    ensures rows { cx.new.rows ≡ cx.old.rows }
+    ensures limit { cx.new.limit ≡ cx.old.limit }
+    ensures descents { cx.new.counters.descents ≡ counted cx.old.counters.descents }
+    ensures shift_descents { cx.new.counters.shift_descents ≡ cx.old.counters.shift_descents }
+{
+    cx.descents = cx.descents.saturating_add(1);
+}
+
+/// Counts that a shifter takes a type apart.
+pub fn count_shift_descent(cx: &mut Interner)
+    ensures rows { cx.new.rows ≡ cx.old.rows }
+    ensures limit { cx.new.limit ≡ cx.old.limit }
+    ensures descents { cx.new.counters.descents ≡ cx.old.counters.descents }
+    ensures shift_descents { cx.new.counters.shift_descents ≡ counted cx.old.counters.shift_descents }
+{
+    cx.shift_descents = cx.shift_descents.saturating_add(1);
+}

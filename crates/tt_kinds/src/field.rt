@@ -1,0 +1,21 @@
+//! Fields of types.
+
+use crate::handle::{Symbol, Ty};
+use tt_index::{FieldIdx, VariantIdx};
+
+/// What is found about one field of a value's type.
+#[derive(Clone, Copy, Debug, PartialEq, Eq, Hash)]
+pub struct FieldInfo {
+    /// The data type, closure or tuple whose field it is.
+    pub base: Ty,
+    /// The field's own type.
+    pub ty: Ty,
+    /// The name of its variant, where `base` is an enum.
+    pub variant: Option<Symbol>,
+    /// The position of its variant.
+    pub variant_idx: VariantIdx,
+    /// Its name.
+    pub name: Symbol,
+    /// Its position in the variant.
+    pub field_idx: FieldIdx,
+}

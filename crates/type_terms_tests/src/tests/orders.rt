@@ -1,0 +1,32 @@
+//! Orders of values that have one where their part has one.
+
+use std::cmp::Ordering;
+use type_terms::{BoundVar, EarlyBinder, Placeholder, UniverseIndex};
+
+// Whether the first comes before the second.
+fn precedes<T: Ord>(first: &T, second: &T) -> bool {
+    first.cmp(second) == Ordering::Less && second.cmp(first) == Ordering::Greater
+}
+
+// By their universes, and then by what they stand for.
+fn are_placeholders_ordered() -> bool {
+    let zero = BoundVar::from_u32(0);
+    let one = BoundVar::from_u32(1);
+    let near = Placeholder::new(UniverseIndex::from_u32(0), one);
+    let far = Placeholder::new(UniverseIndex::from_u32(1), zero);
+    let last = Placeholder::new(UniverseIndex::from_u32(1), one);
+    precedes(&near, &far) && precedes(&far, &last)
+}
+
+// By their values.
+fn are_early_binders_ordered() -> bool {
+    let first = EarlyBinder::bind(BoundVar::from_u32(0));
+    let second = EarlyBinder::bind(BoundVar::from_u32(1));
+    precedes(&first, &second)
+}
+
+#[test]
+fn orders_of_parts(rt: HostRuntime) {
+    assert!(rt; are_placeholders_ordered());
+    assert!(rt; are_early_binders_ordered());
+}
