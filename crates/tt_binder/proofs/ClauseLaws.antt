@@ -29,7 +29,6 @@ chosen true u t e = cc
 chosen false u t e = cc
 
 arguments_keep : (rows : List Row) → AreRows rows → (items : List GenericArgKind) → AreArguments rows items → ArgumentsKeep (arguments rows items)
-unfolding AreParts
 arguments_keep rows are [] parts s i t e = cc
 arguments_keep rows are (x ∷ items) parts s zero t e =
     subst KeepsClauses (chosen (same_sort s (argument_of rows x).sort) (argument_of rows x).value t e) (value_keeps rows are (arg_shape x) parts.0)

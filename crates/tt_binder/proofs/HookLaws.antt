@@ -5,7 +5,7 @@ use Rattle.std.proofs.lemmas.Option.{slice_get-map, slice_get_cases}
 use Rattle.std.proofs.lemmas.List.{length-map}
 use Rattle.tt_index.specs.declared.refusal.Refusal.{Refusal}
 use Rattle.tt_index.specs.declared.refusal.Refusal.TheVariants.{Memory, TableFull, GreatestIndex, NoArguments, ArgOutOfRange, ArgKind, RegionVariable, NotAClause, NoSuchAnswer}
-use Rattle.tt_kinds.specs.Label.{Name, Sort, region_sort, type_sort, const_sort, Label, const_label, is_type}
+use Rattle.tt_kinds.specs.Label.{Name, Sort, region_sort, type_sort, const_sort, Label, const_label, is_type, is_type_or_clause}
 use Rattle.tt_kinds.specs.Tree.{Depth, at, canonical, Tree, Forest, param, bound, region, term, node, binder}
 use Rattle.tt_kinds.specs.Reading.{place, read, moved, move, FitsAt, Fits}
 use Rattle.tt_kinds.specs.Argument.{Argument, same_sort, argument}
@@ -38,11 +38,15 @@ use Rattle.tt_fold.specs.Shift.{IsShiftRefusal}
 use Rattle.tt_fold.specs.Steps.{IsRefused}
 use Rattle.tt_fold.specs.Stands.{itself}
 use Rattle.tt_fold.specs.Counts.{Standing}
-use Rattle.tt_fold.specs.Walk.{replace, descend}
+use Rattle.tt_fold.specs.Walk.{replace, keep, descend, is_type_tree}
+use Rattle.tt_fold.specs.Places.{IsIn}
+use Rattle.tt_fold.specs.Remember.{here, places, IsTaken, OnTerm, given, left_alone, taken_apart, gone_into, AfterTerm, not_noted}
 use Rattle.tt_binder.specs.Arguments.{arg_sort, argument_of, arguments, AreArguments}
-use Rattle.tt_binder.specs.Instantiation.{Instantiation, Instantiates, without, too_far, LeafRefuses, unshifted, IsShiftCount, IsParam, OnTerm, given_argument, taken_apart, gone_into, after_shift, one_more}
+use Rattle.tt_binder.specs.Instantiation.{Instantiation, Instantiates, IsArgument, given_argument, instantiation, LeafRefuses, shift_unbuilt, shift_too_far, IsShiftCount, IsParam, IsTypeOrClause, is_const, IsInnerConst}
 use Rattle.tt_binder.specs.Untouched.{IsUntouched}
-use Rattle.tt_binder.proofs.RowArguments.{IsTypeTree, IsClauseTree}
+use Rattle.tt_binder.proofs.FlagLaws.{hides_none}
+use Rattle.tt_binder.proofs.RowArguments.{IsTypeTree, IsConstTree, IsClauseTree}
+use Rattle.tt_binder.proofs.WalkLaws.{on_true, const-gone, left_done}
 
 -- the arguments aren't none
 some_arguments : (rows : List Row) (items : List GenericArgKind) → items ≢ [] → arguments rows items ≢ []
@@ -80,19 +84,18 @@ argument_given rows items s i a e same = rw (argument_at rows items i (Some a) e
 
 -- an argument is among the rows
 pub argument_part : (rows : List Row) (items : List GenericArgKind) (i : ℕ) (a : GenericArgKind) → AreArguments rows items → slice_get items i ≡ Some a → IsPart (size rows) (arg_shape a)
-unfolding AreParts
 argument_part rows [] i a are e = cc
 argument_part rows (x ∷ items) zero a are e = let same : x ≡ a = cc in rw same at are.0
 argument_part rows (x ∷ items) (suc i) a are e = argument_part rows items i a are.1 e
 
 -- a parameter's argument, shifted past the binders above it
 pub given_done : (args : List (Argument Depth)) (k : ℕ) (s : Sort) (i : ℕ) (name : Name) (t r : Tree Depth) → argument args s i ≡ Some t → r ≡ shift_tree 0 k t → Instantiates args k (param s i name) r
-given_done args k s i name t r a h = record { plain = h ∙ rw a refl; answered = rw a refl; hides = λ x g. g }
+given_done args k s i name t r a h = record { plain = h ∙ rw a refl; allows = record { answered = rw a refl; hides = λ x g. g } }
 
 -- a shift that needs too great an index is past some binders
 pub given_refused : (unbuilt : Tree Depth → Refusal → Type 0) (args : List (Argument Depth)) (k : ℕ) (s : Sort) (i : ℕ) (name : Name) (t : Tree Depth) (e : Refusal) → argument args s i ≡ Some t
     → 0 < k → e ≡ GreatestIndex → (Fits (move k (read 0 t)) → ⊥) → LeafRefuses unbuilt args k (param s i name) e
-given_refused unbuilt args k s i name t e a below is h = unshifted below (too_far (record { is = is; unfit = λ fits. h (FitsUnder-past k t (rw a at fits)) }))
+given_refused unbuilt args k s i name t e a below is h = shift_too_far below is (λ fits. h (FitsUnder-past k t (rw a at fits)))
 
 -- a region in range fits where it stands
 shallow_fits : (f : Meaning) (r : RegionKind) → IsShallow r → Fits (move 0 (read 0 (fill f (region_shape r))))
@@ -121,8 +124,8 @@ region_past f r k shallow unfit = by k refl
 -- a refused shift past some binders
 pub given_unshifted : (terms : Terms) (args : List (Argument Depth)) (k : ℕ) (s : Sort) (i : ℕ) (name : Name) (t : Tree Depth) (e : Refusal) → argument args s i ≡ Some t → 0 < k → IsShiftRefusal terms k t e
     → LeafRefuses (IsRefused terms) args k (param s i name) e
-given_unshifted terms args k s i name t Memory a below h = unshifted below (without (inst_tree k args (param s i name)) itself (Memory, (refl, tt)))
-given_unshifted terms args k s i name t TableFull a below h = unshifted below (without h.0 (rw a h.1) (TableFull, (refl, h.2)))
+given_unshifted terms args k s i name t Memory a below h = shift_unbuilt below (inst_tree k args (param s i name)) itself (Memory, (refl, tt))
+given_unshifted terms args k s i name t TableFull a below h = shift_unbuilt below h.0 (rw a h.1) (TableFull, (refl, h.2))
 given_unshifted terms args k s i name t GreatestIndex a below h = given_refused (IsRefused terms) args k s i name t GreatestIndex a below refl h
 given_unshifted terms args k s i name t NotAClause a below h = absurd h
 given_unshifted terms args k s i name t NoSuchAnswer a below h = absurd h
@@ -228,20 +231,54 @@ same_standing : (s s' : Standing Instantiation) (d n : ℕ) → s'.state ≡ s.s
 same_standing s s' d n state descents shifts = ap3 (λ q x y. record { state = q; counters = record { descents = x; shift_descents = y } }) state descents shifts
 
 pub given_step : (s s' : Standing Instantiation) (t r : Tree Depth) (o : Sort) (i : ℕ) (name : Name) → t ≡ param o i name → s'.state ≡ s.state → s'.counters.descents ≡ s.counters.descents
-    → IsShiftCount s s'.counters.shift_descents → Instantiates s.state.args s.state.binders_passed (param o i name) r → OnTerm s t (replace r) s'
+    → IsShiftCount s s'.counters.shift_descents → Instantiates s.state.rule s.state.under (param o i name) r → OnTerm instantiation s t (replace r) s'
 given_step s s' t r o i name is state descents more done =
     let same = same_standing s s' s.counters.descents s'.counters.shift_descents state descents refl in
-    subst (λ q. OnTerm s t (replace r) q) (sym same) (subst (λ u. OnTerm s u (replace r) (after_shift s s'.counters.shift_descents)) (sym is) (given_argument s'.counters.shift_descents more done))
+    let gives : IsArgument s.state.rule s.state.under (param o i name) r = record { param = tt; plain = done.plain; allows = done.allows } in
+    subst (λ q. OnTerm instantiation s t (replace r) q) (sym same)
+    (given (given_argument s'.counters.shift_descents more (subst (λ u. IsArgument s.state.rule s.state.under u r) (sym is) gives)))
 
-pub taken_step : (s s' : Standing Instantiation) (t : Tree Depth) → InnerType t → s'.state ≡ s.state → s'.counters.descents ≡ counted s.counters.descents
-    → s'.counters.shift_descents ≡ s.counters.shift_descents → OnTerm s t descend s'
-taken_step s s' t inner state descents shifts =
+pub taken_step : (s s' : Standing Instantiation) (t : Tree Depth) → InnerType t → (IsIn (here s.state t) (places s.state.memory) → ⊥) → s'.state ≡ s.state
+    → s'.counters.descents ≡ counted s.counters.descents → s'.counters.shift_descents ≡ s.counters.shift_descents → OnTerm instantiation s t descend s'
+taken_step s s' t inner fresh state descents shifts =
     let same = same_standing s s' (counted s.counters.descents) s.counters.shift_descents state descents shifts in
-    subst (λ q. OnTerm s t descend q) (sym same) (subst (λ u. OnTerm s u descend (one_more s)) (sym inner.is) (taken_apart inner.kind inner.generic))
+    subst (λ q. OnTerm instantiation s t descend q) (sym same)
+    (taken_apart (subst (λ u. IsTaken instantiation s.state.rule s.state.under u) (sym inner.is) (inner.kind, inner.generic)) fresh)
 
-pub gone_step : (s : Standing Instantiation) (t : Tree Depth) → IsClauseTree t → holds_param t ≡ true → OnTerm s t descend s
-gone_step s (term l ts) is h = gone_into is.0 is.1 (IsGeneric_among-from_test ts h)
+pub gone_step : (s : Standing Instantiation) (t : Tree Depth) → IsClauseTree t → holds_param t ≡ true → OnTerm instantiation s t descend s
+gone_step s (term l ts) is h = gone_into is.0 (on_true (is_type_or_clause l) (IsGeneric_among-from_test ts h))
 gone_step s _ is h = absurd is
+
+-- a constant that is no parameter is gone into
+const_label_other : (l : Label Name) → IsTrue (is_const l) → is_type l ≡ false
+const_label_other (const_label l) is = refl
+const_label_other _ is = cc
+
+const_other : (t : Tree Depth) → IsInnerConst t → is_type_tree t ≡ false
+const_other (bound s d e) is = rw is refl
+const_other (term l ts) is = const_label_other l is
+const_other _ is = absurd is
+
+-- what came of a term that is no type isn't remembered
+const_tree_other : (t : Tree Depth) → IsConstTree t → is_type_tree t ≡ false
+const_tree_other (param s i name) is = rw is refl
+const_tree_other (bound s d e) is = rw is refl
+const_tree_other (term l ts) is = const_label_other l is
+const_tree_other _ is = absurd is
+
+pub const_unnoted : (s : Standing Instantiation) (t r : Tree Depth) → IsConstTree t → AfterTerm instantiation s t r r s
+const_unnoted s t r is = not_noted (const_tree_other t is)
+
+pub clause_unnoted : (s : Standing Instantiation) (t r : Tree Depth) → IsClauseTree t → AfterTerm instantiation s t r r s
+clause_unnoted s (term l ts) r is = not_noted is.0
+clause_unnoted s _ r is = absurd is
+
+pub const_step : (s : Standing Instantiation) (t : Tree Depth) → IsInnerConst t → OnTerm instantiation s t descend s
+const_step s t is = gone_into (const_other t is) (const-gone t is)
+
+-- what holds no parameter stays
+pub left_step : (s : Standing Instantiation) (t : Tree Depth) → IsTypeOrClause t → holds_param t ≡ false → OnTerm instantiation s t keep s
+left_step s t kind none = left_alone (left_done s.state.rule s.state.under t none (hides_none t kind none))
 
 -- a refused shift is past some binders
 pub past_some : {T E : Type 0} (k : ℕ) (r : Result T E) (x : T) (e : E) → r ≡ Err e → (k ≡ 0 → r ≡ Ok x) → 0 < k

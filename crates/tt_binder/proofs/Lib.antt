@@ -7,3 +7,7 @@ pub mod PositionLaws
 pub mod ClauseLaws
 pub mod InstanceLaws
 pub mod StillLaws
+mod UnprunedLaws
+mod UnprunedTrees
+mod UnprunedReasons
+mod UnprunedExamples

@@ -26,7 +26,6 @@ use Rattle.tt_binder.specs.Instantiation.{IsTypeOrClause, is_const, IsInnerConst
 
 -- the arguments of a stored list are among the rows
 row_args_parts : (rows : List Row) → AreRows rows → (n : ℕ) (o : Option Row) → slice_get (table ArgLists rows) n ≡ o → AreArguments rows (row_args o)
-unfolding AreParts
 row_args_parts rows are n None e = tt
 row_args_parts rows are n (Some (args_row args)) e = (Means-row rows are ArgLists n (args_row args) e).parts.1
 row_args_parts rows are n (Some _) e = tt
@@ -131,11 +130,9 @@ inner_const _ is other = absurd is
 
 -- the same of handles
 pub type_within : (rows : List Row) (ty : Ty) → IsPartOf rows (ty_shape ty) → ty.number < size rows Types
-unfolding IsPart
 type_within rows ty h = h
 
 pub const_within : (rows : List Row) (c : Const) → IsPartOf rows (const_shape c) → c.number < size rows Consts
-unfolding IsPart
 const_within rows c h = h
 
 pub type_is : (rows : List Row) (ty : Ty) → IsPartOf rows (ty_shape ty) → IsTypeTree (tree_in rows (ty_shape ty))
@@ -147,11 +144,11 @@ unfolding fill
 const_is rows c h = stored_is rows Consts c.number (const_within rows c h)
 
 pub predicate_is : (rows : List Row) (p : Predicate) → IsPartOf rows (predicate_shape p) → IsClauseTree (tree_in rows (predicate_shape p))
-unfolding fill IsPart
+unfolding fill
 predicate_is rows p h = stored_is rows Predicates p.number h
 
 pub clauses_is : (rows : List Row) (cs : Clauses) → IsPartOf rows (clauses_shape cs) → IsClauseTree (tree_in rows (clauses_shape cs))
-unfolding fill IsPart
+unfolding fill
 clauses_is rows cs h = stored_is rows ClauseLists cs.number h
 
 -- a type's tree is its kind's, and so with constants

@@ -13,7 +13,8 @@ use Rattle.tt_fold.specs.Counts.{Standing}
 use Rattle.tt_fold.specs.Steps.{IsPartOf, tree_in}
 use Rattle.tt_fold.specs.Still.{EndsAt, IsAlone}
 use Rattle.tt_fold.specs.Walk.{descend}
-use Rattle.tt_binder.specs.Instantiation.{Instantiation, arg_hooks, IsOpenParam, IsParam, OnTerm, taken_apart, gone_into, const_gone_into}
+use Rattle.tt_fold.specs.Remember.{OnTerm, taken_apart, gone_into}
+use Rattle.tt_binder.specs.Instantiation.{Instantiation, instantiation, arg_hooks, IsOpenParam, IsParam}
 use Rattle.tt_binder.proofs.RowArguments.{IsTypeTree}
 
 -- at an open parameter no binder is passed
@@ -27,10 +28,9 @@ not_open k (tree.param o i name) is other h = other i (is, refl)
 not_open k _ is other h = h
 
 -- the hook at a parameter doesn't answer `descend`
-never_descends : {s s' : Standing Instantiation} {t : Tree Depth} → OnTerm s t descend s' → (o : Sort) (i : ℕ) (name : Name) → t ≡ tree.param o i name → ⊥
-never_descends (taken_apart kind g) o i name same = cc
-never_descends (gone_into other kind g) o i name same = cc
-never_descends (const_gone_into kind) o i name same = rw same at kind
+never_descends : {s s' : Standing Instantiation} {t : Tree Depth} → OnTerm instantiation s t descend s' → (o : Sort) (i : ℕ) (name : Name) → t ≡ tree.param o i name → ⊥
+never_descends (taken_apart taken fresh) o i name same = rw same at taken
+never_descends (gone_into other entered) o i name same = rw same at entered
 
 -- so outside of each binder the walk ends at it
 pub param_ends : (s : Standing Instantiation) (k : ℕ) (t : Tree Depth) → k ≡ 0 → (o : Sort) (i : ℕ) (name : Name) → t ≡ tree.param o i name → EndsAt arg_hooks (IsOpenParam k) s t
@@ -61,7 +61,7 @@ sort_hooked t const_sort h = h
 
 -- a value whose tree is a parameter is one region or one term
 pub param_alone : (rows : List Row) (s : Shape) → IsPartOf rows s → (o : Sort) (i : ℕ) (name : Name) → tree_in rows s ≡ tree.param o i name → IsAlone s
-unfolding fill IsPart
+unfolding fill
 param_alone rows (param p j n) h o i name is = tt
 param_alone rows (bound p d e) h o i name is = tt
 param_alone rows (region r) h o i name is = tt

@@ -10,6 +10,10 @@ use Rattle.tt_kinds.specs.declared.generic_arg.GenericArgKind.{GenericArgKind}
 use Rattle.tt_interner.specs.Rows.{Row, table, size, Grows}
 use Rattle.tt_interner.proofs.RowLaws.{row-old, size-more}
 use Rattle.tt_interner.proofs.Growth.{AreParts-grows, fill-grows}
+use Rattle.tt_kinds.specs.declared.handle.Ty.{Ty}
+use Rattle.tt_fold.specs.Memory.{memos, OwnsMemos}
+use Rattle.tt_fold.proofs.MemoryLaws.{memos-still, OwnsMemos-still}
+use Rattle.tt_fold.specs.declared.memory.Place.{Place}
 use Rattle.tt_binder.specs.Arguments.{arguments, AreArguments, row_args, args_at}
 use Rattle.tt_binder.specs.Instantiation.{Instantiation}
 
@@ -32,23 +36,30 @@ pub some-still : (xs ys : List GenericArgKind) → ys ≡ xs → xs ≢ [] → y
 some-still xs ys same h = λ e. h (sym same ∙ e)
 
 arguments-grows : (old new : List Row) (xs : List GenericArgKind) → Grows old new → AreArguments old xs → arguments new xs ≡ arguments old xs
-unfolding IsPart
 arguments-grows old new [] g h = refl
 arguments-grows old new (x ∷ xs) g h = rw (fill-grows old new g (arg_shape x) h.0, arguments-grows old new xs g h.1) refl
 
 pub arguments-still : (old new : List Row) (xs ys : List GenericArgKind) → Grows old new → ys ≡ xs → AreArguments old xs → arguments new ys ≡ arguments old xs
 arguments-still old new xs ys g same h = rw same (arguments-grows old new xs g h)
 
-pub state-still : (old new : List Row) (xs ys : List GenericArgKind) (k : ℕ) → Grows old new → ys ≡ xs → AreArguments old xs
-    → (let state : Instantiation = record { args = arguments new ys; binders_passed = k } in state) ≡ record { args = arguments old xs; binders_passed = k }
-state-still old new xs ys k g same h = ap (λ args. record { args = args; binders_passed = k }) (arguments-still old new xs ys g same h)
+pub state-still : (old new : List Row) (xs ys : List GenericArgKind) (k : ℕ) (es : List (Place × Ty)) → Grows old new → ys ≡ xs → AreArguments old xs → OwnsMemos old es
+    → (let state : Instantiation = record { rule = arguments new ys; under = k; kept = tt; memory = memos new es } in state)
+    ≡ record { rule = arguments old xs; under = k; kept = tt; memory = memos old es }
+state-still old new xs ys k es g same h all =
+    ap (λ args. record { rule = args; under = k; kept = tt; memory = memos new es }) (arguments-still old new xs ys g same h)
+    ∙ ap (λ m. record { rule = arguments old xs; under = k; kept = tt; memory = m }) (memos-still old new es g all)
 
 -- what a folder with arguments owns, it owns with more rows
 pub owned-still : {S : Type 0} {items : List Row → S → List GenericArgKind} {owns : List Row → S → Type 0}
     → ((old new : List Row) (x : S) → Grows old new → owns old x → owns new x)
     → ((old new : List Row) (x : S) → Grows old new → owns old x → items new x ≡ items old x)
-    → (old new : List Row) (x : S) → Grows old new
-    → owns old x × AreArguments old (items old x) × (items old x ≢ []) → owns new x × AreArguments new (items new x) × (items new x ≢ [])
-owned-still {items} still_owned still_items old new x g h =
-    let same = still_items old new x g h.0 in
-    (still_owned old new x g h.0, AreArguments-still old new (items old x) (items new x) g same h.1, some-still (items old x) (items new x) same h.2)
+    → (old new : List Row) (x : S) (es : List (Place × Ty)) → Grows old new
+    → owns old x × AreArguments old (items old x) × (items old x ≢ []) × OwnsMemos old es
+    → owns new x × AreArguments new (items new x) × (items new x ≢ []) × OwnsMemos new es
+owned-still {items} still_owned still_items old new x es g h =
+    let same = still_items old new x g h.0 in (
+      still_owned old new x g h.0,
+      AreArguments-still old new (items old x) (items new x) g same h.1,
+      some-still (items old x) (items new x) same h.2,
+      OwnsMemos-still old new es g h.3,
+    )

@@ -2,4 +2,6 @@ pub mod Arguments
 pub mod ArgumentLaws
 pub mod Instantiation
 pub mod Instance
+pub mod Promise
 pub mod Untouched
+pub mod Unpruned

@@ -7,12 +7,22 @@ ghost use Rattle.tt_kinds.specs.Kinds.{const_shape, region_shape, ty_shape};
 ghost use Rattle.tt_kinds.specs.Cause.{Cause};
 ghost use Rattle.tt_interner.specs.Rows.{Row};
 ghost use Rattle.tt_interner.specs.Stored.{Extends};
+ghost use Rattle.tt_fold.specs.Memory.{OwnsMemos, memos};
 ghost use Rattle.tt_fold.specs.Steps.{IsPartOf, IsRefused, tree_in};
 ghost use Rattle.tt_binder.specs.Arguments.{AreArguments, arguments};
-ghost use Rattle.tt_binder.specs.Instantiation.{Instantiation, Instantiates, IsOpenParam, LeafRefuses, IsParam, arg_hooks};
+ghost use Rattle.tt_binder.specs.Instantiation.{
+  Instantiation,
+  Instantiates,
+  IsOpenParam,
+  LeafRefuses,
+  IsParam,
+  arg_hooks,
+};
 
 use crate::slice_like::SliceLike;
+use std::alloc::Global;
 use tt_flags::TypeFlags;
+use tt_fold::memory::{Memory, look_up};
 use tt_fold::{Step, TypeFolder, shift_region, shift_vars};
 use tt_index::{GREATEST_INDEX, Refusal};
 use tt_interner::{Flags, InternedKind, Interner, count_descent};
@@ -26,7 +36,10 @@ fn region_at<S: SliceLike>(cx: &Interner, args: S, index: u32) -> Result<Region,
     requires owned { S.owned cx.now.rows args }
     requires some { S.items cx.now.rows args ≢ [] }
     ensures ok { IfOk result (λ r. slice_get (S.items cx.now.rows args) index ≡ Some (GenericArgKind.Lifetime r)) }
-    ensures err { IfErr result (λ e. (name : Name) → Cause (param region_sort index name) (arguments cx.now.rows (S.items cx.now.rows args)) e) }
+    ensures err { IfErr result (λ e. (name : Name) → Cause
+        (param region_sort index name)
+        (arguments cx.now.rows (S.items cx.now.rows args))
+        e) }
 {
     match args.get(cx, index as usize) {
         None => Err(Refusal::ArgOutOfRange { index }),
@@ -42,7 +55,10 @@ fn type_at<S: SliceLike>(cx: &Interner, args: S, index: u32) -> Result<Ty, Refus
     requires owned { S.owned cx.now.rows args }
     requires some { S.items cx.now.rows args ≢ [] }
     ensures ok { IfOk result (λ ty. slice_get (S.items cx.now.rows args) index ≡ Some (GenericArgKind.Type ty)) }
-    ensures err { IfErr result (λ e. (name : Name) → Cause (param type_sort index name) (arguments cx.now.rows (S.items cx.now.rows args)) e) }
+    ensures err { IfErr result (λ e. (name : Name) → Cause
+        (param type_sort index name)
+        (arguments cx.now.rows (S.items cx.now.rows args))
+        e) }
 {
     match args.get(cx, index as usize) {
         None => Err(Refusal::ArgOutOfRange { index }),
@@ -59,8 +75,12 @@ fn type_at<S: SliceLike>(cx: &Interner, args: S, index: u32) -> Result<Ty, Refus
 fn const_at<S: SliceLike>(cx: &Interner, args: S, index: u32) -> Result<Const, Refusal>
     requires owned { S.owned cx.now.rows args }
     requires some { S.items cx.now.rows args ≢ [] }
-    ensures ok { IfOk result (λ constant. slice_get (S.items cx.now.rows args) index ≡ Some (GenericArgKind.Const constant)) }
-    ensures err { IfErr result (λ e. (name : Name) → Cause (param const_sort index name) (arguments cx.now.rows (S.items cx.now.rows args)) e) }
+    ensures ok { IfOk result (λ constant. slice_get (S.items cx.now.rows args) index
+        ≡ Some (GenericArgKind.Const constant)) }
+    ensures err { IfErr result (λ e. (name : Name) → Cause
+        (param const_sort index name)
+        (arguments cx.now.rows (S.items cx.now.rows args))
+        e) }
 {
     match args.get(cx, index as usize) {
         None => Err(Refusal::ArgOutOfRange { index }),
@@ -85,8 +105,18 @@ fn region_argument<S: SliceLike>(
     requires some { S.items cx.now.rows args ≢ [] }
     ensures { (name : Name) → MatchResult
         result
-        (λ r. IsPartOf cx.now.rows (region_shape r) × Instantiates (arguments cx.now.rows (S.items cx.now.rows args)) binders_passed (param region_sort index name) (tree_in cx.now.rows (region_shape r)))
-        (λ e. LeafRefuses (IsRefused cx.now) (arguments cx.now.rows (S.items cx.now.rows args)) binders_passed (param region_sort index name) e) }
+        (λ r. IsPartOf cx.now.rows (region_shape r)
+        × Instantiates
+        (arguments cx.now.rows (S.items cx.now.rows args))
+        binders_passed
+        (param region_sort index name)
+        (tree_in cx.now.rows (region_shape r)))
+        (λ e. LeafRefuses
+        (IsRefused cx.now)
+        (arguments cx.now.rows (S.items cx.now.rows args))
+        binders_passed
+        (param region_sort index name)
+        e) }
 {
     let argument = region_at(cx, args, index)?;
     // No shift of 0 binders is refused, since the region is in range.
@@ -111,8 +141,18 @@ fn type_argument<S: SliceLike>(
     ensures unshifted { binders_passed ≡ 0 → cx.new ≡ cx.old }
     ensures result { (name : Name) → MatchResult
         result
-        (λ ty. IsPartOf cx.new.rows (ty_shape ty) × Instantiates (arguments cx.old.rows (S.items cx.old.rows args)) binders_passed (param type_sort index name) (tree_in cx.new.rows (ty_shape ty)))
-        (λ e. LeafRefuses (IsRefused cx.new) (arguments cx.old.rows (S.items cx.old.rows args)) binders_passed (param type_sort index name) e) }
+        (λ ty. IsPartOf cx.new.rows (ty_shape ty)
+        × Instantiates
+        (arguments cx.old.rows (S.items cx.old.rows args))
+        binders_passed
+        (param type_sort index name)
+        (tree_in cx.new.rows (ty_shape ty)))
+        (λ e. LeafRefuses
+        (IsRefused cx.new)
+        (arguments cx.old.rows (S.items cx.old.rows args))
+        binders_passed
+        (param type_sort index name)
+        e) }
 {
     let argument = type_at(cx, args, index)?;
     let shifted = shift_vars(cx, argument, binders_passed)?;
@@ -135,8 +175,18 @@ fn const_argument<S: SliceLike>(
     ensures unshifted { binders_passed ≡ 0 → cx.new ≡ cx.old }
     ensures result { (name : Name) → MatchResult
         result
-        (λ constant. IsPartOf cx.new.rows (const_shape constant) × Instantiates (arguments cx.old.rows (S.items cx.old.rows args)) binders_passed (param const_sort index name) (tree_in cx.new.rows (const_shape constant)))
-        (λ e. LeafRefuses (IsRefused cx.new) (arguments cx.old.rows (S.items cx.old.rows args)) binders_passed (param const_sort index name) e) }
+        (λ constant. IsPartOf cx.new.rows (const_shape constant)
+        × Instantiates
+        (arguments cx.old.rows (S.items cx.old.rows args))
+        binders_passed
+        (param const_sort index name)
+        (tree_in cx.new.rows (const_shape constant)))
+        (λ e. LeafRefuses
+        (IsRefused cx.new)
+        (arguments cx.old.rows (S.items cx.old.rows args))
+        binders_passed
+        (param const_sort index name)
+        e) }
 {
     let constant = const_at(cx, args, index)?;
     let shifted = shift_vars(cx, constant, binders_passed)?;
@@ -173,21 +223,27 @@ pub fn const_parameter(cx: &Interner, constant: Const) -> Option<u32>
     }
 }
 
-/// Puts arguments in the places of parameters, and counts the binders that it passes. There has to be an argument.
+/// Puts arguments in the places of parameters, and counts the binders that it passes. There has to be an argument. A type that
+/// comes again under as many binders isn't taken apart again.
 #[derive(Drop)]
 pub struct ArgFolder<S> {
     args: S,
     binders_passed: u32,
+    // what came of the types that were taken apart
+    memory: Memory,
 }
 
 impl<S: Copy> ArgFolder<S> {
-    /// The folder outside of each binder.
-    pub fn new(args: S) -> ArgFolder<S>
-        ensures { result ≡ record { args = args; binders_passed = 0 } }
+    /// Returns the folder outside of each binder. It remembers nothing yet, and takes no memory for that.
+    pub fn new(alloc: Global, args: S) -> ArgFolder<S>
+        ensures args { result.args ≡ args }
+        ensures binders_passed { result.binders_passed ≡ 0 }
+        ensures memory { result.memory ≡ [] }
     {
         ArgFolder {
             args,
             binders_passed: 0,
+            memory: Memory::new(alloc),
         }
     }
 }
@@ -195,9 +251,17 @@ impl<S: Copy> ArgFolder<S> {
 impl<S: SliceLike> TypeFolder for ArgFolder<S> {
     ghost Meaning = { Instantiation };
 
-    ghost meaning = { λ rows s. record { args = arguments rows (S.items rows s.args); binders_passed = s.binders_passed } };
+    ghost meaning = { λ rows s. record {
+      rule = arguments rows (S.items rows s.args);
+      under = s.binders_passed;
+      kept = tt;
+      memory = memos rows s.memory;
+    } };
 
-    ghost owned = { λ rows s. S.owned rows s.args × AreArguments rows (S.items rows s.args) × (S.items rows s.args ≢ []) };
+    ghost owned = { λ rows s. S.owned rows s.args
+        × AreArguments rows (S.items rows s.args)
+        × (S.items rows s.args ≢ [])
+        × OwnsMemos rows s.memory };
 
     ghost hooks = { arg_hooks };
 
@@ -224,14 +288,18 @@ impl<S: SliceLike> TypeFolder for ArgFolder<S> {
                 let new = type_argument(cx, self.args, self.binders_passed, index)?;
                 Ok(Step::Replace(new))
             }
-            None => {
-                count_descent(cx);
-                Ok(Step::Descend)
-            }
+            None => match look_up(cx, &self.memory, ty, self.binders_passed) {
+                Some(known) => Ok(Step::Replace(known)),
+                None => {
+                    count_descent(cx);
+                    Ok(Step::Descend)
+                }
+            },
         }
     }
 
-    fn after_ty(&mut self, _cx: &mut Interner, _before: Ty, rebuilt: Ty) -> Result<Ty, Refusal> {
+    fn after_ty(&mut self, _cx: &mut Interner, before: Ty, rebuilt: Ty) -> Result<Ty, Refusal> {
+        self.memory.note(before, self.binders_passed, rebuilt)?;
         Ok(rebuilt)
     }
 
@@ -313,7 +381,19 @@ impl<S: SliceLike> TypeFolder for ArgFolder<S> {
 
     ghost use Rattle.tt_binder.specs.ArgumentLaws.{owned-still, state-still};
 
-    ghost still_owned = { λ old new s g h. owned-still S.still_owned S.still_items old new s.args g.grows h };
+    ghost still_owned = { λ old new s g h. owned-still S.still_owned S.still_items old new
+        s.args
+        s.memory
+        g.grows
+        h };
 
-    ghost still_means = { λ old new s g h. state-still old new (S.items old s.args) (S.items new s.args) s.binders_passed g.grows (S.still_items old new s.args g.grows h.0) h.1 };
+    ghost still_means = { λ old new s g h. state-still old new
+        (S.items old s.args)
+        (S.items new s.args)
+        s.binders_passed
+        s.memory
+        g.grows
+        (S.still_items old new s.args g.grows h.0)
+        h.1
+        h.3 };
 }

@@ -6,6 +6,6 @@ pub mod instantiate;
 pub mod slice_like;
 mod untouched;
 
-pub use instantiate::Instantiate;
+pub use instantiate::{Instantiate, pruning_is_unseen};
 pub use slice_like::SliceLike;
 pub use untouched::is_untouched;

@@ -15,13 +15,13 @@ pub trait SliceLike: Copy {
     // The list is one of the rows, or its handles are.
     ghost owned: { List Row → Self → Type 0 };
 
-    /// How many arguments there are.
+    /// Returns how many arguments there are.
     fn len(self, cx: &Interner) -> usize
         requires { owned cx.now.rows self }
         ensures len { result ≡ length (items cx.now.rows self) }
         ensures are { AreArguments cx.now.rows (items cx.now.rows self) };
 
-    /// The argument at this index, if there is one.
+    /// Returns the argument at this index, if there is one.
     fn get(self, cx: &Interner, index: usize) -> Option<GenericArg>
         requires { owned cx.now.rows self }
         ensures { result ≡ slice_get (items cx.now.rows self) index };
@@ -31,7 +31,7 @@ pub trait SliceLike: Copy {
 
     ghost still_items: { (old new : List Row) (x : Self) → Grows old new → owned old x → items new x ≡ items old x };
 
-    /// Whether there is no argument.
+    /// Returns whether there is no argument.
     final fn is_empty(self, cx: &Interner) -> bool
         requires { Self.owned cx.now.rows self }
         ensures empty { IsTrue result ↔ (length (Self.items cx.now.rows self) ≡ 0) }

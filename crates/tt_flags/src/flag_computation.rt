@@ -20,14 +20,14 @@ pub struct FlagComputation {
 }
 
 impl FlagComputation {
-    /// What is computed of no parts.
+    /// Returns what is computed of no parts.
     pub fn new() -> FlagComputation
         ensures { result ≡ computed 0 0 }
     {
         FlagComputation::leaf(TypeFlags::empty())
     }
 
-    /// What is computed of a part with these flags from which no bound variable escapes.
+    /// Returns what is computed of a part with these flags from which no bound variable escapes.
     pub fn leaf(flags: TypeFlags) -> FlagComputation
         ensures { result ≡ computed flags.bits 0 }
     {
@@ -37,7 +37,7 @@ impl FlagComputation {
         }
     }
 
-    /// What is computed of a variable with these flags that the binder `index` binds.
+    /// Returns what is computed of a variable with these flags that the binder `index` binds.
     /// [`DebruijnIndex::can_shift_in`] of 1 tests the condition.
     pub fn bound_at(flags: TypeFlags, index: DebruijnIndex) -> FlagComputation
         requires { index < greatest }
@@ -49,10 +49,12 @@ impl FlagComputation {
         }
     }
 
-    /// What is computed of two parts together.
+    /// Returns what is computed of two parts together.
     pub fn joined(self, other: FlagComputation) -> FlagComputation
         ensures { result
-            ≡ computed (bit_or self.flags.bits other.flags.bits) (max self.outer_exclusive_binder other.outer_exclusive_binder) }
+            ≡ computed
+            (bit_or self.flags.bits other.flags.bits)
+            (max self.outer_exclusive_binder other.outer_exclusive_binder) }
     {
         FlagComputation {
             flags: self.flags.union(other.flags),
@@ -62,7 +64,7 @@ impl FlagComputation {
         }
     }
 
-    /// What is computed of these parts under one binder, whose list of variables has the flags
+    /// Returns what is computed of these parts under one binder, whose list of variables has the flags
     /// `list_flags`. Outside the binder every index that still escapes is one less.
     pub fn under_binder(self, list_flags: TypeFlags) -> FlagComputation
         ensures { result

@@ -131,21 +131,21 @@ impl TypeFlags {
 }
 
 impl TypeFlags {
-    /// The set without flags.
+    /// Returns the set without flags.
     pub const fn empty() -> TypeFlags
         ensures { result ≡ record { bits = 0 } }
     {
         TypeFlags { bits: 0 }
     }
 
-    /// The set of exactly these bits, also of those that no flag names.
+    /// Returns the set of exactly these bits, also of those that no flag names.
     pub const fn from_bits_retain(bits: u32) -> TypeFlags
         ensures { result ≡ record { bits = bits } }
     {
         TypeFlags { bits }
     }
 
-    /// The number of the set's bits.
+    /// Returns the number of the set's bits.
     pub const fn bits(self) -> u32
         ensures { result ≡ self.bits }
     {
@@ -153,28 +153,28 @@ impl TypeFlags {
         bits
     }
 
-    /// Whether no flag is set.
+    /// Returns whether no flag is set.
     pub const fn is_empty(self) -> bool
         ensures { IsTrue result ↔ (self.bits ≡ 0) }
     {
         self.bits == 0
     }
 
-    /// Whether the two sets have a flag in common.
+    /// Returns whether the two sets have a flag in common.
     pub const fn intersects(self, other: TypeFlags) -> bool
         ensures { IsTrue result ↔ (bit_and self.bits other.bits ≢ 0) }
     {
         self.bits & other.bits != 0
     }
 
-    /// Whether this set has every flag of `other`.
+    /// Returns whether this set has every flag of `other`.
     pub const fn contains(self, other: TypeFlags) -> bool
         ensures { IsTrue result ↔ (bit_and self.bits other.bits ≡ other.bits) }
     {
         self.bits & other.bits == other.bits
     }
 
-    /// The flags of either set.
+    /// Returns the flags of either set.
     pub const fn union(self, other: TypeFlags) -> TypeFlags
         ensures { result ≡ record { bits = bit_or self.bits other.bits } }
     {
@@ -183,7 +183,7 @@ impl TypeFlags {
         }
     }
 
-    /// The flags of both sets.
+    /// Returns the flags of both sets.
     pub const fn intersection(self, other: TypeFlags) -> TypeFlags
         ensures { result ≡ record { bits = bit_and self.bits other.bits } }
     {
@@ -192,7 +192,7 @@ impl TypeFlags {
         }
     }
 
-    /// The flags of this set that `other` doesn't have.
+    /// Returns the flags of this set that `other` doesn't have.
     pub const fn difference(self, other: TypeFlags) -> TypeFlags
         ensures { result ≡ record { bits = without 32 self.bits other.bits } }
     {

@@ -17,7 +17,7 @@ use Rattle.tt_interner.proofs.Fill.{tree_table}
 use Rattle.tt_interner.proofs.Growth.{Extends-refl, Extends-trans}
 use Rattle.tt_interner.proofs.ShapeLaws.{root_of_row}
 use Rattle.tt_interner.proofs.Trees.{Means-row}
-use Rattle.tt_fold.specs.Walk.{Errors, Hooks, Walks, WalksAll, Fails, at_region, replaced, kept, descended, passed, at_node, region_failed, term_failed, descent_failed, passed_failed, node_failed, node_not_built, stopped}
+use Rattle.tt_fold.specs.Walk.{Errors, Hooks, Walks, WalksAll, Fails, at_region, replaced, kept, descended, passed, at_node, region_failed, term_failed, descent_failed, passed_failed, node_failed, node_not_built, clause_lost, stopped}
 use Rattle.tt_fold.specs.Counts.{Standing, stands}
 use Rattle.tt_fold.specs.Steps.{Folds, IsPartOf, IsPartBy, tree_in, tree_by, IsErrorOfUnbuilt}
 use Rattle.tt_fold.specs.Parts.{trees_in}
@@ -42,11 +42,9 @@ unfolding fill
 list-is rows are l ps at = (Means-row rows are AssumptionLists l.number (assumptions_row ps) at).tree
 
 pub sequence-part : (rows : List Row) → AreRows rows → (l : RegionAssumptions) (ps : Assumptions) → IsAt rows (assumptions_row ps) l.number → IsPartOf rows (sequence_shape assumption_shape ps)
-unfolding IsPart
 sequence-part rows are l ps at = (refl, tt, (Means-row rows are AssumptionLists l.number (assumptions_row ps) at).parts.1)
 
 pub sequence-parts : (rows : List Row) (ps : Assumptions) → IsPartOf rows (sequence_shape assumption_shape ps) → AreParts (size rows) (item_shapes assumption_shape ps)
-unfolding IsPart
 sequence-parts rows ps h = h.2
 
 -- the walk of a vector is that of its values
@@ -56,7 +54,7 @@ values-walked (replaced is h) = absurd (let never = is in cc)
 values-walked (kept is h) = absurd (let never = is in cc)
 values-walked (descended is h d) = absurd (let never = is in cc)
 values-walked (passed is w) = absurd (let never = is in cc)
-values-walked (at_node w) = w
+values-walked (at_node w fit) = w
 
 values-failed : {M E : Type 0} {H : Hooks M E} {errors : Errors E} {s s' : M} {ts : Forest Depth} {e : E}
     → ((us : Forest Depth) → errors.unbuilt (sequence us) e → errors.unbuilt (listed us) e) → Fails H errors s (sequence ts) e s' → Fails H errors s (listed ts) e s'
@@ -66,6 +64,7 @@ values-failed same (descent_failed is h d) = absurd (let never = is in cc)
 values-failed same (passed_failed is d) = absurd (let never = is in cc)
 values-failed same (node_failed d) = node_failed d
 values-failed same (node_not_built {us} w b) = node_not_built w (same us b)
+values-failed same (clause_lost w lost b) = absurd lost
 
 -- a vector is never stored: only for want of memory is it not built, and then nothing is
 vector-unbuilt : (terms : Terms) (us : Forest Depth) (u : Tree Depth) (r : Refusal) → IsUnbuilt terms (sequence us) r → IsUnbuilt terms u r
@@ -113,9 +112,9 @@ module _ {M E S : Type 0} {owned : List Row → S → Type 0} {means : List Row 
         → Folds owned means (IsPartBy (λ v. sequence_shape assumption_shape (items v))) (tree_by (λ v. sequence_shape assumption_shape (items v))) (Walks H) (Fails H other) terms s v (Ok w) terms1 s1
         → Builds (Ok h) (λ l. l.number) terms1 terms2 (assumptions_row (items w)) → owned terms2.rows s1 → stands means terms2 s1 ≡ stands means terms1 s1
         → Folds owned means (IsPartBy assumptions_shape) (tree_by assumptions_shape) (Walks H) (Fails H errors) terms s l (Ok h) terms2 s1
-    unfolding fill IsPart
+    unfolding fill
     assumptions_stored h d b o still = record {
       extends = Extends-trans d.extends (record { rows = b.grows; limit = b.limit });
       is_owned = o;
-      outcome = (b.in_range, rw (list-is terms.rows are l (items v) at, b.means, still) (at_node (values-walked d.outcome.1)));
+      outcome = (b.in_range, rw (list-is terms.rows are l (items v) at, b.means, still) (at_node (values-walked d.outcome.1) (λ h. h)));
     }

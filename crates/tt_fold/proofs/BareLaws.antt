@@ -23,14 +23,13 @@ use Rattle.tt_fold.proofs.WalkLaws.{WalksAll-append, FailsAll-append, WalksAll-o
 
 -- the token of an error is part of any interner, and stays
 token_part : (rows : List Row) (o : Option ℕ) → ArePartsOf rows (token_shapes o)
-unfolding IsPart AreParts
 token_part rows None = tt
 token_part rows (Some e) = ((refl, tt, tt), tt)
 
 token_walks : {M E : Type 0} {H : Hooks M E} {s : M} (rows rows1 : List Row) (o : Option ℕ) → WalksAll H s (trees_in rows (token_shapes o)) (trees_in rows1 (token_shapes o)) s
 unfolding fill
 token_walks rows rows1 None = done
-token_walks rows rows1 (Some e) = next (at_node done) done
+token_walks rows rows1 (Some e) = next (at_node done (λ h. h)) done
 
 -- nothing is walked where there is nothing
 walks_nothing : {M E : Type 0} {H : Hooks M E} {s s' : M} {us : Forest Depth} → WalksAll H s tree.none us s' → s' ≡ s
@@ -42,14 +41,12 @@ under_binder n m p = shape.also (shape.binder n (shape.node (record_label m) (pa
 
 module _ {L : Type 0} (sort : Sort) (record_of : L → RecordLabel ℕ) (token_of : L → Option ℕ) where
   pub bare-parts : (rows : List Row) (f : Form L) → IsPartOf rows (bare_shape sort record_of token_of f) → ArePartsOf rows (parts_shapes (form_parts f))
-  unfolding IsPart AreParts
   bare-parts rows (param i name) h = tt
   bare-parts rows (bound d e) h = tt
   bare-parts rows (plain l p) h = right_parts rows (token_shapes (token_of l)) (parts_shapes p) h.2
   bare-parts rows (under l vars m p) h = let u = right_parts rows (token_shapes (token_of l)) (under_binder vars.number m p) h.2 in u.0.1.2
 
   pub bare-binder : (rows : List Row) (f : Form L) → IsPartOf rows (bare_shape sort record_of token_of f) → HasBinder rows (form_binder f)
-  unfolding IsPart AreParts
   bare-binder rows (param i name) h = tt
   bare-binder rows (bound d e) h = tt
   bare-binder rows (plain l p) h = tt
@@ -58,7 +55,6 @@ module _ {L : Type 0} (sort : Sort) (record_of : L → RecordLabel ℕ) (token_o
   -- the kind with other parts
   bare-refilled : (old rows : List Row) → Grows old rows → (q : Parts) (f : Form L) → IsPartOf old (bare_shape sort record_of token_of f)
       → ArePartsOf rows (parts_shapes q) → IsPartOf rows (bare_shape sort record_of token_of (refilled q f))
-  unfolding IsPart AreParts
   bare-refilled old rows g q (param i name) h k = IsPart-grows old rows g (bare_shape sort record_of token_of (param i name)) h
   bare-refilled old rows g q (bound d e) h k = IsPart-grows old rows g (bare_shape sort record_of token_of (bound d e)) h
   bare-refilled old rows g q (plain l p) h k =
@@ -75,17 +71,17 @@ module _ {L : Type 0} (sort : Sort) (record_of : L → RecordLabel ℕ) (token_o
   walks-bare : {M E : Type 0} {H : Hooks M E} {s s' : M} (old rows : List Row) → Grows old rows → (q : Parts) (f : Form L) → IsPartOf old (bare_shape sort record_of token_of f)
       → WalksUnder H (binder_in old (form_binder f)) s (trees_in old (parts_shapes (form_parts f))) (trees_in rows (parts_shapes q)) s'
       → Walks H s (tree_in old (bare_shape sort record_of token_of f)) (tree_in rows (bare_shape sort record_of token_of (refilled q f))) s'
-  unfolding fill IsPart
+  unfolding fill
   walks-bare old rows g q (param i name) h (in_open w) =
-      rw (walks_nothing w, (keeps_label old rows g (record_label (bare_param_record sort i name)) h.1).same) (at_node done)
+      rw (walks_nothing w, (keeps_label old rows g (record_label (bare_param_record sort i name)) h.1).same) (at_node done (λ h. h))
   walks-bare old rows g q (bound d e) h (in_open w) =
-      rw (walks_nothing w, (keeps_label old rows g (record_label (bare_bound_record sort (index_of d) e)) h.1).same) (at_node done)
+      rw (walks_nothing w, (keeps_label old rows g (record_label (bare_bound_record sort (index_of d) e)) h.1).same) (at_node done (λ h. h))
   walks-bare old rows g q (plain l p) h (in_open w) =
       rw (
         (keeps_label old rows g (record_label (record_of l)) h.1).same,
         append_trees old (token_shapes (token_of l)) (parts_shapes p),
         append_trees rows (token_shapes (token_of l)) (parts_shapes q),
-      ) (at_node (WalksAll-append (token_walks old rows (token_of l)) w))
+      ) (at_node (WalksAll-append (token_walks old rows (token_of l)) w) (λ h. h))
   walks-bare old rows g q (under l vars m p) h (in_binder enter w leave) =
       let u = right_parts old (token_shapes (token_of l)) (under_binder vars.number m p) h.2 in
       rw (
@@ -94,7 +90,7 @@ module _ {L : Type 0} (sort : Sort) (record_of : L → RecordLabel ℕ) (token_o
         append_trees rows (token_shapes (token_of l)) (under_binder vars.number m q),
         (keeps_label old rows g (record_label m) u.0.1.1).same,
         vars-grow g vars u.0.0,
-      ) (at_node (WalksAll-append (token_walks old rows (token_of l)) (WalksAll-one (at_binder enter (at_node w) leave))))
+      ) (at_node (WalksAll-append (token_walks old rows (token_of l)) (WalksAll-one (at_binder enter (at_node w (λ h. h)) leave))) (λ h. h))
 
   fails-bare : {M E : Type 0} {H : Hooks M E} {errors : Errors E} {s s1 : M} {e : E} (rows : List Row) (f : Form L)
       → FailsUnder H errors (binder_in rows (form_binder f)) s (trees_in rows (parts_shapes (form_parts f))) e s1
@@ -111,7 +107,7 @@ module _ {L : Type 0} (sort : Sort) (record_of : L → RecordLabel ℕ) (token_o
       (node_failed (FailsAll-append (token_walks rows rows (token_of l)) (λ h. h) (here (under_failed enter (node_failed h)))))
   fails-bare rows (under l vars m p) (in_leave_failed enter w h) =
       rw (append_trees rows (token_shapes (token_of l)) (under_binder vars.number m p))
-      (node_failed (FailsAll-append (token_walks rows rows (token_of l)) (λ h. h) (here (leave_failed enter (at_node w) h))))
+      (node_failed (FailsAll-append (token_walks rows rows (token_of l)) (λ h. h) (here (leave_failed enter (at_node w (λ h. h)) h))))
 
   -- the fold of the parts is that of the kind
   module _ {M E S : Type 0} {owned : List Row → S → Type 0} {means : List Row → S → M} {H : Hooks (Standing M) E} {errors : Errors E} {T : Type 0} (of : T → Form L) where
@@ -144,8 +140,8 @@ module _ {L : Type 0} (sort : Sort) (record_of : L → RecordLabel ℕ) (token_o
 module _ {M E S : Type 0} {owned : List Row → S → Type 0} {means : List Row → S → M} {H : Hooks (Standing M) E} {errors : Errors E} where
   pub token_folds : {terms : Terms} {s : S} (error : ErrorGuaranteed) → owned terms.rows s
       → Folds owned means (IsPartBy (λ error. token_shape error.0)) (tree_by (λ error. token_shape error.0)) (Walks H) (Fails H errors) terms s error (Ok error) terms s
-  unfolding fill IsPart
-  token_folds {terms} error o = record { extends = Extends-refl terms; is_owned = o; outcome = ((refl, tt, tt), at_node done) }
+  unfolding fill
+  token_folds {terms} error o = record { extends = Extends-refl terms; is_owned = o; outcome = ((refl, tt, tt), at_node done (λ h. h)) }
 
 -- a value with its type, as a kind of constants
 abbrev pub value_in : ValueConst → Form ConstLabel

@@ -1,5 +1,5 @@
 -- Bound variables of types and constants, moved, and the shifter's answers at stored terms.
-use Rattle.std.proofs.Common.{List, [], ◌∷◌, Result, Ok, Err, MatchResult, Some, None, ◌≡◌, ℕ, suc, ◌+◌, ◌-◌, ◌<◌, ◌≤◌, ◌⊎◌, inl, inr, true, false, refl, ap, sym, ◌∙◌, arith}
+use Rattle.std.proofs.Common.{List, [], ◌∷◌, Result, Ok, Err, MatchResult, Some, None, ◌≡◌, ℕ, suc, ◌+◌, ◌-◌, ◌<◌, ◌≤◌, ◌⊎◌, inl, inr, true, false, refl, ap, sym, subst, ◌∙◌, arith}
 use Rattle.std.proofs.lemmas.Bool.{cases_lt, le-ltb, lt-ltb}
 use Rattle.std.proofs.lemmas.Option.{same_Some}
 use Rattle.std.specs.Prelude.{⊤}
@@ -12,6 +12,7 @@ use Rattle.tt_kinds.specs.Tree.{Depth, Tree}
 use Rattle.tt_kinds.specs.Reading.{place, reach, outer_binder, FitsAt}
 use Rattle.tt_kinds.specs.Plain.{shifted}
 use Rattle.tt_kinds.proofs.ReadingLaws.{place-outer, shifted-outer}
+use Rattle.tt_kinds.proofs.OuterLaws.{shift_tree-low}
 use Rattle.tt_kinds.specs.Bound.{depth, ty_entry, const_entry}
 use Rattle.tt_kinds.specs.Shape.{Shape, bound, stored, HasParts, IsGreatest, IsTooDeep, Meaning, fill}
 use Rattle.tt_kinds.specs.Kinds as forms
@@ -36,26 +37,30 @@ use Rattle.tt_interner.specs.Stored.{Terms, Builds, IsCause}
 use Rattle.tt_interner.proofs.RowLaws.{IsNewest, place_cases, meaning-old, meaning-new}
 use Rattle.tt_fold.proofs.PartLaws.{is_part, in_range, stored_tree}
 use Rattle.tt_fold.proofs.ShiftLaws.{index-moved}
-use Rattle.tt_fold.specs.Walk.{is_type_tree, replace, keep, descend}
+use Rattle.tt_fold.specs.Walk.{is_type_tree}
+use Rattle.tt_fold.specs.Remember.{Done, IsTaken}
 use Rattle.tt_fold.specs.Steps.{IsPartOf, tree_in, IsRefused}
-use Rattle.tt_fold.specs.Shift.{Shift, moved_tree, IsTooFar, answer_inside, shift_answer, IsTooGreat, IsPast, IsOuter, bound_ty_in, bound_ty_of, bound_const_in, bound_const_of, moved_index}
+use Rattle.tt_fold.specs.Shift.{Shift, moved_tree, IsTooFar, IsVariable, shifting, IsTooGreat, IsPast, IsOuter, bound_ty_in, bound_ty_of, bound_const_in, bound_const_of, moved_index}
 
 -- the tree of a bound variable
 abbrev bound_shape : Sort → BoundVarIndexKind → Entry ℕ → Shape
 bound_shape o i e = bound o (depth i) e
 
--- the answer where something is bound outside
-answer-inside : (s : Shift) (t : Tree Depth) → s.under < outer_binder t → shift_answer s t ≡ answer_inside s t
-answer-inside s t far = rw (lt-ltb s.under (outer_binder t) far) refl
-
-pub term_kept : (s : Shift) (t : Tree Depth) → (s.under < outer_binder t → false ≡ true) → keep ≡ shift_answer s t
-term_kept s t closed = keeps (elim (cases_lt s.under (outer_binder t)) [ inl far ↦ absurd (let no : false ≡ true = closed far in cc) | inr low ↦ low ])
+-- a term of which nothing is bound outside is its own shift
+pub term_kept : (n k : ℕ) (t : Tree Depth) → (k < outer_binder t → false ≡ true) → Done shifting n k t t
+term_kept n k t closed = record { plain = sym (shift_tree-low k n t low); allows = tt }
   where
-    keeps : outer_binder t ≤ s.under → keep ≡ shift_answer s t
-    keeps low = rw (le-ltb s.under (outer_binder t) low) refl
+    low : outer_binder t ≤ k
+    low = elim (cases_lt k (outer_binder t)) [ inl far ↦ absurd (let no : false ≡ true = closed far in cc) | inr le ↦ le ]
 
-pub term_descends : (s : Shift) (t : Tree Depth) → descend ≡ answer_inside s t → s.under < outer_binder t → descend ≡ shift_answer s t
-term_descends s t inside far = inside ∙ sym (answer-inside s t far)
+-- a type that is no variable, and of which something is bound outside, has to be taken apart
+pub term_taken : (n k : ℕ) (t : Tree Depth) → is_type_tree t ≡ true → (IsVariable t → ⊥) → k < outer_binder t → IsTaken shifting n k t
+term_taken n k (tree.term l ts) is other far = (is, far)
+term_taken n k (tree.param o i name) is other far = absurd (omega (arith, far))
+term_taken n k (tree.bound o d e) is other far = absurd (other tt)
+term_taken n k (tree.region r) is other far = absurd (cc)
+term_taken n k (tree.node l ts) is other far = absurd (cc)
+term_taken n k (tree.binder vs t) is other far = absurd (cc)
 
 index-outer : (k : ℕ) (i : BoundVarIndexKind) → k < reach (place 0 (depth i)) → IsOuter k i
 index-outer k (Bound d) h = let low : k < suc (d - 0) = rw (place-outer 0 d (omega arith)) at h in omega arith
@@ -90,9 +95,9 @@ module _ (f : Meaning) (s : Shift) (o : Sort) (i : BoundVarIndexKind) (e : Entry
   bound_outer t same far = index-outer s.under i (rw same at far)
 
   -- the hook's answer
-  pub term_replaced : (t r : Tree Depth) → t ≡ fill f (bound_shape o i e) → s.under < outer_binder t → r ≡ moved_tree s (fill f (bound_shape o i e)) → replace r ≡ shift_answer s t
+  pub term_given : (t r : Tree Depth) → t ≡ fill f (bound_shape o i e) → r ≡ moved_tree s (fill f (bound_shape o i e)) → IsVariable t × (r ≡ moved_tree s t)
   unfolding fill
-  term_replaced t r same far is = ap replace is ∙ ap (answer_inside s) (sym same) ∙ sym (answer-inside s t far)
+  term_given t r same is = rw same (tt, is)
 
   pub term_refused : (unbuilt : Tree Depth → Refusal → Type 0) (t : Tree Depth) (r : Refusal) → t ≡ fill f (bound_shape o i e)
       → IsTooGreat r (IsTooFar s (fill f (bound_shape o i e))) ⊎ unbuilt (moved_tree s (fill f (bound_shape o i e))) r
@@ -162,13 +167,9 @@ free-relabelled g (forms.bound d e) h = absurd h
 free-relabelled g (forms.plain l p) h = tt
 free-relabelled g (forms.under l vars m p) h = tt
 
-unbound-descends : (s : Shift) (t : Tree Depth) → IsUnbound t → descend ≡ answer_inside s t
-unbound-descends s (tree.param o i name) h = refl
-unbound-descends s (tree.bound o d e) h = absurd h
-unbound-descends s (tree.region r) h = refl
-unbound-descends s (tree.term l ts) h = refl
-unbound-descends s (tree.node l ts) h = refl
-unbound-descends s (tree.binder vs t) h = refl
+unbound-other : (t : Tree Depth) → IsUnbound t → IsVariable t → ⊥
+unbound-other (tree.bound o d e) h is = h
+unbound-other _ h is = is
 
 -- types
 abbrev pair_of : {A B : Type 0} → A → B → A × B
@@ -196,12 +197,12 @@ type_tree f (kind.Pat k) i b h = absurd (cc)
 type_tree f (kind.Predicate k) i b h = absurd (cc)
 type_tree f (kind.Existential k) i b h = absurd (cc)
 
-pub type_inside : (s : Shift) (f : Meaning) (k : Kind) → kind_table k ≡ Types → bound_ty_of k ≡ None → descend ≡ answer_inside s (fill f (kind_shape k))
-type_inside s f (kind.Ty k) t h = unbound-descends s (fill f (ty_kind_shape k)) (free-unbound f type_sort (relabelled type_label (ty_form k)) (free-relabelled type_label (ty_form k) (free_ty k h)))
-type_inside s f (kind.Const k) t h = absurd (cc)
-type_inside s f (kind.Pat k) t h = absurd (cc)
-type_inside s f (kind.Predicate k) t h = absurd (cc)
-type_inside s f (kind.Existential k) t h = absurd (cc)
+pub type_other : (f : Meaning) (k : Kind) → kind_table k ≡ Types → bound_ty_of k ≡ None → IsVariable (fill f (kind_shape k)) → ⊥
+type_other f (kind.Ty k) t h = unbound-other (fill f (ty_kind_shape k)) (free-unbound f type_sort (relabelled type_label (ty_form k)) (free-relabelled type_label (ty_form k) (free_ty k h)))
+type_other f (kind.Const k) t h = absurd (cc)
+type_other f (kind.Pat k) t h = absurd (cc)
+type_other f (kind.Predicate k) t h = absurd (cc)
+type_other f (kind.Existential k) t h = absurd (cc)
 
 -- constants
 is_bound_const : (f : Meaning) (k : ConstKind) (i : BoundVarIndexKind) (b : BoundConst) → bound_const_in k ≡ Some (i, b)
@@ -225,12 +226,12 @@ const_tree f (kind.Pat k) i b h = absurd (cc)
 const_tree f (kind.Predicate k) i b h = absurd (cc)
 const_tree f (kind.Existential k) i b h = absurd (cc)
 
-pub const_inside : (s : Shift) (f : Meaning) (k : Kind) → kind_table k ≡ Consts → bound_const_of k ≡ None → descend ≡ answer_inside s (fill f (kind_shape k))
-const_inside s f (kind.Ty k) t h = absurd (cc)
-const_inside s f (kind.Const k) t h = unbound-descends s (fill f (const_kind_shape k)) (free-unbound f const_sort (relabelled const_label (const_form k)) (free-relabelled const_label (const_form k) (free_const k h)))
-const_inside s f (kind.Pat k) t h = absurd (cc)
-const_inside s f (kind.Predicate k) t h = absurd (cc)
-const_inside s f (kind.Existential k) t h = absurd (cc)
+pub const_other : (f : Meaning) (k : Kind) → kind_table k ≡ Consts → bound_const_of k ≡ None → IsVariable (fill f (kind_shape k)) → ⊥
+const_other f (kind.Ty k) t h = absurd (cc)
+const_other f (kind.Const k) t h = unbound-other (fill f (const_kind_shape k)) (free-unbound f const_sort (relabelled const_label (const_form k)) (free-relabelled const_label (const_form k) (free_const k h)))
+const_other f (kind.Pat k) t h = absurd (cc)
+const_other f (kind.Predicate k) t h = absurd (cc)
+const_other f (kind.Existential k) t h = absurd (cc)
 
 -- predicates and lists of clauses
 abbrev IsOfClauses : Table → Type 0
@@ -273,8 +274,8 @@ unfolding table
 clauses-other [] t n of h = absurd (omega arith)
 clauses-other (r ∷ rows) t n of h = other-more r rows t n of (λ low. clauses-other rows t n of low) (place_cases r rows t n h)
 
-pub clauses_inside : (s : Shift) (rows : List Row) (t : Table) (n : ℕ) → IsOfClauses t → IsPartOf rows (stored t n) → descend ≡ answer_inside s (tree_in rows (stored t n))
-clauses_inside s rows t n of h = rw (stored_tree rows t n) (unbound-descends s (meaning rows t n) (clauses-other rows t n of (in_range rows t n h)).unbound)
+pub clauses_other : (rows : List Row) (t : Table) (n : ℕ) → IsOfClauses t → IsPartOf rows (stored t n) → IsVariable (tree_in rows (stored t n)) → ⊥
+clauses_other rows t n of h is = unbound-other (meaning rows t n) (clauses-other rows t n of (in_range rows t n h)).unbound (subst IsVariable (stored_tree rows t n) is)
 
 pub clauses_no_type : (rows : List Row) (t : Table) (n : ℕ) → IsOfClauses t → IsPartOf rows (stored t n) → is_type_tree (tree_in rows (stored t n)) ≡ false
 clauses_no_type rows t n of h = rw (stored_tree rows t n) (clauses-other rows t n of (in_range rows t n h)).no_type

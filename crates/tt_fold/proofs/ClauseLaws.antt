@@ -2,10 +2,10 @@
 -- trees for parameters.
 use Rattle.std.proofs.Common.{inl, inr, ◌≡◌, ℕ, suc, ◌<◌, List, [], ◌∷◌, refl, arith, Bool, true, false}
 use Rattle.std.specs.Prelude.{IsTrue, not, ⊤}
-use Rattle.tt_kinds.specs.Label.{Name, Sort, type_sort, const_sort, Label, type_label, const_label, predicate_label, clause_list_label, record_label}
+use Rattle.tt_kinds.specs.Label.{Name, Sort, type_sort, const_sort, Label, type_label, const_label, predicate_label, clause_list_label, clause_label, record_label}
 use Rattle.tt_kinds.specs.Tree as tree
 use Rattle.tt_kinds.specs.Tree.{Depth, Tree, Forest, none, also, rebuild, rebuild_all}
-use Rattle.tt_kinds.specs.Plain.{shifted, shift_tree}
+use Rattle.tt_kinds.specs.Plain.{shifted, shift_tree, shift_forest}
 use Rattle.tt_kinds.specs.Shape as shape
 use Rattle.tt_kinds.specs.Shape.{Shape, Shapes, Meaning, Sizes, fill, fill_all, name_of, rename_label, item_shapes, IsPart, AreParts, HasParts}
 use Rattle.tt_kinds.specs.Kinds.{Form, param, bound, plain, under, relabelled, form_shape, ty_form, const_form, clause_shape}
@@ -15,6 +15,7 @@ use Rattle.tt_interner.specs.Clauses.{is_clause_part, is_clause_inside, is_claus
 use Rattle.tt_interner.specs.Rows.{Row, type_row, const_row, pat_row, predicate_row, existential_row, clauses_row, tys_row, consts_row, args_row, pats_row, vars_row, existentials_row, assumptions_row, text_row, declared_row, row_shape, table, size, meaning, AreRows, AreClauses, HoldsClauses}
 use Rattle.tt_interner.specs.Stored.{IsNoClauseList}
 use Rattle.tt_interner.proofs.RowLaws.{IsNewest, place_cases, meaning-old, meaning-new}
+use Rattle.tt_fold.specs.Walk.{LosesClause}
 use Rattle.tt_fold.specs.Steps.{IsPartOf, tree_in}
 use Rattle.tt_fold.specs.Stands.{StandsIn, StandsAmong, itself, in_term, in_node, in_binder, in_first, in_later}
 
@@ -90,9 +91,14 @@ module _ (index : ℕ → Depth → Depth) (parameter : ℕ → Sort → ℕ →
   others_before k none h = h
   others_before k (also t ts) h = elim h [ inl a ↦ inl (other_before k t a) | inr b ↦ inr (others_before k ts b) ]
 
-  list_before : (k : ℕ) (l : Label Name) (ts : Forest Depth) → IsNoClauseList (tree.term l (rebuild_all index parameter k ts)) → IsNoClauseList (tree.term l ts)
+  pub list_before : (k : ℕ) (l : Label Name) (ts : Forest Depth) → IsNoClauseList (tree.term l (rebuild_all index parameter k ts)) → IsNoClauseList (tree.term l ts)
   list_before k clause_list_label ts h = others_before k ts h
   list_before k _ ts h = absurd h
+
+  -- and a clause by itself one
+  pub rebuild-keeps_clause : (k : ℕ) (l : Label Name) (ts : Forest Depth) → LosesClause l ts (rebuild_all index parameter k ts) → ⊥
+  rebuild-keeps_clause k clause_label ts h = h.0 (others_before k ts h.1)
+  rebuild-keeps_clause k _ ts h = h
 
   module _ (given : (k : ℕ) (s : Sort) (i : ℕ) (name : Name) → KeepsClauses (parameter k s i name)) where
     mutual
@@ -108,13 +114,16 @@ module _ (index : ℕ → Depth → Depth) (parameter : ℕ → Sort → ℕ →
       rebuild_all-keeps k none h = tt
       rebuild_all-keeps k (also t ts) h = (rebuild-keeps k t h.0, rebuild_all-keeps k ts h.1)
 
+pub shift-keeps_clause : (k n : ℕ) (l : Label Name) (ts : Forest Depth) → LosesClause l ts (shift_forest k n ts) → ⊥
+shift-keeps_clause k n l ts h = rebuild-keeps_clause (shifted n) (λ k s i name. tree.param s i name) k l ts h
+
 pub shift-keeps : (n : ℕ) (t : Tree Depth) → KeepsClauses t → KeepsClauses (shift_tree 0 n t)
 shift-keeps n t h = rebuild-keeps (shifted n) (λ k s i name. tree.param s i name) (λ k s i name. tt) 0 t h
 
 -- the trees of shapes whose handles mean such trees
 module _ (size : Sizes) (f : Meaning) (good : (t : Table) (n : ℕ) → n < size t → KeepsClauses (f t n)) where
   mutual
-    unfolding fill IsPart
+    unfolding fill
 
     part-keeps : (s : Shape) → IsPart size s → KeepsClauses (fill f s)
     part-keeps (shape.param s i name) p = tt

@@ -1,5 +1,5 @@
 -- The hooks of each table's terms, as hooks of stored terms.
-use Rattle.std.proofs.Common.{◌≡◌, List, Result, Ok, Err, MatchResult, refl}
+use Rattle.std.proofs.Common.{◌≡◌, List, Result, Ok, Err, MatchResult, refl, subst, sym}
 use Rattle.tt_kinds.specs.Tree.{Depth, Tree}
 use Rattle.tt_kinds.specs.Shape.{Shape}
 use Rattle.tt_kinds.specs.Parts.{node_table}
@@ -16,7 +16,7 @@ use Rattle.tt_fold.specs.declared.folder.Step.TheVariants as step
 
 module _ {T : Type 0} (f : T → Node) (shape : T → Shape) (same : (x : T) → node_shape (f x) ≡ shape x) (alike : (x y : T) → node_table (f y) ≡ node_table (f x)) where
   is_for : (rows : List Row) (n : Node) (x y : T) → n ≡ f x → IsPartOf rows (shape y) → IsNodeFor n rows (f y)
-  is_for rows n x y is h = rw is (record { owned = rw (same y) h; like = alike x y })
+  is_for rows n x y is h = rw is (record { owned = subst (λ s. IsPartOf rows s) (sym (same y)) h; like = alike x y })
 
   step_is_for : (rows : List Row) (n : Node) (x : T) (p : Step T) → n ≡ f x → OwnsStep shape rows p → IsStepFor n rows (map_step f p)
   step_is_for rows n x (step.Replace y) is h = is_for rows n x y is h

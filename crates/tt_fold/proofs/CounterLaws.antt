@@ -4,7 +4,7 @@ use Rattle.std.proofs.lemmas.Result.{MatchResult-weaker}
 use Rattle.tt_kinds.specs.Tree.{Depth, Tree, Forest}
 use Rattle.tt_interner.specs.Rows.{Row}
 use Rattle.tt_interner.specs.Stored.{Terms}
-use Rattle.tt_fold.specs.Walk.{Hooks, Errors, Walks, Descends, WalksInside, WalksAll, at_region, replaced, kept, descended, passed, rebuilt, at_node, at_binder, in_term, in_param, in_bound, done, next, Fails, DescentFails, InsideFails, FailsAll, region_failed, term_failed, descent_failed, enter_failed, under_failed, leave_failed, node_failed, node_not_built, passed_failed, inside_failed, not_built, after_failed, in_term_failed, stopped, here, later, no_clause, Wanted}
+use Rattle.tt_fold.specs.Walk.{Hooks, Errors, Walks, Descends, WalksInside, WalksAll, at_region, replaced, kept, descended, passed, rebuilt, at_node, at_binder, in_term, in_param, in_bound, done, next, Fails, DescentFails, InsideFails, FailsAll, region_failed, term_failed, descent_failed, enter_failed, under_failed, leave_failed, node_failed, node_not_built, clause_lost, passed_failed, inside_failed, not_built, after_failed, in_term_failed, stopped, here, later, no_clause, Wanted}
 use Rattle.tt_fold.specs.Counts.{Standing, Quietly, keeps_counters}
 use Rattle.tt_fold.specs.Steps.{Folds}
 
@@ -16,7 +16,7 @@ module _ {M E : Type 0} (H : Hooks M E) where
     walks-quietly (kept is h) = (kept is h.0, h.1)
     walks-quietly (descended is h d) = let p = descends-quietly d in (descended is h.0 p.0, p.1 ∙ h.1)
     walks-quietly (passed is w) = let p = inside-quietly w in (passed is p.0, p.1)
-    walks-quietly (at_node w) = let p = all-quietly w in (at_node p.0, p.1)
+    walks-quietly (at_node w fit) = let p = all-quietly w in (at_node p.0 fit, p.1)
     walks-quietly (at_binder enter w leave) = let p = walks-quietly w in (at_binder enter.0 p.0 leave.0, leave.1 ∙ p.1 ∙ enter.1)
 
     descends-quietly : {s s' : Standing M} {t r : Tree Depth} → Descends (keeps_counters H) s t r s' → Quietly (λ m m'. Descends H m t r m') s s'
@@ -43,6 +43,7 @@ module _ {M E : Type 0} (H : Hooks M E) (errors : Errors E) where
     fails-quietly (leave_failed h w l) = let p = walks-quietly H w in (leave_failed h.0 p.0 l.0, l.1 ∙ p.1 ∙ h.1)
     fails-quietly (node_failed d) = let p = fails_all-quietly d in (node_failed p.0, p.1)
     fails-quietly (node_not_built w u) = let p = all-quietly H w in (node_not_built p.0 u, p.1)
+    fails-quietly (clause_lost w lost b) = let p = all-quietly H w in (clause_lost p.0 lost b, p.1)
 
     descent_fails-quietly : {s s' : Standing M} {t : Tree Depth} {e : E} → DescentFails (keeps_counters H) errors s t e s' → Quietly (λ m m'. DescentFails H errors m t e m') s s'
     descent_fails-quietly (inside_failed d) = let p = inside_fails-quietly d in (inside_failed p.0, p.1)

@@ -36,7 +36,6 @@ root_label (tree.term l ts) = l
 root_label _ = text_label []
 
 label_alone : (size : Sizes) (l : Label ℕ) → IsNamedLabel size l → HasParts size (shape.term l shape.none)
-unfolding AreParts
 label_alone size l h = (h, tt)
 
 pub keeps_label : (old new : List Row) → Grows old new → (l : Label ℕ) → IsNamedLabel (size old) l → KeepsLabel old new l
@@ -47,7 +46,6 @@ keeps_label old new g l h = record {
 }
 
 pub form-labels : (old new : List Row) → Grows old new → (s : Sort) (f : Form (Label ℕ)) → HasParts (size old) (form_shape s f) → KeepsLabels old new f
-unfolding IsPart
 form-labels old new g s (param i name) h = tt
 form-labels old new g s (bound d e) h = tt
 form-labels old new g s (plain l p) h = keeps_label old new g l h.0
@@ -120,14 +118,12 @@ not-deep s q (under l vars m p) is h = h
 
 -- the parts of a kind in range
 pub form-parts : (rows : List Row) (s : Sort) (f : Form (Label ℕ)) → HasParts (size rows) (form_shape s f) → ArePartsOf rows (parts_shapes (form_parts f))
-unfolding AreParts
 form-parts rows s (param i name) h = tt
 form-parts rows s (bound d e) h = tt
 form-parts rows s (plain l p) h = h.1
 form-parts rows s (under l vars m p) h = h.1.0.1.2
 
 pub form-binder : (rows : List Row) (s : Sort) (f : Form (Label ℕ)) → HasParts (size rows) (form_shape s f) → HasBinder rows (form_binder f)
-unfolding AreParts
 form-binder rows s (param i name) h = tt
 form-binder rows s (bound d e) h = tt
 form-binder rows s (plain l p) h = tt
@@ -136,7 +132,6 @@ form-binder rows s (under l vars m p) h = h.1.0.0
 -- and the kind with other parts
 pub refilled-parts : (old rows : List Row) (s : Sort) (q : Parts) (f : Form (Label ℕ)) → KeepsLabels old rows f → IsInner f → HasBinder rows (form_binder f)
     → ArePartsOf rows (parts_shapes q) → HasParts (size rows) (form_shape s (refilled q f))
-unfolding AreParts
 refilled-parts old rows s q (param i name) n is b h = absurd is
 refilled-parts old rows s q (bound d e) n is b h = absurd is
 refilled-parts old rows s q (plain l p) n is b h = (n.named, h)

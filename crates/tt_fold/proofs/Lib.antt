@@ -9,13 +9,22 @@ mod ValueSteps
 mod BareLaws
 mod RecordSteps
 mod VecSteps
+mod BoxSteps
+mod DataSteps
+mod CloneSteps
 mod AssumptionSteps
+mod ClauseSteps
 pub mod ClauseLaws
 pub mod ShiftLaws
 mod BoundLaws
-mod TypeLaws
-pub mod MovingLaws
+mod ShiftSteps
+pub mod TypeLaws
 pub mod CounterLaws
+pub mod PlaceLaws
+pub mod TaskLaws
+pub mod RememberLaws
+pub mod CountLaws
+pub mod MemoryLaws
 mod RegionFolderLaws
 mod RegionFolderSteps
 pub mod RegionAnswers

@@ -19,11 +19,9 @@ use Rattle.tt_interner.proofs.Growth.{size-grows, meaning-grows, age-grows}
 
 -- a handle in range, its tree
 pub is_part : (rows : List Row) (t : Table) (n : ℕ) → n < size rows t → IsPartOf rows (stored t n)
-unfolding IsPart
 is_part rows t n h = h
 
 pub in_range : (rows : List Row) (t : Table) (n : ℕ) → IsPartOf rows (stored t n) → n < size rows t
-unfolding IsPart
 in_range rows t n h = h
 
 pub stored_tree : (rows : List Row) (t : Table) (n : ℕ) → tree_in rows (stored t n) ≡ meaning rows t n
@@ -32,11 +30,9 @@ stored_tree rows t n = refl
 
 -- one shape, and several
 pub one_part : (rows : List Row) (s : Shape) → IsPartOf rows s → ArePartsOf rows (also s none)
-unfolding AreParts
 one_part rows s h = (h, tt)
 
 pub only_part : (rows : List Row) (s : Shape) → ArePartsOf rows (also s none) → IsPartOf rows s
-unfolding AreParts
 only_part rows s h = h.0
 
 pub one_tree : (rows : List Row) (s : Shape) → trees_in rows (also s none) ≡ tree.also (tree_in rows s) tree.none
@@ -48,21 +44,17 @@ unfolding fill_all
 no_trees rows = refl
 
 pub no_parts : (rows : List Row) → ArePartsOf rows none
-unfolding AreParts
 no_parts rows = tt
 
 pub append_parts : (rows : List Row) (ss us : Shapes) → ArePartsOf rows ss → ArePartsOf rows us → ArePartsOf rows (append ss us)
-unfolding AreParts
 append_parts rows none us h k = k
 append_parts rows (also s ss) us h k = (h.0, append_parts rows ss us h.1 k)
 
 pub left_parts : (rows : List Row) (ss us : Shapes) → ArePartsOf rows (append ss us) → ArePartsOf rows ss
-unfolding AreParts
 left_parts rows none us h = tt
 left_parts rows (also s ss) us h = (h.0, left_parts rows ss us h.1)
 
 pub right_parts : (rows : List Row) (ss us : Shapes) → ArePartsOf rows (append ss us) → ArePartsOf rows us
-unfolding AreParts
 right_parts rows none us h = h
 right_parts rows (also s ss) us h = right_parts rows ss us h.1
 

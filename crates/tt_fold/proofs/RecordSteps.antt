@@ -25,23 +25,18 @@ pub record IsNameless (l : RecordLabel ℕ) : Type 0 where
 
 -- what stands in records
 pub one-inner : (rows : List Row) (l : RecordLabel ℕ) (s : Shape) → IsPartOf rows (one_record l s) → IsPartOf rows s
-unfolding IsPart
 one-inner rows l s h = h.2.0
 
 one-part : (rows : List Row) (l : RecordLabel ℕ) (s : Shape) → IsNameless l → IsPartOf rows s → IsPartOf rows (one_record l s)
-unfolding IsPart
 one-part rows l s plain h = (refl, plain.named (size rows), (h, tt))
 
 pub two-first : (rows : List Row) (l : RecordLabel ℕ) (s u : Shape) → IsPartOf rows (two_record l s u) → IsPartOf rows s
-unfolding IsPart
 two-first rows l s u h = h.2.0
 
 pub two-second : (rows : List Row) (l : RecordLabel ℕ) (s u : Shape) → IsPartOf rows (two_record l s u) → IsPartOf rows u
-unfolding IsPart
 two-second rows l s u h = h.2.1.0
 
 two-part : (rows : List Row) (l : RecordLabel ℕ) (s u : Shape) → IsNameless l → IsPartOf rows s → IsPartOf rows u → IsPartOf rows (two_record l s u)
-unfolding IsPart
 two-part rows l s u plain h k = (refl, plain.named (size rows), (h, (k, tt)))
 
 -- a record of three values
@@ -49,32 +44,25 @@ abbrev pub three_record : RecordLabel ℕ → Shape → Shape → Shape → Shap
 three_record l s u v = shape.node (record_label l) (shape.also s (shape.also u (shape.also v shape.none)))
 
 pub three-first : (rows : List Row) (l : RecordLabel ℕ) (s u v : Shape) → IsPartOf rows (three_record l s u v) → IsPartOf rows s
-unfolding IsPart
 three-first rows l s u v h = h.2.0
 
 pub three-second : (rows : List Row) (l : RecordLabel ℕ) (s u v : Shape) → IsPartOf rows (three_record l s u v) → IsPartOf rows u
-unfolding IsPart
 three-second rows l s u v h = h.2.1.0
 
 pub three-third : (rows : List Row) (l : RecordLabel ℕ) (s u v : Shape) → IsPartOf rows (three_record l s u v) → IsPartOf rows v
-unfolding IsPart
 three-third rows l s u v h = h.2.1.1.0
 
 three-part : (rows : List Row) (l : RecordLabel ℕ) (s u v : Shape) → IsNameless l → IsPartOf rows s → IsPartOf rows u → IsPartOf rows v → IsPartOf rows (three_record l s u v)
-unfolding IsPart
 three-part rows l s u v plain h k m = (refl, plain.named (size rows), (h, (k, (m, tt))))
 
 -- a record of parts
 record_named : (rows : List Row) (f : RecordForm) → IsPartOf rows (record_shape f) → IsNamedLabel (size rows) (record_label f.label)
-unfolding IsPart
 record_named rows f h = h.1
 
 pub record-parts : (rows : List Row) (f : RecordForm) → IsPartOf rows (record_shape f) → ArePartsOf rows (parts_shapes f.parts)
-unfolding IsPart
 record-parts rows f h = h.2
 
 record-part : (rows : List Row) (f : RecordForm) → IsNamedLabel (size rows) (record_label f.label) → ArePartsOf rows (parts_shapes f.parts) → IsPartOf rows (record_shape f)
-unfolding IsPart
 record-part rows f named h = (refl, named, h)
 
 module _ {M E S : Type 0} {owned : List Row → S → Type 0} {means : List Row → S → M} {H : Hooks (Standing M) E} {errors : Errors E} where
@@ -82,9 +70,9 @@ module _ {M E S : Type 0} {owned : List Row → S → Type 0} {means : List Row 
   pub none_folds : {T : Type 0} (of : T → Shape) (l : RecordLabel ℕ) {terms : Terms} {s : S} → IsNameless l → (x y : T) → of x ≡ shape.node (record_label l) shape.none → of y ≡ shape.node (record_label l) shape.none
       → owned terms.rows s
       → Folds owned means (IsPartBy of) (tree_by of) (Walks H) (Fails H errors) terms s x (Ok y) terms s
-  unfolding fill IsPart
+  unfolding fill
   none_folds of l {terms} plain x y at_x at_y o =
-      record { extends = Extends-refl terms; is_owned = o; outcome = (rw at_y (refl, plain.named (size terms.rows), tt), rw (at_x, at_y) (at_node done)) }
+      record { extends = Extends-refl terms; is_owned = o; outcome = (rw at_y (refl, plain.named (size terms.rows), tt), rw (at_x, at_y) (at_node done (λ h. h))) }
 
   -- a record of one value
   module _ {T A : Type 0} (of : T → Shape) (a : A → Shape) (l : RecordLabel ℕ) where
@@ -105,7 +93,7 @@ module _ {M E S : Type 0} {owned : List Row → S → Type 0} {means : List Row 
           is_owned = d.is_owned;
           outcome = (
             rw at_y (one-part terms1.rows l (a v) plain o.0),
-            rw (at_x, at_y, plain.same (name_of (meaning terms.rows)) (name_of (meaning terms1.rows))) (at_node (next o.1 done)),
+            rw (at_x, at_y, plain.same (name_of (meaning terms.rows)) (name_of (meaning terms1.rows))) (at_node (next o.1 done) (λ h. h)),
           );
         }
 
@@ -141,7 +129,7 @@ module _ {M E S : Type 0} {owned : List Row → S → Type 0} {means : List Row 
           is_owned = d2.is_owned;
           outcome = (
             rw at_z (two-part terms2.rows l (a y) (b w) plain (IsPart-grows _ _ d2.extends.rows (a y) d1.outcome.0) o.0),
-            rw (at_x, at_z, plain.same (name_of (meaning terms.rows)) (name_of (meaning terms2.rows))) (at_node (next first (next o.1 done))),
+            rw (at_x, at_z, plain.same (name_of (meaning terms.rows)) (name_of (meaning terms2.rows))) (at_node (next first (next o.1 done)) (λ h. h)),
           );
         }
 
@@ -197,7 +185,7 @@ module _ {M E S : Type 0} {owned : List Row → S → Type 0} {means : List Row 
           is_owned = d3.is_owned;
           outcome = (
             rw at_z (three-part terms3.rows l (a p) (b q) (c r) plain (IsPart-grows _ _ later_terms.rows (a p) d1.outcome.0) (IsPart-grows _ _ d3.extends.rows (b q) o.0) f.0),
-            rw (at_x, at_z, plain.same (name_of (meaning terms.rows)) (name_of (meaning terms3.rows))) (at_node (next first (next second (next f.1 done)))),
+            rw (at_x, at_z, plain.same (name_of (meaning terms.rows)) (name_of (meaning terms3.rows))) (at_node (next first (next second (next f.1 done))) (λ h. h)),
           );
         }
 
@@ -221,7 +209,7 @@ module _ {M E S : Type 0} {owned : List Row → S → Type 0} {means : List Row 
           is_owned = d.is_owned;
           outcome = (
             rw same (record-part terms1.rows (replenished q (of x)) label.named o.0.owned),
-            rw (same, label.same) (at_node o.1),
+            rw (same, label.same) (at_node o.1 (λ h. h)),
           );
         }
 
@@ -233,7 +221,6 @@ pub unsafe_is_part : (rows : List Row) (i : UnsafeBinderInner) → IsPartOf rows
 unsafe_is_part rows i h = h
 
 pub unsafe_type : (rows : List Row) (i : UnsafeBinderInner) → IsPartOf rows (unsafe_binder_shape i) → IsPartOf rows (ty_shape i.0.value)
-unfolding IsPart
 unsafe_type rows i h = one-inner rows unsafe_binder_record (ty_shape i.0.value) h.1
 
 module _ {M E S : Type 0} {owned : List Row → S → Type 0} {means : List Row → S → M} {H : Hooks (Standing M) E} {errors : Errors E} where

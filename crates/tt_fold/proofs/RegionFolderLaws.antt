@@ -5,15 +5,15 @@ use Rattle.std.proofs.lemmas.List.{map-append, append-nil, length-map, length-ap
 use Rattle.std.proofs.Math.Seq.{take-append-add}
 use Rattle.tt_index.specs.declared.refusal.Refusal.{Refusal}
 use Rattle.tt_index.specs.declared.refusal.Refusal.TheVariants.{GreatestIndex}
-use Rattle.tt_kinds.specs.Label.{Name, Sort, region_sort, type_sort, const_sort, Entry, Label, type_label, const_label, pattern_label, predicate_label, existential_label, clause_list_label, list_label, record_label}
+use Rattle.tt_kinds.specs.Label.{Name, Sort, region_sort, type_sort, const_sort, Entry, Label, type_label, const_label, pattern_label, predicate_label, existential_label, clause_list_label, list_label, record_label, clause_label}
 use Rattle.tt_kinds.specs.Tree.{Depth, at, canonical, Tree, param, bound, region, term, node, binder, Forest, none, also}
 use Rattle.tt_kinds.specs.Met.{Met, met_leaf, met, met_all, placed_leaf, placed, placed_all}
 use Rattle.tt_kinds.specs.declared.region_kind.RegionKind.{RegionKind}
 use Rattle.tt_kinds.proofs.MetLaws.{placed_all-append}
 use Rattle.tt_interner.specs.Stored.{IsNoClauseList}
-use Rattle.tt_interner.specs.Clauses.{is_clause_part, is_clause_inside, is_clause_tree}
+use Rattle.tt_interner.specs.Clauses.{is_clause_part, is_clause_inside, is_clause_tree, HasOther}
 use Rattle.tt_visit.specs.Root.{a_region, hooked, unhooked}
-use Rattle.tt_fold.specs.Walk.{Errors, Hooks, IsRegion, IsTerm, IsPassed, Walks, Descends, WalksInside, WalksAll, at_region, replaced, kept, descended, passed, rebuilt, at_node, at_binder, in_term, in_param, in_bound, done, next, Fails, DescentFails, InsideFails, FailsAll, region_failed, term_failed, descent_failed, enter_failed, under_failed, leave_failed, node_failed, node_not_built, passed_failed, inside_failed, not_built, after_failed, in_term_failed, stopped, here, later, no_clause, Wanted, any_trees, clause_trees, wanted_in, HasUnwanted}
+use Rattle.tt_fold.specs.Walk.{Errors, Hooks, IsRegion, IsTerm, IsPassed, Walks, Descends, WalksInside, WalksAll, at_region, replaced, kept, descended, passed, rebuilt, at_node, at_binder, in_term, in_param, in_bound, done, next, Fails, DescentFails, InsideFails, FailsAll, region_failed, term_failed, descent_failed, enter_failed, under_failed, leave_failed, node_failed, node_not_built, clause_lost, passed_failed, inside_failed, not_built, after_failed, in_term_failed, stopped, here, later, no_clause, Wanted, any_trees, clause_trees, wanted_in, HasUnwanted, LosesClause}
 use Rattle.tt_fold.specs.Stands.{StandsIn, StandsAmong, itself, in_term as stands_in_term, in_node as stands_in_node, in_binder as stands_in_binder, in_first, in_later}
 use Rattle.tt_fold.specs.RegionFolder.{RegionCall, asked, answered, region_tree, Asking, BindersFit, BindersFit_all, AreMade, region_hooks}
 use Rattle.tt_fold.proofs.ClauseLaws.{KeepsClauses, KeepsClauses_all}
@@ -122,6 +122,18 @@ unwanted-before clause_trees k t answers h = elim h [ inl a ↦ by (is_clause_tr
     by true e a = let never = rw (placed-clause k t answers e) at a in cc
     by false e a = inl (rw e refl)
 
+-- nor does a clause by itself become another tree
+others-before : (k : ℕ) (ts : Forest Depth) (answers : List (Tree Depth)) → HasOther (placed_all k ts answers) → HasOther ts
+others-before k none answers h = h
+others-before k (also t ts) answers h = elim h [
+  | inl a ↦ first-unwanted clause_trees t ts (unwanted-before clause_trees k t _ (inl a))
+  | inr b ↦ inr (others-before k ts _ b)
+]
+
+placed-keeps_clause : (k : ℕ) (l : Label Name) (ts : Forest Depth) (answers : List (Tree Depth)) → LosesClause l ts (placed_all k ts answers) → ⊥
+placed-keeps_clause k clause_label ts answers h = h.0 (others-before k ts answers h.1)
+placed-keeps_clause k _ ts answers h = h
+
 -- why a walk ended after the answers, where `Stands` says what stands in the tree with answers placed, and Fit that its binders fit
 pub data Why (unbuilt : Tree Depth → Refusal → Type 0) (Stands : Tree Depth → List (Tree Depth) → Type 0) (Fit : Type 0) (answers : List (Tree Depth)) (e : Refusal) : Type 0 where
   all_unbuilt : ((u : Tree Depth) → unbuilt u e) → Why unbuilt Stands Fit answers e
@@ -216,7 +228,7 @@ module _ {F : Type 0} (step : F → RegionKind → ℕ → RegionKind → F → 
     asks {s} {s'} (kept {t} is h) = elim h.1 [ inl a ↦ absurd (cc) | inr b ↦ asks_none s s' t b.1 h.0 ]
     asks (descended {t} is h d) = rw h.0 at (asks_descent d (term-other t is))
     asks (passed {t} is w) = asks_inside w (passed-other t is)
-    asks {s} (at_node {l} w) =
+    asks {s} (at_node {l} w fit) =
         let m = asks_all w in
         record { calls = m.calls; made = m.made; are_met = m.are_met; are_placed = λ more. ap (node l) (m.are_placed more); under = m.under; names = m.names }
     asks {s} (at_binder {vs} enter w leave) =
@@ -317,6 +329,9 @@ module _ {F : Type 0} (step : F → RegionKind → ℕ → RegionKind → F → 
             are_first = append-nil (asked s.names m.calls) ∙ m.are_met;
             why = one_unbuilt (node l us) (λ more. subst (λ vs. StandsIn (node l us) (node l vs)) (m.are_placed more) itself) (λ bad. bad) b;
           }
+      asks_some {s} (clause_lost {l} {ts} w lost b) keeps =
+          let m = asks_all w in
+          absurd (placed-keeps_clause s.under l ts _ (subst (λ vs. LosesClause l ts vs) (m.are_placed []) lost))
 
       some_descent : {s s' : Asking F} {t : Tree Depth} {e : Refusal} → DescentFails (region_hooks step) errors s t e s' → (IsRegion t → ⊥) → KeepsClauses t → AskedSome s t e s'
       some_descent (inside_failed d) other keeps = some_inside d other keeps

@@ -41,7 +41,6 @@ region-tree rows (ReError e) = refl
 
 -- a region's name is all that it has of the rows
 pub part-named : (rows : List Row) (r : RegionKind) → IsPartOf rows (region_shape r) → HasName (size rows Symbols) r
-unfolding IsPart
 part-named rows (ReEarlyParam p) h = h
 part-named rows (ReBound i b) h = h
 part-named rows (ReLateParam p) h = h
@@ -52,7 +51,6 @@ part-named rows ReErased h = h
 part-named rows (ReError e) h = h
 
 pub named-part : (rows : List Row) (r : RegionKind) → HasName (size rows Symbols) r → IsPartOf rows (region_shape r)
-unfolding IsPart
 named-part rows (ReEarlyParam p) h = h
 named-part rows (ReBound i b) h = h
 named-part rows (ReLateParam p) h = h

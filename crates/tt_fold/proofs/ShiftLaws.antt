@@ -1,4 +1,4 @@
--- The shifter's walk shifts the tree.
+-- The shifter's task, its hooks at regions, and what it does to a whole value.
 use Rattle.std.proofs.Common.{zero, List, [], Result, Ok, Err, IfOk, IfErr, MatchResult, ◌≡◌, ℕ, suc, ◌+◌, ◌-◌, ◌<◌, ◌≤◌, ◌⊎◌, inl, inr, true, false, ltb, refl, ap, sym, subst, ◌∙◌, arith}
 use Rattle.std.proofs.lemmas.Bool.{cases_Bool, cases_lt, ltb-false, le-ltb, lt-ltb}
 use Rattle.tt_index.specs.Greatest.{greatest}
@@ -8,6 +8,8 @@ use Rattle.tt_kinds.specs.Label.{Name, region_sort, type_sort, const_sort, Label
 use Rattle.tt_kinds.specs.Tree.{Depth, at, canonical, Tree, param, bound, region, term, node, binder, Forest, none, also}
 use Rattle.tt_kinds.specs.Reading.{place, read, read_all, move, outer_binder, Fits, FitsAt, FitsUnder, FitsUnder_all}
 use Rattle.tt_kinds.specs.Plain.{shifted, shift_tree, shift_forest}
+use Rattle.tt_kinds.specs.Count.{TypeAt, moving_types}
+use Rattle.std.specs.Prelude.{⊤}
 use Rattle.tt_kinds.proofs.OuterLaws.{shift_tree-low, shift_tree-zero}
 use Rattle.tt_kinds.proofs.PlainLaws.{shift_tree-shift_tree}
 use Rattle.tt_kinds.specs.Matched.{MatchedUnder}
@@ -22,219 +24,87 @@ use Rattle.tt_kinds.specs.declared.bound.BoundVarIndexKind.TheVariants.{Bound, C
 use Rattle.tt_kinds.specs.declared.region_kind.RegionKind.{RegionKind}
 use Rattle.tt_kinds.specs.declared.region_kind.RegionKind.TheVariants.{ReEarlyParam, ReBound, ReLateParam, ReStatic, ReVar, RePlaceholder, ReErased, ReError}
 use Rattle.tt_interner.specs.Rows.{Row, size, meaning}
-use Rattle.tt_interner.specs.Stored.{Terms, Counters, counted, IsUnbuilt, IsNoClauseList}
-use Rattle.tt_fold.specs.Walk.{Errors, is_type_tree, IsPassed, replace, keep, descend, Walks, Descends, WalksInside, WalksAll, at_region, replaced, kept, descended, passed, rebuilt, at_node, at_binder, in_term, in_param, in_bound, done, next, Fails, DescentFails, InsideFails, FailsAll, region_failed, term_failed, descent_failed, enter_failed, under_failed, leave_failed, node_failed, node_not_built, passed_failed, inside_failed, not_built, after_failed, in_term_failed, stopped, here, later, no_clause, Wanted, wanted_in, HasUnwanted}
+use Rattle.tt_interner.specs.Stored.{Terms, Counters, counted, IsUnbuilt}
+use Rattle.tt_fold.specs.Walk.{IsPassed, Walks, Fails}
 use Rattle.tt_fold.specs.Counts.{Standing}
 use Rattle.tt_fold.specs.Steps.{Folds, IsPartOf, tree_in, IsPartBy, tree_by, IsRefused, refusals_of}
 use Rattle.tt_fold.proofs.ClauseLaws.{KeepsClauses, never_bad, shift-keeps}
-use Rattle.tt_fold.proofs.WantedLaws.{first-unwanted, later-unwanted, unwanted-list, TellsOfLists, refusals-tell}
-use Rattle.tt_fold.specs.Stands.{StandsIn, itself, in_term as stands_in_term, in_node as stands_in_node, in_binder as stands_in_binder, StandsAmong, in_first, in_later}
-use Rattle.tt_fold.specs.Shift.{Shift, moved_tree, IsTooFar, answer_inside, shift_answer, shift_hooks, count_descent, IsTooGreat, moved_index, moved_region, IsShiftedRegion, IsShiftRefusal, ShiftsOn, ComesOf, KeepsMatched}
+use Rattle.tt_fold.proofs.WantedLaws.{refusals-tell}
+use Rattle.tt_fold.specs.Stands.{StandsIn, itself}
+use Rattle.tt_fold.specs.Places.{IsIn, CountsPairs, IsPlaceIn}
+use Rattle.tt_fold.specs.Remember.{State, Done, IsTaken, remembering}
+use Rattle.tt_fold.proofs.PlaceLaws.{IsMoving, moving_types-have}
+use Rattle.tt_fold.proofs.TaskLaws.{TaskLaws, Refuses, without, too_far, caused}
+use Rattle.tt_fold.proofs.RememberLaws.{does, refused}
+use Rattle.tt_fold.proofs.CountLaws.{knows-nothing, pairs_walked, pairs_failed}
+use Rattle.tt_fold.specs.Shift.{Shift, moved_tree, IsTooFar, IsVariable, shifting, shift_of, ShiftsCount, IsTooGreat, moved_index, moved_region, IsShiftedRegion, IsShiftRefusal, ShiftsOn, ComesOf, KeepsMatched}
 
--- a count never falls
+counts-still : (c : Counters) → ShiftsCount c c
+counts-still c = record { descents = refl; up = omega arith }
+
+-- a count never falls, and grows by one at most
 pub counted-up : (n : ℕ) → n ≤ counted n
 counted-up n = grind arith
 
--- the shifter's count never falls, and the other stays
-record CountsUp (c c' : Counters) : Type 0 where
-  descents : c'.descents ≡ c.descents
-  up : c.shift_descents ≤ c'.shift_descents
+pub counted-one : (n : ℕ) → counted n ≤ suc n
+counted-one n = grind arith
 
-counts-same : {c c' : Counters} → c' ≡ c → CountsUp c c'
-counts-same h = rw h (record { descents = refl; up = omega arith })
+-- a term without a hook, and one that is taken apart, is no bound variable
+passed-other : (t : Tree Depth) → IsPassed t → IsVariable t → ⊥
+passed-other (bound region_sort d e) is h = cc
+passed-other (bound type_sort d e) is h = cc
+passed-other (bound const_sort d e) is h = cc
+passed-other (param o i name) is h = h
+passed-other (region r) is h = h
+passed-other (term l ts) is h = h
+passed-other (node l ts) is h = h
+passed-other (binder vs t) is h = h
 
-counts-then : {a b c : Counters} → CountsUp a b → CountsUp b c → CountsUp a c
-counts-then m n = record { descents = n.descents ∙ m.descents; up = omega (arith, m.up, n.up) }
+taken-other : (n k : ℕ) (t : Tree Depth) → IsTaken shifting n k t → IsVariable t → ⊥
+taken-other n k (bound o d e) h is = h
+taken-other n k _ h is = is
 
--- a descent counts up
-counts-descent : (t : Tree Depth) (c : Counters) → CountsUp c (count_descent t c)
-counts-descent t c = elim (cases_Bool (is_type_tree t)) [
-  | inl is ↦ rw is (record { descents = refl; up = counted-up c.shift_descents })
-  | inr is ↦ rw is (record { descents = refl; up = omega arith })
-]
+-- what the shifter's task meets
+pub shifting_laws : TaskLaws shifting
+shifting_laws = record {
+  passed_entered = λ n k t is. passed-other t is;
+  taken_entered = λ n k t h. taken-other n k t h;
+  param_stays = λ n k o i name entered. record { plain = refl; allows = tt };
+  bound_stays = λ n k o d e entered. absurd (entered tt);
+  allows_term = λ n k l ts entered h. tt;
+  allows_node = λ n l ts h. tt;
+  allows_binder = λ n vs t h. tt;
+  given = λ s t r kept c g. record {
+    is_done = record { plain = g.1; allows = tt };
+    rises = rw g.2 (counts-still s.counters);
+    amount = rw g.2 (omega arith);
+  };
+  region_refused = λ unbuilt n k t e h. too_far h.0 h.1;
+  term_refused = λ unbuilt s t e s' h. record {
+    why = elim h.1 [ inl far ↦ too_far far.0 far.1 | inr u ↦ without (moved_tree (shift_of s.state) t) itself u ];
+    rises = rw h.0 (counts-still s.counters);
+    amount = rw h.0 (omega arith);
+  };
+  cause_term = λ n k l t ts e entered m h. h;
+  cause_node = λ n l t ts e m h. h;
+  cause_binder = λ n vs t e h. h;
+  count_one = λ c. counted-one c.shift_descents;
+  rises_one = λ c. record { descents = refl; up = counted-up c.shift_descents };
+  rises_still = counts-still;
+  rises_then = λ a b c m n. record { descents = n.descents ∙ m.descents; up = omega (arith, m.up, n.up) };
+}
 
--- the walk leaves the state, counts up, and shifts the tree
-pub record Shifts (s : Standing Shift) (t r : Tree Depth) (s' : Standing Shift) : Type 0 where
-  pub state : s'.state ≡ s.state
-  counts : CountsUp s.counters s'.counters
-  shifted : r ≡ moved_tree s.state t
+-- a type that the shifter takes apart is among those that have a variable to be shifted
+taken-moving : (n k : ℕ) (t : Tree Depth) → IsTaken shifting n k t → IsMoving k t
+taken-moving n k (term l ts) h = rw (h.0, lt-ltb k (outer_binder (term l ts)) h.1) refl
+taken-moving n k (param o i name) h = absurd h
+taken-moving n k (bound o d e) h = absurd h
+taken-moving n k (region r) h = absurd h
+taken-moving n k (node l ts) h = absurd h
+taken-moving n k (binder vs t) h = absurd h
 
-record ShiftsAll (s : Standing Shift) (ts us : Forest Depth) (s' : Standing Shift) : Type 0 where
-  state : s'.state ≡ s.state
-  counts : CountsUp s.counters s'.counters
-  shifted : us ≡ shift_forest s.state.under s.state.amount ts
-
--- what the hook's answers say
-answer-kept : (s : Shift) (t : Tree Depth) → keep ≡ shift_answer s t → t ≡ moved_tree s t
-answer-kept s t h = elim (cases_Bool (ltb s.under (outer_binder t))) [
-  | inl far ↦ absurd (inside s t (rw far at h))
-  | inr low ↦ sym (shift_tree-low s.under s.amount t (ltb-false s.under (outer_binder t) low))
-]
-  where
-    inside : (s : Shift) (t : Tree Depth) → keep ≡ answer_inside s t → ⊥
-    inside s (param o i name) h = cc
-    inside s (bound o d e) h = cc
-    inside s (region r) h = cc
-    inside s (term l ts) h = cc
-    inside s (node l ts) h = cc
-    inside s (binder vs t) h = cc
-
-answer-replaced : (s : Shift) (t r : Tree Depth) → replace r ≡ shift_answer s t → r ≡ moved_tree s t
-answer-replaced s t r h = elim (cases_Bool (ltb s.under (outer_binder t))) [
-  | inl far ↦ inside s t r (rw far at h)
-  | inr low ↦ let no : replace r ≡ keep = rw low at h in absurd (cc)
-]
-  where
-    inside : (s : Shift) (t r : Tree Depth) → replace r ≡ answer_inside s t → r ≡ moved_tree s t
-    inside s (param o i name) r h = absurd (cc)
-    inside s (bound o d e) r h = cc
-    inside s (region x) r h = absurd (cc)
-    inside s (term l ts) r h = absurd (cc)
-    inside s (node l ts) r h = absurd (cc)
-    inside s (binder vs t) r h = absurd (cc)
-
-pub answer-descends : (s : Shift) (t : Tree Depth) → descend ≡ shift_answer s t → descend ≡ answer_inside s t
-answer-descends s t h = elim (cases_Bool (ltb s.under (outer_binder t))) [
-  | inl far ↦ rw far at h
-  | inr low ↦ let no : descend ≡ keep = rw low at h in absurd (cc)
-]
-
--- a term without a hook is no bound variable
-passed-inside : (s : Shift) (t : Tree Depth) → IsPassed t → descend ≡ answer_inside s t
-passed-inside s (param o i name) h = refl
-passed-inside s (bound region_sort d e) h = absurd (cc)
-passed-inside s (bound type_sort d e) h = absurd (cc)
-passed-inside s (bound const_sort d e) h = absurd (cc)
-passed-inside s (region r) h = refl
-passed-inside s (term l ts) h = refl
-passed-inside s (node l ts) h = refl
-passed-inside s (binder vs t) h = refl
-
-mutual
-  pub shifts : {s s' : Standing Shift} {t r : Tree Depth} → Walks shift_hooks s t r s' → Shifts s t r s'
-  shifts (at_region is h) = record { state = ap (λ s. s.state) h.0; counts = counts-same (ap (λ s. s.counters) h.0); shifted = h.1 }
-  shifts {s} (replaced {t} {r} is h) =
-      record { state = ap (λ s. s.state) h.0; counts = counts-same (ap (λ s. s.counters) h.0); shifted = answer-replaced s.state t r h.1 }
-  shifts {s} (kept {t} is h) = record { state = ap (λ s. s.state) h.0; counts = counts-same (ap (λ s. s.counters) h.0); shifted = answer-kept s.state t h.1 }
-  shifts {s} (descended {t} is h d) =
-      let m = rw h.0 at (shifts_descent d (rw h.0 (answer-descends s.state t h.1))) in
-      record { state = m.state; counts = counts-then (counts-descent t s.counters) m.counts; shifted = m.shifted }
-  shifts {s} (passed {t} is w) = shifts_inside w (passed-inside s.state t is)
-  shifts (at_node {l} w) = let m = shifts_all w in record { state = m.state; counts = m.counts; shifted = ap (node l) m.shifted }
-  shifts {s} (at_binder {vs} enter w leave) =
-      let m = rw enter at (shifts w) in
-      let back : suc s.state.under - 1 ≡ s.state.under = omega arith in
-      record {
-        state = ap (λ s. s.state) leave ∙ rw (m.state, back) refl;
-        counts = counts-then m.counts (counts-same (ap (λ s. s.counters) leave));
-        shifted = ap (binder vs) m.shifted;
-      }
-
-  shifts_descent : {s s' : Standing Shift} {t r : Tree Depth} → Descends shift_hooks s t r s' → descend ≡ answer_inside s.state t → Shifts s t r s'
-  shifts_descent (rebuilt w after) h =
-      let m = shifts_inside w h in
-      record { state = ap (λ s. s.state) after.0 ∙ m.state; counts = counts-then m.counts (counts-same (ap (λ s. s.counters) after.0)); shifted = after.1 ∙ m.shifted }
-
-  shifts_inside : {s s' : Standing Shift} {t r : Tree Depth} → WalksInside shift_hooks s t r s' → descend ≡ answer_inside s.state t → Shifts s t r s'
-  shifts_inside (in_term {l} w fit) h = let m = shifts_all w in record { state = m.state; counts = m.counts; shifted = ap (term l) m.shifted }
-  shifts_inside in_param h = record { state = refl; counts = counts-same refl; shifted = refl }
-  shifts_inside in_bound h = absurd (cc)
-
-  shifts_all : {s s' : Standing Shift} {ts us : Forest Depth} → WalksAll shift_hooks s ts us s' → ShiftsAll s ts us s'
-  shifts_all done = record { state = refl; counts = counts-same refl; shifted = refl }
-  shifts_all (next w more) =
-      let m = shifts w in
-      let n = shifts_all more in
-      let rest = rw m.state at n.shifted in
-      record { state = n.state ∙ m.state; counts = counts-then m.counts n.counts; shifted = rw (m.shifted, rest) refl }
-
--- why something ends: no tree is built, one that was to stand there isn't, no list of clauses with an item that is none, of which
--- one was to stand there, or the moved reading does not fit
-data Why (unbuilt : Tree Depth → Refusal → Type 0) (stands : Tree Depth → Type 0) (unwanted : Type 0) (e : Refusal) (fits : Type 0) : Type 0 where
-  all_unbuilt : ((u : Tree Depth) → unbuilt u e) → Why unbuilt stands unwanted e fits
-  one_unbuilt : (u : Tree Depth) → stands u → unbuilt u e → Why unbuilt stands unwanted e fits
-  lists_unbuilt : unwanted → ((u : Tree Depth) → IsNoClauseList u → unbuilt u e) → Why unbuilt stands unwanted e fits
-  too_great : e ≡ GreatestIndex → (fits → ⊥) → Why unbuilt stands unwanted e fits
-
--- why the walk ends, and its counts
-record Refused (unbuilt : Tree Depth → Refusal → Type 0) (stands : Tree Depth → Type 0) (unwanted : Type 0) (s : Standing Shift) (e : Refusal) (fits : Type 0) (s' : Standing Shift) : Type 0 where
-  counts : CountsUp s.counters s'.counters
-  cause : Why unbuilt stands unwanted e fits
-
--- the same of a tree, and of trees
-abbrev RefusedAt : (Tree Depth → Refusal → Type 0) → Standing Shift → Tree Depth → Refusal → Standing Shift → Type 0
-RefusedAt unbuilt s t e s' = Refused unbuilt (λ u. StandsIn u (moved_tree s.state t)) ⊥ s e (FitsUnder s.state.under (read s.state.under (moved_tree s.state t))) s'
-
-abbrev RefusedAmong : (Tree Depth → Refusal → Type 0) → Wanted → Standing Shift → Forest Depth → Refusal → Standing Shift → Type 0
-RefusedAmong unbuilt w s ts e s' =
-    let moved = shift_forest s.state.under s.state.amount ts in
-    Refused unbuilt (λ u. StandsAmong u moved) (HasUnwanted w moved) s e (FitsUnder_all s.state.under (read_all s.state.under moved)) s'
-
-module _ (errors : Errors Refusal) (tells : TellsOfLists errors) where
-  because : {e : Refusal} {A B : Tree Depth → Type 0} {C D : Type 0} {P Q : Type 0} → ((u : Tree Depth) → A u → B u) → (C → D) → (Q → P)
-      → Why errors.unbuilt A C e P → Why errors.unbuilt B D e Q
-  because into bad f (all_unbuilt b) = all_unbuilt b
-  because into bad f (one_unbuilt u h b) = one_unbuilt u (into u h) b
-  because into bad f (lists_unbuilt h b) = lists_unbuilt (bad h) b
-  because into bad f (too_great is unfit) = too_great is (λ q. unfit (f q))
-
-  weaker : {s s' : Standing Shift} {e : Refusal} {A B : Tree Depth → Type 0} {C D : Type 0} {P Q : Type 0} → ((u : Tree Depth) → A u → B u) → (C → D) → (Q → P)
-      → Refused errors.unbuilt A C s e P s' → Refused errors.unbuilt B D s e Q s'
-  weaker into bad f r = record { counts = r.counts; cause = because into bad f r.cause }
-
-  -- a list of clauses is not built where an item is none
-  in_list : {e : Refusal} {P : Type 0} (l : Label Name) (us : Forest Depth)
-      → Why errors.unbuilt (λ u. StandsAmong u us) (HasUnwanted (wanted_in l) us) e P → Why errors.unbuilt (λ u. StandsIn u (term l us)) ⊥ e P
-  in_list l us (all_unbuilt b) = all_unbuilt b
-  in_list l us (one_unbuilt u h b) = one_unbuilt u (stands_in_term h) b
-  in_list l us (lists_unbuilt h b) = one_unbuilt (term l us) itself (b (term l us) (unwanted-list l us h))
-  in_list l us (too_great is unfit) = too_great is unfit
-
-  mutual
-    refused : {s s' : Standing Shift} {t : Tree Depth} {e : Refusal} → Fails shift_hooks errors s t e s' → RefusedAt errors.unbuilt s t e s'
-    refused (region_failed is h) = record { counts = counts-same (ap (λ s. s.counters) h.0); cause = too_great h.1.0 h.1.1 }
-    refused {s} (term_failed {t} is h) = record {
-      counts = counts-same (ap (λ s. s.counters) h.0);
-      cause = elim h.1 [ inl far ↦ too_great far.0 far.1 | inr u ↦ one_unbuilt (moved_tree s.state t) itself u ];
-    }
-    refused {s} (descent_failed {t} is h d) =
-        let r = rw h.0 at (refused_descent d (rw h.0 (answer-descends s.state t h.1))) in
-        record { counts = counts-then (counts-descent t s.counters) r.counts; cause = r.cause }
-    refused {s} (passed_failed {t} is d) = refused_inside d (passed-inside s.state t is)
-    refused (enter_failed h) = record { counts = counts-same (ap (λ s. s.counters) h.0); cause = too_great h.1.0 (λ fits. omega (arith, fits.0, h.1.1)) }
-    refused (under_failed enter d) =
-        let r = rw enter at (refused d) in
-        weaker (λ u h. stands_in_binder h) (λ h. h) (λ fits. fits.1) (record { counts = r.counts; cause = r.cause })
-    refused (leave_failed enter w h) = absurd h
-    refused (node_failed d) = weaker (λ u h. stands_in_node h) (λ h. h) (λ fits. fits) (refused_all d)
-    refused {s} (node_not_built {l} {ts} {us} {e} w b) =
-        let m = shifts_all w in
-        record { counts = m.counts; cause = one_unbuilt (node l (shift_forest s.state.under s.state.amount ts)) itself (subst (λ vs. errors.unbuilt (node l vs) e) m.shifted b) }
-
-    refused_descent : {s s' : Standing Shift} {t : Tree Depth} {e : Refusal} → DescentFails shift_hooks errors s t e s' → descend ≡ answer_inside s.state t
-        → RefusedAt errors.unbuilt s t e s'
-    refused_descent (inside_failed d) h = refused_inside d h
-    refused_descent (after_failed w a) h = absurd a
-
-    refused_inside : {s s' : Standing Shift} {t : Tree Depth} {e : Refusal} → InsideFails shift_hooks errors s t e s' → descend ≡ answer_inside s.state t
-        → RefusedAt errors.unbuilt s t e s'
-    refused_inside (in_term_failed {l} d) h = let r = refused_all d in record { counts = r.counts; cause = in_list l _ r.cause }
-    refused_inside {s} (not_built {t} {u} {e} w b) h =
-        let m = shifts_inside w h in
-        record { counts = m.counts; cause = one_unbuilt (moved_tree s.state t) itself (subst (λ v. errors.unbuilt v e) m.shifted b) }
-
-    refused_all : {w : Wanted} {s s' : Standing Shift} {ts : Forest Depth} {e : Refusal} → FailsAll shift_hooks errors w s ts e s' → RefusedAmong errors.unbuilt w s ts e s'
-    refused_all (stopped b) = record { counts = counts-same refl; cause = all_unbuilt b }
-    refused_all (here d) = weaker (λ u h. in_first h) (λ h. absurd h) (λ fits. fits.0) (refused d)
-    refused_all {w} {s} (no_clause {t} {u} {ts} {e} g bad b) =
-        let m = shifts g in
-        let among = first-unwanted w (moved_tree s.state t) (shift_forest s.state.under s.state.amount ts) (subst (λ v. HasUnwanted w (also v none)) m.shifted bad) in
-        record { counts = m.counts; cause = lists_unbuilt among (λ v none. tells v e none b) }
-    refused_all {w} {s} (later {t} {ts} g fit d) =
-        let m = shifts g in
-        let r = rw m.state at (refused_all d) in
-        weaker (λ u h. in_later h) (later-unwanted w (moved_tree s.state t) (shift_forest s.state.under s.state.amount ts)) (λ fits. fits.1)
-        (record { counts = counts-then m.counts r.counts; cause = r.cause })
+taken-listed : (n k : ℕ) (t : Tree Depth) (p : TypeAt) → IsPlaceIn p k t → IsTaken shifting n p.under p.standing → IsIn p (moving_types k t)
+taken-listed n k t p place taken = moving_types-have p k t place (taken-moving n p.under p.standing taken)
 
 -- regions
 pub index-moved : (n k : ℕ) (i : BoundVarIndexKind) → depth (moved_index n k i) ≡ shifted n k (depth i)
@@ -253,7 +123,6 @@ region-moved f n k ReErased = refl
 region-moved f n k (ReError e) = refl
 
 pub region-named : (size : Sizes) (n k : ℕ) (r : RegionKind) → IsPart size (region_shape r) → IsPart size (region_shape (moved_region n k r))
-unfolding IsPart
 region-named size n k (ReEarlyParam p) h = h
 region-named size n k (ReBound i b) h = h
 region-named size n k (ReLateParam p) h = h
@@ -311,8 +180,8 @@ is_shifted f n r q same low =
     let plain : read 0 (fill f (region_shape q)) ≡ move n (read 0 (fill f (region_shape r))) = ap (read 0) tree ∙ read-shift_tree n 0 (fill f (region_shape r)) in
     record { plain = plain; tree = tree; fits = rw (sym plain) (region-fits f 0 q low) }
 
-pub too_far : (f : Meaning) (n : ℕ) (r : RegionKind) → IsShallow r → (IsShallow (moved_region n 0 r) → ⊥) → Fits (move n (read 0 (fill f (region_shape r)))) → ⊥
-too_far f n r low deep fits = deep (region-shallow f n 0 r low (rw (read-shift_tree n 0 (fill f (region_shape r))) fits))
+pub region-unfit : (f : Meaning) (n : ℕ) (r : RegionKind) → IsShallow r → (IsShallow (moved_region n 0 r) → ⊥) → Fits (move n (read 0 (fill f (region_shape r)))) → ⊥
+region-unfit f n r low deep fits = deep (region-shallow f n 0 r low (rw (read-shift_tree n 0 (fill f (region_shape r))) fits))
 
 -- what moving a region answers
 abbrev pub IsMoved : ℕ → ℕ → RegionKind → Result RegionKind Refusal → Type 0
@@ -329,40 +198,24 @@ moved_named size n k r (Err e) h part = tt
 pub moved_err : (f : Meaning) (n : ℕ) (r : RegionKind) (result : Result RegionKind Refusal) → IsShallow r → IsMoved n 0 r result
     → IfErr result (λ e. (e ≡ GreatestIndex) × (Fits (move n (read 0 (fill f (region_shape r)))) → ⊥))
 moved_err f n r (Ok q) low h = tt
-moved_err f n r (Err e) low h = (h.0, too_far f n r low h.1)
+moved_err f n r (Err e) low h = (h.0, region-unfit f n r low h.1)
 
 -- what the shifter's hook at regions promises
-pub region_hook : (rows : List Row) (s : Standing Shift) (r : RegionKind) (result : Result RegionKind Refusal) → IsShallow r → IsPartOf rows (region_shape r)
-    → IsMoved s.state.amount s.state.under r result
+pub region_hook : (rows : List Row) (s : Standing (State ℕ ⊤)) (r : RegionKind) (result : Result RegionKind Refusal) → IsShallow r → IsPartOf rows (region_shape r)
+    → IsMoved s.state.rule s.state.under r result
     → MatchResult result
-    (λ q. IsPartOf rows (region_shape q) × ((s ≡ s) × (tree_in rows (region_shape q) ≡ moved_tree s.state (tree_in rows (region_shape r)))))
-    (λ e. (s ≡ s) × IsTooGreat e (IsTooFar s.state (tree_in rows (region_shape r))))
-region_hook rows s r (Ok q) low part h =
-    (rw h.0 (region-named (size rows) s.state.amount s.state.under r part), (refl, rw h.0 (region-moved (meaning rows) s.state.amount s.state.under r)))
+    (λ q. IsPartOf rows (region_shape q) × ((s ≡ s) × Done shifting s.state.rule s.state.under (tree_in rows (region_shape r)) (tree_in rows (region_shape q))))
+    (λ e. (s ≡ s) × IsTooGreat e (IsTooFar (shift_of s.state) (tree_in rows (region_shape r))))
+region_hook rows s r (Ok q) low part h = (
+  rw h.0 (region-named (size rows) s.state.rule s.state.under r part),
+  (refl, record { plain = rw h.0 (region-moved (meaning rows) s.state.rule s.state.under r); allows = tt }),
+)
 region_hook rows s r (Err e) low part h =
-    (refl, (h.0, λ fits. h.1 (region-shallow (meaning rows) s.state.amount s.state.under r low fits)))
+    (refl, (h.0, λ fits. h.1 (region-shallow (meaning rows) s.state.rule s.state.under r low fits)))
 
 -- the shifter's state beside counts
-abbrev pub with_counters : Shift → Counters → Standing Shift
+abbrev pub with_counters : State ℕ ⊤ → Counters → Standing (State ℕ ⊤)
 with_counters s c = record { state = s; counters = c }
-
-abbrev counts : ℕ → ℕ → Counters
-counts a b = record { descents = a; shift_descents = b }
-
--- the same counts
-pub same_standing : (s : Shift) (c d : Counters) → d ≡ c → with_counters s d ≡ with_counters s c
-same_standing s c d h = ap (with_counters s) h
-
-pub uncounted_standing : (s : Shift) (t : Tree Depth) (c : Counters) → is_type_tree t ≡ false → with_counters s c ≡ with_counters s (count_descent t c)
-uncounted_standing s t c is = rw is refl
-
-pub counted_standing : (s : Shift) (t : Tree Depth) (c d : Counters) → is_type_tree t ≡ true → d.descents ≡ c.descents → d.shift_descents ≡ counted c.shift_descents
-    → with_counters s d ≡ with_counters s (count_descent t c)
-counted_standing s t c d is h k =
-    let same : d ≡ count_descent t c = rw is (pair d.descents c.descents d.shift_descents (counted c.shift_descents) h k) in ap (with_counters s) same
-  where
-    pair : (a b x y : ℕ) → a ≡ b → x ≡ y → counts a x ≡ counts b y
-    pair a b x y p q = rw (p, q) refl
 
 -- what is not bound outside stays
 pub stays : (n : ℕ) (t : Tree Depth) → (n ≡ 0) ⊎ (outer_binder t ≡ 0) → shift_tree 0 n t ≡ t
@@ -390,17 +243,11 @@ pub record IsShift {T : Type 0} (shape : T → Shape) (n : ℕ) (terms : Terms) 
   pub adds_up : IfOk result (λ y. ShiftsOn n (tree_by shape terms.rows x) (tree_by shape terms'.rows y))
   pub tells_apart : IfOk result (λ y. ComesOf n (tree_by shape terms.rows x) (tree_by shape terms'.rows y))
   pub matched : IfOk result (λ y. KeepsMatched (tree_by shape terms.rows x) (tree_by shape terms'.rows y))
-  pub descents : terms'.counters.descents ≡ terms.counters.descents
-  pub up : terms.counters.shift_descents ≤ terms'.counters.shift_descents
+  pub counts : ShiftsCount terms.counters terms'.counters
+  pub pairs : CountsPairs (moving_types 0 (tree_by shape terms.rows x)) terms.counters.shift_descents terms'.counters.shift_descents
 
-shift_refusal : (terms : Terms) (n : ℕ) (t : Tree Depth) (e : Refusal) → KeepsClauses (shift_tree 0 n t)
-    → Why (IsRefused terms) (λ u. StandsIn u (shift_tree 0 n t)) ⊥ e (Fits (read 0 (shift_tree 0 n t))) → IsShiftRefusal terms n t e
-shift_refusal terms n t e keeps why = elim why [
-  | all_unbuilt b ↦ by_unbuilt e (shift_tree 0 n t) itself (b (shift_tree 0 n t))
-  | one_unbuilt u h b ↦ by_unbuilt e u h b
-  | lists_unbuilt h b ↦ absurd h
-  | too_great is unfit ↦ rw is (λ fits. unfit (rw (read-shift_tree n 0 t) fits))
-]
+shift_refusal : (terms : Terms) (n : ℕ) (t : Tree Depth) (e : Refusal) → KeepsClauses (shift_tree 0 n t) → Refuses shifting (IsRefused terms) n 0 t e → IsShiftRefusal terms n t e
+shift_refusal terms n t e keeps why = by_reason why
   where
     unbuilt : (u : Tree Depth) (r : Refusal) → StandsIn u (shift_tree 0 n t) → IsUnbuilt terms u r → IsShiftRefusal terms n t r
     unbuilt u Memory h b = tt
@@ -409,22 +256,58 @@ shift_refusal terms n t e keeps why = elim why [
     unbuilt u GreatestIndex h b = absurd b
     unbuilt u _ h b = absurd b
 
-    by_unbuilt : (e : Refusal) (u : Tree Depth) → StandsIn u (shift_tree 0 n t) → IsRefused terms u e → IsShiftRefusal terms n t e
-    by_unbuilt e u h b = rw b.1.0 (unbuilt u b.0 h b.1.1)
+    by_reason : Refuses shifting (IsRefused terms) n 0 t e → IsShiftRefusal terms n t e
+    by_reason (without u h b) = rw b.1.0 (unbuilt u b.0 h b.1.1)
+    by_reason (too_far is unfit) = rw is (λ fits. unfit (rw (read-shift_tree n 0 t) fits))
+    by_reason (caused h) = absurd h
 
-pub shift_outcome : {S T : Type 0} {owned : List Row → S → Type 0} {means : List Row → S → Shift} {shape : T → Shape} {terms terms' : Terms} {s s' : S} {x : T}
-    (n : ℕ) (result : Result T Refusal)
-    → means terms.rows s ≡ record { amount = n; under = 0 } → KeepsClauses (tree_by shape terms.rows x)
-    → Folds owned means (IsPartBy shape) (tree_by shape) (Walks shift_hooks) (Fails shift_hooks (refusals_of terms')) terms s x result terms' s'
-    → IsShift shape n terms x result terms'
-shift_outcome {shape} {terms} {x} n (Ok y) start keeps d =
-    let w = shifts d.outcome.1 in
-    let tree = rw start at w.shifted in
-    record { tree = tree; plain = ap (read 0) tree ∙ read-shift_tree n 0 (tree_by shape terms.rows x); err = tt; adds_up = shifts_on n _ _ tree; tells_apart = comes_of n _ _ tree; matched = keeps_matched n _ _ tree; descents = w.counts.descents; up = w.counts.up }
-shift_outcome {shape} {terms} {terms'} {x} n (Err e) start keeps d =
-    let f = refused (refusals_of terms') (refusals-tell terms') d.outcome in
-    let cause = rw start at f.cause in
-    record { tree = tt; plain = tt; adds_up = tt; tells_apart = tt; matched = tt; err = shift_refusal terms' n (tree_by shape terms.rows x) e (shift-keeps n (tree_by shape terms.rows x) keeps) cause; descents = f.counts.descents; up = f.counts.up }
+-- the state from which a shift starts
+abbrev pub start : ℕ → State ℕ ⊤
+start n = record { rule = n; under = 0; kept = tt; memory = [] }
+
+module _ {S T : Type 0} {owned : List Row → S → Type 0} {means : List Row → S → State ℕ ⊤} {shape : T → Shape} {terms terms' : Terms} {s s' : S} {x : T} (n : ℕ) where
+  pub shift_outcome : (result : Result T Refusal) → means terms.rows s ≡ start n → KeepsClauses (tree_by shape terms.rows x)
+      → Folds owned means (IsPartBy shape) (tree_by shape) (Walks (remembering shifting)) (Fails (remembering shifting) (refusals_of terms')) terms s x result terms' s'
+      → IsShift shape n terms x result terms'
+  shift_outcome (Ok y) is keeps d =
+      let t = tree_by shape terms.rows x in
+      let from = with_counters (means terms.rows s) terms.counters in
+      let to = with_counters (means terms'.rows s') terms'.counters in
+      let fresh : from.state.memory ≡ [] = ap (λ q. q.memory) is in
+      let w = d.outcome.1 in
+      let done = does shifting shifting_laws w (knows-nothing shifting shifting_laws (moving_types from.state.under t) from to t fresh (taken-listed from.state.rule from.state.under t)) in
+      let tree = rw is at done.is_done.plain in
+      let pairs = pairs_walked shifting shifting_laws (moving_types from.state.under t) from to t fresh (taken-listed from.state.rule from.state.under t) (tree_by shape terms'.rows y) w in
+      record {
+        tree = tree;
+        plain = ap (read 0) tree ∙ read-shift_tree n 0 t;
+        err = tt;
+        adds_up = shifts_on n _ _ tree;
+        tells_apart = comes_of n _ _ tree;
+        matched = keeps_matched n _ _ tree;
+        counts = done.stays.rises;
+        pairs = rw is at pairs;
+      }
+  shift_outcome (Err e) is keeps d =
+      let t = tree_by shape terms.rows x in
+      let from = with_counters (means terms.rows s) terms.counters in
+      let to = with_counters (means terms'.rows s') terms'.counters in
+      let fresh : from.state.memory ≡ [] = ap (λ q. q.memory) is in
+      let f = d.outcome in
+      let knows = knows-nothing shifting shifting_laws (moving_types from.state.under t) from to t fresh (taken-listed from.state.rule from.state.under t) in
+      let r = refused shifting shifting_laws (refusals_of terms') (refusals-tell terms') f knows in
+      let pairs = pairs_failed shifting shifting_laws (moving_types from.state.under t) from to t fresh (taken-listed from.state.rule from.state.under t) (refusals_of terms') e f in
+      let why = rw is at r.why in
+      record {
+        tree = tt;
+        plain = tt;
+        adds_up = tt;
+        tells_apart = tt;
+        matched = tt;
+        err = shift_refusal terms' n t e (shift-keeps n t keeps) why;
+        counts = r.rises;
+        pairs = rw is at pairs;
+      }
 
 pub add_up : (m n : ℕ) (t : Tree Depth) → shift_tree 0 m (shift_tree 0 n t) ≡ shift_tree 0 (m + n) t
 add_up m n t = shift_tree-shift_tree 0 m n t

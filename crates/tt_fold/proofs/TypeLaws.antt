@@ -20,7 +20,7 @@ use Rattle.tt_fold.proofs.PartLaws.{in_range, stored_tree}
 use Rattle.tt_fold.proofs.FormLaws.{type-type, const-type}
 
 -- the table of types
-abbrev is_types : Table → Bool
+abbrev pub is_types : Table → Bool
 is_types Types = true
 is_types _ = false
 
@@ -55,7 +55,7 @@ unfolding table
 stored-type [] t n h = absurd (omega arith)
 stored-type (r ∷ rows) t n h = type-more r rows t n (λ low. stored-type rows t n low) (place_cases r rows t n h)
 
-part-type : (rows : List Row) (t : Table) (n : ℕ) → IsPartOf rows (stored t n) → is_type_tree (tree_in rows (stored t n)) ≡ is_types t
+pub part-type : (rows : List Row) (t : Table) (n : ℕ) → IsPartOf rows (stored t n) → is_type_tree (tree_in rows (stored t n)) ≡ is_types t
 part-type rows t n h = rw (stored_tree rows t n) (stored-type rows t n (in_range rows t n h))
 
 -- a type is one

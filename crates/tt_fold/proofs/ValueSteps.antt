@@ -18,15 +18,12 @@ use Rattle.tt_fold.proofs.FoldSteps.{region-is}
 
 -- what stands in the values
 pub binder-has : {T : Type 0} (of_value : T → Shape) (rows : List Row) (x : Binder T) → IsPartBy (binder_shape of_value) rows x → HasVars rows x.bound_vars
-unfolding IsPart
 binder-has of_value rows x h = h.0
 
 pub binder-value : {T : Type 0} (of_value : T → Shape) (rows : List Row) (x : Binder T) → IsPartBy (binder_shape of_value) rows x → IsPartBy of_value rows x.value
-unfolding IsPart
 binder-value of_value rows x h = h.1
 
 binder-part : {T : Type 0} (of_value : T → Shape) (rows : List Row) (x : Binder T) → HasVars rows x.bound_vars → IsPartBy of_value rows x.value → IsPartBy (binder_shape of_value) rows x
-unfolding IsPart
 binder-part of_value rows x h k = (h, k)
 
 module _ {M E S : Type 0} {owned : List Row → S → Type 0} {means : List Row → S → M} {H : Hooks (Standing M) E} where

@@ -31,17 +31,14 @@ module _ {T : Type 0} (of : T → Shape) where
 
   -- the value after the front
   part-after : (rows : List Row) (front : List T) (x : T) (left : List T) → ArePartsOf rows (item_shapes of (front ++ x ∷ left)) → IsPartOf rows (of x)
-  unfolding IsPart
   part-after rows front x left h =
       (right_parts rows (item_shapes of front) (item_shapes of (x ∷ left)) (rw (shapes-append front (x ∷ left)) at h)).0
 
   -- the values of a vector
   sequence-parts : (rows : List Row) (xs : List T) → IsPartOf rows (sequence_shape of xs) → ArePartsOf rows (item_shapes of xs)
-  unfolding IsPart
   sequence-parts rows xs h = h.2
 
   sequence-part : (rows : List Row) (xs : List T) → ArePartsOf rows (item_shapes of xs) → IsPartOf rows (sequence_shape of xs)
-  unfolding IsPart
   sequence-part rows xs h = (refl, tt, h)
 
   sequence-tree : (rows : List Row) (xs : List T) → tree_in rows (sequence_shape of xs) ≡ tree.node (record_label sequence_record) (trees_in rows (item_shapes of xs))
@@ -110,5 +107,5 @@ module _ {T : Type 0} (of : T → Shape) where
           record {
             extends = p.extends;
             is_owned = p.is_owned;
-            outcome = (sequence-part terms1.rows (items w) p.are_values, rw (sequence-tree terms.rows (items v), sequence-tree terms1.rows (items w)) (at_node walked));
+            outcome = (sequence-part terms1.rows (items w) p.are_values, rw (sequence-tree terms.rows (items v), sequence-tree terms1.rows (items w)) (at_node walked (λ h. h)));
           }

@@ -53,7 +53,7 @@ module _ {M E : Type 0} {H : Hooks M E} (rows rows1 : List Row) (o : Sort) (q : 
   walks_form (bound d e) n is b w = absurd is
   walks_form (plain l p) n is b (in_open w) = rw n.same (in_term w (any-wanted _ _ (is _)))
   walks_form (under l vars m p) n is b (in_binder enter w leave) =
-      rw (n.0.same, n.1.same, same_vars b) (in_term (WalksAll-one (at_binder enter (at_node w) leave)) (any-wanted _ _ (is _)))
+      rw (n.0.same, n.1.same, same_vars b) (in_term (WalksAll-one (at_binder enter (at_node w (λ h. h)) leave)) (any-wanted _ _ (is _)))
     where
       same_vars : Some (vars_in rows1 vars) ≡ Some (vars_in rows vars) → vars_in rows1 vars ≡ vars_in rows vars
       same_vars e = same_Some _ _ e
@@ -67,7 +67,7 @@ fails_form rows o (bound d e) is h = absurd is
 fails_form rows o (plain l p) is (in_open_failed w) = in_term_failed (rw (is _) w)
 fails_form rows o (under l vars m p) is (in_enter_failed h) = in_term_failed (here (enter_failed h))
 fails_form rows o (under l vars m p) is (in_under_failed enter h) = in_term_failed (here (under_failed enter (node_failed h)))
-fails_form rows o (under l vars m p) is (in_leave_failed enter w h) = in_term_failed (here (leave_failed enter (at_node w) h))
+fails_form rows o (under l vars m p) is (in_leave_failed enter w h) = in_term_failed (here (leave_failed enter (at_node w (λ h. h)) h))
 
 -- a term without children
 leaf_form : {M E : Type 0} (H : Hooks M E) (s : M) (rows : List Row) (o : Sort) (f : Form (Label ℕ))
@@ -85,11 +85,11 @@ walks_leaf H s rows k h = leaf_form H s rows (kind_sort k) (kind_form k) h.binde
 
 -- a list's children make it
 pub walks_list : {M E : Type 0} {H : Hooks M E} {s s1 : M} {t u : Tree Depth} (sort : ListSort) → (sort ≡ sorts.Clauses → ⊥) → WalksItems H sort s t u s1 → Walks H s t u s1
-walks_list sorts.Tys other w = rw (w.is_list, w.becomes) (at_node w.walked)
-walks_list sorts.Consts other w = rw (w.is_list, w.becomes) (at_node w.walked)
-walks_list sorts.Args other w = rw (w.is_list, w.becomes) (at_node w.walked)
-walks_list sorts.Pats other w = rw (w.is_list, w.becomes) (at_node w.walked)
-walks_list sorts.Existentials other w = rw (w.is_list, w.becomes) (at_node w.walked)
+walks_list sorts.Tys other w = rw (w.is_list, w.becomes) (at_node w.walked (λ h. h))
+walks_list sorts.Consts other w = rw (w.is_list, w.becomes) (at_node w.walked (λ h. h))
+walks_list sorts.Args other w = rw (w.is_list, w.becomes) (at_node w.walked (λ h. h))
+walks_list sorts.Pats other w = rw (w.is_list, w.becomes) (at_node w.walked (λ h. h))
+walks_list sorts.Existentials other w = rw (w.is_list, w.becomes) (at_node w.walked (λ h. h))
 walks_list sorts.Clauses other w = absurd (other refl)
 
 pub fails_list : {M E : Type 0} {H : Hooks M E} {errors : Errors E} {s s1 : M} {t : Tree Depth} {e : E} (sort : ListSort) → (sort ≡ sorts.Clauses → ⊥)

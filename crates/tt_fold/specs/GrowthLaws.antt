@@ -12,13 +12,14 @@ use Rattle.tt_interner.specs.Rows.{Row, row_shape, kind_row, is_in, table, size,
 use Rattle.tt_interner.specs.Stored.{Stores}
 use Rattle.tt_interner.specs.Children.{items_row}
 use Rattle.tt_interner.proofs.RowLaws.{table-other}
+use Rattle.tt_interner.proofs.Growth.{sizes-grow}
 use Rattle.tt_fold.specs.Growth.{HoldsNoSymbol, AddsTerms}
 
 -- a term or a list that was stored, or was there
 pub stored-adds : {old new : List Row} {r : Row} {n : ℕ} → is_in Symbols r ≡ false → Stores old new r n → AddsTerms old new
 stored-adds {old} {new} {r} other h = elim h.grown [
-  | inl same ↦ rw same (record { grows = record { more = []; kept = refl }; no_symbol = tt })
-  | inr added ↦ record { grows = record { more = r ∷ []; kept = added.0 }; no_symbol = (other, tt) }
+  | inl same ↦ rw same (record { grows = record { more = []; kept = refl; in_range = sizes-grow [] old old refl }; no_symbol = tt })
+  | inr added ↦ record { grows = record { more = r ∷ []; kept = added.0; in_range = sizes-grow (r ∷ []) old new added.0 }; no_symbol = (other, tt) }
 ]
 
 pub kind-no_symbol : (k : Kind) → is_in Symbols (kind_row k) ≡ false

@@ -5,7 +5,11 @@ pub mod GrowthLaws
 pub mod Steps
 pub mod Still
 pub mod Stands
+pub mod Places
+pub mod Remember
+pub mod Memory
 pub mod Shift
+pub mod MemoryGrowth
 pub mod Parts
 pub mod RegionFolder
 pub mod RegionFolderGrowth

@@ -1,11 +1,11 @@
--- The shifter's hooks.
-use Rattle.std.specs.Prelude.{◌≡◌, [], ℕ, suc, ◌+◌, ◌-◌, ◌≤◌, ◌<◌, ◌⊎◌, Option, Some, None, nat_lt, if◌then◌else◌, length, ⊤}
+-- The shifter's task, and what a shift promises.
+use Rattle.std.specs.Prelude.{◌≡◌, [], ℕ, ◌+◌, ◌≤◌, ◌<◌, ◌⊎◌, List, Option, Some, None, nat_lt, if◌then◌else◌, length, ⊤}
 use Rattle.tt_index.specs.Greatest.{greatest}
 use Rattle.tt_index.specs.declared.refusal.Refusal.{Refusal}
 use Rattle.tt_index.specs.declared.refusal.Refusal.TheVariants.{Memory, TableFull, GreatestIndex}
 use Rattle.tt_kinds.specs.Tree.{Depth, Tree, param, bound, region, term, node, binder}
 use Rattle.tt_kinds.specs.Matched.{MatchedUnder}
-use Rattle.tt_kinds.specs.Reading.{read, move, outer_binder, Fits, FitsUnder}
+use Rattle.tt_kinds.specs.Reading.{read, move, outer_binder, Fits, FitsUnder, keep as keep_parameter}
 use Rattle.tt_kinds.specs.Shape.{Meaning, fill}
 use Rattle.tt_kinds.specs.Kinds.{region_shape}
 use Rattle.tt_kinds.specs.declared.bound.BoundTy.{BoundTy}
@@ -20,11 +20,14 @@ use Rattle.tt_kinds.specs.declared.const_kind.ConstKind.{ConstKind}
 use Rattle.tt_kinds.specs.declared.const_kind.ConstKind.TheVariants as const
 use Rattle.tt_kinds.specs.declared.region_kind.RegionKind.{RegionKind}
 use Rattle.tt_kinds.specs.declared.region_kind.RegionKind.TheVariants.{ReEarlyParam, ReBound, ReLateParam, ReStatic, ReVar, RePlaceholder, ReErased, ReError}
-use Rattle.tt_kinds.specs.Plain.{shift_tree}
+use Rattle.tt_kinds.specs.Plain.{shifted, shift_tree}
 use Rattle.tt_kinds.specs.Count.{moving_types}
+use Rattle.tt_kinds.specs.declared.handle.Ty.{Ty}
+use Rattle.tt_interner.specs.Rows.{Row}
 use Rattle.tt_interner.specs.Stored.{Counters, Terms, counted}
-use Rattle.tt_fold.specs.Walk.{Hooks, is_type_tree, Answer, replace, keep, descend}
-use Rattle.tt_fold.specs.Counts.{Standing}
+use Rattle.tt_fold.specs.Remember.{State, Task}
+use Rattle.tt_fold.specs.Memory.{memos}
+use Rattle.tt_fold.specs.declared.memory.Place.{Place}
 use Rattle.tt_fold.specs.Stands.{IsPartUnbuilt}
 
 -- how much is added, and how many binders were passed
@@ -84,6 +87,14 @@ pub record IsShiftedRegion (f : Meaning) (n : ℕ) (region shifted : RegionKind)
   pub tree : fill f (region_shape shifted) ≡ shift_tree 0 n (fill f (region_shape region))
   pub fits : Fits (move n (read 0 (fill f (region_shape region))))
 
+-- what the shifter's state means: its amount is the rule, and it keeps nothing besides
+abbrev pub shift_state : ℕ → ℕ → List Row → List (Place × Ty) → State ℕ ⊤
+shift_state n k rows es = record { rule = n; under = k; kept = tt; memory = memos rows es }
+
+-- how much is added where the shifter stands
+abbrev pub shift_of : State ℕ ⊤ → Shift
+shift_of s = record { amount = s.rule; under = s.under }
+
 -- the tree where the shifter stands, moved
 abbrev pub moved_tree : Shift → Tree Depth → Tree Depth
 moved_tree s t = shift_tree s.under s.amount t
@@ -92,58 +103,40 @@ moved_tree s t = shift_tree s.under s.amount t
 abbrev pub IsTooFar : Shift → Tree Depth → Type 0
 IsTooFar s t = FitsUnder s.under (read s.under (moved_tree s t)) → ⊥
 
--- a bound variable is replaced, and what stands inside other terms is met
-abbrev pub answer_inside : Shift → Tree Depth → Answer
-answer_inside s (param o i name) = descend
-answer_inside s (bound o d e) = replace (moved_tree s (bound o d e))
-answer_inside s (region r) = descend
-answer_inside s (term l ts) = descend
-answer_inside s (node l ts) = descend
-answer_inside s (binder vs t) = descend
-
--- a term of which nothing is bound outside of the binders that were passed is kept
-abbrev pub shift_answer : Shift → Tree Depth → Answer
-shift_answer s t = if nat_lt s.under (outer_binder t) then answer_inside s t else keep
+-- the tree is that of a bound variable
+abbrev pub IsVariable : Tree Depth → Type 0
+IsVariable (bound s d e) = ⊤
+IsVariable _ = ⊥
 
 -- one descent of the shifter more
 abbrev pub count_shift : Counters → Counters
 count_shift c = record { descents = c.descents; shift_descents = counted c.shift_descents }
 
--- the counts after a descent into the tree: one into a type is counted
-abbrev pub count_descent : Tree Depth → Counters → Counters
-count_descent t c = if is_type_tree t then count_shift c else c
-
--- what follows an answer at the tree
-abbrev pub count_answer : {M : Type 0} → Tree Depth → Answer → Standing M → Standing M
-count_answer t (replace r) s = s
-count_answer t keep s = s
-count_answer t descend s = record { state = s.state; counters = count_descent t s.counters }
-
--- the state one binder further in; the counts stay
-abbrev pub entered : Standing Shift → Standing Shift
-entered s = record { state = record { amount = s.state.amount; under = suc s.state.under }; counters = s.counters }
-
--- the state one binder further out; the counts stay
-abbrev pub left : Standing Shift → Standing Shift
-left s = record { state = record { amount = s.state.amount; under = s.state.under - 1 }; counters = s.counters }
+-- the shifter's count doesn't fall, and the other stays
+pub record ShiftsCount (c c' : Counters) : Type 0 where
+  pub descents : c'.descents ≡ c.descents
+  pub up : c.shift_descents ≤ c'.shift_descents
 
 -- the index of a variable, or of a binder, is too great
 abbrev pub IsTooGreat : Refusal → Type 0 → Type 0
 IsTooGreat e cause = (e ≡ GreatestIndex) × cause
 
--- what the shifter's hooks do
-abbrev pub shift_hooks : Hooks (Standing Shift) Refusal
-shift_hooks = record {
-  on_region = λ s t r s'. (s' ≡ s) × (r ≡ moved_tree s.state t);
-  region_fails = λ unbuilt s t e s'. (s' ≡ s) × IsTooGreat e (IsTooFar s.state t);
-  on_term = λ s t a s'. (s' ≡ count_answer t a s) × (a ≡ shift_answer s.state t);
-  term_fails = λ unbuilt s t e s'. (s' ≡ s) × (IsTooGreat e (IsTooFar s.state t) ⊎ unbuilt (moved_tree s.state t) e);
-  after_term = λ s t u r s'. (s' ≡ s) × (r ≡ u);
-  after_fails = λ unbuilt s t u e s'. ⊥;
-  enter = λ s vs s'. s' ≡ entered s;
-  enter_fails = λ unbuilt s vs e s'. (s' ≡ s) × IsTooGreat e (greatest ≤ s.state.under);
-  leave = λ s vs s'. s' ≡ left s;
-  leave_fails = λ unbuilt s vs e s'. ⊥;
+-- The shifter's task by an amount: a bound variable is moved at once, a term of which nothing is bound outside of the binders
+-- that were passed stays, and what stands in other terms is met.
+abbrev pub shifting : Task ℕ ⊤
+shifting = record {
+  index = shifted;
+  parameter = λ n. keep_parameter;
+  Allows = λ n t. ⊤;
+  IsEntered = λ n k t. IsVariable t → ⊥;
+  IsTodo = λ n k t. k < outer_binder t;
+  Gives = λ s t r kept c. IsVariable t × (r ≡ moved_tree (shift_of s.state) t) × (c ≡ s.counters);
+  RegionFails = λ unbuilt n k t e. IsTooGreat e (IsTooFar (record { amount = n; under = k }) t);
+  TermFails = λ unbuilt s t e s'. (s' ≡ s) × (IsTooGreat e (IsTooFar (shift_of s.state) t) ⊎ unbuilt (moved_tree (shift_of s.state) t) e);
+  IsCause = λ n t e. ⊥;
+  count = count_shift;
+  amount = λ c. c.shift_descents;
+  Rises = ShiftsCount;
 }
 
 -- how many places a tree has where a type stands that has a variable to be shifted

@@ -1,6 +1,6 @@
 -- What a folder does to a tree.
 use Rattle.std.specs.Prelude.{◌≡◌, ℕ, List, Option, Some, None, Bool, false}
-use Rattle.tt_kinds.specs.Label.{Name, Sort, VarKind, Entry, Label, clause_list_label, is_type}
+use Rattle.tt_kinds.specs.Label.{Name, Sort, VarKind, Entry, Label, clause_list_label, clause_label, is_type}
 use Rattle.tt_kinds.specs.Count.{is_type_sort}
 use Rattle.tt_kinds.specs.Tree.{Depth, Tree, param, bound, region, term, node, binder, Forest, none, also}
 use Rattle.tt_kinds.specs.Kinds.{items_tree}
@@ -56,6 +56,11 @@ abbrev pub HasUnwanted : Wanted → Forest Depth → Type 0
 HasUnwanted any_trees us = ⊥
 HasUnwanted clause_trees us = HasOther us
 
+-- a clause by itself becomes what is none: of its predicate, which was a clause, came another tree
+abbrev pub LosesClause : Label Name → Forest Depth → Forest Depth → Type 0
+LosesClause clause_label ts us = (HasOther ts → ⊥) × HasOther us
+LosesClause _ ts us = ⊥
+
 -- What a folder's hooks may do: M is what its state means, and E its errors. What a hook fails with may be that a tree is
 -- not built: it is told which errors say so of which trees.
 pub record Hooks (M E : Type 0) : Type 1 where
@@ -83,7 +88,9 @@ module _ {M E : Type 0} (H : Hooks M E) where
       kept : {s s' : M} {t : Tree Depth} → IsTerm t → H.on_term s t keep s' → Walks s t t s'
       descended : {s s1 s' : M} {t r : Tree Depth} → IsTerm t → H.on_term s t descend s1 → Descends s1 t r s' → Walks s t r s'
       passed : {s s' : M} {t u : Tree Depth} → IsPassed t → WalksInside s t u s' → Walks s t u s'
-      at_node : {s s' : M} {l : Label Name} {ts us : Forest Depth} → WalksAll s ts us s' → Walks s (node l ts) (node l us) s'
+      -- of a clause by itself comes a clause
+      at_node : {s s' : M} {l : Label Name} {ts us : Forest Depth}
+          → WalksAll s ts us s' → (LosesClause l ts us → ⊥) → Walks s (node l ts) (node l us) s'
       at_binder : {s s1 s2 s' : M} {vs : List (VarKind Name)} {t u : Tree Depth}
           → H.enter s vs s1 → Walks s1 t u s2 → H.leave s2 vs s' → Walks s (binder vs t) (binder vs u) s'
 
@@ -108,12 +115,12 @@ module _ {M E : Type 0} (H : Hooks M E) where
 pub record Errors (E : Type 0) : Type 1 where
   -- the tree was not built
   pub unbuilt : Tree Depth → E → Type 0
-  -- what came of an item is not what has to come
+  -- what came of an item, or of a clause by itself, is not what has to come
   pub unwanted : E → Type 0
 
 -- The walk ends with an error and in a state. The error is that of a hook, or says that a tree was not built: the tree that was
 -- to be stored, or every tree where the memory for a list's items was refused. Or it says that no clause came of an item of a
--- list of clauses.
+-- list of clauses, or of a clause by itself.
 module _ {M E : Type 0} (H : Hooks M E) (errors : Errors E) where
   mutual
     pub data Fails : M → Tree Depth → E → M → Type 0 where
@@ -131,6 +138,8 @@ module _ {M E : Type 0} (H : Hooks M E) (errors : Errors E) where
       node_failed : {s s_end : M} {l : Label Name} {ts : Forest Depth} {e : E} → FailsAll any_trees s ts e s_end → Fails s (node l ts) e s_end
       node_not_built : {s s1 : M} {l : Label Name} {ts us : Forest Depth} {e : E}
           → WalksAll H s ts us s1 → errors.unbuilt (node l us) e → Fails s (node l ts) e s1
+      clause_lost : {s s1 : M} {l : Label Name} {ts us : Forest Depth} {e : E}
+          → WalksAll H s ts us s1 → LosesClause l ts us → errors.unwanted e → Fails s (node l ts) e s1
 
     -- the same for a term whose hook answered `descend`
     pub data DescentFails : M → Tree Depth → E → M → Type 0 where

@@ -11,7 +11,6 @@ use tt_interner::Interner;
 use tt_kinds::RegionAssumptions;
 
 impl TypeFoldable for RegionAssumptions {
-    #[tactic(auto, unfolding(tt_kinds::specs::Shape::IsPart))]
     fn fold_core<M, F: Core<M>>(
         self,
         cx: &mut Interner,

@@ -87,7 +87,7 @@ impl<T: TypeFoldable> TypeFoldable for Vec<T> {
 }
 
 // Adds a value to a vector.
-fn push<T: Drop>(values: &mut Vec<T>, value: T) -> Result<(), Refusal>
+pub(crate) fn push<T: Drop>(values: &mut Vec<T>, value: T) -> Result<(), Refusal>
     ensures ok { IfOk result (λ _. values.new.items ≡ values.old.items ++ value ∷ []) }
     ensures memory { IfErr result (λ e. e ≡ Memory) }
 {

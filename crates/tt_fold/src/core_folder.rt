@@ -9,7 +9,17 @@ ghost use Rattle.tt_interner.specs.Stored.{Extends};
 ghost use Rattle.tt_fold.specs.Growth.{AddsTerms};
 ghost use Rattle.tt_fold.specs.Walk.{Hooks};
 ghost use Rattle.tt_fold.specs.Counts.{Standing};
-ghost use Rattle.tt_fold.specs.Steps.{answer_of, Goes, HasVars, IsPartOf, IsErrorOfUnbuilt, AnswersRegion, EntersBinder, LeavesBinder, tree_in};
+ghost use Rattle.tt_fold.specs.Steps.{
+  answer_of,
+  Goes,
+  HasVars,
+  IsPartOf,
+  IsErrorOfUnbuilt,
+  AnswersRegion,
+  EntersBinder,
+  LeavesBinder,
+  tree_in,
+};
 ghost use Rattle.tt_fold.specs.Parts.{HasHook, IsNodeFor, IsStepFor, node_tree};
 
 use crate::folder::{FallibleTypeFolder, Step, TypeFolder};
@@ -57,8 +67,14 @@ pub trait Core<M> {
         requires hooked { HasHook node }
         ensures still { touches_nothing cx.old.rows self.old (node_tree cx.old.rows node) → cx.new ≡ cx.old }
         ensures goes { Goes owned meaning
-            (λ rows step s s'. IsStepFor node rows step × hooks.on_term s (node_tree cx.old.rows node) (answer_of node_shape rows step) s')
-            (λ s e s'. hooks.term_fails (IsErrorOfUnbuilt Self.Error.from_gives cx.new) s (node_tree cx.old.rows node) e s')
+            (λ rows step s s'. IsStepFor node rows step
+            × hooks.on_term s (node_tree cx.old.rows node) (answer_of node_shape rows step) s')
+            (λ s e s'. hooks.term_fails
+            (IsErrorOfUnbuilt Self.Error.from_gives cx.new)
+            s
+            (node_tree cx.old.rows node)
+            e
+            s')
             cx.old self.old result cx.new self.new };
 
     /// At a stored term that has a hook, after what stands in it.
@@ -75,8 +91,18 @@ pub trait Core<M> {
         requires rebuilt { IsNodeFor before cx.old.rows rebuilt }
         ensures { Goes owned meaning
             (λ rows node s s'. IsNodeFor before rows node
-            × hooks.after_term s (node_tree cx.old.rows before) (node_tree cx.old.rows rebuilt) (node_tree rows node) s')
-            (λ s e s'. hooks.after_fails (IsErrorOfUnbuilt Self.Error.from_gives cx.new) s (node_tree cx.old.rows before) (node_tree cx.old.rows rebuilt) e s')
+            × hooks.after_term s
+            (node_tree cx.old.rows before)
+            (node_tree cx.old.rows rebuilt)
+            (node_tree rows node)
+            s')
+            (λ s e s'. hooks.after_fails
+            (IsErrorOfUnbuilt Self.Error.from_gives cx.new)
+            s
+            (node_tree cx.old.rows before)
+            (node_tree cx.old.rows rebuilt)
+            e
+            s')
             cx.old self.old result cx.new self.new };
 
     /// Before a binder's value.
@@ -98,7 +124,9 @@ pub trait Core<M> {
     // New terms and lists change no meaning.
     ghost still_owned: { (old new : List Row) (s : Self) → AddsTerms old new → owned old s → owned new s };
 
-    ghost still_means: { (old new : List Row) (s : Self) → AddsTerms old new → owned old s → meaning new s ≡ meaning old s };
+    ghost still_means: { (old new : List Row) (s : Self) → AddsTerms old new
+        → owned old s
+        → meaning new s ≡ meaning old s };
 }
 
 /// The mark of [`TypeFolder`].

@@ -13,8 +13,8 @@ use tt_visit::TypeVisitable;
 
 /// A value whose regions, types and binders a folder can meet, and that is built again from what the folder answers.
 pub trait TypeFoldable: TypeVisitable + Drop + Sized {
-    /// The fold of the value by a folder of either trait. Types implement it; callers call [`TypeFoldable::fold_with`] or
-    /// [`TypeFoldable::try_fold_with`].
+    /// Returns the fold of the value by a folder of either trait. Types implement it; callers call
+    /// [`TypeFoldable::fold_with`] or [`TypeFoldable::try_fold_with`].
     fn fold_core<M, F: Core<M>>(self, cx: &mut Interner, folder: &mut F) -> Result<Self, F::Error>
         requires state { F.owned cx.old.rows folder.old }
         requires value { IsPartBy Self.shape cx.old.rows self }
@@ -23,10 +23,11 @@ pub trait TypeFoldable: TypeVisitable + Drop + Sized {
             (Walks F.hooks) (Fails F.hooks (errors_of F.Error.from_gives cx.new))
             cx.old folder.old self result cx.new folder.new };
 
-    /// The value with what the folder answers in the places of its regions, types, constants, predicates and lists of clauses,
-    /// which are met in order, each before what stands in it. The first refusal ends the fold; so does one to build what the
-    /// answers ask for, with `Memory` or with `TableFull`. Where no clause came of an item of a list of clauses, the fold ends
-    /// with `NotAClause` at that item, and no later hook is called.
+    /// Returns the value with what the folder answers in the places of its regions, types, constants, predicates and
+    /// lists of clauses, which are met in order, each before what stands in it. The first refusal ends the fold; so
+    /// does one to build what the answers ask for, with `Memory` or with `TableFull`. Where no clause came of an item
+    /// of a list of clauses, or of a clause by itself, the fold ends with `NotAClause` at it, and no later hook is
+    /// called.
     final fn fold_with<F: TypeFolder>(
         self,
         cx: &mut Interner,
@@ -42,7 +43,7 @@ pub trait TypeFoldable: TypeVisitable + Drop + Sized {
         self.fold_core::<Plain, F>(cx, folder)
     }
 
-    /// The same by a folder with errors of its own.
+    /// Returns the same by a folder with errors of its own.
     final fn try_fold_with<F: FallibleTypeFolder>(
         self,
         cx: &mut Interner,
@@ -61,7 +62,7 @@ pub trait TypeFoldable: TypeVisitable + Drop + Sized {
 
 /// A value at which a folder's own hooks are asked, and that can be folded without them.
 pub trait TypeSuperFoldable: TypeFoldable {
-    /// The fold of what stands in the value by a folder of either trait. Types implement it; callers call
+    /// Returns the fold of what stands in the value by a folder of either trait. Types implement it; callers call
     /// [`TypeSuperFoldable::super_fold_with`] or [`TypeSuperFoldable::try_super_fold_with`].
     fn super_fold_core<M, F: Core<M>>(
         self,
@@ -74,8 +75,8 @@ pub trait TypeSuperFoldable: TypeFoldable {
             (SuperWalks F.hooks) (SuperFails F.hooks (errors_of F.Error.from_gives cx.new))
             cx.old folder.old self result cx.new folder.new };
 
-    /// The value with what stands in it folded, where the hooks at the value itself are not asked: those of a stored term, or those
-    /// before and after a binder's value.
+    /// Returns the value with what stands in it folded, where the hooks at the value itself are not asked: those of a
+    /// stored term, or those before and after a binder's value.
     final fn super_fold_with<F: TypeFolder>(
         self,
         cx: &mut Interner,
@@ -90,7 +91,7 @@ pub trait TypeSuperFoldable: TypeFoldable {
         self.super_fold_core::<Plain, F>(cx, folder)
     }
 
-    /// The same by a folder with errors of its own.
+    /// Returns the same by a folder with errors of its own.
     final fn try_super_fold_with<F: FallibleTypeFolder>(
         self,
         cx: &mut Interner,

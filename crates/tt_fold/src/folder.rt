@@ -9,7 +9,17 @@ ghost use Rattle.tt_interner.specs.Stored.{Extends};
 ghost use Rattle.tt_fold.specs.Growth.{AddsTerms};
 ghost use Rattle.tt_fold.specs.Walk.{Hooks};
 ghost use Rattle.tt_fold.specs.Counts.{Standing};
-ghost use Rattle.tt_fold.specs.Steps.{HasVars, IsPartOf, AnswersRegion, AnswersTerm, RebuildsTerm, EntersBinder, LeavesBinder, IsItself, tree_in};
+ghost use Rattle.tt_fold.specs.Steps.{
+  HasVars,
+  IsPartOf,
+  AnswersRegion,
+  AnswersTerm,
+  RebuildsTerm,
+  EntersBinder,
+  LeavesBinder,
+  IsItself,
+  tree_in,
+};
 
 use tt_index::Refusal;
 use tt_interner::Interner;
@@ -44,7 +54,7 @@ pub trait TypeFolder {
     // At which trees the hooks leave the terms as they are, among rows and in a state: at none, where a folder doesn't say.
     ghost touches_nothing: { List Row → Self → Tree Depth → Type 0 } = { λ rows s t. ⊥ };
 
-    /// What stands in the place of a region.
+    /// Called at each region: returns what takes its place.
     fn fold_region(&mut self, cx: &mut Interner, region: Region) -> Result<Region, Refusal>
         requires owned { owned cx.old.rows self.old }
         requires region { IsPartOf cx.old.rows (region_shape region) }
@@ -54,7 +64,7 @@ pub trait TypeFolder {
             → cx.new ≡ cx.old }
         ensures result { AnswersRegion meaning hooks IsItself cx.old self.old region result cx.new self.new };
 
-    /// What to do at a type, before what stands in it.
+    /// Called at each type, before its contents: returns what to do there.
     fn fold_ty(&mut self, cx: &mut Interner, ty: Ty) -> Result<Step<Ty>, Refusal>
         requires owned { owned cx.old.rows self.old }
         requires ty { IsPartOf cx.old.rows (ty_shape ty) }
@@ -63,8 +73,8 @@ pub trait TypeFolder {
         ensures still { touches_nothing cx.old.rows self.old (tree_in cx.old.rows (ty_shape ty)) → cx.new ≡ cx.old }
         ensures result { AnswersTerm meaning hooks IsItself ty_shape cx.old self.old ty result cx.new self.new };
 
-    /// What stands in the place of a type that was entered: `rebuilt` is the type `before` with the results for what stands
-    /// in it.
+    /// Called at each type that was entered, after its contents: returns what takes its place. `rebuilt` is the type
+    /// `before` with the results for its contents.
     fn after_ty(&mut self, cx: &mut Interner, before: Ty, rebuilt: Ty) -> Result<Ty, Refusal>
         requires owned { owned cx.old.rows self.old }
         requires before { IsPartOf cx.old.rows (ty_shape before) }
@@ -74,7 +84,7 @@ pub trait TypeFolder {
         ensures result { RebuildsTerm meaning hooks IsItself ty_shape
             cx.old self.old before rebuilt result cx.new self.new };
 
-    /// What to do at a constant, before what stands in it.
+    /// Called at each constant, before its contents: returns what to do there.
     fn fold_const(&mut self, cx: &mut Interner, constant: Const) -> Result<Step<Const>, Refusal>
         requires owned { owned cx.old.rows self.old }
         requires constant { IsPartOf cx.old.rows (const_shape constant) }
@@ -85,7 +95,7 @@ pub trait TypeFolder {
         ensures result { AnswersTerm meaning hooks IsItself const_shape
             cx.old self.old constant result cx.new self.new };
 
-    /// What stands in the place of a constant that was entered, after what stands in it.
+    /// Called at each constant that was entered, after its contents: returns what takes its place.
     fn after_const(
         &mut self,
         cx: &mut Interner,
@@ -100,7 +110,7 @@ pub trait TypeFolder {
         ensures result { RebuildsTerm meaning hooks IsItself const_shape
             cx.old self.old before rebuilt result cx.new self.new };
 
-    /// What to do at a predicate, before what stands in it. A clause is met here too.
+    /// Called at each predicate and each clause, before its contents: returns what to do there.
     fn fold_predicate(
         &mut self,
         cx: &mut Interner,
@@ -115,7 +125,7 @@ pub trait TypeFolder {
         ensures result { AnswersTerm meaning hooks IsItself predicate_shape
             cx.old self.old predicate result cx.new self.new };
 
-    /// What stands in the place of a predicate that was entered, after what stands in it.
+    /// Called at each predicate that was entered, after its contents: returns what takes its place.
     fn after_predicate(
         &mut self,
         cx: &mut Interner,
@@ -130,7 +140,7 @@ pub trait TypeFolder {
         ensures result { RebuildsTerm meaning hooks IsItself predicate_shape
             cx.old self.old before rebuilt result cx.new self.new };
 
-    /// What to do at a list of clauses, before the clauses.
+    /// Called at each list of clauses, before the clauses: returns what to do there.
     fn fold_clauses(
         &mut self,
         cx: &mut Interner,
@@ -145,7 +155,7 @@ pub trait TypeFolder {
         ensures result { AnswersTerm meaning hooks IsItself clauses_shape
             cx.old self.old clauses result cx.new self.new };
 
-    /// What stands in the place of a list of clauses that was entered, after the clauses.
+    /// Called at each list of clauses that was entered, after the clauses: returns what takes its place.
     fn after_clauses(
         &mut self,
         cx: &mut Interner,
@@ -160,7 +170,7 @@ pub trait TypeFolder {
         ensures result { RebuildsTerm meaning hooks IsItself clauses_shape
             cx.old self.old before rebuilt result cx.new self.new };
 
-    /// Comes before a binder's value.
+    /// Called at each binder, before its value.
     fn fold_binder(&mut self, cx: &mut Interner, vars: BoundVarKinds) -> Result<(), Refusal>
         requires owned { owned cx.old.rows self.old }
         requires vars { HasVars cx.old.rows vars }
@@ -168,7 +178,7 @@ pub trait TypeFolder {
         ensures owned { owned cx.new.rows self.new }
         ensures result { EntersBinder meaning hooks IsItself cx.old self.old vars result cx.new self.new };
 
-    /// Comes after a binder's value.
+    /// Called at each binder, after its value.
     fn after_binder(&mut self, cx: &mut Interner, vars: BoundVarKinds) -> Result<(), Refusal>
         requires owned { owned cx.old.rows self.old }
         requires vars { HasVars cx.old.rows vars }
@@ -179,7 +189,9 @@ pub trait TypeFolder {
     // New terms and lists change no meaning.
     ghost still_owned: { (old new : List Row) (s : Self) → AddsTerms old new → owned old s → owned new s };
 
-    ghost still_means: { (old new : List Row) (s : Self) → AddsTerms old new → owned old s → meaning new s ≡ meaning old s };
+    ghost still_means: { (old new : List Row) (s : Self) → AddsTerms old new
+        → owned old s
+        → meaning new s ≡ meaning old s };
 }
 
 /// A folder with errors of its own. Its methods are those of [`TypeFolder`].
@@ -199,7 +211,7 @@ pub trait FallibleTypeFolder {
     // At which trees the hooks leave the terms as they are, among rows and in a state: at none, where a folder doesn't say.
     ghost touches_nothing: { List Row → Self → Tree Depth → Type 0 } = { λ rows s t. ⊥ };
 
-    /// What stands in the place of a region.
+    /// Called at each region: returns what takes its place.
     fn try_fold_region(&mut self, cx: &mut Interner, region: Region) -> Result<Region, Self::Error>
         requires owned { owned cx.old.rows self.old }
         requires region { IsPartOf cx.old.rows (region_shape region) }
@@ -210,7 +222,7 @@ pub trait FallibleTypeFolder {
         ensures result { AnswersRegion meaning hooks Self.Error.from_gives
             cx.old self.old region result cx.new self.new };
 
-    /// What to do at a type, before what stands in it.
+    /// Called at each type, before its contents: returns what to do there.
     fn try_fold_ty(&mut self, cx: &mut Interner, ty: Ty) -> Result<Step<Ty>, Self::Error>
         requires owned { owned cx.old.rows self.old }
         requires ty { IsPartOf cx.old.rows (ty_shape ty) }
@@ -220,8 +232,8 @@ pub trait FallibleTypeFolder {
         ensures result { AnswersTerm meaning hooks Self.Error.from_gives ty_shape
             cx.old self.old ty result cx.new self.new };
 
-    /// What stands in the place of a type that was entered: `rebuilt` is the type `before` with the results for what stands
-    /// in it.
+    /// Called at each type that was entered, after its contents: returns what takes its place. `rebuilt` is the type
+    /// `before` with the results for its contents.
     fn after_ty(&mut self, cx: &mut Interner, before: Ty, rebuilt: Ty) -> Result<Ty, Self::Error>
         requires owned { owned cx.old.rows self.old }
         requires before { IsPartOf cx.old.rows (ty_shape before) }
@@ -231,7 +243,7 @@ pub trait FallibleTypeFolder {
         ensures result { RebuildsTerm meaning hooks Self.Error.from_gives ty_shape
             cx.old self.old before rebuilt result cx.new self.new };
 
-    /// What to do at a constant, before what stands in it.
+    /// Called at each constant, before its contents: returns what to do there.
     fn try_fold_const(
         &mut self,
         cx: &mut Interner,
@@ -246,7 +258,7 @@ pub trait FallibleTypeFolder {
         ensures result { AnswersTerm meaning hooks Self.Error.from_gives const_shape
             cx.old self.old constant result cx.new self.new };
 
-    /// What stands in the place of a constant that was entered, after what stands in it.
+    /// Called at each constant that was entered, after its contents: returns what takes its place.
     fn after_const(
         &mut self,
         cx: &mut Interner,
@@ -261,7 +273,7 @@ pub trait FallibleTypeFolder {
         ensures result { RebuildsTerm meaning hooks Self.Error.from_gives const_shape
             cx.old self.old before rebuilt result cx.new self.new };
 
-    /// What to do at a predicate, before what stands in it. A clause is met here too.
+    /// Called at each predicate and each clause, before its contents: returns what to do there.
     fn try_fold_predicate(
         &mut self,
         cx: &mut Interner,
@@ -276,7 +288,7 @@ pub trait FallibleTypeFolder {
         ensures result { AnswersTerm meaning hooks Self.Error.from_gives predicate_shape
             cx.old self.old predicate result cx.new self.new };
 
-    /// What stands in the place of a predicate that was entered, after what stands in it.
+    /// Called at each predicate that was entered, after its contents: returns what takes its place.
     fn after_predicate(
         &mut self,
         cx: &mut Interner,
@@ -291,7 +303,7 @@ pub trait FallibleTypeFolder {
         ensures result { RebuildsTerm meaning hooks Self.Error.from_gives predicate_shape
             cx.old self.old before rebuilt result cx.new self.new };
 
-    /// What to do at a list of clauses, before the clauses.
+    /// Called at each list of clauses, before the clauses: returns what to do there.
     fn try_fold_clauses(
         &mut self,
         cx: &mut Interner,
@@ -306,7 +318,7 @@ pub trait FallibleTypeFolder {
         ensures result { AnswersTerm meaning hooks Self.Error.from_gives clauses_shape
             cx.old self.old clauses result cx.new self.new };
 
-    /// What stands in the place of a list of clauses that was entered, after the clauses.
+    /// Called at each list of clauses that was entered, after the clauses: returns what takes its place.
     fn after_clauses(
         &mut self,
         cx: &mut Interner,
@@ -321,7 +333,7 @@ pub trait FallibleTypeFolder {
         ensures result { RebuildsTerm meaning hooks Self.Error.from_gives clauses_shape
             cx.old self.old before rebuilt result cx.new self.new };
 
-    /// Comes before a binder's value.
+    /// Called at each binder, before its value.
     fn try_fold_binder(&mut self, cx: &mut Interner, vars: BoundVarKinds) -> Result<(), Self::Error>
         requires owned { owned cx.old.rows self.old }
         requires vars { HasVars cx.old.rows vars }
@@ -329,7 +341,7 @@ pub trait FallibleTypeFolder {
         ensures owned { owned cx.new.rows self.new }
         ensures result { EntersBinder meaning hooks Self.Error.from_gives cx.old self.old vars result cx.new self.new };
 
-    /// Comes after a binder's value.
+    /// Called at each binder, after its value.
     fn after_binder(&mut self, cx: &mut Interner, vars: BoundVarKinds) -> Result<(), Self::Error>
         requires owned { owned cx.old.rows self.old }
         requires vars { HasVars cx.old.rows vars }
@@ -340,5 +352,7 @@ pub trait FallibleTypeFolder {
     // New terms and lists change no meaning.
     ghost still_owned: { (old new : List Row) (s : Self) → AddsTerms old new → owned old s → owned new s };
 
-    ghost still_means: { (old new : List Row) (s : Self) → AddsTerms old new → owned old s → meaning new s ≡ meaning old s };
+    ghost still_means: { (old new : List Row) (s : Self) → AddsTerms old new
+        → owned old s
+        → meaning new s ≡ meaning old s };
 }

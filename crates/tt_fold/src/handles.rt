@@ -1,13 +1,21 @@
 //! The folds of handles, and of the small values around them.
 
+ghost use Rattle.std.specs.Prelude.{◌≡◌, IfErr, OnErr, OnOk};
+ghost use Rattle.tt_index.specs.declared.refusal.Refusal.TheVariants.{NotAClause};
+ghost use Rattle.tt_kinds.specs.Kinds.{predicate_shape};
+ghost use Rattle.tt_interner.specs.Rows.{IsClause};
+ghost use Rattle.tt_fold.specs.Steps.{IsPartBy};
+
 use crate::core_folder::Core;
 use crate::foldable::{TypeFoldable, TypeSuperFoldable};
 use crate::list_of_sort::{list_args, list_consts, list_existentials, list_pats, list_tys};
 use crate::walk::{fold_inside, fold_list, fold_node};
-use tt_interner::Interner;
+use tt_index::Refusal;
+use tt_interner::{AsClause, AsPredicate, Interner};
 use tt_kinds::{
-    BoundExistentialPredicates, Clauses, Const, Consts, GenericArg, GenericArgKind, GenericArgs,
-    List, Node, Pat, PatList, PolyExistentialPredicate, Predicate, Region, Term, TermKind, Ty, Tys,
+    BoundExistentialPredicates, Clause, Clauses, Const, Consts, GenericArg, GenericArgKind,
+    GenericArgs, List, Node, Pat, PatList, PolyExistentialPredicate, Predicate, Region, Term,
+    TermKind, Ty, Tys,
 };
 
 impl TypeFoldable for Ty {
@@ -43,6 +51,34 @@ impl TypeFoldable for Predicate {
     ) -> Result<Predicate, F::Error> {
         let node = fold_node::<M, F>(cx, folder, Node::Predicate(self))?;
         Ok(node.predicate())
+    }
+}
+
+impl TypeFoldable for Clause {
+    fn fold_core<M, F: Core<M>>(
+        self,
+        cx: &mut Interner,
+        folder: &mut F,
+    ) -> Result<Clause, F::Error> {
+        let before = self.as_predicate();
+        let folded = before.fold_core::<M, F>(cx, folder)?;
+        check_stays_clause(cx, before, folded)?;
+        Ok(Clause::from_number(folded.number()))
+    }
+}
+
+// Whether a clause stayed one: where the predicate was a clause before it was folded, what came of it has to be one.
+fn check_stays_clause(cx: &Interner, before: Predicate, folded: Predicate) -> Result<(), Refusal>
+    requires before { IsPartBy predicate_shape cx.now.rows before }
+    requires folded { IsPartBy predicate_shape cx.now.rows folded }
+    ensures ok { OnOk result (IsClause cx.now.rows before.number → IsClause cx.now.rows folded.number) }
+    ensures err { OnErr result (IsClause cx.now.rows before.number × (IsClause cx.now.rows folded.number → ⊥)) }
+    ensures refusal { IfErr result (λ e. e ≡ NotAClause) }
+{
+    if folded.as_clause(cx).is_some() || before.as_clause(cx).is_none() {
+        Ok(())
+    } else {
+        Err(Refusal::NotAClause)
     }
 }
 

@@ -3,15 +3,21 @@
 
 mod assumptions;
 mod bare;
+mod boxes;
+mod clones;
+mod clones_containers;
 mod containers;
 pub mod core_folder;
+mod data;
 pub mod foldable;
 pub mod folder;
 mod handles;
 mod list_of_sort;
+pub mod memory;
 mod records;
 pub mod region_folder;
 pub mod region_replacer;
+mod shared;
 pub mod shift;
 mod step_of_node;
 pub mod type_replacer;
@@ -19,7 +25,9 @@ mod walk;
 
 pub use foldable::{TypeFoldable, TypeSuperFoldable};
 pub use folder::{FallibleTypeFolder, Step, TypeFolder};
+pub use memory::{Memory, look_up};
 pub use region_folder::{RegionFolder, fold_regions, region_folders_place};
 pub use region_replacer::{RegionReplacer, replace_regions};
+pub use shared::ClonesTree;
 pub use shift::{shift_region, shift_vars};
 pub use type_replacer::{TypeReplacer, replace_types};

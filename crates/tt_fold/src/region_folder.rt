@@ -5,7 +5,15 @@ ghost use Rattle.tt_kinds.specs.Met.{met};
 ghost use Rattle.tt_kinds.specs.declared.table.Table.TheVariants.{Symbols};
 ghost use Rattle.tt_interner.specs.Rows.{size};
 ghost use Rattle.tt_interner.specs.Stored.{Extends};
-ghost use Rattle.tt_fold.specs.RegionFolder.{AnswersRegions, is_met, names_in, Places, PlacesSome, RegionFoldersPlace, RegionFoldersPlaceSome};
+ghost use Rattle.tt_fold.specs.RegionFolder.{
+  AnswersRegions,
+  is_met,
+  names_in,
+  Places,
+  PlacesSome,
+  RegionFoldersPlace,
+  RegionFoldersPlaceSome,
+};
 ghost use Rattle.tt_fold.specs.Steps.{IsPartBy, tree_by};
 
 use crate::foldable::TypeFoldable;
@@ -64,7 +72,8 @@ impl<F: FnMut(Region, DebruijnIndex) -> Region> TypeFolder for RegionFolder<F> {
 
     ghost meaning = { λ rows s. record { closure = s.f; under = s.current_index; names = names_in rows } };
 
-    ghost owned = { λ rows s. F.IsAlwaysCallable s.f × AnswersRegions (λ p region depth answer q. F.step p region depth answer q) (size rows Symbols) s.f };
+    ghost owned = { λ rows s. F.IsAlwaysCallable s.f
+        × AnswersRegions (λ p region depth answer q. F.step p region depth answer q) (size rows Symbols) s.f };
 
     ghost hooks = { keeps_counters (region_hooks (λ p region depth answer q. F.step p region depth answer q)) };
 
@@ -189,7 +198,10 @@ pub fn fold_regions<T: TypeFoldable, F: FnMut(Region, DebruijnIndex) -> Region +
 ) -> Result<T, Refusal>
     requires value { IsPartBy T.shape cx.old.rows value }
     requires callable { F.IsAlwaysCallable f }
-    requires answers { AnswersRegions (λ p region depth answer q. F.step p region depth answer q) (size cx.old.rows Symbols) f }
+    requires answers { AnswersRegions
+        (λ p region depth answer q. F.step p region depth answer q)
+        (size cx.old.rows Symbols)
+        f }
     ensures extends { Extends cx.old cx.new }
     ensures counters { cx.new.counters ≡ cx.old.counters }
     ensures in_range { IfOk result (λ folded. IsPartBy T.shape cx.new.rows folded) }
@@ -208,8 +220,8 @@ pub fn fold_regions<T: TypeFoldable, F: FnMut(Region, DebruijnIndex) -> Region +
     value.fold_with(cx, &mut folder)
 }
 
-/// A folder of regions that was just made asks and places by [`TypeFoldable::fold_with`] as [`fold_regions`] does. It does
-/// nothing; the contract gives callers the facts.
+/// Returns a folder of regions that was just made asks and places by [`TypeFoldable::fold_with`] as [`fold_regions`]
+/// does. It does nothing; the contract gives callers the facts.
 pub fn region_folders_place<F: FnMut(Region, DebruijnIndex) -> Region>()
     ensures placed { RegionFoldersPlace (λ p region depth answer q. F.step p region depth answer q) }
     ensures ended { RegionFoldersPlaceSome (λ p region depth answer q. F.step p region depth answer q) }

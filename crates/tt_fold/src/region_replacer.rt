@@ -35,7 +35,7 @@ pub trait RegionReplacer {
     // What the hook does.
     ghost hooks: { RegionHooks (Standing Self.Meaning) Self.Error };
 
-    /// What stands in the place of a region.
+    /// Called at each region: returns what takes its place.
     fn replace_region(&mut self, cx: &mut Interner, region: Region) -> Result<Region, Self::Error>
         requires owned { owned cx.old.rows self.old }
         requires region { IsPartOf cx.old.rows (region_shape region) }
@@ -47,7 +47,9 @@ pub trait RegionReplacer {
     // New terms and lists change no meaning.
     ghost still_owned: { (old new : List Row) (s : Self) → AddsTerms old new → owned old s → owned new s };
 
-    ghost still_means: { (old new : List Row) (s : Self) → AddsTerms old new → owned old s → meaning new s ≡ meaning old s };
+    ghost still_means: { (old new : List Row) (s : Self) → AddsTerms old new
+        → owned old s
+        → meaning new s ≡ meaning old s };
 }
 
 /// The mark of [`RegionReplacer`].
@@ -98,8 +100,8 @@ impl<F: RegionReplacer> Core<Regions> for F {
     ghost still_means = { F.RegionReplacer.still_means };
 }
 
-/// The value with what the folder answers in the places of its regions, which are met in order. The folder's first error ends
-/// the fold; so does a refusal to build what the answers ask for, with `Memory` or with `TableFull`.
+/// Returns the value with what the folder answers in the places of its regions, which are met in order. The folder's
+/// first error ends the fold; so does a refusal to build what the answers ask for, with `Memory` or with `TableFull`.
 pub fn replace_regions<T: TypeFoldable, F: RegionReplacer>(
     cx: &mut Interner,
     value: T,

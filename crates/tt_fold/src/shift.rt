@@ -5,13 +5,36 @@ ghost use Rattle.tt_kinds.specs.RegionKind.{IsShallow};
 ghost use Rattle.tt_kinds.specs.Shape.{fill, IsPart, Meaning, Sizes};
 ghost use Rattle.tt_kinds.specs.Reading.{Fits, move, outer_binder, read};
 ghost use Rattle.tt_kinds.specs.Plain.{shift_tree};
+ghost use Rattle.tt_kinds.specs.Count.{moving_types};
 ghost use Rattle.tt_kinds.specs.Kinds.{const_kind_shape, const_shape, region_shape, ty_kind_shape, ty_shape};
 ghost use Rattle.tt_interner.specs.Stored.{Extends};
 ghost use Rattle.tt_fold.specs.Steps.{IsPartBy, IsPartOf, IsRefused, tree_by, tree_in};
-ghost use Rattle.tt_fold.specs.Shift.{bound_const_of, bound_ty_of, IsOuter, IsTooFar, IsTooGreat, moved_tree, IsPast, IsShiftedRegion, IsShiftRefusal, moved_index, moved_region, moving_positions, ComesOf, KeepsMatched, Shift, ShiftsAddUp, ShiftsKeepApart, ShiftsOn};
+ghost use Rattle.tt_fold.specs.Places.{CountsPairs};
+ghost use Rattle.tt_fold.specs.Memory.{OwnsMemos};
+ghost use Rattle.tt_fold.specs.Shift.{
+  bound_const_of,
+  bound_ty_of,
+  IsOuter,
+  IsTooFar,
+  IsTooGreat,
+  moved_tree,
+  IsPast,
+  IsShiftedRegion,
+  IsShiftRefusal,
+  moved_index,
+  moved_region,
+  moving_positions,
+  ComesOf,
+  KeepsMatched,
+  Shift,
+  ShiftsAddUp,
+  ShiftsKeepApart,
+  ShiftsOn,
+};
 
 use crate::foldable::TypeFoldable;
 use crate::folder::{Step, TypeFolder};
+use crate::memory::{Memory, look_up};
 use tt_index::{DebruijnIndex, Refusal};
 use tt_interner::{Flags, Interner, count_shift_descent};
 use tt_kinds::{
@@ -20,12 +43,14 @@ use tt_kinds::{
 };
 use tt_visit::TypeVisitableExt;
 
-// Moves a value into new binders.
-#[derive(Clone, Copy)]
+// Moves a value into new binders. Each type is taken apart once under a number of binders, and what came of it is
+// remembered.
+#[derive(Drop)]
 struct Shifter {
     amount: u32,
     // how many binders of the value stand around the place that was reached
     current_index: DebruijnIndex,
+    memory: Memory,
 }
 
 // The index moved past as many new binders as `amount` says, if its binder is none of the first `current_index`.
@@ -74,12 +99,14 @@ fn shift_region_under(
     }
 }
 
-/// The region moved into `amount` new binders: if a binder outside binds it, its index grows by the amount. It is refused with
-/// `GreatestIndex` where the index would be the greatest or above, and never otherwise.
+/// Returns the region moved into `amount` new binders: if a binder outside binds it, its index grows by the amount. It
+/// is refused with `GreatestIndex` where the index would be the greatest or above, and never otherwise.
 pub fn shift_region(region: Region, amount: u32) -> Result<Region, Refusal>
     ensures ok { (f : Meaning) → IfOk result (IsShiftedRegion f amount region) }
-    ensures in_range { (size : Sizes) → IsPart size (region_shape region) → IfOk result (λ shifted. IsPart size (region_shape shifted)) }
-    ensures err { (f : Meaning) → IfErr result (λ e. (e ≡ Refusal.GreatestIndex) × (Fits (move amount (read 0 (fill f (region_shape region)))) → ⊥)) }
+    ensures in_range { (size : Sizes) → IsPart size (region_shape region)
+        → IfOk result (λ shifted. IsPart size (region_shape shifted)) }
+    ensures err { (f : Meaning) → IfErr result (λ e. (e ≡ Refusal.GreatestIndex)
+        × (Fits (move amount (read 0 (fill f (region_shape region)))) → ⊥)) }
 {
     shift_region_under(region, DebruijnIndex::INNERMOST, amount)
 }
@@ -112,23 +139,23 @@ fn bound_const(kind: &Kind) -> Option<(BoundVarIndexKind, BoundConst)>
 
 impl Shifter {
     // Whether a binder outside of the value binds something in a term of this outer exclusive binder.
-    fn moves(self, outer_exclusive_binder: DebruijnIndex) -> bool
-        ensures { IsTrue result ↔ (self.current_index < outer_exclusive_binder) }
+    fn moves(&self, outer_exclusive_binder: DebruijnIndex) -> bool
+        ensures { IsTrue result ↔ (self.now.current_index < outer_exclusive_binder) }
     {
         outer_exclusive_binder > self.current_index
     }
 
     // The type of a bound variable, moved.
     fn shift_bound_ty(
-        self,
+        &self,
         cx: &mut Interner,
         index: BoundVarIndexKind,
         bound_ty: BoundTy,
     ) -> Result<Ty, Refusal>
-        requires { IsOuter self.current_index index }
+        requires { IsOuter self.now.current_index index }
         ensures extends { Extends cx.old cx.new }
         ensures counters { cx.new.counters ≡ cx.old.counters }
-        ensures result { let shift : Shift = record { amount = self.amount; under = self.current_index } in
+        ensures result { let shift : Shift = record { amount = self.now.amount; under = self.now.current_index } in
             let tree = tree_in cx.old.rows (ty_kind_shape (TyKind.Bound index bound_ty)) in
             MatchResult
             result
@@ -143,19 +170,20 @@ impl Shifter {
 
     // The constant of a bound variable, moved.
     fn shift_bound_const(
-        self,
+        &self,
         cx: &mut Interner,
         index: BoundVarIndexKind,
         bound_const: BoundConst,
     ) -> Result<Const, Refusal>
-        requires { IsOuter self.current_index index }
+        requires { IsOuter self.now.current_index index }
         ensures extends { Extends cx.old cx.new }
         ensures counters { cx.new.counters ≡ cx.old.counters }
-        ensures result { let shift : Shift = record { amount = self.amount; under = self.current_index } in
+        ensures result { let shift : Shift = record { amount = self.now.amount; under = self.now.current_index } in
             let tree = tree_in cx.old.rows (const_kind_shape (ConstKind.Bound index bound_const)) in
             MatchResult
             result
-            (λ constant. IsPartOf cx.new.rows (const_shape constant) × (tree_in cx.new.rows (const_shape constant) ≡ moved_tree shift tree))
+            (λ constant. IsPartOf cx.new.rows (const_shape constant)
+            × (tree_in cx.new.rows (const_shape constant) ≡ moved_tree shift tree))
             (λ e. IsTooGreat e (IsTooFar shift tree) ⊎ IsRefused cx.new (moved_tree shift tree) e) }
     {
         match shift_index(index, self.current_index, self.amount) {
@@ -166,16 +194,18 @@ impl Shifter {
 }
 
 impl TypeFolder for Shifter {
-    ghost use Rattle.std.specs.Prelude.{⊤, refl};
-    ghost use Rattle.tt_fold.specs.Shift.{shift_hooks};
+    ghost use Rattle.std.specs.Prelude.{⊤, ℕ};
+    ghost use Rattle.tt_fold.specs.Remember.{State, remembering};
+    ghost use Rattle.tt_fold.specs.Shift.{shifting, shift_state};
+    ghost use Rattle.tt_fold.specs.MemoryGrowth.{OwnsMemos-still, shift_state-still};
 
-    ghost Meaning = { Shift };
+    ghost Meaning = { State ℕ ⊤ };
 
-    ghost meaning = { λ _ s. record { amount = s.amount; under = s.current_index } };
+    ghost meaning = { λ rows s. shift_state s.amount s.current_index rows s.memory };
 
-    ghost owned = { λ _ _. ⊤ };
+    ghost owned = { λ rows s. OwnsMemos rows s.memory };
 
-    ghost hooks = { shift_hooks };
+    ghost hooks = { remembering shifting };
 
     fn fold_region(&mut self, _cx: &mut Interner, region: Region) -> Result<Region, Refusal> {
         shift_region_under(region, self.current_index, self.amount)
@@ -191,14 +221,19 @@ impl TypeFolder for Shifter {
                 let shifted = self.shift_bound_ty(cx, index, bound_ty)?;
                 Ok(Step::Replace(shifted))
             }
-            None => {
-                count_shift_descent(cx);
-                Ok(Step::Descend)
-            }
+            None => match look_up(cx, &self.memory, ty, self.current_index.as_u32()) {
+                Some(after) => Ok(Step::Replace(after)),
+                None => {
+                    count_shift_descent(cx);
+                    Ok(Step::Descend)
+                }
+            },
         }
     }
 
-    fn after_ty(&mut self, _cx: &mut Interner, _before: Ty, rebuilt: Ty) -> Result<Ty, Refusal> {
+    fn after_ty(&mut self, _cx: &mut Interner, before: Ty, rebuilt: Ty) -> Result<Ty, Refusal> {
+        self.memory
+            .note(before, self.current_index.as_u32(), rebuilt)?;
         Ok(rebuilt)
     }
 
@@ -283,34 +318,50 @@ impl TypeFolder for Shifter {
         Ok(())
     }
 
-    ghost still_owned = { λ old new s g h. tt };
+    ghost still_owned = { λ old new s g h. OwnsMemos-still old new s.memory g.grows h };
 
-    ghost still_means = { λ old new s g h. refl };
+    ghost still_means = { λ old new s g h. shift_state-still s.amount s.current_index old new s.memory g.grows h };
 }
 
-/// The value moved into `amount` new binders: each variable that a binder outside of the value binds keeps its binder.
+/// Returns the value moved into `amount` new binders: each variable that a binder outside of the value binds keeps its
+/// binder.
 ///
-/// It is refused with `GreatestIndex` where such a variable's index would be the greatest or above, or where more binders than
-/// the greatest index counts stand around one; with `TableFull` where a term or a list of the moved value is not stored yet
-/// and its table has as many rows as it may have; and with `Memory` where the memory for a new one is refused. Where no such
-/// variable stands in the value, or the amount is 0, it is the value itself, and nothing is built.
+/// It is refused with `GreatestIndex` where such a variable's index would be the greatest or above, or where more
+/// binders than the greatest index counts stand around one; with `TableFull` where a term or a list of the moved value
+/// is not stored yet and its table has as many rows as it may have; and with `Memory` where the memory for a new one is
+/// refused, or for what came of a type, which is remembered until the call ends. Where no such variable stands in the
+/// value, or the amount is 0, it is the value itself, nothing is built, and no memory is taken.
 ///
-/// Each place of the value where a type stands that has such a variable adds at most one to the interner's count of the
-/// shifter's descents, and the other count stays.
+/// A type that has such a variable is taken apart once for each number of binders around its places, and that adds one
+/// to the interner's count of the shifter's descents, which stays at its greatest number. The other count stays.
 pub fn shift_vars<T: TypeFoldable>(cx: &mut Interner, value: T, amount: u32) -> Result<T, Refusal>
     requires { IsPartBy T.shape cx.old.rows value }
     ensures extends { Extends cx.old cx.new }
     ensures in_range { IfOk result (λ shifted. IsPartBy T.shape cx.new.rows shifted) }
-    ensures plain { IfOk result (λ shifted. read 0 (tree_by T.shape cx.new.rows shifted) ≡ move amount (read 0 (tree_by T.shape cx.old.rows value))) }
-    ensures tree { IfOk result (λ shifted. tree_by T.shape cx.new.rows shifted ≡ shift_tree 0 amount (tree_by T.shape cx.old.rows value)) }
-    ensures adds_up { IfOk result (λ shifted. ShiftsOn amount (tree_by T.shape cx.old.rows value) (tree_by T.shape cx.new.rows shifted)) }
-    ensures tells_apart { IfOk result (λ shifted. ComesOf amount (tree_by T.shape cx.old.rows value) (tree_by T.shape cx.new.rows shifted)) }
-    ensures matched { IfOk result (λ shifted. KeepsMatched (tree_by T.shape cx.old.rows value) (tree_by T.shape cx.new.rows shifted)) }
+    ensures plain { IfOk result (λ shifted. read 0 (tree_by T.shape cx.new.rows shifted)
+        ≡ move amount (read 0 (tree_by T.shape cx.old.rows value))) }
+    ensures tree { IfOk result (λ shifted. tree_by T.shape cx.new.rows shifted
+        ≡ shift_tree 0 amount (tree_by T.shape cx.old.rows value)) }
+    ensures adds_up { IfOk result (λ shifted. ShiftsOn amount
+        (tree_by T.shape cx.old.rows value)
+        (tree_by T.shape cx.new.rows shifted)) }
+    ensures tells_apart { IfOk result (λ shifted. ComesOf amount
+        (tree_by T.shape cx.old.rows value)
+        (tree_by T.shape cx.new.rows shifted)) }
+    ensures matched { IfOk result (λ shifted. KeepsMatched
+        (tree_by T.shape cx.old.rows value)
+        (tree_by T.shape cx.new.rows shifted)) }
     ensures err { IfErr result (IsShiftRefusal cx.new amount (tree_by T.shape cx.old.rows value)) }
-    ensures same { (amount ≡ 0) ⊎ (outer_binder (tree_by T.shape cx.old.rows value) ≡ 0) → (result ≡ Ok value) × (cx.new ≡ cx.old) }
+    ensures same { (amount ≡ 0) ⊎ (outer_binder (tree_by T.shape cx.old.rows value) ≡ 0)
+        → (result ≡ Ok value) × (cx.new ≡ cx.old) }
     ensures descents { cx.new.counters.descents ≡ cx.old.counters.descents }
     ensures shift_descents { cx.old.counters.shift_descents ≤ cx.new.counters.shift_descents }
-    ensures positions { cx.new.counters.shift_descents ≤ cx.old.counters.shift_descents + moving_positions (tree_by T.shape cx.old.rows value) }
+    ensures positions { cx.new.counters.shift_descents
+        ≤ cx.old.counters.shift_descents + moving_positions (tree_by T.shape cx.old.rows value) }
+    ensures pairs { CountsPairs
+        (moving_types 0 (tree_by T.shape cx.old.rows value))
+        cx.old.counters.shift_descents
+        cx.new.counters.shift_descents }
 {
     if amount == 0 || !value.has_escaping_bound_vars(cx) {
         return Ok(value);
@@ -320,6 +371,7 @@ pub fn shift_vars<T: TypeFoldable>(cx: &mut Interner, value: T, amount: u32) -> 
     let mut shifter = Shifter {
         amount,
         current_index: DebruijnIndex::INNERMOST,
+        memory: Memory::new(cx.allocator()),
     };
     value.fold_with(cx, &mut shifter)
 }

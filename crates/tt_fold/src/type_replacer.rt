@@ -37,7 +37,7 @@ pub trait TypeReplacer {
     // What the hook does.
     ghost hooks: { TypeHooks (Standing Self.Meaning) Self.Error };
 
-    /// What to do at a type, before its contents.
+    /// Returns what to do at a type, before its contents.
     fn replace_ty(&mut self, cx: &mut Interner, ty: Ty) -> Result<Step<Ty>, Self::Error>
         requires owned { owned cx.old.rows self.old }
         requires ty { IsPartOf cx.old.rows (ty_shape ty) }
@@ -48,7 +48,9 @@ pub trait TypeReplacer {
     // New terms and lists change no meaning.
     ghost still_owned: { (old new : List Row) (s : Self) → AddsTerms old new → owned old s → owned new s };
 
-    ghost still_means: { (old new : List Row) (s : Self) → AddsTerms old new → owned old s → meaning new s ≡ meaning old s };
+    ghost still_means: { (old new : List Row) (s : Self) → AddsTerms old new
+        → owned old s
+        → meaning new s ≡ meaning old s };
 }
 
 /// The mark of [`TypeReplacer`].
@@ -103,8 +105,9 @@ impl<F: TypeReplacer> Core<Types> for F {
     ghost still_means = { F.TypeReplacer.still_means };
 }
 
-/// The value with what the folder answers in the places of its types, which are met in order, each before its contents. The
-/// folder's first error ends the fold; so does a refusal to build what the answers ask for, with `Memory` or with `TableFull`.
+/// Returns the value with what the folder answers in the places of its types, which are met in order, each before its
+/// contents. The folder's first error ends the fold; so does a refusal to build what the answers ask for, with `Memory`
+/// or with `TableFull`.
 pub fn replace_types<T: TypeFoldable, F: TypeReplacer>(
     cx: &mut Interner,
     value: T,

@@ -9,10 +9,43 @@ ghost use Rattle.tt_kinds.specs.Kinds.{child_shapes, clauses_shape, list_shape, 
 ghost use Rattle.tt_kinds.specs.Parts.{child_sort, IsItem, list_sort, node_table};
 ghost use Rattle.tt_kinds.specs.declared.parts.Node.TheVariants as node;
 ghost use Rattle.tt_visit.specs.Root.{table_root, unhooked};
-ghost use Rattle.tt_fold.specs.Walk.{any_trees, clause_trees, Descends, DescentFails, Fails, FailsAll, FailsUnder, HasUnwanted, InsideFails, ItemsFail, wanted_of, Walks, WalksAll, WalksInside, WalksItems, WalksUnder, ChildFails};
+ghost use Rattle.tt_fold.specs.Walk.{
+  any_trees,
+  clause_trees,
+  Descends,
+  DescentFails,
+  Fails,
+  FailsAll,
+  FailsUnder,
+  HasUnwanted,
+  InsideFails,
+  ItemsFail,
+  wanted_of,
+  Walks,
+  WalksAll,
+  WalksInside,
+  WalksItems,
+  WalksUnder,
+  ChildFails,
+};
 ghost use Rattle.tt_fold.specs.Steps.{Folds, HasVars, IsPartOf, vars_in, errors_of};
 ghost use Rattle.tt_fold.specs.Still.{StaysStill};
-ghost use Rattle.tt_fold.specs.Parts.{ArePartsFor, ArePartsOf, binder_in, child_trees, FoldsItems, HasBinder, HasHook, IsChildFor, IsLeaf, IsListFor, IsNodeFor, list_tree, node_tree, parts_trees};
+ghost use Rattle.tt_fold.specs.Parts.{
+  ArePartsFor,
+  ArePartsOf,
+  binder_in,
+  child_trees,
+  FoldsItems,
+  HasBinder,
+  HasHook,
+  IsChildFor,
+  IsLeaf,
+  IsListFor,
+  IsNodeFor,
+  list_tree,
+  node_tree,
+  parts_trees,
+};
 
 use crate::core_folder::Core;
 use crate::folder::Step;
@@ -153,7 +186,8 @@ pub(crate) fn fold_contents<M, F: Core<M>>(
     requires binder { HasBinder cx.old.rows binder }
     requires parts { ArePartsOf cx.old.rows (parts_shapes parts) }
     ensures { Folds F.owned F.meaning (ArePartsFor parts) parts_trees
-        (WalksUnder F.hooks (binder_in cx.old.rows binder)) (FailsUnder F.hooks (errors_of F.Error.from_gives cx.new) (binder_in cx.old.rows binder))
+        (WalksUnder F.hooks (binder_in cx.old.rows binder))
+        (FailsUnder F.hooks (errors_of F.Error.from_gives cx.new) (binder_in cx.old.rows binder))
         cx.old folder.old parts result cx.new folder.new }
 {
     match binder {
@@ -174,7 +208,8 @@ fn fold_under<M, F: Core<M>>(
     requires vars { HasVars cx.old.rows vars }
     requires parts { ArePartsOf cx.old.rows (parts_shapes parts) }
     ensures { Folds F.owned F.meaning (ArePartsFor parts) parts_trees
-        (WalksUnder F.hooks (Some (vars_in cx.old.rows vars))) (FailsUnder F.hooks (errors_of F.Error.from_gives cx.new) (Some (vars_in cx.old.rows vars)))
+        (WalksUnder F.hooks (Some (vars_in cx.old.rows vars)))
+        (FailsUnder F.hooks (errors_of F.Error.from_gives cx.new) (Some (vars_in cx.old.rows vars)))
         cx.old folder.old parts result cx.new folder.new }
 {
     folder.core_enter(cx, vars)?;
@@ -289,7 +324,18 @@ fn fold_items<M, F: Core<M>>(
     requires owned { F.owned cx.old.rows folder.old }
     requires list { IsPartOf cx.old.rows (list_shape list) }
     requires empty { items.old.items ≡ [] }
-    ensures { FoldsItems (λ _. items.new.items) F.owned F.meaning F.hooks (errors_of F.Error.from_gives cx.new) cx.old folder.old list result cx.new folder.new }
+    ensures { FoldsItems
+        (λ _. items.new.items)
+        F.owned
+        F.meaning
+        F.hooks
+        (errors_of F.Error.from_gives cx.new)
+        cx.old
+        folder.old
+        list
+        result
+        cx.new
+        folder.new }
 {
     let count = cx.list_len(list);
     reserve(items, count)?;

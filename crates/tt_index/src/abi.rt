@@ -25,7 +25,7 @@ pub enum ExternAbi {
 }
 
 impl ExternAbi {
-    /// The convention's number, from 0 to 6 in the order of the variants, with `unwind` false before true.
+    /// Returns the convention's number, from 0 to 6 in the order of the variants, with `unwind` false before true.
     pub fn as_packed(self) -> u8
         ensures number { result ≡ abi_number self }
         ensures within { result ≤ 6 }
@@ -42,7 +42,7 @@ impl ExternAbi {
         }
     }
 
-    /// The convention that has this number. Its test is the comparison: the number is at most 6.
+    /// Returns the convention that has this number. Its test is the comparison: the number is at most 6.
     pub fn from_packed(packed: u8) -> ExternAbi
         requires { packed ≤ 6 }
         ensures abi { result ≡ abi_of packed }

@@ -26,14 +26,14 @@ impl Model for BoundVar {
 }
 
 impl BoundVar {
-    /// Whether `value` is the number of a bound variable: at most [`GREATEST_INDEX`].
+    /// Returns whether `value` is the number of a bound variable: at most [`GREATEST_INDEX`].
     pub fn fits(value: u32) -> bool
         ensures { IsTrue result ↔ (value ≤ greatest) }
     {
         value <= GREATEST_INDEX
     }
 
-    /// The bound variable with this number. [`BoundVar::fits`] tests the condition.
+    /// Returns the bound variable with this number. [`BoundVar::fits`] tests the condition.
     pub fn from_u32(value: u32) -> BoundVar
         requires { value ≤ greatest }
         ensures { result ≡ value }
@@ -41,7 +41,7 @@ impl BoundVar {
         BoundVar { value }
     }
 
-    /// The number.
+    /// Returns the number.
     pub fn as_u32(self) -> u32
         ensures number { result ≡ self }
         ensures fits { result ≤ greatest }
@@ -50,7 +50,7 @@ impl BoundVar {
         value
     }
 
-    /// The number, for use as a position in a list.
+    /// Returns the number, for use as a position in a list.
     pub fn as_usize(self) -> usize
         ensures number { result ≡ self }
         ensures fits { result ≤ greatest }

@@ -18,7 +18,7 @@ impl ClosureKind {
     /// The kind that demands the least of the environment, from which inference starts.
     pub const LATTICE_BOTTOM: ClosureKind = ClosureKind::Fn;
 
-    /// The trait's name.
+    /// Returns the trait's name.
     pub fn as_str(self) -> &'static str
         ensures { result.now ≡ name_of self }
     {
@@ -29,7 +29,7 @@ impl ClosureKind {
         }
     }
 
-    /// Whether a type that implements this trait must also implement `other`.
+    /// Returns whether a type that implements this trait must also implement `other`.
     pub fn extends(self, other: ClosureKind) -> bool
         ensures { IsTrue result ↔ (demand self ≤ demand other) }
     {

@@ -36,14 +36,14 @@ impl DebruijnIndex {
     /// [`INNERMOST`], the binder that is closest to the variable.
     pub const INNERMOST: DebruijnIndex = INNERMOST;
 
-    /// Whether `value` is the number of a De Bruijn index: at most [`GREATEST_INDEX`].
+    /// Returns whether `value` is the number of a De Bruijn index: at most [`GREATEST_INDEX`].
     pub fn fits(value: u32) -> bool
         ensures { IsTrue result ↔ (value ≤ greatest) }
     {
         value <= GREATEST_INDEX
     }
 
-    /// The De Bruijn index with this number. [`DebruijnIndex::fits`] tests the condition.
+    /// Returns the De Bruijn index with this number. [`DebruijnIndex::fits`] tests the condition.
     pub fn from_u32(value: u32) -> DebruijnIndex
         requires { value ≤ greatest }
         ensures { result ≡ value }
@@ -51,7 +51,7 @@ impl DebruijnIndex {
         DebruijnIndex { value }
     }
 
-    /// The number.
+    /// Returns the number.
     pub fn as_u32(self) -> u32
         ensures number { result ≡ self }
         ensures fits { result ≤ greatest }
@@ -60,7 +60,7 @@ impl DebruijnIndex {
         value
     }
 
-    /// The number, for use as a position in a list.
+    /// Returns the number, for use as a position in a list.
     pub fn as_usize(self) -> usize
         ensures number { result ≡ self }
         ensures fits { result ≤ greatest }
@@ -68,14 +68,14 @@ impl DebruijnIndex {
         self.as_u32() as usize
     }
 
-    /// Whether the index stays within [`GREATEST_INDEX`] when it moves into `amount` new binders.
+    /// Returns whether the index stays within [`GREATEST_INDEX`] when it moves into `amount` new binders.
     pub fn can_shift_in(self, amount: u32) -> bool
         ensures { IsTrue result ↔ (self + amount ≤ greatest) }
     {
         amount <= GREATEST_INDEX - self.value
     }
 
-    /// The index of the same binder, seen from inside `amount` new binders. [`DebruijnIndex::can_shift_in`]
+    /// Returns the index of the same binder, seen from inside `amount` new binders. [`DebruijnIndex::can_shift_in`]
     /// tests the condition.
     pub fn shifted_in(self, amount: u32) -> DebruijnIndex
         requires { self + amount ≤ greatest }
@@ -94,14 +94,14 @@ impl DebruijnIndex {
         *self = self.shifted_in(amount);
     }
 
-    /// Whether the binder stands outside `amount` binders, so that the index can move out of them.
+    /// Returns whether the binder stands outside `amount` binders, so that the index can move out of them.
     pub fn can_shift_out(self, amount: u32) -> bool
         ensures { IsTrue result ↔ (amount ≤ self) }
     {
         amount <= self.value
     }
 
-    /// The index of the same binder, seen from outside `amount` binders. [`DebruijnIndex::can_shift_out`] tests
+    /// Returns the index of the same binder, seen from outside `amount` binders. [`DebruijnIndex::can_shift_out`] tests
     /// the condition.
     pub fn shifted_out(self, amount: u32) -> DebruijnIndex
         requires { amount ≤ self }
@@ -120,8 +120,8 @@ impl DebruijnIndex {
         *self = self.shifted_out(amount);
     }
 
-    /// The index of the same binder, seen from where the binder `to_binder` is the innermost one: what was bound at
-    /// `to_binder` is then bound at [`INNERMOST`]. [`DebruijnIndex::can_shift_out`] of the number of
+    /// Returns the index of the same binder, seen from where the binder `to_binder` is the innermost one: what was
+    /// bound at `to_binder` is then bound at [`INNERMOST`]. [`DebruijnIndex::can_shift_out`] of the number of
     /// `to_binder` tests the condition.
     pub fn shifted_out_to_binder(self, to_binder: DebruijnIndex) -> DebruijnIndex
         requires { to_binder ≤ self }

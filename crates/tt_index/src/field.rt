@@ -26,14 +26,14 @@ impl Model for FieldIdx {
 }
 
 impl FieldIdx {
-    /// Whether `value` is the number of a field: at most [`GREATEST_INDEX`].
+    /// Returns whether `value` is the number of a field: at most [`GREATEST_INDEX`].
     pub fn fits(value: u32) -> bool
         ensures { IsTrue result ↔ (value ≤ greatest) }
     {
         value <= GREATEST_INDEX
     }
 
-    /// The field with this number. [`FieldIdx::fits`] tests the condition.
+    /// Returns the field with this number. [`FieldIdx::fits`] tests the condition.
     pub fn from_u32(value: u32) -> FieldIdx
         requires { value ≤ greatest }
         ensures { result ≡ value }
@@ -41,7 +41,7 @@ impl FieldIdx {
         FieldIdx { value }
     }
 
-    /// The number.
+    /// Returns the number.
     pub fn as_u32(self) -> u32
         ensures number { result ≡ self }
         ensures fits { result ≤ greatest }
@@ -50,7 +50,7 @@ impl FieldIdx {
         value
     }
 
-    /// The number, for use as a position in a list.
+    /// Returns the number, for use as a position in a list.
     pub fn as_usize(self) -> usize
         ensures number { result ≡ self }
         ensures fits { result ≤ greatest }
@@ -93,14 +93,14 @@ impl Model for VariantIdx {
 }
 
 impl VariantIdx {
-    /// Whether `value` is the number of a variant: at most [`GREATEST_INDEX`].
+    /// Returns whether `value` is the number of a variant: at most [`GREATEST_INDEX`].
     pub fn fits(value: u32) -> bool
         ensures { IsTrue result ↔ (value ≤ greatest) }
     {
         value <= GREATEST_INDEX
     }
 
-    /// The variant with this number. [`VariantIdx::fits`] tests the condition.
+    /// Returns the variant with this number. [`VariantIdx::fits`] tests the condition.
     pub fn from_u32(value: u32) -> VariantIdx
         requires { value ≤ greatest }
         ensures { result ≡ value }
@@ -108,7 +108,7 @@ impl VariantIdx {
         VariantIdx { value }
     }
 
-    /// The number.
+    /// Returns the number.
     pub fn as_u32(self) -> u32
         ensures number { result ≡ self }
         ensures fits { result ≤ greatest }
@@ -117,7 +117,7 @@ impl VariantIdx {
         value
     }
 
-    /// The number, for use as a position in a list.
+    /// Returns the number, for use as a position in a list.
     pub fn as_usize(self) -> usize
         ensures number { result ≡ self }
         ensures fits { result ≤ greatest }

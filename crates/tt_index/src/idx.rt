@@ -7,13 +7,13 @@ ghost use Rattle.tt_index.specs.Greatest.{greatest};
 pub trait Idx: Copy {
     ghost number: { Self → ℕ };
 
-    /// The index with this number, as of a position in a list. Its test is the comparison with
+    /// Returns the index with this number, as of a position in a list. Its test is the comparison with
     /// [`GREATEST_INDEX`](crate::GREATEST_INDEX).
     fn from_usize(position: usize) -> Self
         requires { position ≤ greatest }
         ensures { number result ≡ position };
 
-    /// The number.
+    /// Returns the number.
     fn as_usize(self) -> usize
         ensures number { result ≡ number self }
         ensures fits { result ≤ greatest };

@@ -1,6 +1,24 @@
 //! Lists whose positions have an index type of their own.
 
-ghost use Rattle.std.specs.Prelude.{◌≡◌, ◌<◌, ◌≤◌, ◌^◌, ◌↔◌, ◌++◌, ◌∷◌, [], List, IsTrue, IfOk, IfErr, OnErr, OnOk, length, slice_get, option_copied};
+ghost use Rattle.std.specs.Prelude.{
+  ◌≡◌,
+  ◌<◌,
+  ◌≤◌,
+  ◌^◌,
+  ◌↔◌,
+  ◌++◌,
+  ◌∷◌,
+  [],
+  List,
+  IsTrue,
+  IfOk,
+  IfErr,
+  OnErr,
+  OnOk,
+  length,
+  slice_get,
+  option_copied,
+};
 ghost use Rattle.std.specs.Iterator.Adapters.{IterYieldsInOrder};
 ghost use Rattle.std.specs.Slice.Iter.{iter_rest};
 ghost use Rattle.tt_index.specs.Greatest.{greatest};
@@ -27,7 +45,7 @@ impl<Ix: Idx, T> Model for IndexVec<Ix, T> {
 }
 
 impl<Ix: Idx, T> IndexVec<Ix, T> {
-    /// The empty list, which takes no memory yet.
+    /// Returns the empty list, which takes no memory yet.
     pub fn new(alloc: Global) -> IndexVec<Ix, T>
         ensures { result ≡ [] }
     {
@@ -37,7 +55,8 @@ impl<Ix: Idx, T> IndexVec<Ix, T> {
         }
     }
 
-    /// The list of these items, in order. It may be longer than there are indices; the items past those have none.
+    /// Returns the list of these items, in order. It may be longer than there are indices; the items past those have
+    /// none.
     pub fn from_raw(raw: Vec<T>) -> IndexVec<Ix, T>
         ensures { result ≡ raw.items }
     {
@@ -47,14 +66,14 @@ impl<Ix: Idx, T> IndexVec<Ix, T> {
         }
     }
 
-    /// The items, in order.
+    /// Returns the items, in order.
     pub fn raw(&self) -> &[T]
         ensures { result.now ≡ self.now }
     {
         self.raw.as_slice()
     }
 
-    /// The items, in order, as the vector that holds them.
+    /// Returns the items, in order, as the vector that holds them.
     pub fn into_raw(self) -> Vec<T>
         ensures { result.items ≡ self }
     {
@@ -62,28 +81,28 @@ impl<Ix: Idx, T> IndexVec<Ix, T> {
         raw
     }
 
-    /// The number of items.
+    /// Returns the number of items.
     pub fn len(&self) -> usize
         ensures { result ≡ length self.now }
     {
         self.raw.len()
     }
 
-    /// Whether there are no items.
+    /// Returns whether there are no items.
     pub fn is_empty(&self) -> bool
         ensures { IsTrue result ↔ (self.now ≡ []) }
     {
         self.raw.is_empty()
     }
 
-    /// The item at this index, if the list reaches so far.
+    /// Returns the item at this index, if the list reaches so far.
     pub fn get(&self, index: Ix) -> Option<&T>
         ensures { option_copied result ≡ slice_get self.now (Ix.number index) }
     {
         self.raw.as_slice().get(index.as_usize())
     }
 
-    /// The items in the order of their indices.
+    /// Returns the items in the order of their indices.
     pub fn iter(&self) -> Iter<'_, T>
         ensures rest { iter_rest result ≡ self.now }
         ensures len { length (iter_rest result) ≡ length self.now }
@@ -93,7 +112,7 @@ impl<Ix: Idx, T> IndexVec<Ix, T> {
         self.raw.iter()
     }
 
-    /// Whether a further item would have an index: whether there are at most [`GREATEST_INDEX`] items.
+    /// Returns whether a further item would have an index: whether there are at most [`GREATEST_INDEX`] items.
     pub fn has_next_index(&self) -> bool
         ensures { IsTrue result ↔ (length self.now ≤ greatest) }
     {

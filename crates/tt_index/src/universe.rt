@@ -32,14 +32,14 @@ impl UniverseIndex {
     /// The universe whose names are visible everywhere.
     pub const ROOT: UniverseIndex = UniverseIndex { value: 0 };
 
-    /// Whether `value` is the number of a universe: at most [`GREATEST_INDEX`].
+    /// Returns whether `value` is the number of a universe: at most [`GREATEST_INDEX`].
     pub fn fits(value: u32) -> bool
         ensures { IsTrue result ↔ (value ≤ greatest) }
     {
         value <= GREATEST_INDEX
     }
 
-    /// The universe with this number. [`UniverseIndex::fits`] tests the condition.
+    /// Returns the universe with this number. [`UniverseIndex::fits`] tests the condition.
     pub fn from_u32(value: u32) -> UniverseIndex
         requires { value ≤ greatest }
         ensures { result ≡ value }
@@ -47,7 +47,7 @@ impl UniverseIndex {
         UniverseIndex { value }
     }
 
-    /// The number.
+    /// Returns the number.
     pub fn as_u32(self) -> u32
         ensures number { result ≡ self }
         ensures fits { result ≤ greatest }
@@ -56,7 +56,7 @@ impl UniverseIndex {
         value
     }
 
-    /// The number, for use as a position in a list.
+    /// Returns the number, for use as a position in a list.
     pub fn as_usize(self) -> usize
         ensures number { result ≡ self }
         ensures fits { result ≤ greatest }
@@ -64,14 +64,14 @@ impl UniverseIndex {
         self.as_u32() as usize
     }
 
-    /// Whether there is a next universe: whether this is below [`GREATEST_INDEX`].
+    /// Returns whether there is a next universe: whether this is below [`GREATEST_INDEX`].
     pub fn has_next(self) -> bool
         ensures { IsTrue result ↔ (self < greatest) }
     {
         self.value < GREATEST_INDEX
     }
 
-    /// The universe that is entered with a further `for<..>` binder; it extends this one and all before.
+    /// Returns the universe that is entered with a further `for<..>` binder; it extends this one and all before.
     /// [`UniverseIndex::has_next`] tests the condition.
     pub fn next_universe(self) -> UniverseIndex
         requires { self < greatest }
@@ -82,21 +82,21 @@ impl UniverseIndex {
         }
     }
 
-    /// Whether each name of `other` is visible in this universe.
+    /// Returns whether each name of `other` is visible in this universe.
     pub fn can_name(self, other: UniverseIndex) -> bool
         ensures { IsTrue result ↔ (other ≤ self) }
     {
         self >= other
     }
 
-    /// Whether `other` has names that are not visible in this universe.
+    /// Returns whether `other` has names that are not visible in this universe.
     pub fn cannot_name(self, other: UniverseIndex) -> bool
         ensures { IsTrue result ↔ (self < other) }
     {
         self < other
     }
 
-    /// Whether this is the root universe.
+    /// Returns whether this is the root universe.
     pub fn is_root(self) -> bool
         ensures { IsTrue result ↔ (self ≡ 0) }
     {

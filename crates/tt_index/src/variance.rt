@@ -18,9 +18,9 @@ pub enum Variance {
 }
 
 impl Variance {
-    /// The variance of an argument that stands in a position of variance `inner`, inside a context of this variance.
-    /// In `fn(*const Vec<i32>)` the pointer's place is contravariant, and a pointer and a `Vec` are covariant in
-    /// what they hold, so `i32` stands in a contravariant place.
+    /// Returns the variance of an argument that stands in a position of variance `inner`, inside a context of this
+    /// variance. In `fn(*const Vec<i32>)` the pointer's place is contravariant, and a pointer and a `Vec` are covariant
+    /// in what they hold, so `i32` stands in a contravariant place.
     ///
     /// The table is Figure 1 of 'Taming the Wildcards: Combining Definition- and Use-Site Variance', PLDI 2011.
     pub fn xform(self, inner: Variance) -> Variance

@@ -26,14 +26,14 @@ impl Model for RegionVid {
 }
 
 impl RegionVid {
-    /// Whether `value` is the number of a region variable: at most [`GREATEST_INDEX`].
+    /// Returns whether `value` is the number of a region variable: at most [`GREATEST_INDEX`].
     pub fn fits(value: u32) -> bool
         ensures { IsTrue result ↔ (value ≤ greatest) }
     {
         value <= GREATEST_INDEX
     }
 
-    /// The region variable with this number. [`RegionVid::fits`] tests the condition.
+    /// Returns the region variable with this number. [`RegionVid::fits`] tests the condition.
     pub fn from_u32(value: u32) -> RegionVid
         requires { value ≤ greatest }
         ensures { result ≡ value }
@@ -41,7 +41,7 @@ impl RegionVid {
         RegionVid { value }
     }
 
-    /// The number.
+    /// Returns the number.
     pub fn as_u32(self) -> u32
         ensures number { result ≡ self }
         ensures fits { result ≤ greatest }
@@ -50,7 +50,7 @@ impl RegionVid {
         value
     }
 
-    /// The number, for use as a position in a list.
+    /// Returns the number, for use as a position in a list.
     pub fn as_usize(self) -> usize
         ensures number { result ≡ self }
         ensures fits { result ≤ greatest }
@@ -92,14 +92,14 @@ impl Model for TyVid {
 }
 
 impl TyVid {
-    /// Whether `value` is the number of a type variable: at most [`GREATEST_INDEX`].
+    /// Returns whether `value` is the number of a type variable: at most [`GREATEST_INDEX`].
     pub fn fits(value: u32) -> bool
         ensures { IsTrue result ↔ (value ≤ greatest) }
     {
         value <= GREATEST_INDEX
     }
 
-    /// The type variable with this number. [`TyVid::fits`] tests the condition.
+    /// Returns the type variable with this number. [`TyVid::fits`] tests the condition.
     pub fn from_u32(value: u32) -> TyVid
         requires { value ≤ greatest }
         ensures { result ≡ value }
@@ -107,7 +107,7 @@ impl TyVid {
         TyVid { value }
     }
 
-    /// The number.
+    /// Returns the number.
     pub fn as_u32(self) -> u32
         ensures number { result ≡ self }
         ensures fits { result ≤ greatest }
@@ -116,7 +116,7 @@ impl TyVid {
         value
     }
 
-    /// The number, for use as a position in a list.
+    /// Returns the number, for use as a position in a list.
     pub fn as_usize(self) -> usize
         ensures number { result ≡ self }
         ensures fits { result ≤ greatest }
@@ -158,14 +158,14 @@ impl Model for IntVid {
 }
 
 impl IntVid {
-    /// Whether `value` is the number of an integer variable: at most [`GREATEST_INDEX`].
+    /// Returns whether `value` is the number of an integer variable: at most [`GREATEST_INDEX`].
     pub fn fits(value: u32) -> bool
         ensures { IsTrue result ↔ (value ≤ greatest) }
     {
         value <= GREATEST_INDEX
     }
 
-    /// The integer variable with this number. [`IntVid::fits`] tests the condition.
+    /// Returns the integer variable with this number. [`IntVid::fits`] tests the condition.
     pub fn from_u32(value: u32) -> IntVid
         requires { value ≤ greatest }
         ensures { result ≡ value }
@@ -173,7 +173,7 @@ impl IntVid {
         IntVid { value }
     }
 
-    /// The number.
+    /// Returns the number.
     pub fn as_u32(self) -> u32
         ensures number { result ≡ self }
         ensures fits { result ≤ greatest }
@@ -182,7 +182,7 @@ impl IntVid {
         value
     }
 
-    /// The number, for use as a position in a list.
+    /// Returns the number, for use as a position in a list.
     pub fn as_usize(self) -> usize
         ensures number { result ≡ self }
         ensures fits { result ≤ greatest }
@@ -224,14 +224,14 @@ impl Model for FloatVid {
 }
 
 impl FloatVid {
-    /// Whether `value` is the number of a floating point variable: at most [`GREATEST_INDEX`].
+    /// Returns whether `value` is the number of a floating point variable: at most [`GREATEST_INDEX`].
     pub fn fits(value: u32) -> bool
         ensures { IsTrue result ↔ (value ≤ greatest) }
     {
         value <= GREATEST_INDEX
     }
 
-    /// The floating point variable with this number. [`FloatVid::fits`] tests the condition.
+    /// Returns the floating point variable with this number. [`FloatVid::fits`] tests the condition.
     pub fn from_u32(value: u32) -> FloatVid
         requires { value ≤ greatest }
         ensures { result ≡ value }
@@ -239,7 +239,7 @@ impl FloatVid {
         FloatVid { value }
     }
 
-    /// The number.
+    /// Returns the number.
     pub fn as_u32(self) -> u32
         ensures number { result ≡ self }
         ensures fits { result ≤ greatest }
@@ -248,7 +248,7 @@ impl FloatVid {
         value
     }
 
-    /// The number, for use as a position in a list.
+    /// Returns the number, for use as a position in a list.
     pub fn as_usize(self) -> usize
         ensures number { result ≡ self }
         ensures fits { result ≤ greatest }
@@ -290,14 +290,14 @@ impl Model for ConstVid {
 }
 
 impl ConstVid {
-    /// Whether `value` is the number of a constant variable: at most [`GREATEST_INDEX`].
+    /// Returns whether `value` is the number of a constant variable: at most [`GREATEST_INDEX`].
     pub fn fits(value: u32) -> bool
         ensures { IsTrue result ↔ (value ≤ greatest) }
     {
         value <= GREATEST_INDEX
     }
 
-    /// The constant variable with this number. [`ConstVid::fits`] tests the condition.
+    /// Returns the constant variable with this number. [`ConstVid::fits`] tests the condition.
     pub fn from_u32(value: u32) -> ConstVid
         requires { value ≤ greatest }
         ensures { result ≡ value }
@@ -305,7 +305,7 @@ impl ConstVid {
         ConstVid { value }
     }
 
-    /// The number.
+    /// Returns the number.
     pub fn as_u32(self) -> u32
         ensures number { result ≡ self }
         ensures fits { result ≤ greatest }
@@ -314,7 +314,7 @@ impl ConstVid {
         value
     }
 
-    /// The number, for use as a position in a list.
+    /// Returns the number, for use as a position in a list.
     pub fn as_usize(self) -> usize
         ensures number { result ≡ self }
         ensures fits { result ≤ greatest }

@@ -26,7 +26,6 @@ use Rattle.tt_interner.proofs.Trees.{Means-row, row_at_newest}
 
 -- clauses are in range
 pub clauses_in_range : (rows : List Row) (cs : List Clause) → AreClauses rows cs → AreParts (size rows) (item_shapes clause_shape cs)
-unfolding IsPart
 clauses_in_range rows [] h = tt
 clauses_in_range rows (c ∷ cs) h = (h.0.within, clauses_in_range rows cs h.1)
 
@@ -38,7 +37,7 @@ no_other rows (c ∷ cs) h o = ⊎_elim (λ bad. false≢true (sym (ap not h.0.c
 
 -- where not all are clauses, one is another predicate
 pub other_there : (rows : List Row) (cs : List Clause) → AreParts (size rows) (item_shapes clause_shape cs) → (AreClauses rows cs → ⊥) → HasOther (fill_all (meaning rows) (children_shapes (map clause_child cs)))
-unfolding fill IsPart
+unfolding fill
 other_there rows [] p not_all = absurd (not_all tt)
 other_there rows (c ∷ cs) p not_all = by (is_clause_tree (meaning rows Predicates c.number)) refl (other_there rows cs p.1)
   where

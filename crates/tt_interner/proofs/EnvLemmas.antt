@@ -31,12 +31,10 @@ env_clauses_at rows cs env at = get_or_from_slice_get (table ClauseLists rows) e
 
 -- a stored list's clauses are in range
 pub stored_clauses : (rows : List Row) → AreRows rows → (cs : List Clause) (n : ℕ) → IsAt rows (clauses_row cs) n → AreParts (size rows) (item_shapes clause_shape cs)
-unfolding IsPart
 stored_clauses rows are cs n at = (Means-row rows are ClauseLists n (clauses_row cs) at).parts.1
 
 -- a clause's constant and type are in range
 pub bound_in_range : (rows : List Row) → AreRows rows → (b : Binder PredicateKind) (n : ℕ) → IsAt rows (predicate_row b) n → IfSome (bound_of_predicate b.value) (λ e. (e.0.number < size rows Consts) × (e.1.number < size rows Types))
-unfolding IsPart
 bound_in_range rows are b n at = by b.value (Means-row rows are Predicates n (predicate_row b) at).parts
   where
     of_clause : (k : ClauseKind) → HasParts (size rows) (predicate_kind_shape (record { value = predicate.Clause k; bound_vars = b.bound_vars }))
@@ -51,7 +49,6 @@ bound_in_range rows are b n at = by b.value (Means-row rows are Predicates n (pr
 
 -- the next clause is in range
 pub clause_at_place : (rows : List Row) (cs : List Clause) (i : ℕ) (d : Clause) → i < length cs → AreParts (size rows) (item_shapes clause_shape cs) → (get_or cs i d).number < size rows Predicates
-unfolding IsPart
 clause_at_place rows cs i d h parts = parts_at clause_shape (size rows) cs i d h parts
 
 module _ (rows : List Row) (p : Placeholder BoundConst) where

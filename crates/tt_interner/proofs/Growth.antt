@@ -4,7 +4,7 @@ use Rattle.std.specs.Prelude.{map}
 use Rattle.std.proofs.lemmas.Option.{slice_get_within}
 use Rattle.tt_kinds.specs.declared.table.Table.{Table}
 use Rattle.tt_kinds.specs.declared.table.Table.TheVariants.{VarLists, Symbols}
-use Rattle.tt_kinds.specs.Label.{RegionName, anonymous, printed, named, environment, VarKind, region_variable, type_variable, const_variable, FreeRegion, static_region, erased_region, region_var, error_region, late_param_region, placeholder_region, RecordLabel, fn_sig_tys_record, pair_record, triple_record, absent_record, present_record, sequence_record, unsafe_binder_record, trait_record, host_effect_record, region_outlives_record, type_outlives_record, projection_record, const_has_type_record, well_formed_record, const_evaluatable_record, unstable_feature_record, dyn_compatible_record, subtype_record, coerce_record, const_equate_record, ambiguous_record, normalizes_to_record, alias_relate_record, existential_trait_record, existential_projection_record, auto_trait_record, trait_ref_record, alias_term_record, alias_ty_record, outlives_record, type_and_mut_record, fn_sig_record, param_env_record, witness_types_record, bare_param_record, bare_bound_record, bare_type_record, bare_const_record, bare_pattern_record, Label, type_label, const_label, pattern_label, predicate_label, existential_label, clause_list_label, list_label, var_list_label, text_label, declaration_label, record_label, error_label}
+use Rattle.tt_kinds.specs.Label.{RegionName, anonymous, printed, named, environment, VarKind, region_variable, type_variable, const_variable, FreeRegion, static_region, erased_region, region_var, error_region, late_param_region, placeholder_region, RecordLabel, fn_sig_tys_record, pair_record, triple_record, absent_record, present_record, sequence_record, unsafe_binder_record, trait_record, host_effect_record, region_outlives_record, type_outlives_record, projection_record, const_has_type_record, well_formed_record, const_evaluatable_record, unstable_feature_record, dyn_compatible_record, subtype_record, coerce_record, const_equate_record, ambiguous_record, normalizes_to_record, alias_relate_record, existential_trait_record, existential_projection_record, auto_trait_record, trait_ref_record, alias_term_record, alias_ty_record, outlives_record, type_and_mut_record, fn_sig_record, param_env_record, witness_types_record, bare_param_record, bare_bound_record, bare_type_record, bare_const_record, bare_pattern_record, Label, type_label, const_label, pattern_label, predicate_label, existential_label, clause_list_label, list_label, var_list_label, text_label, declaration_label, record_label, error_label, clause_label}
 use Rattle.tt_kinds.specs.Tree as tree
 use Rattle.tt_kinds.specs.Tree.{Tree, Depth}
 use Rattle.tt_kinds.specs.Shape.{Shape, Shapes, param, bound, region, term, node, binder, stored, none, also, Meaning, Sizes, text_of, name_of, rename_region, rename_kind, rename_free, rename_record, rename_label, fill, fill_all, IsNamed, IsNamedKind, AreNamedKinds, IsNamedFree, IsNamedRecord, IsNamedLabel, IsPart, AreParts, HasParts}
@@ -91,6 +91,7 @@ module _ (small large : Sizes) (more : (t : Table) → small t ≤ large t) wher
   IsNamedLabel-more (declaration_label i k n) h = let m = more Symbols in omega arith
   IsNamedLabel-more (record_label l) h = IsNamedRecord-more l h
   IsNamedLabel-more (error_label e) h = tt
+  IsNamedLabel-more clause_label h = tt
   IsNamedLabel-more (const_label l) h = tt
   IsNamedLabel-more (pattern_label l) h = tt
   IsNamedLabel-more predicate_label h = tt
@@ -98,8 +99,6 @@ module _ (small large : Sizes) (more : (t : Table) → small t ≤ large t) wher
   IsNamedLabel-more clause_list_label h = tt
 
   mutual
-    unfolding IsPart
-
     pub IsPart-more : (s : Shape) → IsPart small s → IsPart large s
     IsPart-more (param s i name) h = let m = more Symbols in (h.0, omega (arith, h.1))
     IsPart-more (bound s d e) h = (h.0, IsNamedKind-more e.kind h.1)
@@ -196,6 +195,7 @@ module _ (f g : Meaning) (bounds : Sizes) (same : (t : Table) (n : ℕ) → n < 
   label-same (declaration_label i k n) h = ap (λ t. declaration_label i k (text_of t)) (same Symbols n h)
   label-same (record_label l) h = ap record_label (record-same l h)
   label-same (error_label e) h = refl
+  label-same clause_label h = refl
   label-same (const_label l) h = refl
   label-same (pattern_label l) h = refl
   label-same predicate_label h = refl
@@ -203,7 +203,7 @@ module _ (f g : Meaning) (bounds : Sizes) (same : (t : Table) (n : ℕ) → n < 
   label-same clause_list_label h = refl
 
   mutual
-    unfolding fill IsPart
+    unfolding fill
 
     pub fill-same : (s : Shape) → IsPart bounds s → fill f s ≡ fill g s
     fill-same (param s i name) h = ap (λ t. tree.param s i (text_of t)) (same Symbols name h.1)
@@ -228,11 +228,22 @@ module _ (f g : Meaning) (bounds : Sizes) (same : (t : Table) (n : ℕ) → n < 
   row-same (binder n s) h = absurd h
   row-same (stored t n) h = absurd h
 
+-- where the rows are more, no table has fewer
+pub sizes-grow : (more old new : List Row) → new ≡ more ++ old → (t : Table) → size old t ≤ size new t
+sizes-grow more old new kept t = by (size old t) refl
+  where
+    by : (n : ℕ) → n ≡ size old t → n ≤ size new t
+    by zero e = omega arith
+    by (suc n) e = let h : n < size new t = rw kept (keeps more old t n (omega (arith, e))).0 in omega (arith, h)
+
+pub Grows-more : {old new : List Row} (more : List Row) → new ≡ more ++ old → Grows old new
+Grows-more {old} {new} more kept = record { more = more; kept = kept; in_range = sizes-grow more old new kept }
+
 pub Grows-refl : (rows : List Row) → Grows rows rows
-Grows-refl rows = record { more = []; kept = refl }
+Grows-refl rows = Grows-more [] refl
 
 pub Grows-trans : {a b c : List Row} → Grows a b → Grows b c → Grows a c
-Grows-trans {a} g h = record { more = h.more ++ g.more; kept = h.kept ∙ ap (λ x. h.more ++ x) g.kept ∙ sym (append_assoc h.more g.more a) }
+Grows-trans {a} g h = Grows-more (h.more ++ g.more) (h.kept ∙ ap (λ x. h.more ++ x) g.kept ∙ sym (append_assoc h.more g.more a))
 
 pub Extends-refl : (terms : Terms) → Extends terms terms
 Extends-refl terms = record { rows = Grows-refl terms.rows; limit = refl }
@@ -246,11 +257,7 @@ module _ (old new : List Row) (g : Grows old new) where
   in_range-grows t n h = rw g.kept (keeps g.more old t n h).0
 
   pub size-grows : (t : Table) → size old t ≤ size new t
-  size-grows t = by (size old t) refl
-    where
-      by : (n : ℕ) → n ≡ size old t → n ≤ size new t
-      by zero e = omega arith
-      by (suc n) e = let h = in_range-grows t n (omega (arith, e)) in omega (arith, h)
+  size-grows t = g.in_range t
 
   pub meaning-grows : (t : Table) (n : ℕ) → n < size old t → meaning new t n ≡ meaning old t n
   meaning-grows t n h = rw g.kept (keeps g.more old t n h).1

@@ -11,7 +11,7 @@ use Rattle.tt_flags.specs.declared.flag_computation.FlagComputation.{FlagComputa
 use Rattle.tt_kinds.specs.declared.handle.BoundVarKinds.{BoundVarKinds}
 use Rattle.tt_kinds.specs.declared.table.Table.{Table}
 use Rattle.tt_kinds.specs.declared.table.Table.TheVariants.{VarLists}
-use Rattle.tt_kinds.specs.Label.{Name, Sort, VarKind, Label, type_label, const_label, pattern_label, predicate_label, existential_label, clause_list_label, list_label, var_list_label, text_label, declaration_label, record_label, error_label, list_flags, flags_of_label}
+use Rattle.tt_kinds.specs.Label.{Name, Sort, VarKind, Label, type_label, const_label, pattern_label, predicate_label, existential_label, clause_list_label, list_label, var_list_label, text_label, declaration_label, record_label, error_label, clause_label, list_flags, flags_of_label}
 use Rattle.tt_kinds.specs.Tree as tree
 use Rattle.tt_kinds.specs.Tree.{Tree, Forest, Depth}
 use Rattle.tt_kinds.specs.Reading.{read_all, greatest_reach_all, outer_binder}
@@ -42,6 +42,7 @@ flags_of_label-rename name (text_label bytes) = refl
 flags_of_label-rename name (declaration_label i k n) = refl
 flags_of_label-rename name (record_label l) = refl
 flags_of_label-rename name (error_label e) = refl
+flags_of_label-rename name clause_label = refl
 flags_of_label-rename name (const_label l) = refl
 flags_of_label-rename name (pattern_label l) = refl
 flags_of_label-rename name predicate_label = refl
@@ -104,12 +105,10 @@ infos_append f (also s ss) us a b is is' =
     }
 
 pub AreParts-append : (size : Sizes) (ss us : Shapes) → AreParts size (append ss us) → AreParts size ss × AreParts size us
-unfolding IsPart
 AreParts-append size none us h = (tt, h)
 AreParts-append size (also s ss) us h = let rest = AreParts-append size ss us h.1 in ((h.0, rest.0), rest.1)
 
 pub AreParts-join : (size : Sizes) (ss us : Shapes) → AreParts size ss → AreParts size us → AreParts size (append ss us)
-unfolding IsPart
 AreParts-join size none us h k = k
 AreParts-join size (also s ss) us h k = (h.0, AreParts-join size ss us h.1 k)
 
@@ -118,7 +117,6 @@ AreParts-join size (also s ss) us h k = (h.0, AreParts-join size ss us h.1 k)
 module _ (s : Sort) where
   -- the children of a kind are in range
   pub form_has_parts : (size : Sizes) (k : Form (Label ℕ)) → HasParts size (form_shape s k) → AreParts size (parts_shapes (form_parts k))
-  unfolding IsPart
   form_has_parts size (param i name) h = tt
   form_has_parts size (bound d e) h = tt
   form_has_parts size (plain l p) h = h.1
@@ -126,7 +124,6 @@ module _ (s : Sort) where
 
   -- the binder's list is in range
   pub form_has_vars : (size : Sizes) (k : Form (Label ℕ)) (vars : BoundVarKinds) → form_binder k ≡ Some vars → HasParts size (form_shape s k) → vars.number < size VarLists
-  unfolding IsPart
   form_has_vars size (param i name) vars e h = cc
   form_has_vars size (bound d e') vars e h = cc
   form_has_vars size (plain l p) vars e h = cc
@@ -183,14 +180,12 @@ module _ (s : Sort) where
 -- A kind is in range where its names, its children and its binder's list are.
 module _ (size : Sizes) (s : Sort) where
   pub form_in_range : (k : Form (Label ℕ)) → IsNamedForm size k → AreParts size (parts_shapes (form_parts k)) → IsBinderIn size (form_binder k) → HasParts size (form_shape s k)
-  unfolding IsPart
   form_in_range (param i name) n p b = n
   form_in_range (bound d e) n p b = n
   form_in_range (plain l ps) n p b = (n, p)
   form_in_range (under l vars m ps) n p b = (n.0, ((b, (refl, n.1, p)), tt))
 
   pub form_of_range : (k : Form (Label ℕ)) → HasParts size (form_shape s k) → IsNamedForm size k × AreParts size (parts_shapes (form_parts k)) × IsBinderIn size (form_binder k)
-  unfolding IsPart
   form_of_range (param i name) h = (h, tt, tt)
   form_of_range (bound d e) h = (h, tt, tt)
   form_of_range (plain l ps) h = (h.0, h.1, tt)
@@ -216,7 +211,6 @@ joined_all info whole is = let o = is.outer in record { flags = sym (or_zero_r i
 
 -- the next part of a list
 pub parts_at : {T : Type 0} (shape : T → Shape) (size : Sizes) (xs : List T) (i : ℕ) (d : T) → i < length xs → AreParts size (item_shapes shape xs) → IsPart size (shape (get_or xs i d))
-unfolding IsPart
 parts_at shape size [] i d h parts = absurd (omega arith)
 parts_at shape size (x ∷ xs) zero d h parts = parts.0
 parts_at shape size (x ∷ xs) (suc i) d h parts = parts_at shape size xs i d (omega arith) parts.1

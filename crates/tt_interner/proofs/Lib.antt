@@ -11,6 +11,8 @@ pub mod StoresLemmas
 pub mod InfoLemmas
 pub mod TableLemmas
 pub mod PutLemmas
+pub mod TakeBackLemmas
+pub mod ExistentialLemmas
 pub mod DeclarationLemmas
 pub mod Keys
 pub mod NodeLemmas

@@ -54,8 +54,6 @@ age_within (r ∷ rows) t n h = ⊎_elim
 -- where handles in range came before so many rows, parts did
 module _ (rows : List Row) (size : Sizes) (a : ℕ) (before : (t : Table) (n : ℕ) → n < size t → age rows t n < a) where
   mutual
-    unfolding IsPart
-
     IsOlder-all : (s : Shape) → IsPart size s → IsOlder rows a s
     IsOlder-all (param s i name) p = tt
     IsOlder-all (bound s d e) p = tt
@@ -81,8 +79,6 @@ module _ (rows : List Row) (size : Sizes) (a : ℕ) (before : (t : Table) (n : �
 -- where handles in range keep their ages, parts that came before still did
 module _ (rows rows' : List Row) (size : Sizes) (same : (t : Table) (n : ℕ) → n < size t → age rows' t n ≡ age rows t n) (a : ℕ) where
   mutual
-    unfolding IsPart
-
     pub IsOlder-keeps : (s : Shape) → IsPart size s → IsOlder rows a s → IsOlder rows' a s
     IsOlder-keeps (param s i name) p h = tt
     IsOlder-keeps (bound s d e) p h = tt
@@ -400,7 +396,6 @@ same-sort j k h = by_table j ∙ ap sort_of_table h ∙ sym (by_table k)
 
 -- a form with other children in range is in range
 pub refilled_parts : (size : Sizes) (s : Sort) (q : Parts) (f : Form (Label ℕ)) → HasParts size (form_shape s f) → AreParts size (parts_shapes q) → HasParts size (form_shape s (refilled q f))
-unfolding AreParts
 refilled_parts size s q (Kinds.param i name) h p = h
 refilled_parts size s q (Kinds.bound d e) h p = h
 refilled_parts size s q (Kinds.plain l r) h p = (h.0, p)

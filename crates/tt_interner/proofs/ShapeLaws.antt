@@ -35,7 +35,7 @@ use Rattle.tt_kinds.specs.declared.existential.ExistentialPredicate.{Existential
 use Rattle.tt_kinds.specs.declared.existential.ExistentialPredicate.TheVariants as existential
 use Rattle.tt_kinds.specs.declared.table.Table.{Table}
 use Rattle.tt_kinds.specs.declared.table.Table.TheVariants.{Types, Consts, TypeLists, ConstLists, PatternLists, ExistentialLists, AssumptionLists, VarLists, Symbols}
-use Rattle.tt_kinds.specs.Label.{Sort, type_sort, const_sort, RegionName, anonymous, printed, named, environment, VarKind, region_variable, type_variable, const_variable, FreeRegion, static_region, erased_region, region_var, error_region, late_param_region, placeholder_region, TypeLabel, bool_type, char_type, int_type, uint_type, float_type, str_type, never_type, placeholder_type, infer_type, error_type, ref_type, raw_ptr_type, slice_type, tuple_type, fn_ptr_type, foreign_type, adt_type, array_type, pat_type, unsafe_binder_type, dynamic_type, closure_type, coroutine_closure_type, coroutine_type, coroutine_witness_type, alias_type, ConstLabel, infer_const, placeholder_const, unevaluated_const, leaf_const, branch_const, error_const, expr_const, PatternLabel, range_pattern, or_pattern, not_null_pattern, RecordLabel, trait_record, host_effect_record, region_outlives_record, type_outlives_record, projection_record, const_has_type_record, well_formed_record, const_evaluatable_record, unstable_feature_record, dyn_compatible_record, subtype_record, coerce_record, const_equate_record, ambiguous_record, normalizes_to_record, alias_relate_record, existential_trait_record, existential_projection_record, auto_trait_record, Label, type_label, const_label, pattern_label, predicate_label, existential_label, clause_list_label, list_label, var_list_label, text_label, declaration_label, record_label, error_label, label_table}
+use Rattle.tt_kinds.specs.Label.{Sort, type_sort, const_sort, RegionName, anonymous, printed, named, environment, VarKind, region_variable, type_variable, const_variable, FreeRegion, static_region, erased_region, region_var, error_region, late_param_region, placeholder_region, TypeLabel, bool_type, char_type, int_type, uint_type, float_type, str_type, never_type, placeholder_type, infer_type, error_type, ref_type, raw_ptr_type, slice_type, tuple_type, fn_ptr_type, foreign_type, adt_type, array_type, pat_type, unsafe_binder_type, dynamic_type, closure_type, coroutine_closure_type, coroutine_type, coroutine_witness_type, alias_type, ConstLabel, infer_const, placeholder_const, unevaluated_const, leaf_const, branch_const, error_const, expr_const, PatternLabel, range_pattern, or_pattern, not_null_pattern, RecordLabel, trait_record, host_effect_record, region_outlives_record, type_outlives_record, projection_record, const_has_type_record, well_formed_record, const_evaluatable_record, unstable_feature_record, dyn_compatible_record, subtype_record, coerce_record, const_equate_record, ambiguous_record, normalizes_to_record, alias_relate_record, existential_trait_record, existential_projection_record, auto_trait_record, Label, type_label, const_label, pattern_label, predicate_label, existential_label, clause_list_label, list_label, var_list_label, text_label, declaration_label, record_label, error_label, clause_label, label_table}
 use Rattle.tt_kinds.specs.Tree as tree
 use Rattle.tt_kinds.specs.Tree.{Depth, at, canonical}
 use Rattle.tt_kinds.specs.Bound.{depth, region_name, var_kind}
@@ -222,6 +222,7 @@ label_from (text_label bytes) ss = text_row bytes
 label_from (declaration_label i k n) ss = declared_row i (record { kind = k; name = record { number = n } })
 label_from (record_label l) ss = text_row []
 label_from (error_label e) ss = text_row []
+label_from clause_label ss = text_row []
 
 abbrev param_from : Sort → ℕ → ℕ → Row
 param_from const_sort i name = const_row (const.Param (record { index = i; name = record { number = name } }))

@@ -7,7 +7,7 @@ use Rattle.tt_kinds.specs.Shape.{fill, IsTooDeep}
 use Rattle.tt_interner.specs.Rows.{Row, row_table, row_shape, table, size, meaning, IsNew, AreRows, Grows}
 use Rattle.tt_interner.specs.Stored.{Terms, IsAt, IsCause, Stores, Adds, Puts, Builds}
 use Rattle.tt_interner.proofs.RowLaws.{row-new, meaning-new}
-use Rattle.tt_interner.proofs.Growth.{Grows-refl}
+use Rattle.tt_interner.proofs.Growth.{Grows-more, Grows-refl}
 use Rattle.tt_interner.proofs.Trees.{Means-row, IsNew-row, distinct}
 
 module _ (rows : List Row) (r : Row) where
@@ -38,7 +38,7 @@ pub in_range : (rows : List Row) (r : Row) (n : ℕ) → IsAt rows r n → n < s
 in_range rows r n at = slice_get_within (table (row_table r) rows) n r at
 
 pub Grows-row : (r : Row) (rows : List Row) → Grows rows (r ∷ rows)
-Grows-row r rows = record { more = r ∷ []; kept = refl }
+Grows-row r rows = Grows-more (r ∷ []) refl
 
 -- whether the row was added or refused
 pub Grows-add : {H : Type 0} (result : Result H Refusal) (r : Row) (old new : Terms) → IfOk result (λ h. new.rows ≡ r ∷ old.rows) → OnErr result (new ≡ old) → Grows old.rows new.rows

@@ -80,7 +80,7 @@ entries_of-push AssumptionLists e ts = refl
 entries_of-push Symbols e ts = refl
 entries_of-push Declarations e ts = refl
 
-entries_of-other : (t u : Table) (e : Entry) (ts : Tables) → (t ≡ u → ⊥) → entries_of (push t e ts) u ≡ entries_of ts u
+pub entries_of-other : (t u : Table) (e : Entry) (ts : Tables) → (t ≡ u → ⊥) → entries_of (push t e ts) u ≡ entries_of ts u
 entries_of-other Types Types e ts apart = absurd (apart refl)
 entries_of-other Consts Consts e ts apart = absurd (apart refl)
 entries_of-other Patterns Patterns e ts apart = absurd (apart refl)
@@ -130,24 +130,24 @@ AreInfos-own r rows infos info more is are = record {
 }
 
 -- how many rows a table has, once the row r came
-size_own : (r : Row) (rows : List Row) → size (r ∷ rows) (row_table r) ≡ size rows (row_table r) + 1
+pub size_own : (r : Row) (rows : List Row) → size (r ∷ rows) (row_table r) ≡ size rows (row_table r) + 1
 size_own r rows = ap length (table-new r rows) ∙ length_push (table (row_table r) rows) r
 
-apart : (t : Table) (r : Row) → is_in t r ≡ false → row_table r ≡ t → ⊥
+pub apart : (t : Table) (r : Row) → is_in t r ≡ false → row_table r ≡ t → ⊥
 apart t r is same = false≢true (sym is ∙ sym (ap (λ u. is_in u r) same) ∙ is_in_own r)
 
 -- in each table: the row's own or another
-by_table : (r : Row) (P : Table → Type 0) → P (row_table r) → ((t : Table) → is_in t r ≡ false → P t) → (t : Table) → P t
+pub by_table : (r : Row) (P : Table → Type 0) → P (row_table r) → ((t : Table) → is_in t r ≡ false → P t) → (t : Table) → P t
 by_table r P own other t = by (is_in t r) refl
   where
     by : (b : Bool) → is_in t r ≡ b → P t
     by true is = subst P (in_table t r is) own
     by false is = other t is
 
-rows_of-push : (t : Table) (e : Entry) (ts : Tables) → rows_of (push t e ts) t ≡ rows_of ts t ++ e.row ∷ []
+pub rows_of-push : (t : Table) (e : Entry) (ts : Tables) → rows_of (push t e ts) t ≡ rows_of ts t ++ e.row ∷ []
 rows_of-push t e ts = ap (map (λ (x : Entry). x.row)) (entries_of-push t e ts) ∙ map-append (λ (x : Entry). x.row) (entries_of ts t) (e ∷ [])
 
-infos_of-push : (t : Table) (e : Entry) (ts : Tables) → infos_of (push t e ts) t ≡ infos_of ts t ++ e.info ∷ []
+pub infos_of-push : (t : Table) (e : Entry) (ts : Tables) → infos_of (push t e ts) t ≡ infos_of ts t ++ e.info ∷ []
 infos_of-push t e ts = ap (map (λ (x : Entry). x.info)) (entries_of-push t e ts) ∙ map-append (λ (x : Entry). x.info) (entries_of ts t) (e ∷ [])
 
 -- the tables with a new entry
@@ -383,7 +383,7 @@ unfolding rows_in_order merged
 rows_first = refl
 
 AreTables-first : (limit : ℕ) → 0 < limit → limit ≤ 4294967040 → AreTables first_rows first_tables limit
-unfolding table IsPart IsNew
+unfolding table IsNew
 AreTables-first limit some small =
     let before = AreTables-none limit small in
     let tys = AreTables-push [] no_tables limit (first_of (tys_row [])) before (tt, tt) (λ d. d) tt tt some

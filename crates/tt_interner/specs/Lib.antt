@@ -11,3 +11,4 @@ pub mod Nodes
 pub mod Declarations
 pub mod Collect
 pub mod Views
+pub mod Existentials

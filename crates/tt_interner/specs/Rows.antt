@@ -1,5 +1,5 @@
 -- The rows of an interner, newest first, and what its handles mean.
-use Rattle.std.specs.Prelude.{◌≢◌, ◌≡◌, ℕ, ◌==◌, ◌<◌, Bool, ◌&&◌, List, [], ◌∷◌, ◌++◌, length, ⊤, if◌then◌else◌, IsTrue}
+use Rattle.std.specs.Prelude.{◌≢◌, ◌≡◌, ℕ, ◌==◌, ◌<◌, ◌≤◌, Bool, ◌&&◌, List, [], ◌∷◌, ◌++◌, length, ⊤, if◌then◌else◌, IsTrue}
 use Rattle.tt_kinds.specs.Tree as tree
 use Rattle.tt_kinds.specs.Label.{text_label}
 use Rattle.tt_kinds.specs.Shape.{Shape, Shapes, param, bound, region, term, node, binder, stored, none, also, Meaning, fill, Sizes, HasParts, IsTooDeep}
@@ -171,7 +171,8 @@ abbrev mutual
   AreOlder rows a none = ⊤
   AreOlder rows a (also s ss) = IsOlder rows a s × AreOlder rows a ss
 
--- the new rows are the old ones, and perhaps more
+-- the new rows are the old ones, and perhaps more: so each handle in range stays in range
 pub record Grows (old new : List Row) : Type 0 where
   pub more : List Row
   pub kept : new ≡ more ++ old
+  pub in_range : (t : Table) → size old t ≤ size new t

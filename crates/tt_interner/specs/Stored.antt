@@ -135,12 +135,12 @@ IsUnbuilt terms u _ = ⊥
 abbrev pub children_tree : List Row → ListSort → List Child → Tree Depth
 children_tree rows sort items = items_tree sort (fill_all (meaning rows) (children_shapes items))
 
--- how many children of a list are collected without memory
+-- how many items of a list are collected without memory
 abbrev pub most_in_place : ℕ
 most_in_place = 8
 
--- there are more children than that, and the memory for them was refused
-abbrev pub LacksItems : Result StoredList Refusal → List Child → Type 0
+-- there are more items than that, and the memory for them was refused
+abbrev pub LacksItems : {H A : Type 0} → Result H Refusal → List A → Type 0
 LacksItems result items = (most_in_place < length items) × (result ≡ Err Memory)
 
 -- the result is the list of these children, which is added if it is new

@@ -18,7 +18,7 @@ use tt_kinds::{
     Predicate, Ty,
 };
 
-/// The item at this place.
+/// Returns the item at this place.
 pub(crate) fn item_at<T: Copy>(items: &[T], index: usize) -> T
     requires { index < length items.now }
     ensures { slice_get items.now index ≡ Some result }
@@ -26,7 +26,7 @@ pub(crate) fn item_at<T: Copy>(items: &[T], index: usize) -> T
     items[index]
 }
 
-/// The argument, as a child.
+/// Returns the argument, as a child.
 pub(crate) fn arg_child(arg: GenericArg) -> Child
     ensures { result ≡ arg_child arg }
 {
@@ -37,7 +37,7 @@ pub(crate) fn arg_child(arg: GenericArg) -> Child
     }
 }
 
-/// The clause, as a child.
+/// Returns the clause, as a child.
 pub(crate) fn clause_child(clause: Clause) -> Child
     ensures { result ≡ clause_child clause }
 {
@@ -50,26 +50,26 @@ pub(crate) trait ListItem: Copy + Drop {
 
     ghost as_child: { Self → Child };
 
-    /// The item that stands as this child.
+    /// Returns the item that stands as this child.
     fn from_child(child: &Child) -> Self
         requires { IsItem sort (child_sort child.now) }
         ensures { as_child result ≡ child.now };
 }
 
-// So many items of a list are collected without memory.
-const MOST_IN_PLACE: usize = 8;
+/// So many items of a list are collected without memory.
+pub(crate) const MOST_IN_PLACE: usize = 8;
 
 /// What a list of one sort holds, with the calls that store it.
 pub(crate) trait StoredItem: ListItem {
-    /// The stored list of the items that stand as these children, which are collected in place: what is there is found
-    /// without memory.
+    /// Returns the stored list of the items that stand as these children, which are collected in place: what is there
+    /// is found without memory.
     fn store_few(cx: &mut Interner, children: &[Child]) -> Result<List, Refusal>
         requires parts { AreParts (size cx.old.rows) (children_shapes children.now) }
         requires fit { All (λ c. IsItem Self.sort (child_sort c)) children.now }
         requires few { length children.now ≤ most_in_place }
         ensures { StoresList result cx.old cx.new Self.sort children.now };
 
-    /// The stored list of these items, which are kept as the list's. They have to be of the interner.
+    /// Returns the stored list of these items, which are kept as the list's. They have to be of the interner.
     fn store(cx: &mut Interner, items: Vec<Self>) -> Result<List, Refusal>
         requires { AreParts (size cx.old.rows) (children_shapes (map Self.as_child items.items)) }
         ensures { StoresList result cx.old cx.new Self.sort (map Self.as_child items.items) };
@@ -371,7 +371,7 @@ fn put_items<T: ListItem>(places: &mut [T], children: &[Child])
     }
 }
 
-/// The items that stand as these children.
+/// Returns the items that stand as these children.
 pub(crate) fn collect<T: ListItem>(alloc: Global, children: &[Child]) -> Result<Vec<T>, AllocError>
     requires { All (λ c. IsItem T.sort (child_sort c)) children.now }
     ensures { IfOk result (λ items. map T.as_child items.items ≡ children.now) }
@@ -383,7 +383,8 @@ pub(crate) fn collect<T: ListItem>(alloc: Global, children: &[Child]) -> Result<
     Ok(items)
 }
 
-/// The stored list of the items that stand as these children. More than a few are kept as the list's, by one look-up.
+/// Returns the stored list of the items that stand as these children. More than a few are kept as the list's, by one
+/// look-up.
 pub(crate) fn store_items<T: StoredItem>(
     cx: &mut Interner,
     children: &[Child],

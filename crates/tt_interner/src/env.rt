@@ -11,7 +11,20 @@ ghost use Rattle.tt_kinds.specs.Reading.{outer_binder};
 ghost use Rattle.tt_kinds.specs.declared.const_kind.ConstKind.TheVariants as const;
 ghost use Rattle.tt_interner.specs.Rows.{const_row, size, meaning};
 ghost use Rattle.tt_interner.specs.Stored.{IsAt};
-ghost use Rattle.tt_interner.specs.Env.{row_at, is_row_of, bound_of_predicate, bound_at, types_of_bound, types_of, env_clauses, clause_types, IsOneType, IsClosedBound, AreClosed, AreBoundsClosed};
+ghost use Rattle.tt_interner.specs.Env.{
+  row_at,
+  is_row_of,
+  bound_of_predicate,
+  bound_at,
+  types_of_bound,
+  types_of,
+  env_clauses,
+  clause_types,
+  IsOneType,
+  IsClosedBound,
+  AreClosed,
+  AreBoundsClosed,
+};
 
 use crate::flags::Flags;
 use crate::interner::Interner;
@@ -34,8 +47,8 @@ pub trait FindConstTy: Sized {
     // The placeholder.
     ghost constant: { Self → Placeholder BoundConst };
 
-    /// The type of the one clause `ConstArgHasType` of the environment that is about this constant. The environment has to
-    /// be of the interner; [`Interner::owns_clauses`] tests its list.
+    /// Returns the type of the one clause `ConstArgHasType` of the environment that is about this constant. The
+    /// environment has to be of the interner; [`Interner::owns_clauses`] tests its list.
     ///
     /// It is refused with `Missing` where there is no such clause, and with `Duplicate` where there are two or more, which
     /// may be equal. The type is given as it stands in the clause, with the clause's binder gone:
@@ -44,7 +57,8 @@ pub trait FindConstTy: Sized {
         requires { env.caller_bounds.number < size cx.now.rows ClauseLists }
         ensures one { IsOneType (clause_types cx.now.rows (constant self) env) result }
         ensures in_range { IfOk result (λ ty. ty.number < size cx.now.rows Types) }
-        ensures closed { AreBoundsClosed cx.now.rows env → IfOk result (λ ty. outer_binder (meaning cx.now.rows Types ty.number) ≡ 0) };
+        ensures closed { AreBoundsClosed cx.now.rows env
+            → IfOk result (λ ty. outer_binder (meaning cx.now.rows Types ty.number) ≡ 0) };
 }
 
 impl FindConstTy for PlaceholderConst {
@@ -61,8 +75,9 @@ pub trait ConstBounds: Sized {
     // The environment.
     ghost as_env: { Self → ParamEnv };
 
-    /// Whether in each clause `ConstArgHasType` no variable escapes the constant or the type, as they stand with the
-    /// clause's binder gone. The environment has to be of the interner; [`Interner::owns_clauses`] tests its list.
+    /// Returns whether in each clause `ConstArgHasType` no variable escapes the constant or the type, as they stand
+    /// with the clause's binder gone. The environment has to be of the interner; [`Interner::owns_clauses`] tests its
+    /// list.
     fn const_bounds_closed(self, cx: &Interner) -> bool
         requires { (as_env self).caller_bounds.number < size cx.now.rows ClauseLists }
         ensures { IsTrue result ↔ AreBoundsClosed cx.now.rows (as_env self) };
@@ -113,7 +128,8 @@ fn bound_of(kind: PredicateKind) -> Option<(Const, Ty)>
 fn bound_at(cx: &Interner, clause: Clause) -> Option<(Const, Ty)>
     requires { clause.number < size cx.now.rows Predicates }
     ensures is { result ≡ bound_at cx.now.rows clause }
-    ensures in_range { IfSome result (λ bound. (bound.0.number < size cx.now.rows Consts) × (bound.1.number < size cx.now.rows Types)) }
+    ensures in_range { IfSome result (λ bound. (bound.0.number < size cx.now.rows Consts)
+        × (bound.1.number < size cx.now.rows Types)) }
 {
     cx.are_rows();
     let predicate = Predicate::from_number(clause.number());
@@ -123,7 +139,9 @@ fn bound_at(cx: &Interner, clause: Clause) -> Option<(Const, Ty)>
 // The type that the clause gives the placeholder, if it gives it one.
 fn type_given(cx: &Interner, placeholder: &PlaceholderConst, clause: Clause) -> Option<Ty>
     requires { clause.number < size cx.now.rows Predicates }
-    ensures given { MatchOption result (types_of_bound cx.now.rows placeholder.now (bound_at cx.now.rows clause) ≡ []) (λ ty. types_of_bound cx.now.rows placeholder.now (bound_at cx.now.rows clause) ≡ ty ∷ []) }
+    ensures given { MatchOption result
+        (types_of_bound cx.now.rows placeholder.now (bound_at cx.now.rows clause) ≡ [])
+        (λ ty. types_of_bound cx.now.rows placeholder.now (bound_at cx.now.rows clause) ≡ ty ∷ []) }
     ensures in_range { IfSome result (λ ty. ty.number < size cx.now.rows Types) }
 {
     match bound_at(cx, clause) {
@@ -161,7 +179,7 @@ fn one_type(
 }
 
 // Whether no variable escapes the constant and the type of the clause, if it gives a constant its type.
-#[tactic(auto, unfolding(tt_kinds::specs::Shape::IsPart, tt_kinds::specs::Shape::fill))]
+#[tactic(auto, unfolding(tt_kinds::specs::Shape::fill))]
 fn is_closed(cx: &Interner, clause: Clause) -> bool
     requires { clause.number < size cx.now.rows Predicates }
     ensures { IsTrue result ↔ IsClosedBound cx.now.rows (bound_at cx.now.rows clause) }

@@ -31,9 +31,10 @@ pub(crate) struct MoreLists {
     pub(crate) assumption_lists: IndexMap<Vec<OutlivesPredicate<GenericArg>>, FlagComputation>,
 }
 
-/// The first of these tables, noted in the order.
+/// Returns the first of these tables, noted in the order.
 pub(crate) fn first_lists(alloc: Global, order: &mut Vec<Table>) -> Result<FirstLists, Refusal>
-    ensures order { OnOk result (order.new.items ≡ order.old.items ++ Table.TypeLists ∷ Table.ArgLists ∷ Table.VarLists ∷ Table.ConstLists ∷ []) }
+    ensures order { OnOk result (order.new.items
+        ≡ order.old.items ++ Table.TypeLists ∷ Table.ArgLists ∷ Table.VarLists ∷ Table.ConstLists ∷ []) }
     ensures types { IfOk result (λ lists. listed_by (λ k. k.items) lists.type_lists.entries ≡ ([], no_info) ∷ []) }
     ensures args { IfOk result (λ lists. listed_by (λ k. k.items) lists.arg_lists.entries ≡ ([], no_info) ∷ []) }
     ensures vars { IfOk result (λ lists. listed_by (λ k. k.items) lists.var_lists.entries ≡ ([], no_info) ∷ []) }
@@ -64,13 +65,18 @@ pub(crate) fn first_lists(alloc: Global, order: &mut Vec<Table>) -> Result<First
     })
 }
 
-/// The other tables, noted in the order.
+/// Returns the other tables, noted in the order.
 pub(crate) fn more_lists(alloc: Global, order: &mut Vec<Table>) -> Result<MoreLists, Refusal>
-    ensures order { OnOk result (order.new.items ≡ order.old.items ++ Table.PatternLists ∷ Table.ClauseLists ∷ Table.ExistentialLists ∷ Table.AssumptionLists ∷ []) }
-    ensures patterns { IfOk result (λ lists. listed_by (λ k. k.items) lists.pattern_lists.entries ≡ ([], no_info) ∷ []) }
+    ensures order { OnOk result (order.new.items
+        ≡ order.old.items
+        ++ Table.PatternLists ∷ Table.ClauseLists ∷ Table.ExistentialLists ∷ Table.AssumptionLists ∷ []) }
+    ensures patterns { IfOk result (λ lists. listed_by (λ k. k.items) lists.pattern_lists.entries
+        ≡ ([], no_info) ∷ []) }
     ensures clauses { IfOk result (λ lists. listed_by (λ k. k.items) lists.clause_lists.entries ≡ ([], no_info) ∷ []) }
-    ensures existentials { IfOk result (λ lists. listed_by (λ k. k.items) lists.existential_lists.entries ≡ ([], no_info) ∷ []) }
-    ensures assumptions { IfOk result (λ lists. listed_by (λ k. k.items) lists.assumption_lists.entries ≡ ([], no_info) ∷ []) }
+    ensures existentials { IfOk result (λ lists. listed_by (λ k. k.items) lists.existential_lists.entries
+        ≡ ([], no_info) ∷ []) }
+    ensures assumptions { IfOk result (λ lists. listed_by (λ k. k.items) lists.assumption_lists.entries
+        ≡ ([], no_info) ∷ []) }
     ensures cause { IfErr result (λ e. e ≡ Refusal.Memory) }
 {
     let pattern_lists = match first_list(alloc, order, Table::PatternLists) {

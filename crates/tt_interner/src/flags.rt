@@ -4,8 +4,36 @@ ghost use Rattle.std.specs.Prelude.{◌≡◌, ◌↔◌, ◌<◌, ℕ, map, IsT
 ghost use Rattle.tt_kinds.specs.Bound.{var_kind};
 ghost use Rattle.tt_kinds.specs.Parts.{node_number, node_table, list_number, list_table};
 ghost use Rattle.tt_kinds.specs.Label.{Sort, type_sort, const_sort, Label, type_label, const_label, list_flags};
-ghost use Rattle.tt_kinds.specs.Shape.{Shape, Meaning, fill, fill_all, item_shapes, stored, IsPart, AreParts, HasParts, IsTooDeep};
-ghost use Rattle.tt_kinds.specs.Kinds.{Form, form_shape, relabelled, ty_form, const_form, kind_form, kind_sort, kind_shape, ty_kind_shape, const_kind_shape, predicate_kind_shape, clauses_row_shape, clause_shape, region_shape, child_shapes, parts_shapes};
+ghost use Rattle.tt_kinds.specs.Shape.{
+  Shape,
+  Meaning,
+  fill,
+  fill_all,
+  item_shapes,
+  stored,
+  IsPart,
+  AreParts,
+  HasParts,
+  IsTooDeep,
+};
+ghost use Rattle.tt_kinds.specs.Kinds.{
+  Form,
+  form_shape,
+  relabelled,
+  ty_form,
+  const_form,
+  kind_form,
+  kind_sort,
+  kind_shape,
+  ty_kind_shape,
+  const_kind_shape,
+  predicate_kind_shape,
+  clauses_row_shape,
+  clause_shape,
+  region_shape,
+  child_shapes,
+  parts_shapes,
+};
 ghost use Rattle.tt_kinds.specs.Reading.{outer_binder};
 ghost use Rattle.tt_kinds.specs.Scan.{scan};
 ghost use Rattle.tt_flags.specs.FlagComputation.{computed};
@@ -30,12 +58,12 @@ pub trait Flags {
     // What the value holds.
     ghost flags_shape: { Self → Shape };
 
-    /// The flags of the term.
+    /// Returns the flags of the term.
     fn flags(&self, cx: &Interner) -> TypeFlags
         requires { IsPart (size cx.now.rows) (flags_shape self.now) }
         ensures { result.bits ≡ scan (fill (meaning cx.now.rows) (flags_shape self.now)) };
 
-    /// The least index above those of all bound variables that escape the term, and 0 where none does.
+    /// Returns the least index above those of all bound variables that escape the term, and 0 where none does.
     fn outer_exclusive_binder(&self, cx: &Interner) -> DebruijnIndex
         requires { IsPart (size cx.now.rows) (flags_shape self.now) }
         ensures { result ≡ outer_binder (fill (meaning cx.now.rows) (flags_shape self.now)) };
@@ -46,12 +74,12 @@ impl Flags for Ty {
 
     ghost flags_shape = { ty_shape };
 
-    #[tactic(auto, unfolding(tt_kinds::specs::Shape::IsPart, tt_kinds::specs::Shape::fill))]
+    #[tactic(auto, unfolding(tt_kinds::specs::Shape::fill))]
     fn flags(&self, cx: &Interner) -> TypeFlags {
         cx.ty_info(*self).flags
     }
 
-    #[tactic(auto, unfolding(tt_kinds::specs::Shape::IsPart, tt_kinds::specs::Shape::fill))]
+    #[tactic(auto, unfolding(tt_kinds::specs::Shape::fill))]
     fn outer_exclusive_binder(&self, cx: &Interner) -> DebruijnIndex {
         cx.ty_info(*self).outer_exclusive_binder
     }
@@ -62,12 +90,12 @@ impl Flags for Const {
 
     ghost flags_shape = { const_shape };
 
-    #[tactic(auto, unfolding(tt_kinds::specs::Shape::IsPart, tt_kinds::specs::Shape::fill))]
+    #[tactic(auto, unfolding(tt_kinds::specs::Shape::fill))]
     fn flags(&self, cx: &Interner) -> TypeFlags {
         cx.const_info(*self).flags
     }
 
-    #[tactic(auto, unfolding(tt_kinds::specs::Shape::IsPart, tt_kinds::specs::Shape::fill))]
+    #[tactic(auto, unfolding(tt_kinds::specs::Shape::fill))]
     fn outer_exclusive_binder(&self, cx: &Interner) -> DebruijnIndex {
         cx.const_info(*self).outer_exclusive_binder
     }
@@ -78,12 +106,12 @@ impl Flags for Pat {
 
     ghost flags_shape = { pat_shape };
 
-    #[tactic(auto, unfolding(tt_kinds::specs::Shape::IsPart, tt_kinds::specs::Shape::fill))]
+    #[tactic(auto, unfolding(tt_kinds::specs::Shape::fill))]
     fn flags(&self, cx: &Interner) -> TypeFlags {
         cx.pat_info(*self).flags
     }
 
-    #[tactic(auto, unfolding(tt_kinds::specs::Shape::IsPart, tt_kinds::specs::Shape::fill))]
+    #[tactic(auto, unfolding(tt_kinds::specs::Shape::fill))]
     fn outer_exclusive_binder(&self, cx: &Interner) -> DebruijnIndex {
         cx.pat_info(*self).outer_exclusive_binder
     }
@@ -94,12 +122,12 @@ impl Flags for Predicate {
 
     ghost flags_shape = { predicate_shape };
 
-    #[tactic(auto, unfolding(tt_kinds::specs::Shape::IsPart, tt_kinds::specs::Shape::fill))]
+    #[tactic(auto, unfolding(tt_kinds::specs::Shape::fill))]
     fn flags(&self, cx: &Interner) -> TypeFlags {
         cx.predicate_info(*self).flags
     }
 
-    #[tactic(auto, unfolding(tt_kinds::specs::Shape::IsPart, tt_kinds::specs::Shape::fill))]
+    #[tactic(auto, unfolding(tt_kinds::specs::Shape::fill))]
     fn outer_exclusive_binder(&self, cx: &Interner) -> DebruijnIndex {
         cx.predicate_info(*self).outer_exclusive_binder
     }
@@ -110,13 +138,13 @@ impl Flags for Clause {
 
     ghost flags_shape = { clause_shape };
 
-    #[tactic(auto, unfolding(tt_kinds::specs::Shape::IsPart, tt_kinds::specs::Shape::fill))]
+    #[tactic(auto, unfolding(tt_kinds::specs::Shape::fill))]
     fn flags(&self, cx: &Interner) -> TypeFlags {
         cx.predicate_info(Predicate::from_number(self.number()))
             .flags
     }
 
-    #[tactic(auto, unfolding(tt_kinds::specs::Shape::IsPart, tt_kinds::specs::Shape::fill))]
+    #[tactic(auto, unfolding(tt_kinds::specs::Shape::fill))]
     fn outer_exclusive_binder(&self, cx: &Interner) -> DebruijnIndex {
         cx.predicate_info(Predicate::from_number(self.number()))
             .outer_exclusive_binder
@@ -128,12 +156,12 @@ impl Flags for PolyExistentialPredicate {
 
     ghost flags_shape = { existential_shape };
 
-    #[tactic(auto, unfolding(tt_kinds::specs::Shape::IsPart, tt_kinds::specs::Shape::fill))]
+    #[tactic(auto, unfolding(tt_kinds::specs::Shape::fill))]
     fn flags(&self, cx: &Interner) -> TypeFlags {
         cx.existential_info(*self).flags
     }
 
-    #[tactic(auto, unfolding(tt_kinds::specs::Shape::IsPart, tt_kinds::specs::Shape::fill))]
+    #[tactic(auto, unfolding(tt_kinds::specs::Shape::fill))]
     fn outer_exclusive_binder(&self, cx: &Interner) -> DebruijnIndex {
         cx.existential_info(*self).outer_exclusive_binder
     }
@@ -144,12 +172,12 @@ impl Flags for Clauses {
 
     ghost flags_shape = { clauses_shape };
 
-    #[tactic(auto, unfolding(tt_kinds::specs::Shape::IsPart, tt_kinds::specs::Shape::fill))]
+    #[tactic(auto, unfolding(tt_kinds::specs::Shape::fill))]
     fn flags(&self, cx: &Interner) -> TypeFlags {
         cx.clauses_info(*self).flags
     }
 
-    #[tactic(auto, unfolding(tt_kinds::specs::Shape::IsPart, tt_kinds::specs::Shape::fill))]
+    #[tactic(auto, unfolding(tt_kinds::specs::Shape::fill))]
     fn outer_exclusive_binder(&self, cx: &Interner) -> DebruijnIndex {
         cx.clauses_info(*self).outer_exclusive_binder
     }
@@ -160,12 +188,12 @@ impl Flags for Consts {
 
     ghost flags_shape = { consts_shape };
 
-    #[tactic(auto, unfolding(tt_kinds::specs::Shape::IsPart, tt_kinds::specs::Shape::fill))]
+    #[tactic(auto, unfolding(tt_kinds::specs::Shape::fill))]
     fn flags(&self, cx: &Interner) -> TypeFlags {
         cx.consts_info(*self).flags
     }
 
-    #[tactic(auto, unfolding(tt_kinds::specs::Shape::IsPart, tt_kinds::specs::Shape::fill))]
+    #[tactic(auto, unfolding(tt_kinds::specs::Shape::fill))]
     fn outer_exclusive_binder(&self, cx: &Interner) -> DebruijnIndex {
         cx.consts_info(*self).outer_exclusive_binder
     }
@@ -176,12 +204,12 @@ impl Flags for PatList {
 
     ghost flags_shape = { pats_shape };
 
-    #[tactic(auto, unfolding(tt_kinds::specs::Shape::IsPart, tt_kinds::specs::Shape::fill))]
+    #[tactic(auto, unfolding(tt_kinds::specs::Shape::fill))]
     fn flags(&self, cx: &Interner) -> TypeFlags {
         cx.pat_list_info(*self).flags
     }
 
-    #[tactic(auto, unfolding(tt_kinds::specs::Shape::IsPart, tt_kinds::specs::Shape::fill))]
+    #[tactic(auto, unfolding(tt_kinds::specs::Shape::fill))]
     fn outer_exclusive_binder(&self, cx: &Interner) -> DebruijnIndex {
         cx.pat_list_info(*self).outer_exclusive_binder
     }
@@ -192,12 +220,12 @@ impl Flags for BoundExistentialPredicates {
 
     ghost flags_shape = { existentials_shape };
 
-    #[tactic(auto, unfolding(tt_kinds::specs::Shape::IsPart, tt_kinds::specs::Shape::fill))]
+    #[tactic(auto, unfolding(tt_kinds::specs::Shape::fill))]
     fn flags(&self, cx: &Interner) -> TypeFlags {
         cx.existentials_info(*self).flags
     }
 
-    #[tactic(auto, unfolding(tt_kinds::specs::Shape::IsPart, tt_kinds::specs::Shape::fill))]
+    #[tactic(auto, unfolding(tt_kinds::specs::Shape::fill))]
     fn outer_exclusive_binder(&self, cx: &Interner) -> DebruijnIndex {
         cx.existentials_info(*self).outer_exclusive_binder
     }
@@ -208,12 +236,12 @@ impl Flags for RegionAssumptions {
 
     ghost flags_shape = { assumptions_shape };
 
-    #[tactic(auto, unfolding(tt_kinds::specs::Shape::IsPart, tt_kinds::specs::Shape::fill))]
+    #[tactic(auto, unfolding(tt_kinds::specs::Shape::fill))]
     fn flags(&self, cx: &Interner) -> TypeFlags {
         cx.assumptions_info(*self).flags
     }
 
-    #[tactic(auto, unfolding(tt_kinds::specs::Shape::IsPart, tt_kinds::specs::Shape::fill))]
+    #[tactic(auto, unfolding(tt_kinds::specs::Shape::fill))]
     fn outer_exclusive_binder(&self, cx: &Interner) -> DebruijnIndex {
         cx.assumptions_info(*self).outer_exclusive_binder
     }
@@ -224,12 +252,12 @@ impl Flags for Tys {
 
     ghost flags_shape = { tys_shape };
 
-    #[tactic(auto, unfolding(tt_kinds::specs::Shape::IsPart, tt_kinds::specs::Shape::fill))]
+    #[tactic(auto, unfolding(tt_kinds::specs::Shape::fill))]
     fn flags(&self, cx: &Interner) -> TypeFlags {
         cx.tys_info(*self).flags
     }
 
-    #[tactic(auto, unfolding(tt_kinds::specs::Shape::IsPart, tt_kinds::specs::Shape::fill))]
+    #[tactic(auto, unfolding(tt_kinds::specs::Shape::fill))]
     fn outer_exclusive_binder(&self, cx: &Interner) -> DebruijnIndex {
         cx.tys_info(*self).outer_exclusive_binder
     }
@@ -240,12 +268,12 @@ impl Flags for GenericArgs {
 
     ghost flags_shape = { args_shape };
 
-    #[tactic(auto, unfolding(tt_kinds::specs::Shape::IsPart, tt_kinds::specs::Shape::fill))]
+    #[tactic(auto, unfolding(tt_kinds::specs::Shape::fill))]
     fn flags(&self, cx: &Interner) -> TypeFlags {
         cx.args_info(*self).flags
     }
 
-    #[tactic(auto, unfolding(tt_kinds::specs::Shape::IsPart, tt_kinds::specs::Shape::fill))]
+    #[tactic(auto, unfolding(tt_kinds::specs::Shape::fill))]
     fn outer_exclusive_binder(&self, cx: &Interner) -> DebruijnIndex {
         cx.args_info(*self).outer_exclusive_binder
     }
@@ -256,12 +284,12 @@ impl Flags for BoundVarKinds {
 
     ghost flags_shape = { λ vars. stored VarLists vars.number };
 
-    #[tactic(auto, unfolding(tt_kinds::specs::Shape::IsPart, tt_kinds::specs::Shape::fill))]
+    #[tactic(auto, unfolding(tt_kinds::specs::Shape::fill))]
     fn flags(&self, cx: &Interner) -> TypeFlags {
         cx.bound_vars_info(*self).flags
     }
 
-    #[tactic(auto, unfolding(tt_kinds::specs::Shape::IsPart, tt_kinds::specs::Shape::fill))]
+    #[tactic(auto, unfolding(tt_kinds::specs::Shape::fill))]
     fn outer_exclusive_binder(&self, cx: &Interner) -> DebruijnIndex {
         cx.bound_vars_info(*self).outer_exclusive_binder
     }
@@ -310,12 +338,12 @@ impl Flags for OutlivesPredicate<GenericArg> {
 
     ghost flags_shape = { assumption_shape };
 
-    #[tactic(auto, unfolding(tt_kinds::specs::Shape::IsPart, tt_kinds::specs::Shape::fill))]
+    #[tactic(auto, unfolding(tt_kinds::specs::Shape::fill))]
     fn flags(&self, cx: &Interner) -> TypeFlags {
         self.0.flags(cx).union(self.1.flags())
     }
 
-    #[tactic(auto, unfolding(tt_kinds::specs::Shape::IsPart, tt_kinds::specs::Shape::fill))]
+    #[tactic(auto, unfolding(tt_kinds::specs::Shape::fill))]
     fn outer_exclusive_binder(&self, cx: &Interner) -> DebruijnIndex {
         let first = self.0.outer_exclusive_binder(cx);
         first.max(self.1.outer_exclusive_binder())
@@ -328,16 +356,16 @@ pub trait OwnFlags {
 
     ghost sort: { Sort };
 
-    /// Whether the kind is a bound variable with the greatest index, of which no term is made.
+    /// Returns whether the kind is a bound variable with the greatest index, of which no term is made.
     fn is_too_deep(&self) -> bool
         ensures { IsTrue result ↔ IsTooDeep (form_shape sort (form self.now)) };
 
-    /// The flags that the kind has beside those of its parts.
+    /// Returns the flags that the kind has beside those of its parts.
     fn own_flags(&self) -> TypeFlags
         ensures { result.bits ≡ own_flags sort (form self.now) };
 
-    /// One more than the index of a bound variable, and 0 for every other kind. [`OwnFlags::is_too_deep`] tests the
-    /// condition.
+    /// Returns one more than the index of a bound variable, and 0 for every other kind. [`OwnFlags::is_too_deep`] tests
+    /// the condition.
     fn own_outer_exclusive_binder(&self) -> DebruijnIndex
         requires { IsTooDeep (form_shape sort (form self.now)) → ⊥ }
         ensures { result ≡ own_reach (form self.now) };
@@ -433,24 +461,25 @@ impl OwnFlags for ConstKind {
 
 /// What is computed of a term that isn't stored yet. What stands in it has to be of the interner.
 pub trait ForKind {
-    /// The flags of a type of this kind, and how far its bound variables reach. [`OwnFlags::is_too_deep`] must not hold.
+    /// Returns the flags of a type of this kind, and how far its bound variables reach. [`OwnFlags::is_too_deep`] must
+    /// not hold.
     fn for_kind(cx: &Interner, kind: &TyKind) -> FlagComputation
         requires parts { HasParts (size cx.now.rows) (ty_kind_shape kind.now) }
         requires shallow { IsTooDeep (ty_kind_shape kind.now) → ⊥ }
         ensures { IsInfo result (fill (meaning cx.now.rows) (ty_kind_shape kind.now)) };
 
-    /// The same of a constant of this kind. [`OwnFlags::is_too_deep`] must not hold.
+    /// Returns the same of a constant of this kind. [`OwnFlags::is_too_deep`] must not hold.
     fn for_const_kind(cx: &Interner, kind: &ConstKind) -> FlagComputation
         requires parts { HasParts (size cx.now.rows) (const_kind_shape kind.now) }
         requires shallow { IsTooDeep (const_kind_shape kind.now) → ⊥ }
         ensures { IsInfo result (fill (meaning cx.now.rows) (const_kind_shape kind.now)) };
 
-    /// The same of a predicate under its binder.
+    /// Returns the same of a predicate under its binder.
     fn for_predicate(cx: &Interner, predicate: &Binder<PredicateKind>) -> FlagComputation
         requires { HasParts (size cx.now.rows) (predicate_kind_shape predicate.now) }
         ensures { IsInfo result (fill (meaning cx.now.rows) (predicate_kind_shape predicate.now)) };
 
-    /// The same of a list of clauses.
+    /// Returns the same of a list of clauses.
     fn for_clauses(cx: &Interner, clauses: &[Clause]) -> FlagComputation
         requires { AreParts (size cx.now.rows) (item_shapes clause_shape clauses.now) }
         ensures { IsInfo result (fill (meaning cx.now.rows) (clauses_row_shape clauses.now)) };
@@ -523,7 +552,7 @@ fn region_info(region: Region) -> FlagComputation
 
 // What is computed of a child, and of none nothing.
 #[inline(always)]
-#[tactic(auto, unfolding(tt_kinds::specs::Shape::IsPart, tt_kinds::specs::Shape::fill))]
+#[tactic(auto, unfolding(tt_kinds::specs::Shape::fill))]
 fn child_info(cx: &Interner, child: &Child) -> FlagComputation
     requires { AreParts (size cx.now.rows) (child_shapes child.now) }
     ensures { AreInfosOf result (fill_all (meaning cx.now.rows) (child_shapes child.now)) }

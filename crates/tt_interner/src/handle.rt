@@ -27,7 +27,7 @@ pub trait InternedKind: Sized {
     // The row of a kind.
     ghost row_of: { Self.Kind → Row };
 
-    /// What the term is, in the interner's memory.
+    /// Returns what the term is, in the interner's memory.
     fn kind<'a>(self, cx: &'a Interner) -> &'a Self::Kind
         requires { handle_number self < size cx.now.rows handle_table }
         ensures { IsAt cx.now.rows (row_of result.now) (handle_number self) };
@@ -130,7 +130,7 @@ pub trait InternedList: Sized {
     // The row of a list.
     ghost row_of_items: { List Self.Item → Row };
 
-    /// The items in order, in the interner's memory.
+    /// Returns the items in order, in the interner's memory.
     fn as_slice<'a>(self, cx: &'a Interner) -> &'a [Self::Item]
         requires { list_number self < size cx.now.rows list_table }
         ensures { IsAt cx.now.rows (row_of_items result.now) (list_number self) };
@@ -277,11 +277,11 @@ pub trait AsPredicate: Sized {
     // The number of the handle.
     ghost clause_number: { Self → ℕ };
 
-    /// The predicate that the clause is.
+    /// Returns the predicate that the clause is.
     fn as_predicate(self) -> Predicate
         ensures { result.number ≡ clause_number self };
 
-    /// What the clause is, under its binder.
+    /// Returns what the clause is, under its binder.
     fn kind(self, cx: &Interner) -> Binder<ClauseKind>
         requires { IsClause cx.now.rows (clause_number self) }
         ensures { IsAt cx.now.rows (predicate_row (clause_predicate result)) (clause_number self) };
@@ -304,10 +304,12 @@ pub trait AsClause: Sized {
     // The number of the handle.
     ghost predicate_number: { Self → ℕ };
 
-    /// The clause that the predicate is, and `None` where it is none.
+    /// Returns the clause that the predicate is, and `None` where it is none.
     fn as_clause(self, cx: &Interner) -> Option<Clause>
         requires { predicate_number self < size cx.now.rows Predicates }
-        ensures { MatchOption result (IsClause cx.now.rows (predicate_number self) → ⊥) (λ clause. (clause.number ≡ predicate_number self) × IsClause cx.now.rows clause.number) };
+        ensures { MatchOption result (IsClause cx.now.rows (predicate_number self) → ⊥) (λ clause. (clause.number
+            ≡ predicate_number self)
+            × IsClause cx.now.rows clause.number) };
 }
 
 impl AsClause for Predicate {
@@ -328,7 +330,7 @@ pub trait InternedText: Sized {
     // The number of the handle.
     ghost text_number: { Self → ℕ };
 
-    /// The text, in the interner's memory.
+    /// Returns the text, in the interner's memory.
     fn as_str<'a>(self, cx: &'a Interner) -> &'a str
         requires { text_number self < size cx.now.rows Symbols }
         ensures { IsAt cx.now.rows (text_row result.now) (text_number self) };

@@ -76,7 +76,7 @@ impl Model for Interner {
 }
 
 impl Interner {
-    /// An interner of the empty lists and of the symbol `'_`, with room for as many rows as handles can name.
+    /// Returns an interner of the empty lists and of the symbol `'_`, with room for as many rows as handles can name.
     pub fn new(alloc: Global) -> Result<Interner, Refusal>
         ensures rows { IfOk result (λ cx. cx.rows ≡ first_rows) }
         ensures limit { IfOk result (λ cx. cx.limit ≡ 4294967040) }
@@ -86,8 +86,8 @@ impl Interner {
         Interner::with_limit(alloc, GREATEST_INDEX)
     }
 
-    /// The same, with at most `limit` rows in a table. A limit of 0 is refused with `TableFull`, as there is no room for
-    /// the rows from the start.
+    /// Returns the same, with at most `limit` rows in a table. A limit of 0 is refused with `TableFull`, as there is no
+    /// room for the rows from the start.
     pub fn with_limit(alloc: Global, limit: u32) -> Result<Interner, Refusal>
         ensures rows { IfOk result (λ cx. cx.rows ≡ first_rows) }
         ensures limit { IfOk result (λ cx. cx.limit ≡ min limit 4294967040) }
@@ -150,19 +150,19 @@ impl Interner {
         self.are_rows();
     }
 
-    /// The allocator of the tables.
+    /// Returns the allocator of the tables.
     pub fn allocator(&self) -> Global {
         *self.types.allocator()
     }
 
-    /// How often an argument folder has taken a type apart. The count stays at its greatest number.
+    /// Returns how often an argument folder has taken a type apart. The count stays at its greatest number.
     pub fn descents(&self) -> u64
         ensures { result ≡ self.now.counters.descents }
     {
         self.descents
     }
 
-    /// How often a shifter has taken a type apart. The count stays at its greatest number.
+    /// Returns how often a shifter has taken a type apart. The count stays at its greatest number.
     pub fn shift_descents(&self) -> u64
         ensures { result ≡ self.now.counters.shift_descents }
     {

@@ -1,11 +1,56 @@
 //! Stored terms and lists of all tables, as walks see them: by their kinds, and by their children.
 
-ghost use Rattle.std.specs.Prelude.{◌≡◌, ◌≢◌, ℕ, ◌<◌, ◌≤◌, ◌⊎◌, Ok, Err, IfOk, IfErr, OnOk, OnErr, All, length, slice_get, Some};
+ghost use Rattle.std.specs.Prelude.{
+  ◌≡◌,
+  ◌≢◌,
+  ℕ,
+  ◌<◌,
+  ◌≤◌,
+  ◌⊎◌,
+  Ok,
+  Err,
+  IfOk,
+  IfErr,
+  OnOk,
+  OnErr,
+  All,
+  length,
+  slice_get,
+  Some,
+};
 ghost use Rattle.tt_kinds.specs.Shape.{HasParts, AreParts, fill, fill_all};
-ghost use Rattle.tt_kinds.specs.Parts.{node_table, node_number, list_table, list_number, list_sort, sort_list_table, child_sort, AreLike, IsItem};
-ghost use Rattle.tt_kinds.specs.Kinds.{form_binder, form_parts, kind_form, kind_table, kind_shape, parts_shapes, children_shapes, items_tree};
+ghost use Rattle.tt_kinds.specs.Parts.{
+  node_table,
+  node_number,
+  list_table,
+  list_number,
+  list_sort,
+  sort_list_table,
+  child_sort,
+  AreLike,
+  IsItem,
+};
+ghost use Rattle.tt_kinds.specs.Kinds.{
+  form_binder,
+  form_parts,
+  kind_form,
+  kind_table,
+  kind_shape,
+  parts_shapes,
+  children_shapes,
+  items_tree,
+};
 ghost use Rattle.tt_interner.specs.Rows.{kind_row, size, meaning, age, IsNew, IsOlder, AreOlder};
-ghost use Rattle.tt_interner.specs.Stored.{Builds, Extends, IsAt, IsNoClauseList, IsUnbuilt, LacksItems, Stores, children_tree};
+ghost use Rattle.tt_interner.specs.Stored.{
+  Builds,
+  Extends,
+  IsAt,
+  IsNoClauseList,
+  IsUnbuilt,
+  LacksItems,
+  Stores,
+  children_tree,
+};
 ghost use Rattle.tt_interner.specs.Children.{children_at, items_row};
 ghost use Rattle.tt_interner.specs.Nodes.{stored_kind, BuildsLike};
 
@@ -27,8 +72,8 @@ pub struct Contents {
 }
 
 impl Interner {
-    /// What a stored term is. It has to be of this interner, and no list of clauses, whose items [`Interner::list_child`]
-    /// reads.
+    /// Returns what a stored term is. It has to be of this interner, and no list of clauses, whose items
+    /// [`Interner::list_child`] reads.
     #[inline(always)]
     pub fn node_kind(&self, node: Node) -> Kind
         requires owned { node_number node < size self.now.rows (node_table node) }
@@ -36,8 +81,11 @@ impl Interner {
         ensures table { kind_table result ≡ node_table node }
         ensures kind { result ≡ stored_kind self.now.rows node }
         ensures parts { HasParts (size self.now.rows) (kind_shape result) }
-        ensures means { meaning self.now.rows (node_table node) (node_number node) ≡ fill (meaning self.now.rows) (kind_shape result) }
-        ensures older { IsOlder self.now.rows (age self.now.rows (node_table node) (node_number node)) (kind_shape result) }
+        ensures means { meaning self.now.rows (node_table node) (node_number node)
+            ≡ fill (meaning self.now.rows) (kind_shape result) }
+        ensures older { IsOlder self.now.rows
+            (age self.now.rows (node_table node) (node_number node))
+            (kind_shape result) }
     {
         self.are_rows();
         self.kind_at(node)
@@ -60,7 +108,8 @@ impl Interner {
         }
     }
 
-    /// What stands in a stored term, read in the interner's memory. The term is as [`Interner::node_kind`] wants it.
+    /// Returns what stands in a stored term, read in the interner's memory. The term is as [`Interner::node_kind`]
+    /// wants it.
     #[inline(always)]
     pub fn node_parts(&self, node: Node) -> Contents
         requires owned { node_number node < size self.now.rows (node_table node) }
@@ -69,8 +118,11 @@ impl Interner {
         ensures children { result.parts ≡ form_parts (kind_form (stored_kind self.now.rows node)) }
         ensures table { kind_table (stored_kind self.now.rows node) ≡ node_table node }
         ensures parts { HasParts (size self.now.rows) (kind_shape (stored_kind self.now.rows node)) }
-        ensures means { meaning self.now.rows (node_table node) (node_number node) ≡ fill (meaning self.now.rows) (kind_shape (stored_kind self.now.rows node)) }
-        ensures older { IsOlder self.now.rows (age self.now.rows (node_table node) (node_number node)) (kind_shape (stored_kind self.now.rows node)) }
+        ensures means { meaning self.now.rows (node_table node) (node_number node)
+            ≡ fill (meaning self.now.rows) (kind_shape (stored_kind self.now.rows node)) }
+        ensures older { IsOlder self.now.rows
+            (age self.now.rows (node_table node) (node_number node))
+            (kind_shape (stored_kind self.now.rows node)) }
     {
         self.are_rows();
         self.contents_at(node)
@@ -121,15 +173,20 @@ impl Interner {
         }
     }
 
-    /// How many children a stored list has. It has to be of this interner.
+    /// Returns how many children a stored list has. It has to be of this interner.
     #[inline(always)]
     pub fn list_len(&self, list: List) -> usize
         requires { list_number list < size self.now.rows (list_table list) }
         ensures len { result ≡ length (children_at self.now.rows list) }
-        ensures means { meaning self.now.rows (list_table list) (list_number list) ≡ items_tree (list_sort list) (fill_all (meaning self.now.rows) (children_shapes (children_at self.now.rows list))) }
+        ensures means { meaning self.now.rows (list_table list) (list_number list)
+            ≡ items_tree
+            (list_sort list)
+            (fill_all (meaning self.now.rows) (children_shapes (children_at self.now.rows list))) }
         ensures parts { AreParts (size self.now.rows) (children_shapes (children_at self.now.rows list)) }
         ensures fit { All (λ c. IsItem (list_sort list) (child_sort c)) (children_at self.now.rows list) }
-        ensures older { AreOlder self.now.rows (age self.now.rows (list_table list) (list_number list)) (children_shapes (children_at self.now.rows list)) }
+        ensures older { AreOlder self.now.rows
+            (age self.now.rows (list_table list) (list_number list))
+            (children_shapes (children_at self.now.rows list)) }
     {
         self.are_rows();
         self.count_at(list)
@@ -150,7 +207,8 @@ impl Interner {
         }
     }
 
-    /// The child at this place of a stored list, which [`Interner::list_len`] counts. The list has to be of this interner.
+    /// Returns the child at this place of a stored list, which [`Interner::list_len`] counts. The list has to be of
+    /// this interner.
     #[inline(always)]
     pub fn list_child(&self, list: List, index: usize) -> Child
         requires owned { list_number list < size self.now.rows (list_table list) }
@@ -170,7 +228,8 @@ impl Interner {
         }
     }
 
-    /// The stored term of this kind. What stands in the kind has to be of this interner. Refused as [`Interner::mk_ty`] is.
+    /// Returns the stored term of this kind. What stands in the kind has to be of this interner. Refused as
+    /// [`Interner::mk_ty`] is.
     #[inline(always)]
     pub fn store(&mut self, kind: Kind) -> Result<Node, Refusal>
         requires { HasParts (size self.old.rows) (kind_shape kind) }
@@ -201,9 +260,9 @@ impl Interner {
         }
     }
 
-    /// The stored term like this one, with other children in the places of its own. They have to be of this interner, and of
-    /// the same sorts; [`Parts::are_like`] tests it. The term is as [`Interner::node_kind`] wants it. Refused as
-    /// [`Interner::mk_ty`] is.
+    /// Returns the stored term like this one, with other children in the places of its own. They have to be of this
+    /// interner, and of the same sorts; [`Parts::are_like`] tests it. The term is as [`Interner::node_kind`] wants it.
+    /// Refused as [`Interner::mk_ty`] is.
     #[inline(always)]
     pub fn store_like(&mut self, node: Node, parts: Parts) -> Result<Node, Refusal>
         requires owned { node_number node < size self.old.rows (node_table node) }
@@ -236,21 +295,27 @@ impl Interner {
         self.store(kind)
     }
 
-    /// The stored list of these children. They have to be of this interner, and of the sort that the list holds. Refused as
-    /// [`Interner::mk_tys`] is, and a list of clauses with `NotAClause` where a child is no clause. More than eight
-    /// children are collected in memory before the list is looked up, so `Memory` may also come of a list that is there.
+    /// Returns the stored list of these children. They have to be of this interner, and of the sort that the list
+    /// holds. Refused as [`Interner::mk_tys`] is, and a list of clauses with `NotAClause` where a child is no clause.
+    /// More than eight children are collected in memory before the list is looked up, so `Memory` may also come of a
+    /// list that is there.
     pub fn store_list(&mut self, sort: ListSort, items: &[Child]) -> Result<List, Refusal>
         requires parts { AreParts (size self.old.rows) (children_shapes items.now) }
         requires fit { All (λ c. IsItem sort (child_sort c)) items.now }
         ensures in_range { IfOk result (λ l. list_number l < size self.new.rows (sort_list_table sort)) }
-        ensures means { IfOk result (λ l. meaning self.new.rows (sort_list_table sort) (list_number l) ≡ items_tree sort (fill_all (meaning self.old.rows) (children_shapes items.now))) }
+        ensures means { IfOk result (λ l. meaning self.new.rows (sort_list_table sort) (list_number l)
+            ≡ items_tree sort (fill_all (meaning self.old.rows) (children_shapes items.now))) }
         ensures extends { Extends self.old self.new }
         ensures counters { self.new.counters ≡ self.old.counters }
         ensures err { OnErr result (self.new ≡ self.old) }
-        ensures cause { IfErr result (IsUnbuilt self.old (items_tree sort (fill_all (meaning self.old.rows) (children_shapes items.now)))) }
-        ensures refused { OnOk result (IsNoClauseList (items_tree sort (fill_all (meaning self.old.rows) (children_shapes items.now))) → ⊥) }
+        ensures cause { IfErr result
+            (IsUnbuilt self.old (items_tree sort (fill_all (meaning self.old.rows) (children_shapes items.now)))) }
+        ensures refused { OnOk result
+            (IsNoClauseList (items_tree sort (fill_all (meaning self.old.rows) (children_shapes items.now))) → ⊥) }
         ensures sort { IfOk result (λ l. list_sort l ≡ sort) }
-        ensures stored { IfOk result (λ l. Stores self.old.rows self.new.rows (items_row sort items.now) (list_number l)) }
+        ensures stored { IfOk result (λ l. Stores self.old.rows self.new.rows
+            (items_row sort items.now)
+            (list_number l)) }
         ensures found { (n : ℕ) → IsAt self.old.rows (items_row sort items.now) n
             → (((l : _) × (result ≡ Ok l) × (list_number l ≡ n)) × (self.new ≡ self.old))
             ⊎ LacksItems result items.now }

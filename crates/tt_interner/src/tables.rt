@@ -1,5 +1,22 @@
 //! The tables, and the order in which their entries came.
-ghost use Rattle.std.specs.Prelude.{◌≡◌, ℕ, ◌⊎◌, ◌<◌, ◌≤◌, [], ◌∷◌, ◌++◌, None, Some, IfOk, OnOk, OnErr, IfErr, slice_get, length};
+ghost use Rattle.std.specs.Prelude.{
+  ◌≡◌,
+  ℕ,
+  ◌⊎◌,
+  ◌<◌,
+  ◌≤◌,
+  [],
+  ◌∷◌,
+  ◌++◌,
+  None,
+  Some,
+  IfOk,
+  OnOk,
+  OnErr,
+  IfErr,
+  slice_get,
+  length,
+};
 ghost use Rattle.std.specs.Map.{lookup};
 ghost use Rattle.std.specs.Cmp.Lexicographic.{pointwise};
 ghost use Rattle.std.specs.Str.{bytes_eq};
@@ -29,7 +46,8 @@ pub(crate) fn add<K: Eq + Hash + Drop, V: Drop>(
     ensures number { IfOk result (λ n. (n ≡ length entries.old.entries) × (n < limit)) }
     ensures order_stays { OnErr result (order.new.items ≡ order.old.items) }
     ensures entries_stay { OnErr result (entries.new.entries ≡ entries.old.entries) }
-    ensures cause { IfErr result (λ e. (e ≡ Refusal.Memory) ⊎ ((e ≡ Refusal.TableFull) × (limit ≤ length entries.old.entries))) }
+    ensures cause { IfErr result (λ e. (e ≡ Refusal.Memory)
+        ⊎ ((e ≡ Refusal.TableFull) × (limit ≤ length entries.old.entries))) }
     ensures full { limit ≤ length entries.old.entries → result ≡ Err Refusal.TableFull }
 {
     let number = entries.len();
@@ -62,14 +80,21 @@ pub(crate) fn find_or_insert<K: Eq + Hash + Drop>(
 ) -> Result<u32, Refusal>
     requires few { length entries.old.entries ≤ limit }
     requires same { (there : FlagComputation) → get K.eq entries.old key ≡ Some there → there ≡ info }
-    ensures found { (n : ℕ) → index_of K.eq entries.old key ≡ Some n → (result ≡ Ok n) × (order.new.items ≡ order.old.items) × (entries.new.entries ≡ entries.old.entries) }
-    ensures order { index_of K.eq entries.old key ≡ None → OnOk result (order.new.items ≡ order.old.items ++ table ∷ []) }
-    ensures entries { index_of K.eq entries.old key ≡ None → OnOk result (entries.new.entries ≡ entries.old.entries ++ (key, info) ∷ []) }
-    ensures number { index_of K.eq entries.old key ≡ None → IfOk result (λ n. (n ≡ length entries.old.entries) × (n < limit)) }
+    ensures found { (n : ℕ) → index_of K.eq entries.old key ≡ Some n
+        → (result ≡ Ok n) × (order.new.items ≡ order.old.items) × (entries.new.entries ≡ entries.old.entries) }
+    ensures order { index_of K.eq entries.old key ≡ None
+        → OnOk result (order.new.items ≡ order.old.items ++ table ∷ []) }
+    ensures entries { index_of K.eq entries.old key ≡ None
+        → OnOk result (entries.new.entries ≡ entries.old.entries ++ (key, info) ∷ []) }
+    ensures number { index_of K.eq entries.old key ≡ None
+        → IfOk result (λ n. (n ≡ length entries.old.entries) × (n < limit)) }
     ensures order_stays { OnErr result (order.new.items ≡ order.old.items) }
     ensures entries_stay { OnErr result (entries.new.entries ≡ entries.old.entries) }
-    ensures cause { IfErr result (λ e. (e ≡ Refusal.Memory) ⊎ ((e ≡ Refusal.TableFull) × (limit ≤ length entries.old.entries))) }
-    ensures full { index_of K.eq entries.old key ≡ None → limit ≤ length entries.old.entries → result ≡ Err Refusal.TableFull }
+    ensures cause { IfErr result (λ e. (e ≡ Refusal.Memory)
+        ⊎ ((e ≡ Refusal.TableFull) × (limit ≤ length entries.old.entries))) }
+    ensures full { index_of K.eq entries.old key ≡ None
+        → limit ≤ length entries.old.entries
+        → result ≡ Err Refusal.TableFull }
 {
     if entries.len() >= limit as usize {
         return find_or(entries, &key, Refusal::TableFull);
@@ -110,14 +135,21 @@ pub(crate) fn find_or_add<K: Copy + Eq + Hash + Drop>(
 ) -> Result<u32, Refusal>
     requires few { length entries.old.entries ≤ limit }
     requires same { (there : FlagComputation) → get K.eq entries.old kind.now ≡ Some there → there ≡ info }
-    ensures found { (n : ℕ) → index_of K.eq entries.old kind.now ≡ Some n → (result ≡ Ok n) × (order.new.items ≡ order.old.items) × (entries.new.entries ≡ entries.old.entries) }
-    ensures order { index_of K.eq entries.old kind.now ≡ None → OnOk result (order.new.items ≡ order.old.items ++ table ∷ []) }
-    ensures entries { index_of K.eq entries.old kind.now ≡ None → OnOk result (entries.new.entries ≡ entries.old.entries ++ (kind.now, info) ∷ []) }
-    ensures number { index_of K.eq entries.old kind.now ≡ None → IfOk result (λ n. (n ≡ length entries.old.entries) × (n < limit)) }
+    ensures found { (n : ℕ) → index_of K.eq entries.old kind.now ≡ Some n
+        → (result ≡ Ok n) × (order.new.items ≡ order.old.items) × (entries.new.entries ≡ entries.old.entries) }
+    ensures order { index_of K.eq entries.old kind.now ≡ None
+        → OnOk result (order.new.items ≡ order.old.items ++ table ∷ []) }
+    ensures entries { index_of K.eq entries.old kind.now ≡ None
+        → OnOk result (entries.new.entries ≡ entries.old.entries ++ (kind.now, info) ∷ []) }
+    ensures number { index_of K.eq entries.old kind.now ≡ None
+        → IfOk result (λ n. (n ≡ length entries.old.entries) × (n < limit)) }
     ensures order_stays { OnErr result (order.new.items ≡ order.old.items) }
     ensures entries_stay { OnErr result (entries.new.entries ≡ entries.old.entries) }
-    ensures cause { IfErr result (λ e. (e ≡ Refusal.Memory) ⊎ ((e ≡ Refusal.TableFull) × (limit ≤ length entries.old.entries))) }
-    ensures full { index_of K.eq entries.old kind.now ≡ None → limit ≤ length entries.old.entries → result ≡ Err Refusal.TableFull }
+    ensures cause { IfErr result (λ e. (e ≡ Refusal.Memory)
+        ⊎ ((e ≡ Refusal.TableFull) × (limit ≤ length entries.old.entries))) }
+    ensures full { index_of K.eq entries.old kind.now ≡ None
+        → limit ≤ length entries.old.entries
+        → result ≡ Err Refusal.TableFull }
 {
     find_or_insert(order, limit, table, entries, *kind, info)
 }
@@ -151,11 +183,13 @@ pub(crate) fn add_list<T: Copy + Eq + Hash + Drop>(
 ) -> Result<u32, Refusal>
     requires { lookup (λ k. pointwise T.eq items.now k.items) entries.old.entries ≡ None }
     ensures order { OnOk result (order.new.items ≡ order.old.items ++ table ∷ []) }
-    ensures entries { OnOk result (listed_by (λ k. k.items) entries.new.entries ≡ listed_by (λ k. k.items) entries.old.entries ++ (items.now, info) ∷ []) }
+    ensures entries { OnOk result (listed_by (λ k. k.items) entries.new.entries
+        ≡ listed_by (λ k. k.items) entries.old.entries ++ (items.now, info) ∷ []) }
     ensures number { IfOk result (λ n. (n ≡ length entries.old.entries) × (n < limit)) }
     ensures order_stays { OnErr result (order.new.items ≡ order.old.items) }
     ensures entries_stay { OnErr result (entries.new.entries ≡ entries.old.entries) }
-    ensures cause { IfErr result (λ e. (e ≡ Refusal.Memory) ⊎ ((e ≡ Refusal.TableFull) × (limit ≤ length entries.old.entries))) }
+    ensures cause { IfErr result (λ e. (e ≡ Refusal.Memory)
+        ⊎ ((e ≡ Refusal.TableFull) × (limit ≤ length entries.old.entries))) }
     ensures full { limit ≤ length entries.old.entries → result ≡ Err Refusal.TableFull }
 {
     if entries.len() >= limit as usize {
@@ -177,14 +211,22 @@ pub(crate) fn find_or_add_list<T: Copy + Eq + Hash + Drop>(
     info: FlagComputation,
 ) -> Result<u32, Refusal>
     requires { length entries.old.entries ≤ limit }
-    ensures found { (n : ℕ) → index_of_by (λ k. pointwise T.eq items.now k.items) entries.old ≡ Some n → (result ≡ Ok n) × (order.new.items ≡ order.old.items) × (entries.new.entries ≡ entries.old.entries) }
-    ensures order { index_of_by (λ k. pointwise T.eq items.now k.items) entries.old ≡ None → OnOk result (order.new.items ≡ order.old.items ++ table ∷ []) }
-    ensures entries { index_of_by (λ k. pointwise T.eq items.now k.items) entries.old ≡ None → OnOk result (listed_by (λ k. k.items) entries.new.entries ≡ listed_by (λ k. k.items) entries.old.entries ++ (items.now, info) ∷ []) }
-    ensures number { index_of_by (λ k. pointwise T.eq items.now k.items) entries.old ≡ None → IfOk result (λ n. (n ≡ length entries.old.entries) × (n < limit)) }
+    ensures found { (n : ℕ) → index_of_by (λ k. pointwise T.eq items.now k.items) entries.old ≡ Some n
+        → (result ≡ Ok n) × (order.new.items ≡ order.old.items) × (entries.new.entries ≡ entries.old.entries) }
+    ensures order { index_of_by (λ k. pointwise T.eq items.now k.items) entries.old ≡ None
+        → OnOk result (order.new.items ≡ order.old.items ++ table ∷ []) }
+    ensures entries { index_of_by (λ k. pointwise T.eq items.now k.items) entries.old ≡ None
+        → OnOk result (listed_by (λ k. k.items) entries.new.entries
+        ≡ listed_by (λ k. k.items) entries.old.entries ++ (items.now, info) ∷ []) }
+    ensures number { index_of_by (λ k. pointwise T.eq items.now k.items) entries.old ≡ None
+        → IfOk result (λ n. (n ≡ length entries.old.entries) × (n < limit)) }
     ensures order_stays { OnErr result (order.new.items ≡ order.old.items) }
     ensures entries_stay { OnErr result (entries.new.entries ≡ entries.old.entries) }
-    ensures cause { IfErr result (λ e. (e ≡ Refusal.Memory) ⊎ ((e ≡ Refusal.TableFull) × (limit ≤ length entries.old.entries))) }
-    ensures full { index_of_by (λ k. pointwise T.eq items.now k.items) entries.old ≡ None → limit ≤ length entries.old.entries → result ≡ Err Refusal.TableFull }
+    ensures cause { IfErr result (λ e. (e ≡ Refusal.Memory)
+        ⊎ ((e ≡ Refusal.TableFull) × (limit ≤ length entries.old.entries))) }
+    ensures full { index_of_by (λ k. pointwise T.eq items.now k.items) entries.old ≡ None
+        → limit ≤ length entries.old.entries
+        → result ≡ Err Refusal.TableFull }
 {
     match entries.get_index_of(items) {
         Some(number) => Ok(number as u32),
@@ -202,11 +244,13 @@ pub(crate) fn add_text(
 ) -> Result<u32, Refusal>
     requires { lookup (λ k. bytes_eq text.now (string_bytes k)) entries.old.entries ≡ None }
     ensures order { OnOk result (order.new.items ≡ order.old.items ++ table ∷ []) }
-    ensures entries { OnOk result (listed_by (λ k. string_bytes k) entries.new.entries ≡ listed_by (λ k. string_bytes k) entries.old.entries ++ (text.now, tt) ∷ []) }
+    ensures entries { OnOk result (listed_by (λ k. string_bytes k) entries.new.entries
+        ≡ listed_by (λ k. string_bytes k) entries.old.entries ++ (text.now, tt) ∷ []) }
     ensures number { IfOk result (λ n. (n ≡ length entries.old.entries) × (n < limit)) }
     ensures order_stays { OnErr result (order.new.items ≡ order.old.items) }
     ensures entries_stay { OnErr result (entries.new.entries ≡ entries.old.entries) }
-    ensures cause { IfErr result (λ e. (e ≡ Refusal.Memory) ⊎ ((e ≡ Refusal.TableFull) × (limit ≤ length entries.old.entries))) }
+    ensures cause { IfErr result (λ e. (e ≡ Refusal.Memory)
+        ⊎ ((e ≡ Refusal.TableFull) × (limit ≤ length entries.old.entries))) }
     ensures full { limit ≤ length entries.old.entries → result ≡ Err Refusal.TableFull }
 {
     if entries.len() >= limit as usize {
@@ -218,7 +262,7 @@ pub(crate) fn add_text(
     }
 }
 
-/// A table of the empty list alone.
+/// Returns a table of the empty list alone.
 pub(crate) fn first_list<T: Copy + Eq + Hash + Drop>(
     alloc: Global,
     order: &mut Vec<Table>,
@@ -236,7 +280,7 @@ pub(crate) fn first_list<T: Copy + Eq + Hash + Drop>(
     }
 }
 
-/// The table of the text `'_` alone.
+/// Returns the table of the text `'_` alone.
 pub(crate) fn first_text(
     alloc: Global,
     order: &mut Vec<Table>,
@@ -253,7 +297,7 @@ pub(crate) fn first_text(
     }
 }
 
-/// The key of this number.
+/// Returns the key of this number.
 pub(crate) fn key_at<K: Eq + Hash, V>(entries: &IndexMap<K, V>, number: u32) -> &K
     requires { number < index_map_len entries.now }
     ensures { slice_get (keys entries.now) number ≡ Some result.now }
@@ -264,7 +308,7 @@ pub(crate) fn key_at<K: Eq + Hash, V>(entries: &IndexMap<K, V>, number: u32) -> 
     }
 }
 
-/// What is kept beside the entry of this number.
+/// Returns what is kept beside the entry of this number.
 pub(crate) fn info_at<K: Eq + Hash>(
     entries: &IndexMap<K, FlagComputation>,
     number: u32,

@@ -9,12 +9,10 @@ use Rattle.tt_kinds.specs.declared.const_kind.ConstKind.{ConstKind}
 
 -- the token of an error is in range
 with-token : (size : Sizes) (o : Option ℕ) (ss : Shapes) → AreParts size ss → AreParts size (append (token_shapes o) ss)
-unfolding IsPart AreParts
 with-token size None ss h = h
 with-token size (Some e) ss h = ((refl, tt, tt), h)
 
 without-token : (size : Sizes) (o : Option ℕ) (ss : Shapes) → AreParts size (append (token_shapes o) ss) → AreParts size ss
-unfolding IsPart AreParts
 without-token size None ss h = h
 without-token size (Some e) ss h = h.1
 
@@ -22,14 +20,12 @@ without-token size (Some e) ss h = h.1
 module _ {L : Type 0} (sort : Sort) (label : L → Label ℕ) (record_of : L → RecordLabel ℕ) (token_of : L → Option ℕ)
     (named : (size : Sizes) (l : L) → IsNamedLabel size (label l)) (named_record : (size : Sizes) (l : L) → IsNamedLabel size (record_label (record_of l))) where
   form-bare : (size : Sizes) (x : Form L) → HasParts size (form_shape sort (relabelled label x)) → IsPart size (bare_shape sort record_of token_of x)
-  unfolding IsPart AreParts
   form-bare size (param i name) h = (refl, h, tt)
   form-bare size (bound d e) h = (refl, h, tt)
   form-bare size (plain l p) h = (refl, named_record size l, with-token size (token_of l) (parts_shapes p) h.1)
   form-bare size (under l vars m p) h = (refl, named_record size l, with-token size (token_of l) _ h.1)
 
   form-parts : (size : Sizes) (x : Form L) → IsPart size (bare_shape sort record_of token_of x) → HasParts size (form_shape sort (relabelled label x))
-  unfolding IsPart AreParts
   form-parts size (param i name) h = h.1
   form-parts size (bound d e) h = h.1
   form-parts size (plain l p) h = (named size l, without-token size (token_of l) (parts_shapes p) h.2)

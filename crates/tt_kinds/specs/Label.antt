@@ -169,6 +169,8 @@ pub data Label (N : Type 0) : Type 0 where
   record_label : RecordLabel N → Label N
   -- the token of an error that is no stored term's
   error_label : ℕ → Label N
+  -- a clause by itself, around its predicate
+  clause_label : Label N
 
 -- the label is a type's
 abbrev pub is_type : {N : Type 0} → Label N → Bool
@@ -252,6 +254,7 @@ flags_of_label (text_label bytes) = 0
 flags_of_label (declaration_label n k name) = 0
 flags_of_label (record_label l) = 0
 flags_of_label (error_label e) = has_error
+flags_of_label clause_label = 0
 
 -- the error that a type's label tells of
 abbrev pub error_of_type : TypeLabel → Option ℕ
@@ -277,3 +280,4 @@ label_table (text_label bytes) = Some Symbols
 label_table (declaration_label n k name) = Some Declarations
 label_table (record_label l) = None
 label_table (error_label e) = None
+label_table clause_label = None

@@ -1,10 +1,11 @@
 -- Values that have no row of their own: records, and what stands in them.
 use Rattle.std.specs.Prelude.{ℕ, Option, Some, None, Result, Ok, Err, List}
-use Rattle.tt_kinds.specs.Label.{RecordLabel, trait_ref_record, alias_term_record, alias_ty_record, outlives_record, type_and_mut_record, fn_sig_record, param_env_record, witness_types_record, projection_record, normalizes_to_record, trait_record, host_effect_record, subtype_record, coerce_record, record_label, list_label, pair_record, triple_record, absent_record, present_record, sequence_record, existential_trait_record, existential_projection_record, unsafe_binder_record}
+use Rattle.tt_kinds.specs.Label.{RecordLabel, trait_ref_record, alias_term_record, alias_ty_record, outlives_record, type_and_mut_record, fn_sig_record, param_env_record, witness_types_record, projection_record, normalizes_to_record, trait_record, host_effect_record, subtype_record, coerce_record, record_label, list_label, pair_record, triple_record, absent_record, present_record, sequence_record, existential_trait_record, existential_projection_record, unsafe_binder_record, clause_label}
 use Rattle.tt_kinds.specs.Shape as shape
 use Rattle.tt_kinds.specs.Shape.{Shape, item_shapes}
-use Rattle.tt_kinds.specs.Kinds.{region_shape, arg_shape, ty_shape, tys_shape, args_shape, clauses_shape, term_shape, clause_form, predicate_form, existential_form, record_shape}
+use Rattle.tt_kinds.specs.Kinds.{region_shape, arg_shape, ty_shape, tys_shape, args_shape, clause_shape, clauses_shape, term_shape, clause_form, predicate_form, existential_form, record_shape}
 use Rattle.tt_kinds.specs.declared.table.Table.TheVariants.{AssumptionLists}
+use Rattle.tt_kinds.specs.declared.handle.Clause.{Clause}
 use Rattle.tt_kinds.specs.declared.handle.RegionAssumptions.{RegionAssumptions}
 use Rattle.tt_kinds.specs.declared.generic_arg.GenericArgKind.{GenericArgKind}
 use Rattle.tt_kinds.specs.declared.alias.AliasTy.{AliasTy}
@@ -94,6 +95,10 @@ witness_types_shape w = two_record witness_types_record (tys_shape w.types) (ass
 -- a type with a mutability
 abbrev pub type_and_mut_shape : TypeAndMut → Shape
 type_and_mut_shape t = one_record (type_and_mut_record t.mutbl) (ty_shape t.ty)
+
+-- a clause by itself, around its predicate
+abbrev pub one_clause_shape : Clause → Shape
+one_clause_shape c = shape.node clause_label (shape.also (clause_shape c) shape.none)
 
 -- a signature
 abbrev pub fn_sig_shape : FnSig → Shape

@@ -32,7 +32,8 @@ pub enum AliasTyKind {
 }
 
 impl AliasTyKind {
-    /// What it is called in messages: `associated type`, `inherent associated type`, `opaque type` or `type alias`.
+    /// Returns what it is called in messages: `associated type`, `inherent associated type`, `opaque type` or `type
+    /// alias`.
     pub fn descr(self) -> &'static str
         ensures { result.now ≡ alias_name self }
     {
@@ -44,7 +45,7 @@ impl AliasTyKind {
         }
     }
 
-    /// The declaration of the alias.
+    /// Returns the declaration of the alias.
     pub fn def_id(self) -> DefId
         ensures { result ≡ record { number = alias_number self } }
     {

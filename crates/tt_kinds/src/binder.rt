@@ -14,15 +14,15 @@ pub struct Binder<T> {
 }
 
 impl<T> Binder<T> {
-    /// The value under a binder of these variables.
+    /// Returns the value under a binder of these variables.
     pub fn bind_with_vars(value: T, bound_vars: BoundVarKinds) -> Binder<T>
         ensures { result ≡ record { value = value; bound_vars = bound_vars } }
     {
         Binder { value, bound_vars }
     }
 
-    /// The value as it stands inside, with the binder gone. Its variables of index 0 are the binder's, and mean nothing
-    /// outside of it.
+    /// Returns the value as it stands inside, with the binder gone. Its variables of index 0 are the binder's, and mean
+    /// nothing outside of it.
     pub fn skip_binder(self) -> T
         ensures { result ≡ self.value }
     {
@@ -30,7 +30,7 @@ impl<T> Binder<T> {
         value
     }
 
-    /// The value lent, under the same binder.
+    /// Returns the value lent, under the same binder.
     pub fn as_ref(&self) -> Binder<&T>
         ensures value { result.value.now ≡ self.now.value }
         ensures bound_vars { result.bound_vars ≡ self.now.bound_vars }
@@ -41,7 +41,7 @@ impl<T> Binder<T> {
         }
     }
 
-    /// The variables that the binder binds.
+    /// Returns the variables that the binder binds.
     pub fn bound_vars(&self) -> BoundVarKinds
         ensures { result ≡ self.now.bound_vars }
     {
@@ -57,14 +57,14 @@ pub struct EarlyBinder<T> {
 }
 
 impl<T> EarlyBinder<T> {
-    /// The value, with its parameters still to be replaced.
+    /// Returns the value, with its parameters still to be replaced.
     pub fn bind(value: T) -> EarlyBinder<T>
         ensures { result ≡ record { value = value } }
     {
         EarlyBinder { value }
     }
 
-    /// The value as it is declared.
+    /// Returns the value as it is declared.
     pub fn skip_binder(self) -> T
         ensures { result ≡ self.value }
     {
@@ -80,14 +80,14 @@ pub struct Unnormalized<T> {
 }
 
 impl<T> Unnormalized<T> {
-    /// The value, marked as not normalized.
+    /// Returns the value, marked as not normalized.
     pub fn new(value: T) -> Unnormalized<T>
         ensures { result ≡ record { value = value } }
     {
         Unnormalized { value }
     }
 
-    /// The value, taken as it is.
+    /// Returns the value, taken as it is.
     pub fn skip_norm_wip(self) -> T
         ensures { result ≡ self.value }
     {

@@ -54,7 +54,7 @@ pub enum BoundVariableKind {
 }
 
 impl BoundRegionKind {
-    /// The declaration of a region that is declared, and `None` of every other.
+    /// Returns the declaration of a region that is declared, and `None` of every other.
     pub fn get_id(self) -> Option<DefId>
         ensures { result ≡ region_id self }
     {
@@ -66,28 +66,28 @@ impl BoundRegionKind {
 }
 
 impl BoundVariableKind {
-    /// Whether it stands for a region.
+    /// Returns whether it stands for a region.
     pub fn is_region(self) -> bool
         ensures { IsTrue result ↔ IsRegionVariable self }
     {
         matches!(self, BoundVariableKind::Region(_))
     }
 
-    /// Whether it stands for a type.
+    /// Returns whether it stands for a type.
     pub fn is_ty(self) -> bool
         ensures { IsTrue result ↔ IsTypeVariable self }
     {
         matches!(self, BoundVariableKind::Ty(_))
     }
 
-    /// Whether it stands for a constant.
+    /// Returns whether it stands for a constant.
     pub fn is_const(self) -> bool
         ensures { IsTrue result ↔ IsConstVariable self }
     {
         matches!(self, BoundVariableKind::Const)
     }
 
-    /// What the region is called. It has to stand for one; [`BoundVariableKind::is_region`] tests it.
+    /// Returns what the region is called. It has to stand for one; [`BoundVariableKind::is_region`] tests it.
     pub fn expect_region(self) -> BoundRegionKind
         requires { IsRegionVariable self }
         ensures { self ≡ variable.Region result }
@@ -98,7 +98,7 @@ impl BoundVariableKind {
         }
     }
 
-    /// What the type is called. It has to stand for one; [`BoundVariableKind::is_ty`] tests it.
+    /// Returns what the type is called. It has to stand for one; [`BoundVariableKind::is_ty`] tests it.
     pub fn expect_ty(self) -> BoundTyKind
         requires { IsTypeVariable self }
         ensures { self ≡ variable.Ty result }
@@ -142,7 +142,7 @@ pub struct BoundConst {
 }
 
 impl BoundRegion {
-    /// Its place in the binder's list of variables.
+    /// Returns its place in the binder's list of variables.
     pub fn var(self) -> BoundVar
         ensures { result ≡ self.var }
     {
@@ -150,7 +150,7 @@ impl BoundRegion {
         var
     }
 
-    /// Whether the list's entry says the same of it.
+    /// Returns whether the list's entry says the same of it.
     pub fn agrees(self, entry: BoundVariableKind) -> bool
         ensures { IsTrue result ↔ (entry ≡ variable.Region self.kind) }
     {
@@ -168,7 +168,7 @@ impl BoundRegion {
 }
 
 impl BoundTy {
-    /// Its place in the binder's list of variables.
+    /// Returns its place in the binder's list of variables.
     pub fn var(self) -> BoundVar
         ensures { result ≡ self.var }
     {
@@ -176,7 +176,7 @@ impl BoundTy {
         var
     }
 
-    /// Whether the list's entry says the same of it.
+    /// Returns whether the list's entry says the same of it.
     pub fn agrees(self, entry: BoundVariableKind) -> bool
         ensures { IsTrue result ↔ (entry ≡ variable.Ty self.kind) }
     {
@@ -194,14 +194,14 @@ impl BoundTy {
 }
 
 impl BoundConst {
-    /// The variable at this place in its binder's list.
+    /// Returns the variable at this place in its binder's list.
     pub fn new(var: BoundVar) -> BoundConst
         ensures { result ≡ record { var = var } }
     {
         BoundConst { var }
     }
 
-    /// Its place in the binder's list of variables.
+    /// Returns its place in the binder's list of variables.
     pub fn var(self) -> BoundVar
         ensures { result ≡ self.var }
     {
@@ -209,7 +209,7 @@ impl BoundConst {
         var
     }
 
-    /// Whether the list's entry says the same of it.
+    /// Returns whether the list's entry says the same of it.
     pub fn agrees(self, entry: BoundVariableKind) -> bool
         ensures { IsTrue result ↔ (entry ≡ variable.Const) }
     {
@@ -224,7 +224,7 @@ impl BoundConst {
 }
 
 impl BoundVarIndexKind {
-    /// Whether the index is below the greatest, so that one more than it is an index too.
+    /// Returns whether the index is below the greatest, so that one more than it is an index too.
     pub fn is_shallow(self) -> bool
         ensures { IsTrue result ↔ IsBelowGreatest (depth self) }
     {
@@ -234,8 +234,8 @@ impl BoundVarIndexKind {
         }
     }
 
-    /// One more than the index of a binder, and 0 for a variable of a canonical query. [`BoundVarIndexKind::is_shallow`]
-    /// tests the condition.
+    /// Returns one more than the index of a binder, and 0 for a variable of a canonical query.
+    /// [`BoundVarIndexKind::is_shallow`] tests the condition.
     pub fn outer_exclusive_binder(self) -> DebruijnIndex
         requires { IsBelowGreatest (depth self) }
         ensures { result ≡ reach (place 0 (depth self)) }

@@ -39,7 +39,7 @@ pub struct UnevaluatedConst {
 }
 
 impl UnevaluatedConst {
-    /// What `def` computes for these arguments.
+    /// Returns what `def` computes for these arguments.
     pub fn new(def: UnevaluatedConstId, args: GenericArgs) -> UnevaluatedConst
         ensures { result ≡ record { def = def; args = args } }
     {
@@ -66,7 +66,7 @@ pub enum ValTreeKind {
 }
 
 impl ValTreeKind {
-    /// The bits. It has to be a leaf; [`ValTreeKind::try_to_leaf`] tests it.
+    /// Returns the bits. It has to be a leaf; [`ValTreeKind::try_to_leaf`] tests it.
     pub fn to_leaf(self) -> ScalarInt
         requires { IsLeaf self }
         ensures { self ≡ tree.Leaf result }
@@ -77,7 +77,7 @@ impl ValTreeKind {
         }
     }
 
-    /// The values inside. It has to be a branch; [`ValTreeKind::try_to_branch`] tests it.
+    /// Returns the values inside. It has to be a branch; [`ValTreeKind::try_to_branch`] tests it.
     pub fn to_branch(self) -> Consts
         requires { IsBranch self }
         ensures { self ≡ tree.Branch result }
@@ -88,7 +88,7 @@ impl ValTreeKind {
         }
     }
 
-    /// The bits of a leaf, and `None` of a branch.
+    /// Returns the bits of a leaf, and `None` of a branch.
     pub fn try_to_leaf(self) -> Option<ScalarInt>
         ensures { result ≡ leaf_of self }
     {
@@ -98,7 +98,7 @@ impl ValTreeKind {
         }
     }
 
-    /// The values inside a branch, and `None` of a leaf.
+    /// Returns the values inside a branch, and `None` of a leaf.
     pub fn try_to_branch(self) -> Option<Consts>
         ensures { result ≡ branch_of self }
     {
@@ -116,7 +116,7 @@ pub struct ValTree {
 }
 
 impl ValTree {
-    /// What the value is made of.
+    /// Returns what the value is made of.
     pub fn kind(self) -> ValTreeKind
         ensures { result ≡ self.kind }
     {

@@ -72,7 +72,7 @@ pub enum DeclarationSort {
 }
 
 impl DeclarationKind {
-    /// The sort of the declaration.
+    /// Returns the sort of the declaration.
     pub fn sort(&self) -> DeclarationSort
         ensures { result ≡ sort_of self.now }
     {

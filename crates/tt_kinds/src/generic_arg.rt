@@ -34,7 +34,7 @@ impl Model for GenericArg {
 }
 
 impl GenericArg {
-    /// What the argument is.
+    /// Returns what the argument is.
     pub fn kind(self) -> GenericArgKind
         ensures { result ≡ self }
     {

@@ -12,14 +12,14 @@ pub struct Ty {
 }
 
 impl Ty {
-    /// The handle of this number in its table.
+    /// Returns the handle of this number in its table.
     pub fn from_number(number: u32) -> Ty
         ensures { result ≡ record { number = number } }
     {
         Ty { number }
     }
 
-    /// The number of the row in its table, counted from 0 in the order in which rows were added.
+    /// Returns the number of the row in its table, counted from 0 in the order in which rows were added.
     pub fn number(self) -> u32
         ensures { result ≡ self.number }
     {
@@ -35,14 +35,14 @@ pub struct Const {
 }
 
 impl Const {
-    /// The handle of this number in its table.
+    /// Returns the handle of this number in its table.
     pub fn from_number(number: u32) -> Const
         ensures { result ≡ record { number = number } }
     {
         Const { number }
     }
 
-    /// The number of the row in its table, counted from 0 in the order in which rows were added.
+    /// Returns the number of the row in its table, counted from 0 in the order in which rows were added.
     pub fn number(self) -> u32
         ensures { result ≡ self.number }
     {
@@ -58,14 +58,14 @@ pub struct Pat {
 }
 
 impl Pat {
-    /// The handle of this number in its table.
+    /// Returns the handle of this number in its table.
     pub fn from_number(number: u32) -> Pat
         ensures { result ≡ record { number = number } }
     {
         Pat { number }
     }
 
-    /// The number of the row in its table, counted from 0 in the order in which rows were added.
+    /// Returns the number of the row in its table, counted from 0 in the order in which rows were added.
     pub fn number(self) -> u32
         ensures { result ≡ self.number }
     {
@@ -81,14 +81,14 @@ pub struct Predicate {
 }
 
 impl Predicate {
-    /// The handle of this number in its table.
+    /// Returns the handle of this number in its table.
     pub fn from_number(number: u32) -> Predicate
         ensures { result ≡ record { number = number } }
     {
         Predicate { number }
     }
 
-    /// The number of the row in its table, counted from 0 in the order in which rows were added.
+    /// Returns the number of the row in its table, counted from 0 in the order in which rows were added.
     pub fn number(self) -> u32
         ensures { result ≡ self.number }
     {
@@ -104,14 +104,14 @@ pub struct Clause {
 }
 
 impl Clause {
-    /// The handle of this number in its table.
+    /// Returns the handle of this number in its table.
     pub fn from_number(number: u32) -> Clause
         ensures { result ≡ record { number = number } }
     {
         Clause { number }
     }
 
-    /// The number of the row in its table, counted from 0 in the order in which rows were added.
+    /// Returns the number of the row in its table, counted from 0 in the order in which rows were added.
     pub fn number(self) -> u32
         ensures { result ≡ self.number }
     {
@@ -128,14 +128,14 @@ pub struct PolyExistentialPredicate {
 }
 
 impl PolyExistentialPredicate {
-    /// The handle of this number in its table.
+    /// Returns the handle of this number in its table.
     pub fn from_number(number: u32) -> PolyExistentialPredicate
         ensures { result ≡ record { number = number } }
     {
         PolyExistentialPredicate { number }
     }
 
-    /// The number of the row in its table, counted from 0 in the order in which rows were added.
+    /// Returns the number of the row in its table, counted from 0 in the order in which rows were added.
     pub fn number(self) -> u32
         ensures { result ≡ self.number }
     {
@@ -153,14 +153,14 @@ pub struct Clauses {
 }
 
 impl Clauses {
-    /// The handle of this number in its table.
+    /// Returns the handle of this number in its table.
     pub fn from_number(number: u32) -> Clauses
         ensures { result ≡ record { number = number } }
     {
         Clauses { number }
     }
 
-    /// The number of the row in its table, counted from 0 in the order in which rows were added.
+    /// Returns the number of the row in its table, counted from 0 in the order in which rows were added.
     pub fn number(self) -> u32
         ensures { result ≡ self.number }
     {
@@ -178,14 +178,14 @@ pub struct GenericArgs {
 }
 
 impl GenericArgs {
-    /// The handle of this number in its table.
+    /// Returns the handle of this number in its table.
     pub fn from_number(number: u32) -> GenericArgs
         ensures { result ≡ record { number = number } }
     {
         GenericArgs { number }
     }
 
-    /// The number of the row in its table, counted from 0 in the order in which rows were added.
+    /// Returns the number of the row in its table, counted from 0 in the order in which rows were added.
     pub fn number(self) -> u32
         ensures { result ≡ self.number }
     {
@@ -203,14 +203,14 @@ pub struct Tys {
 }
 
 impl Tys {
-    /// The handle of this number in its table.
+    /// Returns the handle of this number in its table.
     pub fn from_number(number: u32) -> Tys
         ensures { result ≡ record { number = number } }
     {
         Tys { number }
     }
 
-    /// The number of the row in its table, counted from 0 in the order in which rows were added.
+    /// Returns the number of the row in its table, counted from 0 in the order in which rows were added.
     pub fn number(self) -> u32
         ensures { result ≡ self.number }
     {
@@ -228,14 +228,14 @@ pub struct Consts {
 }
 
 impl Consts {
-    /// The handle of this number in its table.
+    /// Returns the handle of this number in its table.
     pub fn from_number(number: u32) -> Consts
         ensures { result ≡ record { number = number } }
     {
         Consts { number }
     }
 
-    /// The number of the row in its table, counted from 0 in the order in which rows were added.
+    /// Returns the number of the row in its table, counted from 0 in the order in which rows were added.
     pub fn number(self) -> u32
         ensures { result ≡ self.number }
     {
@@ -253,14 +253,14 @@ pub struct PatList {
 }
 
 impl PatList {
-    /// The handle of this number in its table.
+    /// Returns the handle of this number in its table.
     pub fn from_number(number: u32) -> PatList
         ensures { result ≡ record { number = number } }
     {
         PatList { number }
     }
 
-    /// The number of the row in its table, counted from 0 in the order in which rows were added.
+    /// Returns the number of the row in its table, counted from 0 in the order in which rows were added.
     pub fn number(self) -> u32
         ensures { result ≡ self.number }
     {
@@ -278,14 +278,14 @@ pub struct BoundVarKinds {
 }
 
 impl BoundVarKinds {
-    /// The handle of this number in its table.
+    /// Returns the handle of this number in its table.
     pub fn from_number(number: u32) -> BoundVarKinds
         ensures { result ≡ record { number = number } }
     {
         BoundVarKinds { number }
     }
 
-    /// The number of the row in its table, counted from 0 in the order in which rows were added.
+    /// Returns the number of the row in its table, counted from 0 in the order in which rows were added.
     pub fn number(self) -> u32
         ensures { result ≡ self.number }
     {
@@ -303,14 +303,14 @@ pub struct BoundExistentialPredicates {
 }
 
 impl BoundExistentialPredicates {
-    /// The handle of this number in its table.
+    /// Returns the handle of this number in its table.
     pub fn from_number(number: u32) -> BoundExistentialPredicates
         ensures { result ≡ record { number = number } }
     {
         BoundExistentialPredicates { number }
     }
 
-    /// The number of the row in its table, counted from 0 in the order in which rows were added.
+    /// Returns the number of the row in its table, counted from 0 in the order in which rows were added.
     pub fn number(self) -> u32
         ensures { result ≡ self.number }
     {
@@ -328,14 +328,14 @@ pub struct RegionAssumptions {
 }
 
 impl RegionAssumptions {
-    /// The handle of this number in its table.
+    /// Returns the handle of this number in its table.
     pub fn from_number(number: u32) -> RegionAssumptions
         ensures { result ≡ record { number = number } }
     {
         RegionAssumptions { number }
     }
 
-    /// The number of the row in its table, counted from 0 in the order in which rows were added.
+    /// Returns the number of the row in its table, counted from 0 in the order in which rows were added.
     pub fn number(self) -> u32
         ensures { result ≡ self.number }
     {
@@ -353,14 +353,14 @@ pub struct Symbol {
 }
 
 impl Symbol {
-    /// The handle of this number in its table.
+    /// Returns the handle of this number in its table.
     pub fn from_number(number: u32) -> Symbol
         ensures { result ≡ record { number = number } }
     {
         Symbol { number }
     }
 
-    /// The number of the row in its table, counted from 0 in the order in which rows were added.
+    /// Returns the number of the row in its table, counted from 0 in the order in which rows were added.
     pub fn number(self) -> u32
         ensures { result ≡ self.number }
     {

@@ -11,14 +11,14 @@ pub struct DefId {
 }
 
 impl DefId {
-    /// The id of this number.
+    /// Returns the id of this number.
     pub fn from_number(number: u32) -> DefId
         ensures { result ≡ record { number = number } }
     {
         DefId { number }
     }
 
-    /// The declaration's place in the table of declarations, counted from 0.
+    /// Returns the declaration's place in the table of declarations, counted from 0.
     pub fn number(self) -> u32
         ensures { result ≡ self.number }
     {
@@ -34,14 +34,14 @@ pub struct AdtId {
 }
 
 impl AdtId {
-    /// The id of this number.
+    /// Returns the id of this number.
     pub fn from_number(number: u32) -> AdtId
         ensures { result ≡ record { number = number } }
     {
         AdtId { number }
     }
 
-    /// The declaration's place in the table of declarations, counted from 0.
+    /// Returns the declaration's place in the table of declarations, counted from 0.
     pub fn number(self) -> u32
         ensures { result ≡ self.number }
     {
@@ -65,14 +65,14 @@ pub struct ForeignId {
 }
 
 impl ForeignId {
-    /// The id of this number.
+    /// Returns the id of this number.
     pub fn from_number(number: u32) -> ForeignId
         ensures { result ≡ record { number = number } }
     {
         ForeignId { number }
     }
 
-    /// The declaration's place in the table of declarations, counted from 0.
+    /// Returns the declaration's place in the table of declarations, counted from 0.
     pub fn number(self) -> u32
         ensures { result ≡ self.number }
     {
@@ -96,14 +96,14 @@ pub struct FunctionId {
 }
 
 impl FunctionId {
-    /// The id of this number.
+    /// Returns the id of this number.
     pub fn from_number(number: u32) -> FunctionId
         ensures { result ≡ record { number = number } }
     {
         FunctionId { number }
     }
 
-    /// The declaration's place in the table of declarations, counted from 0.
+    /// Returns the declaration's place in the table of declarations, counted from 0.
     pub fn number(self) -> u32
         ensures { result ≡ self.number }
     {
@@ -127,14 +127,14 @@ pub struct ClosureId {
 }
 
 impl ClosureId {
-    /// The id of this number.
+    /// Returns the id of this number.
     pub fn from_number(number: u32) -> ClosureId
         ensures { result ≡ record { number = number } }
     {
         ClosureId { number }
     }
 
-    /// The declaration's place in the table of declarations, counted from 0.
+    /// Returns the declaration's place in the table of declarations, counted from 0.
     pub fn number(self) -> u32
         ensures { result ≡ self.number }
     {
@@ -158,14 +158,14 @@ pub struct CoroutineClosureId {
 }
 
 impl CoroutineClosureId {
-    /// The id of this number.
+    /// Returns the id of this number.
     pub fn from_number(number: u32) -> CoroutineClosureId
         ensures { result ≡ record { number = number } }
     {
         CoroutineClosureId { number }
     }
 
-    /// The declaration's place in the table of declarations, counted from 0.
+    /// Returns the declaration's place in the table of declarations, counted from 0.
     pub fn number(self) -> u32
         ensures { result ≡ self.number }
     {
@@ -189,14 +189,14 @@ pub struct CoroutineId {
 }
 
 impl CoroutineId {
-    /// The id of this number.
+    /// Returns the id of this number.
     pub fn from_number(number: u32) -> CoroutineId
         ensures { result ≡ record { number = number } }
     {
         CoroutineId { number }
     }
 
-    /// The declaration's place in the table of declarations, counted from 0.
+    /// Returns the declaration's place in the table of declarations, counted from 0.
     pub fn number(self) -> u32
         ensures { result ≡ self.number }
     {
@@ -220,14 +220,14 @@ pub struct TraitId {
 }
 
 impl TraitId {
-    /// The id of this number.
+    /// Returns the id of this number.
     pub fn from_number(number: u32) -> TraitId
         ensures { result ≡ record { number = number } }
     {
         TraitId { number }
     }
 
-    /// The declaration's place in the table of declarations, counted from 0.
+    /// Returns the declaration's place in the table of declarations, counted from 0.
     pub fn number(self) -> u32
         ensures { result ≡ self.number }
     {
@@ -251,14 +251,14 @@ pub struct ImplId {
 }
 
 impl ImplId {
-    /// The id of this number.
+    /// Returns the id of this number.
     pub fn from_number(number: u32) -> ImplId
         ensures { result ≡ record { number = number } }
     {
         ImplId { number }
     }
 
-    /// The declaration's place in the table of declarations, counted from 0.
+    /// Returns the declaration's place in the table of declarations, counted from 0.
     pub fn number(self) -> u32
         ensures { result ≡ self.number }
     {
@@ -282,14 +282,14 @@ pub struct UnevaluatedConstId {
 }
 
 impl UnevaluatedConstId {
-    /// The id of this number.
+    /// Returns the id of this number.
     pub fn from_number(number: u32) -> UnevaluatedConstId
         ensures { result ≡ record { number = number } }
     {
         UnevaluatedConstId { number }
     }
 
-    /// The declaration's place in the table of declarations, counted from 0.
+    /// Returns the declaration's place in the table of declarations, counted from 0.
     pub fn number(self) -> u32
         ensures { result ≡ self.number }
     {
@@ -313,14 +313,14 @@ pub struct TraitAssocTyId {
 }
 
 impl TraitAssocTyId {
-    /// The id of this number.
+    /// Returns the id of this number.
     pub fn from_number(number: u32) -> TraitAssocTyId
         ensures { result ≡ record { number = number } }
     {
         TraitAssocTyId { number }
     }
 
-    /// The declaration's place in the table of declarations, counted from 0.
+    /// Returns the declaration's place in the table of declarations, counted from 0.
     pub fn number(self) -> u32
         ensures { result ≡ self.number }
     {
@@ -344,14 +344,14 @@ pub struct InherentAssocTyId {
 }
 
 impl InherentAssocTyId {
-    /// The id of this number.
+    /// Returns the id of this number.
     pub fn from_number(number: u32) -> InherentAssocTyId
         ensures { result ≡ record { number = number } }
     {
         InherentAssocTyId { number }
     }
 
-    /// The declaration's place in the table of declarations, counted from 0.
+    /// Returns the declaration's place in the table of declarations, counted from 0.
     pub fn number(self) -> u32
         ensures { result ≡ self.number }
     {
@@ -375,14 +375,14 @@ pub struct OpaqueTyId {
 }
 
 impl OpaqueTyId {
-    /// The id of this number.
+    /// Returns the id of this number.
     pub fn from_number(number: u32) -> OpaqueTyId
         ensures { result ≡ record { number = number } }
     {
         OpaqueTyId { number }
     }
 
-    /// The declaration's place in the table of declarations, counted from 0.
+    /// Returns the declaration's place in the table of declarations, counted from 0.
     pub fn number(self) -> u32
         ensures { result ≡ self.number }
     {
@@ -406,14 +406,14 @@ pub struct FreeTyAliasId {
 }
 
 impl FreeTyAliasId {
-    /// The id of this number.
+    /// Returns the id of this number.
     pub fn from_number(number: u32) -> FreeTyAliasId
         ensures { result ≡ record { number = number } }
     {
         FreeTyAliasId { number }
     }
 
-    /// The declaration's place in the table of declarations, counted from 0.
+    /// Returns the declaration's place in the table of declarations, counted from 0.
     pub fn number(self) -> u32
         ensures { result ≡ self.number }
     {

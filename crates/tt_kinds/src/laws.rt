@@ -1,7 +1,21 @@
 //! What holds of all trees and readings, for what is built on top of terms to stand on. The functions do nothing: each
 //! contract is a law.
 
-ghost use Rattle.tt_kinds.specs.Laws.{PutsCompose, MovesCommute, MovesAddUp, MovesTellReadings, PutKeepsMatched, MoveKeepsMatched, PutLeavesNone, ReadingsTellTrees, MetPlacedAgain, InstancesRead, ShiftsRead, ShiftKeepsLow, ShiftByZero};
+ghost use Rattle.tt_kinds.specs.Laws.{
+  PutsCompose,
+  MovesCommute,
+  MovesAddUp,
+  MovesTellReadings,
+  PutKeepsMatched,
+  MoveKeepsMatched,
+  PutLeavesNone,
+  ReadingsTellTrees,
+  MetPlacedAgain,
+  InstancesRead,
+  ShiftsRead,
+  ShiftKeepsLow,
+  ShiftByZero,
+};
 
 /// Where each parameter has an argument, replacing twice is replacing once, by arguments in which the second has replaced.
 pub fn replacements_compose()

@@ -128,7 +128,7 @@ impl Parts {
         }
     }
 
-    /// One child.
+    /// Returns one child.
     #[inline(always)]
     pub fn one(first: Child) -> Parts
         ensures { result ≡ one_part first }
@@ -147,7 +147,7 @@ impl Parts {
         Parts { first, second }
     }
 
-    /// Whether the new children are of the same sorts, each in its place.
+    /// Returns whether the new children are of the same sorts, each in its place.
     pub fn are_like(&self, new: &Parts) -> bool
         ensures { IsTrue result ↔ AreLike self.now new.now }
     {
@@ -156,7 +156,7 @@ impl Parts {
 }
 
 impl Node {
-    /// The table that the term is stored in.
+    /// Returns the table that the term is stored in.
     #[inline(always)]
     pub fn table(self) -> Table
         ensures { result ≡ node_table self }
@@ -174,7 +174,7 @@ impl Node {
 
 // Each is for a node of that table; a `match` tests it.
 impl Node {
-    /// The type.
+    /// Returns the type.
     pub fn ty(self) -> Ty
         requires { node_table self ≡ Table.Types }
         ensures { self ≡ node.Ty result }
@@ -185,7 +185,7 @@ impl Node {
         }
     }
 
-    /// The constant.
+    /// Returns the constant.
     pub fn constant(self) -> Const
         requires { node_table self ≡ Table.Consts }
         ensures { self ≡ node.Const result }
@@ -196,7 +196,7 @@ impl Node {
         }
     }
 
-    /// The pattern.
+    /// Returns the pattern.
     pub fn pat(self) -> Pat
         requires { node_table self ≡ Table.Patterns }
         ensures { self ≡ node.Pat result }
@@ -207,7 +207,7 @@ impl Node {
         }
     }
 
-    /// The predicate.
+    /// Returns the predicate.
     pub fn predicate(self) -> Predicate
         requires { node_table self ≡ Table.Predicates }
         ensures { self ≡ node.Predicate result }
@@ -218,7 +218,7 @@ impl Node {
         }
     }
 
-    /// The existential predicate.
+    /// Returns the existential predicate.
     pub fn existential(self) -> PolyExistentialPredicate
         requires { node_table self ≡ Table.Existentials }
         ensures { self ≡ node.Existential result }
@@ -229,7 +229,7 @@ impl Node {
         }
     }
 
-    /// The list of clauses.
+    /// Returns the list of clauses.
     pub fn clauses(self) -> Clauses
         requires { node_table self ≡ Table.ClauseLists }
         ensures { self ≡ node.Clauses result }
@@ -242,7 +242,7 @@ impl Node {
 }
 
 impl List {
-    /// What the list holds.
+    /// Returns what the list holds.
     #[inline(always)]
     pub fn sort(self) -> ListSort
         ensures { result ≡ list_sort self }

@@ -17,21 +17,21 @@ pub struct Placeholder<T> {
 }
 
 impl<T: Copy> Placeholder<T> {
-    /// The placeholder of this universe for this variable.
+    /// Returns the placeholder of this universe for this variable.
     pub fn new(universe: UniverseIndex, bound: T) -> Placeholder<T>
         ensures { result ≡ record { universe = universe; bound = bound } }
     {
         Placeholder { universe, bound }
     }
 
-    /// The universe in which it can be named.
+    /// Returns the universe in which it can be named.
     pub fn universe(self) -> UniverseIndex
         ensures { result ≡ self.universe }
     {
         self.universe
     }
 
-    /// The same variable in another universe.
+    /// Returns the same variable in another universe.
     pub fn with_updated_universe(self, universe: UniverseIndex) -> Placeholder<T>
         ensures { result ≡ record { universe = universe; bound = self.bound } }
     {
@@ -52,7 +52,7 @@ pub type PlaceholderType = Placeholder<BoundTy>;
 pub type PlaceholderConst = Placeholder<BoundConst>;
 
 impl Placeholder<BoundRegion> {
-    /// The place of its variable in the binder's list.
+    /// Returns the place of its variable in the binder's list.
     pub fn var(self) -> BoundVar
         ensures { result ≡ self.bound.var }
     {
@@ -60,7 +60,7 @@ impl Placeholder<BoundRegion> {
         var
     }
 
-    /// The placeholder of this universe for the region at this place, which has no name.
+    /// Returns the placeholder of this universe for the region at this place, which has no name.
     pub fn new_anon(universe: UniverseIndex, var: BoundVar) -> PlaceholderRegion
         ensures { result ≡ record { universe = universe; bound = record { var = var; kind = region_kind.Anon } } }
     {
@@ -75,7 +75,7 @@ impl Placeholder<BoundRegion> {
 }
 
 impl Placeholder<BoundTy> {
-    /// The place of its variable in the binder's list.
+    /// Returns the place of its variable in the binder's list.
     pub fn var(self) -> BoundVar
         ensures { result ≡ self.bound.var }
     {
@@ -83,7 +83,7 @@ impl Placeholder<BoundTy> {
         var
     }
 
-    /// The placeholder of this universe for the type at this place, which has no name.
+    /// Returns the placeholder of this universe for the type at this place, which has no name.
     pub fn new_anon(universe: UniverseIndex, var: BoundVar) -> PlaceholderType
         ensures { result ≡ record { universe = universe; bound = record { var = var; kind = ty_kind.Anon } } }
     {
@@ -98,7 +98,7 @@ impl Placeholder<BoundTy> {
 }
 
 impl Placeholder<BoundConst> {
-    /// The place of its variable in the binder's list.
+    /// Returns the place of its variable in the binder's list.
     pub fn var(self) -> BoundVar
         ensures { result ≡ self.bound.var }
     {
@@ -106,7 +106,7 @@ impl Placeholder<BoundConst> {
         var
     }
 
-    /// The placeholder of this universe for the constant at this place, which has no name.
+    /// Returns the placeholder of this universe for the constant at this place, which has no name.
     pub fn new_anon(universe: UniverseIndex, var: BoundVar) -> PlaceholderConst
         ensures { result ≡ record { universe = universe; bound = record { var = var } } }
     {

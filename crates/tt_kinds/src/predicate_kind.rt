@@ -66,7 +66,7 @@ pub enum PredicateKind {
 }
 
 impl PredicateKind {
-    /// Whether it may stand in a list of assumptions.
+    /// Returns whether it may stand in a list of assumptions.
     pub fn is_clause(&self) -> bool
         ensures { result ≡ is_clause_kind self.now }
     {
@@ -76,7 +76,7 @@ impl PredicateKind {
         }
     }
 
-    /// The clause that it is, and `None` where it is none.
+    /// Returns the clause that it is, and `None` where it is none.
     pub fn as_clause(&self) -> Option<ClauseKind>
         ensures { result ≡ clause_of self.now }
     {

@@ -93,8 +93,8 @@ impl Region {
     ghost use Rattle.tt_kinds.specs.Scan.{scan};
     ghost use Rattle.tt_kinds.specs.Reading.{outer_binder};
 
-    /// The region of this kind. It is refused with `GreatestIndex` where a bound region's index is the greatest, and
-    /// never otherwise.
+    /// Returns the region of this kind. It is refused with `GreatestIndex` where a bound region's index is the
+    /// greatest, and never otherwise.
     pub fn new(kind: RegionKind) -> Result<Region, Refusal>
         ensures ok { IsShallow kind → result ≡ Ok kind }
         ensures deep { (IsShallow kind → ⊥) → result ≡ Err Refusal.GreatestIndex }
@@ -106,8 +106,8 @@ impl Region {
         }
     }
 
-    /// The bound region of this index. It is refused with `GreatestIndex` where the index is the greatest, and never
-    /// otherwise.
+    /// Returns the bound region of this index. It is refused with `GreatestIndex` where the index is the greatest, and
+    /// never otherwise.
     pub fn new_bound(index: DebruijnIndex, bound_region: BoundRegion) -> Result<Region, Refusal>
         ensures ok { index < greatest → result ≡ Ok (bound_at index bound_region) }
         ensures deep { greatest ≤ index → result ≡ Err Refusal.GreatestIndex }
@@ -115,7 +115,7 @@ impl Region {
         Region::new(RegionKind::ReBound(BoundVarIndexKind::Bound(index), bound_region))
     }
 
-    /// What the region is.
+    /// Returns what the region is.
     pub fn kind(self) -> RegionKind
         ensures kind { result ≡ self }
         ensures shallow { IsShallow result }
@@ -123,8 +123,8 @@ impl Region {
         self.kind
     }
 
-    /// Every region in hand is one that can be built: a bound region's index is below the greatest, and the numbers lie in
-    /// the ranges of their types. So the answer is always true; the contract gives callers the fact.
+    /// Returns every region in hand is one that can be built: a bound region's index is below the greatest, and the
+    /// numbers lie in the ranges of their types. So the answer is always true; the contract gives callers the fact.
     pub fn in_range(self) -> bool
         ensures holds { IsTrue result }
         ensures shallow { IsShallow self }
@@ -132,7 +132,7 @@ impl Region {
         self.kind.is_shallow()
     }
 
-    /// The flags of the region: those of its kind, and one more where it is a variable of a canonical query.
+    /// Returns the flags of the region: those of its kind, and one more where it is a variable of a canonical query.
     #[tactic(auto, unfolding(crate::specs::Shape::fill))]
     pub fn flags(self) -> TypeFlags
         ensures { (f : Meaning) → result.bits ≡ scan (fill f (region_shape self)) }
@@ -152,7 +152,8 @@ impl Region {
         }
     }
 
-    /// One more than the index of a region that is bound by the binder at that index, and 0 for every other region.
+    /// Returns one more than the index of a region that is bound by the binder at that index, and 0 for every other
+    /// region.
     #[tactic(auto, unfolding(crate::specs::Shape::fill))]
     pub fn outer_exclusive_binder(self) -> DebruijnIndex
         ensures { (f : Meaning) → result ≡ outer_binder (fill f (region_shape self)) }

@@ -20,7 +20,7 @@ pub struct Term {
 }
 
 impl Term {
-    /// What the term is.
+    /// Returns what the term is.
     pub fn kind(self) -> TermKind
         ensures { result ≡ self.kind }
     {

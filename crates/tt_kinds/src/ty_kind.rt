@@ -58,14 +58,14 @@ pub struct TypeAndMut {
 pub struct UnsafeBinderInner(Binder<Ty>);
 
 impl UnsafeBinderInner {
-    /// The type as it stands inside, with the binder gone.
+    /// Returns the type as it stands inside, with the binder gone.
     pub fn skip_binder(self) -> Ty
         ensures { result ≡ self.0.value }
     {
         self.0.skip_binder()
     }
 
-    /// The variables that the binder binds.
+    /// Returns the variables that the binder binds.
     pub fn bound_vars(self) -> BoundVarKinds
         ensures { result ≡ self.0.bound_vars }
     {
@@ -159,7 +159,7 @@ pub enum TyKind {
 }
 
 impl TyKind {
-    /// Whether the type's form is known: it is no error, no variable, no alias and no parameter.
+    /// Returns whether the type's form is known: it is no error, no variable, no alias and no parameter.
     pub fn is_known_rigid(&self) -> bool
         ensures { IsTrue result ↔ IsRigid self.now }
     {
@@ -187,7 +187,7 @@ pub enum IntVarValue {
 }
 
 impl IntVarValue {
-    /// Whether it is known what the variable stands for.
+    /// Returns whether it is known what the variable stands for.
     pub fn is_known(self) -> bool
         ensures { IsTrue result ↔ IsKnownInt self }
     {
@@ -197,7 +197,7 @@ impl IntVarValue {
         }
     }
 
-    /// Whether nothing is known.
+    /// Returns whether nothing is known.
     pub fn is_unknown(self) -> bool
         ensures { IsTrue result ↔ (self ≡ int.Unknown) }
     {
@@ -215,7 +215,7 @@ pub enum FloatVarValue {
 }
 
 impl FloatVarValue {
-    /// Whether it is known what the variable stands for.
+    /// Returns whether it is known what the variable stands for.
     pub fn is_known(self) -> bool
         ensures { IsTrue result ↔ IsKnownFloat self }
     {
@@ -225,7 +225,7 @@ impl FloatVarValue {
         }
     }
 
-    /// Whether nothing is known.
+    /// Returns whether nothing is known.
     pub fn is_unknown(self) -> bool
         ensures { IsTrue result ↔ (self ≡ float.Unknown) }
     {

@@ -13,14 +13,14 @@ pub struct FnInputTys {
 }
 
 impl FnInputTys {
-    /// The view of all types of this list but the last. The list has to have one.
+    /// Returns the view of all types of this list but the last. The list has to have one.
     pub fn from_parts(inputs_and_output: Tys) -> FnInputTys
         ensures { result ≡ record { inputs_and_output = inputs_and_output } }
     {
         FnInputTys { inputs_and_output }
     }
 
-    /// The list that the view lies in, with the output as its last type.
+    /// Returns the list that the view lies in, with the output as its last type.
     pub fn inputs_and_output(self) -> Tys
         ensures { result ≡ self.inputs_and_output }
     {
@@ -37,35 +37,36 @@ pub struct GenericArgsSlice {
 }
 
 impl GenericArgsSlice {
-    /// The view of `len` arguments of the list, from the place `start` on, counted from 0. They have to lie in the list.
+    /// Returns the view of `len` arguments of the list, from the place `start` on, counted from 0. They have to lie in
+    /// the list.
     pub fn from_parts(args: GenericArgs, start: u32, len: u32) -> GenericArgsSlice
         ensures { result ≡ record { args = args; start = start; len = len } }
     {
         GenericArgsSlice { args, start, len }
     }
 
-    /// The list that the view lies in.
+    /// Returns the list that the view lies in.
     pub fn args(self) -> GenericArgs
         ensures { result ≡ self.args }
     {
         self.args
     }
 
-    /// The place of its first argument in the list, counted from 0.
+    /// Returns the place of its first argument in the list, counted from 0.
     pub fn start(self) -> u32
         ensures { result ≡ self.start }
     {
         self.start
     }
 
-    /// How many arguments it has.
+    /// Returns how many arguments it has.
     pub fn len(self) -> u32
         ensures { result ≡ self.len }
     {
         self.len
     }
 
-    /// Whether it has no argument.
+    /// Returns whether it has no argument.
     pub fn is_empty(self) -> bool
         ensures { IsTrue result ↔ (self.len ≡ 0) }
     {

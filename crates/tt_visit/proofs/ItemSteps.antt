@@ -17,7 +17,6 @@ module _ {T : Type 0} (of_item : T → Shape) where
       ap (item_shapes of_item) (take-rest list n x h lt) ∙ items-append (take n list) (x ∷ drop (n + 1) list)
 
   pub part-item : (size : Sizes) (list : List T) (n : ℕ) (x : T) → x ≡ get_or list n x → n < length list → AreParts size (item_shapes of_item list) → IsPart size (of_item x)
-  unfolding AreParts
   part-item size list n x h lt are =
       (parts-after size (item_shapes of_item (take n list)) (also (of_item x) (item_shapes of_item (drop (n + 1) list))) (rw (items-from list n x h lt) at are)).0
 

@@ -1,4 +1,7 @@
+pub mod DataSteps
+mod ViewSteps
 pub mod VisitSteps
+pub mod TypeTrees
 pub mod ItemSteps
 pub mod Weights
 pub mod BareLaws

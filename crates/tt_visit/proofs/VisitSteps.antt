@@ -4,7 +4,7 @@ use Rattle.std.specs.Prelude.{Some, None, slice_get}
 use Rattle.std.specs.ControlFlow.{MatchControlFlow}
 use Rattle.std.proofs.lemmas.Grind.{common_steps}
 use Rattle.std.proofs.lemmas.Option.{slice_get_within, get_or_from_slice_get}
-use Rattle.tt_kinds.specs.Label.{Name, Sort, region_sort, type_sort, const_sort, TypeLabel, ConstLabel, Label, type_label, const_label, pattern_label, predicate_label, existential_label, clause_list_label, list_label, var_list_label, text_label, declaration_label, record_label, error_label}
+use Rattle.tt_kinds.specs.Label.{Name, Sort, region_sort, type_sort, const_sort, TypeLabel, ConstLabel, Label, type_label, const_label, pattern_label, predicate_label, existential_label, clause_list_label, list_label, var_list_label, text_label, declaration_label, record_label, error_label, clause_label}
 use Rattle.tt_kinds.specs.Tree as tree
 use Rattle.tt_kinds.specs.Tree.{Depth, Tree, Forest}
 use Rattle.tt_kinds.specs.Shape.{Shapes, none, also, append, rename_label, rename_record, Meaning, Sizes, IsPart, AreParts, HasParts, fill, fill_all, name_of}
@@ -99,6 +99,7 @@ no-error (text_label bytes) is = refl
 no-error (declaration_label n k name) is = refl
 no-error (record_label l) is = refl
 no-error (error_label e) is = cc
+no-error clause_label is = refl
 
 -- what stands inside of it is all that there is to see
 unhooked-inside : {M B : Type 0} (V : Visits M B) (s s' : M) (t : Tree Depth) → root t ≡ unhooked → GoesInside V s t s' → GoesOver V s t s'
@@ -150,7 +151,6 @@ module _ {M B : Type 0} (V : Visits M B) where
 
 -- what stands in a kind
 parts-form : (size : Sizes) (s : Sort) (x : Form (Label ℕ)) → HasParts size (form_shape s x) → AreStored size (form_binder x) × AreParts size (parts_shapes (form_parts x))
-unfolding IsPart AreParts
 parts-form size s (param i name) h = (tt, tt)
 parts-form size s (bound d e) h = (tt, tt)
 parts-form size s (plain l p) h = (tt, h.1)
@@ -173,6 +173,7 @@ error_of-rename name (text_label bytes) = refl
 error_of-rename name (declaration_label i k n) = refl
 error_of-rename name (record_label l) = refl
 error_of-rename name (error_label e) = refl
+error_of-rename name clause_label = refl
 
 -- nothing is seen, and nothing breaks, where there is nothing
 unseen : {M B : Type 0} (V : Visits M B) (s s' : M) → GoesOverAll V s tree.none s' → s' ≡ s
@@ -240,12 +241,10 @@ nothing-seen V f s = all_seen
 
 -- parts of some shapes, and then of others
 pub parts-before : (size : Sizes) (ss us : Shapes) → AreParts size (append ss us) → AreParts size ss
-unfolding AreParts
 parts-before size none us h = tt
 parts-before size (also x ss) us h = (h.0, parts-before size ss us h.1)
 
 pub parts-after : (size : Sizes) (ss us : Shapes) → AreParts size (append ss us) → AreParts size us
-unfolding AreParts
 parts-after size none us h = h
 parts-after size (also x ss) us h = parts-after size ss us h.1
 

@@ -5,3 +5,7 @@ pub mod HasTypeFlags
 pub mod HasEscapingVars
 pub mod HasError
 pub mod MeetsRegions
+pub mod Containers
+pub mod Data
+pub mod Views
+pub mod Types

@@ -1,6 +1,6 @@
 -- What a tree is to a visitor or a folder, as its root tells.
 use Rattle.std.specs.Prelude.{ℕ, Option, Some, None}
-use Rattle.tt_kinds.specs.Label.{Sort, region_sort, type_sort, const_sort, Label, error_of_type, error_of_const, type_label, const_label, pattern_label, predicate_label, existential_label, clause_list_label, list_label, record_label, error_label}
+use Rattle.tt_kinds.specs.Label.{Sort, region_sort, type_sort, const_sort, Label, error_of_type, error_of_const, type_label, const_label, pattern_label, predicate_label, existential_label, clause_list_label, list_label, record_label, error_label, clause_label}
 use Rattle.tt_kinds.specs.declared.table.Table.{Table}
 use Rattle.tt_kinds.specs.declared.table.Table.TheVariants.{Types, Consts, Patterns, Predicates, Existentials, ClauseLists, VarLists, Symbols, Declarations}
 use Rattle.tt_kinds.specs.Tree.{Tree, param, bound, region, term, node, binder}
@@ -42,6 +42,7 @@ table_root _ = a_part
 abbrev pub node_root : {N : Type 0} → Label N → Root
 node_root (list_label t) = a_part
 node_root (record_label l) = a_part
+node_root clause_label = a_part
 node_root _ = no_term
 
 -- what a tree is

@@ -1,5 +1,7 @@
 -- What the calls of a visit promise.
-use Rattle.std.specs.Prelude.{◌≡◌, ℕ, ◌<◌, Option, Some, None, ⊤}
+use Rattle.std.specs.Prelude.{◌≡◌, ℕ, ◌<◌, List, Option, Some, None, ⊤}
+use Rattle.std.specs.ControlFlow.{MatchControlFlow}
+use Rattle.std.specs.declared.ops.ControlFlow.{ControlFlow}
 use Rattle.tt_kinds.specs.Label.{Name, RecordLabel, record_label, Label}
 use Rattle.tt_kinds.specs.Tree.{Depth, Tree, Forest, node, binder}
 use Rattle.tt_kinds.specs.Shape.{Meaning, Sizes, vars_of}
@@ -7,6 +9,7 @@ use Rattle.tt_kinds.specs.Kinds.{Form, param, bound, plain, under, kind_form}
 use Rattle.tt_kinds.specs.declared.table.Table.TheVariants.{VarLists}
 use Rattle.tt_kinds.specs.declared.handle.BoundVarKinds.{BoundVarKinds}
 use Rattle.tt_kinds.specs.declared.parts.Kind.{Kind}
+use Rattle.tt_interner.specs.Rows.{Row}
 use Rattle.tt_visit.specs.Root.{Root, hooked, unhooked, error_of}
 use Rattle.tt_visit.specs.declared.visitor.Next.{Next}
 use Rattle.tt_visit.specs.declared.visitor.Next.TheVariants.{Descend}
@@ -50,3 +53,20 @@ module _ {M B : Type 0} (V : Visits M B) (f : Meaning) where
   abbrev pub BreaksUnder : M → Option BoundVarKinds → Forest Depth → B → M → Type 0
   BreaksUnder s None ts b s' = BreaksAll V s ts b s'
   BreaksUnder s (Some vars) ts b s' = (m : RecordLabel Name) → Breaks V s (binder (vars_of (f VarLists vars.number)) (node (record_label m) ts)) b s'
+
+-- a visit that broke gives what is owned among the rows
+abbrev pub OwnsBreak : {B U : Type 0} → (List Row → B → Type 0) → List Row → ControlFlow B U → Type 0
+OwnsBreak owned rows r = MatchControlFlow r (λ _. ⊤) (owned rows)
+
+module _ {M B S X : Type 0} (means : List Row → S → M) where
+  -- A call took the visitor's state s to s' at x, and answered r: what it says of one that goes on, and of one that breaks.
+  abbrev pub Ends : {U : Type 0} → (M → X → M → Type 0) → (M → X → B → M → Type 0) → List Row → S → X → ControlFlow B U → S → Type 0
+  Ends goes breaks rows s x r s' = MatchControlFlow r
+      (λ _. goes (means rows s) x (means rows s'))
+      (λ b. breaks (means rows s) x b (means rows s'))
+
+  -- the same of a call that also answers what comes next
+  abbrev pub Answers : (M → X → Next → M → Type 0) → (M → X → B → M → Type 0) → List Row → S → X → ControlFlow B Next → S → Type 0
+  Answers goes breaks rows s x r s' = MatchControlFlow r
+      (λ next. goes (means rows s) x next (means rows s'))
+      (λ b. breaks (means rows s) x b (means rows s'))

@@ -43,7 +43,7 @@ impl TypeVisitable for PatternKind {
 
     ghost shape = { bare_pattern_shape };
 
-    #[tactic(auto, unfolding(tt_kinds::specs::Shape::IsPart, tt_kinds::specs::Shape::fill))]
+    #[tactic(auto, unfolding(tt_kinds::specs::Shape::fill))]
     fn visit_with<V: TypeVisitor>(
         &self,
         cx: &Interner,
@@ -58,7 +58,7 @@ impl TypeVisitable for ErrorGuaranteed {
 
     ghost shape = { λ error. token_shape error.0 };
 
-    #[tactic(auto, unfolding(tt_kinds::specs::Shape::IsPart, tt_kinds::specs::Shape::fill))]
+    #[tactic(auto, unfolding(tt_kinds::specs::Shape::fill))]
     fn visit_with<V: TypeVisitor>(
         &self,
         cx: &Interner,
@@ -73,7 +73,7 @@ impl TypeVisitable for UnevaluatedConst {
 
     ghost shape = { unevaluated_shape };
 
-    #[tactic(auto, unfolding(tt_kinds::specs::Shape::IsPart, tt_kinds::specs::Shape::fill))]
+    #[tactic(auto, unfolding(tt_kinds::specs::Shape::fill))]
     fn visit_with<V: TypeVisitor>(
         &self,
         cx: &Interner,
@@ -88,7 +88,7 @@ impl TypeVisitable for ExprConst {
 
     ghost shape = { expression_shape };
 
-    #[tactic(auto, unfolding(tt_kinds::specs::Shape::IsPart, tt_kinds::specs::Shape::fill))]
+    #[tactic(auto, unfolding(tt_kinds::specs::Shape::fill))]
     fn visit_with<V: TypeVisitor>(
         &self,
         cx: &Interner,
@@ -117,7 +117,7 @@ impl TypeVisitable for ValTree {
 
     ghost shape = { valtree_shape };
 
-    #[tactic(auto, unfolding(tt_kinds::specs::Shape::IsPart, tt_kinds::specs::Shape::fill))]
+    #[tactic(auto, unfolding(tt_kinds::specs::Shape::fill))]
     fn visit_with<V: TypeVisitor>(
         &self,
         cx: &Interner,

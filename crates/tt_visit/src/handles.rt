@@ -16,7 +16,7 @@ impl TypeVisitable for Ty {
 
     ghost shape = { ty_shape };
 
-    #[tactic(auto, unfolding(tt_kinds::specs::Shape::IsPart, tt_kinds::specs::Shape::fill))]
+    #[tactic(auto, unfolding(tt_kinds::specs::Shape::fill))]
     fn visit_with<V: TypeVisitor>(
         &self,
         cx: &Interner,
@@ -27,7 +27,7 @@ impl TypeVisitable for Ty {
 }
 
 impl TypeSuperVisitable for Ty {
-    #[tactic(auto, unfolding(tt_kinds::specs::Shape::IsPart, tt_kinds::specs::Shape::fill))]
+    #[tactic(auto, unfolding(tt_kinds::specs::Shape::fill))]
     fn super_visit_with<V: TypeVisitor>(
         &self,
         cx: &Interner,
@@ -42,7 +42,7 @@ impl TypeVisitable for Const {
 
     ghost shape = { const_shape };
 
-    #[tactic(auto, unfolding(tt_kinds::specs::Shape::IsPart, tt_kinds::specs::Shape::fill))]
+    #[tactic(auto, unfolding(tt_kinds::specs::Shape::fill))]
     fn visit_with<V: TypeVisitor>(
         &self,
         cx: &Interner,
@@ -53,7 +53,7 @@ impl TypeVisitable for Const {
 }
 
 impl TypeSuperVisitable for Const {
-    #[tactic(auto, unfolding(tt_kinds::specs::Shape::IsPart, tt_kinds::specs::Shape::fill))]
+    #[tactic(auto, unfolding(tt_kinds::specs::Shape::fill))]
     fn super_visit_with<V: TypeVisitor>(
         &self,
         cx: &Interner,
@@ -68,7 +68,7 @@ impl TypeVisitable for Predicate {
 
     ghost shape = { predicate_shape };
 
-    #[tactic(auto, unfolding(tt_kinds::specs::Shape::IsPart, tt_kinds::specs::Shape::fill))]
+    #[tactic(auto, unfolding(tt_kinds::specs::Shape::fill))]
     fn visit_with<V: TypeVisitor>(
         &self,
         cx: &Interner,
@@ -79,7 +79,7 @@ impl TypeVisitable for Predicate {
 }
 
 impl TypeSuperVisitable for Predicate {
-    #[tactic(auto, unfolding(tt_kinds::specs::Shape::IsPart, tt_kinds::specs::Shape::fill))]
+    #[tactic(auto, unfolding(tt_kinds::specs::Shape::fill))]
     fn super_visit_with<V: TypeVisitor>(
         &self,
         cx: &Interner,
@@ -90,11 +90,11 @@ impl TypeSuperVisitable for Predicate {
 }
 
 impl TypeVisitable for Clause {
-    ghost use Rattle.tt_kinds.specs.Kinds.{clause_shape};
+    ghost use Rattle.tt_kinds.specs.Values.{one_clause_shape};
 
-    ghost shape = { clause_shape };
+    ghost shape = { one_clause_shape };
 
-    #[tactic(auto, unfolding(tt_kinds::specs::Shape::IsPart, tt_kinds::specs::Shape::fill))]
+    #[tactic(auto, unfolding(tt_kinds::specs::Shape::fill))]
     fn visit_with<V: TypeVisitor>(
         &self,
         cx: &Interner,
@@ -110,7 +110,7 @@ impl TypeVisitable for Clauses {
 
     ghost shape = { clauses_shape };
 
-    #[tactic(auto, unfolding(tt_kinds::specs::Shape::IsPart, tt_kinds::specs::Shape::fill))]
+    #[tactic(auto, unfolding(tt_kinds::specs::Shape::fill))]
     fn visit_with<V: TypeVisitor>(
         &self,
         cx: &Interner,
@@ -121,7 +121,7 @@ impl TypeVisitable for Clauses {
 }
 
 impl TypeSuperVisitable for Clauses {
-    #[tactic(auto, unfolding(tt_kinds::specs::Shape::IsPart, tt_kinds::specs::Shape::fill))]
+    #[tactic(auto, unfolding(tt_kinds::specs::Shape::fill))]
     fn super_visit_with<V: TypeVisitor>(
         &self,
         cx: &Interner,
@@ -136,7 +136,7 @@ impl TypeVisitable for Pat {
 
     ghost shape = { pat_shape };
 
-    #[tactic(auto, unfolding(tt_kinds::specs::Shape::IsPart, tt_kinds::specs::Shape::fill))]
+    #[tactic(auto, unfolding(tt_kinds::specs::Shape::fill))]
     fn visit_with<V: TypeVisitor>(
         &self,
         cx: &Interner,
@@ -151,7 +151,7 @@ impl TypeVisitable for PolyExistentialPredicate {
 
     ghost shape = { existential_shape };
 
-    #[tactic(auto, unfolding(tt_kinds::specs::Shape::IsPart, tt_kinds::specs::Shape::fill))]
+    #[tactic(auto, unfolding(tt_kinds::specs::Shape::fill))]
     fn visit_with<V: TypeVisitor>(
         &self,
         cx: &Interner,
@@ -166,7 +166,7 @@ impl TypeVisitable for Tys {
 
     ghost shape = { tys_shape };
 
-    #[tactic(auto, unfolding(tt_kinds::specs::Shape::IsPart, tt_kinds::specs::Shape::fill))]
+    #[tactic(auto, unfolding(tt_kinds::specs::Shape::fill))]
     fn visit_with<V: TypeVisitor>(
         &self,
         cx: &Interner,
@@ -181,7 +181,7 @@ impl TypeVisitable for Consts {
 
     ghost shape = { consts_shape };
 
-    #[tactic(auto, unfolding(tt_kinds::specs::Shape::IsPart, tt_kinds::specs::Shape::fill))]
+    #[tactic(auto, unfolding(tt_kinds::specs::Shape::fill))]
     fn visit_with<V: TypeVisitor>(
         &self,
         cx: &Interner,
@@ -196,7 +196,7 @@ impl TypeVisitable for GenericArgs {
 
     ghost shape = { args_shape };
 
-    #[tactic(auto, unfolding(tt_kinds::specs::Shape::IsPart, tt_kinds::specs::Shape::fill))]
+    #[tactic(auto, unfolding(tt_kinds::specs::Shape::fill))]
     fn visit_with<V: TypeVisitor>(
         &self,
         cx: &Interner,
@@ -211,7 +211,7 @@ impl TypeVisitable for PatList {
 
     ghost shape = { pats_shape };
 
-    #[tactic(auto, unfolding(tt_kinds::specs::Shape::IsPart, tt_kinds::specs::Shape::fill))]
+    #[tactic(auto, unfolding(tt_kinds::specs::Shape::fill))]
     fn visit_with<V: TypeVisitor>(
         &self,
         cx: &Interner,
@@ -226,7 +226,7 @@ impl TypeVisitable for BoundExistentialPredicates {
 
     ghost shape = { existentials_shape };
 
-    #[tactic(auto, unfolding(tt_kinds::specs::Shape::IsPart, tt_kinds::specs::Shape::fill))]
+    #[tactic(auto, unfolding(tt_kinds::specs::Shape::fill))]
     fn visit_with<V: TypeVisitor>(
         &self,
         cx: &Interner,
@@ -241,7 +241,7 @@ impl TypeVisitable for RegionAssumptions {
 
     ghost shape = { assumptions_shape };
 
-    #[tactic(auto, unfolding(tt_kinds::specs::Shape::IsPart, tt_kinds::specs::Shape::fill))]
+    #[tactic(auto, unfolding(tt_kinds::specs::Shape::fill))]
     fn visit_with<V: TypeVisitor>(
         &self,
         cx: &Interner,
@@ -257,7 +257,7 @@ impl TypeVisitable for Region {
 
     ghost shape = { region_shape };
 
-    #[tactic(auto, unfolding(tt_kinds::specs::Shape::IsPart, tt_kinds::specs::Shape::fill))]
+    #[tactic(auto, unfolding(tt_kinds::specs::Shape::fill))]
     fn visit_with<V: TypeVisitor>(
         &self,
         cx: &Interner,
@@ -272,7 +272,7 @@ impl TypeVisitable for GenericArgKind {
 
     ghost shape = { arg_shape };
 
-    #[tactic(auto, unfolding(tt_kinds::specs::Shape::IsPart, tt_kinds::specs::Shape::fill))]
+    #[tactic(auto, unfolding(tt_kinds::specs::Shape::fill))]
     fn visit_with<V: TypeVisitor>(
         &self,
         cx: &Interner,
@@ -306,7 +306,7 @@ impl TypeVisitable for TermKind {
 
     ghost shape = { term_kind_shape };
 
-    #[tactic(auto, unfolding(tt_kinds::specs::Shape::IsPart, tt_kinds::specs::Shape::fill))]
+    #[tactic(auto, unfolding(tt_kinds::specs::Shape::fill))]
     fn visit_with<V: TypeVisitor>(
         &self,
         cx: &Interner,

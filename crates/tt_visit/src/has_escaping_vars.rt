@@ -26,7 +26,7 @@ pub struct HasEscapingVarsVisitor {
 }
 
 impl HasEscapingVarsVisitor {
-    /// The visitor that looks for variables of the binder of this index and of those further out.
+    /// Returns the visitor that looks for variables of the binder of this index and of those further out.
     pub fn new(outer_index: DebruijnIndex) -> HasEscapingVarsVisitor
         ensures { result ≡ record { outer_index = outer_index; skipped = false } }
     {
@@ -36,7 +36,7 @@ impl HasEscapingVarsVisitor {
         }
     }
 
-    /// Whether a binder's value was passed over.
+    /// Returns whether a binder's value was passed over.
     pub fn has_skipped(self) -> bool
         ensures { result ≡ self.skipped }
     {

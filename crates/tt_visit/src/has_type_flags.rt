@@ -24,7 +24,7 @@ pub struct HasTypeFlagsVisitor {
 }
 
 impl HasTypeFlagsVisitor {
-    /// The visitor that looks for the flags of this mask.
+    /// Returns the visitor that looks for the flags of this mask.
     pub fn new(flags: TypeFlags) -> HasTypeFlagsVisitor
         ensures { result ≡ record { flags = flags } }
     {

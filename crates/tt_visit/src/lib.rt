@@ -2,14 +2,19 @@
 #![tactic(auto)]
 
 mod bare;
+mod containers;
+mod data;
 mod handles;
 mod has_error;
 mod has_escaping_vars;
 mod has_type_flags;
 mod meets_regions;
+pub mod owned;
 pub mod queries;
 mod records;
 pub mod stored;
+pub mod type_inspector;
+mod views;
 pub mod visitable;
 pub mod visitor;
 
@@ -17,7 +22,10 @@ pub use has_error::HasErrorVisitor;
 pub use has_escaping_vars::{FoundEscapingVars, HasEscapingVarsVisitor, InRangeVisitor};
 pub use has_type_flags::{FoundFlags, HasTypeFlagsVisitor};
 pub use meets_regions::{MeetsRegionsVisitor, MetRegion};
+pub use owned::{Owned, are_owned};
 pub use queries::TypeVisitableExt;
 pub use tt_interner::Flags;
+pub use type_inspector::{TypeInspector, inspect_types};
+pub use views::InternedView;
 pub use visitable::{TypeSuperVisitable, TypeVisitable};
 pub use visitor::{Next, TypeVisitor};

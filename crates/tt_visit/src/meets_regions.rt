@@ -39,7 +39,7 @@ pub struct MeetsRegionsVisitor {
 }
 
 impl MeetsRegionsVisitor {
-    /// The visitor that stands outside each binder of the value.
+    /// Returns the visitor that stands outside each binder of the value.
     pub fn new() -> MeetsRegionsVisitor
         ensures { result ≡ record { outer_index = 0; skipped = false } }
     {
@@ -49,7 +49,7 @@ impl MeetsRegionsVisitor {
         }
     }
 
-    /// Whether a binder's value was passed over.
+    /// Returns whether a binder's value was passed over.
     pub fn has_skipped(self) -> bool
         ensures { result ≡ self.skipped }
     {
@@ -230,8 +230,8 @@ fn next_at(flags: TypeFlags) -> Next
     }
 }
 
-/// Whether each bound region in the value, however deep it stands, has an index below the greatest. So the answer is
-/// always true; the contract gives callers the fact. Each term that holds a bound region is taken apart.
+/// Returns whether each bound region in the value, however deep it stands, has an index below the greatest. So the
+/// answer is always true; the contract gives callers the fact. Each term that holds a bound region is taken apart.
 pub(crate) fn are_regions_in_range<T: TypeVisitable>(cx: &Interner, value: &T) -> bool
     requires { IsPart (size cx.now.rows) (T.shape value.now) }
     ensures holds { IsTrue result }

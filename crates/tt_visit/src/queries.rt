@@ -1,6 +1,22 @@
 //! Questions that are asked of every value that a visitor can go over.
 
-ghost use Rattle.std.specs.Prelude.{[], IfErr, IfOk, IsTrue, None, Some, true, false, ◌+◌, ◌<◌, ◌≡◌, ◌≢◌, ◌≤◌, ◌↔◌, bit_and};
+ghost use Rattle.std.specs.Prelude.{
+  [],
+  IfErr,
+  IfOk,
+  IsTrue,
+  None,
+  Some,
+  true,
+  false,
+  ◌+◌,
+  ◌<◌,
+  ◌≡◌,
+  ◌≢◌,
+  ◌≤◌,
+  ◌↔◌,
+  bit_and,
+};
 ghost use Rattle.tt_index.specs.Greatest.{greatest};
 ghost use Rattle.tt_kinds.specs.Met.{met};
 ghost use Rattle.tt_kinds.specs.Param.{holds_param};
@@ -28,7 +44,7 @@ use tt_kinds::ErrorGuaranteed;
 /// Each answer comes from what is kept beside the terms of the value: no type, constant, predicate or list of clauses is
 /// taken apart. The value's handles have to be of this interner.
 pub trait TypeVisitableExt: TypeVisitable {
-    /// Whether a flag of the mask is set anywhere in the value.
+    /// Returns whether a flag of the mask is set anywhere in the value.
     final fn has_type_flags(&self, cx: &Interner, mask: TypeFlags) -> bool
         requires { IsPart (size cx.now.rows) (Self.shape self.now) }
         ensures { IsTrue result ↔ (bit_and mask.bits (scan (fill (meaning cx.now.rows) (Self.shape self.now))) ≢ 0) }
@@ -40,7 +56,7 @@ pub trait TypeVisitableExt: TypeVisitable {
         }
     }
 
-    /// Whether a parameter stands anywhere in the value, so that instantiating it can change it.
+    /// Returns whether a parameter stands anywhere in the value, so that instantiating it can change it.
     final fn has_param(&self, cx: &Interner) -> bool
         requires { IsPart (size cx.now.rows) (Self.shape self.now) }
         ensures { IsTrue result ↔ (holds_param (fill (meaning cx.now.rows) (Self.shape self.now)) ≡ true) }
@@ -48,8 +64,8 @@ pub trait TypeVisitableExt: TypeVisitable {
         self.has_type_flags(cx, TypeFlags::HAS_PARAM)
     }
 
-    /// Whether an alias stands in the value, of a type or a constant: a projection, an inherent, an opaque or a free one. What an
-    /// alias would normalize to isn't looked at.
+    /// Returns whether an alias stands in the value, of a type or a constant: a projection, an inherent, an opaque or a
+    /// free one. What an alias would normalize to isn't looked at.
     final fn has_aliases(&self, cx: &Interner) -> bool
         requires { IsPart (size cx.now.rows) (Self.shape self.now) }
         ensures { IsTrue result ↔ Meets 0x7C00 (scan (fill (meaning cx.now.rows) (Self.shape self.now))) }
@@ -57,7 +73,7 @@ pub trait TypeVisitableExt: TypeVisitable {
         self.has_type_flags(cx, TypeFlags::HAS_ALIAS)
     }
 
-    /// Whether an opaque type stands in the value.
+    /// Returns whether an opaque type stands in the value.
     final fn has_opaque_types(&self, cx: &Interner) -> bool
         requires { IsPart (size cx.now.rows) (Self.shape self.now) }
         ensures { IsTrue result ↔ Meets 0x1000 (scan (fill (meaning cx.now.rows) (Self.shape self.now))) }
@@ -65,7 +81,7 @@ pub trait TypeVisitableExt: TypeVisitable {
         self.has_type_flags(cx, TypeFlags::HAS_TY_OPAQUE)
     }
 
-    /// Whether the type of a coroutine stands in the value.
+    /// Returns whether the type of a coroutine stands in the value.
     final fn has_coroutines(&self, cx: &Interner) -> bool
         requires { IsPart (size cx.now.rows) (Self.shape self.now) }
         ensures { IsTrue result ↔ Meets 0x2000000 (scan (fill (meaning cx.now.rows) (Self.shape self.now))) }
@@ -73,7 +89,7 @@ pub trait TypeVisitableExt: TypeVisitable {
         self.has_type_flags(cx, TypeFlags::HAS_TY_CORO)
     }
 
-    /// Whether the token of an error stands in the value: of a type, a constant or a region.
+    /// Returns whether the token of an error stands in the value: of a type, a constant or a region.
     final fn references_error(&self, cx: &Interner) -> bool
         requires { IsPart (size cx.now.rows) (Self.shape self.now) }
         ensures { IsTrue result ↔ Meets 0x18000 (scan (fill (meaning cx.now.rows) (Self.shape self.now))) }
@@ -81,7 +97,7 @@ pub trait TypeVisitableExt: TypeVisitable {
         self.has_type_flags(cx, TypeFlags::HAS_ERROR)
     }
 
-    /// Whether the token of an error of a type or a constant stands in the value.
+    /// Returns whether the token of an error of a type or a constant stands in the value.
     final fn has_non_region_error(&self, cx: &Interner) -> bool
         requires { IsPart (size cx.now.rows) (Self.shape self.now) }
         ensures { IsTrue result ↔ Meets 0x8000 (scan (fill (meaning cx.now.rows) (Self.shape self.now))) }
@@ -89,7 +105,7 @@ pub trait TypeVisitableExt: TypeVisitable {
         self.has_type_flags(cx, TypeFlags::HAS_NON_REGION_ERROR)
     }
 
-    /// Whether a parameter for a type or a constant stands in the value.
+    /// Returns whether a parameter for a type or a constant stands in the value.
     final fn has_non_region_param(&self, cx: &Interner) -> bool
         requires { IsPart (size cx.now.rows) (Self.shape self.now) }
         ensures { IsTrue result ↔ Meets 0x5 (scan (fill (meaning cx.now.rows) (Self.shape self.now))) }
@@ -97,7 +113,7 @@ pub trait TypeVisitableExt: TypeVisitable {
         self.has_type_flags(cx, TypeFlags::from_bits_retain(0x5))
     }
 
-    /// Whether an inference variable for a region stands in the value.
+    /// Returns whether an inference variable for a region stands in the value.
     final fn has_infer_regions(&self, cx: &Interner) -> bool
         requires { IsPart (size cx.now.rows) (Self.shape self.now) }
         ensures { IsTrue result ↔ Meets 0x10 (scan (fill (meaning cx.now.rows) (Self.shape self.now))) }
@@ -105,7 +121,7 @@ pub trait TypeVisitableExt: TypeVisitable {
         self.has_type_flags(cx, TypeFlags::HAS_RE_INFER)
     }
 
-    /// Whether an inference variable for a type stands in the value. Fresh types are none.
+    /// Returns whether an inference variable for a type stands in the value. Fresh types are none.
     final fn has_infer_types(&self, cx: &Interner) -> bool
         requires { IsPart (size cx.now.rows) (Self.shape self.now) }
         ensures { IsTrue result ↔ Meets 0x8 (scan (fill (meaning cx.now.rows) (Self.shape self.now))) }
@@ -113,7 +129,8 @@ pub trait TypeVisitableExt: TypeVisitable {
         self.has_type_flags(cx, TypeFlags::HAS_TY_INFER)
     }
 
-    /// Whether an inference variable for a type or a constant stands in the value. Fresh types and constants are none.
+    /// Returns whether an inference variable for a type or a constant stands in the value. Fresh types and constants
+    /// are none.
     final fn has_non_region_infer(&self, cx: &Interner) -> bool
         requires { IsPart (size cx.now.rows) (Self.shape self.now) }
         ensures { IsTrue result ↔ Meets 0x28 (scan (fill (meaning cx.now.rows) (Self.shape self.now))) }
@@ -121,7 +138,7 @@ pub trait TypeVisitableExt: TypeVisitable {
         self.has_type_flags(cx, TypeFlags::from_bits_retain(0x28))
     }
 
-    /// Whether an inference variable stands in the value. Fresh types and constants are none.
+    /// Returns whether an inference variable stands in the value. Fresh types and constants are none.
     final fn has_infer(&self, cx: &Interner) -> bool
         requires { IsPart (size cx.now.rows) (Self.shape self.now) }
         ensures { IsTrue result ↔ Meets 0x38 (scan (fill (meaning cx.now.rows) (Self.shape self.now))) }
@@ -129,7 +146,7 @@ pub trait TypeVisitableExt: TypeVisitable {
         self.has_type_flags(cx, TypeFlags::HAS_INFER)
     }
 
-    /// Whether a placeholder stands in the value.
+    /// Returns whether a placeholder stands in the value.
     final fn has_placeholders(&self, cx: &Interner) -> bool
         requires { IsPart (size cx.now.rows) (Self.shape self.now) }
         ensures { IsTrue result ↔ Meets 0x1C0 (scan (fill (meaning cx.now.rows) (Self.shape self.now))) }
@@ -137,7 +154,7 @@ pub trait TypeVisitableExt: TypeVisitable {
         self.has_type_flags(cx, TypeFlags::HAS_PLACEHOLDER)
     }
 
-    /// Whether a placeholder for a type or a constant stands in the value.
+    /// Returns whether a placeholder for a type or a constant stands in the value.
     final fn has_non_region_placeholders(&self, cx: &Interner) -> bool
         requires { IsPart (size cx.now.rows) (Self.shape self.now) }
         ensures { IsTrue result ↔ Meets 0x140 (scan (fill (meaning cx.now.rows) (Self.shape self.now))) }
@@ -145,7 +162,7 @@ pub trait TypeVisitableExt: TypeVisitable {
         self.has_type_flags(cx, TypeFlags::from_bits_retain(0x140))
     }
 
-    /// Whether a region stands in the value.
+    /// Returns whether a region stands in the value.
     final fn has_regions(&self, cx: &Interner) -> bool
         requires { IsPart (size cx.now.rows) (Self.shape self.now) }
         ensures { IsTrue result ↔ Meets 0x260000 (scan (fill (meaning cx.now.rows) (Self.shape self.now))) }
@@ -153,7 +170,7 @@ pub trait TypeVisitableExt: TypeVisitable {
         self.has_type_flags(cx, TypeFlags::HAS_REGIONS)
     }
 
-    /// Whether a region stands in the value that is neither bound nor erased.
+    /// Returns whether a region stands in the value that is neither bound nor erased.
     final fn has_free_regions(&self, cx: &Interner) -> bool
         requires { IsPart (size cx.now.rows) (Self.shape self.now) }
         ensures { IsTrue result ↔ Meets 0x20000 (scan (fill (meaning cx.now.rows) (Self.shape self.now))) }
@@ -161,7 +178,7 @@ pub trait TypeVisitableExt: TypeVisitable {
         self.has_type_flags(cx, TypeFlags::HAS_FREE_REGIONS)
     }
 
-    /// Whether an erased region stands in the value.
+    /// Returns whether an erased region stands in the value.
     final fn has_erased_regions(&self, cx: &Interner) -> bool
         requires { IsPart (size cx.now.rows) (Self.shape self.now) }
         ensures { IsTrue result ↔ Meets 0x200000 (scan (fill (meaning cx.now.rows) (Self.shape self.now))) }
@@ -169,7 +186,8 @@ pub trait TypeVisitableExt: TypeVisitable {
         self.has_type_flags(cx, TypeFlags::HAS_RE_ERASED)
     }
 
-    /// Whether a region stands in the value that erasing all regions would replace: one that is neither bound nor erased.
+    /// Returns whether a region stands in the value that erasing all regions would replace: one that is neither bound
+    /// nor erased.
     final fn has_erasable_regions(&self, cx: &Interner) -> bool
         requires { IsPart (size cx.now.rows) (Self.shape self.now) }
         ensures { IsTrue result ↔ Meets 0x20000 (scan (fill (meaning cx.now.rows) (Self.shape self.now))) }
@@ -199,7 +217,7 @@ pub trait TypeVisitableExt: TypeVisitable {
         }
     }
 
-    /// Whether a bound region stands in the value, bound inside of it or outside.
+    /// Returns whether a bound region stands in the value, bound inside of it or outside.
     final fn has_bound_regions(&self, cx: &Interner) -> bool
         requires { IsPart (size cx.now.rows) (Self.shape self.now) }
         ensures { IsTrue result ↔ Meets 0x40000 (scan (fill (meaning cx.now.rows) (Self.shape self.now))) }
@@ -207,7 +225,7 @@ pub trait TypeVisitableExt: TypeVisitable {
         self.has_type_flags(cx, TypeFlags::HAS_RE_BOUND)
     }
 
-    /// Whether a bound type or constant stands in the value, bound inside of it or outside.
+    /// Returns whether a bound type or constant stands in the value, bound inside of it or outside.
     final fn has_non_region_bound_vars(&self, cx: &Interner) -> bool
         requires { IsPart (size cx.now.rows) (Self.shape self.now) }
         ensures { IsTrue result ↔ Meets 0x180000 (scan (fill (meaning cx.now.rows) (Self.shape self.now))) }
@@ -215,7 +233,7 @@ pub trait TypeVisitableExt: TypeVisitable {
         self.has_type_flags(cx, TypeFlags::from_bits_retain(0x180000))
     }
 
-    /// Whether a bound variable stands in the value, bound inside of it or outside.
+    /// Returns whether a bound variable stands in the value, bound inside of it or outside.
     final fn has_bound_vars(&self, cx: &Interner) -> bool
         requires { IsPart (size cx.now.rows) (Self.shape self.now) }
         ensures { IsTrue result ↔ Meets 0x1C0000 (scan (fill (meaning cx.now.rows) (Self.shape self.now))) }
@@ -223,8 +241,8 @@ pub trait TypeVisitableExt: TypeVisitable {
         self.has_type_flags(cx, TypeFlags::HAS_BOUND_VARS)
     }
 
-    /// Whether replacing parameters, inference variables or placeholders for types and constants can still make the value more
-    /// special.
+    /// Returns whether replacing parameters, inference variables or placeholders for types and constants can still make
+    /// the value more special.
     final fn still_further_specializable(&self, cx: &Interner) -> bool
         requires { IsPart (size cx.now.rows) (Self.shape self.now) }
         ensures { IsTrue result ↔ Meets 0x16D (scan (fill (meaning cx.now.rows) (Self.shape self.now))) }
@@ -263,8 +281,8 @@ pub trait TypeVisitableExt: TypeVisitable {
         }
     }
 
-    /// Whether the value means the same everywhere: it holds no parameter, no inference variable, no placeholder, no fresh type
-    /// or constant, and no region but `'static`, bound ones and those of an error.
+    /// Returns whether the value means the same everywhere: it holds no parameter, no inference variable, no
+    /// placeholder, no fresh type or constant, and no region but `'static`, bound ones and those of an error.
     final fn is_global(&self, cx: &Interner) -> bool
         requires { IsPart (size cx.now.rows) (Self.shape self.now) }
         ensures { IsTrue result ↔ Misses 0xE0036D (scan (fill (meaning cx.now.rows) (Self.shape self.now))) }
@@ -272,7 +290,7 @@ pub trait TypeVisitableExt: TypeVisitable {
         !self.has_type_flags(cx, TypeFlags::HAS_FREE_LOCAL_NAMES)
     }
 
-    /// Whether a variable stands in the value that is bound outside of it.
+    /// Returns whether a variable stands in the value that is bound outside of it.
     final fn has_escaping_bound_vars(&self, cx: &Interner) -> bool
         requires { IsPart (size cx.now.rows) (Self.shape self.now) }
         ensures { IsTrue result ↔ (0 < outer_binder (fill (meaning cx.now.rows) (Self.shape self.now))) }
@@ -280,8 +298,8 @@ pub trait TypeVisitableExt: TypeVisitable {
         self.has_vars_bound_at_or_above(cx, DebruijnIndex::INNERMOST)
     }
 
-    /// Whether a variable stands in the value that is bound by the binder of this index or further out. The index is counted
-    /// from outside the value: 0 is the innermost binder around it.
+    /// Returns whether a variable stands in the value that is bound by the binder of this index or further out. The
+    /// index is counted from outside the value: 0 is the innermost binder around it.
     final fn has_vars_bound_at_or_above(&self, cx: &Interner, binder: DebruijnIndex) -> bool
         requires { IsPart (size cx.now.rows) (Self.shape self.now) }
         ensures { IsTrue result ↔ (binder < outer_binder (fill (meaning cx.now.rows) (Self.shape self.now))) }
@@ -293,8 +311,8 @@ pub trait TypeVisitableExt: TypeVisitable {
         }
     }
 
-    /// Whether a variable stands in the value that is bound further out than by the binder of this index. At the greatest index
-    /// it is none.
+    /// Returns whether a variable stands in the value that is bound further out than by the binder of this index. At
+    /// the greatest index it is none.
     final fn has_vars_bound_above(&self, cx: &Interner, binder: DebruijnIndex) -> bool
         requires { IsPart (size cx.now.rows) (Self.shape self.now) }
         ensures { IsTrue result ↔ (binder + 1 < outer_binder (fill (meaning cx.now.rows) (Self.shape self.now))) }
@@ -306,8 +324,8 @@ pub trait TypeVisitableExt: TypeVisitable {
         }
     }
 
-    /// Every variable of a value that is bound outside of it has an index below the greatest. So the answer is always true; the
-    /// contract gives callers the fact.
+    /// Returns every variable of a value that is bound outside of it has an index below the greatest. So the answer is
+    /// always true; the contract gives callers the fact.
     final fn has_vars_in_range(&self, cx: &Interner) -> bool
         requires { IsPart (size cx.now.rows) (Self.shape self.now) }
         ensures holds { IsTrue result }

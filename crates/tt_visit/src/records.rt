@@ -22,7 +22,7 @@ impl TypeVisitable for FnSigTys {
 
     ghost shape = { fn_sig_tys_shape };
 
-    #[tactic(auto, unfolding(tt_kinds::specs::Shape::IsPart, tt_kinds::specs::Shape::fill))]
+    #[tactic(auto, unfolding(tt_kinds::specs::Shape::fill))]
     fn visit_with<V: TypeVisitor>(
         &self,
         cx: &Interner,
@@ -37,7 +37,7 @@ impl TypeVisitable for FnSig {
 
     ghost shape = { fn_sig_shape };
 
-    #[tactic(auto, unfolding(tt_kinds::specs::Shape::IsPart, tt_kinds::specs::Shape::fill))]
+    #[tactic(auto, unfolding(tt_kinds::specs::Shape::fill))]
     fn visit_with<V: TypeVisitor>(
         &self,
         cx: &Interner,
@@ -52,7 +52,7 @@ impl TypeVisitable for CoroutineWitnessTypes {
 
     ghost shape = { witness_types_shape };
 
-    #[tactic(auto, unfolding(tt_kinds::specs::Shape::IsPart, tt_kinds::specs::Shape::fill))]
+    #[tactic(auto, unfolding(tt_kinds::specs::Shape::fill))]
     fn visit_with<V: TypeVisitor>(
         &self,
         cx: &Interner,
@@ -70,7 +70,7 @@ impl TypeVisitable for TypeAndMut {
 
     ghost shape = { type_and_mut_shape };
 
-    #[tactic(auto, unfolding(tt_kinds::specs::Shape::IsPart, tt_kinds::specs::Shape::fill))]
+    #[tactic(auto, unfolding(tt_kinds::specs::Shape::fill))]
     fn visit_with<V: TypeVisitor>(
         &self,
         cx: &Interner,
@@ -85,7 +85,7 @@ impl TypeVisitable for TraitRef {
 
     ghost shape = { trait_ref_shape };
 
-    #[tactic(auto, unfolding(tt_kinds::specs::Shape::IsPart, tt_kinds::specs::Shape::fill))]
+    #[tactic(auto, unfolding(tt_kinds::specs::Shape::fill))]
     fn visit_with<V: TypeVisitor>(
         &self,
         cx: &Interner,
@@ -100,7 +100,7 @@ impl TypeVisitable for AliasTy {
 
     ghost shape = { alias_ty_shape };
 
-    #[tactic(auto, unfolding(tt_kinds::specs::Shape::IsPart, tt_kinds::specs::Shape::fill))]
+    #[tactic(auto, unfolding(tt_kinds::specs::Shape::fill))]
     fn visit_with<V: TypeVisitor>(
         &self,
         cx: &Interner,
@@ -115,7 +115,7 @@ impl TypeVisitable for AliasTerm {
 
     ghost shape = { alias_term_shape };
 
-    #[tactic(auto, unfolding(tt_kinds::specs::Shape::IsPart, tt_kinds::specs::Shape::fill))]
+    #[tactic(auto, unfolding(tt_kinds::specs::Shape::fill))]
     fn visit_with<V: TypeVisitor>(
         &self,
         cx: &Interner,
@@ -130,7 +130,7 @@ impl TypeVisitable for ParamEnv {
 
     ghost shape = { param_env_shape };
 
-    #[tactic(auto, unfolding(tt_kinds::specs::Shape::IsPart, tt_kinds::specs::Shape::fill))]
+    #[tactic(auto, unfolding(tt_kinds::specs::Shape::fill))]
     fn visit_with<V: TypeVisitor>(
         &self,
         cx: &Interner,
@@ -145,7 +145,7 @@ impl TypeVisitable for TraitPredicate {
 
     ghost shape = { trait_predicate_shape };
 
-    #[tactic(auto, unfolding(tt_kinds::specs::Shape::IsPart, tt_kinds::specs::Shape::fill))]
+    #[tactic(auto, unfolding(tt_kinds::specs::Shape::fill))]
     fn visit_with<V: TypeVisitor>(
         &self,
         cx: &Interner,
@@ -160,7 +160,7 @@ impl TypeVisitable for HostEffectPredicate {
 
     ghost shape = { host_effect_shape };
 
-    #[tactic(auto, unfolding(tt_kinds::specs::Shape::IsPart, tt_kinds::specs::Shape::fill))]
+    #[tactic(auto, unfolding(tt_kinds::specs::Shape::fill))]
     fn visit_with<V: TypeVisitor>(
         &self,
         cx: &Interner,
@@ -175,7 +175,7 @@ impl TypeVisitable for ProjectionPredicate {
 
     ghost shape = { projection_shape };
 
-    #[tactic(auto, unfolding(tt_kinds::specs::Shape::IsPart, tt_kinds::specs::Shape::fill))]
+    #[tactic(auto, unfolding(tt_kinds::specs::Shape::fill))]
     fn visit_with<V: TypeVisitor>(
         &self,
         cx: &Interner,
@@ -193,7 +193,7 @@ impl TypeVisitable for NormalizesTo {
 
     ghost shape = { normalizes_to_shape };
 
-    #[tactic(auto, unfolding(tt_kinds::specs::Shape::IsPart, tt_kinds::specs::Shape::fill))]
+    #[tactic(auto, unfolding(tt_kinds::specs::Shape::fill))]
     fn visit_with<V: TypeVisitor>(
         &self,
         cx: &Interner,
@@ -211,7 +211,7 @@ impl TypeVisitable for SubtypePredicate {
 
     ghost shape = { subtype_shape };
 
-    #[tactic(auto, unfolding(tt_kinds::specs::Shape::IsPart, tt_kinds::specs::Shape::fill))]
+    #[tactic(auto, unfolding(tt_kinds::specs::Shape::fill))]
     fn visit_with<V: TypeVisitor>(
         &self,
         cx: &Interner,
@@ -229,7 +229,7 @@ impl TypeVisitable for CoercePredicate {
 
     ghost shape = { coerce_shape };
 
-    #[tactic(auto, unfolding(tt_kinds::specs::Shape::IsPart, tt_kinds::specs::Shape::fill))]
+    #[tactic(auto, unfolding(tt_kinds::specs::Shape::fill))]
     fn visit_with<V: TypeVisitor>(
         &self,
         cx: &Interner,
@@ -247,7 +247,7 @@ impl<A: TypeVisitable> TypeVisitable for OutlivesPredicate<A> {
 
     ghost shape = { outlives_shape A.shape };
 
-    #[tactic(auto, unfolding(tt_kinds::specs::Shape::IsPart, tt_kinds::specs::Shape::fill))]
+    #[tactic(auto, unfolding(tt_kinds::specs::Shape::fill))]
     fn visit_with<V: TypeVisitor>(
         &self,
         cx: &Interner,
@@ -265,7 +265,7 @@ impl TypeVisitable for ClauseKind {
 
     ghost shape = { clause_record_shape };
 
-    #[tactic(auto, unfolding(tt_kinds::specs::Shape::IsPart, tt_kinds::specs::Shape::fill))]
+    #[tactic(auto, unfolding(tt_kinds::specs::Shape::fill))]
     fn visit_with<V: TypeVisitor>(
         &self,
         cx: &Interner,
@@ -280,7 +280,7 @@ impl TypeVisitable for PredicateKind {
 
     ghost shape = { predicate_record_shape };
 
-    #[tactic(auto, unfolding(tt_kinds::specs::Shape::IsPart, tt_kinds::specs::Shape::fill))]
+    #[tactic(auto, unfolding(tt_kinds::specs::Shape::fill))]
     fn visit_with<V: TypeVisitor>(
         &self,
         cx: &Interner,
@@ -295,7 +295,7 @@ impl TypeVisitable for ExistentialPredicate {
 
     ghost shape = { existential_record_shape };
 
-    #[tactic(auto, unfolding(tt_kinds::specs::Shape::IsPart, tt_kinds::specs::Shape::fill))]
+    #[tactic(auto, unfolding(tt_kinds::specs::Shape::fill))]
     fn visit_with<V: TypeVisitor>(
         &self,
         cx: &Interner,
@@ -310,7 +310,7 @@ impl TypeVisitable for ExistentialTraitRef {
 
     ghost shape = { existential_trait_ref_shape };
 
-    #[tactic(auto, unfolding(tt_kinds::specs::Shape::IsPart, tt_kinds::specs::Shape::fill))]
+    #[tactic(auto, unfolding(tt_kinds::specs::Shape::fill))]
     fn visit_with<V: TypeVisitor>(
         &self,
         cx: &Interner,
@@ -325,7 +325,7 @@ impl TypeVisitable for ExistentialProjection {
 
     ghost shape = { existential_projection_shape };
 
-    #[tactic(auto, unfolding(tt_kinds::specs::Shape::IsPart, tt_kinds::specs::Shape::fill))]
+    #[tactic(auto, unfolding(tt_kinds::specs::Shape::fill))]
     fn visit_with<V: TypeVisitor>(
         &self,
         cx: &Interner,
@@ -343,7 +343,7 @@ impl TypeVisitable for UnsafeBinderInner {
 
     ghost shape = { unsafe_binder_shape };
 
-    #[tactic(auto, unfolding(tt_kinds::specs::Shape::IsPart, tt_kinds::specs::Shape::fill))]
+    #[tactic(auto, unfolding(tt_kinds::specs::Shape::fill))]
     fn visit_with<V: TypeVisitor>(
         &self,
         cx: &Interner,

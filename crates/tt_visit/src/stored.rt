@@ -1,16 +1,42 @@
 //! The visit of stored terms and lists.
 
 ghost use Rattle.std.specs.Prelude.{◌<◌, ◌≡◌};
-ghost use Rattle.std.specs.ControlFlow.{MatchControlFlow};
 ghost use Rattle.tt_kinds.specs.Shape.{AreParts, HasParts, IsPart, fill, fill_all};
-ghost use Rattle.tt_kinds.specs.Kinds.{child_shapes, children_shapes, items_tree, kind_shape, list_shape, node_shape, parts_shapes};
+ghost use Rattle.tt_kinds.specs.Kinds.{
+  child_shapes,
+  children_shapes,
+  items_tree,
+  kind_shape,
+  list_shape,
+  node_shape,
+  parts_shapes,
+};
 ghost use Rattle.tt_kinds.specs.Parts.{list_sort, node_table};
 ghost use Rattle.tt_interner.specs.Children.{children_at};
 ghost use Rattle.tt_kinds.specs.declared.table.Table.TheVariants.{VarLists};
 ghost use Rattle.tt_interner.specs.Rows.{meaning, size};
-ghost use Rattle.tt_visit.specs.Visit.{Breaks, BreaksAll, BreaksInside, GoesInside, GoesOver, GoesOverAll, Tells, TellingBreaks};
+ghost use Rattle.tt_visit.specs.Visit.{
+  Breaks,
+  BreaksAll,
+  BreaksInside,
+  GoesInside,
+  GoesOver,
+  GoesOverAll,
+  Tells,
+  TellingBreaks,
+};
 ghost use Rattle.tt_visit.specs.Root.{table_root};
-ghost use Rattle.tt_visit.specs.Steps.{AreStored, Asks, AskingBreaks, BreaksUnder, GoesUnder, kind_error};
+ghost use Rattle.tt_visit.specs.Steps.{
+  Answers,
+  AreStored,
+  Asks,
+  AskingBreaks,
+  BreaksUnder,
+  Ends,
+  GoesUnder,
+  OwnsBreak,
+  kind_error,
+};
 ghost use Rattle.std.specs.Prelude.{Some};
 
 use crate::visitor::{Next, TypeVisitor};
@@ -18,18 +44,19 @@ use std::ops::ControlFlow;
 use tt_interner::Interner;
 use tt_kinds::{BoundVarKinds, Child, ConstKind, Kind, List, Node, Parts, TyKind};
 
-/// The visit of a stored term.
+/// Returns the visit of a stored term.
 #[cycle(visit)]
 pub fn visit_node<V: TypeVisitor>(
     cx: &Interner,
     visitor: &mut V,
     node: Node,
 ) -> ControlFlow<V::Break, ()>
-    requires { IsPart (size cx.now.rows) (node_shape node) }
-    ensures { MatchControlFlow
-        result
-        (λ _. GoesOver V.hooks (V.meaning cx.now.rows visitor.old) (fill (meaning cx.now.rows) (node_shape node)) (V.meaning cx.now.rows visitor.new))
-        (λ b. Breaks V.hooks (V.meaning cx.now.rows visitor.old) (fill (meaning cx.now.rows) (node_shape node)) b (V.meaning cx.now.rows visitor.new)) }
+    requires owned { V.owned cx.now.rows visitor.old }
+    requires node { IsPart (size cx.now.rows) (node_shape node) }
+    ensures owned { V.owned cx.now.rows visitor.new }
+    ensures broke { OwnsBreak V.break_owned cx.now.rows result }
+    ensures result { Ends V.meaning (GoesOver V.hooks) (Breaks V.hooks)
+        cx.now.rows visitor.old (fill (meaning cx.now.rows) (node_shape node)) result visitor.new }
 {
     match ask(cx, visitor, node) {
         ControlFlow::Break(b) => ControlFlow::Break(b),
@@ -45,11 +72,12 @@ pub(crate) fn visit_inside<V: TypeVisitor>(
     visitor: &mut V,
     node: Node,
 ) -> ControlFlow<V::Break, ()>
-    requires { IsPart (size cx.now.rows) (node_shape node) }
-    ensures { MatchControlFlow
-        result
-        (λ _. GoesInside V.hooks (V.meaning cx.now.rows visitor.old) (fill (meaning cx.now.rows) (node_shape node)) (V.meaning cx.now.rows visitor.new))
-        (λ b. BreaksInside V.hooks (V.meaning cx.now.rows visitor.old) (fill (meaning cx.now.rows) (node_shape node)) b (V.meaning cx.now.rows visitor.new)) }
+    requires owned { V.owned cx.now.rows visitor.old }
+    requires node { IsPart (size cx.now.rows) (node_shape node) }
+    ensures owned { V.owned cx.now.rows visitor.new }
+    ensures broke { OwnsBreak V.break_owned cx.now.rows result }
+    ensures result { Ends V.meaning (GoesInside V.hooks) (BreaksInside V.hooks)
+        cx.now.rows visitor.old (fill (meaning cx.now.rows) (node_shape node)) result visitor.new }
 {
     match node {
         Node::Clauses(clauses) => visit_items(cx, visitor, List::Clauses(clauses)),
@@ -60,18 +88,19 @@ pub(crate) fn visit_inside<V: TypeVisitor>(
     }
 }
 
-/// The visit of what stands inside a kind.
+/// Returns the visit of what stands inside a kind.
 #[cycle(visit)]
 pub fn visit_kind<V: TypeVisitor>(
     cx: &Interner,
     visitor: &mut V,
     kind: &Kind,
 ) -> ControlFlow<V::Break, ()>
-    requires { HasParts (size cx.now.rows) (kind_shape kind.now) }
-    ensures { MatchControlFlow
-        result
-        (λ _. GoesInside V.hooks (V.meaning cx.now.rows visitor.old) (fill (meaning cx.now.rows) (kind_shape kind.now)) (V.meaning cx.now.rows visitor.new))
-        (λ b. BreaksInside V.hooks (V.meaning cx.now.rows visitor.old) (fill (meaning cx.now.rows) (kind_shape kind.now)) b (V.meaning cx.now.rows visitor.new)) }
+    requires owned { V.owned cx.now.rows visitor.old }
+    requires kind { HasParts (size cx.now.rows) (kind_shape kind.now) }
+    ensures owned { V.owned cx.now.rows visitor.new }
+    ensures broke { OwnsBreak V.break_owned cx.now.rows result }
+    ensures result { Ends V.meaning (GoesInside V.hooks) (BreaksInside V.hooks)
+        cx.now.rows visitor.old (fill (meaning cx.now.rows) (kind_shape kind.now)) result visitor.new }
 {
     match tell_error(cx, visitor, kind) {
         ControlFlow::Break(b) => ControlFlow::Break(b),
@@ -87,12 +116,15 @@ fn visit_contents<V: TypeVisitor>(
     bound_vars: Option<BoundVarKinds>,
     parts: Parts,
 ) -> ControlFlow<V::Break, ()>
+    requires owned { V.owned cx.now.rows visitor.old }
     requires vars { AreStored (size cx.now.rows) bound_vars }
     requires parts { AreParts (size cx.now.rows) (parts_shapes parts) }
-    ensures { MatchControlFlow
-        result
-        (λ _. GoesUnder V.hooks (meaning cx.now.rows) (V.meaning cx.now.rows visitor.old) bound_vars (fill_all (meaning cx.now.rows) (parts_shapes parts)) (V.meaning cx.now.rows visitor.new))
-        (λ b. BreaksUnder V.hooks (meaning cx.now.rows) (V.meaning cx.now.rows visitor.old) bound_vars (fill_all (meaning cx.now.rows) (parts_shapes parts)) b (V.meaning cx.now.rows visitor.new)) }
+    ensures owned { V.owned cx.now.rows visitor.new }
+    ensures broke { OwnsBreak V.break_owned cx.now.rows result }
+    ensures result { Ends V.meaning
+        (λ s. GoesUnder V.hooks (meaning cx.now.rows) s bound_vars)
+        (λ s. BreaksUnder V.hooks (meaning cx.now.rows) s bound_vars)
+        cx.now.rows visitor.old (fill_all (meaning cx.now.rows) (parts_shapes parts)) result visitor.new }
 {
     match bound_vars {
         None => visit_parts(cx, visitor, parts),
@@ -108,12 +140,15 @@ pub(crate) fn visit_under<V: TypeVisitor>(
     vars: BoundVarKinds,
     parts: Parts,
 ) -> ControlFlow<V::Break, ()>
+    requires owned { V.owned cx.now.rows visitor.old }
     requires vars { vars.number < size cx.now.rows VarLists }
     requires parts { AreParts (size cx.now.rows) (parts_shapes parts) }
-    ensures { MatchControlFlow
-        result
-        (λ _. GoesUnder V.hooks (meaning cx.now.rows) (V.meaning cx.now.rows visitor.old) (Some vars) (fill_all (meaning cx.now.rows) (parts_shapes parts)) (V.meaning cx.now.rows visitor.new))
-        (λ b. BreaksUnder V.hooks (meaning cx.now.rows) (V.meaning cx.now.rows visitor.old) (Some vars) (fill_all (meaning cx.now.rows) (parts_shapes parts)) b (V.meaning cx.now.rows visitor.new)) }
+    ensures owned { V.owned cx.now.rows visitor.new }
+    ensures broke { OwnsBreak V.break_owned cx.now.rows result }
+    ensures result { Ends V.meaning
+        (λ s. GoesUnder V.hooks (meaning cx.now.rows) s (Some vars))
+        (λ s. BreaksUnder V.hooks (meaning cx.now.rows) s (Some vars))
+        cx.now.rows visitor.old (fill_all (meaning cx.now.rows) (parts_shapes parts)) result visitor.new }
 {
     match visitor.visit_binder(cx, vars) {
         ControlFlow::Break(b) => ControlFlow::Break(b),
@@ -133,11 +168,12 @@ pub(crate) fn visit_parts<V: TypeVisitor>(
     visitor: &mut V,
     parts: Parts,
 ) -> ControlFlow<V::Break, ()>
-    requires { AreParts (size cx.now.rows) (parts_shapes parts) }
-    ensures { MatchControlFlow
-        result
-        (λ _. GoesOverAll V.hooks (V.meaning cx.now.rows visitor.old) (fill_all (meaning cx.now.rows) (parts_shapes parts)) (V.meaning cx.now.rows visitor.new))
-        (λ b. BreaksAll V.hooks (V.meaning cx.now.rows visitor.old) (fill_all (meaning cx.now.rows) (parts_shapes parts)) b (V.meaning cx.now.rows visitor.new)) }
+    requires owned { V.owned cx.now.rows visitor.old }
+    requires parts { AreParts (size cx.now.rows) (parts_shapes parts) }
+    ensures owned { V.owned cx.now.rows visitor.new }
+    ensures broke { OwnsBreak V.break_owned cx.now.rows result }
+    ensures result { Ends V.meaning (GoesOverAll V.hooks) (BreaksAll V.hooks)
+        cx.now.rows visitor.old (fill_all (meaning cx.now.rows) (parts_shapes parts)) result visitor.new }
 {
     match visit_child(cx, visitor, &parts.first) {
         ControlFlow::Break(b) => ControlFlow::Break(b),
@@ -152,11 +188,12 @@ fn visit_child<V: TypeVisitor>(
     visitor: &mut V,
     child: &Child,
 ) -> ControlFlow<V::Break, ()>
-    requires { AreParts (size cx.now.rows) (child_shapes child.now) }
-    ensures { MatchControlFlow
-        result
-        (λ _. GoesOverAll V.hooks (V.meaning cx.now.rows visitor.old) (fill_all (meaning cx.now.rows) (child_shapes child.now)) (V.meaning cx.now.rows visitor.new))
-        (λ b. BreaksAll V.hooks (V.meaning cx.now.rows visitor.old) (fill_all (meaning cx.now.rows) (child_shapes child.now)) b (V.meaning cx.now.rows visitor.new)) }
+    requires owned { V.owned cx.now.rows visitor.old }
+    requires child { AreParts (size cx.now.rows) (child_shapes child.now) }
+    ensures owned { V.owned cx.now.rows visitor.new }
+    ensures broke { OwnsBreak V.break_owned cx.now.rows result }
+    ensures result { Ends V.meaning (GoesOverAll V.hooks) (BreaksAll V.hooks)
+        cx.now.rows visitor.old (fill_all (meaning cx.now.rows) (child_shapes child.now)) result visitor.new }
 {
     match child {
         Child::Absent => ControlFlow::Continue(()),
@@ -166,18 +203,19 @@ fn visit_child<V: TypeVisitor>(
     }
 }
 
-/// The visit of a stored list. A list of clauses has a hook of its own.
+/// Returns the visit of a stored list. A list of clauses has a hook of its own.
 #[cycle(visit)]
 pub fn visit_list<V: TypeVisitor>(
     cx: &Interner,
     visitor: &mut V,
     list: List,
 ) -> ControlFlow<V::Break, ()>
-    requires { IsPart (size cx.now.rows) (list_shape list) }
-    ensures { MatchControlFlow
-        result
-        (λ _. GoesOver V.hooks (V.meaning cx.now.rows visitor.old) (fill (meaning cx.now.rows) (list_shape list)) (V.meaning cx.now.rows visitor.new))
-        (λ b. Breaks V.hooks (V.meaning cx.now.rows visitor.old) (fill (meaning cx.now.rows) (list_shape list)) b (V.meaning cx.now.rows visitor.new)) }
+    requires owned { V.owned cx.now.rows visitor.old }
+    requires list { IsPart (size cx.now.rows) (list_shape list) }
+    ensures owned { V.owned cx.now.rows visitor.new }
+    ensures broke { OwnsBreak V.break_owned cx.now.rows result }
+    ensures result { Ends V.meaning (GoesOver V.hooks) (Breaks V.hooks)
+        cx.now.rows visitor.old (fill (meaning cx.now.rows) (list_shape list)) result visitor.new }
 {
     match list {
         List::Clauses(clauses) => visit_node(cx, visitor, Node::Clauses(clauses)),
@@ -192,12 +230,16 @@ fn visit_items<V: TypeVisitor>(
     visitor: &mut V,
     list: List,
 ) -> ControlFlow<V::Break, ()>
-    requires { IsPart (size cx.now.rows) (list_shape list) }
-    ensures list { fill (meaning cx.now.rows) (list_shape list) ≡ items_tree (list_sort list) (fill_all (meaning cx.now.rows) (children_shapes (children_at cx.now.rows list))) }
-    ensures items { MatchControlFlow
-        result
-        (λ _. GoesOverAll V.hooks (V.meaning cx.now.rows visitor.old) (fill_all (meaning cx.now.rows) (children_shapes (children_at cx.now.rows list))) (V.meaning cx.now.rows visitor.new))
-        (λ b. BreaksAll V.hooks (V.meaning cx.now.rows visitor.old) (fill_all (meaning cx.now.rows) (children_shapes (children_at cx.now.rows list))) b (V.meaning cx.now.rows visitor.new)) }
+    requires owned { V.owned cx.now.rows visitor.old }
+    requires list { IsPart (size cx.now.rows) (list_shape list) }
+    ensures list { fill (meaning cx.now.rows) (list_shape list)
+        ≡ items_tree (list_sort list)
+        (fill_all (meaning cx.now.rows) (children_shapes (children_at cx.now.rows list))) }
+    ensures owned { V.owned cx.now.rows visitor.new }
+    ensures broke { OwnsBreak V.break_owned cx.now.rows result }
+    ensures items { Ends V.meaning (GoesOverAll V.hooks) (BreaksAll V.hooks)
+        cx.now.rows visitor.old (fill_all (meaning cx.now.rows) (children_shapes (children_at cx.now.rows list)))
+        result visitor.new }
 {
     for index in 0..cx.list_len(list) {
         let child = cx.list_child(list, index);
@@ -211,11 +253,13 @@ fn visit_items<V: TypeVisitor>(
 
 // What the hook of a stored term answers. A term without a hook is gone into.
 fn ask<V: TypeVisitor>(cx: &Interner, visitor: &mut V, node: Node) -> ControlFlow<V::Break, Next>
-    requires { IsPart (size cx.now.rows) (node_shape node) }
-    ensures { MatchControlFlow
-        result
-        (λ next. Asks V.hooks (table_root (node_table node)) (V.meaning cx.now.rows visitor.old) (fill (meaning cx.now.rows) (node_shape node)) next (V.meaning cx.now.rows visitor.new))
-        (λ b. AskingBreaks V.hooks (table_root (node_table node)) (V.meaning cx.now.rows visitor.old) (fill (meaning cx.now.rows) (node_shape node)) b (V.meaning cx.now.rows visitor.new)) }
+    requires owned { V.owned cx.now.rows visitor.old }
+    requires node { IsPart (size cx.now.rows) (node_shape node) }
+    ensures owned { V.owned cx.now.rows visitor.new }
+    ensures broke { OwnsBreak V.break_owned cx.now.rows result }
+    ensures result { Answers V.meaning
+        (Asks V.hooks (table_root (node_table node))) (AskingBreaks V.hooks (table_root (node_table node)))
+        cx.now.rows visitor.old (fill (meaning cx.now.rows) (node_shape node)) result visitor.new }
 {
     match node {
         Node::Ty(ty) => visitor.visit_ty(cx, ty),
@@ -232,10 +276,11 @@ fn tell_error<V: TypeVisitor>(
     visitor: &mut V,
     kind: &Kind,
 ) -> ControlFlow<V::Break, ()>
-    ensures { MatchControlFlow
-        result
-        (λ _. Tells V.hooks (V.meaning cx.now.rows visitor.old) (kind_error kind.now) (V.meaning cx.now.rows visitor.new))
-        (λ b. TellingBreaks V.hooks (V.meaning cx.now.rows visitor.old) (kind_error kind.now) b (V.meaning cx.now.rows visitor.new)) }
+    requires { V.owned cx.now.rows visitor.old }
+    ensures owned { V.owned cx.now.rows visitor.new }
+    ensures broke { OwnsBreak V.break_owned cx.now.rows result }
+    ensures result { Ends V.meaning (Tells V.hooks) (TellingBreaks V.hooks)
+        cx.now.rows visitor.old (kind_error kind.now) result visitor.new }
 {
     match kind {
         Kind::Ty(TyKind::Error(error)) | Kind::Const(ConstKind::Error(error)) =>

@@ -1,13 +1,12 @@
 //! Values that a visitor can go over.
 
-ghost use Rattle.std.specs.ControlFlow.{MatchControlFlow};
 ghost use Rattle.tt_kinds.specs.Shape.{AreParts, IsPart, Shape, fill, fill_all, item_shapes};
 ghost use Rattle.tt_interner.specs.Rows.{meaning, size};
+ghost use Rattle.tt_visit.specs.Steps.{Ends, OwnsBreak};
 ghost use Rattle.tt_visit.specs.Visit.{Breaks, BreaksAll, BreaksInside, GoesInside, GoesOver, GoesOverAll};
 
 use crate::visitor::{Next, TypeVisitor};
 use std::ops::ControlFlow;
-use std::rc::Rc;
 use tt_interner::Interner;
 use tt_kinds::Binder;
 
@@ -16,33 +15,35 @@ pub trait TypeVisitable {
     // What the value holds.
     ghost shape: { Self → Shape };
 
-    /// The visit of the value: the visitor is told of its regions, terms and binders in order, until a hook breaks. The
-    /// value's handles have to be of this interner.
+    /// Returns the visit of the value: the visitor is told of its regions, terms and binders in order, until a hook
+    /// breaks. The value's handles have to be of this interner.
     fn visit_with<V: TypeVisitor>(
         &self,
         cx: &Interner,
         visitor: &mut V,
     ) -> ControlFlow<V::Break, ()>
-        requires { IsPart (size cx.now.rows) (shape self.now) }
-        ensures { MatchControlFlow
-            result
-            (λ _. GoesOver V.hooks (V.meaning cx.now.rows visitor.old) (fill (meaning cx.now.rows) (shape self.now)) (V.meaning cx.now.rows visitor.new))
-            (λ b. Breaks V.hooks (V.meaning cx.now.rows visitor.old) (fill (meaning cx.now.rows) (shape self.now)) b (V.meaning cx.now.rows visitor.new)) };
+        requires owned { V.owned cx.now.rows visitor.old }
+        requires value { IsPart (size cx.now.rows) (shape self.now) }
+        ensures owned { V.owned cx.now.rows visitor.new }
+        ensures broke { OwnsBreak V.break_owned cx.now.rows result }
+        ensures result { Ends V.meaning (GoesOver V.hooks) (Breaks V.hooks)
+            cx.now.rows visitor.old (fill (meaning cx.now.rows) (shape self.now)) result visitor.new };
 }
 
 /// A value that has a hook of its own.
 pub trait TypeSuperVisitable: TypeVisitable {
-    /// The visit of what stands inside the value, without its own hook.
+    /// Returns the visit of what stands inside the value, without its own hook.
     fn super_visit_with<V: TypeVisitor>(
         &self,
         cx: &Interner,
         visitor: &mut V,
     ) -> ControlFlow<V::Break, ()>
-        requires { IsPart (size cx.now.rows) (Self.shape self.now) }
-        ensures { MatchControlFlow
-            result
-            (λ _. GoesInside V.hooks (V.meaning cx.now.rows visitor.old) (fill (meaning cx.now.rows) (Self.shape self.now)) (V.meaning cx.now.rows visitor.new))
-            (λ b. BreaksInside V.hooks (V.meaning cx.now.rows visitor.old) (fill (meaning cx.now.rows) (Self.shape self.now)) b (V.meaning cx.now.rows visitor.new)) };
+        requires owned { V.owned cx.now.rows visitor.old }
+        requires value { IsPart (size cx.now.rows) (Self.shape self.now) }
+        ensures owned { V.owned cx.now.rows visitor.new }
+        ensures broke { OwnsBreak V.break_owned cx.now.rows result }
+        ensures result { Ends V.meaning (GoesInside V.hooks) (BreaksInside V.hooks)
+            cx.now.rows visitor.old (fill (meaning cx.now.rows) (Self.shape self.now)) result visitor.new };
 }
 
 impl<T: TypeVisitable> TypeVisitable for Binder<T> {
@@ -50,7 +51,7 @@ impl<T: TypeVisitable> TypeVisitable for Binder<T> {
 
     ghost shape = { binder_shape T.shape };
 
-    #[tactic(auto, unfolding(tt_kinds::specs::Shape::IsPart, tt_kinds::specs::Shape::fill))]
+    #[tactic(auto, unfolding(tt_kinds::specs::Shape::fill))]
     fn visit_with<V: TypeVisitor>(
         &self,
         cx: &Interner,
@@ -69,7 +70,7 @@ impl<T: TypeVisitable> TypeVisitable for Binder<T> {
 }
 
 impl<T: TypeVisitable> TypeSuperVisitable for Binder<T> {
-    #[tactic(auto, unfolding(tt_kinds::specs::Shape::IsPart, tt_kinds::specs::Shape::fill))]
+    #[tactic(auto, unfolding(tt_kinds::specs::Shape::fill))]
     fn super_visit_with<V: TypeVisitor>(
         &self,
         cx: &Interner,
@@ -84,7 +85,7 @@ impl<A: TypeVisitable, B: TypeVisitable> TypeVisitable for (A, B) {
 
     ghost shape = { pair_shape A.shape B.shape };
 
-    #[tactic(auto, unfolding(tt_kinds::specs::Shape::IsPart, tt_kinds::specs::Shape::fill))]
+    #[tactic(auto, unfolding(tt_kinds::specs::Shape::fill))]
     fn visit_with<V: TypeVisitor>(
         &self,
         cx: &Interner,
@@ -102,7 +103,7 @@ impl<A: TypeVisitable, B: TypeVisitable, C: TypeVisitable> TypeVisitable for (A,
 
     ghost shape = { triple_shape A.shape B.shape C.shape };
 
-    #[tactic(auto, unfolding(tt_kinds::specs::Shape::IsPart, tt_kinds::specs::Shape::fill))]
+    #[tactic(auto, unfolding(tt_kinds::specs::Shape::fill))]
     fn visit_with<V: TypeVisitor>(
         &self,
         cx: &Interner,
@@ -124,7 +125,7 @@ impl<T: TypeVisitable> TypeVisitable for Option<T> {
 
     ghost shape = { option_shape T.shape };
 
-    #[tactic(auto, unfolding(tt_kinds::specs::Shape::IsPart, tt_kinds::specs::Shape::fill))]
+    #[tactic(auto, unfolding(tt_kinds::specs::Shape::fill))]
     fn visit_with<V: TypeVisitor>(
         &self,
         cx: &Interner,
@@ -142,7 +143,7 @@ impl<T: TypeVisitable, E: TypeVisitable> TypeVisitable for Result<T, E> {
 
     ghost shape = { result_shape T.shape E.shape };
 
-    #[tactic(auto, unfolding(tt_kinds::specs::Shape::IsPart, tt_kinds::specs::Shape::fill))]
+    #[tactic(auto, unfolding(tt_kinds::specs::Shape::fill))]
     fn visit_with<V: TypeVisitor>(
         &self,
         cx: &Interner,
@@ -155,36 +156,12 @@ impl<T: TypeVisitable, E: TypeVisitable> TypeVisitable for Result<T, E> {
     }
 }
 
-impl<T: TypeVisitable> TypeVisitable for Box<T> {
-    ghost shape = { λ boxed. T.shape boxed.value };
-
-    fn visit_with<V: TypeVisitor>(
-        &self,
-        cx: &Interner,
-        visitor: &mut V,
-    ) -> ControlFlow<V::Break, ()> {
-        T::visit_with(&**self, cx, visitor)
-    }
-}
-
-impl<T: TypeVisitable> TypeVisitable for Rc<T> {
-    ghost shape = { λ shared. T.shape shared.value };
-
-    fn visit_with<V: TypeVisitor>(
-        &self,
-        cx: &Interner,
-        visitor: &mut V,
-    ) -> ControlFlow<V::Break, ()> {
-        T::visit_with(&**self, cx, visitor)
-    }
-}
-
 impl<T: TypeVisitable> TypeVisitable for Vec<T> {
     ghost use Rattle.tt_kinds.specs.Values.{sequence_shape};
 
     ghost shape = { λ values. sequence_shape T.shape values.items };
 
-    #[tactic(auto, unfolding(tt_kinds::specs::Shape::IsPart, tt_kinds::specs::Shape::fill))]
+    #[tactic(auto, unfolding(tt_kinds::specs::Shape::fill))]
     fn visit_with<V: TypeVisitor>(
         &self,
         cx: &Interner,
@@ -199,7 +176,7 @@ impl<T: TypeVisitable> TypeVisitable for &[T] {
 
     ghost shape = { λ values. sequence_shape T.shape values.now };
 
-    #[tactic(auto, unfolding(tt_kinds::specs::Shape::IsPart, tt_kinds::specs::Shape::fill))]
+    #[tactic(auto, unfolding(tt_kinds::specs::Shape::fill))]
     fn visit_with<V: TypeVisitor>(
         &self,
         cx: &Interner,
@@ -215,11 +192,12 @@ pub(crate) fn visit_values<T: TypeVisitable, V: TypeVisitor>(
     visitor: &mut V,
     values: &[T],
 ) -> ControlFlow<V::Break, ()>
-    requires { AreParts (size cx.now.rows) (item_shapes T.shape values.now) }
-    ensures { MatchControlFlow
-        result
-        (λ _. GoesOverAll V.hooks (V.meaning cx.now.rows visitor.old) (fill_all (meaning cx.now.rows) (item_shapes T.shape values.now)) (V.meaning cx.now.rows visitor.new))
-        (λ b. BreaksAll V.hooks (V.meaning cx.now.rows visitor.old) (fill_all (meaning cx.now.rows) (item_shapes T.shape values.now)) b (V.meaning cx.now.rows visitor.new)) }
+    requires owned { V.owned cx.now.rows visitor.old }
+    requires values { AreParts (size cx.now.rows) (item_shapes T.shape values.now) }
+    ensures owned { V.owned cx.now.rows visitor.new }
+    ensures broke { OwnsBreak V.break_owned cx.now.rows result }
+    ensures result { Ends V.meaning (GoesOverAll V.hooks) (BreaksAll V.hooks)
+        cx.now.rows visitor.old (fill_all (meaning cx.now.rows) (item_shapes T.shape values.now)) result visitor.new }
 {
     for index in 0..values.len() {
         match values[index].visit_with(cx, visitor) {
@@ -233,7 +211,7 @@ pub(crate) fn visit_values<T: TypeVisitable, V: TypeVisitor>(
 impl<T: TypeVisitable> TypeVisitable for &T {
     ghost shape = { λ x. T.shape x.now };
 
-    #[tactic(auto, unfolding(tt_kinds::specs::Shape::IsPart, tt_kinds::specs::Shape::fill))]
+    #[tactic(auto, unfolding(tt_kinds::specs::Shape::fill))]
     fn visit_with<V: TypeVisitor>(
         &self,
         cx: &Interner,

@@ -27,11 +27,6 @@ use Rattle.type_terms.specs.declared.run.answer.Answer.{Answer}
 use Rattle.type_terms.specs.declared.run.answer.Answer.TheVariants as answer
 use Rattle.type_terms.specs.declared.run.call.RegionNameCall.{RegionNameCall}
 use Rattle.type_terms.specs.declared.run.call.Call.{Call}
-use Rattle.type_terms.specs.declared.run.call.ConstCall.{ConstCall}
-use Rattle.type_terms.specs.declared.run.call.ConstCall.TheVariants as const
-use Rattle.type_terms.specs.declared.run.call.ValTreeCall.TheVariants as valtree
-use Rattle.type_terms.specs.declared.run.call.PatCall.{PatCall}
-use Rattle.type_terms.specs.declared.run.call.PatCall.TheVariants as pat
 use Rattle.type_terms.specs.CallForm as call_forms
 use Rattle.type_terms.specs.CallForm.{CallForm, Named, Item, a_list, items_positions, AreItemsTooDeep, form_positions}
 use Rattle.type_terms.specs.Told.{Told, term, refused, told, told_all, AreOwned, HasFullTable, IsStored, Setting, setting}
@@ -39,7 +34,9 @@ use Rattle.type_terms.specs.Means as means
 use Rattle.type_terms.specs.Means.{number_at, tree_at, AreTerms, NamesTerms, BuildsOrFolds, IsTold, IsThere, AddsNothing, IsAllowed, MayRefuse, want_of_memory, full_table, no_term, too_deep}
 use Rattle.type_terms.specs.Build as build
 use Rattle.type_terms.specs.Build.{IsUnbuilt, no_memory, no_row, no_index, IsNameOf, IsRegionOf, GivesRegion, ArePlaced, AreItemsOf, GivesPart, GivesPlaced, IsKindOf, Answers}
-use Rattle.type_terms.proofs.TextLaws.{new-not-stored, unnamed-absent, region-absent}
+use Rattle.type_terms.specs.Room.{IsForRoom, HasValue, FormNeedsRoom}
+use Rattle.type_terms.proofs.ValueLaws.{new-lacks}
+use Rattle.type_terms.proofs.RoomLaws.{stored-value}
 use Rattle.type_terms.proofs.RunLaws.{HasFullTable-extends, IsStored-grows, IsAllowed-wider}
 
 -- why a row was not stored is such a reason
@@ -65,7 +62,7 @@ Builds-extends result number old new row b = record { rows = b.grows; limit = b.
 pub list-built : {H : Type 0} (number : H → ℕ) (old new : Terms) (e : List Told) (t : Table) (is : List Item) (ss : Shapes) (row : Row) (result : Result H Refusal)
     → AreItemsOf old e is ss → row_table row ≡ t → row_shape row ≡ shape.node (list_label t) ss → Builds result number old new row
     → GivesPart new e (a_list t is) (λ h. stored t (number h)) result
-unfolding fill IsPart
+unfolding fill
 list-built number old new e t is ss row (Ok l) h same is_node b = record {
   ok = record {
     part = rw (← same) b.in_range;
@@ -85,7 +82,7 @@ list-built number old new e t is ss row (Err r) h same is_node b = record {
 pub list-placed : {H : Type 0} (number : H → ℕ) (old new : Terms) (e : List Told) (t : Table) (ts : Forest Depth) (ns : List Named) (deep : Type 0) (ss : Shapes) (row : Row) (result : Result H Refusal)
     → ArePlaced old e ts ns deep ss → row_table row ≡ t → row_shape row ≡ shape.node (list_label t) ss → Builds result number old new row
     → GivesPlaced new e (node (list_label t) ts) ns deep (λ h. stored t (number h)) result
-unfolding fill IsPart
+unfolding fill
 list-placed number old new e t ts ns deep ss row (Ok l) h same is_node b = record {
   ok = record {
     part = rw (← same) b.in_range;
@@ -105,7 +102,7 @@ list-placed number old new e t ts ns deep ss row (Err r) h same is_node b = reco
 pub term-placed : {H : Type 0} (number : H → ℕ) (old new : Terms) (e : List Told) (form : CallForm) (row : Row) (result : Result H Refusal)
     → IsKindOf old e form (row_shape row) → Builds result number old new row
     → GivesPlaced new e (call_forms.form_tree (number_at e) (tree_at e) form) (form_positions form) (call_forms.IsFormTooDeep form) (λ h. stored (row_table row) (number h)) result
-unfolding fill IsPart
+unfolding fill
 term-placed number old new e form row (Ok l) h b = record {
   ok = record {
     part = b.in_range;
@@ -126,10 +123,10 @@ stored-as rows table t n u within h = subst (λ (x : Table). IsStored rows x u) 
 
 -- a reason why a part was not built is one why the call is refused
 pub unbuilt-refused : (s : Setting) (e : List Told) (c : Call) (ns : List Named) (deep : Type 0) (r : Refusal)
-    → BuildsOrFolds c → (AddsNothing s e c → build.IsForRoom r → ⊥) → (NamesTerms e c → AreTerms e ns) → (deep → means.IsTooDeep e c)
+    → BuildsOrFolds c → (AddsNothing s e c → IsForRoom r → ⊥) → (NamesTerms e c → AreTerms e ns) → (deep → means.IsTooDeep e c)
     → IsUnbuilt s.full e ns deep r → MayRefuse s e c r
-unbuilt-refused s e c ns deep r b g n d (build.no_memory i) = want_of_memory (b, λ a. g a (subst build.IsForRoom (sym i) tt)) i
-unbuilt-refused s e c ns deep r b g n d (build.no_row p i) = full_table (b, λ a. g a (subst build.IsForRoom (sym i) tt)) p i
+unbuilt-refused s e c ns deep r b g n d (build.no_memory i) = want_of_memory (b, λ a. g a (subst IsForRoom (sym i) tt)) i
+unbuilt-refused s e c ns deep r b g n d (build.no_row p i) = full_table (b, λ a. g a (subst IsForRoom (sym i) tt)) p i
 unbuilt-refused s e c ns deep r b g n d (build.no_term h i) = no_term (λ a. h (n a)) i
 unbuilt-refused s e c ns deep r b g n d (build.no_index h i) = too_deep (d h) i
 
@@ -154,45 +151,11 @@ there-stored : (start old new : Terms) → Extends start old → (answers : List
     → IsStored old.rows t (call_forms.form_tree (number_at (told_all start.rows answers)) (tree_at (told_all start.rows answers)) f)
 there-stored start old new x answers o t f h = IsStored-grows start.rows old.rows x.rows t _ (elim h.1 [ inl k ↦ k | inr k ↦ told-stored start.rows answers t _ o k ])
 
--- a refusal for another reason is none for want of room
-pub not-room : (r q : Refusal) → r ≡ q → (build.IsForRoom q → ⊥) → build.IsForRoom r → ⊥
-not-room r q h other room = other (subst build.IsForRoom h room)
-
 -- what is there isn't refused for want of room
 pub there-refused : (start old new : Terms) → Extends start old → (answers : List Answer) → AreOwned start.rows answers → AreRows old.rows → (t : Table) (f : CallForm) (r : Refusal)
-    → (call_forms.IsOfHandles f → r ≡ NoSuchAnswer) → (call_forms.IsOfRegion f → build.IsForRoom r → build.LacksRegion old.rows f) → build.LacksName old.rows f
-    → IsThere (setting start new) (told_all start.rows answers) t f → build.IsForRoom r → ⊥
-there-refused start old new x answers o are t f r handles region lacks there room = elim there.0 [
-  | inl h ↦ not-room r NoSuchAnswer (handles h) (λ n. n) room
-  | inr q ↦ elim q [
-    | inl h ↦ region-absent old.rows are t _ _ f (region h room) h (there-stored start old new x answers o t f there)
-    | inr p ↦ unnamed-absent old.rows are t _ _ f lacks p (there-stored start old new x answers o t f there)
-  ]
-]
-
--- no constant has a region for its part
-pub no-region-in-const : (ids : ℕ → ℕ) (k : ConstCall) → call_forms.IsOfRegion (call_forms.const_form ids k) → ⊥
-no-region-in-const ids (const.Param index name) h = h
-no-region-in-const ids (const.Infer i) h = h
-no-region-in-const ids (const.Bound i b) h = h
-no-region-in-const ids (const.Placeholder p) h = h
-no-region-in-const ids (const.Unevaluated p args) h = h
-no-region-in-const ids (const.Value t (valtree.Leaf s)) h = h
-no-region-in-const ids (const.Value t (valtree.Branch cs)) h = h
-no-region-in-const ids (const.Error e) h = h
-no-region-in-const ids (const.Expr tag args) h = h
-
--- nor has a pattern
-pub no-region-in-pattern : (k : PatCall) → call_forms.IsOfRegion (call_forms.pat_form k) → ⊥
-no-region-in-pattern (pat.Range x y) h = h
-no-region-in-pattern (pat.Or ps) h = h
-no-region-in-pattern pat.NotNull h = h
-
--- no pattern is a parameter
-pub no_parameter : (k : PatCall) → call_forms.IsParameter (call_forms.pat_form k) → ⊥
-no_parameter (pat.Range x y) h = h
-no_parameter (pat.Or ps) h = h
-no_parameter pat.NotNull h = h
+    → FormNeedsRoom old.rows (told_all start.rows answers) f r → IsThere (setting start new) (told_all start.rows answers) t f → IsForRoom r → ⊥
+there-refused start old new x answers o are t f r needs there room =
+    needs room there.0 are (stored-value old.rows t _ (there-stored start old new x answers o t f there))
 
 -- the term of the kind that the call names is its answer
 module _ (start old new : Terms) (e : List Told) (c : Call) (form : CallForm) (row : Row) (h : IsKindOf old e form (row_shape row)) where
@@ -217,7 +180,7 @@ pub there-built : {H : Type 0} (number : H → ℕ) (start old new : Terms) (ans
     → IsThere (setting start new) (told_all start.rows answers) (row_table row) form → ⊥
 there-built number start old new answers form row r h b are x o there =
     let s = there-stored start old new x answers o (row_table row) form there in
-    new-not-stored old.rows are row h.parts b.absent (subst (λ (t : Tree Depth). IsStored old.rows (row_table row) t) (sym h.means) s)
+    new-lacks old.rows are row h.parts b.absent (subst (λ (t : Tree Depth). HasValue old.rows t) (sym h.means) (stored-value old.rows (row_table row) _ s))
 
 -- what an answer is from later terms it is from earlier ones
 pub Answers-earlier : (start old new : Terms) (e : List Told) (c : Call) (result : Result Answer Refusal) → Extends start old → Answers old new e c result → Answers start new e c result
@@ -264,7 +227,7 @@ pub region-bound : (terms : Terms) (ids : ℕ → ℕ) (i : BoundVarIndexKind) (
     → IsNameOf terms ids name b.kind
     → (IsBelowGreatest (depth i) → result ≡ Ok (ReBound i b)) → ((IsBelowGreatest (depth i) → ⊥) → result ≡ Err GreatestIndex)
     → GivesRegion terms (tree.bound region_sort (depth i) (call_forms.region_entry ids b.var name)) (IsGreatest (depth i)) result
-unfolding fill IsPart
+unfolding fill
 region-bound terms ids i b name result n ok deep = elim (IsBelowGreatest-or-not i) [
   | inl s ↦
       rw (ok s) (record {

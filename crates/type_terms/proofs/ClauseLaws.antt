@@ -38,7 +38,7 @@ clause-part terms e p n h k = record {
 -- it is none
 pub no-clause : (P : Type 0) (terms : Terms) (e : List Told) (p n : ℕ) (r : Refusal) → IsPartOf terms e (one (a_term Predicates p)) (stored Predicates n) → (IsClause terms.rows n → ⊥)
     → r ≡ NoSuchAnswer → IsUnbuilt P e (record { want = of_clause; position = p } ∷ []) ⊥ r
-unfolding fill IsPart
+unfolding fill
 no-clause P terms e p n r h k i =
     no_term (λ a. k (record { within = h.part; clause = rw (h.means) (only_table e (term_at e p) a.0).1 })) i
 

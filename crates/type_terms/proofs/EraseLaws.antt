@@ -39,7 +39,6 @@ module _ {F : Type 0} (step : F → RegionKind → ℕ → RegionKind → F → 
       λ i. first i ∷ rest i
 
   each-erased : (symbols : ℕ) (calls : List (RegionKind × ℕ)) (f : F) → Erases f → AnswersEach step symbols f calls
-  unfolding IsPart
   each-erased symbols [] f h = tt
   each-erased symbols (c ∷ calls) f h = λ named a g k.
       let one = erases f c.0 c.1 a g h k in (subst (HasName symbols) (sym one.0) tt, each-erased symbols calls g one.1)

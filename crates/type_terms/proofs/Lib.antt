@@ -5,7 +5,9 @@ pub mod IdLaws
 pub mod ResultLaws
 pub mod PartLaws
 pub mod ClauseLaws
+pub mod ValueLaws
 pub mod TextLaws
+pub mod RoomLaws
 pub mod BuildLaws
 pub mod NameLaws
 pub mod KindLaws

@@ -82,7 +82,7 @@ module _ (terms : Terms) (earlier : List Answer) (p : ℕ) (a : Answer) (table :
   in_range-at o = is.owned terms.rows (at.owned terms.rows o)
 
   pub part-at : AreOwned terms.rows earlier → IsPartOf terms (told_all terms.rows earlier) (one (a_term table p)) (stored table n)
-  unfolding fill IsPart
+  unfolding fill
   part-at o = record {
     part = in_range-at o;
     means = rw (told-at terms.rows) refl;

@@ -18,7 +18,7 @@ use Rattle.type_terms.specs.declared.run.call.RegionNameCall.{RegionNameCall}
 use Rattle.type_terms.specs.declared.run.call.VariableCall.{VariableCall}
 use Rattle.type_terms.specs.CallForm.{variable_kind}
 use Rattle.type_terms.specs.Told.{HasFullTable}
-use Rattle.type_terms.specs.Build.{IsUnbuilt, GivesName, IsVariableOf, GivesVariable, AreVariablesOf, GivesVariables}
+use Rattle.type_terms.specs.Build.{IsUnbuilt, GivesName, IsVariableOf, GivesVariable, AreVariablesOf, GivesVariables, PutsVariables}
 use Rattle.type_terms.proofs.BuildLaws.{unstored, Builds-extends}
 
 -- what a question mark passes on
@@ -37,6 +37,11 @@ pub variables-passed : (terms : Terms) (ids : ℕ → ℕ) (cs : List VariableCa
 variables-passed terms ids cs (Ok k) r h u = absurd h
 variables-passed terms ids cs (Err x) r h u = record { ok = tt; err = rw h u }
 
+pub vars-passed : {R : Type 0} (terms : Terms) (ids : ℕ → ℕ) (cs : List VariableCall) (vs : List BoundVariableKind) (result : Result R Refusal) (r : Refusal) → IsErrAnd result (λ x. x ≡ r)
+    → IsUnbuilt (HasFullTable terms) [] [] ⊥ r → PutsVariables terms ids cs vs result
+vars-passed terms ids cs vs (Ok k) r h u = absurd h
+vars-passed terms ids cs vs (Err x) r h u = record { ok = tt; err = rw h u }
+
 -- one variable more
 kinds-append : (size : Sizes) (vs : List (VarKind ℕ)) (v : VarKind ℕ) → AreNamedKinds size vs → IsNamedKind size v → AreNamedKinds size (vs ++ v ∷ [])
 kinds-append size [] v h k = (k, tt)
@@ -45,12 +50,11 @@ kinds-append size (w ∷ vs) v h k = (h.0, kinds-append size vs v h.1 k)
 -- what more rows leave as it is
 kinds-grow : (old new : Terms) (vs : List BoundVariableKind) → Extends old new → AreNamedKinds (size old.rows) (map var_kind vs)
     → AreNamedKinds (size new.rows) (map var_kind vs)
-unfolding IsPart
 kinds-grow old new vs x h = (HasParts-grows old.rows new.rows x.rows (vars_row_shape vs) (h, tt)).0
 
 kinds-still : (old new : Terms) (vs : List BoundVariableKind) → Extends old new → AreNamedKinds (size old.rows) (map var_kind vs)
     → map (rename_kind (name_of (meaning new.rows))) (map var_kind vs) ≡ map (rename_kind (name_of (meaning old.rows))) (map var_kind vs)
-unfolding fill IsPart
+unfolding fill
 kinds-still old new vs x h = ap vars_of (row-grows old.rows new.rows x.rows (vars_row_shape vs) (h, tt))
 
 pub variables-nothing : (terms : Terms) (ids : ℕ → ℕ) → AreVariablesOf terms ids [] []

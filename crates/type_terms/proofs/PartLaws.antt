@@ -28,7 +28,7 @@ use Rattle.type_terms.specs.CallForm.{ExistentialForm, trait_object, existential
 use Rattle.type_terms.specs.Told.{Told, HasFullTable}
 use Rattle.type_terms.specs.Means.{number_at, tree_at, AreTerms}
 use Rattle.type_terms.specs.Build as build
-use Rattle.type_terms.specs.Build.{IsUnbuilt, IsUnusable, IsUsable, IsPlaced, ArePlaced, IsItemOf, AreItemsOf, IsPartOf, ArePartsOf, GivesPart, GivesParts, GivesPlaced, GivesItems, IsRegionOf, GivesRegion, IsVariableListOf, IsKindOf, GivesKind, GivesRecord}
+use Rattle.type_terms.specs.Build.{IsUnbuilt, IsUnusable, IsUsable, IsPlaced, ArePlaced, IsItemOf, AreItemsOf, IsPartOf, ArePartsOf, GivesPart, GivesParts, GivesPlaced, GivesItems, PutsItems, IsRegionOf, GivesRegion, IsVariableListOf, IsKindOf, GivesKind, GivesRecord}
 
 -- positions of two lists
 pub AreTerms-append : (e : List Told) (ms ns : List Named) → AreTerms e ms → AreTerms e ns → AreTerms e (ms ++ ns)
@@ -94,12 +94,12 @@ all_placed-grow {e} {ts} {ns} {deep} {ss} old new x h = record {
 
 -- children in order
 pub parts-none : (terms : Terms) (e : List Told) → ArePartsOf terms e [] shape.none
-unfolding fill IsPart
+unfolding fill
 parts-none terms e = record { parts = tt; means = refl; named = tt; shallow = λ d. d }
 
 pub parts-also : (terms : Terms) (e : List Told) (p : Part) (ps : List Part) (s : Shape) (ss : Shapes) → IsPartOf terms e p s → ArePartsOf terms e ps ss
     → ArePartsOf terms e (p ∷ ps) (shape.also s ss)
-unfolding fill IsPart
+unfolding fill
 parts-also terms e p ps s ss h k = record {
   parts = (h.part, k.parts);
   means = rw (h.means, k.means) refl;
@@ -144,7 +144,6 @@ module _ {X : Type 0} (deep_of : X → Type 0) where
 module _ {X T : Type 0} (tree_of : (ℕ → ℕ) → (ℕ → Tree Depth) → X → Tree Depth) (names_of : X → List Named) (deep_of : X → Type 0) (of_value : T → Shape) where
   parts-append : (size : Sizes) (ys : List T) (y : T) → AreParts size (item_shapes of_value ys) → IsPart size (of_value y)
       → AreParts size (item_shapes of_value (ys ++ y ∷ []))
-  unfolding IsPart
   parts-append size [] y h k = (k, tt)
   parts-append size (z ∷ ys) y h k = (h.0, parts-append size ys y h.1 k)
 
@@ -161,7 +160,7 @@ module _ {X T : Type 0} (tree_of : (ℕ → ℕ) → (ℕ → Tree Depth) → X 
       rw (first, trees-append f ids at xs ys x y rest k) refl
 
   pub all-none : (terms : Terms) (e : List Told) → ArePlaced terms e (all_trees (tree_of (number_at e) (tree_at e)) []) (all_positions names_of []) (AnyIsDeep deep_of []) (item_shapes of_value [])
-  unfolding fill IsPart
+  unfolding fill
   all-none terms e = record { parts = tt; means = refl; named = tt; shallow = λ d. d }
 
   pub all-more : (terms : Terms) (e : List Told) (xs : List X) (ys : List T) (x : X) (y : T)
@@ -267,7 +266,7 @@ pub under-kind : (terms : Terms) (e : List Told) (l : Label Name) (vs : List Var
     → IsNamedRecord (size terms.rows) n → rename_record (name_of (meaning terms.rows)) n ≡ k
     → IsKindOf terms e (under l (map (variable_kind (number_at e)) vs) k ps)
     (shape.term m (shape.also (shape.binder vars.number (shape.node (record_label n) ss)) shape.none))
-unfolding fill IsPart
+unfolding fill
 under-kind terms e l vs k ps m vars n ss h v nl ql nr qr = record {
   parts = (nl, ((v.in_range, (refl, nr, h.parts)), tt));
   means = rw (ql, qr, v.means, h.means) refl;
@@ -279,7 +278,7 @@ under-kind terms e l vs k ps m vars n ss h v nl ql nr qr = record {
 pub record-placed : (terms : Terms) (e : List Told) (r : RecordCall) (n : RecordLabel ℕ) (ss : Shapes) → ArePartsOf terms e r.parts ss
     → IsNamedRecord (size terms.rows) n → rename_record (name_of (meaning terms.rows)) n ≡ r.label
     → IsPlaced terms e (record_tree (number_at e) (tree_at e) r) (parts_positions r.parts) (ArePartsTooDeep r.parts) (shape.node (record_label n) ss)
-unfolding fill IsPart
+unfolding fill
 record-placed terms e r n ss h k q = record {
   part = (refl, k, h.parts);
   means = rw (q, h.means) refl;
@@ -291,7 +290,7 @@ pub bound-record : (terms : Terms) (e : List Told) (l : Label Name) (vs : List V
     → IsPlaced terms e (record_tree (number_at e) (tree_at e) r) (parts_positions r.parts) (ArePartsTooDeep r.parts) s → IsVariableListOf terms (number_at e) vs vars
     → IsNamedLabel (size terms.rows) m → rename_label (name_of (meaning terms.rows)) m ≡ l
     → IsKindOf terms e (under l (map (variable_kind (number_at e)) vs) r.label r.parts) (shape.term m (shape.also (shape.binder vars.number s) shape.none))
-unfolding fill IsPart
+unfolding fill
 bound-record terms e l vs r m vars s h v n q = record {
   parts = (n, ((v.in_range, h.part), tt));
   means = rw (q, v.means, h.means) refl;
@@ -328,7 +327,7 @@ pub dynamic-kind : (terms : Terms) (e : List Told) (xs : List ExistentialForm) (
     → IsPlaced terms e (existentials_tree (number_at e) (tree_at e) xs) (all_positions existential_positions xs) (AnyIsDeep IsExistentialTooDeep xs) s
     → IsRegionOf terms (region_tree (number_at e) c) (IsRegionTooDeep c) r
     → IsKindOf terms e (trait_object xs c) (shape.term (type_label dynamic_type) (shape.also s (shape.also (region_shape r) shape.none)))
-unfolding fill IsPart
+unfolding fill
 dynamic-kind terms e xs c s r h k = record {
   parts = (tt, (h.part, (k.part, tt)));
   means = rw (h.means, k.means) refl;
@@ -345,6 +344,11 @@ pub items-passed : {H : Type 0} (terms : Terms) (e : List Told) (is : List Item)
     → IsUnbuilt (HasFullTable terms) e (items_positions is) (AreItemsTooDeep is) r → GivesItems terms e is of_value result
 items-passed terms e is of_value (Ok l) r h k = absurd h
 items-passed terms e is of_value (Err x) r h k = record { ok = tt; err = rw h k }
+
+pub puts-passed : {H R : Type 0} (terms : Terms) (e : List Told) (is : List Item) (of_value : H → Shape) (values : List H) (result : Result R Refusal) (r : Refusal) → IsErrAnd result (λ x. x ≡ r)
+    → IsUnbuilt (HasFullTable terms) e (items_positions is) (AreItemsTooDeep is) r → PutsItems terms e is of_value values result
+puts-passed terms e is of_value values (Ok l) r h k = absurd h
+puts-passed terms e is of_value values (Err x) r h k = record { ok = tt; err = rw h k }
 
 pub kind-passed : {K : Type 0} (terms : Terms) (e : List Told) (f : CallForm) (of_kind : K → Shape) (result : Result K Refusal) (r : Refusal) → IsErrAnd result (λ x. x ≡ r)
     → IsUnbuilt (HasFullTable terms) e (form_positions f) (IsFormTooDeep f) r → GivesKind terms e f of_kind result

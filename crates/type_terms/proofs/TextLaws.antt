@@ -1,33 +1,26 @@
--- The texts in stored terms: where a term is stored, so are its texts.
-use Rattle.std.proofs.Common.{◌≡◌, ℕ, ◌<◌, List, ◌∷◌, Option, Some, None, refl, ap, sym, ◌∙◌}
-use Rattle.std.proofs.lemmas.Option.{none-some, same_Some}
-use Rattle.tt_kinds.specs.Label.{Name, RegionName, anonymous, printed, named, environment, VarKind, region_variable, type_variable, const_variable, FreeRegion, static_region, erased_region, region_var, error_region, late_param_region, placeholder_region, Label, text_label}
+-- The texts in values: where a tree is that of a value, its texts are stored.
+use Rattle.std.proofs.Common.{◌≡◌, ℕ, zero, suc, ◌<◌, List, [], ◌∷◌, map, Option, Some, None, refl, ap, sym, ◌∙◌}
+use Rattle.std.specs.Prelude.{slice_get}
+use Rattle.std.specs.Option.{option_map}
+use Rattle.std.proofs.lemmas.Option.{none-some, same_Some, slice_get-map}
+use Rattle.tt_kinds.specs.Label.{Name, Sort, RegionName, anonymous, printed, named, environment, VarKind, region_variable, type_variable, const_variable, FreeRegion, static_region, erased_region, region_var, error_region, late_param_region, placeholder_region, Label, var_list_label, text_label}
 use Rattle.tt_kinds.specs.Tree as tree
-use Rattle.tt_kinds.specs.Tree.{Tree, Forest, Depth, node}
+use Rattle.tt_kinds.specs.Tree.{Tree, Depth, node}
 use Rattle.tt_kinds.specs.Shape as shape
-use Rattle.tt_kinds.specs.Shape.{Shape, Sizes, Meaning, fill, name_of, text_of, rename_region, rename_kind, rename_free, IsNamed, IsNamedKind, IsNamedFree, HasParts, IsPart}
-use Rattle.tt_kinds.specs.declared.table.Table.{Table}
+use Rattle.tt_kinds.specs.Shape.{Shape, Sizes, Meaning, fill, name_of, text_of, rename_region, rename_kind, rename_free, rename_label, IsNamed, IsNamedKind, IsNamedFree, AreNamedKinds, IsNamedLabel, HasParts, IsPart}
 use Rattle.tt_kinds.specs.declared.table.Table.TheVariants.{Symbols}
-use Rattle.tt_interner.specs.Rows.{Row, text_row, row_table, row_shape, size, meaning, IsNew, AreRows}
-use Rattle.tt_interner.proofs.Trees.{row_within, Means-row, IsNew-row, distinct}
-use Rattle.tt_interner.proofs.Fill.{fill-one_row}
-use Rattle.tt_interner.proofs.ShapeLaws.{shape_one, text_of_row}
+use Rattle.tt_interner.specs.Rows.{Row, text_row, row_shape, size, meaning, IsNew, AreRows}
+use Rattle.tt_interner.proofs.Trees.{row_within, Means-row}
+use Rattle.tt_interner.proofs.ShapeLaws.{text_of_row}
 use Rattle.type_terms.specs.declared.run.call.RegionNameCall.{RegionNameCall}
 use Rattle.type_terms.specs.declared.run.call.RegionNameCall.TheVariants as region_name
+use Rattle.type_terms.specs.declared.run.call.VariableCall.{VariableCall}
+use Rattle.type_terms.specs.declared.run.call.VariableCall.TheVariants as variable
 use Rattle.type_terms.specs.declared.run.call.RegionCall.{RegionCall}
 use Rattle.type_terms.specs.declared.run.call.RegionCall.TheVariants.{ReEarlyParam, ReBound, ReLateParam, ReStatic, ReVar, RePlaceholder, ReErased, ReError}
-use Rattle.type_terms.specs.CallForm as call_forms
-use Rattle.type_terms.specs.CallForm.{CallForm, Part, one, a_region, called, region_tree, name_text, region_text}
-use Rattle.type_terms.specs.Told.{IsStored}
-use Rattle.type_terms.specs.Build.{LacksText, LacksRegion, LacksName}
-
--- a new row's term isn't stored
-pub new-not-stored : (rows : List Row) → AreRows rows → (r : Row) → HasParts (size rows) (row_shape r) → IsNew r rows → IsStored rows (row_table r) (fill (meaning rows) (row_shape r)) → ⊥
-new-not-stored rows are r parts new s =
-    let at = row_within rows (row_table r) s.number s.within in
-    let means = Means-row rows are (row_table r) s.number at.0 at.1 in
-    let same = fill-one_row (size rows) (meaning rows) (distinct rows are) (row_shape at.0) (row_shape r) means.parts parts (sym means.tree ∙ s.means) in
-    IsNew-row r rows new (row_table r) s.number at.0 at.1 (shape_one at.0 r same)
+use Rattle.type_terms.specs.CallForm.{called, variable_kind, region_tree, name_text, region_text, variable_text}
+use Rattle.type_terms.specs.Room.{HasValue, LacksValue, LacksText}
+use Rattle.type_terms.proofs.ValueLaws.{IsNode, in-node, new-lacks}
 
 -- the text that a bound region is called
 abbrev kept_text : RegionName Name → Option Name
@@ -97,27 +90,27 @@ module _ (f : Meaning) (size_of : Sizes) where
   row-text (shape.binder n b) name h e = absurd h
   row-text (shape.stored t n) name h e = absurd h
 
-  -- the first child of a row
-  record HasFirstPart (u : Tree Depth) : Type 0 where
-    part : Shape
-    in_range : IsPart size_of part
-    means : fill f part ≡ u
+  -- the texts of variables
+  kinds-text : (ws : List (VarKind ℕ)) (vs : List (VarKind Name)) (i : ℕ) (v : VarKind Name) (name : Name) → AreNamedKinds size_of ws
+      → map (rename_kind (name_of f)) ws ≡ vs → slice_get vs i ≡ Some v → var_text v ≡ Some name → IsText f size_of name
+  kinds-text [] [] i v name h same here e = absurd (cc)
+  kinds-text [] (u ∷ vs) i v name h same here e = absurd (cc)
+  kinds-text (w ∷ ws) [] i v name h same here e = absurd (cc)
+  kinds-text (w ∷ ws) (u ∷ vs) zero v name h same here e =
+      let is : rename_kind (name_of f) w ≡ v = cc in kind-text w name h.0 (ap var_text is ∙ e)
+  kinds-text (w ∷ ws) (u ∷ vs) (suc i) v name h same here e =
+      let rest : map (rename_kind (name_of f)) ws ≡ vs = cc in kinds-text ws vs i v name h.1 rest here e
 
-  first-part : (sh : Shape) (l : Label Name) (u : Tree Depth) (us : Forest Depth) → HasParts size_of sh → fill f sh ≡ tree.term l (tree.also u us) → HasFirstPart u
-  unfolding fill IsPart
-  first-part (shape.term m (shape.also s ss)) l u us h e = record { part = s; in_range = h.1.0; means = (let same = e in cc) }
-  first-part (shape.term m shape.none) l u us h e = absurd (cc)
-  first-part (shape.param o j n) l u us h e = absurd (cc)
-  first-part (shape.bound o d y) l u us h e = absurd (cc)
-  first-part (shape.region r) l u us h e = absurd h
-  first-part (shape.node m ss) l u us h e = absurd (cc)
-  first-part (shape.binder n b) l u us h e = absurd h
-  first-part (shape.stored t n) l u us h e = absurd h
+  label-text : (m : Label ℕ) (vs : List (VarKind Name)) (i : ℕ) (v : VarKind Name) (name : Name) → IsNamedLabel size_of m
+      → rename_label (name_of f) m ≡ var_list_label vs → slice_get vs i ≡ Some v → var_text v ≡ Some name → IsText f size_of name
+  label-text (var_list_label ws) vs i v name h same here e =
+      let kinds : map (rename_kind (name_of f)) ws ≡ vs = cc in kinds-text ws vs i v name h kinds here e
+  label-text _ vs i v name h same here e = absurd (cc)
 
 module _ (rows : List Row) (are : AreRows rows) where
   -- the text of a child that is a leaf
   part-text : (s : Shape) (name : Name) → IsPart (size rows) s → tree_text (fill (meaning rows) s) ≡ Some name → IsText (meaning rows) (size rows) name
-  unfolding fill IsPart
+  unfolding fill
   part-text (shape.param o j n) name h e = record { number = n; within = h.1; is = same_Some _ name e }
   part-text (shape.bound o d y) name h e = kind-text (meaning rows) (size rows) y.kind name h.1 e
   part-text (shape.region r) name h e = region-text (meaning rows) (size rows) r name h e
@@ -131,53 +124,61 @@ module _ (rows : List Row) (are : AreRows rows) where
 
   -- a text in the table is no new one
   known-text : (name : Name) → IsText (meaning rows) (size rows) name → IsNew (text_row name) rows → ⊥
-  unfolding fill IsPart
+  unfolding fill
   known-text name text new =
       let row = row_within rows Symbols text.number text.within in
       let says = Means-row rows are Symbols text.number row.0 row.1 in
       let is : text_of (fill (meaning rows) (row_shape row.0)) ≡ name = ap text_of (sym says.tree) ∙ text.is in
-      new-not-stored rows are (text_row name) (tt, tt) new
+      new-lacks rows are (text_row name) (tt, tt) new
       (record {
-        number = text.number;
-        within = text.within;
+        shape = shape.stored Symbols text.number;
+        part = text.within;
         means = says.tree ∙ text_of_row (meaning rows) row.0 says.same_table ∙ ap (λ bytes. node (text_label bytes) tree.none) is;
       })
 
-  -- a parameter whose name is no text isn't stored
-  pub unnamed-absent : (t : Table) (ids : ℕ → ℕ) (trees : ℕ → Tree Depth) (f : CallForm)
-      → LacksName rows f → call_forms.IsParameter f → IsStored rows t (call_forms.form_tree ids trees f) → ⊥
-  unnamed-absent t ids trees (call_forms.param s i name) lacks p kept =
-      let at = row_within rows t kept.number kept.within in
-      let means = Means-row rows are t kept.number at.0 at.1 in
-      known-text name (row-text (meaning rows) (size rows) (row_shape at.0) name means.parts (ap tree_text (sym means.tree ∙ kept.means))) lacks
-  unnamed-absent t ids trees _ lacks p kept = absurd p
+  lacking : (o : Option Name) (t : Tree Depth) → tree_text t ≡ o → LacksText rows o → HasValue rows t → ⊥
+  lacking None t e lacks v = lacks
+  lacking (Some name) t e lacks v = known-text name (part-text v.shape name v.part (ap tree_text v.means ∙ e)) lacks
 
-  name-text : (ids : ℕ → ℕ) (c : RegionNameCall) → kept_text (called ids c) ≡ name_text c
-  name-text ids region_name.Anon = refl
-  name-text ids (region_name.NamedForPrinting text) = refl
-  name-text ids (region_name.Named p) = refl
-  name-text ids region_name.ClosureEnv = refl
+name-text : (ids : ℕ → ℕ) (c : RegionNameCall) → kept_text (called ids c) ≡ name_text c
+name-text ids region_name.Anon = refl
+name-text ids (region_name.NamedForPrinting text) = refl
+name-text ids (region_name.Named p) = refl
+name-text ids region_name.ClosureEnv = refl
 
-  tree-text : (ids : ℕ → ℕ) (r : RegionCall) → tree_text (region_tree ids r) ≡ region_text r
-  tree-text ids (ReEarlyParam index name) = refl
-  tree-text ids (ReBound i var name) = name-text ids name
-  tree-text ids (ReLateParam p name) = name-text ids name
-  tree-text ids ReStatic = refl
-  tree-text ids (ReVar v) = refl
-  tree-text ids (RePlaceholder u var name) = name-text ids name
-  tree-text ids ReErased = refl
-  tree-text ids (ReError e) = refl
+tree-text : (ids : ℕ → ℕ) (r : RegionCall) → tree_text (region_tree ids r) ≡ region_text r
+tree-text ids (ReEarlyParam index name) = refl
+tree-text ids (ReBound i var name) = name-text ids name
+tree-text ids (ReLateParam p name) = name-text ids name
+tree-text ids ReStatic = refl
+tree-text ids (ReVar v) = refl
+tree-text ids (RePlaceholder u var name) = name-text ids name
+tree-text ids ReErased = refl
+tree-text ids (ReError e) = refl
 
-  lacking : (o : Option Name) (s : Shape) → IsPart (size rows) s → tree_text (fill (meaning rows) s) ≡ o → LacksText rows o → ⊥
-  lacking None s h e lacks = lacks
-  lacking (Some name) s h e lacks = known-text name (part-text s name h e) lacks
+-- no value is a region whose text is none
+pub region-lacks : (rows : List Row) (ids : ℕ → ℕ) (r : RegionCall) → LacksText rows (region_text r) → LacksValue rows (region_tree ids r)
+region-lacks rows ids r lacks are v = lacking rows are (region_text r) (region_tree ids r) (tree-text ids r) lacks v
 
-  -- a reference whose region's text is none isn't stored
-  pub region-absent : (t : Table) (ids : ℕ → ℕ) (trees : ℕ → Tree Depth) (f : CallForm)
-      → LacksRegion rows f → call_forms.IsOfRegion f → IsStored rows t (call_forms.form_tree ids trees f) → ⊥
-  region-absent t ids trees (call_forms.plain l (one (a_region r) ∷ ps)) lacks p kept =
-      let at = row_within rows t kept.number kept.within in
-      let means = Means-row rows are t kept.number at.0 at.1 in
-      let first = first-part (meaning rows) (size rows) (row_shape at.0) l (region_tree ids r) (call_forms.parts_trees ids trees ps) means.parts (sym means.tree ∙ kept.means) in
-      lacking (region_text r) first.part first.in_range (ap tree_text first.means ∙ tree-text ids r) lacks
-  region-absent t ids trees _ lacks p kept = absurd p
+-- nor a parameter whose name is none
+pub param-lacks : (rows : List Row) (s : Sort) (i : ℕ) (name : Name) → IsNew (text_row name) rows → LacksValue rows (tree.param s i name)
+param-lacks rows s i name new are v = lacking rows are (Some name) (tree.param s i name) refl new v
+
+var-text : (ids : ℕ → ℕ) (c : VariableCall) → var_text (variable_kind ids c) ≡ variable_text c
+var-text ids (variable.Ty k) = refl
+var-text ids (variable.Region k) = name-text ids k
+var-text ids variable.Const = refl
+
+named-variable : (rows : List Row) (are : AreRows rows) (vs : List (VarKind Name)) (i : ℕ) (v : VarKind Name) (o : Option Name) → slice_get vs i ≡ Some v → var_text v ≡ o
+    → LacksText rows o → IsNode rows are (var_list_label vs) tree.none → ⊥
+named-variable rows are vs i v None here e lacks n = lacks
+named-variable rows are vs i v (Some name) here e lacks n =
+    known-text rows are name (label-text (meaning rows) (size rows) n.label vs i v name n.named n.renamed here e) lacks
+
+-- nor a list of variables with such a name
+pub variable-lacks : (rows : List Row) (ids : ℕ → ℕ) (cs : List VariableCall) (i : ℕ) (c : VariableCall) → slice_get cs i ≡ Some c → LacksText rows (variable_text c)
+    → LacksValue rows (node (var_list_label (map (variable_kind ids) cs)) tree.none)
+variable-lacks rows ids cs i c here lacks are v =
+    named-variable rows are (map (variable_kind ids) cs) i (variable_kind ids c) (variable_text c)
+    (slice_get-map (variable_kind ids) cs i ∙ ap (option_map (variable_kind ids)) here) (var-text ids c) lacks
+    (in-node rows are (var_list_label (map (variable_kind ids) cs)) tree.none v)

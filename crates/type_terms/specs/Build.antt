@@ -1,5 +1,5 @@
 -- What the steps of a building call promise.
-use Rattle.std.specs.Prelude.{◌≡◌, ◌↔◌, ℕ, ◌<◌, List, [], ◌∷◌, ◌++◌, map, Option, Result, IfOk, IfErr, Some, IsSome, IsSomeAnd, ⊤}
+use Rattle.std.specs.Prelude.{◌≡◌, ◌↔◌, ℕ, ◌<◌, List, [], ◌∷◌, ◌++◌, map, Option, Result, IfOk, IfErr, OnOk, Some, IsSome, IsSomeAnd, ⊤}
 use Rattle.tt_index.specs.declared.refusal.Refusal.{Refusal}
 use Rattle.tt_index.specs.declared.refusal.Refusal.TheVariants.{Memory, TableFull, GreatestIndex, NoSuchAnswer}
 use Rattle.tt_kinds.specs.Label.{Name, var_list_label}
@@ -18,7 +18,7 @@ use Rattle.tt_kinds.specs.declared.handle.BoundVarKinds.{BoundVarKinds}
 use Rattle.tt_kinds.specs.declared.declaration.DeclarationSort.{DeclarationSort}
 use Rattle.tt_kinds.specs.declared.table.Table.{Table}
 use Rattle.tt_kinds.specs.declared.table.Table.TheVariants.{VarLists}
-use Rattle.tt_interner.specs.Rows.{Row, text_row, size, meaning, IsNew, AreClauses}
+use Rattle.tt_interner.specs.Rows.{Row, size, meaning, AreClauses}
 use Rattle.tt_interner.specs.Stored.{Terms}
 use Rattle.type_terms.specs.declared.run.answer.Answer.{Answer}
 use Rattle.type_terms.specs.declared.run.answer.Answer.TheVariants as answer
@@ -31,7 +31,7 @@ use Rattle.tt_binder.specs.Arguments.{arguments as built_arguments}
 use Rattle.tt_kinds.specs.declared.generic_arg.GenericArgKind.{GenericArgKind}
 use Rattle.std.specs.declared.alloc.Global.{Global}
 use Rattle.std.specs.declared.vec.Vec.{Vec}
-use Rattle.type_terms.specs.CallForm.{of_id, CallForm, param, plain, one, a_region, region_text, Named, Item, Part, called, variable_kind, item_tree, items_trees, part_tree, parts_trees, item_positions, items_positions, part_positions, parts_positions, IsItemTooDeep, AreItemsTooDeep, IsPartTooDeep, ArePartsTooDeep, form_positions, form_tree, IsFormTooDeep, arg_item, arg_items, clause_items, RecordCall, record_tree}
+use Rattle.type_terms.specs.CallForm.{of_id, CallForm, Named, Item, Part, called, variable_kind, item_tree, items_trees, part_tree, parts_trees, item_positions, items_positions, part_positions, parts_positions, IsItemTooDeep, AreItemsTooDeep, IsPartTooDeep, ArePartsTooDeep, form_positions, form_tree, IsFormTooDeep, arg_item, arg_items, clause_items, RecordCall, record_tree}
 use Rattle.type_terms.specs.Told.{Told, term, told, told_all, handle_table, IsOwned, AreOwned, HasFullTable, setting}
 use Rattle.type_terms.specs.Means.{IsUnchanged, as_term, term_at, as_id, id_at, number_at, Tells, tree_at, argument, arguments, AreTerms, IsAllowed, MayRefuse}
 
@@ -75,31 +75,6 @@ pub data IsUnbuilt (full : Type 0) (earlier : List Told) (named : List Named) (d
   no_term : (AreTerms earlier named → ⊥) → e ≡ NoSuchAnswer → IsUnbuilt full earlier named deep e
   no_index : deep → e ≡ GreatestIndex → IsUnbuilt full earlier named deep e
 
--- the name of a parameter that is built is no text of the rows
-abbrev pub LacksName : List Row → CallForm → Type 0
-LacksName rows (param s i name) = IsNew (text_row name) rows
-LacksName rows _ = ⊤
-
--- a region's text is none of the rows
-abbrev pub LacksText : List Row → Option Name → Type 0
-LacksText rows text = IsSomeAnd text (λ name. IsNew (text_row name) rows)
-
--- the text of a region among the children is none of the rows
-abbrev pub AnyLacksText : List Row → List Part → Type 0
-AnyLacksText rows (one (a_region r) ∷ ps) = LacksText rows (region_text r)
-AnyLacksText rows _ = ⊥
-
--- the text of the region that is built into the term is none of the rows
-abbrev pub LacksRegion : List Row → CallForm → Type 0
-LacksRegion rows (plain l ps) = AnyLacksText rows ps
-LacksRegion rows _ = ⊥
-
--- the refusal is for want of memory or of a row
-abbrev pub IsForRoom : Refusal → Type 0
-IsForRoom Memory = ⊤
-IsForRoom TableFull = ⊤
-IsForRoom _ = ⊥
-
 -- what is named can't be used: a position tells nothing that is wanted there, or the greatest index is needed
 abbrev pub IsUnusable : List Told → List Named → Type 0 → Refusal → Type 0
 IsUnusable earlier names deep NoSuchAnswer = AreTerms earlier names → ⊥
@@ -140,6 +115,11 @@ pub record GivesVariable (terms : Terms) (ids : ℕ → ℕ) (call : VariableCal
 pub record AreVariablesOf (terms : Terms) (ids : ℕ → ℕ) (calls : List VariableCall) (vs : List BoundVariableKind) : Type 0 where
   pub parts : AreNamedKinds (size terms.rows) (map var_kind vs)
   pub means : map (rename_kind (name_of (meaning terms.rows))) (map var_kind vs) ≡ map (variable_kind ids) calls
+
+-- these are the variables, or there is a refusal with a reason
+pub record PutsVariables {R : Type 0} (terms : Terms) (ids : ℕ → ℕ) (calls : List VariableCall) (vs : List BoundVariableKind) (result : Result R Refusal) : Type 0 where
+  pub ok : OnOk result (AreVariablesOf terms ids calls vs)
+  pub err : IfErr result (IsUnbuilt (HasFullTable terms) [] [] ⊥)
 
 -- the list is that of the variables
 pub record IsVariableListOf (terms : Terms) (ids : ℕ → ℕ) (calls : List VariableCall) (list : BoundVarKinds) : Type 0 where
@@ -205,6 +185,11 @@ pub record GivesPart {H : Type 0} (terms : Terms) (earlier : List Told) (p : Par
 -- the result is what the call puts in the items' places, or a refusal with a reason
 pub record GivesItems {H : Type 0} (terms : Terms) (earlier : List Told) (is : List Item) (shape : H → Shape) (result : Result (Vec H Global) Refusal) : Type 0 where
   pub ok : IfOk result (λ hs. AreItemsOf terms earlier is (item_shapes shape hs.items))
+  pub err : IfErr result (IsUnbuilt (HasFullTable terms) earlier (items_positions is) (AreItemsTooDeep is))
+
+-- these are the values of the items, or there is a refusal with a reason
+pub record PutsItems {H R : Type 0} (terms : Terms) (earlier : List Told) (is : List Item) (shape : H → Shape) (values : List H) (result : Result R Refusal) : Type 0 where
+  pub ok : OnOk result (AreItemsOf terms earlier is (item_shapes shape values))
   pub err : IfErr result (IsUnbuilt (HasFullTable terms) earlier (items_positions is) (AreItemsTooDeep is))
 
 -- the result is what the call puts in the children's places, or a refusal with a reason

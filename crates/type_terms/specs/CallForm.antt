@@ -1,11 +1,12 @@
 -- What building calls build: the tree over the trees and the ids at the positions that they name, and what they ask of what is there.
-use Rattle.std.specs.Prelude.{ℕ, List, [], ◌∷◌, ◌++◌, map, ◌⊎◌, ⊤, Option, Some, None}
+use Rattle.std.specs.Prelude.{ℕ, ◌≤◌, List, [], ◌∷◌, ◌++◌, map, length, ◌⊎◌, ⊤, Option, Some, None}
 use Rattle.std.specs.String.{string_bytes}
 use Rattle.tt_kinds.specs.Label.{Name, Sort, region_sort, type_sort, const_sort, RegionName, anonymous, printed, named, environment, VarKind, region_variable, type_variable, const_variable, Entry, static_region, erased_region, region_var, error_region, late_param_region, placeholder_region, TypeLabel, bool_type, char_type, int_type, uint_type, float_type, str_type, never_type, placeholder_type, infer_type, error_type, ref_type, raw_ptr_type, slice_type, tuple_type, fn_ptr_type, foreign_type, adt_type, array_type, closure_type, coroutine_closure_type, coroutine_type, coroutine_witness_type, alias_type, infer_const, placeholder_const, unevaluated_const, leaf_const, branch_const, error_const, expr_const, pat_type, unsafe_binder_type, range_pattern, or_pattern, not_null_pattern, unsafe_binder_record, trait_record, host_effect_record, region_outlives_record, type_outlives_record, projection_record, const_has_type_record, well_formed_record, const_evaluatable_record, unstable_feature_record, dyn_compatible_record, subtype_record, coerce_record, const_equate_record, ambiguous_record, normalizes_to_record, alias_relate_record, dynamic_type, existential_trait_record, existential_projection_record, auto_trait_record, RecordLabel, fn_sig_tys_record, Label, type_label, const_label, pattern_label, predicate_label, existential_label, clause_list_label, list_label, record_label}
 use Rattle.tt_kinds.specs.Tree as tree
 use Rattle.tt_kinds.specs.Tree.{Depth, Tree, Forest, none, also}
 use Rattle.tt_kinds.specs.Bound.{depth}
 use Rattle.tt_kinds.specs.Shape.{IsGreatest}
+use Rattle.tt_interner.specs.Stored.{most_in_place}
 use Rattle.tt_kinds.specs.declared.table.Table.{Table}
 use Rattle.tt_kinds.specs.declared.table.Table.TheVariants.{Types, Consts, Patterns, TypeLists, ConstLists, ArgLists, PatternLists, ExistentialLists}
 use Rattle.tt_kinds.specs.declared.bound.BoundTyKind.{BoundTyKind}
@@ -162,6 +163,11 @@ region_text (ReBound i var name) = name_text name
 region_text (ReLateParam p name) = name_text name
 region_text (RePlaceholder u var name) = name_text name
 region_text _ = None
+
+-- the text that a variable is called by, if it is called by one
+abbrev pub variable_text : VariableCall → Option Name
+variable_text (variable.Region name) = name_text name
+variable_text _ = None
 
 -- the number of the id at each position
 module _ (ids : ℕ → ℕ) where
@@ -339,40 +345,23 @@ IsFormTooDeep (plain l ps) = ArePartsTooDeep ps
 IsFormTooDeep (under l vs m ps) = ArePartsTooDeep ps
 IsFormTooDeep (trait_object xs r) = AnyIsDeep IsExistentialTooDeep xs ⊎ IsRegionTooDeep r
 
--- the child is a handle
-abbrev pub IsOfHandle : Part → Type 0
-IsOfHandle (one (a_region r)) = ⊥
-IsOfHandle (one (a_term t p)) = ⊤
-IsOfHandle (one (a_clause p)) = ⊥
-IsOfHandle (a_list t is) = ⊥
+-- the child is no list of more items than are collected without memory
+abbrev pub IsShort : Part → Type 0
+IsShort (one i) = ⊤
+IsShort (a_list t is) = length is ≤ most_in_place
 
--- the children are handles
-abbrev pub AreOfHandles : List Part → Type 0
-AreOfHandles [] = ⊤
-AreOfHandles (p ∷ ps) = IsOfHandle p × AreOfHandles ps
+-- none of the children is
+abbrev pub AreShort : List Part → Type 0
+AreShort [] = ⊤
+AreShort (p ∷ ps) = IsShort p × AreShort ps
 
--- the first child is a region, and the others are handles
-abbrev pub IsRegionFirst : List Part → Type 0
-IsRegionFirst (one (a_region r) ∷ ps) = AreOfHandles ps
-IsRegionFirst _ = ⊥
-
--- what is built has a region and handles for its parts: no list and no binder
-abbrev pub IsOfRegion : CallForm → Type 0
-IsOfRegion (plain l ps) = IsRegionFirst ps
-IsOfRegion _ = ⊥
-
--- what is built is a parameter
-abbrev pub IsParameter : CallForm → Type 0
-IsParameter (param s i name) = ⊤
-IsParameter _ = ⊥
-
--- what is built has no parts but handles: no text, no region, no list and no binder
-abbrev pub IsOfHandles : CallForm → Type 0
-IsOfHandles (param s i name) = ⊥
-IsOfHandles (bound s d e) = ⊤
-IsOfHandles (plain l ps) = AreOfHandles ps
-IsOfHandles (under l vs m ps) = ⊥
-IsOfHandles (trait_object xs r) = ⊥
+-- no list of what is built has more items than are collected without memory, nor has a list of variables
+abbrev pub IsOfShortLists : CallForm → Type 0
+IsOfShortLists (param s i name) = ⊤
+IsOfShortLists (bound s d e) = ⊤
+IsOfShortLists (plain l ps) = AreShort ps
+IsOfShortLists (under l vs m ps) = (length vs ≤ most_in_place) × AreShort ps
+IsOfShortLists (trait_object xs r) = ⊥
 
 -- the position that an item names
 abbrev pub item_positions : Item → List Named

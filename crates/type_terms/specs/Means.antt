@@ -23,7 +23,7 @@ use Rattle.type_terms.specs.declared.run.call.ArgCall.TheVariants as arg
 use Rattle.type_terms.specs.declared.run.call.Call.{Call}
 use Rattle.type_terms.specs.declared.run.call.DeclareCall.{DeclareCall}
 use Rattle.type_terms.specs.declared.run.call.Call.TheVariants as call
-use Rattle.type_terms.specs.CallForm.{CallForm, IsParameter, IsOfHandles, IsOfRegion, form_tree, Want, of_table, of_clause, as_at, of_any, with_flags, of_id, of_any_id, Named, arg_items, args_part, args_ids, ty_ids, const_ids, predicate_ids, ty_form, const_form, pat_form, predicate_form, declared_sort, declared_kind, declared_positions, clause_items, clauses_tree, form_positions, items_positions, part_positions, part_tree, region_tree, IsFormTooDeep, IsPartTooDeep, AreItemsTooDeep}
+use Rattle.type_terms.specs.CallForm.{CallForm, IsOfShortLists, form_tree, Want, of_table, of_clause, as_at, of_any, with_flags, of_id, of_any_id, Named, arg_items, args_part, args_ids, ty_ids, const_ids, predicate_ids, ty_form, const_form, pat_form, predicate_form, declared_sort, declared_kind, declared_positions, clause_items, clauses_tree, form_positions, items_positions, part_positions, part_tree, region_tree, IsFormTooDeep, IsPartTooDeep, AreItemsTooDeep}
 use Rattle.type_terms.specs.Told.{Setting, Told, term, declared, truth, info, refused, bad}
 
 -- a term with its table
@@ -217,10 +217,10 @@ IsTold [] table u = ⊥
 IsTold (term t v ∷ earlier) table u = ((t ≡ table) × (v ≡ u)) ⊎ IsTold earlier table u
 IsTold (t ∷ earlier) table u = IsTold earlier table u
 
--- the term that is built is a parameter, or has no parts but handles and a region, and it is there: it was stored before the calls, or told
+-- the term that is built has no long list, and it is there: it was stored before the calls, or told
 abbrev pub IsThere : Setting → List Told → Table → CallForm → Type 0
 IsThere s earlier table f =
-    (IsOfHandles f ⊎ (IsOfRegion f ⊎ IsParameter f))
+    IsOfShortLists f
     × (s.stored table (form_tree (number_at earlier) (tree_at earlier) f) ⊎ IsTold earlier table (form_tree (number_at earlier) (tree_at earlier) f))
 
 -- whatever the arguments are, the term stays: no parameter stands in it, and no region variable is exposed

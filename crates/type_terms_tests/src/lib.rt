@@ -1,4 +1,4 @@
-//! The tests of the library, in a crate of their own, which uses it as a user's crate does.
+//! The tests of terms and of what is read of them, in a crate that uses the library as a user's does.
 #![tactic(auto)]
 
 #[cfg(test)]

@@ -1,59 +1,61 @@
-//! What the contracts don't say: printed lines, reading and writing, and that calls succeed where memory is ample.
+//! What is built, what is read of it, and that calls succeed where memory is ample.
 
-mod asked_again;
 mod assumptions;
 mod bare;
-mod binders;
-mod calls;
 mod collect;
 mod declarations;
 mod env;
 mod errors;
-mod every_fold;
 mod every_kind;
-mod every_list;
-mod faults;
-mod full;
+mod existentials;
 mod kinds;
 mod library;
 mod orders;
-mod owned;
 mod queries;
 mod readme;
-mod regions;
-mod replacers;
-mod spelling;
-mod users;
 mod values;
 mod views;
-mod worked;
 
 use std::alloc::Global;
 use std::process::Abort;
-use std::test::Fail;
-use type_terms::run_script;
+use test_terms::{answer_anew, answer_within};
+use type_terms::{Interner, Refusal};
 
-// A script and what it prints.
-struct Example {
-    script: &'static str,
-    lines: &'static str,
+// The outcome is that all was as wanted.
+fn holds(rt: &impl Abort, outcome: Result<bool, Refusal>) {
+    assert_eq!(rt; outcome, Ok(true));
 }
 
-// What the script prints.
-fn run(alloc: Global, script: &str) -> Result<String, Fail> {
-    let mut output = Vec::new(alloc);
-    run_script(alloc, script.as_bytes(), &mut output)?;
-    Ok(String::from_utf8(output)?)
+// The check answers, on a new interner, that all was as wanted. Where memory is ample there is one.
+fn holds_anew<F: FnOnce(&mut Interner) -> Result<bool, Refusal> + Drop>(
+    rt: &impl Abort,
+    alloc: Global,
+    check: F,
+)
+    requires { F.IsAlwaysCallable check }
+{
+    holds(rt, answer_anew(alloc, check));
 }
 
-// The text is the one that is wanted.
-fn agree(rt: &impl Abort, text: &str, wanted: &str) {
-    assert_eq!(rt; text, wanted);
+// The same on a new interner with at most so many rows in a table.
+fn holds_within<F: FnOnce(&mut Interner) -> Result<bool, Refusal> + Drop>(
+    rt: &impl Abort,
+    alloc: Global,
+    limit: u32,
+    check: F,
+)
+    requires { F.IsAlwaysCallable check }
+{
+    holds(rt, answer_within(alloc, limit, check));
 }
 
-// The script prints its lines.
-fn check(rt: &impl Abort, alloc: Global, worked: &Example) -> Result<(), Fail> {
-    let output = run(alloc, worked.script)?;
-    agree(rt, output.as_str(), worked.lines);
-    Ok(())
+// A new interner with at most so many rows in a table is refused.
+fn is_refused_anew(rt: &impl Abort, alloc: Global, limit: u32, refusal: Refusal) {
+    match Interner::with_limit(alloc, limit) {
+        Ok(cx) => {
+            drop(cx);
+            panic!(rt; "an interner with at most {limit} rows in a table");
+        }
+        Err(e) => assert_eq!(rt; e, refusal),
+    }
 }

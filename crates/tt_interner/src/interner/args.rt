@@ -17,7 +17,7 @@ use tt_index::Refusal;
 use tt_kinds::{GenericArg, GenericArgs, Table};
 
 impl Interner {
-    /// The list of these generic arguments, in order. They have to be of this interner;
+    /// Returns the list of these generic arguments, in order. They have to be of this interner;
     /// [`Interner::owns_arg`] tests it.
     ///
     /// It is refused with `TableFull` where the list is new and the table has as many rows as it may have, and with
@@ -41,8 +41,8 @@ impl Interner {
         Ok(GenericArgs::from_number(number))
     }
 
-    /// The list of all items of the iterator, in order, as [`Interner::mk_args`] answers it. The iterator has to end, and its items
-    /// to be of this interner.
+    /// Returns the list of all items of the iterator, in order, as [`Interner::mk_args`] answers it. The iterator has
+    /// to end, and its items to be of this interner.
     ///
     /// It is refused with `Memory` also where there is none for the items, which are collected before the list is looked up.
     pub fn mk_args_from_iter<I: Iterator<Item = GenericArg> + Drop>(
@@ -51,7 +51,8 @@ impl Interner {
     ) -> Result<GenericArgs, Refusal>
         requires can { I.can_next iter }
         requires ends { IsFinite (I.remaining iter) }
-        requires items { (items : List _) → Drains I.next_gives iter items → AreParts (size self.old.rows) (item_shapes arg_shape items) }
+        requires items { (items : List _) → Drains I.next_gives iter items
+            → AreParts (size self.old.rows) (item_shapes arg_shape items) }
         ensures { BuildsFrom result (λ list. list.number) self.old self.new args_row I.next_gives iter }
     {
         let items = collected(self.allocator(), iter)?;
@@ -78,8 +79,8 @@ impl Interner {
         Ok(GenericArgs::from_number(number))
     }
 
-    /// The generic arguments of a list, in the interner's memory. The list has to be of this interner; [`Interner::owns_args`]
-    /// tests it.
+    /// Returns the generic arguments of a list, in the interner's memory. The list has to be of this interner;
+    /// [`Interner::owns_args`] tests it.
     pub fn args(&self, list: GenericArgs) -> &[GenericArg]
         requires { list.number < size self.now.rows Table.ArgLists }
         ensures { IsAt self.now.rows (args_row result.now) list.number }

@@ -14,7 +14,7 @@ use tt_index::Refusal;
 use tt_kinds::{GenericArg, OutlivesPredicate, RegionAssumptions, Table};
 
 impl Interner {
-    /// The list of these assumptions, in order. They have to be of this interner;
+    /// Returns the list of these assumptions, in order. They have to be of this interner;
     /// [`Interner::owns_assumption`] tests it.
     ///
     /// It is refused with `TableFull` where the list is new and the table has as many rows as it may have, and with
@@ -41,8 +41,8 @@ impl Interner {
         Ok(RegionAssumptions::from_number(number))
     }
 
-    /// The assumptions of a list, in the interner's memory. The list has to be of this interner; [`Interner::owns_assumptions`]
-    /// tests it.
+    /// Returns the assumptions of a list, in the interner's memory. The list has to be of this interner;
+    /// [`Interner::owns_assumptions`] tests it.
     pub fn assumptions(&self, list: RegionAssumptions) -> &[OutlivesPredicate<GenericArg>]
         requires { list.number < size self.now.rows Table.AssumptionLists }
         ensures { IsAt self.now.rows (assumptions_row result.now) list.number }

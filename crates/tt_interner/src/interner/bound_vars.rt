@@ -14,8 +14,8 @@ use tt_index::Refusal;
 use tt_kinds::{BoundVarKinds, BoundVariableKind, Table};
 
 impl Interner {
-    /// The list of these variables of a binder, in order. The texts that they are called by have to be of this interner;
-    /// [`Interner::owns_bound_var`] tests it.
+    /// Returns the list of these variables of a binder, in order. The texts that they are called by have to be of this
+    /// interner; [`Interner::owns_bound_var`] tests it.
     ///
     /// It is refused with `TableFull` where the list is new and the table has as many rows as it may have, and with
     /// `Memory`.
@@ -38,8 +38,8 @@ impl Interner {
         Ok(BoundVarKinds::from_number(number))
     }
 
-    /// The variables of a binder of a list, in the interner's memory. The list has to be of this interner; [`Interner::owns_bound_vars`]
-    /// tests it.
+    /// Returns the variables of a binder of a list, in the interner's memory. The list has to be of this interner;
+    /// [`Interner::owns_bound_vars`] tests it.
     pub fn bound_vars(&self, list: BoundVarKinds) -> &[BoundVariableKind]
         requires { list.number < size self.now.rows Table.VarLists }
         ensures { IsAt self.now.rows (vars_row result.now) list.number }

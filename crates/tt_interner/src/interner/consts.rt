@@ -14,7 +14,8 @@ use tt_index::Refusal;
 use tt_kinds::{Const, ConstKind, Consts, Table};
 
 impl Interner {
-    /// The constant of this kind. What stands in the kind has to be of this interner; [`Interner::owns_const_kind`] tests it.
+    /// Returns the constant of this kind. What stands in the kind has to be of this interner;
+    /// [`Interner::owns_const_kind`] tests it.
     ///
     /// It is refused with `GreatestIndex` where the kind is a bound variable with the greatest index, with `TableFull` where
     /// the constant is new and the table has as many rows as it may have, and with `Memory`.
@@ -41,7 +42,8 @@ impl Interner {
         Ok(Const::from_number(number))
     }
 
-    /// What a stored constant is, in the interner's memory. It has to be of this interner; [`Interner::owns_const`] tests it.
+    /// Returns what a stored constant is, in the interner's memory. It has to be of this interner;
+    /// [`Interner::owns_const`] tests it.
     pub fn const_kind(&self, handle: Const) -> &ConstKind
         requires { handle.number < size self.now.rows Table.Consts }
         ensures { IsAt self.now.rows (const_row result.now) handle.number }
@@ -59,7 +61,8 @@ impl Interner {
 }
 
 impl Interner {
-    /// The list of these constants, in order. They have to be of this interner; [`Interner::owns_const`] tests it.
+    /// Returns the list of these constants, in order. They have to be of this interner; [`Interner::owns_const`] tests
+    /// it.
     ///
     /// It is refused with `TableFull` where the list is new and the table has as many rows as it may have, and with
     /// `Memory`.
@@ -102,8 +105,8 @@ impl Interner {
         Ok(Consts::from_number(number))
     }
 
-    /// The constants of a list, in the interner's memory. The list has to be of this interner; [`Interner::owns_consts`]
-    /// tests it.
+    /// Returns the constants of a list, in the interner's memory. The list has to be of this interner;
+    /// [`Interner::owns_consts`] tests it.
     pub fn consts(&self, list: Consts) -> &[Const]
         requires { list.number < size self.now.rows Table.ConstLists }
         ensures { IsAt self.now.rows (consts_row result.now) list.number }

@@ -1,6 +1,22 @@
 //! Declarations. Each has an id of its own, whichever names are there.
 
-ghost use Rattle.std.specs.Prelude.{◌≡◌, ◌⊎◌, ◌<◌, ◌≤◌, ◌↔◌, IsTrue, [], ◌∷◌, ◌++◌, IfOk, OnOk, OnErr, IfErr, length, is_some};
+ghost use Rattle.std.specs.Prelude.{
+  ◌≡◌,
+  ◌⊎◌,
+  ◌<◌,
+  ◌≤◌,
+  ◌↔◌,
+  IsTrue,
+  [],
+  ◌∷◌,
+  ◌++◌,
+  IfOk,
+  OnOk,
+  OnErr,
+  IfErr,
+  length,
+  is_some,
+};
 ghost use Rattle.tt_kinds.specs.declared.bound.BoundRegionKind.{BoundRegionKind};
 ghost use Rattle.tt_interner.specs.Rows.{declared_row, size};
 ghost use Rattle.tt_interner.specs.Stored.{IsAt};
@@ -27,7 +43,8 @@ fn add_declaration(
     ensures number { IfOk result (λ n. (n ≡ length declarations.old.items) × (n < limit)) }
     ensures order_stays { OnErr result (order.new.items ≡ order.old.items) }
     ensures declarations_stay { OnErr result (declarations.new.items ≡ declarations.old.items) }
-    ensures cause { IfErr result (λ e. (e ≡ Refusal.Memory) ⊎ ((e ≡ Refusal.TableFull) × (limit ≤ length declarations.old.items))) }
+    ensures cause { IfErr result (λ e. (e ≡ Refusal.Memory)
+        ⊎ ((e ≡ Refusal.TableFull) × (limit ≤ length declarations.old.items))) }
     ensures full { limit ≤ length declarations.old.items → result ≡ Err Refusal.TableFull }
 {
     let number = declarations.len();
@@ -198,14 +215,14 @@ impl Interner {
 }
 
 impl Interner {
-    /// Whether the number is that of a declaration.
+    /// Returns whether `id` is the id of a declaration of this interner.
     pub fn owns_def_id(&self, id: DefId) -> bool
         ensures { IsTrue result ↔ (id.number < size self.now.rows Table.Declarations) }
     {
         (id.number() as usize) < self.declarations.len()
     }
 
-    /// Whether the declaration of a bound region that is declared is of this interner.
+    /// Returns whether the declaration of a bound region that is declared is of this interner.
     pub fn owns_region_item(&self, kind: &BoundRegionKind) -> bool
         ensures { IsTrue result ↔ IsDeclared self.now.rows kind.now }
     {
@@ -215,8 +232,8 @@ impl Interner {
         }
     }
 
-    /// What is declared under an id, in the interner's memory. The id has to be of this interner; [`Interner::owns_def_id`]
-    /// tests it.
+    /// Returns what is declared under an id, in the interner's memory. The id has to be of this interner;
+    /// [`Interner::owns_def_id`] tests it.
     pub fn declaration(&self, id: DefId) -> &Declaration
         requires { id.number < size self.now.rows Table.Declarations }
         ensures at { IsAt self.now.rows (declared_row id.number result.now) id.number }
@@ -228,7 +245,7 @@ impl Interner {
         }
     }
 
-    /// The name of a declaration. The id has to be of this interner; [`Interner::owns_def_id`] tests it.
+    /// Returns the name of a declaration. The id has to be of this interner; [`Interner::owns_def_id`] tests it.
     pub fn item_name(&self, id: DefId) -> Symbol
         requires { id.number < size self.now.rows Table.Declarations }
         ensures is { result ≡ (declared_at self.now.rows id).name }
@@ -254,13 +271,13 @@ pub trait RegionName: Sized {
     // What is said of the region.
     ghost region_kind: { Self → BoundRegionKind };
 
-    /// The name of the region's declaration, unless that is `'_`; the name that it is printed by, if it has no declaration;
-    /// and `None` where it has neither.
+    /// Returns the name of the region's declaration, unless that is `'_`; the name that it is printed by, if it has no
+    /// declaration; and `None` where it has neither.
     fn get_name(self, cx: &Interner) -> Option<Symbol>
         requires { IsDeclared cx.now.rows (region_kind self) }
         ensures { result ≡ title cx.now.rows (region_kind self) };
 
-    /// Whether it has a name.
+    /// Returns whether it has a name.
     fn is_named(self, cx: &Interner) -> bool
         requires { IsDeclared cx.now.rows (region_kind self) }
         ensures { result ≡ is_some (title cx.now.rows (region_kind self)) };

@@ -1,12 +1,14 @@
 //! Existential predicates, each under its binder, and lists of them.
 
-ghost use Rattle.std.specs.Prelude.{◌≡◌, ◌<◌};
+ghost use Rattle.std.specs.Prelude.{◌≡◌, ◌<◌, ◌≤◌, length, take, drop};
 ghost use Rattle.tt_kinds.specs.Shape.{item_shapes, AreParts, HasParts};
 ghost use Rattle.tt_kinds.specs.Kinds.{existential_kind_shape, existential_shape};
 ghost use Rattle.tt_interner.specs.Rows.{existential_row, existentials_row, size, meaning};
 ghost use Rattle.tt_interner.specs.Stored.{IsAt, IsInfo, Builds};
+ghost use Rattle.tt_interner.specs.Existentials.{HaveParts, AreExistentials, BuildsAll, PutsEach};
 
 use super::Interner;
+use crate::children::MOST_IN_PLACE;
 use crate::flags::{items_info, kind_info};
 use crate::tables::{find_or_add, find_or_add_list, find_or_insert, info_at, key_at};
 use tt_flags::FlagComputation;
@@ -16,7 +18,7 @@ use tt_kinds::{
 };
 
 impl Interner {
-    /// The existential predicate of this kind under this binder. What stands in it has to be of this interner;
+    /// Returns the existential predicate of this kind under this binder. What stands in it has to be of this interner;
     /// [`Interner::owns_existential_kind`] tests it.
     ///
     /// It is refused with `TableFull` where the existential predicate is new and the table has as many rows as it may have, and
@@ -43,7 +45,8 @@ impl Interner {
         Ok(PolyExistentialPredicate::from_number(number))
     }
 
-    /// What a stored existential predicate is, in the interner's memory. It has to be of this interner; [`Interner::owns_existential`] tests it.
+    /// Returns what a stored existential predicate is, in the interner's memory. It has to be of this interner;
+    /// [`Interner::owns_existential`] tests it.
     pub fn existential_kind(
         &self,
         handle: PolyExistentialPredicate,
@@ -64,7 +67,8 @@ impl Interner {
 }
 
 impl Interner {
-    /// The list of these existential predicates, in order. They have to be of this interner; [`Interner::owns_existential`] tests it.
+    /// Returns the list of these existential predicates, in order. They have to be of this interner;
+    /// [`Interner::owns_existential`] tests it.
     ///
     /// It is refused with `TableFull` where the list is new and the table has as many rows as it may have, and with
     /// `Memory`.
@@ -113,8 +117,8 @@ impl Interner {
         Ok(BoundExistentialPredicates::from_number(number))
     }
 
-    /// The existential predicates of a list, in the interner's memory. The list has to be of this interner; [`Interner::owns_existentials`]
-    /// tests it.
+    /// Returns the existential predicates of a list, in the interner's memory. The list has to be of this interner;
+    /// [`Interner::owns_existentials`] tests it.
     pub fn existentials(&self, list: BoundExistentialPredicates) -> &[PolyExistentialPredicate]
         requires { list.number < size self.now.rows Table.ExistentialLists }
         ensures { IsAt self.now.rows (existentials_row result.now) list.number }
@@ -128,5 +132,95 @@ impl Interner {
         ensures { IsInfo result (meaning self.now.rows Table.ExistentialLists list.number) }
     {
         info_at(&self.existential_lists, list.number())
+    }
+}
+
+impl Interner {
+    /// Returns the list of these existential predicates, each under its binder, in order: the one that
+    /// [`Interner::mk_existential_list`] answers for what [`Interner::mk_existential`] answers for each. What stands in
+    /// them has to be of this interner; [`Interner::owns_existential_kinds`] tests it.
+    ///
+    /// It is refused with `TableFull` where one of them or the list is new and its table has as many rows as it may
+    /// have, and with `Memory`. Where it is refused, none of them is added, not even those before the one that had no
+    /// room. What is there is found without growth; the handles of more than eight are collected in memory.
+    pub fn mk_existentials(
+        &mut self,
+        predicates: &[Binder<ExistentialPredicate>],
+    ) -> Result<BoundExistentialPredicates, Refusal>
+        requires { HaveParts self.old.rows predicates.now }
+        ensures { BuildsAll result self.old self.new predicates.now }
+    {
+        let anything = PolyExistentialPredicate::from_number(0);
+        if predicates.len() <= MOST_IN_PLACE {
+            return self.put_all(predicates, &mut [anything; MOST_IN_PLACE]);
+        }
+        let mut places = match Vec::from_elem(self.allocator(), anything, predicates.len()) {
+            Ok(places) => places,
+            Err(_) => return Err(Refusal::Memory),
+        };
+        self.put_all(predicates, places.as_mut_slice())
+    }
+
+    // The list of the predicates, or a refusal with nothing added. The places are for their handles.
+    fn put_all(
+        &mut self,
+        predicates: &[Binder<ExistentialPredicate>],
+        places: &mut [PolyExistentialPredicate],
+    ) -> Result<BoundExistentialPredicates, Refusal>
+        requires parts { HaveParts self.old.rows predicates.now }
+        requires room { length predicates.now ≤ length places.old }
+        ensures { BuildsAll result self.old self.new predicates.now }
+    {
+        self.are_rows();
+        let before = self.row_count();
+        match self.put_each(predicates, places) {
+            Ok(list) => Ok(list),
+            Err(e) => {
+                let added = self.row_count() - before;
+                self.take_back(added);
+                Err(e)
+            }
+        }
+    }
+
+    // Stores each of the predicates, and then the list of their handles. Where one is refused, those before it stay.
+    fn put_each(
+        &mut self,
+        predicates: &[Binder<ExistentialPredicate>],
+        places: &mut [PolyExistentialPredicate],
+    ) -> Result<BoundExistentialPredicates, Refusal>
+        requires parts { HaveParts self.old.rows predicates.now }
+        requires room { length predicates.now ≤ length places.old }
+        ensures { PutsEach result self.old self.new predicates.now }
+    {
+        for (i, predicate) in predicates.iter().enumerate() {
+            let handle = match self.mk_existential(*predicate) {
+                Ok(handle) => handle,
+                Err(e) => return Err(e),
+            };
+            places[i] = handle;
+        }
+        self.are_rows();
+        self.mk_existential_list(&places[..predicates.len()])
+    }
+
+    // How many rows there are in all tables.
+    fn row_count(&self) -> usize
+        ensures { result ≡ length self.now.rows }
+    {
+        self.order.len()
+    }
+
+    // Takes the newest rows back, which are existential predicates.
+    fn take_back(&mut self, added: usize)
+        requires { AreExistentials (take added self.old.rows) }
+        ensures rows { self.new.rows ≡ drop added self.old.rows }
+        ensures limit { self.new.limit ≡ self.old.limit }
+        ensures counters { self.new.counters ≡ self.old.counters }
+    {
+        let rows = self.order.len() - added;
+        let predicates = self.existentials.len() - added;
+        self.order.truncate(rows);
+        self.existentials.truncate(predicates);
     }
 }

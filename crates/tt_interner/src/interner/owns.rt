@@ -16,35 +16,35 @@ use tt_kinds::{
 };
 
 impl Interner {
-    /// Whether the number is that of a type.
+    /// Returns whether `ty` is a type of this interner.
     pub fn owns_ty(&self, ty: Ty) -> bool
         ensures { IsTrue result ↔ (ty.number < size self.now.rows Table.Types) }
     {
         (ty.number() as usize) < self.types.len()
     }
 
-    /// Whether the number is that of a constant.
+    /// Returns whether `constant` is a constant of this interner.
     pub fn owns_const(&self, constant: Const) -> bool
         ensures { IsTrue result ↔ (constant.number < size self.now.rows Table.Consts) }
     {
         (constant.number() as usize) < self.consts.len()
     }
 
-    /// Whether the number is that of a pattern.
+    /// Returns whether `pat` is a pattern of this interner.
     pub fn owns_pat(&self, pat: Pat) -> bool
         ensures { IsTrue result ↔ (pat.number < size self.now.rows Table.Patterns) }
     {
         (pat.number() as usize) < self.patterns.len()
     }
 
-    /// Whether the number is that of a predicate.
+    /// Returns whether `predicate` is a predicate of this interner.
     pub fn owns_predicate(&self, predicate: Predicate) -> bool
         ensures { IsTrue result ↔ (predicate.number < size self.now.rows Table.Predicates) }
     {
         (predicate.number() as usize) < self.predicates.len()
     }
 
-    /// Whether the number is that of a predicate that is a clause.
+    /// Returns whether `clause` is a predicate of this interner, and a clause.
     pub fn owns_clause(&self, clause: Clause) -> bool
         ensures { IsTrue result ↔ IsClause self.now.rows clause.number }
     {
@@ -59,77 +59,77 @@ impl Interner {
             .is_clause()
     }
 
-    /// Whether the number is that of an existential predicate under its binder.
+    /// Returns whether `predicate` is an existential predicate of this interner.
     pub fn owns_existential(&self, predicate: PolyExistentialPredicate) -> bool
         ensures { IsTrue result ↔ (predicate.number < size self.now.rows Table.Existentials) }
     {
         (predicate.number() as usize) < self.existentials.len()
     }
 
-    /// Whether the number is that of a list of clauses.
+    /// Returns whether `list` is a list of clauses of this interner.
     pub fn owns_clauses(&self, list: Clauses) -> bool
         ensures { IsTrue result ↔ (list.number < size self.now.rows Table.ClauseLists) }
     {
         (list.number() as usize) < self.clause_lists.len()
     }
 
-    /// Whether the number is that of a list of types.
+    /// Returns whether `list` is a list of types of this interner.
     pub fn owns_tys(&self, list: Tys) -> bool
         ensures { IsTrue result ↔ (list.number < size self.now.rows Table.TypeLists) }
     {
         (list.number() as usize) < self.type_lists.len()
     }
 
-    /// Whether the number is that of a list of constants.
+    /// Returns whether `list` is a list of constants of this interner.
     pub fn owns_consts(&self, list: Consts) -> bool
         ensures { IsTrue result ↔ (list.number < size self.now.rows Table.ConstLists) }
     {
         (list.number() as usize) < self.const_lists.len()
     }
 
-    /// Whether the number is that of a list of generic arguments.
+    /// Returns whether `list` is a list of generic arguments of this interner.
     pub fn owns_args(&self, list: GenericArgs) -> bool
         ensures { IsTrue result ↔ (list.number < size self.now.rows Table.ArgLists) }
     {
         (list.number() as usize) < self.arg_lists.len()
     }
 
-    /// Whether the number is that of a list of patterns.
+    /// Returns whether `list` is a list of patterns of this interner.
     pub fn owns_pat_list(&self, list: PatList) -> bool
         ensures { IsTrue result ↔ (list.number < size self.now.rows Table.PatternLists) }
     {
         (list.number() as usize) < self.pattern_lists.len()
     }
 
-    /// Whether the number is that of a list of a binder's variables.
+    /// Returns whether `list` is a list of a binder's variables of this interner.
     pub fn owns_bound_vars(&self, list: BoundVarKinds) -> bool
         ensures { IsTrue result ↔ (list.number < size self.now.rows Table.VarLists) }
     {
         (list.number() as usize) < self.var_lists.len()
     }
 
-    /// Whether the number is that of a list of existential predicates.
+    /// Returns whether `list` is a list of existential predicates of this interner.
     pub fn owns_existentials(&self, list: BoundExistentialPredicates) -> bool
         ensures { IsTrue result ↔ (list.number < size self.now.rows Table.ExistentialLists) }
     {
         (list.number() as usize) < self.existential_lists.len()
     }
 
-    /// Whether the number is that of a list of assumptions on regions.
+    /// Returns whether `list` is a list of assumptions on regions of this interner.
     pub fn owns_assumptions(&self, list: RegionAssumptions) -> bool
         ensures { IsTrue result ↔ (list.number < size self.now.rows Table.AssumptionLists) }
     {
         (list.number() as usize) < self.assumption_lists.len()
     }
 
-    /// Whether the number is that of a text.
+    /// Returns whether `symbol` is a text of this interner.
     pub fn owns_symbol(&self, symbol: Symbol) -> bool
         ensures { IsTrue result ↔ (symbol.number < size self.now.rows Table.Symbols) }
     {
         (symbol.number() as usize) < self.symbols.len()
     }
 
-    /// Whether the text that a bound region is called by, if it is, is of this interner.
+    /// Returns whether the text that a bound region is called by, if it is, is of this interner.
     pub fn owns_region_name(&self, name: &BoundRegionKind) -> bool
         ensures { IsTrue result ↔ IsNamed (size self.now.rows) (region_name name.now) }
     {
@@ -139,7 +139,7 @@ impl Interner {
         }
     }
 
-    /// Whether the text that a binder's variable is called by, if it is, is of this interner.
+    /// Returns whether the text that a binder's variable is called by, if it is, is of this interner.
     pub fn owns_bound_var(&self, var: &BoundVariableKind) -> bool
         ensures { IsTrue result ↔ IsNamedKind (size self.now.rows) (var_kind var.now) }
     {
@@ -149,8 +149,7 @@ impl Interner {
         }
     }
 
-    /// Whether the region's name, if it has one, is that of a text.
-    #[tactic(auto, unfolding(tt_kinds::specs::Shape::IsPart))]
+    /// Returns whether the region's name, if it has one, is a text of this interner.
     pub fn owns_region(&self, region: &Region) -> bool
         ensures { IsTrue result ↔ IsPart (size self.now.rows) (region_shape region.now) }
     {
@@ -165,8 +164,7 @@ impl Interner {
         }
     }
 
-    /// Whether all that stands in the argument is of this interner.
-    #[tactic(auto, unfolding(tt_kinds::specs::Shape::IsPart))]
+    /// Returns whether all parts of the argument are of this interner.
     pub fn owns_arg(&self, arg: &GenericArg) -> bool
         ensures { IsTrue result ↔ IsPart (size self.now.rows) (arg_shape arg.now) }
     {
@@ -177,8 +175,7 @@ impl Interner {
         }
     }
 
-    /// Whether all that stands in the assumption is of this interner.
-    #[tactic(auto, unfolding(tt_kinds::specs::Shape::IsPart))]
+    /// Returns whether all parts of the assumption are of this interner.
     pub fn owns_assumption(&self, assumption: &OutlivesPredicate<GenericArg>) -> bool
         ensures { IsTrue result ↔ IsPart (size self.now.rows) (assumption_shape assumption.now) }
     {

@@ -4,9 +4,20 @@ ghost use Rattle.std.specs.Prelude.{◌<◌, ◌↔◌, IsTrue};
 ghost use Rattle.tt_kinds.specs.Shape.{AreParts, HasParts, IsPart};
 ghost use Rattle.tt_kinds.specs.Parts.{node_table, node_number, list_table, list_number};
 ghost use Rattle.tt_kinds.specs.Bare.{bare_const_shape, bare_pattern_shape, bare_ty_shape};
-ghost use Rattle.tt_kinds.specs.Kinds.{child_shapes, parts_shapes, kind_form, kind_shape, ty_kind_shape, const_kind_shape, pattern_kind_shape, predicate_kind_shape, existential_kind_shape};
+ghost use Rattle.tt_kinds.specs.Kinds.{
+  child_shapes,
+  parts_shapes,
+  kind_form,
+  kind_shape,
+  ty_kind_shape,
+  const_kind_shape,
+  pattern_kind_shape,
+  predicate_kind_shape,
+  existential_kind_shape,
+};
 ghost use Rattle.tt_interner.specs.Rows.{size};
 ghost use Rattle.tt_interner.specs.OwnFlags.{IsNamedForm, IsBinderIn};
+ghost use Rattle.tt_interner.specs.Existentials.{HaveParts};
 
 use super::Interner;
 use tt_kinds::{
@@ -15,7 +26,7 @@ use tt_kinds::{
 };
 
 impl Interner {
-    /// Whether the number is that of a stored term of the same table.
+    /// Returns whether `node` is a stored term of the same table of this interner.
     pub fn owns_node(&self, node: Node) -> bool
         ensures { IsTrue result ↔ (node_number node < size self.now.rows (node_table node)) }
     {
@@ -29,7 +40,7 @@ impl Interner {
         }
     }
 
-    /// Whether the number is that of a stored list of the same table.
+    /// Returns whether `list` is a stored list of the same table of this interner.
     pub fn owns_list(&self, list: List) -> bool
         ensures { IsTrue result ↔ (list_number list < size self.now.rows (list_table list)) }
     {
@@ -43,8 +54,7 @@ impl Interner {
         }
     }
 
-    /// Whether the child, if there is one, is of this interner.
-    #[tactic(auto, unfolding(tt_kinds::specs::Shape::IsPart))]
+    /// Returns whether the child, if there is one, is of this interner.
     pub fn owns_child(&self, child: &Child) -> bool
         ensures { IsTrue result ↔ AreParts (size self.now.rows) (child_shapes child.now) }
     {
@@ -104,7 +114,8 @@ impl Interner {
         self.owns_binder(kind.bound_vars())
     }
 
-    /// Whether all that stands in the kind of a type is of this interner: the kind can be stored, and it can be used by itself.
+    /// Returns whether all that stands in the kind of a type is of this interner: the kind can be stored, and it can be
+    /// used by itself.
     pub fn owns_kind(&self, kind: &TyKind) -> bool
         ensures stored { IsTrue result ↔ HasParts (size self.now.rows) (ty_kind_shape kind.now) }
         ensures bare { IsTrue result ↔ IsPart (size self.now.rows) (bare_ty_shape kind.now) }
@@ -112,7 +123,8 @@ impl Interner {
         self.owns_contents(&Kind::Ty(*kind))
     }
 
-    /// Whether all that stands in the kind of a constant is of this interner: the kind can be stored, and it can be used by itself.
+    /// Returns whether all that stands in the kind of a constant is of this interner: the kind can be stored, and it
+    /// can be used by itself.
     pub fn owns_const_kind(&self, kind: &ConstKind) -> bool
         ensures stored { IsTrue result ↔ HasParts (size self.now.rows) (const_kind_shape kind.now) }
         ensures bare { IsTrue result ↔ IsPart (size self.now.rows) (bare_const_shape kind.now) }
@@ -120,8 +132,8 @@ impl Interner {
         self.owns_contents(&Kind::Const(*kind))
     }
 
-    /// Whether all that stands in the kind of a pattern is of this interner: the kind can be stored, and it can be used by itself.
-    #[tactic(auto, unfolding(tt_kinds::specs::Shape::IsPart))]
+    /// Returns whether all that stands in the kind of a pattern is of this interner: the kind can be stored, and it can
+    /// be used by itself.
     pub fn owns_pattern_kind(&self, kind: &PatternKind) -> bool
         ensures bare { IsTrue result ↔ IsPart (size self.now.rows) (bare_pattern_shape kind.now) }
         ensures stored { IsTrue result ↔ HasParts (size self.now.rows) (pattern_kind_shape kind.now) }
@@ -129,17 +141,29 @@ impl Interner {
         self.owns_contents(&Kind::Pat(*kind))
     }
 
-    /// Whether all that stands in the predicate, its binder's variables among it, is of this interner.
+    /// Returns whether all that stands in the predicate, its binder's variables among it, is of this interner.
     pub fn owns_predicate_kind(&self, kind: &Binder<PredicateKind>) -> bool
         ensures { IsTrue result ↔ HasParts (size self.now.rows) (predicate_kind_shape kind.now) }
     {
         self.owns_contents(&Kind::Predicate(*kind))
     }
 
-    /// Whether all that stands in the existential predicate, its binder's variables among it, is of this interner.
+    /// Returns whether all that stands in the existential predicate, its binder's variables among it, is of this
+    /// interner.
     pub fn owns_existential_kind(&self, kind: &Binder<ExistentialPredicate>) -> bool
         ensures { IsTrue result ↔ HasParts (size self.now.rows) (existential_kind_shape kind.now) }
     {
         self.owns_contents(&Kind::Existential(*kind))
+    }
+    /// Returns whether all that stands in each of these existential predicates is of this interner.
+    pub fn owns_existential_kinds(&self, kinds: &[Binder<ExistentialPredicate>]) -> bool
+        ensures { IsTrue result ↔ HaveParts self.now.rows kinds.now }
+    {
+        for kind in kinds {
+            if !self.owns_existential_kind(kind) {
+                return false;
+            }
+        }
+        true
     }
 }

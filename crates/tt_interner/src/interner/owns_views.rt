@@ -7,7 +7,7 @@ use super::Interner;
 use tt_kinds::{FnInputTys, GenericArgsSlice};
 
 impl Interner {
-    /// Whether the view's list is one of types, and has a last one.
+    /// Returns whether the view's list is one of types, and has a last one.
     pub fn owns_input_tys(&self, view: FnInputTys) -> bool
         ensures { IsTrue result ↔ AreInputs self.now.rows view }
     {
@@ -18,7 +18,7 @@ impl Interner {
         !self.tys(list).is_empty()
     }
 
-    /// Whether the view's list is one of generic arguments, and has all of the view's places.
+    /// Returns whether the view's list is one of generic arguments, and has all of the view's places.
     pub fn owns_args_slice(&self, view: GenericArgsSlice) -> bool
         ensures { IsTrue result ↔ LiesInList self.now.rows view }
     {

@@ -14,7 +14,8 @@ use tt_index::Refusal;
 use tt_kinds::{Kind, Pat, PatList, PatternKind, Table};
 
 impl Interner {
-    /// The pattern of this kind. What stands in the kind has to be of this interner; [`Interner::owns_pattern_kind`] tests it.
+    /// Returns the pattern of this kind. What stands in the kind has to be of this interner;
+    /// [`Interner::owns_pattern_kind`] tests it.
     ///
     /// It is refused with `TableFull` where the pattern is new and the table has as many rows as it may have, and
     /// with `Memory`.
@@ -37,7 +38,8 @@ impl Interner {
         Ok(Pat::from_number(number))
     }
 
-    /// What a stored pattern is, in the interner's memory. It has to be of this interner; [`Interner::owns_pat`] tests it.
+    /// Returns what a stored pattern is, in the interner's memory. It has to be of this interner;
+    /// [`Interner::owns_pat`] tests it.
     pub fn pat_kind(&self, handle: Pat) -> &PatternKind
         requires { handle.number < size self.now.rows Table.Patterns }
         ensures { IsAt self.now.rows (pat_row result.now) handle.number }
@@ -55,7 +57,7 @@ impl Interner {
 }
 
 impl Interner {
-    /// The list of these patterns, in order. They have to be of this interner; [`Interner::owns_pat`] tests it.
+    /// Returns the list of these patterns, in order. They have to be of this interner; [`Interner::owns_pat`] tests it.
     ///
     /// It is refused with `TableFull` where the list is new and the table has as many rows as it may have, and with
     /// `Memory`.
@@ -98,8 +100,8 @@ impl Interner {
         Ok(PatList::from_number(number))
     }
 
-    /// The patterns of a list, in the interner's memory. The list has to be of this interner; [`Interner::owns_pat_list`]
-    /// tests it.
+    /// Returns the patterns of a list, in the interner's memory. The list has to be of this interner;
+    /// [`Interner::owns_pat_list`] tests it.
     pub fn pat_list(&self, list: PatList) -> &[Pat]
         requires { list.number < size self.now.rows Table.PatternLists }
         ensures { IsAt self.now.rows (pats_row result.now) list.number }

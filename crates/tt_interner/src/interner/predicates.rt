@@ -15,7 +15,7 @@ use tt_index::Refusal;
 use tt_kinds::{Binder, Clause, ClauseKind, Clauses, Predicate, PredicateKind, Table};
 
 impl Interner {
-    /// The predicate of this kind under this binder. What stands in it has to be of this interner;
+    /// Returns the predicate of this kind under this binder. What stands in it has to be of this interner;
     /// [`Interner::owns_predicate_kind`] tests it.
     ///
     /// It is refused with `TableFull` where the predicate is new and the table has as many rows as it may have, and
@@ -39,7 +39,8 @@ impl Interner {
         Ok(Predicate::from_number(number))
     }
 
-    /// What a stored predicate is, in the interner's memory. It has to be of this interner; [`Interner::owns_predicate`] tests it.
+    /// Returns what a stored predicate is, in the interner's memory. It has to be of this interner;
+    /// [`Interner::owns_predicate`] tests it.
     pub fn predicate_kind(&self, handle: Predicate) -> &Binder<PredicateKind>
         requires { handle.number < size self.now.rows Table.Predicates }
         ensures { IsAt self.now.rows (predicate_row result.now) handle.number }
@@ -47,7 +48,8 @@ impl Interner {
         key_at(&self.predicates, handle.number())
     }
 
-    /// What a stored clause is, under its binder. It has to be a clause of this interner; [`Interner::owns_clause`] tests it.
+    /// Returns what a stored clause is, under its binder. It has to be a clause of this interner;
+    /// [`Interner::owns_clause`] tests it.
     pub fn clause_kind(&self, clause: Clause) -> Binder<ClauseKind>
         requires { IsClause self.now.rows clause.number }
         ensures { IsAt self.now.rows (predicate_row (clause_predicate result)) clause.number }
@@ -71,7 +73,8 @@ impl Interner {
 }
 
 impl Interner {
-    /// The list of these clauses, in order. They have to be of this interner, and clauses; [`Interner::owns_clause`] tests it.
+    /// Returns the list of these clauses, in order. They have to be of this interner, and clauses;
+    /// [`Interner::owns_clause`] tests it.
     ///
     /// It is refused with `TableFull` where the list is new and the table has as many rows as it may have, and with
     /// `Memory`.
@@ -114,7 +117,7 @@ impl Interner {
         Ok(Clauses::from_number(number))
     }
 
-    /// Whether each is a clause of this interner.
+    /// Returns whether each is a clause of this interner.
     pub fn are_clauses(&self, items: &[Clause]) -> bool
         ensures { IsTrue result ↔ AreClauses self.now.rows items.now }
     {
@@ -126,8 +129,8 @@ impl Interner {
         true
     }
 
-    /// The clauses of a list, in the interner's memory. The list has to be of this interner; [`Interner::owns_clauses`]
-    /// tests it.
+    /// Returns the clauses of a list, in the interner's memory. The list has to be of this interner;
+    /// [`Interner::owns_clauses`] tests it.
     pub fn clauses(&self, list: Clauses) -> &[Clause]
         requires { list.number < size self.now.rows Table.ClauseLists }
         ensures { IsAt self.now.rows (clauses_row result.now) list.number }

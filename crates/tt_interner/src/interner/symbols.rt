@@ -12,7 +12,9 @@ use tt_kinds::{Symbol, Table};
 impl Interner {
     // The symbol of this text, if it is stored.
     fn find_symbol(&self, text: &str) -> Option<Symbol>
-        ensures { MatchOption result (IsNew (text_row text.now) self.now.rows) (λ symbol. IsAt self.now.rows (text_row text.now) symbol.number) }
+        ensures { MatchOption result (IsNew (text_row text.now) self.now.rows) (λ symbol. IsAt self.now.rows
+            (text_row text.now)
+            symbol.number) }
     {
         match self.symbols.get_index_of(text) {
             Some(number) => Some(Symbol::from_number(number as u32)),
@@ -38,7 +40,7 @@ impl Interner {
         Ok(Symbol::from_number(number))
     }
 
-    /// The symbol of this text.
+    /// Returns the symbol of this text.
     ///
     /// It is refused with `TableFull` where the text is new and the table has as many rows as it may have, and with
     /// `Memory`.
@@ -52,7 +54,8 @@ impl Interner {
         }
     }
 
-    /// A symbol's text, in the interner's memory. The symbol has to be of this interner; [`Interner::owns_symbol`] tests it.
+    /// Returns a symbol's text, in the interner's memory. The symbol has to be of this interner;
+    /// [`Interner::owns_symbol`] tests it.
     pub fn text(&self, symbol: Symbol) -> &str
         requires { symbol.number < size self.now.rows Table.Symbols }
         ensures { IsAt self.now.rows (text_row result.now) symbol.number }

@@ -39,7 +39,8 @@ impl Interner {
         Ok(Ty::from_number(number))
     }
 
-    /// The type of this kind. What stands in the kind has to be of this interner; [`Interner::owns_kind`] tests it.
+    /// Returns the type of this kind. What stands in the kind has to be of this interner; [`Interner::owns_kind`] tests
+    /// it.
     ///
     /// It is refused with `GreatestIndex` where the kind is a bound variable with the greatest index, with `TableFull` where
     /// the type is new and the table has as many rows as it may have, and with `Memory`.
@@ -55,7 +56,8 @@ impl Interner {
         self.put_ty(&kind)
     }
 
-    /// A type's kind, in the interner's memory. The type has to be of this interner; [`Interner::owns_ty`] tests it.
+    /// Returns a type's kind, in the interner's memory. The type has to be of this interner; [`Interner::owns_ty`]
+    /// tests it.
     pub fn ty_kind(&self, ty: Ty) -> &TyKind
         requires { ty.number < size self.now.rows Table.Types }
         ensures { IsAt self.now.rows (type_row result.now) ty.number }
@@ -73,7 +75,7 @@ impl Interner {
 }
 
 impl Interner {
-    /// The list of these types, in order. They have to be of this interner; [`Interner::owns_ty`]
+    /// Returns the list of these types, in order. They have to be of this interner; [`Interner::owns_ty`]
     /// tests it.
     ///
     /// It is refused with `TableFull` where the list is new and the table has as many rows as it may have, and with
@@ -97,8 +99,8 @@ impl Interner {
         Ok(Tys::from_number(number))
     }
 
-    /// The list of all items of the iterator, in order, as [`Interner::mk_tys`] answers it. The iterator has to end, and its items
-    /// to be of this interner.
+    /// Returns the list of all items of the iterator, in order, as [`Interner::mk_tys`] answers it. The iterator has to
+    /// end, and its items to be of this interner.
     ///
     /// It is refused with `Memory` also where there is none for the items, which are collected before the list is looked up.
     pub fn mk_type_list_from_iter<I: Iterator<Item = Ty> + Drop>(
@@ -107,7 +109,8 @@ impl Interner {
     ) -> Result<Tys, Refusal>
         requires can { I.can_next iter }
         requires ends { IsFinite (I.remaining iter) }
-        requires items { (items : List _) → Drains I.next_gives iter items → AreParts (size self.old.rows) (item_shapes ty_shape items) }
+        requires items { (items : List _) → Drains I.next_gives iter items
+            → AreParts (size self.old.rows) (item_shapes ty_shape items) }
         ensures { BuildsFrom result (λ list. list.number) self.old self.new tys_row I.next_gives iter }
     {
         let items = collected(self.allocator(), iter)?;
@@ -134,8 +137,8 @@ impl Interner {
         Ok(Tys::from_number(number))
     }
 
-    /// The types of a list, in the interner's memory. The list has to be of this interner; [`Interner::owns_tys`]
-    /// tests it.
+    /// Returns the types of a list, in the interner's memory. The list has to be of this interner;
+    /// [`Interner::owns_tys`] tests it.
     pub fn tys(&self, list: Tys) -> &[Ty]
         requires { list.number < size self.now.rows Table.TypeLists }
         ensures { IsAt self.now.rows (tys_row result.now) list.number }

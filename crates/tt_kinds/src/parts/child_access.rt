@@ -16,7 +16,8 @@ use crate::table::Table;
 use crate::term::{Term, TermKind};
 
 impl Child {
-    /// Whether the other child is of the same sort: absent, a region, a term of the same table, or a list of the same sort.
+    /// Returns whether the other child is of the same sort: absent, a region, a term of the same table, or a list of
+    /// the same sort.
     pub fn is_like(&self, other: &Child) -> bool
         ensures { IsTrue result ↔ (child_sort other.now ≡ child_sort self.now) }
     {
@@ -31,7 +32,7 @@ impl Child {
 
 // Each is for a child of that sort; a `match` tests it.
 impl Child {
-    /// The region.
+    /// Returns the region.
     #[inline(always)]
     pub fn region(self) -> Region
         requires { child_sort self ≡ a_region }
@@ -43,7 +44,7 @@ impl Child {
         }
     }
 
-    /// The type.
+    /// Returns the type.
     #[inline(always)]
     pub fn ty(self) -> Ty
         requires { child_sort self ≡ a_node Table.Types }
@@ -55,7 +56,7 @@ impl Child {
         }
     }
 
-    /// The constant.
+    /// Returns the constant.
     #[inline(always)]
     pub fn constant(self) -> Const
         requires { child_sort self ≡ a_node Table.Consts }
@@ -67,7 +68,7 @@ impl Child {
         }
     }
 
-    /// The pattern.
+    /// Returns the pattern.
     pub fn pat(self) -> Pat
         requires { child_sort self ≡ a_node Table.Patterns }
         ensures { self ≡ child.Node (node.Pat result) }
@@ -78,7 +79,7 @@ impl Child {
         }
     }
 
-    /// The predicate.
+    /// Returns the predicate.
     pub fn predicate(self) -> Predicate
         requires { child_sort self ≡ a_node Table.Predicates }
         ensures { self ≡ child.Node (node.Predicate result) }
@@ -89,7 +90,7 @@ impl Child {
         }
     }
 
-    /// The existential predicate.
+    /// Returns the existential predicate.
     pub fn existential(self) -> PolyExistentialPredicate
         requires { child_sort self ≡ a_node Table.Existentials }
         ensures { self ≡ child.Node (node.Existential result) }
@@ -100,7 +101,7 @@ impl Child {
         }
     }
 
-    /// The list of types.
+    /// Returns the list of types.
     #[inline(always)]
     pub fn tys(self) -> Tys
         requires { child_sort self ≡ a_list ListSort.Tys }
@@ -112,7 +113,7 @@ impl Child {
         }
     }
 
-    /// The list of constants.
+    /// Returns the list of constants.
     #[inline(always)]
     pub fn consts(self) -> Consts
         requires { child_sort self ≡ a_list ListSort.Consts }
@@ -124,7 +125,7 @@ impl Child {
         }
     }
 
-    /// The list of generic arguments.
+    /// Returns the list of generic arguments.
     #[inline(always)]
     pub fn args(self) -> GenericArgs
         requires { child_sort self ≡ a_list ListSort.Args }
@@ -136,7 +137,7 @@ impl Child {
         }
     }
 
-    /// The list of patterns.
+    /// Returns the list of patterns.
     pub fn pats(self) -> PatList
         requires { child_sort self ≡ a_list ListSort.Pats }
         ensures { self ≡ child.List (list.Pats result) }
@@ -147,7 +148,7 @@ impl Child {
         }
     }
 
-    /// The list of existential predicates.
+    /// Returns the list of existential predicates.
     pub fn existentials(self) -> BoundExistentialPredicates
         requires { child_sort self ≡ a_list ListSort.Existentials }
         ensures { self ≡ child.List (list.Existentials result) }
@@ -158,7 +159,7 @@ impl Child {
         }
     }
 
-    /// The list of clauses.
+    /// Returns the list of clauses.
     pub fn clauses(self) -> Clauses
         requires { child_sort self ≡ a_list ListSort.Clauses }
         ensures { self ≡ child.List (list.Clauses result) }
@@ -169,7 +170,7 @@ impl Child {
         }
     }
 
-    /// The type or the constant.
+    /// Returns the type or the constant.
     #[inline(always)]
     pub fn term(self) -> Term
         requires { IsTermSort (child_sort self) }
@@ -184,7 +185,7 @@ impl Child {
 }
 
 impl Term {
-    /// The term as a child.
+    /// Returns the term as a child.
     pub fn child(self) -> Child
         ensures { result ≡ term_child self }
     {

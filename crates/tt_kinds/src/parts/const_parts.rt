@@ -2,7 +2,15 @@
 
 ghost use Rattle.std.specs.Prelude.{◌≡◌};
 ghost use Rattle.tt_kinds.specs.Parts.{AreLike};
-ghost use Rattle.tt_kinds.specs.Kinds.{form_binder, form_parts, refilled, const_form, value_form, pattern_form, replenished};
+ghost use Rattle.tt_kinds.specs.Kinds.{
+  form_binder,
+  form_parts,
+  refilled,
+  const_form,
+  value_form,
+  pattern_form,
+  replenished,
+};
 
 use crate::const_kind::{ConstKind, ExprConst, UnevaluatedConst, ValTreeKind, ValueConst};
 use crate::handle::BoundVarKinds;
@@ -10,7 +18,7 @@ use crate::parts::{Child, List, Node, Parts};
 use crate::pattern::PatternKind;
 
 impl ConstKind {
-    /// The variables of the binder around the parts: no constant has one.
+    /// Returns the variables of the binder around the parts: no constant has one.
     pub fn bound_vars(&self) -> Option<BoundVarKinds>
         ensures { result ≡ form_binder (const_form self.now) }
     {
@@ -20,7 +28,7 @@ impl ConstKind {
         }
     }
 
-    /// The children in order.
+    /// Returns the children in order.
     pub fn parts(&self) -> Parts
         ensures { result ≡ form_parts (const_form self.now) }
     {
@@ -38,7 +46,7 @@ impl ConstKind {
         }
     }
 
-    /// The same kind with other children in the places of its own. They have to be of the same sorts;
+    /// Returns the same kind with other children in the places of its own. They have to be of the same sorts;
     /// [`Parts::are_like`] tests it.
     pub fn with_parts(&self, new: Parts) -> ConstKind
         requires { AreLike (form_parts (const_form self.now)) new }
@@ -69,7 +77,7 @@ impl ValueConst {
         }
     }
 
-    /// The children in order: its type, and the values of a branch.
+    /// Returns the children in order: its type, and the values of a branch.
     pub fn parts(&self) -> Parts
         ensures { result ≡ form_parts (value_form self.now.ty self.now.valtree.kind) }
     {
@@ -82,11 +90,12 @@ impl ValueConst {
         }
     }
 
-    /// The same value with other children in the places of its own. They have to be of the same sorts;
+    /// Returns the same value with other children in the places of its own. They have to be of the same sorts;
     /// [`Parts::are_like`] tests it.
     pub fn with_parts(&self, new: Parts) -> ValueConst
         requires { AreLike (form_parts (value_form self.now.ty self.now.valtree.kind)) new }
-        ensures { value_form result.ty result.valtree.kind ≡ refilled new (value_form self.now.ty self.now.valtree.kind) }
+        ensures { value_form result.ty result.valtree.kind
+            ≡ refilled new (value_form self.now.ty self.now.valtree.kind) }
     {
         match self.valtree.kind() {
             ValTreeKind::Leaf(leaf) => ValueConst {
@@ -102,7 +111,7 @@ impl ValueConst {
 }
 
 impl PatternKind {
-    /// The children in order.
+    /// Returns the children in order.
     pub fn parts(&self) -> Parts
         ensures { result ≡ (pattern_form self.now).parts }
     {
@@ -116,7 +125,7 @@ impl PatternKind {
         }
     }
 
-    /// The same kind with other children in the places of its own. They have to be of the same sorts;
+    /// Returns the same kind with other children in the places of its own. They have to be of the same sorts;
     /// [`Parts::are_like`] tests it.
     pub fn with_parts(&self, new: Parts) -> PatternKind
         requires { AreLike (pattern_form self.now).parts new }

@@ -9,7 +9,7 @@ use crate::handle::BoundVarKinds;
 use crate::parts::{Kind, Parts};
 
 impl Kind {
-    /// The variables of the binder around the parts, if there is one.
+    /// Returns the variables of the binder around the parts, if there is one.
     #[inline(always)]
     pub fn bound_vars(&self) -> Option<BoundVarKinds>
         ensures { result ≡ form_binder (kind_form self.now) }
@@ -23,7 +23,7 @@ impl Kind {
         }
     }
 
-    /// The children in order.
+    /// Returns the children in order.
     #[inline(always)]
     pub fn parts(&self) -> Parts
         ensures { result ≡ form_parts (kind_form self.now) }
@@ -37,7 +37,7 @@ impl Kind {
         }
     }
 
-    /// The same kind with other children in the places of its own. They have to be of the same sorts;
+    /// Returns the same kind with other children in the places of its own. They have to be of the same sorts;
     /// [`Parts::are_like`] tests it.
     #[inline(always)]
     pub fn with_parts(&self, new: Parts) -> Kind

@@ -14,7 +14,7 @@ use crate::predicate::{
 use crate::predicate_kind::{ClauseKind, PredicateKind};
 
 impl ClauseKind {
-    /// The children in order.
+    /// Returns the children in order.
     pub fn parts(&self) -> Parts
         ensures { result ≡ (clause_form self.now).parts }
     {
@@ -49,7 +49,7 @@ impl ClauseKind {
         }
     }
 
-    /// The same clause with other children in the places of its own. They have to be of the same sorts;
+    /// Returns the same clause with other children in the places of its own. They have to be of the same sorts;
     /// [`Parts::are_like`] tests it.
     pub fn with_parts(&self, new: Parts) -> ClauseKind
         requires { AreLike (clause_form self.now).parts new }
@@ -96,7 +96,7 @@ impl ClauseKind {
 }
 
 impl PredicateKind {
-    /// The children in order.
+    /// Returns the children in order.
     pub fn parts(&self) -> Parts
         ensures { result ≡ (predicate_form self.now).parts }
     {
@@ -126,7 +126,7 @@ impl PredicateKind {
         }
     }
 
-    /// The same predicate with other children in the places of its own. They have to be of the same sorts;
+    /// Returns the same predicate with other children in the places of its own. They have to be of the same sorts;
     /// [`Parts::are_like`] tests it.
     pub fn with_parts(&self, new: Parts) -> PredicateKind
         requires { AreLike (predicate_form self.now).parts new }
@@ -166,7 +166,7 @@ impl PredicateKind {
 }
 
 impl ExistentialPredicate {
-    /// The children in order.
+    /// Returns the children in order.
     pub fn parts(&self) -> Parts
         ensures { result ≡ (existential_form self.now).parts }
     {
@@ -182,7 +182,7 @@ impl ExistentialPredicate {
         }
     }
 
-    /// The same predicate with other children in the places of its own. They have to be of the same sorts;
+    /// Returns the same predicate with other children in the places of its own. They have to be of the same sorts;
     /// [`Parts::are_like`] tests it.
     pub fn with_parts(&self, new: Parts) -> ExistentialPredicate
         requires { AreLike (existential_form self.now).parts new }

@@ -12,7 +12,7 @@ use crate::parts::{Child, List, Node, Parts};
 use crate::ty_kind::TyKind;
 
 impl TyKind {
-    /// The variables of the binder around the parts, if there is one.
+    /// Returns the variables of the binder around the parts, if there is one.
     #[inline(always)]
     pub fn bound_vars(&self) -> Option<BoundVarKinds>
         ensures { result ≡ form_binder (ty_form self.now) }
@@ -24,7 +24,7 @@ impl TyKind {
         }
     }
 
-    /// The children in order.
+    /// Returns the children in order.
     #[inline(always)]
     pub fn parts(&self) -> Parts
         ensures { result ≡ form_parts (ty_form self.now) }
@@ -63,7 +63,7 @@ impl TyKind {
         }
     }
 
-    /// The same kind with other children in the places of its own. They have to be of the same sorts;
+    /// Returns the same kind with other children in the places of its own. They have to be of the same sorts;
     /// [`Parts::are_like`] tests it.
     #[inline(always)]
     pub fn with_parts(&self, new: Parts) -> TyKind

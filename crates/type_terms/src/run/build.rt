@@ -1,9 +1,25 @@
 //! The building of terms.
 
-ghost use Rattle.std.specs.Prelude.{◌≡◌, IfErr, map, [], ◌∷◌, List, OnErr};
+ghost use Rattle.std.specs.Prelude.{◌≡◌, ◌≤◌, IfErr, map, take, length, [], ◌∷◌, List, OnErr};
 ghost use Rattle.tt_index.specs.declared.refusal.Refusal.TheVariants.{NoSuchAnswer};
 ghost use Rattle.tt_kinds.specs.Tree as tree;
-ghost use Rattle.tt_kinds.specs.Label.{region_sort, type_sort, type_variable, type_label, placeholder_type, foreign_type, ref_type, array_type, pat_type, unsafe_binder_type, unsafe_binder_record, fn_ptr_type, fn_sig_tys_record, late_param_region, placeholder_region};
+ghost use Rattle.tt_kinds.specs.Label.{
+  region_sort,
+  type_sort,
+  type_variable,
+  type_label,
+  placeholder_type,
+  foreign_type,
+  ref_type,
+  array_type,
+  pat_type,
+  unsafe_binder_type,
+  unsafe_binder_record,
+  fn_ptr_type,
+  fn_sig_tys_record,
+  late_param_region,
+  placeholder_region,
+};
 ghost use Rattle.tt_kinds.specs.Bound.{depth};
 ghost use Rattle.tt_kinds.specs.Shape.{IsGreatest};
 ghost use Rattle.tt_kinds.specs.Shape as shape;
@@ -11,10 +27,42 @@ ghost use Rattle.tt_kinds.specs.Kinds.{ty_kind_shape, args_shape};
 ghost use Rattle.tt_interner.specs.Rows.{Row, text_row, IsNew};
 ghost use Rattle.tt_interner.specs.Stored.{Terms, Extends};
 ghost use Rattle.type_terms.specs.declared.run.call.Call.TheVariants.{Ty as BuildsTy};
-ghost use Rattle.type_terms.specs.CallForm.{IsOfHandles, IsOfRegion, name_text, region_text, ty_ids, ty_form, alias_of, param, plain, under, one, a_region, a_term, a_list, terms_at, args_part, item_type, called, ty_called, variable_kind, region_entry, region_tree, IsRegionTooDeep};
+ghost use Rattle.type_terms.specs.CallForm.{
+  name_text,
+  region_text,
+  variable_text,
+  ty_ids,
+  ty_form,
+  alias_of,
+  param,
+  plain,
+  under,
+  one,
+  a_region,
+  a_term,
+  a_list,
+  terms_at,
+  args_part,
+  item_type,
+  called,
+  ty_called,
+  variable_kind,
+  region_entry,
+  region_tree,
+  IsRegionTooDeep,
+};
 ghost use Rattle.type_terms.specs.Told.{Told, told_all, AreOwned};
 ghost use Rattle.type_terms.specs.Means.{number_at, AreTerms};
-ghost use Rattle.type_terms.specs.Build.{IsForRoom, LacksText, LacksRegion, GivesName, GivesVariable, GivesVariables, GivesRegion, GivesKind, Answers, LacksName};
+ghost use Rattle.type_terms.specs.Build.{
+  GivesName,
+  GivesVariable,
+  GivesVariables,
+  GivesRegion,
+  GivesKind,
+  Answers,
+  PutsVariables,
+};
+ghost use Rattle.type_terms.specs.Room.{IsForRoom, LacksText, VarsNeedRoom, FormNeedsRoom};
 
 use crate::run::answer::Answer;
 use crate::run::call::{
@@ -23,7 +71,7 @@ use crate::run::call::{
 use crate::run::existentials::dynamic_kind;
 use crate::run::ids::{def_at, number_at};
 use crate::run::lookup::{handle_at, handle_pair};
-use crate::run::parts::{build_arg_list, build_tys};
+use crate::run::parts::{MOST_IN_PLACE, build_arg_list, build_tys};
 use tt_index::{BoundVar, Mutability, Refusal, UniverseIndex};
 use tt_interner::Interner;
 use tt_kinds::{
@@ -34,11 +82,12 @@ use tt_kinds::{
     Table, TraitAssocTyId, Ty, TyKind, UnsafeBinderInner,
 };
 
-/// The type that the call names, over the earlier answers, where the ids that it names are there.
+/// Returns the type that the call names, over the earlier answers, where the ids that it names are there.
 pub fn build_ty(cx: &mut Interner, earlier: &[Answer], call: &TyCall) -> Result<Answer, Refusal>
     requires { AreOwned cx.old.rows earlier.now }
     ensures extends { Extends cx.old cx.new }
-    ensures answers { AreTerms (told_all cx.old.rows earlier.now) (ty_ids call.now) → Answers cx.old cx.new (told_all cx.old.rows earlier.now) (BuildsTy call.now) result }
+    ensures answers { AreTerms (told_all cx.old.rows earlier.now) (ty_ids call.now)
+        → Answers cx.old cx.new (told_all cx.old.rows earlier.now) (BuildsTy call.now) result }
 {
     match ty_kind(cx, earlier, call) {
         Ok(kind) => {
@@ -58,12 +107,15 @@ pub fn build_ty(cx: &mut Interner, earlier: &[Answer], call: &TyCall) -> Result<
 fn ty_kind(cx: &mut Interner, earlier: &[Answer], call: &TyCall) -> Result<TyKind, Refusal>
     requires { AreOwned cx.old.rows earlier.now }
     ensures extends { Extends cx.old cx.new }
-    ensures kind { GivesKind cx.new (told_all cx.old.rows earlier.now) (ty_form (number_at (told_all cx.old.rows earlier.now)) call.now) ty_kind_shape result }
-    ensures handles { IfErr result (λ e. IsOfHandles (ty_form (number_at (told_all cx.old.rows earlier.now)) call.now) → e ≡ NoSuchAnswer) }
-    ensures named { OnErr result (LacksName cx.new.rows (ty_form (number_at (told_all cx.old.rows earlier.now)) call.now)) }
-    ensures region { IfErr result (λ e. IsOfRegion (ty_form (number_at (told_all cx.old.rows earlier.now)) call.now)
-        → IsForRoom e
-        → LacksRegion cx.new.rows (ty_form (number_at (told_all cx.old.rows earlier.now)) call.now)) }
+    ensures kind { GivesKind cx.new
+        (told_all cx.old.rows earlier.now)
+        (ty_form (number_at (told_all cx.old.rows earlier.now)) call.now)
+        ty_kind_shape
+        result }
+    ensures room { IfErr result
+        (FormNeedsRoom cx.new.rows
+        (told_all cx.old.rows earlier.now)
+        (ty_form (number_at (told_all cx.old.rows earlier.now)) call.now)) }
 {
     match call {
         TyCall::Bool => Ok(TyKind::Bool),
@@ -102,7 +154,8 @@ fn ty_kind(cx: &mut Interner, earlier: &[Answer], call: &TyCall) -> Result<TyKin
 
 // The kind of a type that is declared elsewhere.
 fn foreign_kind(earlier: &[Answer], position: u32) -> TyKind
-    ensures { (rows : List Row) → ty_kind_shape result ≡ shape.term (type_label (foreign_type (number_at (told_all rows earlier.now) position))) shape.none }
+    ensures { (rows : List Row) → ty_kind_shape result
+        ≡ shape.term (type_label (foreign_type (number_at (told_all rows earlier.now) position))) shape.none }
 {
     TyKind::Foreign(ForeignId::from_number(number_at(earlier, position)))
 }
@@ -114,7 +167,10 @@ fn bound_kind(
     var: BoundVar,
     name: BoundTyKindCall,
 ) -> TyKind
-    ensures { (rows : List Row) → ty_kind_shape result ≡ shape.bound type_sort (depth index) (record { var = var; kind = type_variable (ty_called (number_at (told_all rows earlier.now)) name) }) }
+    ensures { (rows : List Row) → ty_kind_shape result
+        ≡ shape.bound type_sort
+        (depth index)
+        (record { var = var; kind = type_variable (ty_called (number_at (told_all rows earlier.now)) name) }) }
 {
     let kind = ty_name(earlier, name);
     TyKind::Bound(index, BoundTy { var, kind })
@@ -127,7 +183,13 @@ fn placeholder_kind(
     var: BoundVar,
     name: BoundTyKindCall,
 ) -> TyKind
-    ensures { (rows : List Row) → ty_kind_shape result ≡ shape.term (type_label (placeholder_type (record { universe = universe; bound = record { var = var; kind = ty_called (number_at (told_all rows earlier.now)) name } }))) shape.none }
+    ensures { (rows : List Row) → ty_kind_shape result
+        ≡ shape.term
+        (type_label (placeholder_type (record {
+          universe = universe;
+          bound = record { var = var; kind = ty_called (number_at (told_all rows earlier.now)) name };
+        })))
+        shape.none }
 {
     let kind = ty_name(earlier, name);
     let bound = BoundTy { var, kind };
@@ -147,7 +209,10 @@ fn ty_name(earlier: &[Answer], name: BoundTyKindCall) -> BoundTyKind
 // The kind of a parameter.
 fn param_kind(cx: &mut Interner, index: u32, name: &str) -> Result<TyKind, Refusal>
     ensures extends { Extends cx.old cx.new }
-    ensures kind { (earlier : List Told) → GivesKind cx.new earlier (param type_sort index name.now) ty_kind_shape result }
+    ensures kind { (earlier : List Told) → GivesKind cx.new earlier
+        (param type_sort index name.now)
+        ty_kind_shape
+        result }
     ensures named { OnErr result (IsNew (text_row name.now) cx.new.rows) }
 {
     let name = cx.symbol(name)?;
@@ -164,7 +229,13 @@ fn ref_kind(
 ) -> Result<TyKind, Refusal>
     requires { AreOwned cx.old.rows earlier.now }
     ensures extends { Extends cx.old cx.new }
-    ensures kind { GivesKind cx.new (told_all cx.old.rows earlier.now) (plain (type_label (ref_type mutability)) (one (a_region region.now) ∷ one (a_term Table.Types position) ∷ [])) ty_kind_shape result }
+    ensures kind { GivesKind cx.new
+        (told_all cx.old.rows earlier.now)
+        (plain
+        (type_label (ref_type mutability))
+        (one (a_region region.now) ∷ one (a_term Table.Types position) ∷ []))
+        ty_kind_shape
+        result }
     ensures room { IfErr result (λ e. IsForRoom e → LacksText cx.new.rows (region_text region.now)) }
 {
     let ty = handle_at(earlier, position)?;
@@ -175,7 +246,12 @@ fn ref_kind(
 // The kind of an array.
 fn array_kind(earlier: &[Answer], ty: u32, length: u32) -> Result<TyKind, Refusal>
     ensures cause { IfErr result (λ e. e ≡ NoSuchAnswer) }
-    ensures kind { (terms : Terms) → AreOwned terms.rows earlier.now → GivesKind terms (told_all terms.rows earlier.now) (plain (type_label array_type) (one (a_term Table.Types ty) ∷ one (a_term Table.Consts length) ∷ [])) ty_kind_shape result }
+    ensures kind { (terms : Terms) → AreOwned terms.rows earlier.now
+        → GivesKind terms
+        (told_all terms.rows earlier.now)
+        (plain (type_label array_type) (one (a_term Table.Types ty) ∷ one (a_term Table.Consts length) ∷ []))
+        ty_kind_shape
+        result }
 {
     let pair = handle_pair::<Ty, Const>(earlier, ty, length)?;
     Ok(TyKind::Array(pair.0, pair.1))
@@ -184,7 +260,12 @@ fn array_kind(earlier: &[Answer], ty: u32, length: u32) -> Result<TyKind, Refusa
 // The kind of a type that a pattern restricts.
 fn pat_kind(earlier: &[Answer], ty: u32, pat: u32) -> Result<TyKind, Refusal>
     ensures cause { IfErr result (λ e. e ≡ NoSuchAnswer) }
-    ensures kind { (terms : Terms) → AreOwned terms.rows earlier.now → GivesKind terms (told_all terms.rows earlier.now) (plain (type_label pat_type) (one (a_term Table.Types ty) ∷ one (a_term Table.Patterns pat) ∷ [])) ty_kind_shape result }
+    ensures kind { (terms : Terms) → AreOwned terms.rows earlier.now
+        → GivesKind terms
+        (told_all terms.rows earlier.now)
+        (plain (type_label pat_type) (one (a_term Table.Types ty) ∷ one (a_term Table.Patterns pat) ∷ []))
+        ty_kind_shape
+        result }
 {
     let pair = handle_pair::<Ty, Pat>(earlier, ty, pat)?;
     Ok(TyKind::Pat(pair.0, pair.1))
@@ -199,7 +280,23 @@ fn unsafe_binder_kind(
 ) -> Result<TyKind, Refusal>
     requires { AreOwned cx.old.rows earlier.now }
     ensures extends { Extends cx.old cx.new }
-    ensures kind { GivesKind cx.new (told_all cx.old.rows earlier.now) (under (type_label unsafe_binder_type) (map (variable_kind (number_at (told_all cx.old.rows earlier.now))) vars.now) unsafe_binder_record (one (a_term Table.Types ty) ∷ [])) ty_kind_shape result }
+    ensures kind { GivesKind cx.new
+        (told_all cx.old.rows earlier.now)
+        (under
+        (type_label unsafe_binder_type)
+        (map (variable_kind (number_at (told_all cx.old.rows earlier.now))) vars.now)
+        unsafe_binder_record
+        (one (a_term Table.Types ty) ∷ []))
+        ty_kind_shape
+        result }
+    ensures room { IfErr result
+        (FormNeedsRoom cx.new.rows
+        (told_all cx.old.rows earlier.now)
+        (under
+        (type_label unsafe_binder_type)
+        (map (variable_kind (number_at (told_all cx.old.rows earlier.now))) vars.now)
+        unsafe_binder_record
+        (one (a_term Table.Types ty) ∷ []))) }
 {
     let ty = handle_at::<Ty>(earlier, ty)?;
     let vars = build_vars(cx, earlier, vars)?;
@@ -216,7 +313,17 @@ fn item_kind(
 ) -> Result<TyKind, Refusal>
     requires { AreOwned cx.old.rows earlier.now }
     ensures extends { Extends cx.old cx.new }
-    ensures kind { GivesKind cx.new (told_all cx.old.rows earlier.now) (plain (type_label (item_type (number_at (told_all cx.old.rows earlier.now)) item)) (args_part args.now ∷ [])) ty_kind_shape result }
+    ensures kind { GivesKind cx.new
+        (told_all cx.old.rows earlier.now)
+        (plain (type_label (item_type (number_at (told_all cx.old.rows earlier.now)) item)) (args_part args.now ∷ []))
+        ty_kind_shape
+        result }
+    ensures room { IfErr result
+        (FormNeedsRoom cx.new.rows
+        (told_all cx.old.rows earlier.now)
+        (plain
+        (type_label (item_type (number_at (told_all cx.old.rows earlier.now)) item))
+        (args_part args.now ∷ []))) }
 {
     let args = build_arg_list(cx, earlier, args)?;
     Ok(type_of_item(earlier, item, args))
@@ -224,7 +331,10 @@ fn item_kind(
 
 // The type of an item with these arguments.
 fn type_of_item(earlier: &[Answer], item: ItemCall, args: GenericArgs) -> TyKind
-    ensures { (rows : List Row) → ty_kind_shape result ≡ shape.term (type_label (item_type (number_at (told_all rows earlier.now)) item)) (shape.also (args_shape args) shape.none) }
+    ensures { (rows : List Row) → ty_kind_shape result
+        ≡ shape.term
+        (type_label (item_type (number_at (told_all rows earlier.now)) item))
+        (shape.also (args_shape args) shape.none) }
 {
     match item {
         ItemCall::Adt(position) => {
@@ -280,7 +390,23 @@ fn fn_ptr_kind(
 ) -> Result<TyKind, Refusal>
     requires { AreOwned cx.old.rows earlier.now }
     ensures extends { Extends cx.old cx.new }
-    ensures kind { GivesKind cx.new (told_all cx.old.rows earlier.now) (under (type_label (fn_ptr_type header)) (map (variable_kind (number_at (told_all cx.old.rows earlier.now))) vars.now) fn_sig_tys_record (a_list Table.TypeLists (terms_at Table.Types inputs_and_output.now) ∷ [])) ty_kind_shape result }
+    ensures kind { GivesKind cx.new
+        (told_all cx.old.rows earlier.now)
+        (under
+        (type_label (fn_ptr_type header))
+        (map (variable_kind (number_at (told_all cx.old.rows earlier.now))) vars.now)
+        fn_sig_tys_record
+        (a_list Table.TypeLists (terms_at Table.Types inputs_and_output.now) ∷ []))
+        ty_kind_shape
+        result }
+    ensures room { IfErr result
+        (FormNeedsRoom cx.new.rows
+        (told_all cx.old.rows earlier.now)
+        (under
+        (type_label (fn_ptr_type header))
+        (map (variable_kind (number_at (told_all cx.old.rows earlier.now))) vars.now)
+        fn_sig_tys_record
+        (a_list Table.TypeLists (terms_at Table.Types inputs_and_output.now) ∷ []))) }
 {
     let inputs_and_output = build_tys(cx, earlier, inputs_and_output)?;
     let vars = build_vars(cx, earlier, vars)?;
@@ -288,7 +414,7 @@ fn fn_ptr_kind(
     Ok(TyKind::FnPtr(types, header))
 }
 
-/// The list of the variables.
+/// Returns the list of the variables.
 pub fn build_vars(
     cx: &mut Interner,
     earlier: &[Answer],
@@ -296,13 +422,45 @@ pub fn build_vars(
 ) -> Result<BoundVarKinds, Refusal>
     ensures extends { Extends cx.old cx.new }
     ensures vars { (rows : List Row) → GivesVariables cx.new (number_at (told_all rows earlier.now)) vars.now result }
+    ensures room { IfErr result (λ e. (rows : List Row) → VarsNeedRoom cx.new.rows
+        (map (variable_kind (number_at (told_all rows earlier.now))) vars.now)
+        e) }
 {
+    if vars.len() <= MOST_IN_PLACE {
+        let mut places = [BoundVariableKind::Const; MOST_IN_PLACE];
+        put_vars(cx, earlier, vars, &mut places)?;
+        return cx.mk_bound_vars(&places[..vars.len()]);
+    }
     let mut built = Vec::with_capacity(cx.allocator(), vars.len())?;
     for var in vars {
         let var = build_var(cx, earlier, var)?;
         built.push(var)?;
     }
     cx.mk_bound_vars(built.as_slice())
+}
+
+// Puts the variables into the first places.
+fn put_vars(
+    cx: &mut Interner,
+    earlier: &[Answer],
+    vars: &[VariableCall],
+    places: &mut [BoundVariableKind],
+) -> Result<(), Refusal>
+    requires { length vars.now ≤ length places.old }
+    ensures extends { Extends cx.old cx.new }
+    ensures vars { (rows : List Row) → PutsVariables cx.new
+        (number_at (told_all rows earlier.now))
+        vars.now
+        (take (length vars.now) places.new)
+        result }
+    ensures room { IfErr result (λ e. (rows : List Row) → VarsNeedRoom cx.new.rows
+        (map (variable_kind (number_at (told_all rows earlier.now))) vars.now)
+        e) }
+{
+    for (i, var) in vars.iter().enumerate() {
+        places[i] = build_var(cx, earlier, var)?;
+    }
+    Ok(())
 }
 
 // A variable of a binder's list.
@@ -313,6 +471,7 @@ fn build_var(
 ) -> Result<BoundVariableKind, Refusal>
     ensures extends { Extends cx.old cx.new }
     ensures var { (rows : List Row) → GivesVariable cx.new (number_at (told_all rows earlier.now)) var.now result }
+    ensures room { OnErr result (LacksText cx.new.rows (variable_text var.now)) }
 {
     match var {
         VariableCall::Ty(name) => Ok(BoundVariableKind::Ty(ty_name(earlier, *name))),
@@ -342,14 +501,17 @@ fn build_name(
     }
 }
 
-/// The region that the call names.
+/// Returns the region that the call names.
 pub fn build_region(
     cx: &mut Interner,
     earlier: &[Answer],
     call: &RegionCall,
 ) -> Result<Region, Refusal>
     ensures extends { Extends cx.old cx.new }
-    ensures region { (rows : List Row) → GivesRegion cx.new (region_tree (number_at (told_all rows earlier.now)) call.now) (IsRegionTooDeep call.now) result }
+    ensures region { (rows : List Row) → GivesRegion cx.new
+        (region_tree (number_at (told_all rows earlier.now)) call.now)
+        (IsRegionTooDeep call.now)
+        result }
     ensures room { IfErr result (λ e. IsForRoom e → LacksText cx.new.rows (region_text call.now)) }
 {
     match call {
@@ -384,7 +546,12 @@ fn build_late_param(
     name: &RegionNameCall,
 ) -> Result<Region, Refusal>
     ensures extends { Extends cx.old cx.new }
-    ensures region { (rows : List Row) → GivesRegion cx.new (tree.region (late_param_region (number_at (told_all rows earlier.now) scope) (called (number_at (told_all rows earlier.now)) name.now))) ⊥ result }
+    ensures region { (rows : List Row) → GivesRegion cx.new
+        (tree.region (late_param_region
+        (number_at (told_all rows earlier.now) scope)
+        (called (number_at (told_all rows earlier.now)) name.now)))
+        ⊥
+        result }
     ensures room { OnErr result (LacksText cx.new.rows (name_text name.now)) }
 {
     let kind = build_name(cx, earlier, name)?;
@@ -401,7 +568,10 @@ fn build_placeholder(
     name: &RegionNameCall,
 ) -> Result<Region, Refusal>
     ensures extends { Extends cx.old cx.new }
-    ensures region { (rows : List Row) → GivesRegion cx.new (tree.region (placeholder_region universe var (called (number_at (told_all rows earlier.now)) name.now))) ⊥ result }
+    ensures region { (rows : List Row) → GivesRegion cx.new
+        (tree.region (placeholder_region universe var (called (number_at (told_all rows earlier.now)) name.now)))
+        ⊥
+        result }
     ensures room { OnErr result (LacksText cx.new.rows (name_text name.now)) }
 {
     let kind = build_name(cx, earlier, name)?;
@@ -418,7 +588,10 @@ fn build_bound(
     name: &RegionNameCall,
 ) -> Result<Region, Refusal>
     ensures extends { Extends cx.old cx.new }
-    ensures region { (rows : List Row) → GivesRegion cx.new (tree.bound region_sort (depth index) (region_entry (number_at (told_all rows earlier.now)) var name.now)) (IsGreatest (depth index)) result }
+    ensures region { (rows : List Row) → GivesRegion cx.new
+        (tree.bound region_sort (depth index) (region_entry (number_at (told_all rows earlier.now)) var name.now))
+        (IsGreatest (depth index))
+        result }
     ensures room { IfErr result (λ e. IsForRoom e → LacksText cx.new.rows (name_text name.now)) }
 {
     let kind = build_name(cx, earlier, name)?;

@@ -17,7 +17,8 @@ use tt_index::Refusal;
 use tt_interner::{AsClause, Interner};
 use tt_kinds::{Clause, Predicate};
 
-/// The list of the clauses at the positions. It is refused with `NoSuchAnswer` where the answer at one is no clause.
+/// Returns the list of the clauses at the positions. It is refused with `NoSuchAnswer` where the answer at one is no
+/// clause.
 pub fn build_clauses(
     cx: &mut Interner,
     earlier: &[Answer],
@@ -25,7 +26,8 @@ pub fn build_clauses(
 ) -> Result<Answer, Refusal>
     requires { AreOwned cx.old.rows earlier.now }
     ensures extends { Extends cx.old cx.new }
-    ensures answers { (list : Vec ℕ Global) → list.items ≡ positions.now → Answers cx.old cx.new (told_all cx.old.rows earlier.now) (BuildsClauses list) result }
+    ensures answers { (list : Vec ℕ Global) → list.items ≡ positions.now
+        → Answers cx.old cx.new (told_all cx.old.rows earlier.now) (BuildsClauses list) result }
 {
     let clauses = clauses_at(cx, earlier, positions)?;
     let list = cx.mk_clauses(clauses.as_slice())?;
@@ -35,8 +37,15 @@ pub fn build_clauses(
 // The clauses at the positions.
 fn clauses_at(cx: &Interner, earlier: &[Answer], positions: &[u32]) -> Result<Vec<Clause>, Refusal>
     requires { AreOwned cx.now.rows earlier.now }
-    ensures ok { IfOk result (λ clauses. AreClausesAt cx.now (told_all cx.now.rows earlier.now) positions.now clauses.items) }
-    ensures err { IfErr result (IsUnbuilt (HasFullTable cx.now) (told_all cx.now.rows earlier.now) (items_positions (clause_items positions.now)) (AreItemsTooDeep (clause_items positions.now))) }
+    ensures ok { IfOk result (λ clauses. AreClausesAt cx.now
+        (told_all cx.now.rows earlier.now)
+        positions.now
+        clauses.items) }
+    ensures err { IfErr result (IsUnbuilt
+        (HasFullTable cx.now)
+        (told_all cx.now.rows earlier.now)
+        (items_positions (clause_items positions.now))
+        (AreItemsTooDeep (clause_items positions.now))) }
 {
     let mut clauses = Vec::with_capacity(cx.allocator(), positions.len())?;
     for position in positions {

@@ -10,10 +10,22 @@ ghost use Rattle.tt_interner.specs.Rows.{text_row, IsNew};
 ghost use Rattle.tt_interner.specs.Stored.{Extends};
 ghost use Rattle.type_terms.specs.declared.run.call.ArgCall.{ArgCall};
 ghost use Rattle.type_terms.specs.declared.run.call.Call.TheVariants.{Const as BuildsConst, Args as BuildsArgs};
-ghost use Rattle.type_terms.specs.CallForm.{IsOfHandles, args_ids, const_ids, const_form, value_form, param, plain, one, a_term, a_list, terms_at};
+ghost use Rattle.type_terms.specs.CallForm.{
+  args_ids,
+  const_ids,
+  const_form,
+  value_form,
+  param,
+  plain,
+  one,
+  a_term,
+  a_list,
+  terms_at,
+};
 ghost use Rattle.type_terms.specs.Told.{Told, told_all, AreOwned};
 ghost use Rattle.type_terms.specs.Means.{number_at, AreTerms};
-ghost use Rattle.type_terms.specs.Build.{GivesKind, Answers, LacksName};
+ghost use Rattle.type_terms.specs.Build.{GivesKind, Answers};
+ghost use Rattle.type_terms.specs.Room.{FormNeedsRoom};
 
 use crate::run::answer::Answer;
 use crate::run::call::{ArgCall, ConstCall, ValTreeCall};
@@ -27,7 +39,7 @@ use tt_kinds::{
     ValTree, ValTreeKind, ValueConst,
 };
 
-/// The constant that the call names, over the earlier answers, where the ids that it names are there.
+/// Returns the constant that the call names, over the earlier answers, where the ids that it names are there.
 pub fn build_const(
     cx: &mut Interner,
     earlier: &[Answer],
@@ -35,7 +47,8 @@ pub fn build_const(
 ) -> Result<Answer, Refusal>
     requires { AreOwned cx.old.rows earlier.now }
     ensures extends { Extends cx.old cx.new }
-    ensures answers { AreTerms (told_all cx.old.rows earlier.now) (const_ids call.now) → Answers cx.old cx.new (told_all cx.old.rows earlier.now) (BuildsConst call.now) result }
+    ensures answers { AreTerms (told_all cx.old.rows earlier.now) (const_ids call.now)
+        → Answers cx.old cx.new (told_all cx.old.rows earlier.now) (BuildsConst call.now) result }
 {
     match const_kind(cx, earlier, call) {
         Ok(kind) => {
@@ -51,7 +64,8 @@ pub fn build_const(
     }
 }
 
-/// The list of the generic arguments that the call names, over the earlier answers, where the ids that it names are there.
+/// Returns the list of the generic arguments that the call names, over the earlier answers, where the ids that it names
+/// are there.
 pub fn build_args_answer(
     cx: &mut Interner,
     earlier: &[Answer],
@@ -59,7 +73,9 @@ pub fn build_args_answer(
 ) -> Result<Answer, Refusal>
     requires { AreOwned cx.old.rows earlier.now }
     ensures extends { Extends cx.old cx.new }
-    ensures answers { (list : Vec ArgCall Global) → list.items ≡ args.now → AreTerms (told_all cx.old.rows earlier.now) (args_ids list.items) → Answers cx.old cx.new (told_all cx.old.rows earlier.now) (BuildsArgs list) result }
+    ensures answers { (list : Vec ArgCall Global) → list.items ≡ args.now
+        → AreTerms (told_all cx.old.rows earlier.now) (args_ids list.items)
+        → Answers cx.old cx.new (told_all cx.old.rows earlier.now) (BuildsArgs list) result }
 {
     let args = build_arg_list(cx, earlier, args)?;
     Ok(Answer::Args(args))
@@ -69,9 +85,15 @@ pub fn build_args_answer(
 fn const_kind(cx: &mut Interner, earlier: &[Answer], call: &ConstCall) -> Result<ConstKind, Refusal>
     requires { AreOwned cx.old.rows earlier.now }
     ensures extends { Extends cx.old cx.new }
-    ensures kind { GivesKind cx.new (told_all cx.old.rows earlier.now) (const_form (number_at (told_all cx.old.rows earlier.now)) call.now) const_kind_shape result }
-    ensures handles { IfErr result (λ e. IsOfHandles (const_form (number_at (told_all cx.old.rows earlier.now)) call.now) → e ≡ NoSuchAnswer) }
-    ensures named { OnErr result (LacksName cx.new.rows (const_form (number_at (told_all cx.old.rows earlier.now)) call.now)) }
+    ensures kind { GivesKind cx.new
+        (told_all cx.old.rows earlier.now)
+        (const_form (number_at (told_all cx.old.rows earlier.now)) call.now)
+        const_kind_shape
+        result }
+    ensures room { IfErr result
+        (FormNeedsRoom cx.new.rows
+        (told_all cx.old.rows earlier.now)
+        (const_form (number_at (told_all cx.old.rows earlier.now)) call.now)) }
 {
     match call {
         ConstCall::Param { index, name } => param_kind(cx, *index, name.as_str()),
@@ -95,7 +117,10 @@ fn const_kind(cx: &mut Interner, earlier: &[Answer], call: &ConstCall) -> Result
 // The kind of a parameter.
 fn param_kind(cx: &mut Interner, index: u32, name: &str) -> Result<ConstKind, Refusal>
     ensures extends { Extends cx.old cx.new }
-    ensures kind { (earlier : List Told) → GivesKind cx.new earlier (param const_sort index name.now) const_kind_shape result }
+    ensures kind { (earlier : List Told) → GivesKind cx.new earlier
+        (param const_sort index name.now)
+        const_kind_shape
+        result }
     ensures named { OnErr result (IsNew (text_row name.now) cx.new.rows) }
 {
     let name = cx.symbol(name)?;
@@ -111,8 +136,13 @@ fn value_kind(
 ) -> Result<ConstKind, Refusal>
     requires { AreOwned cx.old.rows earlier.now }
     ensures extends { Extends cx.old cx.new }
-    ensures kind { GivesKind cx.new (told_all cx.old.rows earlier.now) (value_form ty valtree.now) const_kind_shape result }
-    ensures handles { IfErr result (λ e. IsOfHandles (value_form ty valtree.now) → e ≡ NoSuchAnswer) }
+    ensures kind { GivesKind cx.new
+        (told_all cx.old.rows earlier.now)
+        (value_form ty valtree.now)
+        const_kind_shape
+        result }
+    ensures room { IfErr result
+        (FormNeedsRoom cx.new.rows (told_all cx.old.rows earlier.now) (value_form ty valtree.now)) }
 {
     match valtree {
         ValTreeCall::Leaf(leaf) => leaf_kind(cx, earlier, ty, *leaf),
@@ -129,7 +159,11 @@ fn leaf_kind(
 ) -> Result<ConstKind, Refusal>
     requires { AreOwned cx.now.rows earlier.now }
     ensures cause { IfErr result (λ e. e ≡ NoSuchAnswer) }
-    ensures kind { GivesKind cx.now (told_all cx.now.rows earlier.now) (plain (const_label (leaf_const leaf.bits leaf.size)) (one (a_term Table.Types ty) ∷ [])) const_kind_shape result }
+    ensures kind { GivesKind cx.now
+        (told_all cx.now.rows earlier.now)
+        (plain (const_label (leaf_const leaf.bits leaf.size)) (one (a_term Table.Types ty) ∷ []))
+        const_kind_shape
+        result }
 {
     let ty = handle_at::<Ty>(earlier, ty)?;
     let valtree = ValTree::from(ValTreeKind::Leaf(leaf));
@@ -145,7 +179,19 @@ fn branch_kind(
 ) -> Result<ConstKind, Refusal>
     requires { AreOwned cx.old.rows earlier.now }
     ensures extends { Extends cx.old cx.new }
-    ensures kind { GivesKind cx.new (told_all cx.old.rows earlier.now) (plain (const_label branch_const) (one (a_term Table.Types ty) ∷ a_list Table.ConstLists (terms_at Table.Consts branch.now) ∷ [])) const_kind_shape result }
+    ensures kind { GivesKind cx.new
+        (told_all cx.old.rows earlier.now)
+        (plain
+        (const_label branch_const)
+        (one (a_term Table.Types ty) ∷ a_list Table.ConstLists (terms_at Table.Consts branch.now) ∷ []))
+        const_kind_shape
+        result }
+    ensures room { IfErr result
+        (FormNeedsRoom cx.new.rows
+        (told_all cx.old.rows earlier.now)
+        (plain
+        (const_label branch_const)
+        (one (a_term Table.Types ty) ∷ a_list Table.ConstLists (terms_at Table.Consts branch.now) ∷ []))) }
 {
     let ty = handle_at::<Ty>(earlier, ty)?;
     let branch = build_consts(cx, earlier, branch)?;

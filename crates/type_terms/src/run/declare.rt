@@ -18,7 +18,7 @@ use tt_index::Refusal;
 use tt_interner::Interner;
 use tt_kinds::{DeclarationKind, DeclarationSort, ImplId, TraitId};
 
-/// The id of the declaration that the call makes, over the earlier answers.
+/// Returns the id of the declaration that the call makes, over the earlier answers.
 pub fn declare_at(
     cx: &mut Interner,
     earlier: &[Answer],
@@ -37,10 +37,15 @@ pub fn declare_at(
 // What is declared.
 fn declared_kind(earlier: &[Answer], call: &DeclarationKindCall) -> Result<DeclarationKind, Refusal>
     ensures sort { IfOk result (λ kind. sort_of kind ≡ declared_sort call.now) }
-    ensures kind { IfOk result (λ kind. (rows : List Row) → kind ≡ declared_kind (number_at (told_all rows earlier.now)) call.now) }
-    ensures named { IfOk result (λ kind. (rows : List Row) → AreTerms (told_all rows earlier.now) (declared_positions call.now)) }
+    ensures kind { IfOk result (λ kind. (rows : List Row) → kind
+        ≡ declared_kind (number_at (told_all rows earlier.now)) call.now) }
+    ensures named { IfOk result (λ kind. (rows : List Row) → AreTerms
+        (told_all rows earlier.now)
+        (declared_positions call.now)) }
     ensures cause { IfErr result (λ e. e ≡ NoSuchAnswer) }
-    ensures absent { IfErr result (λ e. (rows : List Row) → AreTerms (told_all rows earlier.now) (declared_positions call.now) → ⊥) }
+    ensures absent { IfErr result (λ e. (rows : List Row)
+        → AreTerms (told_all rows earlier.now) (declared_positions call.now)
+        → ⊥) }
 {
     match call {
         DeclarationKindCall::Trait { params } => Ok(DeclarationKind::Trait { params: *params }),

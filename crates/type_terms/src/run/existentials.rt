@@ -4,7 +4,17 @@ ghost use Rattle.std.specs.Prelude.{map};
 ghost use Rattle.tt_kinds.specs.Kinds.{existential_form as form_of_existential};
 ghost use Rattle.tt_kinds.specs.Kinds.{ty_kind_shape, existential_shape, existentials_shape};
 ghost use Rattle.tt_interner.specs.Stored.{Extends};
-ghost use Rattle.type_terms.specs.CallForm.{existential_form, existential_record, existential_tree, existentials_tree, existential_positions, all_positions, IsExistentialTooDeep, AnyIsDeep, trait_object};
+ghost use Rattle.type_terms.specs.CallForm.{
+  existential_form,
+  existential_record,
+  existential_tree,
+  existentials_tree,
+  existential_positions,
+  all_positions,
+  IsExistentialTooDeep,
+  AnyIsDeep,
+  trait_object,
+};
 ghost use Rattle.type_terms.specs.Told.{told_all, AreOwned};
 ghost use Rattle.type_terms.specs.Means.{number_at, tree_at};
 ghost use Rattle.type_terms.specs.Build.{GivesPlaced, GivesRecord, GivesKind};
@@ -22,7 +32,7 @@ use tt_kinds::{
     ExistentialTraitRef, PolyExistentialPredicate, TyKind,
 };
 
-/// The kind of a trait object.
+/// Returns the kind of a trait object.
 pub fn dynamic_kind(
     cx: &mut Interner,
     earlier: &[Answer],
@@ -31,7 +41,13 @@ pub fn dynamic_kind(
 ) -> Result<TyKind, Refusal>
     requires { AreOwned cx.old.rows earlier.now }
     ensures extends { Extends cx.old cx.new }
-    ensures kind { GivesKind cx.new (told_all cx.old.rows earlier.now) (trait_object (map (existential_form (number_at (told_all cx.old.rows earlier.now))) existentials.now) region.now) ty_kind_shape result }
+    ensures kind { GivesKind cx.new
+        (told_all cx.old.rows earlier.now)
+        (trait_object
+        (map (existential_form (number_at (told_all cx.old.rows earlier.now))) existentials.now)
+        region.now)
+        ty_kind_shape
+        result }
 {
     let existentials = build_existentials(cx, earlier, existentials)?;
     let region = build_region(cx, earlier, region)?;
@@ -46,8 +62,16 @@ fn build_existentials(
 ) -> Result<BoundExistentialPredicates, Refusal>
     requires { AreOwned cx.old.rows earlier.now }
     ensures extends { Extends cx.old cx.new }
-    ensures list { let e = told_all cx.old.rows earlier.now in let forms = map (existential_form (number_at e)) calls.now in
-        GivesPlaced cx.new e (existentials_tree (number_at e) (tree_at e) forms) (all_positions existential_positions forms) (AnyIsDeep IsExistentialTooDeep forms) existentials_shape result }
+    ensures list { let e = told_all cx.old.rows earlier.now in let forms = map
+        (existential_form (number_at e))
+        calls.now
+        in
+        GivesPlaced cx.new e
+        (existentials_tree (number_at e) (tree_at e) forms)
+        (all_positions existential_positions forms)
+        (AnyIsDeep IsExistentialTooDeep forms)
+        existentials_shape
+        result }
 {
     // What an id tells stays as the interner grows.
     cx.are_rows();
@@ -67,8 +91,16 @@ fn build_existential(
 ) -> Result<PolyExistentialPredicate, Refusal>
     requires { AreOwned cx.old.rows earlier.now }
     ensures extends { Extends cx.old cx.new }
-    ensures existential { let e = told_all cx.old.rows earlier.now in let form = existential_form (number_at e) call.now in
-        GivesPlaced cx.new e (existential_tree (number_at e) (tree_at e) form) (existential_positions form) (IsExistentialTooDeep form) existential_shape result }
+    ensures existential { let e = told_all cx.old.rows earlier.now in let form = existential_form
+        (number_at e)
+        call.now
+        in
+        GivesPlaced cx.new e
+        (existential_tree (number_at e) (tree_at e) form)
+        (existential_positions form)
+        (IsExistentialTooDeep form)
+        existential_shape
+        result }
 {
     let kind = existential_kind(cx, earlier, &call.kind)?;
     let vars = build_vars(cx, earlier, call.vars.as_slice())?;
@@ -83,7 +115,11 @@ fn existential_kind(
 ) -> Result<ExistentialPredicate, Refusal>
     requires { AreOwned cx.old.rows earlier.now }
     ensures extends { Extends cx.old cx.new }
-    ensures kind { GivesRecord cx.new (told_all cx.old.rows earlier.now) (existential_record (number_at (told_all cx.old.rows earlier.now)) call.now) form_of_existential result }
+    ensures kind { GivesRecord cx.new
+        (told_all cx.old.rows earlier.now)
+        (existential_record (number_at (told_all cx.old.rows earlier.now)) call.now)
+        form_of_existential
+        result }
 {
     match call {
         ExistentialKindCall::Trait(position, args) => {

@@ -8,7 +8,11 @@ ghost use Rattle.tt_interner.specs.Stored.{Extends};
 ghost use Rattle.tt_binder.specs.Arguments.{AreArguments};
 ghost use Rattle.tt_binder.specs.Untouched.{IsUntouched};
 ghost use Rattle.type_terms.specs.declared.run.call.ArgCall.{ArgCall};
-ghost use Rattle.type_terms.specs.declared.run.call.Call.TheVariants.{Shift as Shifts, EraseRegions as Erases, Instantiate as Instantiates};
+ghost use Rattle.type_terms.specs.declared.run.call.Call.TheVariants.{
+  Shift as Shifts,
+  EraseRegions as Erases,
+  Instantiate as Instantiates,
+};
 ghost use Rattle.type_terms.specs.CallForm.{args_ids};
 ghost use Rattle.type_terms.specs.Told.{Told, told, told_all, IsOwned, AreOwned};
 ghost use Rattle.type_terms.specs.Means.{as_term, term_at, AreTerms, IsUnchanged};
@@ -25,7 +29,7 @@ use tt_index::Refusal;
 use tt_interner::Interner;
 use tt_kinds::{EarlyBinder, GenericArg, Region, RegionKind};
 
-/// The term at the position, shifted.
+/// Returns the term at the position, shifted.
 pub fn shift_at(
     cx: &mut Interner,
     earlier: &[Answer],
@@ -52,13 +56,15 @@ pub fn shift_at(
 fn shifted<T: Handle>(cx: &mut Interner, term: T, amount: u32) -> Result<Answer, Refusal>
     requires { T.number term < size cx.old.rows T.table }
     ensures extends { Extends cx.old cx.new }
-    ensures answers { (earlier : List Told) (p : ℕ) → term_at earlier p ≡ Some (record { table = T.table; tree = meaning cx.old.rows T.table (T.number term) }) → Answers cx.old cx.new earlier (Shifts p amount) result }
+    ensures answers { (earlier : List Told) (p : ℕ)
+        → term_at earlier p ≡ Some (record { table = T.table; tree = meaning cx.old.rows T.table (T.number term) })
+        → Answers cx.old cx.new earlier (Shifts p amount) result }
 {
     let shifted = shift_vars(cx, term, amount)?;
     Ok(shifted.into_answer())
 }
 
-/// The term at the position, with its regions erased.
+/// Returns the term at the position, with its regions erased.
 pub fn erase_at(cx: &mut Interner, earlier: &[Answer], position: u32) -> Result<Answer, Refusal>
     requires { AreOwned cx.old.rows earlier.now }
     ensures extends { Extends cx.old cx.new }
@@ -89,8 +95,8 @@ fn erased<T: Handle>(cx: &mut Interner, term: T) -> Result<Answer, Refusal>
     Ok(erased.into_answer())
 }
 
-/// The term at the position, instantiated, where the ids that the arguments name are there. A term without a parameter and an
-/// exposed region variable comes back as it is, and no argument is built.
+/// Returns the term at the position, instantiated, where the ids that the arguments name are there. A term without a
+/// parameter and an exposed region variable comes back as it is, and no argument is built.
 pub fn instantiate_at(
     cx: &mut Interner,
     earlier: &[Answer],
@@ -192,7 +198,11 @@ fn instantiated<T: Handle>(
     requires term { T.number term < size cx.old.rows T.table }
     requires args { AreArguments cx.old.rows args.now }
     ensures extends { Extends cx.old cx.new }
-    ensures answers { (earlier : List Told) (p : ℕ) (list : Vec ArgCall Global) → term_at earlier p ≡ Some (record { table = T.table; tree = meaning cx.old.rows T.table (T.number term) }) → AreTerms earlier (args_ids list.items) → AreArgumentsOf cx.old earlier list.items args.now → Answers cx.old cx.new earlier (Instantiates p list) result }
+    ensures answers { (earlier : List Told) (p : ℕ) (list : Vec ArgCall Global)
+        → term_at earlier p ≡ Some (record { table = T.table; tree = meaning cx.old.rows T.table (T.number term) })
+        → AreTerms earlier (args_ids list.items)
+        → AreArgumentsOf cx.old earlier list.items args.now
+        → Answers cx.old cx.new earlier (Instantiates p list) result }
 {
     let instance = EarlyBinder::bind(term).instantiate(cx, args)?;
     Ok(instance.skip_norm_wip().into_answer())

@@ -18,11 +18,11 @@ pub trait Handle: TypeFoldable + Flags + Copy {
 
     ghost number: { Self → ℕ };
 
-    /// The handle that the answer is, and `None` where it is none of this table.
+    /// Returns the handle that the answer is, and `None` where it is none of this table.
     fn from_answer(answer: &Answer) -> Option<Self>
         ensures { MatchOption result (IsOther answer.now table) (λ handle. IsHandle answer.now table (number handle)) };
 
-    /// The handle as an answer.
+    /// Returns the handle as an answer.
     fn into_answer(self) -> Answer
         ensures { IsHandle result table (number self) };
 
@@ -176,7 +176,7 @@ impl Handle for GenericArgs {
     ghost is_flagged = { λ handle. refl };
 }
 
-/// The table of the handle that the answer is, if it is one.
+/// Returns the table of the handle that the answer is, if it is one.
 pub fn table_of(answer: &Answer) -> Option<Table>
     ensures { result ≡ handle_table answer.now }
 {
@@ -195,7 +195,7 @@ pub fn table_of(answer: &Answer) -> Option<Table>
     }
 }
 
-/// The number of the handle that the answer is in its table, and 0 where it is none.
+/// Returns the number of the handle that the answer is in its table, and 0 where it is none.
 pub fn number_of(answer: &Answer) -> u32
     ensures { result ≡ handle_number answer.now }
 {

@@ -2,7 +2,27 @@
 
 ghost use Rattle.std.specs.Prelude.{◌≡◌, ◌↔◌, ◌++◌, IsTrue, None, List, MatchOption};
 ghost use Rattle.tt_interner.specs.Rows.{Row};
-ghost use Rattle.type_terms.specs.CallForm.{an_id, any_id, name_ids, ty_name_ids, variable_ids, variables_ids, region_ids, arg_ids, args_ids, alias_ids, item_ids, existential_kind_ids, existential_ids, existentials_ids, ty_ids, const_ids, clause_ids, predicate_kind_ids, predicate_ids};
+ghost use Rattle.type_terms.specs.CallForm.{
+  an_id,
+  any_id,
+  name_ids,
+  ty_name_ids,
+  variable_ids,
+  variables_ids,
+  region_ids,
+  arg_ids,
+  args_ids,
+  alias_ids,
+  item_ids,
+  existential_kind_ids,
+  existential_ids,
+  existentials_ids,
+  ty_ids,
+  const_ids,
+  clause_ids,
+  predicate_kind_ids,
+  predicate_ids,
+};
 ghost use Rattle.type_terms.specs.Told.{told_all};
 ghost use Rattle.type_terms.specs.Means.{id_at, number_at, id_positions, AreTerms};
 ghost use Rattle.type_terms.specs.Build.{IsIdAt};
@@ -18,7 +38,11 @@ use tt_kinds::{DeclarationSort, DefId, TraitId};
 
 // The id at the position with its sort, and `None` where the answer there is absent or no id.
 fn id_at(earlier: &[Answer], position: u32) -> Option<(DeclarationSort, DefId)>
-    ensures { MatchOption result ((rows : List Row) → id_at (told_all rows earlier.now) position ≡ None) (λ id. IsIdAt earlier.now position id.0 id.1.number) }
+    ensures { MatchOption result ((rows : List Row) → id_at (told_all rows earlier.now) position ≡ None) (λ id. IsIdAt
+        earlier.now
+        position
+        id.0
+        id.1.number) }
 {
     let Ok(answer) = answer_at(earlier, position) else {
         return None;
@@ -29,8 +53,8 @@ fn id_at(earlier: &[Answer], position: u32) -> Option<(DeclarationSort, DefId)>
     }
 }
 
-/// The number of the id at the position. A call is only answered where [`names_ids`] has found an id at each such position,
-/// so that no term is built with the 0 of an absent one.
+/// Returns the number of the id at the position. A call is only answered where [`names_ids`] has found an id at each
+/// such position, so that no term is built with the 0 of an absent one.
 pub fn number_at(earlier: &[Answer], position: u32) -> u32
     ensures { (rows : List Row) → result ≡ number_at (told_all rows earlier.now) position }
 {
@@ -40,21 +64,21 @@ pub fn number_at(earlier: &[Answer], position: u32) -> u32
     }
 }
 
-/// The trait of that number.
+/// Returns the trait of that number.
 pub fn trait_at(earlier: &[Answer], position: u32) -> TraitId
     ensures { (rows : List Row) → result.number ≡ number_at (told_all rows earlier.now) position }
 {
     TraitId::from_number(number_at(earlier, position))
 }
 
-/// The declaration of that number.
+/// Returns the declaration of that number.
 pub fn def_at(earlier: &[Answer], position: u32) -> DefId
     ensures { (rows : List Row) → result.number ≡ number_at (told_all rows earlier.now) position }
 {
     DefId::from_number(number_at(earlier, position))
 }
 
-/// Whether an id of the sort that is wanted stands at each position of the call that has to tell one.
+/// Returns whether an id of the sort that is wanted stands at each position of the call that has to tell one.
 pub fn names_ids(earlier: &[Answer], call: &Call) -> bool
     ensures { (rows : List Row) → IsTrue result ↔ AreTerms (told_all rows earlier.now) (id_positions call.now) }
 {
@@ -90,14 +114,16 @@ fn is_any_id(earlier: &[Answer], position: u32) -> bool
 
 // Whether an id of this sort is at the position, and those that the arguments name are there.
 fn is_id_with(earlier: &[Answer], position: u32, sort: DeclarationSort, args: &[ArgCall]) -> bool
-    ensures { (rows : List Row) → IsTrue result ↔ AreTerms (told_all rows earlier.now) (an_id sort position ++ args_ids args.now) }
+    ensures { (rows : List Row) → IsTrue result
+        ↔ AreTerms (told_all rows earlier.now) (an_id sort position ++ args_ids args.now) }
 {
     is_id(earlier, position, sort) && names_args_ids(earlier, args)
 }
 
 // Whether an id of any sort is, and those that the arguments name.
 fn is_any_id_with(earlier: &[Answer], position: u32, args: &[ArgCall]) -> bool
-    ensures { (rows : List Row) → IsTrue result ↔ AreTerms (told_all rows earlier.now) (any_id position ++ args_ids args.now) }
+    ensures { (rows : List Row) → IsTrue result
+        ↔ AreTerms (told_all rows earlier.now) (any_id position ++ args_ids args.now) }
 {
     is_any_id(earlier, position) && names_args_ids(earlier, args)
 }
@@ -159,14 +185,16 @@ fn names_region_ids(earlier: &[Answer], call: &RegionCall) -> bool
 
 // Whether those of a region parameter, seen from inside its item, are.
 fn names_late_ids(earlier: &[Answer], scope: u32, name: &RegionNameCall) -> bool
-    ensures { (rows : List Row) → IsTrue result ↔ AreTerms (told_all rows earlier.now) (any_id scope ++ name_ids name.now) }
+    ensures { (rows : List Row) → IsTrue result
+        ↔ AreTerms (told_all rows earlier.now) (any_id scope ++ name_ids name.now) }
 {
     is_any_id(earlier, scope) && names_name_id(earlier, name)
 }
 
 // Whether those of both regions are.
 fn names_both_ids(earlier: &[Answer], first: &RegionCall, second: &RegionCall) -> bool
-    ensures { (rows : List Row) → IsTrue result ↔ AreTerms (told_all rows earlier.now) (region_ids first.now ++ region_ids second.now) }
+    ensures { (rows : List Row) → IsTrue result
+        ↔ AreTerms (told_all rows earlier.now) (region_ids first.now ++ region_ids second.now) }
 {
     names_region_ids(earlier, first) && names_region_ids(earlier, second)
 }
@@ -214,7 +242,8 @@ fn names_ty_ids(earlier: &[Answer], call: &TyCall) -> bool
 
 // Whether that of the item is, and those of its arguments.
 fn names_item_ids(earlier: &[Answer], call: ItemCall, args: &[ArgCall]) -> bool
-    ensures { (rows : List Row) → IsTrue result ↔ AreTerms (told_all rows earlier.now) (item_ids call ++ args_ids args.now) }
+    ensures { (rows : List Row) → IsTrue result
+        ↔ AreTerms (told_all rows earlier.now) (item_ids call ++ args_ids args.now) }
 {
     names_item_id(earlier, call) && names_args_ids(earlier, args)
 }
@@ -251,7 +280,8 @@ fn names_alias_id(earlier: &[Answer], call: AliasCall) -> bool
 
 // Whether those of a trait object are.
 fn names_object_ids(earlier: &[Answer], calls: &[ExistentialCall], region: &RegionCall) -> bool
-    ensures { (rows : List Row) → IsTrue result ↔ AreTerms (told_all rows earlier.now) (existentials_ids calls.now ++ region_ids region.now) }
+    ensures { (rows : List Row) → IsTrue result
+        ↔ AreTerms (told_all rows earlier.now) (existentials_ids calls.now ++ region_ids region.now) }
 {
     names_existentials_ids(earlier, calls) && names_region_ids(earlier, region)
 }

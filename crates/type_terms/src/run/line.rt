@@ -30,7 +30,7 @@ impl<T: Drop> From<AllocFailed<T>> for LineError {
     }
 }
 
-/// The call of the line, which has no line feed. A line without a word is no call and isn't counted as one.
+/// Returns the call of the line, which has no line feed. A line without a word is no call and isn't counted as one.
 pub fn parse_line(alloc: Global, line: &[u8]) -> Result<Option<Call>, AllocError> {
     let mut words = Words::new(line);
     let Some(first) = words.next_word() else {
@@ -59,7 +59,7 @@ fn parse_call(alloc: Global, first: &[u8], words: &mut Words) -> Result<Call, Li
     }
 }
 
-/// The number of the next word, at most `limit`.
+/// Returns the number of the next word, at most `limit`.
 pub fn number(words: &mut Words, limit: u32) -> Result<u32, LineError>
     ensures { IfOk result (λ n. n ≤ limit) }
 {
@@ -67,12 +67,12 @@ pub fn number(words: &mut Words, limit: u32) -> Result<u32, LineError>
     parse_number(word, limit).ok_or(LineError::Bad)
 }
 
-/// The position of the next word.
+/// Returns the position of the next word.
 pub fn position(words: &mut Words) -> Result<u32, LineError> {
     parse_position(words.next_word().ok_or(LineError::Bad)?)
 }
 
-/// The positions of all further words.
+/// Returns the positions of all further words.
 pub fn positions(alloc: Global, words: &mut Words) -> Result<Vec<u32>, LineError> {
     let mut positions = Vec::new(alloc);
     while let Some(word) = words.next_word() {

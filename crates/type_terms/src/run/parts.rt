@@ -1,20 +1,34 @@
 //! The parts of kinds: lists of terms, and generic arguments.
 
-ghost use Rattle.std.specs.Prelude.{◌≡◌, [], IsOk, IfErr, OnOk};
+ghost use Rattle.std.specs.Prelude.{◌≡◌, ◌≤◌, take, length, [], IsOk, IfErr, OnOk};
 ghost use Rattle.tt_index.specs.declared.refusal.Refusal.TheVariants.{GreatestIndex};
 ghost use Rattle.tt_kinds.specs.Bound.{depth};
 ghost use Rattle.tt_kinds.specs.Shape.{IsGreatest};
-ghost use Rattle.tt_kinds.specs.Kinds.{tys_shape, consts_shape, pats_shape, args_shape};
+ghost use Rattle.tt_kinds.specs.Kinds.{tys_shape, consts_shape, pats_shape, arg_shape, args_shape};
 ghost use Rattle.tt_interner.specs.Stored.{Extends};
-ghost use Rattle.type_terms.specs.CallForm.{a_list, a_term, arg_item, arg_items, args_part, item_positions, items_positions, terms_at, AreItemsTooDeep, IsItemTooDeep, IsRegionTooDeep};
+ghost use Rattle.type_terms.specs.CallForm.{
+  a_list,
+  a_term,
+  arg_item,
+  arg_items,
+  args_part,
+  item_positions,
+  items_positions,
+  one,
+  terms_at,
+  AreItemsTooDeep,
+  IsItemTooDeep,
+  IsRegionTooDeep,
+};
 ghost use Rattle.type_terms.specs.Told.{told_all, AreOwned};
-ghost use Rattle.type_terms.specs.Build.{GivesPart, GivesArgument, GivesArguments, IsUnusable, IsUsable};
+ghost use Rattle.type_terms.specs.Build.{GivesPart, GivesArgument, GivesArguments, IsUnusable, IsUsable, PutsItems};
+ghost use Rattle.type_terms.specs.Room.{PartNeedsRoom};
 
 use crate::run::answer::Answer;
 use crate::run::build::build_region;
 use crate::run::call::{ArgCall, RegionCall};
 use crate::run::handle::Handle;
-use crate::run::lookup::{handle_at, handles_at};
+use crate::run::lookup::{handle_at, handles_at, put_handles};
 use tt_index::{BoundVar, Refusal};
 use tt_interner::Interner;
 use tt_kinds::{
@@ -22,17 +36,33 @@ use tt_kinds::{
     PatList, Region, RegionKind, Table, Ty, Tys,
 };
 
-/// The list of the types at the positions.
+/// So many items of a list are collected without memory.
+pub const MOST_IN_PLACE: usize = 8;
+
+/// Returns the list of the types at the positions.
 pub fn build_tys(cx: &mut Interner, earlier: &[Answer], positions: &[u32]) -> Result<Tys, Refusal>
     requires { AreOwned cx.old.rows earlier.now }
     ensures extends { Extends cx.old cx.new }
-    ensures list { GivesPart cx.new (told_all cx.old.rows earlier.now) (a_list Table.TypeLists (terms_at Table.Types positions.now)) tys_shape result }
+    ensures list { GivesPart cx.new
+        (told_all cx.old.rows earlier.now)
+        (a_list Table.TypeLists (terms_at Table.Types positions.now))
+        tys_shape
+        result }
+    ensures room { IfErr result
+        (PartNeedsRoom cx.new.rows
+        (told_all cx.old.rows earlier.now)
+        (a_list Table.TypeLists (terms_at Table.Types positions.now))) }
 {
+    if positions.len() <= MOST_IN_PLACE {
+        let mut places = [Ty::from_number(0); MOST_IN_PLACE];
+        put_handles(earlier, positions, &mut places)?;
+        return cx.mk_tys(&places[..positions.len()]);
+    }
     let tys = handles_at::<Ty>(cx.allocator(), earlier, positions)?;
     cx.mk_tys(tys.as_slice())
 }
 
-/// The list of the constants at the positions.
+/// Returns the list of the constants at the positions.
 pub fn build_consts(
     cx: &mut Interner,
     earlier: &[Answer],
@@ -40,13 +70,26 @@ pub fn build_consts(
 ) -> Result<Consts, Refusal>
     requires { AreOwned cx.old.rows earlier.now }
     ensures extends { Extends cx.old cx.new }
-    ensures list { GivesPart cx.new (told_all cx.old.rows earlier.now) (a_list Table.ConstLists (terms_at Table.Consts positions.now)) consts_shape result }
+    ensures list { GivesPart cx.new
+        (told_all cx.old.rows earlier.now)
+        (a_list Table.ConstLists (terms_at Table.Consts positions.now))
+        consts_shape
+        result }
+    ensures room { IfErr result
+        (PartNeedsRoom cx.new.rows
+        (told_all cx.old.rows earlier.now)
+        (a_list Table.ConstLists (terms_at Table.Consts positions.now))) }
 {
+    if positions.len() <= MOST_IN_PLACE {
+        let mut places = [Const::from_number(0); MOST_IN_PLACE];
+        put_handles(earlier, positions, &mut places)?;
+        return cx.mk_consts(&places[..positions.len()]);
+    }
     let consts = handles_at::<Const>(cx.allocator(), earlier, positions)?;
     cx.mk_consts(consts.as_slice())
 }
 
-/// The list of the patterns at the positions.
+/// Returns the list of the patterns at the positions.
 pub fn build_pats(
     cx: &mut Interner,
     earlier: &[Answer],
@@ -54,13 +97,26 @@ pub fn build_pats(
 ) -> Result<PatList, Refusal>
     requires { AreOwned cx.old.rows earlier.now }
     ensures extends { Extends cx.old cx.new }
-    ensures list { GivesPart cx.new (told_all cx.old.rows earlier.now) (a_list Table.PatternLists (terms_at Table.Patterns positions.now)) pats_shape result }
+    ensures list { GivesPart cx.new
+        (told_all cx.old.rows earlier.now)
+        (a_list Table.PatternLists (terms_at Table.Patterns positions.now))
+        pats_shape
+        result }
+    ensures room { IfErr result
+        (PartNeedsRoom cx.new.rows
+        (told_all cx.old.rows earlier.now)
+        (a_list Table.PatternLists (terms_at Table.Patterns positions.now))) }
 {
+    if positions.len() <= MOST_IN_PLACE {
+        let mut places = [Pat::from_number(0); MOST_IN_PLACE];
+        put_handles(earlier, positions, &mut places)?;
+        return cx.mk_pat_list(&places[..positions.len()]);
+    }
     let pats = handles_at::<Pat>(cx.allocator(), earlier, positions)?;
     cx.mk_pat_list(pats.as_slice())
 }
 
-/// The list of the arguments that a call names.
+/// Returns the list of the arguments that a call names.
 pub fn build_arg_list(
     cx: &mut Interner,
     earlier: &[Answer],
@@ -69,12 +125,46 @@ pub fn build_arg_list(
     requires { AreOwned cx.old.rows earlier.now }
     ensures extends { Extends cx.old cx.new }
     ensures list { GivesPart cx.new (told_all cx.old.rows earlier.now) (args_part args.now) args_shape result }
+    ensures room { IfErr result
+        (PartNeedsRoom cx.new.rows (told_all cx.old.rows earlier.now) (args_part args.now)) }
 {
+    if args.len() <= MOST_IN_PLACE {
+        let mut places = [GenericArg::from(Ty::from_number(0)); MOST_IN_PLACE];
+        put_args(cx, earlier, args, &mut places)?;
+        return cx.mk_args(&places[..args.len()]);
+    }
     let args = build_args(cx, earlier, args)?;
     cx.mk_args(args.as_slice())
 }
 
-/// The arguments that a call names.
+// Puts the arguments that a call names into the first places.
+fn put_args(
+    cx: &mut Interner,
+    earlier: &[Answer],
+    args: &[ArgCall],
+    places: &mut [GenericArg],
+) -> Result<(), Refusal>
+    requires owned { AreOwned cx.old.rows earlier.now }
+    requires few { length args.now ≤ length places.old }
+    ensures extends { Extends cx.old cx.new }
+    ensures args { PutsItems cx.new
+        (told_all cx.old.rows earlier.now)
+        (arg_items args.now)
+        arg_shape
+        (take (length args.now) places.new)
+        result }
+    ensures room { IfErr result
+        (PartNeedsRoom cx.new.rows (told_all cx.old.rows earlier.now) (args_part args.now)) }
+{
+    // What an id tells stays as the interner grows.
+    cx.are_rows();
+    for (i, arg) in args.iter().enumerate() {
+        places[i] = build_arg(cx, earlier, arg)?;
+    }
+    Ok(())
+}
+
+/// Returns the arguments that a call names.
 pub fn build_args(
     cx: &mut Interner,
     earlier: &[Answer],
@@ -100,6 +190,8 @@ fn build_arg(cx: &mut Interner, earlier: &[Answer], arg: &ArgCall) -> Result<Gen
     requires { AreOwned cx.old.rows earlier.now }
     ensures extends { Extends cx.old cx.new }
     ensures arg { GivesArgument cx.new (told_all cx.old.rows earlier.now) arg.now result }
+    ensures room { IfErr result
+        (PartNeedsRoom cx.new.rows (told_all cx.old.rows earlier.now) (one (arg_item arg.now))) }
 {
     match arg {
         ArgCall::Type(position) => Ok(GenericArg::from(handle_at::<Ty>(earlier, *position)?)),
@@ -108,8 +200,9 @@ fn build_arg(cx: &mut Interner, earlier: &[Answer], arg: &ArgCall) -> Result<Gen
     }
 }
 
-/// Whether the arguments that a call names can be built, without building them. It is refused with `NoSuchAnswer` where a
-/// position tells no term of the argument's table, and with `GreatestIndex` where a bound region has that index.
+/// Returns whether the arguments that a call names can be built, without building them. It is refused with
+/// `NoSuchAnswer` where a position tells no term of the argument's table, and with `GreatestIndex` where a bound region
+/// has that index.
 pub fn check_args(cx: &Interner, earlier: &[Answer], args: &[ArgCall]) -> Result<(), Refusal>
     requires { AreOwned cx.now.rows earlier.now }
     ensures ok { OnOk

@@ -1,13 +1,13 @@
 //! The building of patterns.
 
-ghost use Rattle.std.specs.Prelude.{◌≡◌, IfErr, [], ◌∷◌};
-ghost use Rattle.tt_index.specs.declared.refusal.Refusal.TheVariants.{NoSuchAnswer};
+ghost use Rattle.std.specs.Prelude.{IfErr};
 ghost use Rattle.tt_kinds.specs.Kinds.{pattern_kind_shape};
 ghost use Rattle.tt_interner.specs.Stored.{Extends};
 ghost use Rattle.type_terms.specs.declared.run.call.Call.TheVariants.{Pat as BuildsPat};
-ghost use Rattle.type_terms.specs.CallForm.{IsOfHandles, pat_form};
+ghost use Rattle.type_terms.specs.CallForm.{pat_form};
 ghost use Rattle.type_terms.specs.Told.{told_all, AreOwned};
 ghost use Rattle.type_terms.specs.Build.{GivesKind, Answers};
+ghost use Rattle.type_terms.specs.Room.{FormNeedsRoom};
 
 use crate::run::answer::Answer;
 use crate::run::call::PatCall;
@@ -17,7 +17,7 @@ use tt_index::Refusal;
 use tt_interner::Interner;
 use tt_kinds::{Const, PatternKind};
 
-/// The pattern that the call names, over the earlier answers.
+/// Returns the pattern that the call names, over the earlier answers.
 pub fn build_pat(cx: &mut Interner, earlier: &[Answer], call: &PatCall) -> Result<Answer, Refusal>
     requires { AreOwned cx.old.rows earlier.now }
     ensures extends { Extends cx.old cx.new }
@@ -30,7 +30,10 @@ pub fn build_pat(cx: &mut Interner, earlier: &[Answer], call: &PatCall) -> Resul
             let pat = cx.mk_pat(kind)?;
             Ok(Answer::Pat(pat))
         }
-        Err(refusal) => Err(refusal),
+        Err(refusal) => {
+            cx.are_rows();
+            Err(refusal)
+        }
     }
 }
 
@@ -43,7 +46,7 @@ fn pattern_kind(
     requires { AreOwned cx.old.rows earlier.now }
     ensures extends { Extends cx.old cx.new }
     ensures kind { GivesKind cx.new (told_all cx.old.rows earlier.now) (pat_form call.now) pattern_kind_shape result }
-    ensures handles { IfErr result (λ e. IsOfHandles (pat_form call.now) → e ≡ NoSuchAnswer) }
+    ensures room { IfErr result (FormNeedsRoom cx.new.rows (told_all cx.old.rows earlier.now) (pat_form call.now)) }
 {
     match call {
         PatCall::Range { start, end } => {

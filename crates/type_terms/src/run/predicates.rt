@@ -1,7 +1,16 @@
 //! The building of predicates.
 
 ghost use Rattle.std.specs.Prelude.{[], ◌∷◌, List};
-ghost use Rattle.tt_kinds.specs.Label.{subtype_record, coerce_record, host_effect_record, unstable_feature_record, projection_record, normalizes_to_record, region_outlives_record, type_outlives_record};
+ghost use Rattle.tt_kinds.specs.Label.{
+  subtype_record,
+  coerce_record,
+  host_effect_record,
+  unstable_feature_record,
+  projection_record,
+  normalizes_to_record,
+  region_outlives_record,
+  type_outlives_record,
+};
 ghost use Rattle.tt_kinds.specs.Shape.{also, append};
 ghost use Rattle.tt_kinds.specs.Parts.{term_child};
 ghost use Rattle.tt_kinds.specs.Kinds.{predicate_form as form_of_predicate};
@@ -9,7 +18,18 @@ ghost use Rattle.tt_kinds.specs.Kinds.{child_shapes, clause_form, predicate_kind
 ghost use Rattle.tt_interner.specs.Rows.{Row};
 ghost use Rattle.tt_interner.specs.Stored.{Terms, Extends};
 ghost use Rattle.type_terms.specs.declared.run.call.Call.TheVariants.{Predicate as BuildsPredicate};
-ghost use Rattle.type_terms.specs.CallForm.{predicate_ids, predicate_form, predicate_record, clause_record, labelled, one, a_region, a_term, args_part, term_part};
+ghost use Rattle.type_terms.specs.CallForm.{
+  predicate_ids,
+  predicate_form,
+  predicate_record,
+  clause_record,
+  labelled,
+  one,
+  a_region,
+  a_term,
+  args_part,
+  term_part,
+};
 ghost use Rattle.type_terms.specs.Told.{Told, told_all, AreOwned};
 ghost use Rattle.type_terms.specs.Means.{number_at, AreTerms};
 ghost use Rattle.type_terms.specs.Build.{GivesPart, GivesParts, GivesRecord, GivesKind, Answers};
@@ -30,7 +50,7 @@ use tt_kinds::{
     SubtypePredicate, Table, Term, TraitPredicate, TraitRef, Ty,
 };
 
-/// The predicate that the call names, over the earlier answers, where the ids that it names are there.
+/// Returns the predicate that the call names, over the earlier answers, where the ids that it names are there.
 pub fn build_predicate(
     cx: &mut Interner,
     earlier: &[Answer],
@@ -38,7 +58,8 @@ pub fn build_predicate(
 ) -> Result<Answer, Refusal>
     requires { AreOwned cx.old.rows earlier.now }
     ensures extends { Extends cx.old cx.new }
-    ensures answers { AreTerms (told_all cx.old.rows earlier.now) (predicate_ids call.now) → Answers cx.old cx.new (told_all cx.old.rows earlier.now) (BuildsPredicate call.now) result }
+    ensures answers { AreTerms (told_all cx.old.rows earlier.now) (predicate_ids call.now)
+        → Answers cx.old cx.new (told_all cx.old.rows earlier.now) (BuildsPredicate call.now) result }
 {
     match bound_kind(cx, earlier, call) {
         Ok(kind) => {
@@ -57,7 +78,11 @@ fn bound_kind(
 ) -> Result<Binder<PredicateKind>, Refusal>
     requires { AreOwned cx.old.rows earlier.now }
     ensures extends { Extends cx.old cx.new }
-    ensures kind { GivesKind cx.new (told_all cx.old.rows earlier.now) (predicate_form (number_at (told_all cx.old.rows earlier.now)) call.now) predicate_kind_shape result }
+    ensures kind { GivesKind cx.new
+        (told_all cx.old.rows earlier.now)
+        (predicate_form (number_at (told_all cx.old.rows earlier.now)) call.now)
+        predicate_kind_shape
+        result }
 {
     match predicate_kind(cx, earlier, &call.kind) {
         Ok(kind) => {
@@ -76,7 +101,11 @@ fn predicate_kind(
 ) -> Result<PredicateKind, Refusal>
     requires { AreOwned cx.old.rows earlier.now }
     ensures extends { Extends cx.old cx.new }
-    ensures kind { GivesRecord cx.new (told_all cx.old.rows earlier.now) (predicate_record (number_at (told_all cx.old.rows earlier.now)) call.now) form_of_predicate result }
+    ensures kind { GivesRecord cx.new
+        (told_all cx.old.rows earlier.now)
+        (predicate_record (number_at (told_all cx.old.rows earlier.now)) call.now)
+        form_of_predicate
+        result }
 {
     match call {
         PredicateKindCall::Clause(clause) => match clause_kind(cx, earlier, clause) {
@@ -114,7 +143,12 @@ fn subtype(
     a: u32,
     b: u32,
 ) -> Result<PredicateKind, Refusal>
-    ensures { (terms : Terms) → AreOwned terms.rows earlier.now → GivesRecord terms (told_all terms.rows earlier.now) (labelled (subtype_record a_is_expected) (one (a_term Table.Types a) ∷ one (a_term Table.Types b) ∷ [])) form_of_predicate result }
+    ensures { (terms : Terms) → AreOwned terms.rows earlier.now
+        → GivesRecord terms
+        (told_all terms.rows earlier.now)
+        (labelled (subtype_record a_is_expected) (one (a_term Table.Types a) ∷ one (a_term Table.Types b) ∷ []))
+        form_of_predicate
+        result }
 {
     let pair = handle_pair::<Ty, Ty>(earlier, a, b)?;
     Ok(PredicateKind::Subtype(SubtypePredicate {
@@ -126,7 +160,12 @@ fn subtype(
 
 // A type can be coerced to another.
 fn coerce(earlier: &[Answer], a: u32, b: u32) -> Result<PredicateKind, Refusal>
-    ensures { (terms : Terms) → AreOwned terms.rows earlier.now → GivesRecord terms (told_all terms.rows earlier.now) (labelled coerce_record (one (a_term Table.Types a) ∷ one (a_term Table.Types b) ∷ [])) form_of_predicate result }
+    ensures { (terms : Terms) → AreOwned terms.rows earlier.now
+        → GivesRecord terms
+        (told_all terms.rows earlier.now)
+        (labelled coerce_record (one (a_term Table.Types a) ∷ one (a_term Table.Types b) ∷ []))
+        form_of_predicate
+        result }
 {
     let pair = handle_pair::<Ty, Ty>(earlier, a, b)?;
     Ok(PredicateKind::Coerce(CoercePredicate {
@@ -145,7 +184,13 @@ fn normalizes_to(
 ) -> Result<PredicateKind, Refusal>
     requires { AreOwned cx.old.rows earlier.now }
     ensures extends { Extends cx.old cx.new }
-    ensures kind { GivesRecord cx.new (told_all cx.old.rows earlier.now) (labelled (normalizes_to_record (number_at (told_all cx.old.rows earlier.now) position)) (args_part args.now ∷ term_part term ∷ [])) form_of_predicate result }
+    ensures kind { GivesRecord cx.new
+        (told_all cx.old.rows earlier.now)
+        (labelled
+        (normalizes_to_record (number_at (told_all cx.old.rows earlier.now) position))
+        (args_part args.now ∷ term_part term ∷ []))
+        form_of_predicate
+        result }
 {
     let pair = args_and_term(cx, earlier, args, term)?;
     let alias = AliasTerm {
@@ -164,7 +209,11 @@ fn clause_kind(
 ) -> Result<ClauseKind, Refusal>
     requires { AreOwned cx.old.rows earlier.now }
     ensures extends { Extends cx.old cx.new }
-    ensures kind { GivesRecord cx.new (told_all cx.old.rows earlier.now) (clause_record (number_at (told_all cx.old.rows earlier.now)) call.now) clause_form result }
+    ensures kind { GivesRecord cx.new
+        (told_all cx.old.rows earlier.now)
+        (clause_record (number_at (told_all cx.old.rows earlier.now)) call.now)
+        clause_form
+        result }
 {
     match call {
         ClauseCall::Trait(position, args) => {
@@ -208,7 +257,13 @@ fn host_effect(
 ) -> Result<ClauseKind, Refusal>
     requires { AreOwned cx.old.rows earlier.now }
     ensures extends { Extends cx.old cx.new }
-    ensures kind { GivesRecord cx.new (told_all cx.old.rows earlier.now) (labelled (host_effect_record (number_at (told_all cx.old.rows earlier.now) position) constness) (args_part args.now ∷ [])) clause_form result }
+    ensures kind { GivesRecord cx.new
+        (told_all cx.old.rows earlier.now)
+        (labelled
+        (host_effect_record (number_at (told_all cx.old.rows earlier.now) position) constness)
+        (args_part args.now ∷ []))
+        clause_form
+        result }
 {
     let args = build_arg_list(cx, earlier, args)?;
     let def_id = trait_at(earlier, position);
@@ -222,7 +277,10 @@ fn host_effect(
 // A feature of this name has to be on.
 fn unstable_feature(cx: &mut Interner, name: &str) -> Result<ClauseKind, Refusal>
     ensures extends { Extends cx.old cx.new }
-    ensures kind { (e : List Told) → GivesRecord cx.new e (labelled (unstable_feature_record name.now) []) clause_form result }
+    ensures kind { (e : List Told) → GivesRecord cx.new e
+        (labelled (unstable_feature_record name.now) [])
+        clause_form
+        result }
 {
     let symbol = cx.symbol(name)?;
     Ok(ClauseKind::UnstableFeature(symbol))
@@ -238,7 +296,13 @@ fn projection(
 ) -> Result<ClauseKind, Refusal>
     requires { AreOwned cx.old.rows earlier.now }
     ensures extends { Extends cx.old cx.new }
-    ensures kind { GivesRecord cx.new (told_all cx.old.rows earlier.now) (labelled (projection_record (number_at (told_all cx.old.rows earlier.now) position)) (args_part args.now ∷ term_part term ∷ [])) clause_form result }
+    ensures kind { GivesRecord cx.new
+        (told_all cx.old.rows earlier.now)
+        (labelled
+        (projection_record (number_at (told_all cx.old.rows earlier.now) position))
+        (args_part args.now ∷ term_part term ∷ []))
+        clause_form
+        result }
 {
     let pair = args_and_term(cx, earlier, args, term)?;
     let projection_term = AliasTerm {
@@ -259,7 +323,11 @@ fn region_outlives(
     shorter: &RegionCall,
 ) -> Result<ClauseKind, Refusal>
     ensures extends { Extends cx.old cx.new }
-    ensures kind { (rows : List Row) → GivesRecord cx.new (told_all rows earlier.now) (labelled region_outlives_record (one (a_region longer.now) ∷ one (a_region shorter.now) ∷ [])) clause_form result }
+    ensures kind { (rows : List Row) → GivesRecord cx.new
+        (told_all rows earlier.now)
+        (labelled region_outlives_record (one (a_region longer.now) ∷ one (a_region shorter.now) ∷ []))
+        clause_form
+        result }
 {
     let longer = build_region(cx, earlier, longer)?;
     let shorter = build_region(cx, earlier, shorter)?;
@@ -275,7 +343,11 @@ fn type_outlives(
 ) -> Result<ClauseKind, Refusal>
     requires { AreOwned cx.old.rows earlier.now }
     ensures extends { Extends cx.old cx.new }
-    ensures kind { GivesRecord cx.new (told_all cx.old.rows earlier.now) (labelled type_outlives_record (one (a_term Table.Types ty) ∷ one (a_region region.now) ∷ [])) clause_form result }
+    ensures kind { GivesRecord cx.new
+        (told_all cx.old.rows earlier.now)
+        (labelled type_outlives_record (one (a_term Table.Types ty) ∷ one (a_region region.now) ∷ []))
+        clause_form
+        result }
 {
     let ty = handle_at::<Ty>(earlier, ty)?;
     let region = build_region(cx, earlier, region)?;
@@ -284,7 +356,8 @@ fn type_outlives(
 
 // The type or the constant that a call names.
 fn term_at(earlier: &[Answer], call: TermCall) -> Result<Term, Refusal>
-    ensures { (terms : Terms) → AreOwned terms.rows earlier.now → GivesPart terms (told_all terms.rows earlier.now) (term_part call) term_shape result }
+    ensures { (terms : Terms) → AreOwned terms.rows earlier.now
+        → GivesPart terms (told_all terms.rows earlier.now) (term_part call) term_shape result }
 {
     match call {
         TermCall::Ty(position) => Ok(Term::from(handle_at::<Ty>(earlier, position)?)),
@@ -294,14 +367,19 @@ fn term_at(earlier: &[Answer], call: TermCall) -> Result<Term, Refusal>
 
 // Two such terms.
 fn term_pair(earlier: &[Answer], a: TermCall, b: TermCall) -> Result<(Term, Term), Refusal>
-    ensures { (terms : Terms) → AreOwned terms.rows earlier.now → GivesParts terms (told_all terms.rows earlier.now) (term_part a ∷ term_part b ∷ []) (λ pair. append (child_shapes (term_child pair.0)) (child_shapes (term_child pair.1))) result }
+    ensures { (terms : Terms) → AreOwned terms.rows earlier.now
+        → GivesParts terms
+        (told_all terms.rows earlier.now)
+        (term_part a ∷ term_part b ∷ [])
+        (λ pair. append (child_shapes (term_child pair.0)) (child_shapes (term_child pair.1)))
+        result }
 {
     let a = term_at(earlier, a)?;
     let b = term_at(earlier, b)?;
     Ok((a, b))
 }
 
-/// A list of arguments and such a term.
+/// Returns a list of arguments and such a term.
 pub fn args_and_term(
     cx: &mut Interner,
     earlier: &[Answer],
@@ -310,7 +388,11 @@ pub fn args_and_term(
 ) -> Result<(GenericArgs, Term), Refusal>
     requires { AreOwned cx.old.rows earlier.now }
     ensures extends { Extends cx.old cx.new }
-    ensures parts { GivesParts cx.new (told_all cx.old.rows earlier.now) (args_part args.now ∷ term_part term ∷ []) (λ pair. also (args_shape pair.0) (child_shapes (term_child pair.1))) result }
+    ensures parts { GivesParts cx.new
+        (told_all cx.old.rows earlier.now)
+        (args_part args.now ∷ term_part term ∷ [])
+        (λ pair. also (args_shape pair.0) (child_shapes (term_child pair.1)))
+        result }
 {
     let term = term_at(earlier, term)?;
     let args = build_arg_list(cx, earlier, args)?;

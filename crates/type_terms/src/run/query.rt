@@ -13,10 +13,14 @@ use crate::run::lookup::answer_at;
 use tt_index::Refusal;
 use tt_interner::Interner;
 
-/// Whether the terms at two positions are the same. They have to be of one table.
+/// Returns whether the terms at two positions are the same. They have to be of one table.
 pub fn equal_at(cx: &Interner, earlier: &[Answer], first: u32, second: u32) -> Answer
     requires { AreOwned cx.now.rows earlier.now }
-    ensures { IsAllowed (setting cx.now cx.now) (told_all cx.now.rows earlier.now) (AsksEqual first second) (told cx.now.rows result) }
+    ensures { IsAllowed
+        (setting cx.now cx.now)
+        (told_all cx.now.rows earlier.now)
+        (AsksEqual first second)
+        (told cx.now.rows result) }
 {
     let Ok(first) = answer_at(earlier, first) else {
         return Answer::Refused(Refusal::NoSuchAnswer);
@@ -41,10 +45,14 @@ fn are_alike(first: &Answer, second: &Answer) -> bool
     }
 }
 
-/// The flags and the outer exclusive binder of the term at the position. A list of generic arguments is none.
+/// Returns the flags and the outer exclusive binder of the term at the position. A list of generic arguments is none.
 pub fn info_at(cx: &Interner, earlier: &[Answer], position: u32) -> Answer
     requires { AreOwned cx.now.rows earlier.now }
-    ensures { IsAllowed (setting cx.now cx.now) (told_all cx.now.rows earlier.now) (AsksInfo position) (told cx.now.rows result) }
+    ensures { IsAllowed
+        (setting cx.now cx.now)
+        (told_all cx.now.rows earlier.now)
+        (AsksInfo position)
+        (told cx.now.rows result) }
 {
     let Ok(answer) = answer_at(earlier, position) else {
         return Answer::Refused(Refusal::NoSuchAnswer);

@@ -10,7 +10,7 @@ use std::alloc::{AllocError, Global};
 use tt_index::{BoundVar, DebruijnIndex, GREATEST_INDEX, RegionVid};
 use tt_kinds::{BoundVarIndexKind, ErrorGuaranteed};
 
-/// The region of a word.
+/// Returns the region of a word.
 pub fn parse_region(alloc: Global, word: &[u8]) -> Result<RegionCall, LineError> {
     match word {
         b"'static" => Ok(RegionCall::ReStatic),
@@ -34,12 +34,12 @@ pub fn parse_region(alloc: Global, word: &[u8]) -> Result<RegionCall, LineError>
     }
 }
 
-/// The name of a parameter that has none.
+/// Returns the name of a parameter that has none.
 pub fn anonymous(alloc: Global) -> Result<String, AllocError> {
     String::from_str(alloc, "'_")
 }
 
-/// The number of an index.
+/// Returns the number of an index.
 pub fn index(digits: &[u8]) -> Result<u32, LineError>
     ensures { IfOk result (λ n. n ≤ greatest) }
 {

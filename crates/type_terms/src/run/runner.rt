@@ -28,7 +28,11 @@ use tt_interner::Interner;
 pub fn run_calls(cx: &mut Interner, calls: &[Call]) -> Result<Vec<Answer>, Refusal>
     ensures extends { Extends cx.old cx.new }
     ensures owned { IfOk result (λ answers. AreOwned cx.new.rows answers.items) }
-    ensures means { IfOk result (λ answers. Means (setting cx.old cx.new) [] calls.now (told_all cx.new.rows answers.items)) }
+    ensures means { IfOk result (λ answers. Means
+        (setting cx.old cx.new)
+        []
+        calls.now
+        (told_all cx.new.rows answers.items)) }
     ensures cause { IfErr result (λ e. e ≡ Refusal.Memory) }
 {
     let mut answers = Vec::with_capacity(cx.allocator(), calls.len())?;
@@ -66,7 +70,11 @@ fn answer_call(cx: &mut Interner, earlier: &[Answer], call: &Call) -> Answer
     requires { AreOwned cx.old.rows earlier.now }
     ensures extends { Extends cx.old cx.new }
     ensures owned { IsOwned cx.new.rows result }
-    ensures allowed { IsAllowed (setting cx.old cx.new) (told_all cx.old.rows earlier.now) call.now (told cx.new.rows result) }
+    ensures allowed { IsAllowed
+        (setting cx.old cx.new)
+        (told_all cx.old.rows earlier.now)
+        call.now
+        (told cx.new.rows result) }
 {
     if names_ids(earlier, call) {
         answer_named(cx, earlier, call)
@@ -81,7 +89,11 @@ fn answer_named(cx: &mut Interner, earlier: &[Answer], call: &Call) -> Answer
     requires named { AreTerms (told_all cx.old.rows earlier.now) (id_positions call.now) }
     ensures extends { Extends cx.old cx.new }
     ensures owned { IsOwned cx.new.rows result }
-    ensures allowed { IsAllowed (setting cx.old cx.new) (told_all cx.old.rows earlier.now) call.now (told cx.new.rows result) }
+    ensures allowed { IsAllowed
+        (setting cx.old cx.new)
+        (told_all cx.old.rows earlier.now)
+        call.now
+        (told cx.new.rows result) }
 {
     match call {
         Call::Ty(kind) => outcome_answer(build_ty(cx, earlier, kind)),

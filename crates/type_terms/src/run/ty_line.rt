@@ -11,7 +11,7 @@ use tt_index::{
 };
 use tt_kinds::{BoundVarIndexKind, ErrorGuaranteed, FnHeader, FnSigKind, InferTy};
 
-/// The type of this first word and the further words of its line, as many of them as it takes.
+/// Returns the type of this first word and the further words of its line, as many of them as it takes.
 pub fn parse_ty(alloc: Global, first: &[u8], words: &mut Words) -> Result<TyCall, LineError> {
     match first {
         b"param" => Ok(TyCall::Param {

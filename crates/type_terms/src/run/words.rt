@@ -9,12 +9,12 @@ pub struct Words<'a> {
 }
 
 impl<'a> Words<'a> {
-    /// The words of the line.
+    /// Returns the words of the line.
     pub fn new(line: &'a [u8]) -> Words<'a> {
         Words { rest: line }
     }
 
-    /// The next word, which is not empty.
+    /// Returns the next word, which is not empty.
     pub fn next_word(&mut self) -> Option<&'a [u8]>
         ensures { OnSome result (length self.new.rest.now < length self.old.rest.now) }
     {

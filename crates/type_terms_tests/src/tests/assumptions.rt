@@ -1,41 +1,11 @@
 //! Lists of assumptions on regions, and the record of what a coroutine keeps.
 
-use super::owned::{
-    NOT_OWNED, Owned, are_owned, bound_region, holds_anew, is_instance, is_shifted, param_ty, tys,
-    u32_ty,
-};
-use super::values::{Flagged, info};
+use super::holds_anew;
+use test_terms::{NOT_OWNED, bound_region, info, is_instance, is_shifted, param_ty, tys, u32_ty};
 use type_terms::{
     CoroutineWitnessTypes, GenericArg, InternedList, Interner, OutlivesPredicate, Refusal,
-    RegionAssumptions, Ty,
+    RegionAssumptions, Ty, are_owned,
 };
-
-impl Owned for RegionAssumptions {
-    #[tactic(auto, unfolding(tt_kinds::specs::Shape::IsPart))]
-    fn is_owned(&self, cx: &Interner) -> bool {
-        cx.owns_assumptions(*self)
-    }
-}
-
-impl Owned for OutlivesPredicate<GenericArg> {
-    fn is_owned(&self, cx: &Interner) -> bool {
-        cx.owns_assumption(self)
-    }
-}
-
-impl Owned for CoroutineWitnessTypes {
-    #[tactic(auto, unfolding(tt_kinds::specs::Shape::IsPart))]
-    fn is_owned(&self, cx: &Interner) -> bool {
-        self.types.is_owned(cx) && self.assumptions.is_owned(cx)
-    }
-}
-
-impl Flagged for RegionAssumptions {
-    #[tactic(auto, unfolding(tt_kinds::specs::Shape::IsPart))]
-    fn has_flags(&self, cx: &Interner) -> bool {
-        cx.owns_assumptions(*self)
-    }
-}
 
 // That the type outlives the first variable of the binder of this index.
 fn outlives(ty: Ty, binder: u32) -> Result<OutlivesPredicate<GenericArg>, Refusal> {

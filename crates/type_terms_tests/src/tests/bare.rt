@@ -1,81 +1,13 @@
 //! Kinds, constants, arguments and terms that aren't stored.
 
-use super::every_kind::consts;
-use super::kinds::constant;
-use super::owned::{Owned, args, holds_anew, is_instance, param_region, param_ty, u32_ty};
+use super::holds_anew;
+use test_terms::{args, constant, consts, has_flags, is_instance, param_region, param_ty, u32_ty};
 use type_terms::{
     Const, ConstKind, Consts, ErrorGuaranteed, ExprConst, GenericArg, GenericArgKind, GenericArgs,
-    Interner, ParamConst, ParamTy, PatternKind, Refusal, Region, RegionKind, ScalarInt, TermKind,
-    Ty, TyKind, TypeFlags, TypeVisitableExt, UnevaluatedConst, UnevaluatedConstId, ValTree,
-    ValTreeKind, ValueConst,
+    Interner, Owned, ParamConst, ParamTy, PatternKind, Refusal, Region, RegionKind, ScalarInt,
+    TermKind, Ty, TyKind, TypeFlags, TypeFoldable, TypeVisitableExt, UnevaluatedConst,
+    UnevaluatedConstId, ValTree, ValTreeKind, ValueConst,
 };
-
-impl Owned for TyKind {
-    fn is_owned(&self, cx: &Interner) -> bool {
-        cx.owns_kind(self)
-    }
-}
-
-impl Owned for ConstKind {
-    fn is_owned(&self, cx: &Interner) -> bool {
-        cx.owns_const_kind(self)
-    }
-}
-
-impl Owned for UnevaluatedConst {
-    fn is_owned(&self, cx: &Interner) -> bool {
-        cx.owns_const_kind(&ConstKind::Unevaluated(*self))
-    }
-}
-
-impl Owned for PatternKind {
-    fn is_owned(&self, cx: &Interner) -> bool {
-        cx.owns_pattern_kind(self)
-    }
-}
-
-impl Owned for ExprConst {
-    fn is_owned(&self, cx: &Interner) -> bool {
-        cx.owns_const_kind(&ConstKind::Expr(*self))
-    }
-}
-
-impl Owned for ValueConst {
-    fn is_owned(&self, cx: &Interner) -> bool {
-        cx.owns_const_kind(&ConstKind::Value(*self))
-    }
-}
-
-impl Owned for ValTree {
-    #[tactic(auto, unfolding(tt_kinds::specs::Shape::IsPart))]
-    fn is_owned(&self, cx: &Interner) -> bool {
-        match self.kind() {
-            ValTreeKind::Leaf(_) => true,
-            ValTreeKind::Branch(values) => cx.owns_consts(values),
-        }
-    }
-}
-
-impl Owned for GenericArgKind {
-    fn is_owned(&self, cx: &Interner) -> bool {
-        cx.owns_arg(&GenericArg::from(*self))
-    }
-}
-
-impl Owned for TermKind {
-    #[tactic(auto, unfolding(tt_kinds::specs::Shape::IsPart))]
-    fn is_owned(&self, cx: &Interner) -> bool {
-        match self {
-            TermKind::Ty(ty) => cx.owns_ty(*ty),
-            TermKind::Const(constant) => cx.owns_const(*constant),
-        }
-    }
-}
-
-// Whether the value has a flag of the mask.
-pub fn has_flags<T: Owned>(cx: &Interner, value: &T, mask: TypeFlags) -> bool {
-    value.is_owned(cx) && value.has_type_flags(cx, mask)
-}
 
 // A type, a constant and a region, with the lists of the type and of the constant alone.
 #[derive(Clone, Copy)]
@@ -132,7 +64,7 @@ fn given(new: Leaves) -> [GenericArg; 3] {
 }
 
 // Whether each first value has a flag of its mask, and its instance is the second, which has none.
-fn are_used<T: Owned + Copy + PartialEq>(
+fn are_used<T: Owned + TypeFoldable + Copy + PartialEq>(
     cx: &mut Interner,
     new: Leaves,
     rows: &[(T, T, TypeFlags)],
@@ -150,7 +82,11 @@ fn are_used<T: Owned + Copy + PartialEq>(
 }
 
 // Whether the value has no parameter and is its own instance.
-fn is_kept<T: Owned + Copy + PartialEq>(cx: &mut Interner, new: Leaves, value: T) -> bool {
+fn is_kept<T: Owned + TypeFoldable + Copy + PartialEq>(
+    cx: &mut Interner,
+    new: Leaves,
+    value: T,
+) -> bool {
     !has_flags(cx, &value, TypeFlags::HAS_PARAM) && is_instance(cx, value, &given(new), value)
 }
 

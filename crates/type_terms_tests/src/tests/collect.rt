@@ -1,6 +1,7 @@
 //! Lists of the items of an iterator.
 
-use super::owned::{args, args_from_iter, holds_anew, param_ty, tys, tys_from_iter, u32_ty};
+use super::holds_anew;
+use test_terms::{args, args_from_iter, param_ty, tys, tys_from_iter, u32_ty};
 use type_terms::{GenericArg, GenericArgs, Interner, Refusal, Region, RegionKind, Tys};
 
 // The list of an iterator's types is that of their slice, of no type and of nine types too.

@@ -1,6 +1,7 @@
 //! Declarations: new ids, their names, the limit, and what bound regions are called.
 
-use super::owned::{NOT_OWNED, holds_anew, holds_within};
+use super::{holds_anew, holds_within};
+use test_terms::NOT_OWNED;
 use type_terms::{
     AdtId, BoundRegionKind, Declaration, DeclarationKind, DeclarationSort, DefId, Interner,
     Refusal, RegionName, Symbol, TraitId,

@@ -1,7 +1,7 @@
 //! What an environment says of a placeholder constant.
 
-use super::kinds::{clause, clauses, constant, predicate};
-use super::owned::{NOT_OWNED, bound_ty, holds_anew, one_region, ty};
+use super::holds_anew;
+use test_terms::{NOT_OWNED, bound_ty, clause, clauses, constant, one_region, predicate, ty};
 use type_terms::{
     BoundVar, BoundVarKinds, Clause, ClauseKind, ConstBounds, ConstKind, ConstTyFault, FindConstTy,
     Interner, ParamEnv, PlaceholderConst, PredicateKind, Refusal, Ty, TyKind, UintTy,

@@ -1,18 +1,11 @@
 //! Which token the queries of errors answer.
 
-use super::bare::has_flags;
-use super::owned::{NOT_OWNED, Owned, holds_anew, ref_ty, ty, u32_ty};
+use super::holds_anew;
+use test_terms::{NOT_OWNED, has_flags, ref_ty, ty, u32_ty};
 use type_terms::{
-    ConstKind, ErrorGuaranteed, Interner, Refusal, Region, RegionKind, Ty, TyKind, TypeFlags,
-    TypeVisitableExt,
+    ConstKind, ErrorGuaranteed, Interner, Owned, Refusal, Region, RegionKind, Ty, TyKind,
+    TypeFlags, TypeFoldable, TypeVisitableExt,
 };
-
-impl Owned for ErrorGuaranteed {
-    #[tactic(auto, unfolding(tt_kinds::specs::Shape::IsPart))]
-    fn is_owned(&self, _cx: &Interner) -> bool {
-        true
-    }
-}
 
 // `&'e7 u32`, whose region is an error.
 fn reference_of_an_error(cx: &mut Interner) -> Result<Ty, Refusal> {
@@ -22,7 +15,7 @@ fn reference_of_an_error(cx: &mut Interner) -> Result<Ty, Refusal> {
 }
 
 // Whether the queries of errors, and then of those that are no region's, answer this of the value.
-fn reports<T: Owned>(
+fn reports<T: Owned + TypeFoldable>(
     cx: &Interner,
     value: &T,
     any: Result<(), ErrorGuaranteed>,

@@ -4,139 +4,25 @@
 //! outer exclusive binders the greatest, one less for children under the kind's binder. A binder that binds something has the
 //! flag 0x1000000.
 
-use super::kinds::{clause, clauses, constant, info_of_kind, info_of_predicate, predicate};
-use super::owned::{
-    NOT_OWNED, are_owned, args, bound_region, bound_ty, holds_anew, one_region, param_ty, ty, tys,
+use super::holds_anew;
+use test_terms::{
+    are_infos, args, bound_region, bound_ty, clause, clauses, constant, consts, existential, info,
+    one_region, param_ty, pattern, predicate, two_existentials, two_patterns, ty, tys,
 };
-use super::values::{Flagged, info};
 use type_terms::{
     AdtId, AliasRelationDirection, AliasTerm, AliasTy, AliasTyKind, Binder, BoundConst,
     BoundConstness, BoundExistentialPredicates, BoundTy, BoundTyKind, BoundVar, BoundVarIndexKind,
-    BoundVarKinds, ClauseKind, Clauses, ClosureId, CoercePredicate, Const, ConstKind, ConstVid,
-    Consts, CoroutineClosureId, CoroutineId, DebruijnIndex, DefId, ErrorGuaranteed,
-    ExistentialPredicate, ExistentialProjection, ExistentialTraitRef, ExprConst, FloatTy, FloatVid,
-    FnHeader, FnSigKind, FnSigTys, ForeignId, FreeTyAliasId, GenericArg, GenericArgs,
-    HostEffectPredicate, InferConst, InferTy, InherentAssocTyId, IntTy, IntVid, Interner,
-    Mutability, NormalizesTo, OpaqueTyId, OutlivesPredicate, ParamConst, ParamTy, Pat, PatList,
-    PatternKind, PlaceholderConst, PlaceholderType, PolyExistentialPredicate, PredicateKind,
-    ProjectionPredicate, Refusal, Region, RegionKind, ScalarInt, SubtypePredicate, Term,
-    TraitAssocTyId, TraitId, TraitPredicate, TraitRef, Ty, TyKind, TyVid, UintTy, UnevaluatedConst,
-    UnevaluatedConstId, UniverseIndex, UnsafeBinderInner, ValTree, ValTreeKind, ValueConst,
+    BoundVarKinds, ClauseKind, ClosureId, CoercePredicate, Const, ConstKind, ConstVid,
+    CoroutineClosureId, CoroutineId, DebruijnIndex, DefId, ErrorGuaranteed, ExistentialPredicate,
+    ExistentialProjection, ExistentialTraitRef, ExprConst, FloatTy, FloatVid, FnHeader, FnSigKind,
+    FnSigTys, ForeignId, FreeTyAliasId, GenericArg, GenericArgs, HostEffectPredicate, InferConst,
+    InferTy, InherentAssocTyId, IntTy, IntVid, Interner, Mutability, NormalizesTo, OpaqueTyId,
+    OutlivesPredicate, ParamConst, ParamTy, Pat, PatternKind, PlaceholderConst, PlaceholderType,
+    PredicateKind, ProjectionPredicate, Refusal, Region, RegionKind, ScalarInt, SubtypePredicate,
+    Term, TraitAssocTyId, TraitId, TraitPredicate, TraitRef, Ty, TyKind, TyVid, UintTy,
+    UnevaluatedConst, UnevaluatedConstId, UniverseIndex, UnsafeBinderInner, ValTree, ValTreeKind,
+    ValueConst,
 };
-
-impl Flagged for Pat {
-    #[tactic(auto, unfolding(tt_kinds::specs::Shape::IsPart))]
-    fn has_flags(&self, cx: &Interner) -> bool {
-        cx.owns_pat(*self)
-    }
-}
-
-impl Flagged for Clauses {
-    #[tactic(auto, unfolding(tt_kinds::specs::Shape::IsPart))]
-    fn has_flags(&self, cx: &Interner) -> bool {
-        cx.owns_clauses(*self)
-    }
-}
-
-// A kind whose term can be built, and can then tell what is kept beside it.
-pub trait Built {
-    // The flags and the outer exclusive binder of the term.
-    fn info_of_term(&self, cx: &mut Interner) -> Result<(u32, u32), Refusal>;
-}
-
-impl Built for TyKind {
-    fn info_of_term(&self, cx: &mut Interner) -> Result<(u32, u32), Refusal> {
-        info_of_kind(cx, *self)
-    }
-}
-
-impl Built for ConstKind {
-    fn info_of_term(&self, cx: &mut Interner) -> Result<(u32, u32), Refusal> {
-        let term = constant(cx, *self)?;
-        info(cx, &term)
-    }
-}
-
-impl Built for PatternKind {
-    fn info_of_term(&self, cx: &mut Interner) -> Result<(u32, u32), Refusal> {
-        let term = pattern(cx, *self)?;
-        info(cx, &term)
-    }
-}
-
-// The predicate stands under a binder of one region.
-impl Built for PredicateKind {
-    fn info_of_term(&self, cx: &mut Interner) -> Result<(u32, u32), Refusal> {
-        let vars = one_region(cx)?;
-        info_of_predicate(cx, *self, vars)
-    }
-}
-
-// Whether the term of each kind has these flags and this outer exclusive binder.
-pub fn are_infos<K: Built>(cx: &mut Interner, rows: &[(K, u32, u32)]) -> Result<bool, Refusal> {
-    for row in rows {
-        if row.0.info_of_term(cx)? != (row.1, row.2) {
-            return Ok(false);
-        }
-    }
-    Ok(true)
-}
-
-// The pattern of this kind.
-pub fn pattern(cx: &mut Interner, kind: PatternKind) -> Result<Pat, Refusal> {
-    if cx.owns_pattern_kind(&kind) {
-        cx.mk_pat(kind)
-    } else {
-        Err(NOT_OWNED)
-    }
-}
-
-// The list of these two patterns.
-#[tactic(auto, unfolding(tt_kinds::specs::Shape::IsPart))]
-pub fn two_patterns(cx: &mut Interner, first: Pat, second: Pat) -> Result<PatList, Refusal> {
-    if cx.owns_pat(first) && cx.owns_pat(second) {
-        cx.mk_pat_list(&[first, second])
-    } else {
-        Err(NOT_OWNED)
-    }
-}
-
-// The list of these constants.
-pub fn consts(cx: &mut Interner, items: &[Const]) -> Result<Consts, Refusal> {
-    if are_owned(cx, items) {
-        cx.mk_consts(items)
-    } else {
-        Err(NOT_OWNED)
-    }
-}
-
-// The existential predicate of this kind under a binder of these variables.
-pub fn existential(
-    cx: &mut Interner,
-    kind: ExistentialPredicate,
-    vars: BoundVarKinds,
-) -> Result<PolyExistentialPredicate, Refusal> {
-    let bound = Binder::bind_with_vars(kind, vars);
-    if cx.owns_existential_kind(&bound) {
-        cx.mk_existential(bound)
-    } else {
-        Err(NOT_OWNED)
-    }
-}
-
-// The list of these two existential predicates.
-#[tactic(auto, unfolding(tt_kinds::specs::Shape::IsPart))]
-pub fn two_existentials(
-    cx: &mut Interner,
-    first: PolyExistentialPredicate,
-    second: PolyExistentialPredicate,
-) -> Result<BoundExistentialPredicates, Refusal> {
-    if cx.owns_existential(first) && cx.owns_existential(second) {
-        cx.mk_existential_list(&[first, second])
-    } else {
-        Err(NOT_OWNED)
-    }
-}
 
 // `^4`: 0x100000, 5.
 fn far_const(cx: &mut Interner) -> Result<Const, Refusal> {

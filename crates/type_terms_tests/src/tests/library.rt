@@ -1,7 +1,8 @@
 //! Calls of the library.
 
-use super::owned::{args, holds_anew, holds_within};
+use super::{holds_anew, holds_within};
 use std::alloc::{AllocError, Global};
+use test_terms::args;
 use type_terms::{
     Answer, ArgCall, Call, ConstCall, GenericArg, GenericArgs, InferConst, Interner, Refusal,
     Region, RegionCall, RegionKind, RegionVid, parse_line, run_calls,
@@ -52,6 +53,37 @@ fn limit_of_rows_holds(cx: &mut Interner) -> Result<bool, Refusal> {
 #[test]
 fn limit_of_rows(rt: HostRuntime) {
     holds_within(&rt, rt.alloc(), 2, limit_of_rows_holds);
+}
+
+// A tuple and a function pointer, a type too many, and the first two again, of lists that are there.
+fn are_found(answers: &[Answer]) -> bool {
+    matches!(
+        answers,
+        [
+            Answer::Ty(_),
+            Answer::Ty(_),
+            Answer::Ty(_),
+            Answer::Refused(Refusal::TableFull),
+            Answer::Ty(_),
+            Answer::Ty(_),
+            Answer::Truth(true),
+            Answer::Truth(true),
+        ]
+    )
+}
+
+fn known_lists_are_found_holds(cx: &mut Interner) -> Result<bool, Refusal> {
+    let answers = answer_all(
+        cx,
+        "u8\ntuple %1 %1\nfn 1 %1\nu16\ntuple %1 %1\nfn 1 %1\nequal %2 %5\nequal %3 %6\n",
+    )?;
+    Ok(are_found(answers.as_slice()))
+}
+
+// Where the table of types is full, what is there from a list or under a binder is found.
+#[test]
+fn known_lists_are_found(rt: HostRuntime) {
+    holds_within(&rt, rt.alloc(), 3, known_lists_are_found_holds);
 }
 
 // Scripts whose last call is refused, each with the refusal.

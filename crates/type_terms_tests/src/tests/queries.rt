@@ -1,16 +1,14 @@
 //! Each question that can be asked of any value, at values that answer it by yes and at values that answer it by no.
 
-use super::kinds::constant;
-use super::owned::{
-    NOT_OWNED, Owned, binder_index, bound_region, holds_anew, one_region, ty, u32_ty,
-};
+use super::holds_anew;
 use std::rc::Rc;
+use test_terms::{NOT_OWNED, binder_index, bound_region, constant, one_region, ty, u32_ty};
 use type_terms::{
     AliasTy, AliasTyKind, Binder, BoundConst, BoundTy, BoundTyKind, BoundVar, BoundVarIndexKind,
     ConstKind, ConstVid, CoroutineId, EarlyParamRegion, ErrorGuaranteed, GenericArgs, InferConst,
-    InferTy, Interner, OpaqueTyId, ParamConst, ParamTy, PlaceholderConst, PlaceholderRegion,
+    InferTy, Interner, OpaqueTyId, Owned, ParamConst, ParamTy, PlaceholderConst, PlaceholderRegion,
     PlaceholderType, Refusal, Region, RegionKind, RegionVid, TraitAssocTyId, TyKind, TyVid,
-    TypeVisitableExt, UnevaluatedConst, UnevaluatedConstId, UniverseIndex,
+    TypeFoldable, TypeVisitableExt, UnevaluatedConst, UnevaluatedConstId, UniverseIndex,
 };
 
 // A question on a value.
@@ -67,7 +65,7 @@ const QUERIES: [Query; 22] = [
 ];
 
 // The answer of a value to a question, or none if the value isn't of this interner.
-fn answer<T: Owned>(cx: &Interner, value: &T, query: Query) -> Option<bool> {
+fn answer<T: Owned + TypeFoldable>(cx: &Interner, value: &T, query: Query) -> Option<bool> {
     if !value.is_owned(cx) {
         return None;
     }
@@ -98,7 +96,7 @@ fn answer<T: Owned>(cx: &Interner, value: &T, query: Query) -> Option<bool> {
 }
 
 // Whether the value answers these questions by yes, and all others by no.
-fn says_yes_to<T: Owned>(cx: &Interner, value: &T, yes: &[Query]) -> bool {
+fn says_yes_to<T: Owned + TypeFoldable>(cx: &Interner, value: &T, yes: &[Query]) -> bool {
     for query in QUERIES {
         if answer(cx, value, query) != Some(yes.contains(&query)) {
             return false;
@@ -408,7 +406,10 @@ fn values_around_a_region(rt: HostRuntime) {
 }
 
 // Whether a box of the value, and a shared one, have free regions.
-fn have_free_regions<T: Owned + Copy>(cx: &Interner, value: T) -> Result<(bool, bool), Refusal> {
+fn have_free_regions<T: Owned + TypeFoldable + Copy>(
+    cx: &Interner,
+    value: T,
+) -> Result<(bool, bool), Refusal> {
     if !value.is_owned(cx) {
         return Err(NOT_OWNED);
     }

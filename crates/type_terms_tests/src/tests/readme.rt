@@ -1,21 +1,17 @@
 //! The library's example, as README.md has it.
 
-use super::owned::{holds_anew, ty};
+use super::holds_anew;
+use test_terms::ty;
 use type_terms::{EarlyBinder, GenericArg, Instantiate, Interner, ParamTy, Refusal, Ty, TyKind};
 
 // What T is with bool in T's place.
-#[tactic(auto, unfolding(tt_kinds::specs::Shape::IsPart))]
 pub fn replaced(cx: &mut Interner) -> Result<Ty, Refusal> {
     let name = cx.symbol("T")?;
     let parameter = cx.mk_ty(TyKind::Param(ParamTy { index: 0, name }))?;
     let argument = cx.mk_ty(TyKind::Bool)?;
-    if cx.owns_ty(parameter) {
-        let args = [GenericArg::from(argument)];
-        let answer = EarlyBinder::bind(parameter).instantiate(cx, args.as_slice())?;
-        Ok(answer.skip_norm_wip())
-    } else {
-        Ok(argument)
-    }
+    let args = [GenericArg::from(argument)];
+    let answer = EarlyBinder::bind(parameter).instantiate(cx, args.as_slice())?;
+    Ok(answer.skip_norm_wip())
 }
 
 fn is_bool_in_place_of_t(cx: &mut Interner) -> Result<bool, Refusal> {

@@ -1,20 +1,17 @@
 //! Generic calls of the library, each at the values that it is for.
 
-ghost use Rattle.std.specs.Prelude.{IsTrue};
-ghost use Rattle.tt_kinds.specs.Shape.{IsPart};
-ghost use Rattle.tt_interner.specs.Rows.{size};
-
-use super::owned::{
-    NOT_OWNED, Owned, are_owned, args, binder_index, bound_region, bound_ty, holds, holds_anew,
-    holds_within, instance, is_instance, is_refused_anew, is_shifted, one_region, param_region,
-    param_ty, ref_ty, shifted, ty, tys, u32_ty,
-};
+use super::{holds, holds_anew, holds_within, is_refused_anew};
 use std::alloc::Global;
+use test_terms::{
+    NOT_OWNED, args, binder_index, bound_region, bound_ty, info, instance, is_instance, is_shifted,
+    one_region, param_region, param_ty, ref_ty, shifted, ty, tys, u32_ty,
+};
 use type_terms::{
-    Binder, BoundRegionKind, BoundVarKinds, BoundVariableKind, DebruijnIndex, EarlyBinder, Flags,
+    Binder, BoundRegionKind, BoundVarKinds, BoundVariableKind, DebruijnIndex, EarlyBinder,
     FnSigTys, GREATEST_INDEX, GenericArg, GenericArgs, IndexVec, Instantiate, InternedKind,
-    InternedList, InternedText, Interner, Refusal, Region, RegionKind, SliceLike, Ty, TyKind,
-    TypeFlags, TypeVisitableExt, Tys, VariantIdx, WithCachedTypeInfo, shift_region,
+    InternedList, InternedText, Interner, Owned, Refusal, Region, RegionKind, SliceLike, Ty,
+    TyKind, TypeFlags, TypeFoldable, TypeVisitableExt, Tys, VariantIdx, WithCachedTypeInfo,
+    are_owned, shift_region,
 };
 
 // What a list of lent arguments tells of itself and of one of its places.
@@ -232,7 +229,7 @@ fn shift_of_arguments(rt: HostRuntime) {
 }
 
 // The value with stored arguments in the places of its parameters.
-fn instance_by_list<T: Owned + Copy>(
+fn instance_by_list<T: Owned + TypeFoldable + Copy>(
     cx: &mut Interner,
     value: T,
     args: GenericArgs,
@@ -246,7 +243,7 @@ fn instance_by_list<T: Owned + Copy>(
 }
 
 // Whether the value's instance is this one.
-fn is_instance_by_list<T: Owned + Copy + PartialEq>(
+fn is_instance_by_list<T: Owned + TypeFoldable + Copy + PartialEq>(
     cx: &mut Interner,
     value: T,
     args: GenericArgs,
@@ -362,7 +359,7 @@ struct Facts {
 }
 
 // What is told of the value.
-fn facts_of<T: Owned>(cx: &Interner, value: &T) -> Result<Facts, Refusal> {
+fn facts_of<T: Owned + TypeFoldable>(cx: &Interner, value: &T) -> Result<Facts, Refusal> {
     if value.is_owned(cx) {
         Ok(Facts {
             escapes: value.has_escaping_bound_vars(cx),
@@ -375,7 +372,7 @@ fn facts_of<T: Owned>(cx: &Interner, value: &T) -> Result<Facts, Refusal> {
 }
 
 // Whether variables of the binder of this index or further out stand in the value, and such of binders further out.
-fn bound_far_out<T: Owned>(
+fn bound_far_out<T: Owned + TypeFoldable>(
     cx: &Interner,
     value: &T,
     binder: DebruijnIndex,
@@ -469,64 +466,6 @@ fn how_far_out_variables_are_bound_holds(cx: &mut Interner) -> Result<bool, Refu
 #[test]
 fn how_far_out_variables_are_bound(rt: HostRuntime) {
     holds_anew(&rt, rt.alloc(), how_far_out_variables_are_bound_holds);
-}
-
-// A handle that can tell whether its flags can be read in an interner.
-pub trait Flagged: Flags {
-    fn has_flags(&self, cx: &Interner) -> bool
-        ensures { IsTrue result → IsPart (size cx.now.rows) (Self.flags_shape self.now) };
-}
-
-impl Flagged for Ty {
-    #[tactic(auto, unfolding(tt_kinds::specs::Shape::IsPart))]
-    fn has_flags(&self, cx: &Interner) -> bool {
-        cx.owns_ty(*self)
-    }
-}
-
-impl Flagged for Tys {
-    #[tactic(auto, unfolding(tt_kinds::specs::Shape::IsPart))]
-    fn has_flags(&self, cx: &Interner) -> bool {
-        cx.owns_tys(*self)
-    }
-}
-
-impl Flagged for GenericArgs {
-    #[tactic(auto, unfolding(tt_kinds::specs::Shape::IsPart))]
-    fn has_flags(&self, cx: &Interner) -> bool {
-        cx.owns_args(*self)
-    }
-}
-
-impl Flagged for BoundVarKinds {
-    #[tactic(auto, unfolding(tt_kinds::specs::Shape::IsPart))]
-    fn has_flags(&self, cx: &Interner) -> bool {
-        cx.owns_bound_vars(*self)
-    }
-}
-
-impl Flagged for Region {
-    fn has_flags(&self, cx: &Interner) -> bool {
-        cx.owns_region(self)
-    }
-}
-
-impl Flagged for GenericArg {
-    fn has_flags(&self, cx: &Interner) -> bool {
-        cx.owns_arg(self)
-    }
-}
-
-// The flags and the outer exclusive binder, as numbers.
-pub fn info<T: Flagged>(cx: &Interner, term: &T) -> Result<(u32, u32), Refusal> {
-    if term.has_flags(cx) {
-        Ok((
-            term.flags(cx).bits(),
-            term.outer_exclusive_binder(cx).as_u32(),
-        ))
-    } else {
-        Err(NOT_OWNED)
-    }
 }
 
 fn flags_of_handles_holds(cx: &mut Interner) -> Result<bool, Refusal> {

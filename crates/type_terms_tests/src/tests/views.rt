@@ -1,7 +1,11 @@
 //! Views of stored lists.
 
-use super::owned::{args, holds_anew, tys, u32_ty};
-use type_terms::{FnInputTys, GenericArg, GenericArgsSlice, Interner, Refusal, Tys};
+use super::holds_anew;
+use test_terms::{NOT_OWNED, args, bound_ty, tys, u32_ty};
+use type_terms::{
+    FnInputTys, GenericArg, GenericArgsSlice, InternedView, Interner, Refusal, TypeVisitableExt,
+    Tys,
+};
 
 // The inputs lie in a list with a last type, and in no empty list and none that isn't there.
 fn inputs_lie_in_a_list_holds(cx: &mut Interner) -> Result<bool, Refusal> {
@@ -40,4 +44,46 @@ fn arguments_lie_in_a_list_holds(cx: &mut Interner) -> Result<bool, Refusal> {
 #[test]
 fn arguments_lie_in_a_list(rt: HostRuntime) {
     holds_anew(&rt, rt.alloc(), arguments_lie_in_a_list_holds);
+}
+
+// The inputs are the types but the last. A variable escapes from the output alone.
+fn inputs_are_lent_holds(cx: &mut Interner) -> Result<bool, Refusal> {
+    let number = u32_ty(cx)?;
+    let output = bound_ty(cx, 0)?;
+    let view = FnInputTys::from_parts(tys(cx, &[number, number, output])?);
+    if !cx.owns_input_tys(view) {
+        return Err(NOT_OWNED);
+    }
+    let inputs = view.as_slice(cx);
+    Ok(inputs == [number, number].as_slice() && !inputs.has_escaping_bound_vars(cx))
+}
+
+#[test]
+fn inputs_are_lent(rt: HostRuntime) {
+    holds_anew(&rt, rt.alloc(), inputs_are_lent_holds);
+}
+
+// The arguments are those at the view's places. A variable escapes from the last alone.
+fn arguments_are_lent_holds(cx: &mut Interner) -> Result<bool, Refusal> {
+    let number = GenericArg::from(u32_ty(cx)?);
+    let variable = GenericArg::from(bound_ty(cx, 0)?);
+    let list = args(cx, &[number, number, variable])?;
+    let front = GenericArgsSlice::from_parts(list, 0, 2);
+    let back = GenericArgsSlice::from_parts(list, 2, 1);
+    if !cx.owns_args_slice(front) || !cx.owns_args_slice(back) {
+        return Err(NOT_OWNED);
+    }
+    let first = front.as_slice(cx);
+    let last = back.as_slice(cx);
+    Ok(
+        first == [number, number].as_slice()
+            && last == [variable].as_slice()
+            && !first.has_escaping_bound_vars(cx)
+            && last.has_escaping_bound_vars(cx),
+    )
+}
+
+#[test]
+fn arguments_are_lent(rt: HostRuntime) {
+    holds_anew(&rt, rt.alloc(), arguments_are_lent_holds);
 }

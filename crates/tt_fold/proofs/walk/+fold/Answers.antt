@@ -3,7 +3,7 @@ use Rattle.std.proofs.lemmas.List.{length_push}
 use Rattle.std.proofs.lemmas.Result.{err_from_is_err_and}
 use Rattle.tt_kinds.specs.Parts.{list_sort, child_sort, IsItem}
 use Rattle.tt_kinds.specs.Shape.{HasParts, IsTooDeep}
-use Rattle.tt_kinds.specs.Kinds.{kind_form, kind_sort, kind_shape, child_shapes}
+use Rattle.tt_kinds.specs.Kinds.{kind_form, kind_sort, kind_shape, child_shapes, node_shape, list_shape}
 use Rattle.tt_interner.specs.Rows.{size}
 use Rattle.tt_interner.specs.Children.{children_at}
 use Rattle.tt_interner.specs.Nodes.{stored_kind}
@@ -41,7 +41,7 @@ fold_node-descend-requires g t c κs within =
     let h = c.in_ok-step.ensures.goes in
     let same = age-grows _ _ h.extends.rows _ _ (in_range _ _ _ c.requires.node) in
     let hooked = c.if-not-is_hooked.ensures.hooked refl in
-    (omega (arith, same), (within.0, (within.1.0, (within.1.1, (h.is_owned, (IsPart-grows _ _ h.extends.rows _ c.requires.node, hooked))))))
+    (omega (arith, same), (within.0, (within.1.0, (within.1.1, (h.is_owned, (IsPart-grows _ _ h.extends.rows (node_shape c.args.node) c.requires.node, hooked))))))
 
 pub fold_node-returns-in-Replace-clause-folds : goal.fold_node-returns-in-Replace-clause-folds
 fold_node-returns-in-Replace-clause-folds g t c =
@@ -57,7 +57,7 @@ fold_node-returns-in-Keep-clause-folds g t c =
     record {
       extends = extends;
       is_owned = c.in_ok-step.ensures.goes.is_owned;
-      outcome = (record { owned = IsPart-grows _ _ extends.rows _ c.requires.node; like = refl }, rw (fill-grows _ _ extends.rows _ c.requires.node) (kept is h.1));
+      outcome = (record { owned = IsPart-grows _ _ extends.rows (node_shape c.args.node) c.requires.node; like = refl }, rw (fill-grows _ _ extends.rows (node_shape c.args.node) c.requires.node) (kept is h.1));
     }
 
 pub fold_node-returns-in-Descend-clause-folds : goal.fold_node-returns-in-Descend-clause-folds
@@ -95,7 +95,7 @@ descend-returns-in_err-rebuilt g t c =
 
 pub descend-core_after_term-requires-clause-before : goal.descend-core_after_term-requires-clause-before
 descend-core_after_term-requires-clause-before g t c =
-    IsPart-grows _ _ c.in_ok-rebuilt.ensures.extends.rows _ c.requires.node
+    IsPart-grows _ _ c.in_ok-rebuilt.ensures.extends.rows (node_shape c.args.node) c.requires.node
 
 pub descend-returns : goal.descend-returns
 descend-returns g t c =
@@ -136,7 +136,7 @@ fold_inside-store_like-requires g t c =
     let grows = c.fold_contents.ensures.extends.rows in
     let o = c.in_ok-parts.ensures.outcome.0 in
     record {
-      owned = in_range _ _ _ (IsPart-grows _ _ grows _ c.requires.node);
+      owned = in_range _ _ _ (IsPart-grows _ _ grows (node_shape c.args.node) c.requires.node);
       has_kind = other_node c.args.node c.in_default.not-Clauses;
       like = rw (stored_kind-grows _ _ grows c.args.node (in_range _ _ _ c.requires.node), ← c.node_parts-contents.ensures.children) o.like;
       parts = o.owned;
@@ -271,7 +271,7 @@ fold_child-returns-in_ok-new_region-in-Region g t c =
 
 pub fold_child-fold_node-requires : goal.fold_child-fold_node-requires
 fold_child-fold_node-requires g t c κs within =
-    let part = only_part _ _ (rw c.in-Node.is at c.requires.child) in
+    let part = only_part c.args.cx.now.rows (node_shape c.in-Node.node) (rw c.in-Node.is at c.requires.child) in
     let weight = ap (child_weight c.args.cx.now.rows) c.in-Node.is in
     (omega (arith, weight), (within.0, (within.1.0, (within.1.1, (c.requires.owned, part)))))
 
@@ -286,7 +286,7 @@ fold_child-returns-in_ok-new_node-in-Node g t c =
 
 pub fold_child-fold_list-requires : goal.fold_child-fold_list-requires
 fold_child-fold_list-requires g t c κs within =
-    let part = only_part _ _ (rw c.in-List.is at c.requires.child) in
+    let part = only_part c.args.cx.now.rows (list_shape c.in-List.list) (rw c.in-List.is at c.requires.child) in
     let weight = ap (child_weight c.args.cx.now.rows) c.in-List.is in
     (omega (arith, weight), (within.0, (within.1.0, (within.1.1, (c.requires.owned, part)))))
 
@@ -343,7 +343,7 @@ fold_items-loop-i-init g t c =
 
 pub fold_items-list_child-item-requires-clause-owned : goal.fold_items-list_child-item-requires-clause-owned
 fold_items-list_child-item-requires-clause-owned g t c =
-    in_range _ _ _ (IsPart-grows _ _ c.loop-i.invariant.0.extends.rows _ c.requires.list)
+    in_range _ _ _ (IsPart-grows _ _ c.loop-i.invariant.0.extends.rows (list_shape c.args.list) c.requires.list)
 
 pub fold_items-list_child-item-requires-clause-inside : goal.fold_items-list_child-item-requires-clause-inside
 fold_items-list_child-item-requires-clause-inside g t c =

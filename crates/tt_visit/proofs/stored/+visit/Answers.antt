@@ -7,164 +7,160 @@ use Rattle.tt_interner.specs.Children.{children_at}
 use Rattle.tt_visit.proofs.Weights.{list_age, low-kind, low-item}
 use Rattle.tt_visit.proofs.stored.+visit.Goals as goal
 
-pub visit_child-visit_region-requires : goal.visit_child-visit_region-requires
-unfolding IsPart AreParts
-visit_child-visit_region-requires g t c = let parts = rw c.in-Region.is at c.requires in parts.0
+pub visit_child-visit_region-requires-clause-region : goal.visit_child-visit_region-requires-clause-region
+visit_child-visit_region-requires-clause-region g t c = let parts = rw c.in-Region.is at c.requires.child in parts.0
 
 pub visit_child-visit_node-requires : goal.visit_child-visit_node-requires
-unfolding IsPart AreParts
 visit_child-visit_node-requires g t c κs within =
-    let parts = rw c.in-Node.is at c.requires in
+    let parts = rw c.in-Node.is at c.requires.child in
     let falls = rw c.in-Node.is at c.decreases in
-    (omega arith, (within.0, (within.1, parts.0)))
+    (omega arith, (within.0, (within.1, (c.requires.owned, parts.0))))
 
 pub visit_child-visit_list-requires : goal.visit_child-visit_list-requires
-unfolding IsPart AreParts
 visit_child-visit_list-requires g t c κs within =
-    let parts = rw c.in-List.is at c.requires in
+    let parts = rw c.in-List.is at c.requires.child in
     let falls = rw c.in-List.is at c.decreases in
-    (omega arith, (within.0, (within.1, parts.0)))
+    (omega arith, (within.0, (within.1, (c.requires.owned, parts.0))))
 
-pub visit_child-returns-in-Absent : goal.visit_child-returns-in-Absent
+pub visit_child-returns-in-Absent-clause-result : goal.visit_child-returns-in-Absent-clause-result
 unfolding fill fill_all
-visit_child-returns-in-Absent g t c = rw c.in-Absent.is all_seen
+visit_child-returns-in-Absent-clause-result g t c = rw c.in-Absent.is all_seen
 
-pub visit_child-returns-in-Region : goal.visit_child-returns-in-Region
+pub visit_child-returns-in-Region-clause-result : goal.visit_child-returns-in-Region-clause-result
 unfolding fill fill_all
-visit_child-returns-in-Region g t c =
-    rw c.in-Region.is (flow-weaker c.visit_region.result c.visit_region.ensures
+visit_child-returns-in-Region-clause-result g t c =
+    rw c.in-Region.is (flow-weaker c.visit_region.result c.visit_region.ensures.result
     (λ _ h. one_seen (region_seen (root-region _ _) h) all_seen) (λ b h. first_broke (region_broke (root-region _ _) h)))
 
-pub visit_child-returns-in-Node : goal.visit_child-returns-in-Node
+pub visit_child-returns-in-Node-clause-result : goal.visit_child-returns-in-Node-clause-result
 unfolding fill fill_all
-visit_child-returns-in-Node g t c =
-    rw c.in-Node.is (flow-weaker c.visit_node.result c.visit_node.ensures (λ _ h. one_seen h all_seen) (λ b h. first_broke h))
+visit_child-returns-in-Node-clause-result g t c =
+    rw c.in-Node.is (flow-weaker c.visit_node.result c.visit_node.ensures.result (λ _ h. one_seen h all_seen) (λ b h. first_broke h))
 
-pub visit_child-returns-in-List : goal.visit_child-returns-in-List
+pub visit_child-returns-in-List-clause-result : goal.visit_child-returns-in-List-clause-result
 unfolding fill fill_all
-visit_child-returns-in-List g t c =
-    rw c.in-List.is (flow-weaker c.visit_list.result c.visit_list.ensures (λ _ h. one_seen h all_seen) (λ b h. first_broke h))
+visit_child-returns-in-List-clause-result g t c =
+    rw c.in-List.is (flow-weaker c.visit_list.result c.visit_list.ensures.result (λ _ h. one_seen h all_seen) (λ b h. first_broke h))
 
 pub visit_kind-visit_contents-requires : goal.visit_kind-visit_contents-requires
 visit_kind-visit_contents-requires g t c κs within =
-    let is = parts-kind _ _ c.requires in
-    rw (c.bound_vars.ensures, c.parts.ensures) (omega arith, (within.0, (within.1, is)))
+    let is = parts-kind _ _ c.requires.kind in
+    rw (c.bound_vars.ensures, c.parts.ensures) (omega arith, (within.0, (within.1, (c.in-Continue.ensures.owned, is))))
 
-pub visit_kind-returns-in-Break : goal.visit_kind-returns-in-Break
-visit_kind-returns-in-Break g t c = told-kind _ _ _ _ _ _ c.in-Break.ensures
+pub visit_kind-returns-in-Break-clause-result : goal.visit_kind-returns-in-Break-clause-result
+visit_kind-returns-in-Break-clause-result g t c = told-kind _ _ _ _ _ _ c.in-Break.ensures.result
 
-pub visit_kind-returns-in-Continue : goal.visit_kind-returns-in-Continue
-visit_kind-returns-in-Continue g t c =
-    let contents = rw (c.bound_vars.ensures, c.parts.ensures) at c.visit_contents.ensures in
-    flow-weaker c.visit_contents.result contents (λ _ h. inside-kind _ _ _ _ _ _ c.in-Continue.ensures h) (λ b h. broke-kind _ _ _ _ _ _ b c.in-Continue.ensures h)
+pub visit_kind-returns-in-Continue-clause-result : goal.visit_kind-returns-in-Continue-clause-result
+visit_kind-returns-in-Continue-clause-result g t c =
+    let contents = rw (c.bound_vars.ensures, c.parts.ensures) at c.visit_contents.ensures.result in
+    flow-weaker c.visit_contents.result contents (λ _ h. inside-kind _ _ _ _ _ _ c.in-Continue.ensures.result h) (λ b h. broke-kind _ _ _ _ _ _ b c.in-Continue.ensures.result h)
 
 pub visit_inside-node_kind-kind-requires : goal.visit_inside-node_kind-kind-requires
-unfolding IsPart
-visit_inside-node_kind-kind-requires g t c = record { owned = c.requires; has_kind = has-kind _ c.in_default.not-Clauses }
+visit_inside-node_kind-kind-requires g t c = record { owned = c.requires.node; has_kind = has-kind _ c.in_default.not-Clauses }
 
 pub visit_inside-visit_kind-requires : goal.visit_inside-visit_kind-requires
 visit_inside-visit_kind-requires g t c κs within =
     let own = c.node_kind-kind.ensures in
     let low = low-kind _ _ _ own.older in
-    (omega arith, (within.0, (within.1, own.parts)))
+    (omega arith, (within.0, (within.1, (c.requires.owned, own.parts))))
 
-pub visit_inside-returns-in-Clauses : goal.visit_inside-returns-in-Clauses
+pub visit_inside-returns-in-Clauses-clause-result : goal.visit_inside-returns-in-Clauses-clause-result
 unfolding fill
-visit_inside-returns-in-Clauses g t c =
+visit_inside-returns-in-Clauses-clause-result g t c =
     let own = c.visit_items.ensures in
     rw (c.in-Clauses.is, own.list) (flow-weaker c.visit_items.result own.items (λ _ h. term_seen refl h) (λ b h. term_inside_broke refl h))
 
-pub visit_inside-returns-in_default : goal.visit_inside-returns-in_default
+pub visit_inside-returns-in_default-clause-result : goal.visit_inside-returns-in_default-clause-result
 unfolding fill
-visit_inside-returns-in_default g t c = rw (← c.node_kind-kind.ensures.means) at c.visit_kind.ensures
+visit_inside-returns-in_default-clause-result g t c = rw (← c.node_kind-kind.ensures.means) at c.visit_kind.ensures.result
 
-pub visit_node-returns-in-Break : goal.visit_node-returns-in-Break
-unfolding fill IsPart
-visit_node-returns-in-Break g t c = asking-broke _ _ _ _ _ _ (root-meaning _ _ _ c.requires) c.in-Break.ensures
+pub visit_node-returns-in-Break-clause-result : goal.visit_node-returns-in-Break-clause-result
+unfolding fill
+visit_node-returns-in-Break-clause-result g t c = asking-broke _ _ _ _ _ _ (root-meaning _ _ _ c.requires.node) c.in-Break.ensures.result
 
-pub visit_node-returns-in-Continue-Skip : goal.visit_node-returns-in-Continue-Skip
-unfolding fill IsPart
-visit_node-returns-in-Continue-Skip g t c =
-    asked-skip _ _ _ _ _ (root-meaning _ _ _ c.requires) (rw c.in-Continue-Skip.field-0-is at c.in-Continue-Skip.ensures)
+pub visit_node-returns-in-Continue-Skip-clause-result : goal.visit_node-returns-in-Continue-Skip-clause-result
+unfolding fill
+visit_node-returns-in-Continue-Skip-clause-result g t c =
+    asked-skip _ _ _ _ _ (root-meaning _ _ _ c.requires.node) (rw c.in-Continue-Skip.field-0-is at c.in-Continue-Skip.ensures.result)
 
-pub visit_node-returns-in-Continue-Descend : goal.visit_node-returns-in-Continue-Descend
-unfolding fill IsPart
-visit_node-returns-in-Continue-Descend g t c =
-    let hook = rw c.in-Continue-Descend.field-0-is at c.in-Continue-Descend.ensures in
-    flow-weaker c.visit_inside.result c.visit_inside.ensures
-    (λ _ h. asked-descend _ _ _ _ _ _ (root-meaning _ _ _ c.requires) hook h) (λ b h. asked-broke-inside _ _ _ _ _ _ b (root-meaning _ _ _ c.requires) hook h)
+pub visit_node-returns-in-Continue-Descend-clause-result : goal.visit_node-returns-in-Continue-Descend-clause-result
+unfolding fill
+visit_node-returns-in-Continue-Descend-clause-result g t c =
+    let hook = rw c.in-Continue-Descend.field-0-is at c.in-Continue-Descend.ensures.result in
+    flow-weaker c.visit_inside.result c.visit_inside.ensures.result
+    (λ _ h. asked-descend _ _ _ _ _ _ (root-meaning _ _ _ c.requires.node) hook h) (λ b h. asked-broke-inside _ _ _ _ _ _ b (root-meaning _ _ _ c.requires.node) hook h)
 
 pub visit_items-list_len-index-end-requires : goal.visit_items-list_len-index-end-requires
-unfolding IsPart
-visit_items-list_len-index-end-requires g t c = c.requires
+visit_items-list_len-index-end-requires g t c = c.requires.list
 
 pub visit_items-loop-index-init : goal.visit_items-loop-index-init
 unfolding fill_all
-visit_items-loop-index-init g t c = all_seen
+visit_items-loop-index-init g t c = (c.requires.owned, all_seen)
 
 pub visit_items-list_child-child-requires-clause-owned :
     goal.visit_items-list_child-child-requires-clause-owned
-unfolding IsPart
-visit_items-list_child-child-requires-clause-owned g t c = c.requires
+visit_items-list_child-child-requires-clause-owned g t c = c.requires.list
 
 pub visit_items-visit_child-requires : goal.visit_items-visit_child-requires
 visit_items-visit_child-requires g t c κs within =
     let own = c.list_len-index-end.ensures in
     let low = low-item c.args.cx.now.rows (list_age c.args.cx.now.rows c.args.list) (children_at c.args.cx.now.rows c.args.list) c.loop-index.index c.list_child-child.result c.list_child-child.ensures own.older in
-    (omega arith, (within.0, (within.1, parts-child _ (children_at c.args.cx.now.rows c.args.list) c.loop-index.index _ c.list_child-child.ensures own.parts)))
+    (omega arith, (within.0, (within.1, (c.loop-index.invariant.0, parts-child _ (children_at c.args.cx.now.rows c.args.list) c.loop-index.index _ c.list_child-child.ensures own.parts))))
 
 pub visit_items-returns-in-Break-clause-items : goal.visit_items-returns-in-Break-clause-items
 visit_items-returns-in-Break-clause-items g t c =
-    child-broke _ _ (children_at c.args.cx.now.rows c.args.list) c.loop-index.index _ _ _ _ _ c.list_child-child.ensures c.loop-index.invariant c.in-Break.ensures
+    child-broke _ _ (children_at c.args.cx.now.rows c.args.list) c.loop-index.index _ _ _ _ _ c.list_child-child.ensures c.loop-index.invariant.1 c.in-Break.ensures.result
 
 pub visit_items-returns-in-Break-clause-list : goal.visit_items-returns-in-Break-clause-list
 unfolding fill
 visit_items-returns-in-Break-clause-list g t c = c.list_len-index-end.ensures.means
 
 pub visit_items-loop-index-preserved : goal.visit_items-loop-index-preserved
-visit_items-loop-index-preserved g t c =
-    child-seen _ _ (children_at c.args.cx.now.rows c.args.list) c.loop-index.index _ _ _ _ c.list_child-child.ensures c.loop-index.invariant c.in-Continue.ensures
+visit_items-loop-index-preserved g t c = (
+  c.in-Continue.ensures.owned,
+  child-seen _ _ (children_at c.args.cx.now.rows c.args.list) c.loop-index.index _ _ _ _ c.list_child-child.ensures c.loop-index.invariant.1 c.in-Continue.ensures.result,
+)
 
 pub visit_items-returns-clause-items : goal.visit_items-returns-clause-items
 visit_items-returns-clause-items g t c =
-    children-seen _ _ _ _ _ _ (rw c.list_len-index-end.ensures.len at c.loop-index-test.false) c.loop-index.invariant
+    children-seen _ _ _ _ _ _ (rw c.list_len-index-end.ensures.len at c.loop-index-test.false) c.loop-index.invariant.1
 
 pub visit_items-returns-clause-list : goal.visit_items-returns-clause-list
 unfolding fill
 visit_items-returns-clause-list g t c = c.list_len-index-end.ensures.means
 
-pub visit_list-returns-in_default : goal.visit_list-returns-in_default
+pub visit_list-returns-in_default-clause-result : goal.visit_list-returns-in_default-clause-result
 unfolding fill
-visit_list-returns-in_default g t c =
+visit_list-returns-in_default-clause-result g t c =
     let own = c.visit_items.ensures in
     rw own.list (flow-weaker c.visit_items.result own.items (λ _ h. list-seen _ _ _ _ _ c.in_default.not-Clauses h) (λ b h. list-broke _ _ _ _ _ b c.in_default.not-Clauses h))
 
 pub visit_parts-visit_child-requires : goal.visit_parts-visit_child-requires
 visit_parts-visit_child-requires g t c κs within =
-    (omega arith, (within.0, (within.1, parts-before _ _ _ c.requires)))
+    (omega arith, (within.0, (within.1, (c.requires.owned, parts-before _ _ _ c.requires.parts))))
 
 pub visit_parts-visit_child-requires-in-Continue :
     goal.visit_parts-visit_child-requires-in-Continue
 visit_parts-visit_child-requires-in-Continue g t c κs within =
-    (omega arith, (within.0, (within.1, parts-after _ (child_shapes c.args.parts.first) _ c.requires)))
+    (omega arith, (within.0, (within.1, (c.in-Continue.ensures.owned, parts-after _ (child_shapes c.args.parts.first) _ c.requires.parts))))
 
-pub visit_parts-returns-in-Break : goal.visit_parts-returns-in-Break
-visit_parts-returns-in-Break g t c = broke-before _ _ _ _ _ _ _ c.in-Break.ensures
+pub visit_parts-returns-in-Break-clause-result : goal.visit_parts-returns-in-Break-clause-result
+visit_parts-returns-in-Break-clause-result g t c = broke-before _ _ _ _ _ _ _ c.in-Break.ensures.result
 
-pub visit_parts-returns-in-Continue : goal.visit_parts-returns-in-Continue
-visit_parts-returns-in-Continue g t c =
-    flow-weaker c.visit_child-in-Continue.result c.visit_child-in-Continue.ensures
-    (λ _ h. seen-append _ _ _ _ _ _ _ c.in-Continue.ensures h) (λ b h. broke-after _ _ _ _ _ _ _ b c.in-Continue.ensures h)
+pub visit_parts-returns-in-Continue-clause-result : goal.visit_parts-returns-in-Continue-clause-result
+visit_parts-returns-in-Continue-clause-result g t c =
+    flow-weaker c.visit_child-in-Continue.result c.visit_child-in-Continue.ensures.result
+    (λ _ h. seen-append _ _ _ _ _ _ _ c.in-Continue.ensures.result h) (λ b h. broke-after _ _ _ _ _ _ _ b c.in-Continue.ensures.result h)
 
-pub visit_under-returns-in-Break : goal.visit_under-returns-in-Break
-visit_under-returns-in-Break g t c m = enter_broke c.in-Break.ensures
+pub visit_under-returns-in-Break-clause-result : goal.visit_under-returns-in-Break-clause-result
+visit_under-returns-in-Break-clause-result g t c m = enter_broke c.in-Break.ensures.result
 
-pub visit_under-returns-in-Continue-Skip : goal.visit_under-returns-in-Continue-Skip
-visit_under-returns-in-Continue-Skip g t c m = binder_skipped (rw c.in-Continue-Skip.field-0-is at c.in-Continue-Skip.ensures)
+pub visit_under-returns-in-Continue-Skip-clause-result : goal.visit_under-returns-in-Continue-Skip-clause-result
+visit_under-returns-in-Continue-Skip-clause-result g t c m = binder_skipped (rw c.in-Continue-Skip.field-0-is at c.in-Continue-Skip.ensures.result)
 
-pub visit_under-returns-in-Continue-Descend : goal.visit_under-returns-in-Continue-Descend
-visit_under-returns-in-Continue-Descend g t c =
-    let hook = rw c.in-Continue-Descend.field-0-is at c.in-Continue-Descend.ensures in
-    flow-weaker c.visit_parts-outcome.result c.visit_parts-outcome.ensures
-    (λ _ h m. binder_seen hook (value_seen (node_seen refl h)) c.leave_binder.ensures)
-    (λ b h m. under_broke hook (value_broke (node_broke refl h)) c.leave_binder.ensures)
+pub visit_under-returns-in-Continue-Descend-clause-result : goal.visit_under-returns-in-Continue-Descend-clause-result
+visit_under-returns-in-Continue-Descend-clause-result g t c =
+    let hook = rw c.in-Continue-Descend.field-0-is at c.in-Continue-Descend.ensures.result in
+    flow-weaker c.visit_parts-outcome.result c.visit_parts-outcome.ensures.result
+    (λ _ h m. binder_seen hook (value_seen (node_seen refl h)) c.leave_binder.ensures.result)
+    (λ b h m. under_broke hook (value_broke (node_broke refl h)) c.leave_binder.ensures.result)

@@ -36,7 +36,8 @@ decreases-visit_items g l = 16 * list_age l.cx.now.rows l.list + 5
 
 abbrev pub invariant-visit_items-loop-index : goal.invariant-visit_items-loop-index
 invariant-visit_items-loop-index g l =
-    GoesOverAll g.V.TypeVisitor.hooks
+    g.V.TypeVisitor.owned l.cx.rows l.visitor
+    × GoesOverAll g.V.TypeVisitor.hooks
     (g.V.TypeVisitor.meaning l.cx.rows l.initial.visitor)
     (fill_all (meaning l.cx.rows) (children_shapes (take l.index (children_at l.cx.rows l.list))))
     (g.V.TypeVisitor.meaning l.cx.rows l.visitor)

@@ -6,7 +6,8 @@ use Rattle.tt_visit.proofs.visitable.visit_values.Given as goal
 
 abbrev pub invariant-loop-index : goal.invariant-loop-index
 invariant-loop-index g l =
-    GoesOverAll g.V.TypeVisitor.hooks
+    g.V.TypeVisitor.owned l.cx.rows l.visitor
+    × GoesOverAll g.V.TypeVisitor.hooks
     (g.V.TypeVisitor.meaning l.cx.rows l.initial.visitor)
     (fill_all (meaning l.cx.rows) (item_shapes g.T.TypeVisitable.shape (take l.index l.values)))
     (g.V.TypeVisitor.meaning l.cx.rows l.visitor)

@@ -4,9 +4,8 @@ use Rattle.tt_kinds.specs.Label.{const_sort}
 use Rattle.tt_kinds.specs.Kinds.{const_shape}
 use Rattle.tt_fold.specs.Steps.{tree_in}
 use Rattle.tt_binder.specs.ArgumentLaws.{owned-still, state-still}
-use Rattle.tt_binder.specs.Instantiation.{const_gone_into}
 use Rattle.tt_binder.proofs.RowArguments.{const_is, inner_const}
-use Rattle.tt_binder.proofs.HookLaws.{leaf_at, param_by_index, given_step}
+use Rattle.tt_binder.proofs.HookLaws.{const_step, leaf_at, param_by_index, given_step}
 use Rattle.tt_binder.proofs.StillLaws.{open_unpassed}
 use Rattle.tt_binder.proofs.arg_folder.ArgFolderTypeFolder.fold_const.Goals as goal
 
@@ -27,20 +26,20 @@ returns-in_ok-new-in-Some-clause-result g c =
     let found = param_by_index const_sort c.in-Some.index (tree_in old (const_shape c.args.constant)) c.in-Some.ensures in
     let h = c.in_ok-new-in-Some.ensures.result found.0 in (
       h.0,
-      given_step _ _ _ _ _ _ _ found.1 (state-still old new (g.S.SliceLike.items old args) (g.S.SliceLike.items new args) c.args.self.now.binders_passed grows same owned.1)
+      given_step _ _ _ _ _ _ _ found.1 (state-still old new (g.S.SliceLike.items old args) (g.S.SliceLike.items new args) c.args.self.now.binders_passed c.args.self.now.memory grows same owned.1 owned.3)
           c.const_argument.ensures.descents (c.const_argument.ensures.shift_descents, λ z. ap (λ x. x.counters.shift_descents) (c.const_argument.ensures.unshifted z)) h.1,
     )
 
 pub returns-in-None-clause-result : goal.returns-in-None-clause-result
 returns-in-None-clause-result g c =
     let old = c.args.cx.now.rows in
-    (tt, const_gone_into (inner_const (tree_in old (const_shape c.args.constant)) (const_is old c.args.constant c.requires.constant) c.in-None.ensures))
+    (tt, const_step _ (tree_in old (const_shape c.args.constant)) (inner_const (tree_in old (const_shape c.args.constant)) (const_is old c.args.constant c.requires.constant) c.in-None.ensures))
 
 pub returns-in_ok-new-in-Some-clause-owned : goal.returns-in_ok-new-in-Some-clause-owned
-returns-in_ok-new-in-Some-clause-owned g c = owned-still g.met.S.SliceLike.still_owned g.met.S.SliceLike.still_items _ _ c.args.self.now.args c.const_argument.ensures.extends.rows c.requires.owned
+returns-in_ok-new-in-Some-clause-owned g c = owned-still g.met.S.SliceLike.still_owned g.met.S.SliceLike.still_items _ _ c.args.self.now.args c.args.self.now.memory c.const_argument.ensures.extends.rows c.requires.owned
 
 pub returns-in_err-new-in-Some-clause-owned : goal.returns-in_err-new-in-Some-clause-owned
-returns-in_err-new-in-Some-clause-owned g c = owned-still g.met.S.SliceLike.still_owned g.met.S.SliceLike.still_items _ _ c.args.self.now.args c.const_argument.ensures.extends.rows c.requires.owned
+returns-in_err-new-in-Some-clause-owned g c = owned-still g.met.S.SliceLike.still_owned g.met.S.SliceLike.still_items _ _ c.args.self.now.args c.args.self.now.memory c.const_argument.ensures.extends.rows c.requires.owned
 
 pub returns-in_err-new-in-Some-clause-still : goal.returns-in_err-new-in-Some-clause-still
 returns-in_err-new-in-Some-clause-still g c = λ h. c.const_argument.ensures.unshifted (open_unpassed _ (tree_in c.args.cx.now.rows (const_shape c.args.constant)) h)

@@ -5,10 +5,11 @@ use Rattle.tt_kinds.specs.Kinds.{ty_shape}
 use Rattle.tt_fold.specs.Steps.{tree_in}
 use Rattle.tt_binder.specs.Arguments.{arguments}
 use Rattle.tt_binder.specs.ArgumentLaws.{owned-still, state-still}
-use Rattle.tt_binder.specs.Instantiation.{left_alone}
+use Rattle.tt_fold.specs.Remember.{remembered}
+use Rattle.tt_fold.specs.Memory.{memos}
 use Rattle.tt_binder.proofs.RowArguments.{type_is, type_kept}
 use Rattle.tt_binder.proofs.FlagLaws.{meets_param, misses_param}
-use Rattle.tt_binder.proofs.HookLaws.{leaf_at, param_by_index, inner_type, given_step, taken_step}
+use Rattle.tt_binder.proofs.HookLaws.{leaf_at, left_step, param_by_index, inner_type, given_step, taken_step}
 use Rattle.tt_binder.proofs.StillLaws.{open_unpassed, not_open}
 use Rattle.tt_binder.proofs.arg_folder.ArgFolderTypeFolder.fold_ty.Goals as goal
 
@@ -16,7 +17,7 @@ pub returns-then-not-intersects-clause-result : goal.returns-then-not-intersects
 returns-then-not-intersects-clause-result g c =
     let tree = tree_in c.args.cx.now.rows (ty_shape c.args.ty) in
     let none = misses_param tree c.flags.result.bits c.intersects.result c.flags.ensures c.if-not-intersects.true c.intersects.ensures.1 in
-    (tt, left_alone (type_kept tree (type_is c.args.cx.now.rows c.args.ty c.requires.ty)) none)
+    (tt, left_step _ tree (type_kept tree (type_is c.args.cx.now.rows c.args.ty c.requires.ty)) none)
 
 pub returns-in_err-new-in-Some-clause-result : goal.returns-in_err-new-in-Some-clause-result
 returns-in_err-new-in-Some-clause-result g c =
@@ -35,31 +36,15 @@ returns-in_ok-new-in-Some-clause-result g c =
     let found = param_by_index type_sort c.in-Some.index (tree_in old (ty_shape c.args.ty)) c.in-Some.ensures in
     let h = c.in_ok-new-in-Some.ensures.result found.0 in (
       h.0,
-      given_step _ _ _ _ _ _ _ found.1 (state-still old new (g.S.SliceLike.items old args) (g.S.SliceLike.items new args) c.args.self.now.binders_passed grows same owned.1)
+      given_step _ _ _ _ _ _ _ found.1 (state-still old new (g.S.SliceLike.items old args) (g.S.SliceLike.items new args) c.args.self.now.binders_passed c.args.self.now.memory grows same owned.1 owned.3)
           c.type_argument.ensures.descents (c.type_argument.ensures.shift_descents, λ z. ap (λ x. x.counters.shift_descents) (c.type_argument.ensures.unshifted z)) h.1,
     )
 
-pub returns-in-None-clause-result : goal.returns-in-None-clause-result
-returns-in-None-clause-result g c =
-    let old = c.args.cx.now.rows in
-    let args = c.args.self.now.args in
-    let tree = tree_in old (ty_shape c.args.ty) in
-    let held = meets_param tree c.flags.result.bits c.flags.ensures (c.intersects.ensures.0 c.if-not-intersects.false) in
-    let inner = inner_type tree (type_is old c.args.ty c.requires.ty) held c.in-None.ensures in
-    let rows = c.count_descent.ensures.rows in (
-      tt,
-      taken_step _ _ _ inner (ap (λ r. record { args = arguments r (g.S.SliceLike.items r args); binders_passed = c.args.self.now.binders_passed }) rows)
-          c.count_descent.ensures.descents c.count_descent.ensures.shift_descents,
-    )
-
 pub returns-in_ok-new-in-Some-clause-owned : goal.returns-in_ok-new-in-Some-clause-owned
-returns-in_ok-new-in-Some-clause-owned g c = owned-still g.met.S.SliceLike.still_owned g.met.S.SliceLike.still_items _ _ c.args.self.now.args c.type_argument.ensures.extends.rows c.requires.owned
+returns-in_ok-new-in-Some-clause-owned g c = owned-still g.met.S.SliceLike.still_owned g.met.S.SliceLike.still_items _ _ c.args.self.now.args c.args.self.now.memory c.type_argument.ensures.extends.rows c.requires.owned
 
 pub returns-in_err-new-in-Some-clause-owned : goal.returns-in_err-new-in-Some-clause-owned
-returns-in_err-new-in-Some-clause-owned g c = owned-still g.met.S.SliceLike.still_owned g.met.S.SliceLike.still_items _ _ c.args.self.now.args c.type_argument.ensures.extends.rows c.requires.owned
-
-pub returns-in-None-clause-owned : goal.returns-in-None-clause-owned
-returns-in-None-clause-owned g c = rw c.count_descent.ensures.rows c.requires.owned
+returns-in_err-new-in-Some-clause-owned g c = owned-still g.met.S.SliceLike.still_owned g.met.S.SliceLike.still_items _ _ c.args.self.now.args c.args.self.now.memory c.type_argument.ensures.extends.rows c.requires.owned
 
 pub returns-in_err-new-in-Some-clause-still : goal.returns-in_err-new-in-Some-clause-still
 returns-in_err-new-in-Some-clause-still g c = λ h. c.type_argument.ensures.unshifted (open_unpassed _ (tree_in c.args.cx.now.rows (ty_shape c.args.ty)) h)
@@ -67,6 +52,23 @@ returns-in_err-new-in-Some-clause-still g c = λ h. c.type_argument.ensures.unsh
 pub returns-in_ok-new-in-Some-clause-still : goal.returns-in_ok-new-in-Some-clause-still
 returns-in_ok-new-in-Some-clause-still g c = λ h. c.type_argument.ensures.unshifted (open_unpassed _ (tree_in c.args.cx.now.rows (ty_shape c.args.ty)) h)
 
-pub returns-in-None-clause-still : goal.returns-in-None-clause-still
-returns-in-None-clause-still g c =
+pub returns-in-Some-look_up-clause-result : goal.returns-in-Some-look_up-clause-result
+returns-in-Some-look_up-clause-result g c = (c.in-Some-look_up.ensures.trees.0, remembered c.in-Some-look_up.ensures.trees.1)
+
+pub returns-in-None-look_up-clause-result : goal.returns-in-None-look_up-clause-result
+returns-in-None-look_up-clause-result g c =
+    let old = c.args.cx.now.rows in
+    let tree = tree_in old (ty_shape c.args.ty) in
+    let held = meets_param tree c.flags.result.bits c.flags.ensures (c.intersects.ensures.0 c.if-not-intersects.false) in
+    let inner = inner_type tree (type_is old c.args.ty c.requires.ty) held c.in-None.ensures in
+    let state = ap (λ r. record {
+      rule = arguments r (g.S.SliceLike.items r c.args.self.now.args);
+      under = c.args.self.now.binders_passed;
+      kept = tt;
+      memory = memos r c.args.self.now.memory;
+    }) c.count_descent.ensures.rows in
+    (tt, taken_step _ _ _ inner c.in-None-look_up.ensures.trees state c.count_descent.ensures.descents c.count_descent.ensures.shift_descents)
+
+pub returns-in-None-look_up-clause-still : goal.returns-in-None-look_up-clause-still
+returns-in-None-look_up-clause-still g c =
     λ h. absurd (not_open _ (tree_in c.args.cx.now.rows (ty_shape c.args.ty)) (type_is c.args.cx.now.rows c.args.ty c.requires.ty) c.in-None.ensures h)

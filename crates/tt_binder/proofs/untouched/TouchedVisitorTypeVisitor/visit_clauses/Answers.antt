@@ -5,11 +5,11 @@ use Rattle.tt_binder.proofs.RowArguments.{clauses_is, clause_kept}
 use Rattle.tt_binder.proofs.FlagLaws.{meets_param, misses_param}
 use Rattle.tt_binder.proofs.untouched.TouchedVisitorTypeVisitor.visit_clauses.Goals as goal
 
-pub returns-then-intersects : goal.returns-then-intersects
-returns-then-intersects c = meets_param (tree_in c.args.cx.now.rows (clauses_shape c.args.clauses)) c.flags.result.bits c.flags.ensures (c.intersects.ensures.0 c.if-intersects.true)
+pub returns-then-intersects-clause-result : goal.returns-then-intersects-clause-result
+returns-then-intersects-clause-result c = meets_param (tree_in c.args.cx.now.rows (clauses_shape c.args.clauses)) c.flags.result.bits c.flags.ensures (c.intersects.ensures.0 c.if-intersects.true)
 
-pub returns-else-intersects : goal.returns-else-intersects
-returns-else-intersects c =
+pub returns-else-intersects-clause-result : goal.returns-else-intersects-clause-result
+returns-else-intersects-clause-result c =
     let tree = tree_in c.args.cx.now.rows (clauses_shape c.args.clauses) in
-    passed_by (clause_kept tree (clauses_is c.args.cx.now.rows c.args.clauses c.requires))
+    passed_by (clause_kept tree (clauses_is c.args.cx.now.rows c.args.clauses c.requires.clauses))
     (misses_param tree c.flags.result.bits c.intersects.result c.flags.ensures c.if-intersects.false c.intersects.ensures.1)

@@ -18,7 +18,7 @@ returns-in_err-a-clause-folds g c =
 
 pub fold_core-requires-2-clause-value : goal.fold_core-requires-2-clause-value
 fold_core-requires-2-clause-value g c =
-    IsPart-grows _ _ c.in_ok-a.ensures.folds.extends.rows _ (two-second _ coerce_record (ty_shape (c.args.self.a)) (ty_shape (c.args.self.b)) c.requires.value)
+    IsPart-grows _ _ c.in_ok-a.ensures.folds.extends.rows (ty_shape c.args.self.b) (two-second _ coerce_record (ty_shape (c.args.self.a)) (ty_shape (c.args.self.b)) c.requires.value)
 
 pub returns-in_err-b-clause-folds : goal.returns-in_err-b-clause-folds
 returns-in_err-b-clause-folds g c =

@@ -18,7 +18,7 @@ returns-in_err-types-clause-folds g c =
 
 pub fold_core-requires-2-clause-value : goal.fold_core-requires-2-clause-value
 fold_core-requires-2-clause-value g c =
-    IsPart-grows _ _ c.in_ok-types.ensures.folds.extends.rows _ (two-second _ witness_types_record (tys_shape (c.args.self.types)) (assumptions_shape (c.args.self.assumptions)) c.requires.value)
+    IsPart-grows _ _ c.in_ok-types.ensures.folds.extends.rows (assumptions_shape c.args.self.assumptions) (two-second _ witness_types_record (tys_shape (c.args.self.types)) (assumptions_shape (c.args.self.assumptions)) c.requires.value)
 
 pub returns-in_err-assumptions-clause-folds : goal.returns-in_err-assumptions-clause-folds
 returns-in_err-assumptions-clause-folds g c =

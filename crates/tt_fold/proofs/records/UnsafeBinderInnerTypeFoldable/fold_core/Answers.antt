@@ -1,4 +1,5 @@
 use Rattle.std.proofs.lemmas.Result.{err_from_is_err_and}
+use Rattle.tt_kinds.specs.Kinds.{ty_shape}
 use Rattle.tt_interner.proofs.Growth.{Extends-trans, IsPart-grows}
 use Rattle.tt_fold.proofs.PartLaws.{vars-kept}
 use Rattle.tt_fold.proofs.ValueSteps.{binder-has, binder-value, binder_enter_fails, binder_value_fails, binder_leave_fails, binder_folds}
@@ -17,7 +18,7 @@ returns-in_err-core_enter-clause-folds g c =
 
 pub fold_core-requires-clause-value : goal.fold_core-requires-clause-value
 fold_core-requires-clause-value g c =
-    rw c.skip_binder.ensures (IsPart-grows _ _ c.in_ok-core_enter.ensures.extends.rows _ (unsafe_type _ c.args.self c.requires.value))
+    rw c.skip_binder.ensures (IsPart-grows _ _ c.in_ok-core_enter.ensures.extends.rows (ty_shape c.args.self.0.value) (unsafe_type _ c.args.self c.requires.value))
 
 pub returns-in_err-ty-clause-folds : goal.returns-in_err-ty-clause-folds
 returns-in_err-ty-clause-folds g c =

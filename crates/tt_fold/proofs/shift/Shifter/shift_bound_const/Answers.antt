@@ -10,9 +10,9 @@ use Rattle.tt_fold.proofs.shift.Shifter.shift_bound_const.Goals as goal
 pub returns-in-Ok-clause-result : goal.returns-in-Ok-clause-result
 returns-in-Ok-clause-result c =
     bound_built (λ h. h.number) Consts (λ j. const_row (kind.Bound j c.args.bound_const)) const_sort (const_entry c.args.bound_const) (λ _. refl) (λ _. refl)
-    c.args.cx.now c.mk_const.new.self (record { amount = c.args.self.amount; under = c.args.self.current_index }) c.args.index c.in-Ok.shifted _
+    c.args.cx.now c.mk_const.new.self (record { amount = c.args.self.now.amount; under = c.args.self.now.current_index }) c.args.index c.in-Ok.shifted _
     c.requires c.in-Ok.ensures tt c.mk_const.ensures
 
 pub returns-in-Err-clause-result : goal.returns-in-Err-clause-result
 returns-in-Err-clause-result c =
-    inl (c.in-Err.ensures.0, past_too_far (meaning c.args.cx.now.rows) (record { amount = c.args.self.amount; under = c.args.self.current_index }) const_sort c.args.index (const_entry c.args.bound_const) c.in-Err.ensures.1)
+    inl (c.in-Err.ensures.0, past_too_far (meaning c.args.cx.now.rows) (record { amount = c.args.self.now.amount; under = c.args.self.now.current_index }) const_sort c.args.index (const_entry c.args.bound_const) c.in-Err.ensures.1)

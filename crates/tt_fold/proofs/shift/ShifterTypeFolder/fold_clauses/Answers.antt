@@ -1,22 +1,14 @@
 use Rattle.std.proofs.Common.{refl}
 use Rattle.tt_kinds.specs.declared.table.Table.TheVariants.{ClauseLists}
-use Rattle.tt_kinds.specs.Kinds.{clauses_shape}
-use Rattle.tt_fold.specs.Steps.{tree_in}
-use Rattle.tt_fold.proofs.BoundLaws.{term_kept, term_descends, clauses_inside, clauses_no_type}
-use Rattle.tt_fold.proofs.ShiftLaws.{uncounted_standing}
+use Rattle.tt_fold.specs.Remember.{left_alone, gone_into}
+use Rattle.tt_fold.proofs.BoundLaws.{term_kept, clauses_other}
+use Rattle.tt_fold.proofs.TypeLaws.{part-type}
 use Rattle.tt_fold.proofs.shift.ShifterTypeFolder.fold_clauses.Goals as goal
 
 pub returns-then-moves-clause-result : goal.returns-then-moves-clause-result
 returns-then-moves-clause-result c =
-    let far = rw c.outer_exclusive_binder.ensures at (c.if-moves.ensures.0 refl) in (
-      tt,
-      (
-        uncounted_standing (record { amount = c.args.self.now.amount; under = c.args.self.now.current_index }) (tree_in c.args.cx.now.rows (clauses_shape c.args.clauses)) c.args.cx.now.counters (clauses_no_type c.args.cx.now.rows ClauseLists c.args.clauses.number tt c.requires.clauses),
-        term_descends (record { amount = c.args.self.now.amount; under = c.args.self.now.current_index }) (tree_in c.args.cx.now.rows (clauses_shape c.args.clauses)) (clauses_inside (record { amount = c.args.self.now.amount; under = c.args.self.now.current_index }) c.args.cx.now.rows ClauseLists c.args.clauses.number tt c.requires.clauses) far,
-      ),
-    )
+    (tt, gone_into (part-type c.args.cx.now.rows ClauseLists c.args.clauses.number c.requires.clauses) (clauses_other c.args.cx.now.rows ClauseLists c.args.clauses.number tt c.requires.clauses))
 
 pub returns-else-moves-clause-result : goal.returns-else-moves-clause-result
 returns-else-moves-clause-result c =
-    let closed = rw c.outer_exclusive_binder.ensures at c.if-moves.ensures.1 in
-    (tt, (refl, term_kept (record { amount = c.args.self.now.amount; under = c.args.self.now.current_index }) (tree_in c.args.cx.now.rows (clauses_shape c.args.clauses)) closed))
+    (tt, left_alone (term_kept c.args.self.now.amount c.args.self.now.current_index _ (rw c.outer_exclusive_binder.ensures at c.if-moves.ensures.1)))

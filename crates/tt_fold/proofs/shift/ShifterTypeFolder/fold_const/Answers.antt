@@ -1,4 +1,4 @@
-use Rattle.std.proofs.Common.{◌≡◌, false, refl, sym, ◌∙◌}
+use Rattle.std.proofs.Common.{◌≡◌, true, false, refl, sym, ◌∙◌}
 use Rattle.std.proofs.lemmas.Result.{err_from_is_err_and}
 use Rattle.tt_kinds.specs.Label.{const_sort}
 use Rattle.tt_kinds.specs.Bound.{const_entry}
@@ -7,14 +7,19 @@ use Rattle.tt_kinds.specs.declared.parts.Node.TheVariants as node
 use Rattle.tt_kinds.specs.Kinds.{const_shape}
 use Rattle.tt_interner.specs.Rows.{meaning}
 use Rattle.tt_interner.proofs.Growth.{Extends-refl}
-use Rattle.tt_fold.specs.Walk.{is_type_tree}
 use Rattle.tt_fold.specs.Steps.{tree_in, IsRefused}
+use Rattle.tt_fold.specs.Remember.{left_alone, gone_into, taken_apart, remembered}
+use Rattle.tt_fold.specs.MemoryGrowth.{OwnsMemos-still}
 use Rattle.tt_fold.proofs.PartLaws.{in_range}
-use Rattle.tt_fold.proofs.FormLaws.{kind-const}
+use Rattle.tt_fold.proofs.TypeLaws.{part-type}
 use Rattle.tt_fold.proofs.FoldSteps.{node_is_kind}
-use Rattle.tt_fold.proofs.BoundLaws.{const_tree, const_inside, term_kept, term_replaced, term_descends, term_refused, bound_outer}
-use Rattle.tt_fold.proofs.ShiftLaws.{same_standing, uncounted_standing}
+use Rattle.tt_fold.proofs.BoundLaws.{const_tree, const_other, term_kept, term_taken, term_given, term_refused, bound_outer}
+use Rattle.tt_fold.proofs.ShiftSteps.{moved_given, moved_refused}
 use Rattle.tt_fold.proofs.shift.ShifterTypeFolder.fold_const.Goals as goal
+
+pub returns-then-not-moves-clause-result : goal.returns-then-not-moves-clause-result
+returns-then-not-moves-clause-result c =
+    (tt, left_alone (term_kept c.args.self.now.amount c.args.self.now.current_index _ (rw c.outer_exclusive_binder.ensures at c.if-not-moves.ensures.1)))
 
 pub node_kind-kind-requires-clause-owned : goal.node_kind-kind-requires-clause-owned
 node_kind-kind-requires-clause-owned c = in_range c.args.cx.now.rows Consts c.args.constant.number c.requires.constant
@@ -26,43 +31,38 @@ shift_bound_const-requires c =
     let is = const_tree (meaning c.args.cx.now.rows) c.node_kind-kind.result c.in-Some.index c.in-Some.bound_const (sym c.bound_const.ensures ∙ c.in-Some.is) in
     bound_outer (meaning c.args.cx.now.rows) (record { amount = c.args.self.now.amount; under = c.args.self.now.current_index }) const_sort c.in-Some.index (const_entry c.in-Some.bound_const) (tree_in c.args.cx.now.rows (const_shape c.args.constant)) (tree ∙ is) far
 
+pub returns-in_err-shifted-in-Some-clause-owned : goal.returns-in_err-shifted-in-Some-clause-owned
+returns-in_err-shifted-in-Some-clause-owned c = OwnsMemos-still _ _ c.args.self.now.memory c.in_err-shifted-in-Some.ensures.extends.rows c.requires.owned
+
 pub returns-in_err-shifted-in-Some-clause-result : goal.returns-in_err-shifted-in-Some-clause-result
 returns-in_err-shifted-in-Some-clause-result c =
     let p = err_from_is_err_and c.from_residual.result c.from_residual.ensures.1 in
     let tree = node_is_kind c.args.cx.now.rows (node.Const c.args.constant) c.node_kind-kind.result c.node_kind-kind.ensures.means in
-    let far = rw c.outer_exclusive_binder.ensures at (c.if-not-moves.ensures.0 refl) in
     let is = const_tree (meaning c.args.cx.now.rows) c.node_kind-kind.result c.in-Some.index c.in-Some.bound_const (sym c.bound_const.ensures ∙ c.in-Some.is) in
     let h = c.in_err-shifted-in-Some.ensures in
     rw (p.1, p.2) (
-      same_standing (record { amount = c.args.self.now.amount; under = c.args.self.now.current_index }) c.args.cx.now.counters c.shift_bound_const.new.cx.counters h.counters,
-      term_refused (meaning c.args.cx.now.rows) (record { amount = c.args.self.now.amount; under = c.args.self.now.current_index }) const_sort c.in-Some.index (const_entry c.in-Some.bound_const) (IsRefused c.shift_bound_const.new.cx) (tree_in c.args.cx.now.rows (const_shape c.args.constant)) _ (tree ∙ is) h.result,
+    moved_refused c.args.self.now.amount c.args.self.now.current_index c.args.cx.now c.shift_bound_const.new.cx c.args.self.now.memory h.extends c.requires.owned h.counters (tree_in c.args.cx.now.rows (const_shape c.args.constant)) _
+    (term_refused (meaning c.args.cx.now.rows) (record { amount = c.args.self.now.amount; under = c.args.self.now.current_index }) const_sort c.in-Some.index (const_entry c.in-Some.bound_const) (IsRefused c.shift_bound_const.new.cx) (tree_in c.args.cx.now.rows (const_shape c.args.constant)) _ (tree ∙ is) h.result)
     )
+
+pub returns-in_ok-shifted-in-Some-clause-owned : goal.returns-in_ok-shifted-in-Some-clause-owned
+returns-in_ok-shifted-in-Some-clause-owned c = OwnsMemos-still _ _ c.args.self.now.memory c.in_ok-shifted-in-Some.ensures.extends.rows c.requires.owned
 
 pub returns-in_ok-shifted-in-Some-clause-result : goal.returns-in_ok-shifted-in-Some-clause-result
 returns-in_ok-shifted-in-Some-clause-result c =
     let tree = node_is_kind c.args.cx.now.rows (node.Const c.args.constant) c.node_kind-kind.result c.node_kind-kind.ensures.means in
-    let far = rw c.outer_exclusive_binder.ensures at (c.if-not-moves.ensures.0 refl) in
     let is = const_tree (meaning c.args.cx.now.rows) c.node_kind-kind.result c.in-Some.index c.in-Some.bound_const (sym c.bound_const.ensures ∙ c.in-Some.is) in
     let h = c.in_ok-shifted-in-Some.ensures in (
       h.result.0,
-      (
-        same_standing (record { amount = c.args.self.now.amount; under = c.args.self.now.current_index }) c.args.cx.now.counters c.shift_bound_const.new.cx.counters h.counters,
-        term_replaced (meaning c.args.cx.now.rows) (record { amount = c.args.self.now.amount; under = c.args.self.now.current_index }) const_sort c.in-Some.index (const_entry c.in-Some.bound_const) (tree_in c.args.cx.now.rows (const_shape c.args.constant)) _ (tree ∙ is) far h.result.1,
-      ),
+      moved_given c.args.self.now.amount c.args.self.now.current_index c.args.cx.now c.shift_bound_const.new.cx c.args.self.now.memory h.extends c.requires.owned h.counters (tree_in c.args.cx.now.rows (const_shape c.args.constant)) _
+          (term_given (meaning c.args.cx.now.rows) (record { amount = c.args.self.now.amount; under = c.args.self.now.current_index }) const_sort c.in-Some.index (const_entry c.in-Some.bound_const) (tree_in c.args.cx.now.rows (const_shape c.args.constant)) _ (tree ∙ is) h.result.1),
     )
 
 pub returns-in-None-clause-result : goal.returns-in-None-clause-result
 returns-in-None-clause-result c =
     let tree = node_is_kind c.args.cx.now.rows (node.Const c.args.constant) c.node_kind-kind.result c.node_kind-kind.ensures.means in
-    let far = rw c.outer_exclusive_binder.ensures at (c.if-not-moves.ensures.0 refl) in
-    let inside = const_inside (record { amount = c.args.self.now.amount; under = c.args.self.now.current_index }) (meaning c.args.cx.now.rows) c.node_kind-kind.result c.node_kind-kind.ensures.table (sym c.bound_const.ensures ∙ c.in-None.is) in
-    let is_const : is_type_tree (tree_in c.args.cx.now.rows (const_shape c.args.constant)) ≡ false = rw tree (kind-const (meaning c.args.cx.now.rows) c.node_kind-kind.result c.node_kind-kind.ensures.table) in
-    (tt, (uncounted_standing (record { amount = c.args.self.now.amount; under = c.args.self.now.current_index }) (tree_in c.args.cx.now.rows (const_shape c.args.constant)) c.args.cx.now.counters is_const, term_descends (record { amount = c.args.self.now.amount; under = c.args.self.now.current_index }) (tree_in c.args.cx.now.rows (const_shape c.args.constant)) (rw tree inside) far))
-
-pub returns-then-not-moves-clause-result : goal.returns-then-not-moves-clause-result
-returns-then-not-moves-clause-result c =
-    let closed = rw c.outer_exclusive_binder.ensures at c.if-not-moves.ensures.1 in
-    (tt, (refl, term_kept (record { amount = c.args.self.now.amount; under = c.args.self.now.current_index }) (tree_in c.args.cx.now.rows (const_shape c.args.constant)) closed))
+    let other = const_other (meaning c.args.cx.now.rows) c.node_kind-kind.result c.node_kind-kind.ensures.table (sym c.bound_const.ensures ∙ c.in-None.is) in
+    (tt, gone_into (part-type c.args.cx.now.rows Consts c.args.constant.number c.requires.constant) (rw tree other))
 
 pub returns-then-not-moves-clause-extends : goal.returns-then-not-moves-clause-extends
 returns-then-not-moves-clause-extends c = Extends-refl _

@@ -1,22 +1,14 @@
 use Rattle.std.proofs.Common.{refl}
 use Rattle.tt_kinds.specs.declared.table.Table.TheVariants.{Predicates}
-use Rattle.tt_kinds.specs.Kinds.{predicate_shape}
-use Rattle.tt_fold.specs.Steps.{tree_in}
-use Rattle.tt_fold.proofs.BoundLaws.{term_kept, term_descends, clauses_inside, clauses_no_type}
-use Rattle.tt_fold.proofs.ShiftLaws.{uncounted_standing}
+use Rattle.tt_fold.specs.Remember.{left_alone, gone_into}
+use Rattle.tt_fold.proofs.BoundLaws.{term_kept, clauses_other}
+use Rattle.tt_fold.proofs.TypeLaws.{part-type}
 use Rattle.tt_fold.proofs.shift.ShifterTypeFolder.fold_predicate.Goals as goal
 
 pub returns-then-moves-clause-result : goal.returns-then-moves-clause-result
 returns-then-moves-clause-result c =
-    let far = rw c.outer_exclusive_binder.ensures at (c.if-moves.ensures.0 refl) in (
-      tt,
-      (
-        uncounted_standing (record { amount = c.args.self.now.amount; under = c.args.self.now.current_index }) (tree_in c.args.cx.now.rows (predicate_shape c.args.predicate)) c.args.cx.now.counters (clauses_no_type c.args.cx.now.rows Predicates c.args.predicate.number tt c.requires.predicate),
-        term_descends (record { amount = c.args.self.now.amount; under = c.args.self.now.current_index }) (tree_in c.args.cx.now.rows (predicate_shape c.args.predicate)) (clauses_inside (record { amount = c.args.self.now.amount; under = c.args.self.now.current_index }) c.args.cx.now.rows Predicates c.args.predicate.number tt c.requires.predicate) far,
-      ),
-    )
+    (tt, gone_into (part-type c.args.cx.now.rows Predicates c.args.predicate.number c.requires.predicate) (clauses_other c.args.cx.now.rows Predicates c.args.predicate.number tt c.requires.predicate))
 
 pub returns-else-moves-clause-result : goal.returns-else-moves-clause-result
 returns-else-moves-clause-result c =
-    let closed = rw c.outer_exclusive_binder.ensures at c.if-moves.ensures.1 in
-    (tt, (refl, term_kept (record { amount = c.args.self.now.amount; under = c.args.self.now.current_index }) (tree_in c.args.cx.now.rows (predicate_shape c.args.predicate)) closed))
+    (tt, left_alone (term_kept c.args.self.now.amount c.args.self.now.current_index _ (rw c.outer_exclusive_binder.ensures at c.if-moves.ensures.1)))

@@ -1,4 +1,4 @@
-use Rattle.std.proofs.Common.{◌≡◌, true, refl, sym, ◌∙◌}
+use Rattle.std.proofs.Common.{◌≡◌, true, false, refl, sym, ◌∙◌}
 use Rattle.std.proofs.lemmas.Result.{err_from_is_err_and}
 use Rattle.tt_kinds.specs.Label.{type_sort}
 use Rattle.tt_kinds.specs.Bound.{ty_entry}
@@ -7,14 +7,19 @@ use Rattle.tt_kinds.specs.declared.parts.Node.TheVariants as node
 use Rattle.tt_kinds.specs.Kinds.{ty_shape}
 use Rattle.tt_interner.specs.Rows.{meaning}
 use Rattle.tt_interner.proofs.Growth.{Extends-refl}
-use Rattle.tt_fold.specs.Walk.{is_type_tree}
 use Rattle.tt_fold.specs.Steps.{tree_in, IsRefused}
+use Rattle.tt_fold.specs.Remember.{left_alone, gone_into, taken_apart, remembered}
+use Rattle.tt_fold.specs.MemoryGrowth.{OwnsMemos-still}
 use Rattle.tt_fold.proofs.PartLaws.{in_range}
-use Rattle.tt_fold.proofs.FormLaws.{kind-type}
+use Rattle.tt_fold.proofs.TypeLaws.{part-type}
 use Rattle.tt_fold.proofs.FoldSteps.{node_is_kind}
-use Rattle.tt_fold.proofs.BoundLaws.{type_tree, type_inside, term_kept, term_replaced, term_descends, term_refused, bound_outer}
-use Rattle.tt_fold.proofs.ShiftLaws.{same_standing, counted_standing}
+use Rattle.tt_fold.proofs.BoundLaws.{type_tree, type_other, term_kept, term_taken, term_given, term_refused, bound_outer}
+use Rattle.tt_fold.proofs.ShiftSteps.{moved_given, moved_refused, type_taken}
 use Rattle.tt_fold.proofs.shift.ShifterTypeFolder.fold_ty.Goals as goal
+
+pub returns-then-not-moves-clause-result : goal.returns-then-not-moves-clause-result
+returns-then-not-moves-clause-result c =
+    (tt, left_alone (term_kept c.args.self.now.amount c.args.self.now.current_index _ (rw c.outer_exclusive_binder.ensures at c.if-not-moves.ensures.1)))
 
 pub node_kind-kind-requires-clause-owned : goal.node_kind-kind-requires-clause-owned
 node_kind-kind-requires-clause-owned c = in_range c.args.cx.now.rows Types c.args.ty.number c.requires.ty
@@ -26,55 +31,47 @@ shift_bound_ty-requires c =
     let is = type_tree (meaning c.args.cx.now.rows) c.node_kind-kind.result c.in-Some.index c.in-Some.bound_ty (sym c.bound_ty.ensures ∙ c.in-Some.is) in
     bound_outer (meaning c.args.cx.now.rows) (record { amount = c.args.self.now.amount; under = c.args.self.now.current_index }) type_sort c.in-Some.index (ty_entry c.in-Some.bound_ty) (tree_in c.args.cx.now.rows (ty_shape c.args.ty)) (tree ∙ is) far
 
+pub returns-in_err-shifted-in-Some-clause-owned : goal.returns-in_err-shifted-in-Some-clause-owned
+returns-in_err-shifted-in-Some-clause-owned c = OwnsMemos-still _ _ c.args.self.now.memory c.in_err-shifted-in-Some.ensures.extends.rows c.requires.owned
+
 pub returns-in_err-shifted-in-Some-clause-result : goal.returns-in_err-shifted-in-Some-clause-result
 returns-in_err-shifted-in-Some-clause-result c =
     let p = err_from_is_err_and c.from_residual.result c.from_residual.ensures.1 in
     let tree = node_is_kind c.args.cx.now.rows (node.Ty c.args.ty) c.node_kind-kind.result c.node_kind-kind.ensures.means in
-    let far = rw c.outer_exclusive_binder.ensures at (c.if-not-moves.ensures.0 refl) in
     let is = type_tree (meaning c.args.cx.now.rows) c.node_kind-kind.result c.in-Some.index c.in-Some.bound_ty (sym c.bound_ty.ensures ∙ c.in-Some.is) in
     let h = c.in_err-shifted-in-Some.ensures in
     rw (p.1, p.2) (
-      same_standing (record { amount = c.args.self.now.amount; under = c.args.self.now.current_index }) c.args.cx.now.counters c.shift_bound_ty.new.cx.counters h.counters,
-      term_refused (meaning c.args.cx.now.rows) (record { amount = c.args.self.now.amount; under = c.args.self.now.current_index }) type_sort c.in-Some.index (ty_entry c.in-Some.bound_ty) (IsRefused c.shift_bound_ty.new.cx) (tree_in c.args.cx.now.rows (ty_shape c.args.ty)) _ (tree ∙ is) h.result,
+    moved_refused c.args.self.now.amount c.args.self.now.current_index c.args.cx.now c.shift_bound_ty.new.cx c.args.self.now.memory h.extends c.requires.owned h.counters (tree_in c.args.cx.now.rows (ty_shape c.args.ty)) _
+    (term_refused (meaning c.args.cx.now.rows) (record { amount = c.args.self.now.amount; under = c.args.self.now.current_index }) type_sort c.in-Some.index (ty_entry c.in-Some.bound_ty) (IsRefused c.shift_bound_ty.new.cx) (tree_in c.args.cx.now.rows (ty_shape c.args.ty)) _ (tree ∙ is) h.result)
     )
+
+pub returns-in_ok-shifted-in-Some-clause-owned : goal.returns-in_ok-shifted-in-Some-clause-owned
+returns-in_ok-shifted-in-Some-clause-owned c = OwnsMemos-still _ _ c.args.self.now.memory c.in_ok-shifted-in-Some.ensures.extends.rows c.requires.owned
 
 pub returns-in_ok-shifted-in-Some-clause-result : goal.returns-in_ok-shifted-in-Some-clause-result
 returns-in_ok-shifted-in-Some-clause-result c =
     let tree = node_is_kind c.args.cx.now.rows (node.Ty c.args.ty) c.node_kind-kind.result c.node_kind-kind.ensures.means in
-    let far = rw c.outer_exclusive_binder.ensures at (c.if-not-moves.ensures.0 refl) in
     let is = type_tree (meaning c.args.cx.now.rows) c.node_kind-kind.result c.in-Some.index c.in-Some.bound_ty (sym c.bound_ty.ensures ∙ c.in-Some.is) in
     let h = c.in_ok-shifted-in-Some.ensures in (
       h.result.0,
-      (
-        same_standing (record { amount = c.args.self.now.amount; under = c.args.self.now.current_index }) c.args.cx.now.counters c.shift_bound_ty.new.cx.counters h.counters,
-        term_replaced (meaning c.args.cx.now.rows) (record { amount = c.args.self.now.amount; under = c.args.self.now.current_index }) type_sort c.in-Some.index (ty_entry c.in-Some.bound_ty) (tree_in c.args.cx.now.rows (ty_shape c.args.ty)) _ (tree ∙ is) far h.result.1,
-      ),
+      moved_given c.args.self.now.amount c.args.self.now.current_index c.args.cx.now c.shift_bound_ty.new.cx c.args.self.now.memory h.extends c.requires.owned h.counters (tree_in c.args.cx.now.rows (ty_shape c.args.ty)) _
+          (term_given (meaning c.args.cx.now.rows) (record { amount = c.args.self.now.amount; under = c.args.self.now.current_index }) type_sort c.in-Some.index (ty_entry c.in-Some.bound_ty) (tree_in c.args.cx.now.rows (ty_shape c.args.ty)) _ (tree ∙ is) h.result.1),
     )
 
-pub returns-in-None-clause-result : goal.returns-in-None-clause-result
-returns-in-None-clause-result c =
+pub returns-in-Some-look_up-clause-result : goal.returns-in-Some-look_up-clause-result
+returns-in-Some-look_up-clause-result c =
+    let h = rw c.as_u32.ensures.number at c.in-Some-look_up.ensures.trees in
+    (h.0, remembered h.1)
+
+pub returns-in-None-look_up-clause-result : goal.returns-in-None-look_up-clause-result
+returns-in-None-look_up-clause-result c =
     let tree = node_is_kind c.args.cx.now.rows (node.Ty c.args.ty) c.node_kind-kind.result c.node_kind-kind.ensures.means in
     let far = rw c.outer_exclusive_binder.ensures at (c.if-not-moves.ensures.0 refl) in
-    let inside = type_inside (record { amount = c.args.self.now.amount; under = c.args.self.now.current_index }) (meaning c.args.cx.now.rows) c.node_kind-kind.result c.node_kind-kind.ensures.table (sym c.bound_ty.ensures ∙ c.in-None.is) in
-    let is_type : is_type_tree (tree_in c.args.cx.now.rows (ty_shape c.args.ty)) ≡ true = rw tree (kind-type (meaning c.args.cx.now.rows) c.node_kind-kind.result c.node_kind-kind.ensures.table) in
+    let other = type_other (meaning c.args.cx.now.rows) c.node_kind-kind.result c.node_kind-kind.ensures.table (sym c.bound_ty.ensures ∙ c.in-None.is) in
+    let t = tree_in c.args.cx.now.rows (ty_shape c.args.ty) in
+    let taken = term_taken c.args.self.now.amount c.args.self.now.current_index t (part-type c.args.cx.now.rows Types c.args.ty.number c.requires.ty) (rw tree other) far in
     let h = c.count_shift_descent.ensures in (
       tt,
-      (
-        counted_standing (record { amount = c.args.self.now.amount; under = c.args.self.now.current_index }) (tree_in c.args.cx.now.rows (ty_shape c.args.ty)) c.args.cx.now.counters c.count_shift_descent.new.cx.counters is_type h.descents h.shift_descents,
-        term_descends (record { amount = c.args.self.now.amount; under = c.args.self.now.current_index }) (tree_in c.args.cx.now.rows (ty_shape c.args.ty)) (rw tree inside) far,
-      ),
+      type_taken c.args.self.now.amount c.args.self.now.current_index c.args.cx.now c.count_shift_descent.new.cx c.args.self.now.memory h.rows h.descents h.shift_descents t taken
+          (rw c.as_u32.ensures.number at c.in-None-look_up.ensures.trees),
     )
-
-pub returns-then-not-moves-clause-result : goal.returns-then-not-moves-clause-result
-returns-then-not-moves-clause-result c =
-    let closed = rw c.outer_exclusive_binder.ensures at c.if-not-moves.ensures.1 in
-    (tt, (refl, term_kept (record { amount = c.args.self.now.amount; under = c.args.self.now.current_index }) (tree_in c.args.cx.now.rows (ty_shape c.args.ty)) closed))
-
-pub returns-then-not-moves-clause-extends : goal.returns-then-not-moves-clause-extends
-returns-then-not-moves-clause-extends c = Extends-refl _
-
-pub returns-in_err-shifted-in-Some-clause-extends : goal.returns-in_err-shifted-in-Some-clause-extends
-returns-in_err-shifted-in-Some-clause-extends c = c.in_err-shifted-in-Some.ensures.extends
-
-pub returns-in_ok-shifted-in-Some-clause-extends : goal.returns-in_ok-shifted-in-Some-clause-extends
-returns-in_ok-shifted-in-Some-clause-extends c = c.in_ok-shifted-in-Some.ensures.extends

@@ -17,7 +17,6 @@ add_text-requires c = not_there _ _ _ c.self.invariant.tables Symbols (λ k. tex
     (subst (λ v. IsNew (text_row c.args.text.now) v.rows) (sym c.self.view_is) c.requires)
 
 pub invariant_of-self-2 : goal.invariant_of-self-2
-unfolding IsPart
 invariant_of-self-2 c =
     let many = count _ _ _ c.self.invariant.tables Symbols (λ k. text_row (string_bytes k)) (λ v. no_info) c.self.inside.symbols.entries refl in
     let is = ap (with_entries (tables c.self.inside) Symbols) (entries_by-added (λ k. string_bytes k) text_row (λ v. no_info) c.self.inside.symbols.entries _ c.args.text.now tt c.in-Ok.ensures.entries) in

@@ -12,7 +12,6 @@ use Rattle.tt_interner.proofs.DeclarationLemmas.{declared_entries-added, declare
 use Rattle.tt_interner.proofs.interner.Interner.declare.Goals as goal
 
 pub invariant_of-self-2 : goal.invariant_of-self-2
-unfolding IsPart
 invariant_of-self-2 c =
     let many = declared_count _ _ _ c.self.invariant.tables c.self.inside.declarations.items refl in
     let counted : length c.self.inside.declarations.items ≡ size c.args.self.now.rows Declarations = many ∙ ap (λ v. size v.rows Declarations) c.self.view_is in

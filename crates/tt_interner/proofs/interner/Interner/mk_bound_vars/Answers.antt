@@ -16,19 +16,16 @@ pub find_or_add_list-requires : goal.find_or_add_list-requires
 find_or_add_list-requires c = few c.self.inside.order.items (tables c.self.inside) _ _ _ c.self.view_is c.self.invariant (λ k. vars_row k.items) _ (vars_row c.args.items.now) (vars_key (λ k. k.items) c.args.items.now) c.self.inside.var_lists.entries refl
 
 pub invariant_of-self-2 : goal.invariant_of-self-2
-unfolding IsPart
 invariant_of-self-2 c = put_kept c.self.inside.order.items (tables c.self.inside) _ _ _ c.self.view_is c.self.invariant (λ k. vars_row k.items) _ (vars_row c.args.items.now) (vars_key (λ k. k.items) c.args.items.now) c.self.inside.var_lists.entries refl c.vars_info-info.result (info_node _ _ (var_list_label (map var_kind c.args.items.now)) c.vars_info-info.ensures)
     _ _ refl _ c.in-Ok.ensures.found _ refl c.in-Ok.ensures.order (λ none. entries_by-added (λ k. k.items) vars_row (λ v. v) c.self.inside.var_lists.entries _ c.args.items.now c.vars_info-info.result (c.in-Ok.ensures.entries none)) c.in-Ok.ensures.number
     c.requires (λ deep. deep) tt
 
 pub returns : goal.returns
-unfolding IsPart
 returns c = built c.self.inside.order.items (tables c.self.inside) _ _ _ c.self.view_is c.self.invariant (λ k. vars_row k.items) _ (vars_row c.args.items.now) (vars_key (λ k. k.items) c.args.items.now) c.self.inside.var_lists.entries refl c.vars_info-info.result (info_node _ _ (var_list_label (map var_kind c.args.items.now)) c.vars_info-info.ensures)
     _ _ refl _ c.in-Ok.ensures.found _ refl c.in-Ok.ensures.order (λ none. entries_by-added (λ k. k.items) vars_row (λ v. v) c.self.inside.var_lists.entries _ c.args.items.now c.vars_info-info.result (c.in-Ok.ensures.entries none)) c.in-Ok.ensures.number
     (λ list. list.number) c.from_number.result (ap (λ list. list.number) c.from_number.ensures) (λ deep. deep)
 
 pub returns-in-Err : goal.returns-in-Err
-unfolding IsPart
 returns-in-Err c = built_refused c.self.inside.order.items (tables c.self.inside) _ _ _ c.self.view_is c.self.invariant (λ k. vars_row k.items) _ (vars_row c.args.items.now) (vars_key (λ k. k.items) c.args.items.now) c.self.inside.var_lists.entries refl c.vars_info-info.result (info_node _ _ (var_list_label (map var_kind c.args.items.now)) c.vars_info-info.ensures)
     _ _ refl _ c.in-Err.ensures.found _ refl c.in-Err.ensures.order_stays c.in-Err.ensures.entries_stay c.in-Err.ensures.cause c.in-Err.ensures.full
     (λ list. list.number) (λ deep. deep)

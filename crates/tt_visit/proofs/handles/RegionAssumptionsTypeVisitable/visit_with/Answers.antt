@@ -8,12 +8,11 @@ use Rattle.tt_visit.specs.Visit.{node_seen, node_broke}
 use Rattle.tt_visit.proofs.VisitSteps.{flow-weaker}
 use Rattle.tt_visit.proofs.handles.RegionAssumptionsTypeVisitable.visit_with.Goals as goal
 
-pub visit_values-requires : goal.visit_values-requires
-unfolding IsPart
-visit_values-requires g c = (Means-row _ c.are_rows.ensures.are AssumptionLists _ (assumptions_row c.assumptions.result.now) c.assumptions.ensures).parts.1
+pub visit_values-requires-clause-values : goal.visit_values-requires-clause-values
+visit_values-requires-clause-values g c = (Means-row _ c.are_rows.ensures.are AssumptionLists _ (assumptions_row c.assumptions.result.now) c.assumptions.ensures).parts.1
 
-pub returns : goal.returns
+pub returns-clause-result : goal.returns-clause-result
 unfolding fill fill_all
-returns g c =
+returns-clause-result g c =
     let is = (Means-row _ c.are_rows.ensures.are AssumptionLists _ (assumptions_row c.assumptions.result.now) c.assumptions.ensures).tree in
-    flow-weaker c.visit_values.result c.visit_values.ensures (λ _ h. rw is (node_seen refl h)) (λ b h. rw is (node_broke refl h))
+    flow-weaker c.visit_values.result c.visit_values.ensures.result (λ _ h. rw is (node_seen refl h)) (λ b h. rw is (node_broke refl h))

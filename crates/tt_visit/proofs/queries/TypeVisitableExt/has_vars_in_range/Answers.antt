@@ -4,16 +4,16 @@ use Rattle.tt_visit.proofs.HasEscapingVarsLaws.{goes-range, breaks-range, range-
 use Rattle.tt_visit.proofs.queries.TypeVisitableExt.has_vars_in_range.Goals as goal
 
 pub returns-in-Break-clause-holds : goal.returns-in-Break-clause-holds
-returns-in-Break-clause-holds g c = absurd (breaks-range _ _ _ _ c.in-Break.ensures)
+returns-in-Break-clause-holds g c = absurd (breaks-range _ _ _ _ c.in-Break.ensures.result)
 
 pub returns-in-Break-clause-each : goal.returns-in-Break-clause-each
-returns-in-Break-clause-each g c = absurd (breaks-range _ _ _ _ c.in-Break.ensures)
+returns-in-Break-clause-each g c = absurd (breaks-range _ _ _ _ c.in-Break.ensures.result)
 
 pub returns-in-Break-clause-whole : goal.returns-in-Break-clause-whole
-returns-in-Break-clause-whole g c = absurd (breaks-range _ _ _ _ c.in-Break.ensures)
+returns-in-Break-clause-whole g c = absurd (breaks-range _ _ _ _ c.in-Break.ensures.result)
 
 pub returns-in-Continue-clause-each : goal.returns-in-Continue-clause-each
-returns-in-Continue-clause-each g c = goes-range _ _ _ c.in-Continue.ensures
+returns-in-Continue-clause-each g c = goes-range _ _ _ c.in-Continue.ensures.result
 
 pub returns-in-Continue-clause-whole : goal.returns-in-Continue-clause-whole
-returns-in-Continue-clause-whole g c = range-outer (fill (meaning c.args.cx.now.rows) (g.Self.TypeVisitable.shape c.args.self.now)) (goes-range _ _ _ c.in-Continue.ensures)
+returns-in-Continue-clause-whole g c = range-outer (fill (meaning c.args.cx.now.rows) (g.Self.TypeVisitable.shape c.args.self.now)) (goes-range _ _ _ c.in-Continue.ensures.result)

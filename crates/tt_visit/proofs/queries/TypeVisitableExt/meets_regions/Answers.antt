@@ -9,7 +9,7 @@ use Rattle.tt_visit.proofs.Found.{none-found, one-found}
 use Rattle.tt_visit.proofs.queries.TypeVisitableExt.meets_regions.Goals as goal
 
 pub returns-in-Break : goal.returns-in-Break
-returns-in-Break g c = let meets = breaks-meets _ _ _ _ c.in-Break.ensures in one-found _ (rw c.new-visitor.ensures at meets)
+returns-in-Break g c = let meets = breaks-meets _ _ _ _ c.in-Break.ensures.result in one-found _ (rw c.new-visitor.ensures at meets)
 
 pub returns-then-has_type_flags : goal.returns-then-has_type_flags
 returns-then-has_type_flags g c =
@@ -19,7 +19,7 @@ returns-then-has_type_flags g c =
 pub returns-else-has_type_flags : goal.returns-else-has_type_flags
 returns-else-has_type_flags g c =
     let t = fill (meaning c.args.cx.now.rows) (g.Self.TypeVisitable.shape c.args.self.now) in
-    let passes = goes-passes _ _ _ c.in-Continue.ensures in
+    let passes = goes-passes _ _ _ c.in-Continue.ensures.result in
     let asked = rw c.union-unbound.ensures at c.has_type_flags.ensures in
     let unfree : Misses 0x220000 (scan t) = missed 0x220000 (scan t) c.has_type_flags.result c.if-has_type_flags.false asked in
     let nothing : met 0 t ≡ [] =
@@ -29,7 +29,7 @@ returns-else-has_type_flags g c =
 pub returns-else-has_skipped : goal.returns-else-has_skipped
 returns-else-has_skipped g c =
     let t = fill (meaning c.args.cx.now.rows) (g.Self.TypeVisitable.shape c.args.self.now) in
-    let passes = goes-passes _ _ _ c.in-Continue.ensures in
+    let passes = goes-passes _ _ _ c.in-Continue.ensures.result in
     let none_skipped = sym c.has_skipped.ensures ∙ c.if-has_skipped.false in
     let nothing : met 0 t ≡ [] =
     rw c.new-visitor.ensures at (passes.unskipped none_skipped).1 in

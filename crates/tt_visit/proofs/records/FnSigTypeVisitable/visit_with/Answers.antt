@@ -4,7 +4,7 @@ use Rattle.tt_visit.specs.Visit.{node_seen, one_seen, all_seen, node_broke, firs
 use Rattle.tt_visit.proofs.VisitSteps.{flow-weaker}
 use Rattle.tt_visit.proofs.records.FnSigTypeVisitable.visit_with.Goals as goal
 
-pub returns : goal.returns
+pub returns-clause-result : goal.returns-clause-result
 unfolding fill fill_all
-returns g c =
-    flow-weaker c.visit_with.result c.visit_with.ensures (λ _ h. node_seen refl (one_seen h all_seen)) (λ b h. node_broke refl (first_broke h))
+returns-clause-result g c =
+    flow-weaker c.visit_with.result c.visit_with.ensures.result (λ _ h. node_seen refl (one_seen h all_seen)) (λ b h. node_broke refl (first_broke h))

@@ -4,7 +4,7 @@ use Rattle.tt_visit.specs.Visit.{node_seen, node_broke}
 use Rattle.tt_visit.proofs.VisitSteps.{flow-weaker}
 use Rattle.tt_visit.proofs.records.PredicateKindTypeVisitable.visit_with.Goals as goal
 
-pub returns : goal.returns
+pub returns-clause-result : goal.returns-clause-result
 unfolding fill fill_all
-returns g c =
-    flow-weaker c.visit_parts.result (rw c.parts.ensures at c.visit_parts.ensures) (λ _ h. node_seen refl h) (λ b h. node_broke refl h)
+returns-clause-result g c =
+    flow-weaker c.visit_parts.result (rw c.parts.ensures at c.visit_parts.ensures.result) (λ _ h. node_seen refl h) (λ b h. node_broke refl h)

@@ -3,7 +3,7 @@ use Rattle.tt_visit.specs.Visit.{value_seen, value_broke}
 use Rattle.tt_visit.proofs.VisitSteps.{flow-weaker}
 use Rattle.tt_visit.proofs.visitable.BinderTypeSuperVisitable.super_visit_with.Goals as goal
 
-pub returns : goal.returns
+pub returns-clause-result : goal.returns-clause-result
 unfolding fill
-returns g c =
-    flow-weaker c.visit_with.result (rw (c.skip_binder.ensures, c.as_ref.ensures.value) at c.visit_with.ensures) (λ _ h. value_seen h) (λ b h. value_broke h)
+returns-clause-result g c =
+    flow-weaker c.visit_with.result (rw (c.skip_binder.ensures, c.as_ref.ensures.value) at c.visit_with.ensures.result) (λ _ h. value_seen h) (λ b h. value_broke h)

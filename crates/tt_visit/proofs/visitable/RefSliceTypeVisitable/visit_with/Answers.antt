@@ -4,6 +4,6 @@ use Rattle.tt_visit.specs.Visit.{node_seen, node_broke}
 use Rattle.tt_visit.proofs.VisitSteps.{flow-weaker}
 use Rattle.tt_visit.proofs.visitable.RefSliceTypeVisitable.visit_with.Goals as goal
 
-pub returns : goal.returns
+pub returns-clause-result : goal.returns-clause-result
 unfolding fill fill_all
-returns g c = flow-weaker c.visit_values.result c.visit_values.ensures (λ _ h. node_seen refl h) (λ b h. node_broke refl h)
+returns-clause-result g c = flow-weaker c.visit_values.result c.visit_values.ensures.result (λ _ h. node_seen refl h) (λ b h. node_broke refl h)

@@ -4,17 +4,17 @@ use Rattle.tt_visit.specs.Visit.{node_seen, one_seen, all_seen, node_broke, firs
 use Rattle.tt_visit.proofs.VisitSteps.{flow-weaker}
 use Rattle.tt_visit.proofs.visitable.Tuple3TypeVisitable.visit_with.Goals as goal
 
-pub returns-in-Break : goal.returns-in-Break
+pub returns-in-Break-clause-result : goal.returns-in-Break-clause-result
 unfolding fill fill_all
-returns-in-Break g c = node_broke refl (first_broke c.in-Break.ensures)
+returns-in-Break-clause-result g c = node_broke refl (first_broke c.in-Break.ensures.result)
 
-pub returns-in-Break-visit_with : goal.returns-in-Break-visit_with
+pub returns-in-Break-visit_with-clause-result : goal.returns-in-Break-visit_with-clause-result
 unfolding fill fill_all
-returns-in-Break-visit_with g c = node_broke refl (later_broke c.in-Continue.ensures (first_broke c.in-Break-visit_with.ensures))
+returns-in-Break-visit_with-clause-result g c = node_broke refl (later_broke c.in-Continue.ensures.result (first_broke c.in-Break-visit_with.ensures.result))
 
-pub returns-in-Continue-visit_with : goal.returns-in-Continue-visit_with
+pub returns-in-Continue-visit_with-clause-result : goal.returns-in-Continue-visit_with-clause-result
 unfolding fill fill_all
-returns-in-Continue-visit_with g c =
-    let first = c.in-Continue.ensures in let second = c.in-Continue-visit_with.ensures in
-    flow-weaker c.visit_with-in-Continue-visit_with.result c.visit_with-in-Continue-visit_with.ensures
+returns-in-Continue-visit_with-clause-result g c =
+    let first = c.in-Continue.ensures.result in let second = c.in-Continue-visit_with.ensures.result in
+    flow-weaker c.visit_with-in-Continue-visit_with.result c.visit_with-in-Continue-visit_with.ensures.result
     (λ _ h. node_seen refl (one_seen first (one_seen second (one_seen h all_seen)))) (λ b h. node_broke refl (later_broke first (later_broke second (first_broke h))))

@@ -45,5 +45,5 @@ returns-in-Err-clause-answers c = λ ids.
       owned = tt;
       ok = tt;
       err = unbuilt-refused (setting c.args.cx.now c.ty_kind.new.cx) e (call.Ty c.args.call.now) (form_positions form) (IsFormTooDeep form) _
-          tt (there-refused c.args.cx.now c.ty_kind.new.cx c.ty_kind.new.cx c.ty_kind.ensures.extends c.args.earlier.now c.requires c.are_rows-in-Err.ensures.are Types form _ c.in-Err.ensures.handles c.in-Err.ensures.region c.in-Err.ensures.named) (AreTerms-second e (ty_ids c.args.call.now) (form_positions form)) (λ d. d) c.in-Err.ensures.kind.err;
+          tt (there-refused c.args.cx.now c.ty_kind.new.cx c.ty_kind.new.cx c.ty_kind.ensures.extends c.args.earlier.now c.requires c.are_rows-in-Err.ensures.are Types form _ c.in-Err.ensures.room) (AreTerms-second e (ty_ids c.args.call.now) (form_positions form)) (λ d. d) c.in-Err.ensures.kind.err;
     }

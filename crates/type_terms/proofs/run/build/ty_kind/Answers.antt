@@ -1,15 +1,18 @@
 use Rattle.std.proofs.Common.{◌∷◌, [], refl}
 use Rattle.tt_kinds.specs.Bound.{depth}
-use Rattle.tt_kinds.specs.Label.{type_sort, type_variable, type_label, bool_type, char_type, int_type, uint_type, float_type, str_type, never_type, placeholder_type, infer_type, error_type, raw_ptr_type, slice_type, tuple_type, foreign_type}
+use Rattle.tt_kinds.specs.Label.{type_sort, type_variable, type_label, bool_type, char_type, int_type, uint_type, float_type, str_type, never_type, placeholder_type, infer_type, error_type, ref_type, raw_ptr_type, slice_type, tuple_type, foreign_type}
 use Rattle.tt_kinds.specs.Kinds.{ty_kind_shape, ty_shape, tys_shape}
 use Rattle.tt_kinds.specs.Shape as shape
 use Rattle.tt_kinds.specs.declared.table.Table.TheVariants.{Types, TypeLists}
 use Rattle.tt_kinds.specs.declared.ty_kind.TyKind.TheVariants as ty
-use Rattle.type_terms.specs.CallForm.{plain, one, a_term, a_list, terms_at, ty_called, ty_entry}
+use Rattle.std.specs.String.{string_bytes}
+use Rattle.type_terms.specs.CallForm.{plain, one, a_region, a_term, a_list, terms_at, ty_called, ty_entry}
 use Rattle.type_terms.specs.Told.{told_all, HasFullTable}
 use Rattle.type_terms.specs.Means.{number_at}
 use Rattle.type_terms.proofs.PartLaws.{kind-passed, plain-kind, parts-one, unbuilt-first}
 use Rattle.type_terms.proofs.KindLaws.{leaf-kind, bound-kind}
+use Rattle.type_terms.proofs.ResultLaws.{passed, err-then}
+use Rattle.type_terms.proofs.RoomLaws.{any-error, never-room, named-room, region-room, first-room}
 use Rattle.type_terms.proofs.run.build.ty_kind.Goals as goal
 
 pub returns-in-Bool-clause-kind : goal.returns-in-Bool-clause-kind
@@ -133,3 +136,45 @@ returns-in-Array-clause-kind c = rw (c.in-Array.is) (c.array_kind.ensures.kind c
 
 pub returns-in-Pat-clause-kind : goal.returns-in-Pat-clause-kind
 returns-in-Pat-clause-kind c = rw (c.in-Pat.is) (c.pat_kind.ensures.kind c.args.cx.now c.requires)
+
+pub returns-in_err-handle_at-in-RawPtr-clause-room : goal.returns-in_err-handle_at-in-RawPtr-clause-room
+returns-in_err-handle_at-in-RawPtr-clause-room c =
+    let r = c.in_err-handle_at-in-RawPtr in
+    passed c.from_residual.result r.field-0.0 _ c.from_residual.ensures.1 (never-room c.args.cx.now.rows _ _ r.field-0.0 r.ensures.cause)
+
+pub returns-in_err-handle_at-in-Slice-clause-room : goal.returns-in_err-handle_at-in-Slice-clause-room
+returns-in_err-handle_at-in-Slice-clause-room c =
+    let r = c.in_err-handle_at-in-Slice in
+    passed c.from_residual-in_err-handle_at-in-Slice.result r.field-0.0 _ c.from_residual-in_err-handle_at-in-Slice.ensures.1 (never-room c.args.cx.now.rows _ _ r.field-0.0 r.ensures.cause)
+
+pub returns-in_err-build_tys-in-Tuple-clause-room : goal.returns-in_err-build_tys-in-Tuple-clause-room
+returns-in_err-build_tys-in-Tuple-clause-room c =
+    let e = told_all c.args.cx.now.rows c.args.earlier.now in
+    let part = a_list TypeLists (terms_at Types c.in-Tuple.tys.items) in
+    let r = c.in_err-build_tys-in-Tuple in
+    rw (c.in-Tuple.is)
+    (passed c.from_residual-in_err-build_tys-in-Tuple.result r.field-0.0 _ c.from_residual-in_err-build_tys-in-Tuple.ensures.1
+    (first-room c.build_tys.new.cx.rows e (type_label tuple_type) part [] r.field-0.0 (rw (← c.as_slice.ensures.value) r.ensures.room)))
+
+pub returns-in-Param-clause-room : goal.returns-in-Param-clause-room
+returns-in-Param-clause-room c =
+    rw (c.in-Param.is)
+    (named-room c.param_kind.new.cx.rows (told_all c.args.cx.now.rows c.args.earlier.now) type_sort c.in-Param.index (string_bytes c.in-Param.name) c.param_kind.result
+    (rw (← c.as_str.ensures.value) c.param_kind.ensures.named))
+
+pub returns-in-Ref-clause-room : goal.returns-in-Ref-clause-room
+returns-in-Ref-clause-room c =
+    let e = told_all c.args.cx.now.rows c.args.earlier.now in
+    rw (c.in-Ref.is)
+    (err-then c.ref_kind.result _ _ c.ref_kind.ensures.room
+    (λ r lacks. first-room c.ref_kind.new.cx.rows e (type_label (ref_type c.in-Ref.mutability)) (one (a_region c.in-Ref.region)) (one (a_term Types c.in-Ref.ty) ∷ []) r
+    (region-room c.ref_kind.new.cx.rows e c.in-Ref.region r lacks)))
+
+pub returns-in-Array-clause-room : goal.returns-in-Array-clause-room
+returns-in-Array-clause-room c = err-then c.array_kind.result _ _ c.array_kind.ensures.cause (λ r is. never-room c.args.cx.now.rows _ _ r is)
+
+pub returns-in-Pat-clause-room : goal.returns-in-Pat-clause-room
+returns-in-Pat-clause-room c = err-then c.pat_kind.result _ _ c.pat_kind.ensures.cause (λ r is. never-room c.args.cx.now.rows _ _ r is)
+
+pub returns-in-Dynamic-clause-room : goal.returns-in-Dynamic-clause-room
+returns-in-Dynamic-clause-room c = rw (c.in-Dynamic.is) (any-error c.dynamic_kind.result _ (λ r room short. absurd short))

@@ -7,6 +7,8 @@ use Rattle.type_terms.specs.CallForm.{under, one, a_term, variable_kind, form_po
 use Rattle.type_terms.specs.Told.{told_all, HasFullTable}
 use Rattle.type_terms.specs.Means.{number_at}
 use Rattle.type_terms.proofs.PartLaws.{kind-passed, under-kind, parts-one, placed-grows, unbuilt-first, unbuilt-always}
+use Rattle.type_terms.proofs.ResultLaws.{passed}
+use Rattle.type_terms.proofs.RoomLaws.{never-room, binder-room}
 use Rattle.type_terms.proofs.run.build.unsafe_binder_kind.Goals as goal
 
 pub returns-in_err-ty-clause-kind : goal.returns-in_err-ty-clause-kind
@@ -38,3 +40,14 @@ returns-clause-kind c =
           (c.in_ok-vars.ensures.vars c.args.cx.now.rows).ok tt refl tt refl);
       err = tt;
     }
+
+pub returns-in_err-ty-clause-room : goal.returns-in_err-ty-clause-room
+returns-in_err-ty-clause-room c =
+    passed c.from_residual.result c.in_err-ty.field-0.0 _ c.from_residual.ensures.1 (never-room c.args.cx.now.rows _ _ c.in_err-ty.field-0.0 c.in_err-ty.ensures.cause)
+
+pub returns-in_err-vars-clause-room : goal.returns-in_err-vars-clause-room
+returns-in_err-vars-clause-room c =
+    let e = told_all c.args.cx.now.rows c.args.earlier.now in
+    passed c.from_residual-in_err-vars.result c.in_err-vars.field-0.0 _ c.from_residual-in_err-vars.ensures.1
+    (binder-room c.build_vars.new.cx.rows e (type_label unsafe_binder_type) (map (variable_kind (number_at e)) c.args.vars.now) unsafe_binder_record (one (a_term Types c.args.ty) ∷ []) c.in_err-vars.field-0.0
+    (c.in_err-vars.ensures.room c.args.cx.now.rows))

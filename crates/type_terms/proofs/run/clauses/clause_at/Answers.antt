@@ -14,7 +14,6 @@ returns-in_err-predicate-clause-part c =
     (no-predicate (HasFullTable c.args.cx.now) e c.args.position c.in_err-predicate.field-0.0 (c.in_err-predicate.ensures.part c.args.cx.now c.requires).err)
 
 pub as_clause-requires : goal.as_clause-requires
-unfolding IsPart
 as_clause-requires c = (c.in_ok-predicate.ensures.part c.args.cx.now c.requires).ok.part
 
 pub returns-in-Some-clause-part : goal.returns-in-Some-clause-part

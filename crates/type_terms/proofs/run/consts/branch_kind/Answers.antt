@@ -6,6 +6,8 @@ use Rattle.tt_kinds.specs.declared.table.Table.TheVariants.{Types, Consts, Const
 use Rattle.type_terms.specs.CallForm.{plain, one, a_term, a_list, terms_at}
 use Rattle.type_terms.specs.Told.{told_all, HasFullTable}
 use Rattle.type_terms.proofs.PartLaws.{kind-passed, plain-kind, parts-two, placed-grows, unbuilt-first, unbuilt-second}
+use Rattle.type_terms.proofs.ResultLaws.{passed}
+use Rattle.type_terms.proofs.RoomLaws.{never-room, second-room}
 use Rattle.type_terms.proofs.run.consts.branch_kind.Goals as goal
 
 pub returns-in_err-ty-clause-kind : goal.returns-in_err-ty-clause-kind
@@ -37,3 +39,13 @@ returns-clause-kind c =
           (placed-grows c.args.cx.now terms c.build_consts.ensures.extends (c.in_ok-ty.ensures.part c.args.cx.now c.requires).ok) c.in_ok-branch.ensures.list.ok) tt refl);
       err = tt;
     }
+
+pub returns-in_err-ty-clause-room : goal.returns-in_err-ty-clause-room
+returns-in_err-ty-clause-room c =
+    passed c.from_residual.result c.in_err-ty.field-0.0 _ c.from_residual.ensures.1 (never-room c.args.cx.now.rows _ _ c.in_err-ty.field-0.0 c.in_err-ty.ensures.cause)
+
+pub returns-in_err-branch-clause-room : goal.returns-in_err-branch-clause-room
+returns-in_err-branch-clause-room c =
+    let e = told_all c.args.cx.now.rows c.args.earlier.now in
+    passed c.from_residual-in_err-branch.result c.in_err-branch.field-0.0 _ c.from_residual-in_err-branch.ensures.1
+    (second-room c.build_consts.new.cx.rows e (const_label branch_const) (one (a_term Types c.args.ty)) (a_list ConstLists (terms_at Consts c.args.branch.now)) [] c.in_err-branch.field-0.0 c.in_err-branch.ensures.room)

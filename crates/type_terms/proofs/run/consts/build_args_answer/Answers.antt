@@ -20,7 +20,7 @@ returns-in_err-args-clause-answers c = λ list same ids.
     tt (λ a. absurd a) (AreTerms-second e (args_ids list.items) (part_positions (args_part list.items))) (λ d. d) u)
 
 pub returns-clause-answers : goal.returns-clause-answers
-unfolding fill IsPart
+unfolding fill
 returns-clause-answers c = λ list same ids.
     let e = told_all c.args.cx.now.rows c.args.earlier.now in
     let k = subst (λ (cs : List ArgCall). IsPartOf c.build_arg_list.new.cx e (args_part cs) (args_shape c.in_ok-args.args)) (sym same) c.in_ok-args.ensures.list.ok in

@@ -8,7 +8,7 @@ use Rattle.type_terms.specs.CallForm.{const_ids, const_form, form_positions, IsF
 use Rattle.type_terms.specs.Told.{told_all, setting}
 use Rattle.type_terms.specs.Means.{number_at}
 use Rattle.type_terms.proofs.PartLaws.{AreTerms-append, AreTerms-second}
-use Rattle.type_terms.proofs.BuildLaws.{answer-passed, unbuilt-refused, kind-allowed, kind-refused, there-built, there-refused, no-region-in-const}
+use Rattle.type_terms.proofs.BuildLaws.{answer-passed, unbuilt-refused, kind-allowed, kind-refused, there-built, there-refused}
 use Rattle.type_terms.proofs.run.consts.build_const.Goals as goal
 
 pub returns-in_err-constant-in-Ok-clause-extends : goal.returns-in_err-constant-in-Ok-clause-extends
@@ -45,6 +45,5 @@ returns-in-Err-clause-answers c = λ ids.
       owned = tt;
       ok = tt;
       err = unbuilt-refused (setting c.args.cx.now c.const_kind.new.cx) e (call.Const c.args.call.now) (form_positions form) (IsFormTooDeep form) _
-          tt (there-refused c.args.cx.now c.const_kind.new.cx c.const_kind.new.cx c.const_kind.ensures.extends c.args.earlier.now c.requires c.are_rows-in-Err.ensures.are Consts form _ c.in-Err.ensures.handles
-          (λ h room. absurd (no-region-in-const (number_at e) c.args.call.now h)) c.in-Err.ensures.named) (AreTerms-second e (const_ids c.args.call.now) (form_positions form)) (λ d. d) c.in-Err.ensures.kind.err;
+          tt (there-refused c.args.cx.now c.const_kind.new.cx c.const_kind.new.cx c.const_kind.ensures.extends c.args.earlier.now c.requires c.are_rows-in-Err.ensures.are Consts form _ c.in-Err.ensures.room) (AreTerms-second e (const_ids c.args.call.now) (form_positions form)) (λ d. d) c.in-Err.ensures.kind.err;
     }

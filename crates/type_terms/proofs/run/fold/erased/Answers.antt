@@ -9,7 +9,6 @@ use Rattle.type_terms.proofs.EraseLaws.{answers-regions, places-erased, erase-re
 use Rattle.type_terms.proofs.run.fold.erased.Goals as goal
 
 pub fold_regions-requires-clause-value : goal.fold_regions-requires-clause-value
-unfolding IsPart
 fold_regions-requires-clause-value g c = rw (g.met.T.Handle.is_stored c.args.term) c.requires
 
 pub fold_regions-requires-clause-answers : goal.fold_regions-requires-clause-answers
@@ -26,7 +25,7 @@ returns-in_err-erased-clause-answers g c = λ e p at.
     (rw (g.met.T.Handle.is_stored c.args.term) at c.in_err-erased.ensures.err))
 
 pub returns-clause-answers : goal.returns-clause-answers
-unfolding fill IsPart
+unfolding fill
 returns-clause-answers g c = λ e p at. record {
   owned = c.into_answer.ensures.owns c.fold_regions.new.cx.rows (rw (g.met.T.Handle.is_stored c.in_ok-erased.erased) at c.in_ok-erased.ensures.in_range);
   ok = rw (c.into_answer.ensures.told c.fold_regions.new.cx.rows)

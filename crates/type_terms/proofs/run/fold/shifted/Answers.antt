@@ -7,7 +7,6 @@ use Rattle.type_terms.proofs.FoldLaws.{shift-refused, shift-allowed}
 use Rattle.type_terms.proofs.run.fold.shifted.Goals as goal
 
 pub shift_vars-requires : goal.shift_vars-requires
-unfolding IsPart
 shift_vars-requires g c = rw (g.met.T.Handle.is_stored c.args.term) c.requires
 
 pub returns-in_err-shifted-clause-answers : goal.returns-in_err-shifted-clause-answers
@@ -19,7 +18,7 @@ returns-in_err-shifted-clause-answers g c = λ e p at.
     (rw (g.met.T.Handle.is_stored c.args.term) at c.in_err-shifted.ensures.err))
 
 pub returns-clause-answers : goal.returns-clause-answers
-unfolding fill IsPart
+unfolding fill
 returns-clause-answers g c = λ e p at. record {
   owned = c.into_answer.ensures.owns c.shift_vars.new.cx.rows (rw (g.met.T.Handle.is_stored c.in_ok-shifted.shifted) at c.in_ok-shifted.ensures.in_range);
   ok = rw (c.into_answer.ensures.told c.shift_vars.new.cx.rows)

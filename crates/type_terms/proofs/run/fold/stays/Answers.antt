@@ -2,7 +2,6 @@ use Rattle.tt_kinds.specs.Shape.{IsPart, fill}
 use Rattle.type_terms.proofs.run.fold.stays.Goals as goal
 
 pub is_untouched-requires : goal.is_untouched-requires
-unfolding IsPart
 is_untouched-requires g c = rw (g.met.T.Handle.is_stored c.args.term) c.requires
 
 pub returns : goal.returns

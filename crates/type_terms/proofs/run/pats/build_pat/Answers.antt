@@ -1,12 +1,12 @@
-use Rattle.std.proofs.Common.{inl, inr, refl}
-use Rattle.tt_index.specs.declared.refusal.Refusal.TheVariants.{NoSuchAnswer}
+use Rattle.std.proofs.Common.{refl}
+use Rattle.tt_kinds.specs.declared.table.Table.TheVariants.{Patterns}
 use Rattle.tt_interner.specs.Rows.{pat_row}
 use Rattle.tt_interner.proofs.Growth.{Extends-trans}
 use Rattle.type_terms.specs.declared.run.answer.Answer.TheVariants as answer
 use Rattle.type_terms.specs.declared.run.call.Call.TheVariants as call
 use Rattle.type_terms.specs.CallForm.{pat_form, form_positions, IsFormTooDeep}
 use Rattle.type_terms.specs.Told.{told_all, setting}
-use Rattle.type_terms.proofs.BuildLaws.{answer-passed, unbuilt-refused, kind-allowed, kind-refused, there-built, no_parameter, no-region-in-pattern, not-room}
+use Rattle.type_terms.proofs.BuildLaws.{answer-passed, unbuilt-refused, kind-allowed, kind-refused, there-built, there-refused}
 use Rattle.type_terms.proofs.run.pats.build_pat.Goals as goal
 
 pub returns-in_err-pat-in-Ok-clause-extends : goal.returns-in_err-pat-in-Ok-clause-extends
@@ -40,8 +40,5 @@ returns-in-Err-clause-answers c =
       owned = tt;
       ok = tt;
       err = unbuilt-refused (setting c.args.cx.now c.pattern_kind.new.cx) e (call.Pat c.args.call.now) (form_positions (pat_form c.args.call.now)) (IsFormTooDeep (pat_form c.args.call.now)) _
-          tt (λ a room. elim a.0 [
-            | inl h ↦ not-room _ NoSuchAnswer (c.in-Err.ensures.handles h) (λ n. n) room
-            | inr q ↦ elim q [ inl h ↦ no-region-in-pattern c.args.call.now h | inr p ↦ no_parameter c.args.call.now p ]
-          ]) (λ n. n) (λ d. d) c.in-Err.ensures.kind.err;
+          tt (there-refused c.args.cx.now c.pattern_kind.new.cx c.pattern_kind.new.cx c.pattern_kind.ensures.extends c.args.earlier.now c.requires c.are_rows-in-Err.ensures.are Patterns (pat_form c.args.call.now) _ c.in-Err.ensures.room) (λ n. n) (λ d. d) c.in-Err.ensures.kind.err;
     }

@@ -8,6 +8,8 @@ use Rattle.type_terms.specs.CallForm.{plain, one, a_term, a_list, terms_at}
 use Rattle.type_terms.specs.Told.{told_all, HasFullTable}
 use Rattle.type_terms.proofs.PartLaws.{kind-passed, plain-kind, parts-one, unbuilt-first}
 use Rattle.type_terms.proofs.KindLaws.{leaf-kind}
+use Rattle.type_terms.proofs.ResultLaws.{passed}
+use Rattle.type_terms.proofs.RoomLaws.{never-room, first-room}
 use Rattle.type_terms.proofs.run.pats.pattern_kind.Goals as goal
 
 pub returns-in_err-pair-in-Range-clause-kind : goal.returns-in_err-pair-in-Range-clause-kind
@@ -54,3 +56,17 @@ pub returns-in-NotNull-clause-kind : goal.returns-in-NotNull-clause-kind
 returns-in-NotNull-clause-kind c =
     rw (c.in-NotNull.is)
     (leaf-kind pattern_kind_shape c.args.cx.now (told_all c.args.cx.now.rows c.args.earlier.now) (pattern_label not_null_pattern) (pattern_label not_null_pattern) pattern.NotNull refl tt refl)
+
+pub returns-in_err-pair-in-Range-clause-room : goal.returns-in_err-pair-in-Range-clause-room
+returns-in_err-pair-in-Range-clause-room c =
+    let r = c.in_err-pair-in-Range in
+    passed c.from_residual.result r.field-0.0 _ c.from_residual.ensures.1 (never-room c.args.cx.now.rows _ _ r.field-0.0 r.ensures.cause)
+
+pub returns-in_err-pats-in-Or-clause-room : goal.returns-in_err-pats-in-Or-clause-room
+returns-in_err-pats-in-Or-clause-room c =
+    let e = told_all c.args.cx.now.rows c.args.earlier.now in
+    let part = a_list PatternLists (terms_at Patterns c.in-Or.pats.items) in
+    let r = c.in_err-pats-in-Or in
+    rw (c.in-Or.is)
+    (passed c.from_residual-in_err-pats-in-Or.result r.field-0.0 _ c.from_residual-in_err-pats-in-Or.ensures.1
+    (first-room c.build_pats.new.cx.rows e (pattern_label or_pattern) part [] r.field-0.0 (rw (← c.as_slice.ensures.value) r.ensures.room)))

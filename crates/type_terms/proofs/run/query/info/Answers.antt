@@ -2,11 +2,9 @@ use Rattle.tt_kinds.specs.Shape.{IsPart, fill}
 use Rattle.type_terms.proofs.run.query.info.Goals as goal
 
 pub flags-requires : goal.flags-requires
-unfolding IsPart
 flags-requires g c = rw (g.met.T.Handle.is_flagged c.args.term) c.requires
 
 pub outer_exclusive_binder-requires : goal.outer_exclusive_binder-requires
-unfolding IsPart
 outer_exclusive_binder-requires g c = rw (g.met.T.Handle.is_flagged c.args.term) c.requires
 
 pub returns : goal.returns

@@ -1,0 +1,51 @@
+//! Walks of the library's and of a user's own, beside what was built by hand.
+
+mod asked_again;
+mod binders;
+mod canonicalizer;
+mod containers;
+mod every_fold;
+mod every_list;
+mod full;
+mod normalizer;
+mod one_clause;
+mod regions;
+mod remembering;
+mod replacers;
+mod resolver;
+mod sharing;
+mod users;
+mod visitors;
+
+use std::alloc::Global;
+use std::process::Abort;
+use test_terms::{answer_anew, answer_within};
+use type_terms::{Interner, Refusal};
+
+// The outcome is that all was as wanted.
+fn holds(rt: &impl Abort, outcome: Result<bool, Refusal>) {
+    assert_eq!(rt; outcome, Ok(true));
+}
+
+// The check answers, on a new interner, that all was as wanted. Where memory is ample there is one.
+fn holds_anew<F: FnOnce(&mut Interner) -> Result<bool, Refusal> + Drop>(
+    rt: &impl Abort,
+    alloc: Global,
+    check: F,
+)
+    requires { F.IsAlwaysCallable check }
+{
+    holds(rt, answer_anew(alloc, check));
+}
+
+// The same on a new interner with at most so many rows in a table.
+fn holds_within<F: FnOnce(&mut Interner) -> Result<bool, Refusal> + Drop>(
+    rt: &impl Abort,
+    alloc: Global,
+    limit: u32,
+    check: F,
+)
+    requires { F.IsAlwaysCallable check }
+{
+    holds(rt, answer_within(alloc, limit, check));
+}

@@ -1,0 +1,139 @@
+//! A user's canonicalizer: variables of a canonical query take the places of inference variables.
+
+ghost use Rattle.std.specs.Prelude.{refl, ⊤};
+
+use super::{holds_anew, holds_within};
+use test_terms::{NOT_OWNED, bound_region, ref_ty, ty, tys};
+use type_terms::{
+    BoundTy, BoundTyKind, BoundVar, BoundVarIndexKind, InferTy, InternedKind, Interner, Owned,
+    Refusal, Step, Ty, TyKind, TyVid, TypeFoldable, TypeReplacer, replace_types,
+};
+
+// Puts variables of a canonical query in the places of inference variables, by the order in which these are met.
+#[derive(Drop)]
+struct Canonicalizer {
+    met: Vec<InferTy>,
+}
+
+impl Canonicalizer {
+    // The number of the variable, which is new where it wasn't met before.
+    fn number_of(&mut self, variable: InferTy) -> Result<u32, Refusal> {
+        let number = match self.met.iter().position(|met| *met == variable) {
+            Some(number) => number,
+            None => {
+                self.met.push(variable)?;
+                self.met.len() - 1
+            }
+        };
+        u32::try_from(number).or(Err(Refusal::GreatestIndex))
+    }
+}
+
+impl TypeReplacer for Canonicalizer {
+    type Error = Refusal;
+
+    ghost Meaning = { ⊤ };
+
+    ghost meaning = { λ rows s. tt };
+
+    ghost owned = { λ rows s. ⊤ };
+
+    ghost hooks = { record {
+      on_type = λ s t a s'. ⊤;
+      type_fails = λ unbuilt s t e s'. ⊤;
+    } };
+
+    fn replace_ty(&mut self, cx: &mut Interner, ty: Ty) -> Result<Step<Ty>, Refusal> {
+        let TyKind::Infer(variable) = *ty.kind(cx) else {
+            return Ok(Step::Descend);
+        };
+        let number = self.number_of(variable)?;
+        if !BoundVar::fits(number) {
+            return Err(Refusal::GreatestIndex);
+        }
+        let bound_ty = BoundTy {
+            var: BoundVar::from_u32(number),
+            kind: BoundTyKind::Anon,
+        };
+        let canonical = cx.mk_ty(TyKind::Bound(BoundVarIndexKind::Canonical, bound_ty))?;
+        Ok(Step::Replace(canonical))
+    }
+
+    ghost still_owned = { λ old new s g h. tt };
+
+    ghost still_means = { λ old new s g h. refl };
+}
+
+// The inference variable of this number.
+pub fn variable(cx: &mut Interner, number: u32) -> Result<Ty, Refusal> {
+    if TyVid::fits(number) {
+        ty(cx, TyKind::Infer(InferTy::TyVar(TyVid::from_u32(number))))
+    } else {
+        Err(Refusal::GreatestIndex)
+    }
+}
+
+// The variable of a canonical query of this number.
+fn canonical(cx: &mut Interner, number: u32) -> Result<Ty, Refusal> {
+    if !BoundVar::fits(number) {
+        return Err(Refusal::GreatestIndex);
+    }
+    let bound_ty = BoundTy {
+        var: BoundVar::from_u32(number),
+        kind: BoundTyKind::Anon,
+    };
+    ty(cx, TyKind::Bound(BoundVarIndexKind::Canonical, bound_ty))
+}
+
+// The value with the canonicalizer's variables in the places of its inference variables.
+fn canonicalized<T: Owned + TypeFoldable>(
+    cx: &mut Interner,
+    value: T,
+    folder: &mut Canonicalizer,
+) -> Result<T, Refusal> {
+    if value.is_owned(cx) {
+        replace_types(cx, value, folder)
+    } else {
+        Err(NOT_OWNED)
+    }
+}
+
+fn variables_are_numbered_as_they_are_met_holds(cx: &mut Interner) -> Result<bool, Refusal> {
+    let (seven, three) = (variable(cx, 7)?, variable(cx, 3)?);
+    let (first, second) = (canonical(cx, 0)?, canonical(cx, 1)?);
+    let region = bound_region(0)?;
+    let before = ref_ty(cx, region, seven)?;
+    let after = ref_ty(cx, region, first)?;
+    let query = tys(cx, &[before, three, seven])?;
+    let wanted = tys(cx, &[after, second, first])?;
+    let mut folder = Canonicalizer {
+        met: Vec::new(cx.allocator()),
+    };
+    Ok(canonicalized(cx, query, &mut folder) == Ok(wanted) && folder.met.len() == 2)
+}
+
+#[test]
+fn variables_are_numbered_as_they_are_met(rt: HostRuntime) {
+    holds_anew(
+        &rt,
+        rt.alloc(),
+        variables_are_numbered_as_they_are_met_holds,
+    );
+}
+
+// There is no room for a second variable of the query. The first is found again, under its number.
+fn numbers_stay_after_a_refusal_holds(cx: &mut Interner) -> Result<bool, Refusal> {
+    let (seven, three) = (variable(cx, 7)?, variable(cx, 3)?);
+    let first = canonical(cx, 0)?;
+    let mut folder = Canonicalizer {
+        met: Vec::new(cx.allocator()),
+    };
+    let refused = canonicalized(cx, (seven, three), &mut folder);
+    let found = canonicalized(cx, (seven, seven), &mut folder);
+    Ok(refused == Err(Refusal::TableFull) && found == Ok((first, first)))
+}
+
+#[test]
+fn numbers_stay_after_a_refusal(rt: HostRuntime) {
+    holds_within(&rt, rt.alloc(), 3, numbers_stay_after_a_refusal_holds);
+}

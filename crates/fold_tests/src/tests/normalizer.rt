@@ -1,0 +1,122 @@
+//! A user's normalizer: an alias is replaced by its declared right side, instantiated with the alias's arguments.
+
+ghost use Rattle.std.specs.Prelude.{refl, ⊤};
+ghost use Rattle.tt_kinds.specs.Kinds.{ty_shape};
+ghost use Rattle.tt_fold.specs.Steps.{IsPartOf};
+
+use super::{holds_anew, holds_within};
+use test_terms::{NOT_OWNED, args, bound_region, param_ty, ref_ty, ty, u32_ty};
+use type_terms::{
+    AliasTy, AliasTyKind, EarlyBinder, FreeTyAliasId, GenericArg, Instantiate, InternedKind,
+    Interner, Owned, Refusal, Step, Ty, TyKind, TypeFoldable, TypeReplacer, replace_types,
+};
+
+// Puts the right side of the one alias that is declared in the places of its uses.
+#[derive(Drop)]
+struct Normalizer {
+    right_side: EarlyBinder<Ty>,
+}
+
+impl TypeReplacer for Normalizer {
+    type Error = Refusal;
+
+    ghost use Rattle.tt_interner.proofs.Growth.{IsPart-grows};
+
+    ghost Meaning = { ⊤ };
+
+    ghost meaning = { λ rows s. tt };
+
+    ghost owned = { λ rows s. IsPartOf rows (ty_shape s.right_side.value) };
+
+    ghost hooks = { record {
+      on_type = λ s t a s'. ⊤;
+      type_fails = λ unbuilt s t e s'. ⊤;
+    } };
+
+    fn replace_ty(&mut self, cx: &mut Interner, ty: Ty) -> Result<Step<Ty>, Refusal> {
+        let TyKind::Alias(alias) = *ty.kind(cx) else {
+            return Ok(Step::Descend);
+        };
+        if !cx.owns_args(alias.args) {
+            return Err(NOT_OWNED);
+        }
+        let instance = self.right_side.instantiate(cx, alias.args)?;
+        Ok(Step::Replace(instance.skip_norm_wip()))
+    }
+
+    ghost still_owned = { λ old new s g h. IsPart-grows old new g.grows (ty_shape s.right_side.value) h };
+
+    ghost still_means = { λ old new s g h. refl };
+}
+
+// The alias with this argument.
+fn alias(cx: &mut Interner, argument: Ty) -> Result<Ty, Refusal> {
+    let args = args(cx, &[GenericArg::from(argument)])?;
+    let kind = AliasTyKind::Free {
+        def_id: FreeTyAliasId::from_number(0),
+    };
+    ty(cx, TyKind::Alias(AliasTy { args, kind }))
+}
+
+// The value with the right side in the places of the alias.
+fn normalized<T: Owned + TypeFoldable>(
+    cx: &mut Interner,
+    value: T,
+    folder: &mut Normalizer,
+) -> Result<T, Refusal> {
+    if value.is_owned(cx) && folder.right_side.skip_binder().is_owned(cx) {
+        replace_types(cx, value, folder)
+    } else {
+        Err(NOT_OWNED)
+    }
+}
+
+// The alias stands for the slices of its argument. A fold puts them into references too.
+fn aliases_are_normalized_holds(cx: &mut Interner) -> Result<bool, Refusal> {
+    let parameter = param_ty(cx, 0)?;
+    let right_side = ty(cx, TyKind::Slice(parameter))?;
+    let number = u32_ty(cx)?;
+    let use_of_number = alias(cx, number)?;
+    let reference = ref_ty(cx, bound_region(0)?, use_of_number)?;
+    let use_of_reference = alias(cx, reference)?;
+    let slice = ty(cx, TyKind::Slice(number))?;
+    let reference_to_slice = ref_ty(cx, bound_region(0)?, slice)?;
+    let slice_of_references = ty(cx, TyKind::Slice(reference))?;
+    let mut folder = Normalizer {
+        right_side: EarlyBinder::bind(right_side),
+    };
+    Ok(
+        normalized(cx, (use_of_number, reference), &mut folder) == Ok((slice, reference_to_slice))
+            && normalized(cx, use_of_reference, &mut folder) == Ok(slice_of_references),
+    )
+}
+
+#[test]
+fn aliases_are_normalized(rt: HostRuntime) {
+    holds_anew(&rt, rt.alloc(), aliases_are_normalized_holds);
+}
+
+// There is no room for the instance. Another instance is there, and the folder finds it.
+fn instances_are_found_after_a_refusal_holds(cx: &mut Interner) -> Result<bool, Refusal> {
+    let parameter = param_ty(cx, 0)?;
+    let right_side = ty(cx, TyKind::Slice(parameter))?;
+    let number = u32_ty(cx)?;
+    let use_of_number = alias(cx, number)?;
+    let use_of_parameter = alias(cx, parameter)?;
+    let mut folder = Normalizer {
+        right_side: EarlyBinder::bind(right_side),
+    };
+    let refused = normalized(cx, use_of_number, &mut folder);
+    let found = normalized(cx, use_of_parameter, &mut folder);
+    Ok(refused == Err(Refusal::TableFull) && found == Ok(right_side))
+}
+
+#[test]
+fn instances_are_found_after_a_refusal(rt: HostRuntime) {
+    holds_within(
+        &rt,
+        rt.alloc(),
+        5,
+        instances_are_found_after_a_refusal_holds,
+    );
+}

@@ -1,0 +1,106 @@
+//! A user's resolver: inference variables are replaced by what a table binds them to.
+
+ghost use Rattle.std.specs.Prelude.{refl, ⊤};
+ghost use Rattle.tt_kinds.specs.Kinds.{ty_shape};
+ghost use Rattle.tt_kinds.specs.Values.{option_shape, sequence_shape};
+ghost use Rattle.tt_fold.specs.Steps.{IsPartOf};
+
+use super::canonicalizer::variable;
+use super::{holds_anew, holds_within};
+use test_terms::{NOT_OWNED, ty, tys};
+use type_terms::{
+    InferTy, InternedKind, Interner, Owned, Refusal, Step, Ty, TyKind, TypeFoldable, TypeReplacer,
+    replace_types,
+};
+
+// Puts what the table says of an inference variable in the variable's place, by the variable's number.
+#[derive(Drop)]
+struct Resolver {
+    bindings: Vec<Option<Ty>>,
+}
+
+impl TypeReplacer for Resolver {
+    type Error = Refusal;
+
+    ghost use Rattle.tt_interner.proofs.Growth.{IsPart-grows};
+
+    ghost Meaning = { ⊤ };
+
+    ghost meaning = { λ rows s. tt };
+
+    ghost owned = { λ rows s. IsPartOf rows (sequence_shape (option_shape ty_shape) s.bindings.items) };
+
+    ghost hooks = { record {
+      on_type = λ s t a s'. ⊤;
+      type_fails = λ unbuilt s t e s'. ⊤;
+    } };
+
+    fn replace_ty(&mut self, cx: &mut Interner, ty: Ty) -> Result<Step<Ty>, Refusal> {
+        let TyKind::Infer(InferTy::TyVar(vid)) = *ty.kind(cx) else {
+            return Ok(Step::Descend);
+        };
+        match self.bindings.get(vid.as_usize()) {
+            Some(Some(binding)) => Ok(Step::Replace(*binding)),
+            _ => Ok(Step::Keep),
+        }
+    }
+
+    ghost still_owned = { λ old new s g h. IsPart-grows old new g.grows
+        (sequence_shape (option_shape ty_shape) s.bindings.items)
+        h };
+
+    ghost still_means = { λ old new s g h. refl };
+}
+
+// The value with the bindings in the places of its variables.
+fn resolved<T: Owned + TypeFoldable>(
+    cx: &mut Interner,
+    value: T,
+    folder: &mut Resolver,
+) -> Result<T, Refusal> {
+    if value.is_owned(cx) && folder.bindings.is_owned(cx) {
+        replace_types(cx, value, folder)
+    } else {
+        Err(NOT_OWNED)
+    }
+}
+
+// Where a binding holds a variable, a second call resolves that.
+fn bindings_are_put_in_holds(cx: &mut Interner) -> Result<bool, Refusal> {
+    let (zero, one, two) = (variable(cx, 0)?, variable(cx, 1)?, variable(cx, 2)?);
+    let truth = ty(cx, TyKind::Bool)?;
+    let slice = ty(cx, TyKind::Slice(one))?;
+    let resolved_slice = ty(cx, TyKind::Slice(truth))?;
+    let value = tys(cx, &[zero, one, two])?;
+    let once = tys(cx, &[slice, truth, two])?;
+    let twice = tys(cx, &[resolved_slice, truth, two])?;
+    let bindings = Vec::from_slice(cx.allocator(), &[Some(slice), Some(truth)])?;
+    let mut folder = Resolver { bindings };
+    Ok(
+        resolved(cx, value, &mut folder) == Ok(once)
+            && resolved(cx, once, &mut folder) == Ok(twice)
+            && resolved(cx, twice, &mut folder) == Ok(twice),
+    )
+}
+
+#[test]
+fn bindings_are_put_in(rt: HostRuntime) {
+    holds_anew(&rt, rt.alloc(), bindings_are_put_in_holds);
+}
+
+// There is no room for the resolved slice. The table is asked again, and answers.
+fn bindings_stay_after_a_refusal_holds(cx: &mut Interner) -> Result<bool, Refusal> {
+    let zero = variable(cx, 0)?;
+    let truth = ty(cx, TyKind::Bool)?;
+    let slice = ty(cx, TyKind::Slice(zero))?;
+    let bindings = Vec::from_slice(cx.allocator(), &[Some(truth)])?;
+    let mut folder = Resolver { bindings };
+    let refused = resolved(cx, slice, &mut folder);
+    let found = resolved(cx, (zero, truth), &mut folder);
+    Ok(refused == Err(Refusal::TableFull) && found == Ok((truth, truth)))
+}
+
+#[test]
+fn bindings_stay_after_a_refusal(rt: HostRuntime) {
+    holds_within(&rt, rt.alloc(), 3, bindings_stay_after_a_refusal_holds);
+}

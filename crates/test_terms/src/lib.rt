@@ -1,0 +1,20 @@
+//! What the crates of tests share: calls that test their conditions when they run, so that a test has none to prove.
+#![tactic(auto)]
+
+pub mod checks;
+pub mod flags;
+pub mod folders;
+pub mod kinds;
+pub mod terms;
+
+pub use checks::{answer_anew, answer_within, instance, is_instance, is_shifted, shifted};
+pub use flags::{Built, Flagged, are_infos, has_flags, info, info_of_kind, info_of_predicate};
+pub use folders::with_one_predicate;
+pub use kinds::{
+    clause, clauses, constant, consts, existential, pattern, predicate, two_existentials,
+    two_patterns,
+};
+pub use terms::{
+    NOT_OWNED, args, args_from_iter, binder_index, bound_region, bound_ty, one_region,
+    param_region, param_ty, ref_ty, region_variable, ty, tys, tys_from_iter, u32_ty,
+};

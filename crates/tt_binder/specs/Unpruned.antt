@@ -1,0 +1,143 @@
+-- The walk of an instantiation that skips nothing, and what it gives.
+use Rattle.std.specs.Prelude.{◌≡◌, ◌≢◌, ◌↔◌, ◌==◌, ℕ, suc, ◌-◌, ◌≤◌, List, [], Bool, true, false, IsTrue, if◌then◌else◌, Option, Some, None, Result, Ok, Err, slice_get}
+use Rattle.tt_index.specs.Greatest.{greatest}
+use Rattle.tt_index.specs.declared.refusal.Refusal.{Refusal}
+use Rattle.tt_index.specs.declared.refusal.Refusal.TheVariants.{Memory, TableFull, GreatestIndex, NoArguments, ArgOutOfRange, ArgKind, RegionVariable, NotAClause, NoSuchAnswer}
+use Rattle.tt_kinds.specs.Label.{Sort, region_var}
+use Rattle.tt_kinds.specs.Tree.{Depth, Tree, param, region}
+use Rattle.tt_kinds.specs.Reading.{read, FitsUnder, Fits}
+use Rattle.tt_kinds.specs.Argument.{Argument, same_sort, put, readings}
+use Rattle.tt_kinds.specs.Plain.{shift_tree}
+use Rattle.tt_kinds.specs.Cause.{Cause}
+use Rattle.tt_kinds.specs.Shape.{Shape}
+use Rattle.tt_interner.specs.Rows.{Row, AreRows}
+use Rattle.tt_fold.specs.Steps.{IsPartOf, tree_in}
+use Rattle.tt_fold.specs.Stands.{StandsIn}
+use Rattle.tt_fold.specs.Walk.{Answer, replace, descend, Hooks, Walks, Errors, Fails}
+use Rattle.tt_binder.specs.Instance.{IsPlain}
+
+-- the arguments, and how many binders were passed
+pub record Replacing : Type 0 where
+  pub args : List (Argument Depth)
+  pub under : ℕ
+
+-- outside of each binder
+abbrev pub outside : List (Argument Depth) → Replacing
+outside args = record { args = args; under = 0 }
+
+-- one binder further in
+abbrev pub further_in : Replacing → Replacing
+further_in m = record { args = m.args; under = suc m.under }
+
+-- one binder further out
+abbrev pub further_out : Replacing → Replacing
+further_out m = record { args = m.args; under = m.under - 1 }
+
+-- what stands at a parameter's index: the value of an argument of the parameter's sort, or why there is none
+abbrev pub value_of : Sort → ℕ → Option (Argument Depth) → Result (Tree Depth) Refusal
+value_of s i None = Err (ArgOutOfRange i)
+value_of s i (Some a) = if same_sort s a.sort then Ok a.value else Err (ArgKind i)
+
+-- a parameter's value, or why it has none
+abbrev pub value_for : Replacing → Sort → ℕ → Result (Tree Depth) Refusal
+value_for m s i = value_of s i (slice_get m.args i)
+
+-- the value, shifted past k binders, in the place of the leaf, which stays where there is no value
+abbrev pub value_or : Tree Depth → ℕ → Result (Tree Depth) Refusal → Tree Depth
+value_or leaf k (Ok t) = shift_tree 0 k t
+value_or leaf k (Err e) = leaf
+
+-- what becomes of a leaf: its value takes a parameter's place, and any other stays
+abbrev pub become : Replacing → Tree Depth → Tree Depth
+become m (param s i name) = value_or (param s i name) m.under (value_for m s i)
+become m t = t
+
+-- there is no value, for this reason, or it doesn't fit under k binders when it is shifted past them
+abbrev pub IsValueRefusal : ℕ → Result (Tree Depth) Refusal → Refusal → Type 0
+IsValueRefusal k (Ok t) e = (e ≡ GreatestIndex) × (FitsUnder k (read k (shift_tree 0 k t)) → ⊥)
+IsValueRefusal k (Err r) e = e ≡ r
+
+-- why a leaf is refused: for a parameter's value, or as a region variable
+abbrev pub IsLeafRefusal : Replacing → Tree Depth → Refusal → Type 0
+IsLeafRefusal m (param s i name) e = IsValueRefusal m.under (value_for m s i) e
+IsLeafRefusal m (region (region_var x)) e = e ≡ RegionVariable x
+IsLeafRefusal m _ e = ⊥
+
+-- why a binder is refused: as many stand around it as may
+abbrev pub IsBinderRefusal : Replacing → Refusal → Type 0
+IsBinderRefusal m e = (e ≡ GreatestIndex) × (greatest ≤ m.under)
+
+-- none of the refusals is heeded
+abbrev pub HeedsNone : (Refusal → Bool) → (Refusal → Type 0) → Type 0
+HeedsNone heeded why = (e : Refusal) → IsTrue (heeded e) → why e → ⊥
+
+-- a parameter is replaced, and every other term is gone into
+abbrev pub answer : Replacing → Tree Depth → Answer
+answer m (param s i name) = replace (become m (param s i name))
+answer m _ = descend
+
+-- The folder that skips nothing and asks no flag. It ends at the refusals that it heeds, and past another it goes on.
+abbrev pub unpruned_hooks : (Refusal → Bool) → Hooks Replacing Refusal
+unpruned_hooks heeded = record {
+  on_region = λ m t r m'. (m' ≡ m) × (r ≡ become m t) × HeedsNone heeded (IsLeafRefusal m t);
+  region_fails = λ unbuilt m t e m'. (m' ≡ m) × IsTrue (heeded e) × IsLeafRefusal m t e;
+  on_term = λ m t a m'. (m' ≡ m) × (a ≡ answer m t) × HeedsNone heeded (IsLeafRefusal m t);
+  term_fails = λ unbuilt m t e m'. (m' ≡ m) × IsTrue (heeded e) × IsLeafRefusal m t e;
+  after_term = λ m t u r m'. (m' ≡ m) × (r ≡ u);
+  after_fails = λ unbuilt m t u e m'. ⊥;
+  enter = λ m vs m'. (m' ≡ further_in m) × HeedsNone heeded (IsBinderRefusal m);
+  enter_fails = λ unbuilt m vs e m'. (m' ≡ m) × IsTrue (heeded e) × IsBinderRefusal m e;
+  leave = λ m vs m'. m' ≡ further_out m;
+  leave_fails = λ unbuilt m vs e m'. ⊥;
+}
+
+-- the errors of a fold that builds whatever it wants to, with memory for all and room in each table
+abbrev pub all_built : Errors Refusal
+all_built = record { unbuilt = λ u e. ⊥; unwanted = λ e. e ≡ NotAClause }
+
+-- the walk of a tree, from outside of each binder, gives the other tree
+abbrev pub Gives : (Refusal → Bool) → List (Argument Depth) → Tree Depth → Tree Depth → Type 0
+Gives heeded args t r = (m : Replacing) × Walks (unpruned_hooks heeded) (outside args) t r m
+
+-- it ends at the refusal
+abbrev pub EndsAt : (Refusal → Bool) → List (Argument Depth) → Tree Depth → Refusal → Type 0
+EndsAt heeded args t e = (m : Replacing) × Fails (unpruned_hooks heeded) all_built (outside args) t e m
+
+-- why plain replacement is refused, where all can be built: a cause stands, or the plain result doesn't fit
+abbrev pub IsPlainReason : List (Argument Depth) → Tree Depth → Refusal → Type 0
+IsPlainReason args t GreatestIndex = Fits (put (readings args) (read 0 t)) → ⊥
+IsPlainReason args t e = Cause t args e
+
+-- the second refusal is the first
+abbrev pub only : Refusal → Refusal → Bool
+only Memory Memory = true
+only TableFull TableFull = true
+only GreatestIndex GreatestIndex = true
+only NoArguments NoArguments = true
+only (ArgOutOfRange i) (ArgOutOfRange j) = i == j
+only (ArgKind i) (ArgKind j) = i == j
+only (RegionVariable x) (RegionVariable y) = x == y
+only NotAClause NotAClause = true
+only NoSuchAnswer NoSuchAnswer = true
+only _ _ = false
+
+-- A walk that skips nothing has the same tree and the same refusals as plain replacement with its causes, whatever it heeds.
+pub record IsUnseen (args : List (Argument Depth)) (t : Tree Depth) : Type 0 where
+  -- it gives a tree exactly where that is the plain result, and no reason stands that it heeds
+  pub gives : (heeded : Refusal → Bool) (r : Tree Depth) → Gives heeded args t r ↔ IsPlain args t r × HeedsNone heeded (IsPlainReason args t)
+  -- a refusal at which it ends is a reason that stands, and is heeded
+  pub refused : (heeded : Refusal → Bool) (e : Refusal) → EndsAt heeded args t e → IsTrue (heeded e) × IsPlainReason args t e
+  -- where a reason stands that it heeds, it ends at one
+  pub ends : (heeded : Refusal → Bool) (e : Refusal) → IsTrue (heeded e) → IsPlainReason args t e → (found : Refusal) × EndsAt heeded args t found
+  -- the walk that heeds one refusal alone ends at it exactly where it is a reason that stands
+  pub meets : (e : Refusal) → EndsAt (only e) args t e ↔ IsPlainReason args t e
+
+-- no region variable of inference stands in the tree, exposed or hidden
+abbrev pub HoldsNoRegionVar : Tree Depth → Type 0
+HoldsNoRegionVar t = (x : ℕ) → StandsIn (region (region_var x)) t → ⊥
+
+-- Where a value of an interner holds no region variable and fits, and there is an argument, the walk over its tree that skips
+-- nothing gives the tree that plain replacement gives, and ends for the same reasons.
+abbrev pub PruningIsUnseen : Type 0
+PruningIsUnseen = (rows : List Row) (args : List (Argument Depth)) (s : Shape) → AreRows rows → IsPartOf rows s → args ≢ []
+    → HoldsNoRegionVar (tree_in rows s) → Fits (read 0 (tree_in rows s)) → IsUnseen args (tree_in rows s)

@@ -1,0 +1,266 @@
+//! The visit of values without terms: numbers, tags, indices and placeholders by themselves. A visitor is told of
+//! nothing there.
+
+ghost use Rattle.tt_kinds.specs.Shape.{Shape, fill};
+ghost use Rattle.tt_interner.specs.Rows.{meaning};
+ghost use Rattle.tt_visit.specs.Data.{IsData};
+ghost use Rattle.tt_visit.specs.Steps.{Ends, OwnsBreak};
+ghost use Rattle.tt_visit.specs.Visit.{Breaks, GoesOver};
+
+use crate::visitable::TypeVisitable;
+use crate::visitor::TypeVisitor;
+use std::ops::ControlFlow;
+use tt_index::{BoundVar, DebruijnIndex, Mutability, Safety, UniverseIndex, Variance};
+use tt_interner::Interner;
+use tt_kinds::{
+    AliasRelationDirection, BoundVarIndexKind, PlaceholderConst, PlaceholderRegion, PlaceholderType,
+};
+
+// The visit of such a value, whatever its data are.
+fn visit_data<V: TypeVisitor>(_cx: &Interner, _visitor: &mut V) -> ControlFlow<V::Break, ()>
+    requires owned { V.owned _cx.now.rows _visitor.old }
+    ensures owned { V.owned _cx.now.rows _visitor.new }
+    ensures broke { OwnsBreak V.break_owned _cx.now.rows result }
+    ensures result { (s : Shape) → IsData s → Ends V.meaning (GoesOver V.hooks) (Breaks V.hooks)
+        _cx.now.rows _visitor.old (fill (meaning _cx.now.rows) s) result _visitor.new }
+{
+    ControlFlow::Continue(())
+}
+
+impl TypeVisitable for () {
+    ghost use Rattle.tt_visit.specs.Data.{data_shape, unit_data};
+
+    ghost shape = { λ _. data_shape unit_data };
+
+    fn visit_with<V: TypeVisitor>(
+        &self,
+        cx: &Interner,
+        visitor: &mut V,
+    ) -> ControlFlow<V::Break, ()> {
+        visit_data(cx, visitor)
+    }
+}
+
+impl TypeVisitable for bool {
+    ghost use Rattle.tt_visit.specs.Data.{data_shape, number_data, truth_number};
+
+    ghost shape = { λ b. data_shape (number_data 1 (truth_number b)) };
+
+    fn visit_with<V: TypeVisitor>(
+        &self,
+        cx: &Interner,
+        visitor: &mut V,
+    ) -> ControlFlow<V::Break, ()> {
+        visit_data(cx, visitor)
+    }
+}
+
+impl TypeVisitable for u16 {
+    ghost use Rattle.tt_visit.specs.Data.{data_shape, number_data};
+
+    ghost shape = { λ n. data_shape (number_data 2 n) };
+
+    fn visit_with<V: TypeVisitor>(
+        &self,
+        cx: &Interner,
+        visitor: &mut V,
+    ) -> ControlFlow<V::Break, ()> {
+        visit_data(cx, visitor)
+    }
+}
+
+impl TypeVisitable for u32 {
+    ghost use Rattle.tt_visit.specs.Data.{data_shape, number_data};
+
+    ghost shape = { λ n. data_shape (number_data 4 n) };
+
+    fn visit_with<V: TypeVisitor>(
+        &self,
+        cx: &Interner,
+        visitor: &mut V,
+    ) -> ControlFlow<V::Break, ()> {
+        visit_data(cx, visitor)
+    }
+}
+
+impl TypeVisitable for u64 {
+    ghost use Rattle.tt_visit.specs.Data.{data_shape, number_data};
+
+    ghost shape = { λ n. data_shape (number_data 8 n) };
+
+    fn visit_with<V: TypeVisitor>(
+        &self,
+        cx: &Interner,
+        visitor: &mut V,
+    ) -> ControlFlow<V::Break, ()> {
+        visit_data(cx, visitor)
+    }
+}
+
+impl TypeVisitable for usize {
+    ghost use Rattle.tt_visit.specs.Data.{data_shape, number_data};
+
+    ghost shape = { λ n. data_shape (number_data 8 n) };
+
+    fn visit_with<V: TypeVisitor>(
+        &self,
+        cx: &Interner,
+        visitor: &mut V,
+    ) -> ControlFlow<V::Break, ()> {
+        visit_data(cx, visitor)
+    }
+}
+
+impl TypeVisitable for DebruijnIndex {
+    ghost use Rattle.tt_visit.specs.Data.{data_shape, number_data};
+
+    ghost shape = { λ index. data_shape (number_data 4 index) };
+
+    fn visit_with<V: TypeVisitor>(
+        &self,
+        cx: &Interner,
+        visitor: &mut V,
+    ) -> ControlFlow<V::Break, ()> {
+        visit_data(cx, visitor)
+    }
+}
+
+impl TypeVisitable for UniverseIndex {
+    ghost use Rattle.tt_visit.specs.Data.{data_shape, number_data};
+
+    ghost shape = { λ universe. data_shape (number_data 4 universe) };
+
+    fn visit_with<V: TypeVisitor>(
+        &self,
+        cx: &Interner,
+        visitor: &mut V,
+    ) -> ControlFlow<V::Break, ()> {
+        visit_data(cx, visitor)
+    }
+}
+
+impl TypeVisitable for BoundVar {
+    ghost use Rattle.tt_visit.specs.Data.{data_shape, number_data};
+
+    ghost shape = { λ var. data_shape (number_data 4 var) };
+
+    fn visit_with<V: TypeVisitor>(
+        &self,
+        cx: &Interner,
+        visitor: &mut V,
+    ) -> ControlFlow<V::Break, ()> {
+        visit_data(cx, visitor)
+    }
+}
+
+impl TypeVisitable for Mutability {
+    ghost use Rattle.tt_visit.specs.Data.{data_shape, number_data, mutability_number};
+
+    ghost shape = { λ m. data_shape (number_data 1 (mutability_number m)) };
+
+    fn visit_with<V: TypeVisitor>(
+        &self,
+        cx: &Interner,
+        visitor: &mut V,
+    ) -> ControlFlow<V::Break, ()> {
+        visit_data(cx, visitor)
+    }
+}
+
+impl TypeVisitable for Safety {
+    ghost use Rattle.tt_visit.specs.Data.{data_shape, number_data, safety_number};
+
+    ghost shape = { λ s. data_shape (number_data 1 (safety_number s)) };
+
+    fn visit_with<V: TypeVisitor>(
+        &self,
+        cx: &Interner,
+        visitor: &mut V,
+    ) -> ControlFlow<V::Break, ()> {
+        visit_data(cx, visitor)
+    }
+}
+
+impl TypeVisitable for Variance {
+    ghost use Rattle.tt_visit.specs.Data.{data_shape, number_data, variance_number};
+
+    ghost shape = { λ v. data_shape (number_data 1 (variance_number v)) };
+
+    fn visit_with<V: TypeVisitor>(
+        &self,
+        cx: &Interner,
+        visitor: &mut V,
+    ) -> ControlFlow<V::Break, ()> {
+        visit_data(cx, visitor)
+    }
+}
+
+impl TypeVisitable for AliasRelationDirection {
+    ghost use Rattle.tt_visit.specs.Data.{data_shape, number_data, direction_number};
+
+    ghost shape = { λ d. data_shape (number_data 1 (direction_number d)) };
+
+    fn visit_with<V: TypeVisitor>(
+        &self,
+        cx: &Interner,
+        visitor: &mut V,
+    ) -> ControlFlow<V::Break, ()> {
+        visit_data(cx, visitor)
+    }
+}
+
+impl TypeVisitable for BoundVarIndexKind {
+    ghost use Rattle.tt_visit.specs.Data.{index_shape};
+
+    ghost shape = { index_shape };
+
+    fn visit_with<V: TypeVisitor>(
+        &self,
+        cx: &Interner,
+        visitor: &mut V,
+    ) -> ControlFlow<V::Break, ()> {
+        visit_data(cx, visitor)
+    }
+}
+
+impl TypeVisitable for PlaceholderRegion {
+    ghost use Rattle.tt_visit.specs.Data.{data_shape, placeholder_region_data};
+
+    ghost shape = { λ p. data_shape (placeholder_region_data p) };
+
+    fn visit_with<V: TypeVisitor>(
+        &self,
+        cx: &Interner,
+        visitor: &mut V,
+    ) -> ControlFlow<V::Break, ()> {
+        visit_data(cx, visitor)
+    }
+}
+
+impl TypeVisitable for PlaceholderType {
+    ghost use Rattle.tt_visit.specs.Data.{placeholder_type_shape};
+
+    ghost shape = { placeholder_type_shape };
+
+    fn visit_with<V: TypeVisitor>(
+        &self,
+        cx: &Interner,
+        visitor: &mut V,
+    ) -> ControlFlow<V::Break, ()> {
+        visit_data(cx, visitor)
+    }
+}
+
+impl TypeVisitable for PlaceholderConst {
+    ghost use Rattle.tt_visit.specs.Data.{placeholder_const_shape};
+
+    ghost shape = { placeholder_const_shape };
+
+    fn visit_with<V: TypeVisitor>(
+        &self,
+        cx: &Interner,
+        visitor: &mut V,
+    ) -> ControlFlow<V::Break, ()> {
+        visit_data(cx, visitor)
+    }
+}

@@ -1,0 +1,545 @@
+//! The test that a value's handles are an interner's, which the calls on values ask for.
+
+ghost use Rattle.std.specs.Prelude.{◌↔◌, IsTrue};
+ghost use Rattle.tt_kinds.specs.Shape.{AreParts, IsPart, item_shapes};
+ghost use Rattle.tt_kinds.specs.Kinds.{parts_shapes};
+ghost use Rattle.tt_interner.specs.Rows.{size};
+
+use crate::visitable::TypeVisitable;
+use indexmap::IndexSet;
+use smallvec::SmallVec;
+use std::boxed::BoxedSlice;
+use std::hash::{BuildHasher, Hash};
+use std::rc::Rc;
+use tt_index::{
+    BoundVar, DebruijnIndex, Idx, IndexVec, Mutability, Safety, UniverseIndex, Variance,
+};
+use tt_interner::Interner;
+use tt_kinds::{
+    AliasRelationDirection, AliasTerm, AliasTy, Binder, BoundExistentialPredicates,
+    BoundVarIndexKind, Clause, ClauseKind, Clauses, CoercePredicate, Const, ConstKind, Consts,
+    CoroutineWitnessTypes, ErrorGuaranteed, ExistentialPredicate, ExistentialProjection,
+    ExistentialTraitRef, ExprConst, FnSig, FnSigTys, GenericArg, GenericArgKind, GenericArgs,
+    HostEffectPredicate, NormalizesTo, OutlivesPredicate, ParamEnv, Parts, Pat, PatList,
+    PatternKind, PlaceholderConst, PlaceholderRegion, PlaceholderType, PolyExistentialPredicate,
+    Predicate, PredicateKind, ProjectionPredicate, Region, RegionAssumptions, SubtypePredicate,
+    Term, TermKind, TraitPredicate, TraitRef, Ty, TyKind, TypeAndMut, Tys, UnevaluatedConst,
+    UnsafeBinderInner, ValTree, ValTreeKind, ValueConst,
+};
+
+/// A value that can tell whether an interner made its handles.
+pub trait Owned: TypeVisitable {
+    /// Returns whether each handle and each name in the value is one of this interner's, as the calls on values ask for.
+    ///
+    /// A handle is a number, so that handles of another interner aren't told apart where this one has as many terms. A
+    /// handle that was this interner's stays so, whatever is built later.
+    fn is_owned(&self, cx: &Interner) -> bool
+        ensures { IsTrue result ↔ IsPart (size cx.now.rows) (Self.shape self.now) };
+}
+
+/// Returns whether all of the values are this interner's.
+pub fn are_owned<T: Owned>(cx: &Interner, values: &[T]) -> bool
+    ensures { IsTrue result ↔ AreParts (size cx.now.rows) (item_shapes T.shape values.now) }
+{
+    match values {
+        [] => true,
+        [first, rest @ ..] => first.is_owned(cx) && are_owned(cx, rest),
+    }
+}
+
+// Whether the children of a kind are this interner's.
+fn are_parts_owned(cx: &Interner, parts: &Parts) -> bool
+    ensures { IsTrue result ↔ AreParts (size cx.now.rows) (parts_shapes parts.now) }
+{
+    cx.owns_child(&parts.first) && cx.owns_child(&parts.second)
+}
+
+impl Owned for Ty {
+    fn is_owned(&self, cx: &Interner) -> bool {
+        cx.owns_ty(*self)
+    }
+}
+
+impl Owned for Const {
+    fn is_owned(&self, cx: &Interner) -> bool {
+        cx.owns_const(*self)
+    }
+}
+
+impl Owned for Predicate {
+    fn is_owned(&self, cx: &Interner) -> bool {
+        cx.owns_predicate(*self)
+    }
+}
+
+impl Owned for Clauses {
+    fn is_owned(&self, cx: &Interner) -> bool {
+        cx.owns_clauses(*self)
+    }
+}
+
+impl Owned for Pat {
+    fn is_owned(&self, cx: &Interner) -> bool {
+        cx.owns_pat(*self)
+    }
+}
+
+impl Owned for PolyExistentialPredicate {
+    fn is_owned(&self, cx: &Interner) -> bool {
+        cx.owns_existential(*self)
+    }
+}
+
+impl Owned for Tys {
+    fn is_owned(&self, cx: &Interner) -> bool {
+        cx.owns_tys(*self)
+    }
+}
+
+impl Owned for Consts {
+    fn is_owned(&self, cx: &Interner) -> bool {
+        cx.owns_consts(*self)
+    }
+}
+
+impl Owned for GenericArgs {
+    fn is_owned(&self, cx: &Interner) -> bool {
+        cx.owns_args(*self)
+    }
+}
+
+impl Owned for PatList {
+    fn is_owned(&self, cx: &Interner) -> bool {
+        cx.owns_pat_list(*self)
+    }
+}
+
+impl Owned for BoundExistentialPredicates {
+    fn is_owned(&self, cx: &Interner) -> bool {
+        cx.owns_existentials(*self)
+    }
+}
+
+impl Owned for RegionAssumptions {
+    fn is_owned(&self, cx: &Interner) -> bool {
+        cx.owns_assumptions(*self)
+    }
+}
+
+impl Owned for Clause {
+    fn is_owned(&self, cx: &Interner) -> bool {
+        cx.owns_predicate(Predicate::from_number(self.number()))
+    }
+}
+
+impl Owned for Region {
+    fn is_owned(&self, cx: &Interner) -> bool {
+        cx.owns_region(self)
+    }
+}
+
+impl Owned for GenericArg {
+    fn is_owned(&self, cx: &Interner) -> bool {
+        cx.owns_arg(self)
+    }
+}
+
+impl Owned for GenericArgKind {
+    fn is_owned(&self, cx: &Interner) -> bool {
+        cx.owns_arg(&GenericArg::from(*self))
+    }
+}
+
+impl Owned for TermKind {
+    fn is_owned(&self, cx: &Interner) -> bool {
+        match self {
+            TermKind::Ty(ty) => ty.is_owned(cx),
+            TermKind::Const(constant) => constant.is_owned(cx),
+        }
+    }
+}
+
+impl Owned for Term {
+    fn is_owned(&self, cx: &Interner) -> bool {
+        self.kind().is_owned(cx)
+    }
+}
+
+impl Owned for TyKind {
+    fn is_owned(&self, cx: &Interner) -> bool {
+        cx.owns_kind(self)
+    }
+}
+
+impl Owned for ConstKind {
+    fn is_owned(&self, cx: &Interner) -> bool {
+        cx.owns_const_kind(self)
+    }
+}
+
+impl Owned for PatternKind {
+    fn is_owned(&self, cx: &Interner) -> bool {
+        cx.owns_pattern_kind(self)
+    }
+}
+
+impl Owned for ErrorGuaranteed {
+    fn is_owned(&self, _cx: &Interner) -> bool {
+        true
+    }
+}
+
+impl Owned for UnevaluatedConst {
+    fn is_owned(&self, cx: &Interner) -> bool {
+        self.args.is_owned(cx)
+    }
+}
+
+impl Owned for ExprConst {
+    fn is_owned(&self, cx: &Interner) -> bool {
+        self.args.is_owned(cx)
+    }
+}
+
+impl Owned for ValueConst {
+    fn is_owned(&self, cx: &Interner) -> bool {
+        cx.owns_const_kind(&ConstKind::Value(*self))
+    }
+}
+
+impl Owned for ValTree {
+    fn is_owned(&self, cx: &Interner) -> bool {
+        match &self.kind() {
+            ValTreeKind::Leaf(_) => true,
+            ValTreeKind::Branch(values) => values.is_owned(cx),
+        }
+    }
+}
+
+impl<T: Owned> Owned for Binder<T> {
+    fn is_owned(&self, cx: &Interner) -> bool {
+        cx.owns_bound_vars(self.bound_vars()) && self.as_ref().skip_binder().is_owned(cx)
+    }
+}
+
+impl<A: Owned, B: Owned> Owned for (A, B) {
+    fn is_owned(&self, cx: &Interner) -> bool {
+        self.0.is_owned(cx) && self.1.is_owned(cx)
+    }
+}
+
+impl<A: Owned, B: Owned, C: Owned> Owned for (A, B, C) {
+    fn is_owned(&self, cx: &Interner) -> bool {
+        self.0.is_owned(cx) && self.1.is_owned(cx) && self.2.is_owned(cx)
+    }
+}
+
+impl<T: Owned> Owned for Option<T> {
+    fn is_owned(&self, cx: &Interner) -> bool {
+        match self {
+            Some(value) => value.is_owned(cx),
+            None => true,
+        }
+    }
+}
+
+impl<T: Owned, E: Owned> Owned for Result<T, E> {
+    fn is_owned(&self, cx: &Interner) -> bool {
+        match self {
+            Ok(value) => value.is_owned(cx),
+            Err(error) => error.is_owned(cx),
+        }
+    }
+}
+
+impl<T: Owned> Owned for Box<T> {
+    fn is_owned(&self, cx: &Interner) -> bool {
+        T::is_owned(&**self, cx)
+    }
+}
+
+impl<T: Owned> Owned for Rc<T> {
+    fn is_owned(&self, cx: &Interner) -> bool {
+        T::is_owned(&**self, cx)
+    }
+}
+
+impl<T: Owned> Owned for Vec<T> {
+    fn is_owned(&self, cx: &Interner) -> bool {
+        are_owned(cx, self.as_slice())
+    }
+}
+
+impl<T: Owned> Owned for &[T] {
+    fn is_owned(&self, cx: &Interner) -> bool {
+        are_owned(cx, *self)
+    }
+}
+
+impl<T: Owned> Owned for &T {
+    fn is_owned(&self, cx: &Interner) -> bool {
+        T::is_owned(*self, cx)
+    }
+}
+
+impl Owned for FnSigTys {
+    fn is_owned(&self, cx: &Interner) -> bool {
+        self.inputs_and_output.is_owned(cx)
+    }
+}
+
+impl Owned for FnSig {
+    fn is_owned(&self, cx: &Interner) -> bool {
+        self.inputs_and_output.is_owned(cx)
+    }
+}
+
+impl Owned for CoroutineWitnessTypes {
+    fn is_owned(&self, cx: &Interner) -> bool {
+        self.types.is_owned(cx) && self.assumptions.is_owned(cx)
+    }
+}
+
+impl Owned for TypeAndMut {
+    fn is_owned(&self, cx: &Interner) -> bool {
+        self.ty.is_owned(cx)
+    }
+}
+
+impl Owned for TraitRef {
+    fn is_owned(&self, cx: &Interner) -> bool {
+        self.args.is_owned(cx)
+    }
+}
+
+impl Owned for AliasTy {
+    fn is_owned(&self, cx: &Interner) -> bool {
+        self.args.is_owned(cx)
+    }
+}
+
+impl Owned for AliasTerm {
+    fn is_owned(&self, cx: &Interner) -> bool {
+        self.args.is_owned(cx)
+    }
+}
+
+impl Owned for ParamEnv {
+    fn is_owned(&self, cx: &Interner) -> bool {
+        self.caller_bounds.is_owned(cx)
+    }
+}
+
+impl Owned for TraitPredicate {
+    fn is_owned(&self, cx: &Interner) -> bool {
+        self.trait_ref.args.is_owned(cx)
+    }
+}
+
+impl Owned for HostEffectPredicate {
+    fn is_owned(&self, cx: &Interner) -> bool {
+        self.trait_ref.args.is_owned(cx)
+    }
+}
+
+impl Owned for ProjectionPredicate {
+    fn is_owned(&self, cx: &Interner) -> bool {
+        self.projection_term.args.is_owned(cx) && self.term.is_owned(cx)
+    }
+}
+
+impl Owned for NormalizesTo {
+    fn is_owned(&self, cx: &Interner) -> bool {
+        self.alias.args.is_owned(cx) && self.term.is_owned(cx)
+    }
+}
+
+impl Owned for SubtypePredicate {
+    fn is_owned(&self, cx: &Interner) -> bool {
+        self.a.is_owned(cx) && self.b.is_owned(cx)
+    }
+}
+
+impl Owned for CoercePredicate {
+    fn is_owned(&self, cx: &Interner) -> bool {
+        self.a.is_owned(cx) && self.b.is_owned(cx)
+    }
+}
+
+impl<A: Owned> Owned for OutlivesPredicate<A> {
+    fn is_owned(&self, cx: &Interner) -> bool {
+        self.0.is_owned(cx) && self.1.is_owned(cx)
+    }
+}
+
+impl Owned for ClauseKind {
+    fn is_owned(&self, cx: &Interner) -> bool {
+        match self {
+            ClauseKind::UnstableFeature(feature) => cx.owns_symbol(*feature),
+            _ => are_parts_owned(cx, &self.parts()),
+        }
+    }
+}
+
+impl Owned for PredicateKind {
+    fn is_owned(&self, cx: &Interner) -> bool {
+        match self {
+            PredicateKind::Clause(clause) => clause.is_owned(cx),
+            _ => are_parts_owned(cx, &self.parts()),
+        }
+    }
+}
+
+impl Owned for ExistentialPredicate {
+    fn is_owned(&self, cx: &Interner) -> bool {
+        are_parts_owned(cx, &self.parts())
+    }
+}
+
+impl Owned for ExistentialTraitRef {
+    fn is_owned(&self, cx: &Interner) -> bool {
+        self.args.is_owned(cx)
+    }
+}
+
+impl Owned for ExistentialProjection {
+    fn is_owned(&self, cx: &Interner) -> bool {
+        self.args.is_owned(cx) && self.term.is_owned(cx)
+    }
+}
+
+impl Owned for UnsafeBinderInner {
+    fn is_owned(&self, cx: &Interner) -> bool {
+        cx.owns_bound_vars(self.bound_vars()) && self.skip_binder().is_owned(cx)
+    }
+}
+
+impl<T: Owned> Owned for BoxedSlice<T> {
+    fn is_owned(&self, cx: &Interner) -> bool {
+        let items = self.as_slice();
+        are_owned(cx, items)
+    }
+}
+
+impl<Ix: Idx, T: Owned> Owned for IndexVec<Ix, T> {
+    fn is_owned(&self, cx: &Interner) -> bool {
+        let indexed = self.raw();
+        are_owned(cx, indexed)
+    }
+}
+
+impl<T: Owned, const N: usize> Owned for SmallVec<T, N> {
+    fn is_owned(&self, cx: &Interner) -> bool {
+        let few = self.as_slice();
+        are_owned(cx, few)
+    }
+}
+
+impl<T: Owned + Eq + Hash, S: BuildHasher> Owned for IndexSet<T, S> {
+    fn is_owned(&self, cx: &Interner) -> bool {
+        let in_order = self.as_slice();
+        are_owned(cx, in_order)
+    }
+}
+
+impl Owned for () {
+    fn is_owned(&self, _cx: &Interner) -> bool {
+        true
+    }
+}
+
+impl Owned for bool {
+    fn is_owned(&self, _cx: &Interner) -> bool {
+        true
+    }
+}
+
+impl Owned for u16 {
+    fn is_owned(&self, _cx: &Interner) -> bool {
+        true
+    }
+}
+
+impl Owned for u32 {
+    fn is_owned(&self, _cx: &Interner) -> bool {
+        true
+    }
+}
+
+impl Owned for u64 {
+    fn is_owned(&self, _cx: &Interner) -> bool {
+        true
+    }
+}
+
+impl Owned for usize {
+    fn is_owned(&self, _cx: &Interner) -> bool {
+        true
+    }
+}
+
+impl Owned for DebruijnIndex {
+    fn is_owned(&self, _cx: &Interner) -> bool {
+        true
+    }
+}
+
+impl Owned for UniverseIndex {
+    fn is_owned(&self, _cx: &Interner) -> bool {
+        true
+    }
+}
+
+impl Owned for BoundVar {
+    fn is_owned(&self, _cx: &Interner) -> bool {
+        true
+    }
+}
+
+impl Owned for BoundVarIndexKind {
+    fn is_owned(&self, _cx: &Interner) -> bool {
+        true
+    }
+}
+
+impl Owned for Mutability {
+    fn is_owned(&self, _cx: &Interner) -> bool {
+        true
+    }
+}
+
+impl Owned for Safety {
+    fn is_owned(&self, _cx: &Interner) -> bool {
+        true
+    }
+}
+
+impl Owned for Variance {
+    fn is_owned(&self, _cx: &Interner) -> bool {
+        true
+    }
+}
+
+impl Owned for AliasRelationDirection {
+    fn is_owned(&self, _cx: &Interner) -> bool {
+        true
+    }
+}
+
+impl Owned for PlaceholderType {
+    fn is_owned(&self, _cx: &Interner) -> bool {
+        true
+    }
+}
+
+impl Owned for PlaceholderConst {
+    fn is_owned(&self, _cx: &Interner) -> bool {
+        true
+    }
+}
+
+impl Owned for PlaceholderRegion {
+    fn is_owned(&self, cx: &Interner) -> bool {
+        cx.owns_region_name(&self.bound.kind)
+    }
+}
