@@ -2,6 +2,7 @@
 
 mod calls;
 mod faults;
+mod sharing;
 mod spelling;
 mod worked;
 

@@ -143,7 +143,7 @@ impl Built for PatternKind {
     }
 }
 
-// The predicate stands under a binder of one region.
+// The predicate is under a binder of one region.
 impl Built for PredicateKind {
     fn info_of_term(&self, cx: &mut Interner) -> Result<(u32, u32), Refusal> {
         let vars = one_region(cx)?;

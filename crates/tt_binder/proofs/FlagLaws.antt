@@ -83,7 +83,7 @@ as_number-zero : (b : Bool) → as_number b ≡ 0 → b ≡ false
 as_number-zero true h = absurd (omega (arith, h))
 as_number-zero false h = refl
 
--- the flags meet those for parameters exactly where one stands
+-- the flags meet those for parameters exactly where one occurs
 pub meets_param : (t : Tree Depth) (n : ℕ) → n ≡ scan t → (bit_and n 7 ≢ 0) → holds_param t ≡ true
 meets_param t n e h = as_number-one (holds_param t) (sym (param_bit-scan label_sets_none t) ∙ ap param_bit (sym e) ∙ meets_some n (λ none. h (and_mask n 3 ∙ none)))
 

@@ -42,7 +42,7 @@ use Rattle.tt_fold.specs.Walk.{replace, keep, descend, is_type_tree}
 use Rattle.tt_fold.specs.Places.{IsIn}
 use Rattle.tt_fold.specs.Remember.{here, places, IsTaken, OnTerm, given, left_alone, taken_apart, gone_into, AfterTerm, not_noted}
 use Rattle.tt_binder.specs.Arguments.{arg_sort, argument_of, arguments, AreArguments}
-use Rattle.tt_binder.specs.Instantiation.{Instantiation, Instantiates, IsArgument, given_argument, instantiation, LeafRefuses, shift_unbuilt, shift_too_far, IsShiftCount, IsParam, IsTypeOrClause, is_const, IsInnerConst}
+use Rattle.tt_binder.specs.Instantiation.{Instantiation, Instantiates, PutsArgument, instantiation, LeafRefuses, shift_unbuilt, shift_too_far, IsParam, IsTypeOrClause, is_const, IsInnerConst}
 use Rattle.tt_binder.specs.Untouched.{IsUntouched}
 use Rattle.tt_binder.proofs.FlagLaws.{hides_none}
 use Rattle.tt_binder.proofs.RowArguments.{IsTypeTree, IsConstTree, IsClauseTree}
@@ -97,7 +97,7 @@ pub given_refused : (unbuilt : Tree Depth → Refusal → Type 0) (args : List (
     → 0 < k → e ≡ GreatestIndex → (Fits (move k (read 0 t)) → ⊥) → LeafRefuses unbuilt args k (param s i name) e
 given_refused unbuilt args k s i name t e a below is h = shift_too_far below is (λ fits. h (FitsUnder-past k t (rw a at fits)))
 
--- a region in range fits where it stands
+-- a region in range fits where it is
 shallow_fits : (f : Meaning) (r : RegionKind) → IsShallow r → Fits (move 0 (read 0 (fill f (region_shape r))))
 unfolding fill
 shallow_fits f (ReEarlyParam p) h = tt
@@ -230,13 +230,12 @@ same_standing : (s s' : Standing Instantiation) (d n : ℕ) → s'.state ≡ s.s
     → s' ≡ record { state = s.state; counters = record { descents = d; shift_descents = n } }
 same_standing s s' d n state descents shifts = ap3 (λ q x y. record { state = q; counters = record { descents = x; shift_descents = y } }) state descents shifts
 
-pub given_step : (s s' : Standing Instantiation) (t r : Tree Depth) (o : Sort) (i : ℕ) (name : Name) → t ≡ param o i name → s'.state ≡ s.state → s'.counters.descents ≡ s.counters.descents
-    → IsShiftCount s s'.counters.shift_descents → Instantiates s.state.rule s.state.under (param o i name) r → OnTerm instantiation s t (replace r) s'
-given_step s s' t r o i name is state descents more done =
-    let same = same_standing s s' s.counters.descents s'.counters.shift_descents state descents refl in
-    let gives : IsArgument s.state.rule s.state.under (param o i name) r = record { param = tt; plain = done.plain; allows = done.allows } in
-    subst (λ q. OnTerm instantiation s t (replace r) q) (sym same)
-    (given (given_argument s'.counters.shift_descents more (subst (λ u. IsArgument s.state.rule s.state.under u r) (sym is) gives)))
+pub given_step : (s s' : Standing Instantiation) (t r : Tree Depth) (o : Sort) (i : ℕ) (name : Name) → t ≡ param o i name
+    → s'.state ≡ record { rule = s.state.rule; under = s.state.under; kept = s'.state.kept; memory = s.state.memory }
+    → PutsArgument s.state.rule s.state.under (param o i name) r s.state.kept s.counters s'.state.kept s'.counters → OnTerm instantiation s t (replace r) s'
+given_step s s' t r o i name is state puts =
+    subst (λ q. OnTerm instantiation s t (replace r) (record { state = q; counters = s'.counters })) (sym state)
+    (given (subst (λ u. PutsArgument s.state.rule s.state.under u r s.state.kept s.counters s'.state.kept s'.counters) (sym is) puts))
 
 pub taken_step : (s s' : Standing Instantiation) (t : Tree Depth) → InnerType t → (IsIn (here s.state t) (places s.state.memory) → ⊥) → s'.state ≡ s.state
     → s'.counters.descents ≡ counted s.counters.descents → s'.counters.shift_descents ≡ s.counters.shift_descents → OnTerm instantiation s t descend s'

@@ -1,5 +1,5 @@
 -- What the argument folder's walk from outside of each binder gives.
-use Rattle.std.proofs.Common.{◌≡◌, ℕ, ◌<◌, inl, inr, List, [], refl, sym, ap, subst, ◌∙◌, arith, Bool, false, true}
+use Rattle.std.proofs.Common.{◌≡◌, ℕ, ◌<◌, inl, inr, List, [], ◌++◌, refl, sym, ap, subst, ◌∙◌, arith, Bool, false, true}
 use Rattle.std.specs.Prelude.{Result, Ok, Err, IfErr, MatchResult, ◌||◌}
 use Rattle.tt_index.specs.declared.refusal.Refusal.{Refusal}
 use Rattle.tt_index.specs.declared.refusal.Refusal.TheVariants.{Memory, TableFull, GreatestIndex, NoArguments, ArgOutOfRange, ArgKind, RegionVariable, NotAClause, NoSuchAnswer}
@@ -32,7 +32,10 @@ use Rattle.tt_fold.proofs.TaskLaws.{Refuses, without, too_far, caused}
 use Rattle.tt_fold.proofs.RememberLaws.{does, Refused, refused}
 use Rattle.tt_binder.specs.Instantiation.{Args, Instantiation, at_first, Instantiates, instantiation, LeafRefuses, for_cause, shift_unbuilt, shift_too_far, IsTypeOrClause, arg_hooks}
 use Rattle.tt_binder.specs.Arguments.{arguments}
+use Rattle.tt_kinds.specs.declared.handle.Const.{Const}
 use Rattle.tt_kinds.specs.declared.handle.Ty.{Ty}
+use Rattle.std.specs.Map.{keys_of}
+use Rattle.tt_binder.specs.declared.shifted.ParamAt.{ParamAt}
 use Rattle.tt_fold.specs.Memory.{memos}
 use Rattle.tt_fold.specs.declared.memory.Place.{Place}
 use Rattle.tt_kinds.specs.declared.generic_arg.GenericArgKind.{GenericArgKind}
@@ -65,9 +68,11 @@ instance_done args t r d = record {
 }
 
 -- the state of a folder that is new
-pub new_state : {S : Type 0} (rows : List Row) (items : List Row → S → List GenericArgKind) (a b : S) (k : ℕ) (es : List (Place × Ty)) → a ≡ b → k ≡ 0 → es ≡ []
-    → (let state : Instantiation = record { rule = arguments rows (items rows a); under = k; kept = tt; memory = memos rows es } in state) ≡ at_first (arguments rows (items rows b))
-new_state rows items a b k es same outside empty = rw (same, outside, empty) refl
+pub new_state : {S : Type 0} (rows : List Row) (items : List Row → S → List GenericArgKind) (a b : S) (k : ℕ) (es : List (Place × Ty)) (types : List (ParamAt × Ty)) (consts : List (ParamAt × Const))
+    → a ≡ b → k ≡ 0 → es ≡ [] → types ≡ [] → consts ≡ []
+    → (let state : Instantiation = record { rule = arguments rows (items rows a); under = k; kept = keys_of types ++ keys_of consts; memory = memos rows es } in state)
+    ≡ at_first (arguments rows (items rows b))
+new_state rows items a b k es types consts same outside empty no_types no_consts = rw (same, outside, empty, no_types, no_consts) refl
 
 pub instance_walked : (args : Args) (s s' : Standing Instantiation) (t r : Tree Depth) → s.state ≡ at_first args → Walks arg_hooks s t r s' → IsInstance args t r
 instance_walked args s s' t r is w =
@@ -99,7 +104,7 @@ instance_back args t h = elim h.hides [ inl none ↦ empty none | inr hides ↦ 
           no_cause = empty_never args t none answered;
         }
 
--- a cause that stands is a reason
+-- a cause that holds is a reason
 reason_caused : (terms : Terms) (args : List (Argument Depth)) (t : Tree Depth) (e : Refusal) → Cause t args e → IsReason terms args t e
 reason_caused terms args t Memory h = absurd h
 reason_caused terms args t TableFull h = absurd h

@@ -2,6 +2,9 @@ pub mod RowArguments
 pub mod FlagLaws
 pub mod HookLaws
 pub mod WalkLaws
+pub mod ShiftedLaws
+pub mod TaggedLaws
+pub mod SharingLaws
 pub mod UntouchedLaws
 pub mod PositionLaws
 pub mod ClauseLaws

@@ -1,4 +1,4 @@
--- What rows say of the terms and the arguments that stand in them.
+-- What rows say of the terms and the arguments in them.
 use Rattle.std.proofs.Common.{inl, inr, ◌≡◌, ℕ, ◌<◌, List, [], ◌∷◌, refl, subst, arith, Bool, false}
 use Rattle.std.specs.Prelude.{Option, Some, None, slice_get, IsTrue, ⊤}
 use Rattle.tt_kinds.specs.Label.{Name, Sort, type_sort, const_sort, Label, type_label, const_label, is_type, is_type_or_clause}

@@ -114,7 +114,7 @@ never_kept : (m : Replacing) (t : Tree Depth) → keep ≡ answer m t → ⊥
 never_kept m (param s i name) h = cc
 never_kept m _ h = cc
 
--- in a term that is replaced stands a parameter, with its value
+-- a term that is replaced is a parameter, with its value
 data IsReplaced (m : Replacing) : Tree Depth → Tree Depth → Type 0 where
   by_value : {s : Sort} {i : ℕ} {name : Name} {r : Tree Depth} → r ≡ become m (param s i name) → IsReplaced m (param s i name) r
 

@@ -40,7 +40,7 @@ looked s i (Some a) = by (same_sort s a.sort)
     by true = has a.value
     by false = other
 
--- a refusal that comes of parameters alone is met where such a parameter stands
+-- a refusal that comes of parameters alone is met where such a parameter occurs
 module _ (P : Sort → ℕ → Type 0) (e : Refusal) where
   module _ (args : List (Argument Depth)) (leaf : (k : ℕ) (s : Sort) (i : ℕ) → P s i → IsValueRefusal k (value_of s i (slice_get args i)) e) where
     mutual
@@ -136,7 +136,7 @@ module _ (args : List (Argument Depth)) where
       param_says ⊥ t (met_param (λ s i. ⊥) e args (λ j s i g. value_never j s i (value_of s i (slice_get args i)) e (looked s i (slice_get args i)) a b c g) (λ m r g. region_refusal m r e d g) a k t h)
 
   mutual
-    -- a region variable that is met stands in the tree
+    -- a region variable that is met occurs in the tree
     variable_stands : (k x : ℕ) (t : Tree Depth) → Meets (record { args = args; under = k }) t (RegionVariable x) → StandsIn (region (region_var x)) t
     variable_stands k x (param s i name) h = absurd (value_never k s i (value_for (record { args = args; under = k }) s i) (RegionVariable x) (looked s i (slice_get args i)) (λ e. cc) (λ j e. cc) (λ j e. cc) h)
     variable_stands k x (bound s d y) h = absurd h

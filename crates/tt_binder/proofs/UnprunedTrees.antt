@@ -8,16 +8,25 @@ use Rattle.tt_kinds.specs.Shape as shape
 use Rattle.tt_kinds.specs.Shape.{Shape, Shapes, Meaning, Sizes, fill, fill_all, name_of, rename_label, IsPart, AreParts, HasParts}
 use Rattle.tt_kinds.specs.Kinds.{Form, param, bound, plain, under, relabelled, form_shape, ty_form, const_form}
 use Rattle.tt_kinds.specs.declared.table.Table.{Table}
+use Rattle.tt_kinds.proofs.ForestLaws.{IsOfEach, list-each}
 use Rattle.tt_interner.specs.Rows.{Row, type_row, const_row, pat_row, predicate_row, existential_row, clauses_row, tys_row, consts_row, args_row, pats_row, vars_row, existentials_row, assumptions_row, text_row, declared_row, row_shape, table, size, meaning, AreRows}
 use Rattle.tt_interner.proofs.RowLaws.{IsNewest, place_cases, meaning-old, meaning-new}
 use Rattle.tt_visit.specs.Root.{hooked, unhooked, term_root}
 use Rattle.tt_fold.specs.Steps.{IsPartOf, tree_in}
 use Rattle.tt_binder.proofs.UnprunedLaws.{IsRooted, IsRooted_all}
 
--- the root of a term is that of a stored one
+-- the root of a term is a stored one's
 abbrev HasRoot : Tree Depth → Type 0
 HasRoot (tree.term l ts) = (term_root l ≡ hooked) ⊎ (term_root l ≡ unhooked)
 HasRoot _ = ⊤
+
+each-rooted : IsOfEach IsRooted_all IsRooted
+each-rooted = record {
+  nothing = tt;
+  first = λ t ts h. h.0;
+  others = λ t ts h. h.1;
+  more = λ t ts h hs. (h, hs);
+}
 
 module _ (size : Sizes) (f : Meaning) (good : (t : Table) (n : ℕ) → n < size t → IsRooted (f t n)) where
   mutual
@@ -31,6 +40,7 @@ module _ (size : Sizes) (f : Meaning) (good : (t : Table) (n : ℕ) → n < size
     part-rooted (shape.node l ss) p = parts-rooted ss p.2
     part-rooted (shape.binder n s) p = part-rooted s p.1
     part-rooted (shape.stored t n) p = good t n p
+    part-rooted (shape.part_of t n e) p = list-each IsRooted_all IsRooted each-rooted (λ l ts h. h) e (f t n) (good t n p)
 
     parts-rooted : (ss : Shapes) → AreParts size ss → IsRooted_all (fill_all f ss)
     parts-rooted shape.none p = tt
@@ -45,6 +55,7 @@ module _ (size : Sizes) (f : Meaning) (good : (t : Table) (n : ℕ) → n < size
   row-rooted (shape.node l ss) p root = parts-rooted ss p.1
   row-rooted (shape.binder n s) p root = absurd p
   row-rooted (shape.stored t n) p root = absurd p
+  row-rooted (shape.part_of t n e) p root = absurd p
 
 form-root : {L : Type 0} (label : L → Label ℕ) (sort : Sort) (f : Meaning) → ((l : L) → term_root (rename_label (name_of f) (label l)) ≡ hooked) → (k : Form L)
     → HasRoot (fill f (form_shape sort (relabelled label k)))

@@ -13,7 +13,7 @@ use Rattle.tt_binder.specs.Untouched.{IsUntouched, passed_by, entered, untouched
 use Rattle.tt_binder.proofs.FlagLaws.{hides_none}
 use Rattle.tt_binder.proofs.WalkLaws.{const-gone, passed-gone}
 
--- no parameter stands among the trees, and no region variable is exposed
+-- no parameter occurs among the trees, and no region variable is exposed
 abbrev AreUntouched : Forest Depth → Type 0
 AreUntouched ts = (holds_param_among ts ≡ false) × HidesRegionVars_among ts
 

@@ -18,9 +18,9 @@ use Rattle.tt_fold.specs.Remember.{IsTaken}
 use Rattle.tt_fold.proofs.ShiftLaws.{counted-one, counted-up}
 use Rattle.tt_fold.proofs.RememberLaws.{Knows}
 use Rattle.tt_fold.proofs.TaskLaws.{AllowsAll, Refuses, without, too_far, caused, IsGiven, IsRefusedAt, TaskLaws}
-use Rattle.tt_binder.specs.Instantiation.{Args, Kept, Instantiation, at_first, IsAllowed, Instantiates, LeafRefuses, for_cause, shift_unbuilt, shift_too_far, IsInnerConst, IsGoneInto, IsShiftCount, Rises, GivesArgument, given_argument, instantiation}
+use Rattle.tt_binder.specs.Instantiation.{Args, Kept, Instantiation, at_first, IsAllowed, Instantiates, LeafRefuses, for_cause, shift_unbuilt, shift_too_far, IsInnerConst, IsGoneInto, Rises, PutsArgument, as_it_is, shifted_now, instantiation}
 
--- what holds no parameter is instantiated as it stands
+-- what holds no parameter is instantiated to itself
 pub left_done : (args : Args) (k : ℕ) (t : Tree Depth) → holds_param t ≡ false → HidesRegionVars t → Instantiates args k t t
 left_done args k t h hides = record { plain = sym (inst_tree-none k args t h); allows = record { answered = EachParam-none _ t h; hides = hides } }
 
@@ -85,7 +85,7 @@ all_hide : (args : Args) (ts : Forest Depth) → AllowsAll instantiation args ts
 all_hide args none h x e = e
 all_hide args (also t ts) h x e = elim e [ inl a ↦ h.0.hides x a | inr b ↦ all_hide args ts h.1 x b ]
 
--- a cause that stands in a child of a term or a node, or under a binder, stands in the whole
+-- a cause in a child of a term or a node, or under a binder, is a cause in the whole
 Cause-term : (args : Args) (l : Label Name) (t : Tree Depth) (ts : Forest Depth) → Among t ts → OnTrue (is_type_or_clause l) (IsGeneric_among ts)
     → (e : Refusal) → Cause t args e → Cause (term l ts) args e
 Cause-term args l t ts m g Memory h = h
@@ -126,10 +126,16 @@ leaf_refused unbuilt args k t e (for_cause h) = caused h
 leaf_refused unbuilt args k t e (shift_unbuilt below u m h) = without u m h
 leaf_refused unbuilt args k t e (shift_too_far below is unfit) = too_far is unfit
 
-argument_given : (s : Standing Instantiation) (t r : Tree Depth) (kept : Kept) (c : Counters) → GivesArgument s t r kept c → IsGiven instantiation s t r c
-argument_given s t r kept c (given_argument n more is) = record {
+argument_given : (s : Standing Instantiation) (t r : Tree Depth) (kept : Kept) (c : Counters) → PutsArgument s.state.rule s.state.under t r s.state.kept s.counters kept c
+    → IsGiven instantiation s t r c
+argument_given s t r kept c (as_it_is is) = record {
   is_done = record { plain = is.plain; allows = is.allows };
-  rises = record { descents = omega arith; shift_descents = more.0 };
+  rises = record { descents = omega arith; shift_descents = omega arith };
+  amount = omega arith;
+}
+argument_given s t r kept c (shifted_now i n is place below now more pairs) = record {
+  is_done = record { plain = is.plain; allows = is.allows };
+  rises = record { descents = omega arith; shift_descents = more };
   amount = omega arith;
 }
 

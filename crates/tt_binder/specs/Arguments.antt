@@ -12,7 +12,7 @@ use Rattle.tt_kinds.specs.declared.generic_arg.GenericArgKind.TheVariants as arg
 use Rattle.tt_interner.specs.Rows.{Row, args_row, table, size}
 use Rattle.tt_fold.specs.Steps.{tree_in}
 
--- what an argument stands for
+-- the sort of an argument
 abbrev pub arg_sort : GenericArgKind → Sort
 arg_sort (arg.Lifetime r) = region_sort
 arg_sort (arg.«Type» t) = type_sort
@@ -26,7 +26,7 @@ argument_of rows a = record { sort = arg_sort a; value = tree_in rows (arg_shape
 abbrev pub arguments : List Row → List GenericArgKind → List (Argument Depth)
 arguments rows args = map (argument_of rows) args
 
--- the handles in the arguments are those of the rows
+-- the handles in the arguments name rows
 abbrev pub AreArguments : List Row → List GenericArgKind → Type 0
 AreArguments rows args = AreParts (size rows) (item_shapes arg_shape args)
 

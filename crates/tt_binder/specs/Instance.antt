@@ -18,7 +18,7 @@ use Rattle.tt_fold.specs.Stands.{IsPartUnbuilt}
 abbrev pub IsPlain : List (Argument Depth) → Tree Depth → Tree Depth → Type 0
 IsPlain args t r = read 0 r ≡ put (readings args) (read 0 t)
 
--- no cause of a refusal stands
+-- no cause of a refusal holds
 abbrev pub HasNoCause : List (Argument Depth) → Tree Depth → Type 0
 HasNoCause args t = (e : Refusal) → Cause t args e → ⊥
 
@@ -45,14 +45,14 @@ pub record IsInstance (args : List (Argument Depth)) (t r : Tree Depth) : Type 0
   pub no_cause : HasNoCause args t
 
 -- why an instantiation is refused, as its call ends: memory was refused, a term or a list of the plain result would be a new
--- row of a table that is full, the plain result doesn't fit, or a cause stands
+-- row of a table that is full, the plain result doesn't fit, or a cause holds
 abbrev pub IsReason : Terms → List (Argument Depth) → Tree Depth → Refusal → Type 0
 IsReason terms args t Memory = ⊤
 IsReason terms args t TableFull = IsPartUnbuilt terms (inst_tree 0 args t) TableFull
 IsReason terms args t GreatestIndex = Fits (put (readings args) (read 0 t)) → ⊥
 IsReason terms args t e = Cause t args e
 
--- the table is that of predicates, or of clause lists
+-- the table is the one of predicates, or of clause lists
 abbrev pub IsOfClauses : Table → Type 0
 IsOfClauses Predicates = ⊤
 IsOfClauses ClauseLists = ⊤

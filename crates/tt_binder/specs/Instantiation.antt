@@ -15,22 +15,26 @@ use Rattle.tt_interner.specs.Stored.{Counters, counted}
 use Rattle.tt_fold.specs.Counts.{Standing}
 use Rattle.tt_fold.specs.Stands.{StandsIn}
 use Rattle.tt_fold.specs.Walk.{Hooks}
+use Rattle.tt_fold.specs.Places.{IsIn, CountsPairs}
 use Rattle.tt_fold.specs.Remember.{State, Task, Done, remembering}
+use Rattle.tt_binder.specs.Shifted.{param_at}
+use Rattle.tt_binder.specs.Sharing.{IsParamIn, moving_at}
+use Rattle.tt_binder.specs.declared.shifted.ParamAt.{ParamAt}
 
--- by the arguments the folder goes, and it keeps nothing beside what it remembers
+-- by the arguments the folder goes, and for these parameters it keeps what came of a shift
 abbrev pub Args : Type 0
 Args = List (Argument Depth)
 
 abbrev pub Kept : Type 0
-Kept = Unit {0}
+Kept = List ParamAt
 
--- what the folder's state means: the arguments, how many binders it passed, and what it remembers
+-- what the folder's state means: the arguments, how many binders it passed, what it keeps, and what it remembers
 abbrev pub Instantiation : Type 0
 Instantiation = State Args Kept
 
--- the state outside of each binder, with nothing remembered
+-- the state outside of each binder, with nothing kept and nothing remembered
 abbrev pub at_first : Args → Instantiation
-at_first args = record { rule = args; under = 0; kept = tt; memory = [] }
+at_first args = record { rule = args; under = 0; kept = []; memory = [] }
 
 -- each parameter has an argument, and no region variable is exposed
 pub record IsAllowed (args : Args) (t : Tree Depth) : Type 0 where
@@ -60,7 +64,7 @@ abbrev pub is_const : Label Name → Bool
 is_const (const_label l) = true
 is_const _ = false
 
--- the tree is that of a constant that is no parameter
+-- the tree is a constant that is no parameter
 abbrev pub IsInnerConst : Tree Depth → Type 0
 IsInnerConst (bound s d e) = s ≡ const_sort
 IsInnerConst (term l ts) = IsTrue (is_const l)
@@ -71,7 +75,7 @@ pub record Rises (c c' : Counters) : Type 0 where
   pub descents : c.descents ≤ c'.descents
   pub shift_descents : c.shift_descents ≤ c'.shift_descents
 
--- what stands in it is met: a variable, or a term that holds a parameter if it would hide its region variables else
+-- its contents are met: a variable, or a term that holds a parameter if it would hide its region variables else
 abbrev pub IsGoneInto : Tree Depth → Type 0
 IsGoneInto (bound s d e) = ⊤
 IsGoneInto (term l ts) = OnTrue (is_type_or_clause l) (IsGeneric_among ts)
@@ -93,10 +97,17 @@ pub record IsArgument (args : Args) (k : ℕ) (t r : Tree Depth) : Type 0 where
   pub plain : r ≡ inst_tree k args t
   pub allows : IsAllowed args t
 
--- it takes its place at once, and the shifter may count
-pub data GivesArgument : Standing Instantiation → Tree Depth → Tree Depth → Kept → Counters → Type 0 where
-  given_argument : {s : Standing Instantiation} {t r : Tree Depth} (n : ℕ) → IsShiftCount s n → IsArgument s.state.rule s.state.under t r
-      → GivesArgument s t r s.state.kept (record { descents = s.counters.descents; shift_descents = n })
+-- something is kept for the parameter from now on, and was not before
+pub record IsKeptNow (p : ParamAt) (kept kept' : Kept) : Type 0 where
+  pub new : IsIn p kept → ⊥
+  pub there : IsIn p kept'
+  pub older : (q : ParamAt) → IsIn q kept → IsIn q kept'
+
+-- it takes its place at once: as it stands or is kept, or it is shifted now, and the shifter counts
+pub data PutsArgument (args : Args) (k : ℕ) (t r : Tree Depth) : Kept → Counters → Kept → Counters → Type 0 where
+  as_it_is : {kept : Kept} {c : Counters} → IsArgument args k t r → PutsArgument args k t r kept c kept c
+  shifted_now : {kept kept' : Kept} {c : Counters} (i n : ℕ) → IsArgument args k t r → IsParamIn (param_at i k) k t → 0 < k → IsKeptNow (param_at i k) kept kept'
+      → c.shift_descents ≤ n → CountsPairs (moving_at args i) c.shift_descents n → PutsArgument args k t r kept c kept' (record { descents = c.descents; shift_descents = n })
 
 -- puts arguments in the places of parameters, and takes each type apart that holds a parameter
 abbrev pub instantiation : Task Args Kept
@@ -106,7 +117,7 @@ instantiation = record {
   Allows = IsAllowed;
   IsEntered = λ args k t. IsGoneInto t;
   IsTodo = λ args k t. IsGenericTerm t;
-  Gives = GivesArgument;
+  Gives = λ s t r kept c. PutsArgument s.state.rule s.state.under t r s.state.kept s.counters kept c;
   RegionFails = LeafRefuses;
   TermFails = λ unbuilt s t e s'. (s'.counters.descents ≡ s.counters.descents) × IsShiftCount s s'.counters.shift_descents
       × LeafRefuses unbuilt s.state.rule s.state.under t e;

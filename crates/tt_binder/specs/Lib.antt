@@ -1,4 +1,6 @@
 pub mod Arguments
+pub mod Shifted
+pub mod Sharing
 pub mod ArgumentLaws
 pub mod Instantiation
 pub mod Instance

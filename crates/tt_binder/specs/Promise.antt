@@ -16,6 +16,7 @@ use Rattle.tt_kinds.specs.declared.table.Table.TheVariants.{Types}
 use Rattle.tt_interner.specs.Stored.{Terms, Extends}
 use Rattle.tt_fold.specs.Places.{CountsPairs}
 use Rattle.tt_fold.specs.Steps.{IsPartBy, tree_by}
+use Rattle.tt_binder.specs.Sharing.{CountsShifts}
 use Rattle.tt_binder.specs.Instance.{IsPlain, HasNoCause, Composes, Commutes, StaysMatched, LeavesNoParam, IsReason, ComesBack, IsOfClauses}
 
 -- the value comes back as it is, and the interner stays as it was
@@ -33,6 +34,9 @@ pub record InstancePromise {T : Type 0} (shape : T → Shape) (args : List (Argu
   pub positions : OnOk result (new.counters.descents ≤ old.counters.descents + positions (tree_by shape old.rows value))
   -- at most one descent for each pair of such a type and a number of binders above it
   pub pairs : OnOk result (CountsPairs (generic_types 0 (tree_by shape old.rows value)) old.counters.descents new.counters.descents)
+  -- each argument is shifted once past as many binders, and takes apart at most one type for each that has a variable to be
+  -- shifted and each number of binders above it
+  pub shifts : OnOk result (CountsShifts args (tree_by shape old.rows value) old.counters.shift_descents new.counters.shift_descents)
   -- the handles of the result are the interner's
   pub in_range : IfOk result (λ u. IsPartBy shape new.rows u.value)
   -- the result is plain replacement

@@ -33,7 +33,7 @@ further_in m = record { args = m.args; under = suc m.under }
 abbrev pub further_out : Replacing → Replacing
 further_out m = record { args = m.args; under = m.under - 1 }
 
--- what stands at a parameter's index: the value of an argument of the parameter's sort, or why there is none
+-- what is at a parameter's index: the value of an argument of the parameter's sort, or why there is none
 abbrev pub value_of : Sort → ℕ → Option (Argument Depth) → Result (Tree Depth) Refusal
 value_of s i None = Err (ArgOutOfRange i)
 value_of s i (Some a) = if same_sort s a.sort then Ok a.value else Err (ArgKind i)
@@ -63,7 +63,7 @@ IsLeafRefusal m (param s i name) e = IsValueRefusal m.under (value_for m s i) e
 IsLeafRefusal m (region (region_var x)) e = e ≡ RegionVariable x
 IsLeafRefusal m _ e = ⊥
 
--- why a binder is refused: as many stand around it as may
+-- why a binder is refused: as many enclose it as may
 abbrev pub IsBinderRefusal : Replacing → Refusal → Type 0
 IsBinderRefusal m e = (e ≡ GreatestIndex) × (greatest ≤ m.under)
 
@@ -103,7 +103,7 @@ Gives heeded args t r = (m : Replacing) × Walks (unpruned_hooks heeded) (outsid
 abbrev pub EndsAt : (Refusal → Bool) → List (Argument Depth) → Tree Depth → Refusal → Type 0
 EndsAt heeded args t e = (m : Replacing) × Fails (unpruned_hooks heeded) all_built (outside args) t e m
 
--- why plain replacement is refused, where all can be built: a cause stands, or the plain result doesn't fit
+-- why plain replacement is refused, where all can be built: a cause holds, or the plain result doesn't fit
 abbrev pub IsPlainReason : List (Argument Depth) → Tree Depth → Refusal → Type 0
 IsPlainReason args t GreatestIndex = Fits (put (readings args) (read 0 t)) → ⊥
 IsPlainReason args t e = Cause t args e
@@ -123,16 +123,16 @@ only _ _ = false
 
 -- A walk that skips nothing has the same tree and the same refusals as plain replacement with its causes, whatever it heeds.
 pub record IsUnseen (args : List (Argument Depth)) (t : Tree Depth) : Type 0 where
-  -- it gives a tree exactly where that is the plain result, and no reason stands that it heeds
+  -- it gives a tree exactly where that is the plain result, and no reason holds that it heeds
   pub gives : (heeded : Refusal → Bool) (r : Tree Depth) → Gives heeded args t r ↔ IsPlain args t r × HeedsNone heeded (IsPlainReason args t)
-  -- a refusal at which it ends is a reason that stands, and is heeded
+  -- a refusal at which it ends is a reason that holds, and is heeded
   pub refused : (heeded : Refusal → Bool) (e : Refusal) → EndsAt heeded args t e → IsTrue (heeded e) × IsPlainReason args t e
-  -- where a reason stands that it heeds, it ends at one
+  -- where a reason holds that it heeds, it ends at one
   pub ends : (heeded : Refusal → Bool) (e : Refusal) → IsTrue (heeded e) → IsPlainReason args t e → (found : Refusal) × EndsAt heeded args t found
-  -- the walk that heeds one refusal alone ends at it exactly where it is a reason that stands
+  -- the walk that heeds one refusal alone ends at it exactly where it is a reason that holds
   pub meets : (e : Refusal) → EndsAt (only e) args t e ↔ IsPlainReason args t e
 
--- no region variable of inference stands in the tree, exposed or hidden
+-- no inference variable for a region occurs in the tree, exposed or hidden
 abbrev pub HoldsNoRegionVar : Tree Depth → Type 0
 HoldsNoRegionVar t = (x : ℕ) → StandsIn (region (region_var x)) t → ⊥
 

@@ -8,7 +8,7 @@ use Rattle.tt_visit.specs.declared.visitor.Next.{Next}
 use Rattle.tt_visit.specs.declared.visitor.Next.TheVariants.{Skip, Descend}
 use Rattle.tt_binder.specs.Instantiation.{IsTypeOrClause, IsInnerConst}
 
--- no parameter stands in the tree, and no region variable is exposed
+-- no parameter occurs in the tree, and no region variable is exposed
 abbrev pub IsUntouched : Tree Depth → Type 0
 IsUntouched t = (holds_param t ≡ false) × HidesRegionVars t
 

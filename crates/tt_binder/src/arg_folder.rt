@@ -1,29 +1,33 @@
 //! The folder that puts arguments in the places of parameters.
 
-ghost use Rattle.std.specs.Prelude.{◌≡◌, ◌≢◌, ◌≤◌, [], List, ℕ, MatchOption, MatchResult, IfOk, IfErr, Some, slice_get};
+ghost use Rattle.std.specs.Prelude.{◌≡◌, ◌≢◌, ◌≤◌, ◌++◌, [], List, ℕ, MatchOption, MatchResult, IfOk, IfErr, Some, slice_get};
+ghost use Rattle.std.specs.Map.{keys_of};
 ghost use Rattle.tt_kinds.specs.Label.{Name, const_sort, region_sort, type_sort};
 ghost use Rattle.tt_kinds.specs.Tree.{param};
 ghost use Rattle.tt_kinds.specs.Kinds.{const_shape, region_shape, ty_shape};
 ghost use Rattle.tt_kinds.specs.Cause.{Cause};
 ghost use Rattle.tt_interner.specs.Rows.{Row};
 ghost use Rattle.tt_interner.specs.Stored.{Extends};
-ghost use Rattle.tt_fold.specs.Memory.{OwnsMemos, memos};
+ghost use Rattle.tt_fold.specs.Memory.{memos};
 ghost use Rattle.tt_fold.specs.Steps.{IsPartOf, IsRefused, tree_in};
 ghost use Rattle.tt_binder.specs.Arguments.{AreArguments, arguments};
+ghost use Rattle.tt_binder.specs.Shifted.{OwnsArguments, OwnsShifts};
 ghost use Rattle.tt_binder.specs.Instantiation.{
   Instantiation,
   Instantiates,
+  PutsArgument,
   IsOpenParam,
   LeafRefuses,
   IsParam,
   arg_hooks,
 };
 
+use crate::shifted::Shifted;
 use crate::slice_like::SliceLike;
 use std::alloc::Global;
 use tt_flags::TypeFlags;
 use tt_fold::memory::{Memory, look_up};
-use tt_fold::{Step, TypeFolder, shift_region, shift_vars};
+use tt_fold::{Step, TypeFolder, shift_region};
 use tt_index::{GREATEST_INDEX, Refusal};
 use tt_interner::{Flags, InternedKind, Interner, count_descent};
 use tt_kinds::{
@@ -93,7 +97,7 @@ fn const_at<S: SliceLike>(cx: &Interner, args: S, index: u32) -> Result<Const, R
     }
 }
 
-// The region that stands under some binders for the region parameter of the index.
+// The argument for the region parameter of the index, as it is under some binders.
 fn region_argument<S: SliceLike>(
     cx: &Interner,
     args: S,
@@ -125,28 +129,45 @@ fn region_argument<S: SliceLike>(
     Ok(shifted)
 }
 
-// The type that stands under some binders for the type parameter of the index.
+// The argument for the type parameter of the index, as it is under some binders.
 fn type_argument<S: SliceLike>(
     cx: &mut Interner,
     args: S,
+    shifted: &mut Shifted<Ty>,
     binders_passed: u32,
     index: u32,
 ) -> Result<Ty, Refusal>
     requires owned { S.owned cx.old.rows args }
     requires are { AreArguments cx.old.rows (S.items cx.old.rows args) }
     requires some { S.items cx.old.rows args ≢ [] }
+    requires shifted { OwnsShifts
+        ty_shape
+        cx.old.rows
+        (arguments cx.old.rows (S.items cx.old.rows args))
+        type_sort
+        shifted.old }
     ensures extends { Extends cx.old cx.new }
     ensures descents { cx.new.counters.descents ≡ cx.old.counters.descents }
     ensures shift_descents { cx.old.counters.shift_descents ≤ cx.new.counters.shift_descents }
     ensures unshifted { binders_passed ≡ 0 → cx.new ≡ cx.old }
+    ensures shifted { OwnsShifts
+        ty_shape
+        cx.new.rows
+        (arguments cx.old.rows (S.items cx.old.rows args))
+        type_sort
+        shifted.new }
     ensures result { (name : Name) → MatchResult
         result
         (λ ty. IsPartOf cx.new.rows (ty_shape ty)
-        × Instantiates
+        × PutsArgument
         (arguments cx.old.rows (S.items cx.old.rows args))
         binders_passed
         (param type_sort index name)
-        (tree_in cx.new.rows (ty_shape ty)))
+        (tree_in cx.new.rows (ty_shape ty))
+        (keys_of shifted.old)
+        cx.old.counters
+        (keys_of shifted.new)
+        cx.new.counters)
         (λ e. LeafRefuses
         (IsRefused cx.new)
         (arguments cx.old.rows (S.items cx.old.rows args))
@@ -155,32 +176,49 @@ fn type_argument<S: SliceLike>(
         e) }
 {
     let argument = type_at(cx, args, index)?;
-    let shifted = shift_vars(cx, argument, binders_passed)?;
-    Ok(shifted)
+    let placed = shifted.shift(cx, argument, index, binders_passed)?;
+    Ok(placed)
 }
 
-// The constant that stands under some binders for the constant parameter of the index.
+// The argument for the constant parameter of the index, as it is under some binders.
 fn const_argument<S: SliceLike>(
     cx: &mut Interner,
     args: S,
+    shifted: &mut Shifted<Const>,
     binders_passed: u32,
     index: u32,
 ) -> Result<Const, Refusal>
     requires owned { S.owned cx.old.rows args }
     requires are { AreArguments cx.old.rows (S.items cx.old.rows args) }
     requires some { S.items cx.old.rows args ≢ [] }
+    requires shifted { OwnsShifts
+        const_shape
+        cx.old.rows
+        (arguments cx.old.rows (S.items cx.old.rows args))
+        const_sort
+        shifted.old }
     ensures extends { Extends cx.old cx.new }
     ensures descents { cx.new.counters.descents ≡ cx.old.counters.descents }
     ensures shift_descents { cx.old.counters.shift_descents ≤ cx.new.counters.shift_descents }
     ensures unshifted { binders_passed ≡ 0 → cx.new ≡ cx.old }
+    ensures shifted { OwnsShifts
+        const_shape
+        cx.new.rows
+        (arguments cx.old.rows (S.items cx.old.rows args))
+        const_sort
+        shifted.new }
     ensures result { (name : Name) → MatchResult
         result
         (λ constant. IsPartOf cx.new.rows (const_shape constant)
-        × Instantiates
+        × PutsArgument
         (arguments cx.old.rows (S.items cx.old.rows args))
         binders_passed
         (param const_sort index name)
-        (tree_in cx.new.rows (const_shape constant)))
+        (tree_in cx.new.rows (const_shape constant))
+        (keys_of shifted.old)
+        cx.old.counters
+        (keys_of shifted.new)
+        cx.new.counters)
         (λ e. LeafRefuses
         (IsRefused cx.new)
         (arguments cx.old.rows (S.items cx.old.rows args))
@@ -189,8 +227,8 @@ fn const_argument<S: SliceLike>(
         e) }
 {
     let constant = const_at(cx, args, index)?;
-    let shifted = shift_vars(cx, constant, binders_passed)?;
-    Ok(shifted)
+    let placed = shifted.shift(cx, constant, index, binders_passed)?;
+    Ok(placed)
 }
 
 // The index of the parameter that the type is, if it is one.
@@ -223,27 +261,35 @@ pub fn const_parameter(cx: &Interner, constant: Const) -> Option<u32>
     }
 }
 
-/// Puts arguments in the places of parameters, and counts the binders that it passes. There has to be an argument. A type that
-/// comes again under as many binders isn't taken apart again.
+/// Puts arguments in the places of parameters, and counts the binders that it passes. There has to be an argument. A
+/// type that comes again under as many binders isn't taken apart again, and the argument of a parameter that does
+/// isn't shifted again.
 #[derive(Drop)]
 pub struct ArgFolder<S> {
     args: S,
     binders_passed: u32,
     // what came of the types that were taken apart
     memory: Memory,
+    // the arguments that were shifted past binders
+    types: Shifted<Ty>,
+    consts: Shifted<Const>,
 }
 
 impl<S: Copy> ArgFolder<S> {
-    /// Returns the folder outside of each binder. It remembers nothing yet, and takes no memory for that.
+    /// Returns the folder outside of each binder. It remembers and keeps nothing yet, and takes no memory for that.
     pub fn new(alloc: Global, args: S) -> ArgFolder<S>
         ensures args { result.args ≡ args }
         ensures binders_passed { result.binders_passed ≡ 0 }
         ensures memory { result.memory ≡ [] }
+        ensures types { result.types ≡ [] }
+        ensures consts { result.consts ≡ [] }
     {
         ArgFolder {
             args,
             binders_passed: 0,
             memory: Memory::new(alloc),
+            types: Shifted::new(alloc),
+            consts: Shifted::new(alloc),
         }
     }
 }
@@ -254,14 +300,11 @@ impl<S: SliceLike> TypeFolder for ArgFolder<S> {
     ghost meaning = { λ rows s. record {
       rule = arguments rows (S.items rows s.args);
       under = s.binders_passed;
-      kept = tt;
+      kept = keys_of s.types ++ keys_of s.consts;
       memory = memos rows s.memory;
     } };
 
-    ghost owned = { λ rows s. S.owned rows s.args
-        × AreArguments rows (S.items rows s.args)
-        × (S.items rows s.args ≢ [])
-        × OwnsMemos rows s.memory };
+    ghost owned = { λ rows s. OwnsArguments S.items S.owned rows s.args s.memory s.types s.consts };
 
     ghost hooks = { arg_hooks };
 
@@ -285,7 +328,13 @@ impl<S: SliceLike> TypeFolder for ArgFolder<S> {
         }
         match type_parameter(cx, ty) {
             Some(index) => {
-                let new = type_argument(cx, self.args, self.binders_passed, index)?;
+                let new = type_argument(
+                    cx,
+                    self.args,
+                    &mut self.types,
+                    self.binders_passed,
+                    index,
+                )?;
                 Ok(Step::Replace(new))
             }
             None => match look_up(cx, &self.memory, ty, self.binders_passed) {
@@ -306,10 +355,16 @@ impl<S: SliceLike> TypeFolder for ArgFolder<S> {
     fn fold_const(&mut self, cx: &mut Interner, constant: Const) -> Result<Step<Const>, Refusal> {
         match const_parameter(cx, constant) {
             Some(index) => {
-                let new = const_argument(cx, self.args, self.binders_passed, index)?;
+                let new = const_argument(
+                    cx,
+                    self.args,
+                    &mut self.consts,
+                    self.binders_passed,
+                    index,
+                )?;
                 Ok(Step::Replace(new))
             }
-            // A constant without parameters is gone into too: a region variable may stand in it.
+            // A constant without parameters is gone into too: a region variable may occur in it.
             None => Ok(Step::Descend),
         }
     }
@@ -384,6 +439,8 @@ impl<S: SliceLike> TypeFolder for ArgFolder<S> {
     ghost still_owned = { λ old new s g h. owned-still S.still_owned S.still_items old new
         s.args
         s.memory
+        s.types
+        s.consts
         g.grows
         h };
 
@@ -391,6 +448,7 @@ impl<S: SliceLike> TypeFolder for ArgFolder<S> {
         (S.items old s.args)
         (S.items new s.args)
         s.binders_passed
+        (keys_of s.types ++ keys_of s.consts)
         s.memory
         g.grows
         (S.still_items old new s.args g.grows h.0)

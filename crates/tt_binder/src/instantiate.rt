@@ -15,6 +15,7 @@ ghost use Rattle.tt_binder.specs.Arguments.{arguments};
 ghost use Rattle.tt_binder.specs.Unpruned.{PruningIsUnseen};
 ghost use Rattle.tt_binder.specs.Instance.{IsInstance, IsReason, ComesBack};
 ghost use Rattle.tt_binder.specs.Promise.{InstancePromise};
+ghost use Rattle.tt_binder.specs.Sharing.{CountsShifts};
 
 use crate::arg_folder::ArgFolder;
 use crate::slice_like::SliceLike;
@@ -33,22 +34,25 @@ pub trait Instantiate<T: TypeFoldable>: Sized {
     /// Returns the value with each of its parameters replaced by the argument at the parameter's index, so that no
     /// variable of an argument is captured by a binder of the value.
     ///
-    /// It is refused where there are no arguments and the value has a parameter (`NoArguments`); where there are some, but
-    /// none for a parameter (`ArgOutOfRange`), or one of another kind (`ArgKind`); where there are some and a region
-    /// variable of inference stands in the value outside of the types, predicates and lists of clauses without parameters
-    /// (`RegionVariable`); where the result would have an index or binders that are too great (`GreatestIndex`); where a
-    /// term or a list of the result is not stored yet and its table has as many rows as it may have (`TableFull`); and where
-    /// the memory for a new one is refused (`Memory`). Of several such reasons it names one. A constant without parameters
-    /// hides no region variable. An instance of a clause is a clause, so that no clause and no list of clauses is refused.
+    /// It is refused where there are no arguments and the value has a parameter (`NoArguments`); where there are
+    /// some, but none for a parameter (`ArgOutOfRange`), or one of another kind (`ArgKind`); where there are some and
+    /// a region inference variable occurs in the value outside of the types, predicates and lists of clauses without
+    /// parameters (`RegionVariable`); where the result would have an index or binders that are too great
+    /// (`GreatestIndex`); where a term or a list of the result is not stored yet and its table has as many rows as it
+    /// may have (`TableFull`); and where the memory for a new one is refused (`Memory`). Of several such reasons it
+    /// names one. A constant without parameters hides no region variable. An instance of a clause is a clause, so
+    /// that no clause and no list of clauses is refused.
     ///
-    /// A value without parameters in which no such region variable stands comes back as it is, and nothing is built; so
+    /// A value without parameters in which no such region variable occurs comes back as it is, and nothing is built; so
     /// does every type, predicate, clause and list of clauses without parameters. Where there are no arguments, region
     /// variables aren't looked for. Each type of the value that holds a parameter and is none adds at most one to the
     /// interner's count of descents for each number of binders above it, at however many places it is; constants,
-    /// predicates and lists of clauses add none of their own.
+    /// predicates and lists of clauses add none of their own. An argument is shifted once past as many binders, at however
+    /// many places its parameter is, and that adds to the shifter's count what one `shift_vars` of it may.
     ///
-    /// A value that is itself a parameter is refused only for want of an argument that fits: else its argument takes its place
-    /// as it stands, without a shift. Nothing is built then, and the interner stays as it is, also where the value is refused.
+    /// A value that is itself a parameter is refused only for want of an argument that fits: else its argument takes
+    /// its place as it stands, without a shift. Nothing is built then, and the interner stays as it is, also where
+    /// the value is refused.
     fn instantiate<S: SliceLike>(
         self,
         cx: &mut Interner,
@@ -93,6 +97,11 @@ fn instantiate_value<T: TypeFoldable, S: SliceLike>(
     ensures pairs { OnOk result (CountsPairs (generic_types 0 (tree_by T.shape cx.old.rows value))
         cx.old.counters.descents
         cx.new.counters.descents) }
+    ensures shifts { OnOk result (CountsShifts
+        (arguments cx.old.rows (S.items cx.old.rows args))
+        (tree_by T.shape cx.old.rows value)
+        cx.old.counters.shift_descents
+        cx.new.counters.shift_descents) }
     ensures result { MatchResult
         result
         (λ r. IsPartBy T.shape cx.new.rows r
@@ -139,9 +148,9 @@ impl<T: TypeFoldable> Instantiate<T> for EarlyBinder<T> {
 }
 
 /// A walk over a value's tree that asks no flag, and replaces each parameter where it meets one, gives the tree that
-/// [`Instantiate::instantiate`] gives, and is refused for the same causes: where no inference variable for a region stands in
-/// the value, its indices and binders are in range, and there is an argument. It does nothing; the contract gives callers the
-/// fact.
+/// [`Instantiate::instantiate`] gives, and is refused for the same causes: where no inference variable for a region
+/// occurs in the value, its indices and binders are in range, and there is an argument. It does nothing; the contract
+/// gives callers the fact.
 pub fn pruning_is_unseen()
     ensures { PruningIsUnseen }
 {}

@@ -3,6 +3,7 @@
 
 mod arg_folder;
 pub mod instantiate;
+mod shifted;
 pub mod slice_like;
 mod untouched;
 

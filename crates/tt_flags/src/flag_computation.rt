@@ -8,13 +8,13 @@ ghost use Rattle.tt_flags.specs.FlagComputation.{computed};
 use crate::type_flags::TypeFlags;
 use tt_index::DebruijnIndex;
 
-/// The flags of a term and how far its bound variables reach. Both are computed from those of the
+/// The flags of a term and how far its bound variables reach. Both are computed from the flags and reach of the
 /// term's parts alone, so a term that is built from stored parts needs no walk.
 #[derive(Clone, Copy, Debug, PartialEq, Eq)]
 pub struct FlagComputation {
     /// The union of the flags of all parts.
     pub flags: TypeFlags,
-    /// The least index above those of all bound variables that escape the term, so that the binder
+    /// The least index above the indices of all bound variables that escape the term, so that the binder
     /// of this index is the innermost one that binds nothing of it. It is 0 where none escapes.
     pub outer_exclusive_binder: DebruijnIndex,
 }

@@ -1,4 +1,4 @@
--- The fold of a list of assumptions, from that of a vector of them.
+-- The fold of a list of assumptions, from the fold of a vector of them.
 use Rattle.std.proofs.Common.{◌≡◌, List, Ok, Err, refl, ap}
 use Rattle.tt_index.specs.declared.refusal.Refusal.{Refusal}
 use Rattle.tt_index.specs.declared.refusal.Refusal.TheVariants.{Memory, TableFull, NotAClause}

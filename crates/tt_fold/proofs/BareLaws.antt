@@ -1,4 +1,4 @@
--- The folds of kinds that aren't stored, from those of what stands in them.
+-- The folds of kinds that aren't stored, from the same of their contents.
 use Rattle.std.proofs.Common.{◌≡◌, ℕ, List, Option, Some, None, Ok, Err, refl}
 use Rattle.tt_kinds.specs.Label.{Sort, ConstLabel, RecordLabel, record_label, bare_param_record, bare_bound_record}
 use Rattle.tt_kinds.specs.Tree as tree

@@ -1,4 +1,4 @@
--- The folds of boxes and of lists in other types than vectors, from those of what stands in them.
+-- The folds of boxes and of lists in other types than vectors, from the same of their contents.
 use Rattle.std.proofs.Common.{◌≡◌, ℕ, List, Ok, Err}
 use Rattle.tt_kinds.specs.Label.{RecordLabel}
 use Rattle.tt_kinds.specs.Tree.{Depth, Tree}

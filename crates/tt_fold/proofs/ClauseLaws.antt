@@ -12,6 +12,7 @@ use Rattle.tt_kinds.specs.Kinds.{Form, param, bound, plain, under, relabelled, f
 use Rattle.tt_kinds.specs.declared.table.Table.{Table}
 use Rattle.tt_kinds.specs.declared.handle.Clause.{Clause}
 use Rattle.tt_interner.specs.Clauses.{is_clause_part, is_clause_inside, is_clause_tree, HasOther}
+use Rattle.tt_kinds.proofs.ForestLaws.{IsOfEach, list-each}
 use Rattle.tt_interner.specs.Rows.{Row, type_row, const_row, pat_row, predicate_row, existential_row, clauses_row, tys_row, consts_row, args_row, pats_row, vars_row, existentials_row, assumptions_row, text_row, declared_row, row_shape, table, size, meaning, AreRows, AreClauses, HoldsClauses}
 use Rattle.tt_interner.specs.Stored.{IsNoClauseList}
 use Rattle.tt_interner.proofs.RowLaws.{IsNewest, place_cases, meaning-old, meaning-new}
@@ -33,7 +34,7 @@ abbrev mutual
   KeepsClauses_all none = ⊤
   KeepsClauses_all (also t ts) = KeepsClauses t × KeepsClauses_all ts
 
--- what stands in such a tree is such a tree, and is no bad list
+-- the contents of such a tree are such trees, and is no bad list
 mutual
   stands-keeps : {u t : Tree Depth} → StandsIn u t → KeepsClauses t → KeepsClauses u
   stands-keeps itself h = h
@@ -52,7 +53,7 @@ no_bad_list _ h bad = bad
 pub never_bad : {u t : Tree Depth} → StandsIn u t → KeepsClauses t → IsNoClauseList u → ⊥
 never_bad {u} m h bad = no_bad_list u (stands-keeps m h) bad
 
--- where no bad list stands in a tree, it is such a tree
+-- where no bad list occurs in a tree, it is such a tree
 mutual
   pub keeps-fine : (t : Tree Depth) → ((u : Tree Depth) → StandsIn u t → IsNoClauseList u → ⊥) → KeepsClauses t
   keeps-fine (tree.param s i name) h = tt
@@ -120,6 +121,14 @@ shift-keeps_clause k n l ts h = rebuild-keeps_clause (shifted n) (λ k s i name.
 pub shift-keeps : (n : ℕ) (t : Tree Depth) → KeepsClauses t → KeepsClauses (shift_tree 0 n t)
 shift-keeps n t h = rebuild-keeps (shifted n) (λ k s i name. tree.param s i name) (λ k s i name. tt) 0 t h
 
+each-keeps : IsOfEach KeepsClauses_all KeepsClauses
+each-keeps = record {
+  nothing = tt;
+  first = λ t ts h. h.0;
+  others = λ t ts h. h.1;
+  more = λ t ts h hs. (h, hs);
+}
+
 -- the trees of shapes whose handles mean such trees
 module _ (size : Sizes) (f : Meaning) (good : (t : Table) (n : ℕ) → n < size t → KeepsClauses (f t n)) where
   mutual
@@ -133,6 +142,7 @@ module _ (size : Sizes) (f : Meaning) (good : (t : Table) (n : ℕ) → n < size
     part-keeps (shape.node l ss) p = parts-keep ss p.2
     part-keeps (shape.binder n s) p = part-keeps s p.1
     part-keeps (shape.stored t n) p = good t n p
+    part-keeps (shape.part_of t n e) p = list-each KeepsClauses_all KeepsClauses each-keeps (λ l ts h. h) e (f t n) (good t n p)
 
     parts-keep : (ss : Shapes) → AreParts size ss → KeepsClauses_all (fill_all f ss)
     parts-keep shape.none p = tt
@@ -147,6 +157,7 @@ module _ (size : Sizes) (f : Meaning) (good : (t : Table) (n : ℕ) → n < size
   row-keeps (shape.node l ss) p fine = parts-keep ss p.1
   row-keeps (shape.binder n s) p fine = absurd p
   row-keeps (shape.stored t n) p fine = absurd p
+  row-keeps (shape.part_of t n e) p fine = absurd p
 
 -- a stored list of clauses holds clauses alone, and no other row is such a list
 clauses_fine : (rows : List Row) (cs : List Clause) → AreClauses rows cs → HasOther (fill_all (meaning rows) (item_shapes clause_shape cs)) → ⊥

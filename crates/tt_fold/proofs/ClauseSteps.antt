@@ -1,4 +1,4 @@
--- The fold of a clause by itself, from that of its predicate.
+-- The fold of a clause by itself, from the fold of its predicate.
 use Rattle.std.proofs.Common.{inl, inr, ◌≡◌, ℕ, ◌<◌, List, Ok, Err, Bool, true, false, refl}
 use Rattle.std.specs.Prelude.{IsTrue, not}
 use Rattle.tt_kinds.specs.Label.{clause_label}
@@ -17,7 +17,7 @@ use Rattle.tt_fold.specs.Walk.{Errors, Hooks, Walks, at_node, done, next, Fails,
 use Rattle.tt_fold.specs.Counts.{Standing}
 use Rattle.tt_fold.specs.Steps.{Folds, IsPartOf, IsPartBy, tree_by}
 
--- the predicate that a clause is stands in it
+-- the predicate that a clause is occurs in it
 pub clause-inner : (rows : List Row) (c : Clause) (p : Predicate) → p.number ≡ c.number → IsPartOf rows (one_clause_shape c) → IsPartOf rows (predicate_shape p)
 clause-inner rows c p same h = rw same h.2.0
 

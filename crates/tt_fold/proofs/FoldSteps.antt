@@ -569,7 +569,7 @@ module _ {M E S : Type 0} {owned : Listed Row → S → Type 0} {means : Listed 
       outcome = MatchResult-weaker r f.outcome (λ y h. (h.0, walks_list (list_sort l) other h.1)) (λ e h. fails_list (list_sort l) other h);
     }
 
-    -- what stands in a list of clauses
+    -- the contents of a list of clauses
     pub clauses_fail : {terms terms1 : Terms} {s s1 : S} {c : Clauses} {e : E}
         → Folds owned means (IsListFor (list_is.Clauses c)) list_tree (WalksItems H sort_is.Clauses) (ItemsFail H errors sort_is.Clauses) terms s (list_is.Clauses c) (Err e) terms1 s1
         → Folds owned means (IsNodeFor (node_is.Clauses c)) node_tree (WalksInside H) (InsideFails H errors) terms s (node_is.Clauses c) (Err e) terms1 s1

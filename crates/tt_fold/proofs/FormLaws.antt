@@ -137,7 +137,7 @@ refilled-parts old rows s q (bound d e) n is b h = absurd is
 refilled-parts old rows s q (plain l p) n is b h = (n.named, h)
 refilled-parts old rows s q (under l vars m p) n is b h = (n.0.named, ((b, (refl, n.1.named, h)), tt))
 
--- what stands in a kind came before it
+-- the contents of a kind came before it
 child-older : (rows : List Row) (a : ℕ) (c : Child) (ss : Shapes) → AreOlder rows a (append (child_shapes c) ss) → child_weight rows c ≤ a
 child-older rows a child.Absent ss h = omega arith
 child-older rows a (child.Region r) ss h = omega arith

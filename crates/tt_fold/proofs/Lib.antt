@@ -24,7 +24,10 @@ pub mod PlaceLaws
 pub mod TaskLaws
 pub mod RememberLaws
 pub mod CountLaws
+mod NoteLaws
 pub mod MemoryLaws
+mod TypesOnceLaws
+mod TypesOnceSteps
 mod RegionFolderLaws
 mod RegionFolderSteps
 pub mod RegionAnswers

@@ -1,6 +1,6 @@
 -- What a folder's memory says of trees.
 use Rattle.std.proofs.Common.{MatchOption, ◌≡◌, ◌⊎◌, ℕ, ◌<◌, inl, inr, List, [], ◌∷◌, ◌++◌, map, Option, Some, None, Bool, true, false, cond, ◌&&◌, nat_eq, refl, sym, ap, ◌∙◌, arith}
-use Rattle.std.proofs.lemmas.Bool.{cases_Bool, eqb-true, eq-eqb}
+use Rattle.std.proofs.lemmas.Bool.{cases_Bool, eq-eqb}
 use Rattle.std.specs.Map.{lookup}
 use Rattle.indexmap.specs.IndexMap.{insert_entry}
 use Rattle.tt_kinds.specs.Count.{TypeAt}
@@ -17,21 +17,9 @@ use Rattle.tt_fold.specs.Remember.{Memo, State, Task, places, AfterTerm, noted, 
 use Rattle.tt_fold.specs.Memory.{place_of, same_place, type_at, memo_at, memos, OwnsMemos}
 use Rattle.tt_fold.specs.declared.memory.Place.{Place}
 pub use Rattle.tt_fold.specs.MemoryGrowth.{memos-still, OwnsMemos-still}
+use Rattle.tt_fold.proofs.NoteLaws.{same-place}
 use Rattle.tt_fold.proofs.PartLaws.{in_range, stored_tree}
 use Rattle.tt_fold.proofs.TypeLaws.{is-type}
-
--- the place at which an entry is found
-same-place : (p q : Place) → same_place p q ≡ true → p ≡ q
-same-place p q h = elim (cases_Bool (nat_eq p.ty.number q.ty.number)) [
-  | inl t ↦ at_type t
-  | inr other ↦ absurd (let no : false ≡ true = rw other at h in cc)
-]
-  where
-    at_type : nat_eq p.ty.number q.ty.number ≡ true → p ≡ q
-    at_type t =
-        let number : p.ty.number ≡ q.ty.number = eqb-true p.ty.number q.ty.number t in
-        let under : p.under ≡ q.under = eqb-true p.under q.under (rw t at h) in
-        ap (λ n. record { ty = record { number = n }; under = p.under }) number ∙ ap (λ k. record { ty = q.ty; under = k }) under
 
 found : (x y : Ty) (b : Bool) (rest : Option Ty) → cond b (Some x) rest ≡ Some y → ((b ≡ true) × (x ≡ y)) ⊎ (rest ≡ Some y)
 found x y true rest h = inl (refl, cc)

@@ -115,7 +115,7 @@ abbrev pub IsPlaceInside : TypeAt → ℕ → Tree Depth → Type 0
 IsPlaceInside p k (term l ts) = IsPlaceAmong p k ts
 IsPlaceInside p k _ = ⊥
 
--- a term doesn't stand inside itself
+-- a term doesn't occur inside itself
 pub inside-smaller : (k j : ℕ) (t : Tree Depth) → IsPlaceInside (record { standing = t; under = j }) k t → ⊥
 inside-smaller k j (term l ts) h = let le = size_all-place (record { standing = term l ts; under = j }) k ts h in omega arith
 inside-smaller k j (param s i name) h = h
@@ -132,7 +132,7 @@ place-inside p k (region r) h = absurd h
 place-inside p k (node l ts) h = absurd h
 place-inside p k (binder vs t) h = absurd h
 
--- a type that stands in a tree and passes the test of a list of its places is in the list
+-- a type that occurs in a tree and passes the test of a list of its places is in the list
 abbrev pub IsGeneric : Tree Depth → Type 0
 IsGeneric (term l ts) = (is_type l && holds_param_among ts) ≡ true
 IsGeneric _ = ⊥

@@ -1,4 +1,4 @@
--- The folds of records, from those of what stands in them.
+-- The folds of records, from the same of their contents.
 use Rattle.std.proofs.Common.{◌≡◌, ℕ, List, Ok, Err, refl}
 use Rattle.tt_kinds.specs.Label.{Name, RecordLabel, unsafe_binder_record, record_label}
 use Rattle.tt_kinds.specs.Shape as shape
@@ -23,7 +23,7 @@ pub record IsNameless (l : RecordLabel ℕ) : Type 0 where
   pub same : (f g : ℕ → Name) → rename_record f l ≡ rename_record g l
   pub named : (size : Sizes) → IsNamedRecord size l
 
--- what stands in records
+-- the contents of records
 pub one-inner : (rows : List Row) (l : RecordLabel ℕ) (s : Shape) → IsPartOf rows (one_record l s) → IsPartOf rows s
 one-inner rows l s h = h.2.0
 

@@ -104,7 +104,7 @@ pub none-flagged : (k : ℕ) (t : Tree Depth) (flags : ℕ) (b : Bool) → flags
 none-flagged k t flags b e none h = met-none k t (and_comm 0x260000 (scan t) ∙ ap (λ n. bit_and n 0x260000) (sym e) ∙ is_zero (bit_and flags 0x260000) b none h)
 
 module _ {F : Type 0} (step : F → RegionKind → ℕ → RegionKind → F → Type 0) where
-  -- where a folder stands
+  -- where a folder is
   abbrev pub asking_at : List Row → F → ℕ → Asking F
   asking_at rows f k = record { closure = f; under = k; names = names_in rows }
 
@@ -136,6 +136,7 @@ no_row rows (shape.term l ss) p h = cc
 no_row rows (shape.node l ss) p h = cc
 no_row rows (shape.binder n s) p h = p
 no_row rows (shape.stored t n) p h = p
+no_row rows (shape.part_of t n e) p h = p
 
 module _ (terms : Terms) (t : Tree Depth) (answers : List (Tree Depth)) where
   every_unbuilt : (r : Refusal) → IsUnbuilt terms (region static_region) r → IsPlacingRefusal terms t answers r

@@ -1,4 +1,4 @@
--- The folds of values that are not stored, from those of what stands in them.
+-- The folds of values that are not stored, from the same of their contents.
 use Rattle.std.proofs.Common.{◌≡◌, List, Result, Ok, Err, MatchResult}
 use Rattle.std.proofs.lemmas.Result.{MatchResult-weaker}
 use Rattle.tt_kinds.specs.Shape.{Shape, IsPart, fill}
@@ -16,7 +16,7 @@ use Rattle.tt_fold.specs.Parts.{node_tree, IsNodeFor}
 use Rattle.tt_fold.proofs.PartLaws.{vars-kept, vars-grow}
 use Rattle.tt_fold.proofs.FoldSteps.{region-is}
 
--- what stands in the values
+-- the contents of the values
 pub binder-has : {T : Type 0} (of_value : T → Shape) (rows : List Row) (x : Binder T) → IsPartBy (binder_shape of_value) rows x → HasVars rows x.bound_vars
 binder-has of_value rows x h = h.0
 

@@ -1,4 +1,4 @@
--- The folds of vectors, from those of their values.
+-- The folds of vectors, from the folds of their values.
 use Rattle.std.proofs.Common.{◌≡◌, List, [], ◌∷◌, ◌++◌, length, Ok, Err, refl, ap, sym, ◌∙◌, append_assoc, arith}
 use Rattle.std.proofs.lemmas.List.{append-nil}
 use Rattle.tt_kinds.specs.Label.{sequence_record, record_label}

@@ -8,6 +8,7 @@ pub mod Stands
 pub mod Places
 pub mod Remember
 pub mod Memory
+pub mod Notes
 pub mod Shift
 pub mod MemoryGrowth
 pub mod Parts
@@ -15,3 +16,4 @@ pub mod RegionFolder
 pub mod RegionFolderGrowth
 pub mod Regions
 pub mod Types
+pub mod TypesOnce

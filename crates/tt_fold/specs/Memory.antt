@@ -28,7 +28,7 @@ memo_at rows before k after = record { place = type_at rows before k; result = t
 abbrev pub memos : List Row → List (Place × Ty) → List Memo
 memos rows es = map (λ e. memo_at rows e.0.ty e.0.under e.1) es
 
--- the handles in what is remembered are those of the rows
+-- the handles in what is remembered name rows
 abbrev pub OwnsMemos : List Row → List (Place × Ty) → Type 0
 OwnsMemos rows [] = ⊤
 OwnsMemos rows (e ∷ es) = IsPartOf rows (ty_shape e.0.ty) × IsPartOf rows (ty_shape e.1) × OwnsMemos rows es

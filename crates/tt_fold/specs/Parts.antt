@@ -23,7 +23,7 @@ use Rattle.tt_fold.specs.Steps.{IsPartOf, tree_in, HasVars, vars_in}
 use Rattle.tt_fold.specs.declared.folder.Step.{Step}
 use Rattle.tt_fold.specs.declared.folder.Step.TheVariants as step
 
--- the handles in the shapes are those of the rows
+-- the handles in the shapes name rows
 abbrev pub ArePartsOf : Listed Row → Shapes → Type 0
 ArePartsOf rows ss = AreParts (size rows) ss
 

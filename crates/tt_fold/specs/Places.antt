@@ -21,7 +21,7 @@ pub record CountsPairs (among : List TypeAt) (before after : ℕ) : Type 0 where
   pub few : after ≤ before + length pairs
 
 abbrev mutual
-  -- a stored term, with the binders above it, is one of a tree that stands under k binders
+  -- a stored term, with the binders above it, is one of a tree under k binders
   pub IsPlaceIn : TypeAt → ℕ → Tree Depth → Type 0
   IsPlaceIn p k (param s i name) = ⊥
   IsPlaceIn p k (bound s d e) = ⊥

@@ -48,7 +48,7 @@ HasName symbols r = IsPart (λ t. symbols) (region_shape r)
 abbrev pub region_tree : (ℕ → Name) → RegionKind → Tree Depth
 region_tree names r = fill (λ t n. node (text_label (names n)) none) (region_shape r)
 
--- a call of the closure: a region, how many binders stand around it, and the answer
+-- a call of the closure: a region, how many binders enclose it, and the answer
 pub record RegionCall : Type 0 where
   pub region : RegionKind
   pub depth : ℕ
@@ -62,7 +62,7 @@ asked names calls = map (λ c. record { standing = region_tree names c.region; u
 abbrev pub answered : (ℕ → Name) → List RegionCall → List (Tree Depth)
 answered names calls = map (λ c. region_tree names c.answer) calls
 
--- where a folder of regions stands: its closure, how many binders it passed, and the texts of the symbols
+-- where a folder of regions is: its closure, how many binders it passed, and the texts of the symbols
 pub record Asking (F : Type 0) : Type 0 where
   pub closure : F
   pub under : ℕ
@@ -77,7 +77,7 @@ abbrev pub higher : {F : Type 0} → Asking F → Asking F
 higher s = record { closure = s.closure; under = s.under - 1; names = s.names }
 
 abbrev mutual
-  -- under k binders no more binders than the greatest index counts stand one under another
+  -- under k binders no more binders than the greatest index counts are nested
   pub BindersFit : ℕ → Tree Depth → Type 0
   BindersFit k (param s i name) = ⊤
   BindersFit k (bound s d e) = ⊤
@@ -91,7 +91,7 @@ abbrev mutual
   BindersFit_all k (also t ts) = BindersFit k t × BindersFit_all k ts
 
 -- Why a fold of the regions in a tree ended after these answers: the memory for something new was refused, a term or a list
--- that has the answers in it, whatever the next ones are, is new and its table is full, or binders stand too deep.
+-- that has the answers in it, whatever the next ones are, is new and its table is full, or binders are nested too deep.
 abbrev pub IsPlacingRefusal : Terms → Tree Depth → List (Tree Depth) → Refusal → Type 0
 IsPlacingRefusal terms t answers Memory = ⊤
 IsPlacingRefusal terms t answers TableFull =
@@ -115,7 +115,7 @@ module _ {F : Type 0} (step : F → RegionKind → ℕ → RegionKind → F → 
   pub record AnswersRegions (symbols : ℕ) (f : F) : Type 0 where
     pub at : (calls : List (RegionKind × ℕ)) → AnswersEach symbols f calls
 
-  -- the closure was asked about exactly the regions met in t, in order, and the answers stand in their places in u
+  -- the closure was asked about exactly the regions met in t, in order, and the answers are in their places in u
   pub record Places (names : ℕ → Name) (f : F) (t u : Tree Depth) : Type 0 where
     pub calls : List RegionCall
     pub last : F
@@ -132,7 +132,7 @@ module _ {F : Type 0} (step : F → RegionKind → ℕ → RegionKind → F → 
     pub are_first : asked names calls ++ rest ≡ met 0 t
     pub refused : IsPlacingRefusal terms t (answered names calls) e
 
-  -- the closure is asked about a region, and its answer stands there
+  -- the closure is asked about a region, and its answer takes its place
   pub record Asks (s : Asking F) (t r : Tree Depth) (s' : Asking F) : Type 0 where
     pub region : RegionKind
     pub answer : RegionKind
@@ -158,7 +158,7 @@ module _ {F : Type 0} (step : F → RegionKind → ℕ → RegionKind → F → 
     leave_fails = λ unbuilt s vs e s'. ⊥;
   }
 
-  -- where a folder of regions stands that was just made of the closure, beside the counts
+  -- where a folder of regions is that was just made of the closure, beside the counts
   abbrev pub just_made : (ℕ → Name) → F → Counters → Standing (Asking F)
   just_made names f counters = record { state = record { closure = f; under = 0; names = names }; counters = counters }
 

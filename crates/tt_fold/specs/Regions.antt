@@ -1,5 +1,5 @@
 -- What a folder does that answers regions alone.
-use Rattle.std.specs.Prelude.{◌≡◌}
+use Rattle.std.specs.Prelude.{◌≡◌, ⊤}
 use Rattle.tt_kinds.specs.Tree.{Depth, Tree}
 use Rattle.tt_fold.specs.Walk.{Hooks, descend}
 
@@ -9,6 +9,20 @@ pub record RegionHooks (M E : Type 0) : Type 1 where
   -- state, region, answer, state
   pub on_region : M → Tree Depth → Tree Depth → M → Type 0
   pub region_fails : (Tree Depth → E → Type 0) → M → Tree Depth → E → M → Type 0
+
+-- the hook of which nothing is promised
+abbrev pub no_promise : {M E : Type 0} → RegionHooks M E
+no_promise = record {
+  on_region = λ s t r s'. ⊤;
+  region_fails = λ unbuilt s t e s'. ⊤;
+}
+
+-- the hook that never fails: the relation holds of the state, the region and the answer, and the state stays
+abbrev pub never_fails : {M E : Type 0} → (M → Tree Depth → Tree Depth → Type 0) → RegionHooks M E
+never_fails R = record {
+  on_region = λ s t r s'. R s t r × (s' ≡ s);
+  region_fails = λ unbuilt s t e s'. ⊥;
+}
 
 -- the hooks of a folder that enters each term, keeps what was built again, and passes binders with its state as it was
 abbrev pub only_regions : {M E : Type 0} → RegionHooks M E → Hooks M E

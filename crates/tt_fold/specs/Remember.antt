@@ -77,7 +77,7 @@ pub record Task (R K : Type 0) : Type 1 where
   pub parameter : R → ℕ → Sort → ℕ → Name → Tree Depth
   -- what else holds of a tree that isn't refused
   pub Allows : R → Tree Depth → Type 0
-  -- what stands in the term is met
+  -- the contents of the term are met
   pub IsEntered : R → ℕ → Tree Depth → Type 0
   -- the type has to be taken apart, if it isn't remembered
   pub IsTodo : R → ℕ → Tree Depth → Type 0
@@ -107,7 +107,7 @@ module _ {R K : Type 0} (T : Task R K) where
     pub plain : r ≡ made q k t
     pub allows : T.Allows q t
 
-  -- the tree is that of a type with parts that has to be taken apart
+  -- the tree is a type with parts that has to be taken apart
   abbrev pub IsTaken : R → ℕ → Tree Depth → Type 0
   IsTaken q k (param s i name) = ⊥
   IsTaken q k (bound s d e) = ⊥

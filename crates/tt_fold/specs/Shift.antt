@@ -91,11 +91,11 @@ pub record IsShiftedRegion (f : Meaning) (n : ℕ) (region shifted : RegionKind)
 abbrev pub shift_state : ℕ → ℕ → List Row → List (Place × Ty) → State ℕ ⊤
 shift_state n k rows es = record { rule = n; under = k; kept = tt; memory = memos rows es }
 
--- how much is added where the shifter stands
+-- how much is added where the shifter is
 abbrev pub shift_of : State ℕ ⊤ → Shift
 shift_of s = record { amount = s.rule; under = s.under }
 
--- the tree where the shifter stands, moved
+-- the tree where the shifter is, moved
 abbrev pub moved_tree : Shift → Tree Depth → Tree Depth
 moved_tree s t = shift_tree s.under s.amount t
 
@@ -103,7 +103,7 @@ moved_tree s t = shift_tree s.under s.amount t
 abbrev pub IsTooFar : Shift → Tree Depth → Type 0
 IsTooFar s t = FitsUnder s.under (read s.under (moved_tree s t)) → ⊥
 
--- the tree is that of a bound variable
+-- the tree is a bound variable
 abbrev pub IsVariable : Tree Depth → Type 0
 IsVariable (bound s d e) = ⊤
 IsVariable _ = ⊥
@@ -122,7 +122,7 @@ abbrev pub IsTooGreat : Refusal → Type 0 → Type 0
 IsTooGreat e cause = (e ≡ GreatestIndex) × cause
 
 -- The shifter's task by an amount: a bound variable is moved at once, a term of which nothing is bound outside of the binders
--- that were passed stays, and what stands in other terms is met.
+-- that were passed stays, and the contents of other terms are met.
 abbrev pub shifting : Task ℕ ⊤
 shifting = record {
   index = shifted;
@@ -139,7 +139,7 @@ shifting = record {
   Rises = ShiftsCount;
 }
 
--- how many places a tree has where a type stands that has a variable to be shifted
+-- at how many places of a tree a type occurs that has a variable to be shifted
 abbrev pub moving_positions : Tree Depth → ℕ
 moving_positions t = length (moving_types 0 t)
 

@@ -1,4 +1,4 @@
--- What stands in a tree, and what of it is not built.
+-- What occurs in a tree, and what of it is not built.
 use Rattle.std.specs.Prelude.{List}
 use Rattle.tt_index.specs.declared.refusal.Refusal.{Refusal}
 use Rattle.tt_kinds.specs.Label.{Name, VarKind, Label}
@@ -7,18 +7,18 @@ use Rattle.tt_interner.specs.Stored.{Terms, IsUnbuilt}
 
 module _ (u : Tree Depth) where
   mutual
-    -- the tree u is the other tree, or stands in a child of it or under its binder
+    -- the tree u is the other tree, or occurs in a child of it or under its binder
     pub data StandsIn : Tree Depth → Type 0 where
       itself : StandsIn u
       in_term : {l : Label Name} {ts : Forest Depth} → StandsAmong ts → StandsIn (term l ts)
       in_node : {l : Label Name} {ts : Forest Depth} → StandsAmong ts → StandsIn (node l ts)
       in_binder : {vs : List (VarKind Name)} {t : Tree Depth} → StandsIn t → StandsIn (binder vs t)
 
-    -- it stands in one of the trees
+    -- it occurs in one of the trees
     pub data StandsAmong : Forest Depth → Type 0 where
       in_first : {t : Tree Depth} {ts : Forest Depth} → StandsIn t → StandsAmong (also t ts)
       in_later : {t : Tree Depth} {ts : Forest Depth} → StandsAmong ts → StandsAmong (also t ts)
 
--- a term or a list that stands in the tree is not stored, for this reason
+-- a term or a list that occurs in the tree is not stored, for this reason
 abbrev pub IsPartUnbuilt : Terms → Tree Depth → Refusal → Type 0
 IsPartUnbuilt terms t e = (u : Tree Depth) × StandsIn u t × IsUnbuilt terms u e

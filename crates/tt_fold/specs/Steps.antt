@@ -16,7 +16,7 @@ use Rattle.tt_fold.specs.Counts.{Standing, stands}
 use Rattle.tt_fold.specs.declared.folder.Step.{Step}
 use Rattle.tt_fold.specs.declared.folder.Step.TheVariants as step
 
--- the handles in the shape are those of the rows
+-- the handles in the shape name rows
 abbrev pub IsPartOf : List Row → Shape → Type 0
 IsPartOf rows s = IsPart (size rows) s
 
@@ -81,14 +81,14 @@ module _ {M E S : Type 0} (means : List Row → S → M) (H : Hooks (Standing M)
       × H.on_region (stands means terms s) (tree_in terms.rows (region_shape x)) (tree_in terms'.rows (region_shape y)) (stands means terms' s'))
       (λ e. H.region_fails (IsErrorOfUnbuilt gives terms') (stands means terms s) (tree_in terms.rows (region_shape x)) e (stands means terms' s'))
 
-  -- at a term, before what stands in it
+  -- at a term, before its contents
   abbrev pub AnswersTerm : {T : Type 0} → (T → Shape) → Terms → S → T → Result (Step T) E → Terms → S → Type 0
   AnswersTerm shape terms s x r terms' s' = MatchResult r
       (λ step. OwnsStep shape terms'.rows step
       × H.on_term (stands means terms s) (tree_in terms.rows (shape x)) (answer_of shape terms'.rows step) (stands means terms' s'))
       (λ e. H.term_fails (IsErrorOfUnbuilt gives terms') (stands means terms s) (tree_in terms.rows (shape x)) e (stands means terms' s'))
 
-  -- at the term x, after what stands in it: z is x with the results for what stands in it
+  -- at the term x, after its contents: z is x with the results for its contents
   abbrev pub RebuildsTerm : {T : Type 0} → (T → Shape) → Terms → S → T → T → Result T E → Terms → S → Type 0
   RebuildsTerm shape terms s x z r terms' s' = MatchResult r
       (λ y. IsPartOf terms'.rows (shape y)

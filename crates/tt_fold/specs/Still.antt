@@ -9,7 +9,7 @@ use Rattle.tt_fold.specs.Walk.{descend, Hooks}
 use Rattle.tt_fold.specs.Counts.{Standing, stands}
 use Rattle.tt_fold.specs.Steps.{tree_in}
 
--- the shape is that of one region, or of one stored term that has a hook
+-- the shape is one region, or one stored term that has a hook
 abbrev pub IsAlone : Shape → Type 0
 IsAlone (param s i name) = ⊤
 IsAlone (bound s d e) = ⊤
@@ -22,7 +22,7 @@ pub record EndsAt {M E : Type 0} (H : Hooks M E) (touches_nothing : Tree Depth �
   pub ends : (s' : M) → H.on_term s t descend s' → ⊥
   pub still : touches_nothing t
 
--- where the shape is that of one region or one term, and the walk ends at it, the terms stay as they are
+-- where the shape is one region or one term, and the walk ends at it, the terms stay as they are
 abbrev pub StaysStill : {M E S : Type 0} → Hooks (Standing M) E → (List Row → S → Tree Depth → Type 0) → (List Row → S → M) → Shape → Terms → S → Terms → Type 0
 StaysStill H touches_nothing means shape terms s terms' =
     IsAlone shape → EndsAt H (touches_nothing terms.rows s) (stands means terms s) (tree_in terms.rows shape) → terms' ≡ terms

@@ -1,5 +1,5 @@
 -- What a folder does that answers types alone.
-use Rattle.std.specs.Prelude.{◌≡◌, List, Result, MatchResult, true, false}
+use Rattle.std.specs.Prelude.{◌≡◌, List, Result, MatchResult, true, false, ⊤}
 use Rattle.tt_index.specs.declared.refusal.Refusal.{Refusal}
 use Rattle.tt_kinds.specs.Tree.{Depth, Tree}
 use Rattle.tt_kinds.specs.Kinds.{ty_shape}
@@ -17,6 +17,20 @@ pub record TypeHooks (M E : Type 0) : Type 1 where
   -- state, type, answer, state
   pub on_type : M → Tree Depth → Answer → M → Type 0
   pub type_fails : (Tree Depth → E → Type 0) → M → Tree Depth → E → M → Type 0
+
+-- the hook of which nothing is promised
+abbrev pub no_promise : {M E : Type 0} → TypeHooks M E
+no_promise = record {
+  on_type = λ s t a s'. ⊤;
+  type_fails = λ unbuilt s t e s'. ⊤;
+}
+
+-- the hook that never fails: the relation holds of the state, the type and the answer, and the state stays
+abbrev pub never_fails : {M E : Type 0} → (M → Tree Depth → Answer → Type 0) → TypeHooks M E
+never_fails R = record {
+  on_type = λ s t a s'. R s t a × (s' ≡ s);
+  type_fails = λ unbuilt s t e s'. ⊥;
+}
 
 -- the hooks of a folder that answers types, keeps regions and what was built again, enters other terms, and passes binders with
 -- its state as it was

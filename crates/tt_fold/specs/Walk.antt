@@ -28,15 +28,15 @@ is_type_tree (binder vs t) = false
 abbrev pub IsRegion : Tree Depth → Type 0
 IsRegion t = root t ≡ a_region
 
--- the tree is that of a stored term at which a hook is asked
+-- the tree is a stored term at which a hook is asked
 abbrev pub IsTerm : Tree Depth → Type 0
 IsTerm t = root t ≡ hooked
 
--- the tree is that of a stored term at which no hook is asked
+-- the tree is a stored term at which no hook is asked
 abbrev pub IsPassed : Tree Depth → Type 0
 IsPassed t = root t ≡ unhooked
 
--- what has to come of trees in order: any trees, or those of clauses alone
+-- what has to come of trees in order: any trees, or clauses alone
 pub data Wanted : Type 0 where
   any_trees : Wanted
   clause_trees : Wanted
@@ -118,7 +118,7 @@ pub record Errors (E : Type 0) : Type 1 where
   -- what came of an item, or of a clause by itself, is not what has to come
   pub unwanted : E → Type 0
 
--- The walk ends with an error and in a state. The error is that of a hook, or says that a tree was not built: the tree that was
+-- The walk ends with an error and in a state. The error is a hook's, or says which tree was not built: the tree that was
 -- to be stored, or every tree where the memory for a list's items was refused. Or it says that no clause came of an item of a
 -- list of clauses, or of a clause by itself.
 module _ {M E : Type 0} (H : Hooks M E) (errors : Errors E) where
@@ -147,7 +147,7 @@ module _ {M E : Type 0} (H : Hooks M E) (errors : Errors E) where
       after_failed : {s s1 s_end : M} {t u : Tree Depth} {e : E}
           → WalksInside H s t u s1 → H.after_fails errors.unbuilt s1 t u e s_end → DescentFails s t e s_end
 
-    -- what stands in a term was not folded, or the term was not built again from it
+    -- the contents of a term were not folded, or the term was not built again from it
     pub data InsideFails : M → Tree Depth → E → M → Type 0 where
       in_term_failed : {s s_end : M} {l : Label Name} {ts : Forest Depth} {e : E} → FailsAll (wanted_in l) s ts e s_end → InsideFails s (term l ts) e s_end
       not_built : {s s1 : M} {t u : Tree Depth} {e : E} → WalksInside H s t u s1 → errors.unbuilt u e → InsideFails s t e s1

@@ -2,7 +2,11 @@
 
 use crate::shared::ClonesTree;
 use std::alloc::Global;
-use tt_index::{BoundVar, DebruijnIndex, Mutability, Refusal, Safety, UniverseIndex, Variance};
+use tt_index::{
+    BoundVar, ClosureKind, ConstVid, DebruijnIndex, ExternAbi, FieldIdx, FloatTy, FloatVid, IntTy,
+    IntVid, Mutability, Refusal, RegionVid, Safety, TyVid, UintTy, UniverseIndex, Variance,
+    VariantIdx,
+};
 use tt_kinds::{
     AliasRelationDirection, AliasTerm, AliasTy, BoundVarIndexKind, Clause, ClauseKind,
     CoercePredicate, ConstKind, CoroutineWitnessTypes, ErrorGuaranteed, ExistentialPredicate,
@@ -273,6 +277,78 @@ impl ClonesTree for Safety {
 
 impl ClonesTree for Variance {
     fn clone_tree(&self, _alloc: Global) -> Result<Variance, Refusal> {
+        Ok(*self)
+    }
+}
+
+impl ClonesTree for FieldIdx {
+    fn clone_tree(&self, _alloc: Global) -> Result<FieldIdx, Refusal> {
+        Ok(*self)
+    }
+}
+
+impl ClonesTree for VariantIdx {
+    fn clone_tree(&self, _alloc: Global) -> Result<VariantIdx, Refusal> {
+        Ok(*self)
+    }
+}
+
+impl ClonesTree for RegionVid {
+    fn clone_tree(&self, _alloc: Global) -> Result<RegionVid, Refusal> {
+        Ok(*self)
+    }
+}
+
+impl ClonesTree for TyVid {
+    fn clone_tree(&self, _alloc: Global) -> Result<TyVid, Refusal> {
+        Ok(*self)
+    }
+}
+
+impl ClonesTree for IntVid {
+    fn clone_tree(&self, _alloc: Global) -> Result<IntVid, Refusal> {
+        Ok(*self)
+    }
+}
+
+impl ClonesTree for FloatVid {
+    fn clone_tree(&self, _alloc: Global) -> Result<FloatVid, Refusal> {
+        Ok(*self)
+    }
+}
+
+impl ClonesTree for ConstVid {
+    fn clone_tree(&self, _alloc: Global) -> Result<ConstVid, Refusal> {
+        Ok(*self)
+    }
+}
+
+impl ClonesTree for ClosureKind {
+    fn clone_tree(&self, _alloc: Global) -> Result<ClosureKind, Refusal> {
+        Ok(*self)
+    }
+}
+
+impl ClonesTree for ExternAbi {
+    fn clone_tree(&self, _alloc: Global) -> Result<ExternAbi, Refusal> {
+        Ok(*self)
+    }
+}
+
+impl ClonesTree for IntTy {
+    fn clone_tree(&self, _alloc: Global) -> Result<IntTy, Refusal> {
+        Ok(*self)
+    }
+}
+
+impl ClonesTree for UintTy {
+    fn clone_tree(&self, _alloc: Global) -> Result<UintTy, Refusal> {
+        Ok(*self)
+    }
+}
+
+impl ClonesTree for FloatTy {
+    fn clone_tree(&self, _alloc: Global) -> Result<FloatTy, Refusal> {
         Ok(*self)
     }
 }

@@ -40,12 +40,13 @@ pub trait Core<M> {
     ghost Meaning: { Type 0 };
 
     ghost meaning: { List Row → Self → Self.Meaning };
-    // The state's handles are those of the rows.
+    // Each handle of the state names one of the rows.
     ghost owned: { List Row → Self → Type 0 };
 
     // What the hooks do.
     ghost hooks: { Hooks (Standing Self.Meaning) Self.Error };
-    // At which trees the hooks leave the terms as they are, among rows and in a state: at none, where a folder doesn't say.
+    // At which trees the hooks leave the terms as they are, among rows and in a state: at none, where a folder
+    // doesn't say.
     ghost touches_nothing: { List Row → Self → Tree Depth → Type 0 } = { λ rows s t. ⊥ };
 
     /// At a region.
@@ -59,7 +60,7 @@ pub trait Core<M> {
         ensures result { AnswersRegion meaning hooks Self.Error.from_gives
             cx.old self.old region result cx.new self.new };
 
-    /// At a stored term that has a hook, before what stands in it.
+    /// At a stored term that has a hook, before its contents.
     #[inline(always)]
     fn core_term(&mut self, cx: &mut Interner, node: Node) -> Result<Step<Node>, Self::Error>
         requires owned { owned cx.old.rows self.old }
@@ -77,7 +78,7 @@ pub trait Core<M> {
             s')
             cx.old self.old result cx.new self.new };
 
-    /// At a stored term that has a hook, after what stands in it.
+    /// At a stored term that has a hook, after its contents.
     #[inline(always)]
     fn core_after_term(
         &mut self,

@@ -7,7 +7,10 @@ ghost use Rattle.tt_fold.specs.Walk.{Fails, Walks};
 
 use crate::core_folder::Core;
 use crate::foldable::TypeFoldable;
-use tt_index::{BoundVar, DebruijnIndex, Mutability, Safety, UniverseIndex, Variance};
+use tt_index::{
+    BoundVar, ClosureKind, ConstVid, DebruijnIndex, ExternAbi, FieldIdx, FloatTy, FloatVid, IntTy,
+    IntVid, Mutability, RegionVid, Safety, TyVid, UintTy, UniverseIndex, Variance, VariantIdx,
+};
 use tt_interner::Interner;
 use tt_kinds::{
     AliasRelationDirection, BoundVarIndexKind, PlaceholderConst, PlaceholderRegion, PlaceholderType,
@@ -137,6 +140,126 @@ impl TypeFoldable for Variance {
         cx: &mut Interner,
         folder: &mut F,
     ) -> Result<Variance, F::Error> {
+        fold_data::<Self, M, F>(self, cx, folder)
+    }
+}
+
+impl TypeFoldable for FieldIdx {
+    fn fold_core<M, F: Core<M>>(
+        self,
+        cx: &mut Interner,
+        folder: &mut F,
+    ) -> Result<FieldIdx, F::Error> {
+        fold_data::<Self, M, F>(self, cx, folder)
+    }
+}
+
+impl TypeFoldable for VariantIdx {
+    fn fold_core<M, F: Core<M>>(
+        self,
+        cx: &mut Interner,
+        folder: &mut F,
+    ) -> Result<VariantIdx, F::Error> {
+        fold_data::<Self, M, F>(self, cx, folder)
+    }
+}
+
+impl TypeFoldable for RegionVid {
+    fn fold_core<M, F: Core<M>>(
+        self,
+        cx: &mut Interner,
+        folder: &mut F,
+    ) -> Result<RegionVid, F::Error> {
+        fold_data::<Self, M, F>(self, cx, folder)
+    }
+}
+
+impl TypeFoldable for TyVid {
+    fn fold_core<M, F: Core<M>>(
+        self,
+        cx: &mut Interner,
+        folder: &mut F,
+    ) -> Result<TyVid, F::Error> {
+        fold_data::<Self, M, F>(self, cx, folder)
+    }
+}
+
+impl TypeFoldable for IntVid {
+    fn fold_core<M, F: Core<M>>(
+        self,
+        cx: &mut Interner,
+        folder: &mut F,
+    ) -> Result<IntVid, F::Error> {
+        fold_data::<Self, M, F>(self, cx, folder)
+    }
+}
+
+impl TypeFoldable for FloatVid {
+    fn fold_core<M, F: Core<M>>(
+        self,
+        cx: &mut Interner,
+        folder: &mut F,
+    ) -> Result<FloatVid, F::Error> {
+        fold_data::<Self, M, F>(self, cx, folder)
+    }
+}
+
+impl TypeFoldable for ConstVid {
+    fn fold_core<M, F: Core<M>>(
+        self,
+        cx: &mut Interner,
+        folder: &mut F,
+    ) -> Result<ConstVid, F::Error> {
+        fold_data::<Self, M, F>(self, cx, folder)
+    }
+}
+
+impl TypeFoldable for ClosureKind {
+    fn fold_core<M, F: Core<M>>(
+        self,
+        cx: &mut Interner,
+        folder: &mut F,
+    ) -> Result<ClosureKind, F::Error> {
+        fold_data::<Self, M, F>(self, cx, folder)
+    }
+}
+
+impl TypeFoldable for ExternAbi {
+    fn fold_core<M, F: Core<M>>(
+        self,
+        cx: &mut Interner,
+        folder: &mut F,
+    ) -> Result<ExternAbi, F::Error> {
+        fold_data::<Self, M, F>(self, cx, folder)
+    }
+}
+
+impl TypeFoldable for IntTy {
+    fn fold_core<M, F: Core<M>>(
+        self,
+        cx: &mut Interner,
+        folder: &mut F,
+    ) -> Result<IntTy, F::Error> {
+        fold_data::<Self, M, F>(self, cx, folder)
+    }
+}
+
+impl TypeFoldable for UintTy {
+    fn fold_core<M, F: Core<M>>(
+        self,
+        cx: &mut Interner,
+        folder: &mut F,
+    ) -> Result<UintTy, F::Error> {
+        fold_data::<Self, M, F>(self, cx, folder)
+    }
+}
+
+impl TypeFoldable for FloatTy {
+    fn fold_core<M, F: Core<M>>(
+        self,
+        cx: &mut Interner,
+        folder: &mut F,
+    ) -> Result<FloatTy, F::Error> {
         fold_data::<Self, M, F>(self, cx, folder)
     }
 }

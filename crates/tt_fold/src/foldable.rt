@@ -24,7 +24,7 @@ pub trait TypeFoldable: TypeVisitable + Drop + Sized {
             cx.old folder.old self result cx.new folder.new };
 
     /// Returns the value with what the folder answers in the places of its regions, types, constants, predicates and
-    /// lists of clauses, which are met in order, each before what stands in it. The first refusal ends the fold; so
+    /// lists of clauses, which are met in order, each before its contents. The first refusal ends the fold; so
     /// does one to build what the answers ask for, with `Memory` or with `TableFull`. Where no clause came of an item
     /// of a list of clauses, or of a clause by itself, the fold ends with `NotAClause` at it, and no later hook is
     /// called.
@@ -62,7 +62,7 @@ pub trait TypeFoldable: TypeVisitable + Drop + Sized {
 
 /// A value at which a folder's own hooks are asked, and that can be folded without them.
 pub trait TypeSuperFoldable: TypeFoldable {
-    /// Returns the fold of what stands in the value by a folder of either trait. Types implement it; callers call
+    /// Returns the fold of the value's contents by a folder of either trait. Types implement it; callers call
     /// [`TypeSuperFoldable::super_fold_with`] or [`TypeSuperFoldable::try_super_fold_with`].
     fn super_fold_core<M, F: Core<M>>(
         self,
@@ -75,7 +75,7 @@ pub trait TypeSuperFoldable: TypeFoldable {
             (SuperWalks F.hooks) (SuperFails F.hooks (errors_of F.Error.from_gives cx.new))
             cx.old folder.old self result cx.new folder.new };
 
-    /// Returns the value with what stands in it folded, where the hooks at the value itself are not asked: those of a
+    /// Returns the value with its contents folded, where the hooks at the value itself are not asked: the hooks of a
     /// stored term, or those before and after a binder's value.
     final fn super_fold_with<F: TypeFolder>(
         self,

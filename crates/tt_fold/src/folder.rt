@@ -25,10 +25,10 @@ use tt_index::Refusal;
 use tt_interner::Interner;
 use tt_kinds::{BoundVarKinds, Clauses, Const, Predicate, Region, Ty};
 
-/// What a folder's hook answers at a type, a constant, a predicate or a list of clauses, before what stands in it.
+/// What a folder's hook answers at a type, a constant, a predicate or a list of clauses, before its contents.
 #[derive(Clone, Copy, Debug, PartialEq, Eq)]
 pub enum Step<T> {
-    /// This term stands in the place of the one that the hook met, and the walk does not enter it.
+    /// This term takes the place of the one that the hook met, and the walk does not enter it.
     Replace(T),
     /// The term stays, and the walk does not enter it.
     Keep,
@@ -38,20 +38,21 @@ pub enum Step<T> {
 
 /// A folder whose only errors are refusals.
 ///
-/// A folder meets each region, each type, constant, predicate and list of clauses, and each binder of the value that it folds,
-/// in order, and says what stands in their places. Patterns, existential predicates, other lists and records are passed: what
-/// stands in them is met. Each method has to be written: a default body could promise nothing exact.
+/// A folder meets each region, each type, constant, predicate and list of clauses, and each binder of the value that
+/// it folds, in order, and says what takes their places. Patterns, existential predicates, other lists and records
+/// are passed, and their contents are met. Each method has to be written: a default body could promise nothing exact.
 pub trait TypeFolder {
     // What a state means, with the handles in it as their trees.
     ghost Meaning: { Type 0 };
 
     ghost meaning: { List Row → Self → Self.Meaning };
-    // The state's handles are those of the rows.
+    // Each handle of the state names one of the rows.
     ghost owned: { List Row → Self → Type 0 };
 
     // What the hooks do.
     ghost hooks: { Hooks (Standing Self.Meaning) Refusal };
-    // At which trees the hooks leave the terms as they are, among rows and in a state: at none, where a folder doesn't say.
+    // At which trees the hooks leave the terms as they are, among rows and in a state: at none, where a folder
+    // doesn't say.
     ghost touches_nothing: { List Row → Self → Tree Depth → Type 0 } = { λ rows s t. ⊥ };
 
     /// Called at each region: returns what takes its place.
@@ -194,7 +195,7 @@ pub trait TypeFolder {
         → meaning new s ≡ meaning old s };
 }
 
-/// A folder with errors of its own. Its methods are those of [`TypeFolder`].
+/// A folder with errors of its own. It has the methods of [`TypeFolder`].
 pub trait FallibleTypeFolder {
     /// What the folder fails with.
     type Error: From<Refusal> + Drop;
@@ -203,12 +204,13 @@ pub trait FallibleTypeFolder {
     ghost Meaning: { Type 0 };
 
     ghost meaning: { List Row → Self → Self.Meaning };
-    // The state's handles are those of the rows.
+    // Each handle of the state names one of the rows.
     ghost owned: { List Row → Self → Type 0 };
 
     // What the hooks do.
     ghost hooks: { Hooks (Standing Self.Meaning) Self.Error };
-    // At which trees the hooks leave the terms as they are, among rows and in a state: at none, where a folder doesn't say.
+    // At which trees the hooks leave the terms as they are, among rows and in a state: at none, where a folder
+    // doesn't say.
     ghost touches_nothing: { List Row → Self → Tree Depth → Type 0 } = { λ rows s t. ⊥ };
 
     /// Called at each region: returns what takes its place.

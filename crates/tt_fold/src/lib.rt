@@ -21,6 +21,7 @@ mod shared;
 pub mod shift;
 mod step_of_node;
 pub mod type_replacer;
+mod types_once;
 mod walk;
 
 pub use foldable::{TypeFoldable, TypeSuperFoldable};
@@ -31,3 +32,4 @@ pub use region_replacer::{RegionReplacer, replace_regions};
 pub use shared::ClonesTree;
 pub use shift::{shift_region, shift_vars};
 pub use type_replacer::{TypeReplacer, replace_types};
+pub use types_once::replace_types_once;

@@ -1,15 +1,17 @@
 //! What a folder remembers: what came of types, each under a number of binders.
 
-ghost use Rattle.std.specs.Prelude.{◌≡◌, [], IfErr, OnOk, OnErr, MatchOption};
+ghost use Rattle.std.specs.Prelude.{◌≡◌, ◌<◌, [], length, position, IfOk, IfErr, IsOk, OnOk, OnErr, MatchOption};
 ghost use Rattle.std.specs.Map.{lookup};
-ghost use Rattle.indexmap.specs.IndexMap.{insert_entry};
+ghost use Rattle.indexmap.specs.IndexMap.{insert_all, insert_entry};
 ghost use Rattle.tt_kinds.specs.Kinds.{ty_shape};
 ghost use Rattle.tt_fold.specs.Steps.{IsPartOf};
 ghost use Rattle.tt_fold.specs.Places.{IsIn};
 ghost use Rattle.tt_fold.specs.Remember.{places};
 ghost use Rattle.tt_fold.specs.Memory.{place_of, same_place, type_at, memo_at, memos, OwnsMemos};
+ghost use Rattle.tt_fold.specs.Notes.{entries_of};
 
 use indexmap::IndexMap;
+use smallvec::SmallVec;
 use std::alloc::Global;
 use std::marker::Model;
 use tt_index::Refusal;
@@ -23,10 +25,35 @@ pub struct Place {
     under: u32,
 }
 
-/// What came of types, each under the number of binders that stood around it.
+// What came of a type under a number of binders.
+#[derive(Clone, Copy)]
+struct Note {
+    place: Place,
+    after: Ty,
+}
+
+// A small vector keeps the default in its unused places.
+impl Default for Note {
+    fn default() -> Note {
+        let ty = Ty::from_number(0);
+        Note {
+            place: Place { ty, under: 0 },
+            after: ty,
+        }
+    }
+}
+
+// Few notes are kept in place, and looked up in turn. Where they don't fit, a map has all of them, from then on.
+#[derive(Drop)]
+enum Notes {
+    Few(SmallVec<Note, 8>),
+    Many(IndexMap<Place, Ty>),
+}
+
+/// What came of types, each with the number of binders that enclosed it.
 #[derive(Drop)]
 pub struct Memory {
-    results: IndexMap<Place, Ty>,
+    notes: Notes,
 }
 
 impl Model for Memory {
@@ -36,16 +63,39 @@ impl Model for Memory {
 
     ghost Value = { List (Place × Ty) };
 
-    ghost view = { λ m. m.results.entries };
+    ghost use Rattle.tt_fold.specs.Notes.{AreNotes, noted_entries};
+
+    ghost view = { λ m. noted_entries m.notes };
+
+    ghost invariant = { λ m. AreNotes m.notes };
+}
+
+// Returns where the place is among the notes, if it is.
+fn position_of(notes: &[Note], place: Place) -> Option<usize>
+    ensures { result ≡ position (λ note. same_place place note.place) notes.now }
+{
+    notes.iter().position(|note| place == note.place)
+}
+
+// Returns a map of the notes.
+fn map_of(alloc: Global, notes: &[Note]) -> Result<IndexMap<Place, Ty>, Refusal>
+    ensures ok { IfOk result (λ m. m.entries ≡ insert_all same_place [] (entries_of notes.now)) }
+    ensures err { IfErr result (λ e. e ≡ Refusal.Memory) }
+{
+    let mut entries = IndexMap::with_capacity(alloc, 2 * notes.len())?;
+    for note in notes {
+        entries.insert(note.place, note.after)?;
+    }
+    Ok(entries)
 }
 
 impl Memory {
-    /// Returns a memory of nothing. It takes no room until something is noted.
+    /// Returns a memory of nothing. It takes no memory from the allocator until more than eight places are noted.
     pub fn new(alloc: Global) -> Memory
         ensures { result ≡ [] }
     {
         Memory {
-            results: IndexMap::new(alloc),
+            notes: Notes::Few(SmallVec::new(alloc)),
         }
     }
 
@@ -53,22 +103,49 @@ impl Memory {
     pub fn recall(&self, ty: Ty, under: u32) -> Option<Ty>
         ensures { result ≡ lookup (same_place (place_of ty under)) self.now }
     {
-        match self.results.get(&Place { ty, under }) {
-            Some(after) => Some(*after),
-            None => None,
+        let place = Place { ty, under };
+        match &self.notes {
+            Notes::Few(few) => match position_of(few.as_slice(), place) {
+                Some(i) => Some(few[i].after),
+                None => None,
+            },
+            Notes::Many(many) => match many.get(&place) {
+                Some(after) => Some(*after),
+                None => None,
+            },
         }
     }
 
     /// Remembers what came of a type under so many binders, in place of what was remembered of it. Where it is refused,
-    /// which it is for want of memory alone, nothing changes.
+    /// which it is for want of memory alone, nothing changes. It never is where fewer than eight places are remembered.
     pub fn note(&mut self, before: Ty, under: u32, after: Ty) -> Result<(), Refusal>
         ensures ok { OnOk result (self.new ≡ insert_entry same_place self.old (place_of before under) after) }
         ensures err { IfErr result (λ e. e ≡ Refusal.Memory) }
         ensures stays { OnErr result (self.new ≡ self.old) }
+        ensures succeeds { length self.old < 8 → IsOk result }
     {
-        match self.results.insert(Place { ty: before, under }, after) {
-            Ok(_) => Ok(()),
-            Err(_) => Err(Refusal::Memory),
+        let place = Place { ty: before, under };
+        match &mut self.notes {
+            Notes::Few(few) => match position_of(few.as_slice(), place) {
+                Some(i) => {
+                    few[i].after = after;
+                    Ok(())
+                }
+                None if few.len() < few.capacity() => {
+                    few.push_reserved(Note { place, after });
+                    Ok(())
+                }
+                None => {
+                    let mut many = map_of(*few.allocator(), few.as_slice())?;
+                    many.insert(place, after)?;
+                    self.notes = Notes::Many(many);
+                    Ok(())
+                }
+            },
+            Notes::Many(many) => {
+                many.insert(place, after)?;
+                Ok(())
+            }
         }
     }
 }

@@ -26,15 +26,16 @@ use tt_kinds::{
 };
 use tt_visit::TypeVisitableExt;
 
-/// Asks a closure about each region of a value that the value doesn't bind itself, with the number of binders passed, and
-/// places its answers as they stand.
+/// Asks a closure about each region of a value that the value doesn't bind itself, with the number of binders passed,
+/// and places its answers as they stand.
 ///
-/// Erased regions are asked about too, variables of a canonical query are not. The closure is asked at every place, also where
-/// a handle stands in several. An answer that is bound by one of the binders passed is so bound afterwards: nothing is shifted.
+/// Erased regions are asked about too, variables of a canonical query are not. The closure is asked at every place,
+/// also where a handle occurs at several. An answer that is bound by one of the binders passed is so bound
+/// afterwards: nothing is shifted.
 #[derive(Drop)]
 pub struct RegionFolder<F> {
     f: F,
-    // how many binders of the value stand around the place that was reached
+    // how many binders of the value enclose the place that was reached
     current_index: DebruijnIndex,
 }
 
@@ -180,17 +181,18 @@ impl<F: FnMut(Region, DebruijnIndex) -> Region> TypeFolder for RegionFolder<F> {
     ghost still_means = { λ old new s g h. names-stay old new s.f s.current_index g };
 }
 
-/// Returns the value with each region that it doesn't bind itself replaced by what the closure answers about it, as it stands:
-/// an answer is not shifted, so one whose index is below the number of binders passed is bound by one of them afterwards.
+/// Returns the value with each region that it doesn't bind itself replaced by what the closure answers about it, as
+/// it stands: an answer is not shifted, so one whose index is below the number of binders passed is bound by one of
+/// them afterwards.
 ///
-/// The closure is asked about every such region in order, with the number of binders of the value that stand around it: erased
-/// and static regions and those of errors too, but no variable of a canonical query. It is asked at every place, also where one
-/// handle stands in several. Its answers have to be regions of this interner.
+/// The closure is asked about every such region in order, with the number of binders of the value that enclose it:
+/// erased and static regions and regions of errors too, but no variable of a canonical query. It is asked at every
+/// place, also where one handle occurs at several. Its answers have to be regions of this interner.
 ///
-/// It is refused with `Memory` where the memory for something new is refused, with `TableFull` where a term or a list of the
-/// result is not stored yet and its table has as many rows as it may have, and with `GreatestIndex` where more binders than the
-/// greatest index counts stand one under another. Where there is no such region it is the value itself, the closure is not
-/// asked, and nothing is built. It follows the compiler's `fold_regions`.
+/// It is refused with `Memory` where the memory for something new is refused, with `TableFull` where a term or a list
+/// of the result is not stored yet and its table has as many rows as it may have, and with `GreatestIndex` where more
+/// binders than the greatest index counts are nested. Where there is no such region it is the value itself, the
+/// closure is not asked, and nothing is built. It follows the compiler's `fold_regions`.
 pub fn fold_regions<T: TypeFoldable, F: FnMut(Region, DebruijnIndex) -> Region + Drop>(
     cx: &mut Interner,
     value: T,

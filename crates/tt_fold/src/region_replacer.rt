@@ -1,12 +1,12 @@
 //! Folders that answer regions alone.
 
-ghost use Rattle.std.specs.Prelude.{◌≡◌, List};
 ghost use Rattle.tt_kinds.specs.Kinds.{region_shape};
-ghost use Rattle.tt_interner.specs.Rows.{Row};
+ghost use Rattle.tt_kinds.specs.Shape.{Shape};
+ghost use Rattle.tt_kinds.specs.Tree.{Depth, Tree};
 ghost use Rattle.tt_interner.specs.Stored.{Extends};
-ghost use Rattle.tt_fold.specs.Growth.{AddsTerms};
+ghost use Rattle.tt_visit.specs.Data.{no_handles};
 ghost use Rattle.tt_fold.specs.Counts.{Standing};
-ghost use Rattle.tt_fold.specs.Regions.{only_regions, RegionHooks};
+ghost use Rattle.tt_fold.specs.Regions.{no_promise, only_regions, RegionHooks};
 ghost use Rattle.tt_fold.specs.Steps.{Folds, IsPartBy, IsPartOf, tree_by, AnswersRegion, errors_of};
 ghost use Rattle.tt_fold.specs.Walk.{Fails, Walks};
 
@@ -25,31 +25,20 @@ pub trait RegionReplacer {
     /// What the folder fails with; [`Refusal`] where it has no errors of its own.
     type Error: From<Refusal> + Drop;
 
-    // What a state means, with the handles in it as their trees.
-    ghost Meaning: { Type 0 };
+    // The handles in a state; a folder that holds none doesn't say.
+    ghost shape: { Self → Shape } = { λ s. no_handles };
 
-    ghost meaning: { List Row → Self → Self.Meaning };
-    // The state's handles are those of the rows.
-    ghost owned: { List Row → Self → Type 0 };
-
-    // What the hook does.
-    ghost hooks: { RegionHooks (Standing Self.Meaning) Self.Error };
+    // What the hook does, by the trees of the handles; where nothing is to be proved of it, it isn't said.
+    ghost hooks: { RegionHooks (Standing (Tree Depth)) Self.Error } = { no_promise };
 
     /// Called at each region: returns what takes its place.
     fn replace_region(&mut self, cx: &mut Interner, region: Region) -> Result<Region, Self::Error>
-        requires owned { owned cx.old.rows self.old }
+        requires owned { IsPartOf cx.old.rows (shape self.old) }
         requires region { IsPartOf cx.old.rows (region_shape region) }
         ensures extends { Extends cx.old cx.new }
-        ensures owned { owned cx.new.rows self.new }
-        ensures result { AnswersRegion meaning (only_regions hooks) Self.Error.from_gives
+        ensures owned { IsPartOf cx.new.rows (shape self.new) }
+        ensures result { AnswersRegion (tree_by shape) (only_regions hooks) Self.Error.from_gives
             cx.old self.old region result cx.new self.new };
-
-    // New terms and lists change no meaning.
-    ghost still_owned: { (old new : List Row) (s : Self) → AddsTerms old new → owned old s → owned new s };
-
-    ghost still_means: { (old new : List Row) (s : Self) → AddsTerms old new
-        → owned old s
-        → meaning new s ≡ meaning old s };
 }
 
 /// The mark of [`RegionReplacer`].
@@ -58,11 +47,13 @@ pub struct Regions;
 impl<F: RegionReplacer> Core<Regions> for F {
     type Error = F::Error;
 
-    ghost Meaning = { F.RegionReplacer.Meaning };
+    ghost use Rattle.tt_interner.proofs.Growth.{IsPart-grows, fill-grows};
 
-    ghost meaning = { F.RegionReplacer.meaning };
+    ghost Meaning = { Tree Depth };
 
-    ghost owned = { F.RegionReplacer.owned };
+    ghost meaning = { tree_by F.RegionReplacer.shape };
+
+    ghost owned = { IsPartBy F.RegionReplacer.shape };
 
     ghost hooks = { only_regions F.RegionReplacer.hooks };
 
@@ -95,9 +86,9 @@ impl<F: RegionReplacer> Core<Regions> for F {
         Ok(())
     }
 
-    ghost still_owned = { F.RegionReplacer.still_owned };
+    ghost still_owned = { λ old new s g h. IsPart-grows old new g.grows (F.RegionReplacer.shape s) h };
 
-    ghost still_means = { F.RegionReplacer.still_means };
+    ghost still_means = { λ old new s g h. fill-grows old new g.grows (F.RegionReplacer.shape s) h };
 }
 
 /// Returns the value with what the folder answers in the places of its regions, which are met in order. The folder's
@@ -107,9 +98,9 @@ pub fn replace_regions<T: TypeFoldable, F: RegionReplacer>(
     value: T,
     folder: &mut F,
 ) -> Result<T, F::Error>
-    requires state { F.owned cx.old.rows folder.old }
+    requires state { IsPartBy F.shape cx.old.rows folder.old }
     requires value { IsPartBy T.shape cx.old.rows value }
-    ensures { Folds F.owned F.meaning (IsPartBy T.shape) (tree_by T.shape)
+    ensures { Folds (IsPartBy F.shape) (tree_by F.shape) (IsPartBy T.shape) (tree_by T.shape)
         (Walks (only_regions F.hooks)) (Fails (only_regions F.hooks) (errors_of F.Error.from_gives cx.new))
         cx.old folder.old value result cx.new folder.new }
 {

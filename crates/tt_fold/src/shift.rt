@@ -48,7 +48,7 @@ use tt_visit::TypeVisitableExt;
 #[derive(Drop)]
 struct Shifter {
     amount: u32,
-    // how many binders of the value stand around the place that was reached
+    // how many binders of the value enclose the place that was reached
     current_index: DebruijnIndex,
     memory: Memory,
 }
@@ -327,10 +327,11 @@ impl TypeFolder for Shifter {
 /// binder.
 ///
 /// It is refused with `GreatestIndex` where such a variable's index would be the greatest or above, or where more
-/// binders than the greatest index counts stand around one; with `TableFull` where a term or a list of the moved value
+/// binders than the greatest index counts enclose one; with `TableFull` where a term or a list of the moved value
 /// is not stored yet and its table has as many rows as it may have; and with `Memory` where the memory for a new one is
-/// refused, or for what came of a type, which is remembered until the call ends. Where no such variable stands in the
-/// value, or the amount is 0, it is the value itself, nothing is built, and no memory is taken.
+/// refused, or for what came of types, which is remembered until the call ends, and for which none is asked while these
+/// are eight or fewer. Where no such variable occurs in the value, or the amount is 0, it is the value itself, nothing
+/// is built, and no memory is taken.
 ///
 /// A type that has such a variable is taken apart once for each number of binders around its places, and that adds one
 /// to the interner's count of the shifter's descents, which stays at its greatest number. The other count stays.

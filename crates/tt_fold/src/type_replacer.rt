@@ -1,12 +1,12 @@
 //! Folders that answer types alone.
 
-ghost use Rattle.std.specs.Prelude.{◌≡◌, List};
 ghost use Rattle.tt_kinds.specs.Kinds.{ty_shape};
-ghost use Rattle.tt_interner.specs.Rows.{Row};
+ghost use Rattle.tt_kinds.specs.Shape.{Shape};
+ghost use Rattle.tt_kinds.specs.Tree.{Depth, Tree};
 ghost use Rattle.tt_interner.specs.Stored.{Extends};
-ghost use Rattle.tt_fold.specs.Growth.{AddsTerms};
+ghost use Rattle.tt_visit.specs.Data.{no_handles};
 ghost use Rattle.tt_fold.specs.Counts.{Standing};
-ghost use Rattle.tt_fold.specs.Types.{only_types, AnswersType, TypeHooks};
+ghost use Rattle.tt_fold.specs.Types.{no_promise, only_types, AnswersType, TypeHooks};
 ghost use Rattle.tt_fold.specs.Steps.{Folds, IsPartBy, IsPartOf, tree_by, errors_of};
 ghost use Rattle.tt_fold.specs.Walk.{Fails, Walks};
 
@@ -18,39 +18,29 @@ use tt_index::Refusal;
 use tt_interner::Interner;
 use tt_kinds::{BoundVarKinds, Node, Region, Ty};
 
-/// A folder that answers types alone: regions stay, each other term is entered and each binder passed, so that one method says
-/// it all.
+/// A folder that answers types alone: regions stay, each other term is entered and each binder passed, so that one
+/// method says it all.
 ///
-/// [`replace_types`] folds a value by it. A folder that has to know the binders around a type, or what was built again, is a
-/// [`TypeFolder`](crate::TypeFolder).
+/// [`replace_types`] folds a value by it. A folder that has to know the binders around a type, or what was built
+/// again, is a [`TypeFolder`](crate::TypeFolder).
 pub trait TypeReplacer {
     /// What the folder fails with; [`Refusal`] where it has no errors of its own.
     type Error: From<Refusal> + Drop;
 
-    // What a state means, with the handles in it as their trees.
-    ghost Meaning: { Type 0 };
+    // The handles in a state; a folder that holds none doesn't say.
+    ghost shape: { Self → Shape } = { λ s. no_handles };
 
-    ghost meaning: { List Row → Self → Self.Meaning };
-    // The state's handles are those of the rows.
-    ghost owned: { List Row → Self → Type 0 };
-
-    // What the hook does.
-    ghost hooks: { TypeHooks (Standing Self.Meaning) Self.Error };
+    // What the hook does, by the trees of the handles; where nothing is to be proved of it, it isn't said.
+    ghost hooks: { TypeHooks (Standing (Tree Depth)) Self.Error } = { no_promise };
 
     /// Returns what to do at a type, before its contents.
     fn replace_ty(&mut self, cx: &mut Interner, ty: Ty) -> Result<Step<Ty>, Self::Error>
-        requires owned { owned cx.old.rows self.old }
+        requires owned { IsPartOf cx.old.rows (shape self.old) }
         requires ty { IsPartOf cx.old.rows (ty_shape ty) }
         ensures extends { Extends cx.old cx.new }
-        ensures owned { owned cx.new.rows self.new }
-        ensures result { AnswersType meaning hooks Self.Error.from_gives cx.old self.old ty result cx.new self.new };
-
-    // New terms and lists change no meaning.
-    ghost still_owned: { (old new : List Row) (s : Self) → AddsTerms old new → owned old s → owned new s };
-
-    ghost still_means: { (old new : List Row) (s : Self) → AddsTerms old new
-        → owned old s
-        → meaning new s ≡ meaning old s };
+        ensures owned { IsPartOf cx.new.rows (shape self.new) }
+        ensures result { AnswersType (tree_by shape) hooks Self.Error.from_gives
+            cx.old self.old ty result cx.new self.new };
 }
 
 /// The mark of [`TypeReplacer`].
@@ -59,11 +49,13 @@ pub struct Types;
 impl<F: TypeReplacer> Core<Types> for F {
     type Error = F::Error;
 
-    ghost Meaning = { F.TypeReplacer.Meaning };
+    ghost use Rattle.tt_interner.proofs.Growth.{IsPart-grows, fill-grows};
 
-    ghost meaning = { F.TypeReplacer.meaning };
+    ghost Meaning = { Tree Depth };
 
-    ghost owned = { F.TypeReplacer.owned };
+    ghost meaning = { tree_by F.TypeReplacer.shape };
+
+    ghost owned = { IsPartBy F.TypeReplacer.shape };
 
     ghost hooks = { only_types F.TypeReplacer.hooks };
 
@@ -100,9 +92,9 @@ impl<F: TypeReplacer> Core<Types> for F {
         Ok(())
     }
 
-    ghost still_owned = { F.TypeReplacer.still_owned };
+    ghost still_owned = { λ old new s g h. IsPart-grows old new g.grows (F.TypeReplacer.shape s) h };
 
-    ghost still_means = { F.TypeReplacer.still_means };
+    ghost still_means = { λ old new s g h. fill-grows old new g.grows (F.TypeReplacer.shape s) h };
 }
 
 /// Returns the value with what the folder answers in the places of its types, which are met in order, each before its
@@ -113,9 +105,9 @@ pub fn replace_types<T: TypeFoldable, F: TypeReplacer>(
     value: T,
     folder: &mut F,
 ) -> Result<T, F::Error>
-    requires state { F.owned cx.old.rows folder.old }
+    requires state { IsPartBy F.shape cx.old.rows folder.old }
     requires value { IsPartBy T.shape cx.old.rows value }
-    ensures { Folds F.owned F.meaning (IsPartBy T.shape) (tree_by T.shape)
+    ensures { Folds (IsPartBy F.shape) (tree_by F.shape) (IsPartBy T.shape) (tree_by T.shape)
         (Walks (only_types F.hooks)) (Fails (only_types F.hooks) (errors_of F.Error.from_gives cx.new))
         cx.old folder.old value result cx.new folder.new }
 {

@@ -68,7 +68,7 @@ fn is_hooked(node: Node) -> bool
     }
 }
 
-// The walk of a stored term. One without a hook is passed straight to what stands in it. In place in its callers, so that a
+// The walk of a stored term. One without a hook is passed straight to its contents. In place in its callers, so that a
 // term whose hook answers at once costs no call.
 #[cycle(fold)]
 #[inline(always)]
@@ -110,7 +110,7 @@ fn descend<M, F: Core<M>>(cx: &mut Interner, folder: &mut F, node: Node) -> Resu
     folder.core_after_term(cx, node, rebuilt)
 }
 
-// The walk of what stands in a term, and the term with what came of it.
+// The walk of the contents of a term, and the term with what came of it.
 #[cycle(fold)]
 #[inline(never)]
 pub(crate) fn fold_inside<M, F: Core<M>>(
@@ -136,7 +136,7 @@ pub(crate) fn fold_inside<M, F: Core<M>>(
     Ok(rebuilt)
 }
 
-// The walk of what stands in a list of clauses, and the list of what came of it.
+// The walk of the contents of a list of clauses, and the list of what came of it.
 #[cycle(fold)]
 fn fold_clauses<M, F: Core<M>>(
     cx: &mut Interner,
@@ -290,8 +290,8 @@ pub(crate) fn fold_list<M, F: Core<M>>(
     }
 }
 
-// The walk of a list's children, and the list of what came of them. It stays a function of its own, so that terms without lists
-// need no room on the stack for it.
+// The walk of a list's children, and the list of what came of them. It stays a function of its own, so that terms
+// without lists need no room on the stack for it.
 #[cycle(fold)]
 #[inline(never)]
 fn fold_listed<M, F: Core<M>>(
@@ -311,8 +311,8 @@ fn fold_listed<M, F: Core<M>>(
     Ok(new_list)
 }
 
-// The walk of a list's children in order, which fills the caller's empty vector: handed back, it would be copied. It ends where
-// an item of a list of clauses became none. It has one caller, and stands in its place.
+// The walk of a list's children in order, which fills the caller's empty vector: handed back, it would be copied. It
+// ends where an item of a list of clauses became none. It has one caller, and is inlined there.
 #[cycle(fold)]
 #[inline(always)]
 fn fold_items<M, F: Core<M>>(
@@ -348,7 +348,7 @@ fn fold_items<M, F: Core<M>>(
     Ok(())
 }
 
-// Whether what came of an item may stand in a list of the sort: in one of clauses, only a clause.
+// Whether what came of an item may be in a list of the sort: in one of clauses, only a clause.
 #[inline(always)]
 fn check_item(cx: &Interner, sort: ListSort, item: &Child) -> Result<(), Refusal>
     requires item { ArePartsOf cx.now.rows (child_shapes item.now) }

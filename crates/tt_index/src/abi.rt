@@ -3,7 +3,7 @@
 ghost use Rattle.std.specs.Prelude.{◌≡◌, ◌≤◌};
 ghost use Rattle.tt_index.specs.Abi.{abi_number, abi_of};
 
-/// The calling convention of a function: the text that `extern "C"` and its like name.
+/// The calling convention of a function: the text in `extern "C"`.
 #[derive(Clone, Copy, Debug, PartialEq, Eq, PartialOrd, Ord, Hash)]
 pub enum ExternAbi {
     /// Rust's own.

@@ -10,11 +10,11 @@ use std::marker::Model;
 /// The binder that is closest to the variable.
 pub const INNERMOST: DebruijnIndex = DebruijnIndex { value: 0 };
 
-/// A [De Bruijn index](https://en.wikipedia.org/wiki/De_Bruijn_index): the number of binders that stand between
+/// A [De Bruijn index](https://en.wikipedia.org/wiki/De_Bruijn_index): the number of binders between
 /// a bound variable and the binder that it belongs to, counted from the inside, so that 0 is the innermost binder.
 ///
 /// In `for<'a> fn(for<'b> fn(&'b isize, &'a isize), &'a char)` the region of the first reference has index 0, that
-/// of the second index 1, and that of the third index 0 again, since only the outer binder encloses it.
+/// of the second index 1, and of the third index 0 again, since only the outer binder encloses it.
 ///
 /// The number is at most [`GREATEST_INDEX`].
 #[derive(Clone, Copy, Debug, PartialEq, Eq, PartialOrd, Ord, Hash)]
@@ -94,7 +94,7 @@ impl DebruijnIndex {
         *self = self.shifted_in(amount);
     }
 
-    /// Returns whether the binder stands outside `amount` binders, so that the index can move out of them.
+    /// Returns whether the binder is outside of `amount` binders, so that the index can move out of them.
     pub fn can_shift_out(self, amount: u32) -> bool
         ensures { IsTrue result ↔ (amount ≤ self) }
     {

@@ -17,6 +17,7 @@ ghost use Rattle.std.specs.Prelude.{
   OnOk,
   length,
   slice_get,
+  slice_set,
   option_copied,
 };
 ghost use Rattle.std.specs.Iterator.Adapters.{IterYieldsInOrder};
@@ -133,5 +134,14 @@ impl<Ix: Idx, T: Drop> IndexVec<Ix, T> {
         let index = Ix::from_usize(self.raw.len());
         self.raw.push(item)?;
         Ok(index)
+    }
+
+    /// Puts the item in the place of the one at this index, which is dropped. There has to be one;
+    /// [`IndexVec::len`] tells how far the list reaches.
+    pub fn set(&mut self, index: Ix, item: T)
+        requires { Ix.number index < length self.old }
+        ensures { self.new ≡ slice_set self.old (Ix.number index) item }
+    {
+        self.raw[index.as_usize()] = item;
     }
 }

@@ -30,7 +30,7 @@ pub enum Refusal {
         /// The parameter's index.
         index: u32,
     },
-    /// The list of arguments has items, and this inference variable for a region stands in the value where the walk
+    /// The list of arguments has items, and this inference variable for a region occurs in the value where the walk
     /// reaches it: outside every type, predicate and list of clauses that has no parameter.
     RegionVariable(RegionVid),
     /// A folder answered a predicate that is no clause where a clause belongs.

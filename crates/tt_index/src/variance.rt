@@ -1,4 +1,4 @@
-//! Variance: how the subtypes of a generic type follow those of its argument.
+//! Variance: how the subtypes of a generic type follow its argument's subtypes.
 
 ghost use Rattle.std.specs.Prelude.{◌≡◌};
 ghost use Rattle.tt_index.specs.Variance.{xform_of};
@@ -18,9 +18,9 @@ pub enum Variance {
 }
 
 impl Variance {
-    /// Returns the variance of an argument that stands in a position of variance `inner`, inside a context of this
+    /// Returns the variance of an argument in a position of variance `inner`, inside a context of this
     /// variance. In `fn(*const Vec<i32>)` the pointer's place is contravariant, and a pointer and a `Vec` are covariant
-    /// in what they hold, so `i32` stands in a contravariant place.
+    /// in what they hold, so `i32` is in a contravariant place.
     ///
     /// The table is Figure 1 of 'Taming the Wildcards: Combining Definition- and Use-Site Variance', PLDI 2011.
     pub fn xform(self, inner: Variance) -> Variance

@@ -77,7 +77,7 @@ grows limit old new ps hs s = let a = adds limit old new ps hs s in Grows-more a
 
 -- The steps of the loop: what is before the place i is stored.
 module _ (limit : ℕ) (old between : List Row) (ps : List Predicate) (places : List Handle) (i : ℕ) (stores : StoresEach limit old between (take i ps) (take i places)) where
-  -- what stands in the next predicate is still in range
+  -- the contents of the next predicate are still in range
   pub next_parts : (d : Predicate) → i < length ps → HaveParts old ps → HasParts (size between) (existential_kind_shape (get_or ps i d))
   next_parts d within parts = HasParts-grows old between (grows limit old between (take i ps) (take i places) stores) (existential_kind_shape (get_or ps i d)) (All-get_or (λ q. HasParts (size old) (existential_kind_shape q)) ps i d within parts)
 
@@ -148,7 +148,7 @@ module _ (old rows : List Row) (are : AreRows rows) (g : Grows old rows) where
   handles_trees [] (h ∷ hs) parts s = absurd s
   handles_trees (p ∷ ps) [] parts s = absurd s
 
--- a list's tree is that of its items'
+-- a list's tree comes of its items'
 fill_list : (rows old : List Row) (ps : List Predicate) (hs : List Handle) → fill_all (meaning rows) (item_shapes existential_shape hs) ≡ fill_all (meaning old) (item_shapes existential_kind_shape ps)
     → fill (meaning rows) (row_shape (existentials_row hs)) ≡ predicates_tree old ps
 unfolding fill

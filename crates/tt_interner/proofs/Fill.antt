@@ -1,12 +1,12 @@
 -- What a shape's tree tells of the shape.
 use Rattle.std.proofs.Common.{◌≡◌, ℕ, ◌<◌, List, [], ◌∷◌, Option, Some, None, refl, sym, ap, ◌∙◌}
-use Rattle.std.specs.Prelude.{map}
+use Rattle.std.specs.Prelude.{map, ⊤}
 use Rattle.tt_kinds.specs.declared.table.Table.{Table}
 use Rattle.tt_kinds.specs.declared.table.Table.TheVariants.{VarLists, Symbols}
 use Rattle.tt_kinds.specs.Label.{Name, RegionName, anonymous, printed, named, environment, VarKind, region_variable, type_variable, const_variable, Entry, FreeRegion, static_region, erased_region, region_var, error_region, late_param_region, placeholder_region, RecordLabel, fn_sig_tys_record, pair_record, triple_record, absent_record, present_record, sequence_record, unsafe_binder_record, trait_record, host_effect_record, region_outlives_record, type_outlives_record, projection_record, const_has_type_record, well_formed_record, const_evaluatable_record, unstable_feature_record, dyn_compatible_record, subtype_record, coerce_record, const_equate_record, ambiguous_record, normalizes_to_record, alias_relate_record, existential_trait_record, existential_projection_record, auto_trait_record, trait_ref_record, alias_term_record, alias_ty_record, outlives_record, type_and_mut_record, fn_sig_record, param_env_record, witness_types_record, bare_param_record, bare_bound_record, bare_type_record, bare_const_record, bare_pattern_record, Label, type_label, const_label, pattern_label, predicate_label, existential_label, clause_list_label, list_label, var_list_label, text_label, declaration_label, record_label, error_label, clause_label, label_table}
 use Rattle.tt_kinds.specs.Tree as tree
 use Rattle.tt_kinds.specs.Tree.{Tree, Depth}
-use Rattle.tt_kinds.specs.Shape.{Shape, Shapes, param, bound, region, term, node, binder, stored, none, also, Meaning, Sizes, text_of, vars_of, name_of, rename_region, rename_kind, rename_entry, rename_free, rename_record, rename_label, fill, fill_all, sort_table, IsNamed, IsNamedKind, AreNamedKinds, IsNamedFree, IsNamedRecord, IsNamedLabel, IsPart, AreParts, HasParts}
+use Rattle.tt_kinds.specs.Shape.{Shape, Shapes, param, bound, region, term, node, binder, stored, part_of, none, also, Meaning, Sizes, text_of, vars_of, name_of, rename_region, rename_kind, rename_entry, rename_free, rename_record, rename_label, fill, fill_all, sort_table, IsNamed, IsNamedKind, AreNamedKinds, IsNamedFree, IsNamedRecord, IsNamedLabel, IsPart, AreParts, HasParts}
 
 -- the table that a tree is stored in, as its root says
 abbrev pub tree_table : Tree Depth → Option Table
@@ -16,6 +16,23 @@ tree_table (tree.region r) = None
 tree_table (tree.term l ts) = label_table l
 tree_table (tree.node l ts) = label_table l
 tree_table (tree.binder vs t) = None
+
+-- no part of a list stands in the shape: its tree is that of the items written out, so that it tells no list
+abbrev mutual
+  pub HasNoView : Shape → Type 0
+  HasNoView (param s i name) = ⊤
+  HasNoView (bound s d e) = ⊤
+  HasNoView (region r) = ⊤
+  HasNoView (term l ss) = HaveNoViews ss
+  HasNoView (node l ss) = HaveNoViews ss
+  HasNoView (binder n s) = HasNoView s
+  HasNoView (stored t n) = ⊤
+  HasNoView (part_of t n e) = ⊥
+
+  -- the same of shapes in order
+  pub HaveNoViews : Shapes → Type 0
+  HaveNoViews none = ⊤
+  HaveNoViews (also s ss) = HasNoView s × HaveNoViews ss
 
 -- names tell nothing of a label's table
 pub label_table-rename : (name : ℕ → Name) (l : Label ℕ) → label_table (rename_label name l) ≡ label_table l
@@ -163,66 +180,70 @@ module _ (size : Sizes) (f : Meaning) (d : Distinguishes size f) where
   mutual
     unfolding fill
 
-    pub fill-one : (s s' : Shape) → IsPart size s → IsPart size s' → fill f s ≡ fill f s' → s ≡ s'
-    fill-one (stored t n) (stored u m) p q e = let tables = d.tables t u n m p q e in let numbers = d.numbers t u n m p q e in cc
-    fill-one (stored t n) (param s i name) p q e = absurd (not_stored t n _ p e q.0)
-    fill-one (stored t n) (bound s c v) p q e = absurd (not_stored t n _ p e q.0)
-    fill-one (stored t n) (region r) p q e = absurd (not_stored t n _ p e refl)
-    fill-one (stored t n) (node l ss) p q e = absurd (not_stored t n _ p e (label_table-rename (name_of f) l ∙ q.0))
-    fill-one (stored t n) (binder vs s) p q e = absurd (not_stored t n _ p e refl)
-    fill-one (param s i name) (stored t n) p q e = absurd (not_stored t n _ q (sym e) p.0)
-    fill-one (bound s c v) (stored t n) p q e = absurd (not_stored t n _ q (sym e) p.0)
-    fill-one (region r) (stored t n) p q e = absurd (not_stored t n _ q (sym e) refl)
-    fill-one (node l ss) (stored t n) p q e = absurd (not_stored t n _ q (sym e) (label_table-rename (name_of f) l ∙ p.0))
-    fill-one (binder vs s) (stored t n) p q e = absurd (not_stored t n _ q (sym e) refl)
-    fill-one (term l ss) s' p q e = absurd p
-    fill-one s (term l ss) p q e = absurd q
-    fill-one (param s i name) (param s' j name') p q e =
+    pub fill-one : (s s' : Shape) → HasNoView s → HasNoView s' → IsPart size s → IsPart size s' → fill f s ≡ fill f s' → s ≡ s'
+    fill-one (stored t n) (stored u m) v w p q e = let tables = d.tables t u n m p q e in let numbers = d.numbers t u n m p q e in cc
+    fill-one (stored t n) (param s i name) v w p q e = absurd (not_stored t n _ p e q.0)
+    fill-one (stored t n) (bound s c x) v w p q e = absurd (not_stored t n _ p e q.0)
+    fill-one (stored t n) (region r) v w p q e = absurd (not_stored t n _ p e refl)
+    fill-one (stored t n) (node l ss) v w p q e = absurd (not_stored t n _ p e (label_table-rename (name_of f) l ∙ q.0))
+    fill-one (stored t n) (binder vs s) v w p q e = absurd (not_stored t n _ p e refl)
+    fill-one (param s i name) (stored t n) v w p q e = absurd (not_stored t n _ q (sym e) p.0)
+    fill-one (bound s c x) (stored t n) v w p q e = absurd (not_stored t n _ q (sym e) p.0)
+    fill-one (region r) (stored t n) v w p q e = absurd (not_stored t n _ q (sym e) refl)
+    fill-one (node l ss) (stored t n) v w p q e = absurd (not_stored t n _ q (sym e) (label_table-rename (name_of f) l ∙ p.0))
+    fill-one (binder vs s) (stored t n) v w p q e = absurd (not_stored t n _ q (sym e) refl)
+    fill-one (term l ss) s' v w p q e = absurd p
+    fill-one s (term l ss) v w p q e = absurd q
+    fill-one (part_of t n x) s' v w p q e = absurd v
+    fill-one s (part_of t n x) v w p q e = absurd w
+    fill-one (param s i name) (param s' j name') v w p q e =
         let sorts : s ≡ s' = cc in let indices : i ≡ j = cc in
         let texts : name_of f name ≡ name_of f name' = cc in
         let names = name_one name name' p.1 q.1 texts in cc
-    fill-one (bound s c v) (bound s' c' v') p q e =
+    fill-one (bound s c x) (bound s' c' x') v w p q e =
         let sorts : s ≡ s' = cc in let depths : c ≡ c' = cc in
-        let entries : rename_entry (name_of f) v ≡ rename_entry (name_of f) v' = cc in
-        let same = entry_one v v' p.1 q.1 entries in cc
-    fill-one (region r) (region r') p q e =
+        let entries : rename_entry (name_of f) x ≡ rename_entry (name_of f) x' = cc in
+        let same = entry_one x x' p.1 q.1 entries in cc
+    fill-one (region r) (region r') v w p q e =
         let regions : rename_free (name_of f) r ≡ rename_free (name_of f) r' = cc in ap region (free_one r r' p q regions)
-    fill-one (node l ss) (node l' ss') p q e =
+    fill-one (node l ss) (node l' ss') v w p q e =
         let labels : rename_label (name_of f) l ≡ rename_label (name_of f) l' = cc in let parts : fill_all f ss ≡ fill_all f ss' = cc in
-        let same_labels = label_one l l' p.1 q.1 labels in let same = fill_all-one ss ss' p.2 q.2 parts in cc
-    fill-one (binder n s) (binder m s') p q e =
+        let same_labels = label_one l l' p.1 q.1 labels in let same = fill_all-one ss ss' v w p.2 q.2 parts in cc
+    fill-one (binder n s) (binder m s') v w p q e =
         let vars : vars_of (f VarLists n) ≡ vars_of (f VarLists m) = cc in let parts : fill f s ≡ fill f s' = cc in
-        let lists = vars_one n m p.0 q.0 vars in let same = fill-one s s' p.1 q.1 parts in cc
-    fill-one _ _ p q e = cc
+        let lists = vars_one n m p.0 q.0 vars in let same = fill-one s s' v w p.1 q.1 parts in cc
+    fill-one _ _ v w p q e = cc
 
-    pub fill_all-one : (ss ss' : Shapes) → AreParts size ss → AreParts size ss' → fill_all f ss ≡ fill_all f ss' → ss ≡ ss'
-    fill_all-one none none p q e = refl
-    fill_all-one (also s ss) (also s' ss') p q e =
+    pub fill_all-one : (ss ss' : Shapes) → HaveNoViews ss → HaveNoViews ss' → AreParts size ss → AreParts size ss' → fill_all f ss ≡ fill_all f ss' → ss ≡ ss'
+    fill_all-one none none v w p q e = refl
+    fill_all-one (also s ss) (also s' ss') v w p q e =
         let firsts : fill f s ≡ fill f s' = cc in let others : fill_all f ss ≡ fill_all f ss' = cc in
-        let first = fill-one s s' p.0 q.0 firsts in let rest = fill_all-one ss ss' p.1 q.1 others in cc
-    fill_all-one _ _ p q e = cc
+        let first = fill-one s s' v.0 w.0 p.0 q.0 firsts in let rest = fill_all-one ss ss' v.1 w.1 p.1 q.1 others in cc
+    fill_all-one _ _ v w p q e = cc
 
   -- the shapes of two rows are one if their trees are
-  pub fill-one_row : (s s' : Shape) → HasParts size s → HasParts size s' → fill f s ≡ fill f s' → s ≡ s'
+  pub fill-one_row : (s s' : Shape) → HasNoView s → HasNoView s' → HasParts size s → HasParts size s' → fill f s ≡ fill f s' → s ≡ s'
   unfolding fill
-  fill-one_row (param s i name) (param s' j name') p q e =
+  fill-one_row (param s i name) (param s' j name') v w p q e =
       let sorts : s ≡ s' = cc in let indices : i ≡ j = cc in
       let texts : name_of f name ≡ name_of f name' = cc in
       let names = name_one name name' p q texts in cc
-  fill-one_row (bound s c v) (bound s' c' v') p q e =
+  fill-one_row (bound s c x) (bound s' c' x') v w p q e =
       let sorts : s ≡ s' = cc in let depths : c ≡ c' = cc in
-      let entries : rename_entry (name_of f) v ≡ rename_entry (name_of f) v' = cc in
-      let same = entry_one v v' p q entries in cc
-  fill-one_row (term l ss) (term l' ss') p q e =
+      let entries : rename_entry (name_of f) x ≡ rename_entry (name_of f) x' = cc in
+      let same = entry_one x x' p q entries in cc
+  fill-one_row (term l ss) (term l' ss') v w p q e =
       let labels : rename_label (name_of f) l ≡ rename_label (name_of f) l' = cc in let parts : fill_all f ss ≡ fill_all f ss' = cc in
-      let same_labels = label_one l l' p.0 q.0 labels in let same = fill_all-one ss ss' p.1 q.1 parts in cc
-  fill-one_row (node l ss) (node l' ss') p q e =
+      let same_labels = label_one l l' p.0 q.0 labels in let same = fill_all-one ss ss' v w p.1 q.1 parts in cc
+  fill-one_row (node l ss) (node l' ss') v w p q e =
       let labels : rename_label (name_of f) l ≡ rename_label (name_of f) l' = cc in let parts : fill_all f ss ≡ fill_all f ss' = cc in
-      let same_labels = label_one l l' p.0 q.0 labels in let same = fill_all-one ss ss' p.1 q.1 parts in cc
-  fill-one_row (stored t n) s' p q e = absurd p
-  fill-one_row s (stored t n) p q e = absurd q
-  fill-one_row (binder n s) s' p q e = absurd p
-  fill-one_row s (binder n s') p q e = absurd q
-  fill-one_row (region r) s' p q e = absurd p
-  fill-one_row s (region r) p q e = absurd q
-  fill-one_row _ _ p q e = cc
+      let same_labels = label_one l l' p.0 q.0 labels in let same = fill_all-one ss ss' v w p.1 q.1 parts in cc
+  fill-one_row (stored t n) s' v w p q e = absurd p
+  fill-one_row s (stored t n) v w p q e = absurd q
+  fill-one_row (part_of t n x) s' v w p q e = absurd p
+  fill-one_row s (part_of t n x) v w p q e = absurd q
+  fill-one_row (binder n s) s' v w p q e = absurd p
+  fill-one_row s (binder n s') v w p q e = absurd q
+  fill-one_row (region r) s' v w p q e = absurd p
+  fill-one_row s (region r) v w p q e = absurd q
+  fill-one_row _ _ v w p q e = cc

@@ -7,7 +7,7 @@ use Rattle.tt_kinds.specs.declared.table.Table.TheVariants.{VarLists, Symbols}
 use Rattle.tt_kinds.specs.Label.{RegionName, anonymous, printed, named, environment, VarKind, region_variable, type_variable, const_variable, FreeRegion, static_region, erased_region, region_var, error_region, late_param_region, placeholder_region, RecordLabel, fn_sig_tys_record, pair_record, triple_record, absent_record, present_record, sequence_record, unsafe_binder_record, trait_record, host_effect_record, region_outlives_record, type_outlives_record, projection_record, const_has_type_record, well_formed_record, const_evaluatable_record, unstable_feature_record, dyn_compatible_record, subtype_record, coerce_record, const_equate_record, ambiguous_record, normalizes_to_record, alias_relate_record, existential_trait_record, existential_projection_record, auto_trait_record, trait_ref_record, alias_term_record, alias_ty_record, outlives_record, type_and_mut_record, fn_sig_record, param_env_record, witness_types_record, bare_param_record, bare_bound_record, bare_type_record, bare_const_record, bare_pattern_record, Label, type_label, const_label, pattern_label, predicate_label, existential_label, clause_list_label, list_label, var_list_label, text_label, declaration_label, record_label, error_label, clause_label}
 use Rattle.tt_kinds.specs.Tree as tree
 use Rattle.tt_kinds.specs.Tree.{Tree, Depth}
-use Rattle.tt_kinds.specs.Shape.{Shape, Shapes, param, bound, region, term, node, binder, stored, none, also, Meaning, Sizes, text_of, name_of, rename_region, rename_kind, rename_free, rename_record, rename_label, fill, fill_all, IsNamed, IsNamedKind, AreNamedKinds, IsNamedFree, IsNamedRecord, IsNamedLabel, IsPart, AreParts, HasParts}
+use Rattle.tt_kinds.specs.Shape.{Shape, Shapes, param, bound, region, term, node, binder, stored, part_of, none, also, Meaning, Sizes, text_of, items_of, items_in, name_of, rename_region, rename_kind, rename_free, rename_record, rename_label, fill, fill_all, IsNamed, IsNamedKind, AreNamedKinds, IsNamedFree, IsNamedRecord, IsNamedLabel, IsPart, AreParts, HasParts}
 use Rattle.tt_kinds.specs.Parts.{node_table, node_number, list_table, list_number}
 use Rattle.tt_kinds.specs.declared.parts.Node.{Node}
 use Rattle.tt_kinds.specs.declared.parts.List.{List as StoredList}
@@ -107,6 +107,7 @@ module _ (small large : Sizes) (more : (t : Table) → small t ≤ large t) wher
     IsPart-more (node l ss) h = (h.0, IsNamedLabel-more l h.1, AreParts-more ss h.2)
     IsPart-more (binder n s) h = let m = more VarLists in (omega (arith, h.0), IsPart-more s h.1)
     IsPart-more (stored t n) h = let m = more t in omega arith
+    IsPart-more (part_of t n e) h = let m = more t in omega arith
 
     pub AreParts-more : (ss : Shapes) → AreParts small ss → AreParts large ss
     AreParts-more none h = tt
@@ -120,6 +121,7 @@ module _ (small large : Sizes) (more : (t : Table) → small t ≤ large t) wher
   HasParts-more (node l ss) h = (IsNamedLabel-more l h.0, AreParts-more ss h.1)
   HasParts-more (binder n s) h = h
   HasParts-more (stored t n) h = h
+  HasParts-more (part_of t n e) h = h
 
 -- parts keep their trees where handles in range do
 module _ (f g : Meaning) (bounds : Sizes) (same : (t : Table) (n : ℕ) → n < bounds t → f t n ≡ g t n) where
@@ -213,6 +215,7 @@ module _ (f g : Meaning) (bounds : Sizes) (same : (t : Table) (n : ℕ) → n < 
     fill-same (node l ss) h = rw (label-same l h.1, fill_all-same ss h.2) refl
     fill-same (binder n s) h = rw (same VarLists n h.0, fill-same s h.1) refl
     fill-same (stored t n) h = same t n h
+    fill-same (part_of t n e) h = ap (λ u. tree.node (record_label sequence_record) (items_in e (items_of u))) (same t n h)
 
     pub fill_all-same : (ss : Shapes) → AreParts bounds ss → fill_all f ss ≡ fill_all g ss
     fill_all-same none h = refl
@@ -227,6 +230,7 @@ module _ (f g : Meaning) (bounds : Sizes) (same : (t : Table) (n : ℕ) → n < 
   row-same (node l ss) h = rw (label-same l h.0, fill_all-same ss h.1) refl
   row-same (binder n s) h = absurd h
   row-same (stored t n) h = absurd h
+  row-same (part_of t n e) h = absurd h
 
 -- where the rows are more, no table has fewer
 pub sizes-grow : (more old new : List Row) → new ≡ more ++ old → (t : Table) → size old t ≤ size new t

@@ -16,7 +16,7 @@ use Rattle.tt_kinds.specs.Tree as tree
 use Rattle.tt_kinds.specs.Tree.{Tree, Forest, Depth}
 use Rattle.tt_kinds.specs.Reading.{read_all, greatest_reach_all, outer_binder}
 use Rattle.tt_kinds.specs.Scan.{scan, scan_all}
-use Rattle.tt_kinds.specs.Shape.{Shape, Shapes, term, node, stored, none, also, append, item_shapes, Meaning, vars_of, name_of, rename_kind, rename_record, rename_label, fill, fill_all, Sizes, IsPart, AreParts, HasParts}
+use Rattle.tt_kinds.specs.Shape.{Shape, Shapes, term, node, stored, none, also, append, item_shapes, Meaning, vars_of, name_of, rename_kind, rename_record, rename_label, fill, fill_all, Sizes, IsPart, AreParts, HasParts, IsTooDeep}
 use Rattle.tt_kinds.specs.Kinds.{Form, param, bound, plain, under, form_parts, form_binder, form_shape, parts_shapes}
 use Rattle.tt_kinds.proofs.PlainLaws.{outer_binder-binder}
 use Rattle.tt_interner.specs.Stored.{IsInfo}
@@ -50,7 +50,7 @@ flags_of_label-rename name existential_label = refl
 flags_of_label-rename name clause_list_label = refl
 
 module _ (f : Meaning) (info : FlagComputation) where
-  -- a row that nothing stands in
+  -- a row without contents
   pub info_node : (l : Label ℕ) → info ≡ computed (flags_of_label l) 0 → IsInfo info (fill f (node l none))
   unfolding fill
   info_node l is = record {
@@ -150,7 +150,7 @@ module _ (s : Sort) where
     }
     info_plain (under l vars m p) b flags outer is e = cc
 
-    -- what stands under a binder
+    -- what is under a binder
     pub info_under : (k : Form (Label ℕ)) (vars : BoundVarKinds) (list : FlagComputation) → form_binder k ≡ Some vars → own.flags.bits ≡ own_flags s k
         → own.outer_exclusive_binder ≡ own_reach k
         → AreInfosOf inside (fill_all f (parts_shapes (form_parts k)))
@@ -176,6 +176,14 @@ module _ (s : Sort) where
               ∙ sym (or_zero_r (bit_or (list_flags vs) (bit_or 0 (scan_all ts)))));
           outer = ap (λ (x : FlagComputation). x.outer_exclusive_binder) e ∙ (omega arith);
         })
+
+  -- a bound variable with the greatest index has its own flags alone
+  pub deepest_flags : (f : Meaning) (k : Form (Label ℕ)) → IsTooDeep (form_shape s k) → scan (fill f (form_shape s k)) ≡ own_flags s k
+  unfolding fill
+  deepest_flags f (bound d e) h = refl
+  deepest_flags f (param i name) h = absurd h
+  deepest_flags f (plain l p) h = absurd h
+  deepest_flags f (under l vars m p) h = absurd h
 
 -- A kind is in range where its names, its children and its binder's list are.
 module _ (size : Sizes) (s : Sort) where

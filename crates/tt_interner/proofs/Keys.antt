@@ -113,7 +113,7 @@ const_key = key_by (const_kinds.ghosts).eq const_kind_exact (const_kind_laws.law
 pub pattern_key : (x : PatternKind) → IsKey ((pattern_kinds.ghosts).eq x) pat_row (pat_row x)
 pattern_key = key_by (pattern_kinds.ghosts).eq pattern_kind_exact (pattern_kind_laws.laws-law).refl (λ k. k) pat_row (λ a b e. cc)
 
--- binders, by the test of what stands under them
+-- binders, by the test of what is under them
 abbrev binder_eq : {T : Type 0} → (T → T → Bool) → Binder T → Binder T → Bool
 binder_eq eq a b = eq a.value b.value && eqb a.bound_vars.number b.bound_vars.number
 

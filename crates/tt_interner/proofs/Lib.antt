@@ -2,6 +2,7 @@ pub mod RowLaws
 pub mod Growth
 pub mod Fill
 pub mod ShapeLaws
+pub mod ViewLaws
 pub mod Trees
 pub mod KeyLemmas
 pub mod KindKeys

@@ -25,7 +25,7 @@ use Rattle.tt_kinds.specs.declared.parts.Kind.TheVariants as kind
 use Rattle.tt_kinds.specs.declared.table.Table.{Table}
 use Rattle.tt_kinds.specs.declared.table.Table.TheVariants.{Types, ClauseLists}
 use Rattle.tt_kinds.specs.Label.{Sort, type_sort, const_sort, Label}
-use Rattle.tt_kinds.specs.Shape.{Shape, Shapes, param, bound, region, term, node, binder, stored, none, also, item_shapes, Meaning, Sizes, fill, fill_all, IsPart, AreParts, HasParts, IsTooDeep}
+use Rattle.tt_kinds.specs.Shape.{Shape, Shapes, param, bound, region, term, node, binder, stored, part_of, none, also, item_shapes, Meaning, Sizes, fill, fill_all, IsPart, AreParts, HasParts, IsTooDeep}
 use Rattle.tt_kinds.specs.Parts.{child_sort, IsItem, node_table, node_number, list_table, list_number, list_sort, sort_list_table}
 use Rattle.tt_kinds.specs.Kinds
 use Rattle.tt_kinds.specs.Kinds.{Form, relabelled, refilled, form_binder, form_parts, form_shape, kind_form, kind_sort, ty_shape, const_shape, arg_shape, pat_shape, existential_shape, clause_shape, child_shapes, parts_shapes, children_shapes, items_shape, items_tree, kind_shape, kind_table}
@@ -62,6 +62,7 @@ module _ (rows : List Row) (size : Sizes) (a : ℕ) (before : (t : Table) (n : �
     IsOlder-all (node l ss) p = AreOlder-all ss p.2
     IsOlder-all (binder n s) p = IsOlder-all s p.1
     IsOlder-all (stored t n) p = before t n p
+    IsOlder-all (part_of t n e) p = before t n p
 
     AreOlder-all : (ss : Shapes) → AreParts size ss → AreOlder rows a ss
     AreOlder-all none p = tt
@@ -75,6 +76,7 @@ module _ (rows : List Row) (size : Sizes) (a : ℕ) (before : (t : Table) (n : �
   row_older-all (node l ss) p = AreOlder-all ss p.1
   row_older-all (binder n s) p = absurd p
   row_older-all (stored t n) p = absurd p
+  row_older-all (part_of t n e) p = absurd p
 
 -- where handles in range keep their ages, parts that came before still did
 module _ (rows rows' : List Row) (size : Sizes) (same : (t : Table) (n : ℕ) → n < size t → age rows' t n ≡ age rows t n) (a : ℕ) where
@@ -87,6 +89,7 @@ module _ (rows rows' : List Row) (size : Sizes) (same : (t : Table) (n : ℕ) �
     IsOlder-keeps (node l ss) p h = AreOlder-keeps ss p.2 h
     IsOlder-keeps (binder n s) p h = IsOlder-keeps s p.1 h
     IsOlder-keeps (stored t n) p h = let one = same t n p in omega arith
+    IsOlder-keeps (part_of t n e) p h = let one = same t n p in omega arith
 
     pub AreOlder-keeps : (ss : Shapes) → AreParts size ss → AreOlder rows a ss → AreOlder rows' a ss
     AreOlder-keeps none p h = tt
@@ -100,8 +103,9 @@ module _ (rows rows' : List Row) (size : Sizes) (same : (t : Table) (n : ℕ) �
   row_older-keeps (node l ss) p h = AreOlder-keeps ss p.1 h
   row_older-keeps (binder n s) p h = absurd p
   row_older-keeps (stored t n) p h = absurd p
+  row_older-keeps (part_of t n e) p h = absurd p
 
--- what stands in a row came before it
+-- the contents of a row came before it
 pub older_row : (rows : List Row) → AreRows rows → (t : Table) (n : ℕ) (q : Row) → slice_get (table t rows) n ≡ Some q → IsOlder rows (age rows t n) (row_shape q)
 unfolding table AreRows
 older_row [] are t n q e = absurd (none-some q e)
@@ -139,7 +143,7 @@ pub record IsRowOf (s : ListSort) (r : Row) (cs : List Child) : Type 0 where
   pub row : items_row s cs ≡ r
   pub fit : All (λ c. IsItem s (child_sort c)) cs
 
--- items that stand as one child each
+-- items that are one child each
 module _ {T : Type 0} (child : T → Child) where
   shapes_of : (shape : T → Shape) → ((x : T) → child_shapes (child x) ≡ also (shape x) none) → (xs : List T) → children_shapes (map child xs) ≡ item_shapes shape xs
   shapes_of shape one [] = refl
@@ -260,7 +264,7 @@ pub record IsListed (rows : List Row) (l : StoredList) (cs : List Child) : Type 
   pub fit : All (λ c. IsItem (list_sort l) (child_sort c)) cs
   pub older : AreOlder rows (age rows (list_table l) (list_number l)) (children_shapes cs)
 
--- the children of a stored list are those of its row
+-- the children of a stored list are its row's
 row_children : (rows : List Row) (l : StoredList) (r : Row) → slice_get (table (list_table l) rows) (list_number l) ≡ Some r → children_at rows l ≡ children_of r
 unfolding children_at
 row_children rows l r at = ap children_of (get_or-some (table (list_table l) rows) (list_number l) (text_row []) r at)
@@ -319,7 +323,7 @@ is_node rows are n k same at =
       older = subst (IsOlder rows (age rows (node_table n) (node_number n))) (kind_row_shape k) (older_row rows are (node_table n) (node_number n) (kind_row k) here);
     }
 
--- the row of a term is that of a kind
+-- the row of a term is a kind's
 row_of_kind : (n : Node) → (node_table n ≡ ClauseLists → ⊥) → (r : Row) → row_table r ≡ node_table n → (kind_row (row_kind r) ≡ r) × (kind_table (row_kind r) ≡ node_table n)
 row_of_kind (node_is.Ty t) other (type_row k) e = (refl, refl)
 row_of_kind (node_is.Const x) other (const_row k) e = (refl, refl)
@@ -336,7 +340,7 @@ row_kind-back (kind.Pat k) = refl
 row_kind-back (kind.Predicate b) = refl
 row_kind-back (kind.Existential b) = refl
 
--- the kind of a stored term is that of its row
+-- the kind of a stored term is its row's
 kind_of_row : (rows : List Row) (n : Node) (r : Row) → slice_get (table (node_table n) rows) (node_number n) ≡ Some r → stored_kind rows n ≡ row_kind r
 unfolding stored_kind
 kind_of_row rows n r at = ap row_kind (get_or-some (table (node_table n) rows) (node_number n) (text_row []) r at)

@@ -295,7 +295,7 @@ items_from-item_shapes : {T : Type 0} (shape : T → Shape) (item : Shape → T)
 items_from-item_shapes shape item back [] = refl
 items_from-item_shapes shape item back (x ∷ xs) = let first = back x in let others = items_from-item_shapes shape item back xs in cc
 
--- the term that stands as the only or the last part
+-- the term that is the only or the last part
 term_back : (t : Term) → term_from (part_at 0 (child_shapes (term_child t))) ≡ t
 term_back t = ap (λ k. record { kind = k }) (by t.kind)
   where
@@ -303,7 +303,7 @@ term_back t = ap (λ k. record { kind = k }) (by t.kind)
     by (term_kind.Ty t) = refl
     by (term_kind.Const c) = refl
 
--- the terms that stand as two parts
+-- the terms that are two parts
 terms_back : (a b : Term) (r : AliasRelationDirection)
     → predicate_from (alias_relate_record r) (append (child_shapes (term_child a)) (child_shapes (term_child b))) ≡ predicate.AliasRelate a b r
 terms_back a b r = by a.kind b.kind
@@ -314,7 +314,7 @@ terms_back a b r = by a.kind b.kind
     by (term_kind.Const c) (term_kind.Ty u) = refl
     by (term_kind.Const c) (term_kind.Const d) = refl
 
--- the term that stands alone
+-- the term that is alone
 alone_back : (t : Term) → term_from (part_at 0 (append (child_shapes (term_child t)) none)) ≡ t
 alone_back t = ap (λ k. record { kind = k }) (by t.kind)
   where

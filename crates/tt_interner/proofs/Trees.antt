@@ -11,6 +11,7 @@ use Rattle.tt_interner.proofs.Fill.{fill-one_row, Distinguishes, tree_table}
 use Rattle.tt_interner.proofs.Growth.{HasParts-more, row-same}
 use Rattle.tt_interner.proofs.RowLaws.{IsNewest, place_cases, row-old, row-new, size-more, meaning-old, meaning-new}
 use Rattle.tt_interner.proofs.ShapeLaws.{shape_one, root_of_row, text_of_row, vars_of_row}
+use Rattle.tt_interner.proofs.ViewLaws.{row_no_view}
 
 -- a row that is new is none of the tables'
 pub IsNew-row : (r : Row) (rows : List Row) → IsNew r rows → (t : Table) (n : ℕ) (q : Row) → slice_get (table t rows) n ≡ Some q → q ≡ r → ⊥
@@ -60,7 +61,7 @@ pub row_at_newest : (r : Row) (rows : List Row) (t : Table) (n : ℕ) → IsNewe
 row_at_newest r rows t n newest = subst (λ u. slice_get (table u (r ∷ rows)) n ≡ Some r) newest.same_table
     (subst (λ m. slice_get (table (row_table r) (r ∷ rows)) m ≡ Some r) (ap (size rows) newest.same_table ∙ sym newest.last) (row-new r rows))
 
--- a handle's tree is that of its row's shape
+-- a handle's tree comes of its row's shape
 pub Means-row : (rows : List Row) → AreRows rows → (t : Table) (n : ℕ) (q : Row) → slice_get (table t rows) n ≡ Some q → Means rows t n q
 unfolding table AreRows
 Means-row [] are t n q e = absurd (none-some q e)
@@ -102,7 +103,7 @@ new_tree r rows are d parts new u m h e =
     let at = row_within rows u m h in
     let means = Means-row rows are u m at.0 at.1 in
     IsNew-row r rows new u m at.0 at.1
-    (shape_one at.0 r (sym (fill-one_row (size rows) (meaning rows) d (row_shape r) (row_shape at.0) parts means.parts (e ∙ means.tree))))
+    (shape_one at.0 r (sym (fill-one_row (size rows) (meaning rows) d (row_shape r) (row_shape at.0) (row_no_view r) (row_no_view at.0) parts means.parts (e ∙ means.tree))))
 
 -- the tree of the new row's handle
 newest_tree : (r : Row) (rows : List Row) (t : Table) (n : ℕ) → IsNewest r rows t n → meaning (r ∷ rows) t n ≡ fill (meaning rows) (row_shape r)

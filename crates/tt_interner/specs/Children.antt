@@ -32,7 +32,7 @@ pat_child p = child.Node (node.Pat p)
 abbrev pub existential_child : PolyExistentialPredicate → Child
 existential_child p = child.Node (node.Existential p)
 
--- a clause, as a child: it stands as a predicate
+-- a clause, as a child: it is there as a predicate
 abbrev pub clause_child : Clause → Child
 clause_child c = child.Node (node.Predicate (record { number = c.number }))
 
@@ -56,32 +56,32 @@ children_of _ = []
 unfoldable pub children_at : List Row → StoredList → List Child
 children_at rows l = children_of (get_or (table (list_table l) rows) (list_number l) (text_row []))
 
--- the type that stands as a child
+-- the type that a child is
 abbrev pub child_ty : Child → Ty
 child_ty (child.Node (node.Ty t)) = t
 child_ty _ = record { number = 0 }
 
--- the constant that stands as a child
+-- the constant that a child is
 abbrev pub child_const : Child → Const
 child_const (child.Node (node.Const c)) = c
 child_const _ = record { number = 0 }
 
--- the pattern that stands as a child
+-- the pattern that a child is
 abbrev pub child_pat : Child → Pat
 child_pat (child.Node (node.Pat p)) = p
 child_pat _ = record { number = 0 }
 
--- the existential predicate that stands as a child
+-- the existential predicate that a child is
 abbrev pub child_existential : Child → PolyExistentialPredicate
 child_existential (child.Node (node.Existential p)) = p
 child_existential _ = record { number = 0 }
 
--- the clause that stands as a child
+-- the clause that a child is
 abbrev pub child_clause : Child → Clause
 child_clause (child.Node (node.Predicate p)) = record { number = p.number }
 child_clause _ = record { number = 0 }
 
--- the generic argument that stands as a child
+-- the generic argument that a child is
 abbrev pub child_arg : Child → GenericArgKind
 child_arg (child.Region r) = arg.Lifetime r
 child_arg (child.Node (node.Const c)) = arg.Const c

@@ -26,7 +26,7 @@ row_at rows t n = get_or (table t rows) n (text_row [])
 abbrev pub is_same : Placeholder BoundConst → Placeholder BoundConst → Bool
 is_same p q = (q.universe == p.universe) && (q.bound.var == p.bound.var)
 
--- the row is that of the placeholder constant p
+-- the row is the placeholder constant p
 abbrev pub is_row_of : Placeholder BoundConst → Row → Bool
 is_row_of p (const_row (const.Placeholder q)) = is_same p q
 is_row_of p _ = false
@@ -41,7 +41,7 @@ abbrev pub bound_of_predicate : PredicateKind → Option (Const × Ty)
 bound_of_predicate (predicate.Clause k) = bound_of_clause k
 bound_of_predicate _ = None
 
--- the same of a stored predicate, as it stands under its binder
+-- the same of a stored predicate, as it is under its binder
 abbrev pub bound_of_row : Row → Option (Const × Ty)
 bound_of_row (predicate_row b) = bound_of_predicate b.value
 bound_of_row _ = None

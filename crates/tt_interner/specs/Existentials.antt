@@ -14,7 +14,7 @@ use Rattle.tt_kinds.specs.declared.table.Table.TheVariants.{Existentials, Existe
 use Rattle.tt_interner.specs.Rows.{Row, existential_row, existentials_row, row_table, size, meaning, IsNew}
 use Rattle.tt_interner.specs.Stored.{Terms, Extends, IsAt, Stores, Builds, LacksItems}
 
--- what stands in each of the predicates is in range
+-- the handles and names in each of the predicates are in range
 abbrev pub HaveParts : List Row → List (Binder ExistentialPredicate) → Type 0
 HaveParts rows ps = All (λ p. HasParts (size rows) (existential_kind_shape p)) ps
 
@@ -93,7 +93,7 @@ pub record BuildsAll (result : Result BoundExistentialPredicates Refusal) (old n
   pub full : (done : List (Binder ExistentialPredicate)) (hs : List PolyExistentialPredicate) → AreStored old.rows done hs → NextLacksRoom old.limit old.rows ps done hs
       → (result ≡ Err TableFull) ⊎ LacksItems result ps
 
--- some of the predicates were stored, and the result is that of the call that stores the next row, which is the last call
+-- some of the predicates were stored, and the result is the one of the call that stores the next row, which is the last call
 pub record PutsEach (result : Result BoundExistentialPredicates Refusal) (old new : Terms) (ps : List (Binder ExistentialPredicate)) : Type 0 where
   pub done : List (Binder ExistentialPredicate)
   pub left : List (Binder ExistentialPredicate)

@@ -2,6 +2,7 @@ pub mod Clauses
 pub mod Rows
 pub mod Children
 pub mod Stored
+pub mod Chained
 pub mod Tables
 pub mod OwnFlags
 pub mod Kept

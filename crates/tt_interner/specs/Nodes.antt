@@ -11,7 +11,7 @@ use Rattle.tt_kinds.specs.declared.parts.Parts.{Parts}
 use Rattle.tt_interner.specs.Rows.{Row, type_row, const_row, pat_row, predicate_row, existential_row, text_row, kind_row, table}
 use Rattle.tt_interner.specs.Stored.{Terms, Builds}
 
--- the kind of a row; that of a list or a text is never asked
+-- the kind of a row; a list or a text is never asked for one
 abbrev pub row_kind : Row → Kind
 row_kind (type_row k) = kind.Ty k
 row_kind (const_row k) = kind.Const k

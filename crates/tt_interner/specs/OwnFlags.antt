@@ -1,4 +1,4 @@
--- What a kind has of its own, beside what stands in it.
+-- What a kind has of its own, beside its contents.
 use Rattle.std.specs.Prelude.{ℕ, ◌<◌, bit_or, Option, Some, None, ⊤}
 use Rattle.tt_kinds.specs.Label.{Sort, Label, flags_of_label}
 use Rattle.tt_kinds.specs.Shape.{Sizes, IsNamedKind, IsNamedRecord, IsNamedLabel}

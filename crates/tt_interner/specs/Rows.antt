@@ -2,7 +2,7 @@
 use Rattle.std.specs.Prelude.{◌≢◌, ◌≡◌, ℕ, ◌==◌, ◌<◌, ◌≤◌, Bool, ◌&&◌, List, [], ◌∷◌, ◌++◌, length, ⊤, if◌then◌else◌, IsTrue}
 use Rattle.tt_kinds.specs.Tree as tree
 use Rattle.tt_kinds.specs.Label.{text_label}
-use Rattle.tt_kinds.specs.Shape.{Shape, Shapes, param, bound, region, term, node, binder, stored, none, also, Meaning, fill, Sizes, HasParts, IsTooDeep}
+use Rattle.tt_kinds.specs.Shape.{Shape, Shapes, param, bound, region, term, node, binder, stored, part_of, none, also, Meaning, fill, Sizes, HasParts, IsTooDeep}
 use Rattle.tt_kinds.specs.Kinds.{ty_kind_shape, const_kind_shape, pattern_kind_shape, predicate_kind_shape, existential_kind_shape, clauses_row_shape, tys_row_shape, consts_row_shape, args_row_shape, pats_row_shape, vars_row_shape, existentials_row_shape, text_row_shape, declaration_row_shape}
 use Rattle.tt_kinds.specs.Values.{assumptions_row_shape}
 use Rattle.tt_kinds.specs.declared.handle.Ty.{Ty}
@@ -45,7 +45,7 @@ pub data Row : Type 0 where
   -- a declaration, and its place among the declarations: two of them may have one name
   declared_row : ℕ → Declaration → Row
 
--- the table that a row stands in
+-- the table that a row is in
 abbrev pub row_table : Row → Table
 row_table (type_row k) = Types
 row_table (const_row k) = Consts
@@ -107,7 +107,7 @@ table_number AssumptionLists = 12
 table_number Symbols = 13
 table_number Declarations = 14
 
--- the row stands in the table
+-- the row is in the table
 abbrev pub is_in : Table → Row → Bool
 is_in t r = table_number (row_table r) == table_number t
 
@@ -120,7 +120,7 @@ table t (r ∷ rows) = if is_in t r then table t rows ++ r ∷ [] else table t r
 abbrev pub size : List Row → Sizes
 size rows t = length (table t rows)
 
--- the tree of a handle: that of its row's shape, whose handles mean what they meant before the row came
+-- the tree of a handle: its row's shape filled, whose handles mean what they meant before the row came
 unfoldable pub meaning : List Row → Meaning
 meaning [] t n = tree.node (text_label []) tree.none
 meaning (r ∷ rows) t n = if is_in t r && (n == length (table t rows)) then fill (meaning rows) (row_shape r) else meaning rows t n
@@ -135,7 +135,7 @@ unfoldable pub IsNew : Row → List Row → Type 0
 IsNew r [] = ⊤
 IsNew r (q ∷ rows) = (q ≢ r) × IsNew r rows
 
--- the number is that of a predicate that is a clause
+-- the number names a predicate that is a clause
 pub record IsClause (rows : List Row) (n : ℕ) : Type 0 where
   pub within : n < size rows Predicates
   pub clause : IsTrue (is_clause_tree (meaning rows Predicates n))
@@ -155,7 +155,7 @@ unfoldable pub AreRows : List Row → Type 0
 AreRows [] = ⊤
 AreRows (r ∷ rows) = HasParts (size rows) (row_shape r) × IsNew r rows × (IsTooDeep (row_shape r) → ⊥) × HoldsClauses rows r × AreRows rows
 
--- the handles that stand in a shape came before so many rows
+-- the handles in a shape came before so many rows
 abbrev mutual
   pub IsOlder : List Row → ℕ → Shape → Type 0
   IsOlder rows a (param s i name) = ⊤
@@ -165,6 +165,7 @@ abbrev mutual
   IsOlder rows a (node l ss) = AreOlder rows a ss
   IsOlder rows a (binder n s) = IsOlder rows a s
   IsOlder rows a (stored t n) = age rows t n < a
+  IsOlder rows a (part_of t n e) = age rows t n < a
 
   -- the same of shapes in order
   pub AreOlder : List Row → ℕ → Shapes → Type 0

@@ -148,7 +148,7 @@ declared_entries n (d ∷ ds) = record { row = declared_row n d; info = no_info 
 abbrev pub listed_by : {K X V : Type 0} → (K → X) → List (K × V) → List (X × V)
 listed_by hold es = map (λ e. (hold e.0, e.1)) es
 
--- the infos are those of the table's trees
+-- the infos belong to the table's trees
 pub record AreInfos (rows : List Row) (t : Table) (infos : List FlagComputation) : Type 0 where
   pub as_many : length infos ≡ size rows t
   pub each : (n : ℕ) (info : FlagComputation) → slice_get infos n ≡ Some info → IsInfo info (meaning rows t n)

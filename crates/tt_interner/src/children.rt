@@ -1,4 +1,4 @@
-//! Lists of children, and the typed lists that they stand for.
+//! Lists of children, and the typed lists that they are.
 
 ghost use Rattle.std.specs.Prelude.{◌≡◌, ◌<◌, ◌≤◌, length, slice_get, take, map, All, IfOk, Some};
 ghost use Rattle.tt_kinds.specs.Parts.{child_sort, IsItem};
@@ -50,7 +50,7 @@ pub(crate) trait ListItem: Copy + Drop {
 
     ghost as_child: { Self → Child };
 
-    /// Returns the item that stands as this child.
+    /// Returns the item that this child is.
     fn from_child(child: &Child) -> Self
         requires { IsItem sort (child_sort child.now) }
         ensures { as_child result ≡ child.now };
@@ -61,7 +61,7 @@ pub(crate) const MOST_IN_PLACE: usize = 8;
 
 /// What a list of one sort holds, with the calls that store it.
 pub(crate) trait StoredItem: ListItem {
-    /// Returns the stored list of the items that stand as these children, which are collected in place: what is there
+    /// Returns the stored list of the items that these children are, which are collected in place: what is there
     /// is found without memory.
     fn store_few(cx: &mut Interner, children: &[Child]) -> Result<List, Refusal>
         requires parts { AreParts (size cx.old.rows) (children_shapes children.now) }
@@ -360,7 +360,7 @@ impl StoredItem for GenericArg {
     }
 }
 
-// Puts the items that stand as these children into the first places.
+// Puts the items that these children are into the first places.
 fn put_items<T: ListItem>(places: &mut [T], children: &[Child])
     requires fit { All (λ c. IsItem T.sort (child_sort c)) children.now }
     requires room { length children.now ≤ length places.old }
@@ -371,7 +371,7 @@ fn put_items<T: ListItem>(places: &mut [T], children: &[Child])
     }
 }
 
-/// Returns the items that stand as these children.
+/// Returns the items that these children are.
 pub(crate) fn collect<T: ListItem>(alloc: Global, children: &[Child]) -> Result<Vec<T>, AllocError>
     requires { All (λ c. IsItem T.sort (child_sort c)) children.now }
     ensures { IfOk result (λ items. map T.as_child items.items ≡ children.now) }
@@ -383,7 +383,7 @@ pub(crate) fn collect<T: ListItem>(alloc: Global, children: &[Child]) -> Result<
     Ok(items)
 }
 
-/// Returns the stored list of the items that stand as these children. More than a few are kept as the list's, by one
+/// Returns the stored list of the items that these children are. More than a few are kept as the list's, by one
 /// look-up.
 pub(crate) fn store_items<T: StoredItem>(
     cx: &mut Interner,

@@ -1,6 +1,7 @@
-//! The flags of terms: those of a new term from what is kept beside its parts, and those of a stored one as they are kept.
+//! The flags of terms: a new term's from what is kept beside its parts, and a stored one's as they are kept.
 
 ghost use Rattle.std.specs.Prelude.{◌≡◌, ◌↔◌, ◌<◌, ℕ, map, IsTrue};
+ghost use Rattle.tt_index.specs.Greatest.{greatest};
 ghost use Rattle.tt_kinds.specs.Bound.{var_kind};
 ghost use Rattle.tt_kinds.specs.Parts.{node_number, node_table, list_number, list_table};
 ghost use Rattle.tt_kinds.specs.Label.{Sort, type_sort, const_sort, Label, type_label, const_label, list_flags};
@@ -44,7 +45,7 @@ ghost use Rattle.tt_interner.specs.OwnFlags.{own_flags, own_reach};
 
 use crate::interner::Interner;
 use tt_flags::{FlagComputation, TypeFlags};
-use tt_index::DebruijnIndex;
+use tt_index::{DebruijnIndex, GREATEST_INDEX};
 use tt_kinds::{
     AliasTyKind, Binder, BoundExistentialPredicates, BoundVarIndexKind, BoundVarKinds,
     BoundVariableKind, Child, Clause, Clauses, Const, ConstKind, Consts, GenericArg,
@@ -53,7 +54,7 @@ use tt_kinds::{
     Ty, TyKind, Tys,
 };
 
-/// What has its flags and its outer exclusive binder at hand. What stands in it has to be of the interner.
+/// What has its flags and its outer exclusive binder at hand. Every handle and name in it has to be the interner's.
 pub trait Flags {
     // What the value holds.
     ghost flags_shape: { Self → Shape };
@@ -63,7 +64,7 @@ pub trait Flags {
         requires { IsPart (size cx.now.rows) (flags_shape self.now) }
         ensures { result.bits ≡ scan (fill (meaning cx.now.rows) (flags_shape self.now)) };
 
-    /// Returns the least index above those of all bound variables that escape the term, and 0 where none does.
+    /// Returns the least index above the indices of all bound variables that escape the term, and 0 where none does.
     fn outer_exclusive_binder(&self, cx: &Interner) -> DebruijnIndex
         requires { IsPart (size cx.now.rows) (flags_shape self.now) }
         ensures { result ≡ outer_binder (fill (meaning cx.now.rows) (flags_shape self.now)) };
@@ -350,7 +351,7 @@ impl Flags for OutlivesPredicate<GenericArg> {
     }
 }
 
-/// What a kind has of its own, beside what stands in it.
+/// What a kind has of its own, beside the flags of its contents.
 pub trait OwnFlags {
     ghost form: { Self → Form (Label ℕ) };
 
@@ -360,7 +361,7 @@ pub trait OwnFlags {
     fn is_too_deep(&self) -> bool
         ensures { IsTrue result ↔ IsTooDeep (form_shape sort (form self.now)) };
 
-    /// Returns the flags that the kind has beside those of its parts.
+    /// Returns the flags that the kind has beside its parts' flags.
     fn own_flags(&self) -> TypeFlags
         ensures { result.bits ≡ own_flags sort (form self.now) };
 
@@ -459,20 +460,24 @@ impl OwnFlags for ConstKind {
     }
 }
 
-/// What is computed of a term that isn't stored yet. What stands in it has to be of the interner.
+/// What is computed of a term that isn't stored yet. Every handle and name in it has to be the interner's.
 pub trait ForKind {
-    /// Returns the flags of a type of this kind, and how far its bound variables reach. [`OwnFlags::is_too_deep`] must
-    /// not hold.
+    /// Returns the flags of a type of this kind, and how far its bound variables reach: as far as an index can where the
+    /// kind is a bound variable with the greatest index, above which there is none.
     fn for_kind(cx: &Interner, kind: &TyKind) -> FlagComputation
-        requires parts { HasParts (size cx.now.rows) (ty_kind_shape kind.now) }
-        requires shallow { IsTooDeep (ty_kind_shape kind.now) → ⊥ }
-        ensures { IsInfo result (fill (meaning cx.now.rows) (ty_kind_shape kind.now)) };
+        requires { HasParts (size cx.now.rows) (ty_kind_shape kind.now) }
+        ensures flags { result.flags.bits ≡ scan (fill (meaning cx.now.rows) (ty_kind_shape kind.now)) }
+        ensures outer { (IsTooDeep (ty_kind_shape kind.now) → ⊥)
+            → IsInfo result (fill (meaning cx.now.rows) (ty_kind_shape kind.now)) }
+        ensures deepest { IsTooDeep (ty_kind_shape kind.now) → result.outer_exclusive_binder ≡ greatest };
 
-    /// Returns the same of a constant of this kind. [`OwnFlags::is_too_deep`] must not hold.
+    /// Returns the same of a constant of this kind.
     fn for_const_kind(cx: &Interner, kind: &ConstKind) -> FlagComputation
-        requires parts { HasParts (size cx.now.rows) (const_kind_shape kind.now) }
-        requires shallow { IsTooDeep (const_kind_shape kind.now) → ⊥ }
-        ensures { IsInfo result (fill (meaning cx.now.rows) (const_kind_shape kind.now)) };
+        requires { HasParts (size cx.now.rows) (const_kind_shape kind.now) }
+        ensures flags { result.flags.bits ≡ scan (fill (meaning cx.now.rows) (const_kind_shape kind.now)) }
+        ensures outer { (IsTooDeep (const_kind_shape kind.now) → ⊥)
+            → IsInfo result (fill (meaning cx.now.rows) (const_kind_shape kind.now)) }
+        ensures deepest { IsTooDeep (const_kind_shape kind.now) → result.outer_exclusive_binder ≡ greatest };
 
     /// Returns the same of a predicate under its binder.
     fn for_predicate(cx: &Interner, predicate: &Binder<PredicateKind>) -> FlagComputation
@@ -487,10 +492,16 @@ pub trait ForKind {
 
 impl ForKind for FlagComputation {
     fn for_kind(cx: &Interner, kind: &TyKind) -> FlagComputation {
+        if kind.is_too_deep() {
+            return deepest_info(kind.own_flags());
+        }
         kind_info(cx, &Kind::Ty(*kind))
     }
 
     fn for_const_kind(cx: &Interner, kind: &ConstKind) -> FlagComputation {
+        if kind.is_too_deep() {
+            return deepest_info(kind.own_flags());
+        }
         kind_info(cx, &Kind::Const(*kind))
     }
 
@@ -500,6 +511,16 @@ impl ForKind for FlagComputation {
 
     fn for_clauses(cx: &Interner, clauses: &[Clause]) -> FlagComputation {
         items_info(cx, clauses)
+    }
+}
+
+// What is computed of a bound variable with the greatest index.
+fn deepest_info(flags: TypeFlags) -> FlagComputation
+    ensures { result ≡ computed flags.bits greatest }
+{
+    FlagComputation {
+        flags,
+        outer_exclusive_binder: DebruijnIndex::from_u32(GREATEST_INDEX),
     }
 }
 

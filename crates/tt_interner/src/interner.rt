@@ -35,7 +35,8 @@ use tt_kinds::{
     Table, Ty, TyKind,
 };
 
-/// Keeps each type, constant, pattern, predicate, list and text once, so that equal handles of one table stand for the same term.
+/// Keeps each type, constant, pattern, predicate, list and text once, so that equal handles of one table are the same
+/// term.
 ///
 /// A table has at most as many rows as the interner's limit says; what is stored is never removed.
 #[derive(Drop)]
@@ -142,7 +143,7 @@ impl Interner {
         let _order = &self.order;
     }
 
-    /// That handles of one table are equal exactly where what they stand for is equal. It does nothing; the contract gives
+    /// That handles of one table are equal exactly where their terms are equal. It does nothing; the contract gives
     /// callers the fact.
     pub fn are_interned(&self)
         ensures { AreInterned self.now.rows }

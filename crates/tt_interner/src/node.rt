@@ -62,7 +62,7 @@ use tt_kinds::{
     PolyExistentialPredicate, Table, Ty,
 };
 
-/// What stands in a stored term.
+/// The contents of a stored term.
 #[derive(Clone, Copy, Debug, PartialEq, Eq)]
 pub struct Contents {
     /// The variables of the binder around the children, if there is one.
@@ -108,7 +108,7 @@ impl Interner {
         }
     }
 
-    /// Returns what stands in a stored term, read in the interner's memory. The term is as [`Interner::node_kind`]
+    /// Returns the contents of a stored term, read in the interner's memory. The term is as [`Interner::node_kind`]
     /// wants it.
     #[inline(always)]
     pub fn node_parts(&self, node: Node) -> Contents
@@ -128,7 +128,7 @@ impl Interner {
         self.contents_at(node)
     }
 
-    // What stands in a stored term.
+    // The contents of a stored term.
     #[inline(always)]
     fn contents_at(&self, node: Node) -> Contents
         requires owned { node_number node < size self.now.rows (node_table node) }
@@ -228,7 +228,7 @@ impl Interner {
         }
     }
 
-    /// Returns the stored term of this kind. What stands in the kind has to be of this interner. Refused as
+    /// Returns the stored term of this kind. Every handle and name in the kind has to be this interner's. Refused as
     /// [`Interner::mk_ty`] is.
     #[inline(always)]
     pub fn store(&mut self, kind: Kind) -> Result<Node, Refusal>

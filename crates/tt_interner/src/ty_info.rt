@@ -11,15 +11,15 @@ use std::ops::Deref;
 use tt_flags::TypeFlags;
 use tt_index::DebruijnIndex;
 
-/// A value with its flags beside it. Two are compared, ordered and hashed by their values alone, since equal values have
-/// equal flags.
+/// A value with its flags beside it. Two are compared, ordered and hashed by their values alone, since equal values
+/// have equal flags.
 #[derive(Clone, Copy, Debug)]
 pub struct WithCachedTypeInfo<T> {
     /// The value.
     pub internee: T,
     /// The flags of the value.
     pub flags: TypeFlags,
-    /// The least index above those of all bound variables that escape the value.
+    /// The least index above the indices of all bound variables that escape the value.
     pub outer_exclusive_binder: DebruijnIndex,
 }
 

@@ -1,4 +1,4 @@
--- What stands in a kind is in range exactly where it is in the kind as a value by itself.
+-- The contents of a kind are in range exactly where they are in the kind as a value by itself.
 use Rattle.std.proofs.Common.{ℕ, Option, Some, None, refl}
 use Rattle.tt_kinds.specs.Label.{Sort, type_sort, const_sort, RecordLabel, Label, type_label, const_label, record_label, bare_type_record, bare_const_record, error_of_type, error_of_const}
 use Rattle.tt_kinds.specs.Shape.{Shapes, Sizes, IsPart, AreParts, HasParts, IsNamedLabel, append}

@@ -31,7 +31,7 @@ argument-other {J = J} args s i h g = other (slice_get args i) h g
     other (Some a) x y = different (same_sort s a.sort) a x y
 
 module _ (args : List (Argument Depth)) (t : Tree Depth) (answered : IsAnswered args t) where
-  -- where each parameter has its argument, none of the causes that speak of parameters stands
+  -- where each parameter has its argument, none of the causes that speak of parameters holds
   pub Cause-no_arguments : Cause t args NoArguments → ⊥
   Cause-no_arguments h = HasParam-never (λ s i. ⊤) (λ s i. IsSome (argument args s i)) (λ s i x y. argument-past args s i (rw h.0 (omega arith)) y) t h.1 answered
 
@@ -41,7 +41,7 @@ module _ (args : List (Argument Depth)) (t : Tree Depth) (answered : IsAnswered 
   pub Cause-kind : (index : ℕ) → Cause t args (ArgKind index) → ⊥
   Cause-kind index h = HasParam-never (λ s i. (i ≡ index) × HasOtherSort args s i) (λ s i. IsSome (argument args s i)) (λ s i x y. argument-other args s i x.1 y) t h answered
 
--- where each parameter has its argument and no region variable is exposed, no cause stands
+-- where each parameter has its argument and no region variable is exposed, no cause holds
 pub Cause-never : (args : List (Argument Depth)) (t : Tree Depth) → IsAnswered args t → HidesRegionVars t → (e : Refusal) → Cause t args e → ⊥
 Cause-never args t answered hides Memory h = h
 Cause-never args t answered hides TableFull h = h

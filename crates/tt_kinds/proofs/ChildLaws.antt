@@ -32,7 +32,7 @@ always_on : (b : Bool) {P : Type 0} → P → OnTrue b P
 always_on true h = h
 always_on false h = tt
 
--- a cause that stands in a child of a node with parameters stands in the node
+-- a cause in a child of a node with parameters is a cause in the node
 pub Cause-child : (args : List (Argument Depth)) (l : Label Name) (t : Tree Depth) (ts : Forest Depth) → Among t ts → IsGeneric_among ts →
     (e : Refusal) → Cause t args e → Cause (term l ts) args e
 Cause-child args l t ts m g Memory h = h
@@ -56,7 +56,7 @@ HidesRegionVars-also t ts first rest x h = elim h [ inl a ↦ first x a | inr b 
 pub HidesRegionVars-term : {I : Type 0} (l : Label Name) (ts : Forest I) → HidesRegionVars_among ts → HidesRegionVars (term l ts)
 HidesRegionVars-term l ts h x g = h x g.1
 
--- a type, predicate or clause list without parameters hides what stands in it
+-- a type, predicate or clause list without parameters hides its contents
 pub HidesRegionVars-stored : {I : Type 0} (l : Label Name) (ts : Forest I) → is_type_or_clause l ≡ true → (IsGeneric_among ts → ⊥) → HidesRegionVars (term l ts)
 HidesRegionVars-stored l ts is never x g = never (at_true (is_type_or_clause l) is g.0)
   where

@@ -17,7 +17,7 @@ use Rattle.tt_kinds.specs.Plain.{shift_tree, inst_tree}
 use Rattle.tt_kinds.specs.Matched.{MatchedUnder}
 use Rattle.tt_kinds.specs.Met.{met, placed}
 use Rattle.tt_kinds.specs.Scan.{scan}
-use Rattle.tt_kinds.specs.Shape.{Meaning, fill}
+use Rattle.tt_kinds.specs.Shape.{Meaning, all_but_last, span, items_in, fill}
 use Rattle.tt_kinds.specs.Bare.{token_shape, bare_ty_shape}
 use Rattle.tt_kinds.specs.declared.ty_kind.TyKind.TheVariants as ty
 use Rattle.tt_kinds.specs.Cause.{Cause}
@@ -440,3 +440,13 @@ bare_error_says f = (refl, refl)
 bare_param_says : (f : Meaning) → Says (fill f (bare_ty_shape (ty.Param (record { index = 0; name = record { number = 0 } })))) 0 0
 unfolding fill
 bare_param_says f = (refl, refl)
+
+-- of a part that reaches beyond its list, what is there; and an empty list has no last item
+abbrev two : Forest Depth
+two = also i32 (also (parameter 0) none)
+
+part_says : (items_in (span 1 7) two ≡ also (parameter 0) none) × (items_in (span 0 1) two ≡ also i32 none) × (items_in (span 5 1) two ≡ none)
+part_says = (refl, refl, refl)
+
+inputs_say : (items_in all_but_last two ≡ also i32 none) × (items_in all_but_last none ≡ none)
+inputs_say = (refl, refl)

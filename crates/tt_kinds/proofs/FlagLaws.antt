@@ -1,4 +1,4 @@
--- The flags for parameters are set exactly where a parameter stands.
+-- The flags for parameters are set exactly where a parameter occurs.
 use Rattle.std.proofs.Common.{◌≡◌, ℕ, max, List, [], ◌∷◌, refl, ap, sym, ◌∙◌, arith}
 use Rattle.std.specs.Prelude.{Bool, true, false, ◌||◌, bit_or}
 use Rattle.std.specs.Int.{bit_at}
@@ -68,7 +68,7 @@ under vs n b h = param_bit-or (list_flags vs) n ∙ ap (λ m. max m (param_bit n
 both : (m n : ℕ) (a b : Bool) → param_bit m ≡ as_number a → param_bit n ≡ as_number b → param_bit (bit_or m n) ≡ as_number (a || b)
 both m n a b p q = param_bit-or m n ∙ ap (λ x. max x (param_bit n)) p ∙ ap (max (as_number a)) q ∙ sym (as_number-or a b)
 
--- where labels set none of the three, they are set exactly where a parameter stands
+-- where labels set none of the three, they are set exactly where a parameter occurs
 module _ (no_label : (l : Label Name) → param_bit (flags_of_label l) ≡ 0) where
   mutual
     pub param_bit-scan : (t : Tree Depth) → param_bit (scan t) ≡ as_number (holds_param t)

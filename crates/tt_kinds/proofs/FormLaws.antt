@@ -19,7 +19,7 @@ use Rattle.tt_kinds.specs.declared.parts.ListSort.TheVariants as sort
 use Rattle.tt_kinds.specs.declared.parts.Kind.{Kind}
 use Rattle.tt_kinds.specs.declared.parts.Kind.TheVariants as kind
 
--- a type's row stands in the table of types, and a constant's in that of constants
+-- a type's row is in the table of types, and a constant's in the table of constants
 ty_table : (f : Form TypeLabel) → shape_table (form_shape type_sort (relabelled type_label f)) ≡ Some Types
 ty_table (param i name) = refl
 ty_table (bound d e) = refl
@@ -32,7 +32,7 @@ const_table (bound d e) = refl
 const_table (plain l p) = refl
 const_table (under l vars m p) = refl
 
--- a kind's row stands in the kind's table
+-- a kind's row is in the kind's table
 pub kind_shape-table : (k : Kind) → shape_table (kind_shape k) ≡ Some (kind_table k)
 kind_shape-table (kind.Ty k) = ty_table (ty_form k)
 kind_shape-table (kind.Const k) = const_table (const_form k)
@@ -40,7 +40,7 @@ kind_shape-table (kind.Pat k) = refl
 kind_shape-table (kind.Predicate b) = refl
 kind_shape-table (kind.Existential b) = refl
 
--- a list's row stands in the table of its sort
+-- a list's row is in the table of its sort
 pub items_shape-table : (s : ListSort) (ss : Shapes) → shape_table (items_shape s ss) ≡ Some (sort_list_table s)
 items_shape-table sort.Tys ss = refl
 items_shape-table sort.Consts ss = refl
@@ -49,7 +49,7 @@ items_shape-table sort.Pats ss = refl
 items_shape-table sort.Existentials ss = refl
 items_shape-table sort.Clauses ss = refl
 
--- a list's tree is that of its items
+-- a list's tree comes of its items
 pub fill-items : (f : Meaning) (s : ListSort) (ss : Shapes) → fill f (items_shape s ss) ≡ items_tree s (fill_all f ss)
 unfolding fill
 fill-items f sort.Tys ss = refl

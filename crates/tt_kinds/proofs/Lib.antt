@@ -15,3 +15,4 @@ pub mod FormLaws
 pub mod ValueLaws
 pub mod BareLaws
 pub mod Examples
+pub mod ForestLaws

@@ -12,7 +12,7 @@ pub placed_all-append : (k : ℕ) (t : Tree Depth) (ts : Forest Depth) (xs ys : 
     placed_all k (also t ts) (xs ++ ys) ≡ also (placed k t xs) (placed_all k ts ys)
 placed_all-append k t ts xs ys e = rw (← e, take-append_seam xs ys, drop-append_seam xs ys)
 
--- the regions as they stand
+-- the regions as they are written
 abbrev pub standing_regions : List Met → List (Tree Depth)
 standing_regions ms = map (λ m. m.standing) ms
 

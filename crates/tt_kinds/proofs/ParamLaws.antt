@@ -26,7 +26,7 @@ module _ {I : Type 0} (P : Sort → ℕ → Type 0) where
 
 module _ {I : Type 0} (P Q : Sort → ℕ → Type 0) (never : (s : Sort) (i : ℕ) → P s i → Q s i → ⊥) where
   mutual
-    -- no parameter stands in a tree of which each parameter is another one
+    -- no parameter occurs in a tree of which each parameter is another one
     pub HasParam-never : (t : Tree I) → HasParam P t → EachParam Q t → ⊥
     HasParam-never (param s i name) h g = never s i h g
     HasParam-never (bound s d e) h g = h
@@ -131,6 +131,6 @@ mutual
   EachParam_among-none P (also t ts) h =
       (EachParam-none P t ((or-false (holds_param t) (holds_param_among ts) h).0), EachParam_among-none P ts ((or-false (holds_param t) (holds_param_among ts) h).1))
 
--- where the test finds no parameter, none stands
+-- where the test finds no parameter, there is none
 pub IsGeneric-never : {I : Type 0} (t : Tree I) → holds_param t ≡ false → IsGeneric t → ⊥
 IsGeneric-never t h g = HasParam-never (λ s i. ⊤) (λ s i. ⊥) (λ s i x y. y) t g (EachParam-none (λ s i. ⊥) t h)

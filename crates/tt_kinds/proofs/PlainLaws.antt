@@ -1,4 +1,4 @@
--- The laws of shifting and instantiating by the indices as they are written, from those of readings.
+-- The laws of shifting and instantiating by the indices as they are written, from the laws of readings.
 use Rattle.std.proofs.Common.{◌≡◌, ℕ, ◌+◌, ◌-◌, List, [], ◌∷◌, refl, ap, sym, ◌∙◌}
 use Rattle.tt_kinds.specs.Label.{Name, VarKind}
 use Rattle.tt_kinds.specs.Tree.{Depth, Place, Tree, binder}
@@ -41,6 +41,6 @@ inst_tree-inst_tree k later args t answered = read-injective k _ _
     ∙ ap (λ as'. put as' (read k t)) (sym (readings-change_values (inst_tree 0 later) (put (readings later)) (read-inst_tree 0 later) args))
     ∙ sym (read-inst_tree k (change_values (inst_tree 0 later) args) t))
 
--- the outer binder of what stands under a binder falls by one
+-- the outer binder of what is under a binder falls by one
 pub outer_binder-binder : (vs : List (VarKind Name)) (t : Tree Depth) → outer_binder (binder vs t) ≡ outer_binder t - 1
 outer_binder-binder vs t = greatest_reach-deeper 1 0 t

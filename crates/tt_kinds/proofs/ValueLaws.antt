@@ -1,4 +1,4 @@
--- The records of kinds are those of the values inside them.
+-- The records of kinds are the records of the values inside them.
 use Rattle.std.proofs.Common.{◌≡◌, refl}
 use Rattle.tt_kinds.specs.Shape as shape
 use Rattle.tt_kinds.specs.Kinds.{child_shapes, term_kind_shape, term_shape}

@@ -43,6 +43,6 @@ change_value f a = record { sort = a.sort; value = f a.value }
 abbrev pub change_values : {I J : Type 0} → (Tree I → Tree J) → List (Argument I) → List (Argument J)
 change_values f args = map (change_value f) args
 
--- the readings of arguments that stand outside of each binder
+-- the readings of arguments outside of each binder
 abbrev pub readings : List (Argument Depth) → List (Argument Place)
 readings args = change_values (read 0) args

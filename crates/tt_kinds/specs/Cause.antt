@@ -15,7 +15,7 @@ IsRegionVar x _ = ⊥
 
 module _ {I : Type 0} (x : ℕ) where
   abbrev mutual
-    -- the region variable x stands in the tree where every type, predicate and clause list around it holds a parameter
+    -- the region variable x occurs in the tree where every type, predicate and clause list around it holds a parameter
     pub HasExposed : Tree I → Type 0
     HasExposed (param s i name) = ⊥
     HasExposed (bound s d e) = ⊥
@@ -28,7 +28,7 @@ module _ {I : Type 0} (x : ℕ) where
     HasExposed_among none = ⊥
     HasExposed_among (also t ts) = HasExposed t ⊎ HasExposed_among ts
 
--- each region variable of the tree stands in a type, predicate or clause list without parameters
+-- each region variable of the tree is in a type, predicate or clause list without parameters
 abbrev pub HidesRegionVars : {I : Type 0} → Tree I → Type 0
 HidesRegionVars t = (x : ℕ) → HasExposed x t → ⊥
 
@@ -36,7 +36,7 @@ HidesRegionVars t = (x : ℕ) → HasExposed x t → ⊥
 abbrev pub HasOtherSort : {I : Type 0} → List (Argument I) → Sort → ℕ → Type 0
 HasOtherSort args s i = IsSomeAnd (slice_get args i) (λ a. IsTrue (not (same_sort s a.sort)))
 
--- the refusal's reason stands in the tree and the arguments
+-- the refusal's reason is in the tree and the arguments
 abbrev pub Cause : Tree Depth → List (Argument Depth) → Refusal → Type 0
 Cause t args NoArguments = (args ≡ []) × IsGeneric t
 Cause t args (ArgOutOfRange index) = (args ≢ []) × HasParam (λ s i. i ≡ index) t × (length args ≤ index)

@@ -15,7 +15,7 @@ abbrev pub type_if : Bool → Tree Depth → ℕ → List TypeAt
 type_if b t k = if b then record { standing = t; under = k } ∷ [] else []
 
 abbrev mutual
-  -- each place of a tree under k binders where a type stands that holds a parameter and is none
+  -- each place of a tree under k binders where a type occurs that holds a parameter and is none
   pub generic_types : ℕ → Tree Depth → List TypeAt
   generic_types k (param s i name) = []
   generic_types k (bound s d e) = []
@@ -38,7 +38,7 @@ is_type_sort type_sort = true
 is_type_sort _ = false
 
 abbrev mutual
-  -- each place of a tree under k binders where a type stands that has a variable still to be shifted there
+  -- each place of a tree under k binders where a type occurs that has a variable still to be shifted there
   pub moving_types : ℕ → Tree Depth → List TypeAt
   moving_types k (param s i name) = []
   moving_types k (bound s d e) = type_if (is_type_sort s && nat_lt k (outer_binder (bound s d e))) (bound s d e) k

@@ -66,7 +66,7 @@ pub data Form (L : Type 0) : Type 0 where
   -- a bound variable
   bound : Depth → Entry ℕ → Form L
   plain : L → Parts → Form L
-  -- the parts stand in a record under a binder of these variables
+  -- the parts are in a record under a binder of these variables
   under : L → BoundVarKinds → RecordLabel ℕ → Parts → Form L
 
 -- the children
@@ -163,7 +163,7 @@ pattern_form (pattern.Range start end) = labelled range_pattern (two_parts (chil
 pattern_form (pattern.Or ps) = labelled or_pattern (one_part (child.List (list.Pats ps)))
 pattern_form pattern.NotNull = labelled not_null_pattern no_parts
 
--- what stands under a predicate's binder
+-- what is under a predicate's binder
 abbrev pub RecordForm : Type 0
 RecordForm = Labelled (RecordLabel ℕ)
 
@@ -196,7 +196,7 @@ existential_form (existential.Trait t) = labelled (existential_trait_record t.de
 existential_form (existential.Projection p) = labelled (existential_projection_record p.def_id.number) (two_parts (child.List (list.Args p.args)) (term_child p.term))
 existential_form (existential.AutoTrait d) = labelled (auto_trait_record d.number) no_parts
 
--- what stands under a binder of these variables, as the form of a kind
+-- what is under a binder of these variables, as the form of a kind
 abbrev pub under_form : Label ℕ → BoundVarKinds → RecordForm → Form (Label ℕ)
 under_form l vars f = under l vars f.label f.parts
 
@@ -216,7 +216,7 @@ kind_table (kind.Pat k) = Patterns
 kind_table (kind.Predicate b) = Predicates
 kind_table (kind.Existential b) = Existentials
 
--- what a parameter or a bound variable of a table's terms stands for; patterns and predicates are neither
+-- the sort of a parameter or a bound variable of a table's terms; patterns and predicates are neither
 abbrev pub kind_sort : Kind → Sort
 kind_sort (kind.Ty k) = type_sort
 kind_sort (kind.Const k) = const_sort
@@ -345,7 +345,7 @@ const_kind_shape k = form_shape const_sort (relabelled const_label (const_form k
 abbrev pub pattern_kind_shape : PatternKind → Shape
 pattern_kind_shape k = shape.term (pattern_label (pattern_form k).label) (parts_shapes (pattern_form k).parts)
 
--- what stands under a predicate's binder
+-- what is under a predicate's binder
 abbrev pub record_shape : RecordForm → Shape
 record_shape f = shape.node (record_label f.label) (parts_shapes f.parts)
 

@@ -28,7 +28,7 @@ use Rattle.tt_kinds.specs.declared.table.Table.TheVariants.{Types, Consts, Patte
 abbrev pub Name : Type 0
 Name = List ℕ
 
--- what a parameter, a variable or an argument stands for
+-- what a parameter, a variable or an argument represents
 pub data Sort : Type 0 where
   region_sort type_sort const_sort : Sort
 
@@ -59,7 +59,7 @@ pub data FreeRegion (N : Type 0) : Type 0 where
   late_param_region : ℕ → RegionName N → FreeRegion N
   placeholder_region : ℕ → ℕ → RegionName N → FreeRegion N
 
--- a type that is neither a parameter nor bound, without what stands in it
+-- a type that is neither a parameter nor bound, without its contents
 pub data TypeLabel : Type 0 where
   bool_type : TypeLabel
   char_type : TypeLabel
@@ -88,7 +88,7 @@ pub data TypeLabel : Type 0 where
   coroutine_witness_type : ℕ → TypeLabel
   alias_type : AliasTyKind → TypeLabel
 
--- a constant that is neither a parameter nor bound, without what stands in it
+-- a constant that is neither a parameter nor bound, without its contents
 pub data ConstLabel : Type 0 where
   infer_const : InferConst → ConstLabel
   placeholder_const : Placeholder BoundConst → ConstLabel
@@ -99,13 +99,13 @@ pub data ConstLabel : Type 0 where
   error_const : ℕ → ConstLabel
   expr_const : ℕ → ConstLabel
 
--- a pattern, without what stands in it
+-- a pattern, without its contents
 pub data PatternLabel : Type 0 where
   range_pattern : PatternLabel
   or_pattern : PatternLabel
   not_null_pattern : PatternLabel
 
--- a value that isn't stored, without what stands in it
+-- a value that isn't stored, without its contents
 pub data RecordLabel (N : Type 0) : Type 0 where
   fn_sig_tys_record : RecordLabel N
   pair_record : RecordLabel N
@@ -213,7 +213,7 @@ alias_flags (alias.Inherent d) = has_ty_inherent
 alias_flags (alias.Opaque d) = has_ty_opaque
 alias_flags (alias.Free d) = has_ty_free_alias
 
--- the flags of a type beside those of what stands in it
+-- the flags of a type beside the flags of its contents
 abbrev pub flags_of_type : TypeLabel → ℕ
 flags_of_type (placeholder_type p) = has_ty_placeholder
 flags_of_type (infer_type i) = infer_flags i
@@ -227,7 +227,7 @@ abbrev pub infer_const_flags : InferConst → ℕ
 infer_const_flags (Var v) = has_ct_infer
 infer_const_flags (Fresh n) = has_ct_fresh
 
--- the flags of a constant beside those of what stands in it
+-- the flags of a constant beside the flags of its contents
 abbrev pub flags_of_const : ConstLabel → ℕ
 flags_of_const (infer_const i) = infer_const_flags i
 flags_of_const (placeholder_const p) = has_ct_placeholder
@@ -240,7 +240,7 @@ abbrev pub list_flags : {N : Type 0} → List (VarKind N) → ℕ
 list_flags [] = 0
 list_flags (v ∷ vs) = has_binder_vars
 
--- the flags that a label adds to those of its children
+-- the flags that a label adds to its children's flags
 abbrev pub flags_of_label : {N : Type 0} → Label N → ℕ
 flags_of_label (type_label l) = flags_of_type l
 flags_of_label (const_label l) = flags_of_const l

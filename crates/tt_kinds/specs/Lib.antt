@@ -10,6 +10,7 @@ pub mod Met
 pub mod Scan
 pub mod Count
 pub mod Laws
+pub mod GenericArg
 pub mod Bound
 pub mod Variable
 pub mod Rigid

@@ -3,7 +3,7 @@ use Rattle.std.specs.Prelude.{ℕ, suc, List, [], ◌∷◌, ◌++◌, length, t
 use Rattle.tt_kinds.specs.Label.{Sort, region_sort}
 use Rattle.tt_kinds.specs.Tree.{Depth, at, canonical, Tree, param, bound, region, term, node, binder, Forest, none, also}
 
--- a region as it stands, and the number of binders above it
+-- a region as it is written, and the number of binders above it
 pub record Met : Type 0 where
   pub standing : Tree Depth
   pub under : ℕ

@@ -6,7 +6,7 @@ use Rattle.tt_kinds.specs.Argument.{Argument, argument}
 
 module _ {I : Type 0} where
   abbrev mutual
-    -- a parameter stands in the tree
+    -- a parameter occurs in the tree
     pub holds_param : Tree I → Bool
     holds_param (param s i name) = true
     holds_param (bound s d e) = false
@@ -21,7 +21,7 @@ module _ {I : Type 0} where
 
 module _ {I : Type 0} (P : Sort → ℕ → Type 0) where
   abbrev mutual
-    -- a parameter whose sort and index meet P stands in the tree
+    -- a parameter whose sort and index meet P occurs in the tree
     pub HasParam : Tree I → Type 0
     HasParam (param s i name) = P s i
     HasParam (bound s d e) = ⊥
@@ -49,7 +49,7 @@ module _ {I : Type 0} (P : Sort → ℕ → Type 0) where
     EachParam_among none = ⊤
     EachParam_among (also t ts) = EachParam t × EachParam_among ts
 
--- some parameter stands in the tree
+-- some parameter occurs in the tree
 abbrev pub IsGeneric : {I : Type 0} → Tree I → Type 0
 IsGeneric t = HasParam (λ s i. ⊤) t
 

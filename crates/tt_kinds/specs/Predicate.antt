@@ -4,7 +4,7 @@ use Rattle.tt_kinds.specs.declared.predicate_kind.ClauseKind.{ClauseKind}
 use Rattle.tt_kinds.specs.declared.predicate_kind.PredicateKind.{PredicateKind}
 use Rattle.tt_kinds.specs.declared.predicate_kind.PredicateKind.TheVariants.{Clause as AClause}
 
--- the predicate may stand in a list of assumptions
+-- the predicate may be in a list of assumptions
 abbrev pub is_clause_kind : PredicateKind → Bool
 is_clause_kind (AClause c) = true
 is_clause_kind _ = false

@@ -4,12 +4,12 @@ use Rattle.tt_index.specs.Greatest.{greatest}
 use Rattle.tt_kinds.specs.Label.{Name, Sort}
 use Rattle.tt_kinds.specs.Tree.{Depth, at, canonical, Place, own, outer, apart, Tree, param, bound, region, term, node, binder, Forest, none, also, rebuild, rebuild_all, replace, replace_all}
 
--- where the binder of a variable under k binders stands
+-- where the binder of a variable under k binders is
 abbrev pub place : ℕ → Depth → Place
 place k (at d) = if nat_lt d k then own d else outer (d - k)
 place k canonical = apart
 
--- a parameter as it stands
+-- a parameter as it is
 abbrev pub keep : {I : Type 0} → ℕ → Sort → ℕ → Name → Tree I
 keep k s i name = param s i name
 
@@ -64,7 +64,7 @@ FitsAt k (outer j) = j + k < greatest
 FitsAt k apart = ⊤
 
 abbrev mutual
-  -- under k binders each outer variable has an index below the greatest, and no binder stands too deep
+  -- under k binders each outer variable has an index below the greatest, and no binder is too deep
   pub FitsUnder : ℕ → Tree Place → Type 0
   FitsUnder k (param s i name) = ⊤
   FitsUnder k (bound s p e) = FitsAt k p
@@ -77,6 +77,6 @@ abbrev mutual
   FitsUnder_all k none = ⊤
   FitsUnder_all k (also r rs) = FitsUnder k r × FitsUnder_all k rs
 
--- the reading stands outside of each binder, and its indices and binders are in range
+-- the reading is outside of each binder, and its indices and binders are in range
 abbrev pub Fits : Tree Place → Type 0
 Fits r = FitsUnder 0 r

@@ -17,12 +17,12 @@ IsRigid (ty.Infer i) = ⊥
 IsRigid (ty.Error e) = ⊥
 IsRigid _ = ⊤
 
--- it is known which type of integers the variable stands for
+-- it is known which type of integers the variable represents
 abbrev pub IsKnownInt : IntVarValue → Type 0
 IsKnownInt int.Unknown = ⊥
 IsKnownInt _ = ⊤
 
--- it is known which type of floating point the variable stands for
+-- it is known which type of floating point the variable represents
 abbrev pub IsKnownFloat : FloatVarValue → Type 0
 IsKnownFloat float.Unknown = ⊥
 IsKnownFloat (float.Known f) = ⊤

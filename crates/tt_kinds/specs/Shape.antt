@@ -1,11 +1,17 @@
 -- Shapes: what a value holds, as a tree with handles in the places of stored terms and numbers in the places of names.
-use Rattle.std.specs.Prelude.{ℕ, ◌<◌, ◌≤◌, ◌≡◌, List, [], ◌∷◌, map, Option, Some, None, ⊤}
+use Rattle.std.specs.Prelude.{ℕ, ◌-◌, ◌<◌, ◌≤◌, ◌≡◌, List, [], ◌∷◌, map, Option, Some, None, ⊤}
 use Rattle.tt_index.specs.Greatest.{greatest}
 use Rattle.tt_kinds.specs.Label.{Name, Sort, region_sort, type_sort, const_sort, RegionName, anonymous, printed, named, environment, VarKind, region_variable, type_variable, const_variable, Entry, FreeRegion, static_region, erased_region, region_var, error_region, late_param_region, placeholder_region, RecordLabel, fn_sig_tys_record, pair_record, triple_record, absent_record, present_record, sequence_record, unsafe_binder_record, trait_record, host_effect_record, region_outlives_record, type_outlives_record, projection_record, const_has_type_record, well_formed_record, const_evaluatable_record, unstable_feature_record, dyn_compatible_record, subtype_record, coerce_record, const_equate_record, ambiguous_record, normalizes_to_record, alias_relate_record, existential_trait_record, existential_projection_record, auto_trait_record, trait_ref_record, alias_term_record, alias_ty_record, outlives_record, type_and_mut_record, fn_sig_record, param_env_record, witness_types_record, bare_param_record, bare_bound_record, bare_type_record, bare_const_record, bare_pattern_record, Label, type_label, const_label, pattern_label, predicate_label, existential_label, clause_list_label, list_label, var_list_label, text_label, declaration_label, record_label, error_label, clause_label, label_table}
 use Rattle.tt_kinds.specs.Tree as tree
-use Rattle.tt_kinds.specs.Tree.{Depth, at, canonical, Tree, Forest}
+use Rattle.tt_kinds.specs.Tree.{Depth, at, canonical, Tree, Forest, count_trees, take_trees, drop_trees}
 use Rattle.tt_kinds.specs.declared.table.Table.{Table}
 use Rattle.tt_kinds.specs.declared.table.Table.TheVariants.{Types, Consts, VarLists, Symbols}
+
+-- which items of a list a part of it holds
+pub data Extent : Type 0 where
+  all_but_last : Extent
+  -- from this place on, so many
+  span : ℕ → ℕ → Extent
 
 mutual
   -- what a value holds
@@ -20,6 +26,8 @@ mutual
     binder : ℕ → Shape → Shape
     -- the handle of this number in the table
     stored : Table → ℕ → Shape
+    -- some items of the list of this number in the table
+    part_of : Table → ℕ → Extent → Shape
 
   -- shapes in order
   pub data Shapes : Type 0 where
@@ -39,6 +47,25 @@ text_of _ = []
 abbrev pub vars_of : Tree Depth → List (VarKind Name)
 vars_of (tree.node (var_list_label vs) ts) = vs
 vars_of _ = []
+
+-- the items of a list's tree
+abbrev pub items_of : Tree Depth → Forest Depth
+items_of (tree.node l ts) = ts
+items_of _ = tree.none
+
+-- the place of a part's first item
+abbrev pub first_item : Extent → ℕ
+first_item all_but_last = 0
+first_item (span start len) = start
+
+-- how many items a part of a list of n items has, where that many are there
+abbrev pub item_count : Extent → ℕ → ℕ
+item_count all_but_last n = n - 1
+item_count (span start len) n = len
+
+-- the items of a part of a list
+abbrev pub items_in : Extent → Forest Depth → Forest Depth
+items_in e ts = take_trees (item_count e (count_trees ts)) (drop_trees (first_item e) ts)
 
 module _ {N M : Type 0} (name : N → M) where
   -- what a bound region is called, with its name replaced
@@ -139,6 +166,7 @@ unfoldable mutual
   fill f (node l ss) = tree.node (rename_label (name_of f) l) (fill_all f ss)
   fill f (binder n s) = tree.binder (vars_of (f VarLists n)) (fill f s)
   fill f (stored t n) = f t n
+  fill f (part_of t n e) = tree.node (record_label sequence_record) (items_in e (items_of (f t n)))
 
   -- the trees of shapes, in order
   pub fill_all : Meaning → Shapes → Forest Depth
@@ -206,7 +234,7 @@ sort_table region_sort = None
 sort_table type_sort = Some Types
 sort_table const_sort = Some Consts
 
--- the table that a row of this shape stands in
+-- the table that a row of this shape is in
 abbrev pub shape_table : Shape → Option Table
 shape_table (param s i name) = sort_table s
 shape_table (bound s d e) = sort_table s
@@ -215,8 +243,9 @@ shape_table (term l ss) = label_table l
 shape_table (node l ss) = label_table l
 shape_table (binder n s) = None
 shape_table (stored t n) = None
+shape_table (part_of t n e) = None
 
--- a shape that is no row: what is stored stands in it as handles in range
+-- a shape that is no row: what is stored is in it as handles in range
 abbrev mutual
   pub IsPart : Sizes → Shape → Type 0
   IsPart size (param s i name) = (sort_table s ≡ None) × (name < size Symbols)
@@ -226,13 +255,14 @@ abbrev mutual
   IsPart size (node l ss) = (label_table l ≡ None) × IsNamedLabel size l × AreParts size ss
   IsPart size (binder n s) = (n < size VarLists) × IsPart size s
   IsPart size (stored t n) = n < size t
+  IsPart size (part_of t n e) = n < size t
 
   -- the same of shapes in order
   pub AreParts : Sizes → Shapes → Type 0
   AreParts size none = ⊤
   AreParts size (also s ss) = IsPart size s × AreParts size ss
 
--- what stands in a row of this shape is in range
+-- the handles and names in a row of this shape are in range
 abbrev pub HasParts : Sizes → Shape → Type 0
 HasParts size (param s i name) = name < size Symbols
 HasParts size (bound s d e) = IsNamedKind size e.kind
@@ -241,6 +271,7 @@ HasParts size (term l ss) = IsNamedLabel size l × AreParts size ss
 HasParts size (node l ss) = IsNamedLabel size l × AreParts size ss
 HasParts size (binder n s) = ⊥
 HasParts size (stored t n) = ⊥
+HasParts size (part_of t n e) = ⊥
 
 -- no bound variable may have the index
 abbrev pub IsGreatest : Depth → Type 0

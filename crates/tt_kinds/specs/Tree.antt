@@ -1,8 +1,8 @@
 -- Terms as trees, and the walks that every other definition is made of.
-use Rattle.std.specs.Prelude.{ℕ, suc, List, ⊤}
+use Rattle.std.specs.Prelude.{ℕ, zero, suc, List, ⊤}
 use Rattle.tt_kinds.specs.Label.{Name, Sort, VarKind, Entry, FreeRegion, Label}
 
--- the index of a variable as it is written: how many binders stand between it and its own
+-- the index of a variable as it is written: how many binders are between it and its own
 pub data Depth : Type 0 where
   at : ℕ → Depth
   canonical : Depth
@@ -28,6 +28,24 @@ mutual
     none : Forest I
     also : Tree I → Forest I → Forest I
 
+module _ {I : Type 0} where
+  -- how many trees there are
+  abbrev pub count_trees : Forest I → ℕ
+  count_trees none = 0
+  count_trees (also t ts) = suc (count_trees ts)
+
+  -- the first n trees, or all if there are fewer
+  abbrev pub take_trees : ℕ → Forest I → Forest I
+  take_trees zero ts = none
+  take_trees (suc n) none = none
+  take_trees (suc n) (also t ts) = also t (take_trees n ts)
+
+  -- the trees after the first n
+  abbrev pub drop_trees : ℕ → Forest I → Forest I
+  drop_trees zero ts = ts
+  drop_trees (suc n) none = none
+  drop_trees (suc n) (also t ts) = drop_trees n ts
+
 module _ {I J : Type 0} (index : ℕ → I → J) (parameter : ℕ → Sort → ℕ → Name → Tree J) where
   abbrev mutual
     -- the tree, standing under k binders, with each index and each parameter replaced
@@ -45,7 +63,7 @@ module _ {I J : Type 0} (index : ℕ → I → J) (parameter : ℕ → Sort → 
 
 module _ {I J : Type 0} (index : I → J) (parameter : Sort → ℕ → Name → Tree J) where
   abbrev mutual
-    -- the tree with each index and each parameter replaced, however deep it stands
+    -- the tree with each index and each parameter replaced, however deep it is
     pub replace : Tree I → Tree J
     replace (param s i name) = parameter s i name
     replace (bound s d e) = bound s (index d) e
@@ -60,7 +78,7 @@ module _ {I J : Type 0} (index : I → J) (parameter : Sort → ℕ → Name →
 
 module _ {I : Type 0} (of_index : ℕ → I → Type 0) (of_parameter : ℕ → Sort → ℕ → Name → Type 0) where
   abbrev mutual
-    -- each index and each parameter of the tree, which stands under k binders, meets its condition
+    -- each index and each parameter of the tree, which is under k binders, meets its condition
     pub Each : ℕ → Tree I → Type 0
     Each k (param s i name) = of_parameter k s i name
     Each k (bound s d e) = of_index k d

@@ -1,10 +1,10 @@
--- Values that have no row of their own: records, and what stands in them.
+-- Values that have no row of their own: records, and their contents.
 use Rattle.std.specs.Prelude.{ℕ, Option, Some, None, Result, Ok, Err, List}
 use Rattle.tt_kinds.specs.Label.{RecordLabel, trait_ref_record, alias_term_record, alias_ty_record, outlives_record, type_and_mut_record, fn_sig_record, param_env_record, witness_types_record, projection_record, normalizes_to_record, trait_record, host_effect_record, subtype_record, coerce_record, record_label, list_label, pair_record, triple_record, absent_record, present_record, sequence_record, existential_trait_record, existential_projection_record, unsafe_binder_record, clause_label}
 use Rattle.tt_kinds.specs.Shape as shape
-use Rattle.tt_kinds.specs.Shape.{Shape, item_shapes}
+use Rattle.tt_kinds.specs.Shape.{Shape, all_but_last, span, item_shapes}
 use Rattle.tt_kinds.specs.Kinds.{region_shape, arg_shape, ty_shape, tys_shape, args_shape, clause_shape, clauses_shape, term_shape, clause_form, predicate_form, existential_form, record_shape}
-use Rattle.tt_kinds.specs.declared.table.Table.TheVariants.{AssumptionLists}
+use Rattle.tt_kinds.specs.declared.table.Table.TheVariants.{AssumptionLists, TypeLists, ArgLists}
 use Rattle.tt_kinds.specs.declared.handle.Clause.{Clause}
 use Rattle.tt_kinds.specs.declared.handle.RegionAssumptions.{RegionAssumptions}
 use Rattle.tt_kinds.specs.declared.generic_arg.GenericArgKind.{GenericArgKind}
@@ -25,6 +25,8 @@ use Rattle.tt_kinds.specs.declared.predicate.CoercePredicate.{CoercePredicate}
 use Rattle.tt_kinds.specs.declared.predicate.ParamEnv.{ParamEnv}
 use Rattle.tt_kinds.specs.declared.predicate_kind.ClauseKind.{ClauseKind}
 use Rattle.tt_kinds.specs.declared.predicate_kind.PredicateKind.{PredicateKind}
+use Rattle.tt_kinds.specs.declared.view.FnInputTys.{FnInputTys}
+use Rattle.tt_kinds.specs.declared.view.GenericArgsSlice.{GenericArgsSlice}
 use Rattle.tt_kinds.specs.declared.existential.ExistentialPredicate.{ExistentialPredicate}
 use Rattle.tt_kinds.specs.declared.existential.ExistentialTraitRef.{ExistentialTraitRef}
 use Rattle.tt_kinds.specs.declared.existential.ExistentialProjection.{ExistentialProjection}
@@ -59,6 +61,14 @@ result_shape of_value of_error (Err e) = shape.node (record_label absent_record)
 -- values in order
 abbrev pub sequence_shape : {T : Type 0} → (T → Shape) → List T → Shape
 sequence_shape of_item xs = shape.node (record_label sequence_record) (item_shapes of_item xs)
+
+-- the types of a list without the last
+abbrev pub input_tys_shape : FnInputTys → Shape
+input_tys_shape v = shape.part_of TypeLists v.inputs_and_output.number all_but_last
+
+-- some arguments in a row of a list
+abbrev pub args_slice_shape : GenericArgsSlice → Shape
+args_slice_shape v = shape.part_of ArgLists v.args.number (span v.start v.len)
 
 -- a trait with its arguments
 abbrev pub trait_ref_shape : TraitRef → Shape
@@ -116,7 +126,7 @@ trait_predicate_shape p = one_record (trait_record p.trait_ref.def_id.number) (a
 abbrev pub host_effect_shape : HostEffectPredicate → Shape
 host_effect_shape p = one_record (host_effect_record p.trait_ref.def_id.number p.constness) (args_shape p.trait_ref.args)
 
--- an alias stands for a term
+-- an alias is equal to a term
 abbrev pub projection_shape : ProjectionPredicate → Shape
 projection_shape p = two_record (projection_record p.projection_term.def_id.number) (args_shape p.projection_term.args) (term_shape p.term)
 

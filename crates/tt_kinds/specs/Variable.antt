@@ -1,4 +1,4 @@
--- The variables of a binder's list, by what they stand for.
+-- The variables of a binder's list, by what they represent.
 use Rattle.std.specs.Prelude.{⊤, Option, Some, None}
 use Rattle.tt_kinds.specs.declared.id.DefId.{DefId}
 use Rattle.tt_kinds.specs.declared.bound.BoundRegionKind.{BoundRegionKind}
@@ -6,17 +6,17 @@ use Rattle.tt_kinds.specs.declared.bound.BoundRegionKind.TheVariants.{Named}
 use Rattle.tt_kinds.specs.declared.bound.BoundVariableKind.{BoundVariableKind}
 use Rattle.tt_kinds.specs.declared.bound.BoundVariableKind.TheVariants as variable
 
--- the variable stands for a region
+-- the variable represents a region
 abbrev pub IsRegionVariable : BoundVariableKind → Type 0
 IsRegionVariable (variable.Region k) = ⊤
 IsRegionVariable _ = ⊥
 
--- the variable stands for a type
+-- the variable represents a type
 abbrev pub IsTypeVariable : BoundVariableKind → Type 0
 IsTypeVariable (variable.Ty k) = ⊤
 IsTypeVariable _ = ⊥
 
--- the variable stands for a constant
+-- the variable represents a constant
 abbrev pub IsConstVariable : BoundVariableKind → Type 0
 IsConstVariable variable.Const = ⊤
 IsConstVariable _ = ⊥

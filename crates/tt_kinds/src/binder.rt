@@ -21,7 +21,7 @@ impl<T> Binder<T> {
         Binder { value, bound_vars }
     }
 
-    /// Returns the value as it stands inside, with the binder gone. Its variables of index 0 are the binder's, and mean
+    /// Returns the value inside, without the binder. Its variables of index 0 are the binder's, and mean
     /// nothing outside of it.
     pub fn skip_binder(self) -> T
         ensures { result ≡ self.value }
@@ -49,8 +49,8 @@ impl<T> Binder<T> {
     }
 }
 
-/// A value of an item as it is declared: its parameters are the item's, and have to be replaced by arguments before it is
-/// used elsewhere.
+/// A value of an item as it is declared: its parameters are the item's, and have to be replaced by arguments before
+/// it is used elsewhere.
 #[derive(Clone, Copy, Debug, PartialEq, Eq, PartialOrd, Ord, Hash)]
 pub struct EarlyBinder<T> {
     value: T,
@@ -73,7 +73,7 @@ impl<T> EarlyBinder<T> {
     }
 }
 
-/// A value in which aliases may stand that still have to be normalized.
+/// A value that may hold aliases which still have to be normalized.
 #[derive(Clone, Copy, Debug, PartialEq, Eq, Hash)]
 pub struct Unnormalized<T> {
     value: T,

@@ -15,7 +15,7 @@ use tt_index::{BoundVar, DebruijnIndex};
 pub enum BoundVarIndexKind {
     /// The binder at this distance, counted from the inside.
     Bound(DebruijnIndex),
-    /// The list of variables of a canonical query, which stands outside of every term. Such a variable isn't moved by
+    /// The list of variables of a canonical query, which is outside of every term. Such a variable isn't moved by
     /// shifting and counts as bound outside of no binder.
     Canonical,
 }

@@ -146,7 +146,7 @@ pub struct ValueConst {
 pub struct ExprConst {
     /// Which expression it is, by a number of the front end's.
     pub tag: u32,
-    /// What stands in it.
+    /// Its contents.
     pub args: GenericArgs,
 }
 
@@ -182,6 +182,6 @@ pub enum AnonConstKind {
     GCA,
     /// The length of an array that repeats one value.
     RepeatExprCount,
-    /// An expression that stands in no type.
+    /// An expression that occurs in no type.
     NonTypeSystem,
 }

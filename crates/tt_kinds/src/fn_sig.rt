@@ -7,7 +7,7 @@ ghost use Rattle.tt_kinds.specs.FnSig.{safety_bits, variadic_bits};
 use crate::handle::{RegionAssumptions, Tys};
 use tt_index::{ExternAbi, Safety};
 
-/// The types of a signature: those of the inputs, and last that of the output.
+/// The types of a signature: its inputs, and last its output.
 #[derive(Clone, Copy, Debug, PartialEq, Eq, Hash)]
 pub struct FnSigTys {
     /// The inputs in order, then the output.
@@ -16,8 +16,8 @@ pub struct FnSigTys {
 
 /// What a signature says beside its types: its calling convention, whether it is safe, and whether it is variadic.
 ///
-/// It is kept in one byte: bits 0 to 5 are the number of the convention, bit 6 is set where it is safe, and bit 7 where it
-/// takes further arguments as C's `printf` does.
+/// It is kept in one byte: bits 0 to 5 are the number of the convention, bit 6 is set where it is safe, and bit 7
+/// where it takes further arguments as C's `printf` does.
 #[derive(Clone, Copy, Debug, PartialEq, Eq, Hash)]
 pub struct FnSigKind {
     flags: u8,
@@ -56,7 +56,7 @@ pub struct FnHeader {
 /// A signature.
 #[derive(Clone, Copy, Debug, PartialEq, Eq, Hash)]
 pub struct FnSig {
-    /// The types of the inputs in order, then that of the output.
+    /// The types of the inputs in order, then the output's.
     pub inputs_and_output: Tys,
     /// Its calling convention, whether it is safe, and whether it is variadic.
     pub fn_sig_kind: FnSigKind,

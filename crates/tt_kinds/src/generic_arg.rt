@@ -1,6 +1,7 @@
 //! Generic arguments.
 
 ghost use Rattle.std.specs.Prelude.{◌≡◌};
+ghost use Rattle.tt_kinds.specs.GenericArg.{type_of, const_of};
 
 use crate::handle::{Const, Ty};
 use crate::region_kind::Region;
@@ -39,6 +40,26 @@ impl GenericArg {
         ensures { result ≡ self }
     {
         self.kind
+    }
+
+    /// Returns the type that the argument is, if it is one.
+    pub fn as_type(self) -> Option<Ty>
+        ensures { result ≡ type_of self }
+    {
+        match self.kind {
+            GenericArgKind::Type(ty) => Some(ty),
+            _ => None,
+        }
+    }
+
+    /// Returns the constant that the argument is, if it is one.
+    pub fn as_const(self) -> Option<Const>
+        ensures { result ≡ const_of self }
+    {
+        match self.kind {
+            GenericArgKind::Const(constant) => Some(constant),
+            _ => None,
+        }
     }
 }
 

@@ -97,7 +97,7 @@ impl Predicate {
     }
 }
 
-/// A predicate that may stand in a list of assumptions.
+/// A predicate that may be in a list of assumptions.
 #[derive(Clone, Copy, Debug, PartialEq, Eq, Hash)]
 pub struct Clause {
     number: u32,

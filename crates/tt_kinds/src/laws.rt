@@ -1,4 +1,4 @@
-//! What holds of all trees and readings, for what is built on top of terms to stand on. The functions do nothing: each
+//! What holds of all trees and readings, for what is built on top of terms. The functions do nothing: each
 //! contract is a law.
 
 ghost use Rattle.tt_kinds.specs.Laws.{
@@ -17,7 +17,8 @@ ghost use Rattle.tt_kinds.specs.Laws.{
   ShiftByZero,
 };
 
-/// Where each parameter has an argument, replacing twice is replacing once, by arguments in which the second has replaced.
+/// Where each parameter has an argument, replacing twice is replacing once, by arguments in which the second has
+/// replaced.
 pub fn replacements_compose()
     ensures { PutsCompose }
 {}

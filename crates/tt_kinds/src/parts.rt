@@ -1,8 +1,8 @@
 //! What a kind is made of: its parts in order, and the kind again with other parts in their places.
 //!
-//! No kind has more than two children that are regions, stored terms or stored lists, perhaps under one binder. So all that
-//! walks over kinds do goes over a pair of parts, and they needn't tell one kind from another. Flags, hooks and the
-//! tests of what a kind holds do.
+//! No kind has more than two children that are regions, stored terms or stored lists, perhaps under one binder. So
+//! all that walks over kinds do goes over a pair of parts, and they needn't tell one kind from another. Flags, hooks
+//! and the tests of what a kind holds do.
 
 ghost use Rattle.std.specs.Prelude.{◌≡◌, ◌↔◌, IsTrue};
 ghost use Rattle.tt_kinds.specs.Parts.{AreLike, node_table, list_sort, no_parts, one_part, two_parts};
@@ -78,7 +78,7 @@ pub enum ListSort {
     Clauses,
 }
 
-/// What stands inside a kind or a list.
+/// The contents of a kind or a list.
 #[derive(Clone, Copy, Debug, Default, PartialEq, Eq)]
 pub enum Child {
     /// Nothing: the kind has fewer parts.

@@ -1,4 +1,4 @@
-//! Placeholders: what stands in for a bound variable once its binder is gone.
+//! Placeholders: what takes the place of a bound variable once its binder is gone.
 
 ghost use Rattle.std.specs.Prelude.{◌≡◌};
 ghost use Rattle.tt_kinds.specs.declared.bound.BoundRegionKind.TheVariants as region_kind;

@@ -40,7 +40,7 @@ pub struct HostEffectPredicate {
     pub constness: BoundConstness,
 }
 
-/// What stands first outlives the region.
+/// The first member outlives the region.
 #[derive(Clone, Copy, Debug, PartialEq, Eq, Hash)]
 pub struct OutlivesPredicate<A>(pub A, pub Region);
 

@@ -12,7 +12,7 @@ use crate::predicate::{
 use crate::region_kind::Region;
 use crate::term::Term;
 
-/// A predicate that may stand in a list of assumptions.
+/// A predicate that may be in a list of assumptions.
 #[derive(Clone, Copy, Debug, PartialEq, Eq, Hash)]
 pub enum ClauseKind {
     /// A type implements a trait.
@@ -66,7 +66,7 @@ pub enum PredicateKind {
 }
 
 impl PredicateKind {
-    /// Returns whether it may stand in a list of assumptions.
+    /// Returns whether it may be in a list of assumptions.
     pub fn is_clause(&self) -> bool
         ensures { result ≡ is_clause_kind self.now }
     {

@@ -66,7 +66,8 @@ impl RegionKind {
 
 /// A region. Unlike types, regions are small and so are kept in place.
 ///
-/// A bound region's index is below [`GREATEST_INDEX`](tt_index::GREATEST_INDEX), so that one more than it is an index too.
+/// A bound region's index is below [`GREATEST_INDEX`](tt_index::GREATEST_INDEX), so that one more than it is an index
+/// too.
 #[derive(Clone, Copy, Debug, PartialEq, Eq, Hash)]
 pub struct Region {
     kind: RegionKind,
@@ -132,7 +133,7 @@ impl Region {
         self.kind.is_shallow()
     }
 
-    /// Returns the flags of the region: those of its kind, and one more where it is a variable of a canonical query.
+    /// Returns the flags of the region: its kind's, and one more where it is a variable of a canonical query.
     #[tactic(auto, unfolding(crate::specs::Shape::fill))]
     pub fn flags(self) -> TypeFlags
         ensures { (f : Meaning) → result.bits ≡ scan (fill f (region_shape self)) }

@@ -13,7 +13,7 @@ pub enum TermKind {
     Const(Const),
 }
 
-/// A type or a constant, where either may stand.
+/// A type or a constant, where either may occur.
 #[derive(Clone, Copy, Debug, PartialEq, Eq, Hash)]
 pub struct Term {
     kind: TermKind,

@@ -58,7 +58,7 @@ pub struct TypeAndMut {
 pub struct UnsafeBinderInner(Binder<Ty>);
 
 impl UnsafeBinderInner {
-    /// Returns the type as it stands inside, with the binder gone.
+    /// Returns the type inside, without the binder.
     pub fn skip_binder(self) -> Ty
         ensures { result ≡ self.0.value }
     {

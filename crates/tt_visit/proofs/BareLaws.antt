@@ -1,4 +1,4 @@
--- The visit of kinds that aren't stored, from the visit of what stands in them.
+-- The visit of kinds that aren't stored, from the visit of their contents.
 use Rattle.std.proofs.Common.{◌≡◌, ℕ, Option, Some, None, refl}
 use Rattle.tt_kinds.specs.Label.{Name, Sort, Entry, RecordLabel, Label, type_sort, const_sort, type_label, const_label, record_label, bare_type_record, bare_const_record, error_of_type, error_of_const}
 use Rattle.tt_kinds.specs.Tree as tree

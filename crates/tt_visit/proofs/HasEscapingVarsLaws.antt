@@ -19,7 +19,7 @@ outside t = greatest_reach-deeper 1 0 t
 abbrev pub outer_binder_all : Forest Depth → ℕ
 outer_binder_all ts = greatest_reach_all (read_all 0 ts)
 
--- what follows from the whole of a term as from what stands inside of it
+-- what follows from the whole of a term as from its contents
 either-way : (r : Root) (A B C : Type 0) → ByHook r A B → (A → C) → (B → C) → C
 either-way hooked A B C h whole inside = whole h
 either-way a_region A B C h whole inside = inside h
@@ -98,7 +98,7 @@ leaf-range (node l ts) is h = absurd (no-leaf l is)
 leaf-range (binder vs t) (inl e) h = cc
 leaf-range (binder vs t) (inr e) h = cc
 
--- a term without a hook is in range where all that stands inside is
+-- a term without a hook is in range where all of its contents are
 inside-range : (l : Label Name) (ts : Forest Depth) → term_root l ≡ unhooked → InRange_all ts → InRange (term l ts)
 inside-range l ts e h = rw e h
 

@@ -98,7 +98,7 @@ unhooked-flags m (record_label l) is = cc
 unhooked-flags m (error_label e) is = cc
 unhooked-flags m clause_label is = cc
 
--- the flags of a binder's list, by what stands in it
+-- the flags of a binder's list, by its contents
 pub flags-of-none : (f : Meaning) (n : ℕ) (vs : List BoundVariableKind) → f VarLists n ≡ fill f (vars_row_shape vs) → (length vs == 0) ≡ true → list_flags (vars_of (f VarLists n)) ≡ 0
 unfolding fill
 flags-of-none f n [] is h = rw is refl
@@ -221,7 +221,7 @@ label-plain (record_label l) = refl
 label-plain (error_label e) = refl
 label-plain clause_label = refl
 
--- the flags for parameters are met exactly where a parameter stands
+-- the flags for parameters are met exactly where a parameter occurs
 pub param-meets : (t : Tree Depth) → Meets 7 (scan t) ↔ (holds_param t ≡ true)
 param-meets t = (there, back)
   where

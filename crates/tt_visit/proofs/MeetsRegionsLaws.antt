@@ -67,7 +67,7 @@ other-none s k t true h = refl
 other-none s k t false h = h
 
 mutual
-  -- in a tree without flags of regions none is met, under however many binders it stands
+  -- in a tree without flags of regions none is met, under however many binders it is
   pub met-none : (k : ℕ) (t : Tree Depth) → Misses 0x260000 (scan t) → met k t ≡ []
   met-none k (param region_sort i name) h = let never = h in cc
   met-none k (param type_sort i name) h = refl
@@ -187,7 +187,7 @@ mutual
       bits-both 0x220000 (scan t) (scan_all ts) (none-bound k t (first-none (met k t) (met_all k ts) h))
       (none_all-bound k ts (rest-none (met k t) (met_all k ts) h))
 
--- in a tree with a region that isn't bound one is met, under however many binders it stands
+-- in a tree with a region that isn't bound one is met, under however many binders it is
 pub met-some : (k : ℕ) (t : Tree Depth) → Meets 0x220000 (scan t) → met k t ≢ []
 met-some k t meets h = meets (none-bound k t h)
 
@@ -282,7 +282,7 @@ bound-range type_sort d e is = tt
 bound-range const_sort d e is = tt
 
 mutual
-  -- where no bound region stands, none has an index out of range
+  -- where no bound region occurs, none has an index out of range
   unbound-range : (t : Tree Depth) → Misses 0x40000 (scan t) → AreInRange t
   unbound-range (param s i name) h = tt
   unbound-range (bound region_sort (at d) e) h = let never = h in cc

@@ -1,21 +1,32 @@
--- The items of views among those of their lists.
-use Rattle.std.proofs.Common.{◌≡◌, ℕ, zero, suc, ◌+◌, ◌-◌, ◌<◌, ◌≤◌, List, [], ◌∷◌, ◌++◌, length, take, drop, get_or, Some, refl, ap, sym, subst, ◌∙◌, arith}
-use Rattle.std.specs.Prelude.{slice_get}
+-- The items of views among the items of their lists.
+use Rattle.std.proofs.Common.{◌≡◌, ℕ, zero, suc, ◌+◌, ◌-◌, ◌<◌, ◌≤◌, List, [], ◌∷◌, ◌++◌, length, take, drop, get_or, ap, sym, subst, ◌∙◌, arith}
 use Rattle.std.proofs.lemmas.List.{take_all, take_more, take-append-drop, length-take-le, length-drop}
 use Rattle.tt_kinds.specs.Kinds.{arg_shape, ty_shape}
-use Rattle.tt_kinds.specs.Shape.{Shape, Sizes, AreParts, item_shapes}
+use Rattle.tt_kinds.specs.Label.{Label, list_label, record_label, sequence_record}
+use Rattle.tt_kinds.specs.Tree as tree
+use Rattle.tt_kinds.specs.Shape.{Shape, node, part_of, Extent, all_but_last, span, first_item, item_count, Meaning, fill, fill_all, Sizes, AreParts, item_shapes}
 use Rattle.tt_kinds.specs.declared.generic_arg.GenericArgKind.{GenericArgKind}
 use Rattle.tt_kinds.specs.declared.handle.GenericArgs.{GenericArgs}
 use Rattle.tt_kinds.specs.declared.handle.Ty.{Ty}
 use Rattle.tt_kinds.specs.declared.handle.Tys.{Tys}
+use Rattle.tt_kinds.specs.declared.table.Table.{Table}
 use Rattle.tt_kinds.specs.declared.table.Table.TheVariants.{ArgLists, TypeLists}
 use Rattle.tt_kinds.specs.declared.view.FnInputTys.{FnInputTys}
 use Rattle.tt_kinds.specs.declared.view.GenericArgsSlice.{GenericArgsSlice}
-use Rattle.tt_interner.specs.Rows.{Row, AreRows, args_row, size, tys_row}
+use Rattle.tt_kinds.specs.Values.{input_tys_shape, args_slice_shape}
+use Rattle.tt_kinds.proofs.ForestLaws.{part-items}
+use Rattle.tt_interner.specs.Rows.{Row, AreRows, args_row, meaning, size, tys_row}
 use Rattle.tt_interner.specs.Stored.{IsAt}
 use Rattle.tt_interner.specs.Views.{AreInputs, LiesInList}
 use Rattle.tt_interner.proofs.Trees.{Means-row}
 use Rattle.tt_visit.specs.Views.{HoldsArgs, HoldsInputs}
+
+-- the tree of a part of a list is that of the items in it
+pub part-tree : {T : Type 0} (of_item : T → Shape) (f : Meaning) (t : Table) (n : ℕ) (e : Extent) (l : Label ℕ) (all xs : List T)
+    → f t n ≡ fill f (node l (item_shapes of_item all)) → xs ≡ take (item_count e (length all)) (drop (first_item e) all)
+    → fill f (part_of t n e) ≡ tree.node (record_label sequence_record) (fill_all f (item_shapes of_item xs))
+unfolding fill
+part-tree of_item f t n e l all xs is part = rw (is, part) (ap (tree.node (record_label sequence_record)) (part-items f of_item e all))
 
 module _ {T : Type 0} (of : T → Shape) (s : Sizes) where
   parts-take : (n : ℕ) (xs : List T) → AreParts s (item_shapes of xs) → AreParts s (item_shapes of (take n xs))
@@ -49,29 +60,44 @@ pub inputs_owned : (rows : List Row) → AreRows rows → (list : Tys) (all : Li
     → (n : ℕ) → AreParts (size rows) (item_shapes ty_shape (take n all))
 inputs_owned rows are list all at n = parts-take ty_shape (size rows) n all (Means-row rows are TypeLists list.number (tys_row all) at).parts.1
 
-pub args_held : (rows : List Row) (view : GenericArgsSlice) (list : GenericArgs) (all : List GenericArgKind) (s l : ℕ)
-    → list ≡ view.args → s ≡ view.start → l ≡ view.len
-    → LiesInList rows view → IsAt rows (args_row all) list.number → HoldsArgs rows view (take (s + l - s) (drop s all))
-args_held rows view list all s l is is_start is_len lies at =
+pub args_held : (rows : List Row) (view : GenericArgsSlice) (list : GenericArgs) (all : List GenericArgKind)
+    → list ≡ view.args → LiesInList rows view → IsAt rows (args_row all) list.number → HoldsArgs rows view (take view.len (drop view.start all))
+args_held rows view list all is lies at =
     let there : IsAt rows (args_row all) view.args.number = subst (λ (a : GenericArgs). IsAt rows (args_row all) a.number) is at in
     let stored : IsAt rows (args_row lies.0) view.args.number = lies.1 in
     let same : lies.0 ≡ all = cc in
     let lengths : length lies.0 ≡ length all = ap length same in
     let within : view.start + view.len ≤ length lies.0 = lies.2 in
-    let n : s + l - s ≡ l = omega arith in
-    let first : s ≤ length all = omega (arith, lengths, within, is_start, is_len) in
-    let rest : l ≤ length (drop s all) = rw (length-drop s all) (omega (arith, lengths, within, is_start, is_len)) in
-    let whole : take s all ++ (take l (drop s all) ++ drop l (drop s all)) ≡ all =
-    ap (λ xs. take s all ++ xs) (take-append-drop l (drop s all)) ∙ take-append-drop s all in
-    subst (λ (m : ℕ). HoldsArgs rows view (take m (drop s all))) (sym n) (record {
-      before = take s all;
-      after = drop l (drop s all);
+    let first : view.start ≤ length all = omega (arith, lengths, within) in
+    let rest : view.len ≤ length (drop view.start all) = rw (length-drop view.start all) (omega (arith, lengths, within)) in
+    let whole : take view.start all ++ (take view.len (drop view.start all) ++ drop view.len (drop view.start all)) ≡ all =
+    ap (λ xs. take view.start all ++ xs) (take-append-drop view.len (drop view.start all)) ∙ take-append-drop view.start all in
+    record {
+      before = take view.start all;
+      after = drop view.len (drop view.start all);
       stored = subst (λ (xs : List GenericArgKind). IsAt rows (args_row xs) view.args.number) (sym whole) there;
-      start = length-take-le s all first ∙ is_start;
-      len = length-take-le l (drop s all) rest ∙ is_len;
-    })
+      start = length-take-le view.start all first;
+      len = length-take-le view.len (drop view.start all) rest;
+    }
 
 pub args_owned : (rows : List Row) → AreRows rows → (list : GenericArgs) (all : List GenericArgKind) → IsAt rows (args_row all) list.number
     → (n s : ℕ) → AreParts (size rows) (item_shapes arg_shape (take n (drop s all)))
 args_owned rows are list all at n s =
     parts-take arg_shape (size rows) n (drop s all) (parts-drop arg_shape (size rows) s all (Means-row rows are ArgLists list.number (args_row all) at).parts.1)
+
+-- what a view's tree is
+pub inputs-tree : (rows : List Row) → AreRows rows → (view : FnInputTys) (list : Tys) (all inputs : List Ty) → list ≡ view.inputs_and_output
+    → IsAt rows (tys_row all) list.number → inputs ≡ take (length all - 1) all
+    → fill (meaning rows) (input_tys_shape view) ≡ tree.node (record_label sequence_record) (fill_all (meaning rows) (item_shapes ty_shape inputs))
+inputs-tree rows are view list all inputs is at part =
+    let there : IsAt rows (tys_row all) view.inputs_and_output.number = subst (λ (l : Tys). IsAt rows (tys_row all) l.number) is at in
+    part-tree ty_shape (meaning rows) TypeLists view.inputs_and_output.number all_but_last (list_label TypeLists) all inputs
+    (Means-row rows are TypeLists view.inputs_and_output.number (tys_row all) there).tree part
+
+pub args-tree : (rows : List Row) → AreRows rows → (view : GenericArgsSlice) (list : GenericArgs) (all some : List GenericArgKind) → list ≡ view.args
+    → IsAt rows (args_row all) list.number → some ≡ take view.len (drop view.start all)
+    → fill (meaning rows) (args_slice_shape view) ≡ tree.node (record_label sequence_record) (fill_all (meaning rows) (item_shapes arg_shape some))
+args-tree rows are view list all some is at part =
+    let there : IsAt rows (args_row all) view.args.number = subst (λ (a : GenericArgs). IsAt rows (args_row all) a.number) is at in
+    part-tree arg_shape (meaning rows) ArgLists view.args.number (span view.start view.len) (list_label ArgLists) all some
+    (Means-row rows are ArgLists view.args.number (args_row all) there).tree part

@@ -101,7 +101,7 @@ no-error (record_label l) is = refl
 no-error (error_label e) is = cc
 no-error clause_label is = refl
 
--- what stands inside of it is all that there is to see
+-- its contents are all that there is to see
 unhooked-inside : {M B : Type 0} (V : Visits M B) (s s' : M) (t : Tree Depth) → root t ≡ unhooked → GoesInside V s t s' → GoesOver V s t s'
 unhooked-inside V s s' (tree.term l ts) is (term_seen {s1 = s1} e all) = let same : s1 ≡ s = rw (no-error l is) at e in unhooked_seen is (rw same at all)
 unhooked-inside V s s' (tree.param o i name) is h = absurd (sort-unhooked o is)
@@ -149,7 +149,7 @@ module _ {M B : Type 0} (V : Visits M B) where
   asking-broke a_part s s' t b is h = absurd h
   asking-broke no_term s s' t b is h = absurd h
 
--- what stands in a kind
+-- the contents of a kind
 parts-form : (size : Sizes) (s : Sort) (x : Form (Label ℕ)) → HasParts size (form_shape s x) → AreStored size (form_binder x) × AreParts size (parts_shapes (form_parts x))
 parts-form size s (param i name) h = (tt, tt)
 parts-form size s (bound d e) h = (tt, tt)

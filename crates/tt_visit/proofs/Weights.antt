@@ -1,4 +1,4 @@
--- How deep a visit may go: the ages of what stands in a kind or a list.
+-- How deep a visit may go: the ages of the contents of a kind or a list.
 use Rattle.std.proofs.Common.{ℕ, suc, ◌+◌, ◌<◌, ◌≤◌, List, take, drop, max, arith}
 use Rattle.std.specs.Prelude.{slice_get, Some, ◌≡◌}
 use Rattle.tt_kinds.specs.Label.{Sort, Label}
@@ -60,11 +60,11 @@ low-form rows a s (bound d e) h = omega arith
 low-form rows a s (plain l p) h = low-parts rows a p h
 low-form rows a s (under l vars m p) h = low-parts rows a p h.0
 
--- what stands in a kind came before its row
+-- the contents of a kind came before its row
 pub low-kind : (rows : List Row) (a : ℕ) (k : Kind) → IsOlder rows a (kind_shape k) → parts_height rows (form_parts (kind_form k)) ≤ a
 low-kind rows a k h = low-form rows a (kind_sort k) (kind_form k) h
 
--- what stands in a list came before its row
+-- the contents of a list came before its row
 pub low-item : (rows : List Row) (a : ℕ) (list : List Child) (n : ℕ) (x : Child) → slice_get list n ≡ Some x → AreOlder rows a (children_shapes list) → child_height rows x ≤ a
 low-item rows a list n x h older =
     low-child rows a x (older-before rows a (child_shapes x) (children_shapes (drop (n + 1) list))

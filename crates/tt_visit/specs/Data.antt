@@ -1,5 +1,11 @@
 -- What values without terms hold: their data alone.
 use Rattle.std.specs.Prelude.{ℕ, Some, Bool, true, false, ⊤}
+use Rattle.tt_index.specs.declared.numeric.FloatTy.{FloatTy}
+use Rattle.tt_index.specs.declared.numeric.FloatTy.TheVariants as float
+use Rattle.tt_index.specs.declared.numeric.IntTy.{IntTy}
+use Rattle.tt_index.specs.declared.numeric.IntTy.TheVariants as int
+use Rattle.tt_index.specs.declared.numeric.UintTy.{UintTy}
+use Rattle.tt_index.specs.declared.numeric.UintTy.TheVariants as uint
 use Rattle.tt_index.specs.declared.qualifier.Mutability.{Mutability}
 use Rattle.tt_index.specs.declared.qualifier.Mutability.TheVariants as mutability
 use Rattle.tt_index.specs.declared.qualifier.Safety.{Safety}
@@ -27,7 +33,7 @@ abbrev pub data_shape : RecordLabel ℕ → Shape
 data_shape l = shape.node (record_label l) shape.none
 
 abbrev mutual
-  -- the shape is that of records all the way down: no handle stands in it
+  -- the shape is records all the way down: no handle occurs in it
   pub IsData : Shape → Type 0
   IsData (shape.node (record_label l) ss) = AreData ss
   IsData _ = ⊥
@@ -44,6 +50,10 @@ number_data bytes n = bare_const_record (leaf_const n bytes)
 -- nothing
 abbrev pub unit_data : RecordLabel ℕ
 unit_data = absent_record
+
+-- a value without handles, whatever else stands in it
+abbrev pub no_handles : Shape
+no_handles = data_shape unit_data
 
 -- a truth value as a number
 abbrev pub truth_number : Bool → ℕ
@@ -71,6 +81,31 @@ variance_number variance.Bivariant = 3
 abbrev pub direction_number : AliasRelationDirection → ℕ
 direction_number direction.Equate = 0
 direction_number direction.Subtype = 1
+
+-- the place of a signed integer type among the six
+abbrev pub int_number : IntTy → ℕ
+int_number int.Isize = 0
+int_number int.I8 = 1
+int_number int.I16 = 2
+int_number int.I32 = 3
+int_number int.I64 = 4
+int_number int.I128 = 5
+
+-- the place of an unsigned integer type among the six
+abbrev pub uint_number : UintTy → ℕ
+uint_number uint.Usize = 0
+uint_number uint.U8 = 1
+uint_number uint.U16 = 2
+uint_number uint.U32 = 3
+uint_number uint.U64 = 4
+uint_number uint.U128 = 5
+
+-- the place of a type of floating point among the four
+abbrev pub float_number : FloatTy → ℕ
+float_number float.F16 = 0
+float_number float.F32 = 1
+float_number float.F64 = 2
+float_number float.F128 = 3
 
 -- the index of a variable, and nothing where it is canonical
 abbrev pub index_shape : BoundVarIndexKind → Shape

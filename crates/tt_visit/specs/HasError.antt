@@ -17,7 +17,7 @@ error_of_region (error_region e) = Some e
 error_of_region _ = None
 
 abbrev mutual
-  -- the first token of an error in the tree: a node's own comes before those of its children
+  -- the first token of an error in the tree: a node's own comes before its children's
   pub first_error : Tree Depth → Option ℕ
   first_error (param s i name) = None
   first_error (bound s d e) = None

@@ -9,7 +9,7 @@ use Rattle.tt_visit.specs.declared.visitor.Next.{Next}
 use Rattle.tt_visit.specs.declared.visitor.Next.TheVariants.{Skip, Descend}
 use Rattle.tt_visit.specs.declared.has_escaping_vars.FoundEscapingVars.{FoundEscapingVars}
 
--- a search for variables of the binder of this index, or further out: where it stands, and whether it passed over a value
+-- a search for variables of the binder of this index, or further out: where it is, and whether it passed over a value
 pub record Search : Type 0 where
   pub outer_index : ℕ
   pub skipped : Bool

@@ -20,7 +20,7 @@ MeetsNone k t = met k t ≡ []
 abbrev pub MeetsSome : ℕ → Tree Depth → Type 0
 MeetsSome k t = met k t ≢ []
 
--- where the search stands: under how many binders of the value, and whether it passed over a binder's value
+-- where the search is: under how many binders of the value, and whether it passed over a binder's value
 pub record RegionSearch : Type 0 where
   pub depth : ℕ
   pub skipped : Bool
@@ -56,7 +56,7 @@ OfRegion type_sort condition = ⊤
 OfRegion const_sort condition = ⊤
 
 abbrev mutual
-  -- each bound region of the tree, however deep it stands, has an index below the greatest
+  -- each bound region of the tree, however deep it is, has an index below the greatest
   pub AreInRange : Tree Depth → Type 0
   AreInRange (param s i name) = ⊤
   AreInRange (bound s d e) = OfRegion s (outer_binder (bound s d e) ≤ greatest)
@@ -69,7 +69,7 @@ abbrev mutual
   AreInRange_all none = ⊤
   AreInRange_all (also t ts) = AreInRange t × AreInRange_all ts
 
--- nothing breaks, a term is skipped only where no bound region stands in it, and each region's index is in range
+-- nothing breaks, a term is skipped only where no bound region occurs in it, and each region's index is in range
 abbrev pub region_range_hooks : Visits ⊤ MetRegion
 region_range_hooks = record {
   on_region = λ s t s'. outer_binder t ≤ greatest;

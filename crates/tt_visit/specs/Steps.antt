@@ -44,7 +44,7 @@ module _ {M B : Type 0} (V : Visits M B) where
   AskingBreaks _ s t b s' = ⊥
 
 module _ {M B : Type 0} (V : Visits M B) (f : Meaning) where
-  -- the visitor goes over trees, which stand in a record under a binder if there is one
+  -- the visitor goes over trees, which are in a record under a binder if there is one
   abbrev pub GoesUnder : M → Option BoundVarKinds → Forest Depth → M → Type 0
   GoesUnder s None ts s' = GoesOverAll V s ts s'
   GoesUnder s (Some vars) ts s' = (m : RecordLabel Name) → GoesOver V s (binder (vars_of (f VarLists vars.number)) (node (record_label m) ts)) s'

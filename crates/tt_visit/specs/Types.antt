@@ -1,5 +1,5 @@
 -- What a visitor does that looks at types alone.
-use Rattle.std.specs.Prelude.{◌≡◌, Bool, true, false}
+use Rattle.std.specs.Prelude.{◌≡◌, Bool, true, false, ⊤}
 use Rattle.tt_kinds.specs.Count.{is_type_sort}
 use Rattle.tt_kinds.specs.Label.{is_type}
 use Rattle.tt_kinds.specs.Tree.{Depth, Tree, param, bound, region, term, node, binder}
@@ -12,6 +12,20 @@ pub record TypeVisits (M B : Type 0) : Type 1 where
   -- state, type, answer, state
   pub on_type : M → Tree Depth → Next → M → Type 0
   pub type_breaks : M → Tree Depth → B → M → Type 0
+
+-- the hook of which nothing is promised
+abbrev pub no_promise : {M B : Type 0} → TypeVisits M B
+no_promise = record {
+  on_type = λ s t next s'. ⊤;
+  type_breaks = λ s t b s'. ⊤;
+}
+
+-- the hook that breaks only at types of which the relation with the state holds, and goes into all others; the state stays
+abbrev pub breaks_at : {M B : Type 0} → (M → Tree Depth → Type 0) → TypeVisits M B
+breaks_at R = record {
+  on_type = λ s t next s'. (next ≡ Descend) × (s' ≡ s);
+  type_breaks = λ s t b s'. R s t × (s' ≡ s);
+}
 
 -- the tree is a type's
 abbrev pub is_type_tree : Tree Depth → Bool

@@ -7,7 +7,7 @@ use Rattle.tt_kinds.specs.declared.view.GenericArgsSlice.{GenericArgsSlice}
 use Rattle.tt_interner.specs.Rows.{Row, tys_row, args_row}
 use Rattle.tt_interner.specs.Stored.{IsAt}
 
--- the types are those of the view's list without the last
+-- the types are the view's list without the last
 pub record HoldsInputs (rows : List Row) (view : FnInputTys) (inputs : List Ty) : Type 0 where
   pub output : Ty
   pub stored : IsAt rows (tys_row (inputs ++ output ∷ [])) view.inputs_and_output.number

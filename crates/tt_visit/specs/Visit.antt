@@ -39,16 +39,16 @@ module _ {M B : Type 0} (V : Visits M B) where
       region_seen : {s s' : M} {t : Tree Depth} → root t ≡ a_region → V.on_region s t s' → GoesOver s t s'
       skipped : {s s' : M} {t : Tree Depth} → root t ≡ hooked → V.on_term s t Skip s' → GoesOver s t s'
       went_inside : {s s1 s' : M} {t : Tree Depth} → root t ≡ hooked → V.on_term s t Descend s1 → GoesInside s1 t s' → GoesOver s t s'
-      -- a pattern or an existential predicate has no hook, and tells of no error: what stands inside is always gone over
+      -- a pattern or an existential predicate has no hook, and tells of no error: the contents are always gone over
       unhooked_seen : {s s' : M} {l : Label Name} {ts : Forest Depth} → root (term l ts) ≡ unhooked → GoesOverAll s ts s' → GoesOver s (term l ts) s'
-      -- the token of an error that stands by itself is told of
+      -- the token of an error by itself is told of
       token_seen : {s s' : M} {e : ℕ} → V.on_error s e s' → GoesOver s (node (error_label e) none) s'
       node_seen : {s s' : M} {l : Label Name} {ts : Forest Depth} → root (node l ts) ≡ a_part → GoesOverAll s ts s' → GoesOver s (node l ts) s'
       binder_skipped : {s s' : M} {vs : List (VarKind Name)} {t : Tree Depth} → V.enter s vs Skip s' → GoesOver s (binder vs t) s'
       binder_seen : {s s1 s2 s' : M} {vs : List (VarKind Name)} {t : Tree Depth}
           → V.enter s vs Descend s1 → GoesInside s1 (binder vs t) s2 → V.leave s2 vs s' → GoesOver s (binder vs t) s'
 
-    -- the same for what stands inside a term or a binder
+    -- the same for the contents of a term or a binder
     pub data GoesInside : M → Tree Depth → M → Type 0 where
       term_seen : {s s1 s' : M} {l : Label Name} {ts : Forest Depth} → Tells s (error_of l) s1 → GoesOverAll s1 ts s' → GoesInside s (term l ts) s'
       param_seen : {s : M} {o : Sort} {i : ℕ} {name : Name} → GoesInside s (param o i name) s

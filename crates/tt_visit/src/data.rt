@@ -10,7 +10,10 @@ ghost use Rattle.tt_visit.specs.Visit.{Breaks, GoesOver};
 use crate::visitable::TypeVisitable;
 use crate::visitor::TypeVisitor;
 use std::ops::ControlFlow;
-use tt_index::{BoundVar, DebruijnIndex, Mutability, Safety, UniverseIndex, Variance};
+use tt_index::{
+    BoundVar, ClosureKind, ConstVid, DebruijnIndex, ExternAbi, FieldIdx, FloatTy, FloatVid, IntTy,
+    IntVid, Mutability, RegionVid, Safety, TyVid, UintTy, UniverseIndex, Variance, VariantIdx,
+};
 use tt_interner::Interner;
 use tt_kinds::{
     AliasRelationDirection, BoundVarIndexKind, PlaceholderConst, PlaceholderRegion, PlaceholderType,
@@ -185,6 +188,176 @@ impl TypeVisitable for Variance {
     ghost use Rattle.tt_visit.specs.Data.{data_shape, number_data, variance_number};
 
     ghost shape = { λ v. data_shape (number_data 1 (variance_number v)) };
+
+    fn visit_with<V: TypeVisitor>(
+        &self,
+        cx: &Interner,
+        visitor: &mut V,
+    ) -> ControlFlow<V::Break, ()> {
+        visit_data(cx, visitor)
+    }
+}
+
+impl TypeVisitable for FieldIdx {
+    ghost use Rattle.tt_visit.specs.Data.{data_shape, number_data};
+
+    ghost shape = { λ index. data_shape (number_data 4 index) };
+
+    fn visit_with<V: TypeVisitor>(
+        &self,
+        cx: &Interner,
+        visitor: &mut V,
+    ) -> ControlFlow<V::Break, ()> {
+        visit_data(cx, visitor)
+    }
+}
+
+impl TypeVisitable for VariantIdx {
+    ghost use Rattle.tt_visit.specs.Data.{data_shape, number_data};
+
+    ghost shape = { λ index. data_shape (number_data 4 index) };
+
+    fn visit_with<V: TypeVisitor>(
+        &self,
+        cx: &Interner,
+        visitor: &mut V,
+    ) -> ControlFlow<V::Break, ()> {
+        visit_data(cx, visitor)
+    }
+}
+
+impl TypeVisitable for RegionVid {
+    ghost use Rattle.tt_visit.specs.Data.{data_shape, number_data};
+
+    ghost shape = { λ vid. data_shape (number_data 4 vid) };
+
+    fn visit_with<V: TypeVisitor>(
+        &self,
+        cx: &Interner,
+        visitor: &mut V,
+    ) -> ControlFlow<V::Break, ()> {
+        visit_data(cx, visitor)
+    }
+}
+
+impl TypeVisitable for TyVid {
+    ghost use Rattle.tt_visit.specs.Data.{data_shape, number_data};
+
+    ghost shape = { λ vid. data_shape (number_data 4 vid) };
+
+    fn visit_with<V: TypeVisitor>(
+        &self,
+        cx: &Interner,
+        visitor: &mut V,
+    ) -> ControlFlow<V::Break, ()> {
+        visit_data(cx, visitor)
+    }
+}
+
+impl TypeVisitable for IntVid {
+    ghost use Rattle.tt_visit.specs.Data.{data_shape, number_data};
+
+    ghost shape = { λ vid. data_shape (number_data 4 vid) };
+
+    fn visit_with<V: TypeVisitor>(
+        &self,
+        cx: &Interner,
+        visitor: &mut V,
+    ) -> ControlFlow<V::Break, ()> {
+        visit_data(cx, visitor)
+    }
+}
+
+impl TypeVisitable for FloatVid {
+    ghost use Rattle.tt_visit.specs.Data.{data_shape, number_data};
+
+    ghost shape = { λ vid. data_shape (number_data 4 vid) };
+
+    fn visit_with<V: TypeVisitor>(
+        &self,
+        cx: &Interner,
+        visitor: &mut V,
+    ) -> ControlFlow<V::Break, ()> {
+        visit_data(cx, visitor)
+    }
+}
+
+impl TypeVisitable for ConstVid {
+    ghost use Rattle.tt_visit.specs.Data.{data_shape, number_data};
+
+    ghost shape = { λ vid. data_shape (number_data 4 vid) };
+
+    fn visit_with<V: TypeVisitor>(
+        &self,
+        cx: &Interner,
+        visitor: &mut V,
+    ) -> ControlFlow<V::Break, ()> {
+        visit_data(cx, visitor)
+    }
+}
+
+impl TypeVisitable for ClosureKind {
+    ghost use Rattle.tt_index.specs.ClosureKind.{demand};
+    ghost use Rattle.tt_visit.specs.Data.{data_shape, number_data};
+
+    ghost shape = { λ kind. data_shape (number_data 1 (demand kind)) };
+
+    fn visit_with<V: TypeVisitor>(
+        &self,
+        cx: &Interner,
+        visitor: &mut V,
+    ) -> ControlFlow<V::Break, ()> {
+        visit_data(cx, visitor)
+    }
+}
+
+impl TypeVisitable for ExternAbi {
+    ghost use Rattle.tt_index.specs.Abi.{abi_number};
+    ghost use Rattle.tt_visit.specs.Data.{data_shape, number_data};
+
+    ghost shape = { λ abi. data_shape (number_data 1 (abi_number abi)) };
+
+    fn visit_with<V: TypeVisitor>(
+        &self,
+        cx: &Interner,
+        visitor: &mut V,
+    ) -> ControlFlow<V::Break, ()> {
+        visit_data(cx, visitor)
+    }
+}
+
+impl TypeVisitable for IntTy {
+    ghost use Rattle.tt_visit.specs.Data.{data_shape, number_data, int_number};
+
+    ghost shape = { λ ty. data_shape (number_data 1 (int_number ty)) };
+
+    fn visit_with<V: TypeVisitor>(
+        &self,
+        cx: &Interner,
+        visitor: &mut V,
+    ) -> ControlFlow<V::Break, ()> {
+        visit_data(cx, visitor)
+    }
+}
+
+impl TypeVisitable for UintTy {
+    ghost use Rattle.tt_visit.specs.Data.{data_shape, number_data, uint_number};
+
+    ghost shape = { λ ty. data_shape (number_data 1 (uint_number ty)) };
+
+    fn visit_with<V: TypeVisitor>(
+        &self,
+        cx: &Interner,
+        visitor: &mut V,
+    ) -> ControlFlow<V::Break, ()> {
+        visit_data(cx, visitor)
+    }
+}
+
+impl TypeVisitable for FloatTy {
+    ghost use Rattle.tt_visit.specs.Data.{data_shape, number_data, float_number};
+
+    ghost shape = { λ ty. data_shape (number_data 1 (float_number ty)) };
 
     fn visit_with<V: TypeVisitor>(
         &self,

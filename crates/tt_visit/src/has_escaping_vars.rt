@@ -13,14 +13,14 @@ use tt_kinds::{BoundVarKinds, Clauses, Const, ErrorGuaranteed, Predicate, Region
 pub struct FoundEscapingVars;
 
 /// Breaks at the first region, type, constant, predicate or list of clauses that holds a variable bound by the binder
-/// `outer_index` or further out, where that index is counted from outside the visited value. None of these terms is taken
-/// apart: its outer exclusive binder is kept beside it.
+/// `outer_index` or further out, where that index is counted from outside the visited value. None of these terms is
+/// taken apart: its outer exclusive binder is kept beside it.
 ///
-/// Inside binders that are too many for an index no variable reaches so far out, since each has an index below the greatest. So
-/// such a binder's value is passed over, and the visitor keeps in mind that it was.
+/// Inside binders that are too many for an index no variable reaches so far out, since each has an index below the
+/// greatest. So such a binder's value is passed over, and the visitor keeps in mind that it was.
 #[derive(Clone, Copy, Debug)]
 pub struct HasEscapingVarsVisitor {
-    // the index of the same binder, as counted from where the visit stands
+    // the index of the same binder, as counted from where the visit is
     outer_index: DebruijnIndex,
     skipped: bool,
 }

@@ -33,13 +33,13 @@ pub struct MetRegion;
 /// passed over, and the visitor keeps in mind that it was: there a region that isn't bound remains to be looked for.
 #[derive(Clone, Copy, Debug)]
 pub struct MeetsRegionsVisitor {
-    // the innermost binder outside of the visited value, as counted from where the visit stands
+    // the innermost binder outside of the visited value, as counted from where the visit is
     outer_index: DebruijnIndex,
     skipped: bool,
 }
 
 impl MeetsRegionsVisitor {
-    /// Returns the visitor that stands outside each binder of the value.
+    /// Returns the visitor outside each binder of the value.
     pub fn new() -> MeetsRegionsVisitor
         ensures { result ≡ record { outer_index = 0; skipped = false } }
     {
@@ -219,7 +219,8 @@ impl TypeVisitor for RegionsInRangeVisitor {
     fn leave_binder(&mut self, _cx: &Interner, _vars: BoundVarKinds) {}
 }
 
-// What comes next at a term with these flags: what stands inside where a bound region does, and else what comes after.
+// What comes next at a term with these flags: the contents where a bound region occurs in them, and else what comes
+// after.
 fn next_at(flags: TypeFlags) -> Next
     ensures { result ≡ Skip → Misses 0x40000 flags.bits }
 {
@@ -230,7 +231,7 @@ fn next_at(flags: TypeFlags) -> Next
     }
 }
 
-/// Returns whether each bound region in the value, however deep it stands, has an index below the greatest. So the
+/// Returns whether each bound region in the value, however deep it is, has an index below the greatest. So the
 /// answer is always true; the contract gives callers the fact. Each term that holds a bound region is taken apart.
 pub(crate) fn are_regions_in_range<T: TypeVisitable>(cx: &Interner, value: &T) -> bool
     requires { IsPart (size cx.now.rows) (T.shape value.now) }

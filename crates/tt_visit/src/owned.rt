@@ -12,19 +12,21 @@ use std::boxed::BoxedSlice;
 use std::hash::{BuildHasher, Hash};
 use std::rc::Rc;
 use tt_index::{
-    BoundVar, DebruijnIndex, Idx, IndexVec, Mutability, Safety, UniverseIndex, Variance,
+    BoundVar, ClosureKind, ConstVid, DebruijnIndex, ExternAbi, FieldIdx, FloatTy, FloatVid, Idx,
+    IndexVec, IntTy, IntVid, Mutability, RegionVid, Safety, TyVid, UintTy, UniverseIndex, Variance,
+    VariantIdx,
 };
 use tt_interner::Interner;
 use tt_kinds::{
     AliasRelationDirection, AliasTerm, AliasTy, Binder, BoundExistentialPredicates,
     BoundVarIndexKind, Clause, ClauseKind, Clauses, CoercePredicate, Const, ConstKind, Consts,
     CoroutineWitnessTypes, ErrorGuaranteed, ExistentialPredicate, ExistentialProjection,
-    ExistentialTraitRef, ExprConst, FnSig, FnSigTys, GenericArg, GenericArgKind, GenericArgs,
-    HostEffectPredicate, NormalizesTo, OutlivesPredicate, ParamEnv, Parts, Pat, PatList,
-    PatternKind, PlaceholderConst, PlaceholderRegion, PlaceholderType, PolyExistentialPredicate,
-    Predicate, PredicateKind, ProjectionPredicate, Region, RegionAssumptions, SubtypePredicate,
-    Term, TermKind, TraitPredicate, TraitRef, Ty, TyKind, TypeAndMut, Tys, UnevaluatedConst,
-    UnsafeBinderInner, ValTree, ValTreeKind, ValueConst,
+    ExistentialTraitRef, ExprConst, FnInputTys, FnSig, FnSigTys, GenericArg, GenericArgKind,
+    GenericArgs, GenericArgsSlice, HostEffectPredicate, NormalizesTo, OutlivesPredicate, ParamEnv,
+    Parts, Pat, PatList, PatternKind, PlaceholderConst, PlaceholderRegion, PlaceholderType,
+    PolyExistentialPredicate, Predicate, PredicateKind, ProjectionPredicate, Region,
+    RegionAssumptions, SubtypePredicate, Term, TermKind, TraitPredicate, TraitRef, Ty, TyKind,
+    TypeAndMut, Tys, UnevaluatedConst, UnsafeBinderInner, ValTree, ValTreeKind, ValueConst,
 };
 
 /// A value that can tell whether an interner made its handles.
@@ -123,6 +125,18 @@ impl Owned for BoundExistentialPredicates {
 impl Owned for RegionAssumptions {
     fn is_owned(&self, cx: &Interner) -> bool {
         cx.owns_assumptions(*self)
+    }
+}
+
+impl Owned for FnInputTys {
+    fn is_owned(&self, cx: &Interner) -> bool {
+        cx.owns_tys(self.inputs_and_output())
+    }
+}
+
+impl Owned for GenericArgsSlice {
+    fn is_owned(&self, cx: &Interner) -> bool {
+        cx.owns_args(self.args())
     }
 }
 
@@ -515,6 +529,78 @@ impl Owned for Safety {
 }
 
 impl Owned for Variance {
+    fn is_owned(&self, _cx: &Interner) -> bool {
+        true
+    }
+}
+
+impl Owned for FieldIdx {
+    fn is_owned(&self, _cx: &Interner) -> bool {
+        true
+    }
+}
+
+impl Owned for VariantIdx {
+    fn is_owned(&self, _cx: &Interner) -> bool {
+        true
+    }
+}
+
+impl Owned for RegionVid {
+    fn is_owned(&self, _cx: &Interner) -> bool {
+        true
+    }
+}
+
+impl Owned for TyVid {
+    fn is_owned(&self, _cx: &Interner) -> bool {
+        true
+    }
+}
+
+impl Owned for IntVid {
+    fn is_owned(&self, _cx: &Interner) -> bool {
+        true
+    }
+}
+
+impl Owned for FloatVid {
+    fn is_owned(&self, _cx: &Interner) -> bool {
+        true
+    }
+}
+
+impl Owned for ConstVid {
+    fn is_owned(&self, _cx: &Interner) -> bool {
+        true
+    }
+}
+
+impl Owned for ClosureKind {
+    fn is_owned(&self, _cx: &Interner) -> bool {
+        true
+    }
+}
+
+impl Owned for ExternAbi {
+    fn is_owned(&self, _cx: &Interner) -> bool {
+        true
+    }
+}
+
+impl Owned for IntTy {
+    fn is_owned(&self, _cx: &Interner) -> bool {
+        true
+    }
+}
+
+impl Owned for UintTy {
+    fn is_owned(&self, _cx: &Interner) -> bool {
+        true
+    }
+}
+
+impl Owned for FloatTy {
     fn is_owned(&self, _cx: &Interner) -> bool {
         true
     }

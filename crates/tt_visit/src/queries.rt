@@ -41,8 +41,8 @@ use tt_kinds::ErrorGuaranteed;
 
 /// What can be asked of any value that a visitor can go over.
 ///
-/// Each answer comes from what is kept beside the terms of the value: no type, constant, predicate or list of clauses is
-/// taken apart. The value's handles have to be of this interner.
+/// Each answer comes from what is kept beside the terms of the value: no type, constant, predicate or list of clauses
+/// is taken apart. The value's handles have to be of this interner.
 pub trait TypeVisitableExt: TypeVisitable {
     /// Returns whether a flag of the mask is set anywhere in the value.
     final fn has_type_flags(&self, cx: &Interner, mask: TypeFlags) -> bool
@@ -56,7 +56,7 @@ pub trait TypeVisitableExt: TypeVisitable {
         }
     }
 
-    /// Returns whether a parameter stands anywhere in the value, so that instantiating it can change it.
+    /// Returns whether a parameter occurs anywhere in the value, so that instantiating it can change it.
     final fn has_param(&self, cx: &Interner) -> bool
         requires { IsPart (size cx.now.rows) (Self.shape self.now) }
         ensures { IsTrue result ↔ (holds_param (fill (meaning cx.now.rows) (Self.shape self.now)) ≡ true) }
@@ -64,7 +64,7 @@ pub trait TypeVisitableExt: TypeVisitable {
         self.has_type_flags(cx, TypeFlags::HAS_PARAM)
     }
 
-    /// Returns whether an alias stands in the value, of a type or a constant: a projection, an inherent, an opaque or a
+    /// Returns whether an alias occurs in the value, of a type or a constant: a projection, an inherent, an opaque or a
     /// free one. What an alias would normalize to isn't looked at.
     final fn has_aliases(&self, cx: &Interner) -> bool
         requires { IsPart (size cx.now.rows) (Self.shape self.now) }
@@ -73,7 +73,7 @@ pub trait TypeVisitableExt: TypeVisitable {
         self.has_type_flags(cx, TypeFlags::HAS_ALIAS)
     }
 
-    /// Returns whether an opaque type stands in the value.
+    /// Returns whether an opaque type occurs in the value.
     final fn has_opaque_types(&self, cx: &Interner) -> bool
         requires { IsPart (size cx.now.rows) (Self.shape self.now) }
         ensures { IsTrue result ↔ Meets 0x1000 (scan (fill (meaning cx.now.rows) (Self.shape self.now))) }
@@ -81,7 +81,7 @@ pub trait TypeVisitableExt: TypeVisitable {
         self.has_type_flags(cx, TypeFlags::HAS_TY_OPAQUE)
     }
 
-    /// Returns whether the type of a coroutine stands in the value.
+    /// Returns whether the type of a coroutine occurs in the value.
     final fn has_coroutines(&self, cx: &Interner) -> bool
         requires { IsPart (size cx.now.rows) (Self.shape self.now) }
         ensures { IsTrue result ↔ Meets 0x2000000 (scan (fill (meaning cx.now.rows) (Self.shape self.now))) }
@@ -89,7 +89,7 @@ pub trait TypeVisitableExt: TypeVisitable {
         self.has_type_flags(cx, TypeFlags::HAS_TY_CORO)
     }
 
-    /// Returns whether the token of an error stands in the value: of a type, a constant or a region.
+    /// Returns whether the token of an error occurs in the value: of a type, a constant or a region.
     final fn references_error(&self, cx: &Interner) -> bool
         requires { IsPart (size cx.now.rows) (Self.shape self.now) }
         ensures { IsTrue result ↔ Meets 0x18000 (scan (fill (meaning cx.now.rows) (Self.shape self.now))) }
@@ -97,7 +97,7 @@ pub trait TypeVisitableExt: TypeVisitable {
         self.has_type_flags(cx, TypeFlags::HAS_ERROR)
     }
 
-    /// Returns whether the token of an error of a type or a constant stands in the value.
+    /// Returns whether the token of an error of a type or a constant occurs in the value.
     final fn has_non_region_error(&self, cx: &Interner) -> bool
         requires { IsPart (size cx.now.rows) (Self.shape self.now) }
         ensures { IsTrue result ↔ Meets 0x8000 (scan (fill (meaning cx.now.rows) (Self.shape self.now))) }
@@ -105,7 +105,7 @@ pub trait TypeVisitableExt: TypeVisitable {
         self.has_type_flags(cx, TypeFlags::HAS_NON_REGION_ERROR)
     }
 
-    /// Returns whether a parameter for a type or a constant stands in the value.
+    /// Returns whether a parameter for a type or a constant occurs in the value.
     final fn has_non_region_param(&self, cx: &Interner) -> bool
         requires { IsPart (size cx.now.rows) (Self.shape self.now) }
         ensures { IsTrue result ↔ Meets 0x5 (scan (fill (meaning cx.now.rows) (Self.shape self.now))) }
@@ -113,7 +113,7 @@ pub trait TypeVisitableExt: TypeVisitable {
         self.has_type_flags(cx, TypeFlags::from_bits_retain(0x5))
     }
 
-    /// Returns whether an inference variable for a region stands in the value.
+    /// Returns whether an inference variable for a region occurs in the value.
     final fn has_infer_regions(&self, cx: &Interner) -> bool
         requires { IsPart (size cx.now.rows) (Self.shape self.now) }
         ensures { IsTrue result ↔ Meets 0x10 (scan (fill (meaning cx.now.rows) (Self.shape self.now))) }
@@ -121,7 +121,7 @@ pub trait TypeVisitableExt: TypeVisitable {
         self.has_type_flags(cx, TypeFlags::HAS_RE_INFER)
     }
 
-    /// Returns whether an inference variable for a type stands in the value. Fresh types are none.
+    /// Returns whether an inference variable for a type occurs in the value. Fresh types are none.
     final fn has_infer_types(&self, cx: &Interner) -> bool
         requires { IsPart (size cx.now.rows) (Self.shape self.now) }
         ensures { IsTrue result ↔ Meets 0x8 (scan (fill (meaning cx.now.rows) (Self.shape self.now))) }
@@ -129,7 +129,7 @@ pub trait TypeVisitableExt: TypeVisitable {
         self.has_type_flags(cx, TypeFlags::HAS_TY_INFER)
     }
 
-    /// Returns whether an inference variable for a type or a constant stands in the value. Fresh types and constants
+    /// Returns whether an inference variable for a type or a constant occurs in the value. Fresh types and constants
     /// are none.
     final fn has_non_region_infer(&self, cx: &Interner) -> bool
         requires { IsPart (size cx.now.rows) (Self.shape self.now) }
@@ -138,7 +138,7 @@ pub trait TypeVisitableExt: TypeVisitable {
         self.has_type_flags(cx, TypeFlags::from_bits_retain(0x28))
     }
 
-    /// Returns whether an inference variable stands in the value. Fresh types and constants are none.
+    /// Returns whether an inference variable occurs in the value. Fresh types and constants are none.
     final fn has_infer(&self, cx: &Interner) -> bool
         requires { IsPart (size cx.now.rows) (Self.shape self.now) }
         ensures { IsTrue result ↔ Meets 0x38 (scan (fill (meaning cx.now.rows) (Self.shape self.now))) }
@@ -146,7 +146,7 @@ pub trait TypeVisitableExt: TypeVisitable {
         self.has_type_flags(cx, TypeFlags::HAS_INFER)
     }
 
-    /// Returns whether a placeholder stands in the value.
+    /// Returns whether a placeholder occurs in the value.
     final fn has_placeholders(&self, cx: &Interner) -> bool
         requires { IsPart (size cx.now.rows) (Self.shape self.now) }
         ensures { IsTrue result ↔ Meets 0x1C0 (scan (fill (meaning cx.now.rows) (Self.shape self.now))) }
@@ -154,7 +154,7 @@ pub trait TypeVisitableExt: TypeVisitable {
         self.has_type_flags(cx, TypeFlags::HAS_PLACEHOLDER)
     }
 
-    /// Returns whether a placeholder for a type or a constant stands in the value.
+    /// Returns whether a placeholder for a type or a constant occurs in the value.
     final fn has_non_region_placeholders(&self, cx: &Interner) -> bool
         requires { IsPart (size cx.now.rows) (Self.shape self.now) }
         ensures { IsTrue result ↔ Meets 0x140 (scan (fill (meaning cx.now.rows) (Self.shape self.now))) }
@@ -162,7 +162,7 @@ pub trait TypeVisitableExt: TypeVisitable {
         self.has_type_flags(cx, TypeFlags::from_bits_retain(0x140))
     }
 
-    /// Returns whether a region stands in the value.
+    /// Returns whether a region occurs in the value.
     final fn has_regions(&self, cx: &Interner) -> bool
         requires { IsPart (size cx.now.rows) (Self.shape self.now) }
         ensures { IsTrue result ↔ Meets 0x260000 (scan (fill (meaning cx.now.rows) (Self.shape self.now))) }
@@ -170,7 +170,7 @@ pub trait TypeVisitableExt: TypeVisitable {
         self.has_type_flags(cx, TypeFlags::HAS_REGIONS)
     }
 
-    /// Returns whether a region stands in the value that is neither bound nor erased.
+    /// Returns whether a region occurs in the value that is neither bound nor erased.
     final fn has_free_regions(&self, cx: &Interner) -> bool
         requires { IsPart (size cx.now.rows) (Self.shape self.now) }
         ensures { IsTrue result ↔ Meets 0x20000 (scan (fill (meaning cx.now.rows) (Self.shape self.now))) }
@@ -178,7 +178,7 @@ pub trait TypeVisitableExt: TypeVisitable {
         self.has_type_flags(cx, TypeFlags::HAS_FREE_REGIONS)
     }
 
-    /// Returns whether an erased region stands in the value.
+    /// Returns whether an erased region occurs in the value.
     final fn has_erased_regions(&self, cx: &Interner) -> bool
         requires { IsPart (size cx.now.rows) (Self.shape self.now) }
         ensures { IsTrue result ↔ Meets 0x200000 (scan (fill (meaning cx.now.rows) (Self.shape self.now))) }
@@ -186,7 +186,7 @@ pub trait TypeVisitableExt: TypeVisitable {
         self.has_type_flags(cx, TypeFlags::HAS_RE_ERASED)
     }
 
-    /// Returns whether a region stands in the value that erasing all regions would replace: one that is neither bound
+    /// Returns whether a region occurs in the value that erasing all regions would replace: one that is neither bound
     /// nor erased.
     final fn has_erasable_regions(&self, cx: &Interner) -> bool
         requires { IsPart (size cx.now.rows) (Self.shape self.now) }
@@ -195,7 +195,7 @@ pub trait TypeVisitableExt: TypeVisitable {
         self.has_free_regions(cx)
     }
 
-    /// Returns whether a region stands in the value that the value doesn't bind itself and that is no variable of a
+    /// Returns whether a region occurs in the value that the value doesn't bind itself and that is no variable of a
     /// canonical query: one of those that a fold of regions asks its closure about. Erased regions, `'static` and those
     /// of an error are among them.
     ///
@@ -217,7 +217,7 @@ pub trait TypeVisitableExt: TypeVisitable {
         }
     }
 
-    /// Returns whether a bound region stands in the value, bound inside of it or outside.
+    /// Returns whether a bound region occurs in the value, bound inside of it or outside.
     final fn has_bound_regions(&self, cx: &Interner) -> bool
         requires { IsPart (size cx.now.rows) (Self.shape self.now) }
         ensures { IsTrue result ↔ Meets 0x40000 (scan (fill (meaning cx.now.rows) (Self.shape self.now))) }
@@ -225,7 +225,7 @@ pub trait TypeVisitableExt: TypeVisitable {
         self.has_type_flags(cx, TypeFlags::HAS_RE_BOUND)
     }
 
-    /// Returns whether a bound type or constant stands in the value, bound inside of it or outside.
+    /// Returns whether a bound type or constant occurs in the value, bound inside of it or outside.
     final fn has_non_region_bound_vars(&self, cx: &Interner) -> bool
         requires { IsPart (size cx.now.rows) (Self.shape self.now) }
         ensures { IsTrue result ↔ Meets 0x180000 (scan (fill (meaning cx.now.rows) (Self.shape self.now))) }
@@ -233,7 +233,7 @@ pub trait TypeVisitableExt: TypeVisitable {
         self.has_type_flags(cx, TypeFlags::from_bits_retain(0x180000))
     }
 
-    /// Returns whether a bound variable stands in the value, bound inside of it or outside.
+    /// Returns whether a bound variable occurs in the value, bound inside of it or outside.
     final fn has_bound_vars(&self, cx: &Interner) -> bool
         requires { IsPart (size cx.now.rows) (Self.shape self.now) }
         ensures { IsTrue result ↔ Meets 0x1C0000 (scan (fill (meaning cx.now.rows) (Self.shape self.now))) }
@@ -250,8 +250,8 @@ pub trait TypeVisitableExt: TypeVisitable {
         self.has_type_flags(cx, TypeFlags::STILL_FURTHER_SPECIALIZABLE)
     }
 
-    /// Answers `Err` with the first token of an error that stands in the value, of a type, a constant or a region, and `Ok` where
-    /// there is none. First is what a visit meets first: children come in order, from front to back.
+    /// Answers `Err` with the first token of an error that occurs in the value, of a type, a constant or a region,
+    /// and `Ok` where there is none. First is what a visit meets first: children come in order, from front to back.
     final fn error_reported(&self, cx: &Interner) -> Result<(), ErrorGuaranteed>
         requires { IsPart (size cx.now.rows) (Self.shape self.now) }
         ensures ok { IfOk result (λ _. Misses 0x18000 (scan (fill (meaning cx.now.rows) (Self.shape self.now)))) }
@@ -266,8 +266,8 @@ pub trait TypeVisitableExt: TypeVisitable {
         }
     }
 
-    /// Answers the same as `error_reported` where the token of an error of a type or a constant stands in the value, and `Ok`
-    /// where there is none. So the answered token is a region's where that comes first.
+    /// Answers the same as `error_reported` where the token of an error of a type or a constant occurs in the value,
+    /// and `Ok` where there is none. So the answered token is a region's where that comes first.
     final fn non_region_error_reported(&self, cx: &Interner) -> Result<(), ErrorGuaranteed>
         requires { IsPart (size cx.now.rows) (Self.shape self.now) }
         ensures ok { IfOk result (λ _. Misses 0x8000 (scan (fill (meaning cx.now.rows) (Self.shape self.now)))) }
@@ -282,7 +282,7 @@ pub trait TypeVisitableExt: TypeVisitable {
     }
 
     /// Returns whether the value means the same everywhere: it holds no parameter, no inference variable, no
-    /// placeholder, no fresh type or constant, and no region but `'static`, bound ones and those of an error.
+    /// placeholder, no fresh type or constant, and no region but `'static`, bound regions and regions of errors.
     final fn is_global(&self, cx: &Interner) -> bool
         requires { IsPart (size cx.now.rows) (Self.shape self.now) }
         ensures { IsTrue result ↔ Misses 0xE0036D (scan (fill (meaning cx.now.rows) (Self.shape self.now))) }
@@ -290,7 +290,7 @@ pub trait TypeVisitableExt: TypeVisitable {
         !self.has_type_flags(cx, TypeFlags::HAS_FREE_LOCAL_NAMES)
     }
 
-    /// Returns whether a variable stands in the value that is bound outside of it.
+    /// Returns whether a variable occurs in the value that is bound outside of it.
     final fn has_escaping_bound_vars(&self, cx: &Interner) -> bool
         requires { IsPart (size cx.now.rows) (Self.shape self.now) }
         ensures { IsTrue result ↔ (0 < outer_binder (fill (meaning cx.now.rows) (Self.shape self.now))) }
@@ -298,7 +298,7 @@ pub trait TypeVisitableExt: TypeVisitable {
         self.has_vars_bound_at_or_above(cx, DebruijnIndex::INNERMOST)
     }
 
-    /// Returns whether a variable stands in the value that is bound by the binder of this index or further out. The
+    /// Returns whether a variable occurs in the value that is bound by the binder of this index or further out. The
     /// index is counted from outside the value: 0 is the innermost binder around it.
     final fn has_vars_bound_at_or_above(&self, cx: &Interner, binder: DebruijnIndex) -> bool
         requires { IsPart (size cx.now.rows) (Self.shape self.now) }
@@ -311,7 +311,7 @@ pub trait TypeVisitableExt: TypeVisitable {
         }
     }
 
-    /// Returns whether a variable stands in the value that is bound further out than by the binder of this index. At
+    /// Returns whether a variable occurs in the value that is bound further out than by the binder of this index. At
     /// the greatest index it is none.
     final fn has_vars_bound_above(&self, cx: &Interner, binder: DebruijnIndex) -> bool
         requires { IsPart (size cx.now.rows) (Self.shape self.now) }

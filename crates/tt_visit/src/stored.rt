@@ -65,7 +65,7 @@ pub fn visit_node<V: TypeVisitor>(
     }
 }
 
-// The visit of what stands inside a stored term, without its own hook.
+// The visit of the contents of a stored term, without its own hook.
 #[cycle(visit)]
 pub(crate) fn visit_inside<V: TypeVisitor>(
     cx: &Interner,
@@ -88,7 +88,7 @@ pub(crate) fn visit_inside<V: TypeVisitor>(
     }
 }
 
-/// Returns the visit of what stands inside a kind.
+/// Returns the visit of the contents of a kind.
 #[cycle(visit)]
 pub fn visit_kind<V: TypeVisitor>(
     cx: &Interner,
@@ -223,7 +223,7 @@ pub fn visit_list<V: TypeVisitor>(
     }
 }
 
-// The visit of what stands in a stored list.
+// The visit of the contents of a stored list.
 #[cycle(visit)]
 fn visit_items<V: TypeVisitor>(
     cx: &Interner,

@@ -1,11 +1,12 @@
 //! Visitors that look at types alone.
 
-ghost use Rattle.std.specs.Prelude.{List, ⊤};
 ghost use Rattle.tt_kinds.specs.Kinds.{ty_shape};
-ghost use Rattle.tt_kinds.specs.Shape.{IsPart, fill};
-ghost use Rattle.tt_interner.specs.Rows.{Row, meaning as meaning_of, size};
+ghost use Rattle.tt_kinds.specs.Shape.{IsPart, Shape, fill};
+ghost use Rattle.tt_kinds.specs.Tree.{Depth, Tree};
+ghost use Rattle.tt_interner.specs.Rows.{meaning as meaning_of, size};
+ghost use Rattle.tt_visit.specs.Data.{no_handles};
 ghost use Rattle.tt_visit.specs.Steps.{Answers, Ends, OwnsBreak};
-ghost use Rattle.tt_visit.specs.Types.{TypeVisits, only_types};
+ghost use Rattle.tt_visit.specs.Types.{TypeVisits, no_promise, only_types};
 ghost use Rattle.tt_visit.specs.Visit.{Breaks, GoesOver};
 
 use crate::visitable::TypeVisitable;
@@ -17,44 +18,40 @@ use tt_kinds::{BoundVarKinds, Clauses, Const, ErrorGuaranteed, Predicate, Region
 /// A visitor that looks at types alone: regions and tokens of errors are passed, and each other term and each binder is
 /// entered, so that one method says it all.
 ///
-/// It is a [`TypeVisitor`], and [`inspect_types`] goes over a value by it. A visitor that has to know the binders around
-/// a type implements [`TypeVisitor`] itself.
+/// It is a [`TypeVisitor`], and [`inspect_types`] goes over a value by it. A visitor that has to know the binders
+/// around a type implements [`TypeVisitor`] itself.
 pub trait TypeInspector {
     /// What the visit ends with when it ends early.
     type Break;
 
-    // What a state means, with the handles in it as their trees.
-    ghost Meaning: { Type 0 };
-
-    ghost meaning: { List Row → Self → Self.Meaning };
-    // The state's handles are those of the rows; an inspector that holds none doesn't say.
-    ghost owned: { List Row → Self → Type 0 } = { λ rows s. ⊤ };
+    // The handles in a state; an inspector that holds none doesn't say.
+    ghost shape: { Self → Shape } = { λ s. no_handles };
     // The same of what the visit ends with.
-    ghost break_owned: { List Row → Self.Break → Type 0 } = { λ rows b. ⊤ };
+    ghost break_shape: { Self.Break → Shape } = { λ b. no_handles };
 
-    // What the hook does.
-    ghost hooks: { TypeVisits Self.Meaning Self.Break };
+    // What the hook does, by the trees of the handles; where nothing is to be proved of it, it isn't said.
+    ghost hooks: { TypeVisits (Tree Depth) Self.Break } = { no_promise };
 
     /// Called at each type, before its contents.
     fn inspect_ty(&mut self, cx: &Interner, ty: Ty) -> ControlFlow<Self::Break, Next>
-        requires owned { owned cx.now.rows self.old }
+        requires owned { IsPart (size cx.now.rows) (shape self.old) }
         requires ty { IsPart (size cx.now.rows) (ty_shape ty) }
-        ensures owned { owned cx.now.rows self.new }
-        ensures broke { OwnsBreak break_owned cx.now.rows result }
-        ensures result { Answers meaning hooks.on_type hooks.type_breaks
+        ensures owned { IsPart (size cx.now.rows) (shape self.new) }
+        ensures broke { OwnsBreak (λ rows b. IsPart (size rows) (break_shape b)) cx.now.rows result }
+        ensures result { Answers (λ rows s. fill (meaning_of rows) (shape s)) hooks.on_type hooks.type_breaks
             cx.now.rows self.old (fill (meaning_of cx.now.rows) (ty_shape ty)) result self.new };
 }
 
 impl<F: TypeInspector> TypeVisitor for F {
     type Break = F::Break;
 
-    ghost Meaning = { F.TypeInspector.Meaning };
+    ghost Meaning = { Tree Depth };
 
-    ghost meaning = { F.TypeInspector.meaning };
+    ghost meaning = { λ rows s. fill (meaning_of rows) (F.TypeInspector.shape s) };
 
-    ghost owned = { F.TypeInspector.owned };
+    ghost owned = { λ rows s. IsPart (size rows) (F.TypeInspector.shape s) };
 
-    ghost break_owned = { F.TypeInspector.break_owned };
+    ghost break_owned = { λ rows b. IsPart (size rows) (F.TypeInspector.break_shape b) };
 
     ghost hooks = { only_types F.TypeInspector.hooks };
 
@@ -108,11 +105,12 @@ pub fn inspect_types<T: TypeVisitable, F: TypeInspector>(
     value: &T,
     inspector: &mut F,
 ) -> ControlFlow<F::Break, ()>
-    requires owned { F.owned cx.now.rows inspector.old }
+    requires owned { IsPart (size cx.now.rows) (F.shape inspector.old) }
     requires value { IsPart (size cx.now.rows) (T.shape value.now) }
-    ensures owned { F.owned cx.now.rows inspector.new }
-    ensures broke { OwnsBreak F.break_owned cx.now.rows result }
-    ensures result { Ends F.meaning (GoesOver (only_types F.hooks)) (Breaks (only_types F.hooks))
+    ensures owned { IsPart (size cx.now.rows) (F.shape inspector.new) }
+    ensures broke { OwnsBreak (λ rows b. IsPart (size rows) (F.break_shape b)) cx.now.rows result }
+    ensures result { Ends (λ rows s. fill (meaning_of rows) (F.shape s))
+        (GoesOver (only_types F.hooks)) (Breaks (only_types F.hooks))
         cx.now.rows inspector.old (fill (meaning_of cx.now.rows) (T.shape value.now)) result inspector.new }
 {
     value.visit_with(cx, inspector)

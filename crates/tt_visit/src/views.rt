@@ -1,24 +1,26 @@
-//! The items of views, which are lent as slices.
+//! The visits of views, and their items, which are lent as slices.
 
-ghost use Rattle.std.specs.Prelude.{List};
+ghost use Rattle.std.specs.Prelude.{◌≡◌, ◌-◌, List, drop, length, take};
 ghost use Rattle.tt_kinds.specs.Shape.{AreParts, item_shapes};
 ghost use Rattle.tt_interner.specs.Rows.{Row, size};
 
-use crate::visitable::TypeVisitable;
+use crate::visitable::{TypeVisitable, visit_values};
+use crate::visitor::TypeVisitor;
+use std::ops::ControlFlow;
 use tt_interner::{InternedList, Interner};
 use tt_kinds::{FnInputTys, GenericArg, GenericArgsSlice, Ty};
 
 /// A view: some items in a row of a stored list.
 ///
-/// What a view holds is told by its list alone, so that a view has no tree by itself: visitors go over the slice of its
-/// items, and the questions about it are asked of that slice.
+/// A view can be visited as its slice can, and has the slice's tree. Where it reaches beyond its list, what is there of it
+/// is visited, and [`InternedView::as_slice`] can't be asked.
 pub trait InternedView: Sized {
     /// What the list holds.
     type Item: TypeVisitable;
 
     // The view lies in a list of the rows.
     ghost lies_in: { List Row → Self → Type 0 };
-    // The items are those of the view.
+    // These are the view's items.
     ghost holds: { List Row → Self → List Self.Item → Type 0 };
 
     /// Returns the items in order, in the interner's memory.
@@ -41,9 +43,24 @@ impl InternedView for FnInputTys {
     fn as_slice<'a>(self, cx: &'a Interner) -> &'a [Ty] {
         cx.are_rows();
         let all = self.inputs_and_output().as_slice(cx);
-        let end = all.len() - 1;
-        let inputs = &all[..end];
-        inputs
+        all_but_last(all)
+    }
+}
+
+impl TypeVisitable for FnInputTys {
+    ghost use Rattle.tt_kinds.specs.Values.{input_tys_shape};
+
+    ghost shape = { input_tys_shape };
+
+    #[tactic(auto, unfolding(tt_kinds::specs::Shape::fill))]
+    fn visit_with<V: TypeVisitor>(
+        &self,
+        cx: &Interner,
+        visitor: &mut V,
+    ) -> ControlFlow<V::Break, ()> {
+        cx.are_rows();
+        let inputs = all_but_last(self.inputs_and_output().as_slice(cx));
+        visit_values(cx, visitor, inputs)
     }
 }
 
@@ -60,9 +77,42 @@ impl InternedView for GenericArgsSlice {
     fn as_slice<'a>(self, cx: &'a Interner) -> &'a [GenericArg] {
         cx.are_rows();
         let all = self.args().as_slice(cx);
-        let start = self.start() as usize;
-        let end = start + self.len() as usize;
-        let items = &all[start..end];
-        items
+        span(all, self.start() as usize, self.len() as usize)
     }
+}
+
+impl TypeVisitable for GenericArgsSlice {
+    ghost use Rattle.tt_kinds.specs.Values.{args_slice_shape};
+
+    ghost shape = { args_slice_shape };
+
+    #[tactic(auto, unfolding(tt_kinds::specs::Shape::fill))]
+    fn visit_with<V: TypeVisitor>(
+        &self,
+        cx: &Interner,
+        visitor: &mut V,
+    ) -> ControlFlow<V::Break, ()> {
+        cx.are_rows();
+        let list = self.args().as_slice(cx);
+        let arguments = span(list, self.start() as usize, self.len() as usize);
+        visit_values(cx, visitor, arguments)
+    }
+}
+
+// The items without the last. Where there is none, there is no last one either.
+fn all_but_last<T>(items: &[T]) -> &[T]
+    ensures { result.now ≡ take (length items.now - 1) items.now }
+{
+    let end = items.len().saturating_sub(1);
+    &items[..end]
+}
+
+// So many items from this place on, or those of them that are there.
+fn span<T>(items: &[T], start: usize, len: usize) -> &[T]
+    ensures { result.now ≡ take len (drop start items.now) }
+{
+    let first = start.min(items.len());
+    let rest = &items[first..];
+    let end = len.min(rest.len());
+    &rest[..end]
 }

@@ -10,7 +10,7 @@ use std::ops::ControlFlow;
 use tt_interner::Interner;
 use tt_kinds::Binder;
 
-/// A value that stands for a tree, and that a visitor can go over.
+/// A value that has a tree, and that a visitor can go over.
 pub trait TypeVisitable {
     // What the value holds.
     ghost shape: { Self → Shape };
@@ -32,7 +32,7 @@ pub trait TypeVisitable {
 
 /// A value that has a hook of its own.
 pub trait TypeSuperVisitable: TypeVisitable {
-    /// Returns the visit of what stands inside the value, without its own hook.
+    /// Returns the visit of the value's contents, without its own hook.
     fn super_visit_with<V: TypeVisitor>(
         &self,
         cx: &Interner,

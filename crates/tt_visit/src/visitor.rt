@@ -12,19 +12,19 @@ use std::ops::ControlFlow;
 use tt_interner::Interner;
 use tt_kinds::{BoundVarKinds, Clauses, Const, ErrorGuaranteed, Predicate, Region, Ty};
 
-/// What a hook answers before what stands inside a term or a binder.
+/// What a hook answers before the contents of a term or a binder.
 #[derive(Clone, Copy, Debug, PartialEq, Eq)]
 pub enum Next {
     /// The visit goes on after it.
     Skip,
-    /// The visit goes over what stands inside.
+    /// The visit goes over the contents.
     Descend,
 }
 
 /// A visitor, which is called at each region, type, constant, predicate, list of clauses and binder of a value, in
 /// order, from the outside in.
 ///
-/// Patterns, existential predicates, other lists and records have no hook: the visit goes over what stands in them. A
+/// Patterns, existential predicates, other lists and records have no hook: the visit goes over their contents. A
 /// hook that answers `Break` ends the visit with that value.
 ///
 /// A visitor may hold handles, and break with one: it says so by `owned` and `break_owned`, which then hold again after
@@ -37,7 +37,7 @@ pub trait TypeVisitor {
     ghost Meaning: { Type 0 };
 
     ghost meaning: { List Row → Self → Self.Meaning };
-    // The state's handles are those of the rows; a visitor that holds none doesn't say.
+    // Each handle of the state names one of the rows; a visitor that holds none doesn't say.
     ghost owned: { List Row → Self → Type 0 } = { λ rows s. ⊤ };
     // The same of what the visit ends with.
     ghost break_owned: { List Row → Self.Break → Type 0 } = { λ rows b. ⊤ };

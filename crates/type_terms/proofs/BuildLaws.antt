@@ -31,10 +31,10 @@ use Rattle.type_terms.specs.CallForm as call_forms
 use Rattle.type_terms.specs.CallForm.{CallForm, Named, Item, a_list, items_positions, AreItemsTooDeep, form_positions}
 use Rattle.type_terms.specs.Told.{Told, term, refused, told, told_all, AreOwned, HasFullTable, IsStored, Setting, setting}
 use Rattle.type_terms.specs.Means as means
-use Rattle.type_terms.specs.Means.{number_at, tree_at, AreTerms, NamesTerms, BuildsOrFolds, IsTold, IsThere, AddsNothing, IsAllowed, MayRefuse, want_of_memory, full_table, no_term, too_deep}
+use Rattle.type_terms.specs.Means.{number_at, tree_at, AreTerms, NamesTerms, BuildsOrFolds, IsTold, IsKnown, IsThere, AddsNothing, IsAllowed, MayRefuse, want_of_memory, full_table, no_term, too_deep}
 use Rattle.type_terms.specs.Build as build
 use Rattle.type_terms.specs.Build.{IsUnbuilt, no_memory, no_row, no_index, IsNameOf, IsRegionOf, GivesRegion, ArePlaced, AreItemsOf, GivesPart, GivesPlaced, IsKindOf, Answers}
-use Rattle.type_terms.specs.Room.{IsForRoom, HasValue, FormNeedsRoom}
+use Rattle.type_terms.specs.Room.{IsForRoom, HasValue, NeedsRoom, FormNeedsRoom}
 use Rattle.type_terms.proofs.ValueLaws.{new-lacks}
 use Rattle.type_terms.proofs.RoomLaws.{stored-value}
 use Rattle.type_terms.proofs.RunLaws.{HasFullTable-extends, IsStored-grows, IsAllowed-wider}
@@ -146,16 +146,21 @@ told-stored rows (answer.Refused x ∷ answers) t u o h = told-stored rows answe
 told-stored rows (answer.Bad ∷ answers) t u o h = told-stored rows answers t u o.1 h
 
 -- what is there is stored
-there-stored : (start old new : Terms) → Extends start old → (answers : List Answer) → AreOwned start.rows answers → (t : Table) (f : CallForm)
-    → IsThere (setting start new) (told_all start.rows answers) t f
-    → IsStored old.rows t (call_forms.form_tree (number_at (told_all start.rows answers)) (tree_at (told_all start.rows answers)) f)
-there-stored start old new x answers o t f h = IsStored-grows start.rows old.rows x.rows t _ (elim h.1 [ inl k ↦ k | inr k ↦ told-stored start.rows answers t _ o k ])
+known-stored : (start old new : Terms) → Extends start old → (answers : List Answer) → AreOwned start.rows answers → (t : Table) (u : Tree Depth)
+    → IsKnown (setting start new) (told_all start.rows answers) t u → IsStored old.rows t u
+known-stored start old new x answers o t u h = IsStored-grows start.rows old.rows x.rows t u (elim h [ inl k ↦ k | inr k ↦ told-stored start.rows answers t u o k ])
 
 -- what is there isn't refused for want of room
+pub known-refused : (start old new : Terms) → Extends start old → (answers : List Answer) → AreOwned start.rows answers → AreRows old.rows → (t : Table) (short : Type 0) (u : Tree Depth) (r : Refusal)
+    → NeedsRoom old.rows short u r → short × IsKnown (setting start new) (told_all start.rows answers) t u → IsForRoom r → ⊥
+known-refused start old new x answers o are t short u r needs known room =
+    needs room known.0 are (stored-value old.rows t u (known-stored start old new x answers o t u known.1))
+
 pub there-refused : (start old new : Terms) → Extends start old → (answers : List Answer) → AreOwned start.rows answers → AreRows old.rows → (t : Table) (f : CallForm) (r : Refusal)
     → FormNeedsRoom old.rows (told_all start.rows answers) f r → IsThere (setting start new) (told_all start.rows answers) t f → IsForRoom r → ⊥
 there-refused start old new x answers o are t f r needs there room =
-    needs room there.0 are (stored-value old.rows t _ (there-stored start old new x answers o t f there))
+    let e = told_all start.rows answers in
+    known-refused start old new x answers o are t (call_forms.IsOfShortLists f) (call_forms.form_tree (number_at e) (tree_at e) f) r needs there room
 
 -- the term of the kind that the call names is its answer
 module _ (start old new : Terms) (e : List Told) (c : Call) (form : CallForm) (row : Row) (h : IsKindOf old e form (row_shape row)) where
@@ -179,7 +184,8 @@ pub there-built : {H : Type 0} (number : H → ℕ) (start old new : Terms) (ans
     → IsKindOf old (told_all start.rows answers) form (row_shape row) → Builds {H = H} (Err r) number old new row → AreRows old.rows → Extends start old → AreOwned start.rows answers
     → IsThere (setting start new) (told_all start.rows answers) (row_table row) form → ⊥
 there-built number start old new answers form row r h b are x o there =
-    let s = there-stored start old new x answers o (row_table row) form there in
+    let e = told_all start.rows answers in
+    let s = known-stored start old new x answers o (row_table row) (call_forms.form_tree (number_at e) (tree_at e) form) there.1 in
     new-lacks old.rows are row h.parts b.absent (subst (λ (t : Tree Depth). HasValue old.rows t) (sym h.means) (stored-value old.rows (row_table row) _ s))
 
 -- what an answer is from later terms it is from earlier ones

@@ -1,20 +1,26 @@
 -- The lists of clauses of calls, over plain variables.
-use Rattle.std.proofs.Common.{◌≡◌, ℕ, List, [], ◌∷◌, ◌++◌, Option, Some, inl, inr}
-use Rattle.std.specs.Prelude.{IsSomeAnd, IsTrue}
+use Rattle.std.proofs.Common.{◌≡◌, ℕ, ◌<◌, length, List, [], ◌∷◌, ◌++◌, Option, Some, Result, Ok, Err, ap, ◌∙◌, inl, inr, arith}
+use Rattle.std.specs.Prelude.{IsSomeAnd, IfErr, IsTrue}
 use Rattle.tt_index.specs.declared.refusal.Refusal.{Refusal}
 use Rattle.tt_index.specs.declared.refusal.Refusal.TheVariants.{NoSuchAnswer}
+use Rattle.tt_kinds.specs.Label.{clause_list_label}
+use Rattle.tt_kinds.specs.Tree as tree
 use Rattle.tt_kinds.specs.Shape.{fill, IsPart, stored}
-use Rattle.tt_kinds.specs.Kinds.{clause_shape}
+use Rattle.tt_kinds.specs.Kinds.{clause_shape, clauses_shape}
 use Rattle.tt_kinds.specs.declared.handle.Clause.{Clause}
+use Rattle.tt_kinds.specs.declared.handle.Clauses.{Clauses}
 use Rattle.tt_kinds.specs.declared.table.Table.TheVariants.{Predicates}
 use Rattle.tt_interner.specs.Clauses.{is_clause_tree}
-use Rattle.tt_interner.specs.Rows.{Row, IsClause, AreClauses}
-use Rattle.tt_interner.specs.Stored.{Terms}
-use Rattle.type_terms.specs.CallForm.{of_table, of_clause, one, a_term, a_clause, clause_items, AreItemsTooDeep}
+use Rattle.tt_interner.specs.Rows.{Row, clauses_row, IsClause, AreClauses}
+use Rattle.tt_interner.specs.Stored.{Terms, Builds, most_in_place}
+use Rattle.type_terms.specs.CallForm.{of_table, of_clause, one, a_term, a_clause, clause_items, clauses_tree, items_positions, AreItemsTooDeep}
 use Rattle.type_terms.specs.Told.{Told}
-use Rattle.type_terms.specs.Means.{Term, term_at, tree_of, Suits}
-use Rattle.type_terms.specs.Build.{AreClausesAt, IsPartOf, IsUnbuilt, no_term}
+use Rattle.type_terms.specs.Means.{Term, term_at, tree_of, Suits, number_at, tree_at}
+use Rattle.type_terms.specs.Build.{AreClausesAt, IsPartOf, GivesPlaced, IsUnbuilt, no_term}
+use Rattle.type_terms.specs.Room.{ClausesNeedRoom}
 use Rattle.type_terms.proofs.PartLaws.{items-none, items-more, IsUnbuilt-weaker}
+use Rattle.type_terms.proofs.BuildLaws.{unstored, Builds-extends}
+use Rattle.type_terms.proofs.RoomLaws.{refused-lacks}
 
 suits : (e : List Told) (o : Option Term) → IsSomeAnd o (Suits e (of_table Predicates)) → IsTrue (is_clause_tree (tree_of o)) → IsSomeAnd o (Suits e of_clause)
 suits e (Some u) h k = (h, k)
@@ -60,6 +66,39 @@ clauses-more terms e ps cs p c h k i = record {
   items = items-more a_clause clause_shape terms e ps cs p c h.items k;
   clauses = clauses-append terms.rows cs c h.clauses i;
 }
+
+-- the stored list of clauses
+pub clauses-placed : (old new : Terms) (e : List Told) (ps : List ℕ) (cs : List Clause) (result : Result Clauses Refusal)
+    → AreClausesAt old e ps cs → Builds result (λ l. l.number) old new (clauses_row cs)
+    → GivesPlaced new e (clauses_tree (number_at e) (tree_at e) ps) (items_positions (clause_items ps)) (AreItemsTooDeep (clause_items ps)) clauses_shape result
+unfolding fill
+clauses-placed old new e ps cs (Ok l) h b = record {
+  ok = record {
+    part = b.in_range;
+    means = b.means ∙ ap (λ ts. tree.term clause_list_label ts) h.items.means;
+    named = h.items.named;
+    shallow = h.items.shallow;
+  };
+  err = tt;
+}
+clauses-placed old new e ps cs (Err r) h b = record {
+  ok = tt;
+  err = unstored old new (Builds-extends (Err r) (λ l. l.number) old new (clauses_row cs) b) (clauses_row cs) e (items_positions (clause_items ps)) (AreItemsTooDeep (clause_items ps))
+      (λ d. absurd d) r b.cause;
+}
+
+-- a list of clauses that is refused is new
+pub clauses-room : (old new : Terms) (e : List Told) (ps : List ℕ) (cs : List Clause) (result : Result Clauses Refusal)
+    → AreClausesAt old e ps cs → Builds result (λ l. l.number) old new (clauses_row cs) → IfErr result (ClausesNeedRoom new.rows e ps)
+unfolding fill
+clauses-room old new e ps cs (Ok l) h b = tt
+clauses-room old new e ps cs (Err r) h b = λ room short.
+    refused-lacks (λ (l : Clauses). l.number) old new (clauses_row cs) (clauses_tree (number_at e) (tree_at e) ps) r (tt, h.items.parts) (ap (λ ts. tree.term clause_list_label ts) h.items.means) b
+
+-- a long list may be refused though it is there
+pub long-clauses-room : (rows : List Row) (e : List Told) (ps : List ℕ) (result : Result Clauses Refusal) → most_in_place < length ps → IfErr result (ClausesNeedRoom rows e ps)
+long-clauses-room rows e ps (Ok l) long = tt
+long-clauses-room rows e ps (Err r) long = λ room short. absurd (omega (arith, long, short))
 
 -- no clause is deep
 pub clauses-shallow : (ps : List ℕ) → AreItemsTooDeep (clause_items ps) → ⊥

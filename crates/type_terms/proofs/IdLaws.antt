@@ -22,7 +22,7 @@ pub no-id-at : (earlier : List Answer) (p : ℕ) (a : Answer) → IsAnswerAt ear
     → (rows : List Row) → id_at (told_all rows earlier) p ≡ None
 no-id-at earlier p a at f rows = at.is_id rows ∙ no-id a f rows
 
--- what stands at a position that has to tell an id of the sort, or of any
+-- what is at a position that has to tell an id of the sort, or of any
 module _ (e : List Told) (p : ℕ) where
   pub sort-told : (s : DeclarationSort) (n : ℕ) → id_at e p ≡ Some (record { sort = s; number = n }) → IsTrue true ↔ AreTerms e (an_id s p)
   sort-told s n at = rw at (λ h. (refl, tt), λ h. refl)
@@ -36,7 +36,7 @@ module _ (e : List Told) (p : ℕ) where
   pub none-told : id_at e p ≡ None → IsTrue false ↔ AreTerms e (any_id p)
   none-told at = rw at (λ h. absurd (cc), λ h. absurd h.0)
 
--- what stands at the positions of two lists
+-- what is at the positions of two lists
 module _ (e : List Told) (ms ns : List Named) where
   pub both-told : (b : Bool) → AreTerms e ms → IsTrue b ↔ AreTerms e ns → IsTrue b ↔ AreTerms e (ms ++ ns)
   both-told b h k = (λ t. AreTerms-append e ms ns h (k.0 t), λ a. k.1 (AreTerms-second e ms ns a))

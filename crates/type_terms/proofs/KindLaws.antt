@@ -28,7 +28,7 @@ unfolding fill
 bound-kind terms e s d x y h m =
     record { parts = h; means = ap (tree.bound s d) m; named = tt; deep = (λ g. g, λ g. g) }
 
--- a kind in which nothing stands
+-- a kind without contents
 pub leaf-kind : {K : Type 0} (of_kind : K → Shape) (terms : Terms) (e : List Told) (l : Label Name) (m : Label ℕ) (k : K) → of_kind k ≡ shape.term m shape.none
     → IsNamedLabel (size terms.rows) m → rename_label (name_of (meaning terms.rows)) m ≡ l
     → GivesKind terms e (plain l []) of_kind (Ok k)

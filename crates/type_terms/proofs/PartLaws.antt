@@ -1,4 +1,4 @@
--- What stands in the places of items and children, over plain variables.
+-- What takes the places of items and children, over plain variables.
 use Rattle.std.proofs.Common.{◌≡◌, ℕ, zero, suc, List, [], ◌∷◌, ◌++◌, map, Result, Ok, Err, Some, refl, ap, subst, sym, ◌∙◌, inl, inr}
 use Rattle.std.specs.Prelude.{IsErrAnd, slice_get}
 use Rattle.std.specs.Option.{option_map}
@@ -24,11 +24,11 @@ use Rattle.tt_interner.specs.Stored.{Terms, Extends}
 use Rattle.tt_interner.proofs.Growth.{IsPart-grows, AreParts-grows, fill-grows, fill_all-grows}
 use Rattle.type_terms.specs.declared.run.call.RegionCall.{RegionCall}
 use Rattle.type_terms.specs.declared.run.call.VariableCall.{VariableCall}
-use Rattle.type_terms.specs.CallForm.{ExistentialForm, trait_object, existentials_tree, existential_positions, IsExistentialTooDeep, all_trees, all_positions, AnyIsDeep, Named, Item, Part, one, a_region, CallForm, plain, under, variable_kind, region_tree, IsRegionTooDeep, item_tree, item_positions, items_positions, part_positions, parts_positions, IsItemTooDeep, AreItemsTooDeep, IsPartTooDeep, ArePartsTooDeep, form_positions, IsFormTooDeep, RecordCall, record_tree}
+use Rattle.type_terms.specs.CallForm.{ExistentialForm, trait_object, existentials_tree, existential_positions, IsExistentialTooDeep, all_trees, all_positions, AnyIsDeep, Named, Item, Part, one, a_region, CallForm, plain, under, variable_kind, region_tree, IsRegionTooDeep, item_tree, items_trees, item_positions, items_positions, part_positions, parts_positions, IsItemTooDeep, AreItemsTooDeep, IsPartTooDeep, ArePartsTooDeep, form_positions, IsFormTooDeep, RecordCall, record_tree}
 use Rattle.type_terms.specs.Told.{Told, HasFullTable}
 use Rattle.type_terms.specs.Means.{number_at, tree_at, AreTerms}
 use Rattle.type_terms.specs.Build as build
-use Rattle.type_terms.specs.Build.{IsUnbuilt, IsUnusable, IsUsable, IsPlaced, ArePlaced, IsItemOf, AreItemsOf, IsPartOf, ArePartsOf, GivesPart, GivesParts, GivesPlaced, GivesItems, PutsItems, IsRegionOf, GivesRegion, IsVariableListOf, IsKindOf, GivesKind, GivesRecord}
+use Rattle.type_terms.specs.Build.{IsUnbuilt, IsUnusable, IsUsable, IsPlaced, ArePlaced, IsItemOf, AreItemsOf, IsPartOf, ArePartsOf, GivesPart, GivesParts, GivesPlaced, GivesItems, PutsPlaced, PutsItems, IsRegionOf, GivesRegion, IsVariableListOf, IsKindOf, GivesKind, GivesRecord}
 
 -- positions of two lists
 pub AreTerms-append : (e : List Told) (ms ns : List Named) → AreTerms e ms → AreTerms e ns → AreTerms e (ms ++ ns)
@@ -114,7 +114,7 @@ pub parts-two : (terms : Terms) (e : List Told) (p q : Part) (s u : Shape) → I
     → ArePartsOf terms e (p ∷ q ∷ []) (shape.also s (shape.also u shape.none))
 parts-two terms e p q s u h k = parts-also terms e p (q ∷ []) s (shape.also u shape.none) h (parts-one terms e q u k)
 
--- the positions that those of a list name
+-- the positions that the items of a list name
 module _ {X : Type 0} (names_of : X → List Named) where
   pub named-append : (e : List Told) (xs : List X) (x : X) → AreTerms e (all_positions names_of xs) → AreTerms e (names_of x)
       → AreTerms e (all_positions names_of (xs ++ x ∷ []))
@@ -258,7 +258,7 @@ plain-kind terms e l ps m ss h n q = record {
   deep = (λ d. absurd d, h.shallow);
 }
 
--- the same where the children stand in a record under a binder
+-- the same where the children are in a record under a binder
 pub under-kind : (terms : Terms) (e : List Told) (l : Label Name) (vs : List VariableCall) (k : RecordLabel Name) (ps : List Part)
     (m : Label ℕ) (vars : BoundVarKinds) (n : RecordLabel ℕ) (ss : Shapes)
     → ArePartsOf terms e ps ss → IsVariableListOf terms (number_at e) vs vars
@@ -274,7 +274,7 @@ under-kind terms e l vs k ps m vars n ss h v nl ql nr qr = record {
   deep = (λ d. absurd d, h.shallow);
 }
 
--- what stands under a predicate's binder
+-- what is under a predicate's binder
 pub record-placed : (terms : Terms) (e : List Told) (r : RecordCall) (n : RecordLabel ℕ) (ss : Shapes) → ArePartsOf terms e r.parts ss
     → IsNamedRecord (size terms.rows) n → rename_record (name_of (meaning terms.rows)) n ≡ r.label
     → IsPlaced terms e (record_tree (number_at e) (tree_at e) r) (parts_positions r.parts) (ArePartsTooDeep r.parts) (shape.node (record_label n) ss)
@@ -345,10 +345,15 @@ pub items-passed : {H : Type 0} (terms : Terms) (e : List Told) (is : List Item)
 items-passed terms e is of_value (Ok l) r h k = absurd h
 items-passed terms e is of_value (Err x) r h k = record { ok = tt; err = rw h k }
 
+pub all_placed-passed : {R : Type 0} (terms : Terms) (e : List Told) (ts : Forest Depth) (ns : List Named) (deep : Type 0) (ss : Shapes) (result : Result R Refusal) (r : Refusal) → IsErrAnd result (λ x. x ≡ r)
+    → IsUnbuilt (HasFullTable terms) e ns deep r → PutsPlaced terms e ts ns deep ss result
+all_placed-passed terms e ts ns deep ss (Ok l) r h k = absurd h
+all_placed-passed terms e ts ns deep ss (Err x) r h k = record { ok = tt; err = rw h k }
+
 pub puts-passed : {H R : Type 0} (terms : Terms) (e : List Told) (is : List Item) (of_value : H → Shape) (values : List H) (result : Result R Refusal) (r : Refusal) → IsErrAnd result (λ x. x ≡ r)
     → IsUnbuilt (HasFullTable terms) e (items_positions is) (AreItemsTooDeep is) r → PutsItems terms e is of_value values result
-puts-passed terms e is of_value values (Ok l) r h k = absurd h
-puts-passed terms e is of_value values (Err x) r h k = record { ok = tt; err = rw h k }
+puts-passed terms e is of_value values result r h k =
+    all_placed-passed terms e (items_trees (number_at e) (tree_at e) is) (items_positions is) (AreItemsTooDeep is) (item_shapes of_value values) result r h k
 
 pub kind-passed : {K : Type 0} (terms : Terms) (e : List Told) (f : CallForm) (of_kind : K → Shape) (result : Result K Refusal) (r : Refusal) → IsErrAnd result (λ x. x ≡ r)
     → IsUnbuilt (HasFullTable terms) e (form_positions f) (IsFormTooDeep f) r → GivesKind terms e f of_kind result

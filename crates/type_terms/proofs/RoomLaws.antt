@@ -2,29 +2,34 @@
 use Rattle.std.proofs.Common.{◌≡◌, ℕ, ◌<◌, List, [], ◌∷◌, length, map, Result, Ok, Err, Some, refl, ap, sym, ◌∙◌, subst, arith}
 use Rattle.std.specs.Prelude.{IfErr, OnErr, slice_get}
 use Rattle.std.proofs.lemmas.List.{length-map}
+use Rattle.std.proofs.lemmas.List.Elements.{All-get_or}
+use Rattle.std.proofs.lemmas.Option.{slice_get_within, get_or_from_slice_get}
 use Rattle.tt_index.specs.declared.refusal.Refusal.{Refusal}
 use Rattle.tt_index.specs.declared.refusal.Refusal.TheVariants.{NoSuchAnswer}
-use Rattle.tt_kinds.specs.Label.{Name, Sort, VarKind, Label, RecordLabel, list_label, record_label, var_list_label}
+use Rattle.tt_kinds.specs.Label.{Name, Sort, VarKind, Label, RecordLabel, type_label, dynamic_type, list_label, record_label, unstable_feature_record, var_list_label}
 use Rattle.tt_kinds.specs.Tree as tree
 use Rattle.tt_kinds.specs.Tree.{Tree, Depth, node}
 use Rattle.tt_kinds.specs.Bound.{var_kind}
 use Rattle.tt_kinds.specs.Shape as shape
-use Rattle.tt_kinds.specs.Shape.{Shape, Shapes, fill, HasParts}
+use Rattle.tt_kinds.specs.Shape.{Shape, Shapes, fill, item_shapes, HasParts}
+use Rattle.tt_kinds.specs.Kinds.{existential_shape}
+use Rattle.tt_kinds.specs.declared.handle.PolyExistentialPredicate.{PolyExistentialPredicate}
 use Rattle.tt_kinds.specs.declared.bound.BoundVariableKind.{BoundVariableKind}
 use Rattle.tt_kinds.specs.declared.table.Table.{Table}
-use Rattle.tt_interner.specs.Rows.{Row, text_row, vars_row, row_shape, size, meaning, IsNew, AreRows}
+use Rattle.tt_kinds.specs.declared.table.Table.TheVariants.{ExistentialLists}
+use Rattle.tt_interner.specs.Rows.{Row, text_row, vars_row, existentials_row, row_shape, size, meaning, IsNew}
 use Rattle.tt_interner.specs.Stored.{Terms, Builds, most_in_place}
 use Rattle.type_terms.specs.declared.run.answer.Answer.{Answer}
 use Rattle.type_terms.specs.declared.run.call.RegionCall.{RegionCall}
 use Rattle.type_terms.specs.declared.run.call.VariableCall.{VariableCall}
-use Rattle.type_terms.specs.CallForm.{Item, Part, one, a_region, a_list, CallForm, param, plain, under, RecordCall, variable_kind, variable_text, region_text, item_tree, part_tree, parts_trees}
+use Rattle.type_terms.specs.CallForm.{Item, Part, one, a_region, a_list, CallForm, param, plain, under, trait_object, ExistentialForm, IsShortExistential, RecordCall, labelled, all_trees, existential_tree, existentials_tree, form_tree, Named, variable_kind, variable_text, region_text, item_tree, part_tree, parts_trees}
 use Rattle.type_terms.specs.Told.{Told, told_all, IsStored}
 use Rattle.type_terms.specs.Means.{number_at, tree_at}
-use Rattle.type_terms.specs.Build.{AreItemsOf, AreVariablesOf}
-use Rattle.type_terms.specs.Room.{IsForRoom, HasValue, LacksText, NeedsRoom, PartNeedsRoom, VarsNeedRoom, RecordNeedsRoom, FormNeedsRoom}
+use Rattle.type_terms.specs.Build.{ArePlaced, AreItemsOf, AreVariablesOf, IsKindOf}
+use Rattle.type_terms.specs.Room.{IsForRoom, HasValue, LacksValue, LacksText, NeedsRoom, PartNeedsRoom, VarsNeedRoom, RecordNeedsRoom, ExistentialNeedsRoom, ExistentialsNeedRoom, FormNeedsRoom}
 use Rattle.type_terms.proofs.ValueLaws.{in-term, in-node, in-binder, new-lacks, first-value, later-values, value-at}
 use Rattle.type_terms.proofs.PartLaws.{get-mapped}
-use Rattle.type_terms.proofs.TextLaws.{region-lacks, param-lacks, variable-lacks}
+use Rattle.type_terms.proofs.TextLaws.{region-lacks, param-lacks, variable-lacks, feature-lacks}
 
 -- what is stored is a value
 pub stored-value : (rows : List Row) (t : Table) (u : Tree Depth) → IsStored rows t u → HasValue rows u
@@ -35,17 +40,19 @@ stored-value rows t u h = record { shape = shape.stored t h.number; part = h.wit
 pub never-room : (rows : List Row) (short : Type 0) (t : Tree Depth) (r : Refusal) → r ≡ NoSuchAnswer → NeedsRoom rows short t r
 never-room rows short t r is room = absurd (subst IsForRoom is room)
 
--- where every refusal says it
-pub any-error : {T : Type 0} (result : Result T Refusal) (P : Refusal → Type 0) → ((r : Refusal) → P r) → IfErr result P
-any-error (Ok x) P h = tt
-any-error (Err r) P h = h r
-
 -- what a refusal says of variables whatever the rows at the start are
 pub every-vars-room : {T : Type 0} (now : List Row) (earlier : List Answer) (cs : List VariableCall) (result : Result T Refusal)
     → ((rows : List Row) → IfErr result (VarsNeedRoom now (map (variable_kind (number_at (told_all rows earlier))) cs)))
     → IfErr result (λ e. (rows : List Row) → VarsNeedRoom now (map (variable_kind (number_at (told_all rows earlier))) cs) e)
 every-vars-room now earlier cs (Ok l) h = tt
 every-vars-room now earlier cs (Err r) h = h
+
+-- where a row is refused, no value has its tree
+pub refused-lacks : {H : Type 0} (number : H → ℕ) (old new : Terms) (row : Row) (u : Tree Depth) (r : Refusal) → HasParts (size old.rows) (row_shape row)
+    → fill (meaning old.rows) (row_shape row) ≡ u → Builds {H = H} (Err r) number old new row → LacksValue new.rows u
+refused-lacks number old new row u r parts means b =
+    subst (λ (terms : Terms). LacksValue terms.rows u) (sym b.err)
+    (λ are v. new-lacks old.rows are row parts b.absent (subst (λ (t : Tree Depth). HasValue old.rows t) (sym means) v))
 
 -- a list that is refused is new
 pub list-room : {H : Type 0} (number : H → ℕ) (old new : Terms) (e : List Told) (t : Table) (is : List Item) (ss : Shapes) (row : Row) (result : Result H Refusal)
@@ -56,8 +63,7 @@ list-room number old new e t is ss row (Err r) h is_node b = λ room short.
     let parts : HasParts (size old.rows) (row_shape row) = subst (HasParts (size old.rows)) (sym is_node) (tt, h.parts) in
     let means : fill (meaning old.rows) (row_shape row) ≡ part_tree (number_at e) (tree_at e) (a_list t is) =
     ap (λ s. fill (meaning old.rows) s) is_node ∙ ap (λ ts. node (list_label t) ts) h.means in
-    subst (λ (terms : Terms). AreRows terms.rows → HasValue terms.rows (part_tree (number_at e) (tree_at e) (a_list t is)) → ⊥) (sym b.err)
-    (λ are v. new-lacks old.rows are row parts b.absent (subst (λ (u : Tree Depth). HasValue old.rows u) (sym means) v))
+    refused-lacks number old new row (part_tree (number_at e) (tree_at e) (a_list t is)) r parts means b
 
 -- the same of a list of variables
 pub vars-room : (old new : Terms) (ids : ℕ → ℕ) (cs : List VariableCall) (vs : List BoundVariableKind) {H : Type 0} (number : H → ℕ) (result : Result H Refusal)
@@ -66,8 +72,7 @@ unfolding fill
 vars-room old new ids cs vs number (Ok l) h b = tt
 vars-room old new ids cs vs number (Err r) h b = λ room short.
     let means : fill (meaning old.rows) (row_shape (vars_row vs)) ≡ node (var_list_label (map (variable_kind ids) cs)) tree.none = ap (λ ks. node (var_list_label ks) tree.none) h.means in
-    subst (λ (terms : Terms). AreRows terms.rows → HasValue terms.rows (node (var_list_label (map (variable_kind ids) cs)) tree.none) → ⊥) (sym b.err)
-    (λ are v. new-lacks old.rows are (vars_row vs) (h.parts, tt) b.absent (subst (λ (u : Tree Depth). HasValue old.rows u) (sym means) v))
+    refused-lacks number old new (vars_row vs) (node (var_list_label (map (variable_kind ids) cs)) tree.none) r (h.parts, tt) means b
 
 -- a long list may be refused though it is there
 pub long-room : {H C : Type 0} (item : C → Item) (rows : List Row) (e : List Told) (t : Table) (cs : List C) (result : Result H Refusal)
@@ -113,7 +118,7 @@ module _ (rows : List Row) (e : List Told) (l : Label Name) where
   pub second-room : (p q : Part) (ps : List Part) (r : Refusal) → PartNeedsRoom rows e q r → FormNeedsRoom rows e (plain l (p ∷ q ∷ ps)) r
   second-room p q ps r h room short are v = h room short.1.0 are (first-value rows _ _ (later-values rows _ _ (in-term rows are l _ v)))
 
-  -- what stands under a binder, and its variables
+  -- what is under a binder, and its variables
   pub record-room : (vs : List (VarKind Name)) (c : RecordCall) (r : Refusal) → RecordNeedsRoom rows e c r → FormNeedsRoom rows e (under l vs c.label c.parts) r
   record-room vs c r h room short are v = h room short.1 are (in-binder rows are vs _ (first-value rows _ _ (in-term rows are l _ v))).body
 
@@ -127,3 +132,45 @@ module _ (rows : List Row) (e : List Told) (m : RecordLabel Name) where
 
   pub second-record-room : (p q : Part) (ps : List Part) (r : Refusal) → PartNeedsRoom rows e q r → RecordNeedsRoom rows e (record { label = m; parts = p ∷ q ∷ ps }) r
   second-record-room p q ps r h room short are v = h room short.1.0 are (first-value rows _ _ (later-values rows _ _ (in-node rows are (record_label m) _ v).children))
+
+-- the name of a feature is new
+pub feature-room : (rows : List Row) (e : List Told) (name : Name) (r : Refusal) → IsNew (text_row name) rows → RecordNeedsRoom rows e (labelled (unstable_feature_record name) []) r
+feature-room rows e name r new room short = feature-lacks rows name new
+
+-- an existential predicate of a list
+pub existential-room : (rows : List Row) (e : List Told) (xs : List ExistentialForm) (i : ℕ) (x : ExistentialForm) (r : Refusal) → slice_get xs i ≡ Some x
+    → ExistentialNeedsRoom rows e x r → ExistentialsNeedRoom rows e xs r
+existential-room rows e xs i x r here h room short are v =
+    let among = All-get_or IsShortExistential xs i x (slice_get_within xs i x here) short.1 in
+    let is_short = subst IsShortExistential (get_or_from_slice_get xs i x x here) among in
+    h room is_short are (value-at (existential_tree (number_at e) (tree_at e)) rows xs i x here (in-node rows are (list_label ExistentialLists) _ v).children)
+
+-- a list of existential predicates that is refused is new
+pub existentials-room : {H : Type 0} (number : H → ℕ) (old new : Terms) (e : List Told) (xs : List ExistentialForm) (ns : List Named) (deep : Type 0) (ps : List PolyExistentialPredicate) (result : Result H Refusal)
+    → ArePlaced old e (all_trees (existential_tree (number_at e) (tree_at e)) xs) ns deep (item_shapes existential_shape ps) → Builds result number old new (existentials_row ps)
+    → IfErr result (ExistentialsNeedRoom new.rows e xs)
+unfolding fill
+existentials-room number old new e xs ns deep ps (Ok l) h b = tt
+existentials-room number old new e xs ns deep ps (Err r) h b = λ room short.
+    refused-lacks number old new (existentials_row ps) (existentials_tree (number_at e) (tree_at e) xs) r (tt, h.parts) (ap (λ ts. node (list_label ExistentialLists) ts) h.means) b
+
+-- a long list may be refused though it is there
+pub long-existentials-room : {H C : Type 0} (form : C → ExistentialForm) (rows : List Row) (e : List Told) (cs : List C) (result : Result H Refusal)
+    → most_in_place < length cs → IfErr result (ExistentialsNeedRoom rows e (map form cs))
+long-existentials-room form rows e cs (Ok l) long = tt
+long-existentials-room form rows e cs (Err r) long = λ room short. let same = length-map cs form in let few = short.0 in absurd (omega (arith, same, long, few))
+
+-- a term of a kind that is refused is new
+pub term-room : {H : Type 0} (number : H → ℕ) (old new : Terms) (e : List Told) (form : CallForm) (row : Row) (result : Result H Refusal)
+    → IsKindOf old e form (row_shape row) → Builds result number old new row → IfErr result (FormNeedsRoom new.rows e form)
+term-room number old new e form row (Ok l) h b = tt
+term-room number old new e form row (Err r) h b = λ room short. refused-lacks number old new row (form_tree (number_at e) (tree_at e) form) r h.parts h.means b
+
+-- the existential predicates of a trait object, and its region
+module _ (rows : List Row) (e : List Told) (xs : List ExistentialForm) (c : RegionCall) (r : Refusal) where
+  pub object-room : ExistentialsNeedRoom rows e xs r → FormNeedsRoom rows e (trait_object xs c) r
+  object-room h room short are v = h room short are (first-value rows _ _ (in-term rows are (type_label dynamic_type) _ v))
+
+  pub object-region-room : (IsForRoom r → LacksText rows (region_text c)) → FormNeedsRoom rows e (trait_object xs c) r
+  object-region-room lacks room short are v =
+      region-lacks rows (number_at e) c (lacks room) are (first-value rows _ _ (later-values rows _ _ (in-term rows are (type_label dynamic_type) _ v)))

@@ -105,9 +105,9 @@ module _ (s t : Setting) (full : s.full → t.full) (fewer : t.declarations ≤ 
   AddsNothing-fewer e (call.Ty k) h = (h.0, elim h.1 [ inl a ↦ inl (stored _ _ a) | inr b ↦ inr b ])
   AddsNothing-fewer e (call.Const k) h = (h.0, elim h.1 [ inl a ↦ inl (stored _ _ a) | inr b ↦ inr b ])
   AddsNothing-fewer e (call.Pat k) h = (h.0, elim h.1 [ inl a ↦ inl (stored _ _ a) | inr b ↦ inr b ])
-  AddsNothing-fewer e (call.Predicate k) h = absurd h
-  AddsNothing-fewer e (call.Clauses ps) h = absurd h
-  AddsNothing-fewer e (call.Args args) h = absurd h
+  AddsNothing-fewer e (call.Predicate k) h = (h.0, elim h.1 [ inl a ↦ inl (stored _ _ a) | inr b ↦ inr b ])
+  AddsNothing-fewer e (call.Clauses ps) h = (h.0, elim h.1 [ inl a ↦ inl (stored _ _ a) | inr b ↦ inr b ])
+  AddsNothing-fewer e (call.Args args) h = (h.0, elim h.1 [ inl a ↦ inl (stored _ _ a) | inr b ↦ inr b ])
   AddsNothing-fewer e (call.Declare d) h = absurd h
   AddsNothing-fewer e (call.Shift p n) h = h
   AddsNothing-fewer e (call.EraseRegions p) h = h
@@ -160,7 +160,7 @@ Means-append s e (d ∷ cs) [] c t h k = absurd h
 Means-append s e (d ∷ cs) (u ∷ ts) c t h k =
     (h.0, Means-append s (e ++ u ∷ []) cs ts c t h.1 (subst (λ (x : List Told). IsAllowed s x c t) (sym (append_assoc e (u ∷ []) ts)) k))
 
--- the answers are those of the calls, from the terms at the start
+-- the answers belong to the calls, from the terms at the start
 pub record Ran (start now : Terms) (calls : List Call) (answers : List Answer) : Type 0 where
   pub extends : Extends start now
   pub owned : AreOwned now.rows answers

@@ -1,9 +1,9 @@
--- The texts in values: where a tree is that of a value, its texts are stored.
+-- The texts in values: where a tree is a value's, its texts are stored.
 use Rattle.std.proofs.Common.{◌≡◌, ℕ, zero, suc, ◌<◌, List, [], ◌∷◌, map, Option, Some, None, refl, ap, sym, ◌∙◌}
 use Rattle.std.specs.Prelude.{slice_get}
 use Rattle.std.specs.Option.{option_map}
 use Rattle.std.proofs.lemmas.Option.{none-some, same_Some, slice_get-map}
-use Rattle.tt_kinds.specs.Label.{Name, Sort, RegionName, anonymous, printed, named, environment, VarKind, region_variable, type_variable, const_variable, FreeRegion, static_region, erased_region, region_var, error_region, late_param_region, placeholder_region, Label, var_list_label, text_label}
+use Rattle.tt_kinds.specs.Label.{Name, Sort, RegionName, anonymous, printed, named, environment, VarKind, region_variable, type_variable, const_variable, FreeRegion, static_region, erased_region, region_var, error_region, late_param_region, placeholder_region, unstable_feature_record, Label, var_list_label, text_label, record_label}
 use Rattle.tt_kinds.specs.Tree as tree
 use Rattle.tt_kinds.specs.Tree.{Tree, Depth, node}
 use Rattle.tt_kinds.specs.Shape as shape
@@ -89,6 +89,7 @@ module _ (f : Meaning) (size_of : Sizes) where
   row-text (shape.node l ss) name h e = absurd (none-some name e)
   row-text (shape.binder n b) name h e = absurd h
   row-text (shape.stored t n) name h e = absurd h
+  row-text (shape.part_of t n x) name h e = absurd h
 
   -- the texts of variables
   kinds-text : (ws : List (VarKind ℕ)) (vs : List (VarKind Name)) (i : ℕ) (v : VarKind Name) (name : Name) → AreNamedKinds size_of ws
@@ -107,6 +108,11 @@ module _ (f : Meaning) (size_of : Sizes) where
       let kinds : map (rename_kind (name_of f)) ws ≡ vs = cc in kinds-text ws vs i v name h kinds here e
   label-text _ vs i v name h same here e = absurd (cc)
 
+  -- the text of a feature
+  feature-text : (m : Label ℕ) (name : Name) → IsNamedLabel size_of m → rename_label (name_of f) m ≡ record_label (unstable_feature_record name) → IsText f size_of name
+  feature-text (record_label (unstable_feature_record n)) name h same = record { number = n; within = h; is = (let e = same in cc) }
+  feature-text _ name h same = absurd (cc)
+
 module _ (rows : List Row) (are : AreRows rows) where
   -- the text of a child that is a leaf
   part-text : (s : Shape) (name : Name) → IsPart (size rows) s → tree_text (fill (meaning rows) s) ≡ Some name → IsText (meaning rows) (size rows) name
@@ -117,6 +123,7 @@ module _ (rows : List Row) (are : AreRows rows) where
   part-text (shape.term l ss) name h e = absurd h
   part-text (shape.node l ss) name h e = absurd (none-some name e)
   part-text (shape.binder n b) name h e = absurd (none-some name e)
+  part-text (shape.part_of t n x) name h e = absurd (none-some name e)
   part-text (shape.stored t n) name h e =
       let at = row_within rows t n h in
       let means = Means-row rows are t n at.0 at.1 in
@@ -182,3 +189,9 @@ variable-lacks rows ids cs i c here lacks are v =
     named-variable rows are (map (variable_kind ids) cs) i (variable_kind ids c) (variable_text c)
     (slice_get-map (variable_kind ids) cs i ∙ ap (option_map (variable_kind ids)) here) (var-text ids c) lacks
     (in-node rows are (var_list_label (map (variable_kind ids) cs)) tree.none v)
+
+-- nor a record of a feature whose name is none
+pub feature-lacks : (rows : List Row) (name : Name) → IsNew (text_row name) rows → LacksValue rows (node (record_label (unstable_feature_record name)) tree.none)
+feature-lacks rows name new are v =
+    let n = in-node rows are (record_label (unstable_feature_record name)) tree.none v in
+    known-text rows are name (feature-text (meaning rows) (size rows) n.label name n.named n.renamed) new

@@ -121,7 +121,7 @@ pub record PutsVariables {R : Type 0} (terms : Terms) (ids : ℕ → ℕ) (calls
   pub ok : OnOk result (AreVariablesOf terms ids calls vs)
   pub err : IfErr result (IsUnbuilt (HasFullTable terms) [] [] ⊥)
 
--- the list is that of the variables
+-- the list holds the variables
 pub record IsVariableListOf (terms : Terms) (ids : ℕ → ℕ) (calls : List VariableCall) (list : BoundVarKinds) : Type 0 where
   pub in_range : list.number < size terms.rows VarLists
   pub means : meaning terms.rows VarLists list.number ≡ node (var_list_label (map (variable_kind ids) calls)) none
@@ -187,10 +187,15 @@ pub record GivesItems {H : Type 0} (terms : Terms) (earlier : List Told) (is : L
   pub ok : IfOk result (λ hs. AreItemsOf terms earlier is (item_shapes shape hs.items))
   pub err : IfErr result (IsUnbuilt (HasFullTable terms) earlier (items_positions is) (AreItemsTooDeep is))
 
+-- the shapes have these trees in order, or there is a refusal with a reason
+pub record PutsPlaced {R : Type 0} (terms : Terms) (earlier : List Told) (ts : Forest Depth) (names : List Named) (deep : Type 0) (ss : Shapes) (result : Result R Refusal) : Type 0 where
+  pub ok : OnOk result (ArePlaced terms earlier ts names deep ss)
+  pub err : IfErr result (IsUnbuilt (HasFullTable terms) earlier names deep)
+
 -- these are the values of the items, or there is a refusal with a reason
-pub record PutsItems {H R : Type 0} (terms : Terms) (earlier : List Told) (is : List Item) (shape : H → Shape) (values : List H) (result : Result R Refusal) : Type 0 where
-  pub ok : OnOk result (AreItemsOf terms earlier is (item_shapes shape values))
-  pub err : IfErr result (IsUnbuilt (HasFullTable terms) earlier (items_positions is) (AreItemsTooDeep is))
+abbrev pub PutsItems : {H R : Type 0} → Terms → List Told → List Item → (H → Shape) → List H → Result R Refusal → Type 0
+PutsItems terms earlier is shape values result =
+    PutsPlaced terms earlier (items_trees (number_at earlier) (tree_at earlier) is) (items_positions is) (AreItemsTooDeep is) (item_shapes shape values) result
 
 -- the result is what the call puts in the children's places, or a refusal with a reason
 pub record GivesParts {H : Type 0} (terms : Terms) (earlier : List Told) (ps : List Part) (shapes : H → Shapes) (result : Result H Refusal) : Type 0 where
@@ -209,7 +214,7 @@ pub record GivesKind {K : Type 0} (terms : Terms) (earlier : List Told) (form : 
   pub ok : IfOk result (λ k. IsKindOf terms earlier form (shape k))
   pub err : IfErr result (IsUnbuilt (HasFullTable terms) earlier (form_positions form) (IsFormTooDeep form))
 
--- the result is what stands under the predicate's binder, or a refusal with a reason
+-- the result is what is under the predicate's binder, or a refusal with a reason
 pub record GivesRecord {K : Type 0} (terms : Terms) (earlier : List Told) (r : RecordCall) (form : K → RecordForm) (result : Result K Refusal) : Type 0 where
   pub ok : IfOk result (λ k. IsPlaced terms earlier (record_tree (number_at earlier) (tree_at earlier) r) (parts_positions r.parts) (ArePartsTooDeep r.parts) (record_shape (form k)))
   pub err : IfErr result (IsUnbuilt (HasFullTable terms) earlier (parts_positions r.parts) (ArePartsTooDeep r.parts))

@@ -1,5 +1,5 @@
 -- What building calls build: the tree over the trees and the ids at the positions that they name, and what they ask of what is there.
-use Rattle.std.specs.Prelude.{ℕ, ◌≤◌, List, [], ◌∷◌, ◌++◌, map, length, ◌⊎◌, ⊤, Option, Some, None}
+use Rattle.std.specs.Prelude.{ℕ, ◌≤◌, List, [], ◌∷◌, ◌++◌, map, length, All, ◌⊎◌, ⊤, Option, Some, None}
 use Rattle.std.specs.String.{string_bytes}
 use Rattle.tt_kinds.specs.Label.{Name, Sort, region_sort, type_sort, const_sort, RegionName, anonymous, printed, named, environment, VarKind, region_variable, type_variable, const_variable, Entry, static_region, erased_region, region_var, error_region, late_param_region, placeholder_region, TypeLabel, bool_type, char_type, int_type, uint_type, float_type, str_type, never_type, placeholder_type, infer_type, error_type, ref_type, raw_ptr_type, slice_type, tuple_type, fn_ptr_type, foreign_type, adt_type, array_type, closure_type, coroutine_closure_type, coroutine_type, coroutine_witness_type, alias_type, infer_const, placeholder_const, unevaluated_const, leaf_const, branch_const, error_const, expr_const, pat_type, unsafe_binder_type, range_pattern, or_pattern, not_null_pattern, unsafe_binder_record, trait_record, host_effect_record, region_outlives_record, type_outlives_record, projection_record, const_has_type_record, well_formed_record, const_evaluatable_record, unstable_feature_record, dyn_compatible_record, subtype_record, coerce_record, const_equate_record, ambiguous_record, normalizes_to_record, alias_relate_record, dynamic_type, existential_trait_record, existential_projection_record, auto_trait_record, RecordLabel, fn_sig_tys_record, Label, type_label, const_label, pattern_label, predicate_label, existential_label, clause_list_label, list_label, record_label}
 use Rattle.tt_kinds.specs.Tree as tree
@@ -89,7 +89,7 @@ pub data Part : Type 0 where
   -- a list of the table
   a_list : Table → List Item → Part
 
--- what stands under a predicate's binder: its label and its children
+-- what is under a predicate's binder: its label and its children
 pub record RecordCall : Type 0 where
   pub label : RecordLabel Name
   pub parts : List Part
@@ -98,7 +98,7 @@ pub record RecordCall : Type 0 where
 abbrev pub labelled : RecordLabel Name → List Part → RecordCall
 labelled l ps = record { label = l; parts = ps }
 
--- an existential predicate: the variables of its binder, and what stands under it
+-- an existential predicate: the variables of its binder, and what is under it
 pub record ExistentialForm : Type 0 where
   pub vars : List (VarKind Name)
   pub under : RecordCall
@@ -126,7 +126,7 @@ pub data CallForm : Type 0 where
   param : Sort → ℕ → Name → CallForm
   bound : Sort → Depth → Entry Name → CallForm
   plain : Label Name → List Part → CallForm
-  -- the children stand in a record under a binder of these variables
+  -- the children are in a record under a binder of these variables
   under : Label Name → List (VarKind Name) → RecordLabel Name → List Part → CallForm
   -- a trait object: its existential predicates, and its region
   trait_object : List ExistentialForm → RegionCall → CallForm
@@ -333,7 +333,7 @@ abbrev pub ArePartsTooDeep : List Part → Type 0
 ArePartsTooDeep [] = ⊥
 ArePartsTooDeep (p ∷ ps) = IsPartTooDeep p ⊎ ArePartsTooDeep ps
 
--- such a region stands in the existential predicate
+-- such a region occurs in the existential predicate
 abbrev pub IsExistentialTooDeep : ExistentialForm → Type 0
 IsExistentialTooDeep x = ArePartsTooDeep x.under.parts
 
@@ -355,13 +355,21 @@ abbrev pub AreShort : List Part → Type 0
 AreShort [] = ⊤
 AreShort (p ∷ ps) = IsShort p × AreShort ps
 
+-- no list in the existential predicate has more items than are collected without memory, nor has that of its variables
+abbrev pub IsShortExistential : ExistentialForm → Type 0
+IsShortExistential x = (length x.vars ≤ most_in_place) × AreShort x.under.parts
+
+-- the same of existential predicates, and of the list of them
+abbrev pub AreShortExistentials : List ExistentialForm → Type 0
+AreShortExistentials xs = (length xs ≤ most_in_place) × All IsShortExistential xs
+
 -- no list of what is built has more items than are collected without memory, nor has a list of variables
 abbrev pub IsOfShortLists : CallForm → Type 0
 IsOfShortLists (param s i name) = ⊤
 IsOfShortLists (bound s d e) = ⊤
 IsOfShortLists (plain l ps) = AreShort ps
 IsOfShortLists (under l vs m ps) = (length vs ≤ most_in_place) × AreShort ps
-IsOfShortLists (trait_object xs r) = ⊥
+IsOfShortLists (trait_object xs r) = AreShortExistentials xs
 
 -- the position that an item names
 abbrev pub item_positions : Item → List Named
@@ -369,7 +377,7 @@ item_positions (a_region r) = []
 item_positions (a_term t p) = record { want = of_table t; position = p } ∷ []
 item_positions (a_clause p) = record { want = of_clause; position = p } ∷ []
 
--- the positions that those of a list name
+-- the positions that the items of a list name
 abbrev pub all_positions : {X : Type 0} → (X → List Named) → List X → List Named
 all_positions names [] = []
 all_positions names (x ∷ xs) = names x ++ all_positions names xs
@@ -577,7 +585,7 @@ module _ (ids : ℕ → ℕ) (at : ℕ → Tree Depth) where
   parts_trees [] = none
   parts_trees (p ∷ ps) = also (part_tree p) (parts_trees ps)
 
-  -- the tree of what stands under a predicate's binder
+  -- the tree of what is under a predicate's binder
   abbrev pub record_tree : RecordCall → Tree Depth
   record_tree r = tree.node (record_label r.label) (parts_trees r.parts)
 

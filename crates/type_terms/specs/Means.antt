@@ -1,5 +1,5 @@
 -- The answers that a list of calls may have. Nothing is looked up in a table: each handle is taken as its tree.
-use Rattle.std.specs.Prelude.{◌≡◌, ◌≢◌, ◌↔◌, ◌⊎◌, ℕ, ◌<◌, ◌≤◌, suc, zero, Bool, false, IsTrue, List, [], ◌∷◌, ◌++◌, map, Option, Some, None, IsSomeAnd, slice_get, ⊤}
+use Rattle.std.specs.Prelude.{◌≡◌, ◌≢◌, ◌↔◌, ◌⊎◌, ℕ, ◌<◌, ◌≤◌, suc, zero, Bool, false, IsTrue, List, [], ◌∷◌, ◌++◌, map, Option, Some, None, IsSomeAnd, slice_get, length, ⊤}
 use Rattle.std.specs.String.{string_bytes}
 use Rattle.tt_index.specs.declared.refusal.Refusal.{Refusal}
 use Rattle.tt_index.specs.declared.refusal.Refusal.TheVariants.{Memory, TableFull, GreatestIndex, NoSuchAnswer}
@@ -17,13 +17,14 @@ use Rattle.tt_kinds.specs.declared.declaration.DeclarationSort.{DeclarationSort}
 use Rattle.tt_kinds.specs.declared.table.Table.{Table}
 use Rattle.tt_kinds.specs.declared.table.Table.TheVariants.{Types, Consts, Patterns, Predicates, ClauseLists, ArgLists}
 use Rattle.tt_interner.specs.Clauses.{is_clause_tree}
+use Rattle.tt_interner.specs.Stored.{most_in_place}
 use Rattle.tt_binder.specs.Untouched.{IsUntouched}
 use Rattle.type_terms.specs.declared.run.call.ArgCall.{ArgCall}
 use Rattle.type_terms.specs.declared.run.call.ArgCall.TheVariants as arg
 use Rattle.type_terms.specs.declared.run.call.Call.{Call}
 use Rattle.type_terms.specs.declared.run.call.DeclareCall.{DeclareCall}
 use Rattle.type_terms.specs.declared.run.call.Call.TheVariants as call
-use Rattle.type_terms.specs.CallForm.{CallForm, IsOfShortLists, form_tree, Want, of_table, of_clause, as_at, of_any, with_flags, of_id, of_any_id, Named, arg_items, args_part, args_ids, ty_ids, const_ids, predicate_ids, ty_form, const_form, pat_form, predicate_form, declared_sort, declared_kind, declared_positions, clause_items, clauses_tree, form_positions, items_positions, part_positions, part_tree, region_tree, IsFormTooDeep, IsPartTooDeep, AreItemsTooDeep}
+use Rattle.type_terms.specs.CallForm.{CallForm, IsShort, IsOfShortLists, form_tree, Want, of_table, of_clause, as_at, of_any, with_flags, of_id, of_any_id, Named, arg_items, args_part, args_ids, ty_ids, const_ids, predicate_ids, ty_form, const_form, pat_form, predicate_form, declared_sort, declared_kind, declared_positions, clause_items, clauses_tree, form_positions, items_positions, part_positions, part_tree, region_tree, IsFormTooDeep, IsPartTooDeep, AreItemsTooDeep}
 use Rattle.type_terms.specs.Told.{Setting, Told, term, declared, truth, info, refused, bad}
 
 -- a term with its table
@@ -217,13 +218,15 @@ IsTold [] table u = ⊥
 IsTold (term t v ∷ earlier) table u = ((t ≡ table) × (v ≡ u)) ⊎ IsTold earlier table u
 IsTold (t ∷ earlier) table u = IsTold earlier table u
 
--- the term that is built has no long list, and it is there: it was stored before the calls, or told
-abbrev pub IsThere : Setting → List Told → Table → CallForm → Type 0
-IsThere s earlier table f =
-    IsOfShortLists f
-    × (s.stored table (form_tree (number_at earlier) (tree_at earlier) f) ⊎ IsTold earlier table (form_tree (number_at earlier) (tree_at earlier) f))
+-- the term of this tree is there, as it was stored before the calls, or told
+abbrev pub IsKnown : Setting → List Told → Table → Tree Depth → Type 0
+IsKnown s earlier table u = s.stored table u ⊎ IsTold earlier table u
 
--- whatever the arguments are, the term stays: no parameter stands in it, and no region variable is exposed
+-- the term that is built has no long list, and it is there
+abbrev pub IsThere : Setting → List Told → Table → CallForm → Type 0
+IsThere s earlier table f = IsOfShortLists f × IsKnown s earlier table (form_tree (number_at earlier) (tree_at earlier) f)
+
+-- whatever the arguments are, the term stays: no parameter occurs in it, and no region variable is exposed
 abbrev pub IsUnchanged : Term → Type 0
 IsUnchanged u = IsUntouched u.tree
 
@@ -232,6 +235,11 @@ abbrev pub AddsNothing : Setting → List Told → Call → Type 0
 AddsNothing s earlier (call.Ty k) = IsThere s earlier Types (ty_form (number_at earlier) k)
 AddsNothing s earlier (call.Const k) = IsThere s earlier Consts (const_form (number_at earlier) k)
 AddsNothing s earlier (call.Pat k) = IsThere s earlier Patterns (pat_form k)
+AddsNothing s earlier (call.Predicate k) = IsThere s earlier Predicates (predicate_form (number_at earlier) k)
+AddsNothing s earlier (call.Clauses ps) =
+    (length ps.items ≤ most_in_place) × IsKnown s earlier ClauseLists (clauses_tree (number_at earlier) (tree_at earlier) ps.items)
+AddsNothing s earlier (call.Args args) =
+    IsShort (args_part args.items) × IsKnown s earlier ArgLists (part_tree (number_at earlier) (tree_at earlier) (args_part args.items))
 AddsNothing s earlier (call.Shift p n) = (n ≡ 0) ⊎ (outer_binder (tree_at earlier p) ≡ 0)
 AddsNothing s earlier (call.EraseRegions p) = met 0 (tree_at earlier p) ≡ []
 AddsNothing s earlier (call.Instantiate p args) =
@@ -277,7 +285,7 @@ pub record GivesId (s : Setting) (earlier : List Told) (call : DeclareCall) (sor
   pub new : s.declarations ≤ n
   pub later : IsAbove earlier n
 
--- the call declares, and the id is that of its declaration
+-- the call declares, and the id names its declaration
 abbrev pub Declares : Setting → List Told → Call → DeclarationSort → ℕ → DeclarationKind → Name → Type 0
 Declares s earlier (call.Declare d) sort n kind name = GivesId s earlier d sort n kind name
 Declares s earlier _ sort n kind name = ⊥

@@ -63,7 +63,7 @@ handle_number _ = 0
 abbrev pub told_all : List Row → List Answer → List Told
 told_all rows answers = map (told rows) answers
 
--- the handle, if there is one, is in range; the id, if there is one, is that of a declaration of its sort
+-- the handle, if there is one, is in range; the id, if there is one, names a declaration of its sort
 abbrev pub IsOwned : List Row → Answer → Type 0
 IsOwned rows (answer.Ty t) = t.number < size rows Types
 IsOwned rows (answer.Const c) = c.number < size rows Consts

@@ -51,6 +51,7 @@ pub use tt_fold::region_folders_place;
 pub use tt_fold::region_replacer::Regions;
 pub use tt_fold::replace_regions;
 pub use tt_fold::replace_types;
+pub use tt_fold::replace_types_once;
 pub use tt_fold::shift::shifts_add_up;
 pub use tt_fold::shift::shifts_keep_apart;
 pub use tt_fold::shift_region;

@@ -1,7 +1,5 @@
 //! A user's canonicalizer: variables of a canonical query take the places of inference variables.
 
-ghost use Rattle.std.specs.Prelude.{refl, ⊤};
-
 use super::{holds_anew, holds_within};
 use test_terms::{NOT_OWNED, bound_region, ref_ty, ty, tys};
 use type_terms::{
@@ -32,17 +30,6 @@ impl Canonicalizer {
 impl TypeReplacer for Canonicalizer {
     type Error = Refusal;
 
-    ghost Meaning = { ⊤ };
-
-    ghost meaning = { λ rows s. tt };
-
-    ghost owned = { λ rows s. ⊤ };
-
-    ghost hooks = { record {
-      on_type = λ s t a s'. ⊤;
-      type_fails = λ unbuilt s t e s'. ⊤;
-    } };
-
     fn replace_ty(&mut self, cx: &mut Interner, ty: Ty) -> Result<Step<Ty>, Refusal> {
         let TyKind::Infer(variable) = *ty.kind(cx) else {
             return Ok(Step::Descend);
@@ -58,10 +45,6 @@ impl TypeReplacer for Canonicalizer {
         let canonical = cx.mk_ty(TyKind::Bound(BoundVarIndexKind::Canonical, bound_ty))?;
         Ok(Step::Replace(canonical))
     }
-
-    ghost still_owned = { λ old new s g h. tt };
-
-    ghost still_means = { λ old new s g h. refl };
 }
 
 // The inference variable of this number.

@@ -12,11 +12,13 @@ use test_terms::{
 };
 use type_terms::{
     AliasRelationDirection, BoundExistentialPredicates, BoundVar, BoundVarIndexKind, ClauseKind,
-    Clauses, Const, ConstKind, Consts, DebruijnIndex, ErrorGuaranteed, ExistentialPredicate,
-    ExprConst, GenericArgs, Interner, Mutability, Owned, ParamEnv, Pat, PatList, PatternKind,
+    Clauses, ClonesTree, ClosureKind, Const, ConstKind, ConstVid, Consts, DebruijnIndex,
+    ErrorGuaranteed, ExistentialPredicate, ExprConst, ExternAbi, FieldIdx, FloatTy, FloatVid,
+    GenericArgs, IntTy, IntVid, Interner, Mutability, Owned, ParamEnv, Pat, PatList, PatternKind,
     PlaceholderConst, PlaceholderRegion, PlaceholderType, PolyExistentialPredicate, Predicate,
-    PredicateKind, Refusal, Region, Safety, ScalarInt, Ty, TyKind, TypeFoldable, TypeVisitableExt,
-    UniverseIndex, ValTree, ValTreeKind, ValueConst, Variance,
+    PredicateKind, Refusal, Region, RegionVid, Safety, ScalarInt, Ty, TyKind, TyVid, TypeFoldable,
+    TypeVisitableExt, UintTy, UniverseIndex, ValTree, ValTreeKind, ValueConst, Variance,
+    VariantIdx,
 };
 
 // That the clause of a type and a region holds.
@@ -104,8 +106,8 @@ fn values_without_parts_holds(cx: &mut Interner) -> Result<bool, Refusal> {
     Ok(is_replaced(cx, none, from, to, none) && is_replaced(cx, token, from, to, token))
 }
 
-// Whether a fold gives back the value by itself, and beside a type that it replaces.
-fn is_data<T: Owned + TypeFoldable + Copy + PartialEq>(
+// Whether a fold gives back the value by itself, and beside a type that it replaces, and a copy is equal to it.
+fn is_data<T: Owned + TypeFoldable + ClonesTree + Copy + PartialEq>(
     cx: &mut Interner,
     from: Ty,
     to: Ty,
@@ -115,6 +117,7 @@ fn is_data<T: Owned + TypeFoldable + Copy + PartialEq>(
         && is_replaced(cx, (value, from), from, to, (value, to))
         && value.is_owned(cx)
         && !value.has_escaping_bound_vars(cx)
+        && value.clone_tree(cx.allocator()) == Ok(value)
 }
 
 fn numbers_and_tags_holds(cx: &mut Interner) -> Result<bool, Refusal> {
@@ -130,7 +133,12 @@ fn numbers_and_tags_holds(cx: &mut Interner) -> Result<bool, Refusal> {
             && is_data(cx, from, to, Mutability::Mut)
             && is_data(cx, from, to, Safety::Unsafe)
             && is_data(cx, from, to, Variance::Bivariant)
-            && is_data(cx, from, to, AliasRelationDirection::Subtype),
+            && is_data(cx, from, to, AliasRelationDirection::Subtype)
+            && is_data(cx, from, to, ClosureKind::FnOnce)
+            && is_data(cx, from, to, ExternAbi::C { unwind: true })
+            && is_data(cx, from, to, IntTy::I128)
+            && is_data(cx, from, to, UintTy::Usize)
+            && is_data(cx, from, to, FloatTy::F16),
     )
 }
 
@@ -164,6 +172,29 @@ fn indices_and_placeholders_holds(cx: &mut Interner) -> Result<bool, Refusal> {
 #[test]
 fn indices_and_placeholders(rt: HostRuntime) {
     holds_anew(&rt, rt.alloc(), indices_and_placeholders_holds);
+}
+
+// The number of a variable by itself is no variable.
+fn variables_and_fields_holds(cx: &mut Interner) -> Result<bool, Refusal> {
+    let from = u32_ty(cx)?;
+    let to = ty(cx, TyKind::Bool)?;
+    let vid = RegionVid::from_u32(7);
+    Ok(
+        is_data(cx, from, to, vid)
+            && is_data(cx, from, to, TyVid::from_u32(7))
+            && is_data(cx, from, to, IntVid::from_u32(7))
+            && is_data(cx, from, to, FloatVid::from_u32(7))
+            && is_data(cx, from, to, ConstVid::from_u32(7))
+            && is_data(cx, from, to, FieldIdx::from_u32(7))
+            && is_data(cx, from, to, VariantIdx::from_u32(7))
+            && vid.is_owned(cx)
+            && !vid.has_infer_regions(cx),
+    )
+}
+
+#[test]
+fn variables_and_fields(rt: HostRuntime) {
+    holds_anew(&rt, rt.alloc(), variables_and_fields_holds);
 }
 
 #[test]
@@ -237,7 +268,7 @@ fn around(cx: &mut Interner, ty: Ty) -> Result<(Const, Predicate, Clauses), Refu
     Ok((value, of_type, list))
 }
 
-// What stands in a stored value is folded where the hooks at the value itself are not asked.
+// The contents of a stored value are folded where the hooks at the value itself are not asked.
 fn what_stands_in_handles_holds(cx: &mut Interner) -> Result<bool, Refusal> {
     let from = u32_ty(cx)?;
     let to = ty(cx, TyKind::Bool)?;

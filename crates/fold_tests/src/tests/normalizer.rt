@@ -1,8 +1,6 @@
 //! A user's normalizer: an alias is replaced by its declared right side, instantiated with the alias's arguments.
 
-ghost use Rattle.std.specs.Prelude.{refl, ⊤};
 ghost use Rattle.tt_kinds.specs.Kinds.{ty_shape};
-ghost use Rattle.tt_fold.specs.Steps.{IsPartOf};
 
 use super::{holds_anew, holds_within};
 use test_terms::{NOT_OWNED, args, bound_region, param_ty, ref_ty, ty, u32_ty};
@@ -20,18 +18,7 @@ struct Normalizer {
 impl TypeReplacer for Normalizer {
     type Error = Refusal;
 
-    ghost use Rattle.tt_interner.proofs.Growth.{IsPart-grows};
-
-    ghost Meaning = { ⊤ };
-
-    ghost meaning = { λ rows s. tt };
-
-    ghost owned = { λ rows s. IsPartOf rows (ty_shape s.right_side.value) };
-
-    ghost hooks = { record {
-      on_type = λ s t a s'. ⊤;
-      type_fails = λ unbuilt s t e s'. ⊤;
-    } };
+    ghost shape = { λ s. ty_shape s.right_side.value };
 
     fn replace_ty(&mut self, cx: &mut Interner, ty: Ty) -> Result<Step<Ty>, Refusal> {
         let TyKind::Alias(alias) = *ty.kind(cx) else {
@@ -43,10 +30,6 @@ impl TypeReplacer for Normalizer {
         let instance = self.right_side.instantiate(cx, alias.args)?;
         Ok(Step::Replace(instance.skip_norm_wip()))
     }
-
-    ghost still_owned = { λ old new s g h. IsPart-grows old new g.grows (ty_shape s.right_side.value) h };
-
-    ghost still_means = { λ old new s g h. refl };
 }
 
 // The alias with this argument.
@@ -71,7 +54,7 @@ fn normalized<T: Owned + TypeFoldable>(
     }
 }
 
-// The alias stands for the slices of its argument. A fold puts them into references too.
+// The alias is normalized to the slices of its argument. A fold puts them into references too.
 fn aliases_are_normalized_holds(cx: &mut Interner) -> Result<bool, Refusal> {
     let parameter = param_ty(cx, 0)?;
     let right_side = ty(cx, TyKind::Slice(parameter))?;

@@ -40,7 +40,7 @@ fn escapes<T: Owned + TypeFoldable>(cx: &Interner, value: &T) -> bool {
     value.is_owned(cx) && value.has_escaping_bound_vars(cx)
 }
 
-// What stands in a clause is met, under the clause's own binder.
+// The contents of a clause are met, under the clause's own binder.
 fn clauses_are_visited_holds(cx: &mut Interner) -> Result<bool, Refusal> {
     let near = bound_ty(cx, 1)?;
     let far = bound_ty(cx, 2)?;

@@ -22,7 +22,7 @@ enum Kind {
     Bound(BoundVarIndexKind),
 }
 
-// A call: the region, and how many binders stand around it.
+// A call: the region, and how many binders enclose it.
 type Asked = (Region, u32);
 
 // What a closure was asked, and how often; it keeps the first four calls.
@@ -128,7 +128,7 @@ pub fn variable_ref(cx: &mut Interner, variable: u32) -> Result<Ty, Refusal> {
     ref_ty(cx, answer(Kind::Variable, variable)?, number)
 }
 
-// One handle that stands in two places is asked about twice.
+// One handle that occurs at two places is asked about twice.
 fn each_place_is_asked_about_holds(cx: &mut Interner) -> Result<bool, Refusal> {
     let region = Region::new(RegionKind::ReStatic)?;
     let value = static_ref(cx)?;
@@ -144,8 +144,8 @@ fn each_place_is_asked_about(rt: HostRuntime) {
     holds_anew(&rt, rt.alloc(), each_place_is_asked_about_holds);
 }
 
-// Whether `fn(&'static u32)` under a binder of no variables becomes a pointer of these flags and this outer exclusive binder
-// where the answers are bound there.
+// Whether `fn(&'static u32)` under a binder of no variables becomes a pointer of these flags and this outer exclusive
+// binder where the answers are bound there.
 fn stands_as_answered(
     cx: &mut Interner,
     index: BoundVarIndexKind,
@@ -164,7 +164,7 @@ fn stands_as_answered(
     Ok(record.is(&[(region, 1)]) && after == wanted && info == (flags, outer))
 }
 
-// An answer is not shifted, whatever binders stand around its place.
+// An answer is not shifted, whatever binders enclose its place.
 fn answers_stand_as_they_are_holds(cx: &mut Interner) -> Result<bool, Refusal> {
     let greatest = BoundVarIndexKind::Bound(binder_index(4294967039)?);
     Ok(

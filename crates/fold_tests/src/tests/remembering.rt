@@ -8,13 +8,13 @@ use type_terms::{
 };
 
 // The tuple of these types.
-fn tuple(cx: &mut Interner, types: &[Ty]) -> Result<Ty, Refusal> {
+pub fn tuple(cx: &mut Interner, types: &[Ty]) -> Result<Ty, Refusal> {
     let items = tys(cx, types)?;
     ty(cx, TyKind::Tuple(items))
 }
 
 // The pointer to a function of these types, the last of which is what it returns, under a binder of no variables.
-fn pointer(cx: &mut Interner, types: &[Ty]) -> Result<Ty, Refusal> {
+pub fn pointer(cx: &mut Interner, types: &[Ty]) -> Result<Ty, Refusal> {
     let inputs_and_output = tys(cx, types)?;
     let signature = FnSigTys { inputs_and_output };
     let fn_sig_kind = FnSigKind::default();
@@ -23,7 +23,7 @@ fn pointer(cx: &mut Interner, types: &[Ty]) -> Result<Ty, Refusal> {
 }
 
 // `&'^D.0 i32`, of the binder of this index.
-fn bound_ref(cx: &mut Interner, binder: u32) -> Result<Ty, Refusal> {
+pub fn bound_ref(cx: &mut Interner, binder: u32) -> Result<Ty, Refusal> {
     let region = bound_region(binder)?;
     let number = ty(cx, TyKind::Int(IntTy::I32))?;
     ref_ty(cx, region, number)

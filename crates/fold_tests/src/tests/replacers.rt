@@ -2,15 +2,18 @@
 
 ghost use Rattle.std.specs.Prelude.{◌≡◌, ◌⊎◌};
 ghost use Rattle.tt_kinds.specs.Kinds.{region_shape, ty_shape};
-ghost use Rattle.tt_kinds.specs.Tree.{Depth, Tree};
-ghost use Rattle.tt_fold.specs.Steps.{IsPartOf, tree_in};
+ghost use Rattle.tt_kinds.specs.Label.{erased_region};
+ghost use Rattle.tt_kinds.specs.Tree.{region};
+ghost use Rattle.tt_fold.specs.Regions.{never_fails as regions_never_fail};
+ghost use Rattle.tt_fold.specs.Types.{never_fails as types_never_fail};
 ghost use Rattle.tt_fold.specs.Walk.{replace, descend};
 
 use super::holds_anew;
+use super::sharing::paired;
 use test_terms::{NOT_OWNED, bound_region, one_region, ref_ty, ty, u32_ty};
 use type_terms::{
     Binder, Interner, Owned, Refusal, Region, RegionKind, RegionReplacer, Step, Ty, TyKind,
-    TypeFoldable, TypeReplacer, replace_regions, replace_types,
+    TypeFoldable, TypeReplacer, replace_regions, replace_types, replace_types_once,
 };
 
 // Puts one region in the places of all.
@@ -22,26 +25,13 @@ struct OneForAll {
 impl RegionReplacer for OneForAll {
     type Error = Refusal;
 
-    ghost use Rattle.tt_interner.proofs.Growth.{IsPart-grows, fill-grows};
+    ghost shape = { λ s. region_shape s.region };
 
-    ghost Meaning = { Tree Depth };
-
-    ghost meaning = { λ rows s. tree_in rows (region_shape s.region) };
-
-    ghost owned = { λ rows s. IsPartOf rows (region_shape s.region) };
-
-    ghost hooks = { record {
-      on_region = λ s t r s'. (r ≡ s.state) × (s' ≡ s);
-      region_fails = λ unbuilt s t e s'. ⊥;
-    } };
+    ghost hooks = { regions_never_fail (λ s t r. r ≡ s.state) };
 
     fn replace_region(&mut self, _cx: &mut Interner, _region: Region) -> Result<Region, Refusal> {
         Ok(self.region)
     }
-
-    ghost still_owned = { λ old new s g h. IsPart-grows old new g.grows (region_shape s.region) h };
-
-    ghost still_means = { λ old new s g h. fill-grows old new g.grows (region_shape s.region) h };
 }
 
 // The value with one region in the places of all of its regions.
@@ -78,6 +68,51 @@ fn regions_are_replaced(rt: HostRuntime) {
     holds_anew(&rt, rt.alloc(), regions_are_replaced_holds);
 }
 
+// Erases each region.
+#[derive(Drop)]
+struct Eraser;
+
+impl RegionReplacer for Eraser {
+    type Error = Refusal;
+
+    ghost hooks = { regions_never_fail (λ s t r. r ≡ region erased_region) };
+
+    #[tactic(auto, unfolding(tt_kinds::specs::Shape::fill))]
+    fn replace_region(&mut self, _cx: &mut Interner, _region: Region) -> Result<Region, Refusal> {
+        Region::new(RegionKind::ReErased)
+    }
+}
+
+// The value with its regions erased.
+fn erased<T: Owned + TypeFoldable>(cx: &mut Interner, value: T) -> Result<T, Refusal> {
+    if value.is_owned(cx) {
+        replace_regions(cx, value, &mut Eraser)
+    } else {
+        Err(NOT_OWNED)
+    }
+}
+
+// What a binder in the value binds is erased too.
+fn regions_are_erased_holds(cx: &mut Interner) -> Result<bool, Refusal> {
+    let number = u32_ty(cx)?;
+    let region = bound_region(0)?;
+    let nothing = Region::new(RegionKind::ReErased)?;
+    let one = ref_ty(cx, region, number)?;
+    let erased_one = ref_ty(cx, nothing, number)?;
+    let vars = one_region(cx)?;
+    Ok(
+        erased(cx, (one, region)) == Ok((erased_one, nothing))
+            && erased(cx, Binder::bind_with_vars(one, vars))
+                == Ok(Binder::bind_with_vars(erased_one, vars))
+            && erased(cx, number) == Ok(number),
+    )
+}
+
+#[test]
+fn regions_are_erased(rt: HostRuntime) {
+    holds_anew(&rt, rt.alloc(), regions_are_erased_holds);
+}
+
 // Puts one type in the places of another.
 #[derive(Drop)]
 struct InPlaceOf {
@@ -88,18 +123,9 @@ struct InPlaceOf {
 impl TypeReplacer for InPlaceOf {
     type Error = Refusal;
 
-    ghost use Rattle.tt_interner.proofs.Growth.{IsPart-grows, fill-grows};
+    ghost shape = { λ s. ty_shape s.to };
 
-    ghost Meaning = { Tree Depth };
-
-    ghost meaning = { λ rows s. tree_in rows (ty_shape s.to) };
-
-    ghost owned = { λ rows s. IsPartOf rows (ty_shape s.to) };
-
-    ghost hooks = { record {
-      on_type = λ s t a s'. ((a ≡ replace s.state) ⊎ (a ≡ descend)) × (s' ≡ s);
-      type_fails = λ unbuilt s t e s'. ⊥;
-    } };
+    ghost hooks = { types_never_fail (λ s t a. (a ≡ replace s.state) ⊎ (a ≡ descend)) };
 
     fn replace_ty(&mut self, _cx: &mut Interner, ty: Ty) -> Result<Step<Ty>, Refusal> {
         if ty == self.from {
@@ -108,10 +134,6 @@ impl TypeReplacer for InPlaceOf {
             Ok(Step::Descend)
         }
     }
-
-    ghost still_owned = { λ old new s g h. IsPart-grows old new g.grows (ty_shape s.to) h };
-
-    ghost still_means = { λ old new s g h. fill-grows old new g.grows (ty_shape s.to) h };
 }
 
 // The value with one type in the places of another.
@@ -147,4 +169,38 @@ fn types_alone_are_replaced_holds(cx: &mut Interner) -> Result<bool, Refusal> {
 #[test]
 fn types_alone_are_replaced(rt: HostRuntime) {
     holds_anew(&rt, rt.alloc(), types_alone_are_replaced_holds);
+}
+
+// The value with one type in the places of another, where what came of a type is remembered.
+fn with_type_once<T: Owned + TypeFoldable>(
+    cx: &mut Interner,
+    value: T,
+    from: Ty,
+    to: Ty,
+) -> Result<T, Refusal> {
+    if value.is_owned(cx) && to.is_owned(cx) {
+        replace_types_once(cx, value, InPlaceOf { from, to })
+    } else {
+        Err(NOT_OWNED)
+    }
+}
+
+// A pair of 2^64 places is replaced as the fold without memory replaces a small one.
+fn a_shared_type_is_replaced_once_holds(cx: &mut Interner) -> Result<bool, Refusal> {
+    let number = u32_ty(cx)?;
+    let truth = ty(cx, TyKind::Bool)?;
+    let before = paired(cx, number, 64)?;
+    let after = paired(cx, truth, 64)?;
+    let small = paired(cx, number, 3)?;
+    let small_after = paired(cx, truth, 3)?;
+    Ok(
+        with_type_once(cx, (before, before), number, truth) == Ok((after, after))
+            && with_type_once(cx, small, number, truth) == Ok(small_after)
+            && with_type(cx, small, number, truth) == Ok(small_after),
+    )
+}
+
+#[test]
+fn a_shared_type_is_replaced_once(rt: HostRuntime) {
+    holds_anew(&rt, rt.alloc(), a_shared_type_is_replaced_once_holds);
 }

@@ -1,9 +1,7 @@
 //! A user's resolver: inference variables are replaced by what a table binds them to.
 
-ghost use Rattle.std.specs.Prelude.{refl, ⊤};
 ghost use Rattle.tt_kinds.specs.Kinds.{ty_shape};
 ghost use Rattle.tt_kinds.specs.Values.{option_shape, sequence_shape};
-ghost use Rattle.tt_fold.specs.Steps.{IsPartOf};
 
 use super::canonicalizer::variable;
 use super::{holds_anew, holds_within};
@@ -15,25 +13,14 @@ use type_terms::{
 
 // Puts what the table says of an inference variable in the variable's place, by the variable's number.
 #[derive(Drop)]
-struct Resolver {
-    bindings: Vec<Option<Ty>>,
+pub struct Resolver {
+    pub bindings: Vec<Option<Ty>>,
 }
 
 impl TypeReplacer for Resolver {
     type Error = Refusal;
 
-    ghost use Rattle.tt_interner.proofs.Growth.{IsPart-grows};
-
-    ghost Meaning = { ⊤ };
-
-    ghost meaning = { λ rows s. tt };
-
-    ghost owned = { λ rows s. IsPartOf rows (sequence_shape (option_shape ty_shape) s.bindings.items) };
-
-    ghost hooks = { record {
-      on_type = λ s t a s'. ⊤;
-      type_fails = λ unbuilt s t e s'. ⊤;
-    } };
+    ghost shape = { λ s. sequence_shape (option_shape ty_shape) s.bindings.items };
 
     fn replace_ty(&mut self, cx: &mut Interner, ty: Ty) -> Result<Step<Ty>, Refusal> {
         let TyKind::Infer(InferTy::TyVar(vid)) = *ty.kind(cx) else {
@@ -44,16 +31,10 @@ impl TypeReplacer for Resolver {
             _ => Ok(Step::Keep),
         }
     }
-
-    ghost still_owned = { λ old new s g h. IsPart-grows old new g.grows
-        (sequence_shape (option_shape ty_shape) s.bindings.items)
-        h };
-
-    ghost still_means = { λ old new s g h. refl };
 }
 
 // The value with the bindings in the places of its variables.
-fn resolved<T: Owned + TypeFoldable>(
+pub fn resolved<T: Owned + TypeFoldable>(
     cx: &mut Interner,
     value: T,
     folder: &mut Resolver,

@@ -1,4 +1,4 @@
-//! Values in which one type stands at many places: it is taken apart once under as many binders.
+//! Values in which one type occurs at many places: it is taken apart once under as many binders.
 
 use super::holds_anew;
 use super::regions::pointer;
@@ -12,7 +12,7 @@ fn bound_ref(cx: &mut Interner, binder: u32) -> Result<Ty, Refusal> {
 }
 
 // The type paired with itself, and each pair again, so many times over.
-fn paired(cx: &mut Interner, single: Ty, times: u32) -> Result<Ty, Refusal> {
+pub fn paired(cx: &mut Interner, single: Ty, times: u32) -> Result<Ty, Refusal> {
     let mut pair = single;
     for _ in 0..times {
         let items = tys(cx, &[pair, pair])?;
@@ -38,8 +38,8 @@ fn a_shared_type_is_shifted_once(rt: HostRuntime) {
     holds_anew(&rt, rt.alloc(), a_shared_type_is_shifted_once_holds);
 }
 
-// `(&'^0.0 i32, &'^1.0 i32)` beside a pointer to a function of it: outside of the pointer's binder both regions move, and under
-// it only the second. The pointer comes last, and then first.
+// `(&'^0.0 i32, &'^1.0 i32)` beside a pointer to a function of it: outside of the pointer's binder both regions move,
+// and under it only the second. The pointer comes last, and then first.
 fn depths_are_told_apart_holds(cx: &mut Interner) -> Result<bool, Refusal> {
     let vars = one_region(cx)?;
     let refs = [bound_ref(cx, 0)?, bound_ref(cx, 1)?, bound_ref(cx, 2)?];

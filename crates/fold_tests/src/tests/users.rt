@@ -114,7 +114,7 @@ fn regions_inside<T: Owned + TypeFoldable + TypeSuperVisitable>(
     Some(counted(outcome, &visitor))
 }
 
-// Whether so many regions stand inside the value, and no error.
+// Whether so many regions occur in the value, and no error.
 fn has_regions_inside<T: Owned + TypeFoldable + TypeSuperVisitable>(
     cx: &Interner,
     value: &T,

@@ -1,53 +1,38 @@
-//! Visitors that hold handles, and visitors with one hook.
+//! Visitors with one hook: one that asks a question, and one that breaks with a handle.
 
-ghost use Rattle.std.specs.Prelude.{◌≡◌};
+ghost use Rattle.std.specs.Prelude.{⊤};
 ghost use Rattle.tt_kinds.specs.Kinds.{ty_shape};
-ghost use Rattle.tt_kinds.specs.Tree.{Depth, Tree};
-ghost use Rattle.tt_visit.specs.declared.visitor.Next.TheVariants.{Descend as GoesOn};
-ghost use Rattle.tt_fold.specs.Steps.{IsPartOf, tree_in};
+ghost use Rattle.tt_visit.specs.Types.{breaks_at};
 
 use super::holds_anew;
 use std::ops::ControlFlow;
 use test_terms::{NOT_OWNED, bound_region, one_region, ref_ty, ty, u32_ty};
 use type_terms::{
-    Binder, Interner, Next, Owned, Refusal, Ty, TyKind, TypeInspector, inspect_types,
+    Binder, InternedKind, Interner, Next, Owned, Refusal, Region, Ty, TyKind, TypeInspector,
+    inspect_types,
 };
 
-// Breaks where the type that it looks for stands.
+// Breaks at the type.
 #[derive(Drop)]
-struct Occurrence {
-    ty: Ty,
-}
+struct Occurrence(Ty);
 
 impl TypeInspector for Occurrence {
-    type Break = Ty;
+    type Break = ();
 
-    ghost Meaning = { Tree Depth };
+    ghost shape = { λ s. ty_shape s.0 };
 
-    ghost meaning = { λ rows s. tree_in rows (ty_shape s.ty) };
-
-    ghost owned = { λ rows s. IsPartOf rows (ty_shape s.ty) };
-
-    ghost break_owned = { λ rows b. IsPartOf rows (ty_shape b) };
-
-    ghost hooks = { record {
-      on_type = λ s t next s'. (next ≡ GoesOn) × (s' ≡ s);
-      type_breaks = λ s t b s'. (t ≡ s) × (s' ≡ s);
-    } };
-
-    fn inspect_ty(&mut self, _cx: &Interner, ty: Ty) -> ControlFlow<Ty, Next> {
-        if ty == self.ty {
-            ControlFlow::Break(ty)
-        } else {
-            ControlFlow::Continue(Next::Descend)
+    fn inspect_ty(&mut self, _cx: &Interner, ty: Ty) -> ControlFlow<(), Next> {
+        if ty == self.0 {
+            return ControlFlow::Break(());
         }
+        ControlFlow::Continue(Next::Descend)
     }
 }
 
-// Whether the type stands in the value.
+// Whether the type occurs in the value.
 fn occurs<T: Owned>(cx: &Interner, value: &T, ty: Ty) -> Result<bool, Refusal> {
     if value.is_owned(cx) && ty.is_owned(cx) {
-        Ok(inspect_types(cx, value, &mut Occurrence { ty }).is_break())
+        Ok(inspect_types(cx, value, &mut Occurrence(ty)).is_break())
     } else {
         Err(NOT_OWNED)
     }
@@ -71,4 +56,61 @@ fn types_occur_holds(cx: &mut Interner) -> Result<bool, Refusal> {
 #[test]
 fn types_occur(rt: HostRuntime) {
     holds_anew(&rt, rt.alloc(), types_occur_holds);
+}
+
+// Breaks with the first reference to the type.
+#[derive(Drop)]
+struct ReferenceTo(Ty);
+
+impl TypeInspector for ReferenceTo {
+    type Break = Ty;
+
+    ghost shape = { λ s. ty_shape s.0 };
+
+    ghost break_shape = { ty_shape };
+
+    ghost hooks = { breaks_at (λ s t. ⊤) };
+
+    fn inspect_ty(&mut self, cx: &Interner, ty: Ty) -> ControlFlow<Ty, Next> {
+        match *ty.kind(cx) {
+            TyKind::Ref(_, referent, _) if referent == self.0 => ControlFlow::Break(ty),
+            _ => ControlFlow::Continue(Next::Descend),
+        }
+    }
+}
+
+// The region of the first reference to the type in the value.
+fn region_of_reference<T: Owned>(
+    cx: &Interner,
+    value: &T,
+    to: Ty,
+) -> Result<Option<Region>, Refusal> {
+    if !value.is_owned(cx) || !to.is_owned(cx) {
+        return Err(NOT_OWNED);
+    }
+    let ControlFlow::Break(reference) = inspect_types(cx, value, &mut ReferenceTo(to)) else {
+        return Ok(None);
+    };
+    match *reference.kind(cx) {
+        TyKind::Ref(region, _, _) => Ok(Some(region)),
+        _ => Ok(None),
+    }
+}
+
+// What the visit broke with is the interner's.
+fn references_are_found_holds(cx: &mut Interner) -> Result<bool, Refusal> {
+    let number = u32_ty(cx)?;
+    let (near, far) = (bound_region(0)?, bound_region(1)?);
+    let one = ref_ty(cx, far, number)?;
+    let two = ref_ty(cx, near, one)?;
+    Ok(
+        region_of_reference(cx, &(number, two), number) == Ok(Some(far))
+            && region_of_reference(cx, &two, one) == Ok(Some(near))
+            && region_of_reference(cx, &two, two) == Ok(None),
+    )
+}
+
+#[test]
+fn references_are_found(rt: HostRuntime) {
+    holds_anew(&rt, rt.alloc(), references_are_found_holds);
 }

@@ -46,6 +46,10 @@ enum Subject {
     Ids,
     IdsInPredicates,
     IdsInRegions,
+    KnownArguments,
+    KnownClauses,
+    KnownPredicates,
+    KnownTraitObjects,
 }
 
 // The call of this number of the subject's list.
@@ -61,6 +65,10 @@ fn call(alloc: Global, subject: Subject, number: u32) -> Result<Call, AllocError
         Subject::Ids => id_call(alloc, number),
         Subject::IdsInPredicates => predicate_of_id_call(alloc, number),
         Subject::IdsInRegions => id_in_region_call(alloc, number),
+        Subject::KnownArguments => known_argument_call(alloc, number),
+        Subject::KnownClauses => known_clause_call(alloc, number),
+        Subject::KnownPredicates => known_predicate_call(alloc, number),
+        Subject::KnownTraitObjects => known_object_call(alloc, number),
     }
 }
 
@@ -73,9 +81,9 @@ fn calls(alloc: Global, subject: Subject, count: u32) -> Result<Vec<Call>, Alloc
     Ok(calls)
 }
 
-// The words of the answers to the calls, on a new interner.
-fn words(alloc: Global, calls: &[Call]) -> Result<String, Fail> {
-    let mut cx = Interner::new(alloc)?;
+// The words of the answers to the calls, on a new interner with at most so many rows in a table.
+fn words(alloc: Global, limit: u32, calls: &[Call]) -> Result<String, Fail> {
+    let mut cx = Interner::with_limit(alloc, limit)?;
     let answers = run_calls(&mut cx, calls);
     drop(cx);
     let answers = answers?;
@@ -86,7 +94,22 @@ fn words(alloc: Global, calls: &[Call]) -> Result<String, Fail> {
     Ok(words)
 }
 
-// So many calls of the subject's list have answers of these words.
+// So many calls of the subject's list have answers of these words, where a table holds at most so many rows.
+fn check_within(
+    rt: &impl Abort,
+    alloc: Global,
+    limit: u32,
+    subject: Subject,
+    count: u32,
+    wanted: &str,
+) -> Result<(), Fail> {
+    let calls = calls(alloc, subject, count)?;
+    let words = words(alloc, limit, calls.as_slice())?;
+    agree(rt, words.as_str(), wanted);
+    Ok(())
+}
+
+// The same where there is room.
 fn check(
     rt: &impl Abort,
     alloc: Global,
@@ -94,10 +117,7 @@ fn check(
     count: u32,
     wanted: &str,
 ) -> Result<(), Fail> {
-    let calls = calls(alloc, subject, count)?;
-    let words = words(alloc, calls.as_slice())?;
-    agree(rt, words.as_str(), wanted);
-    Ok(())
+    check_within(rt, alloc, GREATEST_INDEX, subject, count, wanted)
 }
 
 #[test]
@@ -220,10 +240,7 @@ fn predicate(alloc: Global, kind: PredicateKindCall) -> Call {
 fn predicate_call(alloc: Global, number: u32) -> Result<Call, AllocError> {
     match number {
         1 => Ok(Call::Ty(TyCall::Bool)),
-        2 => {
-            let well_formed = ClauseCall::WellFormed(TermCall::Ty(1));
-            Ok(predicate(alloc, PredicateKindCall::Clause(well_formed)))
-        }
+        2 => Ok(well_formed(alloc)),
         3 => Ok(predicate(alloc, PredicateKindCall::Ambiguous)),
         4 => Ok(Call::Clauses(vec![in alloc; 2]?)),
         5 => Ok(Call::Clauses(vec![in alloc; 2, 3]?)),
@@ -450,4 +467,78 @@ fn two_ids(cx: &mut Interner) -> Result<bool, Refusal> {
 #[test]
 fn each_declaration_has_its_id(rt: HostRuntime) {
     assert_eq!(rt; answer_anew(rt.alloc(), two_ids), Ok(true));
+}
+
+// A call of this number of a list. Its last list of arguments is new.
+fn known_argument_call(alloc: Global, number: u32) -> Result<Call, AllocError> {
+    match number {
+        1 => Ok(Call::Ty(TyCall::Bool)),
+        2 | 3 => Ok(Call::Args(one_argument(alloc)?)),
+        4 => Ok(Call::Equal(2, 3)),
+        _ => {
+            let mut args = Vec::new(alloc);
+            args.push(ArgCall::Lifetime(RegionCall::ReStatic))?;
+            Ok(Call::Args(args))
+        }
+    }
+}
+
+// A call of this number of a list. Its last list of clauses is new.
+fn known_clause_call(alloc: Global, number: u32) -> Result<Call, AllocError> {
+    match number {
+        1 => Ok(Call::Ty(TyCall::Bool)),
+        2 => Ok(well_formed(alloc)),
+        3 | 4 => Ok(Call::Clauses(vec![in alloc; 2]?)),
+        5 => Ok(Call::Equal(3, 4)),
+        _ => Ok(Call::Clauses(vec![in alloc; 2, 2]?)),
+    }
+}
+
+// That the type which the first call answered is well-formed.
+fn well_formed(alloc: Global) -> Call {
+    let well_formed = ClauseCall::WellFormed(TermCall::Ty(1));
+    predicate(alloc, PredicateKindCall::Clause(well_formed))
+}
+
+// A call of this number of a list. Its last predicate is new.
+fn known_predicate_call(alloc: Global, number: u32) -> Result<Call, AllocError> {
+    match number {
+        1 => Ok(Call::Ty(TyCall::Bool)),
+        2 | 4 => Ok(well_formed(alloc)),
+        3 => Ok(predicate(alloc, PredicateKindCall::Ambiguous)),
+        5 => Ok(Call::Equal(2, 4)),
+        _ => Ok(predicate(alloc, PredicateKindCall::Coerce(1, 1))),
+    }
+}
+
+// A call of this number of a list. Its last trait object is new.
+fn known_object_call(alloc: Global, number: u32) -> Result<Call, AllocError> {
+    match number {
+        1 => declare(alloc, DeclarationKindCall::Trait { params: 1 }),
+        2 | 3 => trait_object(alloc, ExistentialKindCall::AutoTrait(1)),
+        4 => Ok(Call::Equal(2, 3)),
+        _ => trait_object(alloc, ExistentialKindCall::Trait(1, Vec::new(alloc))),
+    }
+}
+
+// Where a table is full, what is there is built again, and what is new is refused.
+#[test]
+fn known_terms_in_full_tables(rt: HostRuntime) -> Result<(), Fail> {
+    for (subject, count, wanted) in [
+        (Subject::KnownArguments, 5, "type args args yes refused "),
+        (
+            Subject::KnownClauses,
+            6,
+            "type predicate clauses clauses yes refused ",
+        ),
+        (
+            Subject::KnownPredicates,
+            6,
+            "type predicate predicate predicate yes refused ",
+        ),
+        (Subject::KnownTraitObjects, 5, "id type type yes refused "),
+    ] {
+        check_within(&rt, rt.alloc(), 2, subject, count, wanted)?;
+    }
+    Ok(())
 }

@@ -7,18 +7,18 @@ ghost use Rattle.tt_interner.specs.Rows.{const_row, consts_row, size, meaning};
 ghost use Rattle.tt_interner.specs.Stored.{IsAt, IsInfo, Builds};
 
 use super::Interner;
-use crate::flags::{ForKind, OwnFlags, items_info};
+use crate::flags::{OwnFlags, items_info, kind_info};
 use crate::tables::{find_or_add, find_or_add_list, find_or_insert, info_at, key_at};
 use tt_flags::FlagComputation;
 use tt_index::Refusal;
-use tt_kinds::{Const, ConstKind, Consts, Table};
+use tt_kinds::{Const, ConstKind, Consts, Kind, Table};
 
 impl Interner {
-    /// Returns the constant of this kind. What stands in the kind has to be of this interner;
+    /// Returns the constant of this kind. Every handle and name in the kind has to be this interner's;
     /// [`Interner::owns_const_kind`] tests it.
     ///
-    /// It is refused with `GreatestIndex` where the kind is a bound variable with the greatest index, with `TableFull` where
-    /// the constant is new and the table has as many rows as it may have, and with `Memory`.
+    /// It is refused with `GreatestIndex` where the kind is a bound variable with the greatest index, with
+    /// `TableFull` where the constant is new and the table has as many rows as it may have, and with `Memory`.
     pub fn mk_const(&mut self, kind: ConstKind) -> Result<Const, Refusal>
         requires { HasParts (size self.old.rows) (const_kind_shape kind) }
         ensures { Builds result (λ handle. handle.number) self.old self.new (const_row kind) }
@@ -27,7 +27,7 @@ impl Interner {
         if kind.is_too_deep() {
             return Err(Refusal::GreatestIndex);
         }
-        let info = FlagComputation::for_const_kind(self, &kind);
+        let info = kind_info(self, &Kind::Const(kind));
         let number = match find_or_add(
             &mut self.order,
             self.limit,

@@ -18,11 +18,11 @@ use tt_kinds::{
 };
 
 impl Interner {
-    /// Returns the existential predicate of this kind under this binder. What stands in it has to be of this interner;
-    /// [`Interner::owns_existential_kind`] tests it.
+    /// Returns the existential predicate of this kind under this binder. Every handle and name in it has to be this
+    /// interner's; [`Interner::owns_existential_kind`] tests it.
     ///
-    /// It is refused with `TableFull` where the existential predicate is new and the table has as many rows as it may have, and
-    /// with `Memory`.
+    /// It is refused with `TableFull` where the existential predicate is new and the table has as many rows as it may
+    /// have, and with `Memory`.
     pub fn mk_existential(
         &mut self,
         kind: Binder<ExistentialPredicate>,
@@ -137,8 +137,8 @@ impl Interner {
 
 impl Interner {
     /// Returns the list of these existential predicates, each under its binder, in order: the one that
-    /// [`Interner::mk_existential_list`] answers for what [`Interner::mk_existential`] answers for each. What stands in
-    /// them has to be of this interner; [`Interner::owns_existential_kinds`] tests it.
+    /// [`Interner::mk_existential_list`] answers for what [`Interner::mk_existential`] answers for each. Every
+    /// handle and name in them has to be this interner's; [`Interner::owns_existential_kinds`] tests it.
     ///
     /// It is refused with `TableFull` where one of them or the list is new and its table has as many rows as it may
     /// have, and with `Memory`. Where it is refused, none of them is added, not even those before the one that had no

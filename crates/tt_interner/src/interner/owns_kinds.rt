@@ -1,4 +1,4 @@
-//! Whether all that stands in a kind is of an interner, as its calls require.
+//! Whether every handle and name in a kind is an interner's, as its calls require.
 
 ghost use Rattle.std.specs.Prelude.{◌<◌, ◌↔◌, IsTrue};
 ghost use Rattle.tt_kinds.specs.Shape.{AreParts, HasParts, IsPart};
@@ -100,7 +100,7 @@ impl Interner {
         }
     }
 
-    // Whether all that stands in the kind is of this interner.
+    // Whether every handle and name in the kind is this interner's.
     fn owns_contents(&self, kind: &Kind) -> bool
         ensures { IsTrue result ↔ HasParts (size self.now.rows) (kind_shape kind.now) }
     {
@@ -114,8 +114,8 @@ impl Interner {
         self.owns_binder(kind.bound_vars())
     }
 
-    /// Returns whether all that stands in the kind of a type is of this interner: the kind can be stored, and it can be
-    /// used by itself.
+    /// Returns whether every handle and name in the kind of a type is this interner's: the kind can be stored, and it
+    /// can be used by itself.
     pub fn owns_kind(&self, kind: &TyKind) -> bool
         ensures stored { IsTrue result ↔ HasParts (size self.now.rows) (ty_kind_shape kind.now) }
         ensures bare { IsTrue result ↔ IsPart (size self.now.rows) (bare_ty_shape kind.now) }
@@ -123,8 +123,8 @@ impl Interner {
         self.owns_contents(&Kind::Ty(*kind))
     }
 
-    /// Returns whether all that stands in the kind of a constant is of this interner: the kind can be stored, and it
-    /// can be used by itself.
+    /// Returns whether every handle and name in the kind of a constant is this interner's: the kind can be stored,
+    /// and it can be used by itself.
     pub fn owns_const_kind(&self, kind: &ConstKind) -> bool
         ensures stored { IsTrue result ↔ HasParts (size self.now.rows) (const_kind_shape kind.now) }
         ensures bare { IsTrue result ↔ IsPart (size self.now.rows) (bare_const_shape kind.now) }
@@ -132,8 +132,8 @@ impl Interner {
         self.owns_contents(&Kind::Const(*kind))
     }
 
-    /// Returns whether all that stands in the kind of a pattern is of this interner: the kind can be stored, and it can
-    /// be used by itself.
+    /// Returns whether every handle and name in the kind of a pattern is this interner's: the kind can be stored, and
+    /// it can be used by itself.
     pub fn owns_pattern_kind(&self, kind: &PatternKind) -> bool
         ensures bare { IsTrue result ↔ IsPart (size self.now.rows) (bare_pattern_shape kind.now) }
         ensures stored { IsTrue result ↔ HasParts (size self.now.rows) (pattern_kind_shape kind.now) }
@@ -141,21 +141,21 @@ impl Interner {
         self.owns_contents(&Kind::Pat(*kind))
     }
 
-    /// Returns whether all that stands in the predicate, its binder's variables among it, is of this interner.
+    /// Returns whether every handle and name in the predicate, its binder's variables included, is of this interner.
     pub fn owns_predicate_kind(&self, kind: &Binder<PredicateKind>) -> bool
         ensures { IsTrue result ↔ HasParts (size self.now.rows) (predicate_kind_shape kind.now) }
     {
         self.owns_contents(&Kind::Predicate(*kind))
     }
 
-    /// Returns whether all that stands in the existential predicate, its binder's variables among it, is of this
+    /// Returns whether every handle and name in the existential predicate, its binder's variables included, is of this
     /// interner.
     pub fn owns_existential_kind(&self, kind: &Binder<ExistentialPredicate>) -> bool
         ensures { IsTrue result ↔ HasParts (size self.now.rows) (existential_kind_shape kind.now) }
     {
         self.owns_contents(&Kind::Existential(*kind))
     }
-    /// Returns whether all that stands in each of these existential predicates is of this interner.
+    /// Returns whether every handle and name in each of these existential predicates is this interner's.
     pub fn owns_existential_kinds(&self, kinds: &[Binder<ExistentialPredicate>]) -> bool
         ensures { IsTrue result ↔ HaveParts self.now.rows kinds.now }
     {

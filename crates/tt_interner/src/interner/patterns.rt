@@ -14,7 +14,7 @@ use tt_index::Refusal;
 use tt_kinds::{Kind, Pat, PatList, PatternKind, Table};
 
 impl Interner {
-    /// Returns the pattern of this kind. What stands in the kind has to be of this interner;
+    /// Returns the pattern of this kind. Every handle and name in the kind has to be this interner's;
     /// [`Interner::owns_pattern_kind`] tests it.
     ///
     /// It is refused with `TableFull` where the pattern is new and the table has as many rows as it may have, and

@@ -15,7 +15,7 @@ use tt_index::Refusal;
 use tt_kinds::{Binder, Clause, ClauseKind, Clauses, Predicate, PredicateKind, Table};
 
 impl Interner {
-    /// Returns the predicate of this kind under this binder. What stands in it has to be of this interner;
+    /// Returns the predicate of this kind under this binder. Every handle and name in it has to be this interner's;
     /// [`Interner::owns_predicate_kind`] tests it.
     ///
     /// It is refused with `TableFull` where the predicate is new and the table has as many rows as it may have, and

@@ -4,17 +4,18 @@ ghost use Rattle.std.specs.Prelude.{◌≡◌, ◌<◌, List};
 ghost use Rattle.std.specs.Iterator.{Drains, IsFinite};
 ghost use Rattle.tt_kinds.specs.Shape.{AreParts, HasParts, IsTooDeep, item_shapes};
 ghost use Rattle.tt_kinds.specs.Kinds.{ty_kind_shape, ty_shape};
+ghost use Rattle.tt_interner.specs.Chained.{BuildsOf};
 ghost use Rattle.tt_interner.specs.Collect.{BuildsFrom};
-ghost use Rattle.tt_interner.specs.Rows.{type_row, tys_row, size, meaning};
+ghost use Rattle.tt_interner.specs.Rows.{type_row, tys_row, text_row, size, meaning};
 ghost use Rattle.tt_interner.specs.Stored.{IsAt, IsInfo, Puts, Builds};
 
 use super::Interner;
 use crate::collect::collected;
-use crate::flags::{ForKind, OwnFlags, items_info};
+use crate::flags::{OwnFlags, items_info, kind_info};
 use crate::tables::{find_or_add, find_or_add_list, find_or_insert, info_at, key_at};
 use tt_flags::FlagComputation;
-use tt_index::Refusal;
-use tt_kinds::{Table, Ty, TyKind, Tys};
+use tt_index::{Mutability, Refusal};
+use tt_kinds::{Kind, ParamTy, Region, Table, Ty, TyKind, Tys};
 
 impl Interner {
     // Finds a type of this kind, or stores it.
@@ -24,7 +25,7 @@ impl Interner {
         requires shallow { IsTooDeep (ty_kind_shape kind.now) → ⊥ }
         ensures { Puts result (λ ty. ty.number) self.old self.new (type_row kind.now) }
     {
-        let info = FlagComputation::for_kind(self, kind);
+        let info = kind_info(self, &Kind::Ty(*kind));
         let number = match find_or_add(
             &mut self.order,
             self.limit,
@@ -39,11 +40,11 @@ impl Interner {
         Ok(Ty::from_number(number))
     }
 
-    /// Returns the type of this kind. What stands in the kind has to be of this interner; [`Interner::owns_kind`] tests
-    /// it.
+    /// Returns the type of this kind. Every handle and name in the kind has to be this interner's;
+    /// [`Interner::owns_kind`] tests it.
     ///
-    /// It is refused with `GreatestIndex` where the kind is a bound variable with the greatest index, with `TableFull` where
-    /// the type is new and the table has as many rows as it may have, and with `Memory`.
+    /// It is refused with `GreatestIndex` where the kind is a bound variable with the greatest index, with
+    /// `TableFull` where the type is new and the table has as many rows as it may have, and with `Memory`.
     #[inline(always)]
     pub fn mk_ty(&mut self, kind: TyKind) -> Result<Ty, Refusal>
         requires { HasParts (size self.old.rows) (ty_kind_shape kind) }
@@ -54,6 +55,55 @@ impl Interner {
             return Err(Refusal::GreatestIndex);
         }
         self.put_ty(&kind)
+    }
+
+    /// Returns the reference to this type, as [`Interner::mk_ty`] answers it for its kind. The region's name and the type
+    /// have to be this interner's; [`Interner::owns_region`] and [`Interner::owns_ty`] test it.
+    pub fn mk_ref(
+        &mut self,
+        region: Region,
+        referent: Ty,
+        mutability: Mutability,
+    ) -> Result<Ty, Refusal>
+        requires { HasParts (size self.old.rows) (ty_kind_shape (TyKind.Ref region referent mutability)) }
+        ensures { Builds result (λ ty. ty.number) self.old self.new (type_row (TyKind.Ref region referent mutability)) }
+    {
+        self.mk_ty(TyKind::Ref(region, referent, mutability))
+    }
+
+    /// Returns the tuple of these types, in order, as [`Interner::mk_tys`] and then [`Interner::mk_ty`] answer it. They
+    /// have to be of this interner; [`Interner::owns_ty`] tests it. Where the tuple is refused, the list may stay.
+    pub fn mk_tuple(&mut self, items: &[Ty]) -> Result<Ty, Refusal>
+        requires { AreParts (size self.old.rows) (item_shapes ty_shape items.now) }
+        ensures { BuildsOf
+            (λ list. list.number)
+            (tys_row items.now)
+            (λ list. type_row (TyKind.Tuple list))
+            result
+            self.old
+            self.new }
+    {
+        match self.mk_tys(items) {
+            Ok(list) => self.mk_ty(TyKind::Tuple(list)),
+            Err(e) => Err(e),
+        }
+    }
+
+    /// Returns the type parameter of this index and name, as [`Interner::symbol`] and then [`Interner::mk_ty`] answer it.
+    /// Where the parameter is refused, the name may stay.
+    pub fn mk_param(&mut self, index: u32, name: &str) -> Result<Ty, Refusal>
+        ensures { BuildsOf
+            (λ symbol. symbol.number)
+            (text_row name.now)
+            (λ symbol. type_row (TyKind.Param (record { index = index; name = symbol })))
+            result
+            self.old
+            self.new }
+    {
+        match self.symbol(name) {
+            Ok(name) => self.mk_ty(TyKind::Param(ParamTy { index, name })),
+            Err(e) => Err(e),
+        }
     }
 
     /// Returns a type's kind, in the interner's memory. The type has to be of this interner; [`Interner::owns_ty`]
@@ -102,7 +152,8 @@ impl Interner {
     /// Returns the list of all items of the iterator, in order, as [`Interner::mk_tys`] answers it. The iterator has to
     /// end, and its items to be of this interner.
     ///
-    /// It is refused with `Memory` also where there is none for the items, which are collected before the list is looked up.
+    /// It is refused with `Memory` also where there is none for the items, which are collected before the list is
+    /// looked up.
     pub fn mk_type_list_from_iter<I: Iterator<Item = Ty> + Drop>(
         &mut self,
         iter: I,

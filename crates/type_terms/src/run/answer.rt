@@ -25,9 +25,9 @@ pub enum Answer {
     Truth(bool),
     /// What is kept beside a term.
     Info {
-        /// The union of the flags of all that stands in it.
+        /// The union of the flags of all of its contents.
         flags: TypeFlags,
-        /// The innermost binder that none of its variables belong to or stand outside of.
+        /// The innermost enclosing binder that no variable of the term reaches, and 0 where none escapes.
         outer: DebruijnIndex,
     },
     /// The call was refused.

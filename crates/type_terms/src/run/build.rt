@@ -91,7 +91,7 @@ pub fn build_ty(cx: &mut Interner, earlier: &[Answer], call: &TyCall) -> Result<
 {
     match ty_kind(cx, earlier, call) {
         Ok(kind) => {
-            // The rows stand once each, so that a type that is there is found.
+            // Each row is added once, so that a type that is there is found.
             cx.are_rows();
             let ty = cx.mk_ty(kind)?;
             Ok(Answer::Ty(ty))

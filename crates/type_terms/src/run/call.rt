@@ -8,8 +8,8 @@ use tt_kinds::{
     FnHeader, InferConst, InferTy, PlaceholderConst, ScalarInt,
 };
 
-/// What a bound region of a call is called. It is what [`BoundRegionKind`](tt_kinds::BoundRegionKind) is, with a symbol as
-/// its text and an id as the position of the call that declared it.
+/// What a bound region of a call is called. It is what [`BoundRegionKind`](tt_kinds::BoundRegionKind) is, with a
+/// symbol as its text and an id as the position of the call that declared it.
 #[derive(Debug, PartialEq, Eq, Drop)]
 pub enum RegionNameCall {
     /// It has no name.
@@ -22,8 +22,8 @@ pub enum RegionNameCall {
     ClosureEnv,
 }
 
-/// What a bound type of a call is called. It is such a [`BoundTyKind`](tt_kinds::BoundTyKind), with the position of the call
-/// that declared it in the place of its id.
+/// What a bound type of a call is called. It is such a [`BoundTyKind`](tt_kinds::BoundTyKind), with the position of
+/// the call that declared it in the place of its id.
 #[derive(Clone, Copy, Debug, PartialEq, Eq)]
 pub enum BoundTyKindCall {
     /// It has no name.
@@ -32,8 +32,8 @@ pub enum BoundTyKindCall {
     Param(u32),
 }
 
-/// A variable of a binder of a call. It is what [`BoundVariableKind`](tt_kinds::BoundVariableKind) is, with a symbol as its
-/// text and a position in the place of an id.
+/// A variable of a binder of a call. It is what [`BoundVariableKind`](tt_kinds::BoundVariableKind) is, with a symbol
+/// as its text and a position in the place of an id.
 #[derive(Debug, PartialEq, Eq, Drop)]
 pub enum VariableCall {
     /// It stands for a type.
@@ -44,8 +44,8 @@ pub enum VariableCall {
     Const,
 }
 
-/// A region of a call. It names such a [`RegionKind`](tt_kinds::RegionKind), a symbol by its text and an id by the position
-/// of the call that declared it.
+/// A region of a call. It names such a [`RegionKind`](tt_kinds::RegionKind), a symbol by its text and an id by the
+/// position of the call that declared it.
 #[derive(Debug, PartialEq, Eq, Drop)]
 pub enum RegionCall {
     /// A region parameter of an item.
@@ -55,8 +55,8 @@ pub enum RegionCall {
         /// Its name.
         name: String,
     },
-    /// A region that a binder binds: its binder, its place in the binder's list, and what it is called. A call with a bound
-    /// index at the greatest one is refused.
+    /// A region that a binder binds: its binder, its place in the binder's list, and what it is called. A call with a
+    /// bound index at the greatest one is refused.
     ReBound(BoundVarIndexKind, BoundVar, RegionNameCall),
     /// A region parameter of an item, seen from inside the item: the item, declared as anything, and what the region is
     /// called.
@@ -65,8 +65,8 @@ pub enum RegionCall {
     ReStatic,
     /// A region variable of inference.
     ReVar(RegionVid),
-    /// A region that a binder bound which has been entered: the universe in which it can be named, its place in the binder's
-    /// list, and what it is called.
+    /// A region that a binder bound which has been entered: the universe in which it can be named, its place in the
+    /// binder's list, and what it is called.
     RePlaceholder(UniverseIndex, BoundVar, RegionNameCall),
     /// A region of which nothing is kept.
     ReErased,
@@ -132,11 +132,11 @@ pub enum TyCall {
         /// Its name.
         name: String,
     },
-    /// A type that a binder binds: its binder, its place in the binder's list, and what it is called. A call with a bound
-    /// index at the greatest one is refused.
+    /// A type that a binder binds: its binder, its place in the binder's list, and what it is called. A call with a
+    /// bound index at the greatest one is refused.
     Bound(BoundVarIndexKind, BoundVar, BoundTyKindCall),
-    /// A type that a binder bound which has been entered: the universe in which it can be named, its place in the binder's
-    /// list, and what it is called.
+    /// A type that a binder bound which has been entered: the universe in which it can be named, its place in the
+    /// binder's list, and what it is called.
     Placeholder(UniverseIndex, BoundVar, BoundTyKindCall),
     /// A type variable of inference.
     Infer(InferTy),
@@ -156,7 +156,7 @@ pub enum TyCall {
     FnPtr {
         /// The variables of its binder.
         vars: Vec<VariableCall>,
-        /// The types of the inputs in order, then that of the output.
+        /// The types of the inputs in order, then the output's.
         inputs_and_output: Vec<u32>,
         /// What its signature says beside the types.
         header: FnHeader,
@@ -186,8 +186,8 @@ pub enum ValTreeCall {
     Branch(Vec<u32>),
 }
 
-/// A constant to be built. It is such a [`ConstKind`](tt_kinds::ConstKind), with a symbol as its text and positions in the
-/// places of handles and of the id of what is computed.
+/// A constant to be built. It is such a [`ConstKind`](tt_kinds::ConstKind), with a symbol as its text and positions
+/// in the places of handles and of the id of what is computed.
 #[derive(Debug, PartialEq, Eq, Drop)]
 pub enum ConstCall {
     /// A constant parameter of an item.
@@ -209,7 +209,7 @@ pub enum ConstCall {
     Value(u32, ValTreeCall),
     /// A constant of which an error was reported.
     Error(ErrorGuaranteed),
-    /// An expression over constants: the front end's number of it, and what stands in it.
+    /// An expression over constants: the front end's number of it, and its contents.
     Expr(u32, Vec<ArgCall>),
 }
 
@@ -238,7 +238,8 @@ pub enum TermCall {
     Const(u32),
 }
 
-/// What a clause says. It is such a [`ClauseKind`](tt_kinds::ClauseKind), with positions in the places of handles and ids.
+/// What a clause says. It is such a [`ClauseKind`](tt_kinds::ClauseKind), with positions in the places of handles and
+/// ids.
 #[derive(Debug, PartialEq, Eq, Drop)]
 pub enum ClauseCall {
     /// A type implements a trait: the trait, and its generic arguments, the type first.
@@ -261,8 +262,8 @@ pub enum ClauseCall {
     UnstableFeature(String),
 }
 
-/// What a predicate says. It is such a [`PredicateKind`](tt_kinds::PredicateKind), with positions in the places of handles
-/// and ids.
+/// What a predicate says. It is such a [`PredicateKind`](tt_kinds::PredicateKind), with positions in the places of
+/// handles and ids.
 #[derive(Debug, PartialEq, Eq, Drop)]
 pub enum PredicateKindCall {
     /// A clause.
@@ -290,8 +291,8 @@ pub enum PredicateKindCall {
     AliasRelate(TermCall, TermCall, AliasRelationDirection),
 }
 
-/// What a trait object says of the type that it hides. It is such an [`ExistentialPredicate`](tt_kinds::ExistentialPredicate),
-/// with positions in the places of handles and ids.
+/// What a trait object says of the type that it hides. It is such an
+/// [`ExistentialPredicate`](tt_kinds::ExistentialPredicate), with positions in the places of handles and ids.
 #[derive(Debug, PartialEq, Eq, Drop)]
 pub enum ExistentialKindCall {
     /// It implements a trait with these generic arguments.
@@ -331,8 +332,8 @@ pub enum ArgCall {
     Const(u32),
 }
 
-/// What is declared. It is such a [`DeclarationKind`](tt_kinds::DeclarationKind), with the position of the call that answered
-/// it in the place of an id.
+/// What is declared. It is such a [`DeclarationKind`](tt_kinds::DeclarationKind), with the position of the call that
+/// answered it in the place of an id.
 #[derive(Clone, Copy, Debug, PartialEq, Eq)]
 pub enum DeclarationKindCall {
     /// A trait.
@@ -396,8 +397,8 @@ pub enum Call {
     Shift(u32, u32),
     /// Instantiates the term at the position with the arguments.
     Instantiate(u32, Vec<ArgCall>),
-    /// Replaces each region of the term at the position by the erased one, but for those that the term's own binders bind, and
-    /// the canonical ones.
+    /// Replaces each region of the term at the position by the erased one, but for those that the term's own binders
+    /// bind, and the canonical ones.
     EraseRegions(u32),
     /// Asks whether the terms at two positions are the same.
     Equal(u32, u32),

@@ -52,7 +52,7 @@ pub fn build_const(
 {
     match const_kind(cx, earlier, call) {
         Ok(kind) => {
-            // The rows stand once each, so that a constant that is there is found.
+            // Each row is added once, so that a constant that is there is found.
             cx.are_rows();
             let constant = cx.mk_const(kind)?;
             Ok(Answer::Const(constant))
@@ -77,8 +77,14 @@ pub fn build_args_answer(
         → AreTerms (told_all cx.old.rows earlier.now) (args_ids list.items)
         → Answers cx.old cx.new (told_all cx.old.rows earlier.now) (BuildsArgs list) result }
 {
-    let args = build_arg_list(cx, earlier, args)?;
-    Ok(Answer::Args(args))
+    match build_arg_list(cx, earlier, args) {
+        Ok(args) => Ok(Answer::Args(args)),
+        Err(refusal) => {
+            // The rows stand once each, so that a list that is there is found.
+            cx.are_rows();
+            Err(refusal)
+        }
+    }
 }
 
 // The kind of the constant.

@@ -1,6 +1,7 @@
 //! The building of trait objects.
 
-ghost use Rattle.std.specs.Prelude.{map};
+ghost use Rattle.std.specs.Prelude.{◌≤◌, map, take, length, IfErr};
+ghost use Rattle.tt_kinds.specs.Shape.{item_shapes};
 ghost use Rattle.tt_kinds.specs.Kinds.{existential_form as form_of_existential};
 ghost use Rattle.tt_kinds.specs.Kinds.{ty_kind_shape, existential_shape, existentials_shape};
 ghost use Rattle.tt_interner.specs.Stored.{Extends};
@@ -10,6 +11,7 @@ ghost use Rattle.type_terms.specs.CallForm.{
   existential_tree,
   existentials_tree,
   existential_positions,
+  all_trees,
   all_positions,
   IsExistentialTooDeep,
   AnyIsDeep,
@@ -17,13 +19,14 @@ ghost use Rattle.type_terms.specs.CallForm.{
 };
 ghost use Rattle.type_terms.specs.Told.{told_all, AreOwned};
 ghost use Rattle.type_terms.specs.Means.{number_at, tree_at};
-ghost use Rattle.type_terms.specs.Build.{GivesPlaced, GivesRecord, GivesKind};
+ghost use Rattle.type_terms.specs.Build.{GivesPlaced, PutsPlaced, GivesRecord, GivesKind};
+ghost use Rattle.type_terms.specs.Room.{RecordNeedsRoom, ExistentialNeedsRoom, ExistentialsNeedRoom, FormNeedsRoom};
 
 use crate::run::answer::Answer;
 use crate::run::build::{build_region, build_vars};
 use crate::run::call::{ExistentialCall, ExistentialKindCall, RegionCall};
 use crate::run::ids::{def_at, trait_at};
-use crate::run::parts::build_arg_list;
+use crate::run::parts::{MOST_IN_PLACE, build_arg_list};
 use crate::run::predicates::args_and_term;
 use tt_index::Refusal;
 use tt_interner::Interner;
@@ -48,6 +51,12 @@ pub fn dynamic_kind(
         region.now)
         ty_kind_shape
         result }
+    ensures room { IfErr result
+        (FormNeedsRoom cx.new.rows
+        (told_all cx.old.rows earlier.now)
+        (trait_object
+        (map (existential_form (number_at (told_all cx.old.rows earlier.now))) existentials.now)
+        region.now)) }
 {
     let existentials = build_existentials(cx, earlier, existentials)?;
     let region = build_region(cx, earlier, region)?;
@@ -72,7 +81,16 @@ fn build_existentials(
         (AnyIsDeep IsExistentialTooDeep forms)
         existentials_shape
         result }
+    ensures room { IfErr result
+        (ExistentialsNeedRoom cx.new.rows
+        (told_all cx.old.rows earlier.now)
+        (map (existential_form (number_at (told_all cx.old.rows earlier.now))) calls.now)) }
 {
+    if calls.len() <= MOST_IN_PLACE {
+        let mut places = [PolyExistentialPredicate::from_number(0); MOST_IN_PLACE];
+        put_existentials(cx, earlier, calls, &mut places)?;
+        return cx.mk_existential_list(&places[..calls.len()]);
+    }
     // What an id tells stays as the interner grows.
     cx.are_rows();
     let mut built = Vec::with_capacity(cx.allocator(), calls.len())?;
@@ -81,6 +99,39 @@ fn build_existentials(
         built.push(existential)?;
     }
     cx.mk_existential_list(built.as_slice())
+}
+
+// Puts the existential predicates into the first places.
+fn put_existentials(
+    cx: &mut Interner,
+    earlier: &[Answer],
+    calls: &[ExistentialCall],
+    places: &mut [PolyExistentialPredicate],
+) -> Result<(), Refusal>
+    requires owned { AreOwned cx.old.rows earlier.now }
+    requires few { length calls.now ≤ length places.old }
+    ensures extends { Extends cx.old cx.new }
+    ensures existentials { let e = told_all cx.old.rows earlier.now in let forms = map
+        (existential_form (number_at e))
+        calls.now
+        in
+        PutsPlaced cx.new e
+        (all_trees (existential_tree (number_at e) (tree_at e)) forms)
+        (all_positions existential_positions forms)
+        (AnyIsDeep IsExistentialTooDeep forms)
+        (item_shapes existential_shape (take (length calls.now) places.new))
+        result }
+    ensures room { IfErr result
+        (ExistentialsNeedRoom cx.new.rows
+        (told_all cx.old.rows earlier.now)
+        (map (existential_form (number_at (told_all cx.old.rows earlier.now))) calls.now)) }
+{
+    // What an id tells stays as the interner grows.
+    cx.are_rows();
+    for (i, call) in calls.iter().enumerate() {
+        places[i] = build_existential(cx, earlier, call)?;
+    }
+    Ok(())
 }
 
 // The existential predicate, under its binder.
@@ -101,6 +152,10 @@ fn build_existential(
         (IsExistentialTooDeep form)
         existential_shape
         result }
+    ensures room { IfErr result
+        (ExistentialNeedsRoom cx.new.rows
+        (told_all cx.old.rows earlier.now)
+        (existential_form (number_at (told_all cx.old.rows earlier.now)) call.now)) }
 {
     let kind = existential_kind(cx, earlier, &call.kind)?;
     let vars = build_vars(cx, earlier, call.vars.as_slice())?;
@@ -120,6 +175,10 @@ fn existential_kind(
         (existential_record (number_at (told_all cx.old.rows earlier.now)) call.now)
         form_of_existential
         result }
+    ensures room { IfErr result
+        (RecordNeedsRoom cx.new.rows
+        (told_all cx.old.rows earlier.now)
+        (existential_record (number_at (told_all cx.old.rows earlier.now)) call.now)) }
 {
     match call {
         ExistentialKindCall::Trait(position, args) => {

@@ -153,7 +153,7 @@ fn is_unchanged(cx: &Interner, answer: &Answer) -> bool
     }
 }
 
-// Whether no parameter stands in the term, and no region variable is exposed.
+// Whether no parameter occurs in the term, and no region variable is exposed.
 fn stays<T: Handle>(cx: &Interner, term: T) -> bool
     requires { T.number term < size cx.now.rows T.table }
     ensures { IsTrue result ↔ IsUntouched (meaning cx.now.rows T.table (T.number term)) }

@@ -25,7 +25,7 @@ pub fn build_pat(cx: &mut Interner, earlier: &[Answer], call: &PatCall) -> Resul
 {
     match pattern_kind(cx, earlier, call) {
         Ok(kind) => {
-            // The rows stand once each, so that a pattern that is there is found.
+            // Each row is added once, so that a pattern that is there is found.
             cx.are_rows();
             let pat = cx.mk_pat(kind)?;
             Ok(Answer::Pat(pat))

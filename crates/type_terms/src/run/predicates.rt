@@ -1,6 +1,7 @@
 //! The building of predicates.
 
-ghost use Rattle.std.specs.Prelude.{[], ◌∷◌, List};
+ghost use Rattle.std.specs.Prelude.{◌≡◌, [], ◌∷◌, List, IfErr};
+ghost use Rattle.tt_index.specs.declared.refusal.Refusal.TheVariants.{NoSuchAnswer};
 ghost use Rattle.tt_kinds.specs.Label.{
   subtype_record,
   coerce_record,
@@ -33,6 +34,7 @@ ghost use Rattle.type_terms.specs.CallForm.{
 ghost use Rattle.type_terms.specs.Told.{Told, told_all, AreOwned};
 ghost use Rattle.type_terms.specs.Means.{number_at, AreTerms};
 ghost use Rattle.type_terms.specs.Build.{GivesPart, GivesParts, GivesRecord, GivesKind, Answers};
+ghost use Rattle.type_terms.specs.Room.{PartNeedsRoom, RecordNeedsRoom, FormNeedsRoom};
 
 use crate::run::answer::Answer;
 use crate::run::build::{build_region, build_vars};
@@ -63,10 +65,15 @@ pub fn build_predicate(
 {
     match bound_kind(cx, earlier, call) {
         Ok(kind) => {
+            // The rows stand once each, so that a predicate that is there is found.
+            cx.are_rows();
             let predicate = cx.mk_predicate(kind)?;
             Ok(Answer::Predicate(predicate))
         }
-        Err(refusal) => Err(refusal),
+        Err(refusal) => {
+            cx.are_rows();
+            Err(refusal)
+        }
     }
 }
 
@@ -83,6 +90,10 @@ fn bound_kind(
         (predicate_form (number_at (told_all cx.old.rows earlier.now)) call.now)
         predicate_kind_shape
         result }
+    ensures room { IfErr result
+        (FormNeedsRoom cx.new.rows
+        (told_all cx.old.rows earlier.now)
+        (predicate_form (number_at (told_all cx.old.rows earlier.now)) call.now)) }
 {
     match predicate_kind(cx, earlier, &call.kind) {
         Ok(kind) => {
@@ -106,6 +117,10 @@ fn predicate_kind(
         (predicate_record (number_at (told_all cx.old.rows earlier.now)) call.now)
         form_of_predicate
         result }
+    ensures room { IfErr result
+        (RecordNeedsRoom cx.new.rows
+        (told_all cx.old.rows earlier.now)
+        (predicate_record (number_at (told_all cx.old.rows earlier.now)) call.now)) }
 {
     match call {
         PredicateKindCall::Clause(clause) => match clause_kind(cx, earlier, clause) {
@@ -143,7 +158,8 @@ fn subtype(
     a: u32,
     b: u32,
 ) -> Result<PredicateKind, Refusal>
-    ensures { (terms : Terms) → AreOwned terms.rows earlier.now
+    ensures cause { IfErr result (λ e. e ≡ NoSuchAnswer) }
+    ensures kind { (terms : Terms) → AreOwned terms.rows earlier.now
         → GivesRecord terms
         (told_all terms.rows earlier.now)
         (labelled (subtype_record a_is_expected) (one (a_term Table.Types a) ∷ one (a_term Table.Types b) ∷ []))
@@ -160,7 +176,8 @@ fn subtype(
 
 // A type can be coerced to another.
 fn coerce(earlier: &[Answer], a: u32, b: u32) -> Result<PredicateKind, Refusal>
-    ensures { (terms : Terms) → AreOwned terms.rows earlier.now
+    ensures cause { IfErr result (λ e. e ≡ NoSuchAnswer) }
+    ensures kind { (terms : Terms) → AreOwned terms.rows earlier.now
         → GivesRecord terms
         (told_all terms.rows earlier.now)
         (labelled coerce_record (one (a_term Table.Types a) ∷ one (a_term Table.Types b) ∷ []))
@@ -191,6 +208,12 @@ fn normalizes_to(
         (args_part args.now ∷ term_part term ∷ []))
         form_of_predicate
         result }
+    ensures room { IfErr result
+        (RecordNeedsRoom cx.new.rows
+        (told_all cx.old.rows earlier.now)
+        (labelled
+        (normalizes_to_record (number_at (told_all cx.old.rows earlier.now) position))
+        (args_part args.now ∷ term_part term ∷ []))) }
 {
     let pair = args_and_term(cx, earlier, args, term)?;
     let alias = AliasTerm {
@@ -214,6 +237,10 @@ fn clause_kind(
         (clause_record (number_at (told_all cx.old.rows earlier.now)) call.now)
         clause_form
         result }
+    ensures room { IfErr result
+        (RecordNeedsRoom cx.new.rows
+        (told_all cx.old.rows earlier.now)
+        (clause_record (number_at (told_all cx.old.rows earlier.now)) call.now)) }
 {
     match call {
         ClauseCall::Trait(position, args) => {
@@ -264,6 +291,12 @@ fn host_effect(
         (args_part args.now ∷ []))
         clause_form
         result }
+    ensures room { IfErr result
+        (RecordNeedsRoom cx.new.rows
+        (told_all cx.old.rows earlier.now)
+        (labelled
+        (host_effect_record (number_at (told_all cx.old.rows earlier.now) position) constness)
+        (args_part args.now ∷ []))) }
 {
     let args = build_arg_list(cx, earlier, args)?;
     let def_id = trait_at(earlier, position);
@@ -281,6 +314,8 @@ fn unstable_feature(cx: &mut Interner, name: &str) -> Result<ClauseKind, Refusal
         (labelled (unstable_feature_record name.now) [])
         clause_form
         result }
+    ensures room { (e : List Told) → IfErr result
+        (RecordNeedsRoom cx.new.rows e (labelled (unstable_feature_record name.now) [])) }
 {
     let symbol = cx.symbol(name)?;
     Ok(ClauseKind::UnstableFeature(symbol))
@@ -303,6 +338,12 @@ fn projection(
         (args_part args.now ∷ term_part term ∷ []))
         clause_form
         result }
+    ensures room { IfErr result
+        (RecordNeedsRoom cx.new.rows
+        (told_all cx.old.rows earlier.now)
+        (labelled
+        (projection_record (number_at (told_all cx.old.rows earlier.now) position))
+        (args_part args.now ∷ term_part term ∷ []))) }
 {
     let pair = args_and_term(cx, earlier, args, term)?;
     let projection_term = AliasTerm {
@@ -328,6 +369,10 @@ fn region_outlives(
         (labelled region_outlives_record (one (a_region longer.now) ∷ one (a_region shorter.now) ∷ []))
         clause_form
         result }
+    ensures room { (rows : List Row) → IfErr result
+        (RecordNeedsRoom cx.new.rows
+        (told_all rows earlier.now)
+        (labelled region_outlives_record (one (a_region longer.now) ∷ one (a_region shorter.now) ∷ []))) }
 {
     let longer = build_region(cx, earlier, longer)?;
     let shorter = build_region(cx, earlier, shorter)?;
@@ -348,6 +393,10 @@ fn type_outlives(
         (labelled type_outlives_record (one (a_term Table.Types ty) ∷ one (a_region region.now) ∷ []))
         clause_form
         result }
+    ensures room { IfErr result
+        (RecordNeedsRoom cx.new.rows
+        (told_all cx.old.rows earlier.now)
+        (labelled type_outlives_record (one (a_term Table.Types ty) ∷ one (a_region region.now) ∷ []))) }
 {
     let ty = handle_at::<Ty>(earlier, ty)?;
     let region = build_region(cx, earlier, region)?;
@@ -356,7 +405,8 @@ fn type_outlives(
 
 // The type or the constant that a call names.
 fn term_at(earlier: &[Answer], call: TermCall) -> Result<Term, Refusal>
-    ensures { (terms : Terms) → AreOwned terms.rows earlier.now
+    ensures cause { IfErr result (λ e. e ≡ NoSuchAnswer) }
+    ensures part { (terms : Terms) → AreOwned terms.rows earlier.now
         → GivesPart terms (told_all terms.rows earlier.now) (term_part call) term_shape result }
 {
     match call {
@@ -367,7 +417,8 @@ fn term_at(earlier: &[Answer], call: TermCall) -> Result<Term, Refusal>
 
 // Two such terms.
 fn term_pair(earlier: &[Answer], a: TermCall, b: TermCall) -> Result<(Term, Term), Refusal>
-    ensures { (terms : Terms) → AreOwned terms.rows earlier.now
+    ensures cause { IfErr result (λ e. e ≡ NoSuchAnswer) }
+    ensures parts { (terms : Terms) → AreOwned terms.rows earlier.now
         → GivesParts terms
         (told_all terms.rows earlier.now)
         (term_part a ∷ term_part b ∷ [])
@@ -393,6 +444,8 @@ pub fn args_and_term(
         (args_part args.now ∷ term_part term ∷ [])
         (λ pair. also (args_shape pair.0) (child_shapes (term_child pair.1)))
         result }
+    ensures room { IfErr result
+        (PartNeedsRoom cx.new.rows (told_all cx.old.rows earlier.now) (args_part args.now)) }
 {
     let term = term_at(earlier, term)?;
     let args = build_arg_list(cx, earlier, args)?;

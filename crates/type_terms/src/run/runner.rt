@@ -43,9 +43,10 @@ pub fn run_calls(cx: &mut Interner, calls: &[Call]) -> Result<Vec<Answer>, Refus
 }
 
 /// Answers a call after these answers, and adds its answer to them. So calls can be answered as they come: where the
-/// answers are those of calls before this one, they are then those of all of the calls.
+/// answers belong to calls before this one, they are then the answers of all of the calls.
 ///
-/// It is refused with `Memory`, and never otherwise, where the list of answers is full and cannot grow. The answers then stay.
+/// It is refused with `Memory`, and never otherwise, where the list of answers is full and cannot grow. The answers
+/// then stay.
 pub fn answer_next(cx: &mut Interner, answers: &mut Vec<Answer>, call: &Call) -> Result<(), Refusal>
     requires { AreOwned cx.old.rows answers.old.items }
     ensures extends { Extends cx.old cx.new }

@@ -29,7 +29,7 @@ pub fn parse_ty(alloc: Global, first: &[u8], words: &mut Words) -> Result<TyCall
     }
 }
 
-// The same of a type in which no other stands.
+// The same of a type without another in it.
 fn parse_leaf(first: &[u8], words: &mut Words) -> Result<TyCall, LineError> {
     match first {
         b"bound" => {

@@ -95,7 +95,7 @@ fn range(start: Const, end: Const) -> PatternKind {
     PatternKind::Range { start, end }
 }
 
-// A kind that isn't stored is no parameter, but what stands in it may be one. Both ends of a range are met.
+// A kind that isn't stored is no parameter, but one may occur in it. Both ends of a range are met.
 fn instances_of_bare_kinds_holds(cx: &mut Interner) -> Result<bool, Refusal> {
     let old = parameters(cx)?;
     let new = arguments(cx)?;
@@ -149,7 +149,7 @@ fn value(ty: Ty, valtree: ValTree) -> ValueConst {
     ValueConst { ty, valtree }
 }
 
-// A value has the flags of its type, and then those of the constants of a branch. A leaf has none.
+// A value has the flags of its type and of the constants of a branch. A leaf has none.
 fn instances_of_values_holds(cx: &mut Interner) -> Result<bool, Refusal> {
     let old = parameters(cx)?;
     let new = arguments(cx)?;

@@ -4,7 +4,7 @@ use super::holds_anew;
 use test_terms::{args, args_from_iter, param_ty, tys, tys_from_iter, u32_ty};
 use type_terms::{GenericArg, GenericArgs, Interner, Refusal, Region, RegionKind, Tys};
 
-// The list of an iterator's types is that of their slice, of no type and of nine types too.
+// The list of an iterator's types is the list of their slice, of no type and of nine types too.
 fn types_of_an_iterator_holds(cx: &mut Interner) -> Result<bool, Refusal> {
     let number = u32_ty(cx)?;
     let other = param_ty(cx, 0)?;

@@ -2,17 +2,17 @@
 
 use super::holds_anew;
 use test_terms::{
-    NOT_OWNED, are_infos, args, bound_region, clause, clauses, constant, info_of_predicate,
-    instance, is_instance, one_region, param_ty, predicate, ref_ty, region_variable, ty, u32_ty,
-    with_one_predicate,
+    NOT_OWNED, are_infos, args, binder_index, bound_region, clause, clauses, constant,
+    info_of_predicate, instance, is_instance, one_region, param_ty, predicate, ref_ty,
+    region_variable, ty, u32_ty, with_one_predicate,
 };
 use type_terms::{
-    AliasTerm, AliasTy, AliasTyKind, AsPredicate, Binder, BoundExistentialPredicates, BoundTyKind,
-    BoundVarKinds, BoundVariableKind, ClauseKind, ConstKind, CoroutineId, DefId,
-    ExistentialPredicate, ExistentialProjection, GenericArg, GenericArgs, IntTy, Interner,
-    NormalizesTo, OutlivesPredicate, Predicate, PredicateKind, Refusal, Region, RegionKind,
-    RegionVid, Term, TraitAssocTyId, TyKind, UnevaluatedConst, UnevaluatedConstId,
-    UnsafeBinderInner,
+    AliasTerm, AliasTy, AliasTyKind, AsPredicate, Binder, BoundConst, BoundExistentialPredicates,
+    BoundTy, BoundTyKind, BoundVar, BoundVarIndexKind, BoundVarKinds, BoundVariableKind,
+    ClauseKind, ConstKind, CoroutineId, DefId, ExistentialPredicate, ExistentialProjection,
+    FlagComputation, ForKind, GenericArg, GenericArgs, IntTy, Interner, NormalizesTo,
+    OutlivesPredicate, Predicate, PredicateKind, Refusal, Region, RegionKind, RegionVid, Term,
+    TraitAssocTyId, TyKind, UnevaluatedConst, UnevaluatedConstId, UnsafeBinderInner,
 };
 
 // The list of this existential predicate alone, under a binder of no variables.
@@ -35,7 +35,7 @@ fn one_param(cx: &mut Interner) -> Result<GenericArgs, Refusal> {
     args(cx, &[GenericArg::from(parameter)])
 }
 
-// What stands under the binder of this type is bound outside of it.
+// The contents of this type's binder are bound outside of it.
 fn open_binder(cx: &mut Interner) -> Result<UnsafeBinderInner, Refusal> {
     let number = u32_ty(cx)?;
     let reference = ref_ty(cx, bound_region(1)?, number)?;
@@ -77,6 +77,32 @@ fn flags_of_types_holds(cx: &mut Interner) -> Result<bool, Refusal> {
 #[test]
 fn flags_of_types(rt: HostRuntime) {
     holds_anew(&rt, rt.alloc(), flags_of_types_holds);
+}
+
+// The greatest index of a variable.
+fn deepest() -> Result<BoundVarIndexKind, Refusal> {
+    Ok(BoundVarIndexKind::Bound(binder_index(4294967040)?))
+}
+
+// No term is made of these kinds, and their flags are there.
+fn flags_of_the_deepest_variables_holds(cx: &mut Interner) -> Result<bool, Refusal> {
+    let var = BoundVar::from_u32(0);
+    let kind = BoundTyKind::Anon;
+    let of_type = TyKind::Bound(deepest()?, BoundTy { var, kind });
+    let of_const = ConstKind::Bound(deepest()?, BoundConst { var });
+    let type_info = FlagComputation::for_kind(cx, &of_type);
+    let const_info = FlagComputation::for_const_kind(cx, &of_const);
+    Ok(
+        type_info.flags.bits() == 0x80000
+            && type_info.outer_exclusive_binder.as_u32() == 4294967040
+            && const_info.flags.bits() == 0x100000
+            && const_info.outer_exclusive_binder.as_u32() == 4294967040,
+    )
+}
+
+#[test]
+fn flags_of_the_deepest_variables(rt: HostRuntime) {
+    holds_anew(&rt, rt.alloc(), flags_of_the_deepest_variables_holds);
 }
 
 // A binder's list of one type.
@@ -172,8 +198,8 @@ fn clauses_are_read_back(rt: HostRuntime) {
     holds_anew(&rt, rt.alloc(), clauses_are_read_back_holds);
 }
 
-// A predicate that is no clause may stand in the place of a predicate, and not in a list of clauses: the fold ends at the first
-// one, and the folder isn't asked again.
+// A predicate that is no clause may take the place of a predicate, and is refused in a list of clauses: the fold ends
+// at the first one, and the folder isn't asked again.
 fn no_clause_among_clauses_holds(cx: &mut Interner) -> Result<bool, Refusal> {
     let none = BoundVarKinds::default();
     let first = stored_outlives(cx, none)?;

@@ -366,7 +366,7 @@ fn other_regions(rt: HostRuntime) {
     holds_anew(&rt, rt.alloc(), other_regions_holds);
 }
 
-// What stands in options and results, and under a binder, which binds the region.
+// The contents of options and results, and under a binder, which binds the region.
 fn values_around_a_region_holds(cx: &mut Interner) -> Result<bool, Refusal> {
     let region = bound_region(0)?;
     let vars = one_region(cx)?;

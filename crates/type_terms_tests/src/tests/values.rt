@@ -371,7 +371,7 @@ fn facts_of<T: Owned + TypeFoldable>(cx: &Interner, value: &T) -> Result<Facts, 
     }
 }
 
-// Whether variables of the binder of this index or further out stand in the value, and such of binders further out.
+// Whether variables bound at this index or further out occur in the value, and whether variables bound further out do.
 fn bound_far_out<T: Owned + TypeFoldable>(
     cx: &Interner,
     value: &T,

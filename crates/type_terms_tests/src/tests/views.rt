@@ -1,10 +1,10 @@
 //! Views of stored lists.
 
 use super::holds_anew;
-use test_terms::{NOT_OWNED, args, bound_ty, tys, u32_ty};
+use test_terms::{NOT_OWNED, args, bound_region, bound_ty, one_region, param_ty, ty, tys, u32_ty};
 use type_terms::{
-    FnInputTys, GenericArg, GenericArgsSlice, InternedView, Interner, Refusal, TypeVisitableExt,
-    Tys,
+    Binder, ErrorGuaranteed, FnInputTys, GenericArg, GenericArgs, GenericArgsSlice, InternedView,
+    Interner, Owned, Refusal, TyKind, TypeVisitableExt, Tys,
 };
 
 // The inputs lie in a list with a last type, and in no empty list and none that isn't there.
@@ -86,4 +86,158 @@ fn arguments_are_lent_holds(cx: &mut Interner) -> Result<bool, Refusal> {
 #[test]
 fn arguments_are_lent(rt: HostRuntime) {
     holds_anew(&rt, rt.alloc(), arguments_are_lent_holds);
+}
+
+// What some questions tell of a value.
+#[derive(Clone, Copy, PartialEq, Eq)]
+struct Told {
+    param: bool,
+    escapes: bool,
+    error: Result<(), ErrorGuaranteed>,
+}
+
+// What is told of a value without parameters, variables and errors.
+const NOTHING: Told = Told {
+    param: false,
+    escapes: false,
+    error: Ok(()),
+};
+
+// The same of a parameter.
+const PARAMETER: Told = Told {
+    param: true,
+    escapes: false,
+    error: Ok(()),
+};
+
+// The same of a variable that no binder binds.
+const VARIABLE: Told = Told {
+    param: false,
+    escapes: true,
+    error: Ok(()),
+};
+
+// What is told of the value.
+fn asked<T: Owned>(cx: &Interner, value: &T) -> Result<Told, Refusal> {
+    if value.is_owned(cx) {
+        Ok(Told {
+            param: value.has_param(cx),
+            escapes: value.has_escaping_bound_vars(cx),
+            error: value.error_reported(cx),
+        })
+    } else {
+        Err(NOT_OWNED)
+    }
+}
+
+// What is told of the inputs is what is told of their slice. The output, which isn't visited, has a variable.
+fn inputs_are_visited_holds(cx: &mut Interner) -> Result<bool, Refusal> {
+    let parameter = param_ty(cx, 0)?;
+    let error = ty(cx, TyKind::Error(ErrorGuaranteed(3)))?;
+    let output = bound_ty(cx, 0)?;
+    let list = tys(cx, &[parameter, error, output])?;
+    let view = FnInputTys::from_parts(list);
+    if !cx.owns_input_tys(view) {
+        return Err(NOT_OWNED);
+    }
+    let answers = Told {
+        param: true,
+        escapes: false,
+        error: Err(ErrorGuaranteed(3)),
+    };
+    let inputs = view.as_slice(cx);
+    Ok(asked(cx, &view)? == answers && asked(cx, &inputs)? == answers && asked(cx, &list)?.escapes)
+}
+
+#[test]
+fn inputs_are_visited(rt: HostRuntime) {
+    holds_anew(&rt, rt.alloc(), inputs_are_visited_holds);
+}
+
+// A list without a last type has no inputs, and one that isn't there is none of the interner's.
+fn absent_inputs_are_visited_holds(cx: &mut Interner) -> Result<bool, Refusal> {
+    let output = bound_ty(cx, 0)?;
+    let list = tys(cx, &[output])?;
+    let absent = Tys::from_number(list.number().saturating_add(1));
+    Ok(
+        asked(cx, &FnInputTys::from_parts(list))? == NOTHING
+            && asked(cx, &FnInputTys::from_parts(Tys::default()))? == NOTHING
+            && !FnInputTys::from_parts(absent).is_owned(cx),
+    )
+}
+
+#[test]
+fn absent_inputs_are_visited(rt: HostRuntime) {
+    holds_anew(&rt, rt.alloc(), absent_inputs_are_visited_holds);
+}
+
+// What is told of so many arguments of the list, from this place on.
+fn asked_from(cx: &Interner, list: GenericArgs, start: u32, len: u32) -> Result<Told, Refusal> {
+    asked(cx, &GenericArgsSlice::from_parts(list, start, len))
+}
+
+// A list of a parameter, a variable and an error.
+fn three_arguments(cx: &mut Interner) -> Result<GenericArgs, Refusal> {
+    let parameter = GenericArg::from(param_ty(cx, 0)?);
+    let variable = GenericArg::from(bound_ty(cx, 0)?);
+    let error = GenericArg::from(ty(cx, TyKind::Error(ErrorGuaranteed(3)))?);
+    args(cx, &[parameter, variable, error])
+}
+
+// Each argument tells of itself, and two of them of both, as their slices do.
+fn arguments_are_visited_holds(cx: &mut Interner) -> Result<bool, Refusal> {
+    let list = three_arguments(cx)?;
+    let back = GenericArgsSlice::from_parts(list, 1, 2);
+    if !cx.owns_args_slice(back) {
+        return Err(NOT_OWNED);
+    }
+    let last = back.as_slice(cx);
+    Ok(
+        asked_from(cx, list, 0, 1)? == PARAMETER
+            && asked_from(cx, list, 1, 1)? == VARIABLE
+            && asked_from(cx, list, 2, 1)?.error == Err(ErrorGuaranteed(3))
+            && asked(cx, &back)? == asked(cx, &last)?
+            && asked_from(cx, list, 0, 3)? == asked(cx, &list)?,
+    )
+}
+
+#[test]
+fn arguments_are_visited(rt: HostRuntime) {
+    holds_anew(&rt, rt.alloc(), arguments_are_visited_holds);
+}
+
+// Of a view that reaches beyond its list, what is there is visited. An empty one tells of nothing.
+fn arguments_beyond_the_list_holds(cx: &mut Interner) -> Result<bool, Refusal> {
+    let list = three_arguments(cx)?;
+    Ok(
+        asked_from(cx, list, 1, u32::MAX)? == asked_from(cx, list, 1, 2)?
+            && asked_from(cx, list, 1, 0)? == NOTHING
+            && asked_from(cx, list, 3, 1)? == NOTHING
+            && asked_from(cx, list, u32::MAX, u32::MAX)? == NOTHING,
+    )
+}
+
+#[test]
+fn arguments_beyond_the_list(rt: HostRuntime) {
+    holds_anew(&rt, rt.alloc(), arguments_beyond_the_list_holds);
+}
+
+// Under a binder, the variable of the binder doesn't escape, and the next one does.
+fn arguments_under_a_binder_holds(cx: &mut Interner) -> Result<bool, Refusal> {
+    let own = GenericArg::from(bound_region(0)?);
+    let outer = GenericArg::from(bound_region(1)?);
+    let list = args(cx, &[own, outer])?;
+    let vars = one_region(cx)?;
+    let first = Binder::bind_with_vars(GenericArgsSlice::from_parts(list, 0, 1), vars);
+    let second = Binder::bind_with_vars(GenericArgsSlice::from_parts(list, 1, 1), vars);
+    Ok(
+        !asked(cx, &first)?.escapes
+            && asked(cx, &second)?.escapes
+            && asked_from(cx, list, 0, 1)?.escapes,
+    )
+}
+
+#[test]
+fn arguments_under_a_binder(rt: HostRuntime) {
+    holds_anew(&rt, rt.alloc(), arguments_under_a_binder_holds);
 }

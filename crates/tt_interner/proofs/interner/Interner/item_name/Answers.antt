@@ -1,4 +1,4 @@
--- what stands in a row is in range
+-- the contents of a row are in range
 use Rattle.tt_kinds.specs.declared.table.Table.TheVariants.{Declarations}
 use Rattle.tt_interner.specs.Rows.{declared_row}
 use Rattle.tt_interner.proofs.Trees.{Means-row}

@@ -12,7 +12,7 @@ use Rattle.type_terms.specs.Means.{number_at}
 use Rattle.type_terms.proofs.PartLaws.{kind-passed, plain-kind, parts-one, unbuilt-first}
 use Rattle.type_terms.proofs.KindLaws.{leaf-kind, bound-kind}
 use Rattle.type_terms.proofs.ResultLaws.{passed, err-then}
-use Rattle.type_terms.proofs.RoomLaws.{any-error, never-room, named-room, region-room, first-room}
+use Rattle.type_terms.proofs.RoomLaws.{never-room, named-room, region-room, first-room}
 use Rattle.type_terms.proofs.run.build.ty_kind.Goals as goal
 
 pub returns-in-Bool-clause-kind : goal.returns-in-Bool-clause-kind
@@ -175,6 +175,3 @@ returns-in-Array-clause-room c = err-then c.array_kind.result _ _ c.array_kind.e
 
 pub returns-in-Pat-clause-room : goal.returns-in-Pat-clause-room
 returns-in-Pat-clause-room c = err-then c.pat_kind.result _ _ c.pat_kind.ensures.cause (λ r is. never-room c.args.cx.now.rows _ _ r is)
-
-pub returns-in-Dynamic-clause-room : goal.returns-in-Dynamic-clause-room
-returns-in-Dynamic-clause-room c = rw (c.in-Dynamic.is) (any-error c.dynamic_kind.result _ (λ r room short. absurd short))

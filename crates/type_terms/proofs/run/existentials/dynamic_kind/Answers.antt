@@ -5,6 +5,8 @@ use Rattle.type_terms.specs.CallForm.{existential_form, existential_positions, I
 use Rattle.type_terms.specs.Told.{told_all, HasFullTable}
 use Rattle.type_terms.specs.Means.{number_at}
 use Rattle.type_terms.proofs.PartLaws.{kind-passed, dynamic-kind, placed-grows, IsUnbuilt-weaker}
+use Rattle.type_terms.proofs.ResultLaws.{passed}
+use Rattle.type_terms.proofs.RoomLaws.{object-room, object-region-room}
 use Rattle.type_terms.proofs.run.existentials.dynamic_kind.Goals as goal
 
 pub returns-in_err-existentials-clause-kind : goal.returns-in_err-existentials-clause-kind
@@ -35,3 +37,17 @@ returns-clause-kind c = record {
       (placed-grows c.build_existentials.new.cx c.build_region.new.cx c.build_region.ensures.extends c.in_ok-existentials.ensures.list.ok) (c.in_ok-region.ensures.region c.args.cx.now.rows).ok;
   err = tt;
 }
+
+pub returns-in_err-existentials-clause-room : goal.returns-in_err-existentials-clause-room
+returns-in_err-existentials-clause-room c =
+    let e = told_all c.args.cx.now.rows c.args.earlier.now in
+    let r = c.in_err-existentials in
+    passed c.from_residual.result r.field-0.0 _ c.from_residual.ensures.1
+    (object-room c.build_existentials.new.cx.rows e (map (existential_form (number_at e)) c.args.existentials.now) c.args.region.now r.field-0.0 r.ensures.room)
+
+pub returns-in_err-region-clause-room : goal.returns-in_err-region-clause-room
+returns-in_err-region-clause-room c =
+    let e = told_all c.args.cx.now.rows c.args.earlier.now in
+    let r = c.in_err-region in
+    passed c.from_residual-in_err-region.result r.field-0.0 _ c.from_residual-in_err-region.ensures.1
+    (object-region-room c.build_region.new.cx.rows e (map (existential_form (number_at e)) c.args.existentials.now) c.args.region.now r.field-0.0 r.ensures.room)

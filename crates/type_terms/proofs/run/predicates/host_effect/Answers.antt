@@ -6,6 +6,8 @@ use Rattle.type_terms.specs.CallForm.{labelled, args_part}
 use Rattle.type_terms.specs.Told.{told_all, HasFullTable}
 use Rattle.type_terms.specs.Means.{number_at}
 use Rattle.type_terms.proofs.PartLaws.{record-passed, record-placed, parts-one, unbuilt-first}
+use Rattle.type_terms.proofs.ResultLaws.{passed}
+use Rattle.type_terms.proofs.RoomLaws.{first-record-room}
 use Rattle.type_terms.proofs.run.predicates.host_effect.Goals as goal
 
 pub returns-in_err-args-clause-kind : goal.returns-in_err-args-clause-kind
@@ -25,3 +27,9 @@ returns-clause-kind c =
           (ap (λ (n : ℕ). host_effect_record n c.args.constness) (c.trait_at-def_id.ensures c.args.cx.now.rows));
       err = tt;
     }
+
+pub returns-in_err-args-clause-room : goal.returns-in_err-args-clause-room
+returns-in_err-args-clause-room c =
+    let e = told_all c.args.cx.now.rows c.args.earlier.now in
+    passed c.from_residual.result c.in_err-args.field-0.0 _ c.from_residual.ensures.1
+    (first-record-room c.build_arg_list.new.cx.rows e (host_effect_record (number_at e c.args.position) c.args.constness) (args_part c.args.args.now) [] c.in_err-args.field-0.0 c.in_err-args.ensures.room)

@@ -7,6 +7,8 @@ use Rattle.type_terms.specs.CallForm.{labelled, args_part, term_part}
 use Rattle.type_terms.specs.Told.{told_all}
 use Rattle.type_terms.specs.Means.{number_at}
 use Rattle.type_terms.proofs.PartLaws.{record-passed, record-placed}
+use Rattle.type_terms.proofs.ResultLaws.{passed}
+use Rattle.type_terms.proofs.RoomLaws.{first-record-room}
 use Rattle.type_terms.proofs.run.predicates.normalizes_to.Goals as goal
 
 pub returns-in_err-pair-clause-kind : goal.returns-in_err-pair-clause-kind
@@ -24,3 +26,9 @@ returns-clause-kind c =
           (ap normalizes_to_record (c.def_at.ensures c.args.cx.now.rows));
       err = tt;
     }
+
+pub returns-in_err-pair-clause-room : goal.returns-in_err-pair-clause-room
+returns-in_err-pair-clause-room c =
+    let e = told_all c.args.cx.now.rows c.args.earlier.now in
+    passed c.from_residual.result c.in_err-pair.field-0.0 _ c.from_residual.ensures.1
+    (first-record-room c.args_and_term.new.cx.rows e (normalizes_to_record (number_at e c.args.position)) (args_part c.args.args.now) (term_part c.args.term ∷ []) c.in_err-pair.field-0.0 c.in_err-pair.ensures.room)

@@ -6,6 +6,8 @@ use Rattle.tt_interner.proofs.Growth.{Extends-trans}
 use Rattle.type_terms.specs.CallForm.{labelled, one, a_region}
 use Rattle.type_terms.specs.Told.{told_all, HasFullTable}
 use Rattle.type_terms.proofs.PartLaws.{record-passed, record-placed, parts-two, placed-grows, region-part, region-unbuilt, unbuilt-first, unbuilt-second}
+use Rattle.type_terms.proofs.ResultLaws.{passed}
+use Rattle.type_terms.proofs.RoomLaws.{region-room, first-record-room, second-record-room}
 use Rattle.type_terms.proofs.run.predicates.region_outlives.Goals as goal
 
 pub returns-in_err-longer-clause-kind : goal.returns-in_err-longer-clause-kind
@@ -47,3 +49,21 @@ returns-clause-kind c = λ rows.
           (region-part terms e c.args.shorter.now c.in_ok-shorter.shorter (c.in_ok-shorter.ensures.region rows).ok)) tt refl;
       err = tt;
     }
+
+pub returns-in_err-longer-clause-room : goal.returns-in_err-longer-clause-room
+returns-in_err-longer-clause-room c = λ rows.
+    let r = c.in_err-longer in
+    let e = told_all rows c.args.earlier.now in
+    let new = c.build_region.new.cx.rows in
+    passed c.from_residual.result r.field-0.0 _ c.from_residual.ensures.1
+    (first-record-room new e region_outlives_record (one (a_region c.args.longer.now)) (one (a_region c.args.shorter.now) ∷ []) r.field-0.0
+    (region-room new e c.args.longer.now r.field-0.0 r.ensures.room))
+
+pub returns-in_err-shorter-clause-room : goal.returns-in_err-shorter-clause-room
+returns-in_err-shorter-clause-room c = λ rows.
+    let r = c.in_err-shorter in
+    let e = told_all rows c.args.earlier.now in
+    let new = c.build_region-2.new.cx.rows in
+    passed c.from_residual-in_err-shorter.result r.field-0.0 _ c.from_residual-in_err-shorter.ensures.1
+    (second-record-room new e region_outlives_record (one (a_region c.args.longer.now)) (one (a_region c.args.shorter.now)) [] r.field-0.0
+    (region-room new e c.args.shorter.now r.field-0.0 r.ensures.room))

@@ -6,6 +6,8 @@ use Rattle.tt_kinds.specs.declared.table.Table.TheVariants.{Types}
 use Rattle.type_terms.specs.CallForm.{labelled, one, a_term, a_region}
 use Rattle.type_terms.specs.Told.{told_all, HasFullTable}
 use Rattle.type_terms.proofs.PartLaws.{record-passed, record-placed, parts-two, placed-grows, region-part, region-unbuilt, unbuilt-first, unbuilt-second}
+use Rattle.type_terms.proofs.ResultLaws.{passed}
+use Rattle.type_terms.proofs.RoomLaws.{never-room, region-room, second-record-room}
 use Rattle.type_terms.proofs.run.predicates.type_outlives.Goals as goal
 
 pub returns-in_err-ty-clause-kind : goal.returns-in_err-ty-clause-kind
@@ -39,3 +41,16 @@ returns-clause-kind c =
           (region-part terms e c.args.region.now c.in_ok-region.region (c.in_ok-region.ensures.region c.args.cx.now.rows).ok)) tt refl;
       err = tt;
     }
+
+pub returns-in_err-ty-clause-room : goal.returns-in_err-ty-clause-room
+returns-in_err-ty-clause-room c =
+    passed c.from_residual.result c.in_err-ty.field-0.0 _ c.from_residual.ensures.1 (never-room c.args.cx.now.rows _ _ c.in_err-ty.field-0.0 c.in_err-ty.ensures.cause)
+
+pub returns-in_err-region-clause-room : goal.returns-in_err-region-clause-room
+returns-in_err-region-clause-room c =
+    let r = c.in_err-region in
+    let e = told_all c.args.cx.now.rows c.args.earlier.now in
+    let new = c.build_region.new.cx.rows in
+    passed c.from_residual-in_err-region.result r.field-0.0 _ c.from_residual-in_err-region.ensures.1
+    (second-record-room new e type_outlives_record (one (a_term Types c.args.ty)) (one (a_region c.args.region.now)) [] r.field-0.0
+    (region-room new e c.args.region.now r.field-0.0 r.ensures.room))

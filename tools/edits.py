@@ -77,6 +77,13 @@ def functions(path, text):
     return found
 
 
+def library():
+    """Returns the folders of the library's crates, lowest first: `type_terms` and those of this repository that it uses."""
+    lines = [it.partition(":") for it in read(f"{TOP}/crates.txt").split("\n") if not it.startswith("#")]
+    uses = next(after.split() for name, _, after in lines if name == "type_terms")
+    return [f"{TOP}/crates/{name}" for name, _, _ in lines if name == "type_terms" or name in uses]
+
+
 def edits_of(folder):
     return sorted(glob.glob(f"{folder}/must-fail/*.edit"))
 

@@ -1,0 +1,82 @@
+-- What a folder of types that remembers answers, and what it notes.
+use Rattle.std.proofs.Common.{◌≡◌, ◌⊎◌, inl, inr, List, [], ◌∷◌, Result, Ok, Err, MatchResult, true, false, refl, sym, ◌∙◌}
+use Rattle.std.proofs.lemmas.Bool.{true≢false}
+use Rattle.std.specs.Prelude.{⊤, IfErr, IfOk}
+use Rattle.tt_index.specs.declared.refusal.Refusal.{Refusal}
+use Rattle.tt_kinds.specs.Tree.{Depth, Tree}
+use Rattle.tt_kinds.specs.Kinds.{ty_shape}
+use Rattle.tt_kinds.specs.declared.handle.Ty.{Ty}
+use Rattle.tt_kinds.specs.declared.parts.Node.{Node}
+use Rattle.tt_kinds.specs.declared.parts.Node.TheVariants as node
+use Rattle.indexmap.specs.IndexMap.{insert_entry}
+use Rattle.tt_interner.specs.Rows.{Row}
+use Rattle.tt_interner.specs.Stored.{Counters, Terms, Extends}
+use Rattle.tt_fold.specs.Walk.{Errors, Fails, Walks, is_type_tree}
+use Rattle.tt_fold.specs.Counts.{Standing, stands}
+use Rattle.tt_fold.specs.Steps.{IsErrorOfUnbuilt, OwnsStep, answer_of, tree_in}
+use Rattle.tt_fold.specs.Memory.{memo_at, memos, place_of, same_place, OwnsMemos}
+use Rattle.tt_fold.specs.Places.{IsIn}
+use Rattle.tt_fold.specs.Remember.{Memo, State}
+use Rattle.tt_fold.specs.Parts.{node_tree}
+use Rattle.tt_fold.specs.Types.{TypeHooks, AnswersType}
+use Rattle.tt_fold.specs.TypesOnce.{IsSteady, answered, Noted, recalling, steadily}
+use Rattle.tt_fold.specs.declared.folder.Step.{Step}
+use Rattle.tt_fold.specs.declared.memory.Place.{Place}
+use Rattle.tt_fold.proofs.MemoryLaws.{memos-still, noted_memos}
+use Rattle.tt_fold.proofs.PlaceLaws.{IsIn-append, IsIn-only}
+use Rattle.tt_fold.proofs.TypesOnceLaws.{Stays, does, fails}
+
+-- what the state means of a folder that remembers these, with the interner's counts
+abbrev pub recalls : {M : Type 0} → List Row → M → List (Place × Ty) → Counters → Standing (State M ⊤)
+recalls rows m es c = record { state = record { rule = m; under = 0; kept = tt; memory = memos rows es }; counters = c }
+
+-- the folder's own answer
+pub own_answer : {M E S : Type 0} (means : List Row → S → M) (H : TypeHooks (Standing M) E) (gives : Refusal → E → Type 0) (terms terms1 : Terms) (s s1 : S)
+    (es : List (Place × Ty)) (ty : Ty) (r : Result (Step Ty) E) → Extends terms terms1 → OwnsMemos terms.rows es → is_type_tree (tree_in terms.rows (ty_shape ty)) ≡ true
+    → AnswersType means H gives terms s ty r terms1 s1
+    → MatchResult r
+    (λ p. OwnsStep ty_shape terms1.rows p
+    × (recalling H).on_term (recalls terms.rows (means terms.rows s) es terms.counters) (tree_in terms.rows (ty_shape ty)) (answer_of ty_shape terms1.rows p)
+    (recalls terms1.rows (means terms1.rows s1) es terms1.counters))
+    (λ e. (recalling H).term_fails (IsErrorOfUnbuilt gives terms1) (recalls terms.rows (means terms.rows s) es terms.counters) (tree_in terms.rows (ty_shape ty)) e
+    (recalls terms1.rows (means terms1.rows s1) es terms1.counters))
+own_answer means H gives terms terms1 s s1 es ty (Ok p) extends owns is h =
+    rw (memos-still terms.rows terms1.rows es extends.rows owns) (h.0, (λ _. answered {q = stands means terms1 s1} h.1, λ other. absurd (true≢false (sym is ∙ other))))
+own_answer means H gives terms terms1 s s1 es ty (Err e) extends owns is h = (is, (stands means terms1 s1, h))
+
+-- what is noted
+pub noted_type : {M E : Type 0} (H : TypeHooks (Standing M) E) (rows : List Row) (m : M) (c : Counters) (es fs : List (Place × Ty)) (before after : Ty)
+    → fs ≡ insert_entry same_place es (place_of before 0) after
+    → Noted H (recalls rows m es c) (tree_in rows (ty_shape before)) (tree_in rows (ty_shape after)) (recalls rows m fs c)
+noted_type H rows m c es fs before after is = record { rule = refl; each = λ n h. each n (subst_memos n h) }
+  where
+    subst_memos : (n : Memo) → IsIn n (memos rows fs) → IsIn n (memos rows (insert_entry same_place es (place_of before 0) after))
+    subst_memos n h = rw is at h
+
+    each : (n : Memo) → IsIn n (memos rows (insert_entry same_place es (place_of before 0) after)) → (n ≡ memo_at rows before 0 after) ⊎ IsIn n (memos rows es)
+    each n h = elim (noted_memos rows before 0 after es) [
+      | inl last ↦ elim (IsIn-append n (memos rows es) (memo_at rows before 0 after ∷ []) (rw last at h)) [ inl older ↦ inr older | inr new ↦ inl (IsIn-only n (memo_at rows before 0 after) new) ]
+      | inr there ↦ there.1 n h
+    ]
+
+-- the same of terms that are types
+pub noted_node : {M E : Type 0} (H : TypeHooks (Standing M) E) (rows : List Row) (m : M) (c : Counters) (es fs : List (Place × Ty)) (x y : Node) (before after : Ty)
+    → x ≡ node.Ty before → y ≡ node.Ty after → fs ≡ insert_entry same_place es (place_of before 0) after
+    → Noted H (recalls rows m es c) (node_tree rows x) (node_tree rows y) (recalls rows m fs c)
+noted_node H rows m c es fs x y before after is is_after put = rw (is, is_after) (noted_type H rows m c es fs before after put)
+
+-- what is so where nothing is remembered yet
+starts : {M E : Type 0} (H : TypeHooks (Standing M) E) (steady : IsSteady H) (rows : List Row) (m : M) (es : List (Place × Ty)) (c : Counters) → es ≡ [] → Stays H steady m (recalls rows m es c)
+starts H steady rows m es c none = record { rule = refl; knows = λ n h. absurd (rw none at h) }
+
+-- a fold that begins with no memory gives what one without memory gives
+module _ {M E T : Type 0} (H : TypeHooks (Standing M) E) (steady : IsSteady H) (errors : Errors E) (rows : List Row) (m : M) (es : List (Place × Ty)) (c : Counters) (none : es ≡ []) where
+  pub record Plain (t : Tree Depth) (tree : T → Tree Depth) (result : Result T E) : Type 0 where
+    pub ok : IfOk result (λ y. Walks (steadily H m) tt t (tree y) tt)
+    pub err : IfErr result (λ e. Fails (steadily H m) errors tt t e tt)
+
+  pub plain : (owns : T → Type 0) (t : Tree Depth) (tree : T → Tree Depth) (result : Result T E) (s' : Standing (State M ⊤))
+      → MatchResult result (λ y. owns y × Walks (recalling H) (recalls rows m es c) t (tree y) s') (λ e. Fails (recalling H) errors (recalls rows m es c) t e s')
+      → Plain t tree result
+  plain owns t tree (Ok y) s' h = record { ok = (does H steady m h.1 (starts H steady rows m es c none)).plain; err = tt }
+  plain owns t tree (Err e) s' h = record { ok = tt; err = fails H steady m errors h (starts H steady rows m es c none) }

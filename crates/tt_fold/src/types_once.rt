@@ -1,0 +1,141 @@
+//! Folds by a folder of types that answers by the type alone: what came of a type is remembered.
+
+ghost use Rattle.std.specs.Prelude.{IfErr, IfOk};
+ghost use Rattle.tt_interner.specs.Stored.{Extends};
+ghost use Rattle.tt_fold.specs.TypesOnce.{IsSteady, steadily};
+ghost use Rattle.tt_fold.specs.Steps.{IsPartBy, tree_by, errors_of};
+ghost use Rattle.tt_fold.specs.Walk.{Fails, Walks};
+
+use crate::core_folder::Core;
+use crate::foldable::TypeFoldable;
+use crate::folder::Step;
+use crate::memory::{Memory, look_up};
+use crate::step_of_node::ty_step;
+use crate::type_replacer::TypeReplacer;
+use tt_interner::Interner;
+use tt_kinds::{BoundVarKinds, Node, Region};
+
+// A folder of types, and what came of the types that were taken apart.
+#[derive(Drop)]
+struct Recalling<F> {
+    folder: F,
+    memory: Memory,
+}
+
+// The mark of a folder that remembers.
+struct Once;
+
+impl<F: TypeReplacer> Core<Once> for Recalling<F> {
+    ghost use Rattle.std.specs.Prelude.{⊤};
+    ghost use Rattle.tt_kinds.specs.Tree.{Depth, Tree};
+    ghost use Rattle.tt_interner.proofs.Growth.{IsPart-grows, fill-grows};
+    ghost use Rattle.tt_fold.specs.Memory.{memos, OwnsMemos};
+    ghost use Rattle.tt_fold.specs.MemoryGrowth.{memos-still, OwnsMemos-still};
+    ghost use Rattle.tt_fold.specs.Remember.{State};
+    ghost use Rattle.tt_fold.specs.TypesOnce.{recalling, recalls-same};
+
+    type Error = F::Error;
+
+    ghost Meaning = { State (Tree Depth) ⊤ };
+
+    ghost meaning = { λ rows s. record {
+      rule = tree_by F.TypeReplacer.shape rows s.folder;
+      under = 0;
+      kept = tt;
+      memory = memos rows s.memory;
+    } };
+
+    ghost owned = { λ rows s. IsPartBy F.TypeReplacer.shape rows s.folder × OwnsMemos rows s.memory };
+
+    ghost hooks = { recalling F.TypeReplacer.hooks };
+
+    #[inline(always)]
+    fn core_region(&mut self, _cx: &mut Interner, region: Region) -> Result<Region, F::Error> {
+        Ok(region)
+    }
+
+    #[inline(always)]
+    fn core_term(&mut self, cx: &mut Interner, node: Node) -> Result<Step<Node>, F::Error> {
+        match node {
+            // No hook is told of binders, so every type is looked up and noted as one under none.
+            Node::Ty(ty) => match look_up(cx, &self.memory, ty, 0) {
+                Some(after) => Ok(Step::Replace(Node::Ty(after))),
+                None => ty_step(self.folder.replace_ty(cx, ty)),
+            },
+            _ => Ok(Step::Descend),
+        }
+    }
+
+    #[inline(always)]
+    fn core_after_term(
+        &mut self,
+        _cx: &mut Interner,
+        before: Node,
+        rebuilt: Node,
+    ) -> Result<Node, F::Error> {
+        match before {
+            Node::Ty(ty) => {
+                self.memory.note(ty, 0, rebuilt.ty())?;
+                Ok(rebuilt)
+            }
+            _ => Ok(rebuilt),
+        }
+    }
+
+    #[inline(always)]
+    fn core_enter(&mut self, _cx: &mut Interner, _vars: BoundVarKinds) -> Result<(), F::Error> {
+        Ok(())
+    }
+
+    #[inline(always)]
+    fn core_leave(&mut self, _cx: &mut Interner, _vars: BoundVarKinds) -> Result<(), F::Error> {
+        Ok(())
+    }
+
+    ghost still_owned = { λ old new s g h. (
+      IsPart-grows old new g.grows (F.TypeReplacer.shape s.folder) h.0,
+      OwnsMemos-still old new s.memory g.grows h.1,
+    ) };
+
+    ghost still_means = { λ old new s g h. recalls-same
+        (fill-grows old new g.grows (F.TypeReplacer.shape s.folder) h.0)
+        (memos-still old new s.memory g.grows h.1) };
+}
+
+/// Returns the value with what the folder answers in the places of its types, as
+/// [`replace_types`](crate::replace_types) does, by a folder that answers by the type alone: its state has to mean the
+/// same after each answer.
+///
+/// What came of a type that was taken apart is remembered until the call ends, so that it is taken apart once, at
+/// however many places it is. The tree is one that the folder gives without that. Errors are those of a fold without
+/// it, and `Memory` also where the memory for what came of more than eight types is refused.
+pub fn replace_types_once<T: TypeFoldable, F: TypeReplacer + Drop>(
+    cx: &mut Interner,
+    value: T,
+    folder: F,
+) -> Result<T, F::Error>
+    requires state { IsPartBy F.shape cx.old.rows folder }
+    requires value { IsPartBy T.shape cx.old.rows value }
+    requires steady { IsSteady F.hooks }
+    ensures extends { Extends cx.old cx.new }
+    ensures in_range { IfOk result (λ replaced. IsPartBy T.shape cx.new.rows replaced) }
+    ensures plain { IfOk result (λ replaced. Walks
+        (steadily F.hooks (tree_by F.shape cx.old.rows folder))
+        tt
+        (tree_by T.shape cx.old.rows value)
+        (tree_by T.shape cx.new.rows replaced)
+        tt) }
+    ensures err { IfErr result (λ e. Fails
+        (steadily F.hooks (tree_by F.shape cx.old.rows folder))
+        (errors_of F.Error.from_gives cx.new)
+        tt
+        (tree_by T.shape cx.old.rows value)
+        e
+        tt) }
+{
+    let mut recalling = Recalling {
+        folder,
+        memory: Memory::new(cx.allocator()),
+    };
+    value.fold_core::<Once, Recalling<F>>(cx, &mut recalling)
+}
