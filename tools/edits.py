@@ -31,7 +31,7 @@ def called(text, parameters, between=""):
         before += {"&": "Ref", "[": "Slice"}[text[0]]
         text = text[1:].strip()
     names = [it for it in re.findall(r"(?:\w+::)*(\w+)", text) if it not in parameters]
-    return before + between.join(names) or "Any"
+    return before + between.join(it[0].upper() + it[1:] for it in names) or "Any"
 
 
 def parts_of(header):
@@ -43,7 +43,7 @@ def parts_of(header):
             depth += (letter == "<") - (letter == ">" and header[end - 1] != "-")
             if not depth:
                 break
-        parameters = [it.split(":")[0].strip() for it in header[1:end].split(",")]
+        parameters = [it.split(":")[0].strip().removeprefix("const ") for it in header[1:end].split(",")]
         header = header[end + 1 :]
     trait, _, subject = header.strip().rpartition(" for ")
     return parameters, trait, subject

@@ -5,7 +5,7 @@ use Rattle.tt_kinds.specs.Label.{Name, Sort}
 use Rattle.tt_kinds.specs.Tree.{Depth, Tree}
 use Rattle.tt_kinds.specs.Argument.{Argument, same_sort, argument}
 use Rattle.tt_kinds.specs.Plain.{shifted_or, given_under, inst_tree}
-use Rattle.tt_kinds.specs.Shape.{Shape, AreParts}
+use Rattle.tt_kinds.specs.Shape.{Shape}
 use Rattle.tt_kinds.specs.Kinds.{arg_shape}
 use Rattle.tt_kinds.specs.declared.generic_arg.GenericArgKind.{GenericArgKind}
 use Rattle.tt_interner.specs.Rows.{Row, AreRows}

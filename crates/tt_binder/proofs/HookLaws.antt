@@ -12,7 +12,7 @@ use Rattle.tt_kinds.specs.Argument.{Argument, same_sort, argument}
 use Rattle.tt_kinds.specs.Plain.{shift_tree, inst_tree}
 use Rattle.tt_kinds.specs.Param.{holds_param, IsGeneric_among}
 use Rattle.tt_kinds.specs.Cause.{Cause}
-use Rattle.tt_kinds.specs.Shape.{AreParts, IsPart, Meaning, fill, name_of}
+use Rattle.tt_kinds.specs.Shape.{IsPart, Meaning, fill, name_of}
 use Rattle.tt_kinds.specs.Kinds.{arg_shape, region_shape, relabelled, form_shape, value_form, ty_kind_shape, const_kind_shape}
 use Rattle.tt_kinds.specs.declared.handle.Ty.{Ty}
 use Rattle.tt_kinds.specs.declared.const_kind.ValTreeKind.{ValTreeKind}

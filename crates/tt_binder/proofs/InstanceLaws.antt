@@ -11,7 +11,7 @@ use Rattle.tt_kinds.specs.Argument.{Argument, readings}
 use Rattle.tt_kinds.specs.Param.{holds_param, IsAnswered}
 use Rattle.tt_kinds.specs.Plain.{inst_tree}
 use Rattle.tt_kinds.specs.Cause.{Cause, HidesRegionVars}
-use Rattle.tt_kinds.specs.Shape.{Shape, stored, IsPart, AreParts, fill, fill_all}
+use Rattle.tt_kinds.specs.Shape.{Shape, stored, fill, fill_all}
 use Rattle.tt_kinds.specs.Values.{one_clause_shape}
 use Rattle.tt_kinds.specs.declared.handle.Clause.{Clause}
 use Rattle.tt_kinds.specs.declared.table.Table.{Table}

@@ -4,7 +4,7 @@ use Rattle.std.specs.Prelude.{Option, Some, None, slice_get, IsTrue, ⊤}
 use Rattle.tt_kinds.specs.Label.{Name, Sort, type_sort, const_sort, Label, type_label, const_label, is_type, is_type_or_clause}
 use Rattle.tt_kinds.specs.Tree as tree
 use Rattle.tt_kinds.specs.Tree.{Depth, Tree}
-use Rattle.tt_kinds.specs.Shape.{Meaning, fill, name_of, rename_label, IsPart, AreParts}
+use Rattle.tt_kinds.specs.Shape.{Meaning, fill, name_of, rename_label}
 use Rattle.tt_kinds.specs.Kinds.{Form, param, bound, plain, under, relabelled, form_shape, ty_form, const_form, ty_kind_shape, const_kind_shape, ty_shape, const_shape, predicate_shape, clauses_shape}
 use Rattle.tt_kinds.specs.declared.table.Table.{Table}
 use Rattle.tt_kinds.specs.declared.table.Table.TheVariants.{Types, Consts, Predicates, ClauseLists, ArgLists}

@@ -1,8 +1,8 @@
 -- In one walk each argument is shifted once past as many binders.
-use Rattle.std.proofs.Common.{◌≡◌, ℕ, ◌+◌, ◌<◌, ◌≤◌, ◌⊎◌, inl, inr, List, [], ◌∷◌, ◌++◌, length, length-append, refl, ap, subst, arith}
+use Rattle.std.proofs.Common.{◌≡◌, ℕ, ◌+◌, ◌<◌, ◌≤◌, inl, inr, List, [], ◌∷◌, ◌++◌, length, length-append, refl, ap, subst, arith}
 use Rattle.std.proofs.lemmas.List.{map-append}
 use Rattle.std.specs.Map.{keys_of}
-use Rattle.tt_kinds.specs.Tree.{Depth, Tree, Forest, param, bound, region, term, node, binder, none, also}
+use Rattle.tt_kinds.specs.Tree.{Depth, Tree, Forest, param, bound, term, node, also}
 use Rattle.tt_kinds.specs.Count.{TypeAt}
 use Rattle.tt_interner.specs.Stored.{Counters}
 use Rattle.tt_fold.specs.Counts.{Standing}

@@ -3,7 +3,7 @@ use Rattle.std.proofs.Common.{◌≡◌, ℕ, List, refl, sym, ap, subst, ◌∙
 use Rattle.tt_kinds.specs.Label.{Name, Sort, region_sort, type_sort, const_sort}
 use Rattle.tt_kinds.specs.Tree as tree
 use Rattle.tt_kinds.specs.Tree.{Depth, Tree}
-use Rattle.tt_kinds.specs.Shape.{Shape, param, bound, region, term, node, binder, stored, part_of, IsPart, fill}
+use Rattle.tt_kinds.specs.Shape.{Shape, param, bound, region, term, node, binder, stored, part_of, fill}
 use Rattle.tt_kinds.specs.declared.table.Table.{Table}
 use Rattle.tt_kinds.specs.declared.table.Table.TheVariants.{Types, Consts, Patterns, Predicates, Existentials, ClauseLists, TypeLists, ConstLists, ArgLists, PatternLists, VarLists, ExistentialLists, AssumptionLists, Symbols, Declarations}
 use Rattle.tt_interner.specs.Rows.{Row}

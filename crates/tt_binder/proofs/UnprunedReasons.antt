@@ -1,28 +1,25 @@
 -- What the walk that skips nothing meets are the reasons of plain replacement.
 use Rattle.std.proofs.Common.{inl, inr, ◌≡◌, ℕ, suc, ◌≤◌, List, [], length, refl, sym, ap, subst, ◌∙◌, arith, Bool, true, false}
-use Rattle.std.specs.Prelude.{◌≢◌, ◌⊎◌, IsTrue, not, IsSomeAnd, Option, Some, None, Result, Ok, Err, slice_get, if◌then◌else◌}
+use Rattle.std.specs.Prelude.{◌≢◌, IsTrue, not, IsSomeAnd, Option, Some, None, Result, Ok, Err, slice_get, if◌then◌else◌}
 use Rattle.std.proofs.lemmas.Option.{slice_get_past}
 use Rattle.std.proofs.lemmas.Bool.{eq-eqb, eqb-true}
 use Rattle.std.proofs.lemmas.Option.{slice_get_cases}
-use Rattle.tt_index.specs.Greatest.{greatest}
 use Rattle.tt_index.specs.declared.refusal.Refusal.{Refusal}
 use Rattle.tt_index.specs.declared.refusal.Refusal.TheVariants.{Memory, TableFull, GreatestIndex, NoArguments, ArgOutOfRange, ArgKind, RegionVariable, NotAClause, NoSuchAnswer}
 use Rattle.tt_kinds.specs.Label.{Name, Sort, FreeRegion, region_var}
 use Rattle.tt_kinds.specs.Tree.{Depth, Tree, Forest, param, bound, region, term, node, binder, none, also}
 use Rattle.tt_kinds.specs.Reading.{read, read_all, FitsUnder, FitsUnder_all, Fits}
-use Rattle.tt_kinds.specs.Argument.{Argument, same_sort, put, readings}
-use Rattle.tt_kinds.specs.Plain.{shift_tree, inst_tree, inst_forest}
+use Rattle.tt_kinds.specs.Argument.{Argument, same_sort}
+use Rattle.tt_kinds.specs.Plain.{inst_tree, inst_forest}
 use Rattle.tt_kinds.specs.Param.{HasParam, HasParam_among}
-use Rattle.tt_kinds.specs.Cause.{IsRegionVar, HasExposed, HasExposed_among, HasOtherSort, Cause}
-use Rattle.tt_kinds.specs.Shape.{Shape}
+use Rattle.tt_kinds.specs.Cause.{IsRegionVar, HasExposed, HasExposed_among, HasOtherSort}
 use Rattle.tt_kinds.proofs.PutLaws.{read-inst_tree}
 use Rattle.tt_kinds.proofs.ReadingLaws.{read-injective}
-use Rattle.tt_interner.specs.Rows.{Row, AreRows}
-use Rattle.tt_fold.specs.Steps.{IsPartOf, tree_in}
+use Rattle.tt_fold.specs.Steps.{tree_in}
 use Rattle.tt_fold.specs.Stands.{StandsIn, StandsAmong, itself, in_term, in_node, in_binder, in_first, in_later}
 use Rattle.tt_fold.proofs.ClauseLaws.{KeepsClauses, value_keeps}
 use Rattle.tt_binder.specs.Instance.{IsPlain}
-use Rattle.tt_binder.specs.Unpruned.{Replacing, outside, further_in, value_of, value_for, value_or, become, IsValueRefusal, IsLeafRefusal, IsBinderRefusal, HeedsNone, unpruned_hooks, Gives, EndsAt, IsPlainReason, only, IsUnseen, HoldsNoRegionVar, PruningIsUnseen}
+use Rattle.tt_binder.specs.Unpruned.{Replacing, outside, value_of, value_for, value_or, IsValueRefusal, IsLeafRefusal, HeedsNone, Gives, EndsAt, IsPlainReason, only, IsUnseen, HoldsNoRegionVar, PruningIsUnseen}
 use Rattle.tt_binder.proofs.UnprunedLaws.{Meets, Meets_all, IsRooted, param_placed, fits_or, does, met_at_end, Goes, goes, ends, either}
 use Rattle.tt_binder.proofs.UnprunedTrees.{value_rooted}
 

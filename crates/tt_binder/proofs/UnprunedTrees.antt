@@ -1,7 +1,7 @@
 -- The terms in the trees of values are of tables of terms.
 use Rattle.std.proofs.Common.{inl, inr, ◌≡◌, ℕ, ◌<◌, List, [], ◌∷◌, refl, arith}
 use Rattle.std.specs.Prelude.{◌⊎◌, ⊤}
-use Rattle.tt_kinds.specs.Label.{Name, Sort, type_sort, const_sort, Label, type_label, const_label}
+use Rattle.tt_kinds.specs.Label.{Sort, type_sort, const_sort, Label, type_label, const_label}
 use Rattle.tt_kinds.specs.Tree as tree
 use Rattle.tt_kinds.specs.Tree.{Depth, Tree}
 use Rattle.tt_kinds.specs.Shape as shape

@@ -1,10 +1,10 @@
 -- The laws of the argument folder's task: it gives plain replacement, and is refused only for its reasons.
-use Rattle.std.proofs.Common.{◌≡◌, ℕ, suc, ◌≤◌, inl, inr, List, refl, sym, subst, arith, Bool, true, false}
-use Rattle.std.specs.Prelude.{IsSome, IsTrue, ⊤}
+use Rattle.std.proofs.Common.{◌≡◌, ℕ, inl, inr, List, refl, sym, subst, arith, Bool, true, false}
+use Rattle.std.specs.Prelude.{IsSome, ⊤}
 use Rattle.std.specs.Bool.{OnTrue}
 use Rattle.tt_index.specs.declared.refusal.Refusal.{Refusal}
 use Rattle.tt_index.specs.declared.refusal.Refusal.TheVariants.{Memory, TableFull, GreatestIndex, NoArguments, ArgOutOfRange, ArgKind, RegionVariable, NotAClause, NoSuchAnswer}
-use Rattle.tt_kinds.specs.Label.{Name, Sort, region_sort, type_sort, const_sort, VarKind, Entry, type_label, const_label, pattern_label, predicate_label, existential_label, clause_list_label, list_label, var_list_label, text_label, declaration_label, record_label, error_label, clause_label, Label, is_type_or_clause}
+use Rattle.tt_kinds.specs.Label.{Name, region_sort, type_sort, const_sort, VarKind, type_label, const_label, pattern_label, predicate_label, existential_label, clause_list_label, list_label, var_list_label, text_label, declaration_label, record_label, error_label, clause_label, Label, is_type_or_clause}
 use Rattle.tt_kinds.specs.Tree.{Depth, Tree, Forest, param, bound, region, term, node, binder, none, also}
 use Rattle.tt_kinds.specs.Argument.{argument}
 use Rattle.tt_kinds.specs.Param.{holds_param, EachParam_among, IsGeneric_among}
@@ -17,8 +17,8 @@ use Rattle.tt_fold.specs.Walk.{IsPassed}
 use Rattle.tt_fold.specs.Remember.{IsTaken}
 use Rattle.tt_fold.proofs.ShiftLaws.{counted-one, counted-up}
 use Rattle.tt_fold.proofs.RememberLaws.{Knows}
-use Rattle.tt_fold.proofs.TaskLaws.{AllowsAll, Refuses, without, too_far, caused, IsGiven, IsRefusedAt, TaskLaws}
-use Rattle.tt_binder.specs.Instantiation.{Args, Kept, Instantiation, at_first, IsAllowed, Instantiates, LeafRefuses, for_cause, shift_unbuilt, shift_too_far, IsInnerConst, IsGoneInto, Rises, PutsArgument, as_it_is, shifted_now, instantiation}
+use Rattle.tt_fold.proofs.TaskLaws.{AllowsAll, Refuses, without, too_far, caused, IsGiven, TaskLaws}
+use Rattle.tt_binder.specs.Instantiation.{Args, Kept, Instantiation, at_first, Instantiates, LeafRefuses, for_cause, shift_unbuilt, shift_too_far, IsInnerConst, IsGoneInto, PutsArgument, as_it_is, shifted_now, instantiation}
 
 -- what holds no parameter is instantiated to itself
 pub left_done : (args : Args) (k : ℕ) (t : Tree Depth) → holds_param t ≡ false → HidesRegionVars t → Instantiates args k t t

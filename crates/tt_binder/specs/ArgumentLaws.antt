@@ -23,7 +23,7 @@ use Rattle.tt_binder.specs.Shifted.{OwnsShifts, OwnsArguments}
 use Rattle.tt_binder.specs.Instantiation.{Kept, Instantiation}
 use Rattle.tt_binder.specs.declared.shifted.ParamAt.{ParamAt}
 
--- rows that come leave those of a table in their places
+-- rows that come leave a table's rows in their places
 slice_get-more : (more rows : List Row) (t : Table) (n : ℕ) → n < size rows t → (n < size (more ++ rows) t) × (slice_get (table t (more ++ rows)) n ≡ slice_get (table t rows) n)
 slice_get-more [] rows t n h = (h, refl)
 slice_get-more (r ∷ more) rows t n h =

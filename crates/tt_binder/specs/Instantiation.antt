@@ -3,7 +3,7 @@ use Rattle.std.specs.Prelude.{◌≡◌, ℕ, ◌<◌, ◌≤◌, List, [], Bool
 use Rattle.std.specs.Bool.{OnTrue}
 use Rattle.tt_index.specs.declared.refusal.Refusal.{Refusal}
 use Rattle.tt_index.specs.declared.refusal.Refusal.TheVariants.{GreatestIndex}
-use Rattle.tt_kinds.specs.Label.{Name, Sort, const_sort, Label, const_label, is_type, is_type_or_clause}
+use Rattle.tt_kinds.specs.Label.{Name, Sort, const_sort, Label, const_label, is_type_or_clause}
 use Rattle.tt_kinds.specs.Count.{is_type_sort}
 use Rattle.tt_kinds.specs.Tree.{Depth, Tree, param, bound, term}
 use Rattle.tt_kinds.specs.Reading.{read, FitsUnder}

@@ -1,5 +1,5 @@
 -- What a call of instantiate promises, as one record, whatever the value's type.
-use Rattle.std.specs.Prelude.{ℕ, List, Result, Ok, true, false, ◌≡◌, ◌≤◌, ◌+◌, IfOk, IfErr, OnOk}
+use Rattle.std.specs.Prelude.{ℕ, List, Result, Ok, false, ◌≡◌, ◌≤◌, ◌+◌, IfOk, IfErr, OnOk}
 use Rattle.tt_index.specs.declared.refusal.Refusal.{Refusal}
 use Rattle.tt_kinds.specs.Label.{Name, Sort}
 use Rattle.tt_kinds.specs.Tree.{Depth, param}

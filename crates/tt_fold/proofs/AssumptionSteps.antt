@@ -5,7 +5,7 @@ use Rattle.tt_index.specs.declared.refusal.Refusal.TheVariants.{Memory, TableFul
 use Rattle.tt_kinds.specs.Label.{list_label, record_label, sequence_record}
 use Rattle.tt_kinds.specs.Tree as tree
 use Rattle.tt_kinds.specs.Tree.{Depth, Tree, Forest}
-use Rattle.tt_kinds.specs.Shape.{IsPart, AreParts, fill, item_shapes}
+use Rattle.tt_kinds.specs.Shape.{AreParts, fill, item_shapes}
 use Rattle.tt_kinds.specs.Values.{assumption_shape, assumptions_shape, sequence_shape}
 use Rattle.tt_kinds.specs.declared.generic_arg.GenericArgKind.{GenericArgKind}
 use Rattle.tt_kinds.specs.declared.handle.RegionAssumptions.{RegionAssumptions}
@@ -47,7 +47,7 @@ sequence-part rows are l ps at = (refl, tt, (Means-row rows are AssumptionLists 
 pub sequence-parts : (rows : List Row) (ps : Assumptions) → IsPartOf rows (sequence_shape assumption_shape ps) → AreParts (size rows) (item_shapes assumption_shape ps)
 sequence-parts rows ps h = h.2
 
--- the walk of a vector is that of its values
+-- the walk of a vector is the walk of its values
 values-walked : {M E : Type 0} {H : Hooks M E} {s s' : M} {ts us : Forest Depth} → Walks H s (sequence ts) (sequence us) s' → WalksAll H s ts us s'
 values-walked (at_region is h) = absurd (let never = is in cc)
 values-walked (replaced is h) = absurd (let never = is in cc)

@@ -4,7 +4,7 @@ use Rattle.tt_kinds.specs.Label.{Sort, ConstLabel, RecordLabel, record_label, ba
 use Rattle.tt_kinds.specs.Tree as tree
 use Rattle.tt_kinds.specs.Tree.{Depth, Tree, Forest}
 use Rattle.tt_kinds.specs.Shape as shape
-use Rattle.tt_kinds.specs.Shape.{Shape, Shapes, IsPart, AreParts, IsNamedLabel, append, fill}
+use Rattle.tt_kinds.specs.Shape.{Shape, Shapes, fill}
 use Rattle.tt_kinds.specs.Kinds.{Form, param, bound, plain, under, form_parts, form_binder, refilled, parts_shapes, value_form}
 use Rattle.tt_kinds.specs.declared.const_kind.ValueConst.{ValueConst}
 use Rattle.tt_kinds.specs.declared.error_guaranteed.ErrorGuaranteed.{ErrorGuaranteed}
@@ -109,7 +109,7 @@ module _ {L : Type 0} (sort : Sort) (record_of : L → RecordLabel ℕ) (token_o
       rw (append_trees rows (token_shapes (token_of l)) (under_binder vars.number m p))
       (node_failed (FailsAll-append (token_walks rows rows (token_of l)) (λ h. h) (here (leave_failed enter (at_node w (λ h. h)) h))))
 
-  -- the fold of the parts is that of the kind
+  -- the fold of the parts is the fold of the kind
   module _ {M E S : Type 0} {owned : List Row → S → Type 0} {means : List Row → S → M} {H : Hooks (Standing M) E} {errors : Errors E} {T : Type 0} (of : T → Form L) where
     pub bare_fails : {terms terms1 : Terms} {s s1 : S} {x : T} {e : E}
         → Folds owned means (ArePartsFor (form_parts (of x))) parts_trees

@@ -1,6 +1,6 @@
 -- Bound variables of types and constants, moved, and the shifter's answers at stored terms.
 use Rattle.std.proofs.Common.{List, [], ◌∷◌, Result, Ok, Err, MatchResult, Some, None, ◌≡◌, ℕ, suc, ◌+◌, ◌-◌, ◌<◌, ◌≤◌, ◌⊎◌, inl, inr, true, false, refl, ap, sym, subst, ◌∙◌, arith}
-use Rattle.std.proofs.lemmas.Bool.{cases_lt, le-ltb, lt-ltb}
+use Rattle.std.proofs.lemmas.Bool.{cases_lt, le-ltb}
 use Rattle.std.proofs.lemmas.Option.{same_Some}
 use Rattle.std.specs.Prelude.{⊤}
 use Rattle.tt_index.specs.Greatest.{greatest}

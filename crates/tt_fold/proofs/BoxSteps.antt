@@ -30,7 +30,7 @@ module _ {M E S : Type 0} {owned : List Row → S → Type 0} {means : List Row 
   one_stops of l u {terms} x at_x o unbuilt =
       record { extends = Extends-refl terms; is_owned = o; outcome = rw at_x (node_failed (stopped unbuilt)) }
 
-  -- the fold of a value is that of another one with the same shape
+  -- two values of one shape have one fold
   module _ {T A : Type 0} (of : T → Shape) (a : A → Shape) where
     pub same_fails : {terms terms1 : Terms} {s s1 : S} {e : E} (x : T) (u : A) → of x ≡ a u
         → Folds owned means (IsPartBy a) (tree_by a) (Walks H) (Fails H errors) terms s u (Err e) terms1 s1

@@ -1,4 +1,4 @@
--- The lists of clauses in a tree: those of stored terms hold clauses alone, and so do those of a tree with other indices or other
+-- The lists of clauses in a tree: in stored terms they hold clauses alone, and so they do in a tree with other indices or other
 -- trees for parameters.
 use Rattle.std.proofs.Common.{inl, inr, ◌≡◌, ℕ, suc, ◌<◌, List, [], ◌∷◌, refl, arith, Bool, true, false}
 use Rattle.std.specs.Prelude.{IsTrue, not, ⊤}

@@ -3,7 +3,7 @@ use Rattle.std.proofs.Common.{inl, inr, ◌≡◌, ℕ, ◌<◌, List, Ok, Err, 
 use Rattle.std.specs.Prelude.{IsTrue, not}
 use Rattle.tt_kinds.specs.Label.{clause_label}
 use Rattle.tt_kinds.specs.Tree.{also, none}
-use Rattle.tt_kinds.specs.Shape.{IsPart, AreParts, fill, fill_all}
+use Rattle.tt_kinds.specs.Shape.{fill, fill_all}
 use Rattle.tt_kinds.specs.Kinds.{predicate_shape}
 use Rattle.tt_kinds.specs.Values.{one_clause_shape}
 use Rattle.tt_kinds.specs.declared.handle.Clause.{Clause}

@@ -1,7 +1,7 @@
 -- Copies of values in order have the shapes of the values.
-use Rattle.std.proofs.Common.{◌≡◌, ℕ, ◌+◌, ◌<◌, ◌≤◌, List, [], ◌∷◌, ◌++◌, length, take, get_or, refl, ap, sym, ◌∙◌}
+use Rattle.std.proofs.Common.{◌≡◌, ℕ, ◌+◌, ◌<◌, ◌≤◌, List, [], ◌∷◌, ◌++◌, length, take, get_or, ap, sym, ◌∙◌}
 use Rattle.std.proofs.lemmas.List.{take_all}
-use Rattle.tt_kinds.specs.Shape.{Shape, also, item_shapes}
+use Rattle.tt_kinds.specs.Shape.{Shape, item_shapes}
 use Rattle.tt_visit.proofs.VisitSteps.{take-more}
 
 module _ {T : Type 0} (of : T → Shape) where

@@ -1,13 +1,13 @@
 -- How many types a folder that remembers takes apart: each at most once under as many binders.
-use Rattle.std.proofs.Common.{◌≡◌, ℕ, suc, ◌+◌, ◌<◌, ◌≤◌, ◌⊎◌, inl, inr, List, [], ◌∷◌, ◌++◌, length, map, true, false, refl, sym, ap, subst, ◌∙◌, arith, length-append, append_assoc}
+use Rattle.std.proofs.Common.{◌≡◌, ℕ, ◌+◌, ◌≤◌, inl, inr, List, [], ◌∷◌, ◌++◌, length, true, false, refl, sym, ap, subst, ◌∙◌, arith, length-append, append_assoc}
 use Rattle.std.proofs.lemmas.List.{append-nil}
 use Rattle.tt_index.specs.declared.refusal.Refusal.{Refusal}
-use Rattle.tt_kinds.specs.Tree.{Depth, Tree, Forest, param, bound, region, term, node, binder, none, also}
+use Rattle.tt_kinds.specs.Tree.{Depth, Tree, Forest, param, bound, region, term, node, binder}
 use Rattle.tt_kinds.specs.Count.{TypeAt}
-use Rattle.tt_fold.specs.Walk.{Errors, is_type_tree, replace, keep, descend, Walks, Descends, WalksInside, WalksAll, at_region, replaced, kept, descended, passed, rebuilt, at_node, at_binder, in_term, in_param, in_bound, done, next, Fails, DescentFails, InsideFails, FailsAll, region_failed, term_failed, descent_failed, passed_failed, enter_failed, under_failed, leave_failed, node_failed, node_not_built, clause_lost, stopped, inside_failed, not_built, after_failed, in_term_failed, here as fails_here, later, no_clause, Wanted}
+use Rattle.tt_fold.specs.Walk.{Errors, is_type_tree, Walks, Descends, WalksInside, WalksAll, at_region, replaced, kept, descended, passed, rebuilt, at_node, at_binder, in_term, in_param, in_bound, done, next, Fails, DescentFails, InsideFails, FailsAll, region_failed, term_failed, descent_failed, passed_failed, enter_failed, under_failed, leave_failed, node_failed, node_not_built, clause_lost, stopped, inside_failed, not_built, after_failed, in_term_failed, here as fails_here, later, no_clause, Wanted}
 use Rattle.tt_fold.specs.Counts.{Standing}
 use Rattle.tt_fold.specs.Places.{IsIn, AreDistinct, CountsPairs, IsPlaceIn, IsPlaceAmong}
-use Rattle.tt_fold.specs.Remember.{Memo, State, Task, here, memo, places, deeper, noting, one_more, IsTaken, OnTerm, given, remembered, left_alone, taken_apart, gone_into, AfterTerm, noted, noted_again, not_noted, remembering}
+use Rattle.tt_fold.specs.Remember.{Memo, State, Task, here, memo, places, one_more, IsTaken, given, remembered, left_alone, taken_apart, gone_into, AfterTerm, noted, noted_again, not_noted, remembering}
 use Rattle.tt_fold.proofs.PlaceLaws.{IsIn-append, IsIn-only, IsIn-left, IsIn-right, AreDistinct-last, IsPlaceInside, inside-smaller, place-inside}
 use Rattle.tt_fold.proofs.TaskLaws.{TaskLaws}
 use Rattle.tt_fold.proofs.RememberLaws.{Knows, does, does_inside}

@@ -1,8 +1,8 @@
 -- The folds of values without terms: what is data alone is walked without a hook, and stays.
-use Rattle.std.proofs.Common.{List, Ok, refl}
+use Rattle.std.proofs.Common.{List, Ok}
 use Rattle.tt_kinds.specs.Label.{record_label}
-use Rattle.tt_kinds.specs.Shape.{Shape, Shapes, param, bound, region, term, node, binder, stored, none, also, IsPart, AreParts, fill, fill_all}
-use Rattle.tt_interner.specs.Rows.{Row, Grows, size, meaning}
+use Rattle.tt_kinds.specs.Shape.{Shape, Shapes, node, none, also, fill, fill_all}
+use Rattle.tt_interner.specs.Rows.{Row}
 use Rattle.tt_interner.specs.Stored.{Terms}
 use Rattle.tt_interner.proofs.Growth.{Extends-refl}
 use Rattle.tt_fold.specs.Walk.{Errors, Hooks, Walks, WalksAll, Fails, at_node, done, next}

@@ -10,7 +10,7 @@ use Rattle.tt_index.specs.declared.refusal.Refusal.{Refusal}
 use Rattle.tt_index.specs.declared.refusal.Refusal.TheVariants.{Memory, TableFull, GreatestIndex, NotAClause}
 use Rattle.tt_kinds.specs.Tree.{Depth, Tree}
 use Rattle.tt_kinds.specs.Parts as sorts
-use Rattle.tt_kinds.specs.Parts.{AreLike, node_table, node_number, sort_list_table, list_sort, list_table, list_number, child_sort, IsItem}
+use Rattle.tt_kinds.specs.Parts.{node_table, node_number, sort_list_table, list_sort, list_table, list_number, child_sort, IsItem}
 use Rattle.tt_kinds.specs.Kinds.{form_binder, form_parts, refilled, kind_form, kind_sort, kind_shape, kind_table, node_shape, list_shape, region_shape, child_shapes, parts_shapes, children_shapes, items_tree}
 use Rattle.tt_kinds.specs.Shape.{append, fill, HasParts, IsTooDeep}
 use Rattle.tt_kinds.specs.declared.handle.BoundVarKinds.{BoundVarKinds}

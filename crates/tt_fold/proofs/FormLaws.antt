@@ -5,7 +5,7 @@ use Rattle.tt_kinds.specs.Label.{Name, Sort, type_sort, const_sort, TypeLabel, C
 use Rattle.tt_kinds.specs.Tree as tree
 use Rattle.tt_kinds.specs.Tree.{Depth, Tree}
 use Rattle.tt_kinds.specs.Shape as shape
-use Rattle.tt_kinds.specs.Shape.{Shape, Shapes, Meaning, Sizes, IsPart, AreParts, HasParts, IsTooDeep, fill, fill_all, name_of, rename_label, IsNamedLabel, append}
+use Rattle.tt_kinds.specs.Shape.{Shape, Shapes, Meaning, Sizes, HasParts, IsTooDeep, fill, name_of, rename_label, IsNamedLabel, append}
 use Rattle.tt_kinds.specs.Kinds.{Form, param, bound, plain, under, form_parts, form_binder, refilled, relabelled, form_shape, kind_form, kind_shape, kind_table, ty_form, const_form, child_shapes, parts_shapes, children_shapes}
 use Rattle.tt_kinds.specs.declared.table.Table.TheVariants.{Types, Consts}
 use Rattle.tt_kinds.specs.declared.parts.Child.{Child}

@@ -1,13 +1,12 @@
 -- What a folder's memory says of trees.
-use Rattle.std.proofs.Common.{MatchOption, ◌≡◌, ◌⊎◌, ℕ, ◌<◌, inl, inr, List, [], ◌∷◌, ◌++◌, map, Option, Some, None, Bool, true, false, cond, ◌&&◌, nat_eq, refl, sym, ap, ◌∙◌, arith}
+use Rattle.std.proofs.Common.{MatchOption, ◌≡◌, ◌⊎◌, ℕ, inl, inr, List, [], ◌∷◌, ◌++◌, Option, Some, None, Bool, true, false, cond, nat_eq, refl, sym, ap, ◌∙◌}
 use Rattle.std.proofs.lemmas.Bool.{cases_Bool, eq-eqb}
 use Rattle.std.specs.Map.{lookup}
 use Rattle.indexmap.specs.IndexMap.{insert_entry}
-use Rattle.tt_kinds.specs.Count.{TypeAt}
 use Rattle.tt_kinds.specs.Kinds.{ty_shape}
 use Rattle.tt_kinds.specs.declared.handle.Ty.{Ty}
 use Rattle.tt_kinds.specs.declared.table.Table.TheVariants.{Types}
-use Rattle.tt_interner.specs.Rows.{Row, Grows, size, meaning}
+use Rattle.tt_interner.specs.Rows.{Row, meaning}
 use Rattle.tt_interner.specs.Laws.{AreInterned}
 use Rattle.tt_fold.specs.Steps.{IsPartOf, tree_in}
 use Rattle.tt_fold.specs.Places.{IsIn}

@@ -2,7 +2,7 @@
 use Rattle.std.proofs.Common.{◌≡◌, ℕ, suc, ◌<◌, List, [], ◌∷◌, ◌++◌, Option, Some, None, refl, ap, sym, ◌∙◌, arith}
 use Rattle.tt_kinds.specs.Tree as tree
 use Rattle.tt_kinds.specs.Tree.{Depth, Forest}
-use Rattle.tt_kinds.specs.Shape.{Shape, Shapes, stored, none, also, append, IsPart, AreParts, fill, fill_all}
+use Rattle.tt_kinds.specs.Shape.{Shape, Shapes, stored, none, also, append, fill, fill_all}
 use Rattle.tt_kinds.specs.Parts.{node_table, node_number, list_table, list_number}
 use Rattle.tt_kinds.specs.Kinds.{node_shape, list_shape, child_shapes, parts_shapes, children_shapes}
 use Rattle.tt_kinds.specs.declared.table.Table.{Table}

@@ -2,7 +2,7 @@
 use Rattle.std.proofs.Common.{◌≡◌, ℕ, List, Ok, Err, refl}
 use Rattle.tt_kinds.specs.Label.{Name, RecordLabel, unsafe_binder_record, record_label}
 use Rattle.tt_kinds.specs.Shape as shape
-use Rattle.tt_kinds.specs.Shape.{Shape, Sizes, IsPart, IsNamedRecord, IsNamedLabel, rename_record, name_of, fill}
+use Rattle.tt_kinds.specs.Shape.{Shape, Sizes, IsNamedRecord, IsNamedLabel, rename_record, name_of, fill}
 use Rattle.tt_kinds.specs.Values.{one_record, two_record, unsafe_binder_shape}
 use Rattle.tt_kinds.specs.Kinds.{RecordForm, replenished, record_shape, parts_shapes, ty_shape, binder_shape}
 use Rattle.tt_kinds.specs.declared.handle.Ty.{Ty}

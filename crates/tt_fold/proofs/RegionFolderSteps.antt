@@ -9,7 +9,7 @@ use Rattle.tt_kinds.specs.Tree.{Depth, Tree, region}
 use Rattle.tt_kinds.specs.Met.{Met, met_leaf, met, placed}
 use Rattle.tt_kinds.specs.Scan.{scan}
 use Rattle.tt_kinds.specs.Shape as shape
-use Rattle.tt_kinds.specs.Shape.{Shape, Shapes, Sizes, fill, IsPart, IsNamedKind, HasParts}
+use Rattle.tt_kinds.specs.Shape.{Shape, fill, HasParts}
 use Rattle.tt_kinds.specs.Kinds.{region_shape}
 use Rattle.tt_kinds.specs.declared.bound.BoundVarIndexKind.TheVariants.{Bound, Canonical}
 use Rattle.tt_kinds.specs.declared.region_kind.RegionKind.{RegionKind}

@@ -1,13 +1,13 @@
 -- The shifter's task, its hooks at regions, and what it does to a whole value.
-use Rattle.std.proofs.Common.{zero, List, [], Result, Ok, Err, IfOk, IfErr, MatchResult, ◌≡◌, ℕ, suc, ◌+◌, ◌-◌, ◌<◌, ◌≤◌, ◌⊎◌, inl, inr, true, false, ltb, refl, ap, sym, subst, ◌∙◌, arith}
-use Rattle.std.proofs.lemmas.Bool.{cases_Bool, cases_lt, ltb-false, le-ltb, lt-ltb}
+use Rattle.std.proofs.Common.{zero, List, [], Result, Ok, Err, IfOk, IfErr, MatchResult, ◌≡◌, ℕ, suc, ◌+◌, ◌-◌, ◌<◌, ◌≤◌, ◌⊎◌, inl, inr, true, false, refl, ap, sym, subst, ◌∙◌, arith}
+use Rattle.std.proofs.lemmas.Bool.{cases_lt, le-ltb, lt-ltb}
 use Rattle.tt_index.specs.Greatest.{greatest}
 use Rattle.tt_index.specs.declared.refusal.Refusal.{Refusal}
 use Rattle.tt_index.specs.declared.refusal.Refusal.TheVariants.{Memory, TableFull, GreatestIndex, NotAClause}
-use Rattle.tt_kinds.specs.Label.{Name, region_sort, type_sort, const_sort, Label}
-use Rattle.tt_kinds.specs.Tree.{Depth, at, canonical, Tree, param, bound, region, term, node, binder, Forest, none, also}
-use Rattle.tt_kinds.specs.Reading.{place, read, read_all, move, outer_binder, Fits, FitsAt, FitsUnder, FitsUnder_all}
-use Rattle.tt_kinds.specs.Plain.{shifted, shift_tree, shift_forest}
+use Rattle.tt_kinds.specs.Label.{region_sort, type_sort, const_sort}
+use Rattle.tt_kinds.specs.Tree.{Depth, at, canonical, Tree, param, bound, region, term, node, binder}
+use Rattle.tt_kinds.specs.Reading.{place, read, move, outer_binder, Fits, FitsAt, FitsUnder}
+use Rattle.tt_kinds.specs.Plain.{shifted, shift_tree}
 use Rattle.tt_kinds.specs.Count.{TypeAt, moving_types}
 use Rattle.std.specs.Prelude.{⊤}
 use Rattle.tt_kinds.proofs.OuterLaws.{shift_tree-low, shift_tree-zero}
@@ -37,7 +37,7 @@ use Rattle.tt_fold.proofs.PlaceLaws.{IsMoving, moving_types-have}
 use Rattle.tt_fold.proofs.TaskLaws.{TaskLaws, Refuses, without, too_far, caused}
 use Rattle.tt_fold.proofs.RememberLaws.{does, refused}
 use Rattle.tt_fold.proofs.CountLaws.{knows-nothing, pairs_walked, pairs_failed}
-use Rattle.tt_fold.specs.Shift.{Shift, moved_tree, IsTooFar, IsVariable, shifting, shift_of, ShiftsCount, IsTooGreat, moved_index, moved_region, IsShiftedRegion, IsShiftRefusal, ShiftsOn, ComesOf, KeepsMatched}
+use Rattle.tt_fold.specs.Shift.{moved_tree, IsTooFar, IsVariable, shifting, shift_of, ShiftsCount, IsTooGreat, moved_index, moved_region, IsShiftedRegion, IsShiftRefusal, ShiftsOn, ComesOf, KeepsMatched}
 
 counts-still : (c : Counters) → ShiftsCount c c
 counts-still c = record { descents = refl; up = omega arith }

@@ -1,14 +1,14 @@
 -- What a task has to meet, so that a folder that remembers does it.
 use Rattle.std.proofs.Common.{◌≡◌, ℕ, suc, ◌≤◌, List}
-use Rattle.std.specs.Prelude.{⊤, false}
+use Rattle.std.specs.Prelude.{⊤}
 use Rattle.tt_index.specs.declared.refusal.Refusal.{Refusal}
 use Rattle.tt_index.specs.declared.refusal.Refusal.TheVariants.{GreatestIndex}
 use Rattle.tt_kinds.specs.Label.{Name, Sort, VarKind, Entry, Label}
-use Rattle.tt_kinds.specs.Tree.{Depth, Tree, Forest, param, bound, region, term, node, binder, none, also}
+use Rattle.tt_kinds.specs.Tree.{Depth, Tree, Forest, param, bound, term, node, binder, none, also}
 use Rattle.tt_kinds.specs.Reading.{read, read_all, FitsUnder, FitsUnder_all}
 use Rattle.tt_kinds.proofs.ChildLaws.{Among}
 use Rattle.tt_interner.specs.Stored.{Counters, IsNoClauseList}
-use Rattle.tt_fold.specs.Walk.{IsPassed, is_type_tree, Wanted, HasUnwanted}
+use Rattle.tt_fold.specs.Walk.{IsPassed, Wanted, HasUnwanted}
 use Rattle.tt_fold.specs.Counts.{Standing}
 use Rattle.tt_fold.specs.Stands.{StandsIn, StandsAmong}
 use Rattle.tt_fold.specs.Remember.{State, Task, Done, IsTaken, made, made_all}

@@ -1,7 +1,7 @@
 -- The folds of values that are not stored, from the same of their contents.
 use Rattle.std.proofs.Common.{◌≡◌, List, Result, Ok, Err, MatchResult}
 use Rattle.std.proofs.lemmas.Result.{MatchResult-weaker}
-use Rattle.tt_kinds.specs.Shape.{Shape, IsPart, fill}
+use Rattle.tt_kinds.specs.Shape.{Shape, fill}
 use Rattle.tt_kinds.specs.Kinds.{node_shape, region_shape, binder_shape}
 use Rattle.tt_kinds.specs.declared.parts.Node.{Node}
 use Rattle.tt_kinds.specs.declared.binder.Binder.{Binder}

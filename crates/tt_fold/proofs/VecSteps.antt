@@ -5,7 +5,7 @@ use Rattle.tt_kinds.specs.Label.{sequence_record, record_label}
 use Rattle.tt_kinds.specs.Tree as tree
 use Rattle.tt_kinds.specs.Tree.{Depth, Tree}
 use Rattle.tt_kinds.specs.Shape as shape
-use Rattle.tt_kinds.specs.Shape.{Shape, Shapes, IsPart, append, item_shapes, fill}
+use Rattle.tt_kinds.specs.Shape.{Shape, append, item_shapes, fill}
 use Rattle.tt_interner.specs.Rows.{Row}
 use Rattle.tt_interner.specs.Stored.{Terms}
 use Rattle.tt_interner.proofs.Growth.{Extends-refl, Extends-trans, AreParts-grows, fill-grows, fill_all-grows}

@@ -1,4 +1,4 @@
--- The walks of two parts of a list make that of the whole, and the parts' walk that of the term that they make.
+-- The walks of two parts of a list make the walk of the whole, and the parts' walk makes the walk of their term.
 use Rattle.std.proofs.Common.{◌≡◌, ℕ, List, Some, None, refl}
 use Rattle.std.proofs.lemmas.Option.{same_Some}
 use Rattle.tt_kinds.specs.Label.{Sort, Label}
@@ -44,7 +44,7 @@ pub WalksAll-one : {M E : Type 0} {H : Hooks M E} {s s' : M} {t u : Tree Depth} 
 WalksAll-one w = next w done
 
 module _ {M E : Type 0} {H : Hooks M E} (rows rows1 : List Row) (o : Sort) (q : Parts) where
-  -- the parts' walk is that of the term that they make
+  -- the parts' walk is the walk of the term that they make
   pub walks_form : {s s' : M} (f : Form (Label ℕ)) → KeepsLabels rows rows1 f → IsInner f → binder_in rows1 (form_binder f) ≡ binder_in rows (form_binder f)
       → WalksUnder H (binder_in rows (form_binder f)) s (trees_in rows (parts_shapes (form_parts f))) (trees_in rows1 (parts_shapes q)) s'
       → WalksInside H s (tree_in rows (form_shape o f)) (tree_in rows1 (form_shape o (refilled q f))) s'

@@ -1,5 +1,5 @@
 -- What a folder's memory holds, and what it means.
-use Rattle.std.specs.Prelude.{◌≡◌, ℕ, List, [], ◌∷◌, map, Bool, ◌&&◌, nat_eq, ⊤}
+use Rattle.std.specs.Prelude.{ℕ, List, [], ◌∷◌, map, Bool, ◌&&◌, nat_eq, ⊤}
 use Rattle.tt_kinds.specs.Count.{TypeAt}
 use Rattle.tt_kinds.specs.Kinds.{ty_shape}
 use Rattle.tt_kinds.specs.declared.handle.Ty.{Ty}

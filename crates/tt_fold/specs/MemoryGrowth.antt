@@ -1,14 +1,11 @@
 -- What is remembered stays what it is where terms and lists are stored.
-use Rattle.std.proofs.Common.{◌≡◌, ℕ, ◌<◌, List, [], ◌∷◌, refl, ap}
+use Rattle.std.proofs.Common.{◌≡◌, ℕ, List, [], ◌∷◌, refl, ap}
 use Rattle.std.specs.Prelude.{⊤}
 use Rattle.tt_kinds.specs.Kinds.{ty_shape}
-use Rattle.tt_kinds.specs.Shape.{fill}
 use Rattle.tt_kinds.specs.declared.handle.Ty.{Ty}
 use Rattle.tt_kinds.specs.declared.table.Table.TheVariants.{Types}
 use Rattle.tt_interner.specs.Rows.{Row, Grows}
 use Rattle.tt_interner.proofs.Growth.{in_range-grows, fill-grows}
-use Rattle.tt_fold.specs.Steps.{IsPartOf, tree_in}
-use Rattle.tt_fold.specs.Remember.{State}
 use Rattle.tt_fold.specs.Memory.{memos, OwnsMemos}
 use Rattle.tt_fold.specs.Shift.{shift_state}
 use Rattle.tt_fold.specs.declared.memory.Place.{Place}

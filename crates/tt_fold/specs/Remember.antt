@@ -4,7 +4,7 @@ use Rattle.tt_index.specs.Greatest.{greatest}
 use Rattle.tt_index.specs.declared.refusal.Refusal.{Refusal}
 use Rattle.tt_index.specs.declared.refusal.Refusal.TheVariants.{Memory, GreatestIndex}
 use Rattle.tt_kinds.specs.Label.{Name, Sort, is_type}
-use Rattle.tt_kinds.specs.Tree.{Depth, Tree, Forest, param, bound, region, term, node, binder, none, also, rebuild, rebuild_all}
+use Rattle.tt_kinds.specs.Tree.{Depth, Tree, Forest, param, bound, region, term, node, binder, rebuild, rebuild_all}
 use Rattle.tt_kinds.specs.Count.{TypeAt}
 use Rattle.tt_interner.specs.Stored.{Counters}
 use Rattle.tt_fold.specs.Walk.{Hooks, Answer, replace, keep, descend, is_type_tree}

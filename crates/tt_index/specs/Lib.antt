@@ -1,4 +1,5 @@
 pub mod Abi
 pub mod ClosureKind
 pub mod Greatest
+pub mod Text
 pub mod Variance

@@ -20,7 +20,7 @@ pub enum ExternAbi {
     },
     /// Rust's own, with the arguments in a tuple, as the closure traits pass them.
     RustCall,
-    /// That of intrinsics before the platform's adjustments.
+    /// The convention of intrinsics before the platform's adjustments.
     Unadjusted,
 }
 

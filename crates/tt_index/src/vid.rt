@@ -1,10 +1,12 @@
 //! Inference variables, each kind numbered from 0 in the order in which inference makes them.
 
-ghost use Rattle.std.specs.Prelude.{◌≡◌, ◌≤◌, ◌↔◌, IsTrue, ℕ};
+ghost use Rattle.std.specs.Prelude.{◌≡◌, ◌≤◌, ◌↔◌, IsTrue, Some, codes, ℕ};
 ghost use Rattle.tt_index.specs.Greatest.{greatest};
+ghost use Rattle.tt_index.specs.Text.{region_vid_text, vid_text};
 
 use crate::GREATEST_INDEX;
 use crate::idx::Idx;
+use std::fmt;
 use std::marker::Model;
 
 /// A region variable.
@@ -70,6 +72,15 @@ impl Idx for RegionVid {
 
     fn as_usize(self) -> usize {
         self.value as usize
+    }
+}
+
+impl fmt::Display for RegionVid {
+    ghost output = { λ number. Some (region_vid_text number) };
+
+    fn fmt<W: fmt::Write>(&self, f: &mut fmt::Formatter<W>) -> fmt::Result {
+        let RegionVid { value: number } = self;
+        write!(f, "'?{number}")
     }
 }
 
@@ -139,6 +150,15 @@ impl Idx for TyVid {
     }
 }
 
+impl fmt::Display for TyVid {
+    ghost output = { λ number. Some (vid_text (codes "t") number) };
+
+    fn fmt<W: fmt::Write>(&self, f: &mut fmt::Formatter<W>) -> fmt::Result {
+        let TyVid { value: number } = self;
+        write!(f, "?{number}t")
+    }
+}
+
 /// A variable for the type of an integer literal: one of the integer types.
 ///
 /// The number is at most [`GREATEST_INDEX`].
@@ -202,6 +222,15 @@ impl Idx for IntVid {
 
     fn as_usize(self) -> usize {
         self.value as usize
+    }
+}
+
+impl fmt::Display for IntVid {
+    ghost output = { λ number. Some (vid_text (codes "i") number) };
+
+    fn fmt<W: fmt::Write>(&self, f: &mut fmt::Formatter<W>) -> fmt::Result {
+        let IntVid { value: number } = self;
+        write!(f, "?{number}i")
     }
 }
 
@@ -271,6 +300,15 @@ impl Idx for FloatVid {
     }
 }
 
+impl fmt::Display for FloatVid {
+    ghost output = { λ number. Some (vid_text (codes "f") number) };
+
+    fn fmt<W: fmt::Write>(&self, f: &mut fmt::Formatter<W>) -> fmt::Result {
+        let FloatVid { value: number } = self;
+        write!(f, "?{number}f")
+    }
+}
+
 /// A variable for a constant.
 ///
 /// The number is at most [`GREATEST_INDEX`].
@@ -334,5 +372,14 @@ impl Idx for ConstVid {
 
     fn as_usize(self) -> usize {
         self.value as usize
+    }
+}
+
+impl fmt::Display for ConstVid {
+    ghost output = { λ number. Some (vid_text (codes "c") number) };
+
+    fn fmt<W: fmt::Write>(&self, f: &mut fmt::Formatter<W>) -> fmt::Result {
+        let ConstVid { value: number } = self;
+        write!(f, "?{number}c")
     }
 }

@@ -15,7 +15,7 @@ use Rattle.tt_kinds.specs.declared.predicate_kind.PredicateKind.TheVariants as p
 use Rattle.tt_kinds.specs.declared.table.Table.TheVariants.{Predicates, ClauseLists}
 use Rattle.tt_kinds.specs.Label.{Name, is_clause_record}
 use Rattle.tt_kinds.specs.Predicate.{is_clause_kind}
-use Rattle.tt_kinds.specs.Shape.{item_shapes, name_of, rename_record, fill, fill_all, IsPart, AreParts}
+use Rattle.tt_kinds.specs.Shape.{item_shapes, name_of, rename_record, fill, fill_all, AreParts}
 use Rattle.tt_kinds.specs.Kinds.{clause_shape, children_shapes, clause_form, predicate_form}
 use Rattle.tt_interner.specs.Rows.{Row, predicate_row, clauses_row, table, size, meaning, AreRows, IsClause, AreClauses, HoldsClauses}
 use Rattle.tt_interner.specs.Clauses.{is_clause_tree, HasOther}

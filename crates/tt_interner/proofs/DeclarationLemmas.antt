@@ -13,7 +13,7 @@ use Rattle.tt_index.specs.declared.refusal.Refusal.{Refusal}
 use Rattle.tt_kinds.specs.Shape.{fill, text_of, name_of}
 use Rattle.tt_interner.specs.Rows.{Row, text_row, declared_row, table, size, meaning, IsNew, AreRows, Grows}
 use Rattle.tt_interner.specs.Declarations.{declaration_of, declared_at, Declares, is_anonymous}
-use Rattle.tt_interner.specs.Stored.{Terms, IsAt, HasFirst, Adds}
+use Rattle.tt_interner.specs.Stored.{Terms, IsAt, HasFirst, Adds, anonymous_text}
 use Rattle.tt_interner.specs.Tables.{Entry, Tables, AreTables, entries_of, declared_entries, no_info}
 use Rattle.tt_interner.proofs.RowLaws.{row-new, get_or-keeps}
 use Rattle.tt_interner.proofs.FoundLemmas.{IsNew-from_table}
@@ -97,14 +97,14 @@ unfolding is_anonymous fill
 anonymous_is_first rows are first name h = same_tests (is_anonymous rows name) (eqb name.number 0)
     (λ is. eq-eqb name.number 0 (there (decides.0 is))) (λ is. decides.1 (back (eqb-true name.number 0 is)))
   where
-    decides : (is_anonymous rows name ≡ true) ↔ (name_of (meaning rows) name.number ≡ 39 ∷ 95 ∷ [])
-    decides = bytes_decides (name_of (meaning rows) name.number) (39 ∷ 95 ∷ [])
+    decides : (is_anonymous rows name ≡ true) ↔ (name_of (meaning rows) name.number ≡ anonymous_text)
+    decides = bytes_decides (name_of (meaning rows) name.number) anonymous_text
 
-    text : name_of (meaning rows) 0 ≡ 39 ∷ 95 ∷ []
-    text = ap text_of (Means-row rows are Symbols 0 (text_row (39 ∷ 95 ∷ [])) first.text).tree
+    text : name_of (meaning rows) 0 ≡ anonymous_text
+    text = ap text_of (Means-row rows are Symbols 0 (text_row anonymous_text) first.text).tree
 
-    there : name_of (meaning rows) name.number ≡ 39 ∷ 95 ∷ [] → name.number ≡ 0
-    there e = name_one (size rows) (meaning rows) (distinct rows are) name.number 0 h (slice_get_within (table Symbols rows) 0 (text_row (39 ∷ 95 ∷ [])) first.text) (e ∙ sym text)
+    there : name_of (meaning rows) name.number ≡ anonymous_text → name.number ≡ 0
+    there e = name_one (size rows) (meaning rows) (distinct rows are) name.number 0 h (slice_get_within (table Symbols rows) 0 (text_row anonymous_text) first.text) (e ∙ sym text)
 
-    back : name.number ≡ 0 → name_of (meaning rows) name.number ≡ 39 ∷ 95 ∷ []
+    back : name.number ≡ 0 → name_of (meaning rows) name.number ≡ anonymous_text
     back e = ap (name_of (meaning rows)) e ∙ text

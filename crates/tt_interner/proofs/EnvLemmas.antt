@@ -15,7 +15,7 @@ use Rattle.tt_kinds.specs.declared.predicate_kind.ClauseKind.TheVariants as clau
 use Rattle.tt_kinds.specs.declared.predicate_kind.PredicateKind.{PredicateKind}
 use Rattle.tt_kinds.specs.declared.predicate_kind.PredicateKind.TheVariants as predicate
 use Rattle.tt_kinds.specs.declared.table.Table.TheVariants.{Types, Consts, Predicates, ClauseLists}
-use Rattle.tt_kinds.specs.Shape.{item_shapes, IsPart, AreParts, HasParts}
+use Rattle.tt_kinds.specs.Shape.{item_shapes, AreParts, HasParts}
 use Rattle.tt_kinds.specs.Kinds.{clause_shape, predicate_kind_shape}
 use Rattle.tt_kinds.specs.Reading.{outer_binder}
 use Rattle.tt_interner.specs.Rows.{Row, predicate_row, clauses_row, text_row, table, size, meaning, AreRows}

@@ -17,7 +17,7 @@ tree_table (tree.term l ts) = label_table l
 tree_table (tree.node l ts) = label_table l
 tree_table (tree.binder vs t) = None
 
--- no part of a list stands in the shape: its tree is that of the items written out, so that it tells no list
+-- no part of a list stands in the shape: its tree is the tree of the items written out, so that it tells no list
 abbrev mutual
   pub HasNoView : Shape → Type 0
   HasNoView (param s i name) = ⊤

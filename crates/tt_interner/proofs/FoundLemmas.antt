@@ -45,7 +45,7 @@ insert_entry-same eq k v (e ∷ es) h = by (eq k e.0) refl (insert_entry-same eq
     by false p rest =
         ap (λ b. if b then (e.0, v) ∷ es else (e ∷ insert_entry eq es k v)) p ∙ ap (λ l. e ∷ l) (rest (sym (ap (λ b. cond b (Some e.1) (lookup (eq k) es)) p) ∙ h))
 
--- the row of the entry at an index is that of its key
+-- the row of the entry at an index is its key's row
 pub slice_get-rows : {K V : Type 0} (row : K → Row) (info : V → FlagComputation) (es : List (K × V)) (i : ℕ) → slice_get (map (λ (e : Entry). e.row) (entries_by row info es)) i ≡ option_map row (slice_get (keys_of es) i)
 slice_get-rows row info [] i = refl
 slice_get-rows row info (e ∷ es) zero = refl
@@ -57,7 +57,7 @@ pub record IsKey {K : Type 0} (test : K → Bool) (row : K → Row) (r : Row) : 
   pub same : (k : K) → row k ≡ r → test k ≡ true
 
 module _ {K V : Type 0} (test : K → Bool) (row : K → Row) (info : V → FlagComputation) (r : Row) (key : IsKey test row r) where
-  -- the entry that passes is that of the row r
+  -- the entry that passes is the entry of the row r
   pub found_row : (es : List (K × V)) (i : ℕ) → position test (keys_of es) ≡ Some i → slice_get (map (λ (e : Entry). e.row) (entries_by row info es)) i ≡ Some r
   found_row [] i e = absurd (none-some i e)
   found_row (first ∷ es) i e =
@@ -66,7 +66,7 @@ module _ {K V : Type 0} (test : K → Bool) (row : K → Row) (info : V → Flag
       ∙ ap (option_map row) (slice_get-get_or (keys_of (first ∷ es)) i first.0 at.0)
       ∙ ap Some (key.exact (get_or (keys_of (first ∷ es)) i first.0) at.1)
 
-  -- where no entry passes, none is that of the row r
+  -- where no entry passes, none is the entry of the row r
   pub new_row : (es : List (K × V)) → NonePasses test es → IsNew r (map (λ (e : Entry). e.row) (entries_by row info es))
   unfolding IsNew
   new_row [] none = tt

@@ -405,7 +405,7 @@ refilled_parts size s q (Kinds.bound d e) h p = h
 refilled_parts size s q (Kinds.plain l r) h p = (h.0, p)
 refilled_parts size s q (Kinds.under l vars m r) h p = (h.0, ((h.1.0.0, (refl, h.1.0.1.1, p)), tt))
 
--- the kind j is that of the stored term with other children
+-- the kind j is the stored term's kind with other children
 pub like_parts : (rows : List Row) (n : Node) (k j : Kind) (q : Parts) → IsNode rows n k → kind_table j ≡ kind_table k → kind_form j ≡ refilled q (kind_form k) → AreParts (size rows) (parts_shapes q) → HasParts (size rows) (kind_shape j)
 like_parts rows n k j q is table form p =
     rw (same-sort j k table, form) (refilled_parts (size rows) (kind_sort k) q (kind_form k) is.parts p)

@@ -94,7 +94,7 @@ module _ (r : Row) (rows : List Row) where
   pub table-new : table (row_table r) (r ∷ rows) ≡ table (row_table r) rows ++ r ∷ []
   table-new = table-own (row_table r) (is_in_own r)
 
-  -- a handle of the rows with r is one of the rows before, or that of r
+  -- a handle of the rows with r is one of the rows before, or r's own
   pub record IsNewest (t : Table) (n : ℕ) : Type 0 where
     pub same_table : row_table r ≡ t
     pub last : n ≡ size rows t

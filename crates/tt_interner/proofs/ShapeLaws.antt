@@ -42,7 +42,7 @@ use Rattle.tt_kinds.specs.Bound.{depth, region_name, var_kind}
 use Rattle.tt_kinds.specs.Parts.{term_child}
 use Rattle.tt_kinds.specs.Shape.{Shape, Shapes, param, bound, region, term, node, binder, stored, none, also, append, Meaning, fill, name_of, text_of, vars_of, item_shapes, sort_table}
 use Rattle.tt_kinds.specs.Kinds as form
-use Rattle.tt_kinds.specs.Kinds.{Form, ty_form, const_form, form_shape, relabelled, value_form, clause_form, predicate_form, existential_form, parts_shapes, child_shapes, term_shape, ty_kind_shape, const_kind_shape, pattern_kind_shape, region_shape, ty_shape, const_shape, arg_shape, pat_shape, existential_shape, clause_shape}
+use Rattle.tt_kinds.specs.Kinds.{Form, ty_form, const_form, form_shape, relabelled, value_form, clause_form, predicate_form, existential_form, parts_shapes, child_shapes, ty_kind_shape, const_kind_shape, pattern_kind_shape, region_shape, ty_shape, const_shape, arg_shape, pat_shape, existential_shape, clause_shape}
 use Rattle.tt_kinds.specs.Values.{assumption_shape}
 use Rattle.tt_interner.specs.Rows.{Row, type_row, const_row, pat_row, predicate_row, existential_row, clauses_row, tys_row, consts_row, args_row, pats_row, vars_row, existentials_row, assumptions_row, text_row, declared_row, row_table, row_shape}
 use Rattle.tt_interner.proofs.Fill.{tree_table, label_table-rename}

@@ -14,15 +14,16 @@ use Rattle.tt_kinds.specs.Tree.{Tree, Depth}
 use Rattle.tt_index.specs.declared.refusal.Refusal.{Refusal}
 use Rattle.tt_index.specs.declared.refusal.Refusal.TheVariants.{Memory, TableFull}
 use Rattle.tt_kinds.specs.Label.{clause_list_label, list_label, var_list_label, text_label}
-use Rattle.tt_kinds.specs.Shape.{none, fill, IsPart, HasParts, IsTooDeep}
+use Rattle.tt_kinds.specs.Shape.{none, fill, HasParts, IsTooDeep}
 use Rattle.tt_interner.specs.Rows.{Row, clauses_row, tys_row, consts_row, args_row, pats_row, vars_row, existentials_row, assumptions_row, text_row, row_table, row_shape, is_in, table, size, meaning, IsNew, HoldsClauses, AreRows}
-use Rattle.tt_interner.specs.Stored.{Terms, Counters, Adds, IsInfo, HasFirst, IsAt, first_rows}
+use Rattle.tt_interner.specs.Stored.{Terms, Counters, Adds, IsInfo, HasFirst, IsAt, first_rows, anonymous_text}
 use Rattle.tt_interner.specs.Tables.{Entry, Tables, entries_of, with_entries, push, rows_of, infos_of, reversed, merged, rows_in_order, entries_by, listed_by, AreInfos, AreTables, Keeps, no_info}
 use Rattle.tt_interner.proofs.RowLaws.{in_table, is_in_own, table-other, table-new, meaning-old, meaning-new, slice_get-push_before, slice_get-push_last, row-old}
 use Rattle.tt_interner.proofs.InfoLemmas.{info_node, info_term, infos_none}
 use Rattle.tt_interner.proofs.StoresLemmas.{Adds-ok, Adds-err}
 use Rattle.tt_interner.proofs.Trees.{Means-row}
 use Rattle.tt_interner.proofs.FoundLemmas.{no_value, value_place, slice_get-rows, IsKey, found_row, new_row, absent_row, IsNew-from_table, IsNew-table}
+use Rattle.tt_index.specs.Greatest.{greatest}
 
 -- The only lemmas with a line for each table.
 
@@ -170,7 +171,7 @@ AreTables-push rows ts limit e are parts shallow holds new room is = let r = e.r
   small = are.small;
 }
 
--- a table that a map keeps: the entries' rows are those of the keys
+-- a table that a map keeps: the entries' rows are the keys' rows
 module _ {K V : Type 0} (rows : List Row) (ts : Tables) (limit : ℕ) (are : AreTables rows ts limit)
     (t : Table) (row : K → Row) (info : V → FlagComputation) (es : List (K × V)) (is : entries_of ts t ≡ entries_by row info es) where
   has_rows : table t rows ≡ map (λ (x : Entry). x.row) (entries_by row info es)
@@ -309,7 +310,7 @@ no_tables = record {
   declarations = [];
 }
 
-AreTables-none : (limit : ℕ) → limit ≤ 4294967040 → AreTables [] no_tables limit
+AreTables-none : (limit : ℕ) → limit ≤ greatest → AreTables [] no_tables limit
 unfolding table AreRows
 AreTables-none limit small = record {
   are = tt;
@@ -371,7 +372,7 @@ first_tables = record {
   var_lists = first_of (vars_row []) ∷ [];
   existential_lists = first_of (existentials_row []) ∷ [];
   assumption_lists = first_of (assumptions_row []) ∷ [];
-  symbols = first_of (text_row (39 ∷ 95 ∷ [])) ∷ [];
+  symbols = first_of (text_row anonymous_text) ∷ [];
   declarations = [];
 }
 
@@ -382,7 +383,7 @@ rows_first : rows_in_order first_order first_tables ≡ first_rows
 unfolding rows_in_order merged
 rows_first = refl
 
-AreTables-first : (limit : ℕ) → 0 < limit → limit ≤ 4294967040 → AreTables first_rows first_tables limit
+AreTables-first : (limit : ℕ) → 0 < limit → limit ≤ greatest → AreTables first_rows first_tables limit
 unfolding table IsNew
 AreTables-first limit some small =
     let before = AreTables-none limit small in
@@ -402,10 +403,10 @@ AreTables-first limit some small =
     (info_node (meaning (clauses_row [] ∷ pats_row [] ∷ consts_row [] ∷ vars_row [] ∷ args_row [] ∷ tys_row [] ∷ [])) no_info (list_label ExistentialLists) refl) in
     let assumptions = AreTables-push (existentials_row [] ∷ clauses_row [] ∷ pats_row [] ∷ consts_row [] ∷ vars_row [] ∷ args_row [] ∷ tys_row [] ∷ []) _ limit (first_of (assumptions_row [])) existentials (tt, tt) (λ d. d) tt ((λ e. cc), ((λ e. cc), ((λ e. cc), ((λ e. cc), ((λ e. cc), ((λ e. cc), ((λ e. cc), tt))))))) some
     (info_node (meaning (existentials_row [] ∷ clauses_row [] ∷ pats_row [] ∷ consts_row [] ∷ vars_row [] ∷ args_row [] ∷ tys_row [] ∷ [])) no_info (list_label AssumptionLists) refl) in
-    AreTables-push (assumptions_row [] ∷ existentials_row [] ∷ clauses_row [] ∷ pats_row [] ∷ consts_row [] ∷ vars_row [] ∷ args_row [] ∷ tys_row [] ∷ []) _ limit (first_of (text_row (39 ∷ 95 ∷ []))) assumptions (tt, tt) (λ d. d) tt ((λ e. cc), ((λ e. cc), ((λ e. cc), ((λ e. cc), ((λ e. cc), ((λ e. cc), ((λ e. cc), ((λ e. cc), tt)))))))) some
-    (info_node (meaning (assumptions_row [] ∷ existentials_row [] ∷ clauses_row [] ∷ pats_row [] ∷ consts_row [] ∷ vars_row [] ∷ args_row [] ∷ tys_row [] ∷ [])) no_info (text_label (39 ∷ 95 ∷ [])) refl)
+    AreTables-push (assumptions_row [] ∷ existentials_row [] ∷ clauses_row [] ∷ pats_row [] ∷ consts_row [] ∷ vars_row [] ∷ args_row [] ∷ tys_row [] ∷ []) _ limit (first_of (text_row anonymous_text)) assumptions (tt, tt) (λ d. d) tt ((λ e. cc), ((λ e. cc), ((λ e. cc), ((λ e. cc), ((λ e. cc), ((λ e. cc), ((λ e. cc), ((λ e. cc), tt)))))))) some
+    (info_node (meaning (assumptions_row [] ∷ existentials_row [] ∷ clauses_row [] ∷ pats_row [] ∷ consts_row [] ∷ vars_row [] ∷ args_row [] ∷ tys_row [] ∷ [])) no_info (text_label anonymous_text) refl)
 
-pub Keeps-first : (order : List Table) (ts : Tables) (limit : ℕ) → order ≡ first_order → ts ≡ first_tables → 0 < limit → limit ≤ 4294967040 → Keeps order ts limit
+pub Keeps-first : (order : List Table) (ts : Tables) (limit : ℕ) → order ≡ first_order → ts ≡ first_tables → 0 < limit → limit ≤ greatest → Keeps order ts limit
 Keeps-first order ts limit is_order is_ts some small = rw (is_order, is_ts) (record {
   tables = subst (λ rows. AreTables rows first_tables limit) (sym rows_first) (AreTables-first limit some small);
   first = ([], rows_first);
@@ -437,7 +438,7 @@ has_first order ts limit keeps = subst HasFirst (sym keeps.first.1) (record {
   clauses = IsAt-added keeps.first.0 first_rows (clauses_row []) 0 refl;
   existentials = IsAt-added keeps.first.0 first_rows (existentials_row []) 0 refl;
   assumptions = IsAt-added keeps.first.0 first_rows (assumptions_row []) 0 refl;
-  text = IsAt-added keeps.first.0 first_rows (text_row (39 ∷ 95 ∷ [])) 0 refl;
+  text = IsAt-added keeps.first.0 first_rows (text_row anonymous_text) 0 refl;
 })
 
 -- the tables whose maps have their first rows
@@ -454,7 +455,7 @@ pub record HaveFirst (ts : Tables) : Type 0 where
   pub pattern_lists : ts.pattern_lists ≡ first_of (pats_row []) ∷ []
   pub clause_lists : ts.clause_lists ≡ first_of (clauses_row []) ∷ []
   pub existential_lists : ts.existential_lists ≡ first_of (existentials_row []) ∷ []
-  pub symbols : ts.symbols ≡ first_of (text_row (39 ∷ 95 ∷ [])) ∷ []
+  pub symbols : ts.symbols ≡ first_of (text_row anonymous_text) ∷ []
   pub assumption_lists : ts.assumption_lists ≡ first_of (assumptions_row []) ∷ []
   pub declarations : ts.declarations ≡ []
 

@@ -9,7 +9,7 @@ use Rattle.tt_kinds.specs.declared.existential.ExistentialPredicate.{Existential
 use Rattle.tt_kinds.specs.declared.table.Table.{Table}
 use Rattle.tt_kinds.specs.declared.table.Table.TheVariants.{Types, Consts, Patterns, Predicates, Existentials, ClauseLists, TypeLists, ConstLists, ArgLists, PatternLists, VarLists, ExistentialLists, AssumptionLists, Symbols, Declarations}
 use Rattle.tt_interner.specs.Rows.{Row, existential_row, text_row, row_table, table, size, AreRows}
-use Rattle.tt_interner.specs.Stored.{Terms, Counters, IsInfo, first_rows}
+use Rattle.tt_interner.specs.Stored.{Terms, Counters, IsInfo, first_rows, anonymous_text}
 use Rattle.tt_interner.specs.Tables.{Entry, Tables, entries_of, with_entries, push, rows_of, infos_of, reversed, newest, older, merged, rows_in_order, entries_by, AreInfos, AreTables, Keeps}
 use Rattle.tt_interner.specs.Existentials.{AreExistentials}
 use Rattle.tt_interner.proofs.RowLaws.{table-other, table-new, meaning-old, slice_get-push_before, slice_get-push_last, size-more}
@@ -52,7 +52,7 @@ entries_of-reversed AssumptionLists ts = refl
 entries_of-reversed Symbols ts = refl
 entries_of-reversed Declarations ts = refl
 
--- the newest row is that of the last table's last entry
+-- the newest row is the row of the last table's last entry
 newest_row : (order : List Table) (t : Table) (ts : Tables) (r : Row) (rest : List Row) → rows_in_order (order ++ t ∷ []) ts ≡ r ∷ rest → newest (reverse (entries_of ts t)) ≡ r
 unfolding rows_in_order merged
 newest_row order t ts r rest is =
@@ -67,7 +67,7 @@ newest-push es e = ap newest (reverse-append es (e ∷ []))
 no_text : (r : Row) → text_row [] ≡ r → row_table r ≡ Existentials → ⊥
 no_text r is own = let e : Symbols ≡ Existentials = ap row_table is ∙ own in cc
 
--- the last table is that of the newest row
+-- the last table is the newest row's table
 last_table : (rows : List Row) (ts : Tables) (limit : ℕ) → AreTables rows ts limit → (t : Table) (r : Row) → newest (reverse (entries_of ts t)) ≡ r → row_table r ≡ Existentials → t ≡ Existentials
 last_table rows ts limit are t r is own = by (last_cases (entries_of ts t))
   where
@@ -115,7 +115,7 @@ AreTables-pop rows ts limit e are = let r = e.row in let own = row_table e.row i
 -- the rows from the start are none of existential predicates
 first_pop : (added : List Row) (r : Row) (rest : List Row) → r ∷ rest ≡ added ++ first_rows → row_table r ≡ Existentials → (more : List Row) × (rest ≡ more ++ first_rows)
 first_pop [] r rest is own =
-    let same : text_row (39 ∷ 95 ∷ []) ≡ r = cc in
+    let same : text_row anonymous_text ≡ r = cc in
     let e : Symbols ≡ Existentials = ap row_table same ∙ own in
     absurd (cc)
 first_pop (a ∷ added) r rest is own = let e : rest ≡ added ++ first_rows = cc in (added, e)

@@ -1,5 +1,5 @@
 -- What is declared under an id, and what a declaring call promises.
-use Rattle.std.specs.Prelude.{◌≡◌, ℕ, ◌<◌, Bool, List, [], ◌∷◌, Option, Some, None, Result, IfOk, if◌then◌else◌, ⊤}
+use Rattle.std.specs.Prelude.{◌≡◌, ℕ, ◌<◌, Bool, List, Option, Some, None, Result, IfOk, if◌then◌else◌, ⊤}
 use Rattle.std.specs.Str.{bytes_eq}
 use Rattle.tt_index.specs.declared.refusal.Refusal.{Refusal}
 use Rattle.tt_kinds.specs.declared.handle.Symbol.{Symbol}
@@ -14,7 +14,7 @@ use Rattle.tt_kinds.specs.declared.bound.BoundRegionKind.TheVariants as region
 use Rattle.tt_kinds.specs.declared.table.Table.TheVariants.{Declarations}
 use Rattle.tt_kinds.specs.Shape.{name_of}
 use Rattle.tt_interner.specs.Rows.{Row, declared_row, size, meaning}
-use Rattle.tt_interner.specs.Stored.{Terms, Adds}
+use Rattle.tt_interner.specs.Stored.{Terms, Adds, anonymous_text}
 use Rattle.tt_interner.specs.Env.{row_at}
 
 -- the declaration of a row
@@ -38,7 +38,7 @@ pub record Declares {H : Type 0} (result : Result H Refusal) (number : H → ℕ
 
 -- the name is `'_`
 unfoldable pub is_anonymous : List Row → Symbol → Bool
-is_anonymous rows name = bytes_eq (name_of (meaning rows) name.number) (39 ∷ 95 ∷ [])
+is_anonymous rows name = bytes_eq (name_of (meaning rows) name.number) anonymous_text
 
 -- what a bound region is called: as its declaration is, unless that is called `'_`, or as it is printed
 abbrev pub title : List Row → BoundRegionKind → Option Symbol

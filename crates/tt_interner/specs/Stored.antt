@@ -1,9 +1,9 @@
 -- What contracts see of an interner, and what its calls promise.
-use Rattle.std.specs.Prelude.{◌≡◌, ℕ, ◌+◌, ◌<◌, ◌≤◌, List, [], ◌∷◌, Result, Ok, Err, IfOk, OnOk, OnErr, IfErr, Some, ◌⊎◌, ⊤, length, slice_get, nat_lt, cond}
+use Rattle.std.specs.Prelude.{◌≡◌, ℕ, ◌+◌, ◌<◌, ◌≤◌, List, [], ◌∷◌, Result, Ok, Err, IfOk, OnOk, OnErr, IfErr, Some, ◌⊎◌, ⊤, length, slice_get, nat_lt, cond, codes}
 use Rattle.tt_flags.specs.declared.flag_computation.FlagComputation.{FlagComputation}
 use Rattle.tt_index.specs.declared.refusal.Refusal.{Refusal}
 use Rattle.tt_index.specs.declared.refusal.Refusal.TheVariants.{Memory, TableFull, GreatestIndex, NotAClause}
-use Rattle.tt_kinds.specs.Label.{clause_list_label}
+use Rattle.tt_kinds.specs.Label.{Name, clause_list_label}
 use Rattle.tt_kinds.specs.Tree as tree
 use Rattle.tt_kinds.specs.Tree.{Tree, Depth}
 use Rattle.tt_kinds.specs.Parts.{list_number, list_sort, sort_list_table}
@@ -51,10 +51,14 @@ pub record IsInfo (info : FlagComputation) (t : Tree Depth) : Type 0 where
 abbrev pub IsAt : List Row → Row → ℕ → Type 0
 IsAt rows r n = slice_get (table (row_table r) rows) n ≡ Some r
 
+-- the name of what has none, `'_`
+abbrev pub anonymous_text : Name
+anonymous_text = codes "'_"
+
 -- what an interner has from the start, newest first: the empty lists, and the name `'_`
 abbrev pub first_rows : List Row
 first_rows =
-    text_row (39 ∷ 95 ∷ []) ∷ assumptions_row [] ∷ existentials_row [] ∷ clauses_row [] ∷ pats_row [] ∷ consts_row [] ∷ vars_row [] ∷ args_row [] ∷ tys_row [] ∷ []
+    text_row anonymous_text ∷ assumptions_row [] ∷ existentials_row [] ∷ clauses_row [] ∷ pats_row [] ∷ consts_row [] ∷ vars_row [] ∷ args_row [] ∷ tys_row [] ∷ []
 
 -- the rows that the defaults of the handles name
 pub record HasFirst (rows : List Row) : Type 0 where
@@ -66,7 +70,7 @@ pub record HasFirst (rows : List Row) : Type 0 where
   pub clauses : IsAt rows (clauses_row []) 0
   pub existentials : IsAt rows (existentials_row []) 0
   pub assumptions : IsAt rows (assumptions_row []) 0
-  pub text : IsAt rows (text_row (39 ∷ 95 ∷ [])) 0
+  pub text : IsAt rows (text_row anonymous_text) 0
 
 -- r was stored under the number, or is now the newest row
 pub record Stores (old new : List Row) (r : Row) (n : ℕ) : Type 0 where

@@ -10,6 +10,7 @@ use Rattle.tt_kinds.specs.declared.table.Table.{Table}
 use Rattle.tt_kinds.specs.declared.table.Table.TheVariants.{Types, Consts, Patterns, Predicates, Existentials, ClauseLists, TypeLists, ConstLists, ArgLists, PatternLists, VarLists, ExistentialLists, AssumptionLists, Symbols, Declarations}
 use Rattle.tt_interner.specs.Rows.{Row, text_row, declared_row, table, size, meaning, AreRows}
 use Rattle.tt_interner.specs.Stored.{IsInfo, first_rows}
+use Rattle.tt_index.specs.Greatest.{greatest}
 
 -- what is kept beside children is what their trees have
 pub record AreInfosOf (info : FlagComputation) (ts : Forest Depth) : Type 0 where
@@ -159,7 +160,7 @@ pub record AreTables (rows : List Row) (ts : Tables) (limit : ℕ) : Type 0 wher
   pub has : (t : Table) → table t rows ≡ rows_of ts t
   pub infos : (t : Table) → AreInfos rows t (infos_of ts t)
   pub within : (t : Table) → size rows t ≤ limit
-  pub small : limit ≤ 4294967040
+  pub small : limit ≤ greatest
 
 -- what is kept: the tables that the order makes, with what was there from the start as their first rows
 pub record Keeps (order : List Table) (ts : Tables) (limit : ℕ) : Type 0 where

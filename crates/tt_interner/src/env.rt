@@ -28,17 +28,20 @@ ghost use Rattle.tt_interner.specs.Env.{
 
 use crate::flags::Flags;
 use crate::interner::Interner;
+use thiserror::Error;
 use tt_index::DebruijnIndex;
 use tt_kinds::{
     Clause, ClauseKind, Const, ConstKind, ParamEnv, PlaceholderConst, Predicate, PredicateKind, Ty,
 };
 
 /// Why an environment gives a constant no one type.
-#[derive(Debug, Clone, Copy, PartialEq, Eq)]
+#[derive(Debug, Clone, Copy, PartialEq, Eq, Drop, Error)]
 pub enum ConstTyFault {
     /// No clause gives it a type.
+    #[error("no clause of the environment gives the constant a type: add a `ConstArgHasType` for it")]
     Missing,
     /// Two or more clauses give it a type, which may be the same one.
+    #[error("two or more clauses of the environment give the constant a type: keep one of them")]
     Duplicate,
 }
 

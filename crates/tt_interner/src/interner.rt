@@ -1,5 +1,6 @@
 //! The interner.
 
+ghost use Rattle.tt_index.specs.Greatest.{greatest};
 ghost use Rattle.std.specs.Prelude.{◌≡◌, ◌<◌, IfOk, IfErr, min};
 ghost use Rattle.tt_interner.specs.Rows.{AreRows};
 ghost use Rattle.tt_interner.specs.Stored.{first_rows, HasFirst};
@@ -80,7 +81,7 @@ impl Interner {
     /// Returns an interner of the empty lists and of the symbol `'_`, with room for as many rows as handles can name.
     pub fn new(alloc: Global) -> Result<Interner, Refusal>
         ensures rows { IfOk result (λ cx. cx.rows ≡ first_rows) }
-        ensures limit { IfOk result (λ cx. cx.limit ≡ 4294967040) }
+        ensures limit { IfOk result (λ cx. cx.limit ≡ greatest) }
         ensures counters { IfOk result (λ cx. cx.counters ≡ record { descents = 0; shift_descents = 0 }) }
         ensures cause { IfErr result (λ e. e ≡ Refusal.Memory) }
     {
@@ -91,7 +92,7 @@ impl Interner {
     /// room for the rows from the start.
     pub fn with_limit(alloc: Global, limit: u32) -> Result<Interner, Refusal>
         ensures rows { IfOk result (λ cx. cx.rows ≡ first_rows) }
-        ensures limit { IfOk result (λ cx. cx.limit ≡ min limit 4294967040) }
+        ensures limit { IfOk result (λ cx. cx.limit ≡ min limit greatest) }
         ensures counters { IfOk result (λ cx. cx.counters ≡ record { descents = 0; shift_descents = 0 }) }
         ensures full { limit ≡ 0 → result ≡ Err Refusal.TableFull }
         ensures cause { 0 < limit → IfErr result (λ e. e ≡ Refusal.Memory) }

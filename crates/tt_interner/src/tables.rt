@@ -1,4 +1,5 @@
 //! The tables, and the order in which their entries came.
+ghost use Rattle.tt_interner.specs.Stored.{anonymous_text};
 ghost use Rattle.std.specs.Prelude.{
   ◌≡◌,
   ℕ,
@@ -287,7 +288,7 @@ pub(crate) fn first_text(
     table: Table,
 ) -> Result<IndexMap<String, ()>, Refusal>
     ensures order { OnOk result (order.new.items ≡ order.old.items ++ table ∷ []) }
-    ensures entries { IfOk result (λ map. listed_by (λ k. string_bytes k) map.entries ≡ (39 ∷ 95 ∷ [], tt) ∷ []) }
+    ensures entries { IfOk result (λ map. listed_by (λ k. string_bytes k) map.entries ≡ (anonymous_text, tt) ∷ []) }
     ensures cause { IfErr result (λ e. e ≡ Refusal.Memory) }
 {
     let mut entries = IndexMap::new(alloc);

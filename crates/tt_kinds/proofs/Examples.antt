@@ -333,7 +333,7 @@ args ts = node (list_label ArgLists) ts
 abbrev of_args : {I : Type 0} → Label Name → Forest I → Tree I
 of_args l ts = term l (also (args ts) none)
 
--- the kinds that add a flag to those of their arguments
+-- the kinds that add a flag to their arguments' flags
 coroutine_says : Says (of_args (type_label (coroutine_type 0)) (also (parameter 0) none)) 0x2000001 0
 coroutine_says = (refl, refl)
 
@@ -428,7 +428,7 @@ hidden_variable h = elim h.1.0 [ inl x ↦ elim x [ inl a ↦ a | inr y ↦ elim
 shown_variable : Cause (of_args (const_label (unevaluated_const 0)) (also (region (region_var 0)) none)) (type_arg i32 ∷ []) (RegionVariable 0)
 shown_variable = ((λ e. cc), (tt, inl (inl refl)))
 
--- a kind that isn't stored has no flag of its own, and a token of an error has those of both sorts
+-- a kind that isn't stored has no flag of its own, and a token of an error has the flags of both sorts
 token_says : (f : Meaning) → Says (fill f (token_shape 3)) 0x18000 0
 unfolding fill
 token_says f = (refl, refl)

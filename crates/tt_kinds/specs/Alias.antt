@@ -2,6 +2,15 @@
 use Rattle.std.specs.Prelude.{ℕ, List, codes}
 use Rattle.tt_kinds.specs.declared.alias.AliasTyKind.{AliasTyKind}
 use Rattle.tt_kinds.specs.declared.alias.AliasTyKind.TheVariants.{Projection, Inherent, Opaque, Free}
+use Rattle.tt_kinds.specs.declared.declaration.DeclarationSort.{DeclarationSort}
+use Rattle.tt_kinds.specs.declared.declaration.DeclarationSort.TheVariants as sort
+
+-- the sort of an alias's declaration
+abbrev pub alias_sort : AliasTyKind → DeclarationSort
+alias_sort (Projection d) = sort.AssocTy
+alias_sort (Inherent d) = sort.Inherent
+alias_sort (Opaque d) = sort.Opaque
+alias_sort (Free d) = sort.Free
 
 -- what an alias is called in messages, in bytes
 abbrev pub alias_name : AliasTyKind → List ℕ

@@ -1,4 +1,6 @@
--- Declarations by their sort.
+-- Declarations by their sort, and the texts of ids.
+use Rattle.std.specs.Prelude.{ℕ, List, ◌++◌, codes}
+use Rattle.std.specs.Fmt.{decimal}
 use Rattle.tt_kinds.specs.declared.declaration.DeclarationKind.{DeclarationKind}
 use Rattle.tt_kinds.specs.declared.declaration.DeclarationKind.TheVariants as kind
 use Rattle.tt_kinds.specs.declared.declaration.DeclarationSort.{DeclarationSort}
@@ -19,3 +21,7 @@ sort_of kind.CoroutineClosure = sort.CoroutineClosure
 sort_of kind.Coroutine = sort.Coroutine
 sort_of kind.Const = sort.Const
 sort_of kind.Param = sort.Param
+
+-- the text of an id: its number after a `#`
+abbrev pub id_text : ℕ → List ℕ
+id_text number = codes "#" ++ decimal number

@@ -1,8 +1,9 @@
 //! Aliases: types that stand for others.
 
 ghost use Rattle.std.specs.Prelude.{◌≡◌};
-ghost use Rattle.tt_kinds.specs.Alias.{alias_name, alias_number};
+ghost use Rattle.tt_kinds.specs.Alias.{alias_name, alias_number, alias_sort};
 
+use crate::declaration::DeclarationSort;
 use crate::handle::GenericArgs;
 use crate::id::{DefId, FreeTyAliasId, InherentAssocTyId, OpaqueTyId, TraitAssocTyId};
 
@@ -37,11 +38,23 @@ impl AliasTyKind {
     pub fn descr(self) -> &'static str
         ensures { result.now ≡ alias_name self }
     {
+        match self.sort() {
+            DeclarationSort::Free => "type alias",
+            DeclarationSort::Opaque => "opaque type",
+            DeclarationSort::Inherent => "inherent associated type",
+            _ => "associated type",
+        }
+    }
+
+    // The sort of the alias's declaration.
+    fn sort(self) -> DeclarationSort
+        ensures { result ≡ alias_sort self }
+    {
         match self {
-            AliasTyKind::Projection { .. } => "associated type",
-            AliasTyKind::Inherent { .. } => "inherent associated type",
-            AliasTyKind::Opaque { .. } => "opaque type",
-            AliasTyKind::Free { .. } => "type alias",
+            AliasTyKind::Projection { .. } => DeclarationSort::AssocTy,
+            AliasTyKind::Inherent { .. } => DeclarationSort::Inherent,
+            AliasTyKind::Opaque { .. } => DeclarationSort::Opaque,
+            AliasTyKind::Free { .. } => DeclarationSort::Free,
         }
     }
 

@@ -1,8 +1,12 @@
 //! Ids: small values that name a declaration of one interner.
 //!
-//! An id's number is its place in the interner's table of declarations. Ids of two interners aren't told apart.
+//! An id's number is its place in the interner's table of declarations, and its text is `#` and that number. Ids of two
+//! interners aren't told apart.
 
-ghost use Rattle.std.specs.Prelude.{◌≡◌};
+ghost use Rattle.std.specs.Prelude.{◌≡◌, Some};
+ghost use Rattle.tt_kinds.specs.Declaration.{id_text};
+
+use std::fmt;
 
 /// A declaration of any kind.
 #[derive(Clone, Copy, Debug, PartialEq, Eq, Hash)]
@@ -27,6 +31,15 @@ impl DefId {
     }
 }
 
+impl fmt::Display for DefId {
+    ghost output = { λ id. Some (id_text id.number) };
+
+    fn fmt<W: fmt::Write>(&self, f: &mut fmt::Formatter<W>) -> fmt::Result {
+        let DefId { number: place } = self;
+        write!(f, "#{place}")
+    }
+}
+
 /// A struct, an enum or a union.
 #[derive(Clone, Copy, Debug, PartialEq, Eq, Hash)]
 pub struct AdtId {
@@ -47,6 +60,15 @@ impl AdtId {
     {
         let AdtId { number } = self;
         number
+    }
+}
+
+impl fmt::Display for AdtId {
+    ghost output = { λ id. Some (id_text id.number) };
+
+    fn fmt<W: fmt::Write>(&self, f: &mut fmt::Formatter<W>) -> fmt::Result {
+        let AdtId { number: place } = self;
+        write!(f, "#{place}")
     }
 }
 
@@ -81,6 +103,15 @@ impl ForeignId {
     }
 }
 
+impl fmt::Display for ForeignId {
+    ghost output = { λ id. Some (id_text id.number) };
+
+    fn fmt<W: fmt::Write>(&self, f: &mut fmt::Formatter<W>) -> fmt::Result {
+        let ForeignId { number: place } = self;
+        write!(f, "#{place}")
+    }
+}
+
 impl From<ForeignId> for DefId {
     ghost from_gives = { λ id def_id. def_id ≡ record { number = id.number } };
 
@@ -109,6 +140,15 @@ impl FunctionId {
     {
         let FunctionId { number } = self;
         number
+    }
+}
+
+impl fmt::Display for FunctionId {
+    ghost output = { λ id. Some (id_text id.number) };
+
+    fn fmt<W: fmt::Write>(&self, f: &mut fmt::Formatter<W>) -> fmt::Result {
+        let FunctionId { number: place } = self;
+        write!(f, "#{place}")
     }
 }
 
@@ -143,6 +183,15 @@ impl ClosureId {
     }
 }
 
+impl fmt::Display for ClosureId {
+    ghost output = { λ id. Some (id_text id.number) };
+
+    fn fmt<W: fmt::Write>(&self, f: &mut fmt::Formatter<W>) -> fmt::Result {
+        let ClosureId { number: place } = self;
+        write!(f, "#{place}")
+    }
+}
+
 impl From<ClosureId> for DefId {
     ghost from_gives = { λ id def_id. def_id ≡ record { number = id.number } };
 
@@ -171,6 +220,15 @@ impl CoroutineClosureId {
     {
         let CoroutineClosureId { number } = self;
         number
+    }
+}
+
+impl fmt::Display for CoroutineClosureId {
+    ghost output = { λ id. Some (id_text id.number) };
+
+    fn fmt<W: fmt::Write>(&self, f: &mut fmt::Formatter<W>) -> fmt::Result {
+        let CoroutineClosureId { number: place } = self;
+        write!(f, "#{place}")
     }
 }
 
@@ -205,6 +263,15 @@ impl CoroutineId {
     }
 }
 
+impl fmt::Display for CoroutineId {
+    ghost output = { λ id. Some (id_text id.number) };
+
+    fn fmt<W: fmt::Write>(&self, f: &mut fmt::Formatter<W>) -> fmt::Result {
+        let CoroutineId { number: place } = self;
+        write!(f, "#{place}")
+    }
+}
+
 impl From<CoroutineId> for DefId {
     ghost from_gives = { λ id def_id. def_id ≡ record { number = id.number } };
 
@@ -233,6 +300,15 @@ impl TraitId {
     {
         let TraitId { number } = self;
         number
+    }
+}
+
+impl fmt::Display for TraitId {
+    ghost output = { λ id. Some (id_text id.number) };
+
+    fn fmt<W: fmt::Write>(&self, f: &mut fmt::Formatter<W>) -> fmt::Result {
+        let TraitId { number: place } = self;
+        write!(f, "#{place}")
     }
 }
 
@@ -267,6 +343,15 @@ impl ImplId {
     }
 }
 
+impl fmt::Display for ImplId {
+    ghost output = { λ id. Some (id_text id.number) };
+
+    fn fmt<W: fmt::Write>(&self, f: &mut fmt::Formatter<W>) -> fmt::Result {
+        let ImplId { number: place } = self;
+        write!(f, "#{place}")
+    }
+}
+
 impl From<ImplId> for DefId {
     ghost from_gives = { λ id def_id. def_id ≡ record { number = id.number } };
 
@@ -295,6 +380,15 @@ impl UnevaluatedConstId {
     {
         let UnevaluatedConstId { number } = self;
         number
+    }
+}
+
+impl fmt::Display for UnevaluatedConstId {
+    ghost output = { λ id. Some (id_text id.number) };
+
+    fn fmt<W: fmt::Write>(&self, f: &mut fmt::Formatter<W>) -> fmt::Result {
+        let UnevaluatedConstId { number: place } = self;
+        write!(f, "#{place}")
     }
 }
 
@@ -329,6 +423,15 @@ impl TraitAssocTyId {
     }
 }
 
+impl fmt::Display for TraitAssocTyId {
+    ghost output = { λ id. Some (id_text id.number) };
+
+    fn fmt<W: fmt::Write>(&self, f: &mut fmt::Formatter<W>) -> fmt::Result {
+        let TraitAssocTyId { number: place } = self;
+        write!(f, "#{place}")
+    }
+}
+
 impl From<TraitAssocTyId> for DefId {
     ghost from_gives = { λ id def_id. def_id ≡ record { number = id.number } };
 
@@ -357,6 +460,15 @@ impl InherentAssocTyId {
     {
         let InherentAssocTyId { number } = self;
         number
+    }
+}
+
+impl fmt::Display for InherentAssocTyId {
+    ghost output = { λ id. Some (id_text id.number) };
+
+    fn fmt<W: fmt::Write>(&self, f: &mut fmt::Formatter<W>) -> fmt::Result {
+        let InherentAssocTyId { number: place } = self;
+        write!(f, "#{place}")
     }
 }
 
@@ -391,6 +503,15 @@ impl OpaqueTyId {
     }
 }
 
+impl fmt::Display for OpaqueTyId {
+    ghost output = { λ id. Some (id_text id.number) };
+
+    fn fmt<W: fmt::Write>(&self, f: &mut fmt::Formatter<W>) -> fmt::Result {
+        let OpaqueTyId { number: place } = self;
+        write!(f, "#{place}")
+    }
+}
+
 impl From<OpaqueTyId> for DefId {
     ghost from_gives = { λ id def_id. def_id ≡ record { number = id.number } };
 
@@ -419,6 +540,15 @@ impl FreeTyAliasId {
     {
         let FreeTyAliasId { number } = self;
         number
+    }
+}
+
+impl fmt::Display for FreeTyAliasId {
+    ghost output = { λ id. Some (id_text id.number) };
+
+    fn fmt<W: fmt::Write>(&self, f: &mut fmt::Formatter<W>) -> fmt::Result {
+        let FreeTyAliasId { number: place } = self;
+        write!(f, "#{place}")
     }
 }
 

@@ -104,15 +104,15 @@ pub struct Parts {
 /// The kind of a stored term.
 #[derive(Clone, Copy, Debug, PartialEq, Eq)]
 pub enum Kind {
-    /// That of a type.
+    /// The kind of a type.
     Ty(TyKind),
-    /// That of a constant.
+    /// The kind of a constant.
     Const(ConstKind),
-    /// That of a pattern.
+    /// The kind of a pattern.
     Pat(PatternKind),
-    /// That of a predicate.
+    /// The kind of a predicate.
     Predicate(Binder<PredicateKind>),
-    /// That of an existential predicate.
+    /// The kind of an existential predicate.
     Existential(Binder<ExistentialPredicate>),
 }
 

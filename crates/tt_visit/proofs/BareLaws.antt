@@ -2,9 +2,9 @@
 use Rattle.std.proofs.Common.{◌≡◌, ℕ, Option, Some, None, refl}
 use Rattle.tt_kinds.specs.Label.{Name, Sort, Entry, RecordLabel, Label, type_sort, const_sort, type_label, const_label, record_label, bare_type_record, bare_const_record, error_of_type, error_of_const}
 use Rattle.tt_kinds.specs.Tree as tree
-use Rattle.tt_kinds.specs.Tree.{Depth, Tree, Forest}
+use Rattle.tt_kinds.specs.Tree.{Depth, Tree}
 use Rattle.tt_kinds.specs.Shape as shape
-use Rattle.tt_kinds.specs.Shape.{Meaning, Sizes, IsPart, AreParts, HasParts, IsNamedLabel, fill, fill_all, name_of, rename_label}
+use Rattle.tt_kinds.specs.Shape.{Meaning, fill, fill_all, name_of}
 use Rattle.tt_kinds.specs.Kinds.{Form, param, bound, plain, under, relabelled, form_shape, parts_shapes, kind_shape, ty_form, const_form}
 use Rattle.tt_kinds.specs.declared.parts.Kind.TheVariants as kind
 use Rattle.tt_kinds.specs.declared.ty_kind.TyKind.{TyKind}

@@ -21,7 +21,7 @@ use Rattle.tt_interner.specs.Views.{AreInputs, LiesInList}
 use Rattle.tt_interner.proofs.Trees.{Means-row}
 use Rattle.tt_visit.specs.Views.{HoldsArgs, HoldsInputs}
 
--- the tree of a part of a list is that of the items in it
+-- the tree of a part of a list is the tree of the items in it
 pub part-tree : {T : Type 0} (of_item : T → Shape) (f : Meaning) (t : Table) (n : ℕ) (e : Extent) (l : Label ℕ) (all xs : List T)
     → f t n ≡ fill f (node l (item_shapes of_item all)) → xs ≡ take (item_count e (length all)) (drop (first_item e) all)
     → fill f (part_of t n e) ≡ tree.node (record_label sequence_record) (fill_all f (item_shapes of_item xs))

@@ -7,7 +7,7 @@ use Rattle.std.proofs.lemmas.Option.{slice_get_within, get_or_from_slice_get}
 use Rattle.tt_kinds.specs.Label.{Name, Sort, region_sort, type_sort, const_sort, TypeLabel, ConstLabel, Label, type_label, const_label, pattern_label, predicate_label, existential_label, clause_list_label, list_label, var_list_label, text_label, declaration_label, record_label, error_label, clause_label}
 use Rattle.tt_kinds.specs.Tree as tree
 use Rattle.tt_kinds.specs.Tree.{Depth, Tree, Forest}
-use Rattle.tt_kinds.specs.Shape.{Shapes, none, also, append, rename_label, rename_record, Meaning, Sizes, IsPart, AreParts, HasParts, fill, fill_all, name_of}
+use Rattle.tt_kinds.specs.Shape.{Shapes, none, also, append, rename_label, rename_record, Meaning, Sizes, AreParts, HasParts, fill, fill_all, name_of}
 use Rattle.tt_kinds.specs.Kinds.{Form, param, bound, plain, under, ty_form, const_form, kind_form, relabelled, form_binder, form_parts, form_shape, kind_sort, kind_shape, region_shape, child_shapes, parts_shapes, children_shapes, items_tree}
 use Rattle.tt_kinds.specs.declared.parts.Kind.{Kind}
 use Rattle.tt_kinds.specs.declared.table.Table.{Table}

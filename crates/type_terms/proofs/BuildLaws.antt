@@ -11,7 +11,7 @@ use Rattle.tt_kinds.specs.Tree.{Tree, Forest, Depth, node}
 use Rattle.tt_kinds.specs.Bound.{depth, IsBelowGreatest}
 use Rattle.tt_kinds.specs.RegionKind.{IsShallow}
 use Rattle.tt_kinds.specs.Shape as shape
-use Rattle.tt_kinds.specs.Shape.{Shape, Shapes, Sizes, Meaning, stored, fill, name_of, text_of, HasParts, IsPart, IsTooDeep, IsGreatest}
+use Rattle.tt_kinds.specs.Shape.{Shape, Shapes, stored, fill, name_of, IsPart, IsTooDeep, IsGreatest}
 use Rattle.tt_kinds.specs.Kinds.{text_row_shape, region_shape}
 use Rattle.tt_kinds.specs.declared.bound.BoundVarIndexKind.{BoundVarIndexKind}
 use Rattle.tt_kinds.specs.declared.bound.BoundVarIndexKind.TheVariants as index
@@ -33,7 +33,7 @@ use Rattle.type_terms.specs.Told.{Told, term, refused, told, told_all, AreOwned,
 use Rattle.type_terms.specs.Means as means
 use Rattle.type_terms.specs.Means.{number_at, tree_at, AreTerms, NamesTerms, BuildsOrFolds, IsTold, IsKnown, IsThere, AddsNothing, IsAllowed, MayRefuse, want_of_memory, full_table, no_term, too_deep}
 use Rattle.type_terms.specs.Build as build
-use Rattle.type_terms.specs.Build.{IsUnbuilt, no_memory, no_row, no_index, IsNameOf, IsRegionOf, GivesRegion, ArePlaced, AreItemsOf, GivesPart, GivesPlaced, IsKindOf, Answers}
+use Rattle.type_terms.specs.Build.{IsUnbuilt, no_memory, no_row, no_index, IsNameOf, GivesRegion, ArePlaced, AreItemsOf, GivesPart, GivesPlaced, IsKindOf, Answers}
 use Rattle.type_terms.specs.Room.{IsForRoom, HasValue, NeedsRoom, FormNeedsRoom}
 use Rattle.type_terms.proofs.ValueLaws.{new-lacks}
 use Rattle.type_terms.proofs.RoomLaws.{stored-value}

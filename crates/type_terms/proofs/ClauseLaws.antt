@@ -5,7 +5,7 @@ use Rattle.tt_index.specs.declared.refusal.Refusal.{Refusal}
 use Rattle.tt_index.specs.declared.refusal.Refusal.TheVariants.{NoSuchAnswer}
 use Rattle.tt_kinds.specs.Label.{clause_list_label}
 use Rattle.tt_kinds.specs.Tree as tree
-use Rattle.tt_kinds.specs.Shape.{fill, IsPart, stored}
+use Rattle.tt_kinds.specs.Shape.{fill, stored}
 use Rattle.tt_kinds.specs.Kinds.{clause_shape, clauses_shape}
 use Rattle.tt_kinds.specs.declared.handle.Clause.{Clause}
 use Rattle.tt_kinds.specs.declared.handle.Clauses.{Clauses}

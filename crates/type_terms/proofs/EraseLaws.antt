@@ -8,7 +8,7 @@ use Rattle.tt_kinds.specs.Tree as tree
 use Rattle.tt_kinds.specs.Tree.{Depth, Tree, Forest}
 use Rattle.tt_kinds.specs.Met.{Met, met, placed, placed_all}
 use Rattle.tt_kinds.specs.Reading.{read, read_all, FitsUnder, FitsUnder_all}
-use Rattle.tt_kinds.specs.Shape.{fill, IsPart}
+use Rattle.tt_kinds.specs.Shape.{fill}
 use Rattle.tt_kinds.specs.declared.region_kind.RegionKind.{RegionKind}
 use Rattle.tt_kinds.specs.declared.region_kind.RegionKind.TheVariants.{ReBound, ReErased}
 use Rattle.tt_kinds.specs.declared.bound.BoundVarIndexKind.{BoundVarIndexKind}

@@ -15,3 +15,7 @@ pub mod FoldLaws
 pub mod EraseLaws
 pub mod QueryLaws
 pub mod DeclareLaws
+pub mod PrintSteps
+pub mod PrintNames
+pub mod PrintLaws
+pub mod PrintParts

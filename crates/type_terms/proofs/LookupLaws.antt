@@ -7,7 +7,7 @@ use Rattle.std.proofs.lemmas.Option.{slice_get-map}
 use Rattle.tt_index.specs.declared.refusal.Refusal.{Refusal}
 use Rattle.tt_index.specs.declared.refusal.Refusal.TheVariants.{NoSuchAnswer}
 use Rattle.tt_kinds.specs.Tree.{Tree, Depth}
-use Rattle.tt_kinds.specs.Shape.{fill, stored, IsPart}
+use Rattle.tt_kinds.specs.Shape.{fill, stored}
 use Rattle.tt_kinds.specs.declared.declaration.DeclarationSort.{DeclarationSort}
 use Rattle.tt_kinds.specs.declared.id.DefId.{DefId}
 use Rattle.tt_kinds.specs.declared.table.Table.{Table}

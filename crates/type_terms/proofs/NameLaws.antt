@@ -6,7 +6,7 @@ use Rattle.tt_index.specs.declared.refusal.Refusal.{Refusal}
 use Rattle.tt_kinds.specs.Label.{VarKind, var_list_label}
 use Rattle.tt_kinds.specs.Tree.{node, none}
 use Rattle.tt_kinds.specs.Bound.{var_kind}
-use Rattle.tt_kinds.specs.Shape.{Sizes, fill, name_of, vars_of, rename_kind, AreNamedKinds, IsNamedKind, IsPart}
+use Rattle.tt_kinds.specs.Shape.{Sizes, fill, name_of, vars_of, rename_kind, AreNamedKinds, IsNamedKind}
 use Rattle.tt_kinds.specs.Kinds.{vars_row_shape}
 use Rattle.tt_kinds.specs.declared.bound.BoundRegionKind.{BoundRegionKind}
 use Rattle.tt_kinds.specs.declared.bound.BoundVariableKind.{BoundVariableKind}

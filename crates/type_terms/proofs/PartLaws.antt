@@ -11,7 +11,7 @@ use Rattle.tt_index.specs.declared.refusal.Refusal.TheVariants.{GreatestIndex, N
 use Rattle.tt_kinds.specs.Tree.{Tree, Depth, Forest}
 use Rattle.tt_kinds.specs.Label.{Name, Label, RecordLabel, record_label, type_label, dynamic_type}
 use Rattle.tt_kinds.specs.Shape as shape
-use Rattle.tt_kinds.specs.Shape.{Shape, Shapes, Sizes, fill, fill_all, name_of, vars_of, rename_label, rename_record, IsNamedLabel, IsNamedRecord, IsPart, AreParts, item_shapes}
+use Rattle.tt_kinds.specs.Shape.{Shape, Shapes, Sizes, fill, fill_all, name_of, rename_label, rename_record, IsNamedLabel, IsNamedRecord, IsPart, AreParts, item_shapes}
 use Rattle.tt_kinds.specs.Kinds.{RecordForm, region_shape, child_shapes, term_kind_shape, term_shape}
 use Rattle.tt_kinds.specs.Parts.{term_kind_child, term_child}
 use Rattle.tt_kinds.specs.declared.term.Term.{Term}
@@ -28,7 +28,7 @@ use Rattle.type_terms.specs.CallForm.{ExistentialForm, trait_object, existential
 use Rattle.type_terms.specs.Told.{Told, HasFullTable}
 use Rattle.type_terms.specs.Means.{number_at, tree_at, AreTerms}
 use Rattle.type_terms.specs.Build as build
-use Rattle.type_terms.specs.Build.{IsUnbuilt, IsUnusable, IsUsable, IsPlaced, ArePlaced, IsItemOf, AreItemsOf, IsPartOf, ArePartsOf, GivesPart, GivesParts, GivesPlaced, GivesItems, PutsPlaced, PutsItems, IsRegionOf, GivesRegion, IsVariableListOf, IsKindOf, GivesKind, GivesRecord}
+use Rattle.type_terms.specs.Build.{IsUnbuilt, IsUnusable, IsUsable, IsPlaced, ArePlaced, IsItemOf, AreItemsOf, IsPartOf, ArePartsOf, GivesPart, GivesParts, GivesPlaced, GivesItems, PutsPlaced, PutsItems, IsRegionOf, IsVariableListOf, IsKindOf, GivesKind, GivesRecord}
 
 -- positions of two lists
 pub AreTerms-append : (e : List Told) (ms ns : List Named) → AreTerms e ms → AreTerms e ns → AreTerms e (ms ++ ns)
@@ -129,7 +129,7 @@ module _ {X : Type 0} (names_of : X → List Named) where
       let same : w ≡ x = cc in subst (λ (y : X). AreTerms e (names_of y)) same (AreTerms-first e (names_of w) (all_positions names_of xs) k)
   named-among e (w ∷ xs) (suc i) x h k = named-among e xs i x h (AreTerms-second e (names_of w) (all_positions names_of xs) k)
 
--- those of a list that need the greatest index
+-- the items of a list that need the greatest index
 module _ {X : Type 0} (deep_of : X → Type 0) where
   shallow-append : (xs : List X) (x : X) → (AnyIsDeep deep_of xs → ⊥) → (deep_of x → ⊥) → AnyIsDeep deep_of (xs ++ x ∷ []) → ⊥
   shallow-append [] x h k d = elim d [ inl y ↦ k y | inr y ↦ y ]
@@ -140,7 +140,7 @@ module _ {X : Type 0} (deep_of : X → Type 0) where
   deep-among (w ∷ xs) zero x h d = let same : x ≡ w = cc in inl (subst deep_of same d)
   deep-among (w ∷ xs) (suc i) x h d = inr (deep-among xs i x h d)
 
--- those of a list in order, and the values
+-- the items of a list in order, and the values
 module _ {X T : Type 0} (tree_of : (ℕ → ℕ) → (ℕ → Tree Depth) → X → Tree Depth) (names_of : X → List Named) (deep_of : X → Type 0) (of_value : T → Shape) where
   parts-append : (size : Sizes) (ys : List T) (y : T) → AreParts size (item_shapes of_value ys) → IsPart size (of_value y)
       → AreParts size (item_shapes of_value (ys ++ y ∷ []))
@@ -184,7 +184,7 @@ module _ {X T : Type 0} (tree_of : (ℕ → ℕ) → (ℕ → Tree Depth) → X 
 pub get-mapped : {A B : Type 0} (f : A → B) (xs : List A) (i : ℕ) (x : A) → slice_get xs i ≡ Some x → slice_get (map f xs) i ≡ Some (f x)
 get-mapped f xs i x h = slice_get-map f xs i ∙ ap (option_map f) h
 
--- items in order: those of calls, and the values
+-- items in order: the calls' items, and the values
 module _ {C T : Type 0} (item : C → Item) (of_value : T → Shape) where
   pub items-none : (terms : Terms) (e : List Told) → AreItemsOf terms e (map item []) (item_shapes of_value [])
   items-none terms e = all-none item_tree item_positions IsItemTooDeep of_value terms e

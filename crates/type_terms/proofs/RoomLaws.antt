@@ -1,5 +1,5 @@
 -- Why a building call is refused for want of room: something of what it builds isn't there.
-use Rattle.std.proofs.Common.{◌≡◌, ℕ, ◌<◌, List, [], ◌∷◌, length, map, Result, Ok, Err, Some, refl, ap, sym, ◌∙◌, subst, arith}
+use Rattle.std.proofs.Common.{◌≡◌, ℕ, ◌<◌, List, [], ◌∷◌, length, map, Result, Ok, Err, Some, ap, sym, ◌∙◌, subst, arith}
 use Rattle.std.specs.Prelude.{IfErr, OnErr, slice_get}
 use Rattle.std.proofs.lemmas.List.{length-map}
 use Rattle.std.proofs.lemmas.List.Elements.{All-get_or}
@@ -9,7 +9,6 @@ use Rattle.tt_index.specs.declared.refusal.Refusal.TheVariants.{NoSuchAnswer}
 use Rattle.tt_kinds.specs.Label.{Name, Sort, VarKind, Label, RecordLabel, type_label, dynamic_type, list_label, record_label, unstable_feature_record, var_list_label}
 use Rattle.tt_kinds.specs.Tree as tree
 use Rattle.tt_kinds.specs.Tree.{Tree, Depth, node}
-use Rattle.tt_kinds.specs.Bound.{var_kind}
 use Rattle.tt_kinds.specs.Shape as shape
 use Rattle.tt_kinds.specs.Shape.{Shape, Shapes, fill, item_shapes, HasParts}
 use Rattle.tt_kinds.specs.Kinds.{existential_shape}
@@ -22,7 +21,7 @@ use Rattle.tt_interner.specs.Stored.{Terms, Builds, most_in_place}
 use Rattle.type_terms.specs.declared.run.answer.Answer.{Answer}
 use Rattle.type_terms.specs.declared.run.call.RegionCall.{RegionCall}
 use Rattle.type_terms.specs.declared.run.call.VariableCall.{VariableCall}
-use Rattle.type_terms.specs.CallForm.{Item, Part, one, a_region, a_list, CallForm, param, plain, under, trait_object, ExistentialForm, IsShortExistential, RecordCall, labelled, all_trees, existential_tree, existentials_tree, form_tree, Named, variable_kind, variable_text, region_text, item_tree, part_tree, parts_trees}
+use Rattle.type_terms.specs.CallForm.{Item, Part, one, a_region, a_list, CallForm, param, plain, under, trait_object, ExistentialForm, IsShortExistential, RecordCall, labelled, all_trees, existential_tree, existentials_tree, form_tree, Named, variable_kind, variable_text, region_text, item_tree, part_tree}
 use Rattle.type_terms.specs.Told.{Told, told_all, IsStored}
 use Rattle.type_terms.specs.Means.{number_at, tree_at}
 use Rattle.type_terms.specs.Build.{ArePlaced, AreItemsOf, AreVariablesOf, IsKindOf}

@@ -355,7 +355,7 @@ abbrev pub AreShort : List Part → Type 0
 AreShort [] = ⊤
 AreShort (p ∷ ps) = IsShort p × AreShort ps
 
--- no list in the existential predicate has more items than are collected without memory, nor has that of its variables
+-- no list in the existential predicate has more items than are collected without memory, nor has the list of its variables
 abbrev pub IsShortExistential : ExistentialForm → Type 0
 IsShortExistential x = (length x.vars ≤ most_in_place) × AreShort x.under.parts
 

@@ -4,3 +4,5 @@ pub mod Told
 pub mod Means
 pub mod Room
 pub mod Build
+pub mod Text
+pub mod Spelling

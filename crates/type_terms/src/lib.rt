@@ -1,8 +1,11 @@
 //! The type terms of the Rust compiler's type checker: the library as one crate, and the running of lists of calls on it.
 #![tactic(auto)]
 
+pub mod ir_print;
+pub mod prelude;
 pub mod run;
 
+pub use ir_print::IrPrint;
 pub use run::AliasCall;
 pub use run::Answer;
 pub use run::ArgCall;

@@ -10,9 +10,12 @@ mod every_kind;
 mod existentials;
 mod kinds;
 mod library;
+mod messages;
 mod orders;
+mod prelude;
 mod queries;
 mod readme;
+mod text;
 mod values;
 mod views;
 

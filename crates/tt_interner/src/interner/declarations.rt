@@ -151,7 +151,8 @@ impl Interner {
         Ok(OpaqueTyId::from_number(id.number()))
     }
 
-    /// Declares a type alias that stands for itself, as [`Interner::declare_trait`] does.
+    /// Declares a type alias whose bounds are checked, and which can always be normalized away, as
+    /// [`Interner::declare_trait`] does.
     pub fn declare_free(&mut self, name: Symbol) -> Result<FreeTyAliasId, Refusal>
         requires { name.number < size self.old.rows Table.Symbols }
         ensures { Declares result (λ id. id.number) self.old self.new DeclarationKind.Free name }

@@ -61,7 +61,7 @@ impl Interner {
         self.owns_id_of_sort(DefId::from(id), DeclarationSort::Opaque)
     }
 
-    /// Returns whether this interner has declared `id` as a type alias that stands for itself.
+    /// Returns whether this interner has declared `id` as a type alias whose bounds are checked.
     pub fn owns_free_ty_alias_id(&self, id: FreeTyAliasId) -> bool
         ensures { IsTrue result ↔ IsOfSort self.now.rows DeclarationSort.Free id.number }
     {

@@ -7,13 +7,13 @@ use thiserror::Error;
 #[derive(Clone, Copy, Debug, PartialEq, Eq, Drop, Error)]
 pub enum Fault {
     /// A read failed, or 4294967295 reads did not reach the end of the input. Nothing was written.
-    #[error("the input could not be read")]
+    #[error("the input could not be read to its end: nothing was written")]
     Input,
     /// A write failed. How much went out is open.
-    #[error("the output could not be written")]
+    #[error("the output could not be written: how much went out is not known")]
     Output,
     /// Memory was refused outside of the calls. The line `run refused Memory` alone was written.
-    #[error("the run was refused for want of memory")]
+    #[error("memory was refused outside of the calls: only `run refused Memory` was written")]
     Memory,
 }
 

@@ -1,4 +1,4 @@
-use Rattle.std.proofs.Common.{refl, sym, ap, ◌∙◌, ◌≡◌, inl}
+use Rattle.std.proofs.Common.{sym, ap, ◌∙◌, ◌≡◌, inl}
 use Rattle.tt_kinds.specs.Reading.{read, outer_binder}
 use Rattle.tt_kinds.specs.Plain.{shift_tree}
 use Rattle.tt_kinds.specs.Count.{moving_types}

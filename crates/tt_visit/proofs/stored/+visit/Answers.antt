@@ -1,5 +1,5 @@
 use Rattle.std.proofs.Common.{refl, arith}
-use Rattle.tt_kinds.specs.Shape.{AreParts, IsPart, fill, fill_all}
+use Rattle.tt_kinds.specs.Shape.{fill, fill_all}
 use Rattle.tt_kinds.specs.Kinds.{child_shapes}
 use Rattle.tt_visit.specs.Visit.{region_seen, term_seen, node_seen, binder_skipped, binder_seen, value_seen, all_seen, one_seen, region_broke, term_inside_broke, node_broke, enter_broke, under_broke, value_broke, first_broke}
 use Rattle.tt_visit.proofs.VisitSteps.{flow-weaker, root-meaning, asked-skip, asked-descend, asked-broke-inside, asking-broke, root-region, parts-kind, inside-kind, told-kind, broke-kind, seen-append, broke-before, broke-after, parts-before, parts-after, parts-child, has-kind, list-seen, list-broke, child-seen, child-broke, children-seen}

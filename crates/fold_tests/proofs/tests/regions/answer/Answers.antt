@@ -1,5 +1,4 @@
 use Rattle.std.proofs.Common.{refl}
-use Rattle.tt_kinds.specs.Shape.{IsPart}
 use Rattle.type_terms.proofs.EraseLaws.{bound-named}
 use Rattle.fold_tests.proofs.tests.regions.answer.Goals as goal
 

@@ -1,4 +1,3 @@
-use Rattle.std.proofs.Common.{refl}
 use Rattle.tt_kinds.specs.declared.table.Table.TheVariants.{ClauseLists}
 use Rattle.tt_fold.specs.Remember.{left_alone, gone_into}
 use Rattle.tt_fold.proofs.BoundLaws.{term_kept, clauses_other}

@@ -1,4 +1,4 @@
-use Rattle.std.proofs.Common.{◌≡◌, true, false, refl, sym, ◌∙◌}
+use Rattle.std.proofs.Common.{refl, sym, ◌∙◌}
 use Rattle.std.proofs.lemmas.Result.{err_from_is_err_and}
 use Rattle.tt_kinds.specs.Label.{const_sort}
 use Rattle.tt_kinds.specs.Bound.{const_entry}
@@ -8,12 +8,12 @@ use Rattle.tt_kinds.specs.Kinds.{const_shape}
 use Rattle.tt_interner.specs.Rows.{meaning}
 use Rattle.tt_interner.proofs.Growth.{Extends-refl}
 use Rattle.tt_fold.specs.Steps.{tree_in, IsRefused}
-use Rattle.tt_fold.specs.Remember.{left_alone, gone_into, taken_apart, remembered}
+use Rattle.tt_fold.specs.Remember.{left_alone, gone_into}
 use Rattle.tt_fold.specs.MemoryGrowth.{OwnsMemos-still}
 use Rattle.tt_fold.proofs.PartLaws.{in_range}
 use Rattle.tt_fold.proofs.TypeLaws.{part-type}
 use Rattle.tt_fold.proofs.FoldSteps.{node_is_kind}
-use Rattle.tt_fold.proofs.BoundLaws.{const_tree, const_other, term_kept, term_taken, term_given, term_refused, bound_outer}
+use Rattle.tt_fold.proofs.BoundLaws.{const_tree, const_other, term_kept, term_given, term_refused, bound_outer}
 use Rattle.tt_fold.proofs.ShiftSteps.{moved_given, moved_refused}
 use Rattle.tt_fold.proofs.shift.ShifterTypeFolder.fold_const.Goals as goal
 

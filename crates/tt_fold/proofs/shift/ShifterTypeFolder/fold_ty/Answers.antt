@@ -1,4 +1,4 @@
-use Rattle.std.proofs.Common.{◌≡◌, true, false, refl, sym, ◌∙◌}
+use Rattle.std.proofs.Common.{refl, sym, ◌∙◌}
 use Rattle.std.proofs.lemmas.Result.{err_from_is_err_and}
 use Rattle.tt_kinds.specs.Label.{type_sort}
 use Rattle.tt_kinds.specs.Bound.{ty_entry}
@@ -6,9 +6,8 @@ use Rattle.tt_kinds.specs.declared.table.Table.TheVariants.{Types}
 use Rattle.tt_kinds.specs.declared.parts.Node.TheVariants as node
 use Rattle.tt_kinds.specs.Kinds.{ty_shape}
 use Rattle.tt_interner.specs.Rows.{meaning}
-use Rattle.tt_interner.proofs.Growth.{Extends-refl}
 use Rattle.tt_fold.specs.Steps.{tree_in, IsRefused}
-use Rattle.tt_fold.specs.Remember.{left_alone, gone_into, taken_apart, remembered}
+use Rattle.tt_fold.specs.Remember.{left_alone, remembered}
 use Rattle.tt_fold.specs.MemoryGrowth.{OwnsMemos-still}
 use Rattle.tt_fold.proofs.PartLaws.{in_range}
 use Rattle.tt_fold.proofs.TypeLaws.{part-type}

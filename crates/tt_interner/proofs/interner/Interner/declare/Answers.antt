@@ -2,7 +2,6 @@
 use Rattle.std.proofs.Common.{ap, refl, subst, ◌∙◌, ◌≡◌, length}
 use Rattle.tt_kinds.specs.declared.table.Table.TheVariants.{Declarations}
 use Rattle.tt_kinds.specs.Label.{declaration_label}
-use Rattle.tt_kinds.specs.Shape.{IsPart}
 use Rattle.tt_interner.specs.Rows.{declared_row, size, IsNew}
 use Rattle.tt_interner.specs.Tables.{with_entries, declared_entries}
 use Rattle.tt_interner.specs.Kept.{tables}

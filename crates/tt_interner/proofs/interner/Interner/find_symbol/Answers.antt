@@ -1,4 +1,4 @@
--- the look-up is that of the row
+-- the look-up finds the row
 use Rattle.std.proofs.Common.{sym, refl, arith}
 use Rattle.std.specs.String.{string_bytes}
 use Rattle.tt_kinds.specs.declared.table.Table.TheVariants.{Symbols}

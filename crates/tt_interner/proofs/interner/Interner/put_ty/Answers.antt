@@ -1,4 +1,4 @@
--- an entry that is there is that of the row, and else the new row is the newest
+-- an entry that is there is the row's entry, and else the new row is the newest
 use Rattle.std.proofs.Common.{refl, ap, ◌∙◌}
 use Rattle.tt_interner.specs.Rows.{type_row}
 use Rattle.tt_interner.specs.Tables.{entries_by}

@@ -7,6 +7,7 @@ use Rattle.tt_kinds.specs.declared.table.Table.TheVariants.{TypeLists, ArgLists,
 use Rattle.tt_interner.specs.Tables.{no_info, entries_by, declared_entries}
 use Rattle.tt_interner.proofs.TableLemmas.{Keeps-first, rows_are_first, are_first_tables, entries_by-first, first_order}
 use Rattle.tt_interner.proofs.interner.Interner.with_limit.Goals as goal
+use Rattle.tt_interner.specs.Stored.{anonymous_text}
 
 -- the order of the first entries
 in_first_order : (a b c d : List Table) → a ≡ [] → b ≡ a ++ TypeLists ∷ ArgLists ∷ VarLists ∷ ConstLists ∷ [] → c ≡ b ++ PatternLists ∷ ClauseLists ∷ ExistentialLists ∷ AssumptionLists ∷ [] → d ≡ c ++ Symbols ∷ [] → d ≡ first_order
@@ -29,7 +30,7 @@ invariant_of-result c = Keeps-first _ _ _
       pattern_lists = entries_by-first (λ k. k.items) pats_row (λ v. v) c.in-Ok-more_lists.lists.pattern_lists.entries [] no_info c.in-Ok-more_lists.ensures.patterns;
       clause_lists = entries_by-first (λ k. k.items) clauses_row (λ v. v) c.in-Ok-more_lists.lists.clause_lists.entries [] no_info c.in-Ok-more_lists.ensures.clauses;
       existential_lists = entries_by-first (λ k. k.items) existentials_row (λ v. v) c.in-Ok-more_lists.lists.existential_lists.entries [] no_info c.in-Ok-more_lists.ensures.existentials;
-      symbols = entries_by-first (λ k. string_bytes k) text_row (λ v. no_info) c.in-Ok-first_text.symbols.entries (39 ∷ 95 ∷ []) tt c.in-Ok-first_text.ensures.entries;
+      symbols = entries_by-first (λ k. string_bytes k) text_row (λ v. no_info) c.in-Ok-first_text.symbols.entries anonymous_text tt c.in-Ok-first_text.ensures.entries;
       assumption_lists = entries_by-first (λ k. k.items) assumptions_row (λ v. v) c.in-Ok-more_lists.lists.assumption_lists.entries [] no_info c.in-Ok-more_lists.ensures.assumptions;
       declarations = ap (declared_entries 0) c.new-6.ensures.items;
     }))
@@ -51,7 +52,7 @@ returns-clause-rows c = rows_are_first _ _
       pattern_lists = entries_by-first (λ k. k.items) pats_row (λ v. v) c.in-Ok-more_lists.lists.pattern_lists.entries [] no_info c.in-Ok-more_lists.ensures.patterns;
       clause_lists = entries_by-first (λ k. k.items) clauses_row (λ v. v) c.in-Ok-more_lists.lists.clause_lists.entries [] no_info c.in-Ok-more_lists.ensures.clauses;
       existential_lists = entries_by-first (λ k. k.items) existentials_row (λ v. v) c.in-Ok-more_lists.lists.existential_lists.entries [] no_info c.in-Ok-more_lists.ensures.existentials;
-      symbols = entries_by-first (λ k. string_bytes k) text_row (λ v. no_info) c.in-Ok-first_text.symbols.entries (39 ∷ 95 ∷ []) tt c.in-Ok-first_text.ensures.entries;
+      symbols = entries_by-first (λ k. string_bytes k) text_row (λ v. no_info) c.in-Ok-first_text.symbols.entries anonymous_text tt c.in-Ok-first_text.ensures.entries;
       assumption_lists = entries_by-first (λ k. k.items) assumptions_row (λ v. v) c.in-Ok-more_lists.lists.assumption_lists.entries [] no_info c.in-Ok-more_lists.ensures.assumptions;
       declarations = ap (declared_entries 0) c.new-6.ensures.items;
     }))

@@ -1,6 +1,6 @@
 -- the visit of its assumptions in order
 use Rattle.std.proofs.Common.{refl}
-use Rattle.tt_kinds.specs.Shape.{IsPart, fill, fill_all}
+use Rattle.tt_kinds.specs.Shape.{fill, fill_all}
 use Rattle.tt_kinds.specs.declared.table.Table.TheVariants.{AssumptionLists}
 use Rattle.tt_interner.specs.Rows.{assumptions_row}
 use Rattle.tt_interner.proofs.Trees.{Means-row}

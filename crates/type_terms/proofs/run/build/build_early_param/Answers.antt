@@ -1,5 +1,5 @@
 use Rattle.std.proofs.Common.{refl}
-use Rattle.tt_kinds.specs.Shape.{fill, IsPart}
+use Rattle.tt_kinds.specs.Shape.{fill}
 use Rattle.type_terms.proofs.BuildLaws.{region-shallow, symbol-named}
 use Rattle.type_terms.proofs.run.build.build_early_param.Goals as goal
 

@@ -1,7 +1,7 @@
 use Rattle.std.proofs.Common.{ap}
 use Rattle.tt_kinds.specs.Label.{placeholder_region}
 use Rattle.tt_kinds.specs.Tree as tree
-use Rattle.tt_kinds.specs.Shape.{fill, IsPart}
+use Rattle.tt_kinds.specs.Shape.{fill}
 use Rattle.type_terms.proofs.BuildLaws.{region-shallow, region-passed}
 use Rattle.type_terms.proofs.run.build.build_placeholder.Goals as goal
 

@@ -1,5 +1,5 @@
 use Rattle.std.proofs.Common.{refl}
-use Rattle.tt_kinds.specs.Shape.{fill, IsPart}
+use Rattle.tt_kinds.specs.Shape.{fill}
 use Rattle.tt_kinds.specs.declared.region_kind.RegionKind.TheVariants.{ReStatic, ReVar, ReErased, ReError}
 use Rattle.type_terms.proofs.BuildLaws.{region-shallow}
 use Rattle.type_terms.proofs.run.build.build_region.Goals as goal

@@ -1,6 +1,5 @@
 use Rattle.std.proofs.Common.{◌<◌, ◌≤◌, length, take, arith}
 use Rattle.std.proofs.lemmas.List.{take_more, take_all}
-use Rattle.tt_kinds.specs.Shape.{IsPart}
 use Rattle.tt_interner.proofs.Growth.{Extends-refl, Extends-trans}
 use Rattle.type_terms.specs.Told.{told_all}
 use Rattle.type_terms.specs.Means.{number_at}

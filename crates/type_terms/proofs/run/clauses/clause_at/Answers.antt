@@ -1,5 +1,4 @@
 use Rattle.std.proofs.Common.{refl}
-use Rattle.tt_kinds.specs.Shape.{IsPart}
 use Rattle.tt_kinds.specs.Kinds.{clause_shape}
 use Rattle.type_terms.specs.CallForm.{one, a_clause}
 use Rattle.type_terms.specs.Told.{told_all, HasFullTable}

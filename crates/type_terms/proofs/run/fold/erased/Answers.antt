@@ -1,5 +1,5 @@
 use Rattle.std.proofs.Common.{◌≡◌, [], rules}
-use Rattle.tt_kinds.specs.Shape.{IsPart, fill}
+use Rattle.tt_kinds.specs.Shape.{fill}
 use Rattle.tt_kinds.specs.declared.region_kind.RegionKind.TheVariants.{ReErased}
 use Rattle.tt_interner.specs.Rows.{meaning}
 use Rattle.type_terms.specs.declared.run.call.Call.TheVariants as call

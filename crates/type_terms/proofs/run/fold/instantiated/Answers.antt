@@ -1,4 +1,4 @@
-use Rattle.tt_kinds.specs.Shape.{IsPart, fill}
+use Rattle.tt_kinds.specs.Shape.{fill}
 use Rattle.tt_interner.specs.Rows.{meaning}
 use Rattle.tt_binder.specs.Arguments.{arguments}
 use Rattle.type_terms.specs.declared.run.call.Call.TheVariants as call

@@ -1,4 +1,4 @@
-use Rattle.tt_kinds.specs.Shape.{IsPart, fill}
+use Rattle.tt_kinds.specs.Shape.{fill}
 use Rattle.type_terms.proofs.run.fold.stays.Goals as goal
 
 pub is_untouched-requires : goal.is_untouched-requires

@@ -1,7 +1,6 @@
 use Rattle.std.proofs.Common.{[], ◌∷◌, refl, ap}
 use Rattle.tt_kinds.specs.Label.{trait_record, const_has_type_record, well_formed_record, const_evaluatable_record}
 use Rattle.tt_kinds.specs.Shape as shape
-use Rattle.tt_kinds.specs.Shape.{append}
 use Rattle.tt_kinds.specs.Kinds.{clause_form, ty_shape, const_shape, args_shape, term_shape}
 use Rattle.tt_kinds.specs.declared.table.Table.TheVariants.{Types, Consts}
 use Rattle.type_terms.specs.CallForm.{labelled, one, a_term, args_part, term_part}

@@ -1,4 +1,4 @@
-use Rattle.tt_kinds.specs.Shape.{IsPart, fill}
+use Rattle.tt_kinds.specs.Shape.{fill}
 use Rattle.type_terms.proofs.run.query.info.Goals as goal
 
 pub flags-requires : goal.flags-requires

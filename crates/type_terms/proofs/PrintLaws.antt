@@ -1,0 +1,290 @@
+-- The texts of stored terms: each is its head, then its parts, then its end.
+use Rattle.std.proofs.Common.{◌≡◌, ℕ, List, [], ◌++◌, Bool, true, false, refl, ap, sym, ◌∙◌}
+use Rattle.std.specs.Prelude.{if◌then◌else◌}
+use Rattle.std.proofs.lemmas.List.{append-nil}
+use Rattle.tt_kinds.specs.Label.{Name, Sort, region_sort, type_sort, const_sort, VarKind, RegionName, anonymous, printed, named, environment, FreeRegion, static_region, late_param_region, TypeLabel, infer_type, raw_ptr_type, ConstLabel, infer_const, PatternLabel, range_pattern, RecordLabel, pair_record, host_effect_record, unstable_feature_record, Label, type_label, const_label, pattern_label, predicate_label, existential_label, record_label}
+use Rattle.tt_kinds.specs.Tree as tree
+use Rattle.tt_kinds.specs.Tree.{Depth, at, canonical, Tree, Forest, none, also, count_trees}
+use Rattle.tt_kinds.specs.Shape as shape
+use Rattle.tt_kinds.specs.Shape.{Meaning, Sizes, fill, fill_all, name_of, rename_label, rename_record, rename_free, rename_region, vars_of, IsNamed, IsNamedLabel, IsNamedRecord, HasParts, IsPart}
+use Rattle.tt_kinds.specs.Kinds.{Form, param, bound, plain, under, form_parts, form_shape, kind_form, kind_sort, kind_shape, relabelled, ty_form, const_form, value_form, pattern_form, predicate_form, existential_form, parts_shapes, region_shape, items_label, items_tree}
+use Rattle.tt_kinds.specs.Bound.{depth, region_name}
+use Rattle.tt_kinds.specs.declared.handle.Ty.{Ty}
+use Rattle.tt_kinds.specs.declared.table.Table.TheVariants.{VarLists}
+use Rattle.tt_kinds.specs.declared.ty_kind.TyKind.{TyKind}
+use Rattle.tt_kinds.specs.declared.ty_kind.TyKind.TheVariants as ty
+use Rattle.tt_kinds.specs.declared.ty_kind.InferTy.TheVariants.{TyVar}
+use Rattle.tt_kinds.specs.declared.const_kind.InferConst.TheVariants.{Var}
+use Rattle.tt_kinds.specs.declared.const_kind.ConstKind.{ConstKind}
+use Rattle.tt_kinds.specs.declared.const_kind.ConstKind.TheVariants as const
+use Rattle.tt_kinds.specs.declared.const_kind.ValTreeKind.{ValTreeKind}
+use Rattle.tt_kinds.specs.declared.const_kind.ValTreeKind.TheVariants as valtree
+use Rattle.tt_kinds.specs.declared.predicate.BoundConstness.TheVariants as constness
+use Rattle.tt_kinds.specs.declared.predicate_kind.AliasRelationDirection.TheVariants as direction
+use Rattle.tt_index.specs.declared.qualifier.Mutability.TheVariants.{Not, Mut}
+use Rattle.tt_kinds.specs.declared.region_kind.RegionKind.{RegionKind}
+use Rattle.tt_kinds.specs.declared.region_kind.RegionKind.TheVariants.{ReEarlyParam, ReBound, ReLateParam, ReStatic, ReVar, RePlaceholder, ReErased, ReError}
+use Rattle.tt_kinds.specs.declared.bound.BoundRegionKind.TheVariants as region_kind
+use Rattle.tt_kinds.specs.declared.parts.Parts.{Parts}
+use Rattle.tt_kinds.specs.declared.parts.Kind.{Kind}
+use Rattle.tt_kinds.specs.declared.parts.Kind.TheVariants as kind
+use Rattle.tt_kinds.specs.declared.parts.ListSort.{ListSort}
+use Rattle.tt_kinds.specs.declared.parts.ListSort.TheVariants as sort
+use Rattle.type_terms.specs.declared.ir_print.layout.Style.{Style}
+use Rattle.type_terms.specs.declared.ir_print.layout.Style.TheVariants as style
+use Rattle.type_terms.specs.Text.{is_variadic, opening, Head, no_head, head, type_head, const_head, pattern_head, record_head, bound_head, free_head, region_name_head, type_style, record_style, style_in, closing, head_text, text_in, texts}
+use Rattle.type_terms.specs.Spelling.{form_head, form_style, under_head, region_head, rename_head, IsNamedSubject}
+
+-- a label's head names what the label names
+module _ (f : ℕ → Name) where
+  type-renamed : (l : TypeLabel) → rename_head f (type_head l) ≡ type_head l
+  type-renamed (infer_type (TyVar v)) = refl
+  type-renamed (infer_type _) = refl
+  type-renamed (raw_ptr_type Not) = refl
+  type-renamed (raw_ptr_type Mut) = refl
+  type-renamed _ = refl
+
+  const-renamed : (l : ConstLabel) → rename_head f (const_head l) ≡ const_head l
+  const-renamed (infer_const (Var v)) = refl
+  const-renamed (infer_const _) = refl
+  const-renamed _ = refl
+
+  pattern-renamed : (l : PatternLabel) → rename_head f (pattern_head l) ≡ pattern_head l
+  pattern-renamed range_pattern = refl
+  pattern-renamed _ = refl
+
+  record-renamed : (l : RecordLabel ℕ) → rename_head f (record_head l) ≡ record_head (rename_record f l)
+  record-renamed (host_effect_record d constness.Const) = refl
+  record-renamed (host_effect_record d constness.Maybe) = refl
+  record-renamed _ = refl
+
+  head-renamed : (l : Label ℕ) → rename_head f (head l) ≡ head (rename_label f l)
+  head-renamed (type_label l) = type-renamed l
+  head-renamed (const_label l) = const-renamed l
+  head-renamed (pattern_label l) = pattern-renamed l
+  head-renamed (record_label l) = record-renamed l
+  head-renamed _ = refl
+
+  bound-renamed : (s : Sort) (d : Depth) (var : ℕ) → rename_head f (bound_head s d var) ≡ bound_head s d var
+  bound-renamed type_sort (at d) var = refl
+  bound-renamed type_sort canonical var = refl
+  bound-renamed _ (at d) var = refl
+  bound-renamed _ canonical var = refl
+
+  called-renamed : (r : RegionName ℕ) → rename_head f (region_name_head r) ≡ region_name_head (rename_region f r)
+  called-renamed anonymous = refl
+  called-renamed (printed n) = refl
+  called-renamed (named d) = refl
+  called-renamed environment = refl
+
+  free-renamed : (r : FreeRegion ℕ) → rename_head f (free_head r) ≡ free_head (rename_free f r)
+  free-renamed (late_param_region d r) = called-renamed r
+  free-renamed static_region = refl
+  free-renamed _ = refl
+
+  record-style-renamed : (s : Style) (l : RecordLabel ℕ) → record_style s (rename_record f l) ≡ record_style s l
+  record-style-renamed s pair_record = refl
+  record-style-renamed s _ = refl
+
+  style-renamed : (s : Style) (l : Label ℕ) → style_in s (rename_label f l) ≡ style_in s l
+  style-renamed s (record_label l) = record-style-renamed s l
+  style-renamed s _ = refl
+
+-- nothing is around one child of this style
+record IsBareAround (s : Style) : Type 0 where
+  before : opening s true ≡ []
+  after : closing s 1 ≡ []
+
+bare-signature : (b : Bool) → IsBareAround (if b then style.Variadic else style.Signature)
+bare-signature true = record { before = refl; after = refl }
+bare-signature false = record { before = refl; after = refl }
+
+-- a type under a binder: nothing is around its record, and nothing in front of that
+abbrev IsOuterType : Form TypeLabel → Type 0
+IsOuterType (param i name) = Unit {0}
+IsOuterType (bound d e) = Unit {0}
+IsOuterType (plain l p) = Unit {0}
+IsOuterType (under l vars m p) = IsBareAround (type_style l) × (record_head m ≡ no_head)
+
+outer-type : (k : TyKind) → IsOuterType (ty_form k)
+outer-type (ty.FnPtr b h) = (bare-signature (is_variadic h.fn_sig_kind), refl)
+outer-type (ty.UnsafeBinder b) = (record { before = refl; after = refl }, refl)
+outer-type _ = tt
+
+-- no constant is under a binder
+abbrev IsOuterConst : Form ConstLabel → Type 0
+IsOuterConst (param i name) = Unit {0}
+IsOuterConst (bound d e) = Unit {0}
+IsOuterConst (plain l p) = Unit {0}
+IsOuterConst (under l vars m p) = ⊥
+
+outer-value : (t : Ty) (v : ValTreeKind) → IsOuterConst (value_form t v)
+outer-value t (valtree.Leaf s) = tt
+outer-value t (valtree.Branch cs) = tt
+
+outer-const : (k : ConstKind) → IsOuterConst (const_form k)
+outer-const (const.Value v) = outer-value v.ty v.valtree.kind
+outer-const _ = tt
+
+module _ (item_name : ℕ → Name) (f : Meaning) where
+  -- a form's head, its parts and its end
+  abbrev spelled : Form (Label ℕ) → List ℕ
+  spelled x =
+      head_text item_name (rename_head (name_of f) (form_head x))
+      ++ (texts item_name (form_style x) true (fill_all f (parts_shapes (form_parts x))) ++ closing (form_style x) (count_trees (fill_all f (parts_shapes (form_parts x)))))
+
+  name-text : (name : List ℕ) → name ≡ ([] ++ (name ++ [])) ++ ([] ++ [])
+  name-text name = sym (append-nil name) ∙ sym (append-nil (name ++ []))
+
+  bound-text : (s : Sort) (d : Depth) (var : ℕ) → bound_head {N = Name} s d var ≡ bound_head type_sort d var
+      → head_text item_name (bound_head s d var) ≡ head_text item_name (rename_head (name_of f) (bound_head type_sort d var)) ++ ([] ++ [])
+  bound-text s d var same =
+      ap (head_text item_name) (same ∙ sym (bound-renamed (name_of f) type_sort d var)) ∙ sym (append-nil (head_text item_name (rename_head (name_of f) (bound_head type_sort d var))))
+
+  plain-text : (s : Style) (l : Label ℕ) (ts : Forest Depth) → style_in s l ≡ style_in style.Joined l
+      → text_in item_name s (tree.term (rename_label (name_of f) l) ts)
+      ≡ head_text item_name (rename_head (name_of f) (head l)) ++ (texts item_name (style_in style.Joined l) true ts ++ closing (style_in style.Joined l) (count_trees ts))
+  plain-text s l ts same =
+      rw (style-renamed (name_of f) s l, same, ← head-renamed (name_of f) l) refl
+
+  record-text : (s : Style) (m : RecordLabel ℕ) (ts : Forest Depth)
+      → text_in item_name s (tree.node (record_label (rename_record (name_of f) m)) ts)
+      ≡ head_text item_name (rename_head (name_of f) (record_head m)) ++ (texts item_name (record_style s m) true ts ++ closing (record_style s m) (count_trees ts))
+  record-text s m ts = rw (record-style-renamed (name_of f) s m, ← record-renamed (name_of f) m) refl
+
+  -- what is under a binder, with nothing around it
+  alone-text : (t : List ℕ) → (([] ++ (t ++ [])) ++ []) ≡ t
+  alone-text t = append-nil (t ++ []) ∙ append-nil t
+
+  under-text : (s : Style) (l : Label ℕ) (m : RecordLabel ℕ) (vs : List (VarKind Name)) (ts : Forest Depth) → style_in s l ≡ style_in style.Joined l → IsBareAround (style_in style.Joined l)
+      → text_in item_name s (tree.term (rename_label (name_of f) l) (also (tree.binder vs (tree.node (record_label (rename_record (name_of f) m)) ts)) none))
+      ≡ head_text item_name (rename_head (name_of f) (head l)) ++ (head_text item_name (rename_head (name_of f) (record_head m))
+      ++ (texts item_name (record_style (style_in style.Joined l) m) true ts ++ closing (record_style (style_in style.Joined l) m) (count_trees ts)))
+  under-text s l m vs ts same bare =
+      rw (style-renamed (name_of f) s l, same, bare.before, bare.after, ← head-renamed (name_of f) l, record-style-renamed (name_of f) (style_in style.Joined l) m, ← record-renamed (name_of f) m)
+      (ap (λ w. head_text item_name (rename_head (name_of f) (head l)) ++ w)
+      (alone-text (head_text item_name (rename_head (name_of f) (record_head m))
+      ++ (texts item_name (record_style (style_in style.Joined l) m) true ts ++ closing (record_style (style_in style.Joined l) m) (count_trees ts)))))
+
+  type-text : (s : Style) (x : Form TypeLabel) → IsOuterType x → text_in item_name s (fill f (form_shape type_sort (relabelled type_label x))) ≡ spelled (relabelled type_label x)
+  unfolding fill fill_all
+  type-text s (param i name) h = name-text (name_of f name)
+  type-text s (bound d e) h = bound-text type_sort d e.var refl
+  type-text s (plain l p) h = plain-text s (type_label l) (fill_all f (parts_shapes p)) refl
+  type-text s (under l vars m p) h =
+      under-text s (type_label l) m (vars_of (f VarLists vars.number)) (fill_all f (parts_shapes p)) refl h.0
+      ∙ ap (λ r. head_text item_name (rename_head (name_of f) (type_head l)) ++ (head_text item_name (rename_head (name_of f) r)
+      ++ (texts item_name (record_style (type_style l) m) true (fill_all f (parts_shapes p))
+      ++ closing (record_style (type_style l) m) (count_trees (fill_all f (parts_shapes p)))))) h.1
+
+  const-text : (s : Style) (x : Form ConstLabel) → IsOuterConst x → text_in item_name s (fill f (form_shape const_sort (relabelled const_label x))) ≡ spelled (relabelled const_label x)
+  unfolding fill fill_all
+  const-text s (param i name) h = name-text (name_of f name)
+  const-text s (bound (at d) e) h = bound-text const_sort (at d) e.var refl
+  const-text s (bound canonical e) h = bound-text const_sort canonical e.var refl
+  const-text s (plain l p) h = plain-text s (const_label l) (fill_all f (parts_shapes p)) refl
+  const-text s (under l vars m p) h = absurd h
+
+  bare : IsBareAround style.Joined
+  bare = record { before = refl; after = refl }
+
+  -- the text of a stored term, by its kind
+  pub kind-text : (s : Style) (k : Kind) → text_in item_name s (fill f (kind_shape k)) ≡ spelled (kind_form k)
+  unfolding fill fill_all
+  kind-text s (kind.Ty k) = type-text s (ty_form k) (outer-type k)
+  kind-text s (kind.Const k) = const-text s (const_form k) (outer-const k)
+  kind-text s (kind.Pat k) = plain-text s (pattern_label (pattern_form k).label) (fill_all f (parts_shapes (pattern_form k).parts)) refl
+  kind-text s (kind.Predicate b) = under-text s predicate_label (predicate_form b.value).label (vars_of (f VarLists b.bound_vars.number)) (fill_all f (parts_shapes (predicate_form b.value).parts)) refl bare
+  kind-text s (kind.Existential b) = under-text s existential_label (existential_form b.value).label (vars_of (f VarLists b.bound_vars.number)) (fill_all f (parts_shapes (existential_form b.value).parts)) refl bare
+
+  -- what is written of a kind is its text
+  pub kind-written : (s : Style) (k : Kind) (h : Head ℕ) (x : Style) (p : Parts) (n : ℕ) (end : List ℕ) → h ≡ form_head (kind_form k) → x ≡ form_style (kind_form k)
+      → p ≡ form_parts (kind_form k) → n ≡ count_trees (fill_all f (parts_shapes p)) → end ≡ closing x n
+      → head_text item_name (rename_head (name_of f) h) ++ (texts item_name x true (fill_all f (parts_shapes p)) ++ end) ≡ text_in item_name s (fill f (kind_shape k))
+  kind-written s k h x p n end of_head of_style of_parts of_count of_end = rw (of_end, of_count, of_parts, of_style, of_head) (sym (kind-text s k))
+
+  -- the text of a region
+  pub region-text : (s : Style) (r : RegionKind) → head_text item_name (rename_head (name_of f) (region_head (region_shape r))) ≡ text_in item_name s (fill f (region_shape r))
+  unfolding fill
+  region-text s (ReEarlyParam p) = append-nil (name_of f p.name.number)
+  region-text s (ReBound i b) = ap (head_text item_name) (bound-renamed (name_of f) region_sort (depth i) b.var)
+  region-text s (ReLateParam p) = ap (head_text item_name) (called-renamed (name_of f) (region_name p.kind))
+  region-text s ReStatic = refl
+  region-text s (ReVar v) = refl
+  region-text s (RePlaceholder p) = refl
+  region-text s ReErased = refl
+  region-text s (ReError e) = refl
+
+  -- the text of a list, by the style of the term that holds it
+  pub list-text : (s : Style) (o : ListSort) (ts : Forest Depth)
+      → texts item_name (style_in {N = Name} s (items_label o)) true ts ++ closing (style_in {N = Name} s (items_label o)) (count_trees ts) ≡ text_in item_name s (items_tree o ts)
+  list-text s sort.Tys ts = refl
+  list-text s _ ts = refl
+
+  -- what is written of a list is its text
+  pub list-written : (s : Style) (o : ListSort) (ts : Forest Depth) (t : Tree Depth) (x : Style) (n : ℕ) (end : List ℕ) → x ≡ style_in {N = Name} s (items_label o) → t ≡ items_tree o ts
+      → n ≡ count_trees ts → end ≡ closing x n → texts item_name x true ts ++ end ≡ text_in item_name s t
+  list-written s o ts t x n end of_style of_tree of_count of_end = rw (of_end, of_count, of_style, of_tree) (list-text s o ts)
+
+-- the names in a head are in the table of symbols where those of the term are
+module _ (size : Sizes) where
+  type-named : (l : TypeLabel) → IsNamedSubject size (type_head l).subject
+  type-named (infer_type (TyVar v)) = tt
+  type-named (infer_type _) = tt
+  type-named (raw_ptr_type Not) = tt
+  type-named (raw_ptr_type Mut) = tt
+  type-named _ = tt
+
+  const-named : (l : ConstLabel) → IsNamedSubject size (const_head l).subject
+  const-named (infer_const (Var v)) = tt
+  const-named (infer_const _) = tt
+  const-named _ = tt
+
+  pattern-named : (l : PatternLabel) → IsNamedSubject size (pattern_head l).subject
+  pattern-named range_pattern = tt
+  pattern-named _ = tt
+
+  record-named : (l : RecordLabel ℕ) → IsNamedRecord size l → IsNamedSubject size (record_head l).subject
+  record-named (unstable_feature_record n) h = h
+  record-named (host_effect_record d constness.Const) h = tt
+  record-named (host_effect_record d constness.Maybe) h = tt
+  record-named _ h = tt
+
+  bound-named : (s : Sort) (d : Depth) (var : ℕ) → IsNamedSubject size (bound_head s d var).subject
+  bound-named type_sort (at d) var = tt
+  bound-named type_sort canonical var = tt
+  bound-named _ (at d) var = tt
+  bound-named _ canonical var = tt
+
+  head-named : (l : Label ℕ) → IsNamedLabel size l → IsNamedSubject size (head l).subject
+  head-named (type_label l) h = type-named l
+  head-named (const_label l) h = const-named l
+  head-named (pattern_label l) h = pattern-named l
+  head-named (record_label l) h = record-named l h
+  head-named _ h = tt
+
+  under-named : (l : Label ℕ) (m : RecordLabel ℕ) → IsNamedRecord size m → IsNamedSubject size (under_head l (record_head m)).subject
+  under-named (type_label l) m h = type-named l
+  under-named predicate_label m h = record-named m h
+  under-named _ m h = record-named m h
+
+  form-named : (s : Sort) (x : Form (Label ℕ)) → HasParts size (form_shape s x) → IsNamedSubject size (form_head x).subject
+  form-named s (param i name) h = h
+  form-named s (bound d e) h = bound-named type_sort d e.var
+  form-named s (plain l p) h = head-named l h.0
+  form-named s (under l vars m p) h = under-named l m h.1.0.1.1
+
+  pub kind-named : (k : Kind) → HasParts size (kind_shape k) → IsNamedSubject size (form_head (kind_form k)).subject
+  kind-named k h = form-named (kind_sort k) (kind_form k) h
+
+  called-named : (r : RegionName ℕ) → IsNamed size r → IsNamedSubject size (region_name_head r).subject
+  called-named anonymous h = tt
+  called-named (printed n) h = h
+  called-named (named d) h = tt
+  called-named environment h = tt
+
+  pub region-named : (r : RegionKind) → IsPart size (region_shape r) → IsNamedSubject size (region_head (region_shape r)).subject
+  region-named (ReEarlyParam p) h = h.1
+  region-named (ReBound i b) h = bound-named region_sort (depth i) b.var
+  region-named (ReLateParam p) h = called-named (region_name p.kind) h
+  region-named _ h = tt

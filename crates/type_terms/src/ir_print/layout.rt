@@ -1,0 +1,150 @@
+//! The styles of a term's children: what is written before, between and after them.
+
+ghost use Rattle.std.specs.Prelude.{◌≡◌};
+ghost use Rattle.type_terms.specs.Text.{before_child, closing, list_style, opening, separator};
+
+/// The style in which the children of a term, or the items of a list, are written.
+#[derive(Clone, Copy)]
+pub(crate) enum Style {
+    /// One after another.
+    Joined,
+    /// `&'r T`.
+    Reference,
+    /// `&'r mut T`.
+    MutReference,
+    /// `[T]`, `[T; N]`.
+    Square,
+    /// `T is PATTERN`.
+    Restricted,
+    /// A tuple, around the list of its types.
+    Tuple,
+    /// A signature, around the list of its types.
+    Signature,
+    /// A variadic signature, around the list of its types.
+    Variadic,
+    /// A trait object: the list of what it says, and its region.
+    Dynamic,
+    /// A name, its arguments and perhaps what it is: `NAME<A> = T`.
+    Generic,
+    /// The same in braces.
+    Braced,
+    /// A value of its type: `T(A, B)`.
+    Branch,
+    /// `A..=B`.
+    Range,
+    /// A pattern of several, around their list.
+    OneOf,
+    /// `NAME(A, B)`.
+    Record,
+    /// `NAME(A, Equate, B)`.
+    Equated,
+    /// `NAME(A, Subtype, B)`.
+    Subtyped,
+    /// A list by itself: `[A, B]`.
+    Listed,
+    /// The list of generic arguments: `<A, B>`.
+    Arguments,
+    /// The list of a tuple's types: `(A, B)`.
+    Elements,
+    /// The list of a signature's types: `(A, B) -> C`.
+    Inputs,
+    /// The list of a variadic signature's types: `(A, B, ...) -> C`.
+    VariadicInputs,
+    /// The list of what a trait object says: `A + B + `.
+    Bounds,
+    /// The list of patterns: `A | B`.
+    Alternatives,
+    /// The list of a value's values: `(A, B)`.
+    Values,
+}
+
+impl Style {
+    // The style of a list in a term of this style.
+    pub(crate) fn of_list(self) -> Style
+        ensures { result ≡ list_style self }
+    {
+        match self {
+            Style::Generic | Style::Braced | Style::Record => Style::Arguments,
+            Style::Tuple => Style::Elements,
+            Style::Signature => Style::Inputs,
+            Style::Variadic => Style::VariadicInputs,
+            Style::Dynamic => Style::Bounds,
+            Style::OneOf => Style::Alternatives,
+            Style::Branch => Style::Values,
+            _ => Style::Listed,
+        }
+    }
+
+    // What is in front of a first child.
+    fn opening(self, last: bool) -> &'static str
+        ensures { result.now ≡ opening self last }
+    {
+        match (self, last) {
+            (Style::Listed, _) => "[",
+            (Style::Arguments, _) => "<",
+            (Style::Elements | Style::Values, _) => "(",
+            (Style::Inputs, true) => "() -> ",
+            (Style::VariadicInputs, true) => "(...) -> ",
+            (Style::Inputs | Style::VariadicInputs, false) => "(",
+            _ => "",
+        }
+    }
+
+    // What is in front of a later child.
+    fn separator(self, last: bool) -> &'static str
+        ensures { result.now ≡ separator self last }
+    {
+        match (self, last) {
+            (Style::Reference, _) => " ",
+            (Style::MutReference, _) => " mut ",
+            (Style::Square, _) => "; ",
+            (Style::Restricted, _) => " is ",
+            (Style::Generic, _) => " = ",
+            (Style::Range, _) => "..=",
+            (Style::Equated, _) => ", Equate, ",
+            (Style::Subtyped, _) => ", Subtype, ",
+            (
+                Style::Record | Style::Listed | Style::Arguments | Style::Elements | Style::Values,
+                _,
+            ) => ", ",
+            (Style::Inputs, true) => ") -> ",
+            (Style::VariadicInputs, true) => ", ...) -> ",
+            (Style::Inputs | Style::VariadicInputs, false) => ", ",
+            (Style::Bounds, _) => " + ",
+            (Style::Alternatives, _) => " | ",
+            _ => "",
+        }
+    }
+
+    // What is in front of a child.
+    pub(crate) fn before_child(self, first: bool, last: bool) -> &'static str
+        ensures { result.now ≡ before_child self first last }
+    {
+        if first {
+            self.opening(last)
+        } else {
+            self.separator(last)
+        }
+    }
+
+    // What is after so many children.
+    pub(crate) fn closing(self, count: usize) -> &'static str
+        ensures { result.now ≡ closing self count }
+    {
+        match (self, count) {
+            (Style::Square, _) => "]",
+            (Style::Braced, _) => "}",
+            (Style::Record | Style::Equated | Style::Subtyped, _) => ")",
+            (Style::Listed, 0) => "[]",
+            (Style::Listed, _) => "]",
+            (Style::Arguments, 0) => "",
+            (Style::Arguments, _) => ">",
+            (Style::Elements | Style::Values, 0) => "()",
+            (Style::Elements, 1) => ",)",
+            (Style::Elements | Style::Values, _) => ")",
+            (Style::Bounds, 0) => "",
+            (Style::Bounds, _) => " + ",
+            _ => "",
+        }
+    }
+}
