@@ -6,7 +6,7 @@ use Rattle.tt_kinds.specs.Kinds.{ty_shape}
 use Rattle.tt_kinds.specs.Values.{option_shape}
 use Rattle.tt_kinds.specs.Handle.{Ty}
 use Rattle.tt_interner.specs.Rows.{Row, size}
-use Rattle.tt_interner.proofs.InfoLemmas.{parts_at}
+use Rattle.tt_interner.proofs.InfoLaws.{parts_at}
 use Rattle.tt_fold.specs.Steps.{IsPartOf}
 
 pub binding_owned : (rows : List Row) (items lent : List (Option Ty)) (i : ℕ) (found : Option Ty) (b : Ty) → lent ≡ items

@@ -7,7 +7,7 @@ use crate::core_folder::Core;
 use crate::foldable::TypeFoldable;
 use std::alloc::Global;
 use tt_index::Refusal;
-use tt_interner::Interner;
+use tt_interner::{InternedList, Interner};
 use tt_kinds::RegionAssumptions;
 
 impl TypeFoldable for RegionAssumptions {
@@ -18,7 +18,7 @@ impl TypeFoldable for RegionAssumptions {
     ) -> Result<RegionAssumptions, F::Error> {
         cx.are_rows();
         // the fold may grow the interner, which owns the items
-        let items = copied(cx.allocator(), cx.assumptions(self))?;
+        let items = copied(cx.allocator(), self.as_slice(cx))?;
         let folded = items.fold_core::<M, F>(cx, folder)?;
         let list = cx.mk_assumptions(folded.as_slice())?;
         Ok(list)

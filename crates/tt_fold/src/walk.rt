@@ -52,7 +52,7 @@ use crate::folder::Step;
 use crate::list_of_sort::list_clauses;
 use smallvec::SmallVec;
 use tt_index::Refusal;
-use tt_interner::node::Contents;
+use tt_interner::nodes::Contents;
 use tt_interner::{AsClause, Interner};
 use tt_kinds::{BoundVarKinds, Child, Clauses, List, ListSort, Node, Parts};
 

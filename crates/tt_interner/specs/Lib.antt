@@ -4,7 +4,7 @@ pub mod Children
 pub mod Stored
 pub mod Chained
 pub mod Tables
-pub mod OwnFlags
+pub mod OwnNames
 pub mod Kept
 pub mod Laws
 pub mod Env

@@ -27,6 +27,7 @@ ghost use Rattle.tt_interner.specs.Env.{
 };
 
 use crate::flags::Flags;
+use crate::handle::{InternedKind, InternedList};
 use crate::interner::Interner;
 use thiserror::Error;
 use tt_index::DebruijnIndex;
@@ -101,7 +102,7 @@ fn env_clauses(cx: &Interner, env: ParamEnv) -> &[Clause]
     ensures in_range { AreParts (size cx.now.rows) (item_shapes clause_shape result.now) }
 {
     cx.are_rows();
-    cx.clauses(env.caller_bounds)
+    env.caller_bounds.as_slice(cx)
 }
 
 // Returns whether the constant is this placeholder.
@@ -110,7 +111,7 @@ fn is_constant(cx: &Interner, placeholder: &PlaceholderConst, constant: Const) -
     ensures is { result ≡ is_row_of placeholder.now (row_at cx.now.rows Consts constant.number) }
     ensures exact { IsTrue result ↔ IsAt cx.now.rows (const_row (const.Placeholder placeholder.now)) constant.number }
 {
-    match cx.const_kind(constant) {
+    match constant.kind(cx) {
         ConstKind::Placeholder(other) => other == placeholder,
         _ => false,
     }
@@ -135,7 +136,7 @@ fn bound_at(cx: &Interner, clause: Clause) -> Option<(Const, Ty)>
 {
     cx.are_rows();
     let predicate = Predicate::from_number(clause.number());
-    bound_of(*cx.predicate_kind(predicate).as_ref().skip_binder())
+    bound_of(*predicate.kind(cx).as_ref().skip_binder())
 }
 
 // Returns the type that the clause gives the placeholder, if any.

@@ -12,6 +12,7 @@ mod bound_vars;
 mod consts;
 pub mod counters;
 mod declarations;
+mod empty_lists;
 mod existentials;
 mod info;
 mod owns;
@@ -23,9 +24,9 @@ mod predicates;
 mod symbols;
 mod types;
 
-use crate::first::{first_lists, more_lists};
 use crate::tables::first_text;
 pub use declarations::RegionName;
+use empty_lists::{empty_lists, more_empty_lists};
 use indexmap::IndexMap;
 use std::alloc::Global;
 use std::marker::Model;
@@ -103,11 +104,11 @@ impl Interner {
             return Err(Refusal::TableFull);
         }
         let mut order = Vec::new(alloc);
-        let first = match first_lists(alloc, &mut order) {
+        let first = match empty_lists(alloc, &mut order) {
             Ok(lists) => lists,
             Err(e) => return Err(e),
         };
-        let more = match more_lists(alloc, &mut order) {
+        let more = match more_empty_lists(alloc, &mut order) {
             Ok(lists) => lists,
             Err(e) => return Err(e),
         };

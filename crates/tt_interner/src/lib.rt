@@ -4,17 +4,18 @@
 mod children;
 mod collect;
 pub mod env;
-mod first;
+pub mod flag_computation;
 pub mod flags;
 pub mod handle;
 mod interner;
 mod laws;
-pub mod node;
+pub mod nodes;
 mod tables;
 pub mod ty_info;
 
 pub use env::{ConstBounds, ConstTyFault, FindConstTy};
-pub use flags::{Flags, ForKind, OwnFlags};
+pub use flag_computation::ForKind;
+pub use flags::Flags;
 pub use handle::{AsClause, AsPredicate, InternedKind, InternedList, InternedText};
 pub use interner::counters::{count_descent, count_shift_descent};
 pub use interner::{Interner, RegionName};

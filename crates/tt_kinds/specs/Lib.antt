@@ -27,3 +27,4 @@ pub mod Values
 pub mod Bare
 pub mod Handle
 pub mod Id
+pub mod OwnFlags

@@ -4,7 +4,7 @@ use crate::stored::{visit_inside, visit_list, visit_node};
 use crate::visitable::{TypeSuperVisitable, TypeVisitable, visit_values};
 use crate::visitor::TypeVisitor;
 use std::ops::ControlFlow;
-use tt_interner::Interner;
+use tt_interner::{InternedList, Interner};
 use tt_kinds::{
     BoundExistentialPredicates, Clause, Clauses, Const, Consts, GenericArg, GenericArgKind,
     GenericArgs, List, Node, Pat, PatList, PolyExistentialPredicate, Predicate, Region,
@@ -248,7 +248,7 @@ impl TypeVisitable for RegionAssumptions {
         visitor: &mut V,
     ) -> ControlFlow<V::Break, ()> {
         cx.are_rows();
-        visit_values(cx, visitor, cx.assumptions(*self))
+        visit_values(cx, visitor, self.as_slice(cx))
     }
 }
 

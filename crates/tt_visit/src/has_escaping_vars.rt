@@ -1,7 +1,13 @@
 //! The visitor that looks for variables that are bound far out.
 
-ghost use Rattle.std.specs.Prelude.{IsTrue, false, ◌<◌, ◌≡◌, ◌↔◌};
+ghost use Rattle.std.specs.Prelude.{IsTrue, false, ◌<◌, ◌≤◌, ◌≡◌, ◌↔◌};
+ghost use Rattle.tt_index.specs.Greatest.{greatest};
+ghost use Rattle.tt_kinds.specs.Reading.{outer_binder};
+ghost use Rattle.tt_kinds.specs.Shape.{IsPart, fill};
+ghost use Rattle.tt_interner.specs.Rows.{meaning, size};
+ghost use Rattle.tt_visit.specs.HasEscapingVars.{InRange};
 
+use crate::visitable::TypeVisitable;
 use crate::visitor::{Next, TypeVisitor};
 use std::ops::ControlFlow;
 use tt_index::DebruijnIndex;
@@ -147,9 +153,9 @@ impl TypeVisitor for HasEscapingVarsVisitor {
     }
 }
 
-/// Visits a value only to show that the indices of each region and each term with a hook are in range.
+// Visits a value only to show that the indices of each region and each term with a hook are in range.
 #[derive(Clone, Copy, Debug)]
-pub struct InRangeVisitor;
+struct InRangeVisitor;
 
 impl TypeVisitor for InRangeVisitor {
     type Break = FoundEscapingVars;
@@ -221,4 +227,19 @@ impl TypeVisitor for InRangeVisitor {
     }
 
     fn leave_binder(&mut self, _cx: &Interner, _vars: BoundVarKinds) {}
+}
+
+/// Returns `true`: every variable of a value that is bound outside of it has an index below the greatest. The contract
+/// gives callers this fact.
+pub(crate) fn are_vars_in_range<T: TypeVisitable>(cx: &Interner, value: &T) -> bool
+    requires { IsPart (size cx.now.rows) (T.shape value.now) }
+    ensures holds { IsTrue result }
+    ensures each { InRange (fill (meaning cx.now.rows) (T.shape value.now)) }
+    ensures whole { outer_binder (fill (meaning cx.now.rows) (T.shape value.now)) ≤ greatest }
+{
+    let mut visitor = InRangeVisitor;
+    match value.visit_with(cx, &mut visitor) {
+        ControlFlow::Break(_) => false,
+        ControlFlow::Continue(_) => true,
+    }
 }

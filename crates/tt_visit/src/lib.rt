@@ -19,7 +19,7 @@ pub mod visitable;
 pub mod visitor;
 
 pub use has_error::HasErrorVisitor;
-pub use has_escaping_vars::{FoundEscapingVars, HasEscapingVarsVisitor, InRangeVisitor};
+pub use has_escaping_vars::{FoundEscapingVars, HasEscapingVarsVisitor};
 pub use has_type_flags::{FoundFlags, HasTypeFlagsVisitor};
 pub use meets_regions::{MeetsRegionsVisitor, MetRegion};
 pub use owned::{Owned, are_owned};

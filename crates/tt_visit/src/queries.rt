@@ -13,11 +13,9 @@ ghost use Rattle.std.specs.Prelude.{
   ◌<◌,
   ◌≡◌,
   ◌≢◌,
-  ◌≤◌,
   ◌↔◌,
   bit_and,
 };
-ghost use Rattle.tt_index.specs.Greatest.{greatest};
 ghost use Rattle.tt_kinds.specs.Met.{met};
 ghost use Rattle.tt_kinds.specs.Param.{holds_param};
 ghost use Rattle.tt_kinds.specs.Reading.{outer_binder};
@@ -25,11 +23,10 @@ ghost use Rattle.tt_kinds.specs.Scan.{scan};
 ghost use Rattle.tt_kinds.specs.Shape.{IsPart, fill};
 ghost use Rattle.tt_interner.specs.Rows.{meaning, size};
 ghost use Rattle.tt_visit.specs.HasError.{first_error};
-ghost use Rattle.tt_visit.specs.HasEscapingVars.{InRange};
 ghost use Rattle.tt_visit.specs.HasTypeFlags.{Meets, Misses};
 
 use crate::has_error::HasErrorVisitor;
-use crate::has_escaping_vars::{HasEscapingVarsVisitor, InRangeVisitor};
+use crate::has_escaping_vars::{HasEscapingVarsVisitor, are_vars_in_range};
 use crate::has_type_flags::HasTypeFlagsVisitor;
 use crate::meets_regions::{MeetsRegionsVisitor, are_regions_in_range};
 use crate::visitable::TypeVisitable;
@@ -306,7 +303,7 @@ pub trait TypeVisitableExt: TypeVisitable {
         let mut visitor = HasEscapingVarsVisitor::new(binder);
         match self.visit_with(cx, &mut visitor) {
             ControlFlow::Break(_) => true,
-            ControlFlow::Continue(_) => visitor.has_skipped() && !self.has_vars_in_range(cx),
+            ControlFlow::Continue(_) => visitor.has_skipped() && !are_vars_in_range(cx, self),
         }
     }
 
@@ -319,22 +316,7 @@ pub trait TypeVisitableExt: TypeVisitable {
         if binder.can_shift_in(1) {
             self.has_vars_bound_at_or_above(cx, binder.shifted_in(1))
         } else {
-            !self.has_vars_in_range(cx)
-        }
-    }
-
-    /// Returns `true`: every variable of a value that is bound outside of it has an index below the greatest. The
-    /// contract gives callers this fact.
-    final fn has_vars_in_range(&self, cx: &Interner) -> bool
-        requires { IsPart (size cx.now.rows) (Self.shape self.now) }
-        ensures holds { IsTrue result }
-        ensures each { InRange (fill (meaning cx.now.rows) (Self.shape self.now)) }
-        ensures whole { outer_binder (fill (meaning cx.now.rows) (Self.shape self.now)) ≤ greatest }
-    {
-        let mut visitor = InRangeVisitor;
-        match self.visit_with(cx, &mut visitor) {
-            ControlFlow::Break(_) => false,
-            ControlFlow::Continue(_) => true,
+            !are_vars_in_range(cx, self)
         }
     }
 }

@@ -15,7 +15,7 @@ use Rattle.tt_interner.specs.Stored.{Terms, Extends, Builds}
 use Rattle.tt_interner.specs.Declarations.{Declares, IsOfSort, declared_at}
 use Rattle.tt_interner.proofs.Growth.{meaning-grows}
 use Rattle.tt_interner.proofs.RowLaws.{row-new}
-use Rattle.tt_interner.proofs.StoresLemmas.{in_range, Grows-add}
+use Rattle.tt_interner.proofs.StoreSteps.{in_range, Grows-add}
 use Rattle.type_terms.specs.declared.run.answer.Answer.{Answer}
 use Rattle.type_terms.specs.declared.run.answer.Answer.TheVariants as answer
 use Rattle.type_terms.specs.Told.{told_all, AreOwned}

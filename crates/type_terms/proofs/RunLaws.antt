@@ -16,7 +16,7 @@ use Rattle.tt_interner.specs.Rows.{Row, declared_row, text_row, table, row_table
 use Rattle.tt_interner.specs.Declarations.{declared_at, declaration_of}
 use Rattle.tt_interner.specs.Stored.{Terms, Extends}
 use Rattle.tt_interner.proofs.Growth.{Extends-refl, size-grows, in_range-grows, meaning-grows}
-use Rattle.tt_interner.proofs.DeclarationLemmas.{declared_at-grows}
+use Rattle.tt_interner.proofs.DeclarationLaws.{declared_at-grows}
 use Rattle.tt_interner.specs.Env.{row_at}
 use Rattle.tt_interner.proofs.Trees.{Means-row}
 use Rattle.std.proofs.lemmas.Option.{slice_get-get_or}

@@ -10,7 +10,8 @@ ghost use Rattle.tt_interner.specs.Stored.{IsAt, Builds};
 
 use super::Interner;
 use crate::collect::collected;
-use crate::flags::items_info;
+use crate::flag_computation::items_info;
+use crate::handle::InternedList;
 use crate::tables::{find_or_add_list, find_or_insert, key_at};
 use tt_index::Refusal;
 use tt_kinds::{GenericArg, GenericArgs, Table};
@@ -76,13 +77,21 @@ impl Interner {
         };
         Ok(GenericArgs::from_number(number))
     }
+}
 
-    /// Returns the generic arguments of a list, borrowed from the interner. The list has to be of this interner;
-    /// [`Interner::owns`] tests it.
-    pub fn args(&self, list: GenericArgs) -> &[GenericArg]
-        requires { list.number < size self.now.rows Table.ArgLists }
-        ensures { IsAt self.now.rows (args_row result.now) list.number }
-    {
-        key_at(&self.arg_lists, list.number()).as_slice()
+impl InternedList for GenericArgs {
+    ghost use Rattle.tt_interner.specs.Rows.{args_row};
+    ghost use Rattle.tt_kinds.specs.declared.table.Table.TheVariants.{ArgLists};
+
+    type Item = GenericArg;
+
+    ghost list_number = { λ args. args.number };
+
+    ghost list_table = { ArgLists };
+
+    ghost row_of_items = { args_row };
+
+    fn as_slice<'a>(self, cx: &'a Interner) -> &'a [GenericArg] {
+        key_at(&cx.arg_lists, self.number()).as_slice()
     }
 }

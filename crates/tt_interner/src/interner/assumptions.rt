@@ -7,7 +7,8 @@ ghost use Rattle.tt_interner.specs.Rows.{assumptions_row, size};
 ghost use Rattle.tt_interner.specs.Stored.{IsAt, Builds};
 
 use super::Interner;
-use crate::flags::items_info;
+use crate::flag_computation::items_info;
+use crate::handle::InternedList;
 use crate::tables::{find_or_add_list, key_at};
 use tt_index::Refusal;
 use tt_kinds::{GenericArg, OutlivesPredicate, RegionAssumptions, Table};
@@ -38,13 +39,21 @@ impl Interner {
         };
         Ok(RegionAssumptions::from_number(number))
     }
+}
 
-    /// Returns the assumptions of a list, borrowed from the interner. The list has to be of this interner;
-    /// [`Interner::owns`] tests it.
-    pub fn assumptions(&self, list: RegionAssumptions) -> &[OutlivesPredicate<GenericArg>]
-        requires { list.number < size self.now.rows Table.AssumptionLists }
-        ensures { IsAt self.now.rows (assumptions_row result.now) list.number }
-    {
-        key_at(&self.assumption_lists, list.number()).as_slice()
+impl InternedList for RegionAssumptions {
+    ghost use Rattle.tt_interner.specs.Rows.{assumptions_row};
+    ghost use Rattle.tt_kinds.specs.declared.table.Table.TheVariants.{AssumptionLists};
+
+    type Item = OutlivesPredicate<GenericArg>;
+
+    ghost list_number = { λ list. list.number };
+
+    ghost list_table = { AssumptionLists };
+
+    ghost row_of_items = { assumptions_row };
+
+    fn as_slice<'a>(self, cx: &'a Interner) -> &'a [OutlivesPredicate<GenericArg>] {
+        key_at(&cx.assumption_lists, self.number()).as_slice()
     }
 }

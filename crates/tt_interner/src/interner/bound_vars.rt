@@ -7,7 +7,8 @@ ghost use Rattle.tt_interner.specs.Rows.{vars_row, size};
 ghost use Rattle.tt_interner.specs.Stored.{IsAt, Builds};
 
 use super::Interner;
-use crate::flags::vars_info;
+use crate::flag_computation::vars_info;
+use crate::handle::InternedList;
 use crate::tables::{find_or_add_list, key_at};
 use tt_index::Refusal;
 use tt_kinds::{BoundVarKinds, BoundVariableKind, Table};
@@ -35,13 +36,21 @@ impl Interner {
         };
         Ok(BoundVarKinds::from_number(number))
     }
+}
 
-    /// Returns the variables of a binder's list, borrowed from the interner. The list has to be of this interner;
-    /// [`Interner::owns`] tests it.
-    pub fn bound_vars(&self, list: BoundVarKinds) -> &[BoundVariableKind]
-        requires { list.number < size self.now.rows Table.VarLists }
-        ensures { IsAt self.now.rows (vars_row result.now) list.number }
-    {
-        key_at(&self.var_lists, list.number()).as_slice()
+impl InternedList for BoundVarKinds {
+    ghost use Rattle.tt_interner.specs.Rows.{vars_row};
+    ghost use Rattle.tt_kinds.specs.declared.table.Table.TheVariants.{VarLists};
+
+    type Item = BoundVariableKind;
+
+    ghost list_number = { λ vars. vars.number };
+
+    ghost list_table = { VarLists };
+
+    ghost row_of_items = { vars_row };
+
+    fn as_slice<'a>(self, cx: &'a Interner) -> &'a [BoundVariableKind] {
+        key_at(&cx.var_lists, self.number()).as_slice()
     }
 }

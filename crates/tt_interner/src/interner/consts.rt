@@ -7,10 +7,11 @@ ghost use Rattle.tt_interner.specs.Rows.{const_row, consts_row, size};
 ghost use Rattle.tt_interner.specs.Stored.{IsAt, Builds};
 
 use super::Interner;
-use crate::flags::{OwnFlags, items_info, kind_info};
+use crate::flag_computation::{items_info, kind_info};
+use crate::handle::{InternedKind, InternedList};
 use crate::tables::{find_or_add, find_or_add_list, find_or_insert, key_at};
 use tt_index::Refusal;
-use tt_kinds::{Const, ConstKind, Consts, Kind, Table};
+use tt_kinds::{Const, ConstKind, Consts, Kind, OwnFlags, Table};
 
 impl Interner {
     /// Returns the constant of this kind. Every handle and name in the kind has to be this interner's;
@@ -39,15 +40,6 @@ impl Interner {
             Err(e) => return Err(e),
         };
         Ok(Const::from_number(number))
-    }
-
-    /// Returns a constant's kind, borrowed from the interner. The constant has to be of this interner;
-    /// [`Interner::owns`] tests it.
-    pub fn const_kind(&self, handle: Const) -> &ConstKind
-        requires { handle.number < size self.now.rows Table.Consts }
-        ensures { IsAt self.now.rows (const_row result.now) handle.number }
-    {
-        key_at(&self.consts, handle.number())
     }
 }
 
@@ -94,13 +86,38 @@ impl Interner {
         };
         Ok(Consts::from_number(number))
     }
+}
 
-    /// Returns the constants of a list, borrowed from the interner. The list has to be of this interner;
-    /// [`Interner::owns`] tests it.
-    pub fn consts(&self, list: Consts) -> &[Const]
-        requires { list.number < size self.now.rows Table.ConstLists }
-        ensures { IsAt self.now.rows (consts_row result.now) list.number }
-    {
-        key_at(&self.const_lists, list.number()).as_slice()
+impl InternedKind for Const {
+    ghost use Rattle.tt_interner.specs.Rows.{const_row};
+    ghost use Rattle.tt_kinds.specs.declared.table.Table.TheVariants.{Consts};
+
+    type Kind = ConstKind;
+
+    ghost handle_number = { λ handle. handle.number };
+
+    ghost handle_table = { Consts };
+
+    ghost row_of = { const_row };
+
+    fn kind<'a>(self, cx: &'a Interner) -> &'a ConstKind {
+        key_at(&cx.consts, self.number())
+    }
+}
+
+impl InternedList for Consts {
+    ghost use Rattle.tt_interner.specs.Rows.{consts_row};
+    ghost use Rattle.tt_kinds.specs.declared.table.Table.TheVariants.{ConstLists};
+
+    type Item = Const;
+
+    ghost list_number = { λ list. list.number };
+
+    ghost list_table = { ConstLists };
+
+    ghost row_of_items = { consts_row };
+
+    fn as_slice<'a>(self, cx: &'a Interner) -> &'a [Const] {
+        key_at(&cx.const_lists, self.number()).as_slice()
     }
 }

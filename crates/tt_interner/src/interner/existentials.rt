@@ -9,7 +9,8 @@ ghost use Rattle.tt_interner.specs.Existentials.{HaveParts, AreExistentials, Bui
 
 use super::Interner;
 use crate::children::MOST_IN_PLACE;
-use crate::flags::{items_info, kind_info};
+use crate::flag_computation::{items_info, kind_info};
+use crate::handle::{InternedKind, InternedList};
 use crate::tables::{find_or_add, find_or_add_list, find_or_insert, key_at};
 use tt_index::Refusal;
 use tt_kinds::{
@@ -42,18 +43,6 @@ impl Interner {
             Err(e) => return Err(e),
         };
         Ok(PolyExistentialPredicate::from_number(number))
-    }
-
-    /// Returns an existential predicate's kind, borrowed from the interner. The predicate has to be of this interner;
-    /// [`Interner::owns`] tests it.
-    pub fn existential_kind(
-        &self,
-        handle: PolyExistentialPredicate,
-    ) -> &Binder<ExistentialPredicate>
-        requires { handle.number < size self.now.rows Table.Existentials }
-        ensures { IsAt self.now.rows (existential_row result.now) handle.number }
-    {
-        key_at(&self.existentials, handle.number())
     }
 }
 
@@ -105,15 +94,6 @@ impl Interner {
             Err(e) => return Err(e),
         };
         Ok(BoundExistentialPredicates::from_number(number))
-    }
-
-    /// Returns the existential predicates of a list, borrowed from the interner. The list has to be of this interner;
-    /// [`Interner::owns`] tests it.
-    pub fn existentials(&self, list: BoundExistentialPredicates) -> &[PolyExistentialPredicate]
-        requires { list.number < size self.now.rows Table.ExistentialLists }
-        ensures { IsAt self.now.rows (existentials_row result.now) list.number }
-    {
-        key_at(&self.existential_lists, list.number()).as_slice()
     }
 }
 
@@ -204,5 +184,39 @@ impl Interner {
         let predicates = self.existentials.len() - added;
         self.order.truncate(rows);
         self.existentials.truncate(predicates);
+    }
+}
+
+impl InternedKind for PolyExistentialPredicate {
+    ghost use Rattle.tt_interner.specs.Rows.{existential_row};
+    ghost use Rattle.tt_kinds.specs.declared.table.Table.TheVariants.{Existentials};
+
+    type Kind = Binder<ExistentialPredicate>;
+
+    ghost handle_number = { λ handle. handle.number };
+
+    ghost handle_table = { Existentials };
+
+    ghost row_of = { existential_row };
+
+    fn kind<'a>(self, cx: &'a Interner) -> &'a Binder<ExistentialPredicate> {
+        key_at(&cx.existentials, self.number())
+    }
+}
+
+impl InternedList for BoundExistentialPredicates {
+    ghost use Rattle.tt_interner.specs.Rows.{existentials_row};
+    ghost use Rattle.tt_kinds.specs.declared.table.Table.TheVariants.{ExistentialLists};
+
+    type Item = PolyExistentialPredicate;
+
+    ghost list_number = { λ list. list.number };
+
+    ghost list_table = { ExistentialLists };
+
+    ghost row_of_items = { existentials_row };
+
+    fn as_slice<'a>(self, cx: &'a Interner) -> &'a [PolyExistentialPredicate] {
+        key_at(&cx.existential_lists, self.number()).as_slice()
     }
 }

@@ -8,6 +8,7 @@ ghost use Rattle.tt_kinds.specs.Values.{assumption_shape};
 ghost use Rattle.tt_interner.specs.Rows.{size, IsClause};
 
 use super::Interner;
+use crate::handle::InternedKind;
 use tt_kinds::{
     BoundRegionKind, BoundVariableKind, Clause, GenericArg, GenericArgKind, Handle, IsStored,
     OutlivesPredicate, Predicate, Region, RegionKind, Table,
@@ -55,10 +56,7 @@ impl Interner {
         if !self.owns(predicate) {
             return false;
         }
-        self.predicate_kind(predicate)
-            .as_ref()
-            .skip_binder()
-            .is_clause()
+        predicate.kind(self).as_ref().skip_binder().is_clause()
     }
 
     /// Returns whether the name that a bound region is printed by, if any, is of this interner.

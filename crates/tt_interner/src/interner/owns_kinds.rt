@@ -16,7 +16,7 @@ ghost use Rattle.tt_kinds.specs.Kinds.{
   existential_kind_shape,
 };
 ghost use Rattle.tt_interner.specs.Rows.{size};
-ghost use Rattle.tt_interner.specs.OwnFlags.{IsNamedForm, IsBinderIn};
+ghost use Rattle.tt_interner.specs.OwnNames.{IsNamedForm, IsBinderIn};
 ghost use Rattle.tt_interner.specs.Existentials.{HaveParts};
 
 use super::Interner;

@@ -4,6 +4,7 @@ ghost use Rattle.std.specs.Prelude.{◌↔◌, IsTrue};
 ghost use Rattle.tt_interner.specs.Views.{AreInputs, LiesInList};
 
 use super::Interner;
+use crate::handle::InternedList;
 use tt_kinds::{FnInputTys, GenericArgsSlice};
 
 impl Interner {
@@ -15,7 +16,7 @@ impl Interner {
         if !self.owns(list) {
             return false;
         }
-        !self.tys(list).is_empty()
+        !list.as_slice(self).is_empty()
     }
 
     /// Returns whether the view's list is a list of generic arguments of this interner, and has all of the view's
@@ -27,6 +28,6 @@ impl Interner {
         if !self.owns(list) {
             return false;
         }
-        view.start() as usize + view.len() as usize <= self.args(list).len()
+        view.start() as usize + view.len() as usize <= list.as_slice(self).len()
     }
 }

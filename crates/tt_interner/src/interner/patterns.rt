@@ -7,7 +7,8 @@ ghost use Rattle.tt_interner.specs.Rows.{pat_row, pats_row, size};
 ghost use Rattle.tt_interner.specs.Stored.{IsAt, Builds};
 
 use super::Interner;
-use crate::flags::{items_info, kind_info};
+use crate::flag_computation::{items_info, kind_info};
+use crate::handle::{InternedKind, InternedList};
 use crate::tables::{find_or_add, find_or_add_list, find_or_insert, key_at};
 use tt_index::Refusal;
 use tt_kinds::{Kind, Pat, PatList, PatternKind, Table};
@@ -34,15 +35,6 @@ impl Interner {
             Err(e) => return Err(e),
         };
         Ok(Pat::from_number(number))
-    }
-
-    /// Returns a pattern's kind, borrowed from the interner. The pattern has to be of this interner; [`Interner::owns`]
-    /// tests it.
-    pub fn pat_kind(&self, handle: Pat) -> &PatternKind
-        requires { handle.number < size self.now.rows Table.Patterns }
-        ensures { IsAt self.now.rows (pat_row result.now) handle.number }
-    {
-        key_at(&self.patterns, handle.number())
     }
 }
 
@@ -88,13 +80,38 @@ impl Interner {
         };
         Ok(PatList::from_number(number))
     }
+}
 
-    /// Returns the patterns of a list, borrowed from the interner. The list has to be of this interner;
-    /// [`Interner::owns`] tests it.
-    pub fn pat_list(&self, list: PatList) -> &[Pat]
-        requires { list.number < size self.now.rows Table.PatternLists }
-        ensures { IsAt self.now.rows (pats_row result.now) list.number }
-    {
-        key_at(&self.pattern_lists, list.number()).as_slice()
+impl InternedKind for Pat {
+    ghost use Rattle.tt_interner.specs.Rows.{pat_row};
+    ghost use Rattle.tt_kinds.specs.declared.table.Table.TheVariants.{Patterns};
+
+    type Kind = PatternKind;
+
+    ghost handle_number = { λ handle. handle.number };
+
+    ghost handle_table = { Patterns };
+
+    ghost row_of = { pat_row };
+
+    fn kind<'a>(self, cx: &'a Interner) -> &'a PatternKind {
+        key_at(&cx.patterns, self.number())
+    }
+}
+
+impl InternedList for PatList {
+    ghost use Rattle.tt_interner.specs.Rows.{pats_row};
+    ghost use Rattle.tt_kinds.specs.declared.table.Table.TheVariants.{PatternLists};
+
+    type Item = Pat;
+
+    ghost list_number = { λ list. list.number };
+
+    ghost list_table = { PatternLists };
+
+    ghost row_of_items = { pats_row };
+
+    fn as_slice<'a>(self, cx: &'a Interner) -> &'a [Pat] {
+        key_at(&cx.pattern_lists, self.number()).as_slice()
     }
 }

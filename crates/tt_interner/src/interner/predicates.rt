@@ -8,7 +8,8 @@ ghost use Rattle.tt_interner.specs.Rows.{predicate_row, clauses_row, size, AreCl
 ghost use Rattle.tt_interner.specs.Stored.{IsAt, Builds};
 
 use super::Interner;
-use crate::flags::{ForKind, items_info};
+use crate::flag_computation::{ForKind, items_info};
+use crate::handle::{AsPredicate, InternedKind, InternedList};
 use crate::tables::{find_or_add, find_or_add_list, find_or_insert, key_at};
 use tt_flags::FlagComputation;
 use tt_index::Refusal;
@@ -37,30 +38,6 @@ impl Interner {
             Err(e) => return Err(e),
         };
         Ok(Predicate::from_number(number))
-    }
-
-    /// Returns a predicate's kind, borrowed from the interner. The predicate has to be of this interner;
-    /// [`Interner::owns`] tests it.
-    pub fn predicate_kind(&self, handle: Predicate) -> &Binder<PredicateKind>
-        requires { handle.number < size self.now.rows Table.Predicates }
-        ensures { IsAt self.now.rows (predicate_row result.now) handle.number }
-    {
-        key_at(&self.predicates, handle.number())
-    }
-
-    /// Returns a clause's kind, under its binder. It has to be a clause of this interner; [`Interner::owns_clause`]
-    /// tests it.
-    pub fn clause_kind(&self, clause: Clause) -> Binder<ClauseKind>
-        requires { IsClause self.now.rows clause.number }
-        ensures { IsAt self.now.rows (predicate_row (clause_predicate result)) clause.number }
-    {
-        // The facts about rows tell from a predicate's tree that it is a clause.
-        self.are_rows();
-        let predicate = self.predicate_kind(Predicate::from_number(clause.number()));
-        match predicate.as_ref().skip_binder() {
-            PredicateKind::Clause(kind) => Binder::bind_with_vars(*kind, predicate.bound_vars()),
-            _ => unreachable!(),
-        }
     }
 }
 
@@ -119,13 +96,56 @@ impl Interner {
         }
         true
     }
+}
 
-    /// Returns the clauses of a list, borrowed from the interner. The list has to be of this interner;
-    /// [`Interner::owns`] tests it.
-    pub fn clauses(&self, list: Clauses) -> &[Clause]
-        requires { list.number < size self.now.rows Table.ClauseLists }
-        ensures { IsAt self.now.rows (clauses_row result.now) list.number }
-    {
-        key_at(&self.clause_lists, list.number()).as_slice()
+impl InternedKind for Predicate {
+    ghost use Rattle.tt_interner.specs.Rows.{predicate_row};
+    ghost use Rattle.tt_kinds.specs.declared.table.Table.TheVariants.{Predicates};
+
+    type Kind = Binder<PredicateKind>;
+
+    ghost handle_number = { λ handle. handle.number };
+
+    ghost handle_table = { Predicates };
+
+    ghost row_of = { predicate_row };
+
+    fn kind<'a>(self, cx: &'a Interner) -> &'a Binder<PredicateKind> {
+        key_at(&cx.predicates, self.number())
+    }
+}
+
+impl InternedList for Clauses {
+    ghost use Rattle.tt_interner.specs.Rows.{clauses_row};
+    ghost use Rattle.tt_kinds.specs.declared.table.Table.TheVariants.{ClauseLists};
+
+    type Item = Clause;
+
+    ghost list_number = { λ list. list.number };
+
+    ghost list_table = { ClauseLists };
+
+    ghost row_of_items = { clauses_row };
+
+    fn as_slice<'a>(self, cx: &'a Interner) -> &'a [Clause] {
+        key_at(&cx.clause_lists, self.number()).as_slice()
+    }
+}
+
+impl AsPredicate for Clause {
+    ghost clause_number = { λ clause. clause.number };
+
+    fn as_predicate(self) -> Predicate {
+        Predicate::from_number(self.number())
+    }
+
+    fn kind(self, cx: &Interner) -> Binder<ClauseKind> {
+        // The facts about rows tell from a predicate's tree that it is a clause.
+        cx.are_rows();
+        let predicate = self.as_predicate().kind(cx);
+        match predicate.as_ref().skip_binder() {
+            PredicateKind::Clause(kind) => Binder::bind_with_vars(*kind, predicate.bound_vars()),
+            _ => unreachable!(),
+        }
     }
 }

@@ -5,6 +5,7 @@ ghost use Rattle.tt_interner.specs.Rows.{text_row, size, IsNew};
 ghost use Rattle.tt_interner.specs.Stored.{IsAt, Adds, Builds};
 
 use super::Interner;
+use crate::handle::InternedText;
 use crate::tables::{add_text, key_at};
 use tt_index::Refusal;
 use tt_kinds::{Symbol, Table};
@@ -52,13 +53,12 @@ impl Interner {
             None => self.add_symbol(text),
         }
     }
+}
 
-    /// Returns a symbol's text, borrowed from the interner. The symbol has to be of this interner; [`Interner::owns`]
-    /// tests it.
-    pub fn text(&self, symbol: Symbol) -> &str
-        requires { symbol.number < size self.now.rows Table.Symbols }
-        ensures { IsAt self.now.rows (text_row result.now) symbol.number }
-    {
-        key_at(&self.symbols, symbol.number()).as_str()
+impl InternedText for Symbol {
+    ghost text_number = { λ symbol. symbol.number };
+
+    fn as_str<'a>(self, cx: &'a Interner) -> &'a str {
+        key_at(&cx.symbols, self.number()).as_str()
     }
 }

@@ -11,10 +11,11 @@ ghost use Rattle.tt_interner.specs.Stored.{IsAt, Puts, Builds};
 
 use super::Interner;
 use crate::collect::collected;
-use crate::flags::{OwnFlags, items_info, kind_info};
+use crate::flag_computation::{items_info, kind_info};
+use crate::handle::{InternedKind, InternedList};
 use crate::tables::{find_or_add, find_or_add_list, find_or_insert, key_at};
 use tt_index::{Mutability, Refusal};
-use tt_kinds::{Kind, ParamTy, Region, Table, Ty, TyKind, Tys};
+use tt_kinds::{Kind, OwnFlags, ParamTy, Region, Table, Ty, TyKind, Tys};
 
 impl Interner {
     // Finds the type of this kind, or stores it.
@@ -104,15 +105,6 @@ impl Interner {
             Err(e) => Err(e),
         }
     }
-
-    /// Returns a type's kind, borrowed from the interner. The type has to be of this interner; [`Interner::owns`] tests
-    /// it.
-    pub fn ty_kind(&self, ty: Ty) -> &TyKind
-        requires { ty.number < size self.now.rows Table.Types }
-        ensures { IsAt self.now.rows (type_row result.now) ty.number }
-    {
-        key_at(&self.types, ty.number())
-    }
 }
 
 impl Interner {
@@ -176,13 +168,38 @@ impl Interner {
         };
         Ok(Tys::from_number(number))
     }
+}
 
-    /// Returns the types of a list, borrowed from the interner. The list has to be of this interner; [`Interner::owns`]
-    /// tests it.
-    pub fn tys(&self, list: Tys) -> &[Ty]
-        requires { list.number < size self.now.rows Table.TypeLists }
-        ensures { IsAt self.now.rows (tys_row result.now) list.number }
-    {
-        key_at(&self.type_lists, list.number()).as_slice()
+impl InternedKind for Ty {
+    ghost use Rattle.tt_interner.specs.Rows.{type_row};
+    ghost use Rattle.tt_kinds.specs.declared.table.Table.TheVariants.{Types};
+
+    type Kind = TyKind;
+
+    ghost handle_number = { λ ty. ty.number };
+
+    ghost handle_table = { Types };
+
+    ghost row_of = { type_row };
+
+    fn kind<'a>(self, cx: &'a Interner) -> &'a TyKind {
+        key_at(&cx.types, self.number())
+    }
+}
+
+impl InternedList for Tys {
+    ghost use Rattle.tt_interner.specs.Rows.{tys_row};
+    ghost use Rattle.tt_kinds.specs.declared.table.Table.TheVariants.{TypeLists};
+
+    type Item = Ty;
+
+    ghost list_number = { λ tys. tys.number };
+
+    ghost list_table = { TypeLists };
+
+    ghost row_of_items = { tys_row };
+
+    fn as_slice<'a>(self, cx: &'a Interner) -> &'a [Ty] {
+        key_at(&cx.type_lists, self.number()).as_slice()
     }
 }

@@ -9,16 +9,16 @@ ghost use Rattle.type_terms.specs.Means.{id_positions, AreTerms, IsAllowed, Mean
 ghost use Rattle.type_terms.specs.Build.{AddsAnswer};
 
 use crate::run::answer::Answer;
-use crate::run::build::build_ty;
+use crate::run::answers::folds::{erase_at, instantiate_at, shift_at};
+use crate::run::answers::ids::names_ids;
+use crate::run::answers::queries::{equal_at, info_at};
+use crate::run::build::clauses::build_clauses;
+use crate::run::build::consts::{build_args_answer, build_const};
+use crate::run::build::declarations::declare_at;
+use crate::run::build::patterns::build_pat;
+use crate::run::build::predicates::build_predicate;
+use crate::run::build::types::build_ty;
 use crate::run::call::Call;
-use crate::run::clauses::build_clauses;
-use crate::run::consts::{build_args_answer, build_const};
-use crate::run::declare::declare_at;
-use crate::run::fold::{erase_at, instantiate_at, shift_at};
-use crate::run::ids::names_ids;
-use crate::run::pats::build_pat;
-use crate::run::predicates::build_predicate;
-use crate::run::query::{equal_at, info_at};
 use tt_index::Refusal;
 use tt_interner::Interner;
 

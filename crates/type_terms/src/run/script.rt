@@ -1,10 +1,18 @@
 //! Scripts, with one call on each line.
 
+pub mod fault;
+pub mod line;
+mod number;
+mod print;
+mod regions;
+mod types;
+mod words;
+
 use crate::run::answer::Answer;
-use crate::run::fault::Fault;
-use crate::run::line::parse_line;
-use crate::run::print::print_answer;
 use crate::run::runner::answer_next;
+use crate::run::script::fault::Fault;
+use crate::run::script::line::parse_line;
+use crate::run::script::print::print_answer;
 use std::alloc::{AllocError, Global};
 use std::io::{ErrorKind, Read, Write};
 use tt_interner::Interner;

@@ -101,7 +101,7 @@ fn long_list_holds(cx: &mut Interner) -> Result<bool, Refusal> {
     Ok(
         are_stored(cx, 9, 2)
             && cx.owns(built)
-            && cx.existentials(built).len() == 10
+            && built.as_slice(cx).len() == 10
             && at_once(cx, &traits) == Ok(built)
             && are_stored(cx, 9, 2),
     )

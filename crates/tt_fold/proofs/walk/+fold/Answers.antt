@@ -8,7 +8,7 @@ use Rattle.tt_interner.specs.Rows.{size}
 use Rattle.tt_interner.specs.Children.{children_at}
 use Rattle.tt_interner.specs.Nodes.{stored_kind}
 use Rattle.tt_interner.proofs.Growth.{Extends-refl, Extends-trans, age-grows, HasParts-grows, IsPart-grows, AreParts-grows, fill-grows, children_at-grows, stored_kind-grows}
-use Rattle.tt_interner.proofs.NodeLemmas.{same-sort, refilled_parts}
+use Rattle.tt_interner.proofs.NodeSteps.{same-sort, refilled_parts}
 use Rattle.tt_fold.specs.Parts.{child_weight}
 use Rattle.tt_fold.specs.Walk.{replaced, kept, term_failed, in_enter_failed}
 use Rattle.tt_fold.proofs.PartLaws.{in_range, only_part, left_parts, right_parts, vars-kept, weight-grows, weights-grow}

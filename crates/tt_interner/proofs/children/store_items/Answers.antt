@@ -4,7 +4,7 @@ use Rattle.tt_kinds.specs.Shape.{AreParts}
 use Rattle.tt_kinds.specs.Kinds.{children_shapes}
 use Rattle.tt_interner.specs.Rows.{size}
 use Rattle.tt_interner.specs.Stored.{StoresList}
-use Rattle.tt_interner.proofs.NodeLemmas.{StoresList-memory}
+use Rattle.tt_interner.proofs.NodeSteps.{StoresList-memory}
 use Rattle.tt_interner.proofs.children.store_items.Goals as goal
 
 pub store-requires : goal.store-requires

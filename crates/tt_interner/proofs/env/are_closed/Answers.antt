@@ -1,5 +1,5 @@
 -- by the next clause
-use Rattle.tt_interner.proofs.EnvLemmas.{clause_at_place}
+use Rattle.tt_interner.proofs.EnvSteps.{clause_at_place}
 use Rattle.tt_interner.proofs.env.are_closed.Goals as goal
 
 pub is_closed-requires : goal.is_closed-requires

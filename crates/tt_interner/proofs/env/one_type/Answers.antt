@@ -1,5 +1,5 @@
 -- by the next clause
-use Rattle.tt_interner.proofs.EnvLemmas.{clause_at_place}
+use Rattle.tt_interner.proofs.EnvSteps.{clause_at_place}
 use Rattle.tt_interner.proofs.env.one_type.Goals as goal
 
 pub type_given-requires : goal.type_given-requires

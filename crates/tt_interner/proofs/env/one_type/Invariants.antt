@@ -3,7 +3,7 @@ use Rattle.std.proofs.Common.{◌<◌}
 use Rattle.std.specs.Prelude.{IfSome}
 use Rattle.tt_kinds.specs.declared.table.Table.TheVariants.{Types}
 use Rattle.tt_interner.specs.Rows.{size}
-use Rattle.tt_interner.proofs.EnvLemmas.{IsSoFar}
+use Rattle.tt_interner.proofs.EnvSteps.{IsSoFar}
 use Rattle.tt_interner.proofs.env.one_type.Given as goal
 
 abbrev pub invariant-loop-clause : goal.invariant-loop-clause

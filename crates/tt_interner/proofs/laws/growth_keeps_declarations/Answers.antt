@@ -1,7 +1,7 @@
 -- by the rows that come
 use Rattle.tt_kinds.specs.declared.table.Table.TheVariants.{Declarations}
 use Rattle.tt_interner.proofs.Growth.{in_range-grows}
-use Rattle.tt_interner.proofs.DeclarationLemmas.{declared_at-grows}
+use Rattle.tt_interner.proofs.DeclarationLaws.{declared_at-grows}
 use Rattle.tt_interner.proofs.laws.growth_keeps_declarations.Goals as goal
 
 pub returns : goal.returns

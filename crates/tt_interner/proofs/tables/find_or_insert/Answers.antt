@@ -3,7 +3,7 @@ use Rattle.std.proofs.Common.{◌≡◌, Some, Ok, ap, sym, refl, ◌∙◌}
 use Rattle.indexmap.specs.IndexMap.{get}
 use Rattle.indexmap.proofs.CallerLemmas.{insert_entry-new}
 use Rattle.indexmap.proofs.MapLemmas.{Found-position, or_len-first}
-use Rattle.tt_interner.proofs.FoundLemmas.{no_place, no_value, insert_entry-same}
+use Rattle.tt_interner.proofs.FoundLaws.{no_place, no_value, insert_entry-same}
 use Rattle.tt_interner.proofs.tables.find_or_insert.Goals as goal
 use Rattle.tt_interner.proofs.tables.find_or_insert.Goals.{then-len-capacity+in-Err+in-Ok-reserve, else-len-capacity}
 

@@ -1,5 +1,5 @@
 use Rattle.std.proofs.Common.{ap, sym, ◌∙◌}
-use Rattle.tt_interner.proofs.StoresLemmas.{means_found}
+use Rattle.tt_interner.proofs.StoreSteps.{means_found}
 use Rattle.tt_visit.proofs.HasTypeFlagsLaws.{flags-of-none, flags-of-some}
 use Rattle.tt_visit.proofs.has_type_flags.list_flags.Goals as goal
 

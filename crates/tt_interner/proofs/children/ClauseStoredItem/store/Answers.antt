@@ -4,8 +4,8 @@ use Rattle.std.proofs.lemmas.Bool.{false≢true}
 use Rattle.tt_kinds.specs.declared.parts.List.TheVariants as stored_list
 use Rattle.tt_kinds.specs.declared.parts.ListSort.TheVariants as sort
 use Rattle.tt_interner.specs.Rows.{clauses_row}
-use Rattle.tt_interner.proofs.NodeLemmas.{is_row_of_clauses, StoresList-ok, StoresList-err, StoresList-other}
-use Rattle.tt_interner.proofs.ClauseLemmas.{no_other}
+use Rattle.tt_interner.proofs.NodeSteps.{is_row_of_clauses, StoresList-ok, StoresList-err, StoresList-other}
+use Rattle.tt_interner.proofs.ClauseLaws.{no_other}
 use Rattle.tt_interner.proofs.children.ClauseStoredItem.store.Goals as goal
 
 pub returns-in-Err : goal.returns-in-Err

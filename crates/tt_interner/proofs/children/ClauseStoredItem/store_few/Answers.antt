@@ -8,8 +8,8 @@ use Rattle.tt_kinds.specs.Shape.{AreParts}
 use Rattle.tt_kinds.specs.Kinds.{children_shapes}
 use Rattle.tt_interner.specs.Rows.{clauses_row, size}
 use Rattle.tt_interner.specs.Stored.{IsNoClauseList, StoresList, children_tree}
-use Rattle.tt_interner.proofs.NodeLemmas.{IsRowOf, is_row_of_clauses, StoresList-ok, StoresList-err, StoresList-other}
-use Rattle.tt_interner.proofs.ClauseLemmas.{no_other}
+use Rattle.tt_interner.proofs.NodeSteps.{IsRowOf, is_row_of_clauses, StoresList-ok, StoresList-err, StoresList-other}
+use Rattle.tt_interner.proofs.ClauseLaws.{no_other}
 use Rattle.tt_interner.proofs.children.ClauseStoredItem.store_few.Goals as goal
 
 pub returns-in-Err : goal.returns-in-Err

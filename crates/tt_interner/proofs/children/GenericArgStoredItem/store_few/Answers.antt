@@ -5,7 +5,7 @@ use Rattle.tt_kinds.specs.declared.parts.ListSort.TheVariants as sort
 use Rattle.tt_kinds.specs.Shape.{AreParts}
 use Rattle.tt_kinds.specs.Kinds.{children_shapes}
 use Rattle.tt_interner.specs.Rows.{args_row, size}
-use Rattle.tt_interner.proofs.NodeLemmas.{IsRowOf, is_row_of_args, args_shapes, StoresList-ok, StoresList-err}
+use Rattle.tt_interner.proofs.NodeSteps.{IsRowOf, is_row_of_args, args_shapes, StoresList-ok, StoresList-err}
 use Rattle.tt_interner.proofs.children.GenericArgStoredItem.store_few.Goals as goal
 
 pub mk_args-requires : goal.mk_args-requires

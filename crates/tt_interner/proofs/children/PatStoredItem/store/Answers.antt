@@ -4,7 +4,7 @@ use Rattle.tt_kinds.specs.declared.parts.List.TheVariants as stored_list
 use Rattle.tt_kinds.specs.declared.parts.ListSort.TheVariants as sort
 use Rattle.tt_kinds.specs.Shape.{AreParts}
 use Rattle.tt_interner.specs.Rows.{pats_row, size}
-use Rattle.tt_interner.proofs.NodeLemmas.{is_row_of_pats, pats_shapes, StoresList-ok, StoresList-err}
+use Rattle.tt_interner.proofs.NodeSteps.{is_row_of_pats, pats_shapes, StoresList-ok, StoresList-err}
 use Rattle.tt_interner.proofs.children.PatStoredItem.store.Goals as goal
 
 pub put_pat_list-requires : goal.put_pat_list-requires

@@ -5,7 +5,7 @@ use Rattle.tt_kinds.specs.declared.parts.ListSort.TheVariants as sort
 use Rattle.tt_kinds.specs.Shape.{AreParts}
 use Rattle.tt_kinds.specs.Kinds.{children_shapes}
 use Rattle.tt_interner.specs.Rows.{tys_row, size}
-use Rattle.tt_interner.proofs.NodeLemmas.{IsRowOf, is_row_of_tys, tys_shapes, StoresList-ok, StoresList-err}
+use Rattle.tt_interner.proofs.NodeSteps.{IsRowOf, is_row_of_tys, tys_shapes, StoresList-ok, StoresList-err}
 use Rattle.tt_interner.proofs.children.TyStoredItem.store_few.Goals as goal
 
 pub mk_tys-requires : goal.mk_tys-requires

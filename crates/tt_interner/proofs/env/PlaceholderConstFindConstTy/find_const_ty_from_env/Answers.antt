@@ -1,6 +1,6 @@
 -- no variable escapes any of the types
 use Rattle.tt_interner.specs.Env.{AreBoundsClosed}
-use Rattle.tt_interner.proofs.EnvLemmas.{closed_answer}
+use Rattle.tt_interner.proofs.EnvSteps.{closed_answer}
 use Rattle.tt_interner.proofs.env.PlaceholderConstFindConstTy.find_const_ty_from_env.Goals as goal
 
 pub returns-clause-closed : goal.returns-clause-closed

@@ -6,8 +6,8 @@ use Rattle.tt_interner.specs.Rows.{text_row, IsNew}
 use Rattle.tt_interner.specs.Tables.{no_info, with_entries, entries_by}
 use Rattle.tt_interner.specs.Kept.{tables}
 use Rattle.tt_kinds.specs.Label.{text_label}
-use Rattle.tt_interner.proofs.InfoLemmas.{info_node}
-use Rattle.tt_interner.proofs.TableLemmas.{count, not_there, entries_by-added, kept, added, refused}
+use Rattle.tt_interner.proofs.InfoLaws.{info_node}
+use Rattle.tt_interner.proofs.TableLaws.{count, not_there, entries_by-added, kept, added, refused}
 use Rattle.tt_interner.proofs.Keys.{text_key}
 use Rattle.tt_interner.proofs.interner.Interner.add_symbol.Goals as goal
 

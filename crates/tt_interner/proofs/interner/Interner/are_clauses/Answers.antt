@@ -1,7 +1,7 @@
 -- by the next clause
 use Rattle.std.proofs.Common.{refl}
 use Rattle.std.proofs.lemmas.Bool.{false≢true}
-use Rattle.tt_interner.proofs.ClauseLemmas.{clauses_step, clauses_unstep, clauses_past}
+use Rattle.tt_interner.proofs.ClauseLaws.{clauses_step, clauses_unstep, clauses_past}
 use Rattle.tt_interner.proofs.interner.Interner.are_clauses.Goals as goal
 use Rattle.tt_kinds.specs.Handle.{handle}
 

@@ -1,5 +1,5 @@
 -- what was there from the start is there
-use Rattle.tt_interner.proofs.TableLemmas.{has_first}
+use Rattle.tt_interner.proofs.TableLaws.{has_first}
 use Rattle.tt_interner.proofs.interner.Interner.are_rows.Goals as goal
 
 pub returns-clause-first : goal.returns-clause-first

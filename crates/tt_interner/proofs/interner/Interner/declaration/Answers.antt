@@ -6,7 +6,7 @@ use Rattle.std.proofs.lemmas.Option.{slice_get_read}
 use Rattle.tt_kinds.specs.declared.table.Table.TheVariants.{Declarations}
 use Rattle.tt_interner.specs.Rows.{declared_row, size}
 use Rattle.tt_interner.specs.Stored.{IsAt}
-use Rattle.tt_interner.proofs.DeclarationLemmas.{declared_count, declared_is, declared_at-row}
+use Rattle.tt_interner.proofs.DeclarationLaws.{declared_count, declared_is, declared_at-row}
 use Rattle.tt_interner.proofs.interner.Interner.declaration.Goals as goal
 
 pub unreachable-requires : goal.unreachable-requires

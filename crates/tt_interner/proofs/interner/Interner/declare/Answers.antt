@@ -5,9 +5,9 @@ use Rattle.tt_kinds.specs.Label.{declaration_label}
 use Rattle.tt_interner.specs.Rows.{declared_row, size, IsNew}
 use Rattle.tt_interner.specs.Tables.{with_entries, declared_entries}
 use Rattle.tt_interner.specs.Kept.{tables}
-use Rattle.tt_interner.proofs.InfoLemmas.{info_node}
-use Rattle.tt_interner.proofs.TableLemmas.{kept, added, refused}
-use Rattle.tt_interner.proofs.DeclarationLemmas.{declared_entries-added, declared_count, declared_new, Declares-added}
+use Rattle.tt_interner.proofs.InfoLaws.{info_node}
+use Rattle.tt_interner.proofs.TableLaws.{kept, added, refused}
+use Rattle.tt_interner.proofs.DeclarationLaws.{declared_entries-added, declared_count, declared_new, Declares-added}
 use Rattle.tt_interner.proofs.interner.Interner.declare.Goals as goal
 
 pub invariant_of-self-2 : goal.invariant_of-self-2

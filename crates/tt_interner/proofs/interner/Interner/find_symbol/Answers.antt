@@ -4,8 +4,8 @@ use Rattle.std.specs.String.{string_bytes}
 use Rattle.tt_kinds.specs.declared.table.Table.TheVariants.{Symbols}
 use Rattle.tt_interner.specs.Tables.{no_info}
 use Rattle.tt_interner.specs.Rows.{text_row}
-use Rattle.tt_interner.proofs.FoundLemmas.{none_from_not_some}
-use Rattle.tt_interner.proofs.TableLemmas.{fits, found, absent}
+use Rattle.tt_interner.proofs.FoundLaws.{none_from_not_some}
+use Rattle.tt_interner.proofs.TableLaws.{fits, found, absent}
 use Rattle.tt_interner.proofs.Keys.{text_key}
 use Rattle.tt_interner.proofs.interner.Interner.find_symbol.Goals as goal
 

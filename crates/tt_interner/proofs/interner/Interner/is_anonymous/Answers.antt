@@ -1,7 +1,7 @@
 -- by the first text
 use Rattle.std.proofs.Common.{eqb, sym, ap, ◌∙◌}
 use Rattle.tt_kinds.specs.Handle.{Symbol}
-use Rattle.tt_interner.proofs.DeclarationLemmas.{anonymous_is_first}
+use Rattle.tt_interner.proofs.DeclarationLaws.{anonymous_is_first}
 use Rattle.tt_interner.proofs.interner.Interner.is_anonymous.Goals as goal
 
 pub returns : goal.returns

@@ -1,5 +1,5 @@
 -- by the row of the list
-use Rattle.tt_interner.proofs.NodeLemmas.{is_listed}
+use Rattle.tt_interner.proofs.NodeSteps.{is_listed}
 use Rattle.tt_interner.proofs.interner.Interner.list_len.Goals as goal
 
 pub returns-clause-means : goal.returns-clause-means

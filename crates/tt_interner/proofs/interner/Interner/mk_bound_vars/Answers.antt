@@ -5,9 +5,9 @@ use Rattle.tt_interner.specs.Kept.{tables}
 use Rattle.std.specs.Prelude.{map}
 use Rattle.tt_kinds.specs.Label.{var_list_label}
 use Rattle.tt_kinds.specs.Bound.{var_kind}
-use Rattle.tt_interner.proofs.InfoLemmas.{info_node}
-use Rattle.tt_interner.proofs.TableLemmas.{entries_by-added}
-use Rattle.tt_interner.proofs.PutLemmas.{few, put_kept, built, built_refused}
+use Rattle.tt_interner.proofs.InfoLaws.{info_node}
+use Rattle.tt_interner.proofs.TableLaws.{entries_by-added}
+use Rattle.tt_interner.proofs.PutSteps.{few, put_kept, built, built_refused}
 use Rattle.tt_interner.proofs.Keys.{vars_key}
 use Rattle.tt_interner.proofs.interner.Interner.mk_bound_vars.Goals as goal
 

@@ -3,10 +3,10 @@ use Rattle.std.proofs.Common.{refl, ap}
 use Rattle.tt_interner.specs.Rows.{clauses_row}
 use Rattle.tt_interner.specs.Kept.{tables}
 use Rattle.tt_kinds.specs.Label.{clause_list_label}
-use Rattle.tt_interner.proofs.ClauseLemmas.{clauses_in_range}
-use Rattle.tt_interner.proofs.InfoLemmas.{info_term}
-use Rattle.tt_interner.proofs.TableLemmas.{entries_by-added}
-use Rattle.tt_interner.proofs.PutLemmas.{few, put_kept, built, built_refused}
+use Rattle.tt_interner.proofs.ClauseLaws.{clauses_in_range}
+use Rattle.tt_interner.proofs.InfoLaws.{info_term}
+use Rattle.tt_interner.proofs.TableLaws.{entries_by-added}
+use Rattle.tt_interner.proofs.PutSteps.{few, put_kept, built, built_refused}
 use Rattle.tt_interner.proofs.Keys.{clauses_key}
 use Rattle.tt_interner.proofs.interner.Interner.mk_clauses.Goals as goal
 

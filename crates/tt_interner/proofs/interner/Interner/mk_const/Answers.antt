@@ -4,9 +4,9 @@ use Rattle.std.proofs.lemmas.Bool.{false≢true}
 use Rattle.tt_interner.specs.Rows.{const_row}
 use Rattle.tt_interner.specs.Tables.{entries_by}
 use Rattle.tt_interner.specs.Kept.{tables}
-use Rattle.tt_interner.proofs.StoresLemmas.{Builds-deep}
-use Rattle.tt_interner.proofs.TableLemmas.{entries_by-push}
-use Rattle.tt_interner.proofs.PutLemmas.{few, same, put_kept, built, built_refused}
+use Rattle.tt_interner.proofs.StoreSteps.{Builds-deep}
+use Rattle.tt_interner.proofs.TableLaws.{entries_by-push}
+use Rattle.tt_interner.proofs.PutSteps.{few, same, put_kept, built, built_refused}
 use Rattle.tt_interner.proofs.Keys.{const_key}
 use Rattle.tt_interner.proofs.interner.Interner.mk_const.Goals as goal
 

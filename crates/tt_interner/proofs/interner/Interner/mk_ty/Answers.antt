@@ -2,7 +2,7 @@
 use Rattle.std.proofs.Common.{refl}
 use Rattle.std.proofs.lemmas.Bool.{false≢true}
 use Rattle.tt_interner.specs.Rows.{type_row}
-use Rattle.tt_interner.proofs.StoresLemmas.{Builds-deep, Builds-put}
+use Rattle.tt_interner.proofs.StoreSteps.{Builds-deep, Builds-put}
 use Rattle.tt_interner.proofs.interner.Interner.mk_ty.Goals as goal
 
 pub returns-then-is_too_deep : goal.returns-then-is_too_deep

@@ -3,9 +3,9 @@ use Rattle.std.proofs.Common.{refl, ap}
 use Rattle.tt_interner.specs.Rows.{tys_row}
 use Rattle.tt_interner.specs.Kept.{tables}
 use Rattle.tt_kinds.specs.declared.table.Table.TheVariants.{TypeLists}
-use Rattle.tt_interner.proofs.InfoLemmas.{info_list}
-use Rattle.tt_interner.proofs.TableLemmas.{entries_by-added}
-use Rattle.tt_interner.proofs.PutLemmas.{few, put_kept, built, built_refused}
+use Rattle.tt_interner.proofs.InfoLaws.{info_list}
+use Rattle.tt_interner.proofs.TableLaws.{entries_by-added}
+use Rattle.tt_interner.proofs.PutSteps.{few, put_kept, built, built_refused}
 use Rattle.tt_interner.proofs.Keys.{tys_key}
 use Rattle.tt_interner.proofs.interner.Interner.mk_tys.Goals as goal
 

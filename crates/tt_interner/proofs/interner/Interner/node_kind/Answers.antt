@@ -1,6 +1,6 @@
 -- by the row of the term
 use Rattle.std.proofs.Common.{sym}
-use Rattle.tt_interner.proofs.NodeLemmas.{is_node, kind_there}
+use Rattle.tt_interner.proofs.NodeSteps.{is_node, kind_there}
 use Rattle.tt_interner.proofs.interner.Interner.node_kind.Goals as goal
 
 pub returns-clause-parts : goal.returns-clause-parts

@@ -1,5 +1,5 @@
 -- by the row of the term
-use Rattle.tt_interner.proofs.NodeLemmas.{stored_table, stored_is_node}
+use Rattle.tt_interner.proofs.NodeSteps.{stored_table, stored_is_node}
 use Rattle.tt_interner.proofs.interner.Interner.node_parts.Goals as goal
 
 pub returns-clause-table : goal.returns-clause-table

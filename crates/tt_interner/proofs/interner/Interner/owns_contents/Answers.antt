@@ -3,7 +3,7 @@ use Rattle.std.proofs.Common.{refl}
 use Rattle.std.proofs.lemmas.Bool.{false≢true}
 use Rattle.tt_kinds.specs.Kinds.{kind_form, kind_sort}
 use Rattle.tt_interner.specs.Rows.{size}
-use Rattle.tt_interner.proofs.InfoLemmas.{form_in_range, form_of_range}
+use Rattle.tt_interner.proofs.InfoLaws.{form_in_range, form_of_range}
 use Rattle.tt_interner.proofs.interner.Interner.owns_contents.Goals as goal
 
 pub returns : goal.returns

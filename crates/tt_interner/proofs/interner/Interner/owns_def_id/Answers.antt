@@ -3,7 +3,7 @@ use Rattle.std.proofs.Common.{◌≡◌, length, ap, refl, ◌∙◌, arith}
 use Rattle.std.proofs.lemmas.Bool.Decides.{nat_tests}
 use Rattle.tt_kinds.specs.declared.table.Table.TheVariants.{Declarations}
 use Rattle.tt_interner.specs.Rows.{size}
-use Rattle.tt_interner.proofs.DeclarationLemmas.{declared_count}
+use Rattle.tt_interner.proofs.DeclarationLaws.{declared_count}
 use Rattle.tt_interner.proofs.interner.Interner.owns_def_id.Goals as goal
 
 pub returns : goal.returns

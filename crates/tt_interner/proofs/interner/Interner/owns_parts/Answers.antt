@@ -2,7 +2,7 @@
 use Rattle.std.proofs.Common.{refl, sym, ◌∙◌}
 use Rattle.std.proofs.lemmas.Bool.{false≢true}
 use Rattle.tt_kinds.specs.Kinds.{child_shapes}
-use Rattle.tt_interner.proofs.InfoLemmas.{AreParts-append, AreParts-join}
+use Rattle.tt_interner.proofs.InfoLaws.{AreParts-append, AreParts-join}
 use Rattle.tt_interner.proofs.interner.Interner.owns_parts.Goals as goal
 
 pub returns-then-owns_child : goal.returns-then-owns_child

@@ -1,6 +1,6 @@
 -- what was added before a refusal is taken back
 use Rattle.std.proofs.Common.{◌-◌, ◌≤◌, length, ◌∙◌, arith}
-use Rattle.tt_interner.proofs.ExistentialLemmas.{no_fewer, newest_only, rest_is, added, BuildsAll-ok, BuildsAll-err}
+use Rattle.tt_interner.proofs.ExistentialSteps.{no_fewer, newest_only, rest_is, added, BuildsAll-ok, BuildsAll-err}
 use Rattle.tt_interner.proofs.interner.Interner.put_all.Goals as goal
 
 pub overflow_sub-added : goal.overflow_sub-added

@@ -4,10 +4,10 @@ use Rattle.tt_interner.specs.Tables.{entries_by}
 use Rattle.tt_interner.specs.Rows.{clauses_row}
 use Rattle.tt_interner.specs.Kept.{tables}
 use Rattle.tt_kinds.specs.Label.{clause_list_label}
-use Rattle.tt_interner.proofs.ClauseLemmas.{clauses_in_range}
-use Rattle.tt_interner.proofs.InfoLemmas.{info_term}
-use Rattle.tt_interner.proofs.TableLemmas.{entries_by-push}
-use Rattle.tt_interner.proofs.PutLemmas.{few, same, put_kept, built, built_refused}
+use Rattle.tt_interner.proofs.ClauseLaws.{clauses_in_range}
+use Rattle.tt_interner.proofs.InfoLaws.{info_term}
+use Rattle.tt_interner.proofs.TableLaws.{entries_by-push}
+use Rattle.tt_interner.proofs.PutSteps.{few, same, put_kept, built, built_refused}
 use Rattle.tt_interner.proofs.Keys.{clauses_key}
 use Rattle.tt_interner.proofs.interner.Interner.put_clauses.Goals as goal
 

@@ -4,9 +4,9 @@ use Rattle.tt_interner.specs.Tables.{entries_by}
 use Rattle.tt_interner.specs.Rows.{existentials_row}
 use Rattle.tt_interner.specs.Kept.{tables}
 use Rattle.tt_kinds.specs.declared.table.Table.TheVariants.{ExistentialLists}
-use Rattle.tt_interner.proofs.InfoLemmas.{info_list}
-use Rattle.tt_interner.proofs.TableLemmas.{entries_by-push}
-use Rattle.tt_interner.proofs.PutLemmas.{few, same, put_kept, built, built_refused}
+use Rattle.tt_interner.proofs.InfoLaws.{info_list}
+use Rattle.tt_interner.proofs.TableLaws.{entries_by-push}
+use Rattle.tt_interner.proofs.PutSteps.{few, same, put_kept, built, built_refused}
 use Rattle.tt_interner.proofs.Keys.{existentials_key}
 use Rattle.tt_interner.proofs.interner.Interner.put_existentials.Goals as goal
 

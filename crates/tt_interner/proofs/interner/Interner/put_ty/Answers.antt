@@ -3,8 +3,8 @@ use Rattle.std.proofs.Common.{refl, ap, ◌∙◌}
 use Rattle.tt_interner.specs.Rows.{type_row}
 use Rattle.tt_interner.specs.Tables.{entries_by}
 use Rattle.tt_interner.specs.Kept.{tables}
-use Rattle.tt_interner.proofs.TableLemmas.{entries_by-push}
-use Rattle.tt_interner.proofs.PutLemmas.{few, same, put_kept, put, put_refused}
+use Rattle.tt_interner.proofs.TableLaws.{entries_by-push}
+use Rattle.tt_interner.proofs.PutSteps.{few, same, put_kept, put, put_refused}
 use Rattle.tt_interner.proofs.Keys.{type_key}
 use Rattle.tt_interner.proofs.interner.Interner.put_ty.Goals as goal
 

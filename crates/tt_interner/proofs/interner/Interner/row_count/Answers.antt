@@ -2,7 +2,7 @@
 use Rattle.std.proofs.Common.{◌≡◌, length, rules, sym, ap, ◌∙◌}
 use Rattle.tt_interner.specs.Kept.{tables}
 use Rattle.tt_interner.specs.Stored.{Terms}
-use Rattle.tt_interner.proofs.TakeBackLemmas.{rows_length}
+use Rattle.tt_interner.proofs.TakeBackSteps.{rows_length}
 use Rattle.tt_interner.proofs.interner.Interner.row_count.Goals as goal
 
 pub returns : goal.returns

@@ -6,7 +6,7 @@ use Rattle.tt_kinds.specs.Handle.{Const}
 use Rattle.tt_kinds.specs.Handle.{Pat}
 use Rattle.tt_kinds.specs.Handle.{Predicate}
 use Rattle.tt_kinds.specs.Handle.{PolyExistentialPredicate}
-use Rattle.tt_interner.proofs.StoresLemmas.{Builds-ok_as, Builds-err_as}
+use Rattle.tt_interner.proofs.StoreSteps.{Builds-ok_as, Builds-err_as}
 use Rattle.tt_interner.proofs.interner.Interner.store.Goals as goal
 
 pub returns-in-Ok-clause-builds : goal.returns-in-Ok-clause-builds

@@ -1,6 +1,6 @@
 -- by the kind in the row
 use Rattle.std.proofs.Common.{◌∙◌}
-use Rattle.tt_interner.proofs.NodeLemmas.{kind_there, is_node, like_parts, builds_like}
+use Rattle.tt_interner.proofs.NodeSteps.{kind_there, is_node, like_parts, builds_like}
 use Rattle.tt_interner.proofs.interner.Interner.store_any_like.Goals as goal
 
 pub with_parts-kind-requires : goal.with_parts-kind-requires

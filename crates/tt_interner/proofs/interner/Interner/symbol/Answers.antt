@@ -1,6 +1,6 @@
 -- what is found stays, and what is not is added
 use Rattle.tt_interner.specs.Rows.{text_row}
-use Rattle.tt_interner.proofs.StoresLemmas.{Builds-found, Builds-added}
+use Rattle.tt_interner.proofs.StoreSteps.{Builds-found, Builds-added}
 use Rattle.tt_interner.proofs.interner.Interner.symbol.Goals as goal
 
 pub returns-in-Some : goal.returns-in-Some

@@ -2,7 +2,7 @@
 use Rattle.std.proofs.Common.{◌≡◌, length, ap, refl, ◌∙◌, arith}
 use Rattle.tt_kinds.specs.declared.table.Table.TheVariants.{Declarations}
 use Rattle.tt_interner.specs.Rows.{size}
-use Rattle.tt_interner.proofs.DeclarationLemmas.{declared_count}
+use Rattle.tt_interner.proofs.DeclarationLaws.{declared_count}
 use Rattle.tt_interner.proofs.interner.Interner.table_len.Goals as goal
 
 pub returns-in-Declarations : goal.returns-in-Declarations

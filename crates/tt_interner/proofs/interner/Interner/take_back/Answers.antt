@@ -1,7 +1,7 @@
 -- what is left is what was there before
 use Rattle.std.proofs.Common.{◌-◌, refl, arith}
 use Rattle.tt_interner.specs.Kept.{tables}
-use Rattle.tt_interner.proofs.TakeBackLemmas.{few_tables, few_entries, back_kept, back_rows}
+use Rattle.tt_interner.proofs.TakeBackSteps.{few_tables, few_entries, back_kept, back_rows}
 use Rattle.tt_interner.proofs.interner.Interner.take_back.Goals as goal
 
 pub overflow_sub-rows : goal.overflow_sub-rows

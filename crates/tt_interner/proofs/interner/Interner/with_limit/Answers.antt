@@ -5,7 +5,7 @@ use Rattle.tt_interner.specs.Rows.{type_row, const_row, pat_row, predicate_row, 
 use Rattle.tt_kinds.specs.declared.table.Table.{Table}
 use Rattle.tt_kinds.specs.declared.table.Table.TheVariants.{TypeLists, ArgLists, VarLists, ConstLists, PatternLists, ClauseLists, ExistentialLists, AssumptionLists, Symbols}
 use Rattle.tt_interner.specs.Tables.{no_info, entries_by, declared_entries}
-use Rattle.tt_interner.proofs.TableLemmas.{Keeps-first, rows_are_first, are_first_tables, entries_by-first, first_order}
+use Rattle.tt_interner.proofs.TableLaws.{Keeps-first, rows_are_first, are_first_tables, entries_by-first, first_order}
 use Rattle.tt_interner.proofs.interner.Interner.with_limit.Goals as goal
 use Rattle.tt_interner.specs.Stored.{anonymous_text}
 
@@ -16,7 +16,7 @@ in_first_order a b c d p q r s =
 
 pub invariant_of-result : goal.invariant_of-result
 invariant_of-result c = Keeps-first _ _ _
-    (in_first_order _ _ _ _ c.new-order.ensures.items c.in-Ok.ensures.order c.in-Ok-more_lists.ensures.order c.in-Ok-first_text.ensures.order)
+    (in_first_order _ _ _ _ c.new-order.ensures.items c.in-Ok.ensures.order c.in-Ok-more_empty_lists.ensures.order c.in-Ok-first_text.ensures.order)
     (are_first_tables _ (record {
       types = ap (entries_by type_row (λ v. v)) c.new.ensures.empty;
       consts = ap (entries_by const_row (λ v. v)) c.new-2.ensures.empty;
@@ -27,18 +27,18 @@ invariant_of-result c = Keeps-first _ _ _
       arg_lists = entries_by-first (λ k. k.items) args_row (λ v. v) c.in-Ok.lists.arg_lists.entries [] no_info c.in-Ok.ensures.args;
       var_lists = entries_by-first (λ k. k.items) vars_row (λ v. v) c.in-Ok.lists.var_lists.entries [] no_info c.in-Ok.ensures.vars;
       const_lists = entries_by-first (λ k. k.items) consts_row (λ v. v) c.in-Ok.lists.const_lists.entries [] no_info c.in-Ok.ensures.consts;
-      pattern_lists = entries_by-first (λ k. k.items) pats_row (λ v. v) c.in-Ok-more_lists.lists.pattern_lists.entries [] no_info c.in-Ok-more_lists.ensures.patterns;
-      clause_lists = entries_by-first (λ k. k.items) clauses_row (λ v. v) c.in-Ok-more_lists.lists.clause_lists.entries [] no_info c.in-Ok-more_lists.ensures.clauses;
-      existential_lists = entries_by-first (λ k. k.items) existentials_row (λ v. v) c.in-Ok-more_lists.lists.existential_lists.entries [] no_info c.in-Ok-more_lists.ensures.existentials;
+      pattern_lists = entries_by-first (λ k. k.items) pats_row (λ v. v) c.in-Ok-more_empty_lists.lists.pattern_lists.entries [] no_info c.in-Ok-more_empty_lists.ensures.patterns;
+      clause_lists = entries_by-first (λ k. k.items) clauses_row (λ v. v) c.in-Ok-more_empty_lists.lists.clause_lists.entries [] no_info c.in-Ok-more_empty_lists.ensures.clauses;
+      existential_lists = entries_by-first (λ k. k.items) existentials_row (λ v. v) c.in-Ok-more_empty_lists.lists.existential_lists.entries [] no_info c.in-Ok-more_empty_lists.ensures.existentials;
       symbols = entries_by-first (λ k. string_bytes k) text_row (λ v. no_info) c.in-Ok-first_text.symbols.entries anonymous_text tt c.in-Ok-first_text.ensures.entries;
-      assumption_lists = entries_by-first (λ k. k.items) assumptions_row (λ v. v) c.in-Ok-more_lists.lists.assumption_lists.entries [] no_info c.in-Ok-more_lists.ensures.assumptions;
+      assumption_lists = entries_by-first (λ k. k.items) assumptions_row (λ v. v) c.in-Ok-more_empty_lists.lists.assumption_lists.entries [] no_info c.in-Ok-more_empty_lists.ensures.assumptions;
       declarations = ap (declared_entries 0) c.new-6.ensures.items;
     }))
     (omega arith) (omega arith)
 
 pub returns-clause-rows : goal.returns-clause-rows
 returns-clause-rows c = rows_are_first _ _
-    (in_first_order _ _ _ _ c.new-order.ensures.items c.in-Ok.ensures.order c.in-Ok-more_lists.ensures.order c.in-Ok-first_text.ensures.order)
+    (in_first_order _ _ _ _ c.new-order.ensures.items c.in-Ok.ensures.order c.in-Ok-more_empty_lists.ensures.order c.in-Ok-first_text.ensures.order)
     (are_first_tables _ (record {
       types = ap (entries_by type_row (λ v. v)) c.new.ensures.empty;
       consts = ap (entries_by const_row (λ v. v)) c.new-2.ensures.empty;
@@ -49,10 +49,10 @@ returns-clause-rows c = rows_are_first _ _
       arg_lists = entries_by-first (λ k. k.items) args_row (λ v. v) c.in-Ok.lists.arg_lists.entries [] no_info c.in-Ok.ensures.args;
       var_lists = entries_by-first (λ k. k.items) vars_row (λ v. v) c.in-Ok.lists.var_lists.entries [] no_info c.in-Ok.ensures.vars;
       const_lists = entries_by-first (λ k. k.items) consts_row (λ v. v) c.in-Ok.lists.const_lists.entries [] no_info c.in-Ok.ensures.consts;
-      pattern_lists = entries_by-first (λ k. k.items) pats_row (λ v. v) c.in-Ok-more_lists.lists.pattern_lists.entries [] no_info c.in-Ok-more_lists.ensures.patterns;
-      clause_lists = entries_by-first (λ k. k.items) clauses_row (λ v. v) c.in-Ok-more_lists.lists.clause_lists.entries [] no_info c.in-Ok-more_lists.ensures.clauses;
-      existential_lists = entries_by-first (λ k. k.items) existentials_row (λ v. v) c.in-Ok-more_lists.lists.existential_lists.entries [] no_info c.in-Ok-more_lists.ensures.existentials;
+      pattern_lists = entries_by-first (λ k. k.items) pats_row (λ v. v) c.in-Ok-more_empty_lists.lists.pattern_lists.entries [] no_info c.in-Ok-more_empty_lists.ensures.patterns;
+      clause_lists = entries_by-first (λ k. k.items) clauses_row (λ v. v) c.in-Ok-more_empty_lists.lists.clause_lists.entries [] no_info c.in-Ok-more_empty_lists.ensures.clauses;
+      existential_lists = entries_by-first (λ k. k.items) existentials_row (λ v. v) c.in-Ok-more_empty_lists.lists.existential_lists.entries [] no_info c.in-Ok-more_empty_lists.ensures.existentials;
       symbols = entries_by-first (λ k. string_bytes k) text_row (λ v. no_info) c.in-Ok-first_text.symbols.entries anonymous_text tt c.in-Ok-first_text.ensures.entries;
-      assumption_lists = entries_by-first (λ k. k.items) assumptions_row (λ v. v) c.in-Ok-more_lists.lists.assumption_lists.entries [] no_info c.in-Ok-more_lists.ensures.assumptions;
+      assumption_lists = entries_by-first (λ k. k.items) assumptions_row (λ v. v) c.in-Ok-more_empty_lists.lists.assumption_lists.entries [] no_info c.in-Ok-more_empty_lists.ensures.assumptions;
       declarations = ap (declared_entries 0) c.new-6.ensures.items;
     }))

@@ -13,8 +13,8 @@ pub returns-then-has_skipped : goal.returns-then-has_skipped
 returns-then-has_skipped g c =
     let passes = goes-passes _ _ _ c.in-Continue.ensures.result in
     let low : outer_binder (fill (meaning c.args.cx.now.rows) (g.Self.TypeVisitable.shape c.args.self.now)) ≤ c.args.binder =
-    rw c.new-visitor.ensures at passes.in_range c.has_vars_in_range.ensures.each in
-    none-found _ _ (ap not c.has_vars_in_range.ensures.holds) (λ far. omega arith)
+    rw c.new-visitor.ensures at passes.in_range c.are_vars_in_range.ensures.each in
+    none-found _ _ (ap not c.are_vars_in_range.ensures.holds) (λ far. omega arith)
 
 pub returns-else-has_skipped : goal.returns-else-has_skipped
 returns-else-has_skipped g c =

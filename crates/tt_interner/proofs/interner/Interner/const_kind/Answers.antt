@@ -1,9 +1,0 @@
--- the key of an entry is its row
-use Rattle.std.proofs.Common.{refl}
-use Rattle.tt_kinds.specs.declared.table.Table.TheVariants.{Consts}
-use Rattle.tt_interner.specs.Rows.{const_row}
-use Rattle.tt_interner.proofs.TableLemmas.{key_row}
-use Rattle.tt_interner.proofs.interner.Interner.const_kind.Goals as goal
-
-pub returns : goal.returns
-returns c = rw (← c.self.view_is) (key_row _ _ _ c.self.invariant.tables Consts const_row (λ v. v) c.self.inside.consts.entries refl _ _ refl (rw c.number.ensures at c.key_at.ensures))
