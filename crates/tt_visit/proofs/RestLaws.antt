@@ -1,0 +1,30 @@
+-- What is left of terms and lists.
+use Rattle.std.proofs.Common.{◌≡◌, ℕ, ◌+◌, ◌<◌, ◌≤◌, max, List, [], ◌∷◌, ◌++◌, length, drop, get_or, Option, Some, refl, ap, sym, ◌∙◌, arith, MatchOption}
+use Rattle.std.specs.Prelude.{slice_get}
+use Rattle.std.proofs.lemmas.List.{drop_more, drop-drop}
+use Rattle.std.proofs.lemmas.Option.{slice_get_within, get_or_from_slice_get}
+use Rattle.tt_kinds.specs.Shape.{append, Meaning, Sizes, none, also, AreParts, fill_all}
+use Rattle.tt_kinds.specs.Kinds.{child_shapes, children_shapes, parts_shapes}
+use Rattle.tt_kinds.specs.declared.parts.Child.{Child}
+use Rattle.tt_kinds.specs.declared.parts.Child.TheVariants as child
+use Rattle.tt_kinds.specs.declared.parts.Parts.{Parts}
+use Rattle.tt_interner.specs.Rows.{Row}
+use Rattle.tt_visit.specs.Frames.{present, IsRest, IsWithin}
+use Rattle.tt_visit.specs.declared.frame.Rest.{Rest}
+use Rattle.tt_visit.specs.declared.frame.Rest.TheVariants as rest
+
+pub within : (rows : List Row) (r : Rest) → IsRest rows r → IsWithin r
+within rows (rest.Nothing vars) h = tt
+within rows (rest.Region r vars) h = tt
+within rows (rest.Node n vars) h = tt
+within rows (rest.List l vars) h = tt
+within rows (rest.Items l index len) h = h.1
+
+-- the next item, and the others
+pub item-next : {A : Type 0} (xs : List A) (n : ℕ) (x : A) → slice_get xs n ≡ Some x → drop n xs ≡ x ∷ drop 1 (drop n xs)
+item-next xs n x h =
+    drop_more xs n x (slice_get_within xs n x h) ∙ ap (λ y. y ∷ drop (n + 1) xs) (get_or_from_slice_get xs n x x h)
+    ∙ ap (λ ys. x ∷ ys) (sym (drop-drop 1 n xs))
+
+pub items-rest : {A : Type 0} (xs : List A) (n : ℕ) → drop (n + 1) xs ≡ drop 1 (drop n xs)
+items-rest xs n = sym (drop-drop 1 n xs)
