@@ -7,7 +7,7 @@ use Rattle.tt_kinds.specs.Tree.{Depth, Forest}
 use Rattle.tt_kinds.specs.Shape.{Shapes, none, also, append, Meaning, AreParts, fill, fill_all, vars_of}
 use Rattle.tt_kinds.specs.Kinds.{Form, param, bound, plain, under, form_parts, form_shape, kind_form, kind_sort, kind_shape, child_shapes, children_shapes, parts_shapes, list_shape, items_tree}
 use Rattle.tt_kinds.specs.Parts.{child_sort, absent, IsItem, list_sort, list_table, list_number}
-use Rattle.tt_kinds.specs.declared.handle.BoundVarKinds.{BoundVarKinds}
+use Rattle.tt_kinds.specs.Handle.{BoundVarKinds}
 use Rattle.tt_kinds.specs.declared.parts.Child.{Child}
 use Rattle.tt_kinds.specs.declared.parts.Child.TheVariants as child
 use Rattle.tt_kinds.specs.declared.parts.Kind.{Kind}

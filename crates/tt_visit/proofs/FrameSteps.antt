@@ -5,7 +5,7 @@ use Rattle.tt_kinds.specs.Shape.{none, also, append, Sizes, AreParts, fill_all}
 use Rattle.tt_kinds.specs.Kinds.{child_shapes, children_shapes}
 use Rattle.tt_kinds.specs.declared.parts.Child.{Child}
 use Rattle.tt_kinds.specs.declared.parts.Child.TheVariants as child
-use Rattle.tt_kinds.specs.declared.handle.BoundVarKinds.{BoundVarKinds}
+use Rattle.tt_kinds.specs.Handle.{BoundVarKinds}
 use Rattle.tt_interner.specs.Rows.{Row, meaning, size}
 use Rattle.tt_visit.specs.Steps.{AreStored}
 use Rattle.tt_visit.specs.Visit.{Visits, GoesOverAll, all_seen, BreaksAll}

@@ -8,7 +8,7 @@ use Rattle.tt_kinds.specs.Tree.{Depth, Tree, Forest, param, bound, region, term,
 use Rattle.tt_kinds.specs.Shape.{Sizes, AreParts, IsPart, fill, fill_all, vars_of}
 use Rattle.tt_kinds.specs.Kinds.{children_shapes, list_shape, node_shape}
 use Rattle.tt_kinds.specs.Parts.{node_table, node_number, list_table, list_number}
-use Rattle.tt_kinds.specs.declared.handle.BoundVarKinds.{BoundVarKinds}
+use Rattle.tt_kinds.specs.Handle.{BoundVarKinds}
 use Rattle.tt_kinds.specs.declared.parts.Child.{Child}
 use Rattle.tt_kinds.specs.declared.parts.Child.TheVariants as child
 use Rattle.tt_kinds.specs.declared.parts.List.{List as StoredList}
