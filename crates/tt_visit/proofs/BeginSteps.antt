@@ -108,6 +108,14 @@ module _ {rows : List Row} {p : Parts} {vars : Option BoundVarKinds} {f : Frame}
     fails = λ b s2 q. k b q.after s2 (rw (h.children rows, shapes-present p.second) at q.breaks) (rw h.binder at q.leaves);
   }
 
+pub parts-visited : {M B : Type 0} (V : Visits M B) (rows : List Row) (p : Parts) (f : Frame) (s s' : M) (r : ControlFlow B (Unit {0}))
+    → HoldsParts p None f → MatchControlFlow r (λ _. GoesOn V rows s (frame_todo rows f) s') (λ b. BreaksOn V rows s (frame_todo rows f) b s')
+    → MatchControlFlow r (λ _. GoesOverAll V s (fill_all (meaning rows) (parts_shapes p)) s') (λ b. BreaksAll V s (fill_all (meaning rows) (parts_shapes p)) b s')
+parts-visited V rows p f s s' r h e =
+    flow-weaker r e
+    (λ _ q. let l : s' ≡ q.after = rw h.binder at q.leaves in rw l (rw (h.children rows, shapes-present p.second) at q.goes))
+    (λ b q. let l : s' ≡ q.after = rw h.binder at q.leaves in rw l (rw (h.children rows, shapes-present p.second) at q.breaks))
+
 -- parts without a binder
 pub begins-bare : {M B : Type 0} (V : Visits M B) (rows : List Row) (p : Parts) (s : M) (o : Option Frame)
     → MatchOption o (parts_shapes p ≡ none) (HoldsParts p None) → AreParts (size rows) (parts_shapes p)

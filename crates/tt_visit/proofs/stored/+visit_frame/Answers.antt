@@ -1,10 +1,11 @@
-use Rattle.std.proofs.Common.{◌≡◌, ◌∙◌, length, arith}
-use Rattle.tt_visit.proofs.FrameSteps.{Taken, visiting-starts, visiting-past, visiting-breaks, visiting-into, visiting-ends, visiting-up, visiting-binders, total-past, total-into, total-up}
+use Rattle.std.proofs.Common.{◌≡◌, ◌∙◌, ◌<◌, length, arith}
+use Rattle.tt_visit.proofs.FrameSteps.{Taken, visiting-past, visiting-breaks, visiting-into, visiting-ends, visiting-up, visiting-binders, total-past, total-into, total-up}
 use Rattle.tt_visit.proofs.stored.+visit_frame.Goals as goal
 
 pub returns-in-None-pop-clause-result : goal.returns-in-None-pop-clause-result
 returns-in-None-pop-clause-result g t c =
-    let empty : length c.visit.frames.items ≡ 0 = omega (arith, c.in-None-pop.ensures.variant.1) in
+    let some : 0 < length c.visit.frames.items → ⊥ = λ more. (let is_some = c.in-None-pop.ensures.variant.1 more in cc) in
+    let empty : length c.visit.frames.items ≡ 0 = omega arith in
     visiting-ends c.visit.frames.items c.visit.invariant c.in-None.ensures.children (c.binder.ensures ∙ c.in-None.ensures.binder) c.leave.ensures.result empty
 
 pub visit-smaller-in-Some-pop : goal.visit-smaller-in-Some-pop
