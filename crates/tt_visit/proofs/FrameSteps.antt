@@ -46,6 +46,10 @@ pub record Taken (rows : List Row) (f : Frame) (c : Child) (f' : Frame) : Type 0
   pub binder : rest_binder f'.rest ≡ rest_binder f.rest
   pub rest : IsRest rows f'.rest
 
+pub taken : (rows : List Row) (f : Frame) (c : Child) (f' : Frame) → frame_children rows f ≡ c ∷ frame_children rows f' → f'.first ≡ None
+    → rest_binder f'.rest ≡ rest_binder f.rest → IsRest rows f'.rest → Taken rows f c f'
+taken rows f c f' children first binder rest = record { children = children; first = first; binder = binder; rest = rest }
+
 module _ {rows : List Row} {f f' : Frame} {c : Child} where
   taken-parts : Taken rows f c f' → IsFrame rows f → AreParts (size rows) (append (child_shapes c) (children_shapes (frame_children rows f')))
   taken-parts t is = rw t.children at is.todo.parts

@@ -341,7 +341,10 @@ fn begin_inside<V: TypeVisitor>(
         cx.now.rows visitor.old (fill (meaning cx.now.rows) (node_shape node)) result visitor.new }
 {
     match node {
-        Node::Clauses(clauses) => ControlFlow::Continue(Some(list_frame(cx, List::Clauses(clauses)))),
+        Node::Clauses(clauses) => {
+            let items = list_frame(cx, List::Clauses(clauses));
+            ControlFlow::Continue(Some(items))
+        }
         _ => {
             let kind = cx.node_kind(node);
             begin_kind(cx, visitor, &kind)
@@ -417,8 +420,10 @@ fn begin_under<V: TypeVisitor>(
     match visitor.visit_binder(cx, vars) {
         ControlFlow::Break(b) => ControlFlow::Break(b),
         ControlFlow::Continue(Next::Skip) => ControlFlow::Continue(None),
-        ControlFlow::Continue(Next::Descend) =>
-            ControlFlow::Continue(Some(Frame::of_parts(parts, Some(vars)))),
+        ControlFlow::Continue(Next::Descend) => {
+            let frame = Frame::of_parts(parts, Some(vars));
+            ControlFlow::Continue(Some(frame))
+        }
     }
 }
 

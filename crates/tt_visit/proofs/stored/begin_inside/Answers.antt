@@ -16,7 +16,7 @@ begin_kind-requires-clause-kind g c = c.node_kind-kind.ensures.parts
 pub returns-in-Clauses-clause-begun : goal.returns-in-Clauses-clause-begun
 unfolding fill
 returns-in-Clauses-clause-begun g c =
-    let own = c.list_frame.ensures in
+    let own = c.list_frame-items.ensures in
     rw c.in-Clauses.is (begins-list own.frame own.binder own.low own.light (λ _ h. rw own.list (term_seen refl h)) (λ b _ h. rw own.list (term_inside_broke refl h)))
 
 pub returns-in_default-clause-begun : goal.returns-in_default-clause-begun

@@ -11,4 +11,4 @@ returns-in-Continue-Skip-clause-begun g c m = binder_skipped (rw c.in-Continue-S
 pub returns-in-Continue-Descend-clause-begun : goal.returns-in-Continue-Descend-clause-begun
 returns-in-Continue-Descend-clause-begun g c =
     let hook = rw c.in-Continue-Descend.field-0-is at c.in-Continue-Descend.ensures.result in
-    begins-under hook c.of_parts.ensures c.requires.vars c.requires.parts
+    begins-under hook c.of_parts-frame.ensures c.requires.vars c.requires.parts
