@@ -1,15 +1,10 @@
 -- What is left of terms and lists.
-use Rattle.std.proofs.Common.{◌≡◌, ℕ, ◌+◌, ◌<◌, ◌≤◌, max, List, [], ◌∷◌, ◌++◌, length, drop, get_or, Option, Some, refl, ap, sym, ◌∙◌, arith, MatchOption}
+use Rattle.std.proofs.Common.{◌≡◌, ℕ, ◌+◌, List, ◌∷◌, drop, Some, ap, sym, ◌∙◌}
 use Rattle.std.specs.Prelude.{slice_get}
 use Rattle.std.proofs.lemmas.List.{drop_more, drop-drop}
 use Rattle.std.proofs.lemmas.Option.{slice_get_within, get_or_from_slice_get}
-use Rattle.tt_kinds.specs.Shape.{append, Meaning, Sizes, none, also, AreParts, fill_all}
-use Rattle.tt_kinds.specs.Kinds.{child_shapes, children_shapes, parts_shapes}
-use Rattle.tt_kinds.specs.declared.parts.Child.{Child}
-use Rattle.tt_kinds.specs.declared.parts.Child.TheVariants as child
-use Rattle.tt_kinds.specs.declared.parts.Parts.{Parts}
 use Rattle.tt_interner.specs.Rows.{Row}
-use Rattle.tt_visit.specs.Frames.{present, IsRest, IsWithin}
+use Rattle.tt_visit.specs.Frames.{IsRest, IsWithin}
 use Rattle.tt_visit.specs.declared.frame.Rest.{Rest}
 use Rattle.tt_visit.specs.declared.frame.Rest.TheVariants as rest
 

@@ -1,4 +1,4 @@
-use Rattle.std.proofs.Common.{refl, arith, ap}
+use Rattle.std.proofs.Common.{refl, arith}
 use Rattle.tt_kinds.specs.Shape.{fill}
 use Rattle.tt_visit.specs.Frames.{node_age}
 use Rattle.tt_visit.specs.Visit.{term_seen, term_inside_broke}

@@ -1,4 +1,3 @@
-use Rattle.tt_visit.proofs.RestLaws.{within}
 use Rattle.tt_visit.proofs.frame.Frame.next_child.Goals as goal
 
 pub returns-in-None-clause-rest : goal.returns-in-None-clause-rest
