@@ -3,17 +3,6 @@ use Rattle.std.proofs.Common.{◌≡◌, ℕ, ◌+◌, List, ◌∷◌, drop, So
 use Rattle.std.specs.Prelude.{slice_get}
 use Rattle.std.proofs.lemmas.List.{drop_more, drop-drop}
 use Rattle.std.proofs.lemmas.Option.{slice_get_within, get_or_from_slice_get}
-use Rattle.tt_interner.specs.Rows.{Row}
-use Rattle.tt_visit.specs.Frames.{IsRest, IsWithin}
-use Rattle.tt_visit.specs.declared.frame.Rest.{Rest}
-use Rattle.tt_visit.specs.declared.frame.Rest.TheVariants as rest
-
-pub within : (rows : List Row) (r : Rest) → IsRest rows r → IsWithin r
-within rows (rest.Nothing vars) h = tt
-within rows (rest.Region r vars) h = tt
-within rows (rest.Node n vars) h = tt
-within rows (rest.List l vars) h = tt
-within rows (rest.Items l index len) h = h.1
 
 -- the next item, and the others
 pub item-next : {A : Type 0} (xs : List A) (n : ℕ) (x : A) → slice_get xs n ≡ Some x → drop n xs ≡ x ∷ drop 1 (drop n xs)

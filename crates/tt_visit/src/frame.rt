@@ -1,6 +1,6 @@
 //! What is left of the terms and lists whose visit was begun.
 
-ghost use Rattle.std.specs.Prelude.{◌≡◌, List as Items, [], ◌∷◌, ◌++◌, drop, IsTrue, IsFalse, MatchOption, None};
+ghost use Rattle.std.specs.Prelude.{◌≡◌, List as Items, [], ◌∷◌, drop, IsTrue, IsFalse, MatchOption, None};
 ghost use Rattle.tt_kinds.specs.Kinds.{parts_shapes};
 ghost use Rattle.tt_kinds.specs.Shape.{none};
 ghost use Rattle.tt_interner.specs.Children.{children_at};

@@ -1,6 +1,9 @@
 use Rattle.std.proofs.Common.{◌≡◌, ◌∙◌, ◌<◌, length, arith}
-use Rattle.tt_visit.proofs.FrameSteps.{taken, visiting-past, visiting-breaks, visiting-into, visiting-ends, visiting-up, visiting-binders, total-past, total-into, total-up}
+use Rattle.tt_visit.proofs.FrameSteps.{taken, taken-child, visiting-starts, visiting-past, visiting-breaks, visiting-into, visiting-ends, visiting-up, visiting-binders, total-past, total-into, total-up}
 use Rattle.tt_visit.proofs.stored.+visit_frame.Goals as goal
+
+pub visit-init : goal.visit-init
+visit-init g t c = visiting-starts c.new-frames.result.items c.new-frames.ensures.items c.requires.owned c.requires.frame
 
 pub returns-in-None-pop-clause-result : goal.returns-in-None-pop-clause-result
 returns-in-None-pop-clause-result g t c =
@@ -16,6 +19,12 @@ pub visit-preserved-in-Some-pop : goal.visit-preserved-in-Some-pop
 visit-preserved-in-Some-pop g t c =
     visiting-up c.visit.frames.items c.pop.new.self.items c.in-Some-pop.rest c.visit.invariant c.in-None.ensures.children (c.binder.ensures ∙ c.in-None.ensures.binder)
     c.leave.ensures.result c.leave.ensures.owned c.in-Some-pop.ensures.items c.of_rest-frame.ensures
+
+pub begin_child-requires-clause-child : goal.begin_child-requires-clause-child
+begin_child-requires-clause-child g t c =
+    let e = c.in-Some.ensures in
+    let k = taken c.args.cx.now.rows c.visit.frame c.in-Some.child c.next_child.new.self e.children e.first e.binder e.rest in
+    taken-child k c.visit.invariant.is_frame
 
 pub leave_all-requires-clause-frames : goal.leave_all-requires-clause-frames
 leave_all-requires-clause-frames g t c = visiting-binders c.visit.frames.items c.visit.invariant
