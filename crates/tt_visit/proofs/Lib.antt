@@ -4,6 +4,9 @@ pub mod VisitSteps
 pub mod TypeTrees
 pub mod ItemSteps
 pub mod Weights
+mod RestLaws
+mod BeginSteps
+mod FrameSteps
 pub mod BareLaws
 pub mod Found
 pub mod HasTypeFlagsLaws

@@ -1,5 +1,5 @@
 -- One step of a visit over plain variables.
-use Rattle.std.proofs.Common.{◌≡◌, ℕ, ◌+◌, ◌<◌, ◌≤◌, List, [], ◌∷◌, ◌++◌, length, take, drop, get_or, ControlFlow, Continue, Break, refl, ap, sym, ◌∙◌, ◌⊎◌, inl, inr, arith}
+use Rattle.std.proofs.Common.{◌≡◌, ℕ, ◌+◌, ◌<◌, List, [], ◌∷◌, ◌++◌, length, take, drop, get_or, ControlFlow, Continue, Break, refl, ap, sym, ◌∙◌, ◌⊎◌, inl, inr, arith}
 use Rattle.std.specs.Prelude.{Some, None, slice_get}
 use Rattle.std.specs.ControlFlow.{MatchControlFlow}
 use Rattle.std.proofs.lemmas.Grind.{common_steps}
@@ -235,10 +235,6 @@ module _ {M B : Type 0} (V : Visits M B) (f : Meaning) where
   broke-after none us s s1 s' b a h = rw (← unseen V s s1 a) h
   broke-after (also x ss) us s s1 s' b (one_seen {s1 = m} a more) h = later_broke a (broke-after ss us m s1 s' b more h)
 
-nothing-seen : {M B : Type 0} (V : Visits M B) (f : Meaning) (s : M) → GoesOverAll V s (fill_all f none) s
-unfolding fill_all
-nothing-seen V f s = all_seen
-
 -- parts of some shapes, and then of others
 pub parts-before : (size : Sizes) (ss us : Shapes) → AreParts size (append ss us) → AreParts size ss
 parts-before size none us h = tt
@@ -248,7 +244,7 @@ pub parts-after : (size : Sizes) (ss us : Shapes) → AreParts size (append ss u
 parts-after size none us h = h
 parts-after size (also x ss) us h = parts-after size ss us h.1
 
--- the children of a list, up to one of them
+-- the children of a list, before one of them and after
 append-assoc : (ss us vs : Shapes) → append (append ss us) vs ≡ append ss (append us vs)
 append-assoc none us vs = refl
 append-assoc (also x ss) us vs = ap (also x) (append-assoc ss us vs)
@@ -275,24 +271,6 @@ pub parts-child : (size : Sizes) (list : List Child) (n : ℕ) (x : Child) → s
 parts-child size list n x h are =
     parts-before size (child_shapes x) (children_shapes (drop (n + 1) list))
     (parts-after size (children_shapes (take n list)) (append (child_shapes x) (children_shapes (drop (n + 1) list))) (rw (children-from list n x h) at are))
-
-module _ {M B : Type 0} (V : Visits M B) (f : Meaning) (list : List Child) (n : ℕ) where
-  pub child-seen : (x : Child) (s s1 s' : M) → slice_get list n ≡ Some x → GoesOverAll V s (fill_all f (children_shapes (take n list))) s1
-      → GoesOverAll V s1 (fill_all f (child_shapes x)) s' → GoesOverAll V s (fill_all f (children_shapes (take (n + 1) list))) s'
-  child-seen x s s1 s' h before now =
-      let e = ap children_shapes (take-more list n x (is-read list n x h) (slice_get_within list n x h)) ∙ children-append (take n list) (x ∷ []) in
-      rw e (seen-append V f (children_shapes (take n list)) (append (child_shapes x) none) s s1 s' before (seen-append V f (child_shapes x) none s1 s' s' now (nothing-seen V f s')))
-
-  pub child-broke : (x : Child) (s s1 s' : M) (b : B) → slice_get list n ≡ Some x → GoesOverAll V s (fill_all f (children_shapes (take n list))) s1
-      → BreaksAll V s1 (fill_all f (child_shapes x)) b s' → BreaksAll V s (fill_all f (children_shapes list)) b s'
-  child-broke x s s1 s' b h before now =
-      rw (children-from list n x h) (broke-after V f (children_shapes (take n list)) (append (child_shapes x) (children_shapes (drop (n + 1) list))) s s1 s' b before
-      (broke-before V f (child_shapes x) (children_shapes (drop (n + 1) list)) s1 s' b now))
-
-  pub children-seen : (s s' : M) → length list ≤ n → GoesOverAll V s (fill_all f (children_shapes (take n list))) s' → GoesOverAll V s (fill_all f (children_shapes list)) s'
-  children-seen s s' all w =
-      let whole : take n list ≡ list = grind (arith, common_steps) in
-      rw whole at w
 
 -- a stored term that is no list of clauses has a kind
 pub has-kind : (n : Node) → ((x : Clauses) → n ≡ node.Clauses x → ⊥) → node_table n ≡ ClauseLists → ⊥

@@ -1,37 +1,17 @@
 -- How deep a visit may go: the ages of the contents of a kind or a list.
-use Rattle.std.proofs.Common.{ℕ, suc, ◌+◌, ◌<◌, ◌≤◌, List, take, drop, max, arith}
+use Rattle.std.proofs.Common.{ℕ, ◌+◌, ◌<◌, ◌≤◌, List, [], ◌∷◌, take, drop, arith}
 use Rattle.std.specs.Prelude.{slice_get, Some, ◌≡◌}
 use Rattle.tt_kinds.specs.Label.{Sort, Label}
 use Rattle.tt_kinds.specs.Shape.{Shapes, append, none, also}
-use Rattle.tt_kinds.specs.Parts.{node_table, node_number, list_table, list_number}
 use Rattle.tt_kinds.specs.Kinds.{Form, param, bound, plain, under, form_parts, form_shape, kind_form, kind_sort, kind_shape, child_shapes, parts_shapes, children_shapes}
-use Rattle.tt_kinds.specs.declared.parts.Node.{Node}
-use Rattle.tt_kinds.specs.declared.parts.List.{List as StoredList}
 use Rattle.tt_kinds.specs.declared.parts.Child.{Child}
 use Rattle.tt_kinds.specs.declared.parts.Child.TheVariants as child
 use Rattle.tt_kinds.specs.declared.parts.Parts.{Parts}
 use Rattle.tt_kinds.specs.declared.parts.Kind.{Kind}
+use Rattle.tt_interner.specs.Rows.{Row, IsOlder, AreOlder}
+use Rattle.tt_visit.specs.Frames.{children_height}
+pub use Rattle.tt_visit.specs.Frames.{node_age, list_age, child_height, parts_height}
 use Rattle.tt_visit.proofs.VisitSteps.{children-from}
-use Rattle.tt_interner.specs.Rows.{Row, age, IsOlder, AreOlder}
-
--- how many rows came before a stored term
-abbrev pub node_age : List Row → Node → ℕ
-node_age rows n = age rows (node_table n) (node_number n)
-
--- how many rows came before a stored list
-abbrev pub list_age : List Row → StoredList → ℕ
-list_age rows l = age rows (list_table l) (list_number l)
-
--- how many rows there have to be for a child
-abbrev pub child_height : List Row → Child → ℕ
-child_height rows child.Absent = 0
-child_height rows (child.Region r) = 0
-child_height rows (child.Node n) = suc (node_age rows n)
-child_height rows (child.List l) = suc (list_age rows l)
-
--- the same for parts
-abbrev pub parts_height : List Row → Parts → ℕ
-parts_height rows p = max (child_height rows p.first) (child_height rows p.second)
 
 older-before : (rows : List Row) (a : ℕ) (ss us : Shapes) → AreOlder rows a (append ss us) → AreOlder rows a ss
 older-before rows a none us h = tt
@@ -65,6 +45,14 @@ pub low-kind : (rows : List Row) (a : ℕ) (k : Kind) → IsOlder rows a (kind_s
 low-kind rows a k h = low-form rows a (kind_sort k) (kind_form k) h
 
 -- the contents of a list came before its row
+pub low-children : (rows : List Row) (a : ℕ) (cs : List Child) → AreOlder rows a (children_shapes cs) → children_height rows cs ≤ a
+low-children rows a [] h = omega arith
+low-children rows a (c ∷ cs) h =
+    let first = low-child rows a c (older-before rows a (child_shapes c) (children_shapes cs) h) in
+    let more = low-children rows a cs (older-after rows a (child_shapes c) (children_shapes cs) h) in
+    omega arith
+
+-- the same for one of them
 pub low-item : (rows : List Row) (a : ℕ) (list : List Child) (n : ℕ) (x : Child) → slice_get list n ≡ Some x → AreOlder rows a (children_shapes list) → child_height rows x ≤ a
 low-item rows a list n x h older =
     low-child rows a x (older-before rows a (child_shapes x) (children_shapes (drop (n + 1) list))

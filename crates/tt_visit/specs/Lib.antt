@@ -1,6 +1,7 @@
 pub mod Root
 pub mod Visit
 pub mod Steps
+pub mod Frames
 pub mod HasTypeFlags
 pub mod HasEscapingVars
 pub mod HasError

@@ -4,6 +4,7 @@
 mod bare;
 mod containers;
 mod data;
+mod frame;
 mod handles;
 mod has_error;
 mod has_escaping_vars;

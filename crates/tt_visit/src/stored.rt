@@ -1,18 +1,23 @@
 //! The visit of stored terms and lists.
+//!
+//! A term's visit is begun by its hooks. What is left of it then is a frame, and the visit of a frame is one loop, whose
+//! stack is on the heap: so a term may be as deep as memory allows. A term's last child needs no room there.
 
-ghost use Rattle.std.specs.Prelude.{◌<◌, ◌≡◌};
+ghost use Rattle.std.specs.Prelude.{None, Some, ◌<◌, ◌≡◌, ◌+◌};
 ghost use Rattle.tt_kinds.specs.Shape.{AreParts, HasParts, IsPart, fill, fill_all};
 ghost use Rattle.tt_kinds.specs.Kinds.{
   child_shapes,
   children_shapes,
+  form_parts,
   items_tree,
+  kind_form,
   kind_shape,
   list_shape,
   node_shape,
   parts_shapes,
 };
 ghost use Rattle.tt_kinds.specs.Parts.{list_sort, node_table};
-ghost use Rattle.tt_interner.specs.Children.{children_at};
+ghost use Rattle.tt_kinds.specs.declared.parts.Child.TheVariants as child;
 ghost use Rattle.tt_kinds.specs.declared.table.Table.TheVariants.{VarLists};
 ghost use Rattle.tt_interner.specs.Rows.{meaning, size};
 ghost use Rattle.tt_visit.specs.Visit.{
@@ -37,15 +42,37 @@ ghost use Rattle.tt_visit.specs.Steps.{
   OwnsBreak,
   kind_error,
 };
-ghost use Rattle.std.specs.Prelude.{Some};
+ghost use Rattle.tt_visit.specs.Frames.{
+  AreBinders,
+  Begins,
+  BreaksOn,
+  child_height,
+  child_work,
+  children_height,
+  children_work,
+  Finishes,
+  forest_work,
+  frame_children,
+  frame_todo,
+  GoesOn,
+  HasFrame,
+  inward,
+  IsFrame,
+  Leaves,
+  parts_height,
+  rest_binder,
+  StackLeaves,
+  tree_work,
+};
 
+use crate::frame::{Frame, Frames, keep};
 use crate::visitor::{Next, TypeVisitor};
+use smallvec::SmallVec;
 use std::ops::ControlFlow;
 use tt_interner::Interner;
 use tt_kinds::{BoundVarKinds, Child, ConstKind, Kind, List, Node, Parts, TyKind};
 
 /// Returns the visit of a stored term.
-#[cycle(visit)]
 pub fn visit_node<V: TypeVisitor>(
     cx: &Interner,
     visitor: &mut V,
@@ -58,15 +85,11 @@ pub fn visit_node<V: TypeVisitor>(
     ensures result { Ends V.meaning (GoesOver V.hooks) (Breaks V.hooks)
         cx.now.rows visitor.old (fill (meaning cx.now.rows) (node_shape node)) result visitor.new }
 {
-    match ask(cx, visitor, node) {
-        ControlFlow::Break(b) => ControlFlow::Break(b),
-        ControlFlow::Continue(Next::Skip) => ControlFlow::Continue(()),
-        ControlFlow::Continue(Next::Descend) => visit_inside(cx, visitor, node),
-    }
+    let begun = begin_node(cx, visitor, node);
+    finish(cx, visitor, begun)
 }
 
 // The visit of the contents of a stored term, without its own hook.
-#[cycle(visit)]
 pub(crate) fn visit_inside<V: TypeVisitor>(
     cx: &Interner,
     visitor: &mut V,
@@ -79,17 +102,11 @@ pub(crate) fn visit_inside<V: TypeVisitor>(
     ensures result { Ends V.meaning (GoesInside V.hooks) (BreaksInside V.hooks)
         cx.now.rows visitor.old (fill (meaning cx.now.rows) (node_shape node)) result visitor.new }
 {
-    match node {
-        Node::Clauses(clauses) => visit_items(cx, visitor, List::Clauses(clauses)),
-        _ => {
-            let kind = cx.node_kind(node);
-            visit_kind(cx, visitor, &kind)
-        }
-    }
+    let begun = begin_inside(cx, visitor, node);
+    finish(cx, visitor, begun)
 }
 
 /// Returns the visit of the contents of a kind.
-#[cycle(visit)]
 pub fn visit_kind<V: TypeVisitor>(
     cx: &Interner,
     visitor: &mut V,
@@ -102,38 +119,11 @@ pub fn visit_kind<V: TypeVisitor>(
     ensures result { Ends V.meaning (GoesInside V.hooks) (BreaksInside V.hooks)
         cx.now.rows visitor.old (fill (meaning cx.now.rows) (kind_shape kind.now)) result visitor.new }
 {
-    match tell_error(cx, visitor, kind) {
-        ControlFlow::Break(b) => ControlFlow::Break(b),
-        ControlFlow::Continue(_) => visit_contents(cx, visitor, kind.bound_vars(), kind.parts()),
-    }
-}
-
-// The visit of parts, under their binder if they have one.
-#[cycle(visit)]
-fn visit_contents<V: TypeVisitor>(
-    cx: &Interner,
-    visitor: &mut V,
-    bound_vars: Option<BoundVarKinds>,
-    parts: Parts,
-) -> ControlFlow<V::Break, ()>
-    requires owned { V.owned cx.now.rows visitor.old }
-    requires vars { AreStored (size cx.now.rows) bound_vars }
-    requires parts { AreParts (size cx.now.rows) (parts_shapes parts) }
-    ensures owned { V.owned cx.now.rows visitor.new }
-    ensures broke { OwnsBreak V.break_owned cx.now.rows result }
-    ensures result { Ends V.meaning
-        (λ s. GoesUnder V.hooks (meaning cx.now.rows) s bound_vars)
-        (λ s. BreaksUnder V.hooks (meaning cx.now.rows) s bound_vars)
-        cx.now.rows visitor.old (fill_all (meaning cx.now.rows) (parts_shapes parts)) result visitor.new }
-{
-    match bound_vars {
-        None => visit_parts(cx, visitor, parts),
-        Some(vars) => visit_under(cx, visitor, vars, parts),
-    }
+    let begun = begin_kind(cx, visitor, kind);
+    finish(cx, visitor, begun)
 }
 
 // The visit of parts under a binder.
-#[cycle(visit)]
 pub(crate) fn visit_under<V: TypeVisitor>(
     cx: &Interner,
     visitor: &mut V,
@@ -150,19 +140,11 @@ pub(crate) fn visit_under<V: TypeVisitor>(
         (λ s. BreaksUnder V.hooks (meaning cx.now.rows) s (Some vars))
         cx.now.rows visitor.old (fill_all (meaning cx.now.rows) (parts_shapes parts)) result visitor.new }
 {
-    match visitor.visit_binder(cx, vars) {
-        ControlFlow::Break(b) => ControlFlow::Break(b),
-        ControlFlow::Continue(Next::Skip) => ControlFlow::Continue(()),
-        ControlFlow::Continue(Next::Descend) => {
-            let outcome = visit_parts(cx, visitor, parts);
-            visitor.leave_binder(cx, vars);
-            outcome
-        }
-    }
+    let begun = begin_under(cx, visitor, vars, parts);
+    finish(cx, visitor, begun)
 }
 
 // The visit of parts in order.
-#[cycle(visit)]
 pub(crate) fn visit_parts<V: TypeVisitor>(
     cx: &Interner,
     visitor: &mut V,
@@ -175,36 +157,10 @@ pub(crate) fn visit_parts<V: TypeVisitor>(
     ensures result { Ends V.meaning (GoesOverAll V.hooks) (BreaksAll V.hooks)
         cx.now.rows visitor.old (fill_all (meaning cx.now.rows) (parts_shapes parts)) result visitor.new }
 {
-    match visit_child(cx, visitor, &parts.first) {
-        ControlFlow::Break(b) => ControlFlow::Break(b),
-        ControlFlow::Continue(_) => visit_child(cx, visitor, &parts.second),
-    }
-}
-
-// The visit of one part or item.
-#[cycle(visit)]
-fn visit_child<V: TypeVisitor>(
-    cx: &Interner,
-    visitor: &mut V,
-    child: &Child,
-) -> ControlFlow<V::Break, ()>
-    requires owned { V.owned cx.now.rows visitor.old }
-    requires child { AreParts (size cx.now.rows) (child_shapes child.now) }
-    ensures owned { V.owned cx.now.rows visitor.new }
-    ensures broke { OwnsBreak V.break_owned cx.now.rows result }
-    ensures result { Ends V.meaning (GoesOverAll V.hooks) (BreaksAll V.hooks)
-        cx.now.rows visitor.old (fill_all (meaning cx.now.rows) (child_shapes child.now)) result visitor.new }
-{
-    match child {
-        Child::Absent => ControlFlow::Continue(()),
-        Child::Region(region) => visitor.visit_region(cx, *region),
-        Child::Node(node) => visit_node(cx, visitor, *node),
-        Child::List(list) => visit_list(cx, visitor, *list),
-    }
+    visit_frame(cx, visitor, Frame::of_parts(parts, None))
 }
 
 /// Returns the visit of a stored list. A list of clauses has a hook of its own.
-#[cycle(visit)]
 pub fn visit_list<V: TypeVisitor>(
     cx: &Interner,
     visitor: &mut V,
@@ -217,38 +173,294 @@ pub fn visit_list<V: TypeVisitor>(
     ensures result { Ends V.meaning (GoesOver V.hooks) (Breaks V.hooks)
         cx.now.rows visitor.old (fill (meaning cx.now.rows) (list_shape list)) result visitor.new }
 {
-    match list {
-        List::Clauses(clauses) => visit_node(cx, visitor, Node::Clauses(clauses)),
-        _ => visit_items(cx, visitor, list),
+    let begun = begin_list(cx, visitor, list);
+    finish(cx, visitor, begun)
+}
+
+// Takes a visit that was begun to its end.
+fn finish<V: TypeVisitor>(
+    cx: &Interner,
+    visitor: &mut V,
+    begun: ControlFlow<V::Break, Option<Frame>>,
+) -> ControlFlow<V::Break, ()>
+    requires owned { V.owned cx.now.rows visitor.old }
+    requires broke { OwnsBreak V.break_owned cx.now.rows begun }
+    requires frame { HasFrame cx.now.rows begun }
+    ensures owned { V.owned cx.now.rows visitor.new }
+    ensures broke { OwnsBreak V.break_owned cx.now.rows result }
+    ensures result { Finishes V.hooks cx.now.rows
+        (V.meaning cx.now.rows visitor.old) begun result (V.meaning cx.now.rows visitor.new) }
+{
+    match begun {
+        ControlFlow::Break(b) => ControlFlow::Break(b),
+        ControlFlow::Continue(None) => ControlFlow::Continue(()),
+        ControlFlow::Continue(Some(frame)) => visit_frame(cx, visitor, frame),
     }
 }
 
-// The visit of the contents of a stored list.
-#[cycle(visit)]
-fn visit_items<V: TypeVisitor>(
+// The visit of what is left of a term or a list. Where memory for the stack is refused, a term is visited by a call of
+// this function, on the machine's stack: the visit is the same, and there is no refusal that it could answer.
+fn visit_frame<V: TypeVisitor>(
+    cx: &Interner,
+    visitor: &mut V,
+    whole: Frame,
+) -> ControlFlow<V::Break, ()>
+    requires owned { V.owned cx.now.rows visitor.old }
+    requires frame { IsFrame cx.now.rows whole }
+    ensures owned { V.owned cx.now.rows visitor.new }
+    ensures broke { OwnsBreak V.break_owned cx.now.rows result }
+    ensures result { Ends V.meaning (GoesOn V.hooks cx.now.rows) (BreaksOn V.hooks cx.now.rows)
+        cx.now.rows visitor.old (frame_todo cx.now.rows whole) result visitor.new }
+{
+    let mut frames: Frames = SmallVec::new(cx.allocator());
+    let mut frame = whole;
+    'visit: loop {
+        match frame.next_child(cx) {
+            None => {
+                leave(cx, visitor, frame.rest.binder());
+                match frames.pop() {
+                    None => return ControlFlow::Continue(()),
+                    Some(rest) => frame = Frame::of_rest(rest),
+                }
+            }
+            Some(child) => match begin_child(cx, visitor, &child) {
+                ControlFlow::Break(b) => {
+                    leave(cx, visitor, frame.rest.binder());
+                    leave_all(cx, visitor, frames);
+                    return ControlFlow::Break(b);
+                }
+                ControlFlow::Continue(None) => {}
+                ControlFlow::Continue(Some(inner)) => {
+                    if keep(&mut frames, &frame.rest) {
+                        frame = inner;
+                    } else {
+                        match visit_frame(cx, visitor, inner) {
+                            ControlFlow::Break(b) => {
+                                leave(cx, visitor, frame.rest.binder());
+                                leave_all(cx, visitor, frames);
+                                return ControlFlow::Break(b);
+                            }
+                            ControlFlow::Continue(_) => {}
+                        }
+                    }
+                }
+            },
+        }
+    }
+}
+
+// Leaves the binder of a term, if it has one.
+fn leave<V: TypeVisitor>(cx: &Interner, visitor: &mut V, binder: Option<BoundVarKinds>)
+    requires owned { V.owned cx.now.rows visitor.old }
+    requires binder { AreStored (size cx.now.rows) binder }
+    ensures owned { V.owned cx.now.rows visitor.new }
+    ensures result { Leaves V.hooks cx.now.rows
+        (V.meaning cx.now.rows visitor.old) binder (V.meaning cx.now.rows visitor.new) }
+{
+    match binder {
+        None => {}
+        Some(vars) => visitor.leave_binder(cx, vars),
+    }
+}
+
+// Leaves the binders of the terms around one whose visit broke.
+fn leave_all<V: TypeVisitor>(cx: &Interner, visitor: &mut V, frames: Frames)
+    requires owned { V.owned cx.now.rows visitor.old }
+    requires frames { AreBinders (size cx.now.rows) (inward frames.items) }
+    ensures owned { V.owned cx.now.rows visitor.new }
+    ensures result { StackLeaves V.hooks cx.now.rows
+        (V.meaning cx.now.rows visitor.old) (inward frames.items) (V.meaning cx.now.rows visitor.new) }
+{
+    let mut frames = frames;
+    'leave: loop {
+        match frames.pop() {
+            None => return,
+            Some(rest) => leave(cx, visitor, rest.binder()),
+        }
+    }
+}
+
+// Begins the visit of one part or item. Where it isn't done by that, what is left of it is returned.
+fn begin_child<V: TypeVisitor>(
+    cx: &Interner,
+    visitor: &mut V,
+    child: &Child,
+) -> ControlFlow<V::Break, Option<Frame>>
+    requires owned { V.owned cx.now.rows visitor.old }
+    requires child { AreParts (size cx.now.rows) (child_shapes child.now) }
+    ensures owned { V.owned cx.now.rows visitor.new }
+    ensures broke { OwnsBreak V.break_owned cx.now.rows result }
+    ensures begun { Begins V.meaning V.hooks (GoesOverAll V.hooks) (BreaksAll V.hooks)
+        (child_height cx.now.rows child.now) (child_work cx.now.rows child.now)
+        cx.now.rows visitor.old (fill_all (meaning cx.now.rows) (child_shapes child.now)) result visitor.new }
+{
+    match child {
+        Child::Absent => ControlFlow::Continue(None),
+        Child::Region(region) => match visitor.visit_region(cx, *region) {
+            ControlFlow::Break(b) => ControlFlow::Break(b),
+            ControlFlow::Continue(_) => ControlFlow::Continue(None),
+        },
+        Child::Node(node) => begin_node(cx, visitor, *node),
+        Child::List(list) => begin_list(cx, visitor, *list),
+    }
+}
+
+// Begins the visit of a stored term.
+fn begin_node<V: TypeVisitor>(
+    cx: &Interner,
+    visitor: &mut V,
+    node: Node,
+) -> ControlFlow<V::Break, Option<Frame>>
+    requires owned { V.owned cx.now.rows visitor.old }
+    requires node { IsPart (size cx.now.rows) (node_shape node) }
+    ensures owned { V.owned cx.now.rows visitor.new }
+    ensures broke { OwnsBreak V.break_owned cx.now.rows result }
+    ensures begun { Begins V.meaning V.hooks (GoesOver V.hooks) (Breaks V.hooks)
+        (child_height cx.now.rows (child.Node node)) (child_work cx.now.rows (child.Node node))
+        cx.now.rows visitor.old (fill (meaning cx.now.rows) (node_shape node)) result visitor.new }
+{
+    match ask(cx, visitor, node) {
+        ControlFlow::Break(b) => ControlFlow::Break(b),
+        ControlFlow::Continue(Next::Skip) => ControlFlow::Continue(None),
+        ControlFlow::Continue(Next::Descend) => begin_inside(cx, visitor, node),
+    }
+}
+
+// Begins the visit of the contents of a stored term, without its own hook.
+fn begin_inside<V: TypeVisitor>(
+    cx: &Interner,
+    visitor: &mut V,
+    node: Node,
+) -> ControlFlow<V::Break, Option<Frame>>
+    requires owned { V.owned cx.now.rows visitor.old }
+    requires node { IsPart (size cx.now.rows) (node_shape node) }
+    ensures owned { V.owned cx.now.rows visitor.new }
+    ensures broke { OwnsBreak V.break_owned cx.now.rows result }
+    ensures begun { Begins V.meaning V.hooks (GoesInside V.hooks) (BreaksInside V.hooks)
+        (child_height cx.now.rows (child.Node node)) (child_work cx.now.rows (child.Node node))
+        cx.now.rows visitor.old (fill (meaning cx.now.rows) (node_shape node)) result visitor.new }
+{
+    match node {
+        Node::Clauses(clauses) => {
+            let items = list_frame(cx, List::Clauses(clauses));
+            ControlFlow::Continue(Some(items))
+        }
+        _ => {
+            let kind = cx.node_kind(node);
+            begin_kind(cx, visitor, &kind)
+        }
+    }
+}
+
+// Begins the visit of the contents of a kind.
+fn begin_kind<V: TypeVisitor>(
+    cx: &Interner,
+    visitor: &mut V,
+    kind: &Kind,
+) -> ControlFlow<V::Break, Option<Frame>>
+    requires owned { V.owned cx.now.rows visitor.old }
+    requires kind { HasParts (size cx.now.rows) (kind_shape kind.now) }
+    ensures owned { V.owned cx.now.rows visitor.new }
+    ensures broke { OwnsBreak V.break_owned cx.now.rows result }
+    ensures begun { Begins V.meaning V.hooks (GoesInside V.hooks) (BreaksInside V.hooks)
+        (parts_height cx.now.rows (form_parts (kind_form kind.now)) + 1)
+        (tree_work (fill (meaning cx.now.rows) (kind_shape kind.now)) + 2)
+        cx.now.rows visitor.old (fill (meaning cx.now.rows) (kind_shape kind.now)) result visitor.new }
+{
+    match tell_error(cx, visitor, kind) {
+        ControlFlow::Break(b) => ControlFlow::Break(b),
+        ControlFlow::Continue(_) => begin_contents(cx, visitor, kind.bound_vars(), kind.parts()),
+    }
+}
+
+// Begins the visit of parts, under their binder if they have one.
+fn begin_contents<V: TypeVisitor>(
+    cx: &Interner,
+    visitor: &mut V,
+    bound_vars: Option<BoundVarKinds>,
+    parts: Parts,
+) -> ControlFlow<V::Break, Option<Frame>>
+    requires owned { V.owned cx.now.rows visitor.old }
+    requires vars { AreStored (size cx.now.rows) bound_vars }
+    requires parts { AreParts (size cx.now.rows) (parts_shapes parts) }
+    ensures owned { V.owned cx.now.rows visitor.new }
+    ensures broke { OwnsBreak V.break_owned cx.now.rows result }
+    ensures begun { Begins V.meaning V.hooks
+        (λ s. GoesUnder V.hooks (meaning cx.now.rows) s bound_vars)
+        (λ s. BreaksUnder V.hooks (meaning cx.now.rows) s bound_vars)
+        (parts_height cx.now.rows parts + 1)
+        (forest_work (fill_all (meaning cx.now.rows) (parts_shapes parts)) + 3)
+        cx.now.rows visitor.old (fill_all (meaning cx.now.rows) (parts_shapes parts)) result visitor.new }
+{
+    match bound_vars {
+        None => ControlFlow::Continue(Frame::without_binder(parts)),
+        Some(vars) => begin_under(cx, visitor, vars, parts),
+    }
+}
+
+// Begins the visit of parts under a binder.
+fn begin_under<V: TypeVisitor>(
+    cx: &Interner,
+    visitor: &mut V,
+    vars: BoundVarKinds,
+    parts: Parts,
+) -> ControlFlow<V::Break, Option<Frame>>
+    requires owned { V.owned cx.now.rows visitor.old }
+    requires vars { vars.number < size cx.now.rows VarLists }
+    requires parts { AreParts (size cx.now.rows) (parts_shapes parts) }
+    ensures owned { V.owned cx.now.rows visitor.new }
+    ensures broke { OwnsBreak V.break_owned cx.now.rows result }
+    ensures begun { Begins V.meaning V.hooks
+        (λ s. GoesUnder V.hooks (meaning cx.now.rows) s (Some vars))
+        (λ s. BreaksUnder V.hooks (meaning cx.now.rows) s (Some vars))
+        (parts_height cx.now.rows parts + 1)
+        (forest_work (fill_all (meaning cx.now.rows) (parts_shapes parts)) + 3)
+        cx.now.rows visitor.old (fill_all (meaning cx.now.rows) (parts_shapes parts)) result visitor.new }
+{
+    match visitor.visit_binder(cx, vars) {
+        ControlFlow::Break(b) => ControlFlow::Break(b),
+        ControlFlow::Continue(Next::Skip) => ControlFlow::Continue(None),
+        ControlFlow::Continue(Next::Descend) => {
+            let frame = Frame::of_parts(parts, Some(vars));
+            ControlFlow::Continue(Some(frame))
+        }
+    }
+}
+
+// Begins the visit of a stored list.
+fn begin_list<V: TypeVisitor>(
     cx: &Interner,
     visitor: &mut V,
     list: List,
-) -> ControlFlow<V::Break, ()>
+) -> ControlFlow<V::Break, Option<Frame>>
     requires owned { V.owned cx.now.rows visitor.old }
     requires list { IsPart (size cx.now.rows) (list_shape list) }
-    ensures list { fill (meaning cx.now.rows) (list_shape list)
-        ≡ items_tree (list_sort list)
-        (fill_all (meaning cx.now.rows) (children_shapes (children_at cx.now.rows list))) }
     ensures owned { V.owned cx.now.rows visitor.new }
     ensures broke { OwnsBreak V.break_owned cx.now.rows result }
-    ensures items { Ends V.meaning (GoesOverAll V.hooks) (BreaksAll V.hooks)
-        cx.now.rows visitor.old (fill_all (meaning cx.now.rows) (children_shapes (children_at cx.now.rows list)))
-        result visitor.new }
+    ensures begun { Begins V.meaning V.hooks (GoesOver V.hooks) (Breaks V.hooks)
+        (child_height cx.now.rows (child.List list)) (child_work cx.now.rows (child.List list))
+        cx.now.rows visitor.old (fill (meaning cx.now.rows) (list_shape list)) result visitor.new }
 {
-    for index in 0..cx.list_len(list) {
-        let child = cx.list_child(list, index);
-        match visit_child(cx, visitor, &child) {
-            ControlFlow::Break(b) => return ControlFlow::Break(b),
-            ControlFlow::Continue(_) => {}
-        }
+    match list {
+        List::Clauses(clauses) => begin_node(cx, visitor, Node::Clauses(clauses)),
+        _ => ControlFlow::Continue(Some(list_frame(cx, list))),
     }
-    ControlFlow::Continue(())
+}
+
+// The items of a stored list.
+fn list_frame(cx: &Interner, list: List) -> Frame
+    requires { IsPart (size cx.now.rows) (list_shape list) }
+    ensures frame { IsFrame cx.now.rows result }
+    ensures binder { rest_binder result.rest ≡ None }
+    ensures list { fill (meaning cx.now.rows) (list_shape list)
+        ≡ items_tree (list_sort list)
+        (fill_all (meaning cx.now.rows) (children_shapes (frame_children cx.now.rows result))) }
+    ensures low { children_height cx.now.rows (frame_children cx.now.rows result)
+        < child_height cx.now.rows (child.List list) }
+    ensures light { children_work cx.now.rows (frame_children cx.now.rows result) + 1
+        < child_work cx.now.rows (child.List list) }
+{
+    Frame::of_items(list, cx.list_len(list))
 }
 
 // What the hook of a stored term answers. A term without a hook is gone into.

@@ -1,0 +1,247 @@
+-- The frames of a visit: what is left of terms and lists, and how much there is to visit.
+use Rattle.std.specs.Prelude.{◌≡◌, ℕ, suc, ◌+◌, ◌<◌, ◌≤◌, max, List, [], ◌∷◌, ◌++◌, length, drop, Option, Some, None, ◌⊎◌, ⊤}
+use Rattle.std.specs.Option.{option_to_list}
+use Rattle.std.specs.ControlFlow.{MatchControlFlow}
+use Rattle.std.specs.declared.ops.ControlFlow.{ControlFlow}
+use Rattle.std.specs.declared.ops.ControlFlow.TheVariants.{Continue, Break}
+use Rattle.tt_kinds.specs.Tree.{Depth, Tree, Forest, param, bound, region, term, node, binder, none, also}
+use Rattle.tt_kinds.specs.Shape.{Sizes, AreParts, IsPart, fill, fill_all, vars_of}
+use Rattle.tt_kinds.specs.Kinds.{children_shapes, list_shape, node_shape}
+use Rattle.tt_kinds.specs.Parts.{node_table, node_number, list_table, list_number}
+use Rattle.tt_kinds.specs.Handle.{BoundVarKinds}
+use Rattle.tt_kinds.specs.declared.parts.Child.{Child}
+use Rattle.tt_kinds.specs.declared.parts.Child.TheVariants as child
+use Rattle.tt_kinds.specs.declared.parts.List.{List as StoredList}
+use Rattle.tt_kinds.specs.declared.parts.Node.{Node}
+use Rattle.tt_kinds.specs.declared.parts.Parts.{Parts}
+use Rattle.tt_kinds.specs.declared.table.Table.TheVariants.{VarLists}
+use Rattle.tt_interner.specs.Children.{children_at}
+use Rattle.tt_interner.specs.Rows.{Row, age, meaning, size}
+use Rattle.tt_visit.specs.Steps.{AreStored}
+use Rattle.tt_visit.specs.Visit.{Visits, GoesOverAll, BreaksAll}
+use Rattle.tt_visit.specs.declared.frame.Frame.{Frame}
+use Rattle.tt_visit.specs.declared.frame.Rest.{Rest}
+use Rattle.tt_visit.specs.declared.frame.Rest.TheVariants as rest
+
+-- the child, if there is one
+abbrev pub present : Child → List Child
+present child.Absent = []
+present (child.Region r) = child.Region r ∷ []
+present (child.Node n) = child.Node n ∷ []
+present (child.List l) = child.List l ∷ []
+
+-- the children that are left after the first
+abbrev pub rest_children : List Row → Rest → List Child
+rest_children rows (rest.Nothing vars) = []
+rest_children rows (rest.Region r vars) = child.Region r ∷ []
+rest_children rows (rest.Node n vars) = child.Node n ∷ []
+rest_children rows (rest.List l vars) = child.List l ∷ []
+rest_children rows (rest.Items l index len) = drop index (children_at rows l)
+
+-- the binder that is to be left after them
+abbrev pub rest_binder : Rest → Option BoundVarKinds
+rest_binder (rest.Nothing vars) = vars
+rest_binder (rest.Region r vars) = vars
+rest_binder (rest.Node n vars) = vars
+rest_binder (rest.List l vars) = vars
+rest_binder (rest.Items l index len) = None
+
+-- the children that are left
+abbrev pub frame_children : List Row → Frame → List Child
+frame_children rows f = option_to_list f.first ++ rest_children rows f.rest
+
+-- the list is stored, and has so many items
+abbrev pub HasItems : List Row → StoredList → ℕ → Type 0
+HasItems rows l len = IsPart (size rows) (list_shape l) × (len ≡ length (children_at rows l))
+
+-- the index of an item that is left is one of the list's
+abbrev pub IsWithin : Rest → Type 0
+IsWithin (rest.Nothing vars) = ⊤
+IsWithin (rest.Region r vars) = ⊤
+IsWithin (rest.Node n vars) = ⊤
+IsWithin (rest.List l vars) = ⊤
+IsWithin (rest.Items l index len) = index < len
+
+-- a list of which items are left is stored, and has those items
+abbrev pub IsRest : List Row → Rest → Type 0
+IsRest rows (rest.Nothing vars) = ⊤
+IsRest rows (rest.Region r vars) = ⊤
+IsRest rows (rest.Node n vars) = ⊤
+IsRest rows (rest.List l vars) = ⊤
+IsRest rows (rest.Items l index len) = HasItems rows l len × (index < len)
+
+-- what is left was added to the others, or it is nothing
+abbrev pub IsKept : List Rest → Rest → List Rest → Type 0
+IsKept before r after = (after ≡ before ++ r ∷ []) ⊎ ((r ≡ rest.Nothing None) × (after ≡ before))
+
+-- how many rows came before a stored term
+abbrev pub node_age : List Row → Node → ℕ
+node_age rows n = age rows (node_table n) (node_number n)
+
+-- how many rows came before a stored list
+abbrev pub list_age : List Row → StoredList → ℕ
+list_age rows l = age rows (list_table l) (list_number l)
+
+-- how many rows there have to be for a child
+abbrev pub child_height : List Row → Child → ℕ
+child_height rows child.Absent = 0
+child_height rows (child.Region r) = 0
+child_height rows (child.Node n) = suc (node_age rows n)
+child_height rows (child.List l) = suc (list_age rows l)
+
+-- the same for parts
+abbrev pub parts_height : List Row → Parts → ℕ
+parts_height rows p = max (child_height rows p.first) (child_height rows p.second)
+
+-- the same for children
+abbrev pub children_height : List Row → List Child → ℕ
+children_height rows [] = 0
+children_height rows (c ∷ cs) = max (child_height rows c) (children_height rows cs)
+
+abbrev mutual
+  -- how much there is to visit in a tree
+  pub tree_work : Tree Depth → ℕ
+  tree_work (param s i name) = 1
+  tree_work (bound s d e) = 1
+  tree_work (region r) = 1
+  tree_work (term l ts) = suc (suc (forest_work ts))
+  tree_work (node l ts) = suc (suc (forest_work ts))
+  tree_work (binder vs t) = suc (tree_work t)
+
+  -- the same for trees
+  pub forest_work : Forest Depth → ℕ
+  forest_work none = 0
+  forest_work (also t ts) = suc (suc (tree_work t)) + forest_work ts
+
+-- how much there is to visit in a child
+abbrev pub child_work : List Row → Child → ℕ
+child_work rows child.Absent = 1
+child_work rows (child.Region r) = 1
+child_work rows (child.Node n) = suc (suc (tree_work (fill (meaning rows) (node_shape n))))
+child_work rows (child.List l) = suc (suc (tree_work (fill (meaning rows) (list_shape l))))
+
+-- the same for children
+abbrev pub children_work : List Row → List Child → ℕ
+children_work rows [] = 0
+children_work rows (c ∷ cs) = child_work rows c + children_work rows cs
+
+-- What is left of a term or a list: children, and the binder that they are under.
+pub record Todo : Type 0 where
+  pub children : List Child
+  pub binder : Option BoundVarKinds
+
+-- what a frame leaves to do
+abbrev pub frame_todo : List Row → Frame → Todo
+frame_todo rows f = record { children = frame_children rows f; binder = rest_binder f.rest }
+
+-- the same after the first child
+abbrev pub rest_todo : List Row → Rest → Todo
+rest_todo rows r = record { children = rest_children rows r; binder = rest_binder r }
+
+-- what is left of terms in the other order, the innermost first
+abbrev pub inward : List Rest → List Rest
+inward [] = []
+inward (r ∷ rs) = inward rs ++ r ∷ []
+
+-- the trees of the children
+abbrev pub todo_trees : List Row → Todo → Forest Depth
+todo_trees rows t = fill_all (meaning rows) (children_shapes t.children)
+
+-- what is left is stored
+pub record IsTodo (rows : List Row) (t : Todo) : Type 0 where
+  pub parts : AreParts (size rows) (children_shapes t.children)
+  pub binder : AreStored (size rows) t.binder
+
+-- the same of a frame
+pub record IsFrame (rows : List Row) (f : Frame) : Type 0 where
+  pub rest : IsRest rows f.rest
+  pub todo : IsTodo rows (frame_todo rows f)
+
+-- what is left of terms is stored, and no child is higher
+abbrev pub AreRests : List Row → ℕ → List Rest → Type 0
+AreRests rows h [] = ⊤
+AreRests rows h (r ∷ rs) = IsRest rows r × IsTodo rows (rest_todo rows r) × (children_height rows (rest_children rows r) ≤ h) × AreRests rows h rs
+
+-- the binders that are to be left are stored
+abbrev pub AreBinders : Sizes → List Rest → Type 0
+AreBinders size [] = ⊤
+AreBinders size (r ∷ rs) = AreStored size (rest_binder r) × AreBinders size rs
+
+-- the frame holds the parts of a term, under its binder
+pub record HoldsParts (parts : Parts) (vars : Option BoundVarKinds) (f : Frame) : Type 0 where
+  pub rest : (rows : List Row) → IsRest rows f.rest
+  pub children : (rows : List Row) → frame_children rows f ≡ parts.first ∷ present parts.second
+  pub binder : rest_binder f.rest ≡ vars
+
+module _ {M B : Type 0} (V : Visits M B) (rows : List Row) where
+  -- the binder of a term is left, if it has one
+  abbrev pub Leaves : M → Option BoundVarKinds → M → Type 0
+  Leaves s None s' = s' ≡ s
+  Leaves s (Some vars) s' = V.leave s (vars_of (meaning rows VarLists vars.number)) s'
+
+  -- the visitor goes over what is left of a term, and leaves its binder
+  pub record GoesOn (s : M) (t : Todo) (s' : M) : Type 0 where
+    pub after : M
+    pub goes : GoesOverAll V s (todo_trees rows t) after
+    pub leaves : Leaves after t.binder s'
+
+  -- the same for a visit that breaks
+  pub record BreaksOn (s : M) (t : Todo) (b : B) (s' : M) : Type 0 where
+    pub after : M
+    pub breaks : BreaksAll V s (todo_trees rows t) b after
+    pub leaves : Leaves after t.binder s'
+
+  -- the visitor goes over what is left of terms, the innermost first
+  abbrev pub StackGoes : M → List Rest → M → Type 0
+  StackGoes s [] s' = s' ≡ s
+  StackGoes s (r ∷ rs) s' = (s1 : M) × GoesOn s (rest_todo rows r) s1 × StackGoes s1 rs s'
+
+  -- the binders of the terms are left, the innermost first
+  abbrev pub StackLeaves : M → List Rest → M → Type 0
+  StackLeaves s [] s' = s' ≡ s
+  StackLeaves s (r ∷ rs) s' = (s1 : M) × Leaves s (rest_binder r) s1 × StackLeaves s1 rs s'
+
+  -- the visit of what is left of the terms breaks, and leaves the binders around
+  abbrev pub StackBreaks : M → List Rest → B → M → Type 0
+  StackBreaks s [] b s' = ⊥
+  StackBreaks s (r ∷ rs) b s' =
+      ((s1 : M) × BreaksOn s (rest_todo rows r) b s1 × StackLeaves s1 rs s')
+      ⊎ ((s1 : M) × GoesOn s (rest_todo rows r) s1 × StackBreaks s1 rs b s')
+
+  module _ (goes : M → Type 0) (breaks : B → M → Type 0) (height work : ℕ) where
+    -- A visit that was begun has come to a state with this frame left, whose children are below the height and are less
+    -- work: what comes of it makes the whole.
+    pub record Inside (f : Frame) (s : M) : Type 0 where
+      pub is_frame : IsFrame rows f
+      pub low : children_height rows (frame_children rows f) < height
+      pub light : children_work rows (frame_children rows f) + 1 < work
+      pub ends : (s' : M) → GoesOn s (frame_todo rows f) s' → goes s'
+      pub fails : (b : B) (s' : M) → BreaksOn s (frame_todo rows f) b s' → breaks b s'
+
+    -- the same where nothing may be left
+    abbrev pub Begun : Option Frame → M → Type 0
+    Begun None s = goes s
+    Begun (Some f) s = Inside f s
+
+-- the frame that a call left is stored
+abbrev pub HasFrame : {B : Type 0} → List Row → ControlFlow B (Option Frame) → Type 0
+HasFrame rows (Continue (Some f)) = IsFrame rows f
+HasFrame rows (Continue None) = ⊤
+HasFrame rows (Break b) = ⊤
+
+module _ {M B S : Type 0} (means : List Row → S → M) (V : Visits M B) where
+  -- A call began the visit of x in the visitor's state s, and answered r: what it says of one that breaks, of one that is done,
+  -- and of one of which a frame is left.
+  abbrev pub Begins : {X : Type 0} → (M → X → M → Type 0) → (M → X → B → M → Type 0) → ℕ → ℕ → List Row → S → X → ControlFlow B (Option Frame) → S → Type 0
+  Begins goes breaks height work rows s x r s' = MatchControlFlow r
+      (λ o. Begun V rows (goes (means rows s) x) (breaks (means rows s) x) height work o (means rows s'))
+      (λ b. breaks (means rows s) x b (means rows s'))
+
+module _ {M B : Type 0} (V : Visits M B) (rows : List Row) where
+  -- a call took a visit that was begun to its end
+  abbrev pub Finishes : M → ControlFlow B (Option Frame) → ControlFlow B (Unit {0}) → M → Type 0
+  Finishes s (Break b) r s' = (r ≡ Break b) × (s' ≡ s)
+  Finishes s (Continue None) r s' = (r ≡ Continue (tt {0})) × (s' ≡ s)
+  Finishes s (Continue (Some f)) r s' = MatchControlFlow r
+      (λ _. GoesOn V rows s (frame_todo rows f) s')
+      (λ b. BreaksOn V rows s (frame_todo rows f) b s')
