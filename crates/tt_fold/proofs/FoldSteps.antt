@@ -36,11 +36,12 @@ use Rattle.tt_visit.proofs.VisitSteps.{root-meaning, root-region}
 use Rattle.tt_fold.specs.Walk.{Errors, ChildFails, child_failed, any_trees, wanted_of, HasUnwanted, WalksItems, ItemsFail, items_failed, list_not_built, IsRegion, IsPassed, IsTerm, Hooks, descend, Walks, Descends, WalksInside, WalksAll, WalksUnder, descended, passed, rebuilt, done, at_region, in_open, in_binder, Fails, DescentFails, FailsAll, FailsUnder, descent_failed, passed_failed, inside_failed, not_built, after_failed, InsideFails, region_failed, stopped, in_open_failed, in_under_failed, in_leave_failed}
 use Rattle.tt_fold.specs.Counts.{Standing, stands}
 use Rattle.tt_fold.specs.Steps.{Goes, Folds, IsPartOf, tree_in, HasVars, vars_in}
-use Rattle.tt_fold.specs.Parts.{ArePartsOf, trees_in, node_tree, list_tree, child_trees, parts_trees, children_trees, IsNodeFor, IsListFor, IsChildFor, ArePartsFor, HasHook, HasBinder, binder_in, IsLeaf, FoldsSoFar, FoldsItems}
+use Rattle.tt_fold.specs.Parts.{ArePartsOf, trees_in, node_tree, list_tree, child_trees, parts_trees, children_trees, IsNodeFor, IsListFor, IsChildFor, ArePartsFor, HasHook, HasBinder, binder_in, IsInner, IsLeaf, FoldsSoFar, FoldsItems}
 use Rattle.tt_interner.proofs.Growth.{Extends-refl, Extends-trans, AreParts-grows, fill-grows, fill_all-grows}
-use Rattle.tt_fold.proofs.PartLaws.{is_part, in_range, stored_tree, one_part, one_tree, no_parts, no_trees, append_parts, right_parts, append_trees, joined, children-append, children-one, vars-grow, binder-grows}
+use Rattle.tt_fold.specs.Stack.{joined}
+use Rattle.tt_fold.proofs.PartLaws.{is_part, in_range, stored_tree, one_part, one_tree, no_parts, no_trees, append_parts, right_parts, append_trees, children-append, children-one, vars-grow, binder-grows}
 use Rattle.tt_fold.proofs.WantedLaws.{none-wanted, joined-wanted, child_fails, child_unwanted}
-use Rattle.tt_fold.proofs.FormLaws.{IsInner, form-labels}
+use Rattle.tt_fold.proofs.FormLaws.{form-labels}
 use Rattle.tt_fold.proofs.WalkLaws.{walks_list, fails_list, walks_clauses, fails_clauses, WalksAll-append, FailsAll-append, FailsAll-before, WalksAll-one, walks_leaf, walks_form, fails_form}
 
 -- what a region is
@@ -126,9 +127,6 @@ stored_list_tree rows u sort same = stored_tree rows (list_table u) (list_number
 pub list_is_items : (rows : Listed Row) (l : List) (cs : Listed Child) → meaning rows (list_table l) (list_number l) ≡ items_tree (list_sort l) (children_trees rows cs)
     → list_tree rows l ≡ items_tree (list_sort l) (children_trees rows cs)
 list_is_items rows l cs h = stored_tree rows (list_table l) (list_number l) ∙ h
-
-pub memory_unbuilt : (terms : Terms) (u : Tree Depth) (r : Refusal) → r ≡ Memory → IsUnbuilt terms u r
-memory_unbuilt terms u r same = rw same tt
 
 pub gives_no_clause : {E : Type 0} (gives : Refusal → E → Type 0) (r : Refusal) (e : E) → r ≡ NotAClause → gives r e → gives NotAClause e
 gives_no_clause gives r e same h = subst (λ x. gives x e) same h

@@ -17,7 +17,7 @@ use Rattle.tt_interner.specs.Rows.{Row, size, meaning, Grows, IsOlder, AreOlder}
 use Rattle.tt_interner.proofs.Growth.{HasParts-grows, row-grows}
 use Rattle.tt_fold.specs.Walk.{is_type_tree, any_trees, wanted_in}
 use Rattle.tt_fold.proofs.PartLaws.{left_parts, right_parts}
-use Rattle.tt_fold.specs.Parts.{IsLeaf, ArePartsOf, HasBinder, child_weight, parts_weight}
+use Rattle.tt_fold.specs.Parts.{HoldsAny, IsInner, IsLeaf, ArePartsOf, HasBinder, child_weight, parts_weight}
 
 -- the label means the same among more rows, and its names are theirs
 pub record KeepsLabel (old new : List Row) (l : Label ℕ) : Type 0 where
@@ -80,17 +80,6 @@ kind-const m (kind.Const k) h = const-type m (const_form k)
 kind-const m (kind.Pat k) h = absurd (cc)
 kind-const m (kind.Predicate b) h = absurd (cc)
 kind-const m (kind.Existential b) h = absurd (cc)
-
--- of the children of a term with the label may come any trees
-abbrev pub HoldsAny : Label ℕ → Type 0
-HoldsAny l = (name : ℕ → Name) → wanted_in (rename_label name l) ≡ any_trees
-
--- a form that has children or a binder, and is no list of clauses
-abbrev pub IsInner : Form (Label ℕ) → Type 0
-IsInner (param i name) = ⊥
-IsInner (bound d e) = ⊥
-IsInner (plain l p) = HoldsAny l
-IsInner (under l vars m p) = HoldsAny l
 
 inner : {L : Type 0} (label : L → Label ℕ) → ((l : L) → HoldsAny (label l)) → (f : Form L)
     → ((form_binder (relabelled label f) ≡ None) → ((form_parts (relabelled label f)).first ≡ child.Absent) → ((form_parts (relabelled label f)).second ≡ child.Absent) → ⊥)

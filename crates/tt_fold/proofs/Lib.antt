@@ -4,6 +4,10 @@ mod FormLaws
 mod WalkLaws
 mod StillLaws
 mod CoreSteps
+mod StackLaws
+mod FrameLaws
+mod GoingLaws
+mod ItemSteps
 mod FoldSteps
 mod ValueSteps
 mod BareLaws

@@ -14,6 +14,7 @@ use Rattle.tt_kinds.specs.declared.parts.Parts.{Parts}
 use Rattle.tt_kinds.specs.Shape.{vars_of}
 use Rattle.tt_interner.specs.Rows.{Row, size, meaning, Grows}
 use Rattle.tt_fold.specs.Steps.{IsPartOf, tree_in, HasVars, vars_in}
+use Rattle.tt_fold.specs.Stack.{joined}
 use Rattle.tt_fold.specs.Parts.{ArePartsOf, trees_in, HasBinder, binder_in, child_weight, parts_weight}
 use Rattle.tt_interner.proofs.Growth.{size-grows, meaning-grows, age-grows}
 
@@ -57,11 +58,6 @@ left_parts rows (also s ss) us h = (h.0, left_parts rows ss us h.1)
 pub right_parts : (rows : List Row) (ss us : Shapes) → ArePartsOf rows (append ss us) → ArePartsOf rows us
 right_parts rows none us h = h
 right_parts rows (also s ss) us h = right_parts rows ss us h.1
-
--- the trees, one after another
-abbrev pub joined : Forest Depth → Forest Depth → Forest Depth
-joined tree.none us = us
-joined (tree.also t ts) us = tree.also t (joined ts us)
 
 pub joined-none : (ts : Forest Depth) → joined ts tree.none ≡ ts
 joined-none tree.none = refl

@@ -14,10 +14,10 @@ use Rattle.tt_kinds.specs.declared.parts.ListSort.TheVariants as sorts
 use Rattle.tt_interner.specs.Rows.{Row}
 use Rattle.tt_fold.specs.Walk.{Hooks, Errors, Wanted, HasUnwanted, WalksItems, ItemsFail, items_failed, list_not_built, Walks, Fails, node_not_built, not_built, WalksAll, done, next, FailsAll, here, later, stopped, no_clause, WalksUnder, in_open, in_binder, FailsUnder, in_open_failed, in_enter_failed, in_under_failed, in_leave_failed, WalksInside, in_term, in_param, in_bound, InsideFails, in_term_failed, at_binder, at_node, enter_failed, under_failed, leave_failed, node_failed}
 use Rattle.tt_fold.specs.Steps.{tree_in, vars_in}
-use Rattle.tt_fold.specs.Parts.{trees_in, binder_in, IsLeaf}
-use Rattle.tt_fold.proofs.PartLaws.{joined}
+use Rattle.tt_fold.specs.Parts.{trees_in, binder_in, IsInner, IsLeaf}
+use Rattle.tt_fold.specs.Stack.{joined}
 use Rattle.tt_fold.proofs.WantedLaws.{none-wanted, any-wanted, first-unwanted, later-unwanted}
-use Rattle.tt_fold.proofs.FormLaws.{KeepsLabels, IsInner}
+use Rattle.tt_fold.proofs.FormLaws.{KeepsLabels}
 
 pub WalksAll-append : {M E : Type 0} {H : Hooks M E} {s s1 s2 : M} {ts us vs ws : Forest Depth}
     → WalksAll H s ts us s1 → WalksAll H s1 vs ws s2 → WalksAll H s (joined ts vs) (joined us ws) s2
