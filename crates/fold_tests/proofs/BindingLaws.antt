@@ -4,7 +4,7 @@ use Rattle.std.specs.Prelude.{Option, Some, ⊤}
 use Rattle.tt_kinds.specs.Shape.{IsPart, AreParts, item_shapes}
 use Rattle.tt_kinds.specs.Kinds.{ty_shape}
 use Rattle.tt_kinds.specs.Values.{option_shape}
-use Rattle.tt_kinds.specs.declared.handle.Ty.{Ty}
+use Rattle.tt_kinds.specs.Handle.{Ty}
 use Rattle.tt_interner.specs.Rows.{Row, size}
 use Rattle.tt_interner.proofs.InfoLemmas.{parts_at}
 use Rattle.tt_fold.specs.Steps.{IsPartOf}

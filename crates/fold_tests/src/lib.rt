@@ -1,4 +1,4 @@
-//! The tests of visits, folds, shifts and instantiations, in a crate that uses the library as a user's does.
+//! The tests of visits, folds, shifts and instantiations, in a crate that uses the library as a user's crate does.
 #![tactic(auto)]
 
 #[cfg(test)]

@@ -1,4 +1,4 @@
-//! Walks of the library's and of a user's own, beside what was built by hand.
+//! Walks by the library's and by a user's visitors and folders, compared with terms that are built by hand.
 
 mod asked_again;
 mod binders;
@@ -25,12 +25,12 @@ use std::process::Abort;
 use test_terms::{answer_anew, answer_within};
 use type_terms::{Interner, Refusal};
 
-// The outcome is that all was as wanted.
+// Asserts that the outcome is `Ok(true)`.
 fn holds(rt: &impl Abort, outcome: Result<bool, Refusal>) {
     assert_eq!(rt; outcome, Ok(true));
 }
 
-// The check answers, on a new interner, that all was as wanted. Where memory is ample there is one.
+// Asserts that the check returns `Ok(true)` on a new interner. With ample memory there is one.
 fn holds_anew<F: FnOnce(&mut Interner) -> Result<bool, Refusal> + Drop>(
     rt: &impl Abort,
     alloc: Global,
@@ -41,7 +41,7 @@ fn holds_anew<F: FnOnce(&mut Interner) -> Result<bool, Refusal> + Drop>(
     holds(rt, answer_anew(alloc, check));
 }
 
-// The same on a new interner with at most so many rows in a table.
+// Asserts the same on a new interner with at most `limit` rows in a table.
 fn holds_within<F: FnOnce(&mut Interner) -> Result<bool, Refusal> + Drop>(
     rt: &impl Abort,
     alloc: Global,

@@ -7,7 +7,7 @@ use type_terms::{
     shift_vars,
 };
 
-// The value moved into new binders.
+// Returns the value moved into new binders.
 pub fn shifted<T: Owned + TypeFoldable>(
     cx: &mut Interner,
     value: T,
@@ -20,7 +20,7 @@ pub fn shifted<T: Owned + TypeFoldable>(
     }
 }
 
-// The value with lent arguments in the places of its parameters.
+// Returns the value instantiated with these arguments.
 pub fn instance<T: Owned + TypeFoldable>(
     cx: &mut Interner,
     value: T,
@@ -34,7 +34,7 @@ pub fn instance<T: Owned + TypeFoldable>(
     }
 }
 
-// Whether the value, moved into new binders, is this one.
+// Returns whether the value, moved into new binders, is this one.
 pub fn is_shifted<T: Owned + TypeFoldable + PartialEq>(
     cx: &mut Interner,
     value: T,
@@ -47,7 +47,7 @@ pub fn is_shifted<T: Owned + TypeFoldable + PartialEq>(
     }
 }
 
-// Whether the value's instance is this one.
+// Returns whether the value's instance is this one.
 pub fn is_instance<T: Owned + TypeFoldable + PartialEq>(
     cx: &mut Interner,
     value: T,
@@ -60,10 +60,9 @@ pub fn is_instance<T: Owned + TypeFoldable + PartialEq>(
     }
 }
 
-// What the check answers on this interner.
+// Returns the result of the check on this interner.
 //
-// An interner that a function lets go by itself takes half a minute to prove at each exit, and one given to `drop` a
-// second.
+// An interner that is dropped implicitly takes half a minute to prove at each exit, and one given to `drop` a second.
 fn answer_on<F: FnOnce(&mut Interner) -> Result<bool, Refusal>>(
     mut cx: Interner,
     check: F,
@@ -75,7 +74,7 @@ fn answer_on<F: FnOnce(&mut Interner) -> Result<bool, Refusal>>(
     outcome
 }
 
-// What the check answers on a new interner.
+// Returns the result of the check on a new interner.
 pub fn answer_anew<F: FnOnce(&mut Interner) -> Result<bool, Refusal> + Drop>(
     alloc: Global,
     check: F,
@@ -85,7 +84,7 @@ pub fn answer_anew<F: FnOnce(&mut Interner) -> Result<bool, Refusal> + Drop>(
     answer_on(Interner::new(alloc)?, check)
 }
 
-// The same on a new interner with at most so many rows in a table.
+// Returns the result of the check on a new interner with at most `limit` rows in a table.
 pub fn answer_within<F: FnOnce(&mut Interner) -> Result<bool, Refusal> + Drop>(
     alloc: Global,
     limit: u32,

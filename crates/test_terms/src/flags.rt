@@ -1,4 +1,4 @@
-//! What is kept beside a term.
+//! The cached information of terms.
 
 ghost use Rattle.std.specs.Prelude.{IsTrue};
 ghost use Rattle.tt_kinds.specs.Shape.{IsPart};
@@ -12,7 +12,7 @@ use type_terms::{
     TypeFlags, TypeFoldable, TypeVisitableExt, Tys,
 };
 
-// A handle that can tell whether its flags can be read in an interner.
+// A handle that can test whether its flags can be read in an interner.
 pub trait Flagged: Flags {
     fn has_flags(&self, cx: &Interner) -> bool
         ensures { IsTrue result → IsPart (size cx.now.rows) (Self.flags_shape self.now) };
@@ -20,25 +20,25 @@ pub trait Flagged: Flags {
 
 impl Flagged for Ty {
     fn has_flags(&self, cx: &Interner) -> bool {
-        cx.owns_ty(*self)
+        cx.owns(*self)
     }
 }
 
 impl Flagged for Tys {
     fn has_flags(&self, cx: &Interner) -> bool {
-        cx.owns_tys(*self)
+        cx.owns(*self)
     }
 }
 
 impl Flagged for GenericArgs {
     fn has_flags(&self, cx: &Interner) -> bool {
-        cx.owns_args(*self)
+        cx.owns(*self)
     }
 }
 
 impl Flagged for BoundVarKinds {
     fn has_flags(&self, cx: &Interner) -> bool {
-        cx.owns_bound_vars(*self)
+        cx.owns(*self)
     }
 }
 
@@ -56,35 +56,35 @@ impl Flagged for GenericArg {
 
 impl Flagged for Const {
     fn has_flags(&self, cx: &Interner) -> bool {
-        cx.owns_const(*self)
+        cx.owns(*self)
     }
 }
 
 impl Flagged for Predicate {
     fn has_flags(&self, cx: &Interner) -> bool {
-        cx.owns_predicate(*self)
+        cx.owns(*self)
     }
 }
 
 impl Flagged for Pat {
     fn has_flags(&self, cx: &Interner) -> bool {
-        cx.owns_pat(*self)
+        cx.owns(*self)
     }
 }
 
 impl Flagged for Clauses {
     fn has_flags(&self, cx: &Interner) -> bool {
-        cx.owns_clauses(*self)
+        cx.owns(*self)
     }
 }
 
 impl Flagged for RegionAssumptions {
     fn has_flags(&self, cx: &Interner) -> bool {
-        cx.owns_assumptions(*self)
+        cx.owns(*self)
     }
 }
 
-// The flags and the outer exclusive binder, as numbers.
+// Returns the flags and the outer exclusive binder, as numbers.
 pub fn info<T: Flagged>(cx: &Interner, term: &T) -> Result<(u32, u32), Refusal> {
     if term.has_flags(cx) {
         Ok((
@@ -96,18 +96,18 @@ pub fn info<T: Flagged>(cx: &Interner, term: &T) -> Result<(u32, u32), Refusal> 
     }
 }
 
-// Whether the value has a flag of the mask.
+// Returns whether the value has a flag of the mask.
 pub fn has_flags<T: Owned + TypeFoldable>(cx: &Interner, value: &T, mask: TypeFlags) -> bool {
     value.is_owned(cx) && value.has_type_flags(cx, mask)
 }
 
-// The flags and the outer exclusive binder of the type of this kind.
+// Returns the flags and the outer exclusive binder of the type of this kind.
 pub fn info_of_kind(cx: &mut Interner, kind: TyKind) -> Result<(u32, u32), Refusal> {
     let term = ty(cx, kind)?;
     info(cx, &term)
 }
 
-// The same of a predicate.
+// Returns the flags and the outer exclusive binder of a predicate.
 pub fn info_of_predicate(
     cx: &mut Interner,
     kind: PredicateKind,
@@ -117,9 +117,9 @@ pub fn info_of_predicate(
     info(cx, &term)
 }
 
-// A kind whose term can be built, and can then tell what is kept beside it.
+// A kind whose term can be built, and whose cached information can then be read.
 pub trait Built {
-    // The flags and the outer exclusive binder of the term.
+    // Returns the flags and the outer exclusive binder of the term.
     fn info_of_term(&self, cx: &mut Interner) -> Result<(u32, u32), Refusal>;
 }
 
@@ -151,7 +151,7 @@ impl Built for PredicateKind {
     }
 }
 
-// Whether the term of each kind has these flags and this outer exclusive binder.
+// Returns whether the term of each kind has these flags and this outer exclusive binder.
 pub fn are_infos<K: Built>(cx: &mut Interner, rows: &[(K, u32, u32)]) -> Result<bool, Refusal> {
     for row in rows {
         if row.0.info_of_term(cx)? != (row.1, row.2) {

@@ -1,4 +1,4 @@
-//! A folder that puts one predicate in the place of each.
+//! A folder that replaces each predicate by one.
 
 ghost use Rattle.std.specs.Prelude.{⊤, refl};
 ghost use Rattle.tt_kinds.specs.Kinds.{predicate_shape};
@@ -10,7 +10,7 @@ use type_terms::{
     TypeFoldable, TypeFolder,
 };
 
-// Puts one predicate in the place of each, and counts how often it was asked.
+// Replaces each predicate by one, and counts its calls.
 #[derive(Drop)]
 struct OnePredicate {
     to: Predicate,
@@ -112,7 +112,7 @@ impl TypeFolder for OnePredicate {
     ghost still_means = { λ old new s g h. refl };
 }
 
-// The value with one predicate in the place of each, and how often the folder was asked.
+// Returns the value with each predicate replaced by one, and the number of the folder's calls.
 pub fn with_one_predicate<T: Owned + TypeFoldable>(
     cx: &mut Interner,
     value: T,

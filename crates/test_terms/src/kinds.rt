@@ -9,7 +9,7 @@ use type_terms::{
     PolyExistentialPredicate, Predicate, PredicateKind, Refusal, are_owned,
 };
 
-// The constant of this kind.
+// Returns the constant of this kind.
 pub fn constant(cx: &mut Interner, kind: ConstKind) -> Result<Const, Refusal> {
     if cx.owns_const_kind(&kind) {
         cx.mk_const(kind)
@@ -18,7 +18,7 @@ pub fn constant(cx: &mut Interner, kind: ConstKind) -> Result<Const, Refusal> {
     }
 }
 
-// The kind under a binder of these variables.
+// Returns the kind under a binder of these variables.
 //
 // The checker proves that a predicate's kind is moved into a binder where the type of the clauses in it is named.
 fn under_binder(kind: PredicateKind, vars: BoundVarKinds) -> Binder<PredicateKind>
@@ -28,7 +28,7 @@ fn under_binder(kind: PredicateKind, vars: BoundVarKinds) -> Binder<PredicateKin
     Binder::bind_with_vars(kind, vars)
 }
 
-// The predicate of this kind under a binder of these variables.
+// Returns the predicate of this kind under a binder of these variables.
 pub fn predicate(
     cx: &mut Interner,
     kind: PredicateKind,
@@ -42,16 +42,16 @@ pub fn predicate(
     }
 }
 
-// The clause that the predicate is.
+// Returns the clause that the predicate is.
 pub fn clause(cx: &Interner, predicate: Predicate) -> Result<Clause, Refusal> {
-    if cx.owns_predicate(predicate) {
+    if cx.owns(predicate) {
         predicate.as_clause(cx).ok_or(Refusal::NotAClause)
     } else {
         Err(NOT_OWNED)
     }
 }
 
-// The list of these clauses.
+// Returns the list of these clauses.
 pub fn clauses(cx: &mut Interner, items: &[Clause]) -> Result<Clauses, Refusal> {
     if cx.are_clauses(items) {
         cx.mk_clauses(items)
@@ -60,7 +60,7 @@ pub fn clauses(cx: &mut Interner, items: &[Clause]) -> Result<Clauses, Refusal> 
     }
 }
 
-// The pattern of this kind.
+// Returns the pattern of this kind.
 pub fn pattern(cx: &mut Interner, kind: PatternKind) -> Result<Pat, Refusal> {
     if cx.owns_pattern_kind(&kind) {
         cx.mk_pat(kind)
@@ -69,16 +69,16 @@ pub fn pattern(cx: &mut Interner, kind: PatternKind) -> Result<Pat, Refusal> {
     }
 }
 
-// The list of these two patterns.
+// Returns the list of these two patterns.
 pub fn two_patterns(cx: &mut Interner, first: Pat, second: Pat) -> Result<PatList, Refusal> {
-    if cx.owns_pat(first) && cx.owns_pat(second) {
+    if cx.owns(first) && cx.owns(second) {
         cx.mk_pat_list(&[first, second])
     } else {
         Err(NOT_OWNED)
     }
 }
 
-// The list of these constants.
+// Returns the list of these constants.
 pub fn consts(cx: &mut Interner, items: &[Const]) -> Result<Consts, Refusal> {
     if are_owned(cx, items) {
         cx.mk_consts(items)
@@ -87,7 +87,7 @@ pub fn consts(cx: &mut Interner, items: &[Const]) -> Result<Consts, Refusal> {
     }
 }
 
-// The existential predicate of this kind under a binder of these variables.
+// Returns the existential predicate of this kind under a binder of these variables.
 pub fn existential(
     cx: &mut Interner,
     kind: ExistentialPredicate,
@@ -101,13 +101,13 @@ pub fn existential(
     }
 }
 
-// The list of these two existential predicates.
+// Returns the list of these two existential predicates.
 pub fn two_existentials(
     cx: &mut Interner,
     first: PolyExistentialPredicate,
     second: PolyExistentialPredicate,
 ) -> Result<BoundExistentialPredicates, Refusal> {
-    if cx.owns_existential(first) && cx.owns_existential(second) {
+    if cx.owns(first) && cx.owns(second) {
         cx.mk_existential_list(&[first, second])
     } else {
         Err(NOT_OWNED)

@@ -1,4 +1,4 @@
-//! What the crates of tests share: calls that test their conditions when they run, so that a test has none to prove.
+//! Helpers of the crates of tests: they test the conditions of calls when they run, so a test has none to prove.
 #![tactic(auto)]
 
 pub mod checks;

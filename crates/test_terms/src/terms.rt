@@ -7,10 +7,10 @@ use type_terms::{
     are_owned,
 };
 
-// What a call answers whose condition doesn't hold. The library never answers it.
+// The refusal of a helper whose condition doesn't hold. The library never returns it.
 pub const NOT_OWNED: Refusal = Refusal::NoSuchAnswer;
 
-// The type of this kind.
+// Returns the type of this kind.
 pub fn ty(cx: &mut Interner, kind: TyKind) -> Result<Ty, Refusal> {
     if cx.owns_kind(&kind) {
         cx.mk_ty(kind)
@@ -19,7 +19,7 @@ pub fn ty(cx: &mut Interner, kind: TyKind) -> Result<Ty, Refusal> {
     }
 }
 
-// The list of these types.
+// Returns the list of these types.
 pub fn tys(cx: &mut Interner, items: &[Ty]) -> Result<Tys, Refusal> {
     if are_owned(cx, items) {
         cx.mk_tys(items)
@@ -28,7 +28,7 @@ pub fn tys(cx: &mut Interner, items: &[Ty]) -> Result<Tys, Refusal> {
     }
 }
 
-// The list of these arguments.
+// Returns the list of these arguments.
 pub fn args(cx: &mut Interner, items: &[GenericArg]) -> Result<GenericArgs, Refusal> {
     if are_owned(cx, items) {
         cx.mk_args(items)
@@ -37,7 +37,7 @@ pub fn args(cx: &mut Interner, items: &[GenericArg]) -> Result<GenericArgs, Refu
     }
 }
 
-// The list of these types, by an iterator of them.
+// Returns the list of these types, by an iterator of them.
 pub fn tys_from_iter(cx: &mut Interner, items: &[Ty]) -> Result<Tys, Refusal> {
     if are_owned(cx, items) {
         cx.mk_type_list_from_iter(items.iter().copied())
@@ -46,7 +46,7 @@ pub fn tys_from_iter(cx: &mut Interner, items: &[Ty]) -> Result<Tys, Refusal> {
     }
 }
 
-// The list of these arguments, by an iterator of them.
+// Returns the list of these arguments, by an iterator of them.
 pub fn args_from_iter(cx: &mut Interner, items: &[GenericArg]) -> Result<GenericArgs, Refusal> {
     if are_owned(cx, items) {
         cx.mk_args_from_iter(items.iter().copied())
@@ -55,24 +55,24 @@ pub fn args_from_iter(cx: &mut Interner, items: &[GenericArg]) -> Result<Generic
     }
 }
 
-// `u32`.
+// Returns `u32`.
 pub fn u32_ty(cx: &mut Interner) -> Result<Ty, Refusal> {
     ty(cx, TyKind::Uint(UintTy::U32))
 }
 
-// The type parameter of this index.
+// Returns the type parameter of this index.
 pub fn param_ty(cx: &mut Interner, index: u32) -> Result<Ty, Refusal> {
     let name = cx.symbol("T")?;
     ty(cx, TyKind::Param(ParamTy { index, name }))
 }
 
-// The region parameter of this index.
+// Returns the region parameter of this index.
 pub fn param_region(cx: &mut Interner, index: u32) -> Result<Region, Refusal> {
     let name = cx.symbol("'a")?;
     Region::new(RegionKind::ReEarlyParam(EarlyParamRegion { index, name }))
 }
 
-// The index of a binder.
+// Returns the index of a binder.
 pub fn binder_index(value: u32) -> Result<DebruijnIndex, Refusal> {
     if DebruijnIndex::fits(value) {
         Ok(DebruijnIndex::from_u32(value))
@@ -81,7 +81,7 @@ pub fn binder_index(value: u32) -> Result<DebruijnIndex, Refusal> {
     }
 }
 
-// The type that is the first variable of the binder of this index.
+// Returns the type that is the first variable of the binder of this index.
 pub fn bound_ty(cx: &mut Interner, binder: u32) -> Result<Ty, Refusal> {
     let index = binder_index(binder)?;
     let bound_ty = BoundTy {
@@ -91,7 +91,7 @@ pub fn bound_ty(cx: &mut Interner, binder: u32) -> Result<Ty, Refusal> {
     ty(cx, TyKind::Bound(BoundVarIndexKind::Bound(index), bound_ty))
 }
 
-// The region that is the first variable of the binder of this index.
+// Returns the region that is the first variable of the binder of this index.
 pub fn bound_region(binder: u32) -> Result<Region, Refusal> {
     let bound_region = BoundRegion {
         var: BoundVar::from_u32(0),
@@ -100,17 +100,17 @@ pub fn bound_region(binder: u32) -> Result<Region, Refusal> {
     Region::new_bound(binder_index(binder)?, bound_region)
 }
 
-// The region variable of inference of number 0.
+// Returns the region inference variable of number 0.
 pub fn region_variable() -> Result<Region, Refusal> {
     Region::new(RegionKind::ReVar(RegionVid::from_u32(0)))
 }
 
-// A binder's list of one region.
+// Returns a binder's list of one region.
 pub fn one_region(cx: &mut Interner) -> Result<BoundVarKinds, Refusal> {
     cx.mk_bound_vars(&[BoundVariableKind::Region(BoundRegionKind::Anon)])
 }
 
-// `&'r T`.
+// Returns `&'r T`.
 pub fn ref_ty(cx: &mut Interner, region: Region, referent: Ty) -> Result<Ty, Refusal> {
     ty(cx, TyKind::Ref(region, referent, Mutability::Not))
 }

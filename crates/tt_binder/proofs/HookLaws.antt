@@ -14,7 +14,7 @@ use Rattle.tt_kinds.specs.Param.{holds_param, IsGeneric_among}
 use Rattle.tt_kinds.specs.Cause.{Cause}
 use Rattle.tt_kinds.specs.Shape.{IsPart, Meaning, fill, name_of}
 use Rattle.tt_kinds.specs.Kinds.{arg_shape, region_shape, relabelled, form_shape, value_form, ty_kind_shape, const_kind_shape}
-use Rattle.tt_kinds.specs.declared.handle.Ty.{Ty}
+use Rattle.tt_kinds.specs.Handle.{Ty}
 use Rattle.tt_kinds.specs.declared.const_kind.ValTreeKind.{ValTreeKind}
 use Rattle.tt_kinds.specs.declared.const_kind.ValTreeKind.TheVariants as valtree
 use Rattle.tt_kinds.specs.declared.generic_arg.GenericArgKind.{GenericArgKind}

@@ -13,7 +13,7 @@ use Rattle.tt_kinds.specs.Plain.{inst_tree}
 use Rattle.tt_kinds.specs.Cause.{Cause, HidesRegionVars}
 use Rattle.tt_kinds.specs.Shape.{Shape, stored, fill, fill_all}
 use Rattle.tt_kinds.specs.Values.{one_clause_shape}
-use Rattle.tt_kinds.specs.declared.handle.Clause.{Clause}
+use Rattle.tt_kinds.specs.Handle.{Clause}
 use Rattle.tt_kinds.specs.declared.table.Table.{Table}
 use Rattle.tt_kinds.specs.declared.table.Table.TheVariants.{Types, Predicates}
 use Rattle.tt_kinds.proofs.PutLaws.{read-inst_tree, put-put, move-put, IsAnswered-read}
@@ -32,8 +32,8 @@ use Rattle.tt_fold.proofs.TaskLaws.{Refuses, without, too_far, caused}
 use Rattle.tt_fold.proofs.RememberLaws.{does, Refused, refused}
 use Rattle.tt_binder.specs.Instantiation.{Args, Instantiation, at_first, Instantiates, instantiation, LeafRefuses, for_cause, shift_unbuilt, shift_too_far, IsTypeOrClause, arg_hooks}
 use Rattle.tt_binder.specs.Arguments.{arguments}
-use Rattle.tt_kinds.specs.declared.handle.Const.{Const}
-use Rattle.tt_kinds.specs.declared.handle.Ty.{Ty}
+use Rattle.tt_kinds.specs.Handle.{Const}
+use Rattle.tt_kinds.specs.Handle.{Ty}
 use Rattle.std.specs.Map.{keys_of}
 use Rattle.tt_binder.specs.declared.shifted.ParamAt.{ParamAt}
 use Rattle.tt_fold.specs.Memory.{memos}

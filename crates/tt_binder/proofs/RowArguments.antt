@@ -8,11 +8,11 @@ use Rattle.tt_kinds.specs.Shape.{Meaning, fill, name_of, rename_label}
 use Rattle.tt_kinds.specs.Kinds.{Form, param, bound, plain, under, relabelled, form_shape, ty_form, const_form, ty_kind_shape, const_kind_shape, ty_shape, const_shape, predicate_shape, clauses_shape}
 use Rattle.tt_kinds.specs.declared.table.Table.{Table}
 use Rattle.tt_kinds.specs.declared.table.Table.TheVariants.{Types, Consts, Predicates, ClauseLists, ArgLists}
-use Rattle.tt_kinds.specs.declared.handle.Ty.{Ty}
-use Rattle.tt_kinds.specs.declared.handle.Const.{Const}
-use Rattle.tt_kinds.specs.declared.handle.Predicate.{Predicate}
-use Rattle.tt_kinds.specs.declared.handle.Clauses.{Clauses}
-use Rattle.tt_kinds.specs.declared.handle.GenericArgs.{GenericArgs}
+use Rattle.tt_kinds.specs.Handle.{Ty}
+use Rattle.tt_kinds.specs.Handle.{Const}
+use Rattle.tt_kinds.specs.Handle.{Predicate}
+use Rattle.tt_kinds.specs.Handle.{Clauses}
+use Rattle.tt_kinds.specs.Handle.{GenericArgs}
 use Rattle.tt_kinds.specs.declared.ty_kind.TyKind.{TyKind}
 use Rattle.tt_kinds.specs.declared.const_kind.ConstKind.{ConstKind}
 use Rattle.tt_interner.specs.Rows.{Row, type_row, const_row, pat_row, predicate_row, existential_row, clauses_row, tys_row, consts_row, args_row, pats_row, vars_row, existentials_row, assumptions_row, text_row, declared_row, row_table, row_shape, table, size, meaning, AreRows}

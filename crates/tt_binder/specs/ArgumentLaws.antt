@@ -8,13 +8,13 @@ use Rattle.tt_kinds.specs.Shape.{Shape, item_shapes}
 use Rattle.tt_kinds.specs.Kinds.{arg_shape, ty_shape, const_shape}
 use Rattle.tt_kinds.specs.declared.table.Table.{Table}
 use Rattle.tt_kinds.specs.declared.table.Table.TheVariants.{ArgLists}
-use Rattle.tt_kinds.specs.declared.handle.GenericArgs.{GenericArgs}
+use Rattle.tt_kinds.specs.Handle.{GenericArgs}
 use Rattle.tt_kinds.specs.declared.generic_arg.GenericArgKind.{GenericArgKind}
 use Rattle.tt_interner.specs.Rows.{Row, table, size, Grows}
 use Rattle.tt_interner.proofs.RowLaws.{row-old, size-more}
 use Rattle.tt_interner.proofs.Growth.{AreParts-grows, IsPart-grows, fill-grows}
-use Rattle.tt_kinds.specs.declared.handle.Const.{Const}
-use Rattle.tt_kinds.specs.declared.handle.Ty.{Ty}
+use Rattle.tt_kinds.specs.Handle.{Const}
+use Rattle.tt_kinds.specs.Handle.{Ty}
 use Rattle.tt_fold.specs.Memory.{memos, OwnsMemos}
 use Rattle.tt_fold.proofs.MemoryLaws.{memos-still, OwnsMemos-still}
 use Rattle.tt_fold.specs.declared.memory.Place.{Place}
@@ -23,7 +23,7 @@ use Rattle.tt_binder.specs.Shifted.{OwnsShifts, OwnsArguments}
 use Rattle.tt_binder.specs.Instantiation.{Kept, Instantiation}
 use Rattle.tt_binder.specs.declared.shifted.ParamAt.{ParamAt}
 
--- rows that come leave a table's rows in their places
+-- new rows leave a table's rows in their places
 slice_get-more : (more rows : List Row) (t : Table) (n : ℕ) → n < size rows t → (n < size (more ++ rows) t) × (slice_get (table t (more ++ rows)) n ≡ slice_get (table t rows) n)
 slice_get-more [] rows t n h = (h, refl)
 slice_get-more (r ∷ more) rows t n h =
@@ -48,7 +48,7 @@ arguments-grows old new (x ∷ xs) g h = rw (fill-grows old new g (arg_shape x) 
 pub arguments-still : (old new : List Row) (xs ys : List GenericArgKind) → Grows old new → ys ≡ xs → AreArguments old xs → arguments new ys ≡ arguments old xs
 arguments-still old new xs ys g same h = rw same (arguments-grows old new xs g h)
 
--- what is kept of shifts stays what it is
+-- the remembered shifts keep their meaning
 pub OwnsShifts-still : {T : Type 0} (shape : T → Shape) (old new : List Row) (args : List (Argument Depth)) (sort : Sort) (es : List (ParamAt × T)) → Grows old new
     → OwnsShifts shape old args sort es → OwnsShifts shape new args sort es
 OwnsShifts-still shape old new args sort [] g h = tt
@@ -69,7 +69,7 @@ state-still old new xs ys k kept es g same h all =
     ap (λ args. record { rule = args; under = k; kept = kept; memory = memos new es }) (arguments-still old new xs ys g same h)
     ∙ ap (λ m. record { rule = arguments old xs; under = k; kept = kept; memory = m }) (memos-still old new es g all)
 
--- what a folder with arguments owns, it owns with more rows, and with what it keeps of shifts then
+-- a folder with arguments owns the same with more rows, and with the shifts that it remembers then
 module _ {S : Type 0} {items : List Row → S → List GenericArgKind} {owns : List Row → S → Type 0} (still_owned : (old new : List Row) (x : S) → Grows old new → owns old x → owns new x)
     (still_items : (old new : List Row) (x : S) → Grows old new → owns old x → items new x ≡ items old x) (old new : List Row) (x : S) (es : List (Place × Ty)) (types : List (ParamAt × Ty))
     (consts : List (ParamAt × Const)) where

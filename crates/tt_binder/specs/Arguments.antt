@@ -6,7 +6,7 @@ use Rattle.tt_kinds.specs.Argument.{Argument}
 use Rattle.tt_kinds.specs.Shape.{AreParts, item_shapes}
 use Rattle.tt_kinds.specs.Kinds.{arg_shape}
 use Rattle.tt_kinds.specs.declared.table.Table.TheVariants.{ArgLists}
-use Rattle.tt_kinds.specs.declared.handle.GenericArgs.{GenericArgs}
+use Rattle.tt_kinds.specs.Handle.{GenericArgs}
 use Rattle.tt_kinds.specs.declared.generic_arg.GenericArgKind.{GenericArgKind}
 use Rattle.tt_kinds.specs.declared.generic_arg.GenericArgKind.TheVariants as arg
 use Rattle.tt_interner.specs.Rows.{Row, args_row, table, size}
@@ -30,12 +30,12 @@ arguments rows args = map (argument_of rows) args
 abbrev pub AreArguments : List Row → List GenericArgKind → Type 0
 AreArguments rows args = AreParts (size rows) (item_shapes arg_shape args)
 
--- the arguments that a row holds
+-- the arguments in a row
 abbrev pub row_args : Option Row → List GenericArgKind
 row_args None = []
 row_args (Some (args_row args)) = args
 row_args (Some _) = []
 
--- the arguments that a stored list holds
+-- the arguments in a stored list
 abbrev pub args_at : List Row → GenericArgs → List GenericArgKind
 args_at rows args = row_args (slice_get (table ArgLists rows) args.number)

@@ -1,4 +1,4 @@
--- What an instantiation promises: of the result, and of a refusal.
+-- The promise of an instantiation, for a result and for a refusal.
 use Rattle.std.specs.Prelude.{ℕ, List, [], false, ◌≡◌, ◌⊎◌, ⊤}
 use Rattle.tt_index.specs.declared.refusal.Refusal.{Refusal}
 use Rattle.tt_index.specs.declared.refusal.Refusal.TheVariants.{Memory, TableFull, GreatestIndex}
@@ -22,7 +22,7 @@ IsPlain args t r = read 0 r ≡ put (readings args) (read 0 t)
 abbrev pub HasNoCause : List (Argument Depth) → Tree Depth → Type 0
 HasNoCause args t = (e : Refusal) → Cause t args e → ⊥
 
--- replacing in the result by further arguments is replacing in the value by arguments in which those replace
+-- further arguments replace in the result as the first ones, with the further ones replaced in them, do in the value
 abbrev pub Composes : List (Argument Depth) → Tree Depth → Tree Depth → Type 0
 Composes args t r = (later : List (Argument Place)) → put later (read 0 r) ≡ put (change_values (put later) (readings args)) (read 0 t)
 
@@ -30,15 +30,15 @@ Composes args t r = (later : List (Argument Place)) → put later (read 0 r) ≡
 abbrev pub Commutes : List (Argument Depth) → Tree Depth → Tree Depth → Type 0
 Commutes args t r = (n : ℕ) → move n (read 0 r) ≡ put (change_values (move n) (readings args)) (move n (read 0 t))
 
--- where the value and the arguments agree with their binders, the result does
+-- if the value and the arguments agree with their binders, the result does
 abbrev pub StaysMatched : List (Argument Depth) → Tree Depth → Tree Depth → Type 0
 StaysMatched args t r = ArgumentsMatched (readings args) → MatchedUnder [] (read 0 t) → MatchedUnder [] (read 0 r)
 
--- where no argument holds a parameter, the result holds none
+-- if no argument holds a parameter, the result holds none
 abbrev pub LeavesNoParam : List (Argument Depth) → Tree Depth → Type 0
 LeavesNoParam args r = ArgumentsHoldNone (readings args) → holds_param (read 0 r) ≡ false
 
--- r is an instance of t: what is said of a result
+-- r is an instance of t
 pub record IsInstance (args : List (Argument Depth)) (t r : Tree Depth) : Type 0 where
   pub plain : IsPlain args t r
   pub answered : IsAnswered args t

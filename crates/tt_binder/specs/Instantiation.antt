@@ -1,4 +1,4 @@
--- What the argument folder does to trees.
+-- The fold of trees by the argument folder.
 use Rattle.std.specs.Prelude.{◌≡◌, ℕ, ◌<◌, ◌≤◌, List, [], Bool, true, false, IsTrue, ⊤}
 use Rattle.std.specs.Bool.{OnTrue}
 use Rattle.tt_index.specs.declared.refusal.Refusal.{Refusal}
@@ -21,18 +21,18 @@ use Rattle.tt_binder.specs.Shifted.{param_at}
 use Rattle.tt_binder.specs.Sharing.{IsParamIn, moving_at}
 use Rattle.tt_binder.specs.declared.shifted.ParamAt.{ParamAt}
 
--- by the arguments the folder goes, and for these parameters it keeps what came of a shift
+-- the arguments of the folder, and the parameters whose shifted arguments it remembers
 abbrev pub Args : Type 0
 Args = List (Argument Depth)
 
 abbrev pub Kept : Type 0
 Kept = List ParamAt
 
--- what the folder's state means: the arguments, how many binders it passed, what it keeps, and what it remembers
+-- the meaning of the folder's state: the arguments, how many binders it entered, its shifts, and its memory
 abbrev pub Instantiation : Type 0
 Instantiation = State Args Kept
 
--- the state outside of each binder, with nothing kept and nothing remembered
+-- the state outside of each binder, with nothing remembered
 abbrev pub at_first : Args → Instantiation
 at_first args = record { rule = args; under = 0; kept = []; memory = [] }
 
@@ -41,14 +41,14 @@ pub record IsAllowed (args : Args) (t : Tree Depth) : Type 0 where
   pub answered : IsAnswered args t
   pub hides : HidesRegionVars t
 
--- a leaf under k binders is refused: for a cause, or where it is to be shifted past some binders, since a tree that was to stand
--- in the shifted argument isn't built, or since that doesn't fit
+-- a leaf under k binders is refused: for a cause, or, if it has to be shifted past some binders, because a tree
+-- in the shifted argument isn't built, or because that argument doesn't fit
 pub data LeafRefuses (unbuilt : Tree Depth → Refusal → Type 0) (args : Args) (k : ℕ) (t : Tree Depth) (e : Refusal) : Type 0 where
   for_cause : Cause t args e → LeafRefuses unbuilt args k t e
   shift_unbuilt : 0 < k → (u : Tree Depth) → StandsIn u (inst_tree k args t) → unbuilt u e → LeafRefuses unbuilt args k t e
   shift_too_far : 0 < k → e ≡ GreatestIndex → (FitsUnder k (read k (inst_tree k args t)) → ⊥) → LeafRefuses unbuilt args k t e
 
--- the shifter's count may be n after an argument's shift: it stays where the argument is placed under no binder
+-- the shifter's count may be n after an argument's shift: it stays if the argument is placed under no binder
 abbrev pub IsShiftCount : Standing Instantiation → ℕ → Type 0
 IsShiftCount s n = (s.counters.shift_descents ≤ n) × (s.state.under ≡ 0 → n ≡ s.counters.shift_descents)
 
@@ -64,7 +64,7 @@ abbrev pub is_const : Label Name → Bool
 is_const (const_label l) = true
 is_const _ = false
 
--- the tree is a constant that is no parameter
+-- the tree is a constant that is not a parameter
 abbrev pub IsInnerConst : Tree Depth → Type 0
 IsInnerConst (bound s d e) = s ≡ const_sort
 IsInnerConst (term l ts) = IsTrue (is_const l)
@@ -75,13 +75,13 @@ pub record Rises (c c' : Counters) : Type 0 where
   pub descents : c.descents ≤ c'.descents
   pub shift_descents : c.shift_descents ≤ c'.shift_descents
 
--- its contents are met: a variable, or a term that holds a parameter if it would hide its region variables else
+-- the tree is entered: a variable, or a term that holds a parameter if it would otherwise hide its region variables
 abbrev pub IsGoneInto : Tree Depth → Type 0
 IsGoneInto (bound s d e) = ⊤
 IsGoneInto (term l ts) = OnTrue (is_type_or_clause l) (IsGeneric_among ts)
 IsGoneInto _ = ⊥
 
--- the type holds a parameter, and is none
+-- the type holds a parameter, and is not one
 abbrev pub IsGenericTerm : Tree Depth → Type 0
 IsGenericTerm (term l ts) = IsGeneric_among ts
 IsGenericTerm _ = ⊥
@@ -97,19 +97,19 @@ pub record IsArgument (args : Args) (k : ℕ) (t r : Tree Depth) : Type 0 where
   pub plain : r ≡ inst_tree k args t
   pub allows : IsAllowed args t
 
--- something is kept for the parameter from now on, and was not before
+-- a shift is remembered for the parameter from now on, and was not before
 pub record IsKeptNow (p : ParamAt) (kept kept' : Kept) : Type 0 where
   pub new : IsIn p kept → ⊥
   pub there : IsIn p kept'
   pub older : (q : ParamAt) → IsIn q kept → IsIn q kept'
 
--- it takes its place at once: as it stands or is kept, or it is shifted now, and the shifter counts
+-- the argument replaces the parameter at once: unshifted, as remembered, or shifted now, which the shifter counts
 pub data PutsArgument (args : Args) (k : ℕ) (t r : Tree Depth) : Kept → Counters → Kept → Counters → Type 0 where
   as_it_is : {kept : Kept} {c : Counters} → IsArgument args k t r → PutsArgument args k t r kept c kept c
   shifted_now : {kept kept' : Kept} {c : Counters} (i n : ℕ) → IsArgument args k t r → IsParamIn (param_at i k) k t → 0 < k → IsKeptNow (param_at i k) kept kept'
       → c.shift_descents ≤ n → CountsPairs (moving_at args i) c.shift_descents n → PutsArgument args k t r kept c kept' (record { descents = c.descents; shift_descents = n })
 
--- puts arguments in the places of parameters, and takes each type apart that holds a parameter
+-- the task of replacing parameters by arguments, which takes each type apart that holds a parameter
 abbrev pub instantiation : Task Args Kept
 instantiation = record {
   index = λ args j d. d;
@@ -131,11 +131,11 @@ instantiation = record {
 abbrev pub Instantiates : Args → ℕ → Tree Depth → Tree Depth → Type 0
 Instantiates args k t r = Done instantiation args k t r
 
--- what the folder's hooks do
+-- the folder's hooks
 abbrev pub arg_hooks : Hooks (Standing Instantiation) Refusal
 arg_hooks = remembering instantiation
 
--- the tree is a parameter under no binder: its argument takes its place as it stands
+-- the tree is a parameter under no binder: its argument replaces it unshifted
 abbrev pub IsOpenParam : ℕ → Tree Depth → Type 0
 IsOpenParam binders_passed (param o i name) = binders_passed ≡ 0
 IsOpenParam binders_passed _ = ⊥

@@ -1,4 +1,4 @@
--- What a call of instantiate promises, as one record, whatever the value's type.
+-- The promise of a call of instantiate, as one record, whatever the value's type.
 use Rattle.std.specs.Prelude.{ℕ, List, Result, Ok, false, ◌≡◌, ◌≤◌, ◌+◌, IfOk, IfErr, OnOk}
 use Rattle.tt_index.specs.declared.refusal.Refusal.{Refusal}
 use Rattle.tt_kinds.specs.Label.{Name, Sort}
@@ -10,7 +10,7 @@ use Rattle.tt_kinds.specs.Count.{generic_types, positions}
 use Rattle.tt_kinds.specs.Shape.{Shape, stored}
 use Rattle.tt_kinds.specs.Values.{one_clause_shape}
 use Rattle.tt_kinds.specs.declared.binder.Unnormalized.{Unnormalized}
-use Rattle.tt_kinds.specs.declared.handle.Clause.{Clause}
+use Rattle.tt_kinds.specs.Handle.{Clause}
 use Rattle.tt_kinds.specs.declared.table.Table.{Table}
 use Rattle.tt_kinds.specs.declared.table.Table.TheVariants.{Types}
 use Rattle.tt_interner.specs.Stored.{Terms, Extends}
@@ -23,14 +23,14 @@ use Rattle.tt_binder.specs.Instance.{IsPlain, HasNoCause, Composes, Commutes, St
 abbrev pub IsBack : {T : Type 0} → T → Terms → Result (Unnormalized T) Refusal → Terms → Type 0
 IsBack value old result new = (result ≡ Ok (record { value = value })) × (new ≡ old)
 
--- what the call with these arguments promises of a value, between the interner before it and the interner after it
+-- the promise of the call with these arguments for a value, between the interner before it and after it
 pub record InstancePromise {T : Type 0} (shape : T → Shape) (args : List (Argument Depth)) (value : T) (old : Terms) (result : Result (Unnormalized T) Refusal) (new : Terms) : Type 0 where
-  -- every handle that there was means what it meant
+  -- every earlier handle keeps its meaning
   pub extends : Extends old new
   -- neither count falls
   pub descents : old.counters.descents ≤ new.counters.descents
   pub shift_descents : old.counters.shift_descents ≤ new.counters.shift_descents
-  -- at most one descent for each place of a type that holds a parameter and is none
+  -- at most one descent for each place of a type that holds a parameter and is not one
   pub positions : OnOk result (new.counters.descents ≤ old.counters.descents + positions (tree_by shape old.rows value))
   -- at most one descent for each pair of such a type and a number of binders above it
   pub pairs : OnOk result (CountsPairs (generic_types 0 (tree_by shape old.rows value)) old.counters.descents new.counters.descents)
@@ -44,15 +44,15 @@ pub record InstancePromise {T : Type 0} (shape : T → Shape) (args : List (Argu
   -- replacement composes, and commutes with moving
   pub composes : IfOk result (λ u. Composes args (tree_by shape old.rows value) (tree_by shape new.rows u.value))
   pub commutes : IfOk result (λ u. Commutes args (tree_by shape old.rows value) (tree_by shape new.rows u.value))
-  -- variables agree with their binders where they did
+  -- variables agree with their binders if they did before
   pub matched : IfOk result (λ u. StaysMatched args (tree_by shape old.rows value) (tree_by shape new.rows u.value))
-  -- no parameter is left where the arguments hold none
+  -- no parameter is left if the arguments hold none
   pub closed : IfOk result (λ u. LeavesNoParam args (tree_by shape new.rows u.value))
-  -- where the call succeeds, there is no cause to refuse it
+  -- if the call succeeds, there is no cause to refuse it
   pub no_cause : OnOk result (HasNoCause args (tree_by shape old.rows value))
-  -- where it is refused, there is
+  -- if it is refused, there is a reason
   pub err : IfErr result (IsReason new args (tree_by shape old.rows value))
-  -- what has nothing to replace and hides its region variables comes back
+  -- a value with nothing to replace that hides its region variables is returned unchanged
   pub same : ComesBack args (tree_by shape old.rows value) → IsBack value old result new
   -- so does each type, predicate, clause and list of clauses without a parameter
   pub same_type : (n : ℕ) → shape value ≡ stored Types n → holds_param (tree_by shape old.rows value) ≡ false → IsBack value old result new

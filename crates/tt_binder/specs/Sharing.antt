@@ -1,4 +1,4 @@
--- How many types the shifts of arguments take apart, where each is made once.
+-- How many types the shifts of arguments take apart, if each shift is made once.
 use Rattle.std.specs.Prelude.{◌≡◌, ◌⊎◌, ◌<◌, ◌≤◌, ◌+◌, ℕ, suc, List, [], length, Option, Some, None, slice_get}
 use Rattle.tt_kinds.specs.Tree.{Depth, Tree, Forest, param, bound, region, term, node, binder, none, also}
 use Rattle.tt_kinds.specs.Argument.{Argument}

@@ -1,4 +1,4 @@
--- What is kept of arguments that were shifted.
+-- The remembered shifts of arguments.
 use Rattle.std.specs.Prelude.{◌≡◌, ◌≢◌, ◌⊎◌, ℕ, ◌<◌, List, [], ◌∷◌, Bool, ◌&&◌, nat_eq, Some, None, ⊤}
 use Rattle.std.specs.Map.{lookup}
 use Rattle.indexmap.specs.IndexMap.{insert_entry}
@@ -11,8 +11,8 @@ use Rattle.tt_kinds.specs.Count.{moving_types}
 use Rattle.tt_kinds.specs.Shape.{Shape}
 use Rattle.tt_kinds.specs.Kinds.{ty_shape, const_shape}
 use Rattle.tt_kinds.specs.declared.generic_arg.GenericArgKind.{GenericArgKind}
-use Rattle.tt_kinds.specs.declared.handle.Const.{Const}
-use Rattle.tt_kinds.specs.declared.handle.Ty.{Ty}
+use Rattle.tt_kinds.specs.Handle.{Const}
+use Rattle.tt_kinds.specs.Handle.{Ty}
 use Rattle.tt_interner.specs.Rows.{Row}
 use Rattle.tt_interner.specs.Stored.{Terms}
 use Rattle.tt_fold.specs.Memory.{OwnsMemos}
@@ -26,13 +26,13 @@ use Rattle.tt_binder.specs.declared.shifted.ParamAt.{ParamAt}
 abbrev pub param_at : ℕ → ℕ → ParamAt
 param_at index k = record { index = index; under = k }
 
--- the indices are the same, and the numbers of binders
+-- the indices and the numbers of binders are the same
 abbrev pub same_param : ParamAt → ParamAt → Bool
 same_param p q = nat_eq p.index q.index && nat_eq p.under q.under
 
 module _ {T : Type 0} (shape : T → Shape) where
-  -- what an argument is under the binders above a parameter: where there are some and it has a variable to be shifted, what is
-  -- kept, or else what is made and kept
+  -- an argument under the binders above a parameter: if there are any and it has a variable to shift, the remembered
+  -- shift, or else a new one, which is remembered
   pub data Shifts (old : Terms) (x : T) (p : ParamAt) (es fs : List (ParamAt × T)) (new : Terms) (y : T) : Type 0 where
     unshifted : (p.under ≡ 0) ⊎ (outer_binder (tree_by shape old.rows x) ≡ 0) → y ≡ x → fs ≡ es → new ≡ old → Shifts old x p es fs new y
     found : lookup (same_param p) es ≡ Some y → fs ≡ es → new ≡ old → Shifts old x p es fs new y
@@ -41,19 +41,19 @@ module _ {T : Type 0} (shape : T → Shape) where
         → CountsPairs (moving_types 0 (tree_by shape old.rows x)) old.counters.shift_descents new.counters.shift_descents
         → fs ≡ insert_entry same_param es p y → Shifts old x p es fs new y
 
-  -- what is kept for a parameter of a sort is the rows', and is the parameter's argument shifted past the binders above it
+  -- the shift for a parameter is among the rows, and is the parameter's argument shifted past the binders above it
   pub record IsShift (rows : List Row) (args : List (Argument Depth)) (sort : Sort) (e : ParamAt × T) : Type 0 where
     pub value : Tree Depth
     pub given : argument args sort e.0.index ≡ Some value
     pub part : IsPartBy shape rows e.1
     pub shifted : tree_by shape rows e.1 ≡ shift_tree 0 e.0.under value
 
-  -- so is all that is kept
+  -- so are all remembered shifts
   abbrev pub OwnsShifts : List Row → List (Argument Depth) → Sort → List (ParamAt × T) → Type 0
   OwnsShifts rows args sort [] = ⊤
   OwnsShifts rows args sort (e ∷ es) = IsShift rows args sort e × OwnsShifts rows args sort es
 
--- what a folder holds is the rows': its arguments, of which there are some, what it remembers, and what it keeps of shifts
+-- a folder's handles are among the rows: its arguments, of which there are some, its memory, and its shifts
 abbrev pub OwnsArguments : {S : Type 0} → (List Row → S → List GenericArgKind) → (List Row → S → Type 0) → List Row → S → List (Place × Ty) → List (ParamAt × Ty) → List (ParamAt × Const) → Type 0
 OwnsArguments items owns rows x memory types consts = owns rows x
     × AreArguments rows (items rows x)

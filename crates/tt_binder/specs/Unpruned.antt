@@ -1,4 +1,4 @@
--- The walk of an instantiation that skips nothing, and what it gives.
+-- The walk of an instantiation that skips nothing, and its result.
 use Rattle.std.specs.Prelude.{◌≡◌, ◌≢◌, ◌↔◌, ◌==◌, ℕ, suc, ◌-◌, ◌≤◌, List, [], Bool, true, false, IsTrue, if◌then◌else◌, Option, Some, None, Result, Ok, Err, slice_get}
 use Rattle.tt_index.specs.Greatest.{greatest}
 use Rattle.tt_index.specs.declared.refusal.Refusal.{Refusal}
@@ -16,7 +16,7 @@ use Rattle.tt_fold.specs.Stands.{StandsIn}
 use Rattle.tt_fold.specs.Walk.{Answer, replace, descend, Hooks, Walks, Errors, Fails}
 use Rattle.tt_binder.specs.Instance.{IsPlain}
 
--- the arguments, and how many binders were passed
+-- the arguments, and how many binders were entered
 pub record Replacing : Type 0 where
   pub args : List (Argument Depth)
   pub under : ℕ
@@ -33,7 +33,7 @@ further_in m = record { args = m.args; under = suc m.under }
 abbrev pub further_out : Replacing → Replacing
 further_out m = record { args = m.args; under = m.under - 1 }
 
--- what is at a parameter's index: the value of an argument of the parameter's sort, or why there is none
+-- the value at a parameter's index: an argument of the parameter's sort, or why there is none
 abbrev pub value_of : Sort → ℕ → Option (Argument Depth) → Result (Tree Depth) Refusal
 value_of s i None = Err (ArgOutOfRange i)
 value_of s i (Some a) = if same_sort s a.sort then Ok a.value else Err (ArgKind i)
@@ -42,12 +42,12 @@ value_of s i (Some a) = if same_sort s a.sort then Ok a.value else Err (ArgKind 
 abbrev pub value_for : Replacing → Sort → ℕ → Result (Tree Depth) Refusal
 value_for m s i = value_of s i (slice_get m.args i)
 
--- the value, shifted past k binders, in the place of the leaf, which stays where there is no value
+-- the value, shifted past k binders, in the place of the leaf, which stays if there is no value
 abbrev pub value_or : Tree Depth → ℕ → Result (Tree Depth) Refusal → Tree Depth
 value_or leaf k (Ok t) = shift_tree 0 k t
 value_or leaf k (Err e) = leaf
 
--- what becomes of a leaf: its value takes a parameter's place, and any other stays
+-- the result of a leaf: its value replaces a parameter, and any other leaf stays
 abbrev pub become : Replacing → Tree Depth → Tree Depth
 become m (param s i name) = value_or (param s i name) m.under (value_for m s i)
 become m t = t
@@ -63,7 +63,7 @@ IsLeafRefusal m (param s i name) e = IsValueRefusal m.under (value_for m s i) e
 IsLeafRefusal m (region (region_var x)) e = e ≡ RegionVariable x
 IsLeafRefusal m _ e = ⊥
 
--- why a binder is refused: as many enclose it as may
+-- why a binder is refused: as many binders enclose it as may
 abbrev pub IsBinderRefusal : Replacing → Refusal → Type 0
 IsBinderRefusal m e = (e ≡ GreatestIndex) × (greatest ≤ m.under)
 
@@ -71,12 +71,12 @@ IsBinderRefusal m e = (e ≡ GreatestIndex) × (greatest ≤ m.under)
 abbrev pub HeedsNone : (Refusal → Bool) → (Refusal → Type 0) → Type 0
 HeedsNone heeded why = (e : Refusal) → IsTrue (heeded e) → why e → ⊥
 
--- a parameter is replaced, and every other term is gone into
+-- a parameter is replaced, and every other term is entered
 abbrev pub answer : Replacing → Tree Depth → Answer
 answer m (param s i name) = replace (become m (param s i name))
 answer m _ = descend
 
--- The folder that skips nothing and asks no flag. It ends at the refusals that it heeds, and past another it goes on.
+-- The folder that skips nothing and uses no flag. It ends at the refusals that it heeds, and past another it goes on.
 abbrev pub unpruned_hooks : (Refusal → Bool) → Hooks Replacing Refusal
 unpruned_hooks heeded = record {
   on_region = λ m t r m'. (m' ≡ m) × (r ≡ become m t) × HeedsNone heeded (IsLeafRefusal m t);
@@ -91,7 +91,7 @@ unpruned_hooks heeded = record {
   leave_fails = λ unbuilt m vs e m'. ⊥;
 }
 
--- the errors of a fold that builds whatever it wants to, with memory for all and room in each table
+-- the errors of a fold whose every building call succeeds, with memory for all and room in each table
 abbrev pub all_built : Errors Refusal
 all_built = record { unbuilt = λ u e. ⊥; unwanted = λ e. e ≡ NotAClause }
 
@@ -103,7 +103,7 @@ Gives heeded args t r = (m : Replacing) × Walks (unpruned_hooks heeded) (outsid
 abbrev pub EndsAt : (Refusal → Bool) → List (Argument Depth) → Tree Depth → Refusal → Type 0
 EndsAt heeded args t e = (m : Replacing) × Fails (unpruned_hooks heeded) all_built (outside args) t e m
 
--- why plain replacement is refused, where all can be built: a cause holds, or the plain result doesn't fit
+-- why plain replacement is refused, if all can be built: a cause holds, or the plain result doesn't fit
 abbrev pub IsPlainReason : List (Argument Depth) → Tree Depth → Refusal → Type 0
 IsPlainReason args t GreatestIndex = Fits (put (readings args) (read 0 t)) → ⊥
 IsPlainReason args t e = Cause t args e
@@ -123,20 +123,20 @@ only _ _ = false
 
 -- A walk that skips nothing has the same tree and the same refusals as plain replacement with its causes, whatever it heeds.
 pub record IsUnseen (args : List (Argument Depth)) (t : Tree Depth) : Type 0 where
-  -- it gives a tree exactly where that is the plain result, and no reason holds that it heeds
+  -- it gives a tree exactly if that is the plain result and no heeded reason holds
   pub gives : (heeded : Refusal → Bool) (r : Tree Depth) → Gives heeded args t r ↔ IsPlain args t r × HeedsNone heeded (IsPlainReason args t)
   -- a refusal at which it ends is a reason that holds, and is heeded
   pub refused : (heeded : Refusal → Bool) (e : Refusal) → EndsAt heeded args t e → IsTrue (heeded e) × IsPlainReason args t e
-  -- where a reason holds that it heeds, it ends at one
+  -- if a reason holds that it heeds, it ends at one
   pub ends : (heeded : Refusal → Bool) (e : Refusal) → IsTrue (heeded e) → IsPlainReason args t e → (found : Refusal) × EndsAt heeded args t found
-  -- the walk that heeds one refusal alone ends at it exactly where it is a reason that holds
+  -- the walk that heeds one refusal alone ends at it exactly if it is a reason that holds
   pub meets : (e : Refusal) → EndsAt (only e) args t e ↔ IsPlainReason args t e
 
--- no inference variable for a region occurs in the tree, exposed or hidden
+-- no region inference variable occurs in the tree, exposed or hidden
 abbrev pub HoldsNoRegionVar : Tree Depth → Type 0
 HoldsNoRegionVar t = (x : ℕ) → StandsIn (region (region_var x)) t → ⊥
 
--- Where a value of an interner holds no region variable and fits, and there is an argument, the walk over its tree that skips
+-- If an interner's value holds no region variable and fits, and there is an argument, the walk over its tree that skips
 -- nothing gives the tree that plain replacement gives, and ends for the same reasons.
 abbrev pub PruningIsUnseen : Type 0
 PruningIsUnseen = (rows : List Row) (args : List (Argument Depth)) (s : Shape) → AreRows rows → IsPartOf rows s → args ≢ []

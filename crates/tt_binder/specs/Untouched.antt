@@ -1,4 +1,4 @@
--- What arguments leave as it is.
+-- The values that arguments leave as they are.
 use Rattle.std.specs.Prelude.{◌≡◌, true, false, ⊤}
 use Rattle.tt_kinds.specs.Tree.{Depth, Tree}
 use Rattle.tt_kinds.specs.Param.{holds_param}
@@ -12,7 +12,7 @@ use Rattle.tt_binder.specs.Instantiation.{IsTypeOrClause, IsInnerConst}
 abbrev pub IsUntouched : Tree Depth → Type 0
 IsUntouched t = (holds_param t ≡ false) × HidesRegionVars t
 
--- the visit passes by a type, a predicate or a clause list that holds no parameter, and goes into each constant that is none
+-- the visit skips a type, a predicate or a clause list without parameters, and enters each constant that is not one
 pub data Passes : Tree Depth → Next → Type 0 where
   passed_by : {t : Tree Depth} → IsTypeOrClause t → holds_param t ≡ false → Passes t Skip
   entered : {t : Tree Depth} → IsInnerConst t → Passes t Descend

@@ -1,4 +1,4 @@
-//! The folder that puts arguments in the places of parameters.
+//! The folder that replaces parameters by arguments.
 
 ghost use Rattle.std.specs.Prelude.{◌≡◌, ◌≢◌, ◌≤◌, ◌++◌, [], List, ℕ, MatchOption, MatchResult, IfOk, IfErr, Some, slice_get};
 ghost use Rattle.std.specs.Map.{keys_of};
@@ -35,7 +35,7 @@ use tt_kinds::{
     TyKind,
 };
 
-// The region at the index.
+// Returns the region at the index.
 fn region_at<S: SliceLike>(cx: &Interner, args: S, index: u32) -> Result<Region, Refusal>
     requires owned { S.owned cx.now.rows args }
     requires some { S.items cx.now.rows args ≢ [] }
@@ -54,7 +54,7 @@ fn region_at<S: SliceLike>(cx: &Interner, args: S, index: u32) -> Result<Region,
     }
 }
 
-// The type at the index.
+// Returns the type at the index.
 fn type_at<S: SliceLike>(cx: &Interner, args: S, index: u32) -> Result<Ty, Refusal>
     requires owned { S.owned cx.now.rows args }
     requires some { S.items cx.now.rows args ≢ [] }
@@ -75,7 +75,7 @@ fn type_at<S: SliceLike>(cx: &Interner, args: S, index: u32) -> Result<Ty, Refus
     }
 }
 
-// The constant at the index.
+// Returns the constant at the index.
 fn const_at<S: SliceLike>(cx: &Interner, args: S, index: u32) -> Result<Const, Refusal>
     requires owned { S.owned cx.now.rows args }
     requires some { S.items cx.now.rows args ≢ [] }
@@ -97,7 +97,7 @@ fn const_at<S: SliceLike>(cx: &Interner, args: S, index: u32) -> Result<Const, R
     }
 }
 
-// The argument for the region parameter of the index, as it is under some binders.
+// Returns the argument for the region parameter of the index, shifted past the enclosing binders.
 fn region_argument<S: SliceLike>(
     cx: &Interner,
     args: S,
@@ -129,7 +129,7 @@ fn region_argument<S: SliceLike>(
     Ok(shifted)
 }
 
-// The argument for the type parameter of the index, as it is under some binders.
+// Returns the argument for the type parameter of the index, shifted past the enclosing binders.
 fn type_argument<S: SliceLike>(
     cx: &mut Interner,
     args: S,
@@ -180,7 +180,7 @@ fn type_argument<S: SliceLike>(
     Ok(placed)
 }
 
-// The argument for the constant parameter of the index, as it is under some binders.
+// Returns the argument for the constant parameter of the index, shifted past the enclosing binders.
 fn const_argument<S: SliceLike>(
     cx: &mut Interner,
     args: S,
@@ -231,7 +231,7 @@ fn const_argument<S: SliceLike>(
     Ok(placed)
 }
 
-// The index of the parameter that the type is, if it is one.
+// Returns the index of the parameter, if the type is one.
 fn type_parameter(cx: &Interner, ty: Ty) -> Option<u32>
     requires { IsPartOf cx.now.rows (ty_shape ty) }
     ensures { MatchOption
@@ -246,7 +246,7 @@ fn type_parameter(cx: &Interner, ty: Ty) -> Option<u32>
     }
 }
 
-// The index of the parameter that the constant is, if it is one.
+// Returns the index of the parameter, if the constant is one.
 pub fn const_parameter(cx: &Interner, constant: Const) -> Option<u32>
     requires { IsPartOf cx.now.rows (const_shape constant) }
     ensures { MatchOption
@@ -261,14 +261,14 @@ pub fn const_parameter(cx: &Interner, constant: Const) -> Option<u32>
     }
 }
 
-/// Puts arguments in the places of parameters, and counts the binders that it passes. There has to be an argument. A
-/// type that comes again under as many binders isn't taken apart again, and the argument of a parameter that does
-/// isn't shifted again.
+/// Replaces parameters by arguments, and counts the binders that it enters. There has to be an argument. A type that
+/// occurs again under the same number of binders isn't taken apart again, and the argument of a parameter that occurs
+/// again under the same number of binders isn't shifted again.
 #[derive(Drop)]
 pub struct ArgFolder<S> {
     args: S,
     binders_passed: u32,
-    // what came of the types that were taken apart
+    // the results of the types that were taken apart
     memory: Memory,
     // the arguments that were shifted past binders
     types: Shifted<Ty>,
@@ -276,7 +276,7 @@ pub struct ArgFolder<S> {
 }
 
 impl<S: Copy> ArgFolder<S> {
-    /// Returns the folder outside of each binder. It remembers and keeps nothing yet, and takes no memory for that.
+    /// Returns the folder outside of each binder, with empty memories that allocate nothing.
     pub fn new(alloc: Global, args: S) -> ArgFolder<S>
         ensures args { result.args ≡ args }
         ensures binders_passed { result.binders_passed ≡ 0 }
@@ -364,7 +364,7 @@ impl<S: SliceLike> TypeFolder for ArgFolder<S> {
                 )?;
                 Ok(Step::Replace(new))
             }
-            // A constant without parameters is gone into too: a region variable may occur in it.
+            // A constant without parameters is entered too: a region variable may occur in it.
             None => Ok(Step::Descend),
         }
     }

@@ -26,33 +26,33 @@ use tt_interner::Interner;
 use tt_kinds::{EarlyBinder, Unnormalized};
 use tt_visit::TypeVisitableExt;
 
-/// A value of an item as it is declared, which arguments turn into one that is used elsewhere.
+/// A value in an item's declaration, which can be instantiated with arguments.
 pub trait Instantiate<T: TypeFoldable>: Sized {
-    // The value as it is declared.
+    // The value in the declaration.
     ghost declared: { Self → T };
 
-    /// Returns the value with each of its parameters replaced by the argument at the parameter's index, so that no
-    /// variable of an argument is captured by a binder of the value.
+    /// Returns the value with each parameter replaced by the argument at the parameter's index. No binder of the value
+    /// captures a variable of an argument.
     ///
-    /// It is refused where there are no arguments and the value has a parameter (`NoArguments`); where there are
-    /// some, but none for a parameter (`ArgOutOfRange`), or one of another kind (`ArgKind`); where there are some and
-    /// a region inference variable occurs in the value outside of the types, predicates and lists of clauses without
-    /// parameters (`RegionVariable`); where the result would have an index or binders that are too great
-    /// (`GreatestIndex`); where a term or a list of the result is not stored yet and its table has as many rows as it
-    /// may have (`TableFull`); and where the memory for a new one is refused (`Memory`). Of several such reasons it
-    /// names one. A constant without parameters hides no region variable. An instance of a clause is a clause, so
-    /// that no clause and no list of clauses is refused.
+    /// Refused if there are no arguments and the value has a parameter (`NoArguments`); if there are some, but none for
+    /// a parameter (`ArgOutOfRange`), or one of another kind (`ArgKind`); if there are some and a region inference
+    /// variable occurs in the value outside of the types, predicates and lists of clauses without parameters
+    /// (`RegionVariable`); if the result would need an index that is too great or would nest too many binders
+    /// (`GreatestIndex`); if a term or a list of the result is not stored yet and its table has as many rows as it may
+    /// have (`TableFull`); and if the memory for a new one is refused (`Memory`). If several reasons hold, one of them
+    /// is returned. A constant without parameters hides no region variable. An instance of a clause is a clause, so the
+    /// call never fails with `NotAClause`.
     ///
-    /// A value without parameters in which no such region variable occurs comes back as it is, and nothing is built; so
-    /// does every type, predicate, clause and list of clauses without parameters. Where there are no arguments, region
-    /// variables aren't looked for. Each type of the value that holds a parameter and is none adds at most one to the
-    /// interner's count of descents for each number of binders above it, at however many places it is; constants,
-    /// predicates and lists of clauses add none of their own. An argument is shifted once past as many binders, at however
-    /// many places its parameter is, and that adds to the shifter's count what one `shift_vars` of it may.
+    /// A value without parameters in which no such region variable occurs is returned unchanged, and nothing is built;
+    /// so is every type, predicate, clause and list of clauses without parameters. If there are no arguments, region
+    /// variables aren't looked for. Each type of the value that holds a parameter without being one adds at most one to
+    /// the interner's count of descents for each number of binders above it, at however many places it is; constants,
+    /// predicates and lists of clauses add none of their own. An argument is shifted once for each number of binders
+    /// above its parameter, at however many places the parameter is, which adds to the shifter's count as much as one
+    /// `shift_vars` of the argument may.
     ///
-    /// A value that is itself a parameter is refused only for want of an argument that fits: else its argument takes
-    /// its place as it stands, without a shift. Nothing is built then, and the interner stays as it is, also where
-    /// the value is refused.
+    /// A value that is itself a parameter is refused only if it has no argument of its kind; otherwise its argument is
+    /// returned unshifted. Then nothing is built, and the interner is unchanged, even if the value is refused.
     fn instantiate<S: SliceLike>(
         self,
         cx: &mut Interner,
@@ -68,7 +68,7 @@ pub trait Instantiate<T: TypeFoldable>: Sized {
             cx.new };
 }
 
-// The value where there are no arguments.
+// Returns the value if there are no arguments.
 fn without_arguments<T: TypeFoldable>(cx: &Interner, value: T) -> Result<T, Refusal>
     requires { IsPartBy T.shape cx.now.rows value }
     ensures some { holds_param (tree_by T.shape cx.now.rows value) ≡ true → result ≡ Err Refusal.NoArguments }
@@ -81,7 +81,7 @@ fn without_arguments<T: TypeFoldable>(cx: &Interner, value: T) -> Result<T, Refu
     }
 }
 
-// The value instantiated.
+// Returns the value, instantiated.
 fn instantiate_value<T: TypeFoldable, S: SliceLike>(
     cx: &mut Interner,
     args: S,
@@ -147,10 +147,9 @@ impl<T: TypeFoldable> Instantiate<T> for EarlyBinder<T> {
     }
 }
 
-/// A walk over a value's tree that asks no flag, and replaces each parameter where it meets one, gives the tree that
-/// [`Instantiate::instantiate`] gives, and is refused for the same causes: where no inference variable for a region
-/// occurs in the value, its indices and binders are in range, and there is an argument. It does nothing; the contract
-/// gives callers the fact.
+/// Does nothing. The contract gives callers the fact that a walk over a value's whole tree, which uses no flag and
+/// replaces each parameter, gives the same tree as [`Instantiate::instantiate`] and is refused for the same causes, if
+/// no region inference variable occurs in the value, its indices and binders are in range, and there is an argument.
 pub fn pruning_is_unseen()
     ensures { PruningIsUnseen }
 {}

@@ -1,4 +1,4 @@
-//! Instantiation: a value of an item as it is declared, with arguments in the places of the item's parameters.
+//! Instantiation: replacing the parameters of a value in an item's declaration by arguments.
 #![tactic(auto)]
 
 mod arg_folder;

@@ -1,4 +1,4 @@
-//! Arguments that were shifted past binders, so that each is shifted once.
+//! A memory of shifted arguments, so that each argument is shifted once past each number of binders.
 
 ghost use Rattle.std.specs.Prelude.{◌≡◌, ◌≤◌, ◌<◌, [], IfErr, MatchResult, OnErr, OnOk};
 ghost use Rattle.std.specs.Map.{lookup};
@@ -23,7 +23,7 @@ pub struct ParamAt {
     under: u32,
 }
 
-/// What came of the arguments of one sort that were shifted, each past the binders above a parameter.
+/// The shifted arguments of one sort, each shifted past the binders above a parameter.
 #[derive(Drop)]
 pub struct Shifted<T> {
     results: IndexMap<ParamAt, T>,
@@ -39,7 +39,7 @@ impl<T> Model for Shifted<T> {
 }
 
 impl<T: TypeFoldable + Copy> Shifted<T> {
-    /// Returns the keeper of nothing. It takes no room until an argument is shifted.
+    /// Returns an empty memory. It allocates nothing until an argument is shifted.
     pub fn new(alloc: Global) -> Shifted<T>
         ensures { result ≡ [] }
     {
@@ -48,8 +48,8 @@ impl<T: TypeFoldable + Copy> Shifted<T> {
         }
     }
 
-    /// Returns the argument of a parameter of the index as it is under so many binders. Where that is another value, it
-    /// is made once, and kept.
+    /// Returns the argument of the parameter of the index, shifted past the binders above the parameter. If that is
+    /// another value, it is built once and remembered.
     pub fn shift(
         &mut self,
         cx: &mut Interner,
@@ -81,14 +81,14 @@ impl<T: TypeFoldable + Copy> Shifted<T> {
         }
     }
 
-    // What is kept for the parameter.
+    // Returns the remembered argument of the parameter, if there is one.
     fn find(&self, param: ParamAt) -> Option<T>
         ensures { result ≡ lookup (same_param param) self.now }
     {
         self.results.get(&param).copied()
     }
 
-    // Keeps what came of the parameter's argument. Where that is refused, nothing changes.
+    // Remembers the parameter's shifted argument. If that is refused, nothing changes.
     fn keep(&mut self, param: ParamAt, shifted: T) -> Result<(), Refusal>
         ensures ok { OnOk result (self.new ≡ insert_entry same_param self.old param shifted) }
         ensures err { IfErr result (λ e. e ≡ Refusal.Memory) }

@@ -1,4 +1,4 @@
-//! Lists of generic arguments, stored or lent.
+//! Lists of generic arguments, stored or borrowed.
 
 ghost use Rattle.std.specs.Prelude.{◌≡◌, ◌↔◌, ◌<◌, List, length, slice_get, IsTrue};
 ghost use Rattle.tt_kinds.specs.declared.generic_arg.GenericArgKind.{GenericArgKind};
@@ -8,14 +8,14 @@ ghost use Rattle.tt_binder.specs.Arguments.{AreArguments};
 use tt_interner::{InternedList, Interner};
 use tt_kinds::{GenericArg, GenericArgs};
 
-/// A list of generic arguments, each of which its interner can read. The handles in it have to be of that interner.
+/// A list of generic arguments that an interner can read. The handles in it have to be of that interner.
 pub trait SliceLike: Copy {
     // The arguments in order.
     ghost items: { List Row → Self → List GenericArgKind };
     // The list is one of the rows, or its handles are.
     ghost owned: { List Row → Self → Type 0 };
 
-    /// Returns how many arguments there are.
+    /// Returns the number of arguments.
     fn len(self, cx: &Interner) -> usize
         requires { owned cx.now.rows self }
         ensures len { result ≡ length (items cx.now.rows self) }

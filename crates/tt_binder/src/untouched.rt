@@ -1,4 +1,4 @@
-//! The question whether arguments leave a value as it is.
+//! The test of whether arguments leave a value as it is.
 
 ghost use Rattle.std.specs.Prelude.{◌↔◌, IsTrue, List};
 ghost use Rattle.tt_interner.specs.Rows.{Row};
@@ -74,7 +74,7 @@ impl TypeVisitor for TouchedVisitor {
     fn leave_binder(&mut self, _cx: &Interner, _vars: BoundVarKinds) {}
 }
 
-// Whether no parameter occurs in the value, and no region variable is exposed.
+// Returns whether no parameter occurs in the value, and no region variable is exposed.
 pub fn is_untouched<T: TypeVisitable>(cx: &Interner, value: &T) -> bool
     requires { IsPartBy T.shape cx.now.rows value.now }
     ensures { IsTrue result ↔ IsUntouched (tree_by T.shape cx.now.rows value.now) }

@@ -1,4 +1,4 @@
-//! What is kept beside a term, computed from what is kept beside its parts.
+//! The cached information of a term, computed from its parts' cached information.
 
 ghost use Rattle.std.specs.Prelude.{◌≡◌, ◌+◌, ◌-◌, ◌<◌, max};
 ghost use Rattle.std.specs.Int.RustNames.{bit_or};
@@ -8,26 +8,26 @@ ghost use Rattle.tt_flags.specs.FlagComputation.{computed};
 use crate::type_flags::TypeFlags;
 use tt_index::DebruijnIndex;
 
-/// The flags of a term and how far its bound variables reach. Both are computed from the flags and reach of the
-/// term's parts alone, so a term that is built from stored parts needs no walk.
+/// The cached information of a term: its flags and its outer exclusive binder. Both are computed from the information
+/// of the term's parts alone, so building a term from stored parts needs no walk.
 #[derive(Clone, Copy, Debug, PartialEq, Eq)]
 pub struct FlagComputation {
     /// The union of the flags of all parts.
     pub flags: TypeFlags,
-    /// The least index above the indices of all bound variables that escape the term, so that the binder
-    /// of this index is the innermost one that binds nothing of it. It is 0 where none escapes.
+    /// One more than the greatest index of a bound variable that escapes the term, or 0 if none escapes. Neither the
+    /// binder of this index nor one outside of it binds a variable of the term.
     pub outer_exclusive_binder: DebruijnIndex,
 }
 
 impl FlagComputation {
-    /// Returns what is computed of no parts.
+    /// Returns the information of a term without parts: no flags, and no escaping variable.
     pub fn new() -> FlagComputation
         ensures { result ≡ computed 0 0 }
     {
         FlagComputation::leaf(TypeFlags::empty())
     }
 
-    /// Returns what is computed of a part with these flags from which no bound variable escapes.
+    /// Returns the information of a part with these flags from which no bound variable escapes.
     pub fn leaf(flags: TypeFlags) -> FlagComputation
         ensures { result ≡ computed flags.bits 0 }
     {
@@ -37,8 +37,8 @@ impl FlagComputation {
         }
     }
 
-    /// Returns what is computed of a variable with these flags that the binder `index` binds.
-    /// [`DebruijnIndex::can_shift_in`] of 1 tests the condition.
+    /// Returns the information of a variable bound at `index`, with these flags. [`DebruijnIndex::can_shift_in`] of 1
+    /// tests the condition.
     pub fn bound_at(flags: TypeFlags, index: DebruijnIndex) -> FlagComputation
         requires { index < greatest }
         ensures { result ≡ computed flags.bits (index + 1) }
@@ -49,7 +49,7 @@ impl FlagComputation {
         }
     }
 
-    /// Returns what is computed of two parts together.
+    /// Returns the information of two parts together.
     pub fn joined(self, other: FlagComputation) -> FlagComputation
         ensures { result
             ≡ computed
@@ -64,8 +64,8 @@ impl FlagComputation {
         }
     }
 
-    /// Returns what is computed of these parts under one binder, whose list of variables has the flags
-    /// `list_flags`. Outside the binder every index that still escapes is one less.
+    /// Returns the information of these parts under one binder, whose list of variables has the flags `list_flags`.
+    /// Outside the binder every index that still escapes is one less.
     pub fn under_binder(self, list_flags: TypeFlags) -> FlagComputation
         ensures { result
             ≡ computed (bit_or list_flags.bits self.flags.bits) (self.outer_exclusive_binder - 1) }

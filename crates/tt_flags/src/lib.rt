@@ -1,4 +1,4 @@
-//! The flags of terms: which forms occur in a term, and how far its bound variables reach.
+//! The flags of terms, which tell what occurs in a term, and their outer exclusive binders.
 #![tactic(auto)]
 
 mod flag_computation;

@@ -1,4 +1,4 @@
-//! The set of the flags that are tracked on every term.
+//! The set of flags that is kept for every term.
 
 ghost use Rattle.std.specs.Prelude.{⊤, ℕ, ◌≡◌, ◌≢◌, ◌↔◌, IsTrue};
 ghost use Rattle.std.specs.Int.RustNames.{bit_and, bit_or};
@@ -8,8 +8,8 @@ ghost use Rattle.tt_flags.specs.TypeFlags.{flag_table};
 use bitflags::{Flag, Flags};
 use std::ops::{BitAnd, BitAndAssign, BitOr, BitOrAssign};
 
-/// What occurs somewhere in a term, as a set of flags. The flags of a term are the union over its
-/// parts, so that one look at them answers whether a part of some form occurs, without a walk.
+/// A set of flags, each of which says that some form occurs in a term. The flags of a term are the union over its
+/// parts, so they tell whether a part of some form occurs, without a walk.
 ///
 /// In a contract `flags.bits` is the number of the bits of `flags`.
 #[derive(Clone, Copy, Debug, PartialEq, Eq, Hash)]
@@ -109,7 +109,7 @@ impl TypeFlags {
     /// `HAS_CT_PLACEHOLDER`.
     pub const HAS_PLACEHOLDER: TypeFlags = TypeFlags { bits: 0x1C0 };
 
-    /// What could be normalized further: an alias of any kind or an unevaluated constant.
+    /// A term that could be normalized further: an alias of any kind or an unevaluated constant.
     pub const HAS_ALIAS: TypeFlags = TypeFlags { bits: 0x7C00 };
 
     /// An error of any kind: `HAS_NON_REGION_ERROR`, `HAS_RE_ERROR`.
@@ -138,7 +138,7 @@ impl TypeFlags {
         TypeFlags { bits: 0 }
     }
 
-    /// Returns the set of exactly these bits, also of those that no flag names.
+    /// Returns the set of exactly these bits, including those that no flag names.
     pub const fn from_bits_retain(bits: u32) -> TypeFlags
         ensures { result ≡ record { bits = bits } }
     {

@@ -8,7 +8,7 @@ use Rattle.tt_kinds.specs.Tree.{Depth, Tree, Forest}
 use Rattle.tt_kinds.specs.Shape.{AreParts, fill, item_shapes}
 use Rattle.tt_kinds.specs.Values.{assumption_shape, assumptions_shape, sequence_shape}
 use Rattle.tt_kinds.specs.declared.generic_arg.GenericArgKind.{GenericArgKind}
-use Rattle.tt_kinds.specs.declared.handle.RegionAssumptions.{RegionAssumptions}
+use Rattle.tt_kinds.specs.Handle.{RegionAssumptions}
 use Rattle.tt_kinds.specs.declared.predicate.OutlivesPredicate.{OutlivesPredicate}
 use Rattle.tt_kinds.specs.declared.table.Table.TheVariants.{AssumptionLists}
 use Rattle.tt_interner.specs.Rows.{Row, assumptions_row, size, meaning, AreRows}

@@ -6,8 +6,8 @@ use Rattle.tt_kinds.specs.Tree.{also, none}
 use Rattle.tt_kinds.specs.Shape.{fill, fill_all}
 use Rattle.tt_kinds.specs.Kinds.{predicate_shape}
 use Rattle.tt_kinds.specs.Values.{one_clause_shape}
-use Rattle.tt_kinds.specs.declared.handle.Clause.{Clause}
-use Rattle.tt_kinds.specs.declared.handle.Predicate.{Predicate}
+use Rattle.tt_kinds.specs.Handle.{Clause}
+use Rattle.tt_kinds.specs.Handle.{Predicate}
 use Rattle.tt_kinds.specs.declared.table.Table.TheVariants.{Predicates}
 use Rattle.tt_interner.specs.Clauses.{is_clause_tree, HasOther}
 use Rattle.tt_interner.specs.Rows.{Row, size, meaning, Grows, IsClause}

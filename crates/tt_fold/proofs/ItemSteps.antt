@@ -10,7 +10,7 @@ use Rattle.tt_kinds.specs.Tree.{Depth, Tree, Forest, also, none}
 use Rattle.tt_kinds.specs.Parts.{node_table, node_number, list_table, list_number, list_sort, child_sort, IsItem, AreLike}
 use Rattle.tt_kinds.specs.Shape.{fill, fill_all, HasParts, IsTooDeep}
 use Rattle.tt_kinds.specs.Kinds.{Form, param, bound, plain, under, form_binder, form_parts, form_shape, refilled, kind_form, kind_sort, kind_shape, kind_table, node_shape, list_shape, region_shape, child_shapes, parts_shapes, children_shapes, items_tree}
-use Rattle.tt_kinds.specs.declared.handle.BoundVarKinds.{BoundVarKinds}
+use Rattle.tt_kinds.specs.Handle.{BoundVarKinds}
 use Rattle.tt_kinds.specs.declared.region_kind.RegionKind.{RegionKind}
 use Rattle.tt_kinds.specs.declared.table.Table.TheVariants.{ClauseLists}
 use Rattle.tt_kinds.specs.declared.parts.Child.{Child}

@@ -9,9 +9,10 @@ use Rattle.std.specs.Map.{lookup, keys_of}
 use Rattle.indexmap.specs.IndexMap.{insert_all, insert_entry}
 use Rattle.tt_fold.specs.Memory.{same_place}
 use Rattle.tt_fold.specs.Notes.{entries_of}
-use Rattle.tt_kinds.specs.declared.handle.Ty.{Ty}
+use Rattle.tt_kinds.specs.Handle.{Ty}
 use Rattle.tt_fold.specs.declared.memory.Place.{Place}
 use Rattle.tt_fold.specs.declared.memory.Note.{Note}
+use Rattle.tt_kinds.specs.Handle.{handle}
 
 -- places that are told the same are the same
 pub same-place : (p q : Place) → same_place p q ≡ true → p ≡ q
@@ -24,7 +25,7 @@ same-place p q h = elim (cases_Bool (nat_eq p.ty.number q.ty.number)) [
     at_type t =
         let number : p.ty.number ≡ q.ty.number = eqb-true p.ty.number q.ty.number t in
         let under : p.under ≡ q.under = eqb-true p.under q.under (rw t at h) in
-        ap (λ n. record { ty = record { number = n }; under = p.under }) number ∙ ap (λ k. record { ty = q.ty; under = k }) under
+        ap (λ n. record { ty = handle n; under = p.under }) number ∙ ap (λ k. record { ty = q.ty; under = k }) under
 
 other-place : (p q : Place) → same_place p q ≡ false → same_place q p ≡ false
 other-place p q other = elim (cases_Bool (same_place q p)) [

@@ -7,7 +7,7 @@ use Rattle.tt_kinds.specs.Parts.{node_table, node_number, list_table, list_numbe
 use Rattle.tt_kinds.specs.Kinds.{node_shape, list_shape, child_shapes, parts_shapes, children_shapes}
 use Rattle.tt_kinds.specs.declared.table.Table.{Table}
 use Rattle.tt_kinds.specs.declared.table.Table.TheVariants.{VarLists}
-use Rattle.tt_kinds.specs.declared.handle.BoundVarKinds.{BoundVarKinds}
+use Rattle.tt_kinds.specs.Handle.{BoundVarKinds}
 use Rattle.tt_kinds.specs.declared.parts.Child.{Child}
 use Rattle.tt_kinds.specs.declared.parts.Child.TheVariants as child
 use Rattle.tt_kinds.specs.declared.parts.Parts.{Parts}

@@ -5,7 +5,7 @@ use Rattle.tt_kinds.specs.Shape as shape
 use Rattle.tt_kinds.specs.Shape.{Shape, Sizes, IsNamedRecord, IsNamedLabel, rename_record, name_of, fill}
 use Rattle.tt_kinds.specs.Values.{one_record, two_record, unsafe_binder_shape}
 use Rattle.tt_kinds.specs.Kinds.{RecordForm, replenished, record_shape, parts_shapes, ty_shape, binder_shape}
-use Rattle.tt_kinds.specs.declared.handle.Ty.{Ty}
+use Rattle.tt_kinds.specs.Handle.{Ty}
 use Rattle.tt_kinds.specs.declared.binder.Binder.{Binder}
 use Rattle.tt_kinds.specs.declared.ty_kind.UnsafeBinderInner.{UnsafeBinderInner}
 use Rattle.tt_kinds.specs.declared.parts.Parts.{Parts}

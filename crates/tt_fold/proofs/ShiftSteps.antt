@@ -2,7 +2,7 @@
 use Rattle.std.proofs.Common.{◌≡◌, ◌⊎◌, ℕ, List, refl, ap, ◌∙◌}
 use Rattle.tt_index.specs.declared.refusal.Refusal.{Refusal}
 use Rattle.tt_kinds.specs.Tree.{Depth, Tree}
-use Rattle.tt_kinds.specs.declared.handle.Ty.{Ty}
+use Rattle.tt_kinds.specs.Handle.{Ty}
 use Rattle.tt_interner.specs.Stored.{Terms, Counters, Extends, counted}
 use Rattle.tt_fold.specs.Walk.{replace, descend}
 use Rattle.tt_fold.specs.Steps.{IsRefused}

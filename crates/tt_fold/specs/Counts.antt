@@ -1,19 +1,19 @@
--- The interner's counts beside a folder's state.
+-- The interner's counts together with a folder's state.
 use Rattle.std.specs.Prelude.{◌≡◌, List}
 use Rattle.tt_interner.specs.Rows.{Row}
 use Rattle.tt_interner.specs.Stored.{Counters, Terms}
 use Rattle.tt_fold.specs.Walk.{Hooks}
 
--- what a folder's state means, and the interner's counts
+-- the meaning of a folder's state, and the interner's counts
 pub record Standing (M : Type 0) : Type 0 where
   pub state : M
   pub counters : Counters
 
--- what the folder's state means among the terms, with their counts
+-- the meaning of the folder's state among the terms, with their counts
 abbrev pub stands : {M S : Type 0} → (List Row → S → M) → Terms → S → Standing M
 stands means terms s = record { state = means terms.rows s; counters = terms.counters }
 
--- what the relation says of the states, while the counts stay
+-- the relation holds of the states, and the counts stay
 abbrev pub Quietly : {M : Type 0} → (M → M → Type 0) → Standing M → Standing M → Type 0
 Quietly R s s' = R s.state s'.state × (s'.counters ≡ s.counters)
 

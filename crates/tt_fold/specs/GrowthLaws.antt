@@ -1,4 +1,4 @@
--- What a fold stores is no symbol, and names stay where none comes.
+-- A fold stores no symbol, and names stay if no symbol is added.
 use Rattle.std.proofs.Common.{◌≡◌, ℕ, false, cond, ◌&&◌, eqb, List, [], ◌∷◌, ◌++◌, length, refl, ap, ◌∙◌, inl, inr}
 use Rattle.tt_kinds.specs.Shape.{name_of, fill, text_of}
 use Rattle.tt_kinds.specs.declared.table.Table.{Table}
@@ -37,7 +37,7 @@ items-no_symbol sort.Pats items = refl
 items-no_symbol sort.Existentials items = refl
 items-no_symbol sort.Clauses items = refl
 
--- a row of another table leaves what a number of this one means
+-- a row of another table keeps the meaning of a number of this one
 meaning-other : (r : Row) (rows : List Row) (t : Table) (n : ℕ) → is_in t r ≡ false → meaning (r ∷ rows) t n ≡ meaning rows t n
 unfolding meaning
 meaning-other r rows t n e = ap (λ b. cond (b && eqb n (length (table t rows))) (fill (meaning rows) (row_shape r)) (meaning rows t n)) e
@@ -54,6 +54,6 @@ count-more (r ∷ more) old h = ap length (table-other r (more ++ old) Symbols h
 pub name-stays : (old new : List Row) → AddsTerms old new → (n : ℕ) → name_of (meaning new) n ≡ name_of (meaning old) n
 name-stays old new a n = ap (λ rows. name_of (meaning rows) n) a.grows.kept ∙ ap text_of (symbols-more a.grows.more old a.no_symbol n)
 
--- and there are as many
+-- the number of symbols stays
 pub symbols-stay : (old new : List Row) → AddsTerms old new → size new Symbols ≡ size old Symbols
 symbols-stay old new a = ap (λ rows. size rows Symbols) a.grows.kept ∙ count-more a.grows.more old a.no_symbol

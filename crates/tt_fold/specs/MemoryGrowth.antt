@@ -1,8 +1,8 @@
--- What is remembered stays what it is where terms and lists are stored.
+-- The memory keeps its meaning when terms and lists are stored.
 use Rattle.std.proofs.Common.{◌≡◌, ℕ, List, [], ◌∷◌, refl, ap}
 use Rattle.std.specs.Prelude.{⊤}
 use Rattle.tt_kinds.specs.Kinds.{ty_shape}
-use Rattle.tt_kinds.specs.declared.handle.Ty.{Ty}
+use Rattle.tt_kinds.specs.Handle.{Ty}
 use Rattle.tt_kinds.specs.declared.table.Table.TheVariants.{Types}
 use Rattle.tt_interner.specs.Rows.{Row, Grows}
 use Rattle.tt_interner.proofs.Growth.{in_range-grows, fill-grows}
@@ -18,6 +18,6 @@ pub OwnsMemos-still : (old new : List Row) (es : List (Place × Ty)) → Grows o
 OwnsMemos-still old new [] g owns = tt
 OwnsMemos-still old new (e ∷ es) g owns = (in_range-grows old new g Types e.0.ty.number owns.0, in_range-grows old new g Types e.1.number owns.1, OwnsMemos-still old new es g owns.2)
 
--- so the shifter's state means the same
+-- the shifter's state keeps its meaning
 pub shift_state-still : (n k : ℕ) (old new : List Row) (es : List (Place × Ty)) → Grows old new → OwnsMemos old es → shift_state n k new es ≡ shift_state n k old es
 shift_state-still n k old new es g owns = ap (λ ms. record { rule = n; under = k; kept = tt; memory = ms }) (memos-still old new es g owns)

@@ -1,9 +1,9 @@
--- Where a folder's memory keeps its entries: in place, or in a map.
+-- The place of a folder's entries: in place, or in a map.
 use Rattle.std.specs.Prelude.{◌≤◌, List, map, length}
 use Rattle.std.specs.List.{IsDistinct}
 use Rattle.std.specs.Map.{keys_of}
 use Rattle.tt_fold.specs.Memory.{same_place}
-use Rattle.tt_kinds.specs.declared.handle.Ty.{Ty}
+use Rattle.tt_kinds.specs.Handle.{Ty}
 use Rattle.tt_fold.specs.declared.memory.Place.{Place}
 use Rattle.tt_fold.specs.declared.memory.Note.{Note}
 use Rattle.tt_fold.specs.declared.memory.Notes.{Notes}
@@ -13,12 +13,12 @@ use Rattle.tt_fold.specs.declared.memory.Notes.TheVariants.{Few, Many}
 abbrev pub entries_of : List Note → List (Place × Ty)
 entries_of notes = map (λ n. (n.place, n.after)) notes
 
--- what is noted, wherever it is kept
+-- the notes, wherever they are kept
 abbrev pub noted_entries : Notes → List (Place × Ty)
 noted_entries (Few few) = entries_of few.items
 noted_entries (Many many) = many.entries
 
--- in place no two notes are of one place, and a map has at least eight entries
+-- notes kept in place have distinct places, and a map has at least eight entries
 abbrev pub AreNotes : Notes → Type 0
 AreNotes (Few few) = IsDistinct same_place (keys_of (entries_of few.items))
 AreNotes (Many many) = 8 ≤ length many.entries

@@ -1,4 +1,4 @@
--- What the walk's own calls say of terms, lists and the parts of kinds.
+-- The promises of the walk's calls on terms, lists and the parts of kinds.
 use Rattle.std.specs.Prelude.{◌≡◌, ◌++◌, ℕ, suc, max, Option, Some, None, Result, Ok, Err, MatchResult, All, take, ⊤}
 use Rattle.std.specs.Prelude.{List as Listed}
 use Rattle.tt_kinds.specs.Label.{Name, VarKind, Label}
@@ -7,7 +7,7 @@ use Rattle.tt_kinds.specs.Shape.{Shape, Shapes, AreParts, fill_all, item_shapes,
 use Rattle.tt_kinds.specs.Parts.{node_table, node_number, list_sort, list_table, list_number, child_sort, AreLike, IsItem}
 use Rattle.tt_kinds.specs.Kinds as form
 use Rattle.tt_kinds.specs.Kinds.{Form, node_shape, list_shape, child_shapes, parts_shapes, children_shapes, items_tree}
-use Rattle.tt_kinds.specs.declared.handle.BoundVarKinds.{BoundVarKinds}
+use Rattle.tt_kinds.specs.Handle.{BoundVarKinds}
 use Rattle.tt_kinds.specs.declared.parts.Node.{Node}
 use Rattle.tt_kinds.specs.declared.parts.List.{List}
 use Rattle.tt_kinds.specs.declared.parts.ListSort.{ListSort}
@@ -28,7 +28,7 @@ use Rattle.tt_fold.specs.declared.folder.Step.TheVariants as step
 abbrev pub ArePartsOf : Listed Row → Shapes → Type 0
 ArePartsOf rows ss = AreParts (size rows) ss
 
--- what the shapes mean among the rows
+-- the trees of the shapes among the rows
 abbrev pub trees_in : Listed Row → Shapes → Forest Depth
 trees_in rows ss = fill_all (meaning rows) ss
 
@@ -52,48 +52,48 @@ parts_trees rows p = trees_in rows (parts_shapes p)
 abbrev pub children_trees : Listed Row → Listed Child → Forest Depth
 children_trees rows cs = trees_in rows (children_shapes cs)
 
--- the result is the rows', and stored in the same table
+-- the result is among the rows, in the same table
 pub record IsNodeFor (x : Node) (rows : Listed Row) (y : Node) : Type 0 where
   pub owned : IsPartOf rows (node_shape y)
   pub like : node_table y ≡ node_table x
 
--- the result is the rows', and a list of the same sort
+-- the result is among the rows, and a list of the same sort
 pub record IsListFor (x : List) (rows : Listed Row) (y : List) : Type 0 where
   pub owned : IsPartOf rows (list_shape y)
   pub like : list_sort y ≡ list_sort x
 
--- the result is the rows', and of the same sort
+-- the result is among the rows, and of the same sort
 pub record IsChildFor (x : Child) (rows : Listed Row) (y : Child) : Type 0 where
   pub owned : ArePartsOf rows (child_shapes y)
   pub like : child_sort y ≡ child_sort x
 
--- the results are the rows', and of the same sorts
+-- the results are among the rows, and of the same sorts
 pub record ArePartsFor (x : Parts) (rows : Listed Row) (y : Parts) : Type 0 where
   pub owned : ArePartsOf rows (parts_shapes y)
   pub like : AreLike x y
 
--- a hook is asked at the stored term
+-- the stored term has a hook
 abbrev pub HasHook : Node → Type 0
 HasHook n = table_root (node_table n) ≡ hooked
 
--- the handle in a hook's answer is the rows', and of the same table
+-- the handle in a hook's answer is among the rows, and of the same table
 abbrev pub IsStepFor : Node → Listed Row → Step Node → Type 0
 IsStepFor x rows (step.Replace n) = IsNodeFor x rows n
 IsStepFor x rows step.Keep = ⊤
 IsStepFor x rows step.Descend = ⊤
 
--- a hook's answer, about the other value that f makes of its own
+-- a hook's answer, with f applied to its value
 abbrev pub map_step : {A B : Type 0} → (A → B) → Step A → Step B
 map_step f (step.Replace x) = step.Replace (f x)
 map_step f step.Keep = step.Keep
 map_step f step.Descend = step.Descend
 
--- a result, about the other value that f makes of its own
+-- a result, with f applied to its value
 abbrev pub map_ok : {A B E : Type 0} → (A → B) → Result A E → Result B E
 map_ok f (Ok x) = Ok (f x)
 map_ok f (Err e) = Err e
 
--- the binder's list of variables, if there is one, is the rows'
+-- the binder's list of variables, if there is one, is among the rows
 abbrev pub HasBinder : Listed Row → Option BoundVarKinds → Type 0
 HasBinder rows None = ⊤
 HasBinder rows (Some vars) = HasVars rows vars
@@ -120,7 +120,7 @@ IsInner (form.bound d e) = ⊥
 IsInner (form.plain l p) = HoldsAny l
 IsInner (form.under l vars m p) = HoldsAny l
 
--- one more than the age of what a child names, or 0
+-- one more than the age of the row that a child names, or 0
 abbrev pub child_weight : Listed Row → Child → ℕ
 child_weight rows child.Absent = 0
 child_weight rows (child.Region r) = 0
@@ -141,7 +141,7 @@ pub record FoldsSoFar {M E S : Type 0} (owned : Listed Row → S → Type 0) (me
   pub wanted : HasUnwanted (wanted_of sort) (children_trees terms'.rows items) → ⊥
   pub walked : WalksAll H (stands means terms s) (children_trees terms.rows (take n list)) (children_trees terms'.rows items) (stands means terms' s')
 
--- the children are the rows', and such as a list of the sort holds
+-- the children are among the rows, and of the sort that the list holds
 pub record AreItems (sort : ListSort) (rows : Listed Row) (items : Listed Child) : Type 0 where
   pub owned : ArePartsOf rows (children_shapes items)
   pub fit : All (λ c. IsItem sort (child_sort c)) items

@@ -8,7 +8,7 @@ abbrev pub IsIn : {A : Type 0} → A → List A → Type 0
 IsIn x [] = ⊥
 IsIn x (y ∷ ys) = (x ≡ y) ⊎ IsIn x ys
 
--- no item comes twice
+-- no item occurs twice
 abbrev pub AreDistinct : {A : Type 0} → List A → Type 0
 AreDistinct [] = ⊤
 AreDistinct (x ∷ xs) = (IsIn x xs → ⊥) × AreDistinct xs

@@ -1,4 +1,4 @@
--- What a folder of regions asks its closure, and where it places the answers.
+-- The calls of a folder of regions to its closure, and the places of the answers.
 use Rattle.std.specs.Prelude.{◌≡◌, ℕ, suc, ◌-◌, ◌<◌, ◌≤◌, ◌⊎◌, Bool, true, false, not, nat_lt, List, [], ◌∷◌, ◌++◌, map, ⊤}
 use Rattle.std.specs.List.{FoldsTo}
 use Rattle.tt_index.specs.Greatest.{greatest}
@@ -20,12 +20,12 @@ use Rattle.tt_fold.specs.Counts.{Standing, keeps_counters}
 use Rattle.tt_fold.specs.Steps.{refusals_of}
 use Rattle.tt_fold.specs.Stands.{StandsIn}
 
--- the variable's binder is none of the k around it, and it is no variable of a canonical query
+-- the variable's binder is none of the k around it, and it is not a variable of a canonical query
 abbrev pub is_outside : ℕ → BoundVarIndexKind → Bool
 is_outside k (Bound d) = not (nat_lt d k)
 is_outside k Canonical = false
 
--- a folder of regions asks about the region under k binders
+-- a folder of regions calls its closure at the region under k binders
 abbrev pub is_met : ℕ → RegionKind → Bool
 is_met k (ReEarlyParam p) = true
 is_met k (ReBound i b) = is_outside k i
@@ -40,7 +40,7 @@ is_met k (ReError e) = true
 abbrev pub names_in : List Row → ℕ → Name
 names_in rows n = name_of (meaning rows) n
 
--- where there are so many symbols, the region's name is one of them
+-- the region's name is one of so many symbols
 abbrev pub HasName : ℕ → RegionKind → Type 0
 HasName symbols r = IsPart (λ t. symbols) (region_shape r)
 
@@ -54,25 +54,25 @@ pub record RegionCall : Type 0 where
   pub depth : ℕ
   pub answer : RegionKind
 
--- the regions that were asked about, with the binders above them
+-- the regions at which the closure was called, with the binders above them
 abbrev pub asked : (ℕ → Name) → List RegionCall → List Met
 asked names calls = map (λ c. record { standing = region_tree names c.region; under = c.depth }) calls
 
--- what the closure answered, in order
+-- the answers of the closure, in order
 abbrev pub answered : (ℕ → Name) → List RegionCall → List (Tree Depth)
 answered names calls = map (λ c. region_tree names c.answer) calls
 
--- where a folder of regions is: its closure, how many binders it passed, and the texts of the symbols
+-- the state of a folder of regions: its closure, how many binders it entered, and the texts of the symbols
 pub record Asking (F : Type 0) : Type 0 where
   pub closure : F
   pub under : ℕ
   pub names : ℕ → Name
 
--- the same, one binder further in
+-- the state one binder further in
 abbrev pub deeper : {F : Type 0} → Asking F → Asking F
 deeper s = record { closure = s.closure; under = suc s.under; names = s.names }
 
--- the same, one binder further out
+-- the state one binder further out
 abbrev pub higher : {F : Type 0} → Asking F → Asking F
 higher s = record { closure = s.closure; under = s.under - 1; names = s.names }
 
@@ -104,18 +104,18 @@ module _ {F : Type 0} (step : F → RegionKind → ℕ → RegionKind → F → 
   abbrev pub AreMade : F → List RegionCall → F → Type 0
   AreMade f calls g = FoldsTo (λ p c q. step p c.region c.depth c.answer q) f calls g
 
-  -- asked about each of the regions in turn, from the state that the call before left, the closure answers a region whose
-  -- name is one of the symbols, as each region has it that it is asked about
+  -- called at each of the regions in turn, from the state that the call before left, the closure answers a region whose
+  -- name is one of the symbols, if each region that it is called at has such a name
   abbrev pub AnswersEach : ℕ → F → List (RegionKind × ℕ) → Type 0
   AnswersEach symbols f [] = ⊤
   AnswersEach symbols f (c ∷ calls) = HasName symbols c.0 → (answer : RegionKind) (g : F) → step f c.0 c.1 answer g →
       HasName symbols answer × AnswersEach symbols g calls
 
-  -- so it does whatever the regions are
+  -- the closure does so whatever the regions are
   pub record AnswersRegions (symbols : ℕ) (f : F) : Type 0 where
     pub at : (calls : List (RegionKind × ℕ)) → AnswersEach symbols f calls
 
-  -- the closure was asked about exactly the regions met in t, in order, and the answers are in their places in u
+  -- the closure was called at exactly the regions met in t, in order, and the answers are in their places in u
   pub record Places (names : ℕ → Name) (f : F) (t u : Tree Depth) : Type 0 where
     pub calls : List RegionCall
     pub last : F
@@ -123,7 +123,7 @@ module _ {F : Type 0} (step : F → RegionKind → ℕ → RegionKind → F → 
     pub are_met : asked names calls ≡ met 0 t
     pub are_placed : u ≡ placed 0 t (answered names calls)
 
-  -- the closure was asked about the first of the regions met in t, in order, and then the fold was refused
+  -- the closure was called at the first of the regions met in t, in order, and then the fold was refused
   pub record PlacesSome (names : ℕ → Name) (terms : Terms) (f : F) (t : Tree Depth) (e : Refusal) : Type 0 where
     pub calls : List RegionCall
     pub last : F
@@ -132,7 +132,7 @@ module _ {F : Type 0} (step : F → RegionKind → ℕ → RegionKind → F → 
     pub are_first : asked names calls ++ rest ≡ met 0 t
     pub refused : IsPlacingRefusal terms t (answered names calls) e
 
-  -- the closure is asked about a region, and its answer takes its place
+  -- the closure is called at a region, and its answer replaces the region
   pub record Asks (s : Asking F) (t r : Tree Depth) (s' : Asking F) : Type 0 where
     pub region : RegionKind
     pub answer : RegionKind
@@ -142,7 +142,7 @@ module _ {F : Type 0} (step : F → RegionKind → ℕ → RegionKind → F → 
     pub under : s'.under ≡ s.under
     pub names : s'.names ≡ s.names
 
-  -- what a folder of regions does: it asks about each region that is met, and keeps only terms in which none is
+  -- a folder of regions calls its closure at each region that is met, and keeps only terms that meet none
   abbrev pub region_hooks : Hooks (Asking F) Refusal
   region_hooks = record {
     on_region = λ s t r s'. ((met s.under t ≡ record { standing = t; under = s.under } ∷ []) × Asks s t r s')
@@ -158,16 +158,16 @@ module _ {F : Type 0} (step : F → RegionKind → ℕ → RegionKind → F → 
     leave_fails = λ unbuilt s vs e s'. ⊥;
   }
 
-  -- where a folder of regions is that was just made of the closure, beside the counts
+  -- the state of a folder of regions that was just made of the closure, with the counts
   abbrev pub just_made : (ℕ → Name) → F → Counters → Standing (Asking F)
   just_made names f counters = record { state = record { closure = f; under = 0; names = names }; counters = counters }
 
-  -- the walk of a folder of regions that was just made asks about the regions met, and places the answers
+  -- the walk of a new folder of regions calls the closure at the regions met, and places the answers
   abbrev pub RegionFoldersPlace : Type 0
   RegionFoldersPlace = (names : ℕ → Name) (f : F) (counters : Counters) (t u : Tree Depth) (s' : Standing (Asking F)) →
       Walks (keeps_counters region_hooks) (just_made names f counters) t u s' → Places names f t u
 
-  -- where it ends early, in a tree whose lists of clauses hold clauses alone, it asked about the first of them
+  -- if it ends early, in a tree whose lists of clauses hold clauses alone, it called the closure at the first of them
   abbrev pub RegionFoldersPlaceSome : Type 0
   RegionFoldersPlaceSome = (names : ℕ → Name) (f : F) (counters : Counters) (terms : Terms) (t : Tree Depth) (e : Refusal) (s' : Standing (Asking F)) →
       ((u : Tree Depth) → StandsIn u t → IsNoClauseList u → ⊥) →

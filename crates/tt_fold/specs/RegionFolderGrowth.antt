@@ -1,4 +1,4 @@
--- What a folder of regions means and needs stays where no symbol comes.
+-- The meaning and the needs of a folder of regions stay if no symbol is added.
 use Rattle.std.proofs.Common.{◌≡◌, ℕ, List, ap, subst, sym}
 use std.Path.{fun_ext}
 use Rattle.tt_kinds.specs.declared.region_kind.RegionKind.{RegionKind}

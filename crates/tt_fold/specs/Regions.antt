@@ -1,16 +1,16 @@
--- What a folder does that answers regions alone.
+-- The hooks of a folder that replaces regions alone.
 use Rattle.std.specs.Prelude.{◌≡◌, ⊤}
 use Rattle.tt_kinds.specs.Tree.{Depth, Tree}
 use Rattle.tt_fold.specs.Walk.{Hooks, descend}
 
--- What the one hook of such a folder may do: M is what its state means, and E its errors. What it fails with may be that a tree
--- is not built: it is told which errors say so of which trees.
+-- What the one hook of such a folder may do: M is its state's meaning, and E its errors. An error may say that a tree
+-- is not built: the relation says which errors say so of which trees.
 pub record RegionHooks (M E : Type 0) : Type 1 where
   -- state, region, answer, state
   pub on_region : M → Tree Depth → Tree Depth → M → Type 0
   pub region_fails : (Tree Depth → E → Type 0) → M → Tree Depth → E → M → Type 0
 
--- the hook of which nothing is promised
+-- the hook without a promise
 abbrev pub no_promise : {M E : Type 0} → RegionHooks M E
 no_promise = record {
   on_region = λ s t r s'. ⊤;
@@ -24,7 +24,7 @@ never_fails R = record {
   region_fails = λ unbuilt s t e s'. ⊥;
 }
 
--- the hooks of a folder that enters each term, keeps what was built again, and passes binders with its state as it was
+-- the hooks of a folder that enters each term, keeps each rebuilt term, and keeps its state at binders
 abbrev pub only_regions : {M E : Type 0} → RegionHooks M E → Hooks M E
 only_regions H = record {
   on_region = H.on_region;

@@ -11,12 +11,12 @@ use Rattle.tt_fold.specs.Walk.{Hooks, Answer, replace, keep, descend, is_type_tr
 use Rattle.tt_fold.specs.Counts.{Standing}
 use Rattle.tt_fold.specs.Places.{IsIn}
 
--- a type that was taken apart under a number of binders, and what came of it
+-- a type that was taken apart under a number of binders, and its result
 pub record Memo : Type 0 where
   pub place : TypeAt
   pub result : Tree Depth
 
--- what the state of a folder means that remembers: the rule by which it goes, how many binders it passed, what it keeps
+-- the state of a folder that remembers: its rule, how many binders it entered, what it keeps
 -- besides, and what it remembers
 pub record State (R K : Type 0) : Type 0 where
   pub rule : R
@@ -24,20 +24,20 @@ pub record State (R K : Type 0) : Type 0 where
   pub kept : K
   pub memory : List Memo
 
--- which types are remembered
+-- the remembered types
 abbrev pub places : List Memo → List TypeAt
 places memory = map (λ m. m.place) memory
 
 module _ {R K : Type 0} where
-  -- a tree where the folder is
+  -- a tree at the folder's place
   abbrev pub here : State R K → Tree Depth → TypeAt
   here s t = record { standing = t; under = s.under }
 
-  -- what came of a tree where the folder is
+  -- a tree at the folder's place, and its result
   abbrev pub memo : State R K → Tree Depth → Tree Depth → Memo
   memo s t r = record { place = here s t; result = r }
 
-  -- the same with another memory
+  -- the state with another memory
   abbrev pub with_memory : State R K → List Memo → State R K
   with_memory s memory = record { rule = s.rule; under = s.under; kept = s.kept; memory = memory }
 
@@ -55,39 +55,39 @@ module _ {R K : Type 0} where
     counters = s.counters;
   }
 
-  -- the same with other counts
+  -- the state with other counts
   abbrev pub with_counts : Standing (State R K) → Counters → Standing (State R K)
   with_counts s c = record { state = s.state; counters = c }
 
-  -- the same where something else is kept, with other counts
+  -- the state that keeps something else, with other counts
   abbrev pub spent : Standing (State R K) → K → Counters → Standing (State R K)
   spent s kept c = record {
     state = record { rule = s.state.rule; under = s.state.under; kept = kept; memory = s.state.memory };
     counters = c;
   }
 
-  -- the same with one type more that is remembered
+  -- the state that remembers one more type
   abbrev pub noting : Standing (State R K) → Tree Depth → Tree Depth → Standing (State R K)
   noting s t r = record { state = with_memory s.state (s.state.memory ++ memo s.state t r ∷ []); counters = s.counters }
 
--- What a folder is to do by a rule of type R, which keeps a K beside what it remembers.
+-- The task of a folder by a rule of type R, which keeps a K besides its memory.
 pub record Task (R K : Type 0) : Type 1 where
-  -- what the rule makes of an index, and of a parameter, under a number of binders
+  -- the replacement of an index, and of a parameter, under a number of binders
   pub index : R → ℕ → Depth → Depth
   pub parameter : R → ℕ → Sort → ℕ → Name → Tree Depth
-  -- what else holds of a tree that isn't refused
+  -- a further condition on a tree that isn't refused
   pub Allows : R → Tree Depth → Type 0
-  -- the contents of the term are met
+  -- the term is entered
   pub IsEntered : R → ℕ → Tree Depth → Type 0
   -- the type has to be taken apart, if it isn't remembered
   pub IsTodo : R → ℕ → Tree Depth → Type 0
-  -- an answer is given at once: state, term, answer, and what is kept and the counts from then on
+  -- an answer is given at once: state, term, answer, and what is kept and the counts afterwards
   pub Gives : Standing (State R K) → Tree Depth → Tree Depth → K → Counters → Type 0
   -- why a region is refused
   pub RegionFails : (Tree Depth → Refusal → Type 0) → R → ℕ → Tree Depth → Refusal → Type 0
-  -- why no answer is given at a term, and the state from then on
+  -- why no answer is given at a term, and the state afterwards
   pub TermFails : (Tree Depth → Refusal → Type 0) → Standing (State R K) → Tree Depth → Refusal → Standing (State R K) → Type 0
-  -- why a tree is refused where all can be built and all indices fit
+  -- why a tree is refused even if all can be built and all indices fit
   pub IsCause : R → Tree Depth → Refusal → Type 0
   -- the counts after one descent into a type, the count of these, and how counts may change
   pub count : Counters → Counters
@@ -95,14 +95,14 @@ pub record Task (R K : Type 0) : Type 1 where
   pub Rises : Counters → Counters → Type 0
 
 module _ {R K : Type 0} (T : Task R K) where
-  -- what the rule makes of a tree under k binders
+  -- the result of the rule for a tree under k binders
   abbrev pub made : R → ℕ → Tree Depth → Tree Depth
   made q k t = rebuild (T.index q) (T.parameter q) k t
 
   abbrev pub made_all : R → ℕ → Forest Depth → Forest Depth
   made_all q k ts = rebuild_all (T.index q) (T.parameter q) k ts
 
-  -- the tree was done by the rule under k binders, and this came of it
+  -- the rule under k binders allows the tree, and gives this result
   pub record Done (q : R) (k : ℕ) (t r : Tree Depth) : Type 0 where
     pub plain : r ≡ made q k t
     pub allows : T.Allows q t
@@ -120,32 +120,32 @@ module _ {R K : Type 0} (T : Task R K) where
   abbrev pub one_more : Standing (State R K) → Standing (State R K)
   one_more s = with_counts s (T.count s.counters)
 
-  -- what the hook that comes before a term's children answers
+  -- the answer of the hook before a term's children
   pub data OnTerm : Standing (State R K) → Tree Depth → Answer → Standing (State R K) → Type 0 where
     -- an answer is given at once
     given : {s : Standing (State R K)} {t r : Tree Depth} {kept : K} {c : Counters} → T.Gives s t r kept c → OnTerm s t (replace r) (spent s kept c)
-    -- what came of the type under as many binders is remembered
+    -- the result of the type under as many binders is remembered
     remembered : {s : Standing (State R K)} {t r : Tree Depth} → IsIn (memo s.state t r) s.state.memory → OnTerm s t (replace r) s
-    -- the rule makes the same of the term
+    -- the rule leaves the term as it is
     left_alone : {s : Standing (State R K)} {t : Tree Depth} → Done s.state.rule s.state.under t t → OnTerm s t keep s
     -- a type that isn't remembered is taken apart, and counted
     taken_apart : {s : Standing (State R K)} {t : Tree Depth} → IsTaken s.state.rule s.state.under t → (IsIn (here s.state t) (places s.state.memory) → ⊥)
         → OnTerm s t descend (one_more s)
-    -- another term is gone into
+    -- another term is entered
     gone_into : {s : Standing (State R K)} {t : Tree Depth} → is_type_tree t ≡ false → T.IsEntered s.state.rule s.state.under t → OnTerm s t descend s
 
-  -- what the hook does that comes after a term's children: it answers what came of the term
+  -- the hook after a term's children: it returns the term's result
   pub data AfterTerm : Standing (State R K) → Tree Depth → Tree Depth → Tree Depth → Standing (State R K) → Type 0 where
-    -- what came of a type is remembered
+    -- the result of a type is remembered
     noted : {s : Standing (State R K)} {t r : Tree Depth} → is_type_tree t ≡ true → AfterTerm s t r r (noting s t r)
-    -- the same where the type was remembered before: then there may be something else in its place
+    -- the type was remembered before: its earlier result may be replaced
     noted_again : {s : Standing (State R K)} {t r : Tree Depth} {memory : List Memo} → is_type_tree t ≡ true → IsIn (here s.state t) (places s.state.memory)
         → ((m : Memo) → IsIn m memory → (m ≡ memo s.state t r) ⊎ IsIn m s.state.memory)
         → AfterTerm s t r r (record { state = with_memory s.state memory; counters = s.counters })
     -- another term isn't remembered
     not_noted : {s : Standing (State R K)} {t r : Tree Depth} → is_type_tree t ≡ false → AfterTerm s t r r s
 
-  -- what the hooks do of a folder that has this task, and remembers types
+  -- the hooks of a folder that has this task, and remembers types
   abbrev pub remembering : Hooks (Standing (State R K)) Refusal
   remembering = record {
     on_region = λ s t r s'. (s' ≡ s) × Done s.state.rule s.state.under t r;
@@ -153,7 +153,7 @@ module _ {R K : Type 0} (T : Task R K) where
     on_term = OnTerm;
     term_fails = T.TermFails;
     after_term = AfterTerm;
-    -- the memory for the place of what is remembered is refused, and what came of the term is lost
+    -- the memory for the entry is refused, and the term's result is lost
     after_fails = λ unbuilt s t u e s'. (s' ≡ s) × (e ≡ Memory) × unbuilt u e;
     enter = λ s vs s'. s' ≡ deeper s;
     enter_fails = λ unbuilt s vs e s'. (s' ≡ s) × (e ≡ GreatestIndex) × (greatest ≤ s.state.under);

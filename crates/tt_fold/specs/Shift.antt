@@ -1,4 +1,4 @@
--- The shifter's task, and what a shift promises.
+-- The shifter's task, and the promise of a shift.
 use Rattle.std.specs.Prelude.{◌≡◌, [], ℕ, ◌+◌, ◌≤◌, ◌<◌, ◌⊎◌, List, Option, Some, None, nat_lt, if◌then◌else◌, length, ⊤}
 use Rattle.tt_index.specs.Greatest.{greatest}
 use Rattle.tt_index.specs.declared.refusal.Refusal.{Refusal}
@@ -22,7 +22,7 @@ use Rattle.tt_kinds.specs.declared.region_kind.RegionKind.{RegionKind}
 use Rattle.tt_kinds.specs.declared.region_kind.RegionKind.TheVariants.{ReEarlyParam, ReBound, ReLateParam, ReStatic, ReVar, RePlaceholder, ReErased, ReError}
 use Rattle.tt_kinds.specs.Plain.{shifted, shift_tree}
 use Rattle.tt_kinds.specs.Count.{moving_types}
-use Rattle.tt_kinds.specs.declared.handle.Ty.{Ty}
+use Rattle.tt_kinds.specs.Handle.{Ty}
 use Rattle.tt_interner.specs.Rows.{Row}
 use Rattle.tt_interner.specs.Stored.{Counters, Terms, counted}
 use Rattle.tt_fold.specs.Remember.{State, Task}
@@ -30,7 +30,7 @@ use Rattle.tt_fold.specs.Memory.{memos}
 use Rattle.tt_fold.specs.declared.memory.Place.{Place}
 use Rattle.tt_fold.specs.Stands.{IsPartUnbuilt}
 
--- how much is added, and how many binders were passed
+-- how much is added, and how many binders were entered
 pub record Shift : Type 0 where
   pub amount : ℕ
   pub under : ℕ
@@ -40,22 +40,22 @@ abbrev pub moved_index : ℕ → ℕ → BoundVarIndexKind → BoundVarIndexKind
 moved_index n k (Bound d) = Bound (if nat_lt d k then d else n + d)
 moved_index n k Canonical = Canonical
 
--- the bound variable that a type is, if it is one
+-- the bound variable, if the type is one
 abbrev pub bound_ty_in : TyKind → Option (BoundVarIndexKind × BoundTy)
 bound_ty_in (ty.Bound i b) = Some (i, b)
 bound_ty_in _ = None
 
--- the same of a kind of any table
+-- the same for a kind of any table
 abbrev pub bound_ty_of : Kind → Option (BoundVarIndexKind × BoundTy)
 bound_ty_of (kind.Ty k) = bound_ty_in k
 bound_ty_of _ = None
 
--- the bound variable that a constant is, if it is one
+-- the bound variable, if the constant is one
 abbrev pub bound_const_in : ConstKind → Option (BoundVarIndexKind × BoundConst)
 bound_const_in (const.Bound i b) = Some (i, b)
 bound_const_in _ = None
 
--- the same of a kind of any table
+-- the same for a kind of any table
 abbrev pub bound_const_of : Kind → Option (BoundVarIndexKind × BoundConst)
 bound_const_of (kind.Const k) = bound_const_in k
 bound_const_of _ = None
@@ -87,15 +87,15 @@ pub record IsShiftedRegion (f : Meaning) (n : ℕ) (region shifted : RegionKind)
   pub tree : fill f (region_shape shifted) ≡ shift_tree 0 n (fill f (region_shape region))
   pub fits : Fits (move n (read 0 (fill f (region_shape region))))
 
--- what the shifter's state means: its amount is the rule, and it keeps nothing besides
+-- the meaning of the shifter's state: its amount is the rule, and it keeps nothing besides
 abbrev pub shift_state : ℕ → ℕ → List Row → List (Place × Ty) → State ℕ ⊤
 shift_state n k rows es = record { rule = n; under = k; kept = tt; memory = memos rows es }
 
--- how much is added where the shifter is
+-- how much is added at the shifter's place
 abbrev pub shift_of : State ℕ ⊤ → Shift
 shift_of s = record { amount = s.rule; under = s.under }
 
--- the tree where the shifter is, moved
+-- the tree at the shifter's place, moved
 abbrev pub moved_tree : Shift → Tree Depth → Tree Depth
 moved_tree s t = shift_tree s.under s.amount t
 
@@ -121,8 +121,8 @@ pub record ShiftsCount (c c' : Counters) : Type 0 where
 abbrev pub IsTooGreat : Refusal → Type 0 → Type 0
 IsTooGreat e cause = (e ≡ GreatestIndex) × cause
 
--- The shifter's task by an amount: a bound variable is moved at once, a term of which nothing is bound outside of the binders
--- that were passed stays, and the contents of other terms are met.
+-- The shifter's task by an amount: a bound variable is moved at once, a term with no variable bound outside the binders
+-- that were entered stays, and other terms are entered.
 abbrev pub shifting : Task ℕ ⊤
 shifting = record {
   index = shifted;
@@ -155,11 +155,11 @@ IsShiftRefusal terms n t _ = ⊥
 abbrev pub ShiftsOn : ℕ → Tree Depth → Tree Depth → Type 0
 ShiftsOn n t r = (m : ℕ) → shift_tree 0 m r ≡ shift_tree 0 (m + n) t
 
--- the shifted tree comes of no other tree
+-- no other tree has this shifted tree
 abbrev pub ComesOf : ℕ → Tree Depth → Tree Depth → Type 0
 ComesOf n t r = (u : Tree Depth) → shift_tree 0 n u ≡ r → u ≡ t
 
--- where the tree's own variables match their binders' lists, the shifted tree's do
+-- if the tree's own variables match their binders' lists, the shifted tree's do
 abbrev pub KeepsMatched : Tree Depth → Tree Depth → Type 0
 KeepsMatched t r = MatchedUnder [] (read 0 t) → MatchedUnder [] (read 0 r)
 

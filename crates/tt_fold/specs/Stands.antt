@@ -1,4 +1,4 @@
--- What occurs in a tree, and what of it is not built.
+-- The parts of a tree, and the parts that are not built.
 use Rattle.std.specs.Prelude.{List}
 use Rattle.tt_index.specs.declared.refusal.Refusal.{Refusal}
 use Rattle.tt_kinds.specs.Label.{Name, VarKind, Label}
@@ -14,7 +14,7 @@ module _ (u : Tree Depth) where
       in_node : {l : Label Name} {ts : Forest Depth} → StandsAmong ts → StandsIn (node l ts)
       in_binder : {vs : List (VarKind Name)} {t : Tree Depth} → StandsIn t → StandsIn (binder vs t)
 
-    -- it occurs in one of the trees
+    -- the tree occurs in one of the trees
     pub data StandsAmong : Forest Depth → Type 0 where
       in_first : {t : Tree Depth} {ts : Forest Depth} → StandsIn t → StandsAmong (also t ts)
       in_later : {t : Tree Depth} {ts : Forest Depth} → StandsAmong ts → StandsAmong (also t ts)

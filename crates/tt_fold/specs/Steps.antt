@@ -1,4 +1,4 @@
--- What the calls of a fold promise.
+-- The promises of the calls of a fold.
 use Rattle.std.specs.Prelude.{◌≡◌, ◌<◌, List, Result, MatchResult, ⊤}
 use Rattle.tt_index.specs.declared.refusal.Refusal.{Refusal}
 use Rattle.tt_index.specs.declared.refusal.Refusal.TheVariants.{NotAClause}
@@ -6,7 +6,7 @@ use Rattle.tt_kinds.specs.Label.{Name, VarKind}
 use Rattle.tt_kinds.specs.Tree.{Depth, Tree}
 use Rattle.tt_kinds.specs.Shape.{Shape, IsPart, fill, vars_of}
 use Rattle.tt_kinds.specs.Kinds.{region_shape}
-use Rattle.tt_kinds.specs.declared.handle.BoundVarKinds.{BoundVarKinds}
+use Rattle.tt_kinds.specs.Handle.{BoundVarKinds}
 use Rattle.tt_kinds.specs.declared.region_kind.RegionKind.{RegionKind}
 use Rattle.tt_kinds.specs.declared.table.Table.TheVariants.{VarLists}
 use Rattle.tt_interner.specs.Rows.{Row, size, meaning}
@@ -20,15 +20,15 @@ use Rattle.tt_fold.specs.declared.folder.Step.TheVariants as step
 abbrev pub IsPartOf : List Row → Shape → Type 0
 IsPartOf rows s = IsPart (size rows) s
 
--- what the shape means among the rows
+-- the tree of the shape among the rows
 abbrev pub tree_in : List Row → Shape → Tree Depth
 tree_in rows s = fill (meaning rows) s
 
--- the same of values with a shape
+-- the handles in the value's shape name rows
 abbrev pub IsPartBy : {T : Type 0} → (T → Shape) → List Row → T → Type 0
 IsPartBy shape rows x = IsPartOf rows (shape x)
 
--- what a value with a shape means among the rows
+-- the tree of a value's shape among the rows
 abbrev pub tree_by : {T : Type 0} → (T → Shape) → List Row → T → Tree Depth
 tree_by shape rows x = tree_in rows (shape x)
 
@@ -40,13 +40,13 @@ HasVars rows vars = vars.number < size rows VarLists
 abbrev pub vars_in : List Row → BoundVarKinds → List (VarKind Name)
 vars_in rows vars = vars_of (meaning rows VarLists vars.number)
 
--- what a hook's answer at a term with such a shape means
+-- the meaning of a hook's answer at a term with such a shape
 abbrev pub answer_of : {T : Type 0} → (T → Shape) → List Row → Step T → Answer
 answer_of shape rows (step.Replace x) = replace (tree_in rows (shape x))
 answer_of shape rows step.Keep = keep
 answer_of shape rows step.Descend = descend
 
--- the handle in a hook's answer is the rows'
+-- the handle in a hook's answer is among the rows
 abbrev pub OwnsStep : {T : Type 0} → (T → Shape) → List Row → Step T → Type 0
 OwnsStep shape rows (step.Replace x) = IsPartOf rows (shape x)
 OwnsStep shape rows step.Keep = ⊤
@@ -56,7 +56,7 @@ OwnsStep shape rows step.Descend = ⊤
 abbrev pub IsErrorOfUnbuilt : {E : Type 0} → (Refusal → E → Type 0) → Terms → Tree Depth → E → Type 0
 IsErrorOfUnbuilt gives terms u e = (r : Refusal) × (gives r e × IsUnbuilt terms u r)
 
--- what the errors say that refusals give
+-- what the errors that refusals become say
 abbrev pub errors_of : {E : Type 0} → (Refusal → E → Type 0) → Terms → Errors E
 errors_of gives terms = record { unbuilt = IsErrorOfUnbuilt gives terms; unwanted = gives NotAClause }
 
@@ -64,7 +64,7 @@ errors_of gives terms = record { unbuilt = IsErrorOfUnbuilt gives terms; unwante
 abbrev pub IsItself : Refusal → Refusal → Type 0
 IsItself r e = e ≡ r
 
--- what refusals say that are errors
+-- what refusals say as errors
 abbrev pub refusals_of : Terms → Errors Refusal
 refusals_of terms = errors_of IsItself terms
 
@@ -88,7 +88,7 @@ module _ {M E S : Type 0} (means : List Row → S → M) (H : Hooks (Standing M)
       × H.on_term (stands means terms s) (tree_in terms.rows (shape x)) (answer_of shape terms'.rows step) (stands means terms' s'))
       (λ e. H.term_fails (IsErrorOfUnbuilt gives terms') (stands means terms s) (tree_in terms.rows (shape x)) e (stands means terms' s'))
 
-  -- at the term x, after its contents: z is x with the results for its contents
+  -- at the term x, after its contents: z is x with its contents folded
   abbrev pub RebuildsTerm : {T : Type 0} → (T → Shape) → Terms → S → T → T → Result T E → Terms → S → Type 0
   RebuildsTerm shape terms s x z r terms' s' = MatchResult r
       (λ y. IsPartOf terms'.rows (shape y)
@@ -107,8 +107,8 @@ module _ {M E S : Type 0} (means : List Row → S → M) (H : Hooks (Standing M)
       (λ _. H.leave (stands means terms s) (vars_in terms.rows vars) (stands means terms' s'))
       (λ e. H.leave_fails (IsErrorOfUnbuilt gives terms') (stands means terms s) (vars_in terms.rows vars) e (stands means terms' s'))
 
--- A call took the terms to terms' and the folder's state s to s', and answered r: what it says of an
--- answer's value and of an error.
+-- A call took the terms to terms' and the folder's state s to s', and returned r: what it says of a
+-- result's value and of an error.
 pub record Goes {M E S T : Type 0} (owned : List Row → S → Type 0) (means : List Row → S → M)
     (good : List Row → T → Standing M → Standing M → Type 0) (fails : Standing M → E → Standing M → Type 0)
     (terms : Terms) (s : S) (r : Result T E) (terms' : Terms) (s' : S) : Type 0 where

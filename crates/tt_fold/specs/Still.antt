@@ -1,4 +1,4 @@
--- Where a fold leaves the terms as they are.
+-- The trees at which a fold leaves the terms as they are.
 use Rattle.std.specs.Prelude.{◌≡◌, List, ⊤}
 use Rattle.tt_kinds.specs.Tree.{Depth, Tree}
 use Rattle.tt_kinds.specs.Shape.{Shape, param, bound, region, stored}
@@ -22,7 +22,7 @@ pub record EndsAt {M E : Type 0} (H : Hooks M E) (touches_nothing : Tree Depth �
   pub ends : (s' : M) → H.on_term s t descend s' → ⊥
   pub still : touches_nothing t
 
--- where the shape is one region or one term, and the walk ends at it, the terms stay as they are
+-- if the shape is one region or one term, and the walk ends at it, the terms stay as they are
 abbrev pub StaysStill : {M E S : Type 0} → Hooks (Standing M) E → (List Row → S → Tree Depth → Type 0) → (List Row → S → M) → Shape → Terms → S → Terms → Type 0
 StaysStill H touches_nothing means shape terms s terms' =
     IsAlone shape → EndsAt H (touches_nothing terms.rows s) (stands means terms s) (tree_in terms.rows shape) → terms' ≡ terms

@@ -1,9 +1,9 @@
--- What a folder does that answers types alone.
+-- The hooks of a folder that replaces types alone.
 use Rattle.std.specs.Prelude.{◌≡◌, List, Result, MatchResult, true, false, ⊤}
 use Rattle.tt_index.specs.declared.refusal.Refusal.{Refusal}
 use Rattle.tt_kinds.specs.Tree.{Depth, Tree}
 use Rattle.tt_kinds.specs.Kinds.{ty_shape}
-use Rattle.tt_kinds.specs.declared.handle.Ty.{Ty}
+use Rattle.tt_kinds.specs.Handle.{Ty}
 use Rattle.tt_interner.specs.Rows.{Row}
 use Rattle.tt_interner.specs.Stored.{Terms}
 use Rattle.tt_fold.specs.Walk.{Hooks, Answer, descend, is_type_tree}
@@ -11,14 +11,14 @@ use Rattle.tt_fold.specs.Counts.{Standing, stands}
 use Rattle.tt_fold.specs.Steps.{IsErrorOfUnbuilt, OwnsStep, answer_of, tree_in}
 use Rattle.tt_fold.specs.declared.folder.Step.{Step}
 
--- What the one hook of such a folder may do: M is what its state means, and E its errors. What it fails with may be that a tree
--- is not built: it is told which errors say so of which trees.
+-- What the one hook of such a folder may do: M is its state's meaning, and E its errors. An error may say that a tree
+-- is not built: the relation says which errors say so of which trees.
 pub record TypeHooks (M E : Type 0) : Type 1 where
   -- state, type, answer, state
   pub on_type : M → Tree Depth → Answer → M → Type 0
   pub type_fails : (Tree Depth → E → Type 0) → M → Tree Depth → E → M → Type 0
 
--- the hook of which nothing is promised
+-- the hook without a promise
 abbrev pub no_promise : {M E : Type 0} → TypeHooks M E
 no_promise = record {
   on_type = λ s t a s'. ⊤;
@@ -32,8 +32,8 @@ never_fails R = record {
   type_fails = λ unbuilt s t e s'. ⊥;
 }
 
--- the hooks of a folder that answers types, keeps regions and what was built again, enters other terms, and passes binders with
--- its state as it was
+-- the hooks of a folder that replaces types, keeps regions and rebuilt terms, enters other terms, and keeps
+-- its state at binders
 abbrev pub only_types : {M E : Type 0} → TypeHooks M E → Hooks M E
 only_types H = record {
   on_region = λ s t r s'. (r ≡ t) × (s' ≡ s);

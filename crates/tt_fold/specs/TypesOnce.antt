@@ -1,4 +1,4 @@
--- What a folder does that answers types and remembers what came of them.
+-- The hooks of a folder that replaces types and remembers their results.
 use Rattle.std.specs.Prelude.{◌≡◌, ◌⊎◌, List, true, false, ⊤}
 use Rattle.tt_kinds.specs.Tree.{Depth, Tree}
 use Rattle.tt_interner.specs.Stored.{Counters}
@@ -8,7 +8,7 @@ use Rattle.tt_fold.specs.Places.{IsIn}
 use Rattle.tt_fold.specs.Remember.{Memo, State, memo}
 use Rattle.tt_fold.specs.Types.{TypeHooks, only_types}
 
--- what a folder's state means with the interner's counts
+-- the meaning of a folder's state with the interner's counts
 abbrev pub counted : {M : Type 0} → M → Counters → Standing M
 counted m c = record { state = m; counters = c }
 
@@ -18,11 +18,11 @@ pub recalls-same : {M : Type 0} {m m1 : M} {memory memory1 : List Memo} → m1 �
 recalls-same same known = cc
 
 module _ {M E : Type 0} (H : TypeHooks (Standing M) E) where
-  -- the folder's state means the same after each answer, so that it answers by the type alone
+  -- the folder's state means the same after each answer, so its result depends on the type alone
   abbrev pub IsSteady : Type 0
   IsSteady = (s s' : Standing M) (t : Tree Depth) (a : Answer) → H.on_type s t a s' → s'.state ≡ s.state
 
-  -- what a folder does that answers as this one does in one state, whatever the counts are
+  -- the hooks of a folder that answers as this one does in one state, whatever the counts are
   abbrev pub steady_types : M → TypeHooks ⊤ E
   steady_types m = record {
     on_type = λ s t a s'. (c : Counters) × (c' : Counters) × H.on_type (counted m c) t a (counted m c');
@@ -32,18 +32,18 @@ module _ {M E : Type 0} (H : TypeHooks (Standing M) E) where
   abbrev pub steadily : M → Hooks ⊤ E
   steadily m = only_types (steady_types m)
 
-  -- the answer at a type: what came of it before, or the folder's own
+  -- the answer at a type: its remembered result, or the folder's own
   pub data OnType : Standing (State M ⊤) → Tree Depth → Answer → Standing (State M ⊤) → Type 0 where
     recalled : {s : Standing (State M ⊤)} {t r : Tree Depth} → IsIn (memo s.state t r) s.state.memory → OnType s t (replace r) s
     answered : {s : Standing (State M ⊤)} {t : Tree Depth} {a : Answer} {q : Standing M} → H.on_type (counted s.state.rule s.counters) t a q
         → OnType s t a (record { state = record { rule = q.state; under = s.state.under; kept = s.state.kept; memory = s.state.memory }; counters = q.counters })
 
-  -- what came of a type is noted: nothing else is remembered that wasn't before
+  -- the result of a type is noted: nothing else is newly remembered
   pub record Noted (s : Standing (State M ⊤)) (t r : Tree Depth) (s' : Standing (State M ⊤)) : Type 0 where
     pub rule : s'.state.rule ≡ s.state.rule
     pub each : (m : Memo) → IsIn m s'.state.memory → (m ≡ memo s.state t r) ⊎ IsIn m s.state.memory
 
-  -- the hooks of a folder that answers types and remembers what came of them
+  -- the hooks of a folder that replaces types and remembers their results
   abbrev pub recalling : Hooks (Standing (State M ⊤)) E
   recalling = record {
     on_region = λ s t r s'. (r ≡ t) × (s' ≡ s);

@@ -1,4 +1,4 @@
--- What a folder does to a tree.
+-- The fold of a tree.
 use Rattle.std.specs.Prelude.{◌≡◌, ℕ, List, Option, Some, None, Bool, false}
 use Rattle.tt_kinds.specs.Label.{Name, Sort, VarKind, Entry, Label, clause_list_label, clause_label, is_type}
 use Rattle.tt_kinds.specs.Count.{is_type_sort}
@@ -9,7 +9,7 @@ use Rattle.tt_kinds.specs.declared.parts.ListSort.TheVariants.{Clauses}
 use Rattle.tt_interner.specs.Clauses.{HasOther}
 use Rattle.tt_visit.specs.Root.{a_region, hooked, unhooked, root}
 
--- what a hook answers before a term's children
+-- the answer of a hook before a term's children
 pub data Answer : Type 0 where
   replace : Tree Depth → Answer
   keep : Answer
@@ -28,41 +28,41 @@ is_type_tree (binder vs t) = false
 abbrev pub IsRegion : Tree Depth → Type 0
 IsRegion t = root t ≡ a_region
 
--- the tree is a stored term at which a hook is asked
+-- the tree is a stored term with a hook
 abbrev pub IsTerm : Tree Depth → Type 0
 IsTerm t = root t ≡ hooked
 
--- the tree is a stored term at which no hook is asked
+-- the tree is a stored term without a hook
 abbrev pub IsPassed : Tree Depth → Type 0
 IsPassed t = root t ≡ unhooked
 
--- what has to come of trees in order: any trees, or clauses alone
+-- the wanted results of trees in order: any trees, or clauses alone
 pub data Wanted : Type 0 where
   any_trees : Wanted
   clause_trees : Wanted
 
--- what has to come of the children of a term
+-- the wanted results of the children of a term
 abbrev pub wanted_in : Label Name → Wanted
 wanted_in clause_list_label = clause_trees
 wanted_in _ = any_trees
 
--- what has to come of the items of a list
+-- the wanted results of the items of a list
 abbrev pub wanted_of : ListSort → Wanted
 wanted_of Clauses = clause_trees
 wanted_of _ = any_trees
 
--- one of the trees is not what has to come
+-- one of the trees is not wanted
 abbrev pub HasUnwanted : Wanted → Forest Depth → Type 0
 HasUnwanted any_trees us = ⊥
 HasUnwanted clause_trees us = HasOther us
 
--- a clause by itself becomes what is none: of its predicate, which was a clause, came another tree
+-- a clause by itself is lost: its predicate, which was a clause, became another tree
 abbrev pub LosesClause : Label Name → Forest Depth → Forest Depth → Type 0
 LosesClause clause_label ts us = (HasOther ts → ⊥) × HasOther us
 LosesClause _ ts us = ⊥
 
--- What a folder's hooks may do: M is what its state means, and E its errors. What a hook fails with may be that a tree is
--- not built: it is told which errors say so of which trees.
+-- What a folder's hooks may do: M is its state's meaning, and E its errors. An error of a hook may say that a tree is
+-- not built: the relation says which errors say so of which trees.
 pub record Hooks (M E : Type 0) : Type 1 where
   -- state, region, answer, state
   pub on_region : M → Tree Depth → Tree Depth → M → Type 0
@@ -88,7 +88,7 @@ module _ {M E : Type 0} (H : Hooks M E) where
       kept : {s s' : M} {t : Tree Depth} → IsTerm t → H.on_term s t keep s' → Walks s t t s'
       descended : {s s1 s' : M} {t r : Tree Depth} → IsTerm t → H.on_term s t descend s1 → Descends s1 t r s' → Walks s t r s'
       passed : {s s' : M} {t u : Tree Depth} → IsPassed t → WalksInside s t u s' → Walks s t u s'
-      -- of a clause by itself comes a clause
+      -- a clause by itself becomes a clause
       at_node : {s s' : M} {l : Label Name} {ts us : Forest Depth}
           → WalksAll s ts us s' → (LosesClause l ts us → ⊥) → Walks s (node l ts) (node l us) s'
       at_binder : {s s1 s2 s' : M} {vs : List (VarKind Name)} {t u : Tree Depth}
@@ -98,7 +98,7 @@ module _ {M E : Type 0} (H : Hooks M E) where
     pub data Descends : M → Tree Depth → Tree Depth → M → Type 0 where
       rebuilt : {s s1 s' : M} {t u r : Tree Depth} → WalksInside s t u s1 → H.after_term s1 t u r s' → Descends s t r s'
 
-    -- the same for the children of a term, whose label stays: of the items of a list of clauses come clauses
+    -- the same for the children of a term, whose label stays: the items of a list of clauses become clauses
     pub data WalksInside : M → Tree Depth → Tree Depth → M → Type 0 where
       in_term : {s s' : M} {l : Label Name} {ts us : Forest Depth}
           → WalksAll s ts us s' → (HasUnwanted (wanted_in l) us → ⊥) → WalksInside s (term l ts) (term l us) s'
@@ -115,12 +115,12 @@ module _ {M E : Type 0} (H : Hooks M E) where
 pub record Errors (E : Type 0) : Type 1 where
   -- the tree was not built
   pub unbuilt : Tree Depth → E → Type 0
-  -- what came of an item, or of a clause by itself, is not what has to come
+  -- the result of an item, or of a clause by itself, is not wanted
   pub unwanted : E → Type 0
 
 -- The walk ends with an error and in a state. The error is a hook's, or says which tree was not built: the tree that was
--- to be stored, or every tree where the memory for a list's items was refused. Or it says that no clause came of an item of a
--- list of clauses, or of a clause by itself.
+-- to be stored, or every tree if the memory for a list's items was refused. Or it says that an item of a
+-- list of clauses, or a clause by itself, did not become a clause.
 module _ {M E : Type 0} (H : Hooks M E) (errors : Errors E) where
   mutual
     pub data Fails : M → Tree Depth → E → M → Type 0 where
@@ -147,12 +147,12 @@ module _ {M E : Type 0} (H : Hooks M E) (errors : Errors E) where
       after_failed : {s s1 s_end : M} {t u : Tree Depth} {e : E}
           → WalksInside H s t u s1 → H.after_fails errors.unbuilt s1 t u e s_end → DescentFails s t e s_end
 
-    -- the contents of a term were not folded, or the term was not built again from it
+    -- the contents of a term were not folded, or the term was not rebuilt from them
     pub data InsideFails : M → Tree Depth → E → M → Type 0 where
       in_term_failed : {s s_end : M} {l : Label Name} {ts : Forest Depth} {e : E} → FailsAll (wanted_in l) s ts e s_end → InsideFails s (term l ts) e s_end
       not_built : {s s1 : M} {t u : Tree Depth} {e : E} → WalksInside H s t u s1 → errors.unbuilt u e → InsideFails s t e s1
 
-    -- the same for trees in order: it goes on past a tree of which came what has to, and no further
+    -- the same for trees in order: the walk goes on past a tree whose result is wanted, and no further
     pub data FailsAll : Wanted → M → Forest Depth → E → M → Type 0 where
       stopped : {w : Wanted} {s : M} {ts : Forest Depth} {e : E} → ((u : Tree Depth) → errors.unbuilt u e) → FailsAll w s ts e s
       here : {w : Wanted} {s s_end : M} {t : Tree Depth} {ts : Forest Depth} {e : E} → Fails s t e s_end → FailsAll w s (also t ts) e s_end
@@ -161,7 +161,7 @@ module _ {M E : Type 0} (H : Hooks M E) (errors : Errors E) where
       later : {w : Wanted} {s s1 s_end : M} {t u : Tree Depth} {ts : Forest Depth} {e : E}
           → Walks H s t u s1 → (HasUnwanted w (also u none) → ⊥) → FailsAll w s1 ts e s_end → FailsAll w s (also t ts) e s_end
 
--- the same for a child: of one tree, and there is no failure where there is none
+-- the same for a child: it has at most one tree, and an absent child does not fail
 module _ {M E : Type 0} (H : Hooks M E) (errors : Errors E) where
   pub data ChildFails : M → Forest Depth → E → M → Type 0 where
     child_failed : {s s_end : M} {t : Tree Depth} {e : E} → Fails H errors s t e s_end → ChildFails s (also t none) e s_end
@@ -173,7 +173,7 @@ module _ {M E : Type 0} (H : Hooks M E) where
     in_binder : {s s1 s2 s' : M} {vs : List (VarKind Name)} {ts us : Forest Depth}
         → H.enter s vs s1 → WalksAll H s1 ts us s2 → H.leave s2 vs s' → WalksUnder (Some vs) s ts us s'
 
--- the same where it ends with an error
+-- the same for a walk that ends with an error
 module _ {M E : Type 0} (H : Hooks M E) (errors : Errors E) where
   pub data FailsUnder : Option (List (VarKind Name)) → M → Forest Depth → E → M → Type 0 where
     in_open_failed : {s s_end : M} {ts : Forest Depth} {e : E} → FailsAll H errors any_trees s ts e s_end → FailsUnder None s ts e s_end
@@ -184,7 +184,7 @@ module _ {M E : Type 0} (H : Hooks M E) (errors : Errors E) where
     in_leave_failed : {s s1 s2 s_end : M} {vs : List (VarKind Name)} {ts us : Forest Depth} {e : E}
         → H.enter s vs s1 → WalksAll H s1 ts us s2 → H.leave_fails errors.unbuilt s2 vs e s_end → FailsUnder (Some vs) s ts e s_end
 
--- the walk of a stored list's children, and the list of what came of them
+-- the walk of a stored list's children, and the list of their results
 pub record WalksItems {M E : Type 0} (H : Hooks M E) (sort : ListSort) (s : M) (t u : Tree Depth) (s' : M) : Type 0 where
   pub items : Forest Depth
   pub results : Forest Depth
@@ -193,7 +193,7 @@ pub record WalksItems {M E : Type 0} (H : Hooks M E) (sort : ListSort) (s : M) (
   pub walked : WalksAll H s items results s'
   pub fit : HasUnwanted (wanted_of sort) results → ⊥
 
--- the same where it ends with an error
+-- the same for a walk that ends with an error
 module _ {M E : Type 0} (H : Hooks M E) (errors : Errors E) (sort : ListSort) where
   pub data ItemsFail : M → Tree Depth → E → M → Type 0 where
     items_failed : {s s_end : M} {t : Tree Depth} {ts : Forest Depth} {e : E}
@@ -207,7 +207,7 @@ module _ {M E : Type 0} (H : Hooks M E) where
     super_term : {s s' : M} {t u : Tree Depth} → WalksInside H s t u s' → SuperWalks s t u s'
     super_binder : {s s' : M} {vs : List (VarKind Name)} {t u : Tree Depth} → Walks H s t u s' → SuperWalks s (binder vs t) (binder vs u) s'
 
--- the same where it ends with an error
+-- the same for a walk that ends with an error
 module _ {M E : Type 0} (H : Hooks M E) (errors : Errors E) where
   pub data SuperFails : M → Tree Depth → E → M → Type 0 where
     super_term_failed : {s s_end : M} {t : Tree Depth} {e : E} → InsideFails H errors s t e s_end → SuperFails s t e s_end

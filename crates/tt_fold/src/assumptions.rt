@@ -17,7 +17,7 @@ impl TypeFoldable for RegionAssumptions {
         folder: &mut F,
     ) -> Result<RegionAssumptions, F::Error> {
         cx.are_rows();
-        // the fold may grow the interner, which lends its items
+        // the fold may grow the interner, which owns the items
         let items = copied(cx.allocator(), cx.assumptions(self))?;
         let folded = items.fold_core::<M, F>(cx, folder)?;
         let list = cx.mk_assumptions(folded.as_slice())?;
@@ -25,7 +25,7 @@ impl TypeFoldable for RegionAssumptions {
     }
 }
 
-// The items, copied.
+// Returns a copy of the items.
 fn copied<T: Copy + Drop>(alloc: Global, items: &[T]) -> Result<Vec<T>, Refusal>
     ensures ok { IfOk result (λ copies. copies.items ≡ items.now) }
     ensures memory { IfErr result (λ e. e ≡ Memory) }

@@ -1,4 +1,4 @@
-//! The folds of kinds that aren't stored, of what they hold, and of tokens of errors by themselves.
+//! The folds of kinds that aren't stored, of their contents, and of tokens of errors by themselves.
 
 use crate::core_folder::Core;
 use crate::foldable::TypeFoldable;

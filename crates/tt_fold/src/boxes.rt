@@ -23,7 +23,7 @@ impl<T: TypeFoldable> TypeFoldable for Box<T> {
     }
 }
 
-// The value in a box.
+// Returns the value in a box.
 pub(crate) fn boxed<T: Drop>(alloc: Global, value: T) -> Result<Box<T>, Refusal>
     ensures ok { IfOk result (λ boxed. boxed.value ≡ value) }
     ensures memory { IfErr result (λ e. e ≡ Memory) }

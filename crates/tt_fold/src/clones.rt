@@ -1,4 +1,4 @@
-//! Copies of kinds, records and values without terms, each of which is its own copy.
+//! Copies of kinds, records and values without terms, which are all `Copy`.
 
 use crate::shared::ClonesTree;
 use std::alloc::Global;
@@ -257,42 +257,6 @@ impl ClonesTree for BoundVar {
     }
 }
 
-impl ClonesTree for BoundVarIndexKind {
-    fn clone_tree(&self, _alloc: Global) -> Result<BoundVarIndexKind, Refusal> {
-        Ok(*self)
-    }
-}
-
-impl ClonesTree for Mutability {
-    fn clone_tree(&self, _alloc: Global) -> Result<Mutability, Refusal> {
-        Ok(*self)
-    }
-}
-
-impl ClonesTree for Safety {
-    fn clone_tree(&self, _alloc: Global) -> Result<Safety, Refusal> {
-        Ok(*self)
-    }
-}
-
-impl ClonesTree for Variance {
-    fn clone_tree(&self, _alloc: Global) -> Result<Variance, Refusal> {
-        Ok(*self)
-    }
-}
-
-impl ClonesTree for FieldIdx {
-    fn clone_tree(&self, _alloc: Global) -> Result<FieldIdx, Refusal> {
-        Ok(*self)
-    }
-}
-
-impl ClonesTree for VariantIdx {
-    fn clone_tree(&self, _alloc: Global) -> Result<VariantIdx, Refusal> {
-        Ok(*self)
-    }
-}
-
 impl ClonesTree for RegionVid {
     fn clone_tree(&self, _alloc: Global) -> Result<RegionVid, Refusal> {
         Ok(*self)
@@ -319,6 +283,42 @@ impl ClonesTree for FloatVid {
 
 impl ClonesTree for ConstVid {
     fn clone_tree(&self, _alloc: Global) -> Result<ConstVid, Refusal> {
+        Ok(*self)
+    }
+}
+
+impl ClonesTree for FieldIdx {
+    fn clone_tree(&self, _alloc: Global) -> Result<FieldIdx, Refusal> {
+        Ok(*self)
+    }
+}
+
+impl ClonesTree for VariantIdx {
+    fn clone_tree(&self, _alloc: Global) -> Result<VariantIdx, Refusal> {
+        Ok(*self)
+    }
+}
+
+impl ClonesTree for BoundVarIndexKind {
+    fn clone_tree(&self, _alloc: Global) -> Result<BoundVarIndexKind, Refusal> {
+        Ok(*self)
+    }
+}
+
+impl ClonesTree for Mutability {
+    fn clone_tree(&self, _alloc: Global) -> Result<Mutability, Refusal> {
+        Ok(*self)
+    }
+}
+
+impl ClonesTree for Safety {
+    fn clone_tree(&self, _alloc: Global) -> Result<Safety, Refusal> {
+        Ok(*self)
+    }
+}
+
+impl ClonesTree for Variance {
+    fn clone_tree(&self, _alloc: Global) -> Result<Variance, Refusal> {
         Ok(*self)
     }
 }

@@ -14,7 +14,7 @@ use tt_index::{Idx, IndexVec, Refusal};
 use tt_kinds::OutlivesPredicate;
 use tt_visit::TypeVisitable;
 
-// Copies of the values, in order.
+// Returns copies of the values, in order.
 fn clone_values<T: ClonesTree + Drop>(alloc: Global, values: &[T]) -> Result<Vec<T>, Refusal>
     ensures ok { IfOk result (λ copies. item_shapes T.shape copies.items ≡ item_shapes T.shape values.now) }
     ensures memory { IfErr result (λ e. e ≡ Memory) }
@@ -56,7 +56,7 @@ impl<T: ClonesTree + Drop> ClonesTree for Box<T> {
     }
 }
 
-// What is shared stays shared: the copy is one more owner.
+// A shared value stays shared: the copy is one more owner.
 impl<T: TypeVisitable + Drop> ClonesTree for Rc<T> {
     fn clone_tree(&self, _alloc: Global) -> Result<Rc<T>, Refusal> {
         let owner = self.clone()?;

@@ -31,25 +31,24 @@ use tt_index::Refusal;
 use tt_interner::Interner;
 use tt_kinds::{BoundVarKinds, Node, Region, Ty};
 
-/// What the walk asks of a folder of either trait; `M` says of which.
+/// The hooks that the walk calls on a folder of either trait; the mark `M` says which trait.
 pub trait Core<M> {
-    /// What the folder fails with.
+    /// The error of the folder.
     type Error: From<Refusal> + Drop;
 
-    // What a state means, with the handles in it as their trees.
+    // The meaning of a state, with the trees of its handles.
     ghost Meaning: { Type 0 };
 
     ghost meaning: { List Row → Self → Self.Meaning };
     // Each handle of the state names one of the rows.
     ghost owned: { List Row → Self → Type 0 };
 
-    // What the hooks do.
+    // The relations that the hooks keep to.
     ghost hooks: { Hooks (Standing Self.Meaning) Self.Error };
-    // At which trees the hooks leave the terms as they are, among rows and in a state: at none, where a folder
-    // doesn't say.
+    // The trees at which the hooks leave the terms as they are, among rows and in a state: none by default.
     ghost touches_nothing: { List Row → Self → Tree Depth → Type 0 } = { λ rows s t. ⊥ };
 
-    /// At a region.
+    /// Called at each region.
     fn core_region(&mut self, cx: &mut Interner, region: Region) -> Result<Region, Self::Error>
         requires owned { owned cx.old.rows self.old }
         requires region { IsPartOf cx.old.rows (region_shape region) }
@@ -60,7 +59,7 @@ pub trait Core<M> {
         ensures result { AnswersRegion meaning hooks Self.Error.from_gives
             cx.old self.old region result cx.new self.new };
 
-    /// At a stored term that has a hook, before its contents.
+    /// Called at each stored term that has a hook, before its contents.
     #[inline(always)]
     fn core_term(&mut self, cx: &mut Interner, node: Node) -> Result<Step<Node>, Self::Error>
         requires owned { owned cx.old.rows self.old }
@@ -78,7 +77,7 @@ pub trait Core<M> {
             s')
             cx.old self.old result cx.new self.new };
 
-    /// At a stored term that has a hook, after its contents.
+    /// Called at each stored term that has a hook and was entered, after its contents.
     #[inline(always)]
     fn core_after_term(
         &mut self,
@@ -106,7 +105,7 @@ pub trait Core<M> {
             s')
             cx.old self.old result cx.new self.new };
 
-    /// Before a binder's value.
+    /// Called at each binder, before its value.
     fn core_enter(&mut self, cx: &mut Interner, vars: BoundVarKinds) -> Result<(), Self::Error>
         requires owned { owned cx.old.rows self.old }
         requires vars { HasVars cx.old.rows vars }
@@ -114,7 +113,7 @@ pub trait Core<M> {
         ensures owned { owned cx.new.rows self.new }
         ensures result { EntersBinder meaning hooks Self.Error.from_gives cx.old self.old vars result cx.new self.new };
 
-    /// After a binder's value.
+    /// Called at each binder, after its value.
     fn core_leave(&mut self, cx: &mut Interner, vars: BoundVarKinds) -> Result<(), Self::Error>
         requires owned { owned cx.old.rows self.old }
         requires vars { HasVars cx.old.rows vars }

@@ -1,4 +1,4 @@
-//! The folds of values without terms: numbers, tags, indices and placeholders by themselves. No hook is asked there.
+//! The folds of values without terms: numbers, tags, indices and placeholders by themselves. They call no hook.
 
 ghost use Rattle.std.specs.Prelude.{◌≡◌};
 ghost use Rattle.tt_visit.specs.Data.{IsData};
@@ -8,8 +8,7 @@ ghost use Rattle.tt_fold.specs.Walk.{Fails, Walks};
 use crate::core_folder::Core;
 use crate::foldable::TypeFoldable;
 use tt_index::{
-    BoundVar, ClosureKind, ConstVid, DebruijnIndex, ExternAbi, FieldIdx, FloatTy, FloatVid, IntTy,
-    IntVid, Mutability, RegionVid, Safety, TyVid, UintTy, UniverseIndex, Variance, VariantIdx,
+    ClosureKind, ExternAbi, FloatTy, Index, IntTy, Mutability, Safety, UintTy, Variance,
 };
 use tt_interner::Interner;
 use tt_kinds::{
@@ -17,7 +16,7 @@ use tt_kinds::{
 };
 use tt_visit::TypeVisitable;
 
-// The fold of such a value.
+// Folds such a value.
 fn fold_data<T: TypeVisitable + Drop, M, F: Core<M>>(
     value: T,
     _cx: &mut Interner,
@@ -74,32 +73,12 @@ impl TypeFoldable for usize {
     }
 }
 
-impl TypeFoldable for DebruijnIndex {
+impl<S> TypeFoldable for Index<S> {
     fn fold_core<M, F: Core<M>>(
         self,
         cx: &mut Interner,
         folder: &mut F,
-    ) -> Result<DebruijnIndex, F::Error> {
-        fold_data::<Self, M, F>(self, cx, folder)
-    }
-}
-
-impl TypeFoldable for UniverseIndex {
-    fn fold_core<M, F: Core<M>>(
-        self,
-        cx: &mut Interner,
-        folder: &mut F,
-    ) -> Result<UniverseIndex, F::Error> {
-        fold_data::<Self, M, F>(self, cx, folder)
-    }
-}
-
-impl TypeFoldable for BoundVar {
-    fn fold_core<M, F: Core<M>>(
-        self,
-        cx: &mut Interner,
-        folder: &mut F,
-    ) -> Result<BoundVar, F::Error> {
+    ) -> Result<Index<S>, F::Error> {
         fold_data::<Self, M, F>(self, cx, folder)
     }
 }
@@ -140,76 +119,6 @@ impl TypeFoldable for Variance {
         cx: &mut Interner,
         folder: &mut F,
     ) -> Result<Variance, F::Error> {
-        fold_data::<Self, M, F>(self, cx, folder)
-    }
-}
-
-impl TypeFoldable for FieldIdx {
-    fn fold_core<M, F: Core<M>>(
-        self,
-        cx: &mut Interner,
-        folder: &mut F,
-    ) -> Result<FieldIdx, F::Error> {
-        fold_data::<Self, M, F>(self, cx, folder)
-    }
-}
-
-impl TypeFoldable for VariantIdx {
-    fn fold_core<M, F: Core<M>>(
-        self,
-        cx: &mut Interner,
-        folder: &mut F,
-    ) -> Result<VariantIdx, F::Error> {
-        fold_data::<Self, M, F>(self, cx, folder)
-    }
-}
-
-impl TypeFoldable for RegionVid {
-    fn fold_core<M, F: Core<M>>(
-        self,
-        cx: &mut Interner,
-        folder: &mut F,
-    ) -> Result<RegionVid, F::Error> {
-        fold_data::<Self, M, F>(self, cx, folder)
-    }
-}
-
-impl TypeFoldable for TyVid {
-    fn fold_core<M, F: Core<M>>(
-        self,
-        cx: &mut Interner,
-        folder: &mut F,
-    ) -> Result<TyVid, F::Error> {
-        fold_data::<Self, M, F>(self, cx, folder)
-    }
-}
-
-impl TypeFoldable for IntVid {
-    fn fold_core<M, F: Core<M>>(
-        self,
-        cx: &mut Interner,
-        folder: &mut F,
-    ) -> Result<IntVid, F::Error> {
-        fold_data::<Self, M, F>(self, cx, folder)
-    }
-}
-
-impl TypeFoldable for FloatVid {
-    fn fold_core<M, F: Core<M>>(
-        self,
-        cx: &mut Interner,
-        folder: &mut F,
-    ) -> Result<FloatVid, F::Error> {
-        fold_data::<Self, M, F>(self, cx, folder)
-    }
-}
-
-impl TypeFoldable for ConstVid {
-    fn fold_core<M, F: Core<M>>(
-        self,
-        cx: &mut Interner,
-        folder: &mut F,
-    ) -> Result<ConstVid, F::Error> {
         fold_data::<Self, M, F>(self, cx, folder)
     }
 }

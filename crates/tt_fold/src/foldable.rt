@@ -11,9 +11,10 @@ use tt_interner::Interner;
 use tt_kinds::Binder;
 use tt_visit::TypeVisitable;
 
-/// A value whose regions, types and binders a folder can meet, and that is built again from what the folder answers.
+/// A value that a folder can fold: its regions, types and binders are visited, and it is rebuilt from the folder's
+/// results.
 pub trait TypeFoldable: TypeVisitable + Drop + Sized {
-    /// Returns the fold of the value by a folder of either trait. Types implement it; callers call
+    /// Folds the value with a folder of either trait. Types implement this method; callers use
     /// [`TypeFoldable::fold_with`] or [`TypeFoldable::try_fold_with`].
     fn fold_core<M, F: Core<M>>(self, cx: &mut Interner, folder: &mut F) -> Result<Self, F::Error>
         requires state { F.owned cx.old.rows folder.old }
@@ -23,11 +24,11 @@ pub trait TypeFoldable: TypeVisitable + Drop + Sized {
             (Walks F.hooks) (Fails F.hooks (errors_of F.Error.from_gives cx.new))
             cx.old folder.old self result cx.new folder.new };
 
-    /// Returns the value with what the folder answers in the places of its regions, types, constants, predicates and
-    /// lists of clauses, which are met in order, each before its contents. The first refusal ends the fold; so
-    /// does one to build what the answers ask for, with `Memory` or with `TableFull`. Where no clause came of an item
-    /// of a list of clauses, or of a clause by itself, the fold ends with `NotAClause` at it, and no later hook is
-    /// called.
+    /// Returns the value with its regions, types, constants, predicates and lists of clauses replaced by the folder's
+    /// results. They are visited in order, each before its contents. The first refusal of a hook ends the fold, and so
+    /// does a refusal to build the result, with `Memory` or with `TableFull`. If an item of a list of clauses, or a
+    /// clause by itself, becomes a predicate that is not a clause, the fold ends with `NotAClause` at it, and no later
+    /// hook is called.
     final fn fold_with<F: TypeFolder>(
         self,
         cx: &mut Interner,
@@ -43,7 +44,7 @@ pub trait TypeFoldable: TypeVisitable + Drop + Sized {
         self.fold_core::<Plain, F>(cx, folder)
     }
 
-    /// Returns the same by a folder with errors of its own.
+    /// Like [`TypeFoldable::fold_with`], with a folder that has errors of its own.
     final fn try_fold_with<F: FallibleTypeFolder>(
         self,
         cx: &mut Interner,
@@ -60,9 +61,9 @@ pub trait TypeFoldable: TypeVisitable + Drop + Sized {
     }
 }
 
-/// A value at which a folder's own hooks are asked, and that can be folded without them.
+/// A value with hooks of its own, whose contents can be folded without calling them.
 pub trait TypeSuperFoldable: TypeFoldable {
-    /// Returns the fold of the value's contents by a folder of either trait. Types implement it; callers call
+    /// Folds the value's contents with a folder of either trait. Types implement this method; callers use
     /// [`TypeSuperFoldable::super_fold_with`] or [`TypeSuperFoldable::try_super_fold_with`].
     fn super_fold_core<M, F: Core<M>>(
         self,
@@ -75,8 +76,8 @@ pub trait TypeSuperFoldable: TypeFoldable {
             (SuperWalks F.hooks) (SuperFails F.hooks (errors_of F.Error.from_gives cx.new))
             cx.old folder.old self result cx.new folder.new };
 
-    /// Returns the value with its contents folded, where the hooks at the value itself are not asked: the hooks of a
-    /// stored term, or those before and after a binder's value.
+    /// Returns the value with its contents folded. The hooks at the value itself are not called: the hooks of a stored
+    /// term, or the hooks before and after a binder's value.
     final fn super_fold_with<F: TypeFolder>(
         self,
         cx: &mut Interner,
@@ -91,7 +92,7 @@ pub trait TypeSuperFoldable: TypeFoldable {
         self.super_fold_core::<Plain, F>(cx, folder)
     }
 
-    /// Returns the same by a folder with errors of its own.
+    /// Like [`TypeFoldable::fold_with`], with a folder that has errors of its own.
     final fn try_super_fold_with<F: FallibleTypeFolder>(
         self,
         cx: &mut Interner,

@@ -25,37 +25,36 @@ use tt_index::Refusal;
 use tt_interner::Interner;
 use tt_kinds::{BoundVarKinds, Clauses, Const, Predicate, Region, Ty};
 
-/// What a folder's hook answers at a type, a constant, a predicate or a list of clauses, before its contents.
+/// The answer of a folder's hook at a type, a constant, a predicate or a list of clauses, before its contents.
 #[derive(Clone, Copy, Debug, PartialEq, Eq)]
 pub enum Step<T> {
-    /// This term takes the place of the one that the hook met, and the walk does not enter it.
+    /// This term replaces the visited one, and the walk does not enter it.
     Replace(T),
     /// The term stays, and the walk does not enter it.
     Keep,
-    /// The walk goes on inside the term.
+    /// The walk enters the term.
     Descend,
 }
 
 /// A folder whose only errors are refusals.
 ///
-/// A folder meets each region, each type, constant, predicate and list of clauses, and each binder of the value that
-/// it folds, in order, and says what takes their places. Patterns, existential predicates, other lists and records
-/// are passed, and their contents are met. Each method has to be written: a default body could promise nothing exact.
+/// A folder is called at each region, type, constant, predicate, list of clauses and binder of the value that it folds,
+/// in order, and returns their replacements. Patterns, existential predicates, other lists and records have no hook:
+/// the walk enters them. Each method has to be written: a default body could promise nothing exact.
 pub trait TypeFolder {
-    // What a state means, with the handles in it as their trees.
+    // The meaning of a state, with the trees of its handles.
     ghost Meaning: { Type 0 };
 
     ghost meaning: { List Row → Self → Self.Meaning };
     // Each handle of the state names one of the rows.
     ghost owned: { List Row → Self → Type 0 };
 
-    // What the hooks do.
+    // The relations that the hooks keep to.
     ghost hooks: { Hooks (Standing Self.Meaning) Refusal };
-    // At which trees the hooks leave the terms as they are, among rows and in a state: at none, where a folder
-    // doesn't say.
+    // The trees at which the hooks leave the terms as they are, among rows and in a state: none by default.
     ghost touches_nothing: { List Row → Self → Tree Depth → Type 0 } = { λ rows s t. ⊥ };
 
-    /// Called at each region: returns what takes its place.
+    /// Called at each region: returns its replacement.
     fn fold_region(&mut self, cx: &mut Interner, region: Region) -> Result<Region, Refusal>
         requires owned { owned cx.old.rows self.old }
         requires region { IsPartOf cx.old.rows (region_shape region) }
@@ -74,8 +73,8 @@ pub trait TypeFolder {
         ensures still { touches_nothing cx.old.rows self.old (tree_in cx.old.rows (ty_shape ty)) → cx.new ≡ cx.old }
         ensures result { AnswersTerm meaning hooks IsItself ty_shape cx.old self.old ty result cx.new self.new };
 
-    /// Called at each type that was entered, after its contents: returns what takes its place. `rebuilt` is the type
-    /// `before` with the results for its contents.
+    /// Called at each type that was entered, after its contents: returns its replacement. `rebuilt` is the type
+    /// `before` with its contents folded.
     fn after_ty(&mut self, cx: &mut Interner, before: Ty, rebuilt: Ty) -> Result<Ty, Refusal>
         requires owned { owned cx.old.rows self.old }
         requires before { IsPartOf cx.old.rows (ty_shape before) }
@@ -96,7 +95,7 @@ pub trait TypeFolder {
         ensures result { AnswersTerm meaning hooks IsItself const_shape
             cx.old self.old constant result cx.new self.new };
 
-    /// Called at each constant that was entered, after its contents: returns what takes its place.
+    /// Called at each constant that was entered, after its contents: returns its replacement.
     fn after_const(
         &mut self,
         cx: &mut Interner,
@@ -126,7 +125,7 @@ pub trait TypeFolder {
         ensures result { AnswersTerm meaning hooks IsItself predicate_shape
             cx.old self.old predicate result cx.new self.new };
 
-    /// Called at each predicate that was entered, after its contents: returns what takes its place.
+    /// Called at each predicate that was entered, after its contents: returns its replacement.
     fn after_predicate(
         &mut self,
         cx: &mut Interner,
@@ -156,7 +155,7 @@ pub trait TypeFolder {
         ensures result { AnswersTerm meaning hooks IsItself clauses_shape
             cx.old self.old clauses result cx.new self.new };
 
-    /// Called at each list of clauses that was entered, after the clauses: returns what takes its place.
+    /// Called at each list of clauses that was entered, after the clauses: returns its replacement.
     fn after_clauses(
         &mut self,
         cx: &mut Interner,
@@ -197,23 +196,22 @@ pub trait TypeFolder {
 
 /// A folder with errors of its own. It has the methods of [`TypeFolder`].
 pub trait FallibleTypeFolder {
-    /// What the folder fails with.
+    /// The error of the folder.
     type Error: From<Refusal> + Drop;
 
-    // What a state means, with the handles in it as their trees.
+    // The meaning of a state, with the trees of its handles.
     ghost Meaning: { Type 0 };
 
     ghost meaning: { List Row → Self → Self.Meaning };
     // Each handle of the state names one of the rows.
     ghost owned: { List Row → Self → Type 0 };
 
-    // What the hooks do.
+    // The relations that the hooks keep to.
     ghost hooks: { Hooks (Standing Self.Meaning) Self.Error };
-    // At which trees the hooks leave the terms as they are, among rows and in a state: at none, where a folder
-    // doesn't say.
+    // The trees at which the hooks leave the terms as they are, among rows and in a state: none by default.
     ghost touches_nothing: { List Row → Self → Tree Depth → Type 0 } = { λ rows s t. ⊥ };
 
-    /// Called at each region: returns what takes its place.
+    /// Called at each region: returns its replacement.
     fn try_fold_region(&mut self, cx: &mut Interner, region: Region) -> Result<Region, Self::Error>
         requires owned { owned cx.old.rows self.old }
         requires region { IsPartOf cx.old.rows (region_shape region) }
@@ -234,8 +232,8 @@ pub trait FallibleTypeFolder {
         ensures result { AnswersTerm meaning hooks Self.Error.from_gives ty_shape
             cx.old self.old ty result cx.new self.new };
 
-    /// Called at each type that was entered, after its contents: returns what takes its place. `rebuilt` is the type
-    /// `before` with the results for its contents.
+    /// Called at each type that was entered, after its contents: returns its replacement. `rebuilt` is the type
+    /// `before` with its contents folded.
     fn after_ty(&mut self, cx: &mut Interner, before: Ty, rebuilt: Ty) -> Result<Ty, Self::Error>
         requires owned { owned cx.old.rows self.old }
         requires before { IsPartOf cx.old.rows (ty_shape before) }
@@ -260,7 +258,7 @@ pub trait FallibleTypeFolder {
         ensures result { AnswersTerm meaning hooks Self.Error.from_gives const_shape
             cx.old self.old constant result cx.new self.new };
 
-    /// Called at each constant that was entered, after its contents: returns what takes its place.
+    /// Called at each constant that was entered, after its contents: returns its replacement.
     fn after_const(
         &mut self,
         cx: &mut Interner,
@@ -290,7 +288,7 @@ pub trait FallibleTypeFolder {
         ensures result { AnswersTerm meaning hooks Self.Error.from_gives predicate_shape
             cx.old self.old predicate result cx.new self.new };
 
-    /// Called at each predicate that was entered, after its contents: returns what takes its place.
+    /// Called at each predicate that was entered, after its contents: returns its replacement.
     fn after_predicate(
         &mut self,
         cx: &mut Interner,
@@ -320,7 +318,7 @@ pub trait FallibleTypeFolder {
         ensures result { AnswersTerm meaning hooks Self.Error.from_gives clauses_shape
             cx.old self.old clauses result cx.new self.new };
 
-    /// Called at each list of clauses that was entered, after the clauses: returns what takes its place.
+    /// Called at each list of clauses that was entered, after the clauses: returns its replacement.
     fn after_clauses(
         &mut self,
         cx: &mut Interner,

@@ -67,7 +67,7 @@ impl TypeFoldable for Clause {
     }
 }
 
-// Whether a clause stayed one: where the predicate was a clause before it was folded, what came of it has to be one.
+// Checks that a clause stays one: if the predicate was a clause before it was folded, the result has to be one.
 fn check_stays_clause(cx: &Interner, before: Predicate, folded: Predicate) -> Result<(), Refusal>
     requires before { IsPartBy predicate_shape cx.now.rows before }
     requires folded { IsPartBy predicate_shape cx.now.rows folded }

@@ -1,4 +1,4 @@
-//! Folds: a term taken apart, changed and built again.
+//! Folds, which take a term apart, change it and rebuild it.
 #![tactic(auto)]
 
 mod assumptions;

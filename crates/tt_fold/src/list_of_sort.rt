@@ -1,4 +1,4 @@
-//! Stored lists, each as what it holds.
+//! Stored lists as lists of one sort.
 
 ghost use Rattle.std.specs.Prelude.{◌≡◌};
 ghost use Rattle.tt_kinds.specs.Parts.{list_sort};
@@ -8,7 +8,7 @@ use tt_kinds::{
     BoundExistentialPredicates, Clauses, Consts, GenericArgs, List, ListSort, PatList, Tys,
 };
 
-// The list as one of types.
+// Returns the list as a list of types.
 pub(crate) fn list_tys(list: List) -> Tys
     requires { list_sort list ≡ ListSort.Tys }
     ensures { list ≡ stored_list.Tys result }
@@ -19,7 +19,7 @@ pub(crate) fn list_tys(list: List) -> Tys
     }
 }
 
-// The list as one of constants.
+// Returns the list as a list of constants.
 pub(crate) fn list_consts(list: List) -> Consts
     requires { list_sort list ≡ ListSort.Consts }
     ensures { list ≡ stored_list.Consts result }
@@ -30,7 +30,7 @@ pub(crate) fn list_consts(list: List) -> Consts
     }
 }
 
-// The list as one of generic arguments.
+// Returns the list as a list of generic arguments.
 pub(crate) fn list_args(list: List) -> GenericArgs
     requires { list_sort list ≡ ListSort.Args }
     ensures { list ≡ stored_list.Args result }
@@ -41,7 +41,7 @@ pub(crate) fn list_args(list: List) -> GenericArgs
     }
 }
 
-// The list as one of patterns.
+// Returns the list as a list of patterns.
 pub(crate) fn list_pats(list: List) -> PatList
     requires { list_sort list ≡ ListSort.Pats }
     ensures { list ≡ stored_list.Pats result }
@@ -52,7 +52,7 @@ pub(crate) fn list_pats(list: List) -> PatList
     }
 }
 
-// The list as one of existential predicates.
+// Returns the list as a list of existential predicates.
 pub(crate) fn list_existentials(list: List) -> BoundExistentialPredicates
     requires { list_sort list ≡ ListSort.Existentials }
     ensures { list ≡ stored_list.Existentials result }
@@ -63,7 +63,7 @@ pub(crate) fn list_existentials(list: List) -> BoundExistentialPredicates
     }
 }
 
-// The list as one of clauses.
+// Returns the list as a list of clauses.
 pub(crate) fn list_clauses(list: List) -> Clauses
     requires { list_sort list ≡ ListSort.Clauses }
     ensures { list ≡ stored_list.Clauses result }

@@ -1,4 +1,4 @@
-//! What a folder remembers: what came of types, each under a number of binders.
+//! The memory of a folder: the results of types, each under a number of binders.
 
 ghost use Rattle.std.specs.Prelude.{◌≡◌, ◌<◌, [], length, position, IfOk, IfErr, IsOk, OnOk, OnErr, MatchOption};
 ghost use Rattle.std.specs.Map.{lookup};
@@ -25,7 +25,7 @@ pub struct Place {
     under: u32,
 }
 
-// What came of a type under a number of binders.
+// The result of a type under a number of binders.
 #[derive(Clone, Copy)]
 struct Note {
     place: Place,
@@ -43,14 +43,14 @@ impl Default for Note {
     }
 }
 
-// Few notes are kept in place, and looked up in turn. Where they don't fit, a map has all of them, from then on.
+// A few notes are kept in place and searched in turn. Once they don't fit, all of them are kept in a map.
 #[derive(Drop)]
 enum Notes {
     Few(SmallVec<Note, 8>),
     Many(IndexMap<Place, Ty>),
 }
 
-/// What came of types, each with the number of binders that enclosed it.
+/// The results of types, each with the number of binders that enclosed the type.
 #[derive(Drop)]
 pub struct Memory {
     notes: Notes,
@@ -58,7 +58,7 @@ pub struct Memory {
 
 impl Model for Memory {
     ghost use Rattle.std.specs.Prelude.{List};
-    ghost use Rattle.tt_kinds.specs.declared.handle.Ty.{Ty};
+    ghost use Rattle.tt_kinds.specs.Handle.{Ty};
     ghost use Rattle.tt_fold.specs.declared.memory.Place.{Place};
 
     ghost Value = { List (Place × Ty) };
@@ -70,7 +70,7 @@ impl Model for Memory {
     ghost invariant = { λ m. AreNotes m.notes };
 }
 
-// Returns where the place is among the notes, if it is.
+// Returns the position of the place among the notes, if it is there.
 fn position_of(notes: &[Note], place: Place) -> Option<usize>
     ensures { result ≡ position (λ note. same_place place note.place) notes.now }
 {
@@ -90,7 +90,7 @@ fn map_of(alloc: Global, notes: &[Note]) -> Result<IndexMap<Place, Ty>, Refusal>
 }
 
 impl Memory {
-    /// Returns a memory of nothing. It takes no memory from the allocator until more than eight places are noted.
+    /// Returns an empty memory. It allocates nothing until more than eight places are noted.
     pub fn new(alloc: Global) -> Memory
         ensures { result ≡ [] }
     {
@@ -99,7 +99,7 @@ impl Memory {
         }
     }
 
-    /// Returns what came of the type under so many binders, if that is remembered.
+    /// Returns the result of the type under `under` binders, if it is remembered.
     pub fn recall(&self, ty: Ty, under: u32) -> Option<Ty>
         ensures { result ≡ lookup (same_place (place_of ty under)) self.now }
     {
@@ -116,8 +116,8 @@ impl Memory {
         }
     }
 
-    /// Remembers what came of a type under so many binders, in place of what was remembered of it. Where it is refused,
-    /// which it is for want of memory alone, nothing changes. It never is where fewer than eight places are remembered.
+    /// Remembers the result of a type under `under` binders, in place of an earlier one. Refused only for want of
+    /// memory; then nothing changes. Never refused while fewer than eight places are remembered.
     pub fn note(&mut self, before: Ty, under: u32, after: Ty) -> Result<(), Refusal>
         ensures ok { OnOk result (self.new ≡ insert_entry same_place self.old (place_of before under) after) }
         ensures err { IfErr result (λ e. e ≡ Refusal.Memory) }
@@ -150,8 +150,8 @@ impl Memory {
     }
 }
 
-/// Returns what came of the type under so many binders, if that is remembered. Equal trees have equal handles, so that
-/// what isn't remembered of the type isn't of another one of its tree.
+/// Returns the result of the type under `under` binders, if it is remembered. Equal trees have equal handles, so if
+/// none is found for the type, none is remembered for its tree.
 pub fn look_up(cx: &Interner, memory: &Memory, ty: Ty, under: u32) -> Option<Ty>
     requires ty { IsPartOf cx.now.rows (ty_shape ty) }
     requires memory { OwnsMemos cx.now.rows memory.now }

@@ -1,4 +1,4 @@
-//! The folds of records: values without a row of their own that hold handles.
+//! The folds of records: values that hold handles and have no row of their own.
 
 use crate::core_folder::Core;
 use crate::foldable::TypeFoldable;

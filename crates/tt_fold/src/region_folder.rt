@@ -26,12 +26,11 @@ use tt_kinds::{
 };
 use tt_visit::TypeVisitableExt;
 
-/// Asks a closure about each region of a value that the value doesn't bind itself, with the number of binders passed,
-/// and places its answers as they stand.
+/// Calls a closure at each region that the value doesn't bind itself, with the number of enclosing binders, and
+/// replaces the region by the result, unshifted.
 ///
-/// Erased regions are asked about too, variables of a canonical query are not. The closure is asked at every place,
-/// also where a handle occurs at several. An answer that is bound by one of the binders passed is so bound
-/// afterwards: nothing is shifted.
+/// The closure is called at erased regions too, but not at variables of a canonical query. It is called at every place,
+/// even if a handle occurs at several. A result bound by one of the enclosing binders stays bound by it.
 #[derive(Drop)]
 pub struct RegionFolder<F> {
     f: F,
@@ -39,7 +38,8 @@ pub struct RegionFolder<F> {
     current_index: DebruijnIndex,
 }
 
-// Returns whether a region under so many binders is bound by none of them, and no variable of a canonical query.
+// Returns whether a region under `current_index` binders is bound by none of them and is not a variable of a canonical
+// query.
 fn meets(region: Region, current_index: DebruijnIndex) -> bool
     ensures { result ≡ is_met current_index region }
 {
@@ -53,7 +53,7 @@ fn meets(region: Region, current_index: DebruijnIndex) -> bool
 }
 
 impl<F: FnMut(Region, DebruijnIndex) -> Region> RegionFolder<F> {
-    /// Returns the folder that asks this closure, before any binder is passed.
+    /// Returns the folder that calls this closure, outside of each binder.
     pub fn new(f: F) -> RegionFolder<F>
         ensures closure { result.f ≡ f }
         ensures innermost { result.current_index ≡ 0 }
@@ -181,18 +181,17 @@ impl<F: FnMut(Region, DebruijnIndex) -> Region> TypeFolder for RegionFolder<F> {
     ghost still_means = { λ old new s g h. names-stay old new s.f s.current_index g };
 }
 
-/// Returns the value with each region that it doesn't bind itself replaced by what the closure answers about it, as
-/// it stands: an answer is not shifted, so one whose index is below the number of binders passed is bound by one of
-/// them afterwards.
+/// Returns the value with each region that it doesn't bind itself replaced by the closure's result. A result is not
+/// shifted, so a bound region whose index is below the number of enclosing binders is bound by one of them afterwards.
 ///
-/// The closure is asked about every such region in order, with the number of binders of the value that enclose it:
-/// erased and static regions and regions of errors too, but no variable of a canonical query. It is asked at every
-/// place, also where one handle occurs at several. Its answers have to be regions of this interner.
+/// The closure is called at every such region in order, with the number of binders of the value that enclose it: at
+/// erased and static regions and regions of errors too, but at no variable of a canonical query. It is called at every
+/// place, even if one handle occurs at several. Its results have to be regions of this interner.
 ///
-/// It is refused with `Memory` where the memory for something new is refused, with `TableFull` where a term or a list
-/// of the result is not stored yet and its table has as many rows as it may have, and with `GreatestIndex` where more
-/// binders than the greatest index counts are nested. Where there is no such region it is the value itself, the
-/// closure is not asked, and nothing is built. It follows the compiler's `fold_regions`.
+/// Refused with `Memory` if the memory for something new is refused, with `TableFull` if a term or a list of the result
+/// is not stored yet and its table has as many rows as it may have, and with `GreatestIndex` if more binders than the
+/// greatest index counts are nested. If there is no such region, the value itself is returned, the closure is not
+/// called, and nothing is built. The function follows the compiler's `fold_regions`.
 pub fn fold_regions<T: TypeFoldable, F: FnMut(Region, DebruijnIndex) -> Region + Drop>(
     cx: &mut Interner,
     value: T,
@@ -216,14 +215,14 @@ pub fn fold_regions<T: TypeFoldable, F: FnMut(Region, DebruijnIndex) -> Region +
     if !value.meets_regions(cx) {
         return Ok(value);
     }
-    // Each stored list of clauses holds clauses alone, so none with answers placed is refused for an item.
+    // Each stored list of clauses holds clauses alone, so none with regions replaced is refused for an item.
     cx.are_rows();
     let mut folder = RegionFolder::new(f);
     value.fold_with(cx, &mut folder)
 }
 
-/// Returns a folder of regions that was just made asks and places by [`TypeFoldable::fold_with`] as [`fold_regions`]
-/// does. It does nothing; the contract gives callers the facts.
+/// Does nothing. The contract gives callers the fact that [`TypeFoldable::fold_with`] with a new [`RegionFolder`]
+/// replaces regions as [`fold_regions`] does.
 pub fn region_folders_place<F: FnMut(Region, DebruijnIndex) -> Region>()
     ensures placed { RegionFoldersPlace (λ p region depth answer q. F.step p region depth answer q) }
     ensures ended { RegionFoldersPlaceSome (λ p region depth answer q. F.step p region depth answer q) }

@@ -1,4 +1,4 @@
-//! Folders that answer regions alone.
+//! Folders that replace regions alone.
 
 ghost use Rattle.tt_kinds.specs.Kinds.{region_shape};
 ghost use Rattle.tt_kinds.specs.Shape.{Shape};
@@ -17,21 +17,21 @@ use tt_index::Refusal;
 use tt_interner::Interner;
 use tt_kinds::{BoundVarKinds, Node, Region};
 
-/// A folder that answers regions alone: each term is entered and each binder passed, so that one method says it all.
+/// A folder that replaces regions alone: it enters each term and each binder, so one method is enough.
 ///
-/// [`replace_regions`] folds a value by it. A folder that has to know the binders around a region is a
+/// [`replace_regions`] folds a value with it. A folder that has to know the binders around a region is a
 /// [`TypeFolder`](crate::TypeFolder).
 pub trait RegionReplacer {
-    /// What the folder fails with; [`Refusal`] where it has no errors of its own.
+    /// The error of the folder: [`Refusal`] if it has no errors of its own.
     type Error: From<Refusal> + Drop;
 
-    // The handles in a state; a folder that holds none doesn't say.
+    // The handles in a state; a folder that holds none keeps the default.
     ghost shape: { Self → Shape } = { λ s. no_handles };
 
-    // What the hook does, by the trees of the handles; where nothing is to be proved of it, it isn't said.
+    // The relation that the hook keeps to, on the trees of the handles; the default promises nothing.
     ghost hooks: { RegionHooks (Standing (Tree Depth)) Self.Error } = { no_promise };
 
-    /// Called at each region: returns what takes its place.
+    /// Called at each region: returns its replacement.
     fn replace_region(&mut self, cx: &mut Interner, region: Region) -> Result<Region, Self::Error>
         requires owned { IsPartOf cx.old.rows (shape self.old) }
         requires region { IsPartOf cx.old.rows (region_shape region) }
@@ -91,8 +91,8 @@ impl<F: RegionReplacer> Core<Regions> for F {
     ghost still_means = { λ old new s g h. fill-grows old new g.grows (F.RegionReplacer.shape s) h };
 }
 
-/// Returns the value with what the folder answers in the places of its regions, which are met in order. The folder's
-/// first error ends the fold; so does a refusal to build what the answers ask for, with `Memory` or with `TableFull`.
+/// Returns the value with its regions replaced, in order, by the folder's results. The folder's first error ends the
+/// fold, and so does a refusal to build the result, with `Memory` or with `TableFull`.
 pub fn replace_regions<T: TypeFoldable, F: RegionReplacer>(
     cx: &mut Interner,
     value: T,

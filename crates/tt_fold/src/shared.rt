@@ -1,4 +1,4 @@
-//! Values that can be made again, and the fold of shared values, which may have to be.
+//! Values that can be copied, and the fold of shared values, which may copy them.
 
 ghost use Rattle.std.specs.Prelude.{◌≡◌, IfErr, IfOk};
 ghost use Rattle.tt_index.specs.declared.refusal.Refusal.TheVariants.{Memory};
@@ -15,9 +15,9 @@ use tt_kinds::{
 };
 use tt_visit::TypeVisitable;
 
-/// A value that can be made a second time.
+/// A value that can be copied.
 pub trait ClonesTree: TypeVisitable + Sized {
-    /// Returns a value of the same tree, in every interner. It is refused with `Memory` alone.
+    /// Returns a value with the same tree, in every interner. Refused with `Memory` alone.
     fn clone_tree(&self, alloc: Global) -> Result<Self, Refusal>
         ensures ok { IfOk result (λ copy. Self.shape copy ≡ Self.shape self.now) }
         ensures memory { IfErr result (λ e. e ≡ Memory) };
@@ -36,7 +36,7 @@ impl<T: TypeFoldable + ClonesTree> TypeFoldable for Rc<T> {
     }
 }
 
-// The value where it has no other owner, and else one of the same tree.
+// Returns the value if it has no other owner, and else a copy.
 fn taken<T: ClonesTree + Drop>(alloc: Global, this: Rc<T>) -> Result<T, Refusal>
     ensures ok { IfOk result (λ value. T.shape value ≡ T.shape this.value) }
     ensures memory { IfErr result (λ e. e ≡ Memory) }
@@ -47,7 +47,7 @@ fn taken<T: ClonesTree + Drop>(alloc: Global, this: Rc<T>) -> Result<T, Refusal>
     }
 }
 
-// The value with one owner.
+// Returns the value as a shared one with one owner.
 fn shared<T: Drop>(alloc: Global, value: T) -> Result<Rc<T>, Refusal>
     ensures ok { IfOk result (λ shared. shared.value ≡ value) }
     ensures memory { IfErr result (λ e. e ≡ Memory) }

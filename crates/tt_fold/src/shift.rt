@@ -43,17 +43,17 @@ use tt_kinds::{
 };
 use tt_visit::TypeVisitableExt;
 
-// Moves a value into new binders. Each type is taken apart once under a number of binders, and what came of it is
+// Moves a value into new binders. Each type is taken apart once under each number of binders, and the result is
 // remembered.
 #[derive(Drop)]
 struct Shifter {
     amount: u32,
-    // how many binders of the value enclose the place that was reached
+    // the number of binders of the value around the current place
     current_index: DebruijnIndex,
     memory: Memory,
 }
 
-// The index moved past as many new binders as `amount` says, if its binder is none of the first `current_index`.
+// Returns the index moved past `amount` new binders, if its binder is none of the first `current_index`.
 fn shift_index(
     index: BoundVarIndexKind,
     current_index: DebruijnIndex,
@@ -78,7 +78,7 @@ fn shift_index(
     }
 }
 
-// The region under as many binders as `current_index` says, moved past new binders around them.
+// Returns the region under `current_index` binders, moved past new binders around them.
 fn shift_region_under(
     region: Region,
     current_index: DebruijnIndex,
@@ -99,8 +99,8 @@ fn shift_region_under(
     }
 }
 
-/// Returns the region moved into `amount` new binders: if a binder outside binds it, its index grows by the amount. It
-/// is refused with `GreatestIndex` where the index would be the greatest or above, and never otherwise.
+/// Returns the region moved into `amount` new binders: the index of a bound region grows by the amount. Refused with
+/// `GreatestIndex` if the index would be the greatest or above, and never otherwise.
 pub fn shift_region(region: Region, amount: u32) -> Result<Region, Refusal>
     ensures ok { (f : Meaning) → IfOk result (IsShiftedRegion f amount region) }
     ensures in_range { (size : Sizes) → IsPart size (region_shape region)
@@ -111,7 +111,7 @@ pub fn shift_region(region: Region, amount: u32) -> Result<Region, Refusal>
     shift_region_under(region, DebruijnIndex::INNERMOST, amount)
 }
 
-// The bound variable that a type is, if it is one.
+// Returns the bound variable, if the type is one.
 fn bound_ty(kind: &Kind) -> Option<(BoundVarIndexKind, BoundTy)>
     ensures { result ≡ bound_ty_of kind.now }
 {
@@ -124,7 +124,7 @@ fn bound_ty(kind: &Kind) -> Option<(BoundVarIndexKind, BoundTy)>
     }
 }
 
-// The bound variable that a constant is, if it is one.
+// Returns the bound variable, if the constant is one.
 fn bound_const(kind: &Kind) -> Option<(BoundVarIndexKind, BoundConst)>
     ensures { result ≡ bound_const_of kind.now }
 {
@@ -138,14 +138,14 @@ fn bound_const(kind: &Kind) -> Option<(BoundVarIndexKind, BoundConst)>
 }
 
 impl Shifter {
-    // Whether a binder outside of the value binds something in a term of this outer exclusive binder.
+    // Returns whether a binder outside of the value binds a variable in a term with this outer exclusive binder.
     fn moves(&self, outer_exclusive_binder: DebruijnIndex) -> bool
         ensures { IsTrue result ↔ (self.now.current_index < outer_exclusive_binder) }
     {
         outer_exclusive_binder > self.current_index
     }
 
-    // The type of a bound variable, moved.
+    // Returns the type of a bound variable, moved.
     fn shift_bound_ty(
         &self,
         cx: &mut Interner,
@@ -168,7 +168,7 @@ impl Shifter {
         }
     }
 
-    // The constant of a bound variable, moved.
+    // Returns the constant of a bound variable, moved.
     fn shift_bound_const(
         &self,
         cx: &mut Interner,
@@ -323,18 +323,18 @@ impl TypeFolder for Shifter {
     ghost still_means = { λ old new s g h. shift_state-still s.amount s.current_index old new s.memory g.grows h };
 }
 
-/// Returns the value moved into `amount` new binders: each variable that a binder outside of the value binds keeps its
+/// Returns the value moved into `amount` new binders: each variable that is bound outside of the value keeps its
 /// binder.
 ///
-/// It is refused with `GreatestIndex` where such a variable's index would be the greatest or above, or where more
-/// binders than the greatest index counts enclose one; with `TableFull` where a term or a list of the moved value
-/// is not stored yet and its table has as many rows as it may have; and with `Memory` where the memory for a new one is
-/// refused, or for what came of types, which is remembered until the call ends, and for which none is asked while these
-/// are eight or fewer. Where no such variable occurs in the value, or the amount is 0, it is the value itself, nothing
-/// is built, and no memory is taken.
+/// Refused with `GreatestIndex` if such a variable's index would be the greatest or above, or if more binders than the
+/// greatest index counts enclose one; with `TableFull` if a term or a list of the moved value is not stored yet and its
+/// table has as many rows as it may have; and with `Memory` if the memory for a new one is refused, or the memory for
+/// the results of types, which are remembered until the call ends and of which the first eight need none. If no such
+/// variable occurs in the value, or the amount is 0, the value itself is returned, nothing is built, and no memory is
+/// allocated.
 ///
-/// A type that has such a variable is taken apart once for each number of binders around its places, and that adds one
-/// to the interner's count of the shifter's descents, which stays at its greatest number. The other count stays.
+/// A type that has such a variable is taken apart once for each number of binders around its places, which adds one to
+/// the interner's count of the shifter's descents; the count saturates at its greatest number. The other count stays.
 pub fn shift_vars<T: TypeFoldable>(cx: &mut Interner, value: T, amount: u32) -> Result<T, Refusal>
     requires { IsPartBy T.shape cx.old.rows value }
     ensures extends { Extends cx.old cx.new }
@@ -377,12 +377,12 @@ pub fn shift_vars<T: TypeFoldable>(cx: &mut Interner, value: T, amount: u32) -> 
     value.fold_with(cx, &mut shifter)
 }
 
-/// Moving a value twice is moving it once by the sum. It does nothing; the contract gives callers the fact.
+/// Does nothing. The contract gives callers the fact that two shifts of a value are one shift by the sum.
 pub fn shifts_add_up()
     ensures { ShiftsAddUp }
 {}
 
-/// Different values stay different when they are moved. It does nothing; the contract gives callers the fact.
+/// Does nothing. The contract gives callers the fact that different values stay different when they are shifted.
 pub fn shifts_keep_apart()
     ensures { ShiftsKeepApart }
 {}

@@ -1,4 +1,4 @@
-//! The answers of the hooks of each table, as answers at stored terms.
+//! Conversion of the answers of typed hooks to answers at stored terms.
 
 ghost use Rattle.std.specs.Prelude.{◌≡◌};
 ghost use Rattle.tt_kinds.specs.declared.parts.Node.TheVariants as node;
@@ -7,7 +7,7 @@ ghost use Rattle.tt_fold.specs.Parts.{map_ok, map_step};
 use crate::folder::Step;
 use tt_kinds::{Clauses, Const, Node, Predicate, Ty};
 
-// What a hook answered at a type, as the answer at a stored term.
+// Converts a hook's answer at a type to the answer at a stored term.
 #[inline(always)]
 pub(crate) fn ty_step<E: Drop>(answer: Result<Step<Ty>, E>) -> Result<Step<Node>, E>
     ensures { result ≡ map_ok (map_step node.Ty) answer }
@@ -20,7 +20,7 @@ pub(crate) fn ty_step<E: Drop>(answer: Result<Step<Ty>, E>) -> Result<Step<Node>
     }
 }
 
-// The type that a hook answered, as a stored term.
+// Converts the type that a hook returned to a stored term.
 #[inline(always)]
 pub(crate) fn ty_node<E: Drop>(answer: Result<Ty, E>) -> Result<Node, E>
     ensures { result ≡ map_ok node.Ty answer }
@@ -31,7 +31,7 @@ pub(crate) fn ty_node<E: Drop>(answer: Result<Ty, E>) -> Result<Node, E>
     }
 }
 
-// What a hook answered at a constant, as the answer at a stored term.
+// Converts a hook's answer at a constant to the answer at a stored term.
 #[inline(always)]
 pub(crate) fn const_step<E: Drop>(answer: Result<Step<Const>, E>) -> Result<Step<Node>, E>
     ensures { result ≡ map_ok (map_step node.Const) answer }
@@ -44,7 +44,7 @@ pub(crate) fn const_step<E: Drop>(answer: Result<Step<Const>, E>) -> Result<Step
     }
 }
 
-// The constant that a hook answered, as a stored term.
+// Converts the constant that a hook returned to a stored term.
 #[inline(always)]
 pub(crate) fn const_node<E: Drop>(answer: Result<Const, E>) -> Result<Node, E>
     ensures { result ≡ map_ok node.Const answer }
@@ -55,7 +55,7 @@ pub(crate) fn const_node<E: Drop>(answer: Result<Const, E>) -> Result<Node, E>
     }
 }
 
-// What a hook answered at a predicate, as the answer at a stored term.
+// Converts a hook's answer at a predicate to the answer at a stored term.
 #[inline(always)]
 pub(crate) fn predicate_step<E: Drop>(answer: Result<Step<Predicate>, E>) -> Result<Step<Node>, E>
     ensures { result ≡ map_ok (map_step node.Predicate) answer }
@@ -68,7 +68,7 @@ pub(crate) fn predicate_step<E: Drop>(answer: Result<Step<Predicate>, E>) -> Res
     }
 }
 
-// The predicate that a hook answered, as a stored term.
+// Converts the predicate that a hook returned to a stored term.
 #[inline(always)]
 pub(crate) fn predicate_node<E: Drop>(answer: Result<Predicate, E>) -> Result<Node, E>
     ensures { result ≡ map_ok node.Predicate answer }
@@ -79,7 +79,7 @@ pub(crate) fn predicate_node<E: Drop>(answer: Result<Predicate, E>) -> Result<No
     }
 }
 
-// What a hook answered at a list of clauses, as the answer at a stored term.
+// Converts a hook's answer at a list of clauses to the answer at a stored term.
 #[inline(always)]
 pub(crate) fn clauses_step<E: Drop>(answer: Result<Step<Clauses>, E>) -> Result<Step<Node>, E>
     ensures { result ≡ map_ok (map_step node.Clauses) answer }
@@ -92,7 +92,7 @@ pub(crate) fn clauses_step<E: Drop>(answer: Result<Step<Clauses>, E>) -> Result<
     }
 }
 
-// The list of clauses that a hook answered, as a stored term.
+// Converts the list of clauses that a hook returned to a stored term.
 #[inline(always)]
 pub(crate) fn clauses_node<E: Drop>(answer: Result<Clauses, E>) -> Result<Node, E>
     ensures { result ≡ map_ok node.Clauses answer }

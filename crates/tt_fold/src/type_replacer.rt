@@ -1,4 +1,4 @@
-//! Folders that answer types alone.
+//! Folders that replace types alone.
 
 ghost use Rattle.tt_kinds.specs.Kinds.{ty_shape};
 ghost use Rattle.tt_kinds.specs.Shape.{Shape};
@@ -18,22 +18,22 @@ use tt_index::Refusal;
 use tt_interner::Interner;
 use tt_kinds::{BoundVarKinds, Node, Region, Ty};
 
-/// A folder that answers types alone: regions stay, each other term is entered and each binder passed, so that one
-/// method says it all.
+/// A folder that replaces types alone: it keeps regions, and enters each other term and each binder, so one method is
+/// enough.
 ///
-/// [`replace_types`] folds a value by it. A folder that has to know the binders around a type, or what was built
-/// again, is a [`TypeFolder`](crate::TypeFolder).
+/// [`replace_types`] folds a value with it. A folder that has to know the binders around a type, or the rebuilt type,
+/// is a [`TypeFolder`](crate::TypeFolder).
 pub trait TypeReplacer {
-    /// What the folder fails with; [`Refusal`] where it has no errors of its own.
+    /// The error of the folder: [`Refusal`] if it has no errors of its own.
     type Error: From<Refusal> + Drop;
 
-    // The handles in a state; a folder that holds none doesn't say.
+    // The handles in a state; a folder that holds none keeps the default.
     ghost shape: { Self → Shape } = { λ s. no_handles };
 
-    // What the hook does, by the trees of the handles; where nothing is to be proved of it, it isn't said.
+    // The relation that the hook keeps to, on the trees of the handles; the default promises nothing.
     ghost hooks: { TypeHooks (Standing (Tree Depth)) Self.Error } = { no_promise };
 
-    /// Returns what to do at a type, before its contents.
+    /// Called at each type, before its contents: returns what to do there.
     fn replace_ty(&mut self, cx: &mut Interner, ty: Ty) -> Result<Step<Ty>, Self::Error>
         requires owned { IsPartOf cx.old.rows (shape self.old) }
         requires ty { IsPartOf cx.old.rows (ty_shape ty) }
@@ -97,9 +97,9 @@ impl<F: TypeReplacer> Core<Types> for F {
     ghost still_means = { λ old new s g h. fill-grows old new g.grows (F.TypeReplacer.shape s) h };
 }
 
-/// Returns the value with what the folder answers in the places of its types, which are met in order, each before its
-/// contents. The folder's first error ends the fold; so does a refusal to build what the answers ask for, with `Memory`
-/// or with `TableFull`.
+/// Returns the value with its types replaced by the folder's results. The types are visited in order, each before its
+/// contents. The folder's first error ends the fold, and so does a refusal to build the result, with `Memory` or with
+/// `TableFull`.
 pub fn replace_types<T: TypeFoldable, F: TypeReplacer>(
     cx: &mut Interner,
     value: T,

@@ -1,4 +1,4 @@
-//! Folds by a folder of types that answers by the type alone: what came of a type is remembered.
+//! Folds that remember the result of each type, for folders whose results depend on the type alone.
 
 ghost use Rattle.std.specs.Prelude.{IfErr, IfOk};
 ghost use Rattle.tt_interner.specs.Stored.{Extends};
@@ -15,7 +15,7 @@ use crate::type_replacer::TypeReplacer;
 use tt_interner::Interner;
 use tt_kinds::{BoundVarKinds, Node, Region};
 
-// A folder of types, and what came of the types that were taken apart.
+// A folder of types, and the results of the types that were taken apart.
 #[derive(Drop)]
 struct Recalling<F> {
     folder: F,
@@ -57,7 +57,7 @@ impl<F: TypeReplacer> Core<Once> for Recalling<F> {
     #[inline(always)]
     fn core_term(&mut self, cx: &mut Interner, node: Node) -> Result<Step<Node>, F::Error> {
         match node {
-            // No hook is told of binders, so every type is looked up and noted as one under none.
+            // No hook depends on binders, so every type is looked up and noted as one under no binder.
             Node::Ty(ty) => match look_up(cx, &self.memory, ty, 0) {
                 Some(after) => Ok(Step::Replace(Node::Ty(after))),
                 None => ty_step(self.folder.replace_ty(cx, ty)),
@@ -102,13 +102,12 @@ impl<F: TypeReplacer> Core<Once> for Recalling<F> {
         (memos-still old new s.memory g.grows h.1) };
 }
 
-/// Returns the value with what the folder answers in the places of its types, as
-/// [`replace_types`](crate::replace_types) does, by a folder that answers by the type alone: its state has to mean the
-/// same after each answer.
+/// Returns the value with its types replaced by the folder's results, as [`replace_types`](crate::replace_types) does.
+/// The folder's result has to depend on the type alone: its state has to mean the same after each call.
 ///
-/// What came of a type that was taken apart is remembered until the call ends, so that it is taken apart once, at
-/// however many places it is. The tree is one that the folder gives without that. Errors are those of a fold without
-/// it, and `Memory` also where the memory for what came of more than eight types is refused.
+/// The result of a type that was taken apart is remembered until the call ends, so the type is taken apart once, at
+/// however many places it is. The resulting tree is one that a fold without memory gives. The errors are the errors of
+/// a fold without memory, and `Memory` also if the memory for the results of more than eight types is refused.
 pub fn replace_types_once<T: TypeFoldable, F: TypeReplacer + Drop>(
     cx: &mut Interner,
     value: T,

@@ -3,7 +3,7 @@ use Rattle.std.specs.Prelude.{ℕ, List, codes}
 use Rattle.tt_index.specs.declared.closure_kind.ClosureKind.{ClosureKind}
 use Rattle.tt_index.specs.declared.closure_kind.ClosureKind.TheVariants.{Fn, FnMut, FnOnce}
 
--- how much a call demands of the environment: to share it, to hold it alone, to use it up
+-- how much a call demands of the environment: shared access, exclusive access, ownership
 abbrev pub demand : ClosureKind → ℕ
 demand Fn = 0
 demand FnMut = 1

@@ -1,4 +1,4 @@
-//! What the index types have in common.
+//! The trait of index types.
 
 ghost use Rattle.std.specs.Prelude.{◌≡◌, ◌≤◌, ℕ};
 ghost use Rattle.tt_index.specs.Greatest.{greatest};
@@ -7,8 +7,8 @@ ghost use Rattle.tt_index.specs.Greatest.{greatest};
 pub trait Idx: Copy {
     ghost number: { Self → ℕ };
 
-    /// Returns the index with this number, as of a position in a list. Its test is the comparison with
-    /// [`GREATEST_INDEX`](crate::GREATEST_INDEX).
+    /// Returns the index with this number, such as a position in a list. The number has to be at most
+    /// [`GREATEST_INDEX`](crate::GREATEST_INDEX); a comparison tests it.
     fn from_usize(position: usize) -> Self
         requires { position ≤ greatest }
         ensures { number result ≡ position };

@@ -46,7 +46,7 @@ impl<Ix: Idx, T> Model for IndexVec<Ix, T> {
 }
 
 impl<Ix: Idx, T> IndexVec<Ix, T> {
-    /// Returns the empty list, which takes no memory yet.
+    /// Returns the empty list, which allocates nothing.
     pub fn new(alloc: Global) -> IndexVec<Ix, T>
         ensures { result ≡ [] }
     {
@@ -56,8 +56,8 @@ impl<Ix: Idx, T> IndexVec<Ix, T> {
         }
     }
 
-    /// Returns the list of these items, in order. It may be longer than there are indices; the items past those have
-    /// none.
+    /// Returns the list of these items, in order. There may be more items than indices; the items past the greatest
+    /// index have none.
     pub fn from_raw(raw: Vec<T>) -> IndexVec<Ix, T>
         ensures { result ≡ raw.items }
     {
@@ -74,7 +74,7 @@ impl<Ix: Idx, T> IndexVec<Ix, T> {
         self.raw.as_slice()
     }
 
-    /// Returns the items, in order, as the vector that holds them.
+    /// Returns the vector that holds the items, in order.
     pub fn into_raw(self) -> Vec<T>
         ensures { result.items ≡ self }
     {
@@ -96,7 +96,7 @@ impl<Ix: Idx, T> IndexVec<Ix, T> {
         self.raw.is_empty()
     }
 
-    /// Returns the item at this index, if the list reaches so far.
+    /// Returns the item at this index, or `None` past the end of the list.
     pub fn get(&self, index: Ix) -> Option<&T>
         ensures { option_copied result ≡ slice_get self.now (Ix.number index) }
     {
@@ -122,8 +122,8 @@ impl<Ix: Idx, T> IndexVec<Ix, T> {
 }
 
 impl<Ix: Idx, T: Drop> IndexVec<Ix, T> {
-    /// Puts the item at the end and answers its index. [`IndexVec::has_next_index`] tests the condition. Where memory
-    /// is refused, the item is dropped and the list stays as it was.
+    /// Appends the item and returns its index. [`IndexVec::has_next_index`] tests the condition. If memory is refused,
+    /// the item is dropped and the list is unchanged.
     pub fn push(&mut self, item: T) -> Result<Ix, Refusal>
         requires { length self.old ≤ greatest }
         ensures ok { OnOk result (self.new ≡ self.old ++ item ∷ []) }
@@ -136,8 +136,7 @@ impl<Ix: Idx, T: Drop> IndexVec<Ix, T> {
         Ok(index)
     }
 
-    /// Puts the item in the place of the one at this index, which is dropped. There has to be one;
-    /// [`IndexVec::len`] tells how far the list reaches.
+    /// Replaces the item at this index, and drops the old one. The index has to be below [`IndexVec::len`].
     pub fn set(&mut self, index: Ix, item: T)
         requires { Ix.number index < length self.old }
         ensures { self.new ≡ slice_set self.old (Ix.number index) item }

@@ -7,6 +7,7 @@ pub mod closure_kind;
 pub mod debruijn;
 pub mod field;
 pub mod idx;
+pub mod index;
 pub mod index_vec;
 pub mod numeric;
 pub mod qualifier;
@@ -21,6 +22,7 @@ pub use closure_kind::ClosureKind;
 pub use debruijn::{DebruijnIndex, INNERMOST};
 pub use field::{FieldIdx, VariantIdx};
 pub use idx::Idx;
+pub use index::Index;
 pub use index_vec::IndexVec;
 pub use numeric::{FloatTy, IntTy, UintTy};
 pub use qualifier::{Mutability, Safety};
@@ -29,5 +31,5 @@ pub use universe::UniverseIndex;
 pub use variance::Variance;
 pub use vid::{ConstVid, FloatVid, IntVid, RegionVid, TyVid};
 
-/// The greatest number that an index may have. The 255 numbers above it in a `u32` are no index's.
+/// The greatest number that an index may have. No index has one of the 255 numbers above it in a `u32`.
 pub const GREATEST_INDEX: u32 = 4_294_967_040;

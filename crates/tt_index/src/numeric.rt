@@ -34,7 +34,7 @@ pub enum UintTy {
     U128,
 }
 
-/// The floating point types. They are tags: no value of floating point is kept anywhere.
+/// The floating point types. They are tags: no floating point value is stored anywhere.
 #[derive(Clone, Copy, Debug, PartialEq, Eq, PartialOrd, Ord, Hash)]
 pub enum FloatTy {
     /// Half precision: 16 bits wide.

@@ -1,11 +1,11 @@
-//! What qualifies a reference, a pointer or a function.
+//! Qualifiers of references, pointers and functions.
 
-/// Whether what a reference or a pointer leads to can be written through it.
+/// Whether the target of a reference or a pointer can be written through it.
 #[derive(Clone, Copy, Debug, PartialEq, Eq, PartialOrd, Ord, Hash)]
 pub enum Mutability {
     /// Shared: `&T` and `*const T`.
     Not,
-    /// To be written: `&mut T` and `*mut T`.
+    /// Mutable: `&mut T` and `*mut T`.
     Mut,
 }
 

@@ -7,14 +7,14 @@ use crate::vid::RegionVid;
 use std::alloc::{AllocError, AllocFailed};
 use thiserror::Error;
 
-/// Why a call was refused. A refused call leaves every handle with the meaning that it had, and one that builds or
-/// declares adds nothing. Where a call has several causes to be refused, it answers one of them.
+/// Why a call was refused. A refused call leaves the meaning of every handle unchanged, and a refused call that builds
+/// or declares adds nothing. If a call could be refused for several causes, it returns one of them.
 #[derive(Clone, Copy, Debug, PartialEq, Eq, Drop, Error)]
 pub enum Refusal {
     /// A list or a table could not grow: the allocator refused memory during the call.
     #[error("memory was refused during the call: free some, and call again")]
     Memory,
-    /// The term or declaration is a new one, and its table already holds as many rows as its limit allows.
+    /// The term or declaration is new, and its table already holds as many rows as its limit allows.
     #[error("the term or declaration is new, and its table is full: give the interner a higher limit")]
     TableFull,
     /// The result would need a bound variable whose index is the greatest one or above, so that no index is left for
@@ -31,17 +31,17 @@ pub enum Refusal {
         /// The parameter's index, at or above the length of the list.
         index: u32,
     },
-    /// The argument at a parameter's index is of another kind than the parameter, as a region for a type.
+    /// The argument at a parameter's index is of another kind than the parameter, such as a region for a type.
     #[error("the argument for the parameter of index {index} is of another kind: give a type, a region or a constant, as it is")]
     ArgKind {
         /// The parameter's index.
         index: u32,
     },
-    /// The list of arguments has items, and this inference variable for a region occurs in the value where the walk
-    /// reaches it: outside every type, predicate and list of clauses that has no parameter.
+    /// The list of arguments has items, and this region inference variable occurs in the value where the walk reaches
+    /// it: outside every type, predicate and list of clauses that has no parameter.
     #[error("the region variable {0} occurs in the value: resolve it before the value is instantiated")]
     RegionVariable(RegionVid),
-    /// A folder answered a predicate that is no clause where a clause belongs.
+    /// A folder returned a predicate that is not a clause where a clause is required.
     #[error("a folder answered a predicate that is no clause where a clause belongs: answer a clause there")]
     NotAClause,
     /// A call of a script names an earlier answer that is absent, was refused or is of the wrong kind.

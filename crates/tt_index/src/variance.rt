@@ -22,7 +22,8 @@ impl Variance {
     /// variance. In `fn(*const Vec<i32>)` the pointer's place is contravariant, and a pointer and a `Vec` are covariant
     /// in what they hold, so `i32` is in a contravariant place.
     ///
-    /// The table is Figure 1 of 'Taming the Wildcards: Combining Definition- and Use-Site Variance', PLDI 2011.
+    /// An invariant or bivariant context decides alone: the result is invariant or bivariant whatever `inner` is. The
+    /// table is Figure 1 of 'Taming the Wildcards: Combining Definition- and Use-Site Variance', PLDI 2011.
     pub fn xform(self, inner: Variance) -> Variance
         ensures { result ≡ xform_of self inner }
     {

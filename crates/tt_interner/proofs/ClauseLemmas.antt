@@ -7,7 +7,7 @@ use Rattle.std.proofs.Math.Numerals.{add-one}
 use Rattle.std.proofs.Math.Seq.{drop-cons}
 use Rattle.std.proofs.Math.ListN.{drop_of_length-le}
 use Rattle.tt_kinds.specs.declared.binder.Binder.{Binder}
-use Rattle.tt_kinds.specs.declared.handle.Clause.{Clause}
+use Rattle.tt_kinds.specs.Handle.{Clause}
 use Rattle.tt_kinds.specs.declared.predicate_kind.ClauseKind.{ClauseKind}
 use Rattle.tt_kinds.specs.declared.predicate_kind.ClauseKind.TheVariants as clause
 use Rattle.tt_kinds.specs.declared.predicate_kind.PredicateKind.{PredicateKind}

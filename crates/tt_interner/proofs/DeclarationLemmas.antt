@@ -7,7 +7,7 @@ use Rattle.std.proofs.lemmas.Option.{same_Some, none-some, get_or_from_slice_get
 use Rattle.tt_kinds.specs.declared.declaration.Declaration.{Declaration}
 use Rattle.tt_kinds.specs.declared.table.Table.TheVariants.{Symbols, Declarations}
 use Rattle.tt_kinds.specs.declared.declaration.DeclarationKind.{DeclarationKind}
-use Rattle.tt_kinds.specs.declared.handle.Symbol.{Symbol}
+use Rattle.tt_kinds.specs.Handle.{Symbol}
 use Rattle.tt_kinds.specs.declared.id.DefId.{DefId}
 use Rattle.tt_index.specs.declared.refusal.Refusal.{Refusal}
 use Rattle.tt_kinds.specs.Shape.{fill, text_of, name_of}

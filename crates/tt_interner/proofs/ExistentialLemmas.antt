@@ -13,8 +13,8 @@ use Rattle.tt_kinds.specs.Shape.{item_shapes, fill, fill_all, AreParts, HasParts
 use Rattle.tt_kinds.specs.Kinds.{existential_shape, existential_kind_shape}
 use Rattle.tt_kinds.specs.declared.binder.Binder.{Binder}
 use Rattle.tt_kinds.specs.declared.existential.ExistentialPredicate.{ExistentialPredicate}
-use Rattle.tt_kinds.specs.declared.handle.PolyExistentialPredicate.{PolyExistentialPredicate}
-use Rattle.tt_kinds.specs.declared.handle.BoundExistentialPredicates.{BoundExistentialPredicates}
+use Rattle.tt_kinds.specs.Handle.{PolyExistentialPredicate}
+use Rattle.tt_kinds.specs.Handle.{BoundExistentialPredicates}
 use Rattle.tt_kinds.specs.declared.table.Table.TheVariants.{Existentials, ExistentialLists}
 use Rattle.tt_interner.specs.Rows.{Row, existential_row, existentials_row, row_table, row_shape, size, meaning, IsNew, AreRows, Grows}
 use Rattle.tt_interner.specs.Stored.{Terms, Extends, IsAt, IsCause, Builds, most_in_place}
@@ -22,6 +22,7 @@ use Rattle.tt_interner.specs.Existentials.{HaveParts, predicates_tree, AreExiste
 use Rattle.tt_interner.proofs.Growth.{Grows-more, Grows-refl, Grows-trans, Extends-refl, HasParts-grows, row-grows, IsAt-grows}
 use Rattle.tt_interner.proofs.Trees.{Means-row}
 use Rattle.tt_interner.proofs.StoresLemmas.{in_range, not_new, place_one, Builds-err_as}
+use Rattle.tt_kinds.specs.Handle.{handle}
 
 abbrev Predicate : Type 0
 Predicate = Binder ExistentialPredicate
@@ -249,9 +250,9 @@ compare limit old between are (q ∷ there) (g ∷ gs) at (p ∷ done) (h ∷ hs
     let same : s.0 ≡ old = ⊎_elim (λ same. same) (λ added. absurd (not_new old (existential_row p) g.number at_p added.1)) s.1.stores.grown in
     let at_h : IsAt old (existential_row p) h.number = subst (λ rows. IsAt rows (existential_row p) h.number) same s.1.stores.stored in
     let number : h.number ≡ g.number = place_one old (existential_row p) are h.number g.number at_h at_p in
-    let handle : h ≡ g = λ i. record { number = number i } in
+    let same_handle : h ≡ g = λ i. handle (number i) in
     ⊎_elim
-    (λ (both : IsSame old between hs gs left rest). inl (record { rows = both.rows; handles = ap (λ x. x ∷ hs) handle ∙ ap (λ xs. g ∷ xs) both.handles; same_left = both.same_left }))
+    (λ (both : IsSame old between hs gs left rest). inl (record { rows = both.rows; handles = ap (λ x. x ∷ hs) same_handle ∙ ap (λ xs. g ∷ xs) both.handles; same_left = both.same_left }))
     (λ apart. inr apart)
     (compare limit old between are there gs at.1 done hs (subst (λ rows. StoresEach limit rows between done hs) same s.2) rest left tail)
 compare limit old between are [] (g ∷ gs) at done hs s rest left split = absurd at

@@ -9,12 +9,6 @@ use Rattle.tt_index.specs.declared.numeric.FloatTy.{FloatTy}
 use Rattle.tt_index.specs.declared.numeric.FloatTy.TheVariants.{F16, F32, F64, F128}
 use Rattle.tt_index.specs.declared.qualifier.Mutability.{Mutability}
 use Rattle.tt_index.specs.declared.qualifier.Mutability.TheVariants.{Not, Mut}
-use Rattle.tt_kinds.specs.declared.handle.Ty.{Ty}
-use Rattle.tt_kinds.specs.declared.handle.Symbol.{Symbol}
-use Rattle.tt_kinds.specs.declared.handle.Const.{Const}
-use Rattle.tt_kinds.specs.declared.handle.Pat.{Pat}
-use Rattle.tt_kinds.specs.declared.handle.Clause.{Clause}
-use Rattle.tt_kinds.specs.declared.handle.PolyExistentialPredicate.{PolyExistentialPredicate}
 use Rattle.tt_kinds.specs.declared.alias.AliasTyKind.{AliasTyKind}
 use Rattle.tt_kinds.specs.declared.alias.AliasTyKind.TheVariants as alias
 use Rattle.tt_kinds.specs.contracts.alias.AliasTyKindPartialEq.TheImpl as aliases
@@ -44,7 +38,7 @@ use Rattle.tt_index.specs.contracts.numeric.IntTyPartialEq.TheImpl as ints
 use Rattle.tt_index.specs.contracts.numeric.UintTyPartialEq.TheImpl as uints
 use Rattle.tt_index.specs.contracts.numeric.FloatTyPartialEq.TheImpl as floats
 use Rattle.tt_index.specs.contracts.qualifier.MutabilityPartialEq.TheImpl as mutabilities
-use Rattle.tt_kinds.specs.contracts.handle.TyPartialEq.TheImpl as types
+use Rattle.tt_kinds.specs.Handle.{Handle}
 use Rattle.tt_kinds.specs.contracts.bound.BoundVarIndexKindPartialEq.TheImpl as indices
 use Rattle.tt_kinds.specs.contracts.bound.BoundRegionKindPartialEq.TheImpl as region_kinds
 use Rattle.tt_kinds.specs.contracts.bound.BoundTyKindPartialEq.TheImpl as ty_var_kinds
@@ -55,6 +49,8 @@ use Rattle.tt_kinds.specs.contracts.region_kind.RegionKindPartialEq.TheImpl as r
 use Rattle.tt_kinds.specs.contracts.generic_arg.GenericArgPartialEq.TheImpl as args
 use Rattle.tt_kinds.specs.contracts.ty_kind.InferTyPartialEq.TheImpl as infers
 use Rattle.tt_kinds.specs.contracts.ty_kind.TyKindPartialEq.TheImpl as kinds
+use Rattle.tt_kinds.specs.Id.{id_of}
+use Rattle.tt_kinds.specs.Handle.{handle}
 
 -- both parts of a test hold
 pub both : (a b : Bool) → (a && b) ≡ true → (a ≡ true) × (b ≡ true)
@@ -106,7 +102,7 @@ index_exact _ _ e = absurd (false≢true e)
 
 region_kind_exact : (a b : BoundRegionKind) → (region_kinds.ghosts).eq a b ≡ true → a ≡ b
 region_kind_exact region_kind.Anon region_kind.Anon e = refl
-region_kind_exact (region_kind.NamedForPrinting n) (region_kind.NamedForPrinting m) e = ap (λ k. region_kind.NamedForPrinting (record { number = k })) (eqb-true n.number m.number e)
+region_kind_exact (region_kind.NamedForPrinting n) (region_kind.NamedForPrinting m) e = ap (λ k. region_kind.NamedForPrinting (handle k)) (eqb-true n.number m.number e)
 region_kind_exact (region_kind.Named n) (region_kind.Named m) e = ap (λ k. region_kind.Named (record { number = k })) (eqb-true n.number m.number e)
 region_kind_exact region_kind.ClosureEnv region_kind.ClosureEnv e = refl
 region_kind_exact _ _ e = absurd (false≢true e)
@@ -134,29 +130,18 @@ infer_exact (FreshIntTy n) (FreshIntTy m) e = ap FreshIntTy (eqb-true n m e)
 infer_exact (FreshFloatTy n) (FreshFloatTy m) e = ap FreshFloatTy (eqb-true n m e)
 infer_exact _ _ e = absurd (false≢true e)
 
-pub symbol_exact : (a b : Symbol) → eqb a.number b.number ≡ true → a ≡ b
-symbol_exact a b e = ap (λ n. record { number = n }) (eqb-true a.number b.number e)
+-- handles, by their numbers
+abbrev pub handle_eq : {K : Type 0} → Handle K → Handle K → Bool
+handle_eq a b = eqb a.number b.number
 
-pub ty_exact : (a b : Ty) → (types.ghosts).eq a b ≡ true → a ≡ b
-ty_exact a b e = ap (λ n. record { number = n }) (eqb-true a.number b.number e)
-
-pub const_handle_exact : (a b : Const) → eqb a.number b.number ≡ true → a ≡ b
-const_handle_exact a b e = ap (λ n. record { number = n }) (eqb-true a.number b.number e)
-
-pub pat_handle_exact : (a b : Pat) → eqb a.number b.number ≡ true → a ≡ b
-pat_handle_exact a b e = ap (λ n. record { number = n }) (eqb-true a.number b.number e)
-
-pub clause_handle_exact : (a b : Clause) → eqb a.number b.number ≡ true → a ≡ b
-clause_handle_exact a b e = ap (λ n. record { number = n }) (eqb-true a.number b.number e)
-
-pub existential_handle_exact : (a b : PolyExistentialPredicate) → eqb a.number b.number ≡ true → a ≡ b
-existential_handle_exact a b e = ap (λ n. record { number = n }) (eqb-true a.number b.number e)
+pub handle_exact : {K : Type 0} (a b : Handle K) → handle_eq a b ≡ true → a ≡ b
+handle_exact a b e = ap (λ n. handle n) (eqb-true a.number b.number e)
 
 alias_exact : (a b : AliasTyKind) → (aliases.ghosts).eq a b ≡ true → a ≡ b
-alias_exact (alias.Projection n) (alias.Projection m) e = ap (λ k. alias.Projection (record { number = k })) (eqb-true n.number m.number e)
-alias_exact (alias.Inherent n) (alias.Inherent m) e = ap (λ k. alias.Inherent (record { number = k })) (eqb-true n.number m.number e)
-alias_exact (alias.Opaque n) (alias.Opaque m) e = ap (λ k. alias.Opaque (record { number = k })) (eqb-true n.number m.number e)
-alias_exact (alias.Free n) (alias.Free m) e = ap (λ k. alias.Free (record { number = k })) (eqb-true n.number m.number e)
+alias_exact (alias.Projection n) (alias.Projection m) e = ap (λ k. alias.Projection (id_of k)) (eqb-true n.number m.number e)
+alias_exact (alias.Inherent n) (alias.Inherent m) e = ap (λ k. alias.Inherent (id_of k)) (eqb-true n.number m.number e)
+alias_exact (alias.Opaque n) (alias.Opaque m) e = ap (λ k. alias.Opaque (id_of k)) (eqb-true n.number m.number e)
+alias_exact (alias.Free n) (alias.Free m) e = ap (λ k. alias.Free (id_of k)) (eqb-true n.number m.number e)
 alias_exact _ _ e = absurd (false≢true e)
 
 header_exact : (a b : FnHeader) → eqb a.fn_sig_kind.flags b.fn_sig_kind.flags ≡ true → a ≡ b
@@ -167,12 +152,12 @@ binder_exact a b e =
     let h = both (eqb a.value.inputs_and_output.number b.value.inputs_and_output.number) (eqb a.bound_vars.number b.bound_vars.number) e in
     let values = eqb-true a.value.inputs_and_output.number b.value.inputs_and_output.number h.0 in
     let vars = eqb-true a.bound_vars.number b.bound_vars.number h.1 in
-    λ i. record { value = record { inputs_and_output = record { number = values i } }; bound_vars = record { number = vars i } }
+    λ i. record { value = record { inputs_and_output = handle (values i) }; bound_vars = handle (vars i) }
 
 pub region_exact : (a b : RegionKind) → (regions.ghosts).eq a b ≡ true → a ≡ b
 region_exact (ReEarlyParam p) (ReEarlyParam q) e =
     let h = both (eqb p.index q.index) (eqb p.name.number q.name.number) e in
-    let indices = eqb-true p.index q.index h.0 in let names = symbol_exact p.name q.name h.1 in
+    let indices = eqb-true p.index q.index h.0 in let names = handle_exact p.name q.name h.1 in
     λ i. ReEarlyParam (record { index = indices i; name = names i })
 region_exact (ReBound i b) (ReBound j c) e =
     let h = both ((indices.ghosts).eq i j) ((bound_regions.ghosts).eq b c) e in
@@ -194,8 +179,8 @@ var_exact _ _ e = absurd (false≢true e)
 
 pub arg_exact : (a b : GenericArgKind) → (args.ghosts).eq a b ≡ true → a ≡ b
 arg_exact (arg.Lifetime a) (arg.Lifetime b) e = ap arg.Lifetime (region_exact a b e)
-arg_exact (arg.«Type» a) (arg.«Type» b) e = ap arg.«Type» (ty_exact a b e)
-arg_exact (arg.Const a) (arg.Const b) e = ap arg.Const (const_handle_exact a b e)
+arg_exact (arg.«Type» a) (arg.«Type» b) e = ap arg.«Type» (handle_exact a b e)
+arg_exact (arg.Const a) (arg.Const b) e = ap arg.Const (handle_exact a b e)
 arg_exact _ _ e = absurd (false≢true e)
 
 pub kind_exact : (a b : TyKind) → (kinds.ghosts).eq a b ≡ true → a ≡ b
@@ -208,7 +193,7 @@ kind_exact ty.Str ty.Str e = refl
 kind_exact ty.Never ty.Never e = refl
 kind_exact (ty.Param p) (ty.Param q) e =
     let h = both (eqb p.index q.index) (eqb p.name.number q.name.number) e in
-    let indices = eqb-true p.index q.index h.0 in let names = symbol_exact p.name q.name h.1 in
+    let indices = eqb-true p.index q.index h.0 in let names = handle_exact p.name q.name h.1 in
     λ i. ty.Param (record { index = indices i; name = names i })
 kind_exact (ty.Bound i b) (ty.Bound j c) e =
     let h = both ((indices.ghosts).eq i j) ((bound_types.ghosts).eq b c) e in
@@ -217,30 +202,30 @@ kind_exact (ty.Placeholder p) (ty.Placeholder q) e = ap ty.Placeholder (placehol
 kind_exact (ty.Infer i) (ty.Infer j) e = ap ty.Infer (infer_exact i j e)
 kind_exact (ty.Error x) (ty.Error y) e = ap (λ n. ty.Error (record { 0 = n })) (eqb-true x.0 y.0 e)
 kind_exact (ty.Ref r t m) (ty.Ref r' t' m') e =
-    let h = both ((regions.ghosts).eq r r') ((types.ghosts).eq t t' && (mutabilities.ghosts).eq m m') e in
-    let k = both ((types.ghosts).eq t t') ((mutabilities.ghosts).eq m m') h.1 in
-    let same_regions = region_exact r r' h.0 in let same_types = ty_exact t t' k.0 in let same_mutabilities = mutability_exact m m' k.1 in cc
+    let h = both ((regions.ghosts).eq r r') (handle_eq t t' && (mutabilities.ghosts).eq m m') e in
+    let k = both (handle_eq t t') ((mutabilities.ghosts).eq m m') h.1 in
+    let same_regions = region_exact r r' h.0 in let same_types = handle_exact t t' k.0 in let same_mutabilities = mutability_exact m m' k.1 in cc
 kind_exact (ty.RawPtr t m) (ty.RawPtr t' m') e =
-    let h = both ((types.ghosts).eq t t') ((mutabilities.ghosts).eq m m') e in
-    let same_types = ty_exact t t' h.0 in let same_mutabilities = mutability_exact m m' h.1 in cc
-kind_exact (ty.Slice t) (ty.Slice t') e = ap ty.Slice (ty_exact t t' e)
-kind_exact (ty.Tuple ts) (ty.Tuple ts') e = ap (λ n. ty.Tuple (record { number = n })) (eqb-true ts.number ts'.number e)
+    let h = both (handle_eq t t') ((mutabilities.ghosts).eq m m') e in
+    let same_types = handle_exact t t' h.0 in let same_mutabilities = mutability_exact m m' h.1 in cc
+kind_exact (ty.Slice t) (ty.Slice t') e = ap ty.Slice (handle_exact t t' e)
+kind_exact (ty.Tuple ts) (ty.Tuple ts') e = ap (λ n. ty.Tuple (handle n)) (eqb-true ts.number ts'.number e)
 kind_exact (ty.FnPtr b h) (ty.FnPtr b' h') e =
     let k = both (eqb b.value.inputs_and_output.number b'.value.inputs_and_output.number && eqb b.bound_vars.number b'.bound_vars.number)
     (eqb h.fn_sig_kind.flags h'.fn_sig_kind.flags) e in
     let binders = binder_exact b b' k.0 in let headers = header_exact h h' k.1 in cc
-kind_exact (ty.Adt d args) (ty.Adt d' args') e = two_numbers (λ n m. ty.Adt (record { number = n }) (record { number = m })) d.number args.number d'.number args'.number e
-kind_exact (ty.Foreign d) (ty.Foreign d') e = ap (λ n. ty.Foreign (record { number = n })) (eqb-true d.number d'.number e)
-kind_exact (ty.Array t c) (ty.Array t' c') e = two_numbers (λ n m. ty.Array (record { number = n }) (record { number = m })) t.number c.number t'.number c'.number e
-kind_exact (ty.Pat t p) (ty.Pat t' p') e = two_numbers (λ n m. ty.Pat (record { number = n }) (record { number = m })) t.number p.number t'.number p'.number e
+kind_exact (ty.Adt d args) (ty.Adt d' args') e = two_numbers (λ n m. ty.Adt (id_of n) (handle m)) d.number args.number d'.number args'.number e
+kind_exact (ty.Foreign d) (ty.Foreign d') e = ap (λ n. ty.Foreign (id_of n)) (eqb-true d.number d'.number e)
+kind_exact (ty.Array t c) (ty.Array t' c') e = two_numbers (λ n m. ty.Array (handle n) (handle m)) t.number c.number t'.number c'.number e
+kind_exact (ty.Pat t p) (ty.Pat t' p') e = two_numbers (λ n m. ty.Pat (handle n) (handle m)) t.number p.number t'.number p'.number e
 kind_exact (ty.UnsafeBinder b) (ty.UnsafeBinder b') e =
-    two_numbers (λ n m. ty.UnsafeBinder (record { 0 = record { value = record { number = n }; bound_vars = record { number = m } } })) b.0.value.number b.0.bound_vars.number b'.0.value.number b'.0.bound_vars.number e
+    two_numbers (λ n m. ty.UnsafeBinder (record { 0 = record { value = handle n; bound_vars = handle m } })) b.0.value.number b.0.bound_vars.number b'.0.value.number b'.0.bound_vars.number e
 kind_exact (ty.Dynamic ps r) (ty.Dynamic ps' r') e =
-    two_exact (λ n x. ty.Dynamic (record { number = n }) x) (eqb ps.number ps'.number) ((regions.ghosts).eq r r') (eqb-true ps.number ps'.number) (region_exact r r') e
-kind_exact (ty.Closure d args) (ty.Closure d' args') e = two_numbers (λ n m. ty.Closure (record { number = n }) (record { number = m })) d.number args.number d'.number args'.number e
-kind_exact (ty.CoroutineClosure d args) (ty.CoroutineClosure d' args') e = two_numbers (λ n m. ty.CoroutineClosure (record { number = n }) (record { number = m })) d.number args.number d'.number args'.number e
-kind_exact (ty.Coroutine d args) (ty.Coroutine d' args') e = two_numbers (λ n m. ty.Coroutine (record { number = n }) (record { number = m })) d.number args.number d'.number args'.number e
-kind_exact (ty.CoroutineWitness d args) (ty.CoroutineWitness d' args') e = two_numbers (λ n m. ty.CoroutineWitness (record { number = n }) (record { number = m })) d.number args.number d'.number args'.number e
+    two_exact (λ n x. ty.Dynamic (handle n) x) (eqb ps.number ps'.number) ((regions.ghosts).eq r r') (eqb-true ps.number ps'.number) (region_exact r r') e
+kind_exact (ty.Closure d args) (ty.Closure d' args') e = two_numbers (λ n m. ty.Closure (id_of n) (handle m)) d.number args.number d'.number args'.number e
+kind_exact (ty.CoroutineClosure d args) (ty.CoroutineClosure d' args') e = two_numbers (λ n m. ty.CoroutineClosure (id_of n) (handle m)) d.number args.number d'.number args'.number e
+kind_exact (ty.Coroutine d args) (ty.Coroutine d' args') e = two_numbers (λ n m. ty.Coroutine (id_of n) (handle m)) d.number args.number d'.number args'.number e
+kind_exact (ty.CoroutineWitness d args) (ty.CoroutineWitness d' args') e = two_numbers (λ n m. ty.CoroutineWitness (id_of n) (handle m)) d.number args.number d'.number args'.number e
 kind_exact (ty.Alias a) (ty.Alias b) e =
-    two_exact (λ n k. ty.Alias (record { args = record { number = n }; kind = k })) (eqb a.args.number b.args.number) ((aliases.ghosts).eq a.kind b.kind) (eqb-true a.args.number b.args.number) (alias_exact a.kind b.kind) e
+    two_exact (λ n k. ty.Alias (record { args = handle n; kind = k })) (eqb a.args.number b.args.number) ((aliases.ghosts).eq a.kind b.kind) (eqb-true a.args.number b.args.number) (alias_exact a.kind b.kind) e
 kind_exact _ _ e = absurd (false≢true e)

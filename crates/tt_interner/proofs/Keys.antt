@@ -5,14 +5,13 @@ use Rattle.std.proofs.lemmas.Bool.Decides.{nat_tests}
 use Rattle.std.proofs.lemmas.Bool.{false≢true}
 use Rattle.std.specs.Cmp.Lexicographic.{pointwise, lists_equiv, bytes_decides}
 use Rattle.std.specs.Str.{bytes_eq}
-use Rattle.tt_kinds.specs.declared.handle.Ty.{Ty}
+use Rattle.tt_kinds.specs.Handle.{Ty}
+use Rattle.tt_kinds.specs.Handle.{Handle}
 use Rattle.tt_kinds.specs.declared.generic_arg.GenericArgKind.{GenericArgKind}
 use Rattle.tt_kinds.specs.declared.bound.BoundVariableKind.{BoundVariableKind}
 use Rattle.tt_kinds.specs.declared.ty_kind.TyKind.{TyKind}
 use Rattle.tt_kinds.specs.contracts.ty_kind.TyKindPartialEq.TheImpl as kinds
 use Rattle.tt_kinds.specs.contracts.ty_kind.TyKindEq.TheImpl.Laws as kind_laws
-use Rattle.tt_kinds.specs.contracts.handle.TyPartialEq.TheImpl as types
-use Rattle.tt_kinds.specs.contracts.handle.TyEq.TheImpl.Laws as type_laws
 use Rattle.tt_kinds.specs.contracts.generic_arg.GenericArgPartialEq.TheImpl as args
 use Rattle.tt_kinds.specs.contracts.generic_arg.GenericArgEq.TheImpl.Laws as arg_laws
 use Rattle.tt_kinds.specs.contracts.bound.BoundVariableKindPartialEq.TheImpl as vars
@@ -20,10 +19,10 @@ use Rattle.tt_kinds.specs.contracts.bound.BoundVariableKindEq.TheImpl.Laws as va
 use Rattle.tt_kinds.specs.declared.predicate.OutlivesPredicate.{OutlivesPredicate}
 use Rattle.tt_kinds.specs.contracts.region_kind.RegionKindPartialEq.TheImpl as regions
 use Rattle.tt_kinds.specs.contracts.region_kind.RegionKindEq.TheImpl.Laws as region_laws
-use Rattle.tt_kinds.specs.declared.handle.Const.{Const}
-use Rattle.tt_kinds.specs.declared.handle.Pat.{Pat}
-use Rattle.tt_kinds.specs.declared.handle.Clause.{Clause}
-use Rattle.tt_kinds.specs.declared.handle.PolyExistentialPredicate.{PolyExistentialPredicate}
+use Rattle.tt_kinds.specs.Handle.{Const}
+use Rattle.tt_kinds.specs.Handle.{Pat}
+use Rattle.tt_kinds.specs.Handle.{Clause}
+use Rattle.tt_kinds.specs.Handle.{PolyExistentialPredicate}
 use Rattle.tt_kinds.specs.declared.binder.Binder.{Binder}
 use Rattle.tt_kinds.specs.declared.const_kind.ConstKind.{ConstKind}
 use Rattle.tt_kinds.specs.declared.predicate_kind.PredicateKind.{PredicateKind}
@@ -37,18 +36,11 @@ use Rattle.tt_kinds.specs.contracts.const_kind.ConstKindPartialEq.TheImpl as con
 use Rattle.tt_kinds.specs.contracts.const_kind.ConstKindEq.TheImpl.Laws as const_kind_laws
 use Rattle.tt_kinds.specs.contracts.pattern.PatternKindPartialEq.TheImpl as pattern_kinds
 use Rattle.tt_kinds.specs.contracts.pattern.PatternKindEq.TheImpl.Laws as pattern_kind_laws
-use Rattle.tt_kinds.specs.contracts.handle.ConstPartialEq.TheImpl as consts
-use Rattle.tt_kinds.specs.contracts.handle.ConstEq.TheImpl.Laws as const_laws
-use Rattle.tt_kinds.specs.contracts.handle.PatPartialEq.TheImpl as pats
-use Rattle.tt_kinds.specs.contracts.handle.PatEq.TheImpl.Laws as pat_laws
-use Rattle.tt_kinds.specs.contracts.handle.ClausePartialEq.TheImpl as clauses
-use Rattle.tt_kinds.specs.contracts.handle.ClauseEq.TheImpl.Laws as clause_laws
-use Rattle.tt_kinds.specs.contracts.handle.PolyExistentialPredicatePartialEq.TheImpl as existentials
-use Rattle.tt_kinds.specs.contracts.handle.PolyExistentialPredicateEq.TheImpl.Laws as existential_laws
 use Rattle.tt_interner.specs.Rows.{Row, type_row, const_row, pat_row, predicate_row, existential_row, clauses_row, tys_row, consts_row, args_row, pats_row, vars_row, existentials_row, assumptions_row, text_row}
-use Rattle.tt_interner.proofs.KeyLemmas.{both, ty_exact, const_handle_exact, pat_handle_exact, clause_handle_exact, existential_handle_exact, two_exact, arg_exact, region_exact, var_exact, kind_exact}
+use Rattle.tt_interner.proofs.KeyLemmas.{both, handle_eq, handle_exact, two_exact, arg_exact, region_exact, var_exact, kind_exact}
 use Rattle.tt_interner.proofs.KindKeys.{const_kind_exact, pattern_kind_exact, predicate_kind_exact, existential_kind_exact}
 use Rattle.tt_interner.proofs.FoundLemmas.{IsKey}
+use Rattle.tt_kinds.specs.Handle.{handle}
 
 -- a test that is exact, of what a key holds
 pub key_by : {K X : Type 0} (eq : X → X → Bool) (exact : (a b : X) → eq a b ≡ true → a ≡ b) (same : (a : X) → eq a a ≡ true)
@@ -65,11 +57,15 @@ pointwise_exact eq exact (x ∷ xs) (y ∷ ys) e =
     let first = exact x y parts.0 in let others = pointwise_exact eq exact xs ys parts.1 in cc
 pointwise_exact eq exact _ _ e = absurd (false≢true e)
 
+handles_same : {K : Type 0} (hs : List (Handle K)) → pointwise handle_eq hs hs ≡ true
+handles_same [] = refl
+handles_same (h ∷ hs) = let first : handle_eq h h ≡ true = grind (arith, nat_tests) in let others = handles_same hs in cc
+
 pub type_key : (x : TyKind) → IsKey ((kinds.ghosts).eq x) type_row (type_row x)
 type_key = key_by (kinds.ghosts).eq kind_exact (kind_laws.laws-law).refl (λ k. k) type_row (λ a b e. cc)
 
-pub tys_key : {K : Type 0} (items : K → List Ty) (xs : List Ty) → IsKey (λ k. pointwise (types.ghosts).eq xs (items k)) (λ k. tys_row (items k)) (tys_row xs)
-tys_key items = key_by (pointwise (types.ghosts).eq) (pointwise_exact (types.ghosts).eq ty_exact) (lists_equiv type_laws.laws-law).refl items tys_row (λ a b e. cc)
+pub tys_key : {K : Type 0} (items : K → List Ty) (xs : List Ty) → IsKey (λ k. pointwise handle_eq xs (items k)) (λ k. tys_row (items k)) (tys_row xs)
+tys_key items = key_by (pointwise handle_eq) (pointwise_exact handle_eq handle_exact) handles_same items tys_row (λ a b e. cc)
 
 pub args_key : {K : Type 0} (items : K → List GenericArgKind) (xs : List GenericArgKind) → IsKey (λ k. pointwise (args.ghosts).eq xs (items k)) (λ k. args_row (items k)) (args_row xs)
 args_key items = key_by (pointwise (args.ghosts).eq) (pointwise_exact (args.ghosts).eq arg_exact) (lists_equiv arg_laws.laws-law).refl items args_row (λ a b e. cc)
@@ -80,17 +76,17 @@ vars_key items = key_by (pointwise (vars.ghosts).eq) (pointwise_exact (vars.ghos
 pub text_key : {K : Type 0} (bytes : K → List ℕ) (xs : List ℕ) → IsKey (λ k. bytes_eq xs (bytes k)) (λ k. text_row (bytes k)) (text_row xs)
 text_key bytes = key_by bytes_eq (λ a b. (bytes_decides a b).0) (λ a. (bytes_decides a a).1 refl) bytes text_row (λ a b e. cc)
 
-pub consts_key : {K : Type 0} (items : K → List Const) (xs : List Const) → IsKey (λ k. pointwise (consts.ghosts).eq xs (items k)) (λ k. consts_row (items k)) (consts_row xs)
-consts_key items = key_by (pointwise (consts.ghosts).eq) (pointwise_exact (consts.ghosts).eq const_handle_exact) (lists_equiv const_laws.laws-law).refl items consts_row (λ a b e. cc)
+pub consts_key : {K : Type 0} (items : K → List Const) (xs : List Const) → IsKey (λ k. pointwise handle_eq xs (items k)) (λ k. consts_row (items k)) (consts_row xs)
+consts_key items = key_by (pointwise handle_eq) (pointwise_exact handle_eq handle_exact) handles_same items consts_row (λ a b e. cc)
 
-pub pats_key : {K : Type 0} (items : K → List Pat) (xs : List Pat) → IsKey (λ k. pointwise (pats.ghosts).eq xs (items k)) (λ k. pats_row (items k)) (pats_row xs)
-pats_key items = key_by (pointwise (pats.ghosts).eq) (pointwise_exact (pats.ghosts).eq pat_handle_exact) (lists_equiv pat_laws.laws-law).refl items pats_row (λ a b e. cc)
+pub pats_key : {K : Type 0} (items : K → List Pat) (xs : List Pat) → IsKey (λ k. pointwise handle_eq xs (items k)) (λ k. pats_row (items k)) (pats_row xs)
+pats_key items = key_by (pointwise handle_eq) (pointwise_exact handle_eq handle_exact) handles_same items pats_row (λ a b e. cc)
 
-pub clauses_key : {K : Type 0} (items : K → List Clause) (xs : List Clause) → IsKey (λ k. pointwise (clauses.ghosts).eq xs (items k)) (λ k. clauses_row (items k)) (clauses_row xs)
-clauses_key items = key_by (pointwise (clauses.ghosts).eq) (pointwise_exact (clauses.ghosts).eq clause_handle_exact) (lists_equiv clause_laws.laws-law).refl items clauses_row (λ a b e. cc)
+pub clauses_key : {K : Type 0} (items : K → List Clause) (xs : List Clause) → IsKey (λ k. pointwise handle_eq xs (items k)) (λ k. clauses_row (items k)) (clauses_row xs)
+clauses_key items = key_by (pointwise handle_eq) (pointwise_exact handle_eq handle_exact) handles_same items clauses_row (λ a b e. cc)
 
-pub existentials_key : {K : Type 0} (items : K → List PolyExistentialPredicate) (xs : List PolyExistentialPredicate) → IsKey (λ k. pointwise (existentials.ghosts).eq xs (items k)) (λ k. existentials_row (items k)) (existentials_row xs)
-existentials_key items = key_by (pointwise (existentials.ghosts).eq) (pointwise_exact (existentials.ghosts).eq existential_handle_exact) (lists_equiv existential_laws.laws-law).refl items existentials_row (λ a b e. cc)
+pub existentials_key : {K : Type 0} (items : K → List PolyExistentialPredicate) (xs : List PolyExistentialPredicate) → IsKey (λ k. pointwise handle_eq xs (items k)) (λ k. existentials_row (items k)) (existentials_row xs)
+existentials_key items = key_by (pointwise handle_eq) (pointwise_exact handle_eq handle_exact) handles_same items existentials_row (λ a b e. cc)
 
 -- assumptions, by the tests of what outlives and of the region
 abbrev assumption_eq : OutlivesPredicate GenericArgKind → OutlivesPredicate GenericArgKind → Bool
@@ -118,7 +114,7 @@ abbrev binder_eq : {T : Type 0} → (T → T → Bool) → Binder T → Binder T
 binder_eq eq a b = eq a.value b.value && eqb a.bound_vars.number b.bound_vars.number
 
 binder_exact : {T : Type 0} (eq : T → T → Bool) → ((a b : T) → eq a b ≡ true → a ≡ b) → (a b : Binder T) → binder_eq eq a b ≡ true → a ≡ b
-binder_exact eq exact a b = two_exact (λ x n. record { value = x; bound_vars = record { number = n } }) (eq a.value b.value) (eqb a.bound_vars.number b.bound_vars.number) (exact a.value b.value) (eqb-true a.bound_vars.number b.bound_vars.number)
+binder_exact eq exact a b = two_exact (λ x n. record { value = x; bound_vars = handle n }) (eq a.value b.value) (eqb a.bound_vars.number b.bound_vars.number) (exact a.value b.value) (eqb-true a.bound_vars.number b.bound_vars.number)
 
 binder_same : {T : Type 0} (eq : T → T → Bool) → ((a : T) → eq a a ≡ true) → (a : Binder T) → binder_eq eq a a ≡ true
 binder_same eq same a = let values = same a.value in let lists : eqb a.bound_vars.number a.bound_vars.number ≡ true = grind (arith, nat_tests) in cc

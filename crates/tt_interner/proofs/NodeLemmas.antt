@@ -6,11 +6,11 @@ use Rattle.std.proofs.lemmas.List.Elements.{All-nil, All-cons}
 use Rattle.std.proofs.lemmas.Option.{slice_get_within, same_Some, none-some, slice_get-get_or}
 use Rattle.tt_index.specs.declared.refusal.Refusal.{Refusal}
 use Rattle.tt_index.specs.declared.refusal.Refusal.TheVariants.{Memory, TableFull, GreatestIndex, NoArguments, ArgOutOfRange, ArgKind, RegionVariable, NotAClause, NoSuchAnswer}
-use Rattle.tt_kinds.specs.declared.handle.Ty.{Ty}
-use Rattle.tt_kinds.specs.declared.handle.Const.{Const}
-use Rattle.tt_kinds.specs.declared.handle.Pat.{Pat}
-use Rattle.tt_kinds.specs.declared.handle.Clause.{Clause}
-use Rattle.tt_kinds.specs.declared.handle.PolyExistentialPredicate.{PolyExistentialPredicate}
+use Rattle.tt_kinds.specs.Handle.{Ty}
+use Rattle.tt_kinds.specs.Handle.{Const}
+use Rattle.tt_kinds.specs.Handle.{Pat}
+use Rattle.tt_kinds.specs.Handle.{Clause}
+use Rattle.tt_kinds.specs.Handle.{PolyExistentialPredicate}
 use Rattle.tt_kinds.specs.declared.generic_arg.GenericArgKind.{GenericArgKind}
 use Rattle.tt_kinds.specs.declared.generic_arg.GenericArgKind.TheVariants as arg
 use Rattle.tt_kinds.specs.declared.parts.List.{List as StoredList}

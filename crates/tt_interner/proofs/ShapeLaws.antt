@@ -16,7 +16,7 @@ use Rattle.tt_kinds.specs.declared.generic_arg.GenericArgKind.TheVariants as arg
 use Rattle.tt_kinds.specs.declared.term.Term.{Term}
 use Rattle.tt_kinds.specs.declared.term.TermKind.{TermKind}
 use Rattle.tt_kinds.specs.declared.term.TermKind.TheVariants as term_kind
-use Rattle.tt_kinds.specs.declared.handle.Ty.{Ty}
+use Rattle.tt_kinds.specs.Handle.{Ty}
 use Rattle.tt_kinds.specs.declared.ty_kind.TyKind.{TyKind}
 use Rattle.tt_kinds.specs.declared.ty_kind.TyKind.TheVariants as ty
 use Rattle.tt_kinds.specs.declared.const_kind.ValTreeKind.{ValTreeKind}
@@ -46,6 +46,8 @@ use Rattle.tt_kinds.specs.Kinds.{Form, ty_form, const_form, form_shape, relabell
 use Rattle.tt_kinds.specs.Values.{assumption_shape}
 use Rattle.tt_interner.specs.Rows.{Row, type_row, const_row, pat_row, predicate_row, existential_row, clauses_row, tys_row, consts_row, args_row, pats_row, vars_row, existentials_row, assumptions_row, text_row, declared_row, row_table, row_shape}
 use Rattle.tt_interner.proofs.Fill.{tree_table, label_table-rename}
+use Rattle.tt_kinds.specs.Id.{id_of}
+use Rattle.tt_kinds.specs.Handle.{handle}
 
 -- the index of a variable, as a kind has it
 abbrev index_from : Depth → BoundVarIndexKind
@@ -54,7 +56,7 @@ index_from canonical = Canonical
 
 abbrev name_from : RegionName ℕ → BoundRegionKind
 name_from anonymous = region_kind.Anon
-name_from (printed n) = region_kind.NamedForPrinting (record { number = n })
+name_from (printed n) = region_kind.NamedForPrinting (handle n)
 name_from (named d) = region_kind.Named (record { number = d })
 name_from environment = region_kind.ClosureEnv
 
@@ -80,7 +82,7 @@ var_from (type_variable k) = variable.Ty k
 var_from const_variable = variable.Const
 
 abbrev region_from : Shape → RegionKind
-region_from (param s i name) = ReEarlyParam (record { index = i; name = record { number = name } })
+region_from (param s i name) = ReEarlyParam (record { index = i; name = handle name })
 region_from (bound s d e) = ReBound (index_from d) (record { var = e.var; kind = region_var_from e.kind })
 region_from (region r) = free_from r
 region_from _ = ReErased
@@ -110,13 +112,13 @@ record_under (binder n (node (record_label m) ss)) = m
 record_under _ = ambiguous_record
 
 abbrev arg_from : Shape → GenericArgKind
-arg_from (stored Consts n) = arg.Const (record { number = n })
-arg_from (stored t n) = arg.«Type» (record { number = n })
+arg_from (stored Consts n) = arg.Const (handle n)
+arg_from (stored t n) = arg.«Type» (handle n)
 arg_from s = arg.Lifetime (region_from s)
 
 abbrev term_from : Shape → Term
-term_from (stored Consts n) = record { kind = term_kind.Const (record { number = n }) }
-term_from s = record { kind = term_kind.Ty (record { number = number_from s }) }
+term_from (stored Consts n) = record { kind = term_kind.Const (handle n) }
+term_from s = record { kind = term_kind.Ty (handle (number_from s)) }
 
 abbrev items_from : {T : Type 0} → (Shape → T) → Shapes → List T
 items_from item none = []
@@ -133,79 +135,79 @@ kind_from never_type ss = ty.Never
 kind_from (placeholder_type p) ss = ty.Placeholder p
 kind_from (infer_type i) ss = ty.Infer i
 kind_from (error_type e) ss = ty.Error (record { 0 = e })
-kind_from (ref_type m) ss = ty.Ref (region_from (part_at 0 ss)) (record { number = number_at 1 ss }) m
-kind_from (raw_ptr_type m) ss = ty.RawPtr (record { number = number_at 0 ss }) m
-kind_from slice_type ss = ty.Slice (record { number = number_at 0 ss })
-kind_from tuple_type ss = ty.Tuple (record { number = number_at 0 ss })
+kind_from (ref_type m) ss = ty.Ref (region_from (part_at 0 ss)) (handle (number_at 1 ss)) m
+kind_from (raw_ptr_type m) ss = ty.RawPtr (handle (number_at 0 ss)) m
+kind_from slice_type ss = ty.Slice (handle (number_at 0 ss))
+kind_from tuple_type ss = ty.Tuple (handle (number_at 0 ss))
 kind_from (fn_ptr_type h) ss =
-    ty.FnPtr (record { value = record { inputs_and_output = record { number = number_at 0 (parts_under (part_at 0 ss)) } }; bound_vars = record { number = vars_from (part_at 0 ss) } }) h
-kind_from (foreign_type d) ss = ty.Foreign (record { number = d })
-kind_from (adt_type d) ss = ty.Adt (record { number = d }) (record { number = number_at 0 ss })
-kind_from array_type ss = ty.Array (record { number = number_at 0 ss }) (record { number = number_at 1 ss })
-kind_from pat_type ss = ty.Pat (record { number = number_at 0 ss }) (record { number = number_at 1 ss })
+    ty.FnPtr (record { value = record { inputs_and_output = handle (number_at 0 (parts_under (part_at 0 ss))) }; bound_vars = handle (vars_from (part_at 0 ss)) }) h
+kind_from (foreign_type d) ss = ty.Foreign (id_of d)
+kind_from (adt_type d) ss = ty.Adt (id_of d) (handle (number_at 0 ss))
+kind_from array_type ss = ty.Array (handle (number_at 0 ss)) (handle (number_at 1 ss))
+kind_from pat_type ss = ty.Pat (handle (number_at 0 ss)) (handle (number_at 1 ss))
 kind_from unsafe_binder_type ss =
-    ty.UnsafeBinder (record { 0 = record { value = record { number = number_at 0 (parts_under (part_at 0 ss)) }; bound_vars = record { number = vars_from (part_at 0 ss) } } })
-kind_from dynamic_type ss = ty.Dynamic (record { number = number_at 0 ss }) (region_from (part_at 1 ss))
-kind_from (closure_type d) ss = ty.Closure (record { number = d }) (record { number = number_at 0 ss })
-kind_from (coroutine_closure_type d) ss = ty.CoroutineClosure (record { number = d }) (record { number = number_at 0 ss })
-kind_from (coroutine_type d) ss = ty.Coroutine (record { number = d }) (record { number = number_at 0 ss })
-kind_from (coroutine_witness_type d) ss = ty.CoroutineWitness (record { number = d }) (record { number = number_at 0 ss })
-kind_from (alias_type k) ss = ty.Alias (record { args = record { number = number_at 0 ss }; kind = k })
+    ty.UnsafeBinder (record { 0 = record { value = handle (number_at 0 (parts_under (part_at 0 ss))); bound_vars = handle (vars_from (part_at 0 ss)) } })
+kind_from dynamic_type ss = ty.Dynamic (handle (number_at 0 ss)) (region_from (part_at 1 ss))
+kind_from (closure_type d) ss = ty.Closure (id_of d) (handle (number_at 0 ss))
+kind_from (coroutine_closure_type d) ss = ty.CoroutineClosure (id_of d) (handle (number_at 0 ss))
+kind_from (coroutine_type d) ss = ty.Coroutine (id_of d) (handle (number_at 0 ss))
+kind_from (coroutine_witness_type d) ss = ty.CoroutineWitness (id_of d) (handle (number_at 0 ss))
+kind_from (alias_type k) ss = ty.Alias (record { args = handle (number_at 0 ss); kind = k })
 
 abbrev value_from : Shapes → ValTreeKind → ConstKind
-value_from ss k = const.Value (record { ty = record { number = number_at 0 ss }; valtree = record { kind = k } })
+value_from ss k = const.Value (record { ty = handle (number_at 0 ss); valtree = record { kind = k } })
 
 abbrev const_from : ConstLabel → Shapes → ConstKind
 const_from (infer_const i) ss = const.Infer i
 const_from (placeholder_const p) ss = const.Placeholder p
-const_from (unevaluated_const d) ss = const.Unevaluated (record { def = record { number = d }; args = record { number = number_at 0 ss } })
+const_from (unevaluated_const d) ss = const.Unevaluated (record { def = id_of d; args = handle (number_at 0 ss) })
 const_from (leaf_const bits size) ss = value_from ss (valtree.Leaf (record { bits = bits; size = size }))
-const_from branch_const ss = value_from ss (valtree.Branch (record { number = number_at 1 ss }))
+const_from branch_const ss = value_from ss (valtree.Branch (handle (number_at 1 ss)))
 const_from (error_const e) ss = const.Error (record { 0 = e })
-const_from (expr_const tag) ss = const.Expr (record { tag = tag; args = record { number = number_at 0 ss } })
+const_from (expr_const tag) ss = const.Expr (record { tag = tag; args = handle (number_at 0 ss) })
 
 abbrev pattern_from : PatternLabel → Shapes → PatternKind
-pattern_from range_pattern ss = pattern.Range (record { number = number_at 0 ss }) (record { number = number_at 1 ss })
-pattern_from or_pattern ss = pattern.Or (record { number = number_at 0 ss })
+pattern_from range_pattern ss = pattern.Range (handle (number_at 0 ss)) (handle (number_at 1 ss))
+pattern_from or_pattern ss = pattern.Or (handle (number_at 0 ss))
 pattern_from not_null_pattern ss = pattern.NotNull
 
 abbrev predicate_from : RecordLabel ℕ → Shapes → PredicateKind
-predicate_from (trait_record d) ss = predicate.Clause (clause.Trait (record { trait_ref = record { def_id = record { number = d }; args = record { number = number_at 0 ss } } }))
+predicate_from (trait_record d) ss = predicate.Clause (clause.Trait (record { trait_ref = record { def_id = id_of d; args = handle (number_at 0 ss) } }))
 predicate_from (host_effect_record d c) ss =
-    predicate.Clause (clause.HostEffect (record { trait_ref = record { def_id = record { number = d }; args = record { number = number_at 0 ss } }; constness = c }))
+    predicate.Clause (clause.HostEffect (record { trait_ref = record { def_id = id_of d; args = handle (number_at 0 ss) }; constness = c }))
 predicate_from region_outlives_record ss = predicate.Clause (clause.RegionOutlives (record { 0 = region_from (part_at 0 ss); 1 = region_from (part_at 1 ss) }))
-predicate_from type_outlives_record ss = predicate.Clause (clause.TypeOutlives (record { 0 = record { number = number_at 0 ss }; 1 = region_from (part_at 1 ss) }))
+predicate_from type_outlives_record ss = predicate.Clause (clause.TypeOutlives (record { 0 = handle (number_at 0 ss); 1 = region_from (part_at 1 ss) }))
 predicate_from (projection_record d) ss =
-    predicate.Clause (clause.Projection (record { projection_term = record { args = record { number = number_at 0 ss }; def_id = record { number = d } }; term = term_from (part_at 1 ss) }))
-predicate_from const_has_type_record ss = predicate.Clause (clause.ConstArgHasType (record { number = number_at 0 ss }) (record { number = number_at 1 ss }))
+    predicate.Clause (clause.Projection (record { projection_term = record { args = handle (number_at 0 ss); def_id = record { number = d } }; term = term_from (part_at 1 ss) }))
+predicate_from const_has_type_record ss = predicate.Clause (clause.ConstArgHasType (handle (number_at 0 ss)) (handle (number_at 1 ss)))
 predicate_from well_formed_record ss = predicate.Clause (clause.WellFormed (term_from (part_at 0 ss)))
-predicate_from const_evaluatable_record ss = predicate.Clause (clause.ConstEvaluatable (record { number = number_at 0 ss }))
-predicate_from (unstable_feature_record n) ss = predicate.Clause (clause.UnstableFeature (record { number = n }))
-predicate_from (dyn_compatible_record d) ss = predicate.DynCompatible (record { number = d })
-predicate_from (subtype_record b) ss = predicate.Subtype (record { a_is_expected = b; a = record { number = number_at 0 ss }; b = record { number = number_at 1 ss } })
-predicate_from coerce_record ss = predicate.Coerce (record { a = record { number = number_at 0 ss }; b = record { number = number_at 1 ss } })
-predicate_from const_equate_record ss = predicate.ConstEquate (record { number = number_at 0 ss }) (record { number = number_at 1 ss })
+predicate_from const_evaluatable_record ss = predicate.Clause (clause.ConstEvaluatable (handle (number_at 0 ss)))
+predicate_from (unstable_feature_record n) ss = predicate.Clause (clause.UnstableFeature (handle n))
+predicate_from (dyn_compatible_record d) ss = predicate.DynCompatible (id_of d)
+predicate_from (subtype_record b) ss = predicate.Subtype (record { a_is_expected = b; a = handle (number_at 0 ss); b = handle (number_at 1 ss) })
+predicate_from coerce_record ss = predicate.Coerce (record { a = handle (number_at 0 ss); b = handle (number_at 1 ss) })
+predicate_from const_equate_record ss = predicate.ConstEquate (handle (number_at 0 ss)) (handle (number_at 1 ss))
 predicate_from (normalizes_to_record d) ss =
-    predicate.NormalizesTo (record { alias = record { args = record { number = number_at 0 ss }; def_id = record { number = d } }; term = term_from (part_at 1 ss) })
+    predicate.NormalizesTo (record { alias = record { args = handle (number_at 0 ss); def_id = record { number = d } }; term = term_from (part_at 1 ss) })
 predicate_from (alias_relate_record r) ss = predicate.AliasRelate (term_from (part_at 0 ss)) (term_from (part_at 1 ss)) r
 predicate_from _ ss = predicate.Ambiguous
 
 abbrev existential_from : RecordLabel ℕ → Shapes → ExistentialPredicate
-existential_from (existential_trait_record d) ss = existential.Trait (record { def_id = record { number = d }; args = record { number = number_at 0 ss } })
+existential_from (existential_trait_record d) ss = existential.Trait (record { def_id = id_of d; args = handle (number_at 0 ss) })
 existential_from (existential_projection_record d) ss =
-    existential.Projection (record { def_id = record { number = d }; args = record { number = number_at 0 ss }; term = term_from (part_at 1 ss) })
-existential_from (auto_trait_record d) ss = existential.AutoTrait (record { number = d })
-existential_from _ ss = existential.AutoTrait (record { number = 0 })
+    existential.Projection (record { def_id = record { number = d }; args = handle (number_at 0 ss); term = term_from (part_at 1 ss) })
+existential_from (auto_trait_record d) ss = existential.AutoTrait (id_of d)
+existential_from _ ss = existential.AutoTrait (id_of 0)
 
 abbrev assumption_from : Shape → OutlivesPredicate GenericArgKind
 assumption_from (node l ss) = record { 0 = arg_from (part_at 0 ss); 1 = region_from (part_at 1 ss) }
 assumption_from _ = record { 0 = arg.Lifetime ReStatic; 1 = ReStatic }
 
 abbrev list_from : Table → Shapes → Row
-list_from TypeLists ss = tys_row (items_from (λ s. record { number = number_from s }) ss)
-list_from ConstLists ss = consts_row (items_from (λ s. record { number = number_from s }) ss)
-list_from PatternLists ss = pats_row (items_from (λ s. record { number = number_from s }) ss)
-list_from ExistentialLists ss = existentials_row (items_from (λ s. record { number = number_from s }) ss)
+list_from TypeLists ss = tys_row (items_from (λ s. handle (number_from s)) ss)
+list_from ConstLists ss = consts_row (items_from (λ s. handle (number_from s)) ss)
+list_from PatternLists ss = pats_row (items_from (λ s. handle (number_from s)) ss)
+list_from ExistentialLists ss = existentials_row (items_from (λ s. handle (number_from s)) ss)
 list_from AssumptionLists ss = assumptions_row (items_from assumption_from ss)
 list_from _ ss = args_row (items_from arg_from ss)
 
@@ -213,20 +215,20 @@ abbrev label_from : Label ℕ → Shapes → Row
 label_from (type_label l) ss = type_row (kind_from l ss)
 label_from (const_label l) ss = const_row (const_from l ss)
 label_from (pattern_label l) ss = pat_row (pattern_from l ss)
-label_from predicate_label ss = predicate_row (record { value = predicate_from (record_under (part_at 0 ss)) (parts_under (part_at 0 ss)); bound_vars = record { number = vars_from (part_at 0 ss) } })
-label_from existential_label ss = existential_row (record { value = existential_from (record_under (part_at 0 ss)) (parts_under (part_at 0 ss)); bound_vars = record { number = vars_from (part_at 0 ss) } })
-label_from clause_list_label ss = clauses_row (items_from (λ s. record { number = number_from s }) ss)
+label_from predicate_label ss = predicate_row (record { value = predicate_from (record_under (part_at 0 ss)) (parts_under (part_at 0 ss)); bound_vars = handle (vars_from (part_at 0 ss)) })
+label_from existential_label ss = existential_row (record { value = existential_from (record_under (part_at 0 ss)) (parts_under (part_at 0 ss)); bound_vars = handle (vars_from (part_at 0 ss)) })
+label_from clause_list_label ss = clauses_row (items_from (λ s. handle (number_from s)) ss)
 label_from (list_label t) ss = list_from t ss
 label_from (var_list_label vs) ss = vars_row (map var_from vs)
 label_from (text_label bytes) ss = text_row bytes
-label_from (declaration_label i k n) ss = declared_row i (record { kind = k; name = record { number = n } })
+label_from (declaration_label i k n) ss = declared_row i (record { kind = k; name = handle n })
 label_from (record_label l) ss = text_row []
 label_from (error_label e) ss = text_row []
 label_from clause_label ss = text_row []
 
 abbrev param_from : Sort → ℕ → ℕ → Row
-param_from const_sort i name = const_row (const.Param (record { index = i; name = record { number = name } }))
-param_from s i name = type_row (ty.Param (record { index = i; name = record { number = name } }))
+param_from const_sort i name = const_row (const.Param (record { index = i; name = handle name }))
+param_from s i name = type_row (ty.Param (record { index = i; name = handle name }))
 
 abbrev row_from : Shape → Row
 row_from (param s i name) = param_from s i name
@@ -405,13 +407,13 @@ row_from-row_shape (const_row k) = row_from-const k
 row_from-row_shape (pat_row k) = row_from-pattern k
 row_from-row_shape (predicate_row b) = ap (λ k. predicate_row (record { value = k; bound_vars = b.bound_vars })) (predicate_back b.value)
 row_from-row_shape (existential_row b) = ap (λ k. existential_row (record { value = k; bound_vars = b.bound_vars })) (existential_back b.value)
-row_from-row_shape (clauses_row cs) = ap clauses_row (items_from-item_shapes clause_shape (λ s. record { number = number_from s }) (λ c. refl) cs)
-row_from-row_shape (tys_row tys) = ap tys_row (items_from-item_shapes ty_shape (λ s. record { number = number_from s }) (λ t. refl) tys)
-row_from-row_shape (consts_row cs) = ap consts_row (items_from-item_shapes const_shape (λ s. record { number = number_from s }) (λ c. refl) cs)
+row_from-row_shape (clauses_row cs) = ap clauses_row (items_from-item_shapes clause_shape (λ s. handle (number_from s)) (λ c. refl) cs)
+row_from-row_shape (tys_row tys) = ap tys_row (items_from-item_shapes ty_shape (λ s. handle (number_from s)) (λ t. refl) tys)
+row_from-row_shape (consts_row cs) = ap consts_row (items_from-item_shapes const_shape (λ s. handle (number_from s)) (λ c. refl) cs)
 row_from-row_shape (args_row args) = ap args_row (items_from-item_shapes arg_shape arg_from arg_from-arg_shape args)
-row_from-row_shape (pats_row ps) = ap pats_row (items_from-item_shapes pat_shape (λ s. record { number = number_from s }) (λ p. refl) ps)
+row_from-row_shape (pats_row ps) = ap pats_row (items_from-item_shapes pat_shape (λ s. handle (number_from s)) (λ p. refl) ps)
 row_from-row_shape (vars_row vs) = ap vars_row (vars_from-vars vs)
-row_from-row_shape (existentials_row ps) = ap existentials_row (items_from-item_shapes existential_shape (λ s. record { number = number_from s }) (λ p. refl) ps)
+row_from-row_shape (existentials_row ps) = ap existentials_row (items_from-item_shapes existential_shape (λ s. handle (number_from s)) (λ p. refl) ps)
 row_from-row_shape (assumptions_row ps) = ap assumptions_row (items_from-item_shapes assumption_shape assumption_from assumption_back ps)
 row_from-row_shape (text_row bytes) = refl
 row_from-row_shape (declared_row n d) = refl

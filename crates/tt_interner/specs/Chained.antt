@@ -1,7 +1,7 @@
--- What a call promises that builds a part of a type and then the type.
+-- The promise of a call that builds a part of a type and then the type.
 use Rattle.std.specs.Prelude.{◌≡◌, ℕ, Result, Err, MatchResult}
 use Rattle.tt_index.specs.declared.refusal.Refusal.{Refusal}
-use Rattle.tt_kinds.specs.declared.handle.Ty.{Ty}
+use Rattle.tt_kinds.specs.Handle.{Ty}
 use Rattle.tt_interner.specs.Rows.{Row}
 use Rattle.tt_interner.specs.Stored.{Terms, Builds}
 

@@ -1,11 +1,11 @@
 -- The children of a stored list.
 use Rattle.std.specs.Prelude.{List, [], map, get_or}
 use Rattle.tt_kinds.specs.Parts.{list_table, list_number}
-use Rattle.tt_kinds.specs.declared.handle.Ty.{Ty}
-use Rattle.tt_kinds.specs.declared.handle.Const.{Const}
-use Rattle.tt_kinds.specs.declared.handle.Pat.{Pat}
-use Rattle.tt_kinds.specs.declared.handle.Clause.{Clause}
-use Rattle.tt_kinds.specs.declared.handle.PolyExistentialPredicate.{PolyExistentialPredicate}
+use Rattle.tt_kinds.specs.Handle.{Ty}
+use Rattle.tt_kinds.specs.Handle.{Const}
+use Rattle.tt_kinds.specs.Handle.{Pat}
+use Rattle.tt_kinds.specs.Handle.{Clause}
+use Rattle.tt_kinds.specs.Handle.{PolyExistentialPredicate}
 use Rattle.tt_kinds.specs.declared.generic_arg.GenericArgKind.{GenericArgKind}
 use Rattle.tt_kinds.specs.declared.generic_arg.GenericArgKind.TheVariants as arg
 use Rattle.tt_kinds.specs.declared.parts.Node.TheVariants as node
@@ -15,6 +15,7 @@ use Rattle.tt_kinds.specs.declared.parts.ListSort.TheVariants as sort
 use Rattle.tt_kinds.specs.declared.parts.Child.{Child}
 use Rattle.tt_kinds.specs.declared.parts.Child.TheVariants as child
 use Rattle.tt_interner.specs.Rows.{Row, clauses_row, tys_row, consts_row, args_row, pats_row, existentials_row, text_row, table}
+use Rattle.tt_kinds.specs.Handle.{handle}
 
 -- a type, as a child
 abbrev pub ty_child : Ty → Child
@@ -34,7 +35,7 @@ existential_child p = child.Node (node.Existential p)
 
 -- a clause, as a child: it is there as a predicate
 abbrev pub clause_child : Clause → Child
-clause_child c = child.Node (node.Predicate (record { number = c.number }))
+clause_child c = child.Node (node.Predicate (handle c.number))
 
 -- a generic argument, as a child
 abbrev pub arg_child : GenericArgKind → Child
@@ -59,27 +60,27 @@ children_at rows l = children_of (get_or (table (list_table l) rows) (list_numbe
 -- the type that a child is
 abbrev pub child_ty : Child → Ty
 child_ty (child.Node (node.Ty t)) = t
-child_ty _ = record { number = 0 }
+child_ty _ = handle 0
 
 -- the constant that a child is
 abbrev pub child_const : Child → Const
 child_const (child.Node (node.Const c)) = c
-child_const _ = record { number = 0 }
+child_const _ = handle 0
 
 -- the pattern that a child is
 abbrev pub child_pat : Child → Pat
 child_pat (child.Node (node.Pat p)) = p
-child_pat _ = record { number = 0 }
+child_pat _ = handle 0
 
 -- the existential predicate that a child is
 abbrev pub child_existential : Child → PolyExistentialPredicate
 child_existential (child.Node (node.Existential p)) = p
-child_existential _ = record { number = 0 }
+child_existential _ = handle 0
 
 -- the clause that a child is
 abbrev pub child_clause : Child → Clause
-child_clause (child.Node (node.Predicate p)) = record { number = p.number }
-child_clause _ = record { number = 0 }
+child_clause (child.Node (node.Predicate p)) = handle p.number
+child_clause _ = handle 0
 
 -- the generic argument that a child is
 abbrev pub child_arg : Child → GenericArgKind

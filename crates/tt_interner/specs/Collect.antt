@@ -1,4 +1,4 @@
--- What building a list of an iterator's items promises.
+-- The promise of a call that builds the list of an iterator's items.
 use Rattle.std.specs.Prelude.{◌≡◌, ◌⊎◌, ℕ, List, Option, Result, Err}
 use Rattle.std.specs.Iterator.{Drains}
 use Rattle.tt_index.specs.declared.refusal.Refusal.{Refusal}
@@ -6,7 +6,7 @@ use Rattle.tt_index.specs.declared.refusal.Refusal.TheVariants.{Memory}
 use Rattle.tt_interner.specs.Rows.{Row}
 use Rattle.tt_interner.specs.Stored.{Terms, Builds}
 
--- the result is the list of all items of the iterator, as a building call answers it, or the memory for the items was refused
+-- the result is the list of all items of the iterator, as a building call returns it, or a refusal of memory
 abbrev pub BuildsFrom : {H I A : Type 0} → Result H Refusal → (H → ℕ) → Terms → Terms → (List A → Row) → (I → Option A → I → Type 0) → I → Type 0
 BuildsFrom {A} result number old new row gives it =
     ((items : List A) × Drains gives it items × Builds result number old new (row items)) ⊎ ((result ≡ Err Memory) × (new ≡ old))

@@ -1,8 +1,8 @@
--- What is declared under an id, and what a declaring call promises.
+-- The declaration of an id, and the promise of a declaring call.
 use Rattle.std.specs.Prelude.{◌≡◌, ℕ, ◌<◌, Bool, List, Option, Some, None, Result, IfOk, if◌then◌else◌, ⊤}
 use Rattle.std.specs.Str.{bytes_eq}
 use Rattle.tt_index.specs.declared.refusal.Refusal.{Refusal}
-use Rattle.tt_kinds.specs.declared.handle.Symbol.{Symbol}
+use Rattle.tt_kinds.specs.Handle.{Symbol}
 use Rattle.tt_kinds.specs.declared.id.DefId.{DefId}
 use Rattle.tt_kinds.specs.declared.declaration.Declaration.{Declaration}
 use Rattle.tt_kinds.specs.declared.declaration.DeclarationKind.{DeclarationKind}
@@ -16,13 +16,14 @@ use Rattle.tt_kinds.specs.Shape.{name_of}
 use Rattle.tt_interner.specs.Rows.{Row, declared_row, size, meaning}
 use Rattle.tt_interner.specs.Stored.{Terms, Adds, anonymous_text}
 use Rattle.tt_interner.specs.Env.{row_at}
+use Rattle.tt_kinds.specs.Handle.{handle}
 
 -- the declaration of a row
 abbrev pub declaration_of : Row → Declaration
 declaration_of (declared_row n d) = d
-declaration_of _ = record { kind = kind.Param; name = record { number = 0 } }
+declaration_of _ = record { kind = kind.Param; name = handle 0 }
 
--- what is declared under an id
+-- the declaration of an id
 unfoldable pub declared_at : List Row → DefId → Declaration
 declared_at rows id = declaration_of (row_at rows Declarations id.number)
 
@@ -32,7 +33,7 @@ IsOfSort rows sort number = (number < size rows Declarations) × (sort_of (decla
 
 -- a declaration of this kind and name is added, or refused
 pub record Declares {H : Type 0} (result : Result H Refusal) (number : H → ℕ) (old new : Terms) (kind : DeclarationKind) (name : Symbol) : Type 0 where
-  -- its number is how many declarations came before, so that none of them has it
+  -- its number is the number of declarations before it, so none of them has it
   pub adds : Adds result number old new (declared_row (size old.rows Declarations) (record { kind = kind; name = name }))
   pub declared : IfOk result (λ h. declared_at new.rows (record { number = number h }) ≡ record { kind = kind; name = name })
 
@@ -40,13 +41,13 @@ pub record Declares {H : Type 0} (result : Result H Refusal) (number : H → ℕ
 unfoldable pub is_anonymous : List Row → Symbol → Bool
 is_anonymous rows name = bytes_eq (name_of (meaning rows) name.number) anonymous_text
 
--- what a bound region is called: as its declaration is, unless that is called `'_`, or as it is printed
+-- the name of a bound region: its declaration's, unless that is `'_`, or the name that it is printed by
 abbrev pub title : List Row → BoundRegionKind → Option Symbol
 title rows (region.Named id) = if is_anonymous rows (declared_at rows id).name then None else Some (declared_at rows id).name
 title rows (region.NamedForPrinting name) = Some name
 title rows _ = None
 
--- where the bound region is declared, its declaration is there
+-- if the bound region is declared, its declaration is there
 abbrev pub IsDeclared : List Row → BoundRegionKind → Type 0
 IsDeclared rows (region.Named id) = id.number < size rows Declarations
 IsDeclared rows _ = ⊤

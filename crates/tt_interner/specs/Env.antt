@@ -1,9 +1,9 @@
 -- The types that an environment gives a placeholder constant.
 use Rattle.std.specs.Prelude.{◌≡◌, ℕ, ◌==◌, ◌≤◌, Bool, false, ◌&&◌, Option, Some, None, List, [], ◌∷◌, ◌++◌, length, get_or, if◌then◌else◌, ⊤, Result, MatchResult}
 use Rattle.tt_kinds.specs.Reading.{outer_binder}
-use Rattle.tt_kinds.specs.declared.handle.Ty.{Ty}
-use Rattle.tt_kinds.specs.declared.handle.Const.{Const}
-use Rattle.tt_kinds.specs.declared.handle.Clause.{Clause}
+use Rattle.tt_kinds.specs.Handle.{Ty}
+use Rattle.tt_kinds.specs.Handle.{Const}
+use Rattle.tt_kinds.specs.Handle.{Clause}
 use Rattle.tt_kinds.specs.declared.bound.BoundConst.{BoundConst}
 use Rattle.tt_kinds.specs.declared.placeholder.Placeholder.{Placeholder}
 use Rattle.tt_kinds.specs.declared.predicate.ParamEnv.{ParamEnv}
@@ -22,7 +22,7 @@ use Rattle.tt_interner.specs.Rows.{Row, const_row, predicate_row, clauses_row, t
 abbrev pub row_at : List Row → Table → ℕ → Row
 row_at rows t n = get_or (table t rows) n (text_row [])
 
--- the two placeholder constants have one universe and one variable, and so are the same
+-- the two placeholder constants have the same universe and the same variable
 abbrev pub is_same : Placeholder BoundConst → Placeholder BoundConst → Bool
 is_same p q = (q.universe == p.universe) && (q.bound.var == p.bound.var)
 
@@ -36,17 +36,17 @@ abbrev pub bound_of_clause : ClauseKind → Option (Const × Ty)
 bound_of_clause (clause.ConstArgHasType c t) = Some (c, t)
 bound_of_clause _ = None
 
--- the same of a predicate
+-- the constant and the type of a predicate that gives a constant its type
 abbrev pub bound_of_predicate : PredicateKind → Option (Const × Ty)
 bound_of_predicate (predicate.Clause k) = bound_of_clause k
 bound_of_predicate _ = None
 
--- the same of a stored predicate, as it is under its binder
+-- the constant and the type of such a stored predicate, without its binder
 abbrev pub bound_of_row : Row → Option (Const × Ty)
 bound_of_row (predicate_row b) = bound_of_predicate b.value
 bound_of_row _ = None
 
--- the same of a clause by its handle
+-- the constant and the type of such a clause, by its handle
 abbrev pub bound_at : List Row → Clause → Option (Const × Ty)
 bound_at rows c = bound_of_row (row_at rows Predicates c.number)
 
@@ -73,7 +73,7 @@ env_clauses rows env = clauses_of (row_at rows ClauseLists env.caller_bounds.num
 unfoldable pub clause_types : List Row → Placeholder BoundConst → ParamEnv → List Ty
 clause_types rows p env = types_of rows p (env_clauses rows env)
 
--- why these types don't make one: there is none, or there are two or more
+-- why these types are not exactly one: there is none, or there are two or more
 abbrev pub IsFault : List Ty → ConstTyFault → Type 0
 IsFault types fault.Missing = types ≡ []
 IsFault types fault.Duplicate = 2 ≤ length types
@@ -92,6 +92,6 @@ abbrev pub AreClosed : List Row → List Clause → Type 0
 AreClosed rows [] = ⊤
 AreClosed rows (c ∷ cs) = IsClosedBound rows (bound_at rows c) × AreClosed rows cs
 
--- the same of an environment's clauses
+-- no variable escapes the constant or the type of any of the environment's clauses that give a constant its type
 unfoldable pub AreBoundsClosed : List Row → ParamEnv → Type 0
 AreBoundsClosed rows env = AreClosed rows (env_clauses rows env)

@@ -1,4 +1,4 @@
--- What building the list of existential predicates promises, each of them under its binder.
+-- The promise of a call that builds a list of existential predicates, each under its binder.
 use Rattle.std.specs.Prelude.{◌≡◌, ℕ, ◌<◌, ◌≤◌, List, [], ◌∷◌, ◌++◌, Result, Ok, Err, IfOk, OnOk, OnErr, IfErr, ◌⊎◌, ⊤, All}
 use Rattle.tt_index.specs.declared.refusal.Refusal.{Refusal}
 use Rattle.tt_index.specs.declared.refusal.Refusal.TheVariants.{Memory, TableFull}
@@ -7,8 +7,8 @@ use Rattle.tt_kinds.specs.Shape.{item_shapes, fill_all, HasParts}
 use Rattle.tt_kinds.specs.Kinds.{existential_kind_shape, items_tree}
 use Rattle.tt_kinds.specs.declared.binder.Binder.{Binder}
 use Rattle.tt_kinds.specs.declared.existential.ExistentialPredicate.{ExistentialPredicate}
-use Rattle.tt_kinds.specs.declared.handle.PolyExistentialPredicate.{PolyExistentialPredicate}
-use Rattle.tt_kinds.specs.declared.handle.BoundExistentialPredicates.{BoundExistentialPredicates}
+use Rattle.tt_kinds.specs.Handle.{PolyExistentialPredicate}
+use Rattle.tt_kinds.specs.Handle.{BoundExistentialPredicates}
 use Rattle.tt_kinds.specs.declared.parts.ListSort.TheVariants as sort
 use Rattle.tt_kinds.specs.declared.table.Table.TheVariants.{Existentials, ExistentialLists}
 use Rattle.tt_interner.specs.Rows.{Row, existential_row, existentials_row, row_table, size, meaning, IsNew}
@@ -44,7 +44,7 @@ StoresEach limit old new [] [] = new ≡ old
 StoresEach limit old new (p ∷ ps) (h ∷ hs) = (between : List Row) × StoresWithin limit old between (existential_row p) h.number × StoresEach limit between new ps hs
 StoresEach limit old new _ _ = ⊥
 
--- what is stored after the handles: the first of the predicates that are left, or the list
+-- the row that is stored after the handles: the first of the predicates that are left, or the list
 abbrev pub next_row : List PolyExistentialPredicate → List (Binder ExistentialPredicate) → Row
 next_row hs [] = existentials_row hs
 next_row hs (p ∷ ps) = existential_row p
@@ -86,14 +86,14 @@ pub record BuildsAll (result : Result BoundExistentialPredicates Refusal) (old n
   pub stored : IfOk result (λ l. StoresAll old.limit old.rows new.rows ps l.number)
   pub err : OnErr result (new ≡ old)
   pub cause : IfErr result (IsCauseOfEach old ps)
-  -- what is there is found, and nothing changes
+  -- rows that are there are found, and nothing changes
   pub found : (hs : List PolyExistentialPredicate) (n : ℕ) → AreStored old.rows ps hs → IsAt old.rows (existentials_row hs) n
       → (((l : BoundExistentialPredicates) × (result ≡ Ok l) × (l.number ≡ n)) × (new ≡ old)) ⊎ LacksItems result ps
-  -- where the first row that isn't there has no room, no memory is asked for it
+  -- if the first row that isn't there has no room, no memory is requested for it
   pub full : (done : List (Binder ExistentialPredicate)) (hs : List PolyExistentialPredicate) → AreStored old.rows done hs → NextLacksRoom old.limit old.rows ps done hs
       → (result ≡ Err TableFull) ⊎ LacksItems result ps
 
--- some of the predicates were stored, and the result is the one of the call that stores the next row, which is the last call
+-- some of the predicates were stored, and the result is returned by the last call, which stores the next row
 pub record PutsEach (result : Result BoundExistentialPredicates Refusal) (old new : Terms) (ps : List (Binder ExistentialPredicate)) : Type 0 where
   pub done : List (Binder ExistentialPredicate)
   pub left : List (Binder ExistentialPredicate)

@@ -1,4 +1,4 @@
--- What an interner's fields hold.
+-- The contents of an interner's fields.
 use Rattle.std.specs.String.{string_bytes}
 use Rattle.tt_interner.specs.declared.interner.Interner.TheInside.{Inside}
 use Rattle.tt_interner.specs.Rows.{type_row, const_row, pat_row, predicate_row, existential_row, clauses_row, tys_row, consts_row, args_row, pats_row, vars_row, existentials_row, assumptions_row, text_row}
@@ -25,7 +25,7 @@ tables i = record {
   declarations = declared_entries 0 i.declarations.items;
 }
 
--- what contracts see of the fields
+-- the terms of the interner, as contracts see them
 abbrev pub terms : Inside → Terms
 terms i = record {
   rows = rows_in_order i.order.items (tables i);
@@ -33,6 +33,6 @@ terms i = record {
   counters = record { descents = i.descents; shift_descents = i.shift_descents };
 }
 
--- the fields keep to each other
+-- the fields agree with each other
 abbrev pub AreKept : Inside → Type 0
 AreKept i = Keeps i.order.items (tables i) i.limit

@@ -1,4 +1,4 @@
--- What holds of all rows that an interner may have.
+-- Laws of all rows that an interner may have.
 use Rattle.std.specs.Prelude.{◌≡◌, ◌↔◌, ℕ, ◌<◌, List}
 use Rattle.tt_kinds.specs.declared.table.Table.{Table}
 use Rattle.tt_kinds.specs.declared.table.Table.TheVariants.{Declarations}
@@ -11,7 +11,7 @@ use Rattle.tt_interner.specs.Declarations.{declared_at}
 abbrev pub AreInterned : List Row → Type 0
 AreInterned rows = (t : Table) (n m : ℕ) → n < size rows t → m < size rows t → (meaning rows t n ≡ meaning rows t m) ↔ (n ≡ m)
 
--- the same of all rows that an interner may have
+-- for all rows that an interner may have, handles in range are equal exactly when their trees are
 abbrev pub EqualTrees : Type 0
 EqualTrees = (rows : List Row) → AreRows rows → AreInterned rows
 
@@ -23,6 +23,6 @@ KeepsTrees = (old new : List Row) → Grows old new → (t : Table) (n : ℕ) �
 abbrev pub KeepsRows : Type 0
 KeepsRows = (old new : List Row) → Grows old new → (r : Row) (n : ℕ) → IsAt old r n → IsAt new r n
 
--- what is declared under an id stays, whatever rows come
+-- the declaration of an id stays, whatever rows come
 abbrev pub KeepsDeclarations : Type 0
 KeepsDeclarations = (old new : List Row) → Grows old new → (id : DefId) → id.number < size old Declarations → (id.number < size new Declarations) × (declared_at new id ≡ declared_at old id)

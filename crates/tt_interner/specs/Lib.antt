@@ -13,3 +13,4 @@ pub mod Declarations
 pub mod Collect
 pub mod Views
 pub mod Existentials
+pub mod Info

@@ -1,4 +1,4 @@
--- What a stored term is by its row, and a term like it with other children.
+-- The kind of a stored term, and a term like it with other children.
 use Rattle.std.specs.Prelude.{◌≡◌, List, [], get_or, Result, IfOk}
 use Rattle.tt_index.specs.declared.refusal.Refusal.{Refusal}
 use Rattle.tt_kinds.specs.Parts.{node_table, node_number}
@@ -11,7 +11,7 @@ use Rattle.tt_kinds.specs.declared.parts.Parts.{Parts}
 use Rattle.tt_interner.specs.Rows.{Row, type_row, const_row, pat_row, predicate_row, existential_row, text_row, kind_row, table}
 use Rattle.tt_interner.specs.Stored.{Terms, Builds}
 
--- the kind of a row; a list or a text is never asked for one
+-- the kind of a row, which is never a list or a text
 abbrev pub row_kind : Row → Kind
 row_kind (type_row k) = kind.Ty k
 row_kind (const_row k) = kind.Const k

@@ -1,8 +1,8 @@
--- What a kind has of its own, beside its contents.
+-- The flags and the reach of a kind itself, without its contents.
 use Rattle.std.specs.Prelude.{ℕ, ◌<◌, bit_or, Option, Some, None, ⊤}
 use Rattle.tt_kinds.specs.Label.{Sort, Label, flags_of_label}
 use Rattle.tt_kinds.specs.Shape.{Sizes, IsNamedKind, IsNamedRecord, IsNamedLabel}
-use Rattle.tt_kinds.specs.declared.handle.BoundVarKinds.{BoundVarKinds}
+use Rattle.tt_kinds.specs.Handle.{BoundVarKinds}
 use Rattle.tt_kinds.specs.declared.table.Table.TheVariants.{VarLists, Symbols}
 use Rattle.tt_kinds.specs.Reading.{place, reach}
 use Rattle.tt_kinds.specs.Scan.{param_flags, bound_flags, index_flags}
@@ -20,7 +20,7 @@ abbrev pub own_reach : Form (Label ℕ) → ℕ
 own_reach (bound d e) = reach (place 0 d)
 own_reach _ = 0
 
--- the names that a kind of this form has of its own are in the table of symbols
+-- the names in a kind of this form itself are in the table of symbols
 abbrev pub IsNamedForm : Sizes → Form (Label ℕ) → Type 0
 IsNamedForm size (param i name) = name < size Symbols
 IsNamedForm size (bound d e) = IsNamedKind size e.kind

@@ -5,11 +5,11 @@ use Rattle.tt_kinds.specs.Label.{text_label}
 use Rattle.tt_kinds.specs.Shape.{Shape, Shapes, param, bound, region, term, node, binder, stored, part_of, none, also, Meaning, fill, Sizes, HasParts, IsTooDeep}
 use Rattle.tt_kinds.specs.Kinds.{ty_kind_shape, const_kind_shape, pattern_kind_shape, predicate_kind_shape, existential_kind_shape, clauses_row_shape, tys_row_shape, consts_row_shape, args_row_shape, pats_row_shape, vars_row_shape, existentials_row_shape, text_row_shape, declaration_row_shape}
 use Rattle.tt_kinds.specs.Values.{assumptions_row_shape}
-use Rattle.tt_kinds.specs.declared.handle.Ty.{Ty}
-use Rattle.tt_kinds.specs.declared.handle.Const.{Const}
-use Rattle.tt_kinds.specs.declared.handle.Pat.{Pat}
-use Rattle.tt_kinds.specs.declared.handle.Clause.{Clause}
-use Rattle.tt_kinds.specs.declared.handle.PolyExistentialPredicate.{PolyExistentialPredicate}
+use Rattle.tt_kinds.specs.Handle.{Ty}
+use Rattle.tt_kinds.specs.Handle.{Const}
+use Rattle.tt_kinds.specs.Handle.{Pat}
+use Rattle.tt_kinds.specs.Handle.{Clause}
+use Rattle.tt_kinds.specs.Handle.{PolyExistentialPredicate}
 use Rattle.tt_kinds.specs.declared.declaration.Declaration.{Declaration}
 use Rattle.tt_kinds.specs.declared.binder.Binder.{Binder}
 use Rattle.tt_kinds.specs.declared.const_kind.ConstKind.{ConstKind}
@@ -26,7 +26,7 @@ use Rattle.tt_interner.specs.Clauses.{is_clause_tree}
 use Rattle.tt_kinds.specs.declared.table.Table.{Table}
 use Rattle.tt_kinds.specs.declared.table.Table.TheVariants.{Types, Consts, Patterns, Predicates, Existentials, ClauseLists, TypeLists, ConstLists, ArgLists, PatternLists, VarLists, ExistentialLists, AssumptionLists, Symbols, Declarations}
 
--- what is stored
+-- a row: one stored term, list, text or declaration
 pub data Row : Type 0 where
   type_row : TyKind → Row
   const_row : ConstKind → Row
@@ -42,7 +42,7 @@ pub data Row : Type 0 where
   existentials_row : List PolyExistentialPredicate → Row
   assumptions_row : List (OutlivesPredicate GenericArgKind) → Row
   text_row : List ℕ → Row
-  -- a declaration, and its place among the declarations: two of them may have one name
+  -- a declaration, and its place among the declarations: two of them may have the same name
   declared_row : ℕ → Declaration → Row
 
 -- the table that a row is in
@@ -63,7 +63,7 @@ row_table (assumptions_row ps) = AssumptionLists
 row_table (text_row bytes) = Symbols
 row_table (declared_row n d) = Declarations
 
--- what a row holds
+-- the shape of a row
 abbrev pub row_shape : Row → Shape
 row_shape (type_row k) = ty_kind_shape k
 row_shape (const_row k) = const_kind_shape k
@@ -140,12 +140,12 @@ pub record IsClause (rows : List Row) (n : ℕ) : Type 0 where
   pub within : n < size rows Predicates
   pub clause : IsTrue (is_clause_tree (meaning rows Predicates n))
 
--- the same of clauses in order
+-- each of the clauses names a predicate that is a clause
 abbrev pub AreClauses : List Row → List Clause → Type 0
 AreClauses rows [] = ⊤
 AreClauses rows (c ∷ cs) = IsClause rows c.number × AreClauses rows cs
 
--- where the row is a list of clauses, it holds nothing else
+-- if the row is a list of clauses, each item is a clause
 abbrev pub HoldsClauses : List Row → Row → Type 0
 HoldsClauses rows (clauses_row cs) = AreClauses rows cs
 HoldsClauses rows _ = ⊤
@@ -167,7 +167,7 @@ abbrev mutual
   IsOlder rows a (stored t n) = age rows t n < a
   IsOlder rows a (part_of t n e) = age rows t n < a
 
-  -- the same of shapes in order
+  -- the handles in each of the shapes came before so many rows
   pub AreOlder : List Row → ℕ → Shapes → Type 0
   AreOlder rows a none = ⊤
   AreOlder rows a (also s ss) = IsOlder rows a s × AreOlder rows a ss

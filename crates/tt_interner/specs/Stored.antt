@@ -1,4 +1,4 @@
--- What contracts see of an interner, and what its calls promise.
+-- An interner as contracts see it, and the promises of its calls.
 use Rattle.std.specs.Prelude.{◌≡◌, ℕ, ◌+◌, ◌<◌, ◌≤◌, List, [], ◌∷◌, Result, Ok, Err, IfOk, OnOk, OnErr, IfErr, Some, ◌⊎◌, ⊤, length, slice_get, nat_lt, cond, codes}
 use Rattle.tt_flags.specs.declared.flag_computation.FlagComputation.{FlagComputation}
 use Rattle.tt_index.specs.declared.refusal.Refusal.{Refusal}
@@ -23,7 +23,7 @@ pub record Counters : Type 0 where
   pub descents : ℕ
   pub shift_descents : ℕ
 
--- what contracts see of an interner: all rows, newest first, how many each table may have, and the counts
+-- an interner as contracts see it: all rows, newest first, how many each table may have, and the counts
 pub record Terms : Type 0 where
   pub rows : List Row
   pub limit : ℕ
@@ -42,7 +42,7 @@ most_descents = 18446744073709551615
 abbrev pub counted : ℕ → ℕ
 counted n = cond (nat_lt n most_descents) (n + 1) n
 
--- what is kept beside a term is what its tree has
+-- the cached information is the flags and the outer exclusive binder of the tree
 pub record IsInfo (info : FlagComputation) (t : Tree Depth) : Type 0 where
   pub flags : info.flags.bits ≡ scan t
   pub outer : info.outer_exclusive_binder ≡ outer_binder t
@@ -51,11 +51,11 @@ pub record IsInfo (info : FlagComputation) (t : Tree Depth) : Type 0 where
 abbrev pub IsAt : List Row → Row → ℕ → Type 0
 IsAt rows r n = slice_get (table (row_table r) rows) n ≡ Some r
 
--- the name of what has none, `'_`
+-- the anonymous name, `'_`
 abbrev pub anonymous_text : Name
 anonymous_text = codes "'_"
 
--- what an interner has from the start, newest first: the empty lists, and the name `'_`
+-- the rows of a new interner, newest first: the empty lists, and the name `'_`
 abbrev pub first_rows : List Row
 first_rows =
     text_row anonymous_text ∷ assumptions_row [] ∷ existentials_row [] ∷ clauses_row [] ∷ pats_row [] ∷ consts_row [] ∷ vars_row [] ∷ args_row [] ∷ tys_row [] ∷ []
@@ -106,7 +106,7 @@ pub record Builds {H : Type 0} (result : Result H Refusal) (number : H → ℕ) 
   pub stored : IfOk result (λ h. Stores old.rows new.rows r (number h))
   pub limit : new.limit ≡ old.limit
   pub counters : new.counters ≡ old.counters
-  -- what is there is found, and nothing changes
+  -- a row that is there is found, and nothing changes
   pub found : (n : ℕ) → IsAt old.rows r n → ((h : H) × (result ≡ Ok h) × (number h ≡ n)) × (new ≡ old)
   -- only a new row is refused, and then nothing changes
   pub err : OnErr result (new ≡ old)
@@ -128,7 +128,7 @@ pub record HasNoRoom (terms : Terms) (u : Tree Depth) : Type 0 where
   pub new : IsNew row terms.rows
   pub full : terms.limit ≤ size terms.rows (row_table row)
 
--- why the term of this tree was not stored: want of memory, it is new and its table holds its limit, or it is a list of clauses with an item that is none
+-- why the term of this tree was not stored: no memory, no room in its table, or a list of clauses with another item
 abbrev pub IsUnbuilt : Terms → Tree Depth → Refusal → Type 0
 IsUnbuilt terms u Memory = ⊤
 IsUnbuilt terms u TableFull = HasNoRoom terms u
@@ -143,7 +143,7 @@ children_tree rows sort items = items_tree sort (fill_all (meaning rows) (childr
 abbrev pub most_in_place : ℕ
 most_in_place = 8
 
--- there are more items than that, and the memory for them was refused
+-- there are more items than `most_in_place`, and the memory for them was refused
 abbrev pub LacksItems : {H A : Type 0} → Result H Refusal → List A → Type 0
 LacksItems result items = (most_in_place < length items) × (result ≡ Err Memory)
 
@@ -159,7 +159,7 @@ pub record StoresList (result : Result StoredList Refusal) (old new : Terms) (so
   pub refused : OnOk result (IsNoClauseList (items_tree sort (fill_all (meaning old.rows) (children_shapes items))) → ⊥)
   pub of_sort : IfOk result (λ l. list_sort l ≡ sort)
   pub stored : IfOk result (λ l. Stores old.rows new.rows (items_row sort items) (list_number l))
-  -- what is there is found; what is new is refused where its table is full, as a list of clauses with another item is
+  -- a row that is there is found; a new one is refused if its table is full, as a list of clauses with another item is
   pub found : (n : ℕ) → IsAt old.rows (items_row sort items) n
       → (((l : StoredList) × (result ≡ Ok l) × (list_number l ≡ n)) × (new ≡ old)) ⊎ LacksItems result items
   pub full : IsNew (items_row sort items) old.rows → (IsNoClauseList (children_tree old.rows sort items) → ⊥)

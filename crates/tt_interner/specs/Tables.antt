@@ -1,4 +1,4 @@
--- What the tables hold, and how they are seen as one list of rows.
+-- The contents of the tables, and the tables seen as one list of rows.
 use Rattle.std.specs.Prelude.{◌≡◌, ℕ, ◌+◌, ◌≤◌, List, [], ◌∷◌, ◌++◌, length, map, reverse, slice_get, max, bit_or, Some}
 use Rattle.tt_flags.specs.FlagComputation.{computed}
 use Rattle.tt_flags.specs.declared.flag_computation.FlagComputation.{FlagComputation}
@@ -12,22 +12,22 @@ use Rattle.tt_interner.specs.Rows.{Row, text_row, declared_row, table, size, mea
 use Rattle.tt_interner.specs.Stored.{IsInfo, first_rows}
 use Rattle.tt_index.specs.Greatest.{greatest}
 
--- what is kept beside children is what their trees have
+-- the information is the flags and the outer exclusive binder of the trees together
 pub record AreInfosOf (info : FlagComputation) (ts : Forest Depth) : Type 0 where
   pub flags : info.flags.bits ≡ scan_all ts
   pub outer : info.outer_exclusive_binder ≡ greatest_reach_all (read_all 0 ts)
 
--- what is joined so far and the rest of the children make what all have
+-- the information so far, joined with the rest of the children, is the information of all
 pub record AreJoined (info : FlagComputation) (rest whole : Forest Depth) : Type 0 where
   pub flags : bit_or info.flags.bits (scan_all rest) ≡ scan_all whole
   pub outer : max info.outer_exclusive_binder (greatest_reach_all (read_all 0 rest)) ≡ greatest_reach_all (read_all 0 whole)
 
--- a row, and what is kept beside it
+-- a row, and its cached information
 pub record Entry : Type 0 where
   pub row : Row
   pub info : FlagComputation
 
--- what is kept beside a term of no flags
+-- the information of a term without flags
 abbrev pub no_info : FlagComputation
 no_info = computed 0 0
 
@@ -93,7 +93,7 @@ push t e ts = with_entries ts t (entries_of ts t ++ e ∷ [])
 abbrev pub rows_of : Tables → Table → List Row
 rows_of ts t = map (λ e. e.row) (entries_of ts t)
 
--- what is kept beside the rows of one table
+-- the cached information of the rows of one table
 abbrev pub infos_of : Tables → Table → List FlagComputation
 infos_of ts t = map (λ e. e.info) (entries_of ts t)
 
@@ -132,7 +132,7 @@ unfoldable pub merged : List Table → Tables → List Row
 merged [] ts = []
 merged (t ∷ order) ts = newest (entries_of ts t) ∷ merged order (with_entries ts t (older (entries_of ts t)))
 
--- the same of tables and an order that are kept oldest first
+-- the rows of tables and of an order that are kept oldest first
 unfoldable pub rows_in_order : List Table → Tables → List Row
 rows_in_order order ts = merged (reverse order) (reversed ts)
 
@@ -149,7 +149,7 @@ declared_entries n (d ∷ ds) = record { row = declared_row n d; info = no_info 
 abbrev pub listed_by : {K X V : Type 0} → (K → X) → List (K × V) → List (X × V)
 listed_by hold es = map (λ e. (hold e.0, e.1)) es
 
--- the infos belong to the table's trees
+-- the table's rows have this cached information
 pub record AreInfos (rows : List Row) (t : Table) (infos : List FlagComputation) : Type 0 where
   pub as_many : length infos ≡ size rows t
   pub each : (n : ℕ) (info : FlagComputation) → slice_get infos n ≡ Some info → IsInfo info (meaning rows t n)
@@ -162,7 +162,7 @@ pub record AreTables (rows : List Row) (ts : Tables) (limit : ℕ) : Type 0 wher
   pub within : (t : Table) → size rows t ≤ limit
   pub small : limit ≤ greatest
 
--- what is kept: the tables that the order makes, with what was there from the start as their first rows
+-- the tables are the ones that the order makes, and their first rows are the rows of a new interner
 pub record Keeps (order : List Table) (ts : Tables) (limit : ℕ) : Type 0 where
   pub tables : AreTables (rows_in_order order ts) ts limit
   pub first : (added : List Row) × (rows_in_order order ts ≡ added ++ first_rows)

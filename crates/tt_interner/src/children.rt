@@ -1,4 +1,4 @@
-//! Lists of children, and the typed lists that they are.
+//! Conversion of lists of children to typed lists.
 
 ghost use Rattle.std.specs.Prelude.{◌≡◌, ◌<◌, ◌≤◌, length, slice_get, take, map, All, IfOk, Some};
 ghost use Rattle.tt_kinds.specs.Parts.{child_sort, IsItem};
@@ -44,7 +44,7 @@ pub(crate) fn clause_child(clause: Clause) -> Child
     Child::Node(Node::Predicate(Predicate::from_number(clause.number())))
 }
 
-/// What a list of one sort holds.
+/// An item of a list of one sort.
 pub(crate) trait ListItem: Copy + Drop {
     ghost sort: { ListSort };
 
@@ -56,20 +56,20 @@ pub(crate) trait ListItem: Copy + Drop {
         ensures { as_child result ≡ child.now };
 }
 
-/// So many items of a list are collected without memory.
+/// The number of items of a list that are collected without allocation.
 pub(crate) const MOST_IN_PLACE: usize = 8;
 
-/// What a list of one sort holds, with the calls that store it.
+/// An item of a list of one sort, with the calls that store such a list.
 pub(crate) trait StoredItem: ListItem {
-    /// Returns the stored list of the items that these children are, which are collected in place: what is there
-    /// is found without memory.
+    /// Returns the stored list of the items that these children are. They are collected in place, so a list that is
+    /// stored already is found without allocation.
     fn store_few(cx: &mut Interner, children: &[Child]) -> Result<List, Refusal>
         requires parts { AreParts (size cx.old.rows) (children_shapes children.now) }
         requires fit { All (λ c. IsItem Self.sort (child_sort c)) children.now }
         requires few { length children.now ≤ most_in_place }
         ensures { StoresList result cx.old cx.new Self.sort children.now };
 
-    /// Returns the stored list of these items, which are kept as the list's. They have to be of the interner.
+    /// Returns the stored list of these items; a new list keeps the vector. The items have to be of the interner.
     fn store(cx: &mut Interner, items: Vec<Self>) -> Result<List, Refusal>
         requires { AreParts (size cx.old.rows) (children_shapes (map Self.as_child items.items)) }
         ensures { StoresList result cx.old cx.new Self.sort (map Self.as_child items.items) };
@@ -360,7 +360,7 @@ impl StoredItem for GenericArg {
     }
 }
 
-// Puts the items that these children are into the first places.
+// Writes the items that these children are to the first places.
 fn put_items<T: ListItem>(places: &mut [T], children: &[Child])
     requires fit { All (λ c. IsItem T.sort (child_sort c)) children.now }
     requires room { length children.now ≤ length places.old }
@@ -383,8 +383,8 @@ pub(crate) fn collect<T: ListItem>(alloc: Global, children: &[Child]) -> Result<
     Ok(items)
 }
 
-/// Returns the stored list of the items that these children are. More than a few are kept as the list's, by one
-/// look-up.
+/// Returns the stored list of the items that these children are. More than [`MOST_IN_PLACE`] are collected in a vector,
+/// which a new list keeps, with one look-up.
 pub(crate) fn store_items<T: StoredItem>(
     cx: &mut Interner,
     children: &[Child],

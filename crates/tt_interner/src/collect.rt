@@ -7,7 +7,7 @@ ghost use Rattle.tt_index.specs.declared.refusal.Refusal.TheVariants.{Memory};
 use std::alloc::Global;
 use tt_index::Refusal;
 
-// All items, in order, in memory.
+// Returns all items, in order.
 pub(crate) fn collected<T: Drop, I: Iterator<Item = T> + Drop>(
     alloc: Global,
     iter: I,

@@ -1,4 +1,4 @@
-//! What an environment says of placeholder constants.
+//! The types that an environment gives to placeholder constants.
 
 ghost use Rattle.std.specs.Prelude.{◌≡◌, ◌<◌, ◌↔◌, IsTrue, IfOk, IfSome, MatchOption, ◌∷◌, []};
 ghost use Rattle.tt_kinds.specs.declared.bound.BoundConst.{BoundConst};
@@ -34,13 +34,13 @@ use tt_kinds::{
     Clause, ClauseKind, Const, ConstKind, ParamEnv, PlaceholderConst, Predicate, PredicateKind, Ty,
 };
 
-/// Why an environment gives a constant no one type.
+/// Why an environment doesn't give a constant exactly one type.
 #[derive(Debug, Clone, Copy, PartialEq, Eq, Drop, Error)]
 pub enum ConstTyFault {
     /// No clause gives it a type.
     #[error("no clause of the environment gives the constant a type: add a `ConstArgHasType` for it")]
     Missing,
-    /// Two or more clauses give it a type, which may be the same one.
+    /// Two or more clauses give it a type, perhaps the same one.
     #[error("two or more clauses of the environment give the constant a type: keep one of them")]
     Duplicate,
 }
@@ -51,11 +51,11 @@ pub trait FindConstTy: Sized {
     ghost constant: { Self → Placeholder BoundConst };
 
     /// Returns the type of the one clause `ConstArgHasType` of the environment that is about this constant. The
-    /// environment has to be of the interner; [`Interner::owns_clauses`] tests its list.
+    /// environment has to be of the interner; [`Interner::owns`] tests its list.
     ///
-    /// It is refused with `Missing` where there is no such clause, and with `Duplicate` where there are two or more, which
-    /// may be equal. The type is given as it stands in the clause, with the clause's binder gone:
-    /// [`ConstBounds::const_bounds_closed`] tests that no variable escapes it.
+    /// Fails with `Missing` if there is no such clause, and with `Duplicate` if there are two or more, which may be
+    /// equal. The clause's binder is dropped from the type: [`ConstBounds::const_bounds_closed`] tests that no variable
+    /// escapes it.
     fn find_const_ty_from_env(self, cx: &Interner, env: ParamEnv) -> Result<Ty, ConstTyFault>
         requires { env.caller_bounds.number < size cx.now.rows ClauseLists }
         ensures one { IsOneType (clause_types cx.now.rows (constant self) env) result }
@@ -78,9 +78,8 @@ pub trait ConstBounds: Sized {
     // The environment.
     ghost as_env: { Self → ParamEnv };
 
-    /// Returns whether in each clause `ConstArgHasType` no variable escapes the constant or the type, as they stand
-    /// with the clause's binder gone. The environment has to be of the interner; [`Interner::owns_clauses`] tests its
-    /// list.
+    /// Returns whether in each clause `ConstArgHasType` no variable escapes the constant or the type once the clause's
+    /// binder is dropped. The environment has to be of the interner; [`Interner::owns`] tests its list.
     fn const_bounds_closed(self, cx: &Interner) -> bool
         requires { (as_env self).caller_bounds.number < size cx.now.rows ClauseLists }
         ensures { IsTrue result ↔ AreBoundsClosed cx.now.rows (as_env self) };
@@ -95,7 +94,7 @@ impl ConstBounds for ParamEnv {
     }
 }
 
-// The clauses of an environment.
+// Returns the clauses of an environment.
 fn env_clauses(cx: &Interner, env: ParamEnv) -> &[Clause]
     requires { env.caller_bounds.number < size cx.now.rows ClauseLists }
     ensures are { result.now ≡ env_clauses cx.now.rows env }
@@ -105,7 +104,7 @@ fn env_clauses(cx: &Interner, env: ParamEnv) -> &[Clause]
     cx.clauses(env.caller_bounds)
 }
 
-// Whether the constant is this placeholder.
+// Returns whether the constant is this placeholder.
 fn is_constant(cx: &Interner, placeholder: &PlaceholderConst, constant: Const) -> bool
     requires { constant.number < size cx.now.rows Consts }
     ensures is { result ≡ is_row_of placeholder.now (row_at cx.now.rows Consts constant.number) }
@@ -117,7 +116,7 @@ fn is_constant(cx: &Interner, placeholder: &PlaceholderConst, constant: Const) -
     }
 }
 
-// The constant and the type of a clause that gives a constant its type.
+// Returns the constant and the type of a clause that gives a constant its type.
 fn bound_of(kind: PredicateKind) -> Option<(Const, Ty)>
     ensures { result ≡ bound_of_predicate kind }
 {
@@ -127,7 +126,7 @@ fn bound_of(kind: PredicateKind) -> Option<(Const, Ty)>
     }
 }
 
-// The same of a stored clause, as it stands under its binder.
+// Returns the constant and the type of a stored clause that gives a constant its type, without the clause's binder.
 fn bound_at(cx: &Interner, clause: Clause) -> Option<(Const, Ty)>
     requires { clause.number < size cx.now.rows Predicates }
     ensures is { result ≡ bound_at cx.now.rows clause }
@@ -139,7 +138,7 @@ fn bound_at(cx: &Interner, clause: Clause) -> Option<(Const, Ty)>
     bound_of(*cx.predicate_kind(predicate).as_ref().skip_binder())
 }
 
-// The type that the clause gives the placeholder, if it gives it one.
+// Returns the type that the clause gives the placeholder, if any.
 fn type_given(cx: &Interner, placeholder: &PlaceholderConst, clause: Clause) -> Option<Ty>
     requires { clause.number < size cx.now.rows Predicates }
     ensures given { MatchOption result
@@ -159,7 +158,7 @@ fn type_given(cx: &Interner, placeholder: &PlaceholderConst, clause: Clause) -> 
     }
 }
 
-// The one type that the clauses give the placeholder.
+// Returns the one type that the clauses give the placeholder.
 fn one_type(
     cx: &Interner,
     placeholder: &PlaceholderConst,
@@ -181,7 +180,7 @@ fn one_type(
     found.ok_or(ConstTyFault::Missing)
 }
 
-// Whether no variable escapes the constant and the type of the clause, if it gives a constant its type.
+// Returns whether no variable escapes the constant and the type of the clause, if it gives a constant its type.
 #[tactic(auto, unfolding(tt_kinds::specs::Shape::fill))]
 fn is_closed(cx: &Interner, clause: Clause) -> bool
     requires { clause.number < size cx.now.rows Predicates }
@@ -196,7 +195,7 @@ fn is_closed(cx: &Interner, clause: Clause) -> bool
     }
 }
 
-// Whether that holds of each clause.
+// Returns whether each clause passes `is_closed`.
 fn are_closed(cx: &Interner, clauses: &[Clause]) -> bool
     requires { AreParts (size cx.now.rows) (item_shapes clause_shape clauses.now) }
     ensures { IsTrue result ↔ AreClosed cx.now.rows clauses.now }

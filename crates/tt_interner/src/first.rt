@@ -13,7 +13,7 @@ use tt_kinds::{
     Table, Ty,
 };
 
-/// Tables of the empty list alone, of lists of types, of arguments, of variables and of constants.
+/// The tables of lists of types, arguments, variables and constants, each with the empty list alone.
 #[derive(Drop)]
 pub(crate) struct FirstLists {
     pub(crate) type_lists: IndexMap<Vec<Ty>, FlagComputation>,
@@ -22,7 +22,7 @@ pub(crate) struct FirstLists {
     pub(crate) const_lists: IndexMap<Vec<Const>, FlagComputation>,
 }
 
-/// Tables of the empty list alone, of lists of patterns, of clauses, of existential predicates and of assumptions.
+/// The tables of lists of patterns, clauses, existential predicates and assumptions, each with the empty list alone.
 #[derive(Drop)]
 pub(crate) struct MoreLists {
     pub(crate) pattern_lists: IndexMap<Vec<Pat>, FlagComputation>,
@@ -31,7 +31,7 @@ pub(crate) struct MoreLists {
     pub(crate) assumption_lists: IndexMap<Vec<OutlivesPredicate<GenericArg>>, FlagComputation>,
 }
 
-/// Returns the first of these tables, noted in the order.
+/// Returns the first four tables of lists, and records them in the order.
 pub(crate) fn first_lists(alloc: Global, order: &mut Vec<Table>) -> Result<FirstLists, Refusal>
     ensures order { OnOk result (order.new.items
         ≡ order.old.items ++ Table.TypeLists ∷ Table.ArgLists ∷ Table.VarLists ∷ Table.ConstLists ∷ []) }
@@ -65,7 +65,7 @@ pub(crate) fn first_lists(alloc: Global, order: &mut Vec<Table>) -> Result<First
     })
 }
 
-/// Returns the other tables, noted in the order.
+/// Returns the other tables of lists, and records them in the order.
 pub(crate) fn more_lists(alloc: Global, order: &mut Vec<Table>) -> Result<MoreLists, Refusal>
     ensures order { OnOk result (order.new.items
         ≡ order.old.items

@@ -1,6 +1,6 @@
-//! The flags of terms: a new term's from what is kept beside its parts, and a stored one's as they are kept.
+//! The cached information of terms: computed from the parts of a new term, and read for a stored one.
 
-ghost use Rattle.std.specs.Prelude.{◌≡◌, ◌↔◌, ◌<◌, ℕ, map, IsTrue};
+ghost use Rattle.std.specs.Prelude.{◌≡◌, ◌↔◌, ◌<◌, ℕ, map, refl, IsTrue};
 ghost use Rattle.tt_index.specs.Greatest.{greatest};
 ghost use Rattle.tt_kinds.specs.Bound.{var_kind};
 ghost use Rattle.tt_kinds.specs.Parts.{node_number, node_table, list_number, list_table};
@@ -38,6 +38,7 @@ ghost use Rattle.tt_kinds.specs.Kinds.{
 ghost use Rattle.tt_kinds.specs.Reading.{outer_binder};
 ghost use Rattle.tt_kinds.specs.Scan.{scan};
 ghost use Rattle.tt_flags.specs.FlagComputation.{computed};
+ghost use Rattle.tt_interner.specs.Info.{keeps_info};
 ghost use Rattle.tt_interner.specs.Rows.{size, meaning};
 ghost use Rattle.tt_interner.specs.Stored.{IsInfo};
 ghost use Rattle.tt_interner.specs.Tables.{AreInfosOf};
@@ -46,253 +47,106 @@ ghost use Rattle.tt_interner.specs.OwnFlags.{own_flags, own_reach};
 use crate::interner::Interner;
 use tt_flags::{FlagComputation, TypeFlags};
 use tt_index::{DebruijnIndex, GREATEST_INDEX};
+use tt_kinds::handle::{
+    ArgListRow, AssumptionListRow, ClauseListRow, ClauseRow, ConstListRow, ConstRow,
+    ExistentialListRow, ExistentialRow, PatternListRow, PatternRow, PredicateRow, TypeListRow,
+    TypeRow, VarListRow,
+};
 use tt_kinds::{
-    AliasTyKind, Binder, BoundExistentialPredicates, BoundVarIndexKind, BoundVarKinds,
-    BoundVariableKind, Child, Clause, Clauses, Const, ConstKind, Consts, GenericArg,
-    GenericArgKind, GenericArgs, InferConst, InferTy, Kind, List, Node, OutlivesPredicate, Parts,
-    Pat, PatList, PolyExistentialPredicate, Predicate, PredicateKind, Region, RegionAssumptions,
-    Ty, TyKind, Tys,
+    AliasTyKind, Binder, BoundVarIndexKind, BoundVariableKind, Child, Clause, ConstKind,
+    GenericArg, GenericArgKind, Handle, InferConst, InferTy, IsStored, Kind, List, Node,
+    OutlivesPredicate, Parts, PredicateKind, Region, TyKind,
 };
 
-/// What has its flags and its outer exclusive binder at hand. Every handle and name in it has to be the interner's.
+/// A value whose flags and outer exclusive binder are known without a walk. Every handle and name in it has to be the
+/// interner's.
 pub trait Flags {
-    // What the value holds.
+    // The contents of the value.
     ghost flags_shape: { Self → Shape };
 
-    /// Returns the flags of the term.
+    /// Returns the flags of the value.
     fn flags(&self, cx: &Interner) -> TypeFlags
         requires { IsPart (size cx.now.rows) (flags_shape self.now) }
         ensures { result.bits ≡ scan (fill (meaning cx.now.rows) (flags_shape self.now)) };
 
-    /// Returns the least index above the indices of all bound variables that escape the term, and 0 where none does.
+    /// Returns one more than the greatest index of a bound variable that escapes the value, or 0 if none escapes.
     fn outer_exclusive_binder(&self, cx: &Interner) -> DebruijnIndex
         requires { IsPart (size cx.now.rows) (flags_shape self.now) }
         ensures { result ≡ outer_binder (fill (meaning cx.now.rows) (flags_shape self.now)) };
 }
 
-impl Flags for Ty {
-    ghost use Rattle.tt_kinds.specs.Kinds.{ty_shape};
-
-    ghost flags_shape = { ty_shape };
-
-    #[tactic(auto, unfolding(tt_kinds::specs::Shape::fill))]
-    fn flags(&self, cx: &Interner) -> TypeFlags {
-        cx.ty_info(*self).flags
-    }
-
-    #[tactic(auto, unfolding(tt_kinds::specs::Shape::fill))]
-    fn outer_exclusive_binder(&self, cx: &Interner) -> DebruijnIndex {
-        cx.ty_info(*self).outer_exclusive_binder
-    }
+/// The trait of marks whose rows have cached information, the flags and the outer exclusive binder: terms and lists.
+pub trait HasInfo: IsStored {
+    ghost keeps: { IsTrue (keeps_info Self.TABLE) };
 }
 
-impl Flags for Const {
-    ghost use Rattle.tt_kinds.specs.Kinds.{const_shape};
-
-    ghost flags_shape = { const_shape };
-
-    #[tactic(auto, unfolding(tt_kinds::specs::Shape::fill))]
-    fn flags(&self, cx: &Interner) -> TypeFlags {
-        cx.const_info(*self).flags
-    }
-
-    #[tactic(auto, unfolding(tt_kinds::specs::Shape::fill))]
-    fn outer_exclusive_binder(&self, cx: &Interner) -> DebruijnIndex {
-        cx.const_info(*self).outer_exclusive_binder
-    }
+impl HasInfo for TypeRow {
+    ghost keeps = { refl };
 }
 
-impl Flags for Pat {
-    ghost use Rattle.tt_kinds.specs.Kinds.{pat_shape};
-
-    ghost flags_shape = { pat_shape };
-
-    #[tactic(auto, unfolding(tt_kinds::specs::Shape::fill))]
-    fn flags(&self, cx: &Interner) -> TypeFlags {
-        cx.pat_info(*self).flags
-    }
-
-    #[tactic(auto, unfolding(tt_kinds::specs::Shape::fill))]
-    fn outer_exclusive_binder(&self, cx: &Interner) -> DebruijnIndex {
-        cx.pat_info(*self).outer_exclusive_binder
-    }
+impl HasInfo for ConstRow {
+    ghost keeps = { refl };
 }
 
-impl Flags for Predicate {
-    ghost use Rattle.tt_kinds.specs.Kinds.{predicate_shape};
-
-    ghost flags_shape = { predicate_shape };
-
-    #[tactic(auto, unfolding(tt_kinds::specs::Shape::fill))]
-    fn flags(&self, cx: &Interner) -> TypeFlags {
-        cx.predicate_info(*self).flags
-    }
-
-    #[tactic(auto, unfolding(tt_kinds::specs::Shape::fill))]
-    fn outer_exclusive_binder(&self, cx: &Interner) -> DebruijnIndex {
-        cx.predicate_info(*self).outer_exclusive_binder
-    }
+impl HasInfo for PatternRow {
+    ghost keeps = { refl };
 }
 
-impl Flags for Clause {
-    ghost use Rattle.tt_kinds.specs.Kinds.{clause_shape};
-
-    ghost flags_shape = { clause_shape };
-
-    #[tactic(auto, unfolding(tt_kinds::specs::Shape::fill))]
-    fn flags(&self, cx: &Interner) -> TypeFlags {
-        cx.predicate_info(Predicate::from_number(self.number()))
-            .flags
-    }
-
-    #[tactic(auto, unfolding(tt_kinds::specs::Shape::fill))]
-    fn outer_exclusive_binder(&self, cx: &Interner) -> DebruijnIndex {
-        cx.predicate_info(Predicate::from_number(self.number()))
-            .outer_exclusive_binder
-    }
+impl HasInfo for PredicateRow {
+    ghost keeps = { refl };
 }
 
-impl Flags for PolyExistentialPredicate {
-    ghost use Rattle.tt_kinds.specs.Kinds.{existential_shape};
-
-    ghost flags_shape = { existential_shape };
-
-    #[tactic(auto, unfolding(tt_kinds::specs::Shape::fill))]
-    fn flags(&self, cx: &Interner) -> TypeFlags {
-        cx.existential_info(*self).flags
-    }
-
-    #[tactic(auto, unfolding(tt_kinds::specs::Shape::fill))]
-    fn outer_exclusive_binder(&self, cx: &Interner) -> DebruijnIndex {
-        cx.existential_info(*self).outer_exclusive_binder
-    }
+impl HasInfo for ClauseRow {
+    ghost keeps = { refl };
 }
 
-impl Flags for Clauses {
-    ghost use Rattle.tt_kinds.specs.Kinds.{clauses_shape};
-
-    ghost flags_shape = { clauses_shape };
-
-    #[tactic(auto, unfolding(tt_kinds::specs::Shape::fill))]
-    fn flags(&self, cx: &Interner) -> TypeFlags {
-        cx.clauses_info(*self).flags
-    }
-
-    #[tactic(auto, unfolding(tt_kinds::specs::Shape::fill))]
-    fn outer_exclusive_binder(&self, cx: &Interner) -> DebruijnIndex {
-        cx.clauses_info(*self).outer_exclusive_binder
-    }
+impl HasInfo for ExistentialRow {
+    ghost keeps = { refl };
 }
 
-impl Flags for Consts {
-    ghost use Rattle.tt_kinds.specs.Kinds.{consts_shape};
-
-    ghost flags_shape = { consts_shape };
-
-    #[tactic(auto, unfolding(tt_kinds::specs::Shape::fill))]
-    fn flags(&self, cx: &Interner) -> TypeFlags {
-        cx.consts_info(*self).flags
-    }
-
-    #[tactic(auto, unfolding(tt_kinds::specs::Shape::fill))]
-    fn outer_exclusive_binder(&self, cx: &Interner) -> DebruijnIndex {
-        cx.consts_info(*self).outer_exclusive_binder
-    }
+impl HasInfo for ClauseListRow {
+    ghost keeps = { refl };
 }
 
-impl Flags for PatList {
-    ghost use Rattle.tt_kinds.specs.Kinds.{pats_shape};
-
-    ghost flags_shape = { pats_shape };
-
-    #[tactic(auto, unfolding(tt_kinds::specs::Shape::fill))]
-    fn flags(&self, cx: &Interner) -> TypeFlags {
-        cx.pat_list_info(*self).flags
-    }
-
-    #[tactic(auto, unfolding(tt_kinds::specs::Shape::fill))]
-    fn outer_exclusive_binder(&self, cx: &Interner) -> DebruijnIndex {
-        cx.pat_list_info(*self).outer_exclusive_binder
-    }
+impl HasInfo for ArgListRow {
+    ghost keeps = { refl };
 }
 
-impl Flags for BoundExistentialPredicates {
-    ghost use Rattle.tt_kinds.specs.Kinds.{existentials_shape};
-
-    ghost flags_shape = { existentials_shape };
-
-    #[tactic(auto, unfolding(tt_kinds::specs::Shape::fill))]
-    fn flags(&self, cx: &Interner) -> TypeFlags {
-        cx.existentials_info(*self).flags
-    }
-
-    #[tactic(auto, unfolding(tt_kinds::specs::Shape::fill))]
-    fn outer_exclusive_binder(&self, cx: &Interner) -> DebruijnIndex {
-        cx.existentials_info(*self).outer_exclusive_binder
-    }
+impl HasInfo for TypeListRow {
+    ghost keeps = { refl };
 }
 
-impl Flags for RegionAssumptions {
-    ghost use Rattle.tt_kinds.specs.Values.{assumptions_shape};
-
-    ghost flags_shape = { assumptions_shape };
-
-    #[tactic(auto, unfolding(tt_kinds::specs::Shape::fill))]
-    fn flags(&self, cx: &Interner) -> TypeFlags {
-        cx.assumptions_info(*self).flags
-    }
-
-    #[tactic(auto, unfolding(tt_kinds::specs::Shape::fill))]
-    fn outer_exclusive_binder(&self, cx: &Interner) -> DebruijnIndex {
-        cx.assumptions_info(*self).outer_exclusive_binder
-    }
+impl HasInfo for ConstListRow {
+    ghost keeps = { refl };
 }
 
-impl Flags for Tys {
-    ghost use Rattle.tt_kinds.specs.Kinds.{tys_shape};
-
-    ghost flags_shape = { tys_shape };
-
-    #[tactic(auto, unfolding(tt_kinds::specs::Shape::fill))]
-    fn flags(&self, cx: &Interner) -> TypeFlags {
-        cx.tys_info(*self).flags
-    }
-
-    #[tactic(auto, unfolding(tt_kinds::specs::Shape::fill))]
-    fn outer_exclusive_binder(&self, cx: &Interner) -> DebruijnIndex {
-        cx.tys_info(*self).outer_exclusive_binder
-    }
+impl HasInfo for PatternListRow {
+    ghost keeps = { refl };
 }
 
-impl Flags for GenericArgs {
-    ghost use Rattle.tt_kinds.specs.Kinds.{args_shape};
-
-    ghost flags_shape = { args_shape };
-
-    #[tactic(auto, unfolding(tt_kinds::specs::Shape::fill))]
-    fn flags(&self, cx: &Interner) -> TypeFlags {
-        cx.args_info(*self).flags
-    }
-
-    #[tactic(auto, unfolding(tt_kinds::specs::Shape::fill))]
-    fn outer_exclusive_binder(&self, cx: &Interner) -> DebruijnIndex {
-        cx.args_info(*self).outer_exclusive_binder
-    }
+impl HasInfo for VarListRow {
+    ghost keeps = { refl };
 }
 
-impl Flags for BoundVarKinds {
-    ghost use Rattle.tt_kinds.specs.declared.table.Table.TheVariants.{VarLists};
+impl HasInfo for ExistentialListRow {
+    ghost keeps = { refl };
+}
 
-    ghost flags_shape = { λ vars. stored VarLists vars.number };
+impl HasInfo for AssumptionListRow {
+    ghost keeps = { refl };
+}
+
+impl<K: HasInfo> Flags for Handle<K> {
+    ghost flags_shape = { λ handle. stored K.TABLE handle.number };
 
     #[tactic(auto, unfolding(tt_kinds::specs::Shape::fill))]
     fn flags(&self, cx: &Interner) -> TypeFlags {
-        cx.bound_vars_info(*self).flags
+        cx.info(*self).flags
     }
 
     #[tactic(auto, unfolding(tt_kinds::specs::Shape::fill))]
     fn outer_exclusive_binder(&self, cx: &Interner) -> DebruijnIndex {
-        cx.bound_vars_info(*self).outer_exclusive_binder
+        cx.info(*self).outer_exclusive_binder
     }
 }
 
@@ -351,17 +205,17 @@ impl Flags for OutlivesPredicate<GenericArg> {
     }
 }
 
-/// What a kind has of its own, beside the flags of its contents.
+/// The flags and the reach of a kind itself, without its contents.
 pub trait OwnFlags {
     ghost form: { Self → Form (Label ℕ) };
 
     ghost sort: { Sort };
 
-    /// Returns whether the kind is a bound variable with the greatest index, of which no term is made.
+    /// Returns whether the kind is a bound variable with the greatest index; no term of such a kind is built.
     fn is_too_deep(&self) -> bool
         ensures { IsTrue result ↔ IsTooDeep (form_shape sort (form self.now)) };
 
-    /// Returns the flags that the kind has beside its parts' flags.
+    /// Returns the flags of the kind itself, without the flags of its parts.
     fn own_flags(&self) -> TypeFlags
         ensures { result.bits ≡ own_flags sort (form self.now) };
 
@@ -460,10 +314,10 @@ impl OwnFlags for ConstKind {
     }
 }
 
-/// What is computed of a term that isn't stored yet. Every handle and name in it has to be the interner's.
+/// Computes the information of terms that aren't stored yet. Every handle and name in them has to be the interner's.
 pub trait ForKind {
-    /// Returns the flags of a type of this kind, and how far its bound variables reach: as far as an index can where the
-    /// kind is a bound variable with the greatest index, above which there is none.
+    /// Returns the flags and the outer exclusive binder of a type of this kind. The outer exclusive binder of a bound
+    /// variable with the greatest index is that index, since there is none above it.
     fn for_kind(cx: &Interner, kind: &TyKind) -> FlagComputation
         requires { HasParts (size cx.now.rows) (ty_kind_shape kind.now) }
         ensures flags { result.flags.bits ≡ scan (fill (meaning cx.now.rows) (ty_kind_shape kind.now)) }
@@ -471,7 +325,7 @@ pub trait ForKind {
             → IsInfo result (fill (meaning cx.now.rows) (ty_kind_shape kind.now)) }
         ensures deepest { IsTooDeep (ty_kind_shape kind.now) → result.outer_exclusive_binder ≡ greatest };
 
-    /// Returns the same of a constant of this kind.
+    /// Returns the flags and the outer exclusive binder of a constant of this kind.
     fn for_const_kind(cx: &Interner, kind: &ConstKind) -> FlagComputation
         requires { HasParts (size cx.now.rows) (const_kind_shape kind.now) }
         ensures flags { result.flags.bits ≡ scan (fill (meaning cx.now.rows) (const_kind_shape kind.now)) }
@@ -479,12 +333,12 @@ pub trait ForKind {
             → IsInfo result (fill (meaning cx.now.rows) (const_kind_shape kind.now)) }
         ensures deepest { IsTooDeep (const_kind_shape kind.now) → result.outer_exclusive_binder ≡ greatest };
 
-    /// Returns the same of a predicate under its binder.
+    /// Returns the flags and the outer exclusive binder of a predicate under its binder.
     fn for_predicate(cx: &Interner, predicate: &Binder<PredicateKind>) -> FlagComputation
         requires { HasParts (size cx.now.rows) (predicate_kind_shape predicate.now) }
         ensures { IsInfo result (fill (meaning cx.now.rows) (predicate_kind_shape predicate.now)) };
 
-    /// Returns the same of a list of clauses.
+    /// Returns the flags and the outer exclusive binder of a list of clauses.
     fn for_clauses(cx: &Interner, clauses: &[Clause]) -> FlagComputation
         requires { AreParts (size cx.now.rows) (item_shapes clause_shape clauses.now) }
         ensures { IsInfo result (fill (meaning cx.now.rows) (clauses_row_shape clauses.now)) };
@@ -514,7 +368,7 @@ impl ForKind for FlagComputation {
     }
 }
 
-// What is computed of a bound variable with the greatest index.
+// Returns the information of a bound variable with the greatest index.
 fn deepest_info(flags: TypeFlags) -> FlagComputation
     ensures { result ≡ computed flags.bits greatest }
 {
@@ -524,7 +378,7 @@ fn deepest_info(flags: TypeFlags) -> FlagComputation
     }
 }
 
-// What is computed of a term of this kind.
+// Returns the information of a term of this kind.
 #[inline(always)]
 pub(crate) fn kind_info(cx: &Interner, kind: &Kind) -> FlagComputation
     requires parts { HasParts (size cx.now.rows) (kind_shape kind.now) }
@@ -535,12 +389,12 @@ pub(crate) fn kind_info(cx: &Interner, kind: &Kind) -> FlagComputation
     let own = own_info(kind);
     let inside = parts_info(cx, &kind.parts());
     match kind.bound_vars() {
-        Some(vars) => own.joined(inside.under_binder(cx.bound_vars_info(vars).flags)),
+        Some(vars) => own.joined(inside.under_binder(cx.info(vars).flags)),
         None => own.joined(inside),
     }
 }
 
-// What a kind has beside what is computed of its parts.
+// Returns the information of a kind itself, without its parts.
 #[inline(always)]
 fn own_info(kind: &Kind) -> FlagComputation
     requires { IsTooDeep (kind_shape kind.now) → ⊥ }
@@ -560,7 +414,7 @@ fn own_info(kind: &Kind) -> FlagComputation
     }
 }
 
-// What is computed of a region.
+// Returns the information of a region.
 fn region_info(region: Region) -> FlagComputation
     ensures flags { (f : Meaning) → result.flags.bits ≡ scan (fill f (region_shape region)) }
     ensures outer { (f : Meaning) → result.outer_exclusive_binder ≡ outer_binder (fill f (region_shape region)) }
@@ -571,7 +425,7 @@ fn region_info(region: Region) -> FlagComputation
     }
 }
 
-// What is computed of a child, and of none nothing.
+// Returns the information of a child; an absent child has no flags.
 #[inline(always)]
 #[tactic(auto, unfolding(tt_kinds::specs::Shape::fill))]
 fn child_info(cx: &Interner, child: &Child) -> FlagComputation
@@ -586,37 +440,37 @@ fn child_info(cx: &Interner, child: &Child) -> FlagComputation
     }
 }
 
-// What is kept beside a stored term.
+// Returns the cached information of a stored term.
 fn node_info(cx: &Interner, node: Node) -> FlagComputation
     requires { node_number node < size cx.now.rows (node_table node) }
     ensures { IsInfo result (meaning cx.now.rows (node_table node) (node_number node)) }
 {
     match node {
-        Node::Ty(ty) => cx.ty_info(ty),
-        Node::Const(constant) => cx.const_info(constant),
-        Node::Pat(pat) => cx.pat_info(pat),
-        Node::Predicate(predicate) => cx.predicate_info(predicate),
-        Node::Existential(predicate) => cx.existential_info(predicate),
-        Node::Clauses(clauses) => cx.clauses_info(clauses),
+        Node::Ty(ty) => cx.info(ty),
+        Node::Const(constant) => cx.info(constant),
+        Node::Pat(pat) => cx.info(pat),
+        Node::Predicate(predicate) => cx.info(predicate),
+        Node::Existential(predicate) => cx.info(predicate),
+        Node::Clauses(clauses) => cx.info(clauses),
     }
 }
 
-// What is kept beside a stored list.
+// Returns the cached information of a stored list.
 fn list_info(cx: &Interner, list: List) -> FlagComputation
     requires { list_number list < size cx.now.rows (list_table list) }
     ensures { IsInfo result (meaning cx.now.rows (list_table list) (list_number list)) }
 {
     match list {
-        List::Tys(tys) => cx.tys_info(tys),
-        List::Consts(consts) => cx.consts_info(consts),
-        List::Args(args) => cx.args_info(args),
-        List::Pats(pats) => cx.pat_list_info(pats),
-        List::Existentials(predicates) => cx.existentials_info(predicates),
-        List::Clauses(clauses) => cx.clauses_info(clauses),
+        List::Tys(tys) => cx.info(tys),
+        List::Consts(consts) => cx.info(consts),
+        List::Args(args) => cx.info(args),
+        List::Pats(pats) => cx.info(pats),
+        List::Existentials(predicates) => cx.info(predicates),
+        List::Clauses(clauses) => cx.info(clauses),
     }
 }
 
-// What is computed of the children of a kind.
+// Returns the information of the children of a kind.
 #[inline(always)]
 fn parts_info(cx: &Interner, parts: &Parts) -> FlagComputation
     requires { AreParts (size cx.now.rows) (parts_shapes parts.now) }
@@ -625,7 +479,7 @@ fn parts_info(cx: &Interner, parts: &Parts) -> FlagComputation
     child_info(cx, &parts.first).joined(child_info(cx, &parts.second))
 }
 
-// What is computed of a list of these items.
+// Returns the information of a list of these items.
 pub(crate) fn items_info<T: Flags>(cx: &Interner, items: &[T]) -> FlagComputation
     requires { AreParts (size cx.now.rows) (item_shapes T.flags_shape items.now) }
     ensures { AreInfosOf result (fill_all (meaning cx.now.rows) (item_shapes T.flags_shape items.now)) }
@@ -641,7 +495,7 @@ pub(crate) fn items_info<T: Flags>(cx: &Interner, items: &[T]) -> FlagComputatio
     all
 }
 
-// What is computed of a list of a binder's variables.
+// Returns the information of a list of a binder's variables.
 pub(crate) fn vars_info(vars: &[BoundVariableKind]) -> FlagComputation
     ensures { result ≡ computed (list_flags (map var_kind vars.now)) 0 }
 {

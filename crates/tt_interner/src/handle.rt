@@ -1,4 +1,5 @@
-//! What handles name, read in their interner. They have to be of that interner, which its methods `owns_` test.
+//! Access to the rows that handles name. A handle has to be of the interner; [`Interner::owns`] and
+//! [`Interner::owns_clause`] test it.
 
 ghost use Rattle.std.specs.Prelude.{◌≡◌, ◌<◌, ℕ, List, MatchOption};
 ghost use Rattle.tt_kinds.specs.declared.table.Table.{Table};
@@ -17,7 +18,7 @@ use tt_kinds::{
 
 /// A handle of a stored term that has a kind.
 pub trait InternedKind: Sized {
-    /// What the term is.
+    /// The kind of the term.
     type Kind;
 
     // The number of the handle.
@@ -27,7 +28,7 @@ pub trait InternedKind: Sized {
     // The row of a kind.
     ghost row_of: { Self.Kind → Row };
 
-    /// Returns what the term is, in the interner's memory.
+    /// Returns the term's kind, borrowed from the interner.
     fn kind<'a>(self, cx: &'a Interner) -> &'a Self::Kind
         requires { handle_number self < size cx.now.rows handle_table }
         ensures { IsAt cx.now.rows (row_of result.now) (handle_number self) };
@@ -120,7 +121,7 @@ impl InternedKind for PolyExistentialPredicate {
 
 /// A handle of a stored list.
 pub trait InternedList: Sized {
-    /// What the list holds.
+    /// The type of the list's items.
     type Item;
 
     // The number of the handle.
@@ -130,7 +131,7 @@ pub trait InternedList: Sized {
     // The row of a list.
     ghost row_of_items: { List Self.Item → Row };
 
-    /// Returns the items in order, in the interner's memory.
+    /// Returns the items in order, borrowed from the interner.
     fn as_slice<'a>(self, cx: &'a Interner) -> &'a [Self::Item]
         requires { list_number self < size cx.now.rows list_table }
         ensures { IsAt cx.now.rows (row_of_items result.now) (list_number self) };
@@ -281,7 +282,7 @@ pub trait AsPredicate: Sized {
     fn as_predicate(self) -> Predicate
         ensures { result.number ≡ clause_number self };
 
-    /// Returns what the clause is, under its binder.
+    /// Returns the clause's kind, under its binder.
     fn kind(self, cx: &Interner) -> Binder<ClauseKind>
         requires { IsClause cx.now.rows (clause_number self) }
         ensures { IsAt cx.now.rows (predicate_row (clause_predicate result)) (clause_number self) };
@@ -304,7 +305,7 @@ pub trait AsClause: Sized {
     // The number of the handle.
     ghost predicate_number: { Self → ℕ };
 
-    /// Returns the clause that the predicate is, and `None` where it is none.
+    /// Returns the clause, or `None` if the predicate is not a clause.
     fn as_clause(self, cx: &Interner) -> Option<Clause>
         requires { predicate_number self < size cx.now.rows Predicates }
         ensures { MatchOption result (IsClause cx.now.rows (predicate_number self) → ⊥) (λ clause. (clause.number
@@ -330,7 +331,7 @@ pub trait InternedText: Sized {
     // The number of the handle.
     ghost text_number: { Self → ℕ };
 
-    /// Returns the text, in the interner's memory.
+    /// Returns the text, borrowed from the interner.
     fn as_str<'a>(self, cx: &'a Interner) -> &'a str
         requires { text_number self < size cx.now.rows Symbols }
         ensures { IsAt cx.now.rows (text_row result.now) (text_number self) };

@@ -13,6 +13,7 @@ mod consts;
 pub mod counters;
 mod declarations;
 mod existentials;
+mod info;
 mod owns;
 mod owns_ids;
 mod owns_kinds;
@@ -36,10 +37,10 @@ use tt_kinds::{
     Table, Ty, TyKind,
 };
 
-/// Keeps each type, constant, pattern, predicate, list and text once, so that equal handles of one table are the same
-/// term.
+/// Stores each type, constant, pattern, predicate, list and text once, so that handles of one table are equal exactly
+/// when their terms are.
 ///
-/// A table has at most as many rows as the interner's limit says; what is stored is never removed.
+/// A table has at most as many rows as the interner's limit. A stored term is never removed.
 #[derive(Drop)]
 pub struct Interner {
     types: IndexMap<TyKind, FlagComputation>,
@@ -78,7 +79,8 @@ impl Model for Interner {
 }
 
 impl Interner {
-    /// Returns an interner of the empty lists and of the symbol `'_`, with room for as many rows as handles can name.
+    /// Returns an interner with the empty lists and the symbol `'_`, whose tables may have as many rows as handles can
+    /// name.
     pub fn new(alloc: Global) -> Result<Interner, Refusal>
         ensures rows { IfOk result (λ cx. cx.rows ≡ first_rows) }
         ensures limit { IfOk result (λ cx. cx.limit ≡ greatest) }
@@ -88,8 +90,8 @@ impl Interner {
         Interner::with_limit(alloc, GREATEST_INDEX)
     }
 
-    /// Returns the same, with at most `limit` rows in a table. A limit of 0 is refused with `TableFull`, as there is no
-    /// room for the rows from the start.
+    /// Returns an interner with the empty lists and the symbol `'_`, with at most `limit` rows in a table. A limit of 0
+    /// is refused with `TableFull`: it leaves no room for these first rows.
     pub fn with_limit(alloc: Global, limit: u32) -> Result<Interner, Refusal>
         ensures rows { IfOk result (λ cx. cx.rows ≡ first_rows) }
         ensures limit { IfOk result (λ cx. cx.limit ≡ min limit greatest) }
@@ -136,7 +138,7 @@ impl Interner {
         })
     }
 
-    /// What holds of all rows. It does nothing; the contract gives callers the facts.
+    /// Does nothing. The contract gives callers the facts that hold for all rows.
     pub fn are_rows(&self)
         ensures are { AreRows self.now.rows }
         ensures first { HasFirst self.now.rows }
@@ -144,8 +146,8 @@ impl Interner {
         let _order = &self.order;
     }
 
-    /// That handles of one table are equal exactly where their terms are equal. It does nothing; the contract gives
-    /// callers the fact.
+    /// Does nothing. The contract gives callers the fact that handles of one table are equal exactly when their terms
+    /// are.
     pub fn are_interned(&self)
         ensures { AreInterned self.now.rows }
     {
@@ -157,14 +159,14 @@ impl Interner {
         *self.types.allocator()
     }
 
-    /// Returns how often an argument folder has taken a type apart. The count stays at its greatest number.
+    /// Returns how often an argument folder has taken a type apart. The count saturates at its greatest number.
     pub fn descents(&self) -> u64
         ensures { result ≡ self.now.counters.descents }
     {
         self.descents
     }
 
-    /// Returns how often a shifter has taken a type apart. The count stays at its greatest number.
+    /// Returns how often a shifter has taken a type apart. The count saturates at its greatest number.
     pub fn shift_descents(&self) -> u64
         ensures { result ≡ self.now.counters.shift_descents }
     {

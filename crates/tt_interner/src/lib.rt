@@ -1,4 +1,4 @@
-//! The interner: each type, list and text is kept once, with its flags beside it.
+//! The interner: each type, list and text is stored once, together with its flags.
 #![tactic(auto)]
 
 mod children;

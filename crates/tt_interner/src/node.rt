@@ -1,4 +1,4 @@
-//! Stored terms and lists of all tables, as walks see them: by their kinds, and by their children.
+//! Access to stored terms and lists of all tables, by their kinds and by their children.
 
 ghost use Rattle.std.specs.Prelude.{
   ◌≡◌,
@@ -72,7 +72,7 @@ pub struct Contents {
 }
 
 impl Interner {
-    /// Returns what a stored term is. It has to be of this interner, and no list of clauses, whose items
+    /// Returns a stored term's kind. The term has to be of this interner and not a list of clauses, whose items
     /// [`Interner::list_child`] reads.
     #[inline(always)]
     pub fn node_kind(&self, node: Node) -> Kind
@@ -91,7 +91,7 @@ impl Interner {
         self.kind_at(node)
     }
 
-    // What a stored term is.
+    // Returns a stored term's kind.
     fn kind_at(&self, node: Node) -> Kind
         requires owned { node_number node < size self.now.rows (node_table node) }
         requires has_kind { node_table node ≢ Table.ClauseLists }
@@ -108,8 +108,7 @@ impl Interner {
         }
     }
 
-    /// Returns the contents of a stored term, read in the interner's memory. The term is as [`Interner::node_kind`]
-    /// wants it.
+    /// Returns the contents of a stored term, read in place. [`Interner::node_kind`] states the conditions on the term.
     #[inline(always)]
     pub fn node_parts(&self, node: Node) -> Contents
         requires owned { node_number node < size self.now.rows (node_table node) }
@@ -128,7 +127,7 @@ impl Interner {
         self.contents_at(node)
     }
 
-    // The contents of a stored term.
+    // Returns the contents of a stored term.
     #[inline(always)]
     fn contents_at(&self, node: Node) -> Contents
         requires owned { node_number node < size self.now.rows (node_table node) }
@@ -173,7 +172,7 @@ impl Interner {
         }
     }
 
-    /// Returns how many children a stored list has. It has to be of this interner.
+    /// Returns the number of children of a stored list. The list has to be of this interner.
     #[inline(always)]
     pub fn list_len(&self, list: List) -> usize
         requires { list_number list < size self.now.rows (list_table list) }
@@ -192,7 +191,7 @@ impl Interner {
         self.count_at(list)
     }
 
-    // How many children a stored list has.
+    // Returns the number of children of a stored list.
     fn count_at(&self, list: List) -> usize
         requires { list_number list < size self.now.rows (list_table list) }
         ensures { result ≡ length (children_at self.now.rows list) }
@@ -207,8 +206,8 @@ impl Interner {
         }
     }
 
-    /// Returns the child at this place of a stored list, which [`Interner::list_len`] counts. The list has to be of
-    /// this interner.
+    /// Returns the child at this place of a stored list. The list has to be of this interner, and `index` below its
+    /// [`Interner::list_len`].
     #[inline(always)]
     pub fn list_child(&self, list: List, index: usize) -> Child
         requires owned { list_number list < size self.now.rows (list_table list) }
@@ -261,8 +260,8 @@ impl Interner {
     }
 
     /// Returns the stored term like this one, with other children in the places of its own. They have to be of this
-    /// interner, and of the same sorts; [`Parts::are_like`] tests it. The term is as [`Interner::node_kind`] wants it.
-    /// Refused as [`Interner::mk_ty`] is.
+    /// interner, and of the same sorts; [`Parts::are_like`] tests the sorts. [`Interner::node_kind`] states the
+    /// conditions on the term. Refused as [`Interner::mk_ty`] is.
     #[inline(always)]
     pub fn store_like(&mut self, node: Node, parts: Parts) -> Result<Node, Refusal>
         requires owned { node_number node < size self.old.rows (node_table node) }
@@ -281,7 +280,7 @@ impl Interner {
         }
     }
 
-    // The same of a term of any table.
+    // Stores the term in the table of `node`, which may be any.
     #[inline(never)]
     fn store_any_like(&mut self, node: Node, parts: Parts) -> Result<Node, Refusal>
         requires owned { node_number node < size self.old.rows (node_table node) }
@@ -295,10 +294,10 @@ impl Interner {
         self.store(kind)
     }
 
-    /// Returns the stored list of these children. They have to be of this interner, and of the sort that the list
-    /// holds. Refused as [`Interner::mk_tys`] is, and a list of clauses with `NotAClause` where a child is no clause.
-    /// More than eight children are collected in memory before the list is looked up, so `Memory` may also come of a
-    /// list that is there.
+    /// Returns the stored list of these children. They have to be of this interner, and of the sort of the list's
+    /// items. Refused as [`Interner::mk_tys`] is, and with `NotAClause` if a child in a list of clauses is not a
+    /// clause. More than eight children are collected in a vector before the list is looked up, so `Memory` is possible
+    /// even for a list that is stored already.
     pub fn store_list(&mut self, sort: ListSort, items: &[Child]) -> Result<List, Refusal>
         requires parts { AreParts (size self.old.rows) (children_shapes items.now) }
         requires fit { All (λ c. IsItem sort (child_sort c)) items.now }

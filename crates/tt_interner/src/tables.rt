@@ -1,4 +1,4 @@
-//! The tables, and the order in which their entries came.
+//! The tables, and the order in which entries were added.
 ghost use Rattle.tt_interner.specs.Stored.{anonymous_text};
 ghost use Rattle.std.specs.Prelude.{
   ◌≡◌,
@@ -32,7 +32,8 @@ use tt_flags::FlagComputation;
 use tt_index::Refusal;
 use tt_kinds::Table;
 
-/// Adds a new entry to a table that has less than `limit`, and notes the table in the order. Answers the entry's number. Where it is refused, both stay.
+/// Adds a new entry to a table that has less than `limit` entries, records the table in the order, and returns the
+/// entry's number. If refused, it changes neither.
 pub(crate) fn add<K: Eq + Hash + Drop, V: Drop>(
     order: &mut Vec<Table>,
     limit: u32,
@@ -69,8 +70,8 @@ pub(crate) fn add<K: Eq + Hash + Drop, V: Drop>(
     }
 }
 
-/// Finds a key in a table that has at most `limit`, or adds it as `add` does, by one look-up where there is room. What is there
-/// has the same information beside it, and is found without growth. Answers the entry's number.
+/// Finds a key in a table that has at most `limit` entries, or adds it as `add` does, with one look-up if there is
+/// room, and returns the entry's number. A key that is there has the same information, and is found without growth.
 pub(crate) fn find_or_insert<K: Eq + Hash + Drop>(
     order: &mut Vec<Table>,
     limit: u32,
@@ -100,7 +101,7 @@ pub(crate) fn find_or_insert<K: Eq + Hash + Drop>(
     if entries.len() >= limit as usize {
         return find_or(entries, &key, Refusal::TableFull);
     }
-    // What is there takes no room, so where there is none to spare it is looked up first.
+    // A key that is there takes no room, so it is looked up first if there is none to spare.
     if order.len() >= order.capacity() {
         match find_or(entries, &key, Refusal::Memory) {
             Ok(number) => return Ok(number),
@@ -155,7 +156,7 @@ pub(crate) fn find_or_add<K: Copy + Eq + Hash + Drop>(
     find_or_insert(order, limit, table, entries, *kind, info)
 }
 
-// The number of a key in a table, and the refusal where it isn't there.
+// Returns the number of a key in a table, or the refusal if it isn't there.
 #[inline(never)]
 fn find_or<K: Eq + Hash + Drop>(
     entries: &IndexMap<K, FlagComputation>,
@@ -202,7 +203,7 @@ pub(crate) fn add_list<T: Copy + Eq + Hash + Drop>(
     }
 }
 
-/// Finds a list in a table of lists, or adds it as `add` does. Answers the entry's number.
+/// Finds a list in a table of lists, or adds it as `add` does, and returns the entry's number.
 pub(crate) fn find_or_add_list<T: Copy + Eq + Hash + Drop>(
     order: &mut Vec<Table>,
     limit: u32,
@@ -309,7 +310,7 @@ pub(crate) fn key_at<K: Eq + Hash, V>(entries: &IndexMap<K, V>, number: u32) -> 
     }
 }
 
-/// Returns what is kept beside the entry of this number.
+/// Returns the cached information of the entry of this number.
 pub(crate) fn info_at<K: Eq + Hash>(
     entries: &IndexMap<K, FlagComputation>,
     number: u32,

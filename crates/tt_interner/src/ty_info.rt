@@ -1,4 +1,4 @@
-//! Values with the flags that were computed of them.
+//! Values with their cached information.
 
 ghost use Rattle.std.specs.Prelude.{◌≡◌};
 ghost use Rattle.std.proofs.Common.{rules};
@@ -11,15 +11,15 @@ use std::ops::Deref;
 use tt_flags::TypeFlags;
 use tt_index::DebruijnIndex;
 
-/// A value with its flags beside it. Two are compared, ordered and hashed by their values alone, since equal values
-/// have equal flags.
+/// A value with its flags and its outer exclusive binder. Equality, order and hash use the value alone, since equal
+/// values have equal flags.
 #[derive(Clone, Copy, Debug)]
 pub struct WithCachedTypeInfo<T> {
     /// The value.
     pub internee: T,
     /// The flags of the value.
     pub flags: TypeFlags,
-    /// The least index above the indices of all bound variables that escape the value.
+    /// One more than the greatest index of a bound variable that escapes the value, or 0 if none escapes.
     pub outer_exclusive_binder: DebruijnIndex,
 }
 

@@ -1,5 +1,7 @@
 -- Small terms, and what the definitions say of them.
 use Rattle.std.proofs.Common.{inl, inr, ◌≡◌, ℕ, List, [], ◌∷◌, refl, arith}
+use Rattle.tt_kinds.specs.Handle.{handle}
+use Rattle.tt_kinds.specs.Id.{id_of}
 use Rattle.tt_index.specs.declared.numeric.IntTy.TheVariants as int
 use Rattle.tt_index.specs.declared.numeric.UintTy.TheVariants as uint
 use Rattle.tt_index.specs.declared.qualifier.Mutability.TheVariants as mutability
@@ -337,16 +339,16 @@ of_args l ts = term l (also (args ts) none)
 coroutine_says : Says (of_args (type_label (coroutine_type 0)) (also (parameter 0) none)) 0x2000001 0
 coroutine_says = (refl, refl)
 
-projection_says : Says (of_args (type_label (alias_type (alias.Projection (record { number = 0 })))) none) 0x400 0
+projection_says : Says (of_args (type_label (alias_type (alias.Projection (id_of 0)))) none) 0x400 0
 projection_says = (refl, refl)
 
-inherent_says : Says (of_args (type_label (alias_type (alias.Inherent (record { number = 0 })))) none) 0x2000 0
+inherent_says : Says (of_args (type_label (alias_type (alias.Inherent (id_of 0)))) none) 0x2000 0
 inherent_says = (refl, refl)
 
-opaque_says : Says (of_args (type_label (alias_type (alias.Opaque (record { number = 0 })))) none) 0x1000 0
+opaque_says : Says (of_args (type_label (alias_type (alias.Opaque (id_of 0)))) none) 0x1000 0
 opaque_says = (refl, refl)
 
-free_alias_says : Says (of_args (type_label (alias_type (alias.Free (record { number = 0 })))) none) 0x800 0
+free_alias_says : Says (of_args (type_label (alias_type (alias.Free (id_of 0)))) none) 0x800 0
 free_alias_says = (refl, refl)
 
 unevaluated_says : Says (of_args (const_label (unevaluated_const 0)) none) 0x4000 0
@@ -437,7 +439,7 @@ bare_error_says : (f : Meaning) → Says (fill f (bare_ty_shape (ty.Error (recor
 unfolding fill
 bare_error_says f = (refl, refl)
 
-bare_param_says : (f : Meaning) → Says (fill f (bare_ty_shape (ty.Param (record { index = 0; name = record { number = 0 } })))) 0 0
+bare_param_says : (f : Meaning) → Says (fill f (bare_ty_shape (ty.Param (record { index = 0; name = handle 0 })))) 0 0
 unfolding fill
 bare_param_says f = (refl, refl)
 

@@ -4,7 +4,8 @@ use Rattle.std.specs.Prelude.{true, Some}
 use Rattle.tt_kinds.specs.Label.{type_sort, const_sort, TypeLabel, ConstLabel, type_label, const_label, is_clause_record}
 use Rattle.tt_kinds.specs.Shape.{Meaning, Shapes, fill, fill_all, shape_table}
 use Rattle.tt_kinds.specs.Parts.{child_sort, sort_list_table, IsTermSort, term_kind_child, term_child}
-use Rattle.tt_kinds.specs.Kinds.{Form, param, bound, plain, under, relabelled, form_shape, ty_form, const_form, predicate_form, kind_table, kind_shape, items_shape, items_tree}
+use Rattle.tt_kinds.specs.declared.parts.Parts.{Parts}
+use Rattle.tt_kinds.specs.Kinds.{Form, param, bound, plain, under, refilled, relabelled, form_shape, ty_form, const_form, predicate_form, kind_table, kind_shape, items_shape, items_tree}
 use Rattle.tt_kinds.specs.Predicate.{is_clause_kind}
 use Rattle.tt_kinds.specs.declared.table.Table.TheVariants.{Types, Consts}
 use Rattle.tt_kinds.specs.declared.term.Term.{Term}
@@ -88,3 +89,10 @@ is_clause-record (predicate.ConstEquate a b) = refl
 is_clause-record predicate.Ambiguous = refl
 is_clause-record (predicate.NormalizesTo p) = refl
 is_clause-record (predicate.AliasRelate a b r) = refl
+
+-- other children under another label, in either order
+pub relabelled-refilled : {L K : Type 0} (f : L → K) (q : Parts) (x : Form L) → relabelled f (refilled q x) ≡ refilled q (relabelled f x)
+relabelled-refilled f q (param i name) = refl
+relabelled-refilled f q (bound d e) = refl
+relabelled-refilled f q (plain l p) = refl
+relabelled-refilled f q (under l vars m p) = refl

@@ -26,13 +26,13 @@ abbrev pub token_shapes : Option ℕ → Shapes
 token_shapes None = shape.none
 token_shapes (Some e) = shape.also (token_shape e) shape.none
 
--- the index of a variable, and none where it is canonical
+-- the index of a variable, or None for a canonical one
 abbrev pub index_of : Depth → Option ℕ
 index_of (at d) = Some d
 index_of canonical = None
 
 module _ {L : Type 0} (s : Sort) (record_of : L → RecordLabel ℕ) (token_of : L → Option ℕ) where
-  -- a kind as a plain node: it is no parameter, no variable and no stored term. What it tells an error of is its first child.
+  -- a plain node: no parameter, no variable and no stored term; the token of its error, if any, comes first
   abbrev pub bare_shape : Form L → Shape
   bare_shape (param i name) = shape.node (record_label (bare_param_record s i name)) shape.none
   bare_shape (bound d e) = shape.node (record_label (bare_bound_record s (index_of d) e)) shape.none
@@ -68,7 +68,7 @@ expression_shape e = bare_const_shape (const.Expr e)
 abbrev pub value_shape : ValueConst → Shape
 value_shape v = bare_const_shape (const.Value v)
 
--- what a value is made of: what its kind says of it, without the type
+-- the kind of a value, without its type
 abbrev pub valtree_kind_shape : ValTreeKind → Shape
 valtree_kind_shape (valtree.Leaf s) = shape.node (record_label (bare_const_record (leaf_const s.bits s.size))) shape.none
 valtree_kind_shape (valtree.Branch cs) = one_record (bare_const_record branch_const) (consts_shape cs)

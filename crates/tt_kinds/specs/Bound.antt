@@ -1,4 +1,4 @@
--- Bound variables: the index as it is written, and what a variable says of itself.
+-- Bound variables: the index as it is written, and the variable's entry.
 use Rattle.std.specs.Prelude.{ℕ, ◌<◌, ⊤}
 use Rattle.tt_index.specs.Greatest.{greatest}
 use Rattle.tt_kinds.specs.Label.{RegionName, anonymous, printed, named, environment, VarKind, region_variable, type_variable, const_variable, Entry}
@@ -23,7 +23,7 @@ abbrev pub IsBelowGreatest : Depth → Type 0
 IsBelowGreatest (at d) = d < greatest
 IsBelowGreatest canonical = ⊤
 
--- what a bound region is called
+-- the name of a bound region
 abbrev pub region_name : BoundRegionKind → RegionName ℕ
 region_name region_kind.Anon = anonymous
 region_name (region_kind.NamedForPrinting s) = printed s.number
@@ -36,14 +36,14 @@ var_kind (variable.Ty k) = type_variable k
 var_kind (variable.Region k) = region_variable (region_name k)
 var_kind variable.Const = const_variable
 
--- what a bound region says of itself
+-- a bound region: its place in the binder's list, and its name
 abbrev pub region_entry : BoundRegion → Entry ℕ
 region_entry b = record { var = b.var; kind = region_variable (region_name b.kind) }
 
--- what a bound type says of itself
+-- a bound type: its place in the binder's list, and its name
 abbrev pub ty_entry : BoundTy → Entry ℕ
 ty_entry b = record { var = b.var; kind = type_variable b.kind }
 
--- what a bound constant says of itself
+-- a bound constant: its place in the binder's list
 abbrev pub const_entry : BoundConst → Entry ℕ
 const_entry b = record { var = b.var; kind = const_variable }

@@ -1,4 +1,4 @@
--- The table of kinds: what each is, and its children in order. The tree of a kind comes from it alone.
+-- The table of kinds: the label of each, and its children in order. The tree of a kind comes from this table alone.
 use Rattle.std.specs.Prelude.{ℕ, List, [], ◌∷◌, map, Option, Some, None}
 use Rattle.tt_kinds.specs.Label.{Sort, region_sort, type_sort, const_sort, Entry, static_region, erased_region, region_var, error_region, late_param_region, placeholder_region, TypeLabel, bool_type, char_type, int_type, uint_type, float_type, str_type, never_type, placeholder_type, infer_type, error_type, ref_type, raw_ptr_type, slice_type, tuple_type, fn_ptr_type, foreign_type, adt_type, array_type, pat_type, unsafe_binder_type, dynamic_type, closure_type, coroutine_closure_type, coroutine_type, coroutine_witness_type, alias_type, ConstLabel, infer_const, placeholder_const, unevaluated_const, leaf_const, branch_const, error_const, expr_const, PatternLabel, range_pattern, or_pattern, not_null_pattern, RecordLabel, fn_sig_tys_record, unsafe_binder_record, trait_record, host_effect_record, region_outlives_record, type_outlives_record, projection_record, const_has_type_record, well_formed_record, const_evaluatable_record, unstable_feature_record, dyn_compatible_record, subtype_record, coerce_record, const_equate_record, ambiguous_record, normalizes_to_record, alias_relate_record, existential_trait_record, existential_projection_record, auto_trait_record, Label, type_label, const_label, pattern_label, predicate_label, existential_label, clause_list_label, list_label, var_list_label, text_label, declaration_label, record_label}
 use Rattle.tt_kinds.specs.Tree as tree
@@ -9,19 +9,19 @@ use Rattle.tt_kinds.specs.Shape.{Shape, Shapes, append, item_shapes}
 use Rattle.tt_kinds.specs.Parts.{node_table, node_number, list_table, list_number, no_parts, one_part, two_parts, term_child}
 use Rattle.tt_kinds.specs.declared.table.Table.{Table}
 use Rattle.tt_kinds.specs.declared.table.Table.TheVariants.{Types, Consts, Patterns, Predicates, Existentials, ClauseLists, TypeLists, ConstLists, ArgLists, PatternLists, ExistentialLists}
-use Rattle.tt_kinds.specs.declared.handle.Ty.{Ty}
-use Rattle.tt_kinds.specs.declared.handle.Const.{Const}
-use Rattle.tt_kinds.specs.declared.handle.Pat.{Pat}
-use Rattle.tt_kinds.specs.declared.handle.Predicate.{Predicate}
-use Rattle.tt_kinds.specs.declared.handle.Clause.{Clause}
-use Rattle.tt_kinds.specs.declared.handle.PolyExistentialPredicate.{PolyExistentialPredicate}
-use Rattle.tt_kinds.specs.declared.handle.Clauses.{Clauses}
-use Rattle.tt_kinds.specs.declared.handle.Tys.{Tys}
-use Rattle.tt_kinds.specs.declared.handle.Consts.{Consts as ConstList}
-use Rattle.tt_kinds.specs.declared.handle.PatList.{PatList}
-use Rattle.tt_kinds.specs.declared.handle.BoundExistentialPredicates.{BoundExistentialPredicates}
-use Rattle.tt_kinds.specs.declared.handle.BoundVarKinds.{BoundVarKinds}
-use Rattle.tt_kinds.specs.declared.handle.GenericArgs.{GenericArgs}
+use Rattle.tt_kinds.specs.Handle.{Ty}
+use Rattle.tt_kinds.specs.Handle.{Const}
+use Rattle.tt_kinds.specs.Handle.{Pat}
+use Rattle.tt_kinds.specs.Handle.{Predicate}
+use Rattle.tt_kinds.specs.Handle.{Clause}
+use Rattle.tt_kinds.specs.Handle.{PolyExistentialPredicate}
+use Rattle.tt_kinds.specs.Handle.{Clauses}
+use Rattle.tt_kinds.specs.Handle.{Tys}
+use Rattle.tt_kinds.specs.Handle.{Consts as ConstList}
+use Rattle.tt_kinds.specs.Handle.{PatList}
+use Rattle.tt_kinds.specs.Handle.{BoundExistentialPredicates}
+use Rattle.tt_kinds.specs.Handle.{BoundVarKinds}
+use Rattle.tt_kinds.specs.Handle.{GenericArgs}
 use Rattle.tt_kinds.specs.declared.declaration.Declaration.{Declaration}
 use Rattle.tt_kinds.specs.declared.binder.Binder.{Binder}
 use Rattle.tt_kinds.specs.declared.bound.BoundVariableKind.{BoundVariableKind}
@@ -76,7 +76,7 @@ form_parts (bound d e) = no_parts
 form_parts (plain l p) = p
 form_parts (under l vars m p) = p
 
--- the same with other children in their places
+-- the form with other children in their places
 abbrev pub refilled : {L : Type 0} → Parts → Form L → Form L
 refilled q (param i name) = param i name
 refilled q (bound d e) = bound d e
@@ -90,14 +90,14 @@ form_binder (bound d e) = None
 form_binder (plain l p) = None
 form_binder (under l vars m p) = Some vars
 
--- the same with a label of all tables
+-- the form with a label of all tables
 abbrev pub relabelled : {L K : Type 0} → (L → K) → Form L → Form K
 relabelled f (param i name) = param i name
 relabelled f (bound d e) = bound d e
 relabelled f (plain l p) = plain (f l) p
 relabelled f (under l vars m p) = under (f l) vars m p
 
--- types: what each is, and its children
+-- types: the label of each, and its children
 abbrev pub ty_form : TyKind → Form TypeLabel
 ty_form ty.Bool = plain bool_type no_parts
 ty_form ty.Char = plain char_type no_parts
@@ -133,7 +133,7 @@ abbrev pub value_form : Ty → ValTreeKind → Form ConstLabel
 value_form t (valtree.Leaf s) = plain (leaf_const s.bits s.size) (one_part (child.Node (node.Ty t)))
 value_form t (valtree.Branch cs) = plain branch_const (two_parts (child.Node (node.Ty t)) (child.List (list.Consts cs)))
 
--- constants: what each is, and its children
+-- constants: the label of each, and its children
 abbrev pub const_form : ConstKind → Form ConstLabel
 const_form (const.Param p) = param p.index p.name.number
 const_form (const.Infer i) = plain (infer_const i) no_parts
@@ -153,11 +153,11 @@ pub record Labelled (L : Type 0) : Type 0 where
 abbrev pub labelled : {L : Type 0} → L → Parts → Labelled L
 labelled l p = record { label = l; parts = p }
 
--- the same with other children in their places
+-- the form with other children in their places
 abbrev pub replenished : {L : Type 0} → Parts → Labelled L → Labelled L
 replenished q f = record { label = f.label; parts = q }
 
--- patterns: what each is, and its children
+-- patterns: the label of each, and its children
 abbrev pub pattern_form : PatternKind → Labelled PatternLabel
 pattern_form (pattern.Range start end) = labelled range_pattern (two_parts (child.Node (node.Const start)) (child.Node (node.Const end)))
 pattern_form (pattern.Or ps) = labelled or_pattern (one_part (child.List (list.Pats ps)))
@@ -167,7 +167,7 @@ pattern_form pattern.NotNull = labelled not_null_pattern no_parts
 abbrev pub RecordForm : Type 0
 RecordForm = Labelled (RecordLabel ℕ)
 
--- clauses, without their binder: what each is, and its children
+-- clauses, without their binder: the label of each, and its children
 abbrev pub clause_form : ClauseKind → RecordForm
 clause_form (clause.Trait p) = labelled (trait_record p.trait_ref.def_id.number) (one_part (child.List (list.Args p.trait_ref.args)))
 clause_form (clause.RegionOutlives p) = labelled region_outlives_record (two_parts (child.Region p.0) (child.Region p.1))
@@ -179,7 +179,7 @@ clause_form (clause.ConstEvaluatable c) = labelled const_evaluatable_record (one
 clause_form (clause.HostEffect p) = labelled (host_effect_record p.trait_ref.def_id.number p.constness) (one_part (child.List (list.Args p.trait_ref.args)))
 clause_form (clause.UnstableFeature s) = labelled (unstable_feature_record s.number) no_parts
 
--- predicates, without their binder: what each is, and its children
+-- predicates, without their binder: the label of each, and its children
 abbrev pub predicate_form : PredicateKind → RecordForm
 predicate_form (predicate.Clause c) = clause_form c
 predicate_form (predicate.DynCompatible d) = labelled (dyn_compatible_record d.number) no_parts
@@ -190,7 +190,7 @@ predicate_form predicate.Ambiguous = labelled ambiguous_record no_parts
 predicate_form (predicate.NormalizesTo p) = labelled (normalizes_to_record p.alias.def_id.number) (two_parts (child.List (list.Args p.alias.args)) (term_child p.term))
 predicate_form (predicate.AliasRelate a b r) = labelled (alias_relate_record r) (two_parts (term_child a) (term_child b))
 
--- existential predicates, without their binder: what each is, and its children
+-- existential predicates, without their binder: the label of each, and its children
 abbrev pub existential_form : ExistentialPredicate → RecordForm
 existential_form (existential.Trait t) = labelled (existential_trait_record t.def_id.number) (one_part (child.List (list.Args t.args)))
 existential_form (existential.Projection p) = labelled (existential_projection_record p.def_id.number) (two_parts (child.List (list.Args p.args)) (term_child p.term))
@@ -200,7 +200,7 @@ existential_form (existential.AutoTrait d) = labelled (auto_trait_record d.numbe
 abbrev pub under_form : Label ℕ → BoundVarKinds → RecordForm → Form (Label ℕ)
 under_form l vars f = under l vars f.label f.parts
 
--- the same for the kinds of all tables
+-- the form of a kind of any table
 abbrev pub kind_form : Kind → Form (Label ℕ)
 kind_form (kind.Ty k) = relabelled type_label (ty_form k)
 kind_form (kind.Const k) = relabelled const_label (const_form k)
@@ -297,7 +297,7 @@ arg_shape (arg.Lifetime r) = region_shape r
 arg_shape (arg.«Type» t) = ty_shape t
 arg_shape (arg.Const c) = const_shape c
 
--- what a term is
+-- the kind of a term
 abbrev pub term_kind_shape : TermKind → Shape
 term_kind_shape (term.Ty t) = ty_shape t
 term_kind_shape (term.Const c) = const_shape c

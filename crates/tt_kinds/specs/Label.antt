@@ -1,5 +1,5 @@
 -- The data of nodes and leaves. No law on trees looks into a label: only the questions at the end do.
--- N is how a symbol is named: by its text in trees, and by its number where a term is stored.
+-- N names a symbol: by its text in trees, and by its number in stored terms.
 use Rattle.std.specs.Prelude.{ℕ, List, [], ◌∷◌, Bool, true, false, Option, Some, None}
 use Rattle.tt_flags.specs.TypeFlags.{has_ty_infer, has_ct_infer, has_ty_placeholder, has_ct_placeholder, has_ty_projection, has_ty_free_alias, has_ty_opaque, has_ty_inherent, has_ct_projection, has_non_region_error, has_error, has_ty_fresh, has_ct_fresh, has_binder_vars, has_ty_coro}
 use Rattle.tt_index.specs.declared.numeric.IntTy.{IntTy}
@@ -32,7 +32,7 @@ Name = List ℕ
 pub data Sort : Type 0 where
   region_sort type_sort const_sort : Sort
 
--- what a bound region is called
+-- the name of a bound region
 pub data RegionName (N : Type 0) : Type 0 where
   anonymous : RegionName N
   printed : N → RegionName N
@@ -45,7 +45,7 @@ pub data VarKind (N : Type 0) : Type 0 where
   type_variable : BoundTyKind → VarKind N
   const_variable : VarKind N
 
--- what a bound variable says of itself: its place in the binder's list, and its kind
+-- a bound variable: its place in the binder's list, and its kind
 pub record Entry (N : Type 0) : Type 0 where
   pub var : ℕ
   pub kind : VarKind N
@@ -152,7 +152,7 @@ pub data RecordLabel (N : Type 0) : Type 0 where
   bare_const_record : ConstLabel → RecordLabel N
   bare_pattern_record : PatternLabel → RecordLabel N
 
--- a node's kind, with all its data that are no terms
+-- a node's kind, with its data other than terms
 pub data Label (N : Type 0) : Type 0 where
   type_label : TypeLabel → Label N
   const_label : ConstLabel → Label N
@@ -167,7 +167,7 @@ pub data Label (N : Type 0) : Type 0 where
   -- its place among the declarations, what is declared, and its name
   declaration_label : ℕ → DeclarationKind → N → Label N
   record_label : RecordLabel N → Label N
-  -- the token of an error that is no stored term's
+  -- the token of an error that belongs to no stored term
   error_label : ℕ → Label N
   -- a clause by itself, around its predicate
   clause_label : Label N
@@ -213,7 +213,7 @@ alias_flags (alias.Inherent d) = has_ty_inherent
 alias_flags (alias.Opaque d) = has_ty_opaque
 alias_flags (alias.Free d) = has_ty_free_alias
 
--- the flags of a type beside the flags of its contents
+-- the flags of a type itself, without the flags of its contents
 abbrev pub flags_of_type : TypeLabel → ℕ
 flags_of_type (placeholder_type p) = has_ty_placeholder
 flags_of_type (infer_type i) = infer_flags i
@@ -222,12 +222,12 @@ flags_of_type (coroutine_type d) = has_ty_coro
 flags_of_type (alias_type k) = alias_flags k
 flags_of_type _ = 0
 
--- the flags of a constant variable of inference
+-- the flags of a constant inference variable
 abbrev pub infer_const_flags : InferConst → ℕ
 infer_const_flags (Var v) = has_ct_infer
 infer_const_flags (Fresh n) = has_ct_fresh
 
--- the flags of a constant beside the flags of its contents
+-- the flags of a constant itself, without the flags of its contents
 abbrev pub flags_of_const : ConstLabel → ℕ
 flags_of_const (infer_const i) = infer_const_flags i
 flags_of_const (placeholder_const p) = has_ct_placeholder
@@ -256,12 +256,12 @@ flags_of_label (record_label l) = 0
 flags_of_label (error_label e) = has_error
 flags_of_label clause_label = 0
 
--- the error that a type's label tells of
+-- the token of the error of a type's label, if it is an error
 abbrev pub error_of_type : TypeLabel → Option ℕ
 error_of_type (error_type e) = Some e
 error_of_type _ = None
 
--- the error that a constant's label tells of
+-- the token of the error of a constant's label, if it is an error
 abbrev pub error_of_const : ConstLabel → Option ℕ
 error_of_const (error_const e) = Some e
 error_of_const _ = None

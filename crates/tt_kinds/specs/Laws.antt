@@ -9,7 +9,7 @@ use Rattle.tt_kinds.specs.Plain.{shift_tree, inst_tree}
 use Rattle.tt_kinds.specs.Matched.{MatchedUnder, ArgumentsMatched}
 use Rattle.tt_kinds.specs.Met.{met, placed}
 
--- where each parameter has an argument, two replacements in turn are one, by arguments that the later one has replaced in
+-- if each parameter has an argument, two replacements are one, by the first arguments with the second made in them
 abbrev pub PutsCompose : Type 0
 PutsCompose = (later args : List (Argument Place)) (r : Tree Place) → IsAnswered args r → put later (put args r) ≡ put (change_values (put later) args) r
 
@@ -21,7 +21,7 @@ MovesCommute = (n : ℕ) (args : List (Argument Place)) (r : Tree Place) → mov
 abbrev pub MovesAddUp : Type 0
 MovesAddUp = (m n : ℕ) (r : Tree Place) → move m (move n r) ≡ move (m + n) r
 
--- equal moves come from equal readings
+-- readings are equal if the same move makes them equal
 abbrev pub MovesTellReadings : Type 0
 MovesTellReadings = (n : ℕ) (r q : Tree Place) → move n r ≡ move n q → r ≡ q
 
@@ -34,7 +34,7 @@ PutKeepsMatched = (args : List (Argument Place)) → ArgumentsMatched args → (
 abbrev pub MoveKeepsMatched : Type 0
 MoveKeepsMatched = (n : ℕ) (lists : List (List (VarKind Name))) (r : Tree Place) → MatchedUnder lists r → MatchedUnder lists (move n r)
 
--- where each parameter has an argument and no argument holds a parameter, the replacement leaves none
+-- if each parameter has an argument and no argument holds a parameter, the replacement leaves no parameter
 abbrev pub PutLeavesNone : Type 0
 PutLeavesNone = (args : List (Argument Place)) (r : Tree Place) → IsAnswered args r → ArgumentsHoldNone args → holds_param (put args r) ≡ false
 

@@ -25,3 +25,5 @@ pub mod Parts
 pub mod Kinds
 pub mod Values
 pub mod Bare
+pub mod Handle
+pub mod Id

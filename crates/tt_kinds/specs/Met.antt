@@ -1,4 +1,4 @@
--- The regions of a tree that are neither its own nor apart, and what it is with others in their place.
+-- The regions of a tree that are neither bound in it nor canonical, and the tree with others in their places.
 use Rattle.std.specs.Prelude.{ℕ, suc, List, [], ◌∷◌, ◌++◌, length, take, drop, nat_lt, if◌then◌else◌}
 use Rattle.tt_kinds.specs.Label.{Sort, region_sort}
 use Rattle.tt_kinds.specs.Tree.{Depth, at, canonical, Tree, param, bound, region, term, node, binder, Forest, none, also}
@@ -13,7 +13,7 @@ abbrev pub met_leaf : Sort → Tree Depth → ℕ → List Met
 met_leaf region_sort t k = record { standing = t; under = k } ∷ []
 met_leaf _ t k = []
 
--- the bound leaf is met, unless it is the tree's own or apart
+-- the bound leaf is met, unless it is bound in the tree or canonical
 abbrev pub met_bound : Sort → Depth → Tree Depth → ℕ → List Met
 met_bound s (at d) t k = if nat_lt d k then [] else met_leaf s t k
 met_bound s canonical t k = []
@@ -32,14 +32,14 @@ abbrev mutual
   met_all k none = []
   met_all k (also t ts) = met k t ++ met_all k ts
 
--- the first answer where the leaf is met, and else the leaf
+-- the first answer if the leaf is met, and else the leaf
 abbrev pub placed_leaf : List Met → Tree Depth → List (Tree Depth) → Tree Depth
 placed_leaf [] t answers = t
 placed_leaf (m ∷ ms) t [] = t
 placed_leaf (m ∷ ms) t (a ∷ answers) = a
 
 abbrev mutual
-  -- the tree under k binders with the regions met in it replaced, one after the other, by the answers as they stand
+  -- the tree under k binders with the regions met in it replaced, one after the other, by the answers, unshifted
   pub placed : ℕ → Tree Depth → List (Tree Depth) → Tree Depth
   placed k (param s i name) answers = placed_leaf (met k (param s i name)) (param s i name) answers
   placed k (bound s d e) answers = placed_leaf (met k (bound s d e)) (bound s d e) answers

@@ -40,7 +40,7 @@ node_number (node.Predicate p) = p.number
 node_number (node.Existential e) = e.number
 node_number (node.Clauses l) = l.number
 
--- what a list holds
+-- the sort of a list's items
 abbrev pub list_sort : List → ListSort
 list_sort (list.Tys l) = sort.Tys
 list_sort (list.Consts l) = sort.Consts
@@ -71,14 +71,14 @@ list_number (list.Pats l) = l.number
 list_number (list.Existentials l) = l.number
 list_number (list.Clauses l) = l.number
 
--- what a child is
+-- the sort of a child
 abbrev pub child_sort : Child → ChildSort
 child_sort child.Absent = absent
 child_sort (child.Region r) = a_region
 child_sort (child.Node n) = a_node (node_table n)
 child_sort (child.List l) = a_list (list_sort l)
 
--- the new parts are of the same sorts
+-- each of the new parts is of the same sort as the old one in its place
 pub record AreLike (old new : Parts) : Type 0 where
   pub first : child_sort new.first ≡ child_sort old.first
   pub second : child_sort new.second ≡ child_sort old.second

@@ -7,7 +7,7 @@ use Rattle.tt_kinds.specs.Tree.{Depth, at, canonical, Tree, Forest, count_trees,
 use Rattle.tt_kinds.specs.declared.table.Table.{Table}
 use Rattle.tt_kinds.specs.declared.table.Table.TheVariants.{Types, Consts, VarLists, Symbols}
 
--- which items of a list a part of it holds
+-- which items of a list a view holds
 pub data Extent : Type 0 where
   all_but_last : Extent
   -- from this place on, so many
@@ -68,7 +68,7 @@ abbrev pub items_in : Extent → Forest Depth → Forest Depth
 items_in e ts = take_trees (item_count e (count_trees ts)) (drop_trees (first_item e) ts)
 
 module _ {N M : Type 0} (name : N → M) where
-  -- what a bound region is called, with its name replaced
+  -- a bound region's name, replaced
   abbrev pub rename_region : RegionName N → RegionName M
   rename_region anonymous = anonymous
   rename_region (printed n) = printed (name n)
@@ -81,7 +81,7 @@ module _ {N M : Type 0} (name : N → M) where
   rename_kind (type_variable k) = type_variable k
   rename_kind const_variable = const_variable
 
-  -- what a variable says of itself with the name replaced
+  -- a bound variable's entry with the name replaced
   abbrev pub rename_entry : Entry N → Entry M
   rename_entry e = record { var = e.var; kind = rename_kind e.kind }
 
@@ -257,7 +257,7 @@ abbrev mutual
   IsPart size (stored t n) = n < size t
   IsPart size (part_of t n e) = n < size t
 
-  -- the same of shapes in order
+  -- shapes in order, none of which is a row: each stored term in them is a handle in range
   pub AreParts : Sizes → Shapes → Type 0
   AreParts size none = ⊤
   AreParts size (also s ss) = IsPart size s × AreParts size ss

@@ -48,7 +48,7 @@ module _ {I : Type 0} where
 
 module _ {I J : Type 0} (index : ℕ → I → J) (parameter : ℕ → Sort → ℕ → Name → Tree J) where
   abbrev mutual
-    -- the tree, standing under k binders, with each index and each parameter replaced
+    -- the tree, which is under k binders, with each index and each parameter replaced
     pub rebuild : ℕ → Tree I → Tree J
     rebuild k (param s i name) = parameter k s i name
     rebuild k (bound s d e) = bound s (index k d) e

@@ -1,6 +1,6 @@
 -- Values of the type level: leaves and branches.
 use Rattle.std.specs.Prelude.{Option, Some, None, ⊤}
-use Rattle.tt_kinds.specs.declared.handle.Consts.{Consts}
+use Rattle.tt_kinds.specs.Handle.{Consts}
 use Rattle.tt_kinds.specs.declared.const_kind.ScalarInt.{ScalarInt}
 use Rattle.tt_kinds.specs.declared.const_kind.ValTreeKind.{ValTreeKind}
 use Rattle.tt_kinds.specs.declared.const_kind.ValTreeKind.TheVariants.{Leaf, Branch}

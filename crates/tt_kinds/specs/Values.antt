@@ -5,8 +5,8 @@ use Rattle.tt_kinds.specs.Shape as shape
 use Rattle.tt_kinds.specs.Shape.{Shape, all_but_last, span, item_shapes}
 use Rattle.tt_kinds.specs.Kinds.{region_shape, arg_shape, ty_shape, tys_shape, args_shape, clause_shape, clauses_shape, term_shape, clause_form, predicate_form, existential_form, record_shape}
 use Rattle.tt_kinds.specs.declared.table.Table.TheVariants.{AssumptionLists, TypeLists, ArgLists}
-use Rattle.tt_kinds.specs.declared.handle.Clause.{Clause}
-use Rattle.tt_kinds.specs.declared.handle.RegionAssumptions.{RegionAssumptions}
+use Rattle.tt_kinds.specs.Handle.{Clause}
+use Rattle.tt_kinds.specs.Handle.{RegionAssumptions}
 use Rattle.tt_kinds.specs.declared.generic_arg.GenericArgKind.{GenericArgKind}
 use Rattle.tt_kinds.specs.declared.alias.AliasTy.{AliasTy}
 use Rattle.tt_kinds.specs.declared.alias.AliasTerm.{AliasTerm}
@@ -82,11 +82,11 @@ alias_term_shape a = one_record (alias_term_record a.def_id.number) (args_shape 
 abbrev pub alias_ty_shape : AliasTy → Shape
 alias_ty_shape a = one_record (alias_ty_record a.kind) (args_shape a.args)
 
--- what outlives a region, and the region
+-- a term that outlives a region, and the region
 abbrev pub outlives_shape : {A : Type 0} → (A → Shape) → OutlivesPredicate A → Shape
 outlives_shape of_value p = two_record outlives_record (of_value p.0) (region_shape p.1)
 
--- what is assumed of regions, by its handle
+-- a list of assumptions on regions, by its handle
 abbrev pub assumptions_shape : RegionAssumptions → Shape
 assumptions_shape a = shape.stored AssumptionLists a.number
 
@@ -98,7 +98,7 @@ assumption_shape p = outlives_shape arg_shape p
 abbrev pub assumptions_row_shape : List (OutlivesPredicate GenericArgKind) → Shape
 assumptions_row_shape ps = shape.node (list_label AssumptionLists) (item_shapes assumption_shape ps)
 
--- what a coroutine keeps while it waits
+-- the types that a coroutine keeps while it is suspended
 abbrev pub witness_types_shape : CoroutineWitnessTypes → Shape
 witness_types_shape w = two_record witness_types_record (tys_shape w.types) (assumptions_shape w.assumptions)
 
@@ -114,7 +114,7 @@ one_clause_shape c = shape.node clause_label (shape.also (clause_shape c) shape.
 abbrev pub fn_sig_shape : FnSig → Shape
 fn_sig_shape s = one_record (fn_sig_record s.fn_sig_kind) (tys_shape s.inputs_and_output)
 
--- what may be assumed inside an item
+-- the assumptions inside an item
 abbrev pub param_env_shape : ParamEnv → Shape
 param_env_shape e = one_record param_env_record (clauses_shape e.caller_bounds)
 
@@ -146,7 +146,7 @@ coerce_shape p = two_record coerce_record (ty_shape p.a) (ty_shape p.b)
 abbrev pub existential_trait_ref_shape : ExistentialTraitRef → Shape
 existential_trait_ref_shape t = one_record (existential_trait_record t.def_id.number) (args_shape t.args)
 
--- what an associated type or constant of the hidden type is
+-- the value of an associated type or constant of the hidden type
 abbrev pub existential_projection_shape : ExistentialProjection → Shape
 existential_projection_shape p = two_record (existential_projection_record p.def_id.number) (args_shape p.args) (term_shape p.term)
 
@@ -154,14 +154,14 @@ existential_projection_shape p = two_record (existential_projection_record p.def
 abbrev pub unsafe_binder_shape : UnsafeBinderInner → Shape
 unsafe_binder_shape i = shape.binder i.0.bound_vars.number (one_record unsafe_binder_record (ty_shape i.0.value))
 
--- what a clause says, without its binder
+-- a clause's kind, without its binder
 abbrev pub clause_record_shape : ClauseKind → Shape
 clause_record_shape k = record_shape (clause_form k)
 
--- what a predicate says, without its binder
+-- a predicate's kind, without its binder
 abbrev pub predicate_record_shape : PredicateKind → Shape
 predicate_record_shape k = record_shape (predicate_form k)
 
--- what an existential predicate says, without its binder
+-- an existential predicate's kind, without its binder
 abbrev pub existential_record_shape : ExistentialPredicate → Shape
 existential_record_shape e = record_shape (existential_form e)

@@ -1,4 +1,4 @@
-//! Aliases: types that stand for others.
+//! Aliases: types and constants that normalize to others.
 
 ghost use Rattle.std.specs.Prelude.{◌≡◌};
 ghost use Rattle.tt_kinds.specs.Alias.{alias_name, alias_number, alias_sort};
@@ -7,7 +7,7 @@ use crate::declaration::DeclarationSort;
 use crate::handle::GenericArgs;
 use crate::id::{DefId, FreeTyAliasId, InherentAssocTyId, OpaqueTyId, TraitAssocTyId};
 
-/// Which alias is meant.
+/// The kind of an alias, with its declaration.
 #[derive(Clone, Copy, Debug, PartialEq, Eq, Hash)]
 pub enum AliasTyKind {
     /// An associated type of a trait, which an implementation gives.
@@ -15,7 +15,7 @@ pub enum AliasTyKind {
         /// The associated type.
         def_id: TraitAssocTyId,
     },
-    /// An associated type of an implementation that is no trait's.
+    /// An associated type of an inherent implementation.
     Inherent {
         /// The associated type.
         def_id: InherentAssocTyId,
@@ -33,8 +33,8 @@ pub enum AliasTyKind {
 }
 
 impl AliasTyKind {
-    /// Returns what it is called in messages: `associated type`, `inherent associated type`, `opaque type` or `type
-    /// alias`.
+    /// Returns the name of this kind of alias in messages: `associated type`, `inherent associated type`, `opaque type`
+    /// or `type alias`.
     pub fn descr(self) -> &'static str
         ensures { result.now ≡ alias_name self }
     {
@@ -46,7 +46,7 @@ impl AliasTyKind {
         }
     }
 
-    // The sort of the alias's declaration.
+    // Returns the sort of the alias's declaration.
     fn sort(self) -> DeclarationSort
         ensures { result ≡ alias_sort self }
     {
@@ -71,16 +71,16 @@ impl AliasTyKind {
     }
 }
 
-/// A type that stands for another, which normalizing finds.
+/// An alias of a type, which normalizes to another type.
 #[derive(Clone, Copy, Debug, PartialEq, Eq, Hash)]
 pub struct AliasTy {
     /// The arguments of the alias.
     pub args: GenericArgs,
-    /// Which alias it is.
+    /// The kind of the alias.
     pub kind: AliasTyKind,
 }
 
-/// A type or a constant that stands for another.
+/// An alias of a type or a constant.
 #[derive(Clone, Copy, Debug, PartialEq, Eq, Hash)]
 pub struct AliasTerm {
     /// The arguments of the alias.

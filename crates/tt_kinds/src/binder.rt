@@ -1,4 +1,4 @@
-//! Binders: values with variables of their own.
+//! Binders: values together with the variables that they bind.
 
 ghost use Rattle.std.specs.Prelude.{◌≡◌};
 
@@ -6,7 +6,7 @@ use crate::handle::BoundVarKinds;
 
 /// A value under a binder: the variables that it binds have the index 0 directly inside.
 ///
-/// Binding checks nothing: whether the value's variables match the list is the caller's affair.
+/// Binding checks nothing: the caller ensures that the value's variables match the list.
 #[derive(Clone, Copy, Debug, PartialEq, Eq, Hash)]
 pub struct Binder<T> {
     value: T,
@@ -21,8 +21,8 @@ impl<T> Binder<T> {
         Binder { value, bound_vars }
     }
 
-    /// Returns the value inside, without the binder. Its variables of index 0 are the binder's, and mean
-    /// nothing outside of it.
+    /// Returns the value without its binder. Its variables of index 0 belong to the binder, and have no meaning outside
+    /// of it.
     pub fn skip_binder(self) -> T
         ensures { result ≡ self.value }
     {
@@ -30,7 +30,7 @@ impl<T> Binder<T> {
         value
     }
 
-    /// Returns the value lent, under the same binder.
+    /// Returns a reference to the value, under the same binder.
     pub fn as_ref(&self) -> Binder<&T>
         ensures value { result.value.now ≡ self.now.value }
         ensures bound_vars { result.bound_vars ≡ self.now.bound_vars }
@@ -49,8 +49,8 @@ impl<T> Binder<T> {
     }
 }
 
-/// A value of an item as it is declared: its parameters are the item's, and have to be replaced by arguments before
-/// it is used elsewhere.
+/// A value in an item's declaration, with the item's generic parameters. They have to be replaced by arguments before
+/// the value is used elsewhere.
 #[derive(Clone, Copy, Debug, PartialEq, Eq, PartialOrd, Ord, Hash)]
 pub struct EarlyBinder<T> {
     value: T,
@@ -73,7 +73,7 @@ impl<T> EarlyBinder<T> {
     }
 }
 
-/// A value that may hold aliases which still have to be normalized.
+/// A value that may hold aliases that are not normalized yet.
 #[derive(Clone, Copy, Debug, PartialEq, Eq, Hash)]
 pub struct Unnormalized<T> {
     value: T,
@@ -87,7 +87,7 @@ impl<T> Unnormalized<T> {
         Unnormalized { value }
     }
 
-    /// Returns the value, taken as it is.
+    /// Returns the value without normalizing it.
     pub fn skip_norm_wip(self) -> T
         ensures { result ≡ self.value }
     {

@@ -1,4 +1,4 @@
-//! Bound variables: what binds them, and what a binder says of them.
+//! Bound variables: the binder that they belong to, and their entries in its list of variables.
 
 ghost use Rattle.std.specs.Prelude.{◌≡◌, ◌↔◌, IsTrue};
 ghost use Rattle.tt_kinds.specs.Bound.{depth, IsBelowGreatest};
@@ -15,15 +15,15 @@ use tt_index::{BoundVar, DebruijnIndex};
 pub enum BoundVarIndexKind {
     /// The binder at this distance, counted from the inside.
     Bound(DebruijnIndex),
-    /// The list of variables of a canonical query, which is outside of every term. Such a variable isn't moved by
-    /// shifting and counts as bound outside of no binder.
+    /// The list of variables of a canonical query, which is outside of every term. Shifting does not move such a
+    /// variable, and it escapes no binder.
     Canonical,
 }
 
-/// What a bound region is called.
+/// The name of a bound region.
 #[derive(Clone, Copy, Debug, PartialEq, Eq, Hash)]
 pub enum BoundRegionKind {
-    /// It has no name, as the region of `fn(&u32)`.
+    /// It has no name, such as the region of `fn(&u32)`.
     Anon,
     /// It has no declaration, and is printed by this name.
     NamedForPrinting(Symbol),
@@ -33,7 +33,7 @@ pub enum BoundRegionKind {
     ClosureEnv,
 }
 
-/// What a bound type is called.
+/// The name of a bound type.
 #[derive(Clone, Copy, Debug, PartialEq, Eq, Hash)]
 pub enum BoundTyKind {
     /// It has no name.
@@ -42,19 +42,19 @@ pub enum BoundTyKind {
     Param(DefId),
 }
 
-/// What a binder says of one of its variables.
+/// An entry of a binder's list of variables.
 #[derive(Clone, Copy, Debug, PartialEq, Eq, Hash)]
 pub enum BoundVariableKind {
-    /// It stands for a type.
+    /// The variable is a type.
     Ty(BoundTyKind),
-    /// It stands for a region.
+    /// The variable is a region.
     Region(BoundRegionKind),
-    /// It stands for a constant.
+    /// The variable is a constant.
     Const,
 }
 
 impl BoundRegionKind {
-    /// Returns the declaration of a region that is declared, and `None` of every other.
+    /// Returns the declaration of a region that is declared, and `None` for every other variable.
     pub fn get_id(self) -> Option<DefId>
         ensures { result ≡ region_id self }
     {
@@ -66,28 +66,28 @@ impl BoundRegionKind {
 }
 
 impl BoundVariableKind {
-    /// Returns whether it stands for a region.
+    /// Returns whether the variable is a region.
     pub fn is_region(self) -> bool
         ensures { IsTrue result ↔ IsRegionVariable self }
     {
         matches!(self, BoundVariableKind::Region(_))
     }
 
-    /// Returns whether it stands for a type.
+    /// Returns whether the variable is a type.
     pub fn is_ty(self) -> bool
         ensures { IsTrue result ↔ IsTypeVariable self }
     {
         matches!(self, BoundVariableKind::Ty(_))
     }
 
-    /// Returns whether it stands for a constant.
+    /// Returns whether the variable is a constant.
     pub fn is_const(self) -> bool
         ensures { IsTrue result ↔ IsConstVariable self }
     {
         matches!(self, BoundVariableKind::Const)
     }
 
-    /// Returns what the region is called. It has to stand for one; [`BoundVariableKind::is_region`] tests it.
+    /// Returns the region's name. The variable has to be a region; [`BoundVariableKind::is_region`] tests it.
     pub fn expect_region(self) -> BoundRegionKind
         requires { IsRegionVariable self }
         ensures { self ≡ variable.Region result }
@@ -98,7 +98,7 @@ impl BoundVariableKind {
         }
     }
 
-    /// Returns what the type is called. It has to stand for one; [`BoundVariableKind::is_ty`] tests it.
+    /// Returns the type's name. The variable has to be a type; [`BoundVariableKind::is_ty`] tests it.
     pub fn expect_ty(self) -> BoundTyKind
         requires { IsTypeVariable self }
         ensures { self ≡ variable.Ty result }
@@ -109,32 +109,32 @@ impl BoundVariableKind {
         }
     }
 
-    /// It has to stand for a constant; [`BoundVariableKind::is_const`] tests it.
+    /// Does nothing. The variable has to be a constant; [`BoundVariableKind::is_const`] tests it.
     pub fn expect_const(self)
         requires { IsConstVariable self }
         ensures { self ≡ variable.Const }
     {}
 }
 
-/// What a bound region says of itself.
+/// A bound region: its place in its binder's list of variables, and its name.
 #[derive(Clone, Copy, Debug, PartialEq, Eq, Hash)]
 pub struct BoundRegion {
     /// Its place in the binder's list of variables.
     pub var: BoundVar,
-    /// What it is called.
+    /// Its name.
     pub kind: BoundRegionKind,
 }
 
-/// What a bound type says of itself.
+/// A bound type: its place in its binder's list of variables, and its name.
 #[derive(Clone, Copy, Debug, PartialEq, Eq, Hash)]
 pub struct BoundTy {
     /// Its place in the binder's list of variables.
     pub var: BoundVar,
-    /// What it is called.
+    /// Its name.
     pub kind: BoundTyKind,
 }
 
-/// What a bound constant says of itself.
+/// A bound constant: its place in its binder's list of variables.
 #[derive(Clone, Copy, Debug, PartialEq, Eq, Hash)]
 pub struct BoundConst {
     /// Its place in the binder's list of variables.
@@ -150,7 +150,8 @@ impl BoundRegion {
         var
     }
 
-    /// Returns whether the list's entry says the same of it.
+    /// Returns whether the list's entry agrees with the variable: whether it has the same kind and the same name, if
+    /// any.
     pub fn agrees(self, entry: BoundVariableKind) -> bool
         ensures { IsTrue result ↔ (entry ≡ variable.Region self.kind) }
     {
@@ -160,7 +161,7 @@ impl BoundRegion {
         }
     }
 
-    /// The list's entry has to say the same of it; [`BoundRegion::agrees`] tests it.
+    /// Does nothing. The list's entry has to agree with the variable; [`BoundRegion::agrees`] tests it.
     pub fn assert_eq(self, entry: BoundVariableKind)
         requires { entry ≡ variable.Region self.kind }
         ensures { entry ≡ variable.Region self.kind }
@@ -176,7 +177,8 @@ impl BoundTy {
         var
     }
 
-    /// Returns whether the list's entry says the same of it.
+    /// Returns whether the list's entry agrees with the variable: whether it has the same kind and the same name, if
+    /// any.
     pub fn agrees(self, entry: BoundVariableKind) -> bool
         ensures { IsTrue result ↔ (entry ≡ variable.Ty self.kind) }
     {
@@ -186,7 +188,7 @@ impl BoundTy {
         }
     }
 
-    /// The list's entry has to say the same of it; [`BoundTy::agrees`] tests it.
+    /// Does nothing. The list's entry has to agree with the variable; [`BoundTy::agrees`] tests it.
     pub fn assert_eq(self, entry: BoundVariableKind)
         requires { entry ≡ variable.Ty self.kind }
         ensures { entry ≡ variable.Ty self.kind }
@@ -209,14 +211,15 @@ impl BoundConst {
         var
     }
 
-    /// Returns whether the list's entry says the same of it.
+    /// Returns whether the list's entry agrees with the variable: whether it has the same kind and the same name, if
+    /// any.
     pub fn agrees(self, entry: BoundVariableKind) -> bool
         ensures { IsTrue result ↔ (entry ≡ variable.Const) }
     {
         matches!(entry, BoundVariableKind::Const)
     }
 
-    /// The list's entry has to say the same of it; [`BoundConst::agrees`] tests it.
+    /// Does nothing. The list's entry has to agree with the variable; [`BoundConst::agrees`] tests it.
     pub fn assert_eq(self, entry: BoundVariableKind)
         requires { entry ≡ variable.Const }
         ensures { entry ≡ variable.Const }

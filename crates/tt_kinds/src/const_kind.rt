@@ -20,10 +20,10 @@ pub struct ParamConst {
     pub name: Symbol,
 }
 
-/// A constant variable of inference.
+/// A constant inference variable.
 #[derive(Clone, Copy, Debug, PartialEq, Eq, PartialOrd, Ord, Hash)]
 pub enum InferConst {
-    /// It stands for any constant.
+    /// A variable for any constant.
     Var(ConstVid),
     /// A number in place of a `Var`, by which constants are told apart in caches.
     Fresh(u32),
@@ -32,14 +32,14 @@ pub enum InferConst {
 /// A constant whose value isn't computed yet.
 #[derive(Clone, Copy, Debug, PartialEq, Eq, Hash)]
 pub struct UnevaluatedConst {
-    /// What computes it.
+    /// The declaration that computes it.
     pub def: UnevaluatedConstId,
-    /// The arguments of what computes it.
+    /// The arguments of the declaration.
     pub args: GenericArgs,
 }
 
 impl UnevaluatedConst {
-    /// Returns what `def` computes for these arguments.
+    /// Returns the constant that `def` computes for these arguments.
     pub fn new(def: UnevaluatedConstId, args: GenericArgs) -> UnevaluatedConst
         ensures { result ≡ record { def = def; args = args } }
     {
@@ -47,21 +47,21 @@ impl UnevaluatedConst {
     }
 }
 
-/// A whole number, a truth value or a character, by its bits.
+/// The bits of an integer, a `bool` or a `char`.
 #[derive(Clone, Copy, Debug, PartialEq, Eq, Hash)]
 pub struct ScalarInt {
-    /// Its bits, from the lowest on.
+    /// Its bits, from the lowest.
     pub bits: u128,
-    /// How many bytes it has.
+    /// Its size in bytes.
     pub size: u8,
 }
 
-/// What a value of the type level is made of.
+/// The kind of a value of the type level: a leaf or a branch.
 #[derive(Clone, Copy, Debug, PartialEq, Eq, Hash)]
 pub enum ValTreeKind {
-    /// Bits.
+    /// A leaf: the bits of a scalar.
     Leaf(ScalarInt),
-    /// The values of its fields or items, in order.
+    /// A branch: the values of its fields or items, in order.
     Branch(Consts),
 }
 
@@ -88,7 +88,7 @@ impl ValTreeKind {
         }
     }
 
-    /// Returns the bits of a leaf, and `None` of a branch.
+    /// Returns the bits of a leaf, and `None` for a branch.
     pub fn try_to_leaf(self) -> Option<ScalarInt>
         ensures { result ≡ leaf_of self }
     {
@@ -98,7 +98,7 @@ impl ValTreeKind {
         }
     }
 
-    /// Returns the values inside a branch, and `None` of a leaf.
+    /// Returns the values inside a branch, and `None` for a leaf.
     pub fn try_to_branch(self) -> Option<Consts>
         ensures { result ≡ branch_of self }
     {
@@ -116,7 +116,7 @@ pub struct ValTree {
 }
 
 impl ValTree {
-    /// Returns what the value is made of.
+    /// Returns the value's kind: a leaf or a branch.
     pub fn kind(self) -> ValTreeKind
         ensures { result ≡ self.kind }
     {
@@ -144,34 +144,34 @@ pub struct ValueConst {
 /// An expression over constants that can't be computed yet.
 #[derive(Clone, Copy, Debug, PartialEq, Eq, Hash)]
 pub struct ExprConst {
-    /// Which expression it is, by a number of the front end's.
+    /// Which expression it is: a number that the front end chooses.
     pub tag: u32,
     /// Its contents.
     pub args: GenericArgs,
 }
 
-/// What a constant is.
+/// The kind of a constant.
 #[derive(Clone, Copy, Debug, PartialEq, Eq, Hash)]
 pub enum ConstKind {
     /// A constant parameter of an item.
     Param(ParamConst),
-    /// A constant variable of inference.
+    /// A constant inference variable.
     Infer(InferConst),
     /// A constant that a binder binds.
     Bound(BoundVarIndexKind, BoundConst),
-    /// A constant that a binder bound which has been entered.
+    /// A placeholder: a bound constant whose binder has been entered.
     Placeholder(PlaceholderConst),
     /// A constant whose value isn't computed yet.
     Unevaluated(UnevaluatedConst),
     /// A value.
     Value(ValueConst),
-    /// A constant of which an error was reported.
+    /// A constant for which an error was reported.
     Error(ErrorGuaranteed),
     /// An expression over constants.
     Expr(ExprConst),
 }
 
-/// What a constant without a name was written as.
+/// How an anonymous constant was written.
 #[derive(Clone, Copy, Debug, PartialEq, Eq, Hash)]
 pub enum AnonConstKind {
     /// An expression over generic parameters, where that is allowed.

@@ -11,14 +11,14 @@ use crate::id::{ImplId, TraitId};
 pub enum DeclarationKind {
     /// A trait.
     Trait {
-        /// How many parameters it has, the self type among them.
+        /// The number of its parameters, including the self type.
         params: u32,
     },
     /// An associated type of this trait.
     AssocTy(TraitId),
     /// An implementation: of a trait, or of a type's own items.
     Impl,
-    /// An associated type of this implementation, which is no trait's.
+    /// An associated type of this inherent implementation.
     Inherent(ImplId),
     /// A struct, an enum or a union.
     Adt,
@@ -26,21 +26,21 @@ pub enum DeclarationKind {
     Opaque,
     /// A type alias whose bounds are checked, and which can always be normalized away.
     Free,
-    /// A type that is declared elsewhere, of which nothing is known here.
+    /// A foreign type, which is declared elsewhere.
     Foreign,
     /// A closure.
     Closure,
-    /// A closure that answers a coroutine.
+    /// A closure that returns a coroutine.
     CoroutineClosure,
     /// A coroutine.
     Coroutine,
-    /// A constant whose value is computed when it is asked for.
+    /// A constant whose value is computed on demand.
     Const,
     /// A parameter: of a type, a region or a constant.
     Param,
 }
 
-/// The sort of a declaration: what is declared, without what its declaration says beside.
+/// The sort of a declaration: a [`DeclarationKind`] without its contents.
 #[derive(Clone, Copy, Debug, PartialEq, Eq, Hash)]
 pub enum DeclarationSort {
     /// A trait.
@@ -49,7 +49,7 @@ pub enum DeclarationSort {
     AssocTy,
     /// An implementation: of a trait, or of a type's own items.
     Impl,
-    /// An associated type of an implementation, which is no trait's.
+    /// An associated type of an inherent implementation.
     Inherent,
     /// A struct, an enum or a union.
     Adt,
@@ -57,15 +57,15 @@ pub enum DeclarationSort {
     Opaque,
     /// A type alias whose bounds are checked, and which can always be normalized away.
     Free,
-    /// A type that is declared elsewhere.
+    /// A foreign type, which is declared elsewhere.
     Foreign,
     /// A closure.
     Closure,
-    /// A closure that answers a coroutine.
+    /// A closure that returns a coroutine.
     CoroutineClosure,
     /// A coroutine.
     Coroutine,
-    /// A constant whose value is computed when it is asked for.
+    /// A constant whose value is computed on demand.
     Const,
     /// A parameter: of a type, a region or a constant.
     Param,
@@ -94,7 +94,7 @@ impl DeclarationKind {
     }
 }
 
-/// A declaration: what is declared, and its name. Two declarations may have one name.
+/// A declaration: what is declared, and its name. Two declarations may have the same name.
 #[derive(Clone, Copy, Debug, PartialEq, Eq, Hash)]
 pub struct Declaration {
     /// What is declared.

@@ -1,5 +1,5 @@
 //! The token of an error.
 
-/// The token that an error was reported, by a number of the reporter's.
+/// The token of a reported error: a number that the reporter chooses.
 #[derive(Clone, Copy, Debug, PartialEq, Eq, Hash)]
 pub struct ErrorGuaranteed(pub u32);

@@ -1,10 +1,10 @@
-//! Existential predicates: what a trait object says of the type that it hides.
+//! Existential predicates: the predicates of a trait object on the type that it hides.
 
 use crate::handle::GenericArgs;
 use crate::id::{DefId, TraitId};
 use crate::term::Term;
 
-/// A trait with its own arguments, without the type that it is asked of.
+/// A trait with its own arguments, without the self type.
 #[derive(Clone, Copy, Debug, PartialEq, Eq, Hash)]
 pub struct ExistentialTraitRef {
     /// The trait.
@@ -13,24 +13,24 @@ pub struct ExistentialTraitRef {
     pub args: GenericArgs,
 }
 
-/// What an associated item of the hidden type's trait is.
+/// The value of an associated item of the hidden type.
 #[derive(Clone, Copy, Debug, PartialEq, Eq, Hash)]
 pub struct ExistentialProjection {
     /// The associated item.
     pub def_id: DefId,
     /// Its arguments, without the hidden type.
     pub args: GenericArgs,
-    /// What it is.
+    /// Its value.
     pub term: Term,
 }
 
-/// What a trait object says of the type that it hides.
+/// A predicate of a trait object on the type that it hides.
 #[derive(Clone, Copy, Debug, PartialEq, Eq, Hash)]
 pub enum ExistentialPredicate {
     /// It implements a trait.
     Trait(ExistentialTraitRef),
-    /// An associated item of its trait is a term.
+    /// An associated item of its trait is equal to a term.
     Projection(ExistentialProjection),
-    /// It implements a trait that has no items.
+    /// It implements an auto trait.
     AutoTrait(TraitId),
 }

@@ -3,10 +3,10 @@
 use crate::handle::{Symbol, Ty};
 use tt_index::{FieldIdx, VariantIdx};
 
-/// What is found about one field of a value's type.
+/// Information about one field of a type.
 #[derive(Clone, Copy, Debug, PartialEq, Eq, Hash)]
 pub struct FieldInfo {
-    /// The data type, closure or tuple whose field it is.
+    /// The data type, closure or tuple that has the field.
     pub base: Ty,
     /// The field's own type.
     pub ty: Ty,

@@ -14,24 +14,25 @@ pub struct FnSigTys {
     pub inputs_and_output: Tys,
 }
 
-/// What a signature says beside its types: its calling convention, whether it is safe, and whether it is variadic.
+/// The parts of a signature other than its types: its calling convention, whether it is safe, and whether it is
+/// variadic.
 ///
-/// It is kept in one byte: bits 0 to 5 are the number of the convention, bit 6 is set where it is safe, and bit 7
-/// where it takes further arguments as C's `printf` does.
+/// They are kept in one byte: bits 0 to 5 are the number of the convention, bit 6 is set for a safe function, and bit 7
+/// for a variadic one, which takes further arguments as C's `printf` does.
 #[derive(Clone, Copy, Debug, PartialEq, Eq, Hash)]
 pub struct FnSigKind {
     flags: u8,
 }
 
 impl FnSigKind {
-    /// Unsafe, of Rust's convention and not variadic.
+    /// Returns the parts of an unsafe function of Rust's convention that is not variadic.
     pub fn default() -> FnSigKind
         ensures { result ≡ record { flags = 0 } }
     {
         FnSigKind { flags: 0 }
     }
 
-    /// Of this convention, safe or not, and variadic or not.
+    /// Returns these parts: the calling convention, whether it is safe, and whether it is variadic.
     pub fn new(abi: ExternAbi, safety: Safety, c_variadic: bool) -> FnSigKind
         ensures { result ≡ record { flags = abi_number abi + safety_bits safety + variadic_bits c_variadic } }
     {
@@ -46,7 +47,7 @@ impl FnSigKind {
     }
 }
 
-/// What a function pointer says beside its types.
+/// The parts of a function pointer type other than its types.
 #[derive(Clone, Copy, Debug, PartialEq, Eq, Hash)]
 pub struct FnHeader {
     /// Its calling convention, whether it is safe, and whether it is variadic.
@@ -62,11 +63,11 @@ pub struct FnSig {
     pub fn_sig_kind: FnSigKind,
 }
 
-/// What a coroutine keeps while it waits.
+/// The types that a coroutine keeps while it is suspended, and the assumptions on their regions.
 #[derive(Clone, Copy, Debug, PartialEq, Eq, Hash)]
 pub struct CoroutineWitnessTypes {
-    /// The types of what it keeps.
+    /// The types of the values that it keeps.
     pub types: Tys,
-    /// What is assumed of their regions.
+    /// The assumptions on their regions.
     pub assumptions: RegionAssumptions,
 }

@@ -7,7 +7,7 @@ use crate::handle::{Const, Ty};
 use crate::region_kind::Region;
 use std::marker::Model;
 
-/// What a generic argument is.
+/// The kind of a generic argument.
 #[derive(Clone, Copy, Debug, PartialEq, Eq, Hash)]
 pub enum GenericArgKind {
     /// A region.
@@ -18,7 +18,7 @@ pub enum GenericArgKind {
     Const(Const),
 }
 
-/// What replaces a generic parameter.
+/// A generic argument: the replacement of a generic parameter.
 #[derive(Clone, Copy, Debug, PartialEq, Eq, Hash)]
 pub struct GenericArg {
     kind: GenericArgKind,
@@ -35,14 +35,14 @@ impl Model for GenericArg {
 }
 
 impl GenericArg {
-    /// Returns what the argument is.
+    /// Returns the argument's kind.
     pub fn kind(self) -> GenericArgKind
         ensures { result ≡ self }
     {
         self.kind
     }
 
-    /// Returns the type that the argument is, if it is one.
+    /// Returns the type, or `None` if the argument is not a type.
     pub fn as_type(self) -> Option<Ty>
         ensures { result ≡ type_of self }
     {
@@ -52,7 +52,7 @@ impl GenericArg {
         }
     }
 
-    /// Returns the constant that the argument is, if it is one.
+    /// Returns the constant, or `None` if the argument is not a constant.
     pub fn as_const(self) -> Option<Const>
         ensures { result ≡ const_of self }
     {

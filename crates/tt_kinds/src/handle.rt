@@ -1,370 +1,279 @@
 //! Handles: small values that name a row of one interner's tables.
 //!
-//! Two handles of one interner and one type are equal exactly when what they name is the same term. Handles of two
-//! interners aren't told apart.
+//! Two handles of one interner and one type are equal exactly when they name the same term. Handles of different
+//! interners can't be told apart.
 
 ghost use Rattle.std.specs.Prelude.{◌≡◌};
+ghost use Rattle.tt_kinds.specs.Handle.{handle};
+ghost use Rattle.tt_kinds.specs.declared.table.Table.{Table};
+ghost use Rattle.tt_kinds.specs.declared.table.Table.TheVariants as table;
 
-/// A type: the name of a stored [`TyKind`](crate::TyKind).
-#[derive(Clone, Copy, Debug, PartialEq, Eq, Hash)]
-pub struct Ty {
+use crate::table::Table;
+use std::default::Default;
+use std::marker::PhantomData;
+
+/// The name of a row. The mark `K` says what the row holds, so that a type can't be taken for a constant.
+#[derive_where(Clone, Copy, Debug, PartialEq, Eq, Hash)]
+pub struct Handle<K> {
     number: u32,
+    #[derive_where(skip)]
+    of: PhantomData<K>,
 }
 
-impl Ty {
-    /// Returns the handle of this number in its table.
-    pub fn from_number(number: u32) -> Ty
-        ensures { result ≡ record { number = number } }
+impl<K> Handle<K> {
+    /// Returns the handle of the row with this number in its table.
+    pub fn from_number(number: u32) -> Handle<K>
+        ensures { result ≡ handle number }
     {
-        Ty { number }
+        Handle {
+            number,
+            of: PhantomData,
+        }
     }
 
     /// Returns the number of the row in its table, counted from 0 in the order in which rows were added.
     pub fn number(self) -> u32
         ensures { result ≡ self.number }
     {
-        let Ty { number } = self;
+        let Handle { number, .. } = self;
         number
     }
+}
+
+/// The trait of marks, which gives the table of their rows. Clauses are rows of the table of predicates.
+pub trait IsStored {
+    ghost TABLE: { Table };
+
+    /// The table of these rows.
+    const TABLE: Table;
+}
+
+/// The trait of the marks of lists and texts. Their tables have a first row in every interner from the start: the empty
+/// list, or the anonymous name.
+pub trait HasFirst {}
+
+/// The first row: the empty list, or the anonymous name `'_`.
+impl<K: HasFirst> Default for Handle<K> {
+    ghost is_default = { λ first. first ≡ handle 0 };
+
+    fn default() -> Handle<K> {
+        Handle::from_number(0)
+    }
+}
+
+/// The mark of types.
+pub enum TypeRow {}
+
+impl IsStored for TypeRow {
+    ghost TABLE = { table.Types };
+
+    const TABLE: Table = Table::Types;
+}
+
+/// A type: the name of a stored [`TyKind`](crate::TyKind).
+pub type Ty = Handle<TypeRow>;
+
+/// The mark of constants.
+pub enum ConstRow {}
+
+impl IsStored for ConstRow {
+    ghost TABLE = { table.Consts };
+
+    const TABLE: Table = Table::Consts;
 }
 
 /// A constant of the type level, such as the length of an array.
-#[derive(Clone, Copy, Debug, PartialEq, Eq, Hash)]
-pub struct Const {
-    number: u32,
-}
+pub type Const = Handle<ConstRow>;
 
-impl Const {
-    /// Returns the handle of this number in its table.
-    pub fn from_number(number: u32) -> Const
-        ensures { result ≡ record { number = number } }
-    {
-        Const { number }
-    }
+/// The mark of patterns.
+pub enum PatternRow {}
 
-    /// Returns the number of the row in its table, counted from 0 in the order in which rows were added.
-    pub fn number(self) -> u32
-        ensures { result ≡ self.number }
-    {
-        let Const { number } = self;
-        number
-    }
+impl IsStored for PatternRow {
+    ghost TABLE = { table.Patterns };
+
+    const TABLE: Table = Table::Patterns;
 }
 
 /// A pattern that restricts a type.
-#[derive(Clone, Copy, Debug, PartialEq, Eq, Hash)]
-pub struct Pat {
-    number: u32,
+pub type Pat = Handle<PatternRow>;
+
+/// The mark of predicates.
+pub enum PredicateRow {}
+
+impl IsStored for PredicateRow {
+    ghost TABLE = { table.Predicates };
+
+    const TABLE: Table = Table::Predicates;
 }
 
-impl Pat {
-    /// Returns the handle of this number in its table.
-    pub fn from_number(number: u32) -> Pat
-        ensures { result ≡ record { number = number } }
-    {
-        Pat { number }
-    }
+/// A condition on terms, such as that a type implements a trait.
+pub type Predicate = Handle<PredicateRow>;
 
-    /// Returns the number of the row in its table, counted from 0 in the order in which rows were added.
-    pub fn number(self) -> u32
-        ensures { result ≡ self.number }
-    {
-        let Pat { number } = self;
-        number
-    }
-}
+/// The mark of clauses.
+pub enum ClauseRow {}
 
-/// What has to hold of terms, such as that a type implements a trait.
-#[derive(Clone, Copy, Debug, PartialEq, Eq, Hash)]
-pub struct Predicate {
-    number: u32,
-}
+impl IsStored for ClauseRow {
+    ghost TABLE = { table.Predicates };
 
-impl Predicate {
-    /// Returns the handle of this number in its table.
-    pub fn from_number(number: u32) -> Predicate
-        ensures { result ≡ record { number = number } }
-    {
-        Predicate { number }
-    }
-
-    /// Returns the number of the row in its table, counted from 0 in the order in which rows were added.
-    pub fn number(self) -> u32
-        ensures { result ≡ self.number }
-    {
-        let Predicate { number } = self;
-        number
-    }
+    const TABLE: Table = Table::Predicates;
 }
 
 /// A predicate that may be in a list of assumptions.
-#[derive(Clone, Copy, Debug, PartialEq, Eq, Hash)]
-pub struct Clause {
-    number: u32,
+pub type Clause = Handle<ClauseRow>;
+
+/// The mark of existential predicates.
+pub enum ExistentialRow {}
+
+impl IsStored for ExistentialRow {
+    ghost TABLE = { table.Existentials };
+
+    const TABLE: Table = Table::Existentials;
 }
 
-impl Clause {
-    /// Returns the handle of this number in its table.
-    pub fn from_number(number: u32) -> Clause
-        ensures { result ≡ record { number = number } }
-    {
-        Clause { number }
-    }
-
-    /// Returns the number of the row in its table, counted from 0 in the order in which rows were added.
-    pub fn number(self) -> u32
-        ensures { result ≡ self.number }
-    {
-        let Clause { number } = self;
-        number
-    }
-}
-
-/// What a trait object says of the type that it hides, under its own binder: the name of a stored
+/// A predicate of a trait object on the type that it hides, under its own binder: the name of a stored
 /// [`ExistentialPredicate`](crate::ExistentialPredicate).
-#[derive(Clone, Copy, Debug, PartialEq, Eq, Hash)]
-pub struct PolyExistentialPredicate {
-    number: u32,
+pub type PolyExistentialPredicate = Handle<ExistentialRow>;
+
+/// The mark of lists of clauses.
+pub enum ClauseListRow {}
+
+impl IsStored for ClauseListRow {
+    ghost TABLE = { table.ClauseLists };
+
+    const TABLE: Table = Table::ClauseLists;
 }
 
-impl PolyExistentialPredicate {
-    /// Returns the handle of this number in its table.
-    pub fn from_number(number: u32) -> PolyExistentialPredicate
-        ensures { result ≡ record { number = number } }
-    {
-        PolyExistentialPredicate { number }
-    }
-
-    /// Returns the number of the row in its table, counted from 0 in the order in which rows were added.
-    pub fn number(self) -> u32
-        ensures { result ≡ self.number }
-    {
-        let PolyExistentialPredicate { number } = self;
-        number
-    }
-}
+impl HasFirst for ClauseListRow {}
 
 /// A list of clauses.
 ///
 /// The default is the empty list, which every interner has from the start.
-#[derive(Clone, Copy, Debug, Default, PartialEq, Eq, Hash)]
-pub struct Clauses {
-    number: u32,
+pub type Clauses = Handle<ClauseListRow>;
+
+/// The mark of lists of generic arguments.
+pub enum ArgListRow {}
+
+impl IsStored for ArgListRow {
+    ghost TABLE = { table.ArgLists };
+
+    const TABLE: Table = Table::ArgLists;
 }
 
-impl Clauses {
-    /// Returns the handle of this number in its table.
-    pub fn from_number(number: u32) -> Clauses
-        ensures { result ≡ record { number = number } }
-    {
-        Clauses { number }
-    }
-
-    /// Returns the number of the row in its table, counted from 0 in the order in which rows were added.
-    pub fn number(self) -> u32
-        ensures { result ≡ self.number }
-    {
-        let Clauses { number } = self;
-        number
-    }
-}
+impl HasFirst for ArgListRow {}
 
 /// A list of generic arguments: types, regions and constants.
 ///
 /// The default is the empty list, which every interner has from the start.
-#[derive(Clone, Copy, Debug, Default, PartialEq, Eq, Hash)]
-pub struct GenericArgs {
-    number: u32,
+pub type GenericArgs = Handle<ArgListRow>;
+
+/// The mark of lists of types.
+pub enum TypeListRow {}
+
+impl IsStored for TypeListRow {
+    ghost TABLE = { table.TypeLists };
+
+    const TABLE: Table = Table::TypeLists;
 }
 
-impl GenericArgs {
-    /// Returns the handle of this number in its table.
-    pub fn from_number(number: u32) -> GenericArgs
-        ensures { result ≡ record { number = number } }
-    {
-        GenericArgs { number }
-    }
-
-    /// Returns the number of the row in its table, counted from 0 in the order in which rows were added.
-    pub fn number(self) -> u32
-        ensures { result ≡ self.number }
-    {
-        let GenericArgs { number } = self;
-        number
-    }
-}
+impl HasFirst for TypeListRow {}
 
 /// A list of types.
 ///
 /// The default is the empty list, which every interner has from the start.
-#[derive(Clone, Copy, Debug, Default, PartialEq, Eq, Hash)]
-pub struct Tys {
-    number: u32,
+pub type Tys = Handle<TypeListRow>;
+
+/// The mark of lists of constants.
+pub enum ConstListRow {}
+
+impl IsStored for ConstListRow {
+    ghost TABLE = { table.ConstLists };
+
+    const TABLE: Table = Table::ConstLists;
 }
 
-impl Tys {
-    /// Returns the handle of this number in its table.
-    pub fn from_number(number: u32) -> Tys
-        ensures { result ≡ record { number = number } }
-    {
-        Tys { number }
-    }
-
-    /// Returns the number of the row in its table, counted from 0 in the order in which rows were added.
-    pub fn number(self) -> u32
-        ensures { result ≡ self.number }
-    {
-        let Tys { number } = self;
-        number
-    }
-}
+impl HasFirst for ConstListRow {}
 
 /// A list of constants.
 ///
 /// The default is the empty list, which every interner has from the start.
-#[derive(Clone, Copy, Debug, Default, PartialEq, Eq, Hash)]
-pub struct Consts {
-    number: u32,
+pub type Consts = Handle<ConstListRow>;
+
+/// The mark of lists of patterns.
+pub enum PatternListRow {}
+
+impl IsStored for PatternListRow {
+    ghost TABLE = { table.PatternLists };
+
+    const TABLE: Table = Table::PatternLists;
 }
 
-impl Consts {
-    /// Returns the handle of this number in its table.
-    pub fn from_number(number: u32) -> Consts
-        ensures { result ≡ record { number = number } }
-    {
-        Consts { number }
-    }
-
-    /// Returns the number of the row in its table, counted from 0 in the order in which rows were added.
-    pub fn number(self) -> u32
-        ensures { result ≡ self.number }
-    {
-        let Consts { number } = self;
-        number
-    }
-}
+impl HasFirst for PatternListRow {}
 
 /// A list of patterns.
 ///
 /// The default is the empty list, which every interner has from the start.
-#[derive(Clone, Copy, Debug, Default, PartialEq, Eq, Hash)]
-pub struct PatList {
-    number: u32,
+pub type PatList = Handle<PatternListRow>;
+
+/// The mark of lists of a binder's variables.
+pub enum VarListRow {}
+
+impl IsStored for VarListRow {
+    ghost TABLE = { table.VarLists };
+
+    const TABLE: Table = Table::VarLists;
 }
 
-impl PatList {
-    /// Returns the handle of this number in its table.
-    pub fn from_number(number: u32) -> PatList
-        ensures { result ≡ record { number = number } }
-    {
-        PatList { number }
-    }
-
-    /// Returns the number of the row in its table, counted from 0 in the order in which rows were added.
-    pub fn number(self) -> u32
-        ensures { result ≡ self.number }
-    {
-        let PatList { number } = self;
-        number
-    }
-}
+impl HasFirst for VarListRow {}
 
 /// The list of the variables that a binder binds, in order.
 ///
 /// The default is the empty list, which every interner has from the start.
-#[derive(Clone, Copy, Debug, Default, PartialEq, Eq, Hash)]
-pub struct BoundVarKinds {
-    number: u32,
+pub type BoundVarKinds = Handle<VarListRow>;
+
+/// The mark of lists of existential predicates.
+pub enum ExistentialListRow {}
+
+impl IsStored for ExistentialListRow {
+    ghost TABLE = { table.ExistentialLists };
+
+    const TABLE: Table = Table::ExistentialLists;
 }
 
-impl BoundVarKinds {
-    /// Returns the handle of this number in its table.
-    pub fn from_number(number: u32) -> BoundVarKinds
-        ensures { result ≡ record { number = number } }
-    {
-        BoundVarKinds { number }
-    }
-
-    /// Returns the number of the row in its table, counted from 0 in the order in which rows were added.
-    pub fn number(self) -> u32
-        ensures { result ≡ self.number }
-    {
-        let BoundVarKinds { number } = self;
-        number
-    }
-}
+impl HasFirst for ExistentialListRow {}
 
 /// The list of the predicates of a trait object, each under its own binder.
 ///
 /// The default is the empty list, which every interner has from the start.
-#[derive(Clone, Copy, Debug, Default, PartialEq, Eq, Hash)]
-pub struct BoundExistentialPredicates {
-    number: u32,
+pub type BoundExistentialPredicates = Handle<ExistentialListRow>;
+
+/// The mark of lists of assumptions on regions.
+pub enum AssumptionListRow {}
+
+impl IsStored for AssumptionListRow {
+    ghost TABLE = { table.AssumptionLists };
+
+    const TABLE: Table = Table::AssumptionLists;
 }
 
-impl BoundExistentialPredicates {
-    /// Returns the handle of this number in its table.
-    pub fn from_number(number: u32) -> BoundExistentialPredicates
-        ensures { result ≡ record { number = number } }
-    {
-        BoundExistentialPredicates { number }
-    }
+impl HasFirst for AssumptionListRow {}
 
-    /// Returns the number of the row in its table, counted from 0 in the order in which rows were added.
-    pub fn number(self) -> u32
-        ensures { result ≡ self.number }
-    {
-        let BoundExistentialPredicates { number } = self;
-        number
-    }
-}
-
-/// A list of what is assumed of regions.
+/// A list of assumptions on regions.
 ///
 /// The default is the empty list, which every interner has from the start.
-#[derive(Clone, Copy, Debug, Default, PartialEq, Eq, Hash)]
-pub struct RegionAssumptions {
-    number: u32,
+pub type RegionAssumptions = Handle<AssumptionListRow>;
+
+/// The mark of texts.
+pub enum SymbolRow {}
+
+impl IsStored for SymbolRow {
+    ghost TABLE = { table.Symbols };
+
+    const TABLE: Table = Table::Symbols;
 }
 
-impl RegionAssumptions {
-    /// Returns the handle of this number in its table.
-    pub fn from_number(number: u32) -> RegionAssumptions
-        ensures { result ≡ record { number = number } }
-    {
-        RegionAssumptions { number }
-    }
-
-    /// Returns the number of the row in its table, counted from 0 in the order in which rows were added.
-    pub fn number(self) -> u32
-        ensures { result ≡ self.number }
-    {
-        let RegionAssumptions { number } = self;
-        number
-    }
-}
+impl HasFirst for SymbolRow {}
 
 /// A name: an interned text.
 ///
 /// The default is the anonymous name `'_`, which every interner has from the start.
-#[derive(Clone, Copy, Debug, Default, PartialEq, Eq, Hash)]
-pub struct Symbol {
-    number: u32,
-}
-
-impl Symbol {
-    /// Returns the handle of this number in its table.
-    pub fn from_number(number: u32) -> Symbol
-        ensures { result ≡ record { number = number } }
-    {
-        Symbol { number }
-    }
-
-    /// Returns the number of the row in its table, counted from 0 in the order in which rows were added.
-    pub fn number(self) -> u32
-        ensures { result ≡ self.number }
-    {
-        let Symbol { number } = self;
-        number
-    }
-}
+pub type Symbol = Handle<SymbolRow>;

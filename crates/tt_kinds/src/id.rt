@@ -1,14 +1,19 @@
 //! Ids: small values that name a declaration of one interner.
 //!
-//! An id's number is its place in the interner's table of declarations, and its text is `#` and that number. Ids of two
-//! interners aren't told apart.
+//! An id's number is its place in the interner's table of declarations, and its text is `#` and that number. Ids of
+//! different interners can't be told apart.
 
 ghost use Rattle.std.specs.Prelude.{◌≡◌, Some};
 ghost use Rattle.tt_kinds.specs.Declaration.{id_text};
+ghost use Rattle.tt_kinds.specs.Id.{id_of};
+ghost use Rattle.tt_kinds.specs.declared.declaration.DeclarationSort.{DeclarationSort};
+ghost use Rattle.tt_kinds.specs.declared.declaration.DeclarationSort.TheVariants as sort;
 
+use crate::declaration::DeclarationSort;
 use std::fmt;
+use std::marker::PhantomData;
 
-/// A declaration of any kind.
+/// The id of a declaration of any kind.
 #[derive(Clone, Copy, Debug, PartialEq, Eq, Hash)]
 pub struct DefId {
     number: u32,
@@ -40,522 +45,205 @@ impl fmt::Display for DefId {
     }
 }
 
+/// The id of a declaration whose sort the mark `S` tells.
+#[derive_where(Clone, Copy, Debug, PartialEq, Eq, Hash)]
+pub struct Id<S> {
+    number: u32,
+    #[derive_where(skip)]
+    of: PhantomData<S>,
+}
+
+impl<S> Id<S> {
+    /// Returns the id of this number.
+    pub fn from_number(number: u32) -> Id<S>
+        ensures { result ≡ id_of number }
+    {
+        Id {
+            number,
+            of: PhantomData,
+        }
+    }
+
+    /// Returns the declaration's place in the table of declarations, counted from 0.
+    pub fn number(self) -> u32
+        ensures { result ≡ self.number }
+    {
+        let Id { number, .. } = self;
+        number
+    }
+}
+
+impl<S> fmt::Display for Id<S> {
+    ghost output = { λ id. Some (id_text id.number) };
+
+    fn fmt<W: fmt::Write>(&self, f: &mut fmt::Formatter<W>) -> fmt::Result {
+        let Id { number: place, .. } = self;
+        write!(f, "#{place}")
+    }
+}
+
+impl<S> From<Id<S>> for DefId {
+    ghost from_gives = { λ id def_id. def_id ≡ record { number = id.number } };
+
+    fn from(id: Id<S>) -> DefId {
+        DefId { number: id.number }
+    }
+}
+
+/// The trait of marks whose ids name declarations of one sort.
+pub trait IsDeclared {
+    ghost SORT: { DeclarationSort };
+
+    /// The sort of the declarations that these ids name.
+    const SORT: DeclarationSort;
+}
+
+/// The mark of structs, enums and unions.
+pub enum DataType {}
+
+impl IsDeclared for DataType {
+    ghost SORT = { sort.Adt };
+
+    const SORT: DeclarationSort = DeclarationSort::Adt;
+}
+
 /// A struct, an enum or a union.
-#[derive(Clone, Copy, Debug, PartialEq, Eq, Hash)]
-pub struct AdtId {
-    number: u32,
+pub type AdtId = Id<DataType>;
+
+/// The mark of foreign types.
+pub enum ForeignType {}
+
+impl IsDeclared for ForeignType {
+    ghost SORT = { sort.Foreign };
+
+    const SORT: DeclarationSort = DeclarationSort::Foreign;
 }
 
-impl AdtId {
-    /// Returns the id of this number.
-    pub fn from_number(number: u32) -> AdtId
-        ensures { result ≡ record { number = number } }
-    {
-        AdtId { number }
-    }
+/// A foreign type, which is declared elsewhere.
+pub type ForeignId = Id<ForeignType>;
 
-    /// Returns the declaration's place in the table of declarations, counted from 0.
-    pub fn number(self) -> u32
-        ensures { result ≡ self.number }
-    {
-        let AdtId { number } = self;
-        number
-    }
-}
-
-impl fmt::Display for AdtId {
-    ghost output = { λ id. Some (id_text id.number) };
-
-    fn fmt<W: fmt::Write>(&self, f: &mut fmt::Formatter<W>) -> fmt::Result {
-        let AdtId { number: place } = self;
-        write!(f, "#{place}")
-    }
-}
-
-impl From<AdtId> for DefId {
-    ghost from_gives = { λ id def_id. def_id ≡ record { number = id.number } };
-
-    fn from(id: AdtId) -> DefId {
-        DefId { number: id.number }
-    }
-}
-
-/// A type that is declared elsewhere, of which nothing is known here.
-#[derive(Clone, Copy, Debug, PartialEq, Eq, Hash)]
-pub struct ForeignId {
-    number: u32,
-}
-
-impl ForeignId {
-    /// Returns the id of this number.
-    pub fn from_number(number: u32) -> ForeignId
-        ensures { result ≡ record { number = number } }
-    {
-        ForeignId { number }
-    }
-
-    /// Returns the declaration's place in the table of declarations, counted from 0.
-    pub fn number(self) -> u32
-        ensures { result ≡ self.number }
-    {
-        let ForeignId { number } = self;
-        number
-    }
-}
-
-impl fmt::Display for ForeignId {
-    ghost output = { λ id. Some (id_text id.number) };
-
-    fn fmt<W: fmt::Write>(&self, f: &mut fmt::Formatter<W>) -> fmt::Result {
-        let ForeignId { number: place } = self;
-        write!(f, "#{place}")
-    }
-}
-
-impl From<ForeignId> for DefId {
-    ghost from_gives = { λ id def_id. def_id ≡ record { number = id.number } };
-
-    fn from(id: ForeignId) -> DefId {
-        DefId { number: id.number }
-    }
-}
+/// The mark of functions, which can't be declared yet.
+pub enum Function {}
 
 /// A function.
-#[derive(Clone, Copy, Debug, PartialEq, Eq, Hash)]
-pub struct FunctionId {
-    number: u32,
-}
+pub type FunctionId = Id<Function>;
 
-impl FunctionId {
-    /// Returns the id of this number.
-    pub fn from_number(number: u32) -> FunctionId
-        ensures { result ≡ record { number = number } }
-    {
-        FunctionId { number }
-    }
+/// The mark of closures.
+pub enum Closure {}
 
-    /// Returns the declaration's place in the table of declarations, counted from 0.
-    pub fn number(self) -> u32
-        ensures { result ≡ self.number }
-    {
-        let FunctionId { number } = self;
-        number
-    }
-}
+impl IsDeclared for Closure {
+    ghost SORT = { sort.Closure };
 
-impl fmt::Display for FunctionId {
-    ghost output = { λ id. Some (id_text id.number) };
-
-    fn fmt<W: fmt::Write>(&self, f: &mut fmt::Formatter<W>) -> fmt::Result {
-        let FunctionId { number: place } = self;
-        write!(f, "#{place}")
-    }
-}
-
-impl From<FunctionId> for DefId {
-    ghost from_gives = { λ id def_id. def_id ≡ record { number = id.number } };
-
-    fn from(id: FunctionId) -> DefId {
-        DefId { number: id.number }
-    }
+    const SORT: DeclarationSort = DeclarationSort::Closure;
 }
 
 /// A closure.
-#[derive(Clone, Copy, Debug, PartialEq, Eq, Hash)]
-pub struct ClosureId {
-    number: u32,
+pub type ClosureId = Id<Closure>;
+
+/// The mark of closures that return a coroutine.
+pub enum CoroutineClosure {}
+
+impl IsDeclared for CoroutineClosure {
+    ghost SORT = { sort.CoroutineClosure };
+
+    const SORT: DeclarationSort = DeclarationSort::CoroutineClosure;
 }
 
-impl ClosureId {
-    /// Returns the id of this number.
-    pub fn from_number(number: u32) -> ClosureId
-        ensures { result ≡ record { number = number } }
-    {
-        ClosureId { number }
-    }
+/// A closure that returns a coroutine.
+pub type CoroutineClosureId = Id<CoroutineClosure>;
 
-    /// Returns the declaration's place in the table of declarations, counted from 0.
-    pub fn number(self) -> u32
-        ensures { result ≡ self.number }
-    {
-        let ClosureId { number } = self;
-        number
-    }
-}
+/// The mark of coroutines.
+pub enum Coroutine {}
 
-impl fmt::Display for ClosureId {
-    ghost output = { λ id. Some (id_text id.number) };
+impl IsDeclared for Coroutine {
+    ghost SORT = { sort.Coroutine };
 
-    fn fmt<W: fmt::Write>(&self, f: &mut fmt::Formatter<W>) -> fmt::Result {
-        let ClosureId { number: place } = self;
-        write!(f, "#{place}")
-    }
-}
-
-impl From<ClosureId> for DefId {
-    ghost from_gives = { λ id def_id. def_id ≡ record { number = id.number } };
-
-    fn from(id: ClosureId) -> DefId {
-        DefId { number: id.number }
-    }
-}
-
-/// A closure that answers a coroutine.
-#[derive(Clone, Copy, Debug, PartialEq, Eq, Hash)]
-pub struct CoroutineClosureId {
-    number: u32,
-}
-
-impl CoroutineClosureId {
-    /// Returns the id of this number.
-    pub fn from_number(number: u32) -> CoroutineClosureId
-        ensures { result ≡ record { number = number } }
-    {
-        CoroutineClosureId { number }
-    }
-
-    /// Returns the declaration's place in the table of declarations, counted from 0.
-    pub fn number(self) -> u32
-        ensures { result ≡ self.number }
-    {
-        let CoroutineClosureId { number } = self;
-        number
-    }
-}
-
-impl fmt::Display for CoroutineClosureId {
-    ghost output = { λ id. Some (id_text id.number) };
-
-    fn fmt<W: fmt::Write>(&self, f: &mut fmt::Formatter<W>) -> fmt::Result {
-        let CoroutineClosureId { number: place } = self;
-        write!(f, "#{place}")
-    }
-}
-
-impl From<CoroutineClosureId> for DefId {
-    ghost from_gives = { λ id def_id. def_id ≡ record { number = id.number } };
-
-    fn from(id: CoroutineClosureId) -> DefId {
-        DefId { number: id.number }
-    }
+    const SORT: DeclarationSort = DeclarationSort::Coroutine;
 }
 
 /// A coroutine.
-#[derive(Clone, Copy, Debug, PartialEq, Eq, Hash)]
-pub struct CoroutineId {
-    number: u32,
-}
+pub type CoroutineId = Id<Coroutine>;
 
-impl CoroutineId {
-    /// Returns the id of this number.
-    pub fn from_number(number: u32) -> CoroutineId
-        ensures { result ≡ record { number = number } }
-    {
-        CoroutineId { number }
-    }
+/// The mark of traits.
+pub enum Trait {}
 
-    /// Returns the declaration's place in the table of declarations, counted from 0.
-    pub fn number(self) -> u32
-        ensures { result ≡ self.number }
-    {
-        let CoroutineId { number } = self;
-        number
-    }
-}
+impl IsDeclared for Trait {
+    ghost SORT = { sort.Trait };
 
-impl fmt::Display for CoroutineId {
-    ghost output = { λ id. Some (id_text id.number) };
-
-    fn fmt<W: fmt::Write>(&self, f: &mut fmt::Formatter<W>) -> fmt::Result {
-        let CoroutineId { number: place } = self;
-        write!(f, "#{place}")
-    }
-}
-
-impl From<CoroutineId> for DefId {
-    ghost from_gives = { λ id def_id. def_id ≡ record { number = id.number } };
-
-    fn from(id: CoroutineId) -> DefId {
-        DefId { number: id.number }
-    }
+    const SORT: DeclarationSort = DeclarationSort::Trait;
 }
 
 /// A trait.
-#[derive(Clone, Copy, Debug, PartialEq, Eq, Hash)]
-pub struct TraitId {
-    number: u32,
-}
+pub type TraitId = Id<Trait>;
 
-impl TraitId {
-    /// Returns the id of this number.
-    pub fn from_number(number: u32) -> TraitId
-        ensures { result ≡ record { number = number } }
-    {
-        TraitId { number }
-    }
+/// The mark of implementations.
+pub enum Implementation {}
 
-    /// Returns the declaration's place in the table of declarations, counted from 0.
-    pub fn number(self) -> u32
-        ensures { result ≡ self.number }
-    {
-        let TraitId { number } = self;
-        number
-    }
-}
+impl IsDeclared for Implementation {
+    ghost SORT = { sort.Impl };
 
-impl fmt::Display for TraitId {
-    ghost output = { λ id. Some (id_text id.number) };
-
-    fn fmt<W: fmt::Write>(&self, f: &mut fmt::Formatter<W>) -> fmt::Result {
-        let TraitId { number: place } = self;
-        write!(f, "#{place}")
-    }
-}
-
-impl From<TraitId> for DefId {
-    ghost from_gives = { λ id def_id. def_id ≡ record { number = id.number } };
-
-    fn from(id: TraitId) -> DefId {
-        DefId { number: id.number }
-    }
+    const SORT: DeclarationSort = DeclarationSort::Impl;
 }
 
 /// An implementation: of a trait, or of a type's own items.
-#[derive(Clone, Copy, Debug, PartialEq, Eq, Hash)]
-pub struct ImplId {
-    number: u32,
+pub type ImplId = Id<Implementation>;
+
+/// The mark of constants whose value is computed on demand.
+pub enum UnevaluatedConstant {}
+
+impl IsDeclared for UnevaluatedConstant {
+    ghost SORT = { sort.Const };
+
+    const SORT: DeclarationSort = DeclarationSort::Const;
 }
 
-impl ImplId {
-    /// Returns the id of this number.
-    pub fn from_number(number: u32) -> ImplId
-        ensures { result ≡ record { number = number } }
-    {
-        ImplId { number }
-    }
+/// A constant whose value is computed on demand.
+pub type UnevaluatedConstId = Id<UnevaluatedConstant>;
 
-    /// Returns the declaration's place in the table of declarations, counted from 0.
-    pub fn number(self) -> u32
-        ensures { result ≡ self.number }
-    {
-        let ImplId { number } = self;
-        number
-    }
-}
+/// The mark of associated types of traits.
+pub enum TraitAssocTy {}
 
-impl fmt::Display for ImplId {
-    ghost output = { λ id. Some (id_text id.number) };
+impl IsDeclared for TraitAssocTy {
+    ghost SORT = { sort.AssocTy };
 
-    fn fmt<W: fmt::Write>(&self, f: &mut fmt::Formatter<W>) -> fmt::Result {
-        let ImplId { number: place } = self;
-        write!(f, "#{place}")
-    }
-}
-
-impl From<ImplId> for DefId {
-    ghost from_gives = { λ id def_id. def_id ≡ record { number = id.number } };
-
-    fn from(id: ImplId) -> DefId {
-        DefId { number: id.number }
-    }
-}
-
-/// A constant whose value is computed when it is asked for.
-#[derive(Clone, Copy, Debug, PartialEq, Eq, Hash)]
-pub struct UnevaluatedConstId {
-    number: u32,
-}
-
-impl UnevaluatedConstId {
-    /// Returns the id of this number.
-    pub fn from_number(number: u32) -> UnevaluatedConstId
-        ensures { result ≡ record { number = number } }
-    {
-        UnevaluatedConstId { number }
-    }
-
-    /// Returns the declaration's place in the table of declarations, counted from 0.
-    pub fn number(self) -> u32
-        ensures { result ≡ self.number }
-    {
-        let UnevaluatedConstId { number } = self;
-        number
-    }
-}
-
-impl fmt::Display for UnevaluatedConstId {
-    ghost output = { λ id. Some (id_text id.number) };
-
-    fn fmt<W: fmt::Write>(&self, f: &mut fmt::Formatter<W>) -> fmt::Result {
-        let UnevaluatedConstId { number: place } = self;
-        write!(f, "#{place}")
-    }
-}
-
-impl From<UnevaluatedConstId> for DefId {
-    ghost from_gives = { λ id def_id. def_id ≡ record { number = id.number } };
-
-    fn from(id: UnevaluatedConstId) -> DefId {
-        DefId { number: id.number }
-    }
+    const SORT: DeclarationSort = DeclarationSort::AssocTy;
 }
 
 /// An associated type of a trait.
-#[derive(Clone, Copy, Debug, PartialEq, Eq, Hash)]
-pub struct TraitAssocTyId {
-    number: u32,
+pub type TraitAssocTyId = Id<TraitAssocTy>;
+
+/// The mark of associated types of inherent implementations.
+pub enum InherentAssocTy {}
+
+impl IsDeclared for InherentAssocTy {
+    ghost SORT = { sort.Inherent };
+
+    const SORT: DeclarationSort = DeclarationSort::Inherent;
 }
 
-impl TraitAssocTyId {
-    /// Returns the id of this number.
-    pub fn from_number(number: u32) -> TraitAssocTyId
-        ensures { result ≡ record { number = number } }
-    {
-        TraitAssocTyId { number }
-    }
+/// An associated type of an inherent implementation.
+pub type InherentAssocTyId = Id<InherentAssocTy>;
 
-    /// Returns the declaration's place in the table of declarations, counted from 0.
-    pub fn number(self) -> u32
-        ensures { result ≡ self.number }
-    {
-        let TraitAssocTyId { number } = self;
-        number
-    }
-}
+/// The mark of opaque types.
+pub enum OpaqueType {}
 
-impl fmt::Display for TraitAssocTyId {
-    ghost output = { λ id. Some (id_text id.number) };
+impl IsDeclared for OpaqueType {
+    ghost SORT = { sort.Opaque };
 
-    fn fmt<W: fmt::Write>(&self, f: &mut fmt::Formatter<W>) -> fmt::Result {
-        let TraitAssocTyId { number: place } = self;
-        write!(f, "#{place}")
-    }
-}
-
-impl From<TraitAssocTyId> for DefId {
-    ghost from_gives = { λ id def_id. def_id ≡ record { number = id.number } };
-
-    fn from(id: TraitAssocTyId) -> DefId {
-        DefId { number: id.number }
-    }
-}
-
-/// An associated type of an implementation that is no trait's.
-#[derive(Clone, Copy, Debug, PartialEq, Eq, Hash)]
-pub struct InherentAssocTyId {
-    number: u32,
-}
-
-impl InherentAssocTyId {
-    /// Returns the id of this number.
-    pub fn from_number(number: u32) -> InherentAssocTyId
-        ensures { result ≡ record { number = number } }
-    {
-        InherentAssocTyId { number }
-    }
-
-    /// Returns the declaration's place in the table of declarations, counted from 0.
-    pub fn number(self) -> u32
-        ensures { result ≡ self.number }
-    {
-        let InherentAssocTyId { number } = self;
-        number
-    }
-}
-
-impl fmt::Display for InherentAssocTyId {
-    ghost output = { λ id. Some (id_text id.number) };
-
-    fn fmt<W: fmt::Write>(&self, f: &mut fmt::Formatter<W>) -> fmt::Result {
-        let InherentAssocTyId { number: place } = self;
-        write!(f, "#{place}")
-    }
-}
-
-impl From<InherentAssocTyId> for DefId {
-    ghost from_gives = { λ id def_id. def_id ≡ record { number = id.number } };
-
-    fn from(id: InherentAssocTyId) -> DefId {
-        DefId { number: id.number }
-    }
+    const SORT: DeclarationSort = DeclarationSort::Opaque;
 }
 
 /// An opaque type, such as `impl Trait` as a result.
-#[derive(Clone, Copy, Debug, PartialEq, Eq, Hash)]
-pub struct OpaqueTyId {
-    number: u32,
-}
+pub type OpaqueTyId = Id<OpaqueType>;
 
-impl OpaqueTyId {
-    /// Returns the id of this number.
-    pub fn from_number(number: u32) -> OpaqueTyId
-        ensures { result ≡ record { number = number } }
-    {
-        OpaqueTyId { number }
-    }
+/// The mark of type aliases whose bounds are checked.
+pub enum FreeTyAlias {}
 
-    /// Returns the declaration's place in the table of declarations, counted from 0.
-    pub fn number(self) -> u32
-        ensures { result ≡ self.number }
-    {
-        let OpaqueTyId { number } = self;
-        number
-    }
-}
+impl IsDeclared for FreeTyAlias {
+    ghost SORT = { sort.Free };
 
-impl fmt::Display for OpaqueTyId {
-    ghost output = { λ id. Some (id_text id.number) };
-
-    fn fmt<W: fmt::Write>(&self, f: &mut fmt::Formatter<W>) -> fmt::Result {
-        let OpaqueTyId { number: place } = self;
-        write!(f, "#{place}")
-    }
-}
-
-impl From<OpaqueTyId> for DefId {
-    ghost from_gives = { λ id def_id. def_id ≡ record { number = id.number } };
-
-    fn from(id: OpaqueTyId) -> DefId {
-        DefId { number: id.number }
-    }
+    const SORT: DeclarationSort = DeclarationSort::Free;
 }
 
 /// A type alias whose bounds are checked, and which can always be normalized away.
-#[derive(Clone, Copy, Debug, PartialEq, Eq, Hash)]
-pub struct FreeTyAliasId {
-    number: u32,
-}
-
-impl FreeTyAliasId {
-    /// Returns the id of this number.
-    pub fn from_number(number: u32) -> FreeTyAliasId
-        ensures { result ≡ record { number = number } }
-    {
-        FreeTyAliasId { number }
-    }
-
-    /// Returns the declaration's place in the table of declarations, counted from 0.
-    pub fn number(self) -> u32
-        ensures { result ≡ self.number }
-    {
-        let FreeTyAliasId { number } = self;
-        number
-    }
-}
-
-impl fmt::Display for FreeTyAliasId {
-    ghost output = { λ id. Some (id_text id.number) };
-
-    fn fmt<W: fmt::Write>(&self, f: &mut fmt::Formatter<W>) -> fmt::Result {
-        let FreeTyAliasId { number: place } = self;
-        write!(f, "#{place}")
-    }
-}
-
-impl From<FreeTyAliasId> for DefId {
-    ghost from_gives = { λ id def_id. def_id ≡ record { number = id.number } };
-
-    fn from(id: FreeTyAliasId) -> DefId {
-        DefId { number: id.number }
-    }
-}
+pub type FreeTyAliasId = Id<FreeTyAlias>;

@@ -1,5 +1,5 @@
-//! What holds of all trees and readings, for what is built on top of terms. The functions do nothing: each
-//! contract is a law.
+//! Laws of all trees and readings, for code that is built on top of terms. The functions do nothing: each contract is a
+//! law.
 
 ghost use Rattle.tt_kinds.specs.Laws.{
   PutsCompose,
@@ -17,23 +17,23 @@ ghost use Rattle.tt_kinds.specs.Laws.{
   ShiftByZero,
 };
 
-/// Where each parameter has an argument, replacing twice is replacing once, by arguments in which the second has
-/// replaced.
+/// If each parameter has an argument, two replacements in turn are one, by the first one's arguments with the second
+/// replacement made in them.
 pub fn replacements_compose()
     ensures { PutsCompose }
 {}
 
-/// Replacing and then moving is moving and then replacing by moved arguments.
+/// A replacement and then a move are the move and then the replacement by moved arguments.
 pub fn moves_commute_with_replacement()
     ensures { MovesCommute }
 {}
 
-/// Moves in turn are one move by the sum.
+/// Two moves in turn are one move by the sum.
 pub fn moves_add_up()
     ensures { MovesAddUp }
 {}
 
-/// Equal moves come from equal readings.
+/// Readings are equal if the same move makes them equal.
 pub fn moves_tell_readings()
     ensures { MovesTellReadings }
 {}
@@ -48,37 +48,37 @@ pub fn move_keeps_matched()
     ensures { MoveKeepsMatched }
 {}
 
-/// Where each parameter has an argument and no argument holds a parameter, none is left.
+/// If each parameter has an argument and no argument holds a parameter, a replacement leaves no parameter.
 pub fn replacement_leaves_no_parameter()
     ensures { PutLeavesNone }
 {}
 
-/// A reading belongs to one tree.
+/// Trees with equal readings are equal.
 pub fn readings_tell_trees()
     ensures { ReadingsTellTrees }
 {}
 
-/// The regions met in a tree, placed again, give the tree.
+/// Placing again the regions that were met in a tree gives the tree.
 pub fn met_regions_placed_again()
     ensures { MetPlacedAgain }
 {}
 
-/// Instantiating, read, is replacing parameters in the reading.
+/// An instantiated tree reads as its reading with the parameters replaced.
 pub fn instances_read_as_replaced()
     ensures { InstancesRead }
 {}
 
-/// Shifting, read, is moving the reading.
+/// A shifted tree reads as its moved reading.
 pub fn shifts_read_as_moved()
     ensures { ShiftsRead }
 {}
 
-/// A shift under some binders changes nothing in a tree that reaches no further than they do.
+/// A shift under some binders keeps a tree that reaches no further than they do.
 pub fn shift_keeps_low_trees()
     ensures { ShiftKeepsLow }
 {}
 
-/// A shift by 0 changes nothing.
+/// A shift by 0 keeps each tree.
 pub fn shift_by_zero_keeps_trees()
     ensures { ShiftByZero }
 {}

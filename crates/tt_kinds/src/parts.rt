@@ -1,8 +1,7 @@
-//! What a kind is made of: its parts in order, and the kind again with other parts in their places.
+//! The parts of a kind in order, and the kind with other parts in their places.
 //!
-//! No kind has more than two children that are regions, stored terms or stored lists, perhaps under one binder. So
-//! all that walks over kinds do goes over a pair of parts, and they needn't tell one kind from another. Flags, hooks
-//! and the tests of what a kind holds do.
+//! A kind has at most two children (regions, stored terms or stored lists), perhaps under one binder. So a walk goes
+//! over a pair of parts and needn't tell one kind from another. Flags, hooks and the tests of a kind's contents do.
 
 ghost use Rattle.std.specs.Prelude.{◌≡◌, ◌↔◌, IsTrue};
 ghost use Rattle.tt_kinds.specs.Parts.{AreLike, node_table, list_sort, no_parts, one_part, two_parts};
@@ -27,7 +26,7 @@ use crate::region_kind::Region;
 use crate::table::Table;
 use crate::ty_kind::TyKind;
 
-/// A stored term at which a walk can stop: all that have a kind, and lists of clauses.
+/// A stored term at which a walk can stop: a term that has a kind, or a list of clauses.
 #[derive(Clone, Copy, Debug, PartialEq, Eq)]
 pub enum Node {
     /// A type.
@@ -40,7 +39,7 @@ pub enum Node {
     Predicate(Predicate),
     /// An existential predicate.
     Existential(PolyExistentialPredicate),
-    /// A list of clauses. It has no kind, but items.
+    /// A list of clauses, which has items instead of a kind.
     Clauses(Clauses),
 }
 
@@ -61,7 +60,7 @@ pub enum List {
     Clauses(Clauses),
 }
 
-/// What a stored list holds.
+/// The sort of a stored list's items.
 #[derive(Clone, Copy, Debug, PartialEq, Eq)]
 pub enum ListSort {
     /// Types.
@@ -78,10 +77,10 @@ pub enum ListSort {
     Clauses,
 }
 
-/// The contents of a kind or a list.
+/// A child of a kind or a list.
 #[derive(Clone, Copy, Debug, Default, PartialEq, Eq)]
 pub enum Child {
-    /// Nothing: the kind has fewer parts.
+    /// No child: the kind has fewer parts.
     #[default]
     Absent,
     /// A region.
@@ -117,7 +116,7 @@ pub enum Kind {
 }
 
 impl Parts {
-    /// No children.
+    /// Returns no children.
     #[inline(always)]
     pub fn none() -> Parts
         ensures { result ≡ no_parts }
@@ -139,7 +138,7 @@ impl Parts {
         }
     }
 
-    /// Two children in order.
+    /// Returns two children, in order.
     #[inline(always)]
     pub fn two(first: Child, second: Child) -> Parts
         ensures { result ≡ two_parts first second }
@@ -147,7 +146,7 @@ impl Parts {
         Parts { first, second }
     }
 
-    /// Returns whether the new children are of the same sorts, each in its place.
+    /// Returns whether each of the new children is of the same sort as the child in its place.
     pub fn are_like(&self, new: &Parts) -> bool
         ensures { IsTrue result ↔ AreLike self.now new.now }
     {
@@ -172,7 +171,7 @@ impl Node {
     }
 }
 
-// Each is for a node of that table; a `match` tests it.
+// Each method is for a node of that table; a `match` tests it.
 impl Node {
     /// Returns the type.
     pub fn ty(self) -> Ty
@@ -242,7 +241,7 @@ impl Node {
 }
 
 impl List {
-    /// Returns what the list holds.
+    /// Returns the sort of the list's items.
     #[inline(always)]
     pub fn sort(self) -> ListSort
         ensures { result ≡ list_sort self }

@@ -2,17 +2,17 @@
 
 use crate::handle::{Const, PatList};
 
-/// What a pattern is.
+/// The kind of a pattern.
 #[derive(Clone, Copy, Debug, PartialEq, Eq, Hash)]
 pub enum PatternKind {
-    /// The values from the one constant to the other.
+    /// The values from one constant to another.
     Range {
         /// The least value.
         start: Const,
         /// The greatest value.
         end: Const,
     },
-    /// The values that one of the patterns allows.
+    /// The values that at least one of the patterns allows.
     Or(PatList),
     /// Every value but the null pointer.
     NotNull,

@@ -1,4 +1,4 @@
-//! Placeholders: what takes the place of a bound variable once its binder is gone.
+//! Placeholders, which replace a binder's variables when the binder is entered.
 
 ghost use Rattle.std.specs.Prelude.{◌≡◌};
 ghost use Rattle.tt_kinds.specs.declared.bound.BoundRegionKind.TheVariants as region_kind;
@@ -7,12 +7,12 @@ ghost use Rattle.tt_kinds.specs.declared.bound.BoundTyKind.TheVariants as ty_kin
 use crate::bound::{BoundConst, BoundRegion, BoundRegionKind, BoundTy, BoundTyKind};
 use tt_index::{BoundVar, UniverseIndex};
 
-/// A variable that was bound by a binder which has been entered, as a constant of its universe.
+/// A bound variable whose binder has been entered, as a constant of a universe.
 #[derive(Clone, Copy, Debug, PartialEq, Eq, PartialOrd, Ord, Hash)]
 pub struct Placeholder<T> {
     /// The universe in which it can be named.
     pub universe: UniverseIndex,
-    /// The variable that it stands for.
+    /// The bound variable that it replaces.
     pub bound: T,
 }
 

@@ -1,4 +1,4 @@
-//! What predicates say, each in a record of its own.
+//! The records of predicates.
 
 use crate::alias::AliasTerm;
 use crate::handle::{Clauses, GenericArgs, Ty};
@@ -6,12 +6,12 @@ use crate::id::TraitId;
 use crate::region_kind::Region;
 use crate::term::Term;
 
-/// A trait with its arguments, the first of which is the type that it is asked of.
+/// A trait with its arguments, the first of which is the self type.
 #[derive(Clone, Copy, Debug, PartialEq, Eq, Hash)]
 pub struct TraitRef {
     /// The trait.
     pub def_id: TraitId,
-    /// The type that it is asked of, and then the trait's own arguments.
+    /// The self type, and then the trait's own arguments.
     pub args: GenericArgs,
 }
 
@@ -27,7 +27,7 @@ pub struct TraitPredicate {
 pub enum BoundConstness {
     /// In every constant.
     Const,
-    /// In constants where the function around it is called in one.
+    /// In a constant if the enclosing function is called in one.
     Maybe,
 }
 
@@ -44,12 +44,12 @@ pub struct HostEffectPredicate {
 #[derive(Clone, Copy, Debug, PartialEq, Eq, Hash)]
 pub struct OutlivesPredicate<A>(pub A, pub Region);
 
-/// An alias stands for this term.
+/// An alias is equal to this term.
 #[derive(Clone, Copy, Debug, PartialEq, Eq, Hash)]
 pub struct ProjectionPredicate {
     /// The alias.
     pub projection_term: AliasTerm,
-    /// What it stands for.
+    /// The term that it is equal to.
     pub term: Term,
 }
 
@@ -58,7 +58,7 @@ pub struct ProjectionPredicate {
 pub struct NormalizesTo {
     /// The alias.
     pub alias: AliasTerm,
-    /// What it normalizes to.
+    /// The term that it normalizes to.
     pub term: Term,
 }
 
@@ -78,13 +78,13 @@ pub struct SubtypePredicate {
 pub struct CoercePredicate {
     /// The type of the value.
     pub a: Ty,
-    /// The type that it is made.
+    /// The type that it is coerced to.
     pub b: Ty,
 }
 
-/// What may be assumed inside an item.
+/// The assumptions inside an item.
 #[derive(Clone, Copy, Debug, PartialEq, Eq, Hash)]
 pub struct ParamEnv {
-    /// The clauses that every caller has shown.
+    /// The clauses that every caller of the item proves.
     pub caller_bounds: Clauses,
 }

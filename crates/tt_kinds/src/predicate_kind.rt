@@ -1,4 +1,4 @@
-//! Predicates: what has to hold of terms.
+//! Predicates: conditions on terms.
 
 ghost use Rattle.std.specs.Prelude.{◌≡◌};
 ghost use Rattle.tt_kinds.specs.Predicate.{is_clause_kind, clause_of};
@@ -21,7 +21,7 @@ pub enum ClauseKind {
     RegionOutlives(OutlivesPredicate<Region>),
     /// A type outlives a region.
     TypeOutlives(OutlivesPredicate<Ty>),
-    /// An alias stands for a term.
+    /// An alias is equal to a term.
     Projection(ProjectionPredicate),
     /// A constant has a type.
     ConstArgHasType(Const, Ty),
@@ -31,7 +31,7 @@ pub enum ClauseKind {
     ConstEvaluatable(Const),
     /// A type implements a trait so that it can be used in constants.
     HostEffect(HostEffectPredicate),
-    /// A feature of this name that isn't stable has to be on.
+    /// The unstable feature of this name is enabled.
     UnstableFeature(Symbol),
 }
 
@@ -44,7 +44,7 @@ pub enum AliasRelationDirection {
     Subtype,
 }
 
-/// What a predicate says.
+/// The kind of a predicate.
 #[derive(Clone, Copy, Debug, PartialEq, Eq, Hash)]
 pub enum PredicateKind {
     /// A clause.
@@ -57,7 +57,7 @@ pub enum PredicateKind {
     Coerce(CoercePredicate),
     /// Two constants are equal.
     ConstEquate(Const, Const),
-    /// It isn't known whether anything holds.
+    /// It is unknown whether the predicate holds.
     Ambiguous,
     /// An alias normalizes to a term.
     NormalizesTo(NormalizesTo),
@@ -76,7 +76,7 @@ impl PredicateKind {
         }
     }
 
-    /// Returns the clause that it is, and `None` where it is none.
+    /// Returns the clause, or `None` if the predicate is not a clause.
     pub fn as_clause(&self) -> Option<ClauseKind>
         ensures { result ≡ clause_of self.now }
     {

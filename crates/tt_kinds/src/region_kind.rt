@@ -27,11 +27,11 @@ pub struct EarlyParamRegion {
 pub struct LateParamRegion {
     /// The item.
     pub scope: DefId,
-    /// What it is called.
+    /// Its name.
     pub kind: BoundRegionKind,
 }
 
-/// What a region is.
+/// The kind of a region.
 #[derive(Clone, Copy, Debug, PartialEq, Eq, Hash)]
 pub enum RegionKind {
     /// A region parameter of an item.
@@ -42,18 +42,18 @@ pub enum RegionKind {
     ReLateParam(LateParamRegion),
     /// `'static`.
     ReStatic,
-    /// A region variable of inference.
+    /// A region inference variable.
     ReVar(RegionVid),
-    /// A region that a binder bound which has been entered.
+    /// A placeholder: a bound region whose binder has been entered.
     RePlaceholder(PlaceholderRegion),
-    /// A region of which nothing is kept.
+    /// An erased region.
     ReErased,
-    /// A region of which an error was reported.
+    /// A region for which an error was reported.
     ReError(ErrorGuaranteed),
 }
 
 impl RegionKind {
-    // A bound region has an index below the greatest.
+    // Returns whether the region is not a bound one with the greatest index.
     fn is_shallow(&self) -> bool
         ensures { IsTrue result ↔ IsShallow self.now }
     {
@@ -64,7 +64,7 @@ impl RegionKind {
     }
 }
 
-/// A region. Unlike types, regions are small and so are kept in place.
+/// A region. Unlike types, regions are small, so they are kept by value.
 ///
 /// A bound region's index is below [`GREATEST_INDEX`](tt_index::GREATEST_INDEX), so that one more than it is an index
 /// too.
@@ -94,8 +94,8 @@ impl Region {
     ghost use Rattle.tt_kinds.specs.Scan.{scan};
     ghost use Rattle.tt_kinds.specs.Reading.{outer_binder};
 
-    /// Returns the region of this kind. It is refused with `GreatestIndex` where a bound region's index is the
-    /// greatest, and never otherwise.
+    /// Returns the region of this kind. Refused with `GreatestIndex` if it is a bound region with the greatest index,
+    /// and never otherwise.
     pub fn new(kind: RegionKind) -> Result<Region, Refusal>
         ensures ok { IsShallow kind → result ≡ Ok kind }
         ensures deep { (IsShallow kind → ⊥) → result ≡ Err Refusal.GreatestIndex }
@@ -107,8 +107,8 @@ impl Region {
         }
     }
 
-    /// Returns the bound region of this index. It is refused with `GreatestIndex` where the index is the greatest, and
-    /// never otherwise.
+    /// Returns the bound region of this index. Refused with `GreatestIndex` if the index is the greatest, and never
+    /// otherwise.
     pub fn new_bound(index: DebruijnIndex, bound_region: BoundRegion) -> Result<Region, Refusal>
         ensures ok { index < greatest → result ≡ Ok (bound_at index bound_region) }
         ensures deep { greatest ≤ index → result ≡ Err Refusal.GreatestIndex }
@@ -116,7 +116,7 @@ impl Region {
         Region::new(RegionKind::ReBound(BoundVarIndexKind::Bound(index), bound_region))
     }
 
-    /// Returns what the region is.
+    /// Returns the region's kind.
     pub fn kind(self) -> RegionKind
         ensures kind { result ≡ self }
         ensures shallow { IsShallow result }
@@ -124,8 +124,8 @@ impl Region {
         self.kind
     }
 
-    /// Returns every region in hand is one that can be built: a bound region's index is below the greatest, and the
-    /// numbers lie in the ranges of their types. So the answer is always true; the contract gives callers the fact.
+    /// Returns `true`. Every region can be built: a bound region's index is below the greatest, and the numbers lie in
+    /// the ranges of their types. The contract gives callers this fact.
     pub fn in_range(self) -> bool
         ensures holds { IsTrue result }
         ensures shallow { IsShallow self }
@@ -133,7 +133,7 @@ impl Region {
         self.kind.is_shallow()
     }
 
-    /// Returns the flags of the region: its kind's, and one more where it is a variable of a canonical query.
+    /// Returns the flags of the region: its kind's flags, and one more for a variable of a canonical query.
     #[tactic(auto, unfolding(crate::specs::Shape::fill))]
     pub fn flags(self) -> TypeFlags
         ensures { (f : Meaning) → result.bits ≡ scan (fill f (region_shape self)) }

@@ -1,6 +1,6 @@
 //! The tables of an interner.
 
-/// Which table a term is stored in.
+/// A table of an interner.
 #[derive(Clone, Copy, Debug, PartialEq, Eq)]
 pub enum Table {
     /// Types.

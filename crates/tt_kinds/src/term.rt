@@ -4,7 +4,7 @@ ghost use Rattle.std.specs.Prelude.{◌≡◌};
 
 use crate::handle::{Const, Ty};
 
-/// What a term is.
+/// The kind of a term.
 #[derive(Clone, Copy, Debug, PartialEq, Eq, Hash)]
 pub enum TermKind {
     /// A type.
@@ -20,7 +20,7 @@ pub struct Term {
 }
 
 impl Term {
-    /// Returns what the term is.
+    /// Returns the term's kind.
     pub fn kind(self) -> TermKind
         ensures { result ≡ self.kind }
     {

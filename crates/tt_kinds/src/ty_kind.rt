@@ -27,24 +27,24 @@ pub struct ParamTy {
     pub name: Symbol,
 }
 
-/// A type variable of inference.
+/// A type inference variable.
 #[derive(Clone, Copy, Debug, PartialEq, Eq, PartialOrd, Ord, Hash)]
 pub enum InferTy {
-    /// It stands for any type.
+    /// A variable for any type.
     TyVar(TyVid),
-    /// It stands for a type of integers.
+    /// A variable for an integer type.
     IntVar(IntVid),
-    /// It stands for a type of floating point.
+    /// A variable for a floating point type.
     FloatVar(FloatVid),
     /// A number in place of a `TyVar`, by which types are told apart in caches.
     FreshTy(u32),
-    /// The same of an `IntVar`.
+    /// A number in place of an `IntVar`.
     FreshIntTy(u32),
-    /// The same of a `FloatVar`.
+    /// A number in place of a `FloatVar`.
     FreshFloatTy(u32),
 }
 
-/// A type with a mutability, as what a pointer points to.
+/// A type with a mutability, such as a pointer's target.
 #[derive(Clone, Copy, Debug, PartialEq, Eq, Hash)]
 pub struct TypeAndMut {
     /// The type.
@@ -53,7 +53,7 @@ pub struct TypeAndMut {
     pub mutbl: Mutability,
 }
 
-/// A type under a binder, as `unsafe<'a> &'a u32`.
+/// A type under a binder, such as `unsafe<'a> &'a u32`.
 #[derive(Clone, Copy, Debug, PartialEq, Eq, Hash)]
 pub struct UnsafeBinderInner(Binder<Ty>);
 
@@ -72,7 +72,7 @@ impl UnsafeBinderInner {
         self.0.bound_vars()
     }
 
-    /// Another type under the same variables.
+    /// Returns another type under a binder of the same variables.
     pub fn with_ty(self, ty: Ty) -> UnsafeBinderInner
         ensures value { result.0.value ≡ ty }
         ensures vars { result.0.bound_vars ≡ self.0.bound_vars }
@@ -97,7 +97,7 @@ impl From<UnsafeBinderInner> for Binder<Ty> {
     }
 }
 
-/// What a type is.
+/// The kind of a type.
 #[derive(Clone, Copy, Debug, PartialEq, Eq, Hash)]
 pub enum TyKind {
     /// `bool`.
@@ -108,11 +108,11 @@ pub enum TyKind {
     Int(IntTy),
     /// An unsigned integer.
     Uint(UintTy),
-    /// A number of floating point.
+    /// A floating point number.
     Float(FloatTy),
     /// A struct, an enum or a union.
     Adt(AdtId, GenericArgs),
-    /// A type that is declared elsewhere, of which nothing is known here.
+    /// A foreign type, which is declared elsewhere.
     Foreign(ForeignId),
     /// `str`.
     Str,
@@ -128,33 +128,33 @@ pub enum TyKind {
     Ref(Region, Ty, Mutability),
     /// A function pointer: the types of its inputs and of its output under a binder.
     FnPtr(Binder<FnSigTys>, FnHeader),
-    /// A type under a binder whose regions the programmer answers for.
+    /// A type under a binder whose regions the programmer is responsible for.
     UnsafeBinder(UnsafeBinderInner),
-    /// A trait object: what it says of the type that it hides, and the region that this type outlives.
+    /// A trait object: the predicates on the type that it hides, and the region that this type outlives.
     Dynamic(BoundExistentialPredicates, Region),
     /// The type of a closure.
     Closure(ClosureId, GenericArgs),
-    /// The type of a closure that answers a coroutine.
+    /// The type of a closure that returns a coroutine.
     CoroutineClosure(CoroutineClosureId, GenericArgs),
     /// The type of a coroutine.
     Coroutine(CoroutineId, GenericArgs),
-    /// What stands for the types that a coroutine keeps while it waits.
+    /// The witness of the types that a coroutine keeps while it is suspended.
     CoroutineWitness(CoroutineId, GenericArgs),
     /// `!`, the type without values.
     Never,
     /// `(A, B, ..)`.
     Tuple(Tys),
-    /// A type that stands for another.
+    /// An alias.
     Alias(AliasTy),
     /// A type parameter of an item.
     Param(ParamTy),
     /// A type that a binder binds.
     Bound(BoundVarIndexKind, BoundTy),
-    /// A type that a binder bound which has been entered.
+    /// A placeholder: a bound type whose binder has been entered.
     Placeholder(PlaceholderType),
-    /// A type variable of inference.
+    /// A type inference variable.
     Infer(InferTy),
-    /// A type of which an error was reported.
+    /// A type for which an error was reported.
     Error(ErrorGuaranteed),
 }
 
@@ -175,19 +175,19 @@ impl TyKind {
     }
 }
 
-/// What is known of an `IntVar`.
+/// The value of an `IntVar`, as far as it is known.
 #[derive(Clone, Copy, Debug, PartialEq, Eq, Hash)]
 pub enum IntVarValue {
     /// Nothing.
     Unknown,
-    /// It stands for this signed integer.
+    /// This signed integer type.
     IntType(IntTy),
-    /// It stands for this unsigned integer.
+    /// This unsigned integer type.
     UintType(UintTy),
 }
 
 impl IntVarValue {
-    /// Returns whether it is known what the variable stands for.
+    /// Returns whether the variable's value is known.
     pub fn is_known(self) -> bool
         ensures { IsTrue result ↔ IsKnownInt self }
     {
@@ -197,7 +197,7 @@ impl IntVarValue {
         }
     }
 
-    /// Returns whether nothing is known.
+    /// Returns whether the variable's value is unknown.
     pub fn is_unknown(self) -> bool
         ensures { IsTrue result ↔ (self ≡ int.Unknown) }
     {
@@ -205,17 +205,17 @@ impl IntVarValue {
     }
 }
 
-/// What is known of a `FloatVar`.
+/// The value of a `FloatVar`, as far as it is known.
 #[derive(Clone, Copy, Debug, PartialEq, Eq, Hash)]
 pub enum FloatVarValue {
     /// Nothing.
     Unknown,
-    /// It stands for this type of floating point.
+    /// This floating point type.
     Known(FloatTy),
 }
 
 impl FloatVarValue {
-    /// Returns whether it is known what the variable stands for.
+    /// Returns whether the variable's value is known.
     pub fn is_known(self) -> bool
         ensures { IsTrue result ↔ IsKnownFloat self }
     {
@@ -225,7 +225,7 @@ impl FloatVarValue {
         }
     }
 
-    /// Returns whether nothing is known.
+    /// Returns whether the variable's value is unknown.
     pub fn is_unknown(self) -> bool
         ensures { IsTrue result ↔ (self ≡ float.Unknown) }
     {

@@ -6,14 +6,14 @@ use crate::handle::{GenericArgs, Tys};
 
 /// The inputs of a signature: its list of types without the last, which is the output.
 ///
-/// Two views of the same types may lie in different lists, so equal views stand for equal types and not the other way round.
+/// Equal views hold equal types. Views that hold equal types may lie in different lists, and then they differ.
 #[derive(Clone, Copy, Debug, PartialEq, Eq, Hash)]
 pub struct FnInputTys {
     inputs_and_output: Tys,
 }
 
 impl FnInputTys {
-    /// Returns the view of all types of this list but the last. The list has to have one.
+    /// Returns the view of all types of this list but the last. The list must not be empty.
     pub fn from_parts(inputs_and_output: Tys) -> FnInputTys
         ensures { result ≡ record { inputs_and_output = inputs_and_output } }
     {
@@ -28,7 +28,7 @@ impl FnInputTys {
     }
 }
 
-/// Some generic arguments in a row of a stored list.
+/// A slice of a stored list of generic arguments.
 #[derive(Clone, Copy, Debug, PartialEq, Eq, Hash)]
 pub struct GenericArgsSlice {
     args: GenericArgs,
@@ -59,14 +59,14 @@ impl GenericArgsSlice {
         self.start
     }
 
-    /// Returns how many arguments it has.
+    /// Returns the number of arguments.
     pub fn len(self) -> u32
         ensures { result ≡ self.len }
     {
         self.len
     }
 
-    /// Returns whether it has no argument.
+    /// Returns whether there are no arguments.
     pub fn is_empty(self) -> bool
         ensures { IsTrue result ↔ (self.len ≡ 0) }
     {

@@ -6,9 +6,9 @@ use Rattle.tt_kinds.specs.Label.{Label, list_label, record_label, sequence_recor
 use Rattle.tt_kinds.specs.Tree as tree
 use Rattle.tt_kinds.specs.Shape.{Shape, node, part_of, Extent, all_but_last, span, first_item, item_count, Meaning, fill, fill_all, Sizes, AreParts, item_shapes}
 use Rattle.tt_kinds.specs.declared.generic_arg.GenericArgKind.{GenericArgKind}
-use Rattle.tt_kinds.specs.declared.handle.GenericArgs.{GenericArgs}
-use Rattle.tt_kinds.specs.declared.handle.Ty.{Ty}
-use Rattle.tt_kinds.specs.declared.handle.Tys.{Tys}
+use Rattle.tt_kinds.specs.Handle.{GenericArgs}
+use Rattle.tt_kinds.specs.Handle.{Ty}
+use Rattle.tt_kinds.specs.Handle.{Tys}
 use Rattle.tt_kinds.specs.declared.table.Table.{Table}
 use Rattle.tt_kinds.specs.declared.table.Table.TheVariants.{ArgLists, TypeLists}
 use Rattle.tt_kinds.specs.declared.view.FnInputTys.{FnInputTys}
@@ -20,6 +20,7 @@ use Rattle.tt_interner.specs.Stored.{IsAt}
 use Rattle.tt_interner.specs.Views.{AreInputs, LiesInList}
 use Rattle.tt_interner.proofs.Trees.{Means-row}
 use Rattle.tt_visit.specs.Views.{HoldsArgs, HoldsInputs}
+use Rattle.tt_kinds.specs.Handle.{handle}
 
 -- the tree of a part of a list is the tree of the items in it
 pub part-tree : {T : Type 0} (of_item : T → Shape) (f : Meaning) (t : Table) (n : ℕ) (e : Extent) (l : Label ℕ) (all xs : List T)
@@ -53,8 +54,8 @@ inputs_held rows view list all is lies at =
     let lengths : length lies.0 ≡ length all = ap length same in
     let long : 0 < length lies.0 = lies.2 in
     let one : length all - 1 + 1 ≡ length all = omega (arith, lengths, long) in
-    let output : Ty = get_or all (length all - 1) (record { number = 0 }) in
-    record { output = output; stored = subst (λ (xs : List Ty). IsAt rows (tys_row xs) view.inputs_and_output.number) (sym (before-last all (length all - 1) (record { number = 0 }) one)) there }
+    let output : Ty = get_or all (length all - 1) (handle 0) in
+    record { output = output; stored = subst (λ (xs : List Ty). IsAt rows (tys_row xs) view.inputs_and_output.number) (sym (before-last all (length all - 1) (handle 0) one)) there }
 
 pub inputs_owned : (rows : List Row) → AreRows rows → (list : Tys) (all : List Ty) → IsAt rows (tys_row all) list.number
     → (n : ℕ) → AreParts (size rows) (item_shapes ty_shape (take n all))

@@ -18,7 +18,7 @@ use Rattle.tt_kinds.specs.declared.parts.Node.{Node}
 use Rattle.tt_kinds.specs.declared.parts.Node.TheVariants as node
 use Rattle.tt_kinds.specs.declared.parts.List.{List as StoredList}
 use Rattle.tt_kinds.specs.declared.parts.List.TheVariants as list
-use Rattle.tt_kinds.specs.declared.handle.Clauses.{Clauses}
+use Rattle.tt_kinds.specs.Handle.{Clauses}
 use Rattle.tt_kinds.specs.declared.table.Table.TheVariants.{ClauseLists}
 use Rattle.tt_kinds.specs.Parts.{node_table, list_sort}
 use Rattle.tt_kinds.specs.declared.region_kind.RegionKind.{RegionKind}

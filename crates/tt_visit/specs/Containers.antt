@@ -1,4 +1,4 @@
--- What containers of one value hold.
+-- The shapes of containers of one value.
 use Rattle.tt_kinds.specs.Label.{present_record}
 use Rattle.tt_kinds.specs.Shape.{Shape}
 use Rattle.tt_kinds.specs.Values.{one_record}

@@ -1,4 +1,4 @@
--- What values without terms hold: their data alone.
+-- The shapes of values without terms, which are data alone.
 use Rattle.std.specs.Prelude.{ℕ, Some, Bool, true, false, ⊤}
 use Rattle.tt_index.specs.declared.numeric.FloatTy.{FloatTy}
 use Rattle.tt_index.specs.declared.numeric.FloatTy.TheVariants as float
@@ -38,12 +38,12 @@ abbrev mutual
   IsData (shape.node (record_label l) ss) = AreData ss
   IsData _ = ⊥
 
-  -- the same of shapes in order
+  -- each of the shapes is records all the way down
   pub AreData : Shapes → Type 0
   AreData shape.none = ⊤
   AreData (shape.also s ss) = IsData s × AreData ss
 
--- a number of so many bytes, as the leaf of a value
+-- a number and its size in bytes, as the leaf of a value
 abbrev pub number_data : ℕ → ℕ → RecordLabel ℕ
 number_data bytes n = bare_const_record (leaf_const n bytes)
 
@@ -51,7 +51,7 @@ number_data bytes n = bare_const_record (leaf_const n bytes)
 abbrev pub unit_data : RecordLabel ℕ
 unit_data = absent_record
 
--- a value without handles, whatever else stands in it
+-- a value without handles, whatever else it holds
 abbrev pub no_handles : Shape
 no_handles = data_shape unit_data
 
@@ -100,14 +100,14 @@ uint_number uint.U32 = 3
 uint_number uint.U64 = 4
 uint_number uint.U128 = 5
 
--- the place of a type of floating point among the four
+-- the place of a floating point type among the four
 abbrev pub float_number : FloatTy → ℕ
 float_number float.F16 = 0
 float_number float.F32 = 1
 float_number float.F64 = 2
 float_number float.F128 = 3
 
--- the index of a variable, and nothing where it is canonical
+-- the index of a variable, or nothing for a canonical one
 abbrev pub index_shape : BoundVarIndexKind → Shape
 index_shape i = option_shape (λ d. data_shape (number_data 4 d)) (index_of (depth i))
 

@@ -1,4 +1,4 @@
--- What the visitor does that looks for the token of an error, and which token that is.
+-- The hooks of the visitor that looks for the token of an error, and the token that it finds.
 use Rattle.std.specs.Prelude.{◌≡◌, ℕ, Option, Some, None, ⊤}
 use Rattle.std.specs.Option.{option_or}
 use Rattle.tt_flags.specs.TypeFlags.{has_error}
@@ -11,7 +11,7 @@ use Rattle.tt_visit.specs.Visit.{Visits}
 use Rattle.tt_visit.specs.HasTypeFlags.{Misses}
 use Rattle.tt_visit.specs.declared.visitor.Next.TheVariants.{Skip, Descend}
 
--- the error that a region tells of
+-- the token of a region's error, if it has one
 abbrev pub error_of_region : FreeRegion Name → Option ℕ
 error_of_region (error_region e) = Some e
 error_of_region _ = None
@@ -26,12 +26,12 @@ abbrev mutual
   first_error (node l ts) = option_or (error_of l) (first_error_among ts)
   first_error (binder vs t) = first_error t
 
-  -- the same of trees in order
+  -- the first token of an error in trees in order
   pub first_error_among : Forest Depth → Option ℕ
   first_error_among none = None
   first_error_among (also t ts) = option_or (first_error t) (first_error_among ts)
 
--- a token breaks, and what has no flag of an error is passed over
+-- a token breaks, and terms without an error flag are skipped
 abbrev pub error_hooks : Visits ⊤ ErrorGuaranteed
 error_hooks = record {
   on_region = λ s t s'. first_error t ≡ None;

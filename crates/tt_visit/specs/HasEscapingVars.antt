@@ -1,4 +1,4 @@
--- What the visitors do that look how far out variables are bound.
+-- The hooks of the visitors that look how far out variables are bound.
 use Rattle.std.specs.Prelude.{◌≡◌, ℕ, ◌+◌, ◌-◌, ◌<◌, ◌≤◌, Bool, true, ⊤}
 use Rattle.tt_index.specs.Greatest.{greatest}
 use Rattle.tt_kinds.specs.Tree.{Depth, Tree, Forest, param, bound, region, term, node, binder, none, also}
@@ -14,12 +14,12 @@ pub record Search : Type 0 where
   pub outer_index : ℕ
   pub skipped : Bool
 
--- a binder is entered with one more binder to count, and passed over where there is no index for it
+-- a binder is entered with one more binder to count, and skipped if there is no index for it
 abbrev pub Enters : Search → Next → Search → Type 0
 Enters s Descend s' = s' ≡ record { outer_index = s.outer_index + 1; skipped = s.skipped }
 Enters s Skip s' = (greatest ≤ s.outer_index) × (s' ≡ record { outer_index = s.outer_index; skipped = true })
 
--- what reaches far enough out breaks, and no term with a hook is descended into
+-- a value that reaches far enough out breaks, and no term with a hook is entered
 abbrev pub search_hooks : Visits Search FoundEscapingVars
 search_hooks = record {
   on_region = λ s t s'. (s' ≡ s) × (outer_binder t ≤ s.outer_index);
@@ -47,7 +47,7 @@ range_hooks = record {
   leave = λ s vs s'. ⊤;
 }
 
--- what is asked of a term with a hook, and of one without
+-- a condition on a term with a hook, and one on a term without
 abbrev pub ByHook : Root → Type 0 → Type 0 → Type 0
 ByHook hooked whole inside = whole
 ByHook _ whole inside = inside

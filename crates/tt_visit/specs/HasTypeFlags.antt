@@ -1,4 +1,4 @@
--- What the visitor does that looks for flags: its state is the mask.
+-- The hooks of the visitor that looks for flags: its state is the mask.
 use Rattle.std.specs.Prelude.{◌≡◌, ◌≢◌, ℕ, bit_and}
 use Rattle.tt_flags.specs.TypeFlags.{has_error}
 use Rattle.tt_kinds.specs.Label.{list_flags}
@@ -15,7 +15,7 @@ Misses mask flags = bit_and mask flags ≡ 0
 abbrev pub Meets : ℕ → ℕ → Type 0
 Meets mask flags = bit_and mask flags ≢ 0
 
--- what has a flag of the mask breaks, and no term with a hook is descended into
+-- a value with a flag of the mask breaks, and no term with a hook is entered
 abbrev pub flag_hooks : Visits ℕ FoundFlags
 flag_hooks = record {
   on_region = λ s t s'. (s' ≡ s) × Misses s (scan t);

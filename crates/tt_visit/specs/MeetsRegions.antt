@@ -1,4 +1,4 @@
--- What the visitor does that looks for regions which a fold of regions asks its closure about.
+-- The hooks of the visitor that looks for regions at which a fold of regions calls its closure.
 use Rattle.std.specs.Prelude.{◌≡◌, ◌≢◌, ℕ, ◌+◌, ◌-◌, ◌<◌, ◌≤◌, Bool, true, [], ⊤}
 use Rattle.tt_index.specs.Greatest.{greatest}
 use Rattle.tt_kinds.specs.Label.{Sort, region_sort, type_sort, const_sort}
@@ -25,17 +25,17 @@ pub record RegionSearch : Type 0 where
   pub depth : ℕ
   pub skipped : Bool
 
--- a term is skipped that meets no region, and gone into where its regions are all bound and it reaches past k binders
+-- a term that meets no region is skipped; it is entered if its regions are all bound and it reaches past k binders
 abbrev pub Looks : ℕ → Tree Depth → Next → Type 0
 Looks k t Skip = MeetsNone k t
 Looks k t Descend = Misses 0x220000 (scan t) × Meets 0x40000 (scan t) × (k < outer_binder t)
 
--- a binder is entered with one more binder to count, and passed over where there is no index for it
+-- a binder is entered with one more binder to count, and skipped if there is no index for it
 abbrev pub Enters : RegionSearch → Next → RegionSearch → Type 0
 Enters s Descend s' = s' ≡ record { depth = s.depth + 1; skipped = s.skipped }
 Enters s Skip s' = (greatest ≤ s.depth) × (s' ≡ record { depth = s.depth; skipped = true })
 
--- a term in which a region is met breaks, unless its bound regions alone tell
+-- a term in which a region is met breaks, unless only the walk of its bound regions decides that
 abbrev pub meets_hooks : Visits RegionSearch MetRegion
 meets_hooks = record {
   on_region = λ s t s'. (s' ≡ s) × MeetsNone s.depth t;

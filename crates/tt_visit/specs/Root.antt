@@ -1,4 +1,4 @@
--- What a tree is to a visitor or a folder, as its root tells.
+-- How visitors and folders treat a tree, by its root.
 use Rattle.std.specs.Prelude.{ℕ, Option, Some, None}
 use Rattle.tt_kinds.specs.Label.{Sort, region_sort, type_sort, const_sort, Label, error_of_type, error_of_const, type_label, const_label, pattern_label, predicate_label, existential_label, clause_list_label, list_label, record_label, error_label, clause_label}
 use Rattle.tt_kinds.specs.declared.table.Table.{Table}
@@ -9,13 +9,13 @@ use Rattle.tt_kinds.specs.Tree.{Tree, param, bound, region, term, node, binder}
 pub data Root : Type 0 where
   a_region hooked unhooked a_part no_term : Root
 
--- what a parameter or a bound variable of a sort is
+-- the root of a parameter or a bound variable of a sort
 abbrev pub sort_root : Sort → Root
 sort_root region_sort = a_region
 sort_root type_sort = hooked
 sort_root const_sort = hooked
 
--- what a stored term of a label is: types, constants, predicates and clause lists have a hook
+-- the root of a stored term of a label: types, constants, predicates and clause lists have a hook
 abbrev pub term_root : {N : Type 0} → Label N → Root
 term_root (type_label l) = hooked
 term_root (const_label l) = hooked
@@ -25,7 +25,7 @@ term_root (pattern_label l) = unhooked
 term_root existential_label = unhooked
 term_root _ = no_term
 
--- what the terms or lists of a table are
+-- the root of the terms or lists of a table
 abbrev pub table_root : Table → Root
 table_root Types = hooked
 table_root Consts = hooked
@@ -38,14 +38,14 @@ table_root Symbols = no_term
 table_root Declarations = no_term
 table_root _ = a_part
 
--- what a list or a record of a label is
+-- the root of a list or a record of a label
 abbrev pub node_root : {N : Type 0} → Label N → Root
 node_root (list_label t) = a_part
 node_root (record_label l) = a_part
 node_root clause_label = a_part
 node_root _ = no_term
 
--- what a tree is
+-- the root of a tree
 abbrev pub root : {I : Type 0} → Tree I → Root
 root (param s i name) = sort_root s
 root (bound s d e) = sort_root s
@@ -54,7 +54,7 @@ root (term l ts) = term_root l
 root (node l ts) = node_root l
 root (binder vs t) = a_part
 
--- the error that a label tells of
+-- the token of a label's error, if it has one
 abbrev pub error_of : {N : Type 0} → Label N → Option ℕ
 error_of (type_label l) = error_of_type l
 error_of (const_label l) = error_of_const l

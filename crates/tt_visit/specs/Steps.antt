@@ -1,4 +1,4 @@
--- What the calls of a visit promise.
+-- The promises of the calls of a visit.
 use Rattle.std.specs.Prelude.{◌≡◌, ℕ, ◌<◌, List, Option, Some, None, ⊤}
 use Rattle.std.specs.ControlFlow.{MatchControlFlow}
 use Rattle.std.specs.declared.ops.ControlFlow.{ControlFlow}
@@ -7,7 +7,7 @@ use Rattle.tt_kinds.specs.Tree.{Depth, Tree, Forest, node, binder}
 use Rattle.tt_kinds.specs.Shape.{Meaning, Sizes, vars_of}
 use Rattle.tt_kinds.specs.Kinds.{Form, param, bound, plain, under, kind_form}
 use Rattle.tt_kinds.specs.declared.table.Table.TheVariants.{VarLists}
-use Rattle.tt_kinds.specs.declared.handle.BoundVarKinds.{BoundVarKinds}
+use Rattle.tt_kinds.specs.Handle.{BoundVarKinds}
 use Rattle.tt_kinds.specs.declared.parts.Kind.{Kind}
 use Rattle.tt_interner.specs.Rows.{Row}
 use Rattle.tt_visit.specs.Root.{Root, hooked, unhooked, error_of}
@@ -15,14 +15,14 @@ use Rattle.tt_visit.specs.declared.visitor.Next.{Next}
 use Rattle.tt_visit.specs.declared.visitor.Next.TheVariants.{Descend}
 use Rattle.tt_visit.specs.Visit.{Visits, GoesOver, GoesOverAll, Breaks, BreaksAll}
 
--- the error that a form's label tells of
+-- the token of the error of a form's label, if it has one
 abbrev pub form_error : Form (Label ℕ) → Option ℕ
 form_error (param i name) = None
 form_error (bound d e) = None
 form_error (plain l p) = error_of l
 form_error (under l vars m p) = error_of l
 
--- the error that a kind tells of
+-- the token of a kind's error, if it has one
 abbrev pub kind_error : Kind → Option ℕ
 kind_error k = form_error (kind_form k)
 
@@ -32,7 +32,7 @@ AreStored size None = ⊤
 AreStored size (Some vars) = vars.number < size VarLists
 
 module _ {M B : Type 0} (V : Visits M B) where
-  -- what the hook of a term answers; one without a hook is gone into
+  -- the answer of a term's hook; a term without a hook is entered
   abbrev pub Asks : Root → M → Tree Depth → Next → M → Type 0
   Asks hooked s t next s' = V.on_term s t next s'
   Asks unhooked s t next s' = (next ≡ Descend) × (s' ≡ s)
@@ -44,7 +44,7 @@ module _ {M B : Type 0} (V : Visits M B) where
   AskingBreaks _ s t b s' = ⊥
 
 module _ {M B : Type 0} (V : Visits M B) (f : Meaning) where
-  -- the visitor goes over trees, which are in a record under a binder if there is one
+  -- the visitor visits trees, which are in a record under a binder if there is one
   abbrev pub GoesUnder : M → Option BoundVarKinds → Forest Depth → M → Type 0
   GoesUnder s None ts s' = GoesOverAll V s ts s'
   GoesUnder s (Some vars) ts s' = (m : RecordLabel Name) → GoesOver V s (binder (vars_of (f VarLists vars.number)) (node (record_label m) ts)) s'
@@ -54,18 +54,18 @@ module _ {M B : Type 0} (V : Visits M B) (f : Meaning) where
   BreaksUnder s None ts b s' = BreaksAll V s ts b s'
   BreaksUnder s (Some vars) ts b s' = (m : RecordLabel Name) → Breaks V s (binder (vars_of (f VarLists vars.number)) (node (record_label m) ts)) b s'
 
--- a visit that broke gives what is owned among the rows
+-- the break value of a visit is owned among the rows
 abbrev pub OwnsBreak : {B U : Type 0} → (List Row → B → Type 0) → List Row → ControlFlow B U → Type 0
 OwnsBreak owned rows r = MatchControlFlow r (λ _. ⊤) (owned rows)
 
 module _ {M B S X : Type 0} (means : List Row → S → M) where
-  -- A call took the visitor's state s to s' at x, and answered r: what it says of one that goes on, and of one that breaks.
+  -- A call at x took the visitor's state s to s' and returned r: one relation holds if it goes on, one if it breaks.
   abbrev pub Ends : {U : Type 0} → (M → X → M → Type 0) → (M → X → B → M → Type 0) → List Row → S → X → ControlFlow B U → S → Type 0
   Ends goes breaks rows s x r s' = MatchControlFlow r
       (λ _. goes (means rows s) x (means rows s'))
       (λ b. breaks (means rows s) x b (means rows s'))
 
-  -- the same of a call that also answers what comes next
+  -- the same for a call that also returns what comes next
   abbrev pub Answers : (M → X → Next → M → Type 0) → (M → X → B → M → Type 0) → List Row → S → X → ControlFlow B Next → S → Type 0
   Answers goes breaks rows s x r s' = MatchControlFlow r
       (λ next. goes (means rows s) x next (means rows s'))

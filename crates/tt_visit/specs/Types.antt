@@ -1,4 +1,4 @@
--- What a visitor does that looks at types alone.
+-- The hooks of a visitor that looks at types alone.
 use Rattle.std.specs.Prelude.{◌≡◌, Bool, true, false, ⊤}
 use Rattle.tt_kinds.specs.Count.{is_type_sort}
 use Rattle.tt_kinds.specs.Label.{is_type}
@@ -7,20 +7,20 @@ use Rattle.tt_visit.specs.Visit.{Visits}
 use Rattle.tt_visit.specs.declared.visitor.Next.{Next}
 use Rattle.tt_visit.specs.declared.visitor.Next.TheVariants.{Descend}
 
--- what the one hook of such a visitor may do: M is what its state means, and B what it breaks with
+-- what the one hook of such a visitor may do: M is the meaning of its state, and B the type of its break value
 pub record TypeVisits (M B : Type 0) : Type 1 where
   -- state, type, answer, state
   pub on_type : M → Tree Depth → Next → M → Type 0
   pub type_breaks : M → Tree Depth → B → M → Type 0
 
--- the hook of which nothing is promised
+-- the hook without a promise
 abbrev pub no_promise : {M B : Type 0} → TypeVisits M B
 no_promise = record {
   on_type = λ s t next s'. ⊤;
   type_breaks = λ s t b s'. ⊤;
 }
 
--- the hook that breaks only at types of which the relation with the state holds, and goes into all others; the state stays
+-- the hook that breaks only at types in the relation with the state, and enters all others; the state stays
 abbrev pub breaks_at : {M B : Type 0} → (M → Tree Depth → Type 0) → TypeVisits M B
 breaks_at R = record {
   on_type = λ s t next s'. (next ≡ Descend) × (s' ≡ s);
@@ -36,7 +36,7 @@ is_type_tree (term l ts) = is_type l
 is_type_tree (node l ts) = false
 is_type_tree (binder vs t) = false
 
--- the hooks of a visitor that looks at types, passes regions and tokens of errors with its state as it was, and enters
+-- the hooks of a visitor that looks at types, keeps its state at regions and tokens of errors, and enters
 -- other terms and binders
 abbrev pub only_types : {M B : Type 0} → TypeVisits M B → Visits M B
 only_types H = record {

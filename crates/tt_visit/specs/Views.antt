@@ -1,6 +1,6 @@
--- What views of stored lists hold.
+-- The items of views of stored lists.
 use Rattle.std.specs.Prelude.{◌≡◌, ◌++◌, ◌∷◌, [], List, length}
-use Rattle.tt_kinds.specs.declared.handle.Ty.{Ty}
+use Rattle.tt_kinds.specs.Handle.{Ty}
 use Rattle.tt_kinds.specs.declared.generic_arg.GenericArgKind.{GenericArgKind}
 use Rattle.tt_kinds.specs.declared.view.FnInputTys.{FnInputTys}
 use Rattle.tt_kinds.specs.declared.view.GenericArgsSlice.{GenericArgsSlice}

@@ -1,4 +1,4 @@
--- What a visitor does over a tree.
+-- The visit of a tree.
 use Rattle.std.specs.Prelude.{◌≡◌, ℕ, List, Option, Some, None}
 use Rattle.tt_kinds.specs.Label.{Name, Sort, VarKind, Entry, Label, error_label}
 use Rattle.tt_kinds.specs.Tree.{Depth, Tree, Forest, param, bound, term, node, binder, none, also}
@@ -6,7 +6,7 @@ use Rattle.tt_visit.specs.Root.{a_region, hooked, unhooked, a_part, root, error_
 use Rattle.tt_visit.specs.declared.visitor.Next.{Next}
 use Rattle.tt_visit.specs.declared.visitor.Next.TheVariants.{Skip, Descend}
 
--- what a visitor's hooks may do: M is what its state means, and B what it breaks with
+-- what a visitor's hooks may do: M is the meaning of its state, and B the type of its break value
 pub record Visits (M B : Type 0) : Type 1 where
   -- state, region, state
   pub on_region : M → Tree Depth → M → Type 0
@@ -23,25 +23,25 @@ pub record Visits (M B : Type 0) : Type 1 where
   pub leave : M → List (VarKind Name) → M → Type 0
 
 module _ {M B : Type 0} (V : Visits M B) where
-  -- the visitor is told of an error, if there is one
+  -- the visitor is called at an error, if there is one
   abbrev pub Tells : M → Option ℕ → M → Type 0
   Tells s None s' = s' ≡ s
   Tells s (Some e) s' = V.on_error s e s'
 
-  -- the visitor breaks at an error that it is told of
+  -- the visitor breaks at an error
   abbrev pub TellingBreaks : M → Option ℕ → B → M → Type 0
   TellingBreaks s None b s' = ⊥
   TellingBreaks s (Some e) b s' = V.error_breaks s e b s'
 
   mutual
-    -- from a state the visitor goes over a tree, and ends in a state
+    -- from a state the visitor visits a tree, and ends in a state
     pub data GoesOver : M → Tree Depth → M → Type 0 where
       region_seen : {s s' : M} {t : Tree Depth} → root t ≡ a_region → V.on_region s t s' → GoesOver s t s'
       skipped : {s s' : M} {t : Tree Depth} → root t ≡ hooked → V.on_term s t Skip s' → GoesOver s t s'
       went_inside : {s s1 s' : M} {t : Tree Depth} → root t ≡ hooked → V.on_term s t Descend s1 → GoesInside s1 t s' → GoesOver s t s'
-      -- a pattern or an existential predicate has no hook, and tells of no error: the contents are always gone over
+      -- a pattern or an existential predicate has no hook and no error: its contents are always visited
       unhooked_seen : {s s' : M} {l : Label Name} {ts : Forest Depth} → root (term l ts) ≡ unhooked → GoesOverAll s ts s' → GoesOver s (term l ts) s'
-      -- the token of an error by itself is told of
+      -- the visitor is called at the token of an error by itself
       token_seen : {s s' : M} {e : ℕ} → V.on_error s e s' → GoesOver s (node (error_label e) none) s'
       node_seen : {s s' : M} {l : Label Name} {ts : Forest Depth} → root (node l ts) ≡ a_part → GoesOverAll s ts s' → GoesOver s (node l ts) s'
       binder_skipped : {s s' : M} {vs : List (VarKind Name)} {t : Tree Depth} → V.enter s vs Skip s' → GoesOver s (binder vs t) s'
@@ -70,7 +70,7 @@ module _ {M B : Type 0} (V : Visits M B) where
       token_broke : {s s' : M} {e : ℕ} {b : B} → V.error_breaks s e b s' → Breaks s (node (error_label e) none) b s'
       node_broke : {s s' : M} {l : Label Name} {ts : Forest Depth} {b : B} → root (node l ts) ≡ a_part → BreaksAll s ts b s' → Breaks s (node l ts) b s'
       enter_broke : {s s' : M} {vs : List (VarKind Name)} {t : Tree Depth} {b : B} → V.enter_breaks s vs b s' → Breaks s (binder vs t) b s'
-      -- a binder that was entered is left also after a break
+      -- an entered binder is left even after a break
       under_broke : {s s1 s2 s' : M} {vs : List (VarKind Name)} {t : Tree Depth} {b : B}
           → V.enter s vs Descend s1 → BreaksInside s1 (binder vs t) b s2 → V.leave s2 vs s' → Breaks s (binder vs t) b s'
 

@@ -1,4 +1,4 @@
-//! The visit of kinds that aren't stored, of what they hold, and of tokens of errors by themselves.
+//! The visits of kinds that aren't stored, of their contents, and of tokens of errors by themselves.
 
 use crate::stored::{visit_kind, visit_parts};
 use crate::visitable::TypeVisitable;

@@ -1,4 +1,4 @@
-//! The visits of boxes, shared values, and lists of other types than `Vec`: each is a record of what it holds, in order.
+//! The visits of boxes, shared values, and lists of other types than `Vec`: each is a record of its contents, in order.
 
 use crate::visitable::{TypeVisitable, visit_values};
 use crate::visitor::TypeVisitor;

@@ -1,5 +1,4 @@
-//! The visit of values without terms: numbers, tags, indices and placeholders by themselves. A visitor is told of
-//! nothing there.
+//! The visits of values without terms: numbers, tags, indices and placeholders by themselves. They call no hook.
 
 ghost use Rattle.tt_kinds.specs.Shape.{Shape, fill};
 ghost use Rattle.tt_interner.specs.Rows.{meaning};
@@ -11,15 +10,14 @@ use crate::visitable::TypeVisitable;
 use crate::visitor::TypeVisitor;
 use std::ops::ControlFlow;
 use tt_index::{
-    BoundVar, ClosureKind, ConstVid, DebruijnIndex, ExternAbi, FieldIdx, FloatTy, FloatVid, IntTy,
-    IntVid, Mutability, RegionVid, Safety, TyVid, UintTy, UniverseIndex, Variance, VariantIdx,
+    ClosureKind, ExternAbi, FloatTy, Index, IntTy, Mutability, Safety, UintTy, Variance,
 };
 use tt_interner::Interner;
 use tt_kinds::{
     AliasRelationDirection, BoundVarIndexKind, PlaceholderConst, PlaceholderRegion, PlaceholderType,
 };
 
-// The visit of such a value, whatever its data are.
+// Visits such a value, whatever its data are.
 fn visit_data<V: TypeVisitor>(_cx: &Interner, _visitor: &mut V) -> ControlFlow<V::Break, ()>
     requires owned { V.owned _cx.now.rows _visitor.old }
     ensures owned { V.owned _cx.now.rows _visitor.new }
@@ -114,38 +112,10 @@ impl TypeVisitable for usize {
     }
 }
 
-impl TypeVisitable for DebruijnIndex {
+impl<S> TypeVisitable for Index<S> {
     ghost use Rattle.tt_visit.specs.Data.{data_shape, number_data};
 
     ghost shape = { λ index. data_shape (number_data 4 index) };
-
-    fn visit_with<V: TypeVisitor>(
-        &self,
-        cx: &Interner,
-        visitor: &mut V,
-    ) -> ControlFlow<V::Break, ()> {
-        visit_data(cx, visitor)
-    }
-}
-
-impl TypeVisitable for UniverseIndex {
-    ghost use Rattle.tt_visit.specs.Data.{data_shape, number_data};
-
-    ghost shape = { λ universe. data_shape (number_data 4 universe) };
-
-    fn visit_with<V: TypeVisitor>(
-        &self,
-        cx: &Interner,
-        visitor: &mut V,
-    ) -> ControlFlow<V::Break, ()> {
-        visit_data(cx, visitor)
-    }
-}
-
-impl TypeVisitable for BoundVar {
-    ghost use Rattle.tt_visit.specs.Data.{data_shape, number_data};
-
-    ghost shape = { λ var. data_shape (number_data 4 var) };
 
     fn visit_with<V: TypeVisitor>(
         &self,
@@ -188,104 +158,6 @@ impl TypeVisitable for Variance {
     ghost use Rattle.tt_visit.specs.Data.{data_shape, number_data, variance_number};
 
     ghost shape = { λ v. data_shape (number_data 1 (variance_number v)) };
-
-    fn visit_with<V: TypeVisitor>(
-        &self,
-        cx: &Interner,
-        visitor: &mut V,
-    ) -> ControlFlow<V::Break, ()> {
-        visit_data(cx, visitor)
-    }
-}
-
-impl TypeVisitable for FieldIdx {
-    ghost use Rattle.tt_visit.specs.Data.{data_shape, number_data};
-
-    ghost shape = { λ index. data_shape (number_data 4 index) };
-
-    fn visit_with<V: TypeVisitor>(
-        &self,
-        cx: &Interner,
-        visitor: &mut V,
-    ) -> ControlFlow<V::Break, ()> {
-        visit_data(cx, visitor)
-    }
-}
-
-impl TypeVisitable for VariantIdx {
-    ghost use Rattle.tt_visit.specs.Data.{data_shape, number_data};
-
-    ghost shape = { λ index. data_shape (number_data 4 index) };
-
-    fn visit_with<V: TypeVisitor>(
-        &self,
-        cx: &Interner,
-        visitor: &mut V,
-    ) -> ControlFlow<V::Break, ()> {
-        visit_data(cx, visitor)
-    }
-}
-
-impl TypeVisitable for RegionVid {
-    ghost use Rattle.tt_visit.specs.Data.{data_shape, number_data};
-
-    ghost shape = { λ vid. data_shape (number_data 4 vid) };
-
-    fn visit_with<V: TypeVisitor>(
-        &self,
-        cx: &Interner,
-        visitor: &mut V,
-    ) -> ControlFlow<V::Break, ()> {
-        visit_data(cx, visitor)
-    }
-}
-
-impl TypeVisitable for TyVid {
-    ghost use Rattle.tt_visit.specs.Data.{data_shape, number_data};
-
-    ghost shape = { λ vid. data_shape (number_data 4 vid) };
-
-    fn visit_with<V: TypeVisitor>(
-        &self,
-        cx: &Interner,
-        visitor: &mut V,
-    ) -> ControlFlow<V::Break, ()> {
-        visit_data(cx, visitor)
-    }
-}
-
-impl TypeVisitable for IntVid {
-    ghost use Rattle.tt_visit.specs.Data.{data_shape, number_data};
-
-    ghost shape = { λ vid. data_shape (number_data 4 vid) };
-
-    fn visit_with<V: TypeVisitor>(
-        &self,
-        cx: &Interner,
-        visitor: &mut V,
-    ) -> ControlFlow<V::Break, ()> {
-        visit_data(cx, visitor)
-    }
-}
-
-impl TypeVisitable for FloatVid {
-    ghost use Rattle.tt_visit.specs.Data.{data_shape, number_data};
-
-    ghost shape = { λ vid. data_shape (number_data 4 vid) };
-
-    fn visit_with<V: TypeVisitor>(
-        &self,
-        cx: &Interner,
-        visitor: &mut V,
-    ) -> ControlFlow<V::Break, ()> {
-        visit_data(cx, visitor)
-    }
-}
-
-impl TypeVisitable for ConstVid {
-    ghost use Rattle.tt_visit.specs.Data.{data_shape, number_data};
-
-    ghost shape = { λ vid. data_shape (number_data 4 vid) };
 
     fn visit_with<V: TypeVisitor>(
         &self,

@@ -1,4 +1,4 @@
-//! The visit of handles, and of the small values around them.
+//! The visits of handles, and of the small values around them.
 
 use crate::stored::{visit_inside, visit_list, visit_node};
 use crate::visitable::{TypeSuperVisitable, TypeVisitable, visit_values};

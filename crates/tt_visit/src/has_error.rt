@@ -11,12 +11,12 @@ use tt_flags::TypeFlags;
 use tt_interner::{Flags, Interner};
 use tt_kinds::{BoundVarKinds, Clauses, Const, ErrorGuaranteed, Predicate, Region, RegionKind, Ty};
 
-/// Breaks with the first token of an error, of a type, a constant or a region. Terms without one are passed over, as their flags
-/// tell.
+/// Breaks with the first token of an error, of a type, a constant or a region. Terms without one are skipped by their
+/// flags.
 #[derive(Clone, Copy, Debug)]
 pub struct HasErrorVisitor;
 
-// The answer to a term with these flags.
+// Returns the answer at a term with these flags.
 fn next_for(flags: TypeFlags) -> Next
     ensures { result ≡ Skip → Misses has_error flags.bits }
 {

@@ -8,16 +8,16 @@ use tt_index::DebruijnIndex;
 use tt_interner::{Flags, Interner};
 use tt_kinds::{BoundVarKinds, Clauses, Const, ErrorGuaranteed, Predicate, Region, Ty};
 
-/// What a visit breaks with where it finds a variable.
+/// The break value of a visit that finds a variable.
 #[derive(Clone, Copy, Debug, PartialEq, Eq)]
 pub struct FoundEscapingVars;
 
 /// Breaks at the first region, type, constant, predicate or list of clauses that holds a variable bound by the binder
 /// `outer_index` or further out, where that index is counted from outside the visited value. None of these terms is
-/// taken apart: its outer exclusive binder is kept beside it.
+/// taken apart: its outer exclusive binder is cached.
 ///
-/// Inside binders that are too many for an index no variable reaches so far out, since each has an index below the
-/// greatest. So such a binder's value is passed over, and the visitor keeps in mind that it was.
+/// Under more binders than an index can count, no variable reaches so far out, since each has an index below the
+/// greatest. So such a binder's value is skipped, and the visitor remembers that it was.
 #[derive(Clone, Copy, Debug)]
 pub struct HasEscapingVarsVisitor {
     // the index of the same binder, as counted from where the visit is
@@ -26,7 +26,7 @@ pub struct HasEscapingVarsVisitor {
 }
 
 impl HasEscapingVarsVisitor {
-    /// Returns the visitor that looks for variables of the binder of this index and of those further out.
+    /// Returns the visitor that looks for variables bound by the binder of this index or further out.
     pub fn new(outer_index: DebruijnIndex) -> HasEscapingVarsVisitor
         ensures { result ≡ record { outer_index = outer_index; skipped = false } }
     {
@@ -36,14 +36,14 @@ impl HasEscapingVarsVisitor {
         }
     }
 
-    /// Returns whether a binder's value was passed over.
+    /// Returns whether a binder's value was skipped.
     pub fn has_skipped(self) -> bool
         ensures { result ≡ self.skipped }
     {
         self.skipped
     }
 
-    // Whether what has this outer exclusive binder holds such a variable.
+    // Returns whether a term with this outer exclusive binder holds such a variable.
     fn found(self, outer_exclusive_binder: DebruijnIndex) -> bool
         ensures { IsTrue result ↔ (self.outer_index < outer_exclusive_binder) }
     {
@@ -147,7 +147,7 @@ impl TypeVisitor for HasEscapingVarsVisitor {
     }
 }
 
-/// Goes over a value only to learn of each region and each term with a hook that its indices are in range.
+/// Visits a value only to show that the indices of each region and each term with a hook are in range.
 #[derive(Clone, Copy, Debug)]
 pub struct InRangeVisitor;
 

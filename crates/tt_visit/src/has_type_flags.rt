@@ -12,12 +12,12 @@ use tt_flags::TypeFlags;
 use tt_interner::{Flags, InternedList, Interner};
 use tt_kinds::{BoundVarKinds, Clauses, Const, ErrorGuaranteed, Predicate, Region, Ty};
 
-/// What a visit breaks with where it finds a flag.
+/// The break value of a visit that finds a flag.
 #[derive(Clone, Copy, Debug, PartialEq, Eq)]
 pub struct FoundFlags;
 
-/// Breaks at the first region, type, constant, predicate, list of clauses or binder that has a flag of the mask. None of these
-/// terms is taken apart: its flags are kept beside it.
+/// Breaks at the first region, type, constant, predicate, list of clauses or binder that has a flag of the mask. None
+/// of these terms is taken apart: its flags are cached.
 #[derive(Clone, Copy, Debug)]
 pub struct HasTypeFlagsVisitor {
     flags: TypeFlags,
@@ -115,7 +115,7 @@ impl TypeVisitor for HasTypeFlagsVisitor {
     fn leave_binder(&mut self, _cx: &Interner, _vars: BoundVarKinds) {}
 }
 
-// The flags of a binder's list of variables.
+// Returns the flags of a binder's list of variables.
 fn list_flags(cx: &Interner, vars: BoundVarKinds) -> TypeFlags
     requires { vars.number < size cx.now.rows VarLists }
     ensures { result.bits ≡ flags_of_list (vars_of (meaning cx.now.rows VarLists vars.number)) }

@@ -1,4 +1,4 @@
-//! Visitors: what goes over a term without changing it, and the questions that are asked of terms that way.
+//! Visitors, which walk a term without changing it, and the queries of terms that use them.
 #![tactic(auto)]
 
 mod bare;

@@ -1,4 +1,4 @@
-//! The visitor that looks for regions which a fold of regions asks its closure about.
+//! The visitor that looks for regions at which a fold of regions calls its closure.
 
 ghost use Rattle.std.specs.Prelude.{IsTrue, false, ◌<◌, ◌≡◌, ◌↔◌};
 ghost use Rattle.std.specs.ControlFlow.{MatchControlFlow};
@@ -19,18 +19,18 @@ use tt_index::DebruijnIndex;
 use tt_interner::{Flags, Interner};
 use tt_kinds::{BoundVarKinds, Clauses, Const, ErrorGuaranteed, Predicate, Region, Ty};
 
-/// What a visit breaks with where it meets a region.
+/// The break value of a visit that meets a region.
 #[derive(Clone, Copy, Debug, PartialEq, Eq)]
 pub struct MetRegion;
 
-/// Breaks at the first region, type, constant, predicate or list of clauses that holds a region which the visited value
-/// doesn't bind itself and which is no variable of a canonical query.
+/// Breaks at the first region, type, constant, predicate or list of clauses that holds a region that the visited value
+/// doesn't bind itself and that is not a variable of a canonical query.
 ///
-/// A term is taken apart only where its flags and its outer exclusive binder leave open whether it holds such a region:
-/// where all its regions are bound, and some variable is bound outside of the visited value.
+/// A term is taken apart only if its flags and its outer exclusive binder leave open whether it holds such a region: if
+/// all its regions are bound, and some variable is bound outside of the visited value.
 ///
-/// Inside binders that are too many for an index each bound region is the value's own. So such a binder's value is
-/// passed over, and the visitor keeps in mind that it was: there a region that isn't bound remains to be looked for.
+/// Under more binders than an index can count, each bound region is bound in the value. So such a binder's value is
+/// skipped, and the visitor remembers that it was: it may still hold a region that isn't bound.
 #[derive(Clone, Copy, Debug)]
 pub struct MeetsRegionsVisitor {
     // the innermost binder outside of the visited value, as counted from where the visit is
@@ -49,21 +49,22 @@ impl MeetsRegionsVisitor {
         }
     }
 
-    /// Returns whether a binder's value was passed over.
+    /// Returns whether a binder's value was skipped.
     pub fn has_skipped(self) -> bool
         ensures { result ≡ self.skipped }
     {
         self.skipped
     }
 
-    // Whether what has this outer exclusive binder holds a variable that is bound outside of the visited value.
+    // Returns whether a term with this outer exclusive binder holds a variable that is bound outside of the visited
+    // value.
     fn reaches_out(self, outer_exclusive_binder: DebruijnIndex) -> bool
         ensures { IsTrue result ↔ (self.outer_index < outer_exclusive_binder) }
     {
         outer_exclusive_binder > self.outer_index
     }
 
-    // What these flags and this outer exclusive binder tell of the regions in a term.
+    // Decides by these flags and this outer exclusive binder whether a term holds such a region.
     fn look(
         self,
         flags: TypeFlags,
@@ -159,7 +160,7 @@ impl TypeVisitor for MeetsRegionsVisitor {
     }
 }
 
-// Goes over a value, and into each term that holds a bound region, only to learn that the index of each is in range.
+// Visits a value, and each term in it that holds a bound region, only to show that the regions' indices are in range.
 #[derive(Clone, Copy, Debug)]
 struct RegionsInRangeVisitor;
 
@@ -219,8 +220,8 @@ impl TypeVisitor for RegionsInRangeVisitor {
     fn leave_binder(&mut self, _cx: &Interner, _vars: BoundVarKinds) {}
 }
 
-// What comes next at a term with these flags: the contents where a bound region occurs in them, and else what comes
-// after.
+// Returns what comes next at a term with these flags: its contents if a bound region occurs in it, and else the next
+// term.
 fn next_at(flags: TypeFlags) -> Next
     ensures { result ≡ Skip → Misses 0x40000 flags.bits }
 {
@@ -231,8 +232,8 @@ fn next_at(flags: TypeFlags) -> Next
     }
 }
 
-/// Returns whether each bound region in the value, however deep it is, has an index below the greatest. So the
-/// answer is always true; the contract gives callers the fact. Each term that holds a bound region is taken apart.
+/// Returns `true`: each bound region in the value, however deep it is, has an index below the greatest. The contract
+/// gives callers this fact. Each term that holds a bound region is taken apart.
 pub(crate) fn are_regions_in_range<T: TypeVisitable>(cx: &Interner, value: &T) -> bool
     requires { IsPart (size cx.now.rows) (T.shape value.now) }
     ensures holds { IsTrue result }

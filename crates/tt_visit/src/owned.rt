@@ -1,4 +1,4 @@
-//! The test that a value's handles are an interner's, which the calls on values ask for.
+//! The test that a value's handles are of an interner, which the calls on values require.
 
 ghost use Rattle.std.specs.Prelude.{◌↔◌, IsTrue};
 ghost use Rattle.tt_kinds.specs.Shape.{AreParts, IsPart, item_shapes};
@@ -12,9 +12,8 @@ use std::boxed::BoxedSlice;
 use std::hash::{BuildHasher, Hash};
 use std::rc::Rc;
 use tt_index::{
-    BoundVar, ClosureKind, ConstVid, DebruijnIndex, ExternAbi, FieldIdx, FloatTy, FloatVid, Idx,
-    IndexVec, IntTy, IntVid, Mutability, RegionVid, Safety, TyVid, UintTy, UniverseIndex, Variance,
-    VariantIdx,
+    ClosureKind, ExternAbi, FloatTy, Idx, Index, IndexVec, IntTy, Mutability, Safety, UintTy,
+    Variance,
 };
 use tt_interner::Interner;
 use tt_kinds::{
@@ -29,12 +28,12 @@ use tt_kinds::{
     TypeAndMut, Tys, UnevaluatedConst, UnsafeBinderInner, ValTree, ValTreeKind, ValueConst,
 };
 
-/// A value that can tell whether an interner made its handles.
+/// A value that can test whether its handles are of an interner.
 pub trait Owned: TypeVisitable {
-    /// Returns whether each handle and each name in the value is one of this interner's, as the calls on values ask for.
+    /// Returns whether each handle and each name in the value is of this interner, as the calls on values require.
     ///
-    /// A handle is a number, so that handles of another interner aren't told apart where this one has as many terms. A
-    /// handle that was this interner's stays so, whatever is built later.
+    /// A handle is a number, so a handle of another interner passes the test if this one has a row of that number. A
+    /// handle of this interner stays one, whatever is built later.
     fn is_owned(&self, cx: &Interner) -> bool
         ensures { IsTrue result ↔ IsPart (size cx.now.rows) (Self.shape self.now) };
 }
@@ -49,7 +48,7 @@ pub fn are_owned<T: Owned>(cx: &Interner, values: &[T]) -> bool
     }
 }
 
-// Whether the children of a kind are this interner's.
+// Returns whether the children of a kind are this interner's.
 fn are_parts_owned(cx: &Interner, parts: &Parts) -> bool
     ensures { IsTrue result ↔ AreParts (size cx.now.rows) (parts_shapes parts.now) }
 {
@@ -58,91 +57,91 @@ fn are_parts_owned(cx: &Interner, parts: &Parts) -> bool
 
 impl Owned for Ty {
     fn is_owned(&self, cx: &Interner) -> bool {
-        cx.owns_ty(*self)
+        cx.owns(*self)
     }
 }
 
 impl Owned for Const {
     fn is_owned(&self, cx: &Interner) -> bool {
-        cx.owns_const(*self)
+        cx.owns(*self)
     }
 }
 
 impl Owned for Predicate {
     fn is_owned(&self, cx: &Interner) -> bool {
-        cx.owns_predicate(*self)
+        cx.owns(*self)
     }
 }
 
 impl Owned for Clauses {
     fn is_owned(&self, cx: &Interner) -> bool {
-        cx.owns_clauses(*self)
+        cx.owns(*self)
     }
 }
 
 impl Owned for Pat {
     fn is_owned(&self, cx: &Interner) -> bool {
-        cx.owns_pat(*self)
+        cx.owns(*self)
     }
 }
 
 impl Owned for PolyExistentialPredicate {
     fn is_owned(&self, cx: &Interner) -> bool {
-        cx.owns_existential(*self)
+        cx.owns(*self)
     }
 }
 
 impl Owned for Tys {
     fn is_owned(&self, cx: &Interner) -> bool {
-        cx.owns_tys(*self)
+        cx.owns(*self)
     }
 }
 
 impl Owned for Consts {
     fn is_owned(&self, cx: &Interner) -> bool {
-        cx.owns_consts(*self)
+        cx.owns(*self)
     }
 }
 
 impl Owned for GenericArgs {
     fn is_owned(&self, cx: &Interner) -> bool {
-        cx.owns_args(*self)
+        cx.owns(*self)
     }
 }
 
 impl Owned for PatList {
     fn is_owned(&self, cx: &Interner) -> bool {
-        cx.owns_pat_list(*self)
+        cx.owns(*self)
     }
 }
 
 impl Owned for BoundExistentialPredicates {
     fn is_owned(&self, cx: &Interner) -> bool {
-        cx.owns_existentials(*self)
+        cx.owns(*self)
     }
 }
 
 impl Owned for RegionAssumptions {
     fn is_owned(&self, cx: &Interner) -> bool {
-        cx.owns_assumptions(*self)
+        cx.owns(*self)
     }
 }
 
 impl Owned for FnInputTys {
     fn is_owned(&self, cx: &Interner) -> bool {
-        cx.owns_tys(self.inputs_and_output())
+        cx.owns(self.inputs_and_output())
     }
 }
 
 impl Owned for GenericArgsSlice {
     fn is_owned(&self, cx: &Interner) -> bool {
-        cx.owns_args(self.args())
+        cx.owns(self.args())
     }
 }
 
 impl Owned for Clause {
     fn is_owned(&self, cx: &Interner) -> bool {
-        cx.owns_predicate(Predicate::from_number(self.number()))
+        cx.owns(Predicate::from_number(self.number()))
     }
 }
 
@@ -232,7 +231,7 @@ impl Owned for ValTree {
 
 impl<T: Owned> Owned for Binder<T> {
     fn is_owned(&self, cx: &Interner) -> bool {
-        cx.owns_bound_vars(self.bound_vars()) && self.as_ref().skip_binder().is_owned(cx)
+        cx.owns(self.bound_vars()) && self.as_ref().skip_binder().is_owned(cx)
     }
 }
 
@@ -389,7 +388,7 @@ impl<A: Owned> Owned for OutlivesPredicate<A> {
 impl Owned for ClauseKind {
     fn is_owned(&self, cx: &Interner) -> bool {
         match self {
-            ClauseKind::UnstableFeature(feature) => cx.owns_symbol(*feature),
+            ClauseKind::UnstableFeature(feature) => cx.owns(*feature),
             _ => are_parts_owned(cx, &self.parts()),
         }
     }
@@ -424,7 +423,7 @@ impl Owned for ExistentialProjection {
 
 impl Owned for UnsafeBinderInner {
     fn is_owned(&self, cx: &Interner) -> bool {
-        cx.owns_bound_vars(self.bound_vars()) && self.skip_binder().is_owned(cx)
+        cx.owns(self.bound_vars()) && self.skip_binder().is_owned(cx)
     }
 }
 
@@ -492,19 +491,7 @@ impl Owned for usize {
     }
 }
 
-impl Owned for DebruijnIndex {
-    fn is_owned(&self, _cx: &Interner) -> bool {
-        true
-    }
-}
-
-impl Owned for UniverseIndex {
-    fn is_owned(&self, _cx: &Interner) -> bool {
-        true
-    }
-}
-
-impl Owned for BoundVar {
+impl<S> Owned for Index<S> {
     fn is_owned(&self, _cx: &Interner) -> bool {
         true
     }
@@ -529,48 +516,6 @@ impl Owned for Safety {
 }
 
 impl Owned for Variance {
-    fn is_owned(&self, _cx: &Interner) -> bool {
-        true
-    }
-}
-
-impl Owned for FieldIdx {
-    fn is_owned(&self, _cx: &Interner) -> bool {
-        true
-    }
-}
-
-impl Owned for VariantIdx {
-    fn is_owned(&self, _cx: &Interner) -> bool {
-        true
-    }
-}
-
-impl Owned for RegionVid {
-    fn is_owned(&self, _cx: &Interner) -> bool {
-        true
-    }
-}
-
-impl Owned for TyVid {
-    fn is_owned(&self, _cx: &Interner) -> bool {
-        true
-    }
-}
-
-impl Owned for IntVid {
-    fn is_owned(&self, _cx: &Interner) -> bool {
-        true
-    }
-}
-
-impl Owned for FloatVid {
-    fn is_owned(&self, _cx: &Interner) -> bool {
-        true
-    }
-}
-
-impl Owned for ConstVid {
     fn is_owned(&self, _cx: &Interner) -> bool {
         true
     }

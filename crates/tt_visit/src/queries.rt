@@ -1,4 +1,4 @@
-//! Questions that are asked of every value that a visitor can go over.
+//! Queries of every value that a visitor can visit.
 
 ghost use Rattle.std.specs.Prelude.{
   [],
@@ -39,9 +39,9 @@ use tt_index::DebruijnIndex;
 use tt_interner::Interner;
 use tt_kinds::ErrorGuaranteed;
 
-/// What can be asked of any value that a visitor can go over.
+/// Queries of any value that a visitor can visit.
 ///
-/// Each answer comes from what is kept beside the terms of the value: no type, constant, predicate or list of clauses
+/// Each result comes from the cached information of the value's terms: no type, constant, predicate or list of clauses
 /// is taken apart. The value's handles have to be of this interner.
 pub trait TypeVisitableExt: TypeVisitable {
     /// Returns whether a flag of the mask is set anywhere in the value.
@@ -65,7 +65,7 @@ pub trait TypeVisitableExt: TypeVisitable {
     }
 
     /// Returns whether an alias occurs in the value, of a type or a constant: a projection, an inherent, an opaque or a
-    /// free one. What an alias would normalize to isn't looked at.
+    /// free alias. The term that an alias would normalize to isn't looked at.
     final fn has_aliases(&self, cx: &Interner) -> bool
         requires { IsPart (size cx.now.rows) (Self.shape self.now) }
         ensures { IsTrue result ↔ Meets 0x7C00 (scan (fill (meaning cx.now.rows) (Self.shape self.now))) }
@@ -113,7 +113,7 @@ pub trait TypeVisitableExt: TypeVisitable {
         self.has_type_flags(cx, TypeFlags::from_bits_retain(0x5))
     }
 
-    /// Returns whether an inference variable for a region occurs in the value.
+    /// Returns whether a region inference variable occurs in the value.
     final fn has_infer_regions(&self, cx: &Interner) -> bool
         requires { IsPart (size cx.now.rows) (Self.shape self.now) }
         ensures { IsTrue result ↔ Meets 0x10 (scan (fill (meaning cx.now.rows) (Self.shape self.now))) }
@@ -121,7 +121,7 @@ pub trait TypeVisitableExt: TypeVisitable {
         self.has_type_flags(cx, TypeFlags::HAS_RE_INFER)
     }
 
-    /// Returns whether an inference variable for a type occurs in the value. Fresh types are none.
+    /// Returns whether a type inference variable occurs in the value. Fresh types don't count.
     final fn has_infer_types(&self, cx: &Interner) -> bool
         requires { IsPart (size cx.now.rows) (Self.shape self.now) }
         ensures { IsTrue result ↔ Meets 0x8 (scan (fill (meaning cx.now.rows) (Self.shape self.now))) }
@@ -130,7 +130,7 @@ pub trait TypeVisitableExt: TypeVisitable {
     }
 
     /// Returns whether an inference variable for a type or a constant occurs in the value. Fresh types and constants
-    /// are none.
+    /// don't count.
     final fn has_non_region_infer(&self, cx: &Interner) -> bool
         requires { IsPart (size cx.now.rows) (Self.shape self.now) }
         ensures { IsTrue result ↔ Meets 0x28 (scan (fill (meaning cx.now.rows) (Self.shape self.now))) }
@@ -138,7 +138,7 @@ pub trait TypeVisitableExt: TypeVisitable {
         self.has_type_flags(cx, TypeFlags::from_bits_retain(0x28))
     }
 
-    /// Returns whether an inference variable occurs in the value. Fresh types and constants are none.
+    /// Returns whether an inference variable occurs in the value. Fresh types and constants don't count.
     final fn has_infer(&self, cx: &Interner) -> bool
         requires { IsPart (size cx.now.rows) (Self.shape self.now) }
         ensures { IsTrue result ↔ Meets 0x38 (scan (fill (meaning cx.now.rows) (Self.shape self.now))) }
@@ -195,12 +195,11 @@ pub trait TypeVisitableExt: TypeVisitable {
         self.has_free_regions(cx)
     }
 
-    /// Returns whether a region occurs in the value that the value doesn't bind itself and that is no variable of a
-    /// canonical query: one of those that a fold of regions asks its closure about. Erased regions, `'static` and those
-    /// of an error are among them.
+    /// Returns whether a region occurs in the value that the value doesn't bind itself and that is not a variable of a
+    /// canonical query: a region at which a fold of regions calls its closure. Erased regions, `'static` and regions of
+    /// errors are included.
     ///
-    /// A term is taken apart only where its regions are all bound, and some variable in it is bound outside of the
-    /// value.
+    /// A term is taken apart only if its regions are all bound, and some variable in it is bound outside of the value.
     final fn meets_regions(&self, cx: &Interner) -> bool
         requires { IsPart (size cx.now.rows) (Self.shape self.now) }
         ensures { IsTrue result ↔ (met 0 (fill (meaning cx.now.rows) (Self.shape self.now)) ≢ []) }
@@ -208,7 +207,7 @@ pub trait TypeVisitableExt: TypeVisitable {
         let mut visitor = MeetsRegionsVisitor::new();
         match self.visit_with(cx, &mut visitor) {
             ControlFlow::Break(_) => true,
-            // what was passed over holds bound regions of the value's own alone, since their indices are in range
+            // the bound regions in a skipped value are all bound in it, since their indices are in range
             ControlFlow::Continue(_) => {
                 let unbound = TypeFlags::HAS_FREE_REGIONS.union(TypeFlags::HAS_RE_ERASED);
                 visitor.has_skipped()
@@ -241,8 +240,8 @@ pub trait TypeVisitableExt: TypeVisitable {
         self.has_type_flags(cx, TypeFlags::HAS_BOUND_VARS)
     }
 
-    /// Returns whether replacing parameters, inference variables or placeholders for types and constants can still make
-    /// the value more special.
+    /// Returns whether replacing parameters, inference variables or placeholders for types and constants can still
+    /// specialize the value further.
     final fn still_further_specializable(&self, cx: &Interner) -> bool
         requires { IsPart (size cx.now.rows) (Self.shape self.now) }
         ensures { IsTrue result ↔ Meets 0x16D (scan (fill (meaning cx.now.rows) (Self.shape self.now))) }
@@ -250,8 +249,8 @@ pub trait TypeVisitableExt: TypeVisitable {
         self.has_type_flags(cx, TypeFlags::STILL_FURTHER_SPECIALIZABLE)
     }
 
-    /// Answers `Err` with the first token of an error that occurs in the value, of a type, a constant or a region,
-    /// and `Ok` where there is none. First is what a visit meets first: children come in order, from front to back.
+    /// Returns `Err` with the first token of an error that occurs in the value, of a type, a constant or a region, and
+    /// `Ok` if there is none. The order is the order of a visit: children come from front to back.
     final fn error_reported(&self, cx: &Interner) -> Result<(), ErrorGuaranteed>
         requires { IsPart (size cx.now.rows) (Self.shape self.now) }
         ensures ok { IfOk result (λ _. Misses 0x18000 (scan (fill (meaning cx.now.rows) (Self.shape self.now)))) }
@@ -266,8 +265,8 @@ pub trait TypeVisitableExt: TypeVisitable {
         }
     }
 
-    /// Answers the same as `error_reported` where the token of an error of a type or a constant occurs in the value,
-    /// and `Ok` where there is none. So the answered token is a region's where that comes first.
+    /// Returns the same as `error_reported` if the token of an error of a type or a constant occurs in the value, and
+    /// `Ok` otherwise. So the returned token is a region's if that comes first.
     final fn non_region_error_reported(&self, cx: &Interner) -> Result<(), ErrorGuaranteed>
         requires { IsPart (size cx.now.rows) (Self.shape self.now) }
         ensures ok { IfOk result (λ _. Misses 0x8000 (scan (fill (meaning cx.now.rows) (Self.shape self.now)))) }
@@ -311,8 +310,8 @@ pub trait TypeVisitableExt: TypeVisitable {
         }
     }
 
-    /// Returns whether a variable occurs in the value that is bound further out than by the binder of this index. At
-    /// the greatest index it is none.
+    /// Returns whether a variable occurs in the value that is bound further out than by the binder of this index. It is
+    /// `false` for the greatest index.
     final fn has_vars_bound_above(&self, cx: &Interner, binder: DebruijnIndex) -> bool
         requires { IsPart (size cx.now.rows) (Self.shape self.now) }
         ensures { IsTrue result ↔ (binder + 1 < outer_binder (fill (meaning cx.now.rows) (Self.shape self.now))) }
@@ -324,8 +323,8 @@ pub trait TypeVisitableExt: TypeVisitable {
         }
     }
 
-    /// Returns every variable of a value that is bound outside of it has an index below the greatest. So the answer is
-    /// always true; the contract gives callers the fact.
+    /// Returns `true`: every variable of a value that is bound outside of it has an index below the greatest. The
+    /// contract gives callers this fact.
     final fn has_vars_in_range(&self, cx: &Interner) -> bool
         requires { IsPart (size cx.now.rows) (Self.shape self.now) }
         ensures holds { IsTrue result }

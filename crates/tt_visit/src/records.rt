@@ -1,4 +1,4 @@
-//! The visit of records: values without a row of their own that hold handles.
+//! The visits of records: values that hold handles and have no row of their own.
 
 ghost use Rattle.std.specs.ControlFlow.{MatchControlFlow};
 ghost use Rattle.tt_kinds.specs.Shape.{IsPart, Shape, fill};

@@ -15,21 +15,21 @@ use std::ops::ControlFlow;
 use tt_interner::Interner;
 use tt_kinds::{BoundVarKinds, Clauses, Const, ErrorGuaranteed, Predicate, Region, Ty};
 
-/// A visitor that looks at types alone: regions and tokens of errors are passed, and each other term and each binder is
-/// entered, so that one method says it all.
+/// A visitor that looks at types alone: it ignores regions and tokens of errors, and enters each other term and each
+/// binder, so one method is enough.
 ///
-/// It is a [`TypeVisitor`], and [`inspect_types`] goes over a value by it. A visitor that has to know the binders
-/// around a type implements [`TypeVisitor`] itself.
+/// It is a [`TypeVisitor`], and [`inspect_types`] visits a value with it. A visitor that has to know the binders around
+/// a type implements [`TypeVisitor`] itself.
 pub trait TypeInspector {
-    /// What the visit ends with when it ends early.
+    /// The value that a visit returns when it breaks.
     type Break;
 
-    // The handles in a state; an inspector that holds none doesn't say.
+    // The handles in a state; an inspector that holds none keeps the default.
     ghost shape: { Self → Shape } = { λ s. no_handles };
-    // The same of what the visit ends with.
+    // The handles in a break value.
     ghost break_shape: { Self.Break → Shape } = { λ b. no_handles };
 
-    // What the hook does, by the trees of the handles; where nothing is to be proved of it, it isn't said.
+    // The relation that the hook keeps to, on the trees of the handles; the default promises nothing.
     ghost hooks: { TypeVisits (Tree Depth) Self.Break } = { no_promise };
 
     /// Called at each type, before its contents.
@@ -98,8 +98,8 @@ impl<F: TypeInspector> TypeVisitor for F {
     fn leave_binder(&mut self, _cx: &Interner, _vars: BoundVarKinds) {}
 }
 
-/// Returns the visit of a value by an inspector, which is told of its types in order, each before its contents, until
-/// it breaks.
+/// Visits a value with an inspector, which is called at the value's types in order, each before its contents, until it
+/// breaks.
 pub fn inspect_types<T: TypeVisitable, F: TypeInspector>(
     cx: &Interner,
     value: &T,

@@ -1,4 +1,4 @@
-//! The visits of views, and their items, which are lent as slices.
+//! The visits of views, and their items as slices.
 
 ghost use Rattle.std.specs.Prelude.{◌≡◌, ◌-◌, List, drop, length, take};
 ghost use Rattle.tt_kinds.specs.Shape.{AreParts, item_shapes};
@@ -10,12 +10,12 @@ use std::ops::ControlFlow;
 use tt_interner::{InternedList, Interner};
 use tt_kinds::{FnInputTys, GenericArg, GenericArgsSlice, Ty};
 
-/// A view: some items in a row of a stored list.
+/// A view: a slice of a stored list.
 ///
-/// A view can be visited as its slice can, and has the slice's tree. Where it reaches beyond its list, what is there of it
-/// is visited, and [`InternedView::as_slice`] can't be asked.
+/// A view can be visited as its slice can, and has the slice's tree. If it reaches beyond its list, the items that are
+/// there are visited, and [`InternedView::as_slice`] can't be called.
 pub trait InternedView: Sized {
-    /// What the list holds.
+    /// The type of the list's items.
     type Item: TypeVisitable;
 
     // The view lies in a list of the rows.
@@ -23,7 +23,7 @@ pub trait InternedView: Sized {
     // These are the view's items.
     ghost holds: { List Row → Self → List Self.Item → Type 0 };
 
-    /// Returns the items in order, in the interner's memory.
+    /// Returns the items in order, borrowed from the interner.
     fn as_slice<'a>(self, cx: &'a Interner) -> &'a [Self::Item]
         requires { lies_in cx.now.rows self }
         ensures items { holds cx.now.rows self result.now }
@@ -99,7 +99,7 @@ impl TypeVisitable for GenericArgsSlice {
     }
 }
 
-// The items without the last. Where there is none, there is no last one either.
+// Returns the items without the last, and no items if there are none.
 fn all_but_last<T>(items: &[T]) -> &[T]
     ensures { result.now ≡ take (length items.now - 1) items.now }
 {
@@ -107,7 +107,7 @@ fn all_but_last<T>(items: &[T]) -> &[T]
     &items[..end]
 }
 
-// So many items from this place on, or those of them that are there.
+// Returns `len` items from this place on, or as many as are there.
 fn span<T>(items: &[T], start: usize, len: usize) -> &[T]
     ensures { result.now ≡ take len (drop start items.now) }
 {

@@ -1,4 +1,4 @@
-//! Values that a visitor can go over.
+//! Values that a visitor can visit.
 
 ghost use Rattle.tt_kinds.specs.Shape.{AreParts, IsPart, Shape, fill, fill_all, item_shapes};
 ghost use Rattle.tt_interner.specs.Rows.{meaning, size};
@@ -10,13 +10,13 @@ use std::ops::ControlFlow;
 use tt_interner::Interner;
 use tt_kinds::Binder;
 
-/// A value that has a tree, and that a visitor can go over.
+/// A value that has a tree, and that a visitor can visit.
 pub trait TypeVisitable {
-    // What the value holds.
+    // The contents of the value.
     ghost shape: { Self → Shape };
 
-    /// Returns the visit of the value: the visitor is told of its regions, terms and binders in order, until a hook
-    /// breaks. The value's handles have to be of this interner.
+    /// Visits the value: the visitor is called at its regions, terms and binders in order, until a hook breaks. The
+    /// value's handles have to be of this interner.
     fn visit_with<V: TypeVisitor>(
         &self,
         cx: &Interner,
@@ -32,7 +32,7 @@ pub trait TypeVisitable {
 
 /// A value that has a hook of its own.
 pub trait TypeSuperVisitable: TypeVisitable {
-    /// Returns the visit of the value's contents, without its own hook.
+    /// Visits the value's contents, without its own hook.
     fn super_visit_with<V: TypeVisitor>(
         &self,
         cx: &Interner,
@@ -186,7 +186,7 @@ impl<T: TypeVisitable> TypeVisitable for &[T] {
     }
 }
 
-// The visit of values in order.
+// Visits values in order.
 pub(crate) fn visit_values<T: TypeVisitable, V: TypeVisitor>(
     cx: &Interner,
     visitor: &mut V,

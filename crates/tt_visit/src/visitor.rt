@@ -12,43 +12,43 @@ use std::ops::ControlFlow;
 use tt_interner::Interner;
 use tt_kinds::{BoundVarKinds, Clauses, Const, ErrorGuaranteed, Predicate, Region, Ty};
 
-/// What a hook answers before the contents of a term or a binder.
+/// The answer of a hook before the contents of a term or a binder.
 #[derive(Clone, Copy, Debug, PartialEq, Eq)]
 pub enum Next {
-    /// The visit goes on after it.
+    /// The visit skips the contents.
     Skip,
-    /// The visit goes over the contents.
+    /// The visit enters the contents.
     Descend,
 }
 
 /// A visitor, which is called at each region, type, constant, predicate, list of clauses and binder of a value, in
 /// order, from the outside in.
 ///
-/// Patterns, existential predicates, other lists and records have no hook: the visit goes over their contents. A
-/// hook that answers `Break` ends the visit with that value.
+/// Patterns, existential predicates, other lists and records have no hook: the visit enters them. A hook that returns
+/// `Break` ends the visit with that value.
 ///
-/// A visitor may hold handles, and break with one: it says so by `owned` and `break_owned`, which then hold again after
-/// each hook and each visit, also after a break.
+/// A visitor may hold handles, and break with one: `owned` and `break_owned` say so, and they hold again after each
+/// hook and each visit, even after a break.
 pub trait TypeVisitor {
-    /// What the visit ends with when it ends early.
+    /// The value that a visit returns when it breaks.
     type Break;
 
-    // What a state means, with the handles in it as their trees.
+    // The meaning of a state, with the trees of its handles.
     ghost Meaning: { Type 0 };
 
     ghost meaning: { List Row → Self → Self.Meaning };
-    // Each handle of the state names one of the rows; a visitor that holds none doesn't say.
+    // Each handle of the state names one of the rows; a visitor that holds none keeps the default.
     ghost owned: { List Row → Self → Type 0 } = { λ rows s. ⊤ };
-    // The same of what the visit ends with.
+    // Each handle of a break value names one of the rows.
     ghost break_owned: { List Row → Self.Break → Type 0 } = { λ rows b. ⊤ };
 
-    // What the hooks do.
+    // The relations that the hooks keep to.
     ghost hooks: { Visits Self.Meaning Self.Break };
 
     /// Called at each region.
     ///
-    /// [`TypeVisitor::visit_error`] isn't called for an error token in the region: a visitor that asks for errors
-    /// does so here.
+    /// [`TypeVisitor::visit_error`] isn't called for an error token in the region: a visitor that looks for errors
+    /// tests the region here.
     fn visit_region(&mut self, cx: &Interner, region: Region) -> ControlFlow<Self::Break, ()>
         requires owned { owned cx.now.rows self.old }
         requires region { IsPart (size cx.now.rows) (region_shape region) }
@@ -57,7 +57,7 @@ pub trait TypeVisitor {
         ensures result { Ends meaning hooks.on_region hooks.region_breaks
             cx.now.rows self.old (fill (meaning_of cx.now.rows) (region_shape region)) result self.new };
 
-    /// Called at the error token of a type or a constant, after the hook of that term answered `Descend`, and at a
+    /// Called at the error token of a type or a constant, after the hook of that term returned `Descend`, and at a
     /// token in a kind that isn't stored, or by itself.
     fn visit_error(&mut self, cx: &Interner, error: ErrorGuaranteed) -> ControlFlow<Self::Break, ()>
         requires owned { owned cx.now.rows self.old }
@@ -114,8 +114,8 @@ pub trait TypeVisitor {
         ensures result { Answers meaning hooks.enter hooks.enter_breaks
             cx.now.rows self.old (vars_of (meaning_of cx.now.rows VarLists vars.number)) result self.new };
 
-    /// Follows the value of each binder to which [`TypeVisitor::visit_binder`] answered `Descend`, also after a break
-    /// inside.
+    /// Called after the value of each binder at which [`TypeVisitor::visit_binder`] returned `Descend`, even after a
+    /// break inside.
     fn leave_binder(&mut self, cx: &Interner, vars: BoundVarKinds)
         requires owned { owned cx.now.rows self.old }
         requires vars { vars.number < size cx.now.rows VarLists }

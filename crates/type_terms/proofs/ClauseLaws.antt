@@ -7,8 +7,8 @@ use Rattle.tt_kinds.specs.Label.{clause_list_label}
 use Rattle.tt_kinds.specs.Tree as tree
 use Rattle.tt_kinds.specs.Shape.{fill, stored}
 use Rattle.tt_kinds.specs.Kinds.{clause_shape, clauses_shape}
-use Rattle.tt_kinds.specs.declared.handle.Clause.{Clause}
-use Rattle.tt_kinds.specs.declared.handle.Clauses.{Clauses}
+use Rattle.tt_kinds.specs.Handle.{Clause}
+use Rattle.tt_kinds.specs.Handle.{Clauses}
 use Rattle.tt_kinds.specs.declared.table.Table.TheVariants.{Predicates}
 use Rattle.tt_interner.specs.Clauses.{is_clause_tree}
 use Rattle.tt_interner.specs.Rows.{Row, clauses_row, IsClause, AreClauses}

@@ -7,7 +7,7 @@ use Rattle.tt_kinds.specs.Declaration.{sort_of}
 use Rattle.tt_kinds.specs.declared.declaration.Declaration.{Declaration}
 use Rattle.tt_kinds.specs.declared.declaration.DeclarationKind.{DeclarationKind}
 use Rattle.tt_kinds.specs.declared.declaration.DeclarationSort.{DeclarationSort}
-use Rattle.tt_kinds.specs.declared.handle.Symbol.{Symbol}
+use Rattle.tt_kinds.specs.Handle.{Symbol}
 use Rattle.tt_kinds.specs.declared.id.DefId.{DefId}
 use Rattle.tt_kinds.specs.declared.table.Table.TheVariants.{Symbols, Declarations}
 use Rattle.tt_interner.specs.Rows.{Row, declared_row, text_row, size, meaning}

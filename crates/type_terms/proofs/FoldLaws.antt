@@ -14,8 +14,8 @@ use Rattle.tt_kinds.specs.Reading.{read, move, outer_binder}
 use Rattle.tt_fold.specs.Shift.{IsShiftRefusal}
 use Rattle.tt_kinds.specs.Shape.{stored}
 use Rattle.tt_kinds.specs.Kinds.{arg_shape}
-use Rattle.tt_kinds.specs.declared.handle.Ty.{Ty}
-use Rattle.tt_kinds.specs.declared.handle.Const.{Const}
+use Rattle.tt_kinds.specs.Handle.{Ty}
+use Rattle.tt_kinds.specs.Handle.{Const}
 use Rattle.tt_kinds.specs.declared.region_kind.RegionKind.{RegionKind}
 use Rattle.tt_kinds.specs.declared.generic_arg.GenericArgKind.{GenericArgKind}
 use Rattle.tt_kinds.specs.declared.generic_arg.GenericArgKind.TheVariants as kind

@@ -10,7 +10,7 @@ use Rattle.tt_kinds.specs.Shape.{Sizes, fill, name_of, vars_of, rename_kind, Are
 use Rattle.tt_kinds.specs.Kinds.{vars_row_shape}
 use Rattle.tt_kinds.specs.declared.bound.BoundRegionKind.{BoundRegionKind}
 use Rattle.tt_kinds.specs.declared.bound.BoundVariableKind.{BoundVariableKind}
-use Rattle.tt_kinds.specs.declared.handle.BoundVarKinds.{BoundVarKinds}
+use Rattle.tt_kinds.specs.Handle.{BoundVarKinds}
 use Rattle.tt_interner.specs.Rows.{vars_row, size, meaning}
 use Rattle.tt_interner.specs.Stored.{Terms, Extends, Builds}
 use Rattle.tt_interner.proofs.Growth.{HasParts-grows, row-grows}

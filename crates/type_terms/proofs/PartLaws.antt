@@ -18,7 +18,7 @@ use Rattle.tt_kinds.specs.declared.term.Term.{Term}
 use Rattle.tt_kinds.specs.declared.term.TermKind.{TermKind}
 use Rattle.tt_kinds.specs.declared.term.TermKind.TheVariants as term
 use Rattle.tt_kinds.specs.declared.region_kind.RegionKind.{RegionKind}
-use Rattle.tt_kinds.specs.declared.handle.BoundVarKinds.{BoundVarKinds}
+use Rattle.tt_kinds.specs.Handle.{BoundVarKinds}
 use Rattle.tt_interner.specs.Rows.{size, meaning}
 use Rattle.tt_interner.specs.Stored.{Terms, Extends}
 use Rattle.tt_interner.proofs.Growth.{IsPart-grows, AreParts-grows, fill-grows, fill_all-grows}

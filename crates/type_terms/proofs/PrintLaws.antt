@@ -9,7 +9,7 @@ use Rattle.tt_kinds.specs.Shape as shape
 use Rattle.tt_kinds.specs.Shape.{Meaning, Sizes, fill, fill_all, name_of, rename_label, rename_record, rename_free, rename_region, vars_of, IsNamed, IsNamedLabel, IsNamedRecord, HasParts, IsPart}
 use Rattle.tt_kinds.specs.Kinds.{Form, param, bound, plain, under, form_parts, form_shape, kind_form, kind_sort, kind_shape, relabelled, ty_form, const_form, value_form, pattern_form, predicate_form, existential_form, parts_shapes, region_shape, items_label, items_tree}
 use Rattle.tt_kinds.specs.Bound.{depth, region_name}
-use Rattle.tt_kinds.specs.declared.handle.Ty.{Ty}
+use Rattle.tt_kinds.specs.Handle.{Ty}
 use Rattle.tt_kinds.specs.declared.table.Table.TheVariants.{VarLists}
 use Rattle.tt_kinds.specs.declared.ty_kind.TyKind.{TyKind}
 use Rattle.tt_kinds.specs.declared.ty_kind.TyKind.TheVariants as ty

@@ -12,7 +12,7 @@ use Rattle.tt_kinds.specs.Tree.{Tree, Depth, node}
 use Rattle.tt_kinds.specs.Shape as shape
 use Rattle.tt_kinds.specs.Shape.{Shape, Shapes, fill, item_shapes, HasParts}
 use Rattle.tt_kinds.specs.Kinds.{existential_shape}
-use Rattle.tt_kinds.specs.declared.handle.PolyExistentialPredicate.{PolyExistentialPredicate}
+use Rattle.tt_kinds.specs.Handle.{PolyExistentialPredicate}
 use Rattle.tt_kinds.specs.declared.bound.BoundVariableKind.{BoundVariableKind}
 use Rattle.tt_kinds.specs.declared.table.Table.{Table}
 use Rattle.tt_kinds.specs.declared.table.Table.TheVariants.{ExistentialLists}

@@ -1,4 +1,4 @@
--- What the steps of a building call promise.
+-- The promises of the steps of a building call.
 use Rattle.std.specs.Prelude.{◌≡◌, ◌↔◌, ℕ, ◌<◌, List, [], ◌∷◌, ◌++◌, map, Result, IfOk, IfErr, OnOk, Some, IsSome, IsSomeAnd, ⊤}
 use Rattle.tt_index.specs.declared.refusal.Refusal.{Refusal}
 use Rattle.tt_index.specs.declared.refusal.Refusal.TheVariants.{Memory, TableFull, GreatestIndex, NoSuchAnswer}
@@ -10,11 +10,11 @@ use Rattle.tt_kinds.specs.Bound.{region_name, var_kind}
 use Rattle.tt_kinds.specs.Shape.{Shape, Shapes, name_of, rename_region, rename_kind, IsNamed, IsNamedKind, AreNamedKinds, fill, fill_all, item_shapes, IsPart, AreParts, HasParts}
 use Rattle.tt_kinds.specs.Shape as shape
 use Rattle.tt_kinds.specs.Kinds.{RecordForm, record_shape, region_shape, arg_shape, clause_shape}
-use Rattle.tt_kinds.specs.declared.handle.Clause.{Clause}
+use Rattle.tt_kinds.specs.Handle.{Clause}
 use Rattle.tt_kinds.specs.declared.region_kind.RegionKind.{RegionKind}
 use Rattle.tt_kinds.specs.declared.bound.BoundRegionKind.{BoundRegionKind}
 use Rattle.tt_kinds.specs.declared.bound.BoundVariableKind.{BoundVariableKind}
-use Rattle.tt_kinds.specs.declared.handle.BoundVarKinds.{BoundVarKinds}
+use Rattle.tt_kinds.specs.Handle.{BoundVarKinds}
 use Rattle.tt_kinds.specs.declared.declaration.DeclarationSort.{DeclarationSort}
 use Rattle.tt_kinds.specs.declared.table.Table.{Table}
 use Rattle.tt_kinds.specs.declared.table.Table.TheVariants.{VarLists}
@@ -41,7 +41,7 @@ pub record IsHandle (a : Answer) (table : Table) (number : ℕ) : Type 0 where
   pub owned : (rows : List Row) → IsOwned rows a → number < size rows table
   pub owns : (rows : List Row) → number < size rows table → IsOwned rows a
 
--- the answer is no handle of the table
+-- the answer is not a handle of the table
 abbrev pub IsOther : Answer → Table → Type 0
 IsOther a table = (rows : List Row) → IsSomeAnd (as_term (Some (told rows a))) (λ u. u.table ≡ table) → ⊥
 
@@ -53,11 +53,11 @@ IsIdAt earlier p s n = (rows : List Row) → id_at (told_all rows earlier) p ≡
 abbrev pub HasNoId : List Answer → ℕ → DeclarationSort → Type 0
 HasNoId earlier p s = (rows : List Row) → Tells (told_all rows earlier) (of_id s) p → ⊥
 
--- both answers are handles of one table
+-- both answers are handles of the same table
 abbrev pub AreAlike : Answer → Answer → Type 0
 AreAlike a b = IsSome (handle_table a) × (handle_table a ≡ handle_table b)
 
--- the answer is what is kept beside the tree's term
+-- the answer is the information of the tree's term
 abbrev pub IsInfoOf : Tree Depth → Answer → Type 0
 IsInfoOf t (answer.Info flags outer) = (flags.bits ≡ scan t) × (outer ≡ outer_binder t)
 IsInfoOf t _ = ⊥
@@ -68,20 +68,20 @@ pub record IsAnswerAt (earlier : List Answer) (position : ℕ) (a : Answer) : Ty
   pub is_id : (rows : List Row) → id_at (told_all rows earlier) position ≡ as_id (Some (told rows a))
   pub owned : (rows : List Row) → AreOwned rows earlier → IsOwned rows a
 
--- why a part of a term was not built: named are the positions that it names, and deep says that it needs the greatest index
+-- why a part of a term was not built: it names the positions in named, and deep says that it needs the greatest index
 pub data IsUnbuilt (full : Type 0) (earlier : List Told) (named : List Named) (deep : Type 0) (e : Refusal) : Type 0 where
   no_memory : e ≡ Memory → IsUnbuilt full earlier named deep e
   no_row : full → e ≡ TableFull → IsUnbuilt full earlier named deep e
   no_term : (AreTerms earlier named → ⊥) → e ≡ NoSuchAnswer → IsUnbuilt full earlier named deep e
   no_index : deep → e ≡ GreatestIndex → IsUnbuilt full earlier named deep e
 
--- what is named can't be used: a position tells nothing that is wanted there, or the greatest index is needed
+-- the positions can't be used: one of them doesn't tell what is wanted there, or the greatest index is needed
 abbrev pub IsUnusable : List Told → List Named → Type 0 → Refusal → Type 0
 IsUnusable earlier names deep NoSuchAnswer = AreTerms earlier names → ⊥
 IsUnusable earlier names deep GreatestIndex = deep
 IsUnusable earlier names deep _ = ⊥
 
--- what is named can be used: each position tells what is wanted there, and the greatest index isn't needed
+-- the positions can be used: each tells what is wanted there, and the greatest index isn't needed
 pub record IsUsable (earlier : List Told) (names : List Named) (deep : Type 0) : Type 0 where
   pub named : AreTerms earlier names
   pub shallow : deep → ⊥
@@ -91,7 +91,7 @@ pub record IsUnchangedAt (rows : List Row) (earlier : List Answer) (position : �
   pub at : IsAnswerAt earlier position a
   pub unchanged : IsSomeAnd (as_term (Some (told rows a))) IsUnchanged
 
--- a bound region is called so, where these are the numbers of the ids at positions
+-- k is the name that the call gives a bound region, if these are the numbers of the ids at positions
 pub record IsNameOf (terms : Terms) (ids : ℕ → ℕ) (call : RegionNameCall) (k : BoundRegionKind) : Type 0 where
   pub part : IsNamed (size terms.rows) (region_name k)
   pub means : rename_region (name_of (meaning terms.rows)) (region_name k) ≡ called ids call
@@ -149,26 +149,26 @@ pub record IsPlaced (terms : Terms) (earlier : List Told) (t : Tree Depth) (name
   pub named : AreTerms earlier names
   pub shallow : deep → ⊥
 
--- the same of shapes in order
+-- the same for shapes in order
 pub record ArePlaced (terms : Terms) (earlier : List Told) (ts : Forest Depth) (names : List Named) (deep : Type 0) (ss : Shapes) : Type 0 where
   pub parts : AreParts (size terms.rows) ss
   pub means : fill_all (meaning terms.rows) ss ≡ ts
   pub named : AreTerms earlier names
   pub shallow : deep → ⊥
 
--- the value is what the call puts in the item's place
+-- the value is the one that the call puts in the item's place
 abbrev pub IsItemOf : Terms → List Told → Item → Shape → Type 0
 IsItemOf terms earlier i s = IsPlaced terms earlier (item_tree (number_at earlier) (tree_at earlier) i) (item_positions i) (IsItemTooDeep i) s
 
--- the values are what the call puts in the items' places
+-- the values are the ones that the call puts in the items' places
 abbrev pub AreItemsOf : Terms → List Told → List Item → Shapes → Type 0
 AreItemsOf terms earlier is ss = ArePlaced terms earlier (items_trees (number_at earlier) (tree_at earlier) is) (items_positions is) (AreItemsTooDeep is) ss
 
--- the value is what the call puts in the child's place
+-- the value is the one that the call puts in the child's place
 abbrev pub IsPartOf : Terms → List Told → Part → Shape → Type 0
 IsPartOf terms earlier p s = IsPlaced terms earlier (part_tree (number_at earlier) (tree_at earlier) p) (part_positions p) (IsPartTooDeep p) s
 
--- the values are what the call puts in the children's places
+-- the values are the ones that the call puts in the children's places
 abbrev pub ArePartsOf : Terms → List Told → List Part → Shapes → Type 0
 ArePartsOf terms earlier ps ss = ArePlaced terms earlier (parts_trees (number_at earlier) (tree_at earlier) ps) (parts_positions ps) (ArePartsTooDeep ps) ss
 
@@ -177,12 +177,12 @@ pub record GivesPlaced {H : Type 0} (terms : Terms) (earlier : List Told) (t : T
   pub ok : IfOk result (λ h. IsPlaced terms earlier t names deep (shape h))
   pub err : IfErr result (IsUnbuilt (HasFullTable terms) earlier names deep)
 
--- the result is what the call puts in the child's place, or a refusal with a reason
+-- the result is the value that the call puts in the child's place, or a refusal with a reason
 pub record GivesPart {H : Type 0} (terms : Terms) (earlier : List Told) (p : Part) (shape : H → Shape) (result : Result H Refusal) : Type 0 where
   pub ok : IfOk result (λ h. IsPartOf terms earlier p (shape h))
   pub err : IfErr result (IsUnbuilt (HasFullTable terms) earlier (part_positions p) (IsPartTooDeep p))
 
--- the result is what the call puts in the items' places, or a refusal with a reason
+-- the result is the value that the call puts in the items' places, or a refusal with a reason
 pub record GivesItems {H : Type 0} (terms : Terms) (earlier : List Told) (is : List Item) (shape : H → Shape) (result : Result (Vec H Global) Refusal) : Type 0 where
   pub ok : IfOk result (λ hs. AreItemsOf terms earlier is (item_shapes shape hs.items))
   pub err : IfErr result (IsUnbuilt (HasFullTable terms) earlier (items_positions is) (AreItemsTooDeep is))
@@ -197,7 +197,7 @@ abbrev pub PutsItems : {H R : Type 0} → Terms → List Told → List Item → 
 PutsItems terms earlier is shape values result =
     PutsPlaced terms earlier (items_trees (number_at earlier) (tree_at earlier) is) (items_positions is) (AreItemsTooDeep is) (item_shapes shape values) result
 
--- the result is what the call puts in the children's places, or a refusal with a reason
+-- the result is the value that the call puts in the children's places, or a refusal with a reason
 pub record GivesParts {H : Type 0} (terms : Terms) (earlier : List Told) (ps : List Part) (shapes : H → Shapes) (result : Result H Refusal) : Type 0 where
   pub ok : IfOk result (λ h. ArePartsOf terms earlier ps (shapes h))
   pub err : IfErr result (IsUnbuilt (HasFullTable terms) earlier (parts_positions ps) (ArePartsTooDeep ps))
@@ -214,7 +214,7 @@ pub record GivesKind {K : Type 0} (terms : Terms) (earlier : List Told) (form : 
   pub ok : IfOk result (λ k. IsKindOf terms earlier form (shape k))
   pub err : IfErr result (IsUnbuilt (HasFullTable terms) earlier (form_positions form) (IsFormTooDeep form))
 
--- the result is what is under the predicate's binder, or a refusal with a reason
+-- the result is the record under the predicate's binder, or a refusal with a reason
 pub record GivesRecord {K : Type 0} (terms : Terms) (earlier : List Told) (r : RecordCall) (form : K → RecordForm) (result : Result K Refusal) : Type 0 where
   pub ok : IfOk result (λ k. IsPlaced terms earlier (record_tree (number_at earlier) (tree_at earlier) r) (parts_positions r.parts) (ArePartsTooDeep r.parts) (record_shape (form k)))
   pub err : IfErr result (IsUnbuilt (HasFullTable terms) earlier (parts_positions r.parts) (ArePartsTooDeep r.parts))
@@ -244,7 +244,7 @@ pub record GivesArguments (terms : Terms) (earlier : List Told) (calls : List Ar
   pub ok : IfOk result (λ args. AreArgumentsOf terms earlier calls args.items)
   pub err : IfErr result (IsUnbuilt (HasFullTable terms) earlier (items_positions (arg_items calls)) (AreItemsTooDeep (arg_items calls)))
 
--- the result may be the call's answer, as the terms grow from the old ones to the new ones
+-- the result may be the call's answer, if the terms grow from the old ones to the new ones
 pub record Answers (old new : Terms) (earlier : List Told) (call : Call) (result : Result Answer Refusal) : Type 0 where
   pub owned : IfOk result (IsOwned new.rows)
   pub ok : IfOk result (λ a. IsAllowed (setting old new) earlier call (told new.rows a))

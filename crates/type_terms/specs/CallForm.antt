@@ -52,22 +52,23 @@ use Rattle.tt_kinds.specs.declared.declaration.DeclarationSort.{DeclarationSort}
 use Rattle.tt_kinds.specs.declared.declaration.DeclarationSort.TheVariants as sort
 use Rattle.type_terms.specs.declared.run.call.TyCall.{TyCall}
 use Rattle.type_terms.specs.declared.run.call.TyCall.TheVariants as ty
+use Rattle.tt_kinds.specs.Id.{id_of}
 
--- what a call asks of what is told at a position
+-- what a call wants at a position
 pub data Want : Type 0 where
-  -- it is of the table
+  -- a term of the table
   of_table : Table → Want
-  -- it is a predicate that is a clause
+  -- a predicate that is a clause
   of_clause : Want
-  -- it is of the table of the term at another position
+  -- a term of the same table as the term at another position
   as_at : ℕ → Want
-  -- it is of any table
+  -- a term of any table
   of_any : Want
-  -- it has flags: it is no list of arguments
+  -- a term with flags: not a list of arguments
   with_flags : Want
-  -- it is no term but the id of a declaration of this sort
+  -- the id of a declaration of this sort
   of_id : DeclarationSort → Want
-  -- it is the id of a declaration of any sort
+  -- the id of a declaration of any sort
   of_any_id : Want
 
 -- a position that a call names
@@ -75,7 +76,7 @@ pub record Named : Type 0 where
   pub want : Want
   pub position : ℕ
 
--- what a call puts in the place of a child that is no list, or in a list
+-- what a call puts in the place of a child that is not a list, or in a list
 pub data Item : Type 0 where
   a_region : RegionCall → Item
   -- the term of the table at the position
@@ -89,7 +90,7 @@ pub data Part : Type 0 where
   -- a list of the table
   a_list : Table → List Item → Part
 
--- what is under a predicate's binder: its label and its children
+-- the record under a predicate's binder: its label and its children
 pub record RecordCall : Type 0 where
   pub label : RecordLabel Name
   pub parts : List Part
@@ -98,7 +99,7 @@ pub record RecordCall : Type 0 where
 abbrev pub labelled : RecordLabel Name → List Part → RecordCall
 labelled l ps = record { label = l; parts = ps }
 
--- an existential predicate: the variables of its binder, and what is under it
+-- an existential predicate: the variables of its binder, and the record under it
 pub record ExistentialForm : Type 0 where
   pub vars : List (VarKind Name)
   pub under : RecordCall
@@ -131,7 +132,7 @@ pub data CallForm : Type 0 where
   -- a trait object: its existential predicates, and its region
   trait_object : List ExistentialForm → RegionCall → CallForm
 
--- what a bound constant says of itself
+-- a bound constant's entry
 abbrev pub const_entry : BoundConst → Entry Name
 const_entry b = record { var = b.var; kind = const_variable }
 
@@ -151,7 +152,7 @@ pat_form (pat.Range start end) = plain (pattern_label range_pattern) (one (a_ter
 pat_form (pat.Or ps) = plain (pattern_label or_pattern) (a_list PatternLists (terms_at Patterns ps.items) ∷ [])
 pat_form pat.NotNull = plain (pattern_label not_null_pattern) []
 
--- the text that a bound region is called, if it is called by one
+-- the text of a bound region's name, if there is one
 abbrev pub name_text : RegionNameCall → Option Name
 name_text (region_name.NamedForPrinting text) = Some (string_bytes text)
 name_text _ = None
@@ -164,21 +165,21 @@ region_text (ReLateParam p name) = name_text name
 region_text (RePlaceholder u var name) = name_text name
 region_text _ = None
 
--- the text that a variable is called by, if it is called by one
+-- the text of a variable's name, if there is one
 abbrev pub variable_text : VariableCall → Option Name
 variable_text (variable.Region name) = name_text name
 variable_text _ = None
 
 -- the number of the id at each position
 module _ (ids : ℕ → ℕ) where
-  -- what a bound region is called
+  -- the name of a bound region
   abbrev pub called : RegionNameCall → RegionName Name
   called region_name.Anon = anonymous
   called (region_name.NamedForPrinting text) = printed (string_bytes text)
   called (region_name.Named p) = named (ids p)
   called region_name.ClosureEnv = environment
 
-  -- what a bound type is called
+  -- the name of a bound type
   abbrev pub ty_called : BoundTyKindCall → BoundTyKind
   ty_called ty_name.Anon = bound_ty_kind.Anon
   ty_called (ty_name.Param p) = bound_ty_kind.Param (record { number = ids p })
@@ -189,11 +190,11 @@ module _ (ids : ℕ → ℕ) where
   variable_kind (variable.Region k) = region_variable (called k)
   variable_kind variable.Const = const_variable
 
-  -- what a bound region says of itself
+  -- a bound region's entry
   abbrev pub region_entry : ℕ → RegionNameCall → Entry Name
   region_entry var name = record { var = var; kind = region_variable (called name) }
 
-  -- what a bound type says of itself
+  -- a bound type's entry
   abbrev pub ty_entry : ℕ → BoundTyKindCall → Entry Name
   ty_entry var name = record { var = var; kind = type_variable (ty_called name) }
 
@@ -208,14 +209,14 @@ module _ (ids : ℕ → ℕ) where
   region_tree ReErased = tree.region erased_region
   region_tree (ReError e) = tree.region (error_region e.0)
 
-  -- what an alias is
+  -- the kind of an alias
   abbrev pub alias_of : AliasCall → AliasTyKind
-  alias_of (alias.Projection p) = alias_kind.Projection (record { number = ids p })
-  alias_of (alias.Inherent p) = alias_kind.Inherent (record { number = ids p })
-  alias_of (alias.Opaque p) = alias_kind.Opaque (record { number = ids p })
-  alias_of (alias.Free p) = alias_kind.Free (record { number = ids p })
+  alias_of (alias.Projection p) = alias_kind.Projection (id_of (ids p))
+  alias_of (alias.Inherent p) = alias_kind.Inherent (id_of (ids p))
+  alias_of (alias.Opaque p) = alias_kind.Opaque (id_of (ids p))
+  alias_of (alias.Free p) = alias_kind.Free (id_of (ids p))
 
-  -- what a type with arguments is of
+  -- the item of a type with arguments
   abbrev pub item_type : ItemCall → TypeLabel
   item_type (item.Adt p) = adt_type (ids p)
   item_type (item.Closure p) = closure_type (ids p)
@@ -337,7 +338,7 @@ ArePartsTooDeep (p ∷ ps) = IsPartTooDeep p ⊎ ArePartsTooDeep ps
 abbrev pub IsExistentialTooDeep : ExistentialForm → Type 0
 IsExistentialTooDeep x = ArePartsTooDeep x.under.parts
 
--- what is built is bound by the binder of the greatest index, or such a region is among the children
+-- the term is bound by the binder of the greatest index, or such a region is among the children
 abbrev pub IsFormTooDeep : CallForm → Type 0
 IsFormTooDeep (param s i name) = ⊥
 IsFormTooDeep (bound s d e) = IsGreatest d
@@ -345,25 +346,25 @@ IsFormTooDeep (plain l ps) = ArePartsTooDeep ps
 IsFormTooDeep (under l vs m ps) = ArePartsTooDeep ps
 IsFormTooDeep (trait_object xs r) = AnyIsDeep IsExistentialTooDeep xs ⊎ IsRegionTooDeep r
 
--- the child is no list of more items than are collected without memory
+-- the child is short: not a list of more items than are collected without allocation
 abbrev pub IsShort : Part → Type 0
 IsShort (one i) = ⊤
 IsShort (a_list t is) = length is ≤ most_in_place
 
--- none of the children is
+-- each of the children is short
 abbrev pub AreShort : List Part → Type 0
 AreShort [] = ⊤
 AreShort (p ∷ ps) = IsShort p × AreShort ps
 
--- no list in the existential predicate has more items than are collected without memory, nor has the list of its variables
+-- no list in the existential predicate, nor its list of variables, has more items than are collected without allocation
 abbrev pub IsShortExistential : ExistentialForm → Type 0
 IsShortExistential x = (length x.vars ≤ most_in_place) × AreShort x.under.parts
 
--- the same of existential predicates, and of the list of them
+-- the same for existential predicates, and for the list of them
 abbrev pub AreShortExistentials : List ExistentialForm → Type 0
 AreShortExistentials xs = (length xs ≤ most_in_place) × All IsShortExistential xs
 
--- no list of what is built has more items than are collected without memory, nor has a list of variables
+-- no list of the term has more items than are collected without allocation, nor has a list of variables
 abbrev pub IsOfShortLists : CallForm → Type 0
 IsOfShortLists (param s i name) = ⊤
 IsOfShortLists (bound s d e) = ⊤
@@ -536,12 +537,12 @@ declared_sort declares.Coroutine = sort.Coroutine
 declared_sort declares.Const = sort.Const
 declared_sort declares.Param = sort.Param
 
--- what a call declares, where these are the numbers of the ids at positions
+-- what a call declares, if these are the numbers of the ids at positions
 abbrev pub declared_kind : (ℕ → ℕ) → DeclarationKindCall → DeclarationKind
 declared_kind ids (declares.Trait params) = kind.Trait params
-declared_kind ids (declares.AssocTy p) = kind.AssocTy (record { number = ids p })
+declared_kind ids (declares.AssocTy p) = kind.AssocTy (id_of (ids p))
 declared_kind ids declares.Impl = kind.Impl
-declared_kind ids (declares.Inherent p) = kind.Inherent (record { number = ids p })
+declared_kind ids (declares.Inherent p) = kind.Inherent (id_of (ids p))
 declared_kind ids declares.Adt = kind.Adt
 declared_kind ids declares.Opaque = kind.Opaque
 declared_kind ids declares.Free = kind.Free
@@ -585,7 +586,7 @@ module _ (ids : ℕ → ℕ) (at : ℕ → Tree Depth) where
   parts_trees [] = none
   parts_trees (p ∷ ps) = also (part_tree p) (parts_trees ps)
 
-  -- the tree of what is under a predicate's binder
+  -- the tree of the record under a predicate's binder
   abbrev pub record_tree : RecordCall → Tree Depth
   record_tree r = tree.node (record_label r.label) (parts_trees r.parts)
 

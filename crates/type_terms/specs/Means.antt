@@ -1,4 +1,4 @@
--- The answers that a list of calls may have. Nothing is looked up in a table: each handle is taken as its tree.
+-- The answers that a list of calls may have. Nothing is looked up in a table: each handle is replaced by its tree.
 use Rattle.std.specs.Prelude.{◌≡◌, ◌≢◌, ◌↔◌, ◌⊎◌, ℕ, ◌<◌, ◌≤◌, suc, zero, Bool, false, IsTrue, List, [], ◌∷◌, ◌++◌, map, Option, Some, None, IsSomeAnd, slice_get, length, ⊤}
 use Rattle.std.specs.String.{string_bytes}
 use Rattle.tt_index.specs.declared.refusal.Refusal.{Refusal}
@@ -57,7 +57,7 @@ abbrev pub id_at : List Told → ℕ → Option Id
 id_at earlier zero = None
 id_at earlier (suc n) = as_id (slice_get earlier n)
 
--- the number of an id, and 0 where there is none
+-- the number of an id, or 0 if there is none
 abbrev pub number_of : Option Id → ℕ
 number_of None = 0
 number_of (Some i) = i.number
@@ -88,7 +88,7 @@ table_at earlier p = table_of (term_at earlier p)
 abbrev pub any : ℕ → Named
 any p = record { want = of_any; position = p }
 
--- the positions of ids that a call names, but for one that declares
+-- the positions of ids that a call names, except for a call that declares
 abbrev pub id_positions : Call → List Named
 id_positions (call.Ty k) = ty_ids k
 id_positions (call.Const k) = const_ids k
@@ -113,7 +113,7 @@ positions earlier (call.Equal p q) = any p ∷ record { want = as_at p; position
 positions earlier (call.Info p) = record { want = with_flags; position = p } ∷ []
 positions earlier call.Bad = []
 
--- the term is as it is wanted
+-- the term is a wanted one
 abbrev pub Suits : List Told → Want → Term → Type 0
 Suits earlier (of_table t) u = u.table ≡ t
 Suits earlier of_clause u = (u.table ≡ Predicates) × IsTrue (is_clause_tree u.tree)
@@ -129,12 +129,12 @@ Tells earlier (of_id s) p = IsSomeAnd (id_at earlier p) (λ i. i.sort ≡ s)
 Tells earlier of_any_id p = IsSomeAnd (id_at earlier p) (λ i. ⊤)
 Tells earlier w p = IsSomeAnd (term_at earlier p) (Suits earlier w)
 
--- each position tells a term or an id as it is wanted there
+-- each position tells a term or an id that is wanted there
 abbrev pub AreTerms : List Told → List Named → Type 0
 AreTerms earlier [] = ⊤
 AreTerms earlier (n ∷ ns) = Tells earlier n.want n.position × AreTerms earlier ns
 
--- each position that the call names tells a term or an id as it is wanted there
+-- each position that the call names tells a term or an id that is wanted there
 abbrev pub NamesTerms : List Told → Call → Type 0
 NamesTerms earlier c = AreTerms earlier (positions earlier c)
 
@@ -172,7 +172,7 @@ BuildsOrFolds (call.EraseRegions p) = ⊤
 BuildsOrFolds (call.Instantiate p args) = ⊤
 BuildsOrFolds _ = ⊥
 
--- the tree with the erased region in the place of each region that is neither its own nor apart
+-- the tree with the erased region in the place of each region that is neither bound in it nor canonical
 abbrev pub erased : Tree Depth → Tree Depth
 erased t = placed 0 t (map (λ m. tree.region erased_region) (met 0 t))
 
@@ -183,7 +183,7 @@ folded earlier (call.EraseRegions p) = Some (read 0 (erased (tree_at earlier p))
 folded earlier (call.Instantiate p args) = Some (put (readings (arguments earlier args.items)) (read 0 (tree_at earlier p)))
 folded earlier _ = None
 
--- the table of what the call gives
+-- the table of the call's result
 abbrev pub given_table : List Told → Call → Option Table
 given_table earlier (call.Ty k) = Some Types
 given_table earlier (call.Const k) = Some Consts
@@ -196,7 +196,7 @@ given_table earlier (call.EraseRegions p) = table_at earlier p
 given_table earlier (call.Instantiate p args) = table_at earlier p
 given_table earlier _ = None
 
--- the term is what the call builds, or what the fold gives
+-- the term is the one that the call builds, or the result of the fold
 abbrev pub Gives : List Told → Call → Tree Depth → Type 0
 Gives earlier (call.Ty k) t = t ≡ form_tree (number_at earlier) (tree_at earlier) (ty_form (number_at earlier) k)
 Gives earlier (call.Const k) t = t ≡ form_tree (number_at earlier) (tree_at earlier) (const_form (number_at earlier) k)
@@ -218,7 +218,7 @@ IsTold [] table u = ⊥
 IsTold (term t v ∷ earlier) table u = ((t ≡ table) × (v ≡ u)) ⊎ IsTold earlier table u
 IsTold (t ∷ earlier) table u = IsTold earlier table u
 
--- the term of this tree is there, as it was stored before the calls, or told
+-- the term of this tree is there: it was stored before the calls, or told
 abbrev pub IsKnown : Setting → List Told → Table → Tree Depth → Type 0
 IsKnown s earlier table u = s.stored table u ⊎ IsTold earlier table u
 
@@ -230,7 +230,7 @@ IsThere s earlier table f = IsOfShortLists f × IsKnown s earlier table (form_tr
 abbrev pub IsUnchanged : Term → Type 0
 IsUnchanged u = IsUntouched u.tree
 
--- the call adds nothing: what it builds is there, or what it folds stays as it is
+-- the call adds nothing: the term that it builds is there, or the term that it folds stays as it is
 abbrev pub AddsNothing : Setting → List Told → Call → Type 0
 AddsNothing s earlier (call.Ty k) = IsThere s earlier Types (ty_form (number_at earlier) k)
 AddsNothing s earlier (call.Const k) = IsThere s earlier Consts (const_form (number_at earlier) k)
@@ -256,7 +256,7 @@ pub data MayRefuse (s : Setting) (earlier : List Told) (c : Call) (r : Refusal) 
   full_table : Grows s earlier c → s.full → r ≡ TableFull → MayRefuse s earlier c r
   no_term : (NamesTerms earlier c → ⊥) → r ≡ NoSuchAnswer → MayRefuse s earlier c r
   too_deep : IsTooDeep earlier c → r ≡ GreatestIndex → MayRefuse s earlier c r
-  -- what the fold gives doesn't fit
+  -- the result of the fold doesn't fit
   unfit : NamesTerms earlier c → IsSomeAnd (folded earlier c) (λ t. Fits t → ⊥) → r ≡ GreatestIndex → MayRefuse s earlier c r
   unsuited : NamesTerms earlier c → HasCause earlier c r → MayRefuse s earlier c r
 
@@ -276,7 +276,7 @@ IsAbove [] n = ⊤
 IsAbove (declared s m k name ∷ ts) n = (m < n) × IsAbove ts n
 IsAbove (t ∷ ts) n = IsAbove ts n
 
--- the id is a new one, of the declaration that the call makes: of that sort, kind and name
+-- the id is new, and names the declaration that the call makes: its sort, kind and name
 pub record GivesId (s : Setting) (earlier : List Told) (call : DeclareCall) (sort : DeclarationSort) (n : ℕ) (kind : DeclarationKind) (name : Name) : Type 0 where
   pub sorted : sort ≡ declared_sort call.kind
   pub declares : kind ≡ declared_kind (number_at earlier) call.kind
@@ -290,7 +290,7 @@ abbrev pub Declares : Setting → List Told → Call → DeclarationSort → ℕ
 Declares s earlier (call.Declare d) sort n kind name = GivesId s earlier d sort n kind name
 Declares s earlier _ sort n kind name = ⊥
 
--- the call may be answered so after what was told earlier
+-- the call may have this answer after what was told earlier
 abbrev pub IsAllowed : Setting → List Told → Call → Told → Type 0
 IsAllowed s earlier c (term table t) =
     NamesTerms earlier c × (IsTooDeep earlier c → ⊥) × (given_table earlier c ≡ Some table) × Gives earlier c t × ((r : Refusal) → HasCause earlier c r → ⊥)
@@ -300,7 +300,7 @@ IsAllowed s earlier c (info flags outer) = NamesTerms earlier c × GivesInfo ear
 IsAllowed s earlier c (refused r) = MayRefuse s earlier c r
 IsAllowed s earlier c bad = c ≡ call.Bad
 
--- each call, after what was told earlier, is answered as it may be
+-- each call, after what was told earlier, has an answer that it may have
 abbrev pub Means : Setting → List Told → List Call → List Told → Type 0
 Means s earlier [] [] = ⊤
 Means s earlier [] (t ∷ ts) = ⊥

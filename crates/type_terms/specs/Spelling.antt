@@ -12,7 +12,7 @@ use Rattle.type_terms.specs.declared.ir_print.spelling.Subject.{Subject as Spell
 use Rattle.type_terms.specs.declared.ir_print.spelling.Subject.TheVariants as spelled
 use Rattle.type_terms.specs.declared.ir_print.spelling.Spelling.{Spelling}
 
--- what of a term's data is written
+-- the part of a term's data that is written
 abbrev pub subject_of : SpelledSubject → Subject ℕ
 subject_of spelled.Nothing = nothing
 subject_of (spelled.Words w) = words w.now
@@ -22,11 +22,11 @@ subject_of (spelled.Paired m n) = paired m n
 subject_of (spelled.Item d) = item d.number
 subject_of (spelled.Called s) = called s.number
 
--- what is written in front of the children
+-- the text in front of the children
 abbrev pub head_of : Spelling → Head ℕ
 head_of s = record { before = s.before.now; subject = subject_of s.subject; after = s.after.now }
 
--- the head of a term under a binder: a type's own, or that of the record under the binder
+-- the head of a term under a binder: a type's own, or the head of the record under the binder
 abbrev pub under_head : Label ℕ → Head ℕ → Head ℕ
 under_head (type_label l) h = type_head l
 under_head _ h = h

@@ -33,7 +33,7 @@ use Rattle.tt_interner.specs.Declarations.{declared_at}
 use Rattle.type_terms.specs.declared.ir_print.layout.Style.{Style}
 use Rattle.type_terms.specs.declared.ir_print.layout.Style.TheVariants as style
 
--- what of a node's data is written: N is how a symbol is named
+-- the part of a node's data that is written: N names a symbol
 pub data Subject (N : Type 0) : Type 0 where
   nothing : Subject N
   words : List ℕ → Subject N
@@ -44,7 +44,7 @@ pub data Subject (N : Type 0) : Type 0 where
   item : ℕ → Subject N
   called : N → Subject N
 
--- what is written in front of a node's children
+-- the text in front of a node's children
 pub record Head (N : Type 0) : Type 0 where
   pub before : List ℕ
   pub subject : Subject N
@@ -63,7 +63,7 @@ module _ {N : Type 0} where
   abbrev pub with_word : List ℕ → Subject N → Head N
   with_word w s = record { before = w; subject = s; after = [] }
 
--- the signed integers
+-- the names of the signed integer types
 abbrev pub int_name : IntTy → List ℕ
 int_name int.Isize = codes "isize"
 int_name int.I8 = codes "i8"
@@ -72,7 +72,7 @@ int_name int.I32 = codes "i32"
 int_name int.I64 = codes "i64"
 int_name int.I128 = codes "i128"
 
--- the unsigned integers
+-- the names of the unsigned integer types
 abbrev pub uint_name : UintTy → List ℕ
 uint_name uint.Usize = codes "usize"
 uint_name uint.U8 = codes "u8"
@@ -81,22 +81,22 @@ uint_name uint.U32 = codes "u32"
 uint_name uint.U64 = codes "u64"
 uint_name uint.U128 = codes "u128"
 
--- the types of floating point
+-- the floating point types
 abbrev pub float_name : FloatTy → List ℕ
 float_name float.F16 = codes "f16"
 float_name float.F32 = codes "f32"
 float_name float.F64 = codes "f64"
 float_name float.F128 = codes "f128"
 
--- what a function pointer says beside its types is this
+-- a function pointer has this calling convention, and this safety and variadicity
 abbrev pub is_made : FnSigKind → ExternAbi → Safety → Bool → Bool
 is_made k abi safety variadic = k.flags == abi_number abi + safety_bits safety + variadic_bits variadic
 
--- it is of this calling convention
+-- a function pointer has this calling convention
 abbrev pub has_abi : FnSigKind → ExternAbi → Bool
 has_abi k abi = is_made k abi Safe false || is_made k abi Safe true || is_made k abi Unsafe false || is_made k abi Unsafe true
 
--- it is of some calling convention
+-- a function pointer has some calling convention, and this safety and variadicity
 abbrev pub has_some_abi : FnSigKind → Safety → Bool → Bool
 has_some_abi k s v =
     is_made k Rust s v || is_made k (C false) s v || is_made k (C true) s v || is_made k (System false) s v || is_made k (System true) s v || is_made k RustCall s v || is_made k Unadjusted s v
@@ -125,7 +125,7 @@ abbrev pub signature_style : FnSigKind → Style
 signature_style k = if is_variadic k then style.Variadic else style.Signature
 
 module _ {N : Type 0} where
-  -- the head of a variable of inference
+  -- the head of an inference variable
   abbrev pub infer_head : InferTy → Head N
   infer_head (TyVar v) = record { before = codes "?"; subject = numbered v; after = codes "t" }
   infer_head (IntVar v) = record { before = codes "?"; subject = numbered v; after = codes "i" }
@@ -168,7 +168,7 @@ module _ {N : Type 0} where
   type_head (coroutine_witness_type d) = with_word (codes "{coroutine witness ") (item d)
   type_head (alias_type k) = with_word [] (item (alias_number k))
 
-  -- the head of a constant variable of inference
+  -- the head of a constant inference variable
   abbrev pub infer_const_head : InferConst → Head N
   infer_const_head (Var v) = record { before = codes "?"; subject = numbered v; after = codes "c" }
   infer_const_head (Fresh n) = record { before = codes "Fresh("; subject = numbered n; after = codes ")" }
@@ -194,7 +194,7 @@ module _ {N : Type 0} where
   effect_head constness.Const d = with_word (codes "HostEffectPredicate(const ") (item d)
   effect_head constness.Maybe d = with_word (codes "HostEffectPredicate([const] ") (item d)
 
-  -- the heads of what predicates say
+  -- the heads of records
   abbrev pub record_head : RecordLabel N → Head N
   record_head (trait_record d) = with_word (codes "TraitPredicate(") (item d)
   record_head (host_effect_record d c) = effect_head c d
@@ -232,7 +232,7 @@ module _ {N : Type 0} where
   bound_head _ (at d) var = with_word (codes "^") (paired d var)
   bound_head _ canonical var = with_word (codes "^c.") (numbered var)
 
-  -- what a region is called
+  -- the name of a region
   abbrev pub region_name_head : RegionName N → Head N
   region_name_head anonymous = word (codes "'_")
   region_name_head (printed name) = with_word [] (called name)
@@ -334,7 +334,7 @@ style_in s clause_list_label = style.Listed
 style_in s (list_label t) = list_style s
 style_in s _ = style.Joined
 
--- what is in front of a first child, which may be the last too
+-- the text in front of a first child, which may also be the last
 abbrev pub opening : Style → Bool → List ℕ
 opening style.Listed last = codes "["
 opening style.Arguments last = codes "<"
@@ -346,7 +346,7 @@ opening style.VariadicInputs true = codes "(...) -> "
 opening style.VariadicInputs false = codes "("
 opening _ last = []
 
--- what is in front of a later child, which may be the last
+-- the text in front of a later child, which may be the last
 abbrev pub separator : Style → Bool → List ℕ
 separator style.Reference last = codes " "
 separator style.MutReference last = codes " mut "
@@ -369,12 +369,12 @@ separator style.Bounds last = codes " + "
 separator style.Alternatives last = codes " | "
 separator _ last = []
 
--- what is in front of a child
+-- the text in front of a child
 abbrev pub before_child : Style → Bool → Bool → List ℕ
 before_child s true last = opening s last
 before_child s false last = separator s last
 
--- what is after so many children
+-- the text after so many children
 abbrev pub closing : Style → ℕ → List ℕ
 closing style.Square n = codes "]"
 closing style.Braced n = codes "}"
@@ -409,7 +409,7 @@ module _ (item_name : ℕ → Name) where
   subject_text (item d) = item_name d
   subject_text (called name) = name
 
-  -- what is in front of a node's children
+  -- the text in front of a node's children
   abbrev pub head_text : Head Name → List ℕ
   head_text h = h.before ++ (subject_text h.subject ++ h.after)
 
@@ -423,12 +423,12 @@ module _ (item_name : ℕ → Name) where
     text_in s (node l ts) = head_text (head l) ++ (texts (style_in s l) true ts ++ closing (style_in s l) (count_trees ts))
     text_in s (binder vs t) = text_in s t
 
-    -- the texts of children, each with what is in front of it; the first of them may be the first of all
+    -- the texts of children, each with the text in front of it; the first of them may be the first of all
     pub texts : Style → Bool → Forest Depth → List ℕ
     texts s first none = []
     texts s first (also t ts) = before_child s first (are_none ts) ++ (text_in s t ++ texts s false ts)
 
-  -- the text of one child, with what is in front of it; or nothing, where there is none
+  -- the text of one child, with the text in front of it, or nothing for an absent child
   abbrev pub child_text : List ℕ → Style → Forest Depth → List ℕ
   child_text first s none = []
   child_text first s (also t ts) = first ++ text_in s t
@@ -437,7 +437,7 @@ module _ (item_name : ℕ → Name) where
   abbrev pub text : Tree Depth → List ℕ
   text t = text_in style.Joined t
 
--- what the declaration of a number is called; where there is none, the number
+-- the name of the declaration of a number, or the number if there is none
 abbrev pub names : List Row → ℕ → Name
 names rows d = if nat_lt d (size rows Declarations) then name_of (meaning rows) (declared_at rows (record { number = d })).name.number else 35 ∷ decimal d
 
@@ -446,7 +446,7 @@ pub record Begins (old new : List ℕ) : Type 0 where
   pub rest : List ℕ
   pub is : new ≡ old ++ rest
 
--- the text was added; where memory for it was refused, what was there is still in front
+-- the text was added; if memory for it was refused, the old text is still in front
 pub record Writes {T E : Type 0} (result : Result T E) (old new added : List ℕ) : Type 0 where
   pub written : OnOk result (new ≡ old ++ added)
   pub kept : Begins old new

@@ -1,4 +1,4 @@
--- What answers tell, each handle taken as its tree.
+-- The content of answers, with each handle replaced by its tree.
 use Rattle.std.specs.Prelude.{◌≡◌, ℕ, ◌<◌, ◌≤◌, Bool, List, [], ◌∷◌, map, Option, Some, None, ⊤}
 use Rattle.tt_index.specs.declared.refusal.Refusal.{Refusal}
 use Rattle.tt_kinds.specs.Label.{Name}
@@ -14,7 +14,7 @@ use Rattle.tt_interner.specs.Declarations.{IsOfSort, declared_at}
 use Rattle.type_terms.specs.declared.run.answer.Answer.{Answer}
 use Rattle.type_terms.specs.declared.run.answer.Answer.TheVariants as answer
 
--- what an answer tells: a term, an id, a truth value, flags and an outer exclusive binder, a refusal, or that there was no call
+-- the content of an answer: a term, an id, a truth value, flags and an outer exclusive binder, a refusal, or no call
 pub data Told : Type 0 where
   -- a term of the table
   term : Table → Tree Depth → Told
@@ -25,7 +25,7 @@ pub data Told : Type 0 where
   refused : Refusal → Told
   bad : Told
 
--- what an answer tells where these are the rows
+-- the content of an answer, if these are the rows
 abbrev pub told : List Row → Answer → Told
 told rows (answer.Ty t) = term Types (meaning rows Types t.number)
 told rows (answer.Const c) = term Consts (meaning rows Consts c.number)
@@ -49,7 +49,7 @@ handle_table (answer.Clauses l) = Some ClauseLists
 handle_table (answer.Args l) = Some ArgLists
 handle_table _ = None
 
--- the number of an answer's handle in its table, and 0 where it is none
+-- the number of an answer's handle in its table, or 0 if it is not a handle
 abbrev pub handle_number : Answer → ℕ
 handle_number (answer.Ty h) = h.number
 handle_number (answer.Const h) = h.number
@@ -59,7 +59,7 @@ handle_number (answer.Clauses h) = h.number
 handle_number (answer.Args h) = h.number
 handle_number _ = 0
 
--- what answers tell, in order
+-- the contents of answers, in order
 abbrev pub told_all : List Row → List Answer → List Told
 told_all rows answers = map (told rows) answers
 
@@ -74,7 +74,7 @@ IsOwned rows (answer.Args l) = l.number < size rows ArgLists
 IsOwned rows (answer.Id sort id) = IsOfSort rows sort id.number
 IsOwned rows _ = ⊤
 
--- all handles and ids are so
+-- the same for all answers
 abbrev pub AreOwned : List Row → List Answer → Type 0
 AreOwned rows [] = ⊤
 AreOwned rows (a ∷ answers) = IsOwned rows a × AreOwned rows answers
@@ -90,7 +90,7 @@ pub record IsStored (rows : List Row) (table : Table) (tree : Tree Depth) : Type
   pub within : number < size rows table
   pub means : meaning rows table number ≡ tree
 
--- what is known of an interner while calls are answered
+-- the facts about an interner while calls are answered
 pub record Setting : Type 1 where
   -- some table holds its limit at the end
   pub full : Type 0

@@ -1,4 +1,4 @@
-//! The texts of terms, as the compiler's debug output spells them or near to it.
+//! The texts of terms, spelled like the compiler's debug output or nearly so.
 
 ghost use Rattle.std.specs.Prelude.{
   ◌≡◌,
@@ -58,28 +58,28 @@ use tt_kinds::{
 };
 use tt_visit::TypeVisitable;
 
-// Adds the text.
+// Appends the text.
 fn write_text(out: &mut String, words: &str) -> Result<(), AllocError>
     ensures { Writes result (string_bytes out.old) (string_bytes out.new) words.now }
 {
     out.push_str(words)
 }
 
-// Adds the number.
+// Appends the number.
 fn write_number(out: &mut String, number: u32) -> Result<(), AllocError>
     ensures { Writes result (string_bytes out.old) (string_bytes out.new) (decimal number) }
 {
     out.push_str(Buffer::new().format(number))
 }
 
-// Adds the bits, as a number.
+// Appends the bits, as a number.
 fn write_bits(out: &mut String, bits: u128) -> Result<(), AllocError>
     ensures { Writes result (string_bytes out.old) (string_bytes out.new) (decimal bits) }
 {
     out.push_str(Buffer::new().format(bits))
 }
 
-// Adds a word and a number.
+// Appends a word and a number.
 fn write_marked(out: &mut String, mark: &str, number: u32) -> Result<(), AllocError>
     ensures { Writes result (string_bytes out.old) (string_bytes out.new) (mark.now ++ decimal number) }
 {
@@ -87,7 +87,7 @@ fn write_marked(out: &mut String, mark: &str, number: u32) -> Result<(), AllocEr
     write_number(out, number)
 }
 
-// Adds two numbers, with a dot between them.
+// Appends two numbers, with a dot between them.
 fn write_pair(out: &mut String, first: u32, second: u32) -> Result<(), AllocError>
     ensures { Writes result (string_bytes out.old) (string_bytes out.new) (decimal first ++ (46 ∷ decimal second)) }
 {
@@ -95,7 +95,7 @@ fn write_pair(out: &mut String, first: u32, second: u32) -> Result<(), AllocErro
     write_marked(out, ".", second)
 }
 
-// Adds the text of a symbol.
+// Appends the text of a symbol.
 fn write_symbol(cx: &Interner, out: &mut String, name: Symbol) -> Result<(), AllocError>
     requires { name.number < size cx.now.rows Symbols }
     ensures { Writes result (string_bytes out.old) (string_bytes out.new) (name_of (meaning cx.now.rows) name.number) }
@@ -104,7 +104,7 @@ fn write_symbol(cx: &Interner, out: &mut String, name: Symbol) -> Result<(), All
     write_text(out, name.as_str(cx))
 }
 
-// Adds what a declaration is called, or its number if the interner has none of this id.
+// Appends the name of a declaration, or its number if the interner has none of this id.
 fn write_item(cx: &Interner, out: &mut String, id: DefId) -> Result<(), AllocError>
     ensures { Writes result (string_bytes out.old) (string_bytes out.new) (names cx.now.rows id.number) }
 {
@@ -115,7 +115,7 @@ fn write_item(cx: &Interner, out: &mut String, id: DefId) -> Result<(), AllocErr
     }
 }
 
-// Adds what of a term's data is written.
+// Appends the part of a term's data that is written.
 fn write_subject(cx: &Interner, out: &mut String, subject: &Subject) -> Result<(), AllocError>
     requires { IsNamedSubject (size cx.now.rows) (subject_of subject.now) }
     ensures { Writes result (string_bytes out.old) (string_bytes out.new)
@@ -134,7 +134,7 @@ fn write_subject(cx: &Interner, out: &mut String, subject: &Subject) -> Result<(
     }
 }
 
-// Adds what is in front of a term's children.
+// Appends the text in front of a term's children.
 fn write_head(cx: &Interner, out: &mut String, spelling: &Spelling) -> Result<(), AllocError>
     requires { IsNamedSubject (size cx.now.rows) (head_of spelling.now).subject }
     ensures { Writes result (string_bytes out.old) (string_bytes out.new)
@@ -145,7 +145,7 @@ fn write_head(cx: &Interner, out: &mut String, spelling: &Spelling) -> Result<()
     write_text(out, spelling.after)
 }
 
-// Adds a region.
+// Appends a region.
 fn write_region(cx: &Interner, out: &mut String, region: Region) -> Result<(), AllocError>
     requires { IsPart (size cx.now.rows) (region_shape region) }
     ensures { (s : Styles) → Writes result (string_bytes out.old) (string_bytes out.new)
@@ -155,7 +155,7 @@ fn write_region(cx: &Interner, out: &mut String, region: Region) -> Result<(), A
     write_head(cx, out, &spelling)
 }
 
-// Adds a stored term, in a term of this style.
+// Appends a stored term, in a term of this style.
 #[cycle(print)]
 fn write_node(cx: &Interner, out: &mut String, style: Style, node: Node) -> Result<(), AllocError>
     requires { IsPart (size cx.now.rows) (node_shape node) }
@@ -171,7 +171,7 @@ fn write_node(cx: &Interner, out: &mut String, style: Style, node: Node) -> Resu
     }
 }
 
-// Adds what is stored as this kind.
+// Appends the term of this kind.
 #[cycle(print)]
 fn write_kind(cx: &Interner, out: &mut String, kind: &Kind) -> Result<(), AllocError>
     requires { HasParts (size cx.now.rows) (kind_shape kind.now) }
@@ -185,7 +185,7 @@ fn write_kind(cx: &Interner, out: &mut String, kind: &Kind) -> Result<(), AllocE
     write_text(out, spelling.style.closing(part_count(&parts)))
 }
 
-// Adds parts in order.
+// Appends parts, in order.
 #[cycle(print)]
 fn write_parts(
     cx: &Interner,
@@ -203,7 +203,7 @@ fn write_parts(
     write_child(cx, out, before, style, &parts.second)
 }
 
-// Adds one part or item, with what is in front of it.
+// Appends one part or item, with the text in front of it.
 #[cycle(print)]
 fn write_child(
     cx: &Interner,
@@ -232,7 +232,7 @@ fn write_child(
     }
 }
 
-// Adds a stored list, in a term of this style.
+// Appends a stored list, in a term of this style.
 #[cycle(print)]
 fn write_list(cx: &Interner, out: &mut String, style: Style, list: List) -> Result<(), AllocError>
     requires { IsPart (size cx.now.rows) (list_shape list) }
@@ -249,7 +249,7 @@ fn write_list(cx: &Interner, out: &mut String, style: Style, list: List) -> Resu
     write_text(out, items.closing(count))
 }
 
-// The style of a list's items, in a term of this style.
+// Returns the style of a list's items, in a term of this style.
 fn items_style(style: Style, list: List) -> Style
     ensures { result ≡ style_in style (items_label {N = Name} (list_sort list)) }
 {
@@ -259,7 +259,7 @@ fn items_style(style: Style, list: List) -> Style
     }
 }
 
-// Whether there is no child.
+// Returns whether there is no child.
 #[tactic(auto, unfolding(tt_kinds::specs::Shape::fill_all))]
 fn is_absent(child: &Child) -> bool
     ensures { (f : Meaning) → result ≡ are_none (fill_all f (child_shapes child.now)) }
@@ -270,7 +270,7 @@ fn is_absent(child: &Child) -> bool
     }
 }
 
-// How many children there are: one, or none.
+// Returns the number of children: one or none.
 #[tactic(auto, unfolding(tt_kinds::specs::Shape::fill_all))]
 fn child_count(child: &Child) -> usize
     ensures count { (f : Meaning) → result ≡ count_trees (fill_all f (child_shapes child.now)) }
@@ -282,14 +282,14 @@ fn child_count(child: &Child) -> usize
     }
 }
 
-// How many parts there are.
+// Returns the number of parts.
 fn part_count(parts: &Parts) -> usize
     ensures { (f : Meaning) → result ≡ count_trees (fill_all f (parts_shapes parts.now)) }
 {
     child_count(&parts.first) + child_count(&parts.second)
 }
 
-// Adds a child by itself, or nothing, where memory for it is refused.
+// Appends a child by itself, or nothing if memory for it is refused.
 fn print_child(cx: &Interner, out: &mut String, child: &Child) -> Result<(), AllocError>
     requires { AreParts (size cx.now.rows) (child_shapes child.now) }
     ensures ok { OnOk result (string_bytes out.new
@@ -313,17 +313,17 @@ fn print_child(cx: &Interner, out: &mut String, child: &Child) -> Result<(), All
 
 /// A value whose text can be written.
 ///
-/// The text is near to the compiler's debug output: `&'^0.0 u32`, `fn(T) -> (u32, T)`, `dyn Iterator + 'static`. The
-/// result of a function pointer is always written, `()` too.
+/// The text is close to the compiler's debug output: `&'^0.0 u32`, `fn(T) -> (u32, T)`, `dyn Iterator + 'static`. The
+/// result of a function pointer is always written, even `()`.
 ///
-/// A binder's list of variables isn't written, nor what a bound variable or a placeholder is called, so two different
-/// terms may have one text.
+/// A binder's list of variables isn't written, nor the name of a bound variable or a placeholder, so different terms
+/// may have the same text.
 pub trait IrPrint: TypeVisitable {
-    /// Adds the value's text to `out`. The value's handles have to be of this interner;
-    /// [`Owned::is_owned`](tt_visit::Owned::is_owned) tests it. An id that this interner hasn't declared is written as
-    /// `#` and its number.
+    /// Appends the value's text to `out`. The value's handles have to be of this interner;
+    /// [`Owned::is_owned`](tt_visit::Owned::is_owned) tests it. An id that names no declaration of this interner is
+    /// written as `#` and its number.
     ///
-    /// Where memory for the text is refused, `out` is as it was.
+    /// If memory for the text is refused, `out` is unchanged.
     fn print(&self, cx: &Interner, out: &mut String) -> Result<(), AllocError>
         requires { IsPart (size cx.now.rows) (Self.shape self.now) }
         ensures ok { OnOk result (string_bytes out.new

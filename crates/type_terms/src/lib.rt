@@ -1,4 +1,4 @@
-//! The type terms of the Rust compiler's type checker: the library as one crate, and the running of lists of calls on it.
+//! The type terms of the Rust compiler's type checker: the library as one crate, and a runner of lists of calls.
 #![tactic(auto)]
 
 pub mod ir_print;
@@ -71,6 +71,7 @@ pub use tt_index::FloatVid;
 pub use tt_index::GREATEST_INDEX;
 pub use tt_index::INNERMOST;
 pub use tt_index::Idx;
+pub use tt_index::Index;
 pub use tt_index::IndexVec;
 pub use tt_index::IntTy;
 pub use tt_index::IntVid;
@@ -159,12 +160,16 @@ pub use tt_kinds::GenericArg;
 pub use tt_kinds::GenericArgKind;
 pub use tt_kinds::GenericArgs;
 pub use tt_kinds::GenericArgsSlice;
+pub use tt_kinds::Handle;
 pub use tt_kinds::HostEffectPredicate;
+pub use tt_kinds::Id;
 pub use tt_kinds::ImplId;
 pub use tt_kinds::InferConst;
 pub use tt_kinds::InferTy;
 pub use tt_kinds::InherentAssocTyId;
 pub use tt_kinds::IntVarValue;
+pub use tt_kinds::IsDeclared;
+pub use tt_kinds::IsStored;
 pub use tt_kinds::Kind;
 pub use tt_kinds::LateParamRegion;
 pub use tt_kinds::List;

@@ -1,4 +1,4 @@
-//! The tests of terms and of what is read of them, in a crate that uses the library as a user's does.
+//! The tests of terms and of queries, in a crate that uses the library as a user's crate does.
 #![tactic(auto)]
 
 #[cfg(test)]

@@ -1,4 +1,4 @@
-//! What is built, what is read of it, and that calls succeed where memory is ample.
+//! Tests of building terms and of queries, and that calls succeed with ample memory.
 
 mod assumptions;
 mod bare;
@@ -24,12 +24,12 @@ use std::process::Abort;
 use test_terms::{answer_anew, answer_within};
 use type_terms::{Interner, Refusal};
 
-// The outcome is that all was as wanted.
+// Asserts that the outcome is `Ok(true)`.
 fn holds(rt: &impl Abort, outcome: Result<bool, Refusal>) {
     assert_eq!(rt; outcome, Ok(true));
 }
 
-// The check answers, on a new interner, that all was as wanted. Where memory is ample there is one.
+// Asserts that the check returns `Ok(true)` on a new interner. With ample memory there is one.
 fn holds_anew<F: FnOnce(&mut Interner) -> Result<bool, Refusal> + Drop>(
     rt: &impl Abort,
     alloc: Global,
@@ -40,7 +40,7 @@ fn holds_anew<F: FnOnce(&mut Interner) -> Result<bool, Refusal> + Drop>(
     holds(rt, answer_anew(alloc, check));
 }
 
-// The same on a new interner with at most so many rows in a table.
+// Asserts the same on a new interner with at most `limit` rows in a table.
 fn holds_within<F: FnOnce(&mut Interner) -> Result<bool, Refusal> + Drop>(
     rt: &impl Abort,
     alloc: Global,
@@ -52,7 +52,7 @@ fn holds_within<F: FnOnce(&mut Interner) -> Result<bool, Refusal> + Drop>(
     holds(rt, answer_within(alloc, limit, check));
 }
 
-// A new interner with at most so many rows in a table is refused.
+// Asserts that a new interner with at most `limit` rows in a table is refused.
 fn is_refused_anew(rt: &impl Abort, alloc: Global, limit: u32, refusal: Refusal) {
     match Interner::with_limit(alloc, limit) {
         Ok(cx) => {

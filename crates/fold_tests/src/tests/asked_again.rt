@@ -1,11 +1,11 @@
-//! A folder of a user's own that is asked again after a refusal.
+//! A user's folder that is used again after a refusal.
 
 use super::holds_within;
 use super::users::StandIn;
 use test_terms::{NOT_OWNED, ty, u32_ty};
 use type_terms::{Interner, Owned, Refusal, TyKind, TypeFoldable};
 
-// The first fold would need a fourth type, where there may be three. The second finds all that it gives.
+// The first fold would need a fourth type, but there may be three. The second finds its whole result.
 fn a_folder_is_asked_again_holds(cx: &mut Interner) -> Result<bool, Refusal> {
     let from = u32_ty(cx)?;
     let to = ty(cx, TyKind::Bool)?;

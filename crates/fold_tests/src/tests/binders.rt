@@ -4,14 +4,14 @@ use super::holds_anew;
 use test_terms::{bound_ty, is_instance, is_shifted, one_region, param_ty, tys};
 use type_terms::{Binder, GenericArg, Interner, Owned, Refusal, Ty, TypeVisitableExt, Tys};
 
-// A vector of this type alone, under a binder of one region.
+// Returns a vector of this type alone, under a binder of one region.
 fn under_binder(cx: &mut Interner, ty: Ty) -> Result<Binder<Vec<Ty>>, Refusal> {
     let vars = one_region(cx)?;
     let types = vec![in cx.allocator(); ty]?;
     Ok(Binder::bind_with_vars(types, vars))
 }
 
-// The contents of the vector are met under the binder.
+// The contents of the vector are visited under the binder.
 fn vectors_are_visited_holds(cx: &mut Interner) -> Result<bool, Refusal> {
     let own = bound_ty(cx, 0)?;
     let outer = bound_ty(cx, 1)?;
@@ -58,7 +58,7 @@ fn vectors_are_instantiated(rt: HostRuntime) {
     holds_anew(&rt, rt.alloc(), vectors_are_instantiated_holds);
 }
 
-// A stored list of this type alone, under a binder of one region.
+// Returns a stored list of this type alone, under a binder of one region.
 fn listed_under_binder(cx: &mut Interner, ty: Ty) -> Result<Binder<Tys>, Refusal> {
     let vars = one_region(cx)?;
     let list = tys(cx, &[ty])?;

@@ -1,4 +1,4 @@
-//! A user's canonicalizer: variables of a canonical query take the places of inference variables.
+//! A user's canonicalizer: inference variables are replaced by variables of a canonical query.
 
 use super::{holds_anew, holds_within};
 use test_terms::{NOT_OWNED, bound_region, ref_ty, ty, tys};
@@ -7,14 +7,14 @@ use type_terms::{
     Refusal, Step, Ty, TyKind, TyVid, TypeFoldable, TypeReplacer, replace_types,
 };
 
-// Puts variables of a canonical query in the places of inference variables, by the order in which these are met.
+// Replaces inference variables by variables of a canonical query, in the order of their first occurrence.
 #[derive(Drop)]
 struct Canonicalizer {
     met: Vec<InferTy>,
 }
 
 impl Canonicalizer {
-    // The number of the variable, which is new where it wasn't met before.
+    // Returns the number of the variable, a new one if the variable is new.
     fn number_of(&mut self, variable: InferTy) -> Result<u32, Refusal> {
         let number = match self.met.iter().position(|met| *met == variable) {
             Some(number) => number,
@@ -47,7 +47,7 @@ impl TypeReplacer for Canonicalizer {
     }
 }
 
-// The inference variable of this number.
+// Returns the inference variable of this number.
 pub fn variable(cx: &mut Interner, number: u32) -> Result<Ty, Refusal> {
     if TyVid::fits(number) {
         ty(cx, TyKind::Infer(InferTy::TyVar(TyVid::from_u32(number))))
@@ -56,7 +56,7 @@ pub fn variable(cx: &mut Interner, number: u32) -> Result<Ty, Refusal> {
     }
 }
 
-// The variable of a canonical query of this number.
+// Returns the variable of a canonical query of this number.
 fn canonical(cx: &mut Interner, number: u32) -> Result<Ty, Refusal> {
     if !BoundVar::fits(number) {
         return Err(Refusal::GreatestIndex);
@@ -68,7 +68,7 @@ fn canonical(cx: &mut Interner, number: u32) -> Result<Ty, Refusal> {
     ty(cx, TyKind::Bound(BoundVarIndexKind::Canonical, bound_ty))
 }
 
-// The value with the canonicalizer's variables in the places of its inference variables.
+// Returns the value with its inference variables replaced by the canonicalizer's.
 fn canonicalized<T: Owned + TypeFoldable>(
     cx: &mut Interner,
     value: T,

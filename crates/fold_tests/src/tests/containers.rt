@@ -11,7 +11,7 @@ use type_terms::{
     Ty, TyKind, TypeVisitableExt, are_owned,
 };
 
-// A box of this type, under a binder of one region.
+// Returns a box of this type, under a binder of one region.
 fn boxed_under_binder(cx: &mut Interner, ty: Ty) -> Result<Binder<Box<Ty>>, Refusal> {
     let vars = one_region(cx)?;
     let boxed = Box::new(cx.allocator(), ty)?;
@@ -47,7 +47,7 @@ fn shared_values_are_shifted(rt: HostRuntime) {
     holds_anew(&rt, rt.alloc(), shared_values_are_shifted_holds);
 }
 
-// A boxed slice of these types.
+// Returns a boxed slice of these types.
 fn boxed_slice(cx: &Interner, first: Ty, second: Ty) -> Result<BoxedSlice<Ty>, Refusal> {
     let items = vec![in cx.allocator(); first, second]?;
     Ok(items.into_boxed_slice())
@@ -81,7 +81,7 @@ fn lists_by_index_are_shifted(rt: HostRuntime) {
     holds_anew(&rt, rt.alloc(), lists_by_index_are_shifted_holds);
 }
 
-// Whether a variable escapes from a small vector of the type, and from a set of it.
+// Returns whether a variable escapes from a small vector of the type, and from a set of it.
 fn escapes(cx: &Interner, ty: Ty) -> Result<(bool, bool), Refusal> {
     let mut few: SmallVec<Option<Ty>, 4> = SmallVec::new(cx.allocator());
     few.push(Some(ty))?;
@@ -109,7 +109,7 @@ fn items_are_visited(rt: HostRuntime) {
     holds_anew(&rt, rt.alloc(), items_are_visited_holds);
 }
 
-// Whether a copy of the value is equal to it.
+// Returns whether a copy of the value is equal to it.
 fn is_copied<T: ClonesTree + PartialEq + Drop>(cx: &Interner, value: &T) -> Result<bool, Refusal> {
     let copy = value.clone_tree(cx.allocator())?;
     Ok(copy == *value)

@@ -1,6 +1,7 @@
-//! Each value that has no row of its own, as a fold gives it back.
+//! The fold of each value that has no row of its own.
 //!
-//! A value is moved into one more binder, and has to be the one that was built of variables of the next binder.
+//! A value is moved into one more binder, and has to be equal to the value that is built from variables of the next
+//! binder.
 
 use super::holds_anew;
 use test_terms::{args, bound_region, bound_ty, is_shifted, one_region, tys};
@@ -23,7 +24,7 @@ pub struct Leaves {
     pub term: Term,
 }
 
-// The parts with variables of the binder of this index.
+// Returns the parts with variables of the binder of this index.
 fn leaves_at(cx: &mut Interner, binder: u32) -> Result<Leaves, Refusal> {
     let near = bound_ty(cx, binder)?;
     let far = bound_ty(cx, binder.saturating_add(1))?;
@@ -41,14 +42,14 @@ fn leaves_at(cx: &mut Interner, binder: u32) -> Result<Leaves, Refusal> {
     })
 }
 
-// The parts as they are, which a binder around them doesn't bind, and moved into one more binder.
+// Returns the parts as they are, which a binder around them doesn't bind, and moved into one more binder.
 pub fn old_and_new(cx: &mut Interner) -> Result<(Leaves, Leaves), Refusal> {
     let old = leaves_at(cx, 1)?;
     let new = leaves_at(cx, 2)?;
     Ok((old, new))
 }
 
-// Whether the value, moved into one more binder, is this one.
+// Returns whether the value, moved into one more binder, is this one.
 pub fn is_moved<T: Owned + TypeFoldable + PartialEq>(
     cx: &mut Interner,
     value: T,
@@ -57,7 +58,7 @@ pub fn is_moved<T: Owned + TypeFoldable + PartialEq>(
     is_shifted(cx, value, 1, moved)
 }
 
-// A trait with its arguments.
+// Returns a trait with its arguments.
 fn trait_ref(args: GenericArgs) -> TraitRef {
     TraitRef {
         def_id: TraitId::from_number(4),
@@ -65,7 +66,7 @@ fn trait_ref(args: GenericArgs) -> TraitRef {
     }
 }
 
-// The alias of an opaque type.
+// Returns the alias of an opaque type.
 fn alias_ty(parts: Leaves) -> AliasTy {
     let def_id = OpaqueTyId::from_number(4);
     AliasTy {
@@ -74,7 +75,7 @@ fn alias_ty(parts: Leaves) -> AliasTy {
     }
 }
 
-// The alias of a type or a constant.
+// Returns the alias of a type or a constant.
 fn alias_term(args: GenericArgs) -> AliasTerm {
     AliasTerm {
         args,
@@ -82,7 +83,7 @@ fn alias_term(args: GenericArgs) -> AliasTerm {
     }
 }
 
-// A trait with the arguments behind a hidden type.
+// Returns a trait with the arguments behind a hidden type.
 pub fn existential_trait_ref(args: GenericArgs) -> ExistentialTraitRef {
     ExistentialTraitRef {
         def_id: TraitId::from_number(4),
@@ -90,7 +91,7 @@ pub fn existential_trait_ref(args: GenericArgs) -> ExistentialTraitRef {
     }
 }
 
-// What an associated item of a hidden type is.
+// Returns the value of an associated item of a hidden type.
 pub fn existential_projection(parts: Leaves) -> ExistentialProjection {
     ExistentialProjection {
         def_id: DefId::from_number(4),
@@ -119,7 +120,7 @@ fn traits_and_aliases(rt: HostRuntime) {
     holds_anew(&rt, rt.alloc(), traits_and_aliases_holds);
 }
 
-// A signature by itself.
+// Returns a signature by itself.
 fn signature(parts: Leaves) -> FnSig {
     FnSig {
         inputs_and_output: parts.types,
@@ -127,7 +128,7 @@ fn signature(parts: Leaves) -> FnSig {
     }
 }
 
-// What a pointer points to.
+// Returns a pointer's target.
 fn pointee(parts: Leaves) -> TypeAndMut {
     TypeAndMut {
         ty: parts.near,
@@ -152,14 +153,14 @@ fn signatures_and_pointees(rt: HostRuntime) {
     holds_anew(&rt, rt.alloc(), signatures_and_pointees_holds);
 }
 
-// That a type implements a trait.
+// Returns the predicate that a type implements a trait.
 fn implements(parts: Leaves) -> TraitPredicate {
     TraitPredicate {
         trait_ref: trait_ref(parts.args),
     }
 }
 
-// The same in constants.
+// Returns the predicate that a type implements a trait in constants.
 fn implements_in_constants(parts: Leaves) -> HostEffectPredicate {
     HostEffectPredicate {
         trait_ref: trait_ref(parts.args),
@@ -167,7 +168,7 @@ fn implements_in_constants(parts: Leaves) -> HostEffectPredicate {
     }
 }
 
-// What an alias stands for.
+// Returns the predicate that an alias is equal to a term.
 fn projection(parts: Leaves) -> ProjectionPredicate {
     ProjectionPredicate {
         projection_term: alias_term(parts.args),
@@ -175,7 +176,7 @@ fn projection(parts: Leaves) -> ProjectionPredicate {
     }
 }
 
-// What an alias normalizes to.
+// Returns the predicate that an alias normalizes to a term.
 fn normalizes(parts: Leaves) -> NormalizesTo {
     NormalizesTo {
         alias: alias_term(parts.args),
@@ -183,7 +184,7 @@ fn normalizes(parts: Leaves) -> NormalizesTo {
     }
 }
 
-// That one type is a subtype of another.
+// Returns the predicate that one type is a subtype of another.
 fn subtype(parts: Leaves) -> SubtypePredicate {
     SubtypePredicate {
         a_is_expected: true,
@@ -192,7 +193,7 @@ fn subtype(parts: Leaves) -> SubtypePredicate {
     }
 }
 
-// That one type can be coerced to another.
+// Returns the predicate that one type can be coerced to another.
 pub fn coercion(parts: Leaves) -> CoercePredicate {
     CoercePredicate {
         a: parts.near,
@@ -200,7 +201,7 @@ pub fn coercion(parts: Leaves) -> CoercePredicate {
     }
 }
 
-// That a type outlives a region.
+// Returns the predicate that a type outlives a region.
 pub fn outlives(parts: Leaves) -> OutlivesPredicate<Ty> {
     OutlivesPredicate(parts.far, parts.region)
 }

@@ -1,4 +1,4 @@
-//! Kinds, handles, lists, options and results, as a fold gives them back.
+//! The folds of kinds, handles, lists, options and results.
 
 use super::every_fold::{
     Leaves, coercion, existential_projection, existential_trait_ref, is_moved, old_and_new,
@@ -21,22 +21,22 @@ use type_terms::{
     VariantIdx,
 };
 
-// That the clause of a type and a region holds.
+// Returns a clause on a type and a region.
 fn clause_kind(parts: Leaves) -> ClauseKind {
     ClauseKind::TypeOutlives(outlives(parts))
 }
 
-// That one type can be coerced to another.
+// Returns the predicate that one type can be coerced to another.
 fn predicate_kind(parts: Leaves) -> PredicateKind {
     PredicateKind::Coerce(coercion(parts))
 }
 
-// What an associated item of a hidden type is.
+// Returns the value of an associated item of a hidden type.
 fn existential_kind(parts: Leaves) -> ExistentialPredicate {
     ExistentialPredicate::Projection(existential_projection(parts))
 }
 
-// An expression on these arguments.
+// Returns an expression on these arguments.
 fn expression(args: GenericArgs) -> ExprConst {
     ExprConst { tag: 5, args }
 }
@@ -55,7 +55,7 @@ fn kinds_of_predicates(rt: HostRuntime) {
     holds_anew(&rt, rt.alloc(), kinds_of_predicates_holds);
 }
 
-// Whether each first value, moved into one more binder, is the second.
+// Returns whether each first value, moved into one more binder, is the second.
 fn are_moved<T: Owned + TypeFoldable + Copy + PartialEq>(
     cx: &mut Interner,
     rows: &[(T, T)],
@@ -97,7 +97,7 @@ fn options_and_results(rt: HostRuntime) {
     holds_anew(&rt, rt.alloc(), options_and_results_holds);
 }
 
-// What has nothing to be moved isn't folded by a move, and is by another folder.
+// A value with nothing to move isn't folded by a move, but is by another folder.
 fn values_without_parts_holds(cx: &mut Interner) -> Result<bool, Refusal> {
     let from = u32_ty(cx)?;
     let to = ty(cx, TyKind::Bool)?;
@@ -106,7 +106,7 @@ fn values_without_parts_holds(cx: &mut Interner) -> Result<bool, Refusal> {
     Ok(is_replaced(cx, none, from, to, none) && is_replaced(cx, token, from, to, token))
 }
 
-// Whether a fold gives back the value by itself, and beside a type that it replaces, and a copy is equal to it.
+// Returns whether a fold keeps the value, alone and beside a type that it replaces, and a copy is equal to it.
 fn is_data<T: Owned + TypeFoldable + ClonesTree + Copy + PartialEq>(
     cx: &mut Interner,
     from: Ty,
@@ -212,7 +212,7 @@ struct Stored {
     existentials: BoundExistentialPredicates,
 }
 
-// The stored values of these parts.
+// Returns the stored values of these parts.
 fn stored_of(cx: &mut Interner, parts: Leaves) -> Result<Stored, Refusal> {
     let args = parts.args;
     let first = constant(cx, ConstKind::Expr(expression(args)))?;
@@ -256,7 +256,7 @@ fn handles_and_lists(rt: HostRuntime) {
     holds_anew(&rt, rt.alloc(), handles_and_lists_holds);
 }
 
-// A constant, a predicate and the list of a clause, with this type in them.
+// Returns a constant, a predicate and the list of a clause, with this type in them.
 fn around(cx: &mut Interner, ty: Ty) -> Result<(Const, Predicate, Clauses), Refusal> {
     let valtree = ValTree::from(ValTreeKind::Leaf(ScalarInt { bits: 7, size: 1 }));
     let value = constant(cx, ConstKind::Value(ValueConst { ty, valtree }))?;
@@ -287,7 +287,7 @@ fn what_stands_in_handles(rt: HostRuntime) {
     holds_anew(&rt, rt.alloc(), what_stands_in_handles_holds);
 }
 
-// The environment of one clause on these parts.
+// Returns the environment of one clause on these parts.
 fn environment(cx: &mut Interner, parts: Leaves) -> Result<ParamEnv, Refusal> {
     let kind = PredicateKind::Clause(clause_kind(parts));
     let vars = one_region(cx)?;

@@ -1,4 +1,4 @@
-//! Walks in an interner whose tables are full: what is there is found, and what is new is refused.
+//! Walks in an interner whose tables are full: stored terms are found, and new ones are refused.
 
 use super::holds_within;
 use super::regions::{renumbered, static_ref, variable_ref};
@@ -9,15 +9,15 @@ use type_terms::{
     Refusal, Safety, Ty, TyKind, TypeFoldable,
 };
 
-// How many rows a table may have.
+// The number of rows that a table may have.
 const LIMIT: u32 = 16;
 
-// A walk that puts one type in the places of another.
+// A walk that replaces one type by another.
 #[derive(Clone, Copy)]
 enum Walk {
-    // A user's folder puts `bool` in the places of `u32`.
+    // A user's folder replaces `u32` by `bool`.
     Fold,
-    // A closure answers a region variable about `'static`.
+    // A closure replaces `'static` by a region variable.
     Regions,
     // Bound variables are moved past one binder.
     Shift,
@@ -25,7 +25,7 @@ enum Walk {
     Instantiate,
 }
 
-// A walk with a type and what it makes of it, and a type parameter and what it makes of that.
+// A walk with a type and its result, and a type parameter and its result.
 #[derive(Clone, Copy)]
 struct Change {
     walk: Walk,
@@ -35,7 +35,7 @@ struct Change {
     put: Ty,
 }
 
-// The change that the walk makes.
+// Returns the change that the walk makes.
 fn change_of(cx: &mut Interner, walk: Walk) -> Result<Change, Refusal> {
     let parameter = param_ty(cx, 0)?;
     let number = u32_ty(cx)?;
@@ -54,7 +54,7 @@ fn change_of(cx: &mut Interner, walk: Walk) -> Result<Change, Refusal> {
     })
 }
 
-// What the walk makes of the value.
+// Returns the walk's result for the value.
 fn walked<T: Owned + TypeFoldable + Copy>(
     cx: &mut Interner,
     change: Change,
@@ -68,28 +68,28 @@ fn walked<T: Owned + TypeFoldable + Copy>(
     }
 }
 
-// The signature of these types, under a binder of no variables.
+// Returns the signature of these types, under a binder of no variables.
 fn signature(cx: &mut Interner, types: &[Ty]) -> Result<Binder<FnSigTys>, Refusal> {
     let inputs_and_output = tys(cx, types)?;
     let signature = FnSigTys { inputs_and_output };
     Ok(Binder::bind_with_vars(signature, BoundVarKinds::default()))
 }
 
-// The pointer to a function of these types, under a binder of no variables.
+// Returns the pointer to a function of these types, under a binder of no variables.
 fn pointer(cx: &mut Interner, types: &[Ty], safety: Safety) -> Result<Ty, Refusal> {
     let signature = signature(cx, types)?;
     let fn_sig_kind = FnSigKind::new(ExternAbi::Rust, safety, false);
     ty(cx, TyKind::FnPtr(signature, FnHeader { fn_sig_kind }))
 }
 
-// The pointers `fn() -> R` and `fn(P) -> R`.
+// Returns the pointers `fn() -> R` and `fn(P) -> R`.
 fn pointers(cx: &mut Interner, parameter: Ty, output: Ty) -> Result<(Ty, Ty), Refusal> {
     let short = pointer(cx, &[output], Safety::Safe)?;
     let long = pointer(cx, &[parameter, output], Safety::Safe)?;
     Ok((short, long))
 }
 
-// Stores slices and lists of them while there is room, and answers whether there is none then.
+// Stores slices and lists of them while there is room, and returns whether there is none left.
 fn is_filled(cx: &mut Interner, first: Ty) -> bool {
     let mut last = first;
     for _ in 0..LIMIT {
@@ -103,23 +103,23 @@ fn is_filled(cx: &mut Interner, first: Ty) -> bool {
         && tys(cx, &[last, last, last]) == Err(Refusal::TableFull)
 }
 
-// Whether the walk finds these pointers, which are what it makes of those.
+// Returns whether the walk finds the pointers `after`, which are its results for the pointers `before`.
 fn are_found(cx: &mut Interner, change: Change, before: (Ty, Ty), after: (Ty, Ty)) -> bool {
     walked(cx, change, before.0) == Ok(after.0) && walked(cx, change, before.1) == Ok(after.1)
 }
 
-// Whether the pointers of the change are these still.
+// Returns whether the pointers of the change are still these.
 fn are_pointers(cx: &mut Interner, change: Change, before: (Ty, Ty), after: (Ty, Ty)) -> bool {
     pointers(cx, change.parameter, change.before) == Ok(before)
         && pointers(cx, change.put, change.after) == Ok(after)
 }
 
-// The flags and the outer exclusive binders of two types.
+// Returns the flags and the outer exclusive binders of two types.
 fn infos(cx: &Interner, types: (Ty, Ty)) -> Result<((u32, u32), (u32, u32)), Refusal> {
     Ok((info(cx, &types.0)?, info(cx, &types.1)?))
 }
 
-// Of one pointer that the walk is asked for only the type isn't there, of one signature only the list.
+// For one pointer only the type isn't stored yet, and for one signature only the list.
 fn known_is_found_and_new_is_refused(cx: &mut Interner, walk: Walk) -> Result<bool, Refusal> {
     let change = change_of(cx, walk)?;
     let before = pointers(cx, change.parameter, change.before)?;

@@ -44,7 +44,7 @@ fn guide_builds(rt: HostRuntime) {
     holds_anew(&rt, rt.alloc(), is_built_once);
 }
 
-// Whether the type is a generic function pointer that is fully inferred and means the same under whatever binders.
+// Returns whether the type is a generic function pointer without inference variables and escaping variables.
 fn is_generic_signature(cx: &Interner, ty: Ty) -> bool {
     if !ty.is_owned(cx) {
         return false;
@@ -54,7 +54,7 @@ fn is_generic_signature(cx: &Interner, ty: Ty) -> bool {
     is_pointer && is_closed && ty.has_param(cx) && !ty.has_infer(cx)
 }
 
-// The flags are one set for all that is in the type: the parameter, the bound region, and that a binder has variables.
+// The flags are one set for the whole type: the parameter, the bound region, and the binder's variables.
 fn is_asked(cx: &mut Interner) -> Result<bool, Refusal> {
     let ty = signature(cx)?;
     let is_one = is_generic_signature(cx, ty);
@@ -66,7 +66,7 @@ fn guide_asks(rt: HostRuntime) {
     holds_anew(&rt, rt.alloc(), is_asked);
 }
 
-// The type with the argument in the places of its type parameter of index 0.
+// Returns the type with its type parameter of index 0 replaced by the argument.
 fn with_argument(cx: &mut Interner, ty: Ty, argument: GenericArg) -> Result<Ty, Refusal> {
     if !ty.is_owned(cx) || !argument.is_owned(cx) {
         return Err(Refusal::NoSuchAnswer);
@@ -76,7 +76,7 @@ fn with_argument(cx: &mut Interner, ty: Ty, argument: GenericArg) -> Result<Ty, 
     Ok(instance.skip_norm_wip())
 }
 
-// A type for T is put in. A region for T is refused, with the parameter's index, and the signature is what it was.
+// A type for T is accepted. A region for T is refused, with the parameter's index, and the signature is unchanged.
 fn is_instantiated(cx: &mut Interner) -> Result<bool, Refusal> {
     let ty = signature(cx)?;
     let truth = cx.mk_ty(TyKind::Bool)?;
@@ -95,7 +95,7 @@ fn guide_instantiates(rt: HostRuntime) {
     holds_anew(&rt, rt.alloc(), is_instantiated);
 }
 
-// The type as it reads under so many more binders.
+// Returns the type shifted into `binders` more binders.
 fn under_binders(cx: &mut Interner, ty: Ty, binders: u32) -> Result<Ty, Refusal> {
     if ty.is_owned(cx) {
         shift_vars(cx, ty, binders)
@@ -104,7 +104,7 @@ fn under_binders(cx: &mut Interner, ty: Ty, binders: u32) -> Result<Ty, Refusal>
     }
 }
 
-// `&'^0.0 u32` is `&'^2.0 u32` under two more binders. A type without escaping variables comes back.
+// `&'^0.0 u32` is `&'^2.0 u32` under two more binders. A type without escaping variables is returned unchanged.
 fn is_shifted_by_two(cx: &mut Interner) -> Result<bool, Refusal> {
     let number = cx.mk_ty(TyKind::Uint(UintTy::U32))?;
     let inner = BoundRegion {
@@ -129,7 +129,7 @@ fn guide_shifts(rt: HostRuntime) {
     holds_anew(&rt, rt.alloc(), is_shifted_by_two);
 }
 
-// Looks for an inference variable, and goes into no type without one.
+// Looks for an inference variable, and enters no type without one.
 #[derive(Drop)]
 struct Occurrence {
     vid: TyVid,
@@ -153,7 +153,7 @@ impl TypeInspector for Occurrence {
     }
 }
 
-// Whether the inference variable occurs in the value.
+// Returns whether the inference variable occurs in the value.
 fn occurs<T: Owned>(cx: &Interner, value: &T, vid: TyVid) -> bool {
     if !value.is_owned(cx) {
         return false;
@@ -175,7 +175,7 @@ fn guide_visits(rt: HostRuntime) {
     holds_anew(&rt, rt.alloc(), is_visited);
 }
 
-// Puts its solution in the places of an inference variable.
+// Replaces an inference variable by its solution.
 #[derive(Drop)]
 struct Solve {
     vid: TyVid,
@@ -202,7 +202,7 @@ impl TypeReplacer for Solve {
     }
 }
 
-// The type with the solution in the places of the inference variable.
+// Returns the type with the inference variable replaced by the solution.
 fn solved(cx: &mut Interner, ty: Ty, vid: TyVid, solution: Ty) -> Result<Ty, Refusal> {
     if ty.is_owned(cx) && solution.is_owned(cx) {
         replace_types(cx, ty, &mut Solve { vid, solution })

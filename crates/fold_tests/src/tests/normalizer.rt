@@ -9,7 +9,7 @@ use type_terms::{
     Interner, Owned, Refusal, Step, Ty, TyKind, TypeFoldable, TypeReplacer, replace_types,
 };
 
-// Puts the right side of the one alias that is declared in the places of its uses.
+// Replaces the uses of the one declared alias by its right side.
 #[derive(Drop)]
 struct Normalizer {
     right_side: EarlyBinder<Ty>,
@@ -24,7 +24,7 @@ impl TypeReplacer for Normalizer {
         let TyKind::Alias(alias) = *ty.kind(cx) else {
             return Ok(Step::Descend);
         };
-        if !cx.owns_args(alias.args) {
+        if !cx.owns(alias.args) {
             return Err(NOT_OWNED);
         }
         let instance = self.right_side.instantiate(cx, alias.args)?;
@@ -32,7 +32,7 @@ impl TypeReplacer for Normalizer {
     }
 }
 
-// The alias with this argument.
+// Returns the alias with this argument.
 fn alias(cx: &mut Interner, argument: Ty) -> Result<Ty, Refusal> {
     let args = args(cx, &[GenericArg::from(argument)])?;
     let kind = AliasTyKind::Free {
@@ -41,7 +41,7 @@ fn alias(cx: &mut Interner, argument: Ty) -> Result<Ty, Refusal> {
     ty(cx, TyKind::Alias(AliasTy { args, kind }))
 }
 
-// The value with the right side in the places of the alias.
+// Returns the value with the alias replaced by the right side.
 fn normalized<T: Owned + TypeFoldable>(
     cx: &mut Interner,
     value: T,
@@ -54,7 +54,7 @@ fn normalized<T: Owned + TypeFoldable>(
     }
 }
 
-// The alias is normalized to the slices of its argument. A fold puts them into references too.
+// The alias is normalized to the slice of its argument, inside references too.
 fn aliases_are_normalized_holds(cx: &mut Interner) -> Result<bool, Refusal> {
     let parameter = param_ty(cx, 0)?;
     let right_side = ty(cx, TyKind::Slice(parameter))?;

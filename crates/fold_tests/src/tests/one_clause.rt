@@ -1,4 +1,4 @@
-//! Clauses by themselves, in vectors and under binders, beside those that are built by hand.
+//! Clauses by themselves, in vectors and under binders, compared with clauses that are built by hand.
 
 use super::holds_anew;
 use super::users::is_replaced;
@@ -11,36 +11,36 @@ use type_terms::{
     PredicateKind, Refusal, Term, Ty, TyKind, TypeFoldable, TypeVisitableExt,
 };
 
-// The clause that the type is well formed, under a binder of no variables.
+// Returns the clause that the type is well formed, under a binder of no variables.
 fn well_formed(cx: &mut Interner, subject: Ty) -> Result<Clause, Refusal> {
     let kind = PredicateKind::Clause(ClauseKind::WellFormed(Term::from(subject)));
     let stored = predicate(cx, kind, BoundVarKinds::default())?;
     clause(cx, stored)
 }
 
-// A predicate that is no clause.
+// Returns a predicate that is not a clause.
 fn no_clause(cx: &mut Interner) -> Result<Predicate, Refusal> {
     predicate(cx, PredicateKind::Ambiguous, BoundVarKinds::default())
 }
 
-// The clause under a binder of one region.
+// Returns the clause under a binder of one region.
 fn under_binder(cx: &mut Interner, item: Clause) -> Result<Binder<Clause>, Refusal> {
     let vars = one_region(cx)?;
     Ok(Binder::bind_with_vars(item, vars))
 }
 
-// A vector of the clause, twice.
+// Returns a vector of the clause, twice.
 fn twice(cx: &Interner, item: Clause) -> Result<Vec<Clause>, Refusal> {
     let items = vec![in cx.allocator(); item, item]?;
     Ok(items)
 }
 
-// Whether a variable in the value is bound outside of it.
+// Returns whether a variable in the value is bound outside of it.
 fn escapes<T: Owned + TypeFoldable>(cx: &Interner, value: &T) -> bool {
     value.is_owned(cx) && value.has_escaping_bound_vars(cx)
 }
 
-// The contents of a clause are met, under the clause's own binder.
+// The contents of a clause are visited under the clause's own binder.
 fn clauses_are_visited_holds(cx: &mut Interner) -> Result<bool, Refusal> {
     let near = bound_ty(cx, 1)?;
     let far = bound_ty(cx, 2)?;
@@ -126,7 +126,7 @@ fn clauses_are_instantiated(rt: HostRuntime) {
     holds_anew(&rt, rt.alloc(), clauses_are_instantiated_holds);
 }
 
-// A folder that answers a predicate which is no clause is refused at the first clause, and isn't asked again.
+// A folder that returns a predicate that is not a clause is refused at the first clause, and isn't called again.
 fn a_clause_stays_one_holds(cx: &mut Interner) -> Result<bool, Refusal> {
     let number = u32_ty(cx)?;
     let logical = ty(cx, TyKind::Bool)?;
@@ -148,7 +148,7 @@ fn a_clause_stays_one(rt: HostRuntime) {
     holds_anew(&rt, rt.alloc(), a_clause_stays_one_holds);
 }
 
-// What is no clause is folded as the predicate that it is.
+// A `Clause` that is not one is folded as a predicate.
 fn no_clause_is_folded_as_a_predicate_holds(cx: &mut Interner) -> Result<bool, Refusal> {
     let from = no_clause(cx)?;
     let item = Clause::from_number(from.number());

@@ -13,7 +13,7 @@ use type_terms::{
     RegionVid, Ty, TyKind, TypeFoldable, fold_regions,
 };
 
-// What a closure answers.
+// The answer of a closure.
 #[derive(Clone, Copy)]
 enum Kind {
     // The region variable of the number of calls before.
@@ -25,7 +25,7 @@ enum Kind {
 // A call: the region, and how many binders enclose it.
 type Asked = (Region, u32);
 
-// What a closure was asked, and how often; it keeps the first four calls.
+// The first four calls of a closure, and the number of calls.
 #[derive(Drop)]
 struct Record {
     answers: Kind,
@@ -34,7 +34,7 @@ struct Record {
 }
 
 impl Record {
-    // Nothing was asked yet.
+    // Returns the record before any call.
     fn new(answers: Kind) -> Record {
         Record {
             answers,
@@ -43,7 +43,7 @@ impl Record {
         }
     }
 
-    // The answer to the next call, and the region itself where there is none.
+    // Returns the answer to the next call, or the region itself if there is none.
     fn ask(&mut self, region: Region, depth: DebruijnIndex) -> Region
         ensures { (symbols : ℕ) → HasName symbols region → HasName symbols result }
     {
@@ -58,7 +58,7 @@ impl Record {
         }
     }
 
-    // Whether these were the calls.
+    // Returns whether these were the calls.
     fn is(&self, calls: &[Asked]) -> bool {
         let mut next = 0;
         for call in calls {
@@ -71,7 +71,7 @@ impl Record {
     }
 }
 
-// The answer after so many calls.
+// Returns the answer after so many calls.
 fn answer(answers: Kind, before: u32) -> Result<Region, Refusal>
     ensures { (symbols : ℕ) → IfOk result (HasName symbols) }
 {
@@ -90,7 +90,7 @@ fn answer(answers: Kind, before: u32) -> Result<Region, Refusal>
     }
 }
 
-// The value with what the record answers in the places of its regions.
+// Returns the value with its regions replaced by the record's answers.
 fn folded<T: Owned + TypeFoldable>(
     cx: &mut Interner,
     value: T,
@@ -103,12 +103,12 @@ fn folded<T: Owned + TypeFoldable>(
     }
 }
 
-// The value with the region variables from number 0 on in the places of its regions.
+// Returns the value with its regions replaced by region variables, from number 0 on.
 pub fn renumbered<T: Owned + TypeFoldable>(cx: &mut Interner, value: T) -> Result<T, Refusal> {
     folded(cx, value, &mut Record::new(Kind::Variable))
 }
 
-// The pointer to a function of these types under a binder of these variables.
+// Returns the pointer to a function of these types under a binder of these variables.
 pub fn pointer(cx: &mut Interner, types: &[Ty], vars: BoundVarKinds) -> Result<Ty, Refusal> {
     let inputs_and_output = tys(cx, types)?;
     let signature = Binder::bind_with_vars(FnSigTys { inputs_and_output }, vars);
@@ -128,7 +128,7 @@ pub fn variable_ref(cx: &mut Interner, variable: u32) -> Result<Ty, Refusal> {
     ref_ty(cx, answer(Kind::Variable, variable)?, number)
 }
 
-// One handle that occurs at two places is asked about twice.
+// The closure is called twice for one handle that occurs at two places.
 fn each_place_is_asked_about_holds(cx: &mut Interner) -> Result<bool, Refusal> {
     let region = Region::new(RegionKind::ReStatic)?;
     let value = static_ref(cx)?;
@@ -144,8 +144,8 @@ fn each_place_is_asked_about(rt: HostRuntime) {
     holds_anew(&rt, rt.alloc(), each_place_is_asked_about_holds);
 }
 
-// Whether `fn(&'static u32)` under a binder of no variables becomes a pointer of these flags and this outer exclusive
-// binder where the answers are bound there.
+// Returns whether `fn(&'static u32)` under a binder of no variables becomes a pointer of these flags and this outer
+// exclusive binder if the answers are bound there.
 fn stands_as_answered(
     cx: &mut Interner,
     index: BoundVarIndexKind,
@@ -178,7 +178,7 @@ fn answers_stand_as_they_are(rt: HostRuntime) {
     holds_anew(&rt, rt.alloc(), answers_stand_as_they_are_holds);
 }
 
-// The region that the pointer's binder binds is its own, and isn't asked about; the answers are bound there.
+// The closure isn't called at the region that the pointer's binder binds; its answers are bound there.
 fn own_regions_are_not_asked_about_holds(cx: &mut Interner) -> Result<bool, Refusal> {
     let number = u32_ty(cx)?;
     let vars = one_region(cx)?;
@@ -203,7 +203,7 @@ fn own_regions_are_not_asked_about(rt: HostRuntime) {
     holds_anew(&rt, rt.alloc(), own_regions_are_not_asked_about_holds);
 }
 
-// Where no region is met the value comes back, the closure isn't asked, and no row is added.
+// If no region is met, the value is returned, the closure isn't called, and no row is added.
 fn nothing_is_asked_about_holds(cx: &mut Interner) -> Result<bool, Refusal> {
     let number = u32_ty(cx)?;
     let vars = one_region(cx)?;

@@ -1,4 +1,4 @@
-//! That a type which comes again is taken apart once.
+//! A type that occurs again is taken apart once.
 
 use super::holds_anew;
 use test_terms::{bound_region, instance, param_ty, ref_ty, ty, tys};
@@ -7,13 +7,13 @@ use type_terms::{
     TyKind,
 };
 
-// The tuple of these types.
+// Returns the tuple of these types.
 pub fn tuple(cx: &mut Interner, types: &[Ty]) -> Result<Ty, Refusal> {
     let items = tys(cx, types)?;
     ty(cx, TyKind::Tuple(items))
 }
 
-// The pointer to a function of these types, the last of which is what it returns, under a binder of no variables.
+// Returns the pointer to a function of these types, the last of which is its output, under a binder of no variables.
 pub fn pointer(cx: &mut Interner, types: &[Ty]) -> Result<Ty, Refusal> {
     let inputs_and_output = tys(cx, types)?;
     let signature = FnSigTys { inputs_and_output };

@@ -16,7 +16,7 @@ use type_terms::{
     TypeFoldable, TypeReplacer, replace_regions, replace_types, replace_types_once,
 };
 
-// Puts one region in the places of all.
+// Replaces each region by one.
 #[derive(Drop)]
 struct OneForAll {
     region: Region,
@@ -34,7 +34,7 @@ impl RegionReplacer for OneForAll {
     }
 }
 
-// The value with one region in the places of all of its regions.
+// Returns the value with each of its regions replaced by one.
 fn with_region<T: Owned + TypeFoldable>(
     cx: &mut Interner,
     value: T,
@@ -83,7 +83,7 @@ impl RegionReplacer for Eraser {
     }
 }
 
-// The value with its regions erased.
+// Returns the value with its regions erased.
 fn erased<T: Owned + TypeFoldable>(cx: &mut Interner, value: T) -> Result<T, Refusal> {
     if value.is_owned(cx) {
         replace_regions(cx, value, &mut Eraser)
@@ -92,7 +92,7 @@ fn erased<T: Owned + TypeFoldable>(cx: &mut Interner, value: T) -> Result<T, Ref
     }
 }
 
-// What a binder in the value binds is erased too.
+// Regions that are bound in the value are erased too.
 fn regions_are_erased_holds(cx: &mut Interner) -> Result<bool, Refusal> {
     let number = u32_ty(cx)?;
     let region = bound_region(0)?;
@@ -113,7 +113,7 @@ fn regions_are_erased(rt: HostRuntime) {
     holds_anew(&rt, rt.alloc(), regions_are_erased_holds);
 }
 
-// Puts one type in the places of another.
+// Replaces one type by another.
 #[derive(Drop)]
 struct InPlaceOf {
     from: Ty,
@@ -136,7 +136,7 @@ impl TypeReplacer for InPlaceOf {
     }
 }
 
-// The value with one type in the places of another.
+// Returns the value with one type replaced by another.
 fn with_type<T: Owned + TypeFoldable>(
     cx: &mut Interner,
     value: T,
@@ -171,7 +171,7 @@ fn types_alone_are_replaced(rt: HostRuntime) {
     holds_anew(&rt, rt.alloc(), types_alone_are_replaced_holds);
 }
 
-// The value with one type in the places of another, where what came of a type is remembered.
+// Returns the value with one type replaced by another, by a fold that remembers the results of types.
 fn with_type_once<T: Owned + TypeFoldable>(
     cx: &mut Interner,
     value: T,

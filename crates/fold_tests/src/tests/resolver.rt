@@ -1,4 +1,4 @@
-//! A user's resolver: inference variables are replaced by what a table binds them to.
+//! A user's resolver: inference variables are replaced by their bindings in a table.
 
 ghost use Rattle.tt_kinds.specs.Kinds.{ty_shape};
 ghost use Rattle.tt_kinds.specs.Values.{option_shape, sequence_shape};
@@ -11,7 +11,7 @@ use type_terms::{
     replace_types,
 };
 
-// Puts what the table says of an inference variable in the variable's place, by the variable's number.
+// Replaces an inference variable by its binding in the table, by the variable's number.
 #[derive(Drop)]
 pub struct Resolver {
     pub bindings: Vec<Option<Ty>>,
@@ -33,7 +33,7 @@ impl TypeReplacer for Resolver {
     }
 }
 
-// The value with the bindings in the places of its variables.
+// Returns the value with its variables replaced by their bindings.
 pub fn resolved<T: Owned + TypeFoldable>(
     cx: &mut Interner,
     value: T,
@@ -46,7 +46,7 @@ pub fn resolved<T: Owned + TypeFoldable>(
     }
 }
 
-// Where a binding holds a variable, a second call resolves that.
+// If a binding holds a variable, a second call resolves it.
 fn bindings_are_put_in_holds(cx: &mut Interner) -> Result<bool, Refusal> {
     let (zero, one, two) = (variable(cx, 0)?, variable(cx, 1)?, variable(cx, 2)?);
     let truth = ty(cx, TyKind::Bool)?;
@@ -69,7 +69,7 @@ fn bindings_are_put_in(rt: HostRuntime) {
     holds_anew(&rt, rt.alloc(), bindings_are_put_in_holds);
 }
 
-// There is no room for the resolved slice. The table is asked again, and answers.
+// There is no room for the resolved slice. The resolver is used again, and succeeds.
 fn bindings_stay_after_a_refusal_holds(cx: &mut Interner) -> Result<bool, Refusal> {
     let zero = variable(cx, 0)?;
     let truth = ty(cx, TyKind::Bool)?;

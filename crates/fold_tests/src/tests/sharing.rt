@@ -11,7 +11,7 @@ fn bound_ref(cx: &mut Interner, binder: u32) -> Result<Ty, Refusal> {
     ref_ty(cx, bound_region(binder)?, number)
 }
 
-// The type paired with itself, and each pair again, so many times over.
+// Returns the type paired with itself, and each pair again, `times` times.
 pub fn paired(cx: &mut Interner, single: Ty, times: u32) -> Result<Ty, Refusal> {
     let mut pair = single;
     for _ in 0..times {
@@ -62,7 +62,7 @@ fn depths_are_told_apart(rt: HostRuntime) {
     holds_anew(&rt, rt.alloc(), depths_are_told_apart_holds);
 }
 
-// What came of a type is remembered until the call ends, and no longer: by another amount another type comes of it.
+// The result of a type is remembered until the call ends, and no longer: another amount gives another result.
 fn each_call_forgets_holds(cx: &mut Interner) -> Result<bool, Refusal> {
     let refs = [bound_ref(cx, 0)?, bound_ref(cx, 1)?, bound_ref(cx, 2)?];
     let number = u32_ty(cx)?;

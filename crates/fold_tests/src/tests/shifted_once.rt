@@ -1,4 +1,4 @@
-//! Arguments that are shifted past the binders above their parameters: once past as many, and past no others.
+//! Arguments are shifted past the binders above their parameters: once past each number of binders, and past no others.
 
 use super::remembering::{bound_ref, pointer, tuple};
 use super::sharing::paired;
@@ -36,7 +36,8 @@ fn two_depths(cx: &mut Interner, item: Ty, deeper: Ty) -> Result<Ty, Refusal> {
     tuple(cx, &[one, two])
 }
 
-// Whether the argument in the parameter's place makes this of the value, and the shifter takes apart at most so many types.
+// Returns whether instantiating the value with the argument gives this result, and the shifter takes apart at most this
+// many types.
 fn becomes(
     cx: &mut Interner,
     value: Ty,
@@ -69,7 +70,7 @@ fn a_shared_argument_is_shifted_once(rt: HostRuntime) {
     holds_anew(&rt, rt.alloc(), a_shared_argument_is_shifted_once_holds);
 }
 
-// Under no binder the argument is placed as it stands.
+// Under no binder the argument is not shifted.
 fn an_open_argument_is_not_shifted_holds(cx: &mut Interner) -> Result<bool, Refusal> {
     let parameter = param_ty(cx, 0)?;
     let value = tuple(cx, &[parameter, parameter])?;
@@ -83,7 +84,7 @@ fn an_open_argument_is_not_shifted(rt: HostRuntime) {
     holds_anew(&rt, rt.alloc(), an_open_argument_is_not_shifted_holds);
 }
 
-// What was shifted past one binder doesn't serve under two.
+// An argument shifted past one binder isn't used under two.
 fn depths_of_types_are_told_apart_holds(cx: &mut Interner) -> Result<bool, Refusal> {
     let parameter = param_ty(cx, 0)?;
     let value = two_depths(cx, parameter, parameter)?;
@@ -110,13 +111,13 @@ fn array(cx: &mut Interner, length: Const) -> Result<Ty, Refusal> {
     ty(cx, TyKind::Array(item, length))
 }
 
-// An array as long as the variable of the binder of this index says.
+// Returns an array whose length is the variable of the binder of this index.
 fn bound_array(cx: &mut Interner, binder: u32) -> Result<Ty, Refusal> {
     let length = bound_length(cx, binder)?;
     array(cx, length)
 }
 
-// The constant of the first variable of the binder of this index.
+// Returns the constant of the first variable of the binder of this index.
 fn bound_length(cx: &mut Interner, binder: u32) -> Result<Const, Refusal> {
     let index = BoundVarIndexKind::Bound(binder_index(binder)?);
     constant(
@@ -125,7 +126,7 @@ fn bound_length(cx: &mut Interner, binder: u32) -> Result<Const, Refusal> {
     )
 }
 
-// The same of constants, and of two arguments under as many binders.
+// The same for constants, and for two arguments under as many binders.
 fn depths_of_constants_are_told_apart_holds(cx: &mut Interner) -> Result<bool, Refusal> {
     let name = cx.symbol("N")?;
     let parameter = constant(cx, ConstKind::Param(ParamConst { index: 0, name }))?;
@@ -162,7 +163,7 @@ fn arguments_are_told_apart(rt: HostRuntime) {
     holds_anew(&rt, rt.alloc(), arguments_are_told_apart_holds);
 }
 
-// Whether the table of types has no room for a new one.
+// Returns whether the table of types has no room for a new one.
 fn is_full(cx: &mut Interner) -> bool {
     ty(cx, TyKind::Never) == Err(Refusal::TableFull)
 }

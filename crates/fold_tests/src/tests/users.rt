@@ -78,7 +78,7 @@ impl TypeVisitor for RegionCount {
     fn leave_binder(&mut self, _cx: &Interner, _vars: BoundVarKinds) {}
 }
 
-// The answer of a visit: the count of regions, or the error that was met.
+// Returns the result of a visit: the count of regions, or the error that was found.
 fn counted(outcome: ControlFlow<u32, ()>, visitor: &RegionCount) -> Result<u64, u32> {
     match outcome {
         ControlFlow::Break(error) => Err(error),
@@ -86,7 +86,7 @@ fn counted(outcome: ControlFlow<u32, ()>, visitor: &RegionCount) -> Result<u64, 
     }
 }
 
-// The count of regions in the value, or its first error.
+// Returns the count of regions in the value, or its first error.
 fn regions_in<T: Owned + TypeFoldable>(cx: &Interner, value: &T) -> Option<Result<u64, u32>> {
     if !value.is_owned(cx) {
         return None;
@@ -96,12 +96,12 @@ fn regions_in<T: Owned + TypeFoldable>(cx: &Interner, value: &T) -> Option<Resul
     Some(counted(outcome, &visitor))
 }
 
-// Whether the value has so many regions and no error.
+// Returns whether the value has so many regions and no error.
 fn has_regions<T: Owned + TypeFoldable>(cx: &Interner, value: &T, count: u64) -> bool {
     regions_in(cx, value) == Some(Ok(count))
 }
 
-// The same without the value's own hook.
+// Returns the same without the value's own hook.
 fn regions_inside<T: Owned + TypeFoldable + TypeSuperVisitable>(
     cx: &Interner,
     value: &T,
@@ -114,7 +114,7 @@ fn regions_inside<T: Owned + TypeFoldable + TypeSuperVisitable>(
     Some(counted(outcome, &visitor))
 }
 
-// Whether so many regions occur in the value, and no error.
+// Returns whether so many regions occur in the value, and no error.
 fn has_regions_inside<T: Owned + TypeFoldable + TypeSuperVisitable>(
     cx: &Interner,
     value: &T,
@@ -123,7 +123,7 @@ fn has_regions_inside<T: Owned + TypeFoldable + TypeSuperVisitable>(
     regions_inside(cx, value) == Some(Ok(count))
 }
 
-// The same of a pair of two lent values.
+// Returns the count of regions in a pair of two borrowed values, or its first error.
 fn regions_in_lent<A: Owned + TypeFoldable, B: Owned>(
     cx: &Interner,
     first: &A,
@@ -137,9 +137,9 @@ fn regions_in_lent<A: Owned + TypeFoldable, B: Owned>(
     Some(counted(outcome, &visitor))
 }
 
-// The same of a stored type, by its row.
+// Returns the count of regions in a stored type, by its row, or its first error.
 fn regions_in_node(cx: &Interner, ty: Ty) -> Option<Result<u64, u32>> {
-    if !cx.owns_ty(ty) {
+    if !cx.owns(ty) {
         return None;
     }
     let mut visitor = RegionCount { count: 0 };
@@ -147,9 +147,9 @@ fn regions_in_node(cx: &Interner, ty: Ty) -> Option<Result<u64, u32>> {
     Some(counted(outcome, &visitor))
 }
 
-// The same of a stored list, by its row.
+// Returns the count of regions in a stored list, by its row, or its first error.
 fn regions_in_list(cx: &Interner, list: Tys) -> Option<Result<u64, u32>> {
-    if !cx.owns_tys(list) {
+    if !cx.owns(list) {
         return None;
     }
     let mut visitor = RegionCount { count: 0 };
@@ -157,7 +157,7 @@ fn regions_in_list(cx: &Interner, list: Tys) -> Option<Result<u64, u32>> {
     Some(counted(outcome, &visitor))
 }
 
-// The same of a kind, whether it is stored or not.
+// Returns the count of regions in a kind, stored or not, or its first error.
 fn regions_in_kind(cx: &Interner, kind: TyKind) -> Option<Result<u64, u32>> {
     if !cx.owns_kind(&kind) {
         return None;
@@ -218,7 +218,7 @@ fn an_error_ends_the_visit_holds(cx: &mut Interner) -> Result<bool, Refusal> {
     let reference = ref_ty(cx, bound_region(0)?, error)?;
     let vars = one_region(cx)?;
     let so_far = regions_in(cx, &Binder::bind_with_vars(reference, vars)) == Some(Err(7));
-    // An error token in a region is no error of a type.
+    // An error token in a region is not an error of a type.
     let region = Region::new(RegionKind::ReError(ErrorGuaranteed(7)))?;
     Ok(so_far && has_regions(cx, &region, 1))
 }
@@ -228,7 +228,7 @@ fn an_error_ends_the_visit(rt: HostRuntime) {
     holds_anew(&rt, rt.alloc(), an_error_ends_the_visit_holds);
 }
 
-// Puts one type in the places of another.
+// Replaces one type by another.
 #[derive(Drop)]
 pub struct StandIn {
     pub from: Ty,
@@ -333,7 +333,7 @@ impl TypeFolder for StandIn {
     ghost still_means = { λ old new s g h. fill-grows old new g.grows (ty_shape s.to) h };
 }
 
-// The value with one type in the places of another.
+// Returns the value with one type replaced by another.
 pub fn replaced<T: Owned + TypeFoldable>(
     cx: &mut Interner,
     value: T,
@@ -347,7 +347,7 @@ pub fn replaced<T: Owned + TypeFoldable>(
     }
 }
 
-// The same without the value's own hook.
+// Returns the same without the value's own hook.
 fn replaced_inside<T: Owned + TypeFoldable + TypeSuperFoldable>(
     cx: &mut Interner,
     value: T,
@@ -361,7 +361,7 @@ fn replaced_inside<T: Owned + TypeFoldable + TypeSuperFoldable>(
     }
 }
 
-// Whether the value with the types replaced is this one.
+// Returns whether the value with the types replaced is this one.
 pub fn is_replaced<T: Owned + TypeFoldable + PartialEq>(
     cx: &mut Interner,
     value: T,
@@ -375,7 +375,7 @@ pub fn is_replaced<T: Owned + TypeFoldable + PartialEq>(
     }
 }
 
-// The same without the value's own hook.
+// Returns the same without the value's own hook.
 pub fn is_replaced_inside<T: Owned + TypeFoldable + TypeSuperFoldable + PartialEq>(
     cx: &mut Interner,
     value: T,
@@ -456,7 +456,7 @@ fn types_are_replaced_in_signatures(rt: HostRuntime) {
     holds_anew(&rt, rt.alloc(), types_are_replaced_in_signatures_holds);
 }
 
-// Why a value is not of one region.
+// Why a value has not exactly one region.
 #[derive(Clone, Copy, Debug, PartialEq, Eq)]
 enum NotOne {
     Refused(Refusal),
@@ -473,7 +473,7 @@ impl From<Refusal> for NotOne {
     }
 }
 
-// Keeps the first region, and refuses a second. It counts the regions that it meets.
+// Keeps the first region, refuses a second, and counts its calls.
 #[derive(Drop)]
 struct OneRegion {
     met: u64,
@@ -585,7 +585,7 @@ impl FallibleTypeFolder for OneRegion {
     ghost still_means = { λ old new s g h. refl };
 }
 
-// The value, if it has one region at most.
+// Returns the value, if it has one region at most.
 fn with_one_region<T: Owned + TypeFoldable>(cx: &mut Interner, value: T) -> Result<T, NotOne> {
     if value.is_owned(cx) {
         value.try_fold_with(cx, &mut OneRegion { met: 0 })
@@ -594,7 +594,7 @@ fn with_one_region<T: Owned + TypeFoldable>(cx: &mut Interner, value: T) -> Resu
     }
 }
 
-// Whether the value is refused for its second region, after so many regions.
+// Returns whether the value is refused for its second region, after so many regions.
 fn is_refused_at<T: Owned + TypeFoldable>(cx: &mut Interner, value: T, count: u64) -> bool {
     if value.is_owned(cx) {
         let mut folder = OneRegion { met: 0 };
@@ -605,7 +605,7 @@ fn is_refused_at<T: Owned + TypeFoldable>(cx: &mut Interner, value: T, count: u6
     }
 }
 
-// The same without the value's own hook.
+// Returns the same without the value's own hook.
 fn with_one_region_inside<T: Owned + TypeFoldable + TypeSuperFoldable>(
     cx: &mut Interner,
     value: T,
@@ -639,7 +639,7 @@ fn a_second_region_is_refused(rt: HostRuntime) {
     holds_anew(&rt, rt.alloc(), a_second_region_is_refused_holds);
 }
 
-// A fold ends at the first error: the third region is not met.
+// A fold ends at the first error: the third region is not visited.
 fn the_first_error_ends_the_fold_holds(cx: &mut Interner) -> Result<bool, Refusal> {
     let number = u32_ty(cx)?;
     let first = ref_ty(cx, Region::new(RegionKind::ReStatic)?, number)?;
@@ -653,7 +653,7 @@ fn the_first_error_ends_the_fold(rt: HostRuntime) {
     holds_anew(&rt, rt.alloc(), the_first_error_ends_the_fold_holds);
 }
 
-// Where a walk has to store a type and the table is full, the folder's error tells of the refusal.
+// If a walk has to store a type and the table is full, the folder's error holds the refusal.
 fn a_refusal_becomes_the_own_error_holds(cx: &mut Interner) -> Result<bool, Refusal> {
     let from = u32_ty(cx)?;
     let to = ty(cx, TyKind::Bool)?;

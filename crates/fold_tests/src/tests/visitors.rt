@@ -29,7 +29,7 @@ impl TypeInspector for Occurrence {
     }
 }
 
-// Whether the type occurs in the value.
+// Returns whether the type occurs in the value.
 fn occurs<T: Owned>(cx: &Interner, value: &T, ty: Ty) -> Result<bool, Refusal> {
     if value.is_owned(cx) && ty.is_owned(cx) {
         Ok(inspect_types(cx, value, &mut Occurrence(ty)).is_break())
@@ -79,7 +79,7 @@ impl TypeInspector for ReferenceTo {
     }
 }
 
-// The region of the first reference to the type in the value.
+// Returns the region of the first reference to the type in the value.
 fn region_of_reference<T: Owned>(
     cx: &Interner,
     value: &T,
@@ -97,7 +97,7 @@ fn region_of_reference<T: Owned>(
     }
 }
 
-// What the visit broke with is the interner's.
+// The break value of the visit is the interner's.
 fn references_are_found_holds(cx: &mut Interner) -> Result<bool, Refusal> {
     let number = u32_ty(cx)?;
     let (near, far) = (bound_region(0)?, bound_region(1)?);

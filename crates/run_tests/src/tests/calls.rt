@@ -13,7 +13,7 @@ use type_terms::{
     TyCall, UniverseIndex, ValTreeCall, VariableCall, run_calls,
 };
 
-// What kind of answer it is, in a word.
+// Returns the kind of the answer, in a word.
 fn word(answer: &Answer) -> &'static str {
     match answer {
         Answer::Ty(_) => "type ",
@@ -33,7 +33,7 @@ fn word(answer: &Answer) -> &'static str {
     }
 }
 
-// What the calls of a list are about.
+// The subject of a list of calls.
 #[derive(Clone, Copy)]
 enum Subject {
     Constants,
@@ -52,7 +52,7 @@ enum Subject {
     KnownTraitObjects,
 }
 
-// The call of this number of the subject's list.
+// Returns the call of this number of the subject's list.
 fn call(alloc: Global, subject: Subject, number: u32) -> Result<Call, AllocError> {
     match subject {
         Subject::Constants => constant_call(alloc, number),
@@ -72,7 +72,7 @@ fn call(alloc: Global, subject: Subject, number: u32) -> Result<Call, AllocError
     }
 }
 
-// So many calls of the subject's list.
+// Returns the first `count` calls of the subject's list.
 fn calls(alloc: Global, subject: Subject, count: u32) -> Result<Vec<Call>, AllocError> {
     let mut calls = Vec::new(alloc);
     for index in 0..count {
@@ -81,7 +81,7 @@ fn calls(alloc: Global, subject: Subject, count: u32) -> Result<Vec<Call>, Alloc
     Ok(calls)
 }
 
-// The words of the answers to the calls, on a new interner with at most so many rows in a table.
+// Returns the words of the answers to the calls, on a new interner with at most so many rows in a table.
 fn words(alloc: Global, limit: u32, calls: &[Call]) -> Result<String, Fail> {
     let mut cx = Interner::with_limit(alloc, limit)?;
     let answers = run_calls(&mut cx, calls);
@@ -94,7 +94,8 @@ fn words(alloc: Global, limit: u32, calls: &[Call]) -> Result<String, Fail> {
     Ok(words)
 }
 
-// So many calls of the subject's list have answers of these words, where a table holds at most so many rows.
+// Asserts that the first `count` calls of the subject's list have answers of these words, if a table holds at most
+// `limit` rows.
 fn check_within(
     rt: &impl Abort,
     alloc: Global,
@@ -109,7 +110,7 @@ fn check_within(
     Ok(())
 }
 
-// The same where there is room.
+// Asserts the same if there is room.
 fn check(
     rt: &impl Abort,
     alloc: Global,
@@ -170,7 +171,7 @@ fn lists_of_calls(rt: HostRuntime) -> Result<(), Fail> {
     Ok(())
 }
 
-// A call of this number of a list.
+// Returns a call of this number of a list.
 fn constant_call(alloc: Global, number: u32) -> Result<Call, AllocError> {
     match number {
         1 => Ok(Call::Ty(TyCall::Bool)),
@@ -191,14 +192,14 @@ fn constant_call(alloc: Global, number: u32) -> Result<Call, AllocError> {
     }
 }
 
-// The list of the type that the first call answered.
+// Returns the list of the type that the first call answered.
 fn one_argument(alloc: Global) -> Result<Vec<ArgCall>, AllocError> {
     let mut args = Vec::new(alloc);
     args.push(ArgCall::Type(1))?;
     Ok(args)
 }
 
-// A call of this number of a list.
+// Returns a call of this number of a list.
 fn argument_call(alloc: Global, number: u32) -> Result<Call, AllocError> {
     match number {
         1 => Ok(Call::Ty(TyCall::Bool)),
@@ -213,7 +214,7 @@ fn argument_call(alloc: Global, number: u32) -> Result<Call, AllocError> {
     }
 }
 
-// A call of this number of a list.
+// Returns a call of this number of a list.
 fn pattern_call(alloc: Global, number: u32) -> Result<Call, AllocError> {
     match number {
         1 => Ok(Call::Const(ConstCall::Infer(InferConst::Fresh(0)))),
@@ -228,7 +229,7 @@ fn pattern_call(alloc: Global, number: u32) -> Result<Call, AllocError> {
     }
 }
 
-// The predicate of this kind under a binder of no variables.
+// Returns the predicate of this kind under a binder of no variables.
 fn predicate(alloc: Global, kind: PredicateKindCall) -> Call {
     Call::Predicate(PredicateCall {
         kind,
@@ -236,7 +237,7 @@ fn predicate(alloc: Global, kind: PredicateKindCall) -> Call {
     })
 }
 
-// A call of this number of a list.
+// Returns a call of this number of a list.
 fn predicate_call(alloc: Global, number: u32) -> Result<Call, AllocError> {
     match number {
         1 => Ok(Call::Ty(TyCall::Bool)),
@@ -251,7 +252,7 @@ fn predicate_call(alloc: Global, number: u32) -> Result<Call, AllocError> {
     }
 }
 
-// The region of this number, where the second call declares.
+// Returns the region of this number, where the second call declares.
 fn region(number: u32) -> RegionCall {
     let var = BoundVar::from_u32(0);
     match number {
@@ -268,7 +269,7 @@ fn region(number: u32) -> RegionCall {
     }
 }
 
-// A call of this number of a list.
+// Returns a call of this number of a list.
 fn region_call(alloc: Global, number: u32) -> Result<Call, AllocError> {
     match number {
         1 => Ok(Call::Ty(TyCall::Bool)),
@@ -280,19 +281,19 @@ fn region_call(alloc: Global, number: u32) -> Result<Call, AllocError> {
     }
 }
 
-// The reference with this region to the type that the first call answered.
+// Returns the reference with this region to the type that the first call answered.
 fn reference(region: RegionCall) -> Call {
     Call::Ty(TyCall::Ref(region, 1, Mutability::Not))
 }
 
-// That type under a binder of this variable.
+// Returns the type that the first call answered under a binder of this variable.
 fn under_binder(alloc: Global, var: VariableCall) -> Result<Call, AllocError> {
     let mut vars = Vec::new(alloc);
     vars.push(var)?;
     Ok(Call::Ty(TyCall::UnsafeBinder { vars, ty: 1 }))
 }
 
-// The list of one region, which is called by the id at the position.
+// Returns the list of one region, which is called by the id at the position.
 fn named_region(alloc: Global, position: u32) -> Result<Vec<ArgCall>, AllocError> {
     let universe = UniverseIndex::from_u32(0);
     let var = BoundVar::from_u32(0);
@@ -302,8 +303,8 @@ fn named_region(alloc: Global, position: u32) -> Result<Vec<ArgCall>, AllocError
     Ok(args)
 }
 
-// A call of this number of a list. The first answers a type and the second declares. Of each two that follow, the one names
-// the type where an id has to be, and the other the declaration.
+// Returns a call of this number of a list. The first answers a type and the second declares. Of each two that follow,
+// the one names the type where an id has to be, and the other the declaration.
 fn id_in_region_call(alloc: Global, number: u32) -> Result<Call, AllocError> {
     let position = if number % 2 == 0 { 2 } else { 1 };
     let universe = UniverseIndex::from_u32(0);
@@ -340,7 +341,7 @@ fn ids_in_regions_and_variables(rt: HostRuntime) -> Result<(), Fail> {
     )
 }
 
-// The trait object of this alone.
+// Returns the trait object of this alone.
 fn trait_object(alloc: Global, kind: ExistentialKindCall) -> Result<Call, AllocError> {
     let mut existentials = Vec::new(alloc);
     existentials.push(ExistentialCall {
@@ -350,7 +351,7 @@ fn trait_object(alloc: Global, kind: ExistentialKindCall) -> Result<Call, AllocE
     Ok(Call::Ty(TyCall::Dynamic(existentials, RegionCall::ReStatic)))
 }
 
-// A trait object of which the item that was declared second is the type at the position.
+// Returns a trait object of which the item that was declared second is the type at the position.
 fn with_item(alloc: Global, position: u32) -> Result<Call, AllocError> {
     let term = TermCall::Ty(position);
     trait_object(
@@ -359,7 +360,7 @@ fn with_item(alloc: Global, position: u32) -> Result<Call, AllocError> {
     )
 }
 
-// A call of this number of a list.
+// Returns a call of this number of a list.
 fn object_call(alloc: Global, number: u32) -> Result<Call, AllocError> {
     match number {
         1 => Ok(Call::Ty(TyCall::Bool)),
@@ -373,13 +374,13 @@ fn object_call(alloc: Global, number: u32) -> Result<Call, AllocError> {
     }
 }
 
-// A declaration of this kind. All have one name.
+// Returns a declaration of this kind. All have one name.
 fn declare(alloc: Global, kind: DeclarationKindCall) -> Result<Call, AllocError> {
     let name = String::from_str(alloc, "Iterator")?;
     Ok(Call::Declare(DeclareCall { kind, name }))
 }
 
-// A declaration of this number of a list.
+// Returns a declaration of this number of a list.
 fn declaration(alloc: Global, number: u32) -> Result<Call, AllocError> {
     let kind = match number {
         1 | 2 => DeclarationKindCall::Trait { params: 1 },
@@ -392,7 +393,7 @@ fn declaration(alloc: Global, number: u32) -> Result<Call, AllocError> {
     declare(alloc, kind)
 }
 
-// A call of this number of a list.
+// Returns a call of this number of a list.
 fn declaration_call(alloc: Global, number: u32) -> Result<Call, AllocError> {
     match number {
         8 => Ok(Call::Equal(1, 1)),
@@ -402,7 +403,7 @@ fn declaration_call(alloc: Global, number: u32) -> Result<Call, AllocError> {
     }
 }
 
-// A call of this number of a list. Some of those that build name an id of another sort.
+// Returns a call of this number of a list. Some of those that build name an id of another sort.
 fn id_call(alloc: Global, number: u32) -> Result<Call, AllocError> {
     match number {
         1 => declare(alloc, DeclarationKindCall::Trait { params: 1 }),
@@ -420,12 +421,12 @@ fn id_call(alloc: Global, number: u32) -> Result<Call, AllocError> {
     }
 }
 
-// The type of the alias, without arguments.
+// Returns the type of the alias, without arguments.
 fn alias(alloc: Global, alias: AliasCall) -> Call {
     Call::Ty(TyCall::Item(ItemCall::Alias(alias), Vec::new(alloc)))
 }
 
-// A call of this number of a list.
+// Returns a call of this number of a list.
 fn predicate_of_id_call(alloc: Global, number: u32) -> Result<Call, AllocError> {
     match number {
         1 => declare(alloc, DeclarationKindCall::Trait { params: 1 }),
@@ -435,7 +436,8 @@ fn predicate_of_id_call(alloc: Global, number: u32) -> Result<Call, AllocError> 
     }
 }
 
-// What the predicate of this number of the list says. The trait is declared first, its associated type second.
+// Returns the kind of the predicate of this number of the list. The trait is declared first, its associated type
+// second.
 fn predicate_of_id(alloc: Global, number: u32) -> PredicateKindCall {
     let term = TermCall::Ty(3);
     match number {
@@ -452,7 +454,7 @@ fn predicate_of_id(alloc: Global, number: u32) -> PredicateKindCall {
     }
 }
 
-// Whether two declarations of one name, of two traits, were given two ids.
+// Returns whether two declarations of one name, of two traits, were given two ids.
 fn two_ids(cx: &mut Interner) -> Result<bool, Refusal> {
     let mut calls = Vec::new(cx.allocator());
     calls.push(declaration(cx.allocator(), 1)?)?;
@@ -469,7 +471,7 @@ fn each_declaration_has_its_id(rt: HostRuntime) {
     assert_eq!(rt; answer_anew(rt.alloc(), two_ids), Ok(true));
 }
 
-// A call of this number of a list. Its last list of arguments is new.
+// Returns a call of this number of a list. Its last list of arguments is new.
 fn known_argument_call(alloc: Global, number: u32) -> Result<Call, AllocError> {
     match number {
         1 => Ok(Call::Ty(TyCall::Bool)),
@@ -483,7 +485,7 @@ fn known_argument_call(alloc: Global, number: u32) -> Result<Call, AllocError> {
     }
 }
 
-// A call of this number of a list. Its last list of clauses is new.
+// Returns a call of this number of a list. Its last list of clauses is new.
 fn known_clause_call(alloc: Global, number: u32) -> Result<Call, AllocError> {
     match number {
         1 => Ok(Call::Ty(TyCall::Bool)),
@@ -494,13 +496,13 @@ fn known_clause_call(alloc: Global, number: u32) -> Result<Call, AllocError> {
     }
 }
 
-// That the type which the first call answered is well-formed.
+// Returns the clause that the type of the first answer is well formed.
 fn well_formed(alloc: Global) -> Call {
     let well_formed = ClauseCall::WellFormed(TermCall::Ty(1));
     predicate(alloc, PredicateKindCall::Clause(well_formed))
 }
 
-// A call of this number of a list. Its last predicate is new.
+// Returns a call of this number of a list. Its last predicate is new.
 fn known_predicate_call(alloc: Global, number: u32) -> Result<Call, AllocError> {
     match number {
         1 => Ok(Call::Ty(TyCall::Bool)),
@@ -511,7 +513,7 @@ fn known_predicate_call(alloc: Global, number: u32) -> Result<Call, AllocError> 
     }
 }
 
-// A call of this number of a list. Its last trait object is new.
+// Returns a call of this number of a list. Its last trait object is new.
 fn known_object_call(alloc: Global, number: u32) -> Result<Call, AllocError> {
     match number {
         1 => declare(alloc, DeclarationKindCall::Trait { params: 1 }),
@@ -521,7 +523,7 @@ fn known_object_call(alloc: Global, number: u32) -> Result<Call, AllocError> {
     }
 }
 
-// Where a table is full, what is there is built again, and what is new is refused.
+// If a table is full, stored terms are built again, and new ones are refused.
 #[test]
 fn known_terms_in_full_tables(rt: HostRuntime) -> Result<(), Fail> {
     for (subject, count, wanted) in [

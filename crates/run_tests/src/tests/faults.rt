@@ -6,7 +6,7 @@ use std::io::{self, ErrorKind, Read, Write};
 use std::test::Fail;
 use type_terms::{Fault, run_script};
 
-// It gives a line a read, and fails at the read of this number.
+// A reader that gives one line at each read, and fails at the read of this number.
 #[derive(Drop)]
 struct FailingReader {
     reads_before: u32,
@@ -25,7 +25,7 @@ impl Read for FailingReader {
     }
 }
 
-// It takes a byte a write, and fails at the write of this number.
+// A writer that takes one byte at each write, and fails at the write of this number.
 #[derive(Drop)]
 struct FailingWriter {
     writes_before: u32,
@@ -66,7 +66,7 @@ fn failed_write_is_a_fault(rt: HostRuntime) -> Result<(), Fail> {
     Ok(())
 }
 
-// With ample memory no worked script is answered Memory: a runner that gives up wherever it may is wrong.
+// With ample memory no worked script has the answer `Memory`: a runner that gives up wherever it may is wrong.
 #[test]
 fn memory_whenever_allowed(rt: HostRuntime) -> Result<(), Fail> {
     for worked in WORKED {

@@ -5,7 +5,7 @@ use std::alloc::{AllocError, Global};
 use std::process::Abort;
 use std::test::Fail;
 
-// Adds a line for each of these positions: the tuple that holds the answer there twice.
+// Appends a line for each of these positions: the tuple that holds the answer there twice.
 fn add_pairs(script: &mut String, first: u32, end: u32) -> Result<(), AllocError> {
     for position in first..end {
         writeln!(script, "tuple %{position} %{position}")?;
@@ -13,8 +13,8 @@ fn add_pairs(script: &mut String, first: u32, end: u32) -> Result<(), AllocError
     Ok(())
 }
 
-// The calls that make a tower over a parameter, instantiate it, make the same tower over the argument, and compare the
-// two; and then the last calls.
+// Returns the calls that make a tower over a parameter, instantiate it, make the same tower over the argument, and
+// compare the two; and then the last calls.
 fn script(alloc: Global, last: &str) -> Result<String, AllocError> {
     let mut script = String::from_str(alloc, "param 0\n")?;
     add_pairs(&mut script, 1, 65)?;
@@ -25,7 +25,7 @@ fn script(alloc: Global, last: &str) -> Result<String, AllocError> {
     Ok(script)
 }
 
-// The lines that they print, and then those of the last calls.
+// Returns the lines that these calls print, and then the lines of the last calls.
 fn lines(alloc: Global, last: &str) -> Result<String, AllocError> {
     let mut lines = String::new(alloc);
     for number in 1..132 {

@@ -1,4 +1,4 @@
-//! How lines are cut and spelled.
+//! Tests of how lines are split and spelled.
 
 use super::{Example, check};
 use std::test::Fail;

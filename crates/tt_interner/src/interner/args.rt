@@ -5,14 +5,13 @@ ghost use Rattle.std.specs.Iterator.{Drains, IsFinite};
 ghost use Rattle.tt_kinds.specs.Shape.{item_shapes, AreParts};
 ghost use Rattle.tt_kinds.specs.Kinds.{arg_shape};
 ghost use Rattle.tt_interner.specs.Collect.{BuildsFrom};
-ghost use Rattle.tt_interner.specs.Rows.{args_row, size, meaning};
-ghost use Rattle.tt_interner.specs.Stored.{IsAt, IsInfo, Builds};
+ghost use Rattle.tt_interner.specs.Rows.{args_row, size};
+ghost use Rattle.tt_interner.specs.Stored.{IsAt, Builds};
 
 use super::Interner;
 use crate::collect::collected;
 use crate::flags::items_info;
-use crate::tables::{find_or_add_list, find_or_insert, info_at, key_at};
-use tt_flags::FlagComputation;
+use crate::tables::{find_or_add_list, find_or_insert, key_at};
 use tt_index::Refusal;
 use tt_kinds::{GenericArg, GenericArgs, Table};
 
@@ -20,8 +19,7 @@ impl Interner {
     /// Returns the list of these generic arguments, in order. They have to be of this interner;
     /// [`Interner::owns_arg`] tests it.
     ///
-    /// It is refused with `TableFull` where the list is new and the table has as many rows as it may have, and with
-    /// `Memory`.
+    /// Refused with `TableFull` if the list is new and the table has as many rows as it may have, and with `Memory`.
     pub fn mk_args(&mut self, items: &[GenericArg]) -> Result<GenericArgs, Refusal>
         requires { AreParts (size self.old.rows) (item_shapes arg_shape items.now) }
         ensures { Builds result (λ list. list.number) self.old self.new (args_row items.now) }
@@ -41,10 +39,10 @@ impl Interner {
         Ok(GenericArgs::from_number(number))
     }
 
-    /// Returns the list of all items of the iterator, in order, as [`Interner::mk_args`] answers it. The iterator has
-    /// to end, and its items to be of this interner.
+    /// Returns the list of all items of the iterator, in order, as [`Interner::mk_args`] does for a slice. The iterator
+    /// has to end, and its items have to be of this interner.
     ///
-    /// It is refused with `Memory` also where there is none for the items, which are collected before the list is looked up.
+    /// Refused with `Memory` also if there is none for the items, which are collected before the list is looked up.
     pub fn mk_args_from_iter<I: Iterator<Item = GenericArg> + Drop>(
         &mut self,
         iter: I,
@@ -59,7 +57,7 @@ impl Interner {
         self.put_args(items)
     }
 
-    // The same of items that are kept as the list's, by one look-up.
+    // Returns the list of these items, with one look-up; a new list keeps the vector.
     pub(crate) fn put_args(&mut self, items: Vec<GenericArg>) -> Result<GenericArgs, Refusal>
         requires { AreParts (size self.old.rows) (item_shapes arg_shape items.items) }
         ensures { Builds result (λ list. list.number) self.old self.new (args_row items.items) }
@@ -79,20 +77,12 @@ impl Interner {
         Ok(GenericArgs::from_number(number))
     }
 
-    /// Returns the generic arguments of a list, in the interner's memory. The list has to be of this interner;
-    /// [`Interner::owns_args`] tests it.
+    /// Returns the generic arguments of a list, borrowed from the interner. The list has to be of this interner;
+    /// [`Interner::owns`] tests it.
     pub fn args(&self, list: GenericArgs) -> &[GenericArg]
         requires { list.number < size self.now.rows Table.ArgLists }
         ensures { IsAt self.now.rows (args_row result.now) list.number }
     {
         key_at(&self.arg_lists, list.number()).as_slice()
-    }
-
-    // What is kept beside a list of generic arguments.
-    pub(crate) fn args_info(&self, list: GenericArgs) -> FlagComputation
-        requires { list.number < size self.now.rows Table.ArgLists }
-        ensures { IsInfo result (meaning self.now.rows Table.ArgLists list.number) }
-    {
-        info_at(&self.arg_lists, list.number())
     }
 }

@@ -3,13 +3,12 @@
 ghost use Rattle.std.specs.Prelude.{◌<◌};
 ghost use Rattle.tt_kinds.specs.Shape.{item_shapes, AreParts};
 ghost use Rattle.tt_kinds.specs.Values.{assumption_shape};
-ghost use Rattle.tt_interner.specs.Rows.{assumptions_row, size, meaning};
-ghost use Rattle.tt_interner.specs.Stored.{IsAt, IsInfo, Builds};
+ghost use Rattle.tt_interner.specs.Rows.{assumptions_row, size};
+ghost use Rattle.tt_interner.specs.Stored.{IsAt, Builds};
 
 use super::Interner;
 use crate::flags::items_info;
-use crate::tables::{find_or_add_list, info_at, key_at};
-use tt_flags::FlagComputation;
+use crate::tables::{find_or_add_list, key_at};
 use tt_index::Refusal;
 use tt_kinds::{GenericArg, OutlivesPredicate, RegionAssumptions, Table};
 
@@ -17,8 +16,7 @@ impl Interner {
     /// Returns the list of these assumptions, in order. They have to be of this interner;
     /// [`Interner::owns_assumption`] tests it.
     ///
-    /// It is refused with `TableFull` where the list is new and the table has as many rows as it may have, and with
-    /// `Memory`.
+    /// Refused with `TableFull` if the list is new and the table has as many rows as it may have, and with `Memory`.
     pub fn mk_assumptions(
         &mut self,
         items: &[OutlivesPredicate<GenericArg>],
@@ -41,20 +39,12 @@ impl Interner {
         Ok(RegionAssumptions::from_number(number))
     }
 
-    /// Returns the assumptions of a list, in the interner's memory. The list has to be of this interner;
-    /// [`Interner::owns_assumptions`] tests it.
+    /// Returns the assumptions of a list, borrowed from the interner. The list has to be of this interner;
+    /// [`Interner::owns`] tests it.
     pub fn assumptions(&self, list: RegionAssumptions) -> &[OutlivesPredicate<GenericArg>]
         requires { list.number < size self.now.rows Table.AssumptionLists }
         ensures { IsAt self.now.rows (assumptions_row result.now) list.number }
     {
         key_at(&self.assumption_lists, list.number()).as_slice()
-    }
-
-    // What is kept beside a list of assumptions.
-    pub(crate) fn assumptions_info(&self, list: RegionAssumptions) -> FlagComputation
-        requires { list.number < size self.now.rows Table.AssumptionLists }
-        ensures { IsInfo result (meaning self.now.rows Table.AssumptionLists list.number) }
-    {
-        info_at(&self.assumption_lists, list.number())
     }
 }

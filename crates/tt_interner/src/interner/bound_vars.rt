@@ -3,22 +3,20 @@
 ghost use Rattle.std.specs.Prelude.{◌≡◌, ◌<◌};
 ghost use Rattle.tt_kinds.specs.Shape.{HasParts};
 ghost use Rattle.tt_kinds.specs.Kinds.{vars_row_shape};
-ghost use Rattle.tt_interner.specs.Rows.{vars_row, size, meaning};
-ghost use Rattle.tt_interner.specs.Stored.{IsAt, IsInfo, Builds};
+ghost use Rattle.tt_interner.specs.Rows.{vars_row, size};
+ghost use Rattle.tt_interner.specs.Stored.{IsAt, Builds};
 
 use super::Interner;
 use crate::flags::vars_info;
-use crate::tables::{find_or_add_list, info_at, key_at};
-use tt_flags::FlagComputation;
+use crate::tables::{find_or_add_list, key_at};
 use tt_index::Refusal;
 use tt_kinds::{BoundVarKinds, BoundVariableKind, Table};
 
 impl Interner {
-    /// Returns the list of these variables of a binder, in order. The texts that they are called by have to be of this
+    /// Returns the list of these variables of a binder, in order. The names that they are printed by have to be of this
     /// interner; [`Interner::owns_bound_var`] tests it.
     ///
-    /// It is refused with `TableFull` where the list is new and the table has as many rows as it may have, and with
-    /// `Memory`.
+    /// Refused with `TableFull` if the list is new and the table has as many rows as it may have, and with `Memory`.
     pub fn mk_bound_vars(&mut self, items: &[BoundVariableKind]) -> Result<BoundVarKinds, Refusal>
         requires { HasParts (size self.old.rows) (vars_row_shape items.now) }
         ensures { Builds result (λ list. list.number) self.old self.new (vars_row items.now) }
@@ -38,20 +36,12 @@ impl Interner {
         Ok(BoundVarKinds::from_number(number))
     }
 
-    /// Returns the variables of a binder of a list, in the interner's memory. The list has to be of this interner;
-    /// [`Interner::owns_bound_vars`] tests it.
+    /// Returns the variables of a binder's list, borrowed from the interner. The list has to be of this interner;
+    /// [`Interner::owns`] tests it.
     pub fn bound_vars(&self, list: BoundVarKinds) -> &[BoundVariableKind]
         requires { list.number < size self.now.rows Table.VarLists }
         ensures { IsAt self.now.rows (vars_row result.now) list.number }
     {
         key_at(&self.var_lists, list.number()).as_slice()
-    }
-
-    // What is kept beside a list of variables of a binder.
-    pub(crate) fn bound_vars_info(&self, list: BoundVarKinds) -> FlagComputation
-        requires { list.number < size self.now.rows Table.VarLists }
-        ensures { IsInfo result (meaning self.now.rows Table.VarLists list.number) }
-    {
-        info_at(&self.var_lists, list.number())
     }
 }

@@ -3,13 +3,12 @@
 ghost use Rattle.std.specs.Prelude.{◌≡◌, ◌<◌};
 ghost use Rattle.tt_kinds.specs.Shape.{item_shapes, AreParts, HasParts};
 ghost use Rattle.tt_kinds.specs.Kinds.{const_kind_shape, const_shape};
-ghost use Rattle.tt_interner.specs.Rows.{const_row, consts_row, size, meaning};
-ghost use Rattle.tt_interner.specs.Stored.{IsAt, IsInfo, Builds};
+ghost use Rattle.tt_interner.specs.Rows.{const_row, consts_row, size};
+ghost use Rattle.tt_interner.specs.Stored.{IsAt, Builds};
 
 use super::Interner;
 use crate::flags::{OwnFlags, items_info, kind_info};
-use crate::tables::{find_or_add, find_or_add_list, find_or_insert, info_at, key_at};
-use tt_flags::FlagComputation;
+use crate::tables::{find_or_add, find_or_add_list, find_or_insert, key_at};
 use tt_index::Refusal;
 use tt_kinds::{Const, ConstKind, Consts, Kind, Table};
 
@@ -17,8 +16,8 @@ impl Interner {
     /// Returns the constant of this kind. Every handle and name in the kind has to be this interner's;
     /// [`Interner::owns_const_kind`] tests it.
     ///
-    /// It is refused with `GreatestIndex` where the kind is a bound variable with the greatest index, with
-    /// `TableFull` where the constant is new and the table has as many rows as it may have, and with `Memory`.
+    /// Refused with `GreatestIndex` if the kind is a bound variable with the greatest index, with `TableFull` if the
+    /// constant is new and the table has as many rows as it may have, and with `Memory`.
     pub fn mk_const(&mut self, kind: ConstKind) -> Result<Const, Refusal>
         requires { HasParts (size self.old.rows) (const_kind_shape kind) }
         ensures { Builds result (λ handle. handle.number) self.old self.new (const_row kind) }
@@ -42,30 +41,21 @@ impl Interner {
         Ok(Const::from_number(number))
     }
 
-    /// Returns what a stored constant is, in the interner's memory. It has to be of this interner;
-    /// [`Interner::owns_const`] tests it.
+    /// Returns a constant's kind, borrowed from the interner. The constant has to be of this interner;
+    /// [`Interner::owns`] tests it.
     pub fn const_kind(&self, handle: Const) -> &ConstKind
         requires { handle.number < size self.now.rows Table.Consts }
         ensures { IsAt self.now.rows (const_row result.now) handle.number }
     {
         key_at(&self.consts, handle.number())
     }
-
-    // What is kept beside a stored constant.
-    pub(crate) fn const_info(&self, handle: Const) -> FlagComputation
-        requires { handle.number < size self.now.rows Table.Consts }
-        ensures { IsInfo result (meaning self.now.rows Table.Consts handle.number) }
-    {
-        info_at(&self.consts, handle.number())
-    }
 }
 
 impl Interner {
-    /// Returns the list of these constants, in order. They have to be of this interner; [`Interner::owns_const`] tests
+    /// Returns the list of these constants, in order. They have to be of this interner; [`Interner::owns`] tests
     /// it.
     ///
-    /// It is refused with `TableFull` where the list is new and the table has as many rows as it may have, and with
-    /// `Memory`.
+    /// Refused with `TableFull` if the list is new and the table has as many rows as it may have, and with `Memory`.
     pub fn mk_consts(&mut self, items: &[Const]) -> Result<Consts, Refusal>
         requires { AreParts (size self.old.rows) (item_shapes const_shape items.now) }
         ensures { Builds result (λ list. list.number) self.old self.new (consts_row items.now) }
@@ -85,7 +75,7 @@ impl Interner {
         Ok(Consts::from_number(number))
     }
 
-    // The same of items that are kept as the list's, by one look-up.
+    // Returns the list of these items, with one look-up; a new list keeps the vector.
     pub(crate) fn put_consts(&mut self, items: Vec<Const>) -> Result<Consts, Refusal>
         requires { AreParts (size self.old.rows) (item_shapes const_shape items.items) }
         ensures { Builds result (λ list. list.number) self.old self.new (consts_row items.items) }
@@ -105,20 +95,12 @@ impl Interner {
         Ok(Consts::from_number(number))
     }
 
-    /// Returns the constants of a list, in the interner's memory. The list has to be of this interner;
-    /// [`Interner::owns_consts`] tests it.
+    /// Returns the constants of a list, borrowed from the interner. The list has to be of this interner;
+    /// [`Interner::owns`] tests it.
     pub fn consts(&self, list: Consts) -> &[Const]
         requires { list.number < size self.now.rows Table.ConstLists }
         ensures { IsAt self.now.rows (consts_row result.now) list.number }
     {
         key_at(&self.const_lists, list.number()).as_slice()
-    }
-
-    // What is kept beside a list of constants.
-    pub(crate) fn consts_info(&self, list: Consts) -> FlagComputation
-        requires { list.number < size self.now.rows Table.ConstLists }
-        ensures { IsInfo result (meaning self.now.rows Table.ConstLists list.number) }
-    {
-        info_at(&self.const_lists, list.number())
     }
 }

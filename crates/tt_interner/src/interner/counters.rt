@@ -1,6 +1,7 @@
 //! The counting of types that are taken apart.
 //!
-//! The folders above call it; it is no call of an interner's, so that who only uses a library of folders can't turn the counts.
+//! The folders of the crates above call these functions. They are no methods of the interner, so a user of the folders
+//! alone can't change the counts.
 
 ghost use Rattle.std.specs.Prelude.{◌≡◌};
 ghost use Rattle.tt_interner.specs.Stored.{counted};

@@ -1,4 +1,4 @@
-//! Declarations. Each has an id of its own, whichever names are there.
+//! Declarations. Each has its own id, even if names repeat.
 
 ghost use Rattle.std.specs.Prelude.{
   ◌≡◌,
@@ -30,8 +30,8 @@ use tt_kinds::{
     Symbol, Table, TraitAssocTyId, TraitId, UnevaluatedConstId,
 };
 
-// Adds a declaration to a table that has less than `limit`, and notes it in the order. Answers its number. Where it is
-// refused, both stay.
+// Adds a declaration to a table that has less than `limit` rows, records it in the order, and returns its number. If
+// refused, it changes neither.
 fn add_declaration(
     order: &mut Vec<Table>,
     limit: u32,
@@ -66,8 +66,8 @@ fn add_declaration(
 }
 
 impl Interner {
-    /// Declares something of this kind under this name, as the call for its kind does; [`Interner::declare_trait`] says when
-    /// it is refused.
+    /// Declares something of this kind under this name, as the call for its kind does. Refused as
+    /// [`Interner::declare_trait`] is.
     pub fn declare(&mut self, kind: DeclarationKind, name: Symbol) -> Result<DefId, Refusal>
         requires { name.number < size self.old.rows Table.Symbols }
         ensures { Declares result (λ id. id.number) self.old self.new kind name }
@@ -84,11 +84,11 @@ impl Interner {
         Ok(DefId::from_number(number))
     }
 
-    /// Declares a trait of this name, with so many parameters, the self type among them. The name has to be of this
-    /// interner; [`Interner::owns_symbol`] tests it.
+    /// Declares a trait of this name, with this many parameters, including the self type. The name has to be of this
+    /// interner; [`Interner::owns`] tests it.
     ///
-    /// Each call that declares makes a new id, also where a declaration has the name. It is refused with `TableFull` where
-    /// there are as many declarations as there may be, and with `Memory`; then it changes nothing.
+    /// Each call makes a new id, even if another declaration has the name. Refused with `TableFull` if there are as
+    /// many declarations as there may be, and with `Memory`; then nothing changes.
     pub fn declare_trait(&mut self, name: Symbol, params: u32) -> Result<TraitId, Refusal>
         requires { name.number < size self.old.rows Table.Symbols }
         ensures { Declares result (λ id. id.number) self.old self.new (DeclarationKind.Trait params) name }
@@ -97,7 +97,7 @@ impl Interner {
         Ok(TraitId::from_number(id.number()))
     }
 
-    /// Declares an associated type of this name, of this trait, as [`Interner::declare_trait`] does.
+    /// Declares an associated type of this trait, with this name, as [`Interner::declare_trait`] does.
     pub fn declare_assoc_ty(
         &mut self,
         name: Symbol,
@@ -119,8 +119,8 @@ impl Interner {
         Ok(ImplId::from_number(id.number()))
     }
 
-    /// Declares an associated type of this name, of this implementation, which is no trait's, as
-    /// [`Interner::declare_trait`] does.
+    /// Declares an associated type of this inherent implementation, with this name, as [`Interner::declare_trait`]
+    /// does.
     pub fn declare_inherent(
         &mut self,
         name: Symbol,
@@ -161,7 +161,7 @@ impl Interner {
         Ok(FreeTyAliasId::from_number(id.number()))
     }
 
-    /// Declares a type that is declared elsewhere, as [`Interner::declare_trait`] does.
+    /// Declares a foreign type, as [`Interner::declare_trait`] does.
     pub fn declare_foreign(&mut self, name: Symbol) -> Result<ForeignId, Refusal>
         requires { name.number < size self.old.rows Table.Symbols }
         ensures { Declares result (λ id. id.number) self.old self.new DeclarationKind.Foreign name }
@@ -179,7 +179,7 @@ impl Interner {
         Ok(ClosureId::from_number(id.number()))
     }
 
-    /// Declares a closure that answers a coroutine, as [`Interner::declare_trait`] does.
+    /// Declares a closure that returns a coroutine, as [`Interner::declare_trait`] does.
     pub fn declare_coroutine_closure(&mut self, name: Symbol) -> Result<CoroutineClosureId, Refusal>
         requires { name.number < size self.old.rows Table.Symbols }
         ensures { Declares result (λ id. id.number) self.old self.new DeclarationKind.CoroutineClosure name }
@@ -197,7 +197,7 @@ impl Interner {
         Ok(CoroutineId::from_number(id.number()))
     }
 
-    /// Declares a constant whose value is computed when it is asked for, as [`Interner::declare_trait`] does.
+    /// Declares a constant whose value is computed on demand, as [`Interner::declare_trait`] does.
     pub fn declare_const(&mut self, name: Symbol) -> Result<UnevaluatedConstId, Refusal>
         requires { name.number < size self.old.rows Table.Symbols }
         ensures { Declares result (λ id. id.number) self.old self.new DeclarationKind.Const name }
@@ -223,7 +223,7 @@ impl Interner {
         (id.number() as usize) < self.declarations.len()
     }
 
-    /// Returns whether the declaration of a bound region that is declared is of this interner.
+    /// Returns whether the declaration of a bound region is of this interner, if the region is declared.
     pub fn owns_region_item(&self, kind: &BoundRegionKind) -> bool
         ensures { IsTrue result ↔ IsDeclared self.now.rows kind.now }
     {
@@ -233,7 +233,7 @@ impl Interner {
         }
     }
 
-    /// Returns what is declared under an id, in the interner's memory. The id has to be of this interner;
+    /// Returns the declaration of an id, borrowed from the interner. The id has to be of this interner;
     /// [`Interner::owns_def_id`] tests it.
     pub fn declaration(&self, id: DefId) -> &Declaration
         requires { id.number < size self.now.rows Table.Declarations }
@@ -256,7 +256,7 @@ impl Interner {
         self.declaration(id).name
     }
 
-    // Whether the name is `'_`.
+    // Returns whether the name is `'_`.
     fn is_anonymous(&self, name: Symbol) -> bool
         requires { name.number < size self.now.rows Table.Symbols }
         ensures { result ≡ is_anonymous self.now.rows name }
@@ -266,19 +266,19 @@ impl Interner {
     }
 }
 
-/// What a bound region is called. Where it is declared, its declaration has to be of the interner;
+/// Names of bound regions. If the region is declared, its declaration has to be of the interner;
 /// [`Interner::owns_region_item`] tests it.
 pub trait RegionName: Sized {
-    // What is said of the region.
+    // The region's kind.
     ghost region_kind: { Self → BoundRegionKind };
 
-    /// Returns the name of the region's declaration, unless that is `'_`; the name that it is printed by, if it has no
-    /// declaration; and `None` where it has neither.
+    /// Returns the name of the region's declaration, unless that is `'_`; the name that the region is printed by, if it
+    /// has no declaration; and `None` if it has neither.
     fn get_name(self, cx: &Interner) -> Option<Symbol>
         requires { IsDeclared cx.now.rows (region_kind self) }
         ensures { result ≡ title cx.now.rows (region_kind self) };
 
-    /// Returns whether it has a name.
+    /// Returns whether [`RegionName::get_name`] returns a name.
     fn is_named(self, cx: &Interner) -> bool
         requires { IsDeclared cx.now.rows (region_kind self) }
         ensures { result ≡ is_some (title cx.now.rows (region_kind self)) };

@@ -3,15 +3,14 @@
 ghost use Rattle.std.specs.Prelude.{◌≡◌, ◌<◌, ◌≤◌, length, take, drop};
 ghost use Rattle.tt_kinds.specs.Shape.{item_shapes, AreParts, HasParts};
 ghost use Rattle.tt_kinds.specs.Kinds.{existential_kind_shape, existential_shape};
-ghost use Rattle.tt_interner.specs.Rows.{existential_row, existentials_row, size, meaning};
-ghost use Rattle.tt_interner.specs.Stored.{IsAt, IsInfo, Builds};
+ghost use Rattle.tt_interner.specs.Rows.{existential_row, existentials_row, size};
+ghost use Rattle.tt_interner.specs.Stored.{IsAt, Builds};
 ghost use Rattle.tt_interner.specs.Existentials.{HaveParts, AreExistentials, BuildsAll, PutsEach};
 
 use super::Interner;
 use crate::children::MOST_IN_PLACE;
 use crate::flags::{items_info, kind_info};
-use crate::tables::{find_or_add, find_or_add_list, find_or_insert, info_at, key_at};
-use tt_flags::FlagComputation;
+use crate::tables::{find_or_add, find_or_add_list, find_or_insert, key_at};
 use tt_index::Refusal;
 use tt_kinds::{
     Binder, BoundExistentialPredicates, ExistentialPredicate, Kind, PolyExistentialPredicate, Table,
@@ -21,8 +20,8 @@ impl Interner {
     /// Returns the existential predicate of this kind under this binder. Every handle and name in it has to be this
     /// interner's; [`Interner::owns_existential_kind`] tests it.
     ///
-    /// It is refused with `TableFull` where the existential predicate is new and the table has as many rows as it may
-    /// have, and with `Memory`.
+    /// Refused with `TableFull` if the existential predicate is new and the table has as many rows as it may have, and
+    /// with `Memory`.
     pub fn mk_existential(
         &mut self,
         kind: Binder<ExistentialPredicate>,
@@ -45,8 +44,8 @@ impl Interner {
         Ok(PolyExistentialPredicate::from_number(number))
     }
 
-    /// Returns what a stored existential predicate is, in the interner's memory. It has to be of this interner;
-    /// [`Interner::owns_existential`] tests it.
+    /// Returns an existential predicate's kind, borrowed from the interner. The predicate has to be of this interner;
+    /// [`Interner::owns`] tests it.
     pub fn existential_kind(
         &self,
         handle: PolyExistentialPredicate,
@@ -56,22 +55,13 @@ impl Interner {
     {
         key_at(&self.existentials, handle.number())
     }
-
-    // What is kept beside a stored existential predicate.
-    pub(crate) fn existential_info(&self, handle: PolyExistentialPredicate) -> FlagComputation
-        requires { handle.number < size self.now.rows Table.Existentials }
-        ensures { IsInfo result (meaning self.now.rows Table.Existentials handle.number) }
-    {
-        info_at(&self.existentials, handle.number())
-    }
 }
 
 impl Interner {
     /// Returns the list of these existential predicates, in order. They have to be of this interner;
-    /// [`Interner::owns_existential`] tests it.
+    /// [`Interner::owns`] tests it.
     ///
-    /// It is refused with `TableFull` where the list is new and the table has as many rows as it may have, and with
-    /// `Memory`.
+    /// Refused with `TableFull` if the list is new and the table has as many rows as it may have, and with `Memory`.
     pub fn mk_existential_list(
         &mut self,
         items: &[PolyExistentialPredicate],
@@ -94,7 +84,7 @@ impl Interner {
         Ok(BoundExistentialPredicates::from_number(number))
     }
 
-    // The same of items that are kept as the list's, by one look-up.
+    // Returns the list of these items, with one look-up; a new list keeps the vector.
     pub(crate) fn put_existentials(
         &mut self,
         items: Vec<PolyExistentialPredicate>,
@@ -117,32 +107,24 @@ impl Interner {
         Ok(BoundExistentialPredicates::from_number(number))
     }
 
-    /// Returns the existential predicates of a list, in the interner's memory. The list has to be of this interner;
-    /// [`Interner::owns_existentials`] tests it.
+    /// Returns the existential predicates of a list, borrowed from the interner. The list has to be of this interner;
+    /// [`Interner::owns`] tests it.
     pub fn existentials(&self, list: BoundExistentialPredicates) -> &[PolyExistentialPredicate]
         requires { list.number < size self.now.rows Table.ExistentialLists }
         ensures { IsAt self.now.rows (existentials_row result.now) list.number }
     {
         key_at(&self.existential_lists, list.number()).as_slice()
     }
-
-    // What is kept beside a list of existential predicates.
-    pub(crate) fn existentials_info(&self, list: BoundExistentialPredicates) -> FlagComputation
-        requires { list.number < size self.now.rows Table.ExistentialLists }
-        ensures { IsInfo result (meaning self.now.rows Table.ExistentialLists list.number) }
-    {
-        info_at(&self.existential_lists, list.number())
-    }
 }
 
 impl Interner {
-    /// Returns the list of these existential predicates, each under its binder, in order: the one that
-    /// [`Interner::mk_existential_list`] answers for what [`Interner::mk_existential`] answers for each. Every
-    /// handle and name in them has to be this interner's; [`Interner::owns_existential_kinds`] tests it.
+    /// Returns the list of these existential predicates, each under its binder, in order, as
+    /// [`Interner::mk_existential`] for each of them and then [`Interner::mk_existential_list`] do. Every handle and
+    /// name in them has to be this interner's; [`Interner::owns_existential_kinds`] tests it.
     ///
-    /// It is refused with `TableFull` where one of them or the list is new and its table has as many rows as it may
-    /// have, and with `Memory`. Where it is refused, none of them is added, not even those before the one that had no
-    /// room. What is there is found without growth; the handles of more than eight are collected in memory.
+    /// Refused with `TableFull` if one of them or the list is new and its table has as many rows as it may have, and
+    /// with `Memory`. If refused, none of them is added, not even those before the one that had no room. A list that is
+    /// stored already is found without growth; the handles of more than eight predicates are collected in a vector.
     pub fn mk_existentials(
         &mut self,
         predicates: &[Binder<ExistentialPredicate>],
@@ -161,7 +143,7 @@ impl Interner {
         self.put_all(predicates, places.as_mut_slice())
     }
 
-    // The list of the predicates, or a refusal with nothing added. The places are for their handles.
+    // Returns the list of the predicates, or a refusal with nothing added. Their handles are written to `places`.
     fn put_all(
         &mut self,
         predicates: &[Binder<ExistentialPredicate>],
@@ -183,7 +165,7 @@ impl Interner {
         }
     }
 
-    // Stores each of the predicates, and then the list of their handles. Where one is refused, those before it stay.
+    // Stores each of the predicates, and then the list of their handles. If one is refused, those before it stay.
     fn put_each(
         &mut self,
         predicates: &[Binder<ExistentialPredicate>],
@@ -204,14 +186,14 @@ impl Interner {
         self.mk_existential_list(&places[..predicates.len()])
     }
 
-    // How many rows there are in all tables.
+    // Returns the number of rows in all tables.
     fn row_count(&self) -> usize
         ensures { result ≡ length self.now.rows }
     {
         self.order.len()
     }
 
-    // Takes the newest rows back, which are existential predicates.
+    // Removes the newest rows, which are existential predicates.
     fn take_back(&mut self, added: usize)
         requires { AreExistentials (take added self.old.rows) }
         ensures rows { self.new.rows ≡ drop added self.old.rows }

@@ -1,4 +1,4 @@
-//! Whether every handle and name in a kind is an interner's, as its calls require.
+//! Tests of whether every handle and name in a kind is of an interner, as its calls require.
 
 ghost use Rattle.std.specs.Prelude.{◌<◌, ◌↔◌, IsTrue};
 ghost use Rattle.tt_kinds.specs.Shape.{AreParts, HasParts, IsPart};
@@ -26,31 +26,31 @@ use tt_kinds::{
 };
 
 impl Interner {
-    /// Returns whether `node` is a stored term of the same table of this interner.
+    /// Returns whether `node` names a stored term of this interner.
     pub fn owns_node(&self, node: Node) -> bool
         ensures { IsTrue result ↔ (node_number node < size self.now.rows (node_table node)) }
     {
         match node {
-            Node::Ty(ty) => self.owns_ty(ty),
-            Node::Const(constant) => self.owns_const(constant),
-            Node::Pat(pat) => self.owns_pat(pat),
-            Node::Predicate(predicate) => self.owns_predicate(predicate),
-            Node::Existential(predicate) => self.owns_existential(predicate),
-            Node::Clauses(clauses) => self.owns_clauses(clauses),
+            Node::Ty(ty) => self.owns(ty),
+            Node::Const(constant) => self.owns(constant),
+            Node::Pat(pat) => self.owns(pat),
+            Node::Predicate(predicate) => self.owns(predicate),
+            Node::Existential(predicate) => self.owns(predicate),
+            Node::Clauses(clauses) => self.owns(clauses),
         }
     }
 
-    /// Returns whether `list` is a stored list of the same table of this interner.
+    /// Returns whether `list` names a stored list of this interner.
     pub fn owns_list(&self, list: List) -> bool
         ensures { IsTrue result ↔ (list_number list < size self.now.rows (list_table list)) }
     {
         match list {
-            List::Tys(tys) => self.owns_tys(tys),
-            List::Consts(consts) => self.owns_consts(consts),
-            List::Args(args) => self.owns_args(args),
-            List::Pats(pats) => self.owns_pat_list(pats),
-            List::Existentials(predicates) => self.owns_existentials(predicates),
-            List::Clauses(clauses) => self.owns_clauses(clauses),
+            List::Tys(tys) => self.owns(tys),
+            List::Consts(consts) => self.owns(consts),
+            List::Args(args) => self.owns(args),
+            List::Pats(pats) => self.owns(pats),
+            List::Existentials(predicates) => self.owns(predicates),
+            List::Clauses(clauses) => self.owns(clauses),
         }
     }
 
@@ -66,41 +66,39 @@ impl Interner {
         }
     }
 
-    // Whether the children are of this interner.
+    // Returns whether the children are of this interner.
     fn owns_parts(&self, parts: &Parts) -> bool
         ensures { IsTrue result ↔ AreParts (size self.now.rows) (parts_shapes parts.now) }
     {
         self.owns_child(&parts.first) && self.owns_child(&parts.second)
     }
 
-    // Whether the list of a binder's variables, if there is one, is of this interner.
+    // Returns whether the list of a binder's variables, if there is one, is of this interner.
     fn owns_binder(&self, vars: Option<BoundVarKinds>) -> bool
         ensures { IsTrue result ↔ IsBinderIn (size self.now.rows) vars }
     {
         match vars {
-            Some(vars) => self.owns_bound_vars(vars),
+            Some(vars) => self.owns(vars),
             None => true,
         }
     }
 
-    // Whether the text that the kind has of its own, if it has one, is of this interner.
+    // Returns whether the name in the kind itself, if any, is of this interner.
     fn owns_name(&self, kind: &Kind) -> bool
         ensures { IsTrue result ↔ IsNamedForm (size self.now.rows) (kind_form kind.now) }
     {
         match kind {
-            Kind::Ty(TyKind::Param(param)) => self.owns_symbol(param.name),
-            Kind::Const(ConstKind::Param(param)) => self.owns_symbol(param.name),
+            Kind::Ty(TyKind::Param(param)) => self.owns(param.name),
+            Kind::Const(ConstKind::Param(param)) => self.owns(param.name),
             Kind::Predicate(predicate) => match predicate.skip_binder() {
-                PredicateKind::Clause(ClauseKind::UnstableFeature(feature)) => self.owns_symbol(
-                    feature,
-                ),
+                PredicateKind::Clause(ClauseKind::UnstableFeature(feature)) => self.owns(feature),
                 _ => true,
             },
             _ => true,
         }
     }
 
-    // Whether every handle and name in the kind is this interner's.
+    // Returns whether every handle and name in the kind is this interner's.
     fn owns_contents(&self, kind: &Kind) -> bool
         ensures { IsTrue result ↔ HasParts (size self.now.rows) (kind_shape kind.now) }
     {

@@ -1,4 +1,4 @@
-//! Whether views lie in lists of an interner.
+//! Tests of whether views lie in lists of an interner.
 
 ghost use Rattle.std.specs.Prelude.{◌↔◌, IsTrue};
 ghost use Rattle.tt_interner.specs.Views.{AreInputs, LiesInList};
@@ -7,23 +7,24 @@ use super::Interner;
 use tt_kinds::{FnInputTys, GenericArgsSlice};
 
 impl Interner {
-    /// Returns whether the view's list is one of types, and has a last one.
+    /// Returns whether the view's list is a list of types of this interner, and is not empty.
     pub fn owns_input_tys(&self, view: FnInputTys) -> bool
         ensures { IsTrue result ↔ AreInputs self.now.rows view }
     {
         let list = view.inputs_and_output();
-        if !self.owns_tys(list) {
+        if !self.owns(list) {
             return false;
         }
         !self.tys(list).is_empty()
     }
 
-    /// Returns whether the view's list is one of generic arguments, and has all of the view's places.
+    /// Returns whether the view's list is a list of generic arguments of this interner, and has all of the view's
+    /// places.
     pub fn owns_args_slice(&self, view: GenericArgsSlice) -> bool
         ensures { IsTrue result ↔ LiesInList self.now.rows view }
     {
         let list = view.args();
-        if !self.owns_args(list) {
+        if !self.owns(list) {
             return false;
         }
         view.start() as usize + view.len() as usize <= self.args(list).len()

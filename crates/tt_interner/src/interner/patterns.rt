@@ -3,13 +3,12 @@
 ghost use Rattle.std.specs.Prelude.{◌≡◌, ◌<◌};
 ghost use Rattle.tt_kinds.specs.Shape.{item_shapes, AreParts, HasParts};
 ghost use Rattle.tt_kinds.specs.Kinds.{pattern_kind_shape, pat_shape};
-ghost use Rattle.tt_interner.specs.Rows.{pat_row, pats_row, size, meaning};
-ghost use Rattle.tt_interner.specs.Stored.{IsAt, IsInfo, Builds};
+ghost use Rattle.tt_interner.specs.Rows.{pat_row, pats_row, size};
+ghost use Rattle.tt_interner.specs.Stored.{IsAt, Builds};
 
 use super::Interner;
 use crate::flags::{items_info, kind_info};
-use crate::tables::{find_or_add, find_or_add_list, find_or_insert, info_at, key_at};
-use tt_flags::FlagComputation;
+use crate::tables::{find_or_add, find_or_add_list, find_or_insert, key_at};
 use tt_index::Refusal;
 use tt_kinds::{Kind, Pat, PatList, PatternKind, Table};
 
@@ -17,8 +16,7 @@ impl Interner {
     /// Returns the pattern of this kind. Every handle and name in the kind has to be this interner's;
     /// [`Interner::owns_pattern_kind`] tests it.
     ///
-    /// It is refused with `TableFull` where the pattern is new and the table has as many rows as it may have, and
-    /// with `Memory`.
+    /// Refused with `TableFull` if the pattern is new and the table has as many rows as it may have, and with `Memory`.
     pub fn mk_pat(&mut self, kind: PatternKind) -> Result<Pat, Refusal>
         requires { HasParts (size self.old.rows) (pattern_kind_shape kind) }
         ensures { Builds result (λ handle. handle.number) self.old self.new (pat_row kind) }
@@ -38,29 +36,20 @@ impl Interner {
         Ok(Pat::from_number(number))
     }
 
-    /// Returns what a stored pattern is, in the interner's memory. It has to be of this interner;
-    /// [`Interner::owns_pat`] tests it.
+    /// Returns a pattern's kind, borrowed from the interner. The pattern has to be of this interner; [`Interner::owns`]
+    /// tests it.
     pub fn pat_kind(&self, handle: Pat) -> &PatternKind
         requires { handle.number < size self.now.rows Table.Patterns }
         ensures { IsAt self.now.rows (pat_row result.now) handle.number }
     {
         key_at(&self.patterns, handle.number())
     }
-
-    // What is kept beside a stored pattern.
-    pub(crate) fn pat_info(&self, handle: Pat) -> FlagComputation
-        requires { handle.number < size self.now.rows Table.Patterns }
-        ensures { IsInfo result (meaning self.now.rows Table.Patterns handle.number) }
-    {
-        info_at(&self.patterns, handle.number())
-    }
 }
 
 impl Interner {
-    /// Returns the list of these patterns, in order. They have to be of this interner; [`Interner::owns_pat`] tests it.
+    /// Returns the list of these patterns, in order. They have to be of this interner; [`Interner::owns`] tests it.
     ///
-    /// It is refused with `TableFull` where the list is new and the table has as many rows as it may have, and with
-    /// `Memory`.
+    /// Refused with `TableFull` if the list is new and the table has as many rows as it may have, and with `Memory`.
     pub fn mk_pat_list(&mut self, items: &[Pat]) -> Result<PatList, Refusal>
         requires { AreParts (size self.old.rows) (item_shapes pat_shape items.now) }
         ensures { Builds result (λ list. list.number) self.old self.new (pats_row items.now) }
@@ -80,7 +69,7 @@ impl Interner {
         Ok(PatList::from_number(number))
     }
 
-    // The same of items that are kept as the list's, by one look-up.
+    // Returns the list of these items, with one look-up; a new list keeps the vector.
     pub(crate) fn put_pat_list(&mut self, items: Vec<Pat>) -> Result<PatList, Refusal>
         requires { AreParts (size self.old.rows) (item_shapes pat_shape items.items) }
         ensures { Builds result (λ list. list.number) self.old self.new (pats_row items.items) }
@@ -100,20 +89,12 @@ impl Interner {
         Ok(PatList::from_number(number))
     }
 
-    /// Returns the patterns of a list, in the interner's memory. The list has to be of this interner;
-    /// [`Interner::owns_pat_list`] tests it.
+    /// Returns the patterns of a list, borrowed from the interner. The list has to be of this interner;
+    /// [`Interner::owns`] tests it.
     pub fn pat_list(&self, list: PatList) -> &[Pat]
         requires { list.number < size self.now.rows Table.PatternLists }
         ensures { IsAt self.now.rows (pats_row result.now) list.number }
     {
         key_at(&self.pattern_lists, list.number()).as_slice()
-    }
-
-    // What is kept beside a list of patterns.
-    pub(crate) fn pat_list_info(&self, list: PatList) -> FlagComputation
-        requires { list.number < size self.now.rows Table.PatternLists }
-        ensures { IsInfo result (meaning self.now.rows Table.PatternLists list.number) }
-    {
-        info_at(&self.pattern_lists, list.number())
     }
 }

@@ -10,7 +10,7 @@ use tt_index::Refusal;
 use tt_kinds::{Symbol, Table};
 
 impl Interner {
-    // The symbol of this text, if it is stored.
+    // Returns the symbol of this text, if it is stored.
     fn find_symbol(&self, text: &str) -> Option<Symbol>
         ensures { MatchOption result (IsNew (text_row text.now) self.now.rows) (λ symbol. IsAt self.now.rows
             (text_row text.now)
@@ -42,8 +42,7 @@ impl Interner {
 
     /// Returns the symbol of this text.
     ///
-    /// It is refused with `TableFull` where the text is new and the table has as many rows as it may have, and with
-    /// `Memory`.
+    /// Refused with `TableFull` if the text is new and the table has as many rows as it may have, and with `Memory`.
     pub fn symbol(&mut self, text: &str) -> Result<Symbol, Refusal>
         ensures { Builds result (λ symbol. symbol.number) self.old self.new (text_row text.now) }
     {
@@ -54,8 +53,8 @@ impl Interner {
         }
     }
 
-    /// Returns a symbol's text, in the interner's memory. The symbol has to be of this interner;
-    /// [`Interner::owns_symbol`] tests it.
+    /// Returns a symbol's text, borrowed from the interner. The symbol has to be of this interner; [`Interner::owns`]
+    /// tests it.
     pub fn text(&self, symbol: Symbol) -> &str
         requires { symbol.number < size self.now.rows Table.Symbols }
         ensures { IsAt self.now.rows (text_row result.now) symbol.number }

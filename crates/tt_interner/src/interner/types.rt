@@ -6,19 +6,18 @@ ghost use Rattle.tt_kinds.specs.Shape.{AreParts, HasParts, IsTooDeep, item_shape
 ghost use Rattle.tt_kinds.specs.Kinds.{ty_kind_shape, ty_shape};
 ghost use Rattle.tt_interner.specs.Chained.{BuildsOf};
 ghost use Rattle.tt_interner.specs.Collect.{BuildsFrom};
-ghost use Rattle.tt_interner.specs.Rows.{type_row, tys_row, text_row, size, meaning};
-ghost use Rattle.tt_interner.specs.Stored.{IsAt, IsInfo, Puts, Builds};
+ghost use Rattle.tt_interner.specs.Rows.{type_row, tys_row, text_row, size};
+ghost use Rattle.tt_interner.specs.Stored.{IsAt, Puts, Builds};
 
 use super::Interner;
 use crate::collect::collected;
 use crate::flags::{OwnFlags, items_info, kind_info};
-use crate::tables::{find_or_add, find_or_add_list, find_or_insert, info_at, key_at};
-use tt_flags::FlagComputation;
+use crate::tables::{find_or_add, find_or_add_list, find_or_insert, key_at};
 use tt_index::{Mutability, Refusal};
 use tt_kinds::{Kind, ParamTy, Region, Table, Ty, TyKind, Tys};
 
 impl Interner {
-    // Finds a type of this kind, or stores it.
+    // Finds the type of this kind, or stores it.
     #[inline(never)]
     fn put_ty(&mut self, kind: &TyKind) -> Result<Ty, Refusal>
         requires parts { HasParts (size self.old.rows) (ty_kind_shape kind.now) }
@@ -43,8 +42,8 @@ impl Interner {
     /// Returns the type of this kind. Every handle and name in the kind has to be this interner's;
     /// [`Interner::owns_kind`] tests it.
     ///
-    /// It is refused with `GreatestIndex` where the kind is a bound variable with the greatest index, with
-    /// `TableFull` where the type is new and the table has as many rows as it may have, and with `Memory`.
+    /// Refused with `GreatestIndex` if the kind is a bound variable with the greatest index, with `TableFull` if the
+    /// type is new and the table has as many rows as it may have, and with `Memory`.
     #[inline(always)]
     pub fn mk_ty(&mut self, kind: TyKind) -> Result<Ty, Refusal>
         requires { HasParts (size self.old.rows) (ty_kind_shape kind) }
@@ -57,8 +56,8 @@ impl Interner {
         self.put_ty(&kind)
     }
 
-    /// Returns the reference to this type, as [`Interner::mk_ty`] answers it for its kind. The region's name and the type
-    /// have to be this interner's; [`Interner::owns_region`] and [`Interner::owns_ty`] test it.
+    /// Returns the reference to this type, as [`Interner::mk_ty`] does for its kind. The region's name and the type
+    /// have to be this interner's; [`Interner::owns_region`] and [`Interner::owns`] test it.
     pub fn mk_ref(
         &mut self,
         region: Region,
@@ -71,8 +70,8 @@ impl Interner {
         self.mk_ty(TyKind::Ref(region, referent, mutability))
     }
 
-    /// Returns the tuple of these types, in order, as [`Interner::mk_tys`] and then [`Interner::mk_ty`] answer it. They
-    /// have to be of this interner; [`Interner::owns_ty`] tests it. Where the tuple is refused, the list may stay.
+    /// Returns the tuple of these types, in order, as [`Interner::mk_tys`] and then [`Interner::mk_ty`] do. The types
+    /// have to be of this interner; [`Interner::owns`] tests it. If the tuple is refused, the list may stay.
     pub fn mk_tuple(&mut self, items: &[Ty]) -> Result<Ty, Refusal>
         requires { AreParts (size self.old.rows) (item_shapes ty_shape items.now) }
         ensures { BuildsOf
@@ -89,8 +88,8 @@ impl Interner {
         }
     }
 
-    /// Returns the type parameter of this index and name, as [`Interner::symbol`] and then [`Interner::mk_ty`] answer it.
-    /// Where the parameter is refused, the name may stay.
+    /// Returns the type parameter of this index and name, as [`Interner::symbol`] and then [`Interner::mk_ty`] do. If
+    /// the parameter is refused, the name may stay.
     pub fn mk_param(&mut self, index: u32, name: &str) -> Result<Ty, Refusal>
         ensures { BuildsOf
             (λ symbol. symbol.number)
@@ -106,30 +105,21 @@ impl Interner {
         }
     }
 
-    /// Returns a type's kind, in the interner's memory. The type has to be of this interner; [`Interner::owns_ty`]
-    /// tests it.
+    /// Returns a type's kind, borrowed from the interner. The type has to be of this interner; [`Interner::owns`] tests
+    /// it.
     pub fn ty_kind(&self, ty: Ty) -> &TyKind
         requires { ty.number < size self.now.rows Table.Types }
         ensures { IsAt self.now.rows (type_row result.now) ty.number }
     {
         key_at(&self.types, ty.number())
     }
-
-    // What is kept beside a type.
-    pub(crate) fn ty_info(&self, ty: Ty) -> FlagComputation
-        requires { ty.number < size self.now.rows Table.Types }
-        ensures { IsInfo result (meaning self.now.rows Table.Types ty.number) }
-    {
-        info_at(&self.types, ty.number())
-    }
 }
 
 impl Interner {
-    /// Returns the list of these types, in order. They have to be of this interner; [`Interner::owns_ty`]
+    /// Returns the list of these types, in order. They have to be of this interner; [`Interner::owns`]
     /// tests it.
     ///
-    /// It is refused with `TableFull` where the list is new and the table has as many rows as it may have, and with
-    /// `Memory`.
+    /// Refused with `TableFull` if the list is new and the table has as many rows as it may have, and with `Memory`.
     pub fn mk_tys(&mut self, items: &[Ty]) -> Result<Tys, Refusal>
         requires { AreParts (size self.old.rows) (item_shapes ty_shape items.now) }
         ensures { Builds result (λ list. list.number) self.old self.new (tys_row items.now) }
@@ -149,11 +139,10 @@ impl Interner {
         Ok(Tys::from_number(number))
     }
 
-    /// Returns the list of all items of the iterator, in order, as [`Interner::mk_tys`] answers it. The iterator has to
-    /// end, and its items to be of this interner.
+    /// Returns the list of all items of the iterator, in order, as [`Interner::mk_tys`] does for a slice. The iterator
+    /// has to end, and its items have to be of this interner.
     ///
-    /// It is refused with `Memory` also where there is none for the items, which are collected before the list is
-    /// looked up.
+    /// Refused with `Memory` also if there is none for the items, which are collected before the list is looked up.
     pub fn mk_type_list_from_iter<I: Iterator<Item = Ty> + Drop>(
         &mut self,
         iter: I,
@@ -168,7 +157,7 @@ impl Interner {
         self.put_tys(items)
     }
 
-    // The same of items that are kept as the list's, by one look-up.
+    // Returns the list of these items, with one look-up; a new list keeps the vector.
     pub(crate) fn put_tys(&mut self, items: Vec<Ty>) -> Result<Tys, Refusal>
         requires { AreParts (size self.old.rows) (item_shapes ty_shape items.items) }
         ensures { Builds result (λ list. list.number) self.old self.new (tys_row items.items) }
@@ -188,20 +177,12 @@ impl Interner {
         Ok(Tys::from_number(number))
     }
 
-    /// Returns the types of a list, in the interner's memory. The list has to be of this interner;
-    /// [`Interner::owns_tys`] tests it.
+    /// Returns the types of a list, borrowed from the interner. The list has to be of this interner; [`Interner::owns`]
+    /// tests it.
     pub fn tys(&self, list: Tys) -> &[Ty]
         requires { list.number < size self.now.rows Table.TypeLists }
         ensures { IsAt self.now.rows (tys_row result.now) list.number }
     {
         key_at(&self.type_lists, list.number()).as_slice()
-    }
-
-    // What is kept beside a list of types.
-    pub(crate) fn tys_info(&self, list: Tys) -> FlagComputation
-        requires { list.number < size self.now.rows Table.TypeLists }
-        ensures { IsInfo result (meaning self.now.rows Table.TypeLists list.number) }
-    {
-        info_at(&self.type_lists, list.number())
     }
 }

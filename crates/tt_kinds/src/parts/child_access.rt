@@ -1,4 +1,4 @@
-//! Children, each by what it is.
+//! Access to a child by its sort.
 
 ghost use Rattle.std.specs.Prelude.{◌≡◌, ◌↔◌, IsTrue};
 ghost use Rattle.tt_kinds.specs.Parts.{a_region, a_node, a_list, child_sort, IsTermSort, term_child};
@@ -30,7 +30,7 @@ impl Child {
     }
 }
 
-// Each is for a child of that sort; a `match` tests it.
+// Each method is for a child of that sort; a `match` tests it.
 impl Child {
     /// Returns the region.
     #[inline(always)]

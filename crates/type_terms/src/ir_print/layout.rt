@@ -22,17 +22,17 @@ pub(crate) enum Style {
     Signature,
     /// A variadic signature, around the list of its types.
     Variadic,
-    /// A trait object: the list of what it says, and its region.
+    /// A trait object: the list of its predicates, and its region.
     Dynamic,
-    /// A name, its arguments and perhaps what it is: `NAME<A> = T`.
+    /// A name, its arguments and perhaps its value: `NAME<A> = T`.
     Generic,
-    /// The same in braces.
+    /// A name, its arguments and perhaps its value, in braces.
     Braced,
     /// A value of its type: `T(A, B)`.
     Branch,
     /// `A..=B`.
     Range,
-    /// A pattern of several, around their list.
+    /// A pattern of alternatives, around their list.
     OneOf,
     /// `NAME(A, B)`.
     Record,
@@ -50,7 +50,7 @@ pub(crate) enum Style {
     Inputs,
     /// The list of a variadic signature's types: `(A, B, ...) -> C`.
     VariadicInputs,
-    /// The list of what a trait object says: `A + B + `.
+    /// The list of a trait object's predicates: `A + B + `.
     Bounds,
     /// The list of patterns: `A | B`.
     Alternatives,
@@ -59,7 +59,7 @@ pub(crate) enum Style {
 }
 
 impl Style {
-    // The style of a list in a term of this style.
+    // Returns the style of a list in a term of this style.
     pub(crate) fn of_list(self) -> Style
         ensures { result ≡ list_style self }
     {
@@ -75,7 +75,7 @@ impl Style {
         }
     }
 
-    // What is in front of a first child.
+    // Returns the text in front of a first child.
     fn opening(self, last: bool) -> &'static str
         ensures { result.now ≡ opening self last }
     {
@@ -90,7 +90,7 @@ impl Style {
         }
     }
 
-    // What is in front of a later child.
+    // Returns the text in front of a later child.
     fn separator(self, last: bool) -> &'static str
         ensures { result.now ≡ separator self last }
     {
@@ -116,7 +116,7 @@ impl Style {
         }
     }
 
-    // What is in front of a child.
+    // Returns the text in front of a child.
     pub(crate) fn before_child(self, first: bool, last: bool) -> &'static str
         ensures { result.now ≡ before_child self first last }
     {
@@ -127,7 +127,7 @@ impl Style {
         }
     }
 
-    // What is after so many children.
+    // Returns the text after `count` children.
     pub(crate) fn closing(self, count: usize) -> &'static str
         ensures { result.now ≡ closing self count }
     {

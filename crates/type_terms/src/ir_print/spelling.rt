@@ -1,4 +1,4 @@
-//! How terms are spelled: what is in front of their children, and in which style those are written.
+//! How terms are spelled: the text in front of their children, and the style of the children.
 
 ghost use Rattle.std.specs.Prelude.{◌≡◌, [], codes};
 ghost use Rattle.tt_kinds.specs.Bound.{depth, region_name};
@@ -51,7 +51,7 @@ use tt_kinds::{
     PredicateKind, RegionKind, Symbol, TyKind, ValTreeKind, ValueConst,
 };
 
-/// What of a term's data is written.
+/// The part of a term's data that is written.
 #[derive(Clone, Copy)]
 pub(crate) enum Subject {
     /// Nothing.
@@ -64,7 +64,7 @@ pub(crate) enum Subject {
     Bits(u128),
     /// Two numbers, with a dot between them.
     Paired(u32, u32),
-    /// What a declaration is called.
+    /// The name of a declaration.
     Item(DefId),
     /// A name.
     Called(Symbol),
@@ -73,17 +73,17 @@ pub(crate) enum Subject {
 /// How a term is spelled.
 #[derive(Clone, Copy)]
 pub(crate) struct Spelling {
-    /// What is first.
+    /// The text that comes first.
     pub(crate) before: &'static str,
-    /// What of the term's data is written.
+    /// The part of the term's data that is written.
     pub(crate) subject: Subject,
-    /// What is after it, in front of the children.
+    /// The text after it, in front of the children.
     pub(crate) after: &'static str,
     /// The style of the children.
     pub(crate) style: Style,
 }
 
-// A word alone.
+// Returns the spelling by a word alone.
 fn alone(before: &'static str) -> Spelling
     ensures head { head_of result ≡ word before.now }
     ensures style { result.style ≡ Style.Joined }
@@ -91,7 +91,7 @@ fn alone(before: &'static str) -> Spelling
     worded(before, Style::Joined)
 }
 
-// A word, and children in the style.
+// Returns the spelling by a word, and children in the style.
 fn worded(before: &'static str, style: Style) -> Spelling
     ensures head { head_of result ≡ word before.now }
     ensures style { result.style ≡ style }
@@ -99,7 +99,7 @@ fn worded(before: &'static str, style: Style) -> Spelling
     followed(before, Subject::Nothing, style)
 }
 
-// A word and what follows it, and children in the style.
+// Returns the spelling by a word, the subject after it, and children in the style.
 fn followed(before: &'static str, subject: Subject, style: Style) -> Spelling
     ensures head { head_of result ≡ with_word before.now (subject_of subject) }
     ensures style { result.style ≡ style }
@@ -112,7 +112,7 @@ fn followed(before: &'static str, subject: Subject, style: Style) -> Spelling
     }
 }
 
-// A word and what the declaration of this number is called, and children in the style.
+// Returns the spelling by a word, the name of the declaration of this number, and children in the style.
 fn declared(before: &'static str, number: u32, style: Style) -> Spelling
     ensures head { head_of result ≡ with_word before.now (item number) }
     ensures style { result.style ≡ style }
@@ -120,7 +120,7 @@ fn declared(before: &'static str, number: u32, style: Style) -> Spelling
     followed(before, Subject::Item(DefId::from_number(number)), style)
 }
 
-// The same, in braces.
+// Returns the spelling by a word, the name of the declaration of this number, and children in braces.
 fn braced(before: &'static str, number: u32) -> Spelling
     ensures head { head_of result ≡ with_word before.now (item number) }
     ensures style { result.style ≡ Style.Braced }
@@ -128,7 +128,7 @@ fn braced(before: &'static str, number: u32) -> Spelling
     declared(before, number, Style::Braced)
 }
 
-// A name.
+// Returns the spelling by a name.
 fn named(name: Symbol) -> Spelling
     ensures head { head_of result ≡ with_word [] (called name.number) }
     ensures style { result.style ≡ Style.Joined }
@@ -136,7 +136,7 @@ fn named(name: Symbol) -> Spelling
     followed("", Subject::Called(name), Style::Joined)
 }
 
-// A number between two words.
+// Returns the spelling by a number between two words.
 fn enclosed(before: &'static str, number: u32, after: &'static str) -> Spelling
     ensures head { head_of result ≡ record { before = before.now; subject = numbered number; after = after.now } }
     ensures style { result.style ≡ Style.Joined }
@@ -149,7 +149,7 @@ fn enclosed(before: &'static str, number: u32, after: &'static str) -> Spelling
     }
 }
 
-// A mark, and two numbers with a dot between them.
+// Returns the spelling by a mark, and two numbers with a dot between them.
 fn marked(mark: &'static str, first: u32, second: u32) -> Spelling
     ensures head { head_of result ≡ with_word mark.now (paired first second) }
     ensures style { result.style ≡ Style.Joined }
@@ -157,7 +157,7 @@ fn marked(mark: &'static str, first: u32, second: u32) -> Spelling
     followed(mark, Subject::Paired(first, second), Style::Joined)
 }
 
-// A function pointer, in front of its signature.
+// Returns the spelling of a function pointer, in front of its signature.
 fn fn_spelling(kind: FnSigKind) -> Spelling
     ensures before { result.before.now ≡ safety_word kind }
     ensures subject { subject_of result.subject ≡ words (abi_words kind) }
@@ -176,7 +176,7 @@ fn fn_spelling(kind: FnSigKind) -> Spelling
     }
 }
 
-// A reference, in front of its region.
+// Returns the spelling of a reference, in front of its region.
 fn ref_spelling(mutability: Mutability) -> Spelling
     ensures head { head_of result ≡ word (codes "&") }
     ensures style { result.style ≡ type_style (ref_type mutability) }
@@ -187,7 +187,7 @@ fn ref_spelling(mutability: Mutability) -> Spelling
     }
 }
 
-// A raw pointer.
+// Returns the spelling of a raw pointer.
 fn pointer_spelling(mutability: Mutability) -> Spelling
     ensures head { head_of result ≡ pointer_head mutability }
     ensures style { result.style ≡ Style.Joined }
@@ -212,7 +212,7 @@ fn infer_spelling(var: InferTy) -> Spelling
     }
 }
 
-// A bound type or constant, by its index and its place.
+// Returns the spelling of a bound type or constant, by its index and its place.
 fn bound_spelling(index: BoundVarIndexKind, var: u32) -> Spelling
     ensures head { head_of result ≡ bound_head type_sort (depth index) var }
     ensures style { result.style ≡ Style.Joined }
@@ -223,7 +223,7 @@ fn bound_spelling(index: BoundVarIndexKind, var: u32) -> Spelling
     }
 }
 
-// The same of a bound region.
+// Returns the spelling of a bound region, by its index and its place.
 fn bound_region_spelling(index: BoundVarIndexKind, var: u32) -> Spelling
     ensures head { head_of result ≡ bound_head region_sort (depth index) var }
     ensures style { result.style ≡ Style.Joined }
@@ -234,7 +234,7 @@ fn bound_region_spelling(index: BoundVarIndexKind, var: u32) -> Spelling
     }
 }
 
-// How a type is spelled.
+// Returns how a type is spelled.
 fn ty_spelling(kind: &TyKind) -> Spelling
     ensures head { head_of result ≡ form_head (relabelled type_label (ty_form kind.now)) }
     ensures style { result.style ≡ form_style (relabelled type_label (ty_form kind.now)) }
@@ -270,7 +270,7 @@ fn ty_spelling(kind: &TyKind) -> Spelling
     }
 }
 
-// How a value is spelled, in front of its type.
+// Returns how a value is spelled, in front of its type.
 fn value_spelling(value: &ValueConst) -> Spelling
     ensures head { head_of result
         ≡ form_head (relabelled const_label (value_form value.now.ty value.now.valtree.kind)) }
@@ -288,7 +288,7 @@ fn value_spelling(value: &ValueConst) -> Spelling
     }
 }
 
-// How a constant is spelled.
+// Returns how a constant is spelled.
 fn const_spelling(kind: &ConstKind) -> Spelling
     ensures head { head_of result ≡ form_head (relabelled const_label (const_form kind.now)) }
     ensures style { result.style ≡ form_style (relabelled const_label (const_form kind.now)) }
@@ -306,7 +306,7 @@ fn const_spelling(kind: &ConstKind) -> Spelling
     }
 }
 
-// How a pattern is spelled.
+// Returns how a pattern is spelled.
 fn pattern_spelling(kind: &PatternKind) -> Spelling
     ensures head { head_of result ≡ pattern_head (pattern_form kind.now).label }
     ensures style { result.style ≡ pattern_style (pattern_form kind.now).label }
@@ -318,7 +318,7 @@ fn pattern_spelling(kind: &PatternKind) -> Spelling
     }
 }
 
-// How a predicate on the effects of a trait's items is spelled.
+// Returns how a predicate on the effects of a trait's items is spelled.
 fn effect_spelling(constness: BoundConstness, number: u32) -> Spelling
     ensures head { head_of result ≡ effect_head constness number }
     ensures style { result.style ≡ Style.Record }
@@ -329,7 +329,7 @@ fn effect_spelling(constness: BoundConstness, number: u32) -> Spelling
     }
 }
 
-// How a clause is spelled.
+// Returns how a clause is spelled.
 fn clause_spelling(kind: &ClauseKind) -> Spelling
     ensures head { head_of result ≡ record_head (clause_form kind.now).label }
     ensures style { result.style ≡ record_style Style.Joined (clause_form kind.now).label }
@@ -360,7 +360,7 @@ fn clause_spelling(kind: &ClauseKind) -> Spelling
     }
 }
 
-// The style of two terms that may be aliases.
+// Returns the style of two terms that may be aliases.
 fn relation_style(direction: AliasRelationDirection) -> Style
     ensures { result ≡ relation_style direction }
 {
@@ -370,7 +370,7 @@ fn relation_style(direction: AliasRelationDirection) -> Style
     }
 }
 
-// How a predicate is spelled.
+// Returns how a predicate is spelled.
 fn predicate_spelling(kind: &PredicateKind) -> Spelling
     ensures head { head_of result ≡ record_head (predicate_form kind.now).label }
     ensures style { result.style ≡ record_style Style.Joined (predicate_form kind.now).label }
@@ -391,7 +391,7 @@ fn predicate_spelling(kind: &PredicateKind) -> Spelling
     }
 }
 
-// How an existential predicate is spelled.
+// Returns how an existential predicate is spelled.
 fn existential_spelling(kind: &ExistentialPredicate) -> Spelling
     ensures head { head_of result ≡ record_head (existential_form kind.now).label }
     ensures style { result.style ≡ record_style Style.Joined (existential_form kind.now).label }
@@ -403,7 +403,7 @@ fn existential_spelling(kind: &ExistentialPredicate) -> Spelling
     }
 }
 
-// How a stored term is spelled.
+// Returns how a stored term is spelled.
 pub(crate) fn kind_spelling(kind: &Kind) -> Spelling
     ensures head { head_of result ≡ form_head (kind_form kind.now) }
     ensures style { result.style ≡ form_style (kind_form kind.now) }
@@ -417,7 +417,7 @@ pub(crate) fn kind_spelling(kind: &Kind) -> Spelling
     }
 }
 
-// How a region that has a name is spelled.
+// Returns how a region that has a name is spelled.
 fn region_name_spelling(kind: BoundRegionKind) -> Spelling
     ensures head { head_of result ≡ region_name_head (region_name kind) }
     ensures style { result.style ≡ Style.Joined }
@@ -430,7 +430,7 @@ fn region_name_spelling(kind: BoundRegionKind) -> Spelling
     }
 }
 
-// How a region is spelled.
+// Returns how a region is spelled.
 pub(crate) fn region_spelling(kind: &RegionKind) -> Spelling
     ensures { head_of result ≡ region_head (region_shape kind.now) }
 {

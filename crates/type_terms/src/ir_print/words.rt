@@ -1,4 +1,4 @@
-//! Words: the names of numeric types, and what a function says beside its types.
+//! Words: the names of numeric types, and the words of a function besides its types.
 
 ghost use Rattle.std.specs.Prelude.{◌≡◌};
 ghost use Rattle.type_terms.specs.Text.{
@@ -16,7 +16,7 @@ ghost use Rattle.type_terms.specs.Text.{
 use tt_index::{ExternAbi, FloatTy, IntTy, Safety, UintTy};
 use tt_kinds::FnSigKind;
 
-// A signed integer type.
+// Returns the name of a signed integer type.
 pub(crate) fn int_name(ty: IntTy) -> &'static str
     ensures { result.now ≡ int_name ty }
 {
@@ -30,7 +30,7 @@ pub(crate) fn int_name(ty: IntTy) -> &'static str
     }
 }
 
-// An unsigned integer type.
+// Returns the name of an unsigned integer type.
 pub(crate) fn uint_name(ty: UintTy) -> &'static str
     ensures { result.now ≡ uint_name ty }
 {
@@ -44,7 +44,7 @@ pub(crate) fn uint_name(ty: UintTy) -> &'static str
     }
 }
 
-// A type of floating point.
+// Returns the name of a floating point type.
 pub(crate) fn float_name(ty: FloatTy) -> &'static str
     ensures { result.now ≡ float_name ty }
 {
@@ -56,14 +56,14 @@ pub(crate) fn float_name(ty: FloatTy) -> &'static str
     }
 }
 
-// Whether what a function says beside its types is this.
+// Returns whether a function has this calling convention, and this safety and variadicity.
 fn is_made(kind: FnSigKind, abi: ExternAbi, safety: Safety, c_variadic: bool) -> bool
     ensures { result ≡ is_made kind abi safety c_variadic }
 {
     kind == FnSigKind::new(abi, safety, c_variadic)
 }
 
-// Whether it is of this calling convention.
+// Returns whether a function has this calling convention.
 fn has_abi(kind: FnSigKind, abi: ExternAbi) -> bool
     ensures { result ≡ has_abi kind abi }
 {
@@ -73,7 +73,7 @@ fn has_abi(kind: FnSigKind, abi: ExternAbi) -> bool
         || is_made(kind, abi, Safety::Unsafe, true)
 }
 
-// Whether it is of some calling convention.
+// Returns whether a function has some calling convention, and this safety and variadicity.
 fn has_some_abi(kind: FnSigKind, safety: Safety, c_variadic: bool) -> bool
     ensures { result ≡ has_some_abi kind safety c_variadic }
 {
@@ -91,7 +91,7 @@ fn has_some_abi(kind: FnSigKind, safety: Safety, c_variadic: bool) -> bool
         || is_made(kind, ExternAbi::Unadjusted, safety, c_variadic)
 }
 
-// The word of a function that isn't safe.
+// Returns the word of a function that isn't safe.
 pub(crate) fn safety_word(kind: FnSigKind) -> &'static str
     ensures { result.now ≡ safety_word kind }
 {
@@ -102,7 +102,7 @@ pub(crate) fn safety_word(kind: FnSigKind) -> &'static str
     }
 }
 
-// The words of a calling convention. Rust's own has none.
+// Returns the words of a calling convention. Rust's own has none.
 pub(crate) fn abi_words(kind: FnSigKind) -> &'static str
     ensures { result.now ≡ abi_words kind }
 {
@@ -123,7 +123,7 @@ pub(crate) fn abi_words(kind: FnSigKind) -> &'static str
     }
 }
 
-// Whether more arguments may follow the inputs.
+// Returns whether more arguments may follow the inputs.
 pub(crate) fn is_variadic(kind: FnSigKind) -> bool
     ensures { result ≡ is_variadic kind }
 {

@@ -7,31 +7,31 @@ use tt_kinds::{Clauses, Const, DeclarationSort, DefId, GenericArgs, Pat, Predica
 /// The answer to a [`Call`](crate::Call).
 #[derive(Clone, Copy, Debug, PartialEq, Eq)]
 pub enum Answer {
-    /// The type that was built, or that a fold gave.
+    /// The type that was built, shifted, instantiated or erased.
     Ty(Ty),
-    /// The constant that was.
+    /// The constant that was built, shifted, instantiated or erased.
     Const(Const),
-    /// The pattern that was.
+    /// The pattern that was built, shifted, instantiated or erased.
     Pat(Pat),
-    /// The predicate that was.
+    /// The predicate that was built, shifted, instantiated or erased.
     Predicate(Predicate),
-    /// The list of clauses that was.
+    /// The list of clauses that was built, shifted, instantiated or erased.
     Clauses(Clauses),
-    /// The list of generic arguments that was.
+    /// The list of generic arguments that was built, shifted, instantiated or erased.
     Args(GenericArgs),
-    /// The id of the declaration that was made, and what it is of.
+    /// The id of the declaration that was made, with the declaration's sort.
     Id(DeclarationSort, DefId),
     /// Whether two terms are the same.
     Truth(bool),
-    /// What is kept beside a term.
+    /// The cached information of a term.
     Info {
         /// The union of the flags of all of its contents.
         flags: TypeFlags,
-        /// The innermost enclosing binder that no variable of the term reaches, and 0 where none escapes.
+        /// One more than the greatest index of a bound variable that escapes the term, or 0 if none escapes.
         outer: DebruijnIndex,
     },
     /// The call was refused.
     Refused(Refusal),
-    /// The line was no call.
+    /// The line was not a call.
     Bad,
 }

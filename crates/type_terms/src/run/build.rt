@@ -82,7 +82,7 @@ use tt_kinds::{
     Table, TraitAssocTyId, Ty, TyKind, UnsafeBinderInner,
 };
 
-/// Returns the type that the call names, over the earlier answers, where the ids that it names are there.
+/// Returns the type that the call names, over the earlier answers. The ids that it names have to be there.
 pub fn build_ty(cx: &mut Interner, earlier: &[Answer], call: &TyCall) -> Result<Answer, Refusal>
     requires { AreOwned cx.old.rows earlier.now }
     ensures extends { Extends cx.old cx.new }
@@ -91,7 +91,7 @@ pub fn build_ty(cx: &mut Interner, earlier: &[Answer], call: &TyCall) -> Result<
 {
     match ty_kind(cx, earlier, call) {
         Ok(kind) => {
-            // Each row is added once, so that a type that is there is found.
+            // Each row is added once, so a type that is there is found.
             cx.are_rows();
             let ty = cx.mk_ty(kind)?;
             Ok(Answer::Ty(ty))
@@ -103,7 +103,7 @@ pub fn build_ty(cx: &mut Interner, earlier: &[Answer], call: &TyCall) -> Result<
     }
 }
 
-// The kind of the type.
+// Returns the kind of the type.
 fn ty_kind(cx: &mut Interner, earlier: &[Answer], call: &TyCall) -> Result<TyKind, Refusal>
     requires { AreOwned cx.old.rows earlier.now }
     ensures extends { Extends cx.old cx.new }
@@ -152,7 +152,7 @@ fn ty_kind(cx: &mut Interner, earlier: &[Answer], call: &TyCall) -> Result<TyKin
     }
 }
 
-// The kind of a type that is declared elsewhere.
+// Returns the kind of a foreign type.
 fn foreign_kind(earlier: &[Answer], position: u32) -> TyKind
     ensures { (rows : List Row) → ty_kind_shape result
         ≡ shape.term (type_label (foreign_type (number_at (told_all rows earlier.now) position))) shape.none }
@@ -160,7 +160,7 @@ fn foreign_kind(earlier: &[Answer], position: u32) -> TyKind
     TyKind::Foreign(ForeignId::from_number(number_at(earlier, position)))
 }
 
-// The kind of a bound type.
+// Returns the kind of a bound type.
 fn bound_kind(
     earlier: &[Answer],
     index: BoundVarIndexKind,
@@ -176,7 +176,7 @@ fn bound_kind(
     TyKind::Bound(index, BoundTy { var, kind })
 }
 
-// The kind of a type whose binder was entered.
+// Returns the kind of a placeholder type.
 fn placeholder_kind(
     earlier: &[Answer],
     universe: UniverseIndex,
@@ -196,7 +196,7 @@ fn placeholder_kind(
     TyKind::Placeholder(Placeholder { universe, bound })
 }
 
-// What a bound type is called.
+// Returns the name of a bound type.
 fn ty_name(earlier: &[Answer], name: BoundTyKindCall) -> BoundTyKind
     ensures { (rows : List Row) → result ≡ ty_called (number_at (told_all rows earlier.now)) name }
 {
@@ -206,7 +206,7 @@ fn ty_name(earlier: &[Answer], name: BoundTyKindCall) -> BoundTyKind
     }
 }
 
-// The kind of a parameter.
+// Returns the kind of a parameter.
 fn param_kind(cx: &mut Interner, index: u32, name: &str) -> Result<TyKind, Refusal>
     ensures extends { Extends cx.old cx.new }
     ensures kind { (earlier : List Told) → GivesKind cx.new earlier
@@ -219,7 +219,7 @@ fn param_kind(cx: &mut Interner, index: u32, name: &str) -> Result<TyKind, Refus
     Ok(TyKind::Param(ParamTy { index, name }))
 }
 
-// The kind of a reference.
+// Returns the kind of a reference.
 fn ref_kind(
     cx: &mut Interner,
     earlier: &[Answer],
@@ -243,7 +243,7 @@ fn ref_kind(
     Ok(TyKind::Ref(region, ty, mutability))
 }
 
-// The kind of an array.
+// Returns the kind of an array.
 fn array_kind(earlier: &[Answer], ty: u32, length: u32) -> Result<TyKind, Refusal>
     ensures cause { IfErr result (λ e. e ≡ NoSuchAnswer) }
     ensures kind { (terms : Terms) → AreOwned terms.rows earlier.now
@@ -257,7 +257,7 @@ fn array_kind(earlier: &[Answer], ty: u32, length: u32) -> Result<TyKind, Refusa
     Ok(TyKind::Array(pair.0, pair.1))
 }
 
-// The kind of a type that a pattern restricts.
+// Returns the kind of a type that a pattern restricts.
 fn pat_kind(earlier: &[Answer], ty: u32, pat: u32) -> Result<TyKind, Refusal>
     ensures cause { IfErr result (λ e. e ≡ NoSuchAnswer) }
     ensures kind { (terms : Terms) → AreOwned terms.rows earlier.now
@@ -271,7 +271,7 @@ fn pat_kind(earlier: &[Answer], ty: u32, pat: u32) -> Result<TyKind, Refusal>
     Ok(TyKind::Pat(pair.0, pair.1))
 }
 
-// The kind of a type under a binder.
+// Returns the kind of a type under a binder.
 fn unsafe_binder_kind(
     cx: &mut Interner,
     earlier: &[Answer],
@@ -304,7 +304,7 @@ fn unsafe_binder_kind(
     Ok(TyKind::UnsafeBinder(UnsafeBinderInner::from(binder)))
 }
 
-// The kind of an item's type.
+// Returns the kind of an item's type.
 fn item_kind(
     cx: &mut Interner,
     earlier: &[Answer],
@@ -329,7 +329,7 @@ fn item_kind(
     Ok(type_of_item(earlier, item, args))
 }
 
-// The type of an item with these arguments.
+// Returns the type of an item with these arguments.
 fn type_of_item(earlier: &[Answer], item: ItemCall, args: GenericArgs) -> TyKind
     ensures { (rows : List Row) → ty_kind_shape result
         ≡ shape.term
@@ -360,7 +360,7 @@ fn type_of_item(earlier: &[Answer], item: ItemCall, args: GenericArgs) -> TyKind
     }
 }
 
-// What the alias is.
+// Returns the kind of the alias.
 fn alias_kind(earlier: &[Answer], alias: AliasCall) -> AliasTyKind
     ensures { (rows : List Row) → result ≡ alias_of (number_at (told_all rows earlier.now)) alias }
 {
@@ -380,7 +380,7 @@ fn alias_kind(earlier: &[Answer], alias: AliasCall) -> AliasTyKind
     }
 }
 
-// The kind of a function pointer.
+// Returns the kind of a function pointer.
 fn fn_ptr_kind(
     cx: &mut Interner,
     earlier: &[Answer],
@@ -439,7 +439,7 @@ pub fn build_vars(
     cx.mk_bound_vars(built.as_slice())
 }
 
-// Puts the variables into the first places.
+// Writes the variables to the first places.
 fn put_vars(
     cx: &mut Interner,
     earlier: &[Answer],
@@ -463,7 +463,7 @@ fn put_vars(
     Ok(())
 }
 
-// A variable of a binder's list.
+// Returns the variable of a binder's list that the call names.
 fn build_var(
     cx: &mut Interner,
     earlier: &[Answer],
@@ -480,7 +480,7 @@ fn build_var(
     }
 }
 
-// What a bound region is called.
+// Returns the name of a bound region.
 fn build_name(
     cx: &mut Interner,
     earlier: &[Answer],
@@ -528,7 +528,7 @@ pub fn build_region(
     }
 }
 
-// A region parameter.
+// Returns the region parameter of the call.
 fn build_early_param(cx: &mut Interner, index: u32, name: &str) -> Result<Region, Refusal>
     ensures extends { Extends cx.old cx.new }
     ensures region { GivesRegion cx.new (tree.param region_sort index name.now) ⊥ result }
@@ -538,7 +538,7 @@ fn build_early_param(cx: &mut Interner, index: u32, name: &str) -> Result<Region
     Region::new(RegionKind::ReEarlyParam(EarlyParamRegion { index, name }))
 }
 
-// A region parameter, seen from inside its item.
+// Returns the region parameter of the call, seen from inside its item.
 fn build_late_param(
     cx: &mut Interner,
     earlier: &[Answer],
@@ -559,7 +559,7 @@ fn build_late_param(
     Region::new(RegionKind::ReLateParam(LateParamRegion { scope, kind }))
 }
 
-// A region whose binder was entered.
+// Returns the placeholder region of the call.
 fn build_placeholder(
     cx: &mut Interner,
     earlier: &[Answer],
@@ -579,7 +579,7 @@ fn build_placeholder(
     Region::new(RegionKind::RePlaceholder(Placeholder { universe, bound }))
 }
 
-// A bound region.
+// Returns the bound region of the call.
 fn build_bound(
     cx: &mut Interner,
     earlier: &[Answer],

@@ -8,8 +8,8 @@ use tt_kinds::{
     FnHeader, InferConst, InferTy, PlaceholderConst, ScalarInt,
 };
 
-/// What a bound region of a call is called. It is what [`BoundRegionKind`](tt_kinds::BoundRegionKind) is, with a
-/// symbol as its text and an id as the position of the call that declared it.
+/// The name of a bound region of a call: a [`BoundRegionKind`](tt_kinds::BoundRegionKind) with a text in place of a
+/// symbol, and the position of the declaring call in place of an id.
 #[derive(Debug, PartialEq, Eq, Drop)]
 pub enum RegionNameCall {
     /// It has no name.
@@ -22,8 +22,8 @@ pub enum RegionNameCall {
     ClosureEnv,
 }
 
-/// What a bound type of a call is called. It is such a [`BoundTyKind`](tt_kinds::BoundTyKind), with the position of
-/// the call that declared it in the place of its id.
+/// The name of a bound type of a call: a [`BoundTyKind`](tt_kinds::BoundTyKind) with the position of the declaring call
+/// in place of an id.
 #[derive(Clone, Copy, Debug, PartialEq, Eq)]
 pub enum BoundTyKindCall {
     /// It has no name.
@@ -32,20 +32,20 @@ pub enum BoundTyKindCall {
     Param(u32),
 }
 
-/// A variable of a binder of a call. It is what [`BoundVariableKind`](tt_kinds::BoundVariableKind) is, with a symbol
-/// as its text and a position in the place of an id.
+/// A variable of a binder of a call: a [`BoundVariableKind`](tt_kinds::BoundVariableKind) with a text in place of a
+/// symbol, and a position in place of an id.
 #[derive(Debug, PartialEq, Eq, Drop)]
 pub enum VariableCall {
-    /// It stands for a type.
+    /// The variable is a type.
     Ty(BoundTyKindCall),
-    /// It stands for a region.
+    /// The variable is a region.
     Region(RegionNameCall),
-    /// It stands for a constant.
+    /// The variable is a constant.
     Const,
 }
 
-/// A region of a call. It names such a [`RegionKind`](tt_kinds::RegionKind), a symbol by its text and an id by the
-/// position of the call that declared it.
+/// A region of a call: a [`RegionKind`](tt_kinds::RegionKind) with a text in place of a symbol, and the position of the
+/// declaring call in place of an id.
 #[derive(Debug, PartialEq, Eq, Drop)]
 pub enum RegionCall {
     /// A region parameter of an item.
@@ -55,32 +55,31 @@ pub enum RegionCall {
         /// Its name.
         name: String,
     },
-    /// A region that a binder binds: its binder, its place in the binder's list, and what it is called. A call with a
-    /// bound index at the greatest one is refused.
+    /// A region that a binder binds: its binder, its place in the binder's list, and its name. A call with the greatest
+    /// bound index is refused.
     ReBound(BoundVarIndexKind, BoundVar, RegionNameCall),
-    /// A region parameter of an item, seen from inside the item: the item, declared as anything, and what the region is
-    /// called.
+    /// A region parameter of an item, seen from inside the item: the item, declared as anything, and the region's name.
     ReLateParam(u32, RegionNameCall),
     /// `'static`.
     ReStatic,
-    /// A region variable of inference.
+    /// A region inference variable.
     ReVar(RegionVid),
-    /// A region that a binder bound which has been entered: the universe in which it can be named, its place in the
-    /// binder's list, and what it is called.
+    /// A placeholder, a bound region whose binder has been entered: the universe in which it can be named, its place in
+    /// the binder's list, and its name.
     RePlaceholder(UniverseIndex, BoundVar, RegionNameCall),
-    /// A region of which nothing is kept.
+    /// An erased region.
     ReErased,
-    /// A region of which an error was reported.
+    /// A region for which an error was reported.
     ReError(ErrorGuaranteed),
 }
 
-/// What an alias stands for. It is such an [`AliasTyKind`](tt_kinds::AliasTyKind), with the position of the call that
-/// declared it in the place of its id.
+/// The kind of an alias: an [`AliasTyKind`](tt_kinds::AliasTyKind) with the position of the declaring call in place of
+/// an id.
 #[derive(Clone, Copy, Debug, PartialEq, Eq)]
 pub enum AliasCall {
     /// An associated type of a trait, which an implementation gives.
     Projection(u32),
-    /// An associated type of an implementation that is no trait's.
+    /// An associated type of an inherent implementation.
     Inherent(u32),
     /// An opaque type.
     Opaque(u32),
@@ -88,25 +87,25 @@ pub enum AliasCall {
     Free(u32),
 }
 
-/// What a type with generic arguments is of: the position of the call that declared it.
+/// The item of a type with generic arguments, by the position of the declaring call.
 #[derive(Clone, Copy, Debug, PartialEq, Eq)]
 pub enum ItemCall {
     /// A struct, an enum or a union.
     Adt(u32),
     /// A closure.
     Closure(u32),
-    /// A closure that answers a coroutine.
+    /// A closure that returns a coroutine.
     CoroutineClosure(u32),
     /// A coroutine.
     Coroutine(u32),
-    /// What the coroutine keeps while it waits.
+    /// The witness of the types that a coroutine keeps while it is suspended.
     CoroutineWitness(u32),
     /// An alias.
     Alias(AliasCall),
 }
 
-/// A type to be built. It is such a [`TyKind`](tt_kinds::TyKind), with a symbol as its text and, in the place of a
-/// handle or of an id, the position of the call that answered it, counted from 1.
+/// A type to be built: a [`TyKind`](tt_kinds::TyKind) with a text in place of a symbol and, in place of a handle or an
+/// id, the position of the call that answered it, counted from 1.
 #[derive(Debug, PartialEq, Eq, Drop)]
 pub enum TyCall {
     /// `bool`.
@@ -117,9 +116,9 @@ pub enum TyCall {
     Int(IntTy),
     /// An unsigned integer.
     Uint(UintTy),
-    /// A number of floating point.
+    /// A floating point number.
     Float(FloatTy),
-    /// A type that is declared elsewhere.
+    /// A foreign type, which is declared elsewhere.
     Foreign(u32),
     /// `str`.
     Str,
@@ -132,19 +131,19 @@ pub enum TyCall {
         /// Its name.
         name: String,
     },
-    /// A type that a binder binds: its binder, its place in the binder's list, and what it is called. A call with a
-    /// bound index at the greatest one is refused.
+    /// A type that a binder binds: its binder, its place in the binder's list, and its name. A call with the greatest
+    /// bound index is refused.
     Bound(BoundVarIndexKind, BoundVar, BoundTyKindCall),
-    /// A type that a binder bound which has been entered: the universe in which it can be named, its place in the
-    /// binder's list, and what it is called.
+    /// A placeholder, a bound type whose binder has been entered: the universe in which it can be named, its place in
+    /// the binder's list, and its name.
     Placeholder(UniverseIndex, BoundVar, BoundTyKindCall),
-    /// A type variable of inference.
+    /// A type inference variable.
     Infer(InferTy),
-    /// A type of which an error was reported.
+    /// A type for which an error was reported.
     Error(ErrorGuaranteed),
-    /// A reference: its region, what it leads to, and whether that can be written.
+    /// A reference: its region, its target, and whether the target is mutable.
     Ref(RegionCall, u32, Mutability),
-    /// A raw pointer: what it leads to, and whether that can be written.
+    /// A raw pointer: its target, and whether the target is mutable.
     RawPtr(u32, Mutability),
     /// A slice of this type.
     Slice(u32),
@@ -158,16 +157,16 @@ pub enum TyCall {
         vars: Vec<VariableCall>,
         /// The types of the inputs in order, then the output's.
         inputs_and_output: Vec<u32>,
-        /// What its signature says beside the types.
+        /// The parts of its signature other than the types.
         header: FnHeader,
     },
     /// The type of an item with its generic arguments.
     Item(ItemCall, Vec<ArgCall>),
-    /// A trait object: what it says of the type that it hides, and the region that this type outlives.
+    /// A trait object: the predicates on the type that it hides, and the region that this type outlives.
     Dynamic(Vec<ExistentialCall>, RegionCall),
     /// A type, restricted to the values that a pattern allows.
     Pat(u32, u32),
-    /// A type under a binder whose regions the programmer answers for.
+    /// A type under a binder whose regions the programmer is responsible for.
     UnsafeBinder {
         /// The variables of the binder.
         vars: Vec<VariableCall>,
@@ -176,18 +175,17 @@ pub enum TyCall {
     },
 }
 
-/// What a value of the type level is made of. It is such a [`ValTreeKind`](tt_kinds::ValTreeKind), with positions of
-/// constants.
+/// The kind of a value of the type level: a [`ValTreeKind`](tt_kinds::ValTreeKind) with positions of constants.
 #[derive(Debug, PartialEq, Eq, Drop)]
 pub enum ValTreeCall {
-    /// Bits.
+    /// A leaf: the bits of a scalar.
     Leaf(ScalarInt),
-    /// The values of its fields or items, in order.
+    /// A branch: the values of its fields or items, in order.
     Branch(Vec<u32>),
 }
 
-/// A constant to be built. It is such a [`ConstKind`](tt_kinds::ConstKind), with a symbol as its text and positions
-/// in the places of handles and of the id of what is computed.
+/// A constant to be built: a [`ConstKind`](tt_kinds::ConstKind) with a text in place of a symbol, and positions in
+/// place of handles and of the id of an unevaluated constant.
 #[derive(Debug, PartialEq, Eq, Drop)]
 pub enum ConstCall {
     /// A constant parameter of an item.
@@ -197,33 +195,33 @@ pub enum ConstCall {
         /// Its name.
         name: String,
     },
-    /// A constant variable of inference.
+    /// A constant inference variable.
     Infer(InferConst),
-    /// A constant that a binder binds. A call with a bound index at the greatest one is refused.
+    /// A constant that a binder binds. A call with the greatest bound index is refused.
     Bound(BoundVarIndexKind, BoundConst),
-    /// A constant that a binder bound which has been entered.
+    /// A placeholder: a bound constant whose binder has been entered.
     Placeholder(PlaceholderConst),
-    /// A constant whose value isn't computed yet: what computes it, for these generic arguments.
+    /// A constant whose value isn't computed yet: the declaration that computes it, and its generic arguments.
     Unevaluated(u32, Vec<ArgCall>),
     /// A value, with its type first.
     Value(u32, ValTreeCall),
-    /// A constant of which an error was reported.
+    /// A constant for which an error was reported.
     Error(ErrorGuaranteed),
-    /// An expression over constants: the front end's number of it, and its contents.
+    /// An expression over constants: the front end's number for it, and its contents.
     Expr(u32, Vec<ArgCall>),
 }
 
-/// A pattern to be built. It is such a [`PatternKind`](tt_kinds::PatternKind), with positions in the places of handles.
+/// A pattern to be built: a [`PatternKind`](tt_kinds::PatternKind) with positions in place of handles.
 #[derive(Debug, PartialEq, Eq, Drop)]
 pub enum PatCall {
-    /// The values from the one constant to the other.
+    /// The values from one constant to another.
     Range {
         /// The least value.
         start: u32,
         /// The greatest value.
         end: u32,
     },
-    /// The values that one of the patterns allows.
+    /// The values that at least one of the patterns allows.
     Or(Vec<u32>),
     /// Every value but the null pointer.
     NotNull,
@@ -238,17 +236,16 @@ pub enum TermCall {
     Const(u32),
 }
 
-/// What a clause says. It is such a [`ClauseKind`](tt_kinds::ClauseKind), with positions in the places of handles and
-/// ids.
+/// The kind of a clause: a [`ClauseKind`](tt_kinds::ClauseKind) with positions in place of handles and ids.
 #[derive(Debug, PartialEq, Eq, Drop)]
 pub enum ClauseCall {
-    /// A type implements a trait: the trait, and its generic arguments, the type first.
+    /// A type implements a trait: the trait, and its generic arguments, the self type first.
     Trait(u32, Vec<ArgCall>),
     /// A region outlives another.
     RegionOutlives(RegionCall, RegionCall),
     /// A type outlives a region.
     TypeOutlives(u32, RegionCall),
-    /// An alias stands for a term: the alias, declared as anything, its generic arguments and the term.
+    /// An alias is equal to a term: the alias, declared as anything, its generic arguments and the term.
     Projection(u32, Vec<ArgCall>, TermCall),
     /// A constant has a type.
     ConstArgHasType(u32, u32),
@@ -258,12 +255,11 @@ pub enum ClauseCall {
     ConstEvaluatable(u32),
     /// A type implements a trait so that it can be used in constants.
     HostEffect(u32, Vec<ArgCall>, BoundConstness),
-    /// A feature of this name that isn't stable has to be on.
+    /// The unstable feature of this name is enabled.
     UnstableFeature(String),
 }
 
-/// What a predicate says. It is such a [`PredicateKind`](tt_kinds::PredicateKind), with positions in the places of
-/// handles and ids.
+/// The kind of a predicate: a [`PredicateKind`](tt_kinds::PredicateKind) with positions in place of handles and ids.
 #[derive(Debug, PartialEq, Eq, Drop)]
 pub enum PredicateKindCall {
     /// A clause.
@@ -283,7 +279,7 @@ pub enum PredicateKindCall {
     Coerce(u32, u32),
     /// Two constants are equal.
     ConstEquate(u32, u32),
-    /// It isn't known whether anything holds.
+    /// It is unknown whether the predicate holds.
     Ambiguous,
     /// An alias normalizes to a term: the alias, declared as anything, its generic arguments and the term.
     NormalizesTo(u32, Vec<ArgCall>, TermCall),
@@ -291,22 +287,22 @@ pub enum PredicateKindCall {
     AliasRelate(TermCall, TermCall, AliasRelationDirection),
 }
 
-/// What a trait object says of the type that it hides. It is such an
-/// [`ExistentialPredicate`](tt_kinds::ExistentialPredicate), with positions in the places of handles and ids.
+/// A predicate of a trait object on the type that it hides: an [`ExistentialPredicate`](tt_kinds::ExistentialPredicate)
+/// with positions in place of handles and ids.
 #[derive(Debug, PartialEq, Eq, Drop)]
 pub enum ExistentialKindCall {
     /// It implements a trait with these generic arguments.
     Trait(u32, Vec<ArgCall>),
-    /// An associated item of its trait, declared as anything, with these generic arguments, is a term.
+    /// An associated item of its trait, declared as anything, with these generic arguments, is equal to a term.
     Projection(u32, Vec<ArgCall>, TermCall),
-    /// It implements a trait that has no items.
+    /// It implements an auto trait.
     AutoTrait(u32),
 }
 
 /// An existential predicate to be built.
 #[derive(Debug, PartialEq, Eq, Drop)]
 pub struct ExistentialCall {
-    /// What it says.
+    /// Its kind.
     pub kind: ExistentialKindCall,
     /// The variables of the binder around it.
     pub vars: Vec<VariableCall>,
@@ -315,7 +311,7 @@ pub struct ExistentialCall {
 /// A predicate to be built.
 #[derive(Debug, PartialEq, Eq, Drop)]
 pub struct PredicateCall {
-    /// What it says.
+    /// Its kind.
     pub kind: PredicateKindCall,
     /// The variables of the binder around it.
     pub vars: Vec<VariableCall>,
@@ -332,13 +328,13 @@ pub enum ArgCall {
     Const(u32),
 }
 
-/// What is declared. It is such a [`DeclarationKind`](tt_kinds::DeclarationKind), with the position of the call that
-/// answered it in the place of an id.
+/// What is declared: a [`DeclarationKind`](tt_kinds::DeclarationKind) with the position of the declaring call in place
+/// of an id.
 #[derive(Clone, Copy, Debug, PartialEq, Eq)]
 pub enum DeclarationKindCall {
     /// A trait.
     Trait {
-        /// How many parameters it has, the self type among them.
+        /// The number of its parameters, including the self type.
         params: u32,
     },
     /// An associated type of the trait that the call at this position declared.
@@ -353,21 +349,21 @@ pub enum DeclarationKindCall {
     Opaque,
     /// A type alias whose bounds are checked, and which can always be normalized away.
     Free,
-    /// A type that is declared elsewhere.
+    /// A foreign type, which is declared elsewhere.
     Foreign,
     /// A closure.
     Closure,
-    /// A closure that answers a coroutine.
+    /// A closure that returns a coroutine.
     CoroutineClosure,
     /// A coroutine.
     Coroutine,
-    /// A constant whose value is computed when it is asked for.
+    /// A constant whose value is computed on demand.
     Const,
     /// A parameter: of a type, a region or a constant.
     Param,
 }
 
-/// A declaration to be made. Each such call gives a new id, whichever names are there.
+/// A declaration to be made. Each such call makes a new id, even if names repeat.
 #[derive(Debug, PartialEq, Eq, Drop)]
 pub struct DeclareCall {
     /// What is declared.
@@ -393,17 +389,17 @@ pub enum Call {
     Args(Vec<ArgCall>),
     /// Makes the declaration.
     Declare(DeclareCall),
-    /// Shifts the term at the position into so many new binders.
+    /// Shifts the term at the position into this many new binders.
     Shift(u32, u32),
     /// Instantiates the term at the position with the arguments.
     Instantiate(u32, Vec<ArgCall>),
-    /// Replaces each region of the term at the position by the erased one, but for those that the term's own binders
-    /// bind, and the canonical ones.
+    /// Replaces each region of the term at the position by the erased one, except for regions that are bound in the
+    /// term and canonical ones.
     EraseRegions(u32),
-    /// Asks whether the terms at two positions are the same.
+    /// Tests whether the terms at two positions are the same.
     Equal(u32, u32),
-    /// Asks for the flags and the outer exclusive binder of the term at the position.
+    /// Reads the flags and the outer exclusive binder of the term at the position.
     Info(u32),
-    /// Stands for a line that is no call.
+    /// A line that is not a call.
     Bad,
 }

@@ -21,7 +21,7 @@ use tt_index::Refusal;
 use tt_interner::{AsClause, Interner};
 use tt_kinds::{Clause, Clauses, Predicate};
 
-/// Returns the list of the clauses at the positions. It is refused with `NoSuchAnswer` where the answer at one is no
+/// Returns the list of the clauses at the positions. Refused with `NoSuchAnswer` if the answer at one of them is not a
 /// clause.
 pub fn build_clauses(
     cx: &mut Interner,
@@ -36,14 +36,14 @@ pub fn build_clauses(
     match clause_list(cx, earlier, positions) {
         Ok(list) => Ok(Answer::Clauses(list)),
         Err(refusal) => {
-            // The rows stand once each, so that a list that is there is found.
+            // Each row is added once, so a list that is there is found.
             cx.are_rows();
             Err(refusal)
         }
     }
 }
 
-// The list of the clauses at the positions.
+// Returns the list of the clauses at the positions.
 fn clause_list(cx: &mut Interner, earlier: &[Answer], positions: &[u32]) -> Result<Clauses, Refusal>
     requires { AreOwned cx.old.rows earlier.now }
     ensures extends { Extends cx.old cx.new }
@@ -65,7 +65,7 @@ fn clause_list(cx: &mut Interner, earlier: &[Answer], positions: &[u32]) -> Resu
     cx.mk_clauses(clauses.as_slice())
 }
 
-// Puts the clauses at the positions into the first places.
+// Writes the clauses at the positions to the first places.
 fn put_clauses(
     cx: &Interner,
     earlier: &[Answer],
@@ -91,7 +91,7 @@ fn put_clauses(
     Ok(())
 }
 
-// The clauses at the positions.
+// Returns the clauses at the positions.
 fn clauses_at(cx: &Interner, earlier: &[Answer], positions: &[u32]) -> Result<Vec<Clause>, Refusal>
     requires { AreOwned cx.now.rows earlier.now }
     ensures ok { IfOk result (λ clauses. AreClausesAt cx.now
@@ -112,7 +112,7 @@ fn clauses_at(cx: &Interner, earlier: &[Answer], positions: &[u32]) -> Result<Ve
     Ok(clauses)
 }
 
-// The clause at the position.
+// Returns the clause at the position.
 fn clause_at(cx: &Interner, earlier: &[Answer], position: u32) -> Result<Clause, Refusal>
     requires { AreOwned cx.now.rows earlier.now }
     ensures part { GivesPart cx.now (told_all cx.now.rows earlier.now) (one (a_clause position)) clause_shape result }

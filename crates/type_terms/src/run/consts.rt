@@ -39,7 +39,7 @@ use tt_kinds::{
     ValTree, ValTreeKind, ValueConst,
 };
 
-/// Returns the constant that the call names, over the earlier answers, where the ids that it names are there.
+/// Returns the constant that the call names, over the earlier answers. The ids that it names have to be there.
 pub fn build_const(
     cx: &mut Interner,
     earlier: &[Answer],
@@ -52,7 +52,7 @@ pub fn build_const(
 {
     match const_kind(cx, earlier, call) {
         Ok(kind) => {
-            // Each row is added once, so that a constant that is there is found.
+            // Each row is added once, so a constant that is there is found.
             cx.are_rows();
             let constant = cx.mk_const(kind)?;
             Ok(Answer::Const(constant))
@@ -64,8 +64,8 @@ pub fn build_const(
     }
 }
 
-/// Returns the list of the generic arguments that the call names, over the earlier answers, where the ids that it names
-/// are there.
+/// Returns the list of the generic arguments that the call names, over the earlier answers. The ids that it names have
+/// to be there.
 pub fn build_args_answer(
     cx: &mut Interner,
     earlier: &[Answer],
@@ -80,14 +80,14 @@ pub fn build_args_answer(
     match build_arg_list(cx, earlier, args) {
         Ok(args) => Ok(Answer::Args(args)),
         Err(refusal) => {
-            // The rows stand once each, so that a list that is there is found.
+            // Each row is added once, so a list that is there is found.
             cx.are_rows();
             Err(refusal)
         }
     }
 }
 
-// The kind of the constant.
+// Returns the kind of the constant.
 fn const_kind(cx: &mut Interner, earlier: &[Answer], call: &ConstCall) -> Result<ConstKind, Refusal>
     requires { AreOwned cx.old.rows earlier.now }
     ensures extends { Extends cx.old cx.new }
@@ -120,7 +120,7 @@ fn const_kind(cx: &mut Interner, earlier: &[Answer], call: &ConstCall) -> Result
     }
 }
 
-// The kind of a parameter.
+// Returns the kind of a parameter.
 fn param_kind(cx: &mut Interner, index: u32, name: &str) -> Result<ConstKind, Refusal>
     ensures extends { Extends cx.old cx.new }
     ensures kind { (earlier : List Told) → GivesKind cx.new earlier
@@ -133,7 +133,7 @@ fn param_kind(cx: &mut Interner, index: u32, name: &str) -> Result<ConstKind, Re
     Ok(ConstKind::Param(ParamConst { index, name }))
 }
 
-// The kind of a value.
+// Returns the kind of a value.
 fn value_kind(
     cx: &mut Interner,
     earlier: &[Answer],
@@ -156,7 +156,7 @@ fn value_kind(
     }
 }
 
-// The kind of a value of bits.
+// Returns the kind of a value of bits.
 fn leaf_kind(
     cx: &Interner,
     earlier: &[Answer],
@@ -176,7 +176,7 @@ fn leaf_kind(
     Ok(ConstKind::Value(ValueConst { ty, valtree }))
 }
 
-// The kind of a value with values inside.
+// Returns the kind of a value with values inside.
 fn branch_kind(
     cx: &mut Interner,
     earlier: &[Answer],

@@ -34,7 +34,7 @@ pub fn declare_at(
     Ok(Answer::Id(kind.sort(), id))
 }
 
-// What is declared.
+// Returns what is declared.
 fn declared_kind(earlier: &[Answer], call: &DeclarationKindCall) -> Result<DeclarationKind, Refusal>
     ensures sort { IfOk result (λ kind. sort_of kind ≡ declared_sort call.now) }
     ensures kind { IfOk result (λ kind. (rows : List Row) → kind

@@ -63,7 +63,7 @@ pub fn dynamic_kind(
     Ok(TyKind::Dynamic(existentials, region))
 }
 
-// The list of the existential predicates.
+// Returns the list of the existential predicates.
 fn build_existentials(
     cx: &mut Interner,
     earlier: &[Answer],
@@ -91,7 +91,7 @@ fn build_existentials(
         put_existentials(cx, earlier, calls, &mut places)?;
         return cx.mk_existential_list(&places[..calls.len()]);
     }
-    // What an id tells stays as the interner grows.
+    // The declaration of an id stays as the interner grows.
     cx.are_rows();
     let mut built = Vec::with_capacity(cx.allocator(), calls.len())?;
     for call in calls {
@@ -101,7 +101,7 @@ fn build_existentials(
     cx.mk_existential_list(built.as_slice())
 }
 
-// Puts the existential predicates into the first places.
+// Writes the existential predicates to the first places.
 fn put_existentials(
     cx: &mut Interner,
     earlier: &[Answer],
@@ -126,7 +126,7 @@ fn put_existentials(
         (told_all cx.old.rows earlier.now)
         (map (existential_form (number_at (told_all cx.old.rows earlier.now))) calls.now)) }
 {
-    // What an id tells stays as the interner grows.
+    // The declaration of an id stays as the interner grows.
     cx.are_rows();
     for (i, call) in calls.iter().enumerate() {
         places[i] = build_existential(cx, earlier, call)?;
@@ -134,7 +134,7 @@ fn put_existentials(
     Ok(())
 }
 
-// The existential predicate, under its binder.
+// Returns the existential predicate, under its binder.
 fn build_existential(
     cx: &mut Interner,
     earlier: &[Answer],
@@ -162,7 +162,7 @@ fn build_existential(
     cx.mk_existential(Binder::bind_with_vars(kind, vars))
 }
 
-// What the existential predicate says.
+// Returns the kind of the existential predicate.
 fn existential_kind(
     cx: &mut Interner,
     earlier: &[Answer],

@@ -9,10 +9,10 @@ pub enum Fault {
     /// A read failed, or 4294967295 reads did not reach the end of the input. Nothing was written.
     #[error("the input could not be read to its end: nothing was written")]
     Input,
-    /// A write failed. How much went out is open.
+    /// A write failed. It is unspecified how much was written.
     #[error("the output could not be written: how much went out is not known")]
     Output,
-    /// Memory was refused outside of the calls. The line `run refused Memory` alone was written.
+    /// Memory was refused outside of the calls. Only the line `run refused Memory` was written.
     #[error("memory was refused outside of the calls: only `run refused Memory` was written")]
     Memory,
 }

@@ -20,7 +20,7 @@ ghost use Rattle.type_terms.specs.Build.{Answers, AreArgumentsOf, IsUnchangedAt}
 
 use crate::run::answer::Answer;
 use crate::run::call::ArgCall;
-use crate::run::handle::Handle;
+use crate::run::handle::TermHandle;
 use crate::run::lookup::answer_at;
 use crate::run::parts::{build_args, check_args};
 use tt_binder::{Instantiate, is_untouched};
@@ -52,8 +52,8 @@ pub fn shift_at(
     }
 }
 
-// The term, shifted.
-fn shifted<T: Handle>(cx: &mut Interner, term: T, amount: u32) -> Result<Answer, Refusal>
+// Returns the term, shifted.
+fn shifted<T: TermHandle>(cx: &mut Interner, term: T, amount: u32) -> Result<Answer, Refusal>
     requires { T.number term < size cx.old.rows T.table }
     ensures extends { Extends cx.old cx.new }
     ensures answers { (earlier : List Told) (p : ℕ)
@@ -82,8 +82,8 @@ pub fn erase_at(cx: &mut Interner, earlier: &[Answer], position: u32) -> Result<
     }
 }
 
-// The term, with its regions erased.
-fn erased<T: Handle>(cx: &mut Interner, term: T) -> Result<Answer, Refusal>
+// Returns the term, with its regions erased.
+fn erased<T: TermHandle>(cx: &mut Interner, term: T) -> Result<Answer, Refusal>
     requires { T.number term < size cx.old.rows T.table }
     ensures extends { Extends cx.old cx.new }
     ensures answers { (earlier : List Told) (p : ℕ) →
@@ -95,8 +95,8 @@ fn erased<T: Handle>(cx: &mut Interner, term: T) -> Result<Answer, Refusal>
     Ok(erased.into_answer())
 }
 
-/// Returns the term at the position, instantiated, where the ids that the arguments name are there. A term without a
-/// parameter and an exposed region variable comes back as it is, and no argument is built.
+/// Returns the term at the position, instantiated. The ids that the arguments name have to be there. A term with
+/// neither a parameter nor an exposed region variable is returned unchanged, and no argument is built.
 pub fn instantiate_at(
     cx: &mut Interner,
     earlier: &[Answer],
@@ -119,7 +119,7 @@ pub fn instantiate_at(
     }
 }
 
-// The answer at the position, where it is a term that stays whatever the arguments are.
+// Returns the answer at the position, if it is a term that stays whatever the arguments are.
 fn unchanged_at(cx: &Interner, earlier: &[Answer], position: u32) -> Option<Answer>
     requires { AreOwned cx.now.rows earlier.now }
     ensures { MatchOption
@@ -137,7 +137,7 @@ fn unchanged_at(cx: &Interner, earlier: &[Answer], position: u32) -> Option<Answ
     }
 }
 
-// Whether the answer is a term that stays whatever the arguments are.
+// Returns whether the answer is a term that stays whatever the arguments are.
 fn is_unchanged(cx: &Interner, answer: &Answer) -> bool
     requires { IsOwned cx.now.rows answer.now }
     ensures { IsTrue result ↔ IsSomeAnd (as_term (Some (told cx.now.rows answer.now))) IsUnchanged }
@@ -153,15 +153,15 @@ fn is_unchanged(cx: &Interner, answer: &Answer) -> bool
     }
 }
 
-// Whether no parameter occurs in the term, and no region variable is exposed.
-fn stays<T: Handle>(cx: &Interner, term: T) -> bool
+// Returns whether no parameter occurs in the term, and no region variable is exposed.
+fn stays<T: TermHandle>(cx: &Interner, term: T) -> bool
     requires { T.number term < size cx.now.rows T.table }
     ensures { IsTrue result ↔ IsUntouched (meaning cx.now.rows T.table (T.number term)) }
 {
     is_untouched(cx, &term)
 }
 
-// The term at the position, instantiated, where arguments may change it.
+// Returns the term at the position, instantiated, if arguments may change it.
 fn instantiate_changed(
     cx: &mut Interner,
     earlier: &[Answer],
@@ -189,8 +189,8 @@ fn instantiate_changed(
     }
 }
 
-// The term, instantiated.
-fn instantiated<T: Handle>(
+// Returns the term, instantiated.
+fn instantiated<T: TermHandle>(
     cx: &mut Interner,
     term: T,
     args: &[GenericArg],

@@ -12,13 +12,13 @@ use tt_interner::Flags;
 use tt_kinds::{Clauses, Const, GenericArgs, Pat, Predicate, Table, Ty};
 
 /// A handle that an answer can hold.
-pub trait Handle: TypeFoldable + Flags + Copy {
+pub trait TermHandle: TypeFoldable + Flags + Copy {
     // Its table, and its number there.
     ghost table: { Table };
 
     ghost number: { Self → ℕ };
 
-    /// Returns the handle that the answer is, and `None` where it is none of this table.
+    /// Returns the answer's handle, or `None` if the answer is not a handle of this table.
     fn from_answer(answer: &Answer) -> Option<Self>
         ensures { MatchOption result (IsOther answer.now table) (λ handle. IsHandle answer.now table (number handle)) };
 
@@ -26,13 +26,13 @@ pub trait Handle: TypeFoldable + Flags + Copy {
     fn into_answer(self) -> Answer
         ensures { IsHandle result table (number self) };
 
-    // It stands for what is stored.
+    // It names a stored row.
     ghost is_stored: { (handle : Self) → Self.shape handle ≡ stored table (number handle) };
 
     ghost is_flagged: { (handle : Self) → Self.flags_shape handle ≡ stored table (number handle) };
 }
 
-impl Handle for Ty {
+impl TermHandle for Ty {
     ghost use Rattle.std.specs.Prelude.{refl};
     ghost use Rattle.tt_kinds.specs.declared.table.Table.TheVariants.{Types};
 
@@ -56,7 +56,7 @@ impl Handle for Ty {
     ghost is_flagged = { λ handle. refl };
 }
 
-impl Handle for Const {
+impl TermHandle for Const {
     ghost use Rattle.std.specs.Prelude.{refl};
     ghost use Rattle.tt_kinds.specs.declared.table.Table.TheVariants.{Consts};
 
@@ -80,7 +80,7 @@ impl Handle for Const {
     ghost is_flagged = { λ handle. refl };
 }
 
-impl Handle for Pat {
+impl TermHandle for Pat {
     ghost use Rattle.std.specs.Prelude.{refl};
     ghost use Rattle.tt_kinds.specs.declared.table.Table.TheVariants.{Patterns};
 
@@ -104,7 +104,7 @@ impl Handle for Pat {
     ghost is_flagged = { λ handle. refl };
 }
 
-impl Handle for Predicate {
+impl TermHandle for Predicate {
     ghost use Rattle.std.specs.Prelude.{refl};
     ghost use Rattle.tt_kinds.specs.declared.table.Table.TheVariants.{Predicates};
 
@@ -128,7 +128,7 @@ impl Handle for Predicate {
     ghost is_flagged = { λ handle. refl };
 }
 
-impl Handle for Clauses {
+impl TermHandle for Clauses {
     ghost use Rattle.std.specs.Prelude.{refl};
     ghost use Rattle.tt_kinds.specs.declared.table.Table.TheVariants.{ClauseLists};
 
@@ -152,7 +152,7 @@ impl Handle for Clauses {
     ghost is_flagged = { λ handle. refl };
 }
 
-impl Handle for GenericArgs {
+impl TermHandle for GenericArgs {
     ghost use Rattle.std.specs.Prelude.{refl};
     ghost use Rattle.tt_kinds.specs.declared.table.Table.TheVariants.{ArgLists};
 
@@ -176,7 +176,7 @@ impl Handle for GenericArgs {
     ghost is_flagged = { λ handle. refl };
 }
 
-/// Returns the table of the handle that the answer is, if it is one.
+/// Returns the table of the answer's handle, if the answer is one.
 pub fn table_of(answer: &Answer) -> Option<Table>
     ensures { result ≡ handle_table answer.now }
 {
@@ -195,7 +195,7 @@ pub fn table_of(answer: &Answer) -> Option<Table>
     }
 }
 
-/// Returns the number of the handle that the answer is in its table, and 0 where it is none.
+/// Returns the number of the answer's handle in its table, or 0 if the answer is not a handle.
 pub fn number_of(answer: &Answer) -> u32
     ensures { result ≡ handle_number answer.now }
 {

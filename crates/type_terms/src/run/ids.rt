@@ -36,7 +36,7 @@ use crate::run::call::{
 use crate::run::lookup::{answer_at, declared_at};
 use tt_kinds::{DeclarationSort, DefId, TraitId};
 
-// The id at the position with its sort, and `None` where the answer there is absent or no id.
+// Returns the id at the position with its sort, or `None` if the answer there is absent or not an id.
 fn id_at(earlier: &[Answer], position: u32) -> Option<(DeclarationSort, DefId)>
     ensures { MatchOption result ((rows : List Row) → id_at (told_all rows earlier.now) position ≡ None) (λ id. IsIdAt
         earlier.now
@@ -53,8 +53,8 @@ fn id_at(earlier: &[Answer], position: u32) -> Option<(DeclarationSort, DefId)>
     }
 }
 
-/// Returns the number of the id at the position. A call is only answered where [`names_ids`] has found an id at each
-/// such position, so that no term is built with the 0 of an absent one.
+/// Returns the number of the id at the position. A call is only answered if [`names_ids`] has found an id at each such
+/// position, so no term is built with the 0 of an absent one.
 pub fn number_at(earlier: &[Answer], position: u32) -> u32
     ensures { (rows : List Row) → result ≡ number_at (told_all rows earlier.now) position }
 {
@@ -78,7 +78,7 @@ pub fn def_at(earlier: &[Answer], position: u32) -> DefId
     DefId::from_number(number_at(earlier, position))
 }
 
-/// Returns whether an id of the wanted sort is at each position of the call that has to tell one.
+/// Returns whether each position of the call that has to name an id does, and the id has the required sort.
 pub fn names_ids(earlier: &[Answer], call: &Call) -> bool
     ensures { (rows : List Row) → IsTrue result ↔ AreTerms (told_all rows earlier.now) (id_positions call.now) }
 {
@@ -92,7 +92,7 @@ pub fn names_ids(earlier: &[Answer], call: &Call) -> bool
     }
 }
 
-// Whether an id of this sort is at the position.
+// Returns whether an id of this sort is at the position.
 fn is_id(earlier: &[Answer], position: u32, sort: DeclarationSort) -> bool
     ensures { (rows : List Row) → IsTrue result ↔ AreTerms (told_all rows earlier.now) (an_id sort position) }
 {
@@ -102,7 +102,7 @@ fn is_id(earlier: &[Answer], position: u32, sort: DeclarationSort) -> bool
     }
 }
 
-// Whether an id of any sort is at the position.
+// Returns whether an id of any sort is at the position.
 fn is_any_id(earlier: &[Answer], position: u32) -> bool
     ensures { (rows : List Row) → IsTrue result ↔ AreTerms (told_all rows earlier.now) (any_id position) }
 {
@@ -112,7 +112,7 @@ fn is_any_id(earlier: &[Answer], position: u32) -> bool
     }
 }
 
-// Whether an id of this sort is at the position, and the declarations that the arguments name are there.
+// Returns whether an id of this sort is at the position, and the declarations that the arguments name are there.
 fn is_id_with(earlier: &[Answer], position: u32, sort: DeclarationSort, args: &[ArgCall]) -> bool
     ensures { (rows : List Row) → IsTrue result
         ↔ AreTerms (told_all rows earlier.now) (an_id sort position ++ args_ids args.now) }
@@ -120,7 +120,7 @@ fn is_id_with(earlier: &[Answer], position: u32, sort: DeclarationSort, args: &[
     is_id(earlier, position, sort) && names_args_ids(earlier, args)
 }
 
-// Whether an id of any sort is at the position, and the declarations that the arguments name are there.
+// Returns whether an id of any sort is at the position, and the declarations that the arguments name are there.
 fn is_any_id_with(earlier: &[Answer], position: u32, args: &[ArgCall]) -> bool
     ensures { (rows : List Row) → IsTrue result
         ↔ AreTerms (told_all rows earlier.now) (any_id position ++ args_ids args.now) }
@@ -128,7 +128,7 @@ fn is_any_id_with(earlier: &[Answer], position: u32, args: &[ArgCall]) -> bool
     is_any_id(earlier, position) && names_args_ids(earlier, args)
 }
 
-// Whether the declaration that names the bound region is there.
+// Returns whether the declaration that names the bound region is there.
 fn names_name_id(earlier: &[Answer], call: &RegionNameCall) -> bool
     ensures { (rows : List Row) → IsTrue result ↔ AreTerms (told_all rows earlier.now) (name_ids call.now) }
 {
@@ -138,7 +138,7 @@ fn names_name_id(earlier: &[Answer], call: &RegionNameCall) -> bool
     }
 }
 
-// Whether the declaration that names the bound type is there.
+// Returns whether the declaration that names the bound type is there.
 fn names_ty_name_id(earlier: &[Answer], call: BoundTyKindCall) -> bool
     ensures { (rows : List Row) → IsTrue result ↔ AreTerms (told_all rows earlier.now) (ty_name_ids call) }
 {
@@ -148,7 +148,7 @@ fn names_ty_name_id(earlier: &[Answer], call: BoundTyKindCall) -> bool
     }
 }
 
-// Whether the declaration that names the variable is there.
+// Returns whether the declaration that names the variable is there.
 fn names_variable_id(earlier: &[Answer], call: &VariableCall) -> bool
     ensures { (rows : List Row) → IsTrue result ↔ AreTerms (told_all rows earlier.now) (variable_ids call.now) }
 {
@@ -159,7 +159,7 @@ fn names_variable_id(earlier: &[Answer], call: &VariableCall) -> bool
     }
 }
 
-// Whether the declarations that name the variables are there.
+// Returns whether the declarations that name the variables are there.
 fn names_variables_ids(earlier: &[Answer], calls: &[VariableCall]) -> bool
     ensures { (rows : List Row) → IsTrue result ↔ AreTerms (told_all rows earlier.now) (variables_ids calls.now) }
 {
@@ -171,7 +171,7 @@ fn names_variables_ids(earlier: &[Answer], calls: &[VariableCall]) -> bool
     true
 }
 
-// Whether the declarations that the region names are there.
+// Returns whether the declarations that the region names are there.
 fn names_region_ids(earlier: &[Answer], call: &RegionCall) -> bool
     ensures { (rows : List Row) → IsTrue result ↔ AreTerms (told_all rows earlier.now) (region_ids call.now) }
 {
@@ -183,7 +183,7 @@ fn names_region_ids(earlier: &[Answer], call: &RegionCall) -> bool
     }
 }
 
-// Whether the declarations of a region parameter, seen from inside its item, are there.
+// Returns whether the declarations of a region parameter, seen from inside its item, are there.
 fn names_late_ids(earlier: &[Answer], scope: u32, name: &RegionNameCall) -> bool
     ensures { (rows : List Row) → IsTrue result
         ↔ AreTerms (told_all rows earlier.now) (any_id scope ++ name_ids name.now) }
@@ -191,7 +191,7 @@ fn names_late_ids(earlier: &[Answer], scope: u32, name: &RegionNameCall) -> bool
     is_any_id(earlier, scope) && names_name_id(earlier, name)
 }
 
-// Whether the declarations that both regions name are there.
+// Returns whether the declarations that both regions name are there.
 fn names_both_ids(earlier: &[Answer], first: &RegionCall, second: &RegionCall) -> bool
     ensures { (rows : List Row) → IsTrue result
         ↔ AreTerms (told_all rows earlier.now) (region_ids first.now ++ region_ids second.now) }
@@ -199,7 +199,7 @@ fn names_both_ids(earlier: &[Answer], first: &RegionCall, second: &RegionCall) -
     names_region_ids(earlier, first) && names_region_ids(earlier, second)
 }
 
-// Whether the declarations that the argument names are there.
+// Returns whether the declarations that the argument names are there.
 fn names_arg_ids(earlier: &[Answer], call: &ArgCall) -> bool
     ensures { (rows : List Row) → IsTrue result ↔ AreTerms (told_all rows earlier.now) (arg_ids call.now) }
 {
@@ -209,7 +209,7 @@ fn names_arg_ids(earlier: &[Answer], call: &ArgCall) -> bool
     }
 }
 
-// Whether the declarations that the arguments name are there.
+// Returns whether the declarations that the arguments name are there.
 fn names_args_ids(earlier: &[Answer], calls: &[ArgCall]) -> bool
     ensures { (rows : List Row) → IsTrue result ↔ AreTerms (told_all rows earlier.now) (args_ids calls.now) }
 {
@@ -221,7 +221,7 @@ fn names_args_ids(earlier: &[Answer], calls: &[ArgCall]) -> bool
     true
 }
 
-// Whether the declarations that the type names are there.
+// Returns whether the declarations that the type names are there.
 fn names_ty_ids(earlier: &[Answer], call: &TyCall) -> bool
     ensures { (rows : List Row) → IsTrue result ↔ AreTerms (told_all rows earlier.now) (ty_ids call.now) }
 {
@@ -240,7 +240,7 @@ fn names_ty_ids(earlier: &[Answer], call: &TyCall) -> bool
     }
 }
 
-// Whether the item's declaration is there, and the declarations that its arguments name.
+// Returns whether the item's declaration and the declarations that its arguments name are there.
 fn names_item_ids(earlier: &[Answer], call: ItemCall, args: &[ArgCall]) -> bool
     ensures { (rows : List Row) → IsTrue result
         ↔ AreTerms (told_all rows earlier.now) (item_ids call ++ args_ids args.now) }
@@ -248,7 +248,7 @@ fn names_item_ids(earlier: &[Answer], call: ItemCall, args: &[ArgCall]) -> bool
     names_item_id(earlier, call) && names_args_ids(earlier, args)
 }
 
-// Whether the item's declaration is there.
+// Returns whether the item's declaration is there.
 fn names_item_id(earlier: &[Answer], call: ItemCall) -> bool
     ensures { (rows : List Row) → IsTrue result ↔ AreTerms (told_all rows earlier.now) (item_ids call) }
 {
@@ -266,7 +266,7 @@ fn names_item_id(earlier: &[Answer], call: ItemCall) -> bool
     }
 }
 
-// Whether the alias's declaration is there.
+// Returns whether the alias's declaration is there.
 fn names_alias_id(earlier: &[Answer], call: AliasCall) -> bool
     ensures { (rows : List Row) → IsTrue result ↔ AreTerms (told_all rows earlier.now) (alias_ids call) }
 {
@@ -278,7 +278,7 @@ fn names_alias_id(earlier: &[Answer], call: AliasCall) -> bool
     }
 }
 
-// Whether the declarations that a trait object names are there.
+// Returns whether the declarations that a trait object names are there.
 fn names_object_ids(earlier: &[Answer], calls: &[ExistentialCall], region: &RegionCall) -> bool
     ensures { (rows : List Row) → IsTrue result
         ↔ AreTerms (told_all rows earlier.now) (existentials_ids calls.now ++ region_ids region.now) }
@@ -286,7 +286,7 @@ fn names_object_ids(earlier: &[Answer], calls: &[ExistentialCall], region: &Regi
     names_existentials_ids(earlier, calls) && names_region_ids(earlier, region)
 }
 
-// Whether the declarations that the existential predicates name are there.
+// Returns whether the declarations that the existential predicates name are there.
 fn names_existentials_ids(earlier: &[Answer], calls: &[ExistentialCall]) -> bool
     ensures { (rows : List Row) → IsTrue result ↔ AreTerms (told_all rows earlier.now) (existentials_ids calls.now) }
 {
@@ -298,7 +298,7 @@ fn names_existentials_ids(earlier: &[Answer], calls: &[ExistentialCall]) -> bool
     true
 }
 
-// Whether the declarations that the existential predicate names are there.
+// Returns whether the declarations that the existential predicate names are there.
 fn names_existential_ids(earlier: &[Answer], call: &ExistentialCall) -> bool
     ensures { (rows : List Row) → IsTrue result ↔ AreTerms (told_all rows earlier.now) (existential_ids call.now) }
 {
@@ -306,7 +306,7 @@ fn names_existential_ids(earlier: &[Answer], call: &ExistentialCall) -> bool
         && names_variables_ids(earlier, call.vars.as_slice())
 }
 
-// Whether the declarations that the existential predicate's kind names are there.
+// Returns whether the declarations that the existential predicate's kind names are there.
 fn names_existential_kind_ids(earlier: &[Answer], call: &ExistentialKindCall) -> bool
     ensures { (rows : List Row) → IsTrue result ↔ AreTerms (told_all rows earlier.now) (existential_kind_ids call.now) }
 {
@@ -323,7 +323,7 @@ fn names_existential_kind_ids(earlier: &[Answer], call: &ExistentialKindCall) ->
     }
 }
 
-// Whether the declarations that the constant names are there.
+// Returns whether the declarations that the constant names are there.
 fn names_const_ids(earlier: &[Answer], call: &ConstCall) -> bool
     ensures { (rows : List Row) → IsTrue result ↔ AreTerms (told_all rows earlier.now) (const_ids call.now) }
 {
@@ -336,7 +336,7 @@ fn names_const_ids(earlier: &[Answer], call: &ConstCall) -> bool
     }
 }
 
-// Whether the declarations that the clause names are there.
+// Returns whether the declarations that the clause names are there.
 fn names_clause_ids(earlier: &[Answer], call: &ClauseCall) -> bool
     ensures { (rows : List Row) → IsTrue result ↔ AreTerms (told_all rows earlier.now) (clause_ids call.now) }
 {
@@ -356,7 +356,7 @@ fn names_clause_ids(earlier: &[Answer], call: &ClauseCall) -> bool
     }
 }
 
-// Whether the declarations that the predicate names are there.
+// Returns whether the declarations that the predicate names are there.
 fn names_predicate_ids(earlier: &[Answer], call: &PredicateCall) -> bool
     ensures { (rows : List Row) → IsTrue result ↔ AreTerms (told_all rows earlier.now) (predicate_ids call.now) }
 {
@@ -364,7 +364,7 @@ fn names_predicate_ids(earlier: &[Answer], call: &PredicateCall) -> bool
         && names_variables_ids(earlier, call.vars.as_slice())
 }
 
-// Whether the declarations that the predicate's kind names are there.
+// Returns whether the declarations that the predicate's kind names are there.
 fn names_predicate_kind_ids(earlier: &[Answer], call: &PredicateKindCall) -> bool
     ensures { (rows : List Row) → IsTrue result ↔ AreTerms (told_all rows earlier.now) (predicate_kind_ids call.now) }
 {

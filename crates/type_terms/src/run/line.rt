@@ -12,7 +12,7 @@ use std::alloc::{AllocError, AllocFailed, Global};
 /// Why a line gave no call.
 #[derive(Clone, Copy, Debug, PartialEq, Eq)]
 pub enum LineError {
-    /// It is no call.
+    /// It is not a call.
     Bad,
     /// Memory was refused.
     Memory,
@@ -30,7 +30,7 @@ impl<T: Drop> From<AllocFailed<T>> for LineError {
     }
 }
 
-/// Returns the call of the line, which has no line feed. A line without a word is no call and isn't counted as one.
+/// Returns the call of the line, which has no line feed. A line without a word gives `None` and isn't counted.
 pub fn parse_line(alloc: Global, line: &[u8]) -> Result<Option<Call>, AllocError> {
     let mut words = Words::new(line);
     let Some(first) = words.next_word() else {
@@ -43,7 +43,7 @@ pub fn parse_line(alloc: Global, line: &[u8]) -> Result<Option<Call>, AllocError
     }
 }
 
-// The call of this first word and the further words of its line.
+// Returns the call of this first word and the further words of its line.
 fn parse_call(alloc: Global, first: &[u8], words: &mut Words) -> Result<Call, LineError> {
     let call = match first {
         b"shift" => Call::Shift(position(words)?, number(words, u32::MAX)?),
@@ -81,13 +81,13 @@ pub fn positions(alloc: Global, words: &mut Words) -> Result<Vec<u32>, LineError
     Ok(positions)
 }
 
-// The position that a word names, as `%1`.
+// Returns the position that a word names, such as `%1`.
 fn parse_position(word: &[u8]) -> Result<u32, LineError> {
     let digits = word.strip_prefix(b"%").ok_or(LineError::Bad)?;
     parse_number(digits, u32::MAX).ok_or(LineError::Bad)
 }
 
-// The arguments of all further words.
+// Returns the arguments of all further words.
 fn arguments(alloc: Global, words: &mut Words) -> Result<Vec<ArgCall>, LineError> {
     let mut arguments = Vec::new(alloc);
     while let Some(word) = words.next_word() {
@@ -96,7 +96,7 @@ fn arguments(alloc: Global, words: &mut Words) -> Result<Vec<ArgCall>, LineError
     Ok(arguments)
 }
 
-// The argument of a word: a position or a region.
+// Returns the argument of a word: a position or a region.
 fn parse_argument(alloc: Global, word: &[u8]) -> Result<ArgCall, LineError> {
     match word {
         [b'%', ..] => Ok(ArgCall::Type(parse_position(word)?)),

@@ -11,12 +11,12 @@ ghost use Rattle.type_terms.specs.Means.{term_at, id_at};
 ghost use Rattle.type_terms.specs.Build.{IsAnswerAt, IsIdAt, HasNoId, GivesPart, GivesParts, GivesItems, PutsItems};
 
 use crate::run::answer::Answer;
-use crate::run::handle::Handle;
+use crate::run::handle::TermHandle;
 use std::alloc::Global;
 use tt_index::Refusal;
 use tt_kinds::{DeclarationSort, DefId};
 
-/// Returns the answer at the position, counted from 1. It is refused with `NoSuchAnswer` where there is none.
+/// Returns the answer at the position, counted from 1. Refused with `NoSuchAnswer` if there is none.
 pub fn answer_at<'a>(earlier: &'a [Answer], position: u32) -> Result<&'a Answer, Refusal>
     ensures ok { IfOk result (λ answer. IsAnswerAt earlier.now position answer.now) }
     ensures cause { IfErr result (λ e. e ≡ NoSuchAnswer) }
@@ -32,8 +32,7 @@ pub fn answer_at<'a>(earlier: &'a [Answer], position: u32) -> Result<&'a Answer,
     }
 }
 
-/// Returns the id at the position. It is refused with `NoSuchAnswer` where the answer there is absent or no id of this
-/// sort.
+/// Returns the id at the position. Refused with `NoSuchAnswer` if the answer there is absent or not an id of this sort.
 pub fn declared_at(
     earlier: &[Answer],
     position: u32,
@@ -50,7 +49,7 @@ pub fn declared_at(
     }
 }
 
-// The id that the answer is, and `None` where it is none of this sort.
+// Returns the answer's id, or `None` if the answer is not an id of this sort.
 fn id_of_sort(answer: &Answer, sort: DeclarationSort) -> Option<DefId>
     ensures { MatchOption result ((id : DefId) → answer.now ≡ Answer.Id sort id → ⊥) (λ id. answer.now
         ≡ Answer.Id sort id) }
@@ -61,9 +60,9 @@ fn id_of_sort(answer: &Answer, sort: DeclarationSort) -> Option<DefId>
     }
 }
 
-/// Returns the handle at the position. It is refused with `NoSuchAnswer` where the answer there is absent or no handle
-/// of its table.
-pub fn handle_at<T: Handle>(earlier: &[Answer], position: u32) -> Result<T, Refusal>
+/// Returns the handle at the position. Refused with `NoSuchAnswer` if the answer there is absent or not a handle of its
+/// table.
+pub fn handle_at<T: TermHandle>(earlier: &[Answer], position: u32) -> Result<T, Refusal>
     ensures cause { IfErr result (λ e. e ≡ NoSuchAnswer) }
     ensures part { (terms : Terms) → AreOwned terms.rows earlier.now
         → GivesPart terms
@@ -80,7 +79,7 @@ pub fn handle_at<T: Handle>(earlier: &[Answer], position: u32) -> Result<T, Refu
 }
 
 /// Returns the handles at two positions.
-pub fn handle_pair<A: Handle, B: Handle>(
+pub fn handle_pair<A: TermHandle, B: TermHandle>(
     earlier: &[Answer],
     first: u32,
     second: u32,
@@ -98,8 +97,8 @@ pub fn handle_pair<A: Handle, B: Handle>(
     Ok((first, second))
 }
 
-/// Puts the handles at the positions into the first places. Refused as [`handle_at`] is.
-pub fn put_handles<T: Handle>(
+/// Writes the handles at the positions to the first places. Refused as [`handle_at`] is.
+pub fn put_handles<T: TermHandle>(
     earlier: &[Answer],
     positions: &[u32],
     places: &mut [T],
@@ -121,7 +120,7 @@ pub fn put_handles<T: Handle>(
 }
 
 /// Returns the handles at the positions.
-pub fn handles_at<T: Handle>(
+pub fn handles_at<T: TermHandle>(
     alloc: Global,
     earlier: &[Answer],
     positions: &[u32],

@@ -3,8 +3,8 @@
 ghost use Rattle.std.specs.Prelude.{◌≡◌};
 ghost use Rattle.type_terms.specs.Number.{number_of};
 
-/// Returns the number that the word writes in the decimal system, leading zeros allowed, if it is at most `limit`. A
-/// word without a digit, or with anything but digits, writes none.
+/// Returns the word's decimal number, leading zeros allowed, if it is at most `limit`. A word without a digit, or with
+/// anything but digits, has none.
 pub fn parse_number(word: &[u8], limit: u32) -> Option<u32>
     ensures { result ≡ number_of limit word.now }
 {

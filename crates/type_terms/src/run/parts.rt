@@ -27,7 +27,7 @@ ghost use Rattle.type_terms.specs.Room.{PartNeedsRoom};
 use crate::run::answer::Answer;
 use crate::run::build::build_region;
 use crate::run::call::{ArgCall, RegionCall};
-use crate::run::handle::Handle;
+use crate::run::handle::TermHandle;
 use crate::run::lookup::{handle_at, handles_at, put_handles};
 use tt_index::{BoundVar, Refusal};
 use tt_interner::Interner;
@@ -36,7 +36,7 @@ use tt_kinds::{
     PatList, Region, RegionKind, Table, Ty, Tys,
 };
 
-/// So many items of a list are collected without memory.
+/// The number of items of a list that are collected without allocation.
 pub const MOST_IN_PLACE: usize = 8;
 
 /// Returns the list of the types at the positions.
@@ -137,7 +137,7 @@ pub fn build_arg_list(
     cx.mk_args(args.as_slice())
 }
 
-// Puts the arguments that a call names into the first places.
+// Writes the arguments that a call names to the first places.
 fn put_args(
     cx: &mut Interner,
     earlier: &[Answer],
@@ -156,7 +156,7 @@ fn put_args(
     ensures room { IfErr result
         (PartNeedsRoom cx.new.rows (told_all cx.old.rows earlier.now) (args_part args.now)) }
 {
-    // What an id tells stays as the interner grows.
+    // The declaration of an id stays as the interner grows.
     cx.are_rows();
     for (i, arg) in args.iter().enumerate() {
         places[i] = build_arg(cx, earlier, arg)?;
@@ -175,7 +175,7 @@ pub fn build_args(
     ensures args { GivesArguments cx.new (told_all cx.old.rows earlier.now) args.now result }
     ensures none { args.now ≡ [] → IsOk result }
 {
-    // What an id tells stays as the interner grows.
+    // The declaration of an id stays as the interner grows.
     cx.are_rows();
     let mut built = Vec::with_capacity(cx.allocator(), args.len())?;
     for arg in args {
@@ -185,7 +185,7 @@ pub fn build_args(
     Ok(built)
 }
 
-// The argument that a call names.
+// Returns the argument that a call names.
 fn build_arg(cx: &mut Interner, earlier: &[Answer], arg: &ArgCall) -> Result<GenericArg, Refusal>
     requires { AreOwned cx.old.rows earlier.now }
     ensures extends { Extends cx.old cx.new }
@@ -200,9 +200,8 @@ fn build_arg(cx: &mut Interner, earlier: &[Answer], arg: &ArgCall) -> Result<Gen
     }
 }
 
-/// Returns whether the arguments that a call names can be built, without building them. It is refused with
-/// `NoSuchAnswer` where a position tells no term of the argument's table, and with `GreatestIndex` where a bound region
-/// has that index.
+/// Checks that the arguments that a call names can be built, without building them. Refused with `NoSuchAnswer` if a
+/// position names no term of the argument's table, and with `GreatestIndex` if a bound region has that index.
 pub fn check_args(cx: &Interner, earlier: &[Answer], args: &[ArgCall]) -> Result<(), Refusal>
     requires { AreOwned cx.now.rows earlier.now }
     ensures ok { OnOk
@@ -224,7 +223,7 @@ pub fn check_args(cx: &Interner, earlier: &[Answer], args: &[ArgCall]) -> Result
     Ok(())
 }
 
-// Whether the argument can be built.
+// Checks that the argument can be built.
 fn check_arg(cx: &Interner, earlier: &[Answer], arg: &ArgCall) -> Result<(), Refusal>
     requires { AreOwned cx.now.rows earlier.now }
     ensures ok { OnOk
@@ -247,8 +246,12 @@ fn check_arg(cx: &Interner, earlier: &[Answer], arg: &ArgCall) -> Result<(), Ref
     }
 }
 
-// Whether a handle of the table is at the position.
-fn check_handle<T: Handle>(cx: &Interner, earlier: &[Answer], position: u32) -> Result<(), Refusal>
+// Checks that a handle of the table is at the position.
+fn check_handle<T: TermHandle>(
+    cx: &Interner,
+    earlier: &[Answer],
+    position: u32,
+) -> Result<(), Refusal>
     requires { AreOwned cx.now.rows earlier.now }
     ensures ok { OnOk
         result
@@ -267,7 +270,7 @@ fn check_handle<T: Handle>(cx: &Interner, earlier: &[Answer], position: u32) -> 
     Ok(())
 }
 
-// Whether the region's index is below the greatest.
+// Checks that the region's index is below the greatest.
 fn check_region(region: &RegionCall) -> Result<(), Refusal>
     ensures ok { OnOk result (IsRegionTooDeep region.now → ⊥) }
     ensures err { IfErr result (λ e. (e ≡ GreatestIndex) × IsRegionTooDeep region.now) }
@@ -278,7 +281,7 @@ fn check_region(region: &RegionCall) -> Result<(), Refusal>
     }
 }
 
-// Whether a region can be bound at the index.
+// Checks that a region can be bound at the index.
 fn check_index(index: BoundVarIndexKind, var: BoundVar) -> Result<(), Refusal>
     ensures ok { OnOk result (IsGreatest (depth index) → ⊥) }
     ensures err { IfErr result (λ e. (e ≡ GreatestIndex) × IsGreatest (depth index)) }

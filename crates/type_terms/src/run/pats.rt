@@ -25,7 +25,7 @@ pub fn build_pat(cx: &mut Interner, earlier: &[Answer], call: &PatCall) -> Resul
 {
     match pattern_kind(cx, earlier, call) {
         Ok(kind) => {
-            // Each row is added once, so that a pattern that is there is found.
+            // Each row is added once, so a pattern that is there is found.
             cx.are_rows();
             let pat = cx.mk_pat(kind)?;
             Ok(Answer::Pat(pat))
@@ -37,7 +37,7 @@ pub fn build_pat(cx: &mut Interner, earlier: &[Answer], call: &PatCall) -> Resul
     }
 }
 
-// The kind of the pattern.
+// Returns the kind of the pattern.
 fn pattern_kind(
     cx: &mut Interner,
     earlier: &[Answer],

@@ -52,7 +52,7 @@ use tt_kinds::{
     SubtypePredicate, Table, Term, TraitPredicate, TraitRef, Ty,
 };
 
-/// Returns the predicate that the call names, over the earlier answers, where the ids that it names are there.
+/// Returns the predicate that the call names, over the earlier answers. The ids that it names have to be there.
 pub fn build_predicate(
     cx: &mut Interner,
     earlier: &[Answer],
@@ -65,7 +65,7 @@ pub fn build_predicate(
 {
     match bound_kind(cx, earlier, call) {
         Ok(kind) => {
-            // The rows stand once each, so that a predicate that is there is found.
+            // Each row is added once, so a predicate that is there is found.
             cx.are_rows();
             let predicate = cx.mk_predicate(kind)?;
             Ok(Answer::Predicate(predicate))
@@ -77,7 +77,7 @@ pub fn build_predicate(
     }
 }
 
-// The kind of the predicate, under its binder.
+// Returns the kind of the predicate, under its binder.
 fn bound_kind(
     cx: &mut Interner,
     earlier: &[Answer],
@@ -104,7 +104,7 @@ fn bound_kind(
     }
 }
 
-// What the predicate says.
+// Returns the predicate's kind.
 fn predicate_kind(
     cx: &mut Interner,
     earlier: &[Answer],
@@ -151,7 +151,7 @@ fn predicate_kind(
     }
 }
 
-// A type is a subtype of another.
+// Returns the predicate that a type is a subtype of another.
 fn subtype(
     earlier: &[Answer],
     a_is_expected: bool,
@@ -174,7 +174,7 @@ fn subtype(
     }))
 }
 
-// A type can be coerced to another.
+// Returns the predicate that a type can be coerced to another.
 fn coerce(earlier: &[Answer], a: u32, b: u32) -> Result<PredicateKind, Refusal>
     ensures cause { IfErr result (λ e. e ≡ NoSuchAnswer) }
     ensures kind { (terms : Terms) → AreOwned terms.rows earlier.now
@@ -191,7 +191,7 @@ fn coerce(earlier: &[Answer], a: u32, b: u32) -> Result<PredicateKind, Refusal>
     }))
 }
 
-// An alias normalizes to a term.
+// Returns the predicate that an alias normalizes to a term.
 fn normalizes_to(
     cx: &mut Interner,
     earlier: &[Answer],
@@ -224,7 +224,7 @@ fn normalizes_to(
     Ok(PredicateKind::NormalizesTo(NormalizesTo { alias, term }))
 }
 
-// What the clause says.
+// Returns the clause's kind.
 fn clause_kind(
     cx: &mut Interner,
     earlier: &[Answer],
@@ -274,7 +274,7 @@ fn clause_kind(
     }
 }
 
-// A type implements a trait, in constants.
+// Returns the clause that a type implements a trait, in constants.
 fn host_effect(
     cx: &mut Interner,
     earlier: &[Answer],
@@ -307,7 +307,7 @@ fn host_effect(
     }))
 }
 
-// A feature of this name has to be on.
+// Returns the clause that the unstable feature of this name is enabled.
 fn unstable_feature(cx: &mut Interner, name: &str) -> Result<ClauseKind, Refusal>
     ensures extends { Extends cx.old cx.new }
     ensures kind { (e : List Told) → GivesRecord cx.new e
@@ -321,7 +321,7 @@ fn unstable_feature(cx: &mut Interner, name: &str) -> Result<ClauseKind, Refusal
     Ok(ClauseKind::UnstableFeature(symbol))
 }
 
-// An alias stands for a term.
+// Returns the clause that an alias is equal to a term.
 fn projection(
     cx: &mut Interner,
     earlier: &[Answer],
@@ -356,7 +356,7 @@ fn projection(
     }))
 }
 
-// A region outlives another.
+// Returns the clause that a region outlives another.
 fn region_outlives(
     cx: &mut Interner,
     earlier: &[Answer],
@@ -379,7 +379,7 @@ fn region_outlives(
     Ok(ClauseKind::RegionOutlives(OutlivesPredicate(longer, shorter)))
 }
 
-// A type outlives a region.
+// Returns the clause that a type outlives a region.
 fn type_outlives(
     cx: &mut Interner,
     earlier: &[Answer],
@@ -403,7 +403,7 @@ fn type_outlives(
     Ok(ClauseKind::TypeOutlives(OutlivesPredicate(ty, region)))
 }
 
-// The type or the constant that a call names.
+// Returns the type or the constant that a call names.
 fn term_at(earlier: &[Answer], call: TermCall) -> Result<Term, Refusal>
     ensures cause { IfErr result (λ e. e ≡ NoSuchAnswer) }
     ensures part { (terms : Terms) → AreOwned terms.rows earlier.now
@@ -415,7 +415,7 @@ fn term_at(earlier: &[Answer], call: TermCall) -> Result<Term, Refusal>
     }
 }
 
-// Two such terms.
+// Returns the types or the constants that a call names.
 fn term_pair(earlier: &[Answer], a: TermCall, b: TermCall) -> Result<(Term, Term), Refusal>
     ensures cause { IfErr result (λ e. e ≡ NoSuchAnswer) }
     ensures parts { (terms : Terms) → AreOwned terms.rows earlier.now
@@ -430,7 +430,7 @@ fn term_pair(earlier: &[Answer], a: TermCall, b: TermCall) -> Result<(Term, Term
     Ok((a, b))
 }
 
-/// Returns a list of arguments and such a term.
+/// Returns a list of arguments, and the type or the constant that a call names.
 pub fn args_and_term(
     cx: &mut Interner,
     earlier: &[Answer],

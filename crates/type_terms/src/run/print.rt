@@ -5,7 +5,7 @@ use itoa::Buffer;
 use std::alloc::AllocError;
 use tt_index::Refusal;
 
-/// Adds the line of the answer to the call of this number.
+/// Appends the line of the answer to the call of this number.
 pub fn print_answer(output: &mut String, number: usize, answer: &Answer) -> Result<(), AllocError> {
     // The formatter would take as long as all other work on a short line.
     output.push_str(Buffer::new().format(number))?;
@@ -33,7 +33,7 @@ pub fn print_answer(output: &mut String, number: usize, answer: &Answer) -> Resu
     }
 }
 
-// The name of the refusal, without its number.
+// Returns the name of the refusal, without its number.
 fn refusal_name(refusal: &Refusal) -> &'static str {
     match refusal {
         Refusal::Memory => "Memory",

@@ -1,4 +1,4 @@
-//! Calls that ask about terms.
+//! Queries of terms.
 
 ghost use Rattle.std.specs.Prelude.{◌<◌, ◌↔◌, IsTrue};
 ghost use Rattle.tt_interner.specs.Rows.{size, meaning};
@@ -8,12 +8,13 @@ ghost use Rattle.type_terms.specs.Means.{IsAllowed};
 ghost use Rattle.type_terms.specs.Build.{AreAlike, IsInfoOf};
 
 use crate::run::answer::Answer;
-use crate::run::handle::{Handle, number_of, table_of};
+use crate::run::handle::{TermHandle, number_of, table_of};
 use crate::run::lookup::answer_at;
 use tt_index::Refusal;
 use tt_interner::Interner;
 
-/// Returns whether the terms at two positions are the same. They have to be of one table.
+/// Returns whether the terms at two positions are the same. Refused with `NoSuchAnswer` if there are no terms of one
+/// table there.
 pub fn equal_at(cx: &Interner, earlier: &[Answer], first: u32, second: u32) -> Answer
     requires { AreOwned cx.now.rows earlier.now }
     ensures { IsAllowed
@@ -35,7 +36,7 @@ pub fn equal_at(cx: &Interner, earlier: &[Answer], first: u32, second: u32) -> A
     Answer::Truth(number_of(first) == number_of(second))
 }
 
-// Whether both are handles of one table.
+// Returns whether both are handles of the same table.
 fn are_alike(first: &Answer, second: &Answer) -> bool
     ensures { IsTrue result ↔ AreAlike first.now second.now }
 {
@@ -45,7 +46,8 @@ fn are_alike(first: &Answer, second: &Answer) -> bool
     }
 }
 
-/// Returns the flags and the outer exclusive binder of the term at the position. A list of generic arguments is none.
+/// Returns the flags and the outer exclusive binder of the term at the position. Refused with `NoSuchAnswer` if there
+/// is none; a list of generic arguments is not a term here.
 pub fn info_at(cx: &Interner, earlier: &[Answer], position: u32) -> Answer
     requires { AreOwned cx.now.rows earlier.now }
     ensures { IsAllowed
@@ -67,8 +69,8 @@ pub fn info_at(cx: &Interner, earlier: &[Answer], position: u32) -> Answer
     }
 }
 
-// The flags and the outer exclusive binder of the term.
-fn info<T: Handle>(cx: &Interner, term: T) -> Answer
+// Returns the flags and the outer exclusive binder of the term.
+fn info<T: TermHandle>(cx: &Interner, term: T) -> Answer
     requires { T.number term < size cx.now.rows T.table }
     ensures { IsInfoOf (meaning cx.now.rows T.table (T.number term)) result }
 {

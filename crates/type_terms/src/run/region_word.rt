@@ -34,7 +34,7 @@ pub fn parse_region(alloc: Global, word: &[u8]) -> Result<RegionCall, LineError>
     }
 }
 
-/// Returns the name of a parameter that has none.
+/// Returns the anonymous name of a parameter.
 pub fn anonymous(alloc: Global) -> Result<String, AllocError> {
     String::from_str(alloc, "'_")
 }
@@ -46,7 +46,7 @@ pub fn index(digits: &[u8]) -> Result<u32, LineError>
     parse_number(digits, GREATEST_INDEX).ok_or(LineError::Bad)
 }
 
-// The bound region of two numbers with a point between them.
+// Returns the bound region of two numbers with a point between them.
 fn bound_region(numbers: &[u8]) -> Result<RegionCall, LineError> {
     let point = numbers
         .iter()
@@ -61,7 +61,7 @@ fn bound_region(numbers: &[u8]) -> Result<RegionCall, LineError> {
     ))
 }
 
-// The place of this number in a binder's list.
+// Returns the place of this number in a binder's list.
 fn variable(digits: &[u8]) -> Result<BoundVar, LineError> {
     Ok(BoundVar::from_u32(index(digits)?))
 }

@@ -1,4 +1,4 @@
-//! The running of calls.
+//! Running of calls.
 
 ghost use Rattle.std.specs.Prelude.{◌≡◌, ◌<◌, ◌∷◌, ◌++◌, IsOk, IfOk, IfErr, OnOk, OnErr, MatchResult, List, []};
 ghost use Rattle.std.specs.Vec.{vec_len, vec_capacity};
@@ -24,7 +24,7 @@ use tt_interner::Interner;
 
 /// Answers each call in order. A call's positions name the answers before it.
 ///
-/// The run is refused with `Memory`, and never otherwise, where there is no memory for the list of answers.
+/// The run is refused with `Memory` if there is no memory for the list of answers, and never otherwise.
 pub fn run_calls(cx: &mut Interner, calls: &[Call]) -> Result<Vec<Answer>, Refusal>
     ensures extends { Extends cx.old cx.new }
     ensures owned { IfOk result (λ answers. AreOwned cx.new.rows answers.items) }
@@ -42,11 +42,11 @@ pub fn run_calls(cx: &mut Interner, calls: &[Call]) -> Result<Vec<Answer>, Refus
     Ok(answers)
 }
 
-/// Answers a call after these answers, and adds its answer to them. So calls can be answered as they come: where the
-/// answers belong to calls before this one, they are then the answers of all of the calls.
+/// Answers a call after these answers, and appends its answer to them. So calls can be answered one at a time: if the
+/// answers belong to the calls before this one, they are then the answers to all of the calls.
 ///
-/// It is refused with `Memory`, and never otherwise, where the list of answers is full and cannot grow. The answers
-/// then stay.
+/// Refused with `Memory` if the list of answers is full and cannot grow, and never otherwise. Then the answers are
+/// unchanged.
 pub fn answer_next(cx: &mut Interner, answers: &mut Vec<Answer>, call: &Call) -> Result<(), Refusal>
     requires { AreOwned cx.old.rows answers.old.items }
     ensures extends { Extends cx.old cx.new }
@@ -59,14 +59,14 @@ pub fn answer_next(cx: &mut Interner, answers: &mut Vec<Answer>, call: &Call) ->
     ensures stay { OnErr result (answers.new.items ≡ answers.old.items) }
     ensures room { vec_len answers.old < vec_capacity answers.old → IsOk result }
 {
-    // Each declaration's name is one of the interner's texts, so that what an id tells stays as the interner grows.
+    // Each declaration's name is a symbol of the interner, so the declaration of an id stays as the interner grows.
     cx.are_rows();
     let answer = answer_call(cx, answers.as_slice(), call);
     answers.push(answer)?;
     Ok(())
 }
 
-// The answer to a call after these answers.
+// Returns the answer to a call after these answers.
 fn answer_call(cx: &mut Interner, earlier: &[Answer], call: &Call) -> Answer
     requires { AreOwned cx.old.rows earlier.now }
     ensures extends { Extends cx.old cx.new }
@@ -84,7 +84,7 @@ fn answer_call(cx: &mut Interner, earlier: &[Answer], call: &Call) -> Answer
     }
 }
 
-// The answer to a call whose ids are there.
+// Returns the answer to a call whose ids are there.
 fn answer_named(cx: &mut Interner, earlier: &[Answer], call: &Call) -> Answer
     requires owned { AreOwned cx.old.rows earlier.now }
     requires named { AreTerms (told_all cx.old.rows earlier.now) (id_positions call.now) }
@@ -122,7 +122,7 @@ fn answer_named(cx: &mut Interner, earlier: &[Answer], call: &Call) -> Answer
     }
 }
 
-// The answer of a call that gives a term.
+// Returns the answer to a call that gives a term.
 fn outcome_answer(outcome: Result<Answer, Refusal>) -> Answer
     ensures { MatchResult outcome (λ answer. result ≡ answer) (λ e. result ≡ Answer.Refused e) }
 {

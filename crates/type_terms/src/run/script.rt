@@ -1,4 +1,4 @@
-//! Scripts: a call a line.
+//! Scripts, with one call on each line.
 
 use crate::run::answer::Answer;
 use crate::run::fault::Fault;
@@ -26,7 +26,7 @@ pub fn run_script<R: Read + Drop, W: Write + Drop>(
     }
 }
 
-// The lines that answer the script.
+// Returns the lines that answer the script.
 fn answer_script<R: Read>(alloc: Global, input: &mut R) -> Result<String, Fault> {
     let script = read_script(alloc, input)?;
     let mut cx = Interner::new(alloc).map_err(|_| Fault::Memory)?;
@@ -36,13 +36,13 @@ fn answer_script<R: Read>(alloc: Global, input: &mut R) -> Result<String, Fault>
     Ok(print_answers(alloc, answers?.as_slice())?)
 }
 
-// About how many bytes an answer's line has.
+// The approximate number of bytes of an answer's line.
 const LINE: usize = 12;
 
-// How many bytes are asked for at once.
+// The number of bytes that are read at once.
 const BLOCK: usize = 65536;
 
-// What the input gives up to its end.
+// Returns the input up to its end.
 fn read_script<R: Read>(alloc: Global, input: &mut R) -> Result<Vec<u8>, Fault> {
     let mut script = Vec::new(alloc);
     let mut block = vec![in alloc; 0; BLOCK]?;
@@ -60,7 +60,8 @@ fn read_script<R: Read>(alloc: Global, input: &mut R) -> Result<Vec<u8>, Fault> 
     Err(Fault::Input)
 }
 
-// The answers to the calls of the lines, on a new interner. Each call is answered as it is read, so that none is kept.
+// Returns the answers to the calls of the lines, on a new interner. Each call is answered as it is read, so none is
+// kept.
 fn answer_lines(cx: &mut Interner, script: &[u8]) -> Result<Vec<Answer>, Fault> {
     let alloc = cx.allocator();
     let mut answers = Vec::new(alloc);
@@ -72,7 +73,7 @@ fn answer_lines(cx: &mut Interner, script: &[u8]) -> Result<Vec<Answer>, Fault> 
     Ok(answers)
 }
 
-// The line without its line feed and the carriage return before it.
+// Returns the line without its line feed and the carriage return before it.
 fn without_end(line: &[u8]) -> &[u8] {
     match line {
         [content @ .., b'\r', b'\n'] => content,
@@ -81,7 +82,7 @@ fn without_end(line: &[u8]) -> &[u8] {
     }
 }
 
-// A line for each answer.
+// Returns a line for each answer.
 fn print_answers(alloc: Global, answers: &[Answer]) -> Result<String, AllocError> {
     let mut lines = String::with_capacity(alloc, answers.len().saturating_mul(LINE))?;
     for (index, answer) in answers.iter().enumerate() {

@@ -29,7 +29,7 @@ pub fn parse_ty(alloc: Global, first: &[u8], words: &mut Words) -> Result<TyCall
     }
 }
 
-// The same of a type without another in it.
+// Returns the type of this first word, if it holds no other type.
 fn parse_leaf(first: &[u8], words: &mut Words) -> Result<TyCall, LineError> {
     match first {
         b"bound" => {
@@ -54,7 +54,7 @@ fn parse_leaf(first: &[u8], words: &mut Words) -> Result<TyCall, LineError> {
     }
 }
 
-// The type that a word names alone.
+// Returns the type that a word names alone.
 fn parse_name(word: &[u8]) -> Option<TyCall> {
     match word {
         b"bool" => Some(TyCall::Bool),
@@ -77,7 +77,7 @@ fn parse_name(word: &[u8]) -> Option<TyCall> {
     }
 }
 
-// A reference of the region and the type that the next two words name.
+// Returns a reference of the region and the type that the next two words name.
 fn reference(
     alloc: Global,
     words: &mut Words,
@@ -87,12 +87,13 @@ fn reference(
     Ok(TyCall::Ref(region, position(words)?, mutability))
 }
 
-// The place in a binder's list that the next word is.
+// Returns the place in a binder's list that the next word gives.
 fn variable(words: &mut Words) -> Result<BoundVar, LineError> {
     Ok(BoundVar::from_u32(number(words, GREATEST_INDEX)?))
 }
 
-// A safe function pointer of Rust's convention: the number of its binder's regions, and its types, at least one.
+// Returns a safe function pointer of Rust's convention: the number of its binder's regions, and its types, at least
+// one.
 fn fn_ptr(alloc: Global, words: &mut Words) -> Result<TyCall, LineError> {
     let count = number(words, 255)?;
     let inputs_and_output = positions(alloc, words)?;
@@ -107,7 +108,7 @@ fn fn_ptr(alloc: Global, words: &mut Words) -> Result<TyCall, LineError> {
     })
 }
 
-// So many regions without names, as the variables of a binder.
+// Returns `count` regions without names, as the variables of a binder.
 fn anonymous_regions(alloc: Global, count: u32) -> Result<Vec<VariableCall>, LineError> {
     let mut vars = Vec::new(alloc);
     for _ in 0..count {

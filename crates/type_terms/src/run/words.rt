@@ -2,7 +2,7 @@
 
 ghost use Rattle.std.specs.Prelude.{◌<◌, length, OnSome};
 
-/// The words of a line that are still to be read. Words are divided by spaces.
+/// The words of a line that are still to be read. Words are separated by spaces.
 #[derive(Drop)]
 pub struct Words<'a> {
     rest: &'a [u8],

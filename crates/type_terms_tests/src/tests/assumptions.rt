@@ -1,4 +1,4 @@
-//! Lists of assumptions on regions, and the record of what a coroutine keeps.
+//! Lists of assumptions on regions, and the witness types of a coroutine.
 
 use super::holds_anew;
 use test_terms::{NOT_OWNED, bound_region, info, is_instance, is_shifted, param_ty, tys, u32_ty};
@@ -7,12 +7,12 @@ use type_terms::{
     RegionAssumptions, Ty, are_owned,
 };
 
-// That the type outlives the first variable of the binder of this index.
+// Returns the assumption that the type outlives the first variable of the binder of this index.
 fn outlives(ty: Ty, binder: u32) -> Result<OutlivesPredicate<GenericArg>, Refusal> {
     Ok(OutlivesPredicate(GenericArg::from(ty), bound_region(binder)?))
 }
 
-// The list of these assumptions.
+// Returns the list of these assumptions.
 fn assumptions(
     cx: &mut Interner,
     items: &[OutlivesPredicate<GenericArg>],
@@ -24,12 +24,12 @@ fn assumptions(
     }
 }
 
-// The last of the assumptions.
+// Returns the last of the assumptions.
 fn last_assumption(
     cx: &Interner,
     list: RegionAssumptions,
 ) -> Option<OutlivesPredicate<GenericArg>> {
-    if cx.owns_assumptions(list) {
+    if cx.owns(list) {
         list.as_slice(cx).last().copied()
     } else {
         None
@@ -59,7 +59,8 @@ fn lists_of_assumptions(rt: HostRuntime) {
     holds_anew(&rt, rt.alloc(), lists_of_assumptions_holds);
 }
 
-// A coroutine that keeps a value of the type, of which it is assumed to outlive a variable of that binder.
+// Returns the witness types of a coroutine that keeps a value of the type, with the assumption that it outlives that
+// variable.
 fn witness(cx: &mut Interner, ty: Ty, binder: u32) -> Result<CoroutineWitnessTypes, Refusal> {
     let types = tys(cx, &[ty])?;
     let assumptions = assumptions(cx, &[outlives(ty, binder)?])?;

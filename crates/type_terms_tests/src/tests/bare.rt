@@ -19,7 +19,7 @@ struct Leaves {
     constants: Consts,
 }
 
-// The leaves with their lists.
+// Returns the leaves with their lists.
 fn leaves_of(
     cx: &mut Interner,
     ty: Ty,
@@ -37,7 +37,7 @@ fn leaves_of(
     })
 }
 
-// The parameters of index 0, 1 and 2.
+// Returns the parameters of index 0, 1 and 2.
 fn parameters(cx: &mut Interner) -> Result<Leaves, Refusal> {
     let ty = param_ty(cx, 0)?;
     let name = cx.symbol("N")?;
@@ -46,7 +46,7 @@ fn parameters(cx: &mut Interner) -> Result<Leaves, Refusal> {
     leaves_of(cx, ty, number, region)
 }
 
-// What is put in their places: `u32`, an error and `'static`.
+// Returns the arguments that replace them: `u32`, an error and `'static`.
 fn arguments(cx: &mut Interner) -> Result<Leaves, Refusal> {
     let ty = u32_ty(cx)?;
     let error = constant(cx, ConstKind::Error(ErrorGuaranteed(3)))?;
@@ -54,7 +54,7 @@ fn arguments(cx: &mut Interner) -> Result<Leaves, Refusal> {
     leaves_of(cx, ty, error, region)
 }
 
-// The arguments in order.
+// Returns the arguments in order.
 fn given(new: Leaves) -> [GenericArg; 3] {
     [
         GenericArg::from(new.ty),
@@ -63,7 +63,7 @@ fn given(new: Leaves) -> [GenericArg; 3] {
     ]
 }
 
-// Whether each first value has a flag of its mask, and its instance is the second, which has none.
+// Returns whether each first value has a flag of its mask, and its instance is the second, which has none.
 fn are_used<T: Owned + TypeFoldable + Copy + PartialEq>(
     cx: &mut Interner,
     new: Leaves,
@@ -81,7 +81,7 @@ fn are_used<T: Owned + TypeFoldable + Copy + PartialEq>(
     true
 }
 
-// Whether the value has no parameter and is its own instance.
+// Returns whether the value has no parameter and is its own instance.
 fn is_kept<T: Owned + TypeFoldable + Copy + PartialEq>(
     cx: &mut Interner,
     new: Leaves,
@@ -90,12 +90,12 @@ fn is_kept<T: Owned + TypeFoldable + Copy + PartialEq>(
     !has_flags(cx, &value, TypeFlags::HAS_PARAM) && is_instance(cx, value, &given(new), value)
 }
 
-// The pattern of these ends.
+// Returns the pattern of these ends.
 fn range(start: Const, end: Const) -> PatternKind {
     PatternKind::Range { start, end }
 }
 
-// A kind that isn't stored is no parameter, but one may occur in it. Both ends of a range are met.
+// A kind that isn't stored is not a parameter, but a parameter may occur in it. Both ends of a range are visited.
 fn instances_of_bare_kinds_holds(cx: &mut Interner) -> Result<bool, Refusal> {
     let old = parameters(cx)?;
     let new = arguments(cx)?;
@@ -119,7 +119,7 @@ fn instances_of_bare_kinds(rt: HostRuntime) {
     holds_anew(&rt, rt.alloc(), instances_of_bare_kinds_holds);
 }
 
-// What isn't computed yet, and an expression, each of the arguments.
+// Returns an unevaluated constant and an expression, each over the arguments.
 fn of_args(args: GenericArgs) -> (UnevaluatedConst, ExprConst) {
     let def = UnevaluatedConstId::from_number(0);
     (UnevaluatedConst::new(def, args), ExprConst { tag: 5, args })
@@ -144,7 +144,7 @@ fn instances_of_bare_constants(rt: HostRuntime) {
     holds_anew(&rt, rt.alloc(), instances_of_bare_constants_holds);
 }
 
-// The value with its type.
+// Returns the value with its type.
 fn value(ty: Ty, valtree: ValTree) -> ValueConst {
     ValueConst { ty, valtree }
 }

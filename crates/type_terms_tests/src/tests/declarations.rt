@@ -7,25 +7,25 @@ use type_terms::{
     Refusal, RegionName, Symbol, TraitId,
 };
 
-// A data type of this name.
+// Returns a data type of this name.
 fn adt(cx: &mut Interner, text: &str) -> Result<AdtId, Refusal> {
     let name = cx.symbol(text)?;
     cx.declare_adt(name)
 }
 
-// A trait of this name.
+// Returns a trait of this name.
 fn trait_of(cx: &mut Interner, text: &str, params: u32) -> Result<TraitId, Refusal> {
     let name = cx.symbol(text)?;
     cx.declare_trait(name, params)
 }
 
-// A parameter of this name, as a region.
+// Returns a parameter of this name, as a region.
 fn region(cx: &mut Interner, text: &str) -> Result<BoundRegionKind, Refusal> {
     let name = cx.symbol(text)?;
     Ok(BoundRegionKind::Named(cx.declare_param(name)?))
 }
 
-// The name of a declaration.
+// Returns the name of a declaration.
 fn item_name(cx: &Interner, id: DefId) -> Result<Symbol, Refusal> {
     if cx.owns_def_id(id) {
         Ok(cx.item_name(id))
@@ -34,7 +34,7 @@ fn item_name(cx: &Interner, id: DefId) -> Result<Symbol, Refusal> {
     }
 }
 
-// What is declared under an id.
+// The declaration of an id.
 fn declaration(cx: &Interner, id: DefId) -> Result<Declaration, Refusal> {
     if cx.owns_def_id(id) {
         Ok(*cx.declaration(id))
@@ -43,7 +43,7 @@ fn declaration(cx: &Interner, id: DefId) -> Result<Declaration, Refusal> {
     }
 }
 
-// Whether the region is called so, and `is_named` says whether it is called at all.
+// Returns whether the region has this name, and `is_named` agrees.
 fn is_called(cx: &Interner, region: BoundRegionKind, name: Option<Symbol>) -> bool {
     cx.owns_region_item(&region)
         && region.get_name(cx) == name
@@ -74,8 +74,8 @@ fn kinds_are_kept(cx: &mut Interner) -> Result<bool, Refusal> {
     Ok(
         declaration(cx, item.into())? == Declaration { kind, name }
             && declaration(cx, iterator.into())?.kind == DeclarationKind::Trait { params: 1 }
-            && cx.owns_trait_id(iterator)
-            && cx.owns_trait_assoc_ty_id(item)
+            && cx.owns_id(iterator)
+            && cx.owns_id(item)
             && !cx.owns_def_id(DefId::from_number(2)),
     )
 }
@@ -124,7 +124,7 @@ fn names_of_bound_regions(rt: HostRuntime) {
     holds_anew(&rt, rt.alloc(), regions_are_called);
 }
 
-// Whether this kind is declared under the id.
+// Returns whether this kind is declared under the id.
 fn is_declared(cx: &Interner, id: DefId, kind: DeclarationKind) -> Result<bool, Refusal> {
     Ok(declaration(cx, id)?.kind == kind)
 }
@@ -132,49 +132,46 @@ fn is_declared(cx: &Interner, id: DefId, kind: DeclarationKind) -> Result<bool, 
 fn opaque(cx: &mut Interner) -> Result<bool, Refusal> {
     let name = cx.symbol("T")?;
     let id = cx.declare_opaque(name)?;
-    Ok(cx.owns_opaque_ty_id(id) && is_declared(cx, id.into(), DeclarationKind::Opaque)?)
+    Ok(cx.owns_id(id) && is_declared(cx, id.into(), DeclarationKind::Opaque)?)
 }
 
 fn free(cx: &mut Interner) -> Result<bool, Refusal> {
     let name = cx.symbol("T")?;
     let id = cx.declare_free(name)?;
-    Ok(cx.owns_free_ty_alias_id(id) && is_declared(cx, id.into(), DeclarationKind::Free)?)
+    Ok(cx.owns_id(id) && is_declared(cx, id.into(), DeclarationKind::Free)?)
 }
 
 fn foreign(cx: &mut Interner) -> Result<bool, Refusal> {
     let name = cx.symbol("T")?;
     let id = cx.declare_foreign(name)?;
-    Ok(cx.owns_foreign_id(id) && is_declared(cx, id.into(), DeclarationKind::Foreign)?)
+    Ok(cx.owns_id(id) && is_declared(cx, id.into(), DeclarationKind::Foreign)?)
 }
 
 fn closure(cx: &mut Interner) -> Result<bool, Refusal> {
     let name = cx.symbol("f")?;
     let id = cx.declare_closure(name)?;
-    Ok(cx.owns_closure_id(id) && is_declared(cx, id.into(), DeclarationKind::Closure)?)
+    Ok(cx.owns_id(id) && is_declared(cx, id.into(), DeclarationKind::Closure)?)
 }
 
 fn coroutine_closure(cx: &mut Interner) -> Result<bool, Refusal> {
     let name = cx.symbol("f")?;
     let id = cx.declare_coroutine_closure(name)?;
-    Ok(
-        cx.owns_coroutine_closure_id(id)
-            && is_declared(cx, id.into(), DeclarationKind::CoroutineClosure)?,
-    )
+    Ok(cx.owns_id(id) && is_declared(cx, id.into(), DeclarationKind::CoroutineClosure)?)
 }
 
 fn coroutine(cx: &mut Interner) -> Result<bool, Refusal> {
     let name = cx.symbol("f")?;
     let id = cx.declare_coroutine(name)?;
-    Ok(cx.owns_coroutine_id(id) && is_declared(cx, id.into(), DeclarationKind::Coroutine)?)
+    Ok(cx.owns_id(id) && is_declared(cx, id.into(), DeclarationKind::Coroutine)?)
 }
 
 fn constant(cx: &mut Interner) -> Result<bool, Refusal> {
     let name = cx.symbol("N")?;
     let id = cx.declare_const(name)?;
-    Ok(cx.owns_unevaluated_const_id(id) && is_declared(cx, id.into(), DeclarationKind::Const)?)
+    Ok(cx.owns_id(id) && is_declared(cx, id.into(), DeclarationKind::Const)?)
 }
 
-// An implementation, and one of its associated types.
+// An implementation, and one of its associated types, are declared and read back.
 fn inherent(cx: &mut Interner) -> Result<bool, Refusal> {
     let name = cx.symbol("impl")?;
     let implementation = cx.declare_impl(name)?;
@@ -183,8 +180,8 @@ fn inherent(cx: &mut Interner) -> Result<bool, Refusal> {
     Ok(
         is_declared(cx, implementation.into(), DeclarationKind::Impl)?
             && is_declared(cx, id.into(), DeclarationKind::Inherent(implementation))?
-            && cx.owns_impl_id(implementation)
-            && cx.owns_inherent_assoc_ty_id(id),
+            && cx.owns_id(implementation)
+            && cx.owns_id(id),
     )
 }
 
@@ -206,10 +203,10 @@ fn other_sorts_are_refused(cx: &mut Interner) -> Result<bool, Refusal> {
     let id = adt(cx, "Vec")?;
     let def_id = DefId::from(id);
     Ok(
-        cx.owns_adt_id(id)
-            && !cx.owns_trait_id(TraitId::from_number(id.number()))
+        cx.owns_id(id)
+            && !cx.owns_id(TraitId::from_number(id.number()))
             && !cx.owns_id_of_sort(def_id, DeclarationSort::Param)
-            && !cx.owns_adt_id(AdtId::from_number(1)),
+            && !cx.owns_id(AdtId::from_number(1)),
     )
 }
 

@@ -8,7 +8,7 @@ use type_terms::{
     UniverseIndex,
 };
 
-// The placeholder at this place of its binder's list.
+// Returns the placeholder at this place of its binder's list.
 fn placeholder(var: u32) -> Result<PlaceholderConst, Refusal> {
     if BoundVar::fits(var) {
         let universe = UniverseIndex::from_u32(1);
@@ -18,7 +18,7 @@ fn placeholder(var: u32) -> Result<PlaceholderConst, Refusal> {
     }
 }
 
-// The clause that the placeholder constant has this type, under a binder of these variables.
+// Returns the clause that the placeholder constant has this type, under a binder of these variables.
 fn typed(
     cx: &mut Interner,
     placeholder: PlaceholderConst,
@@ -31,14 +31,14 @@ fn typed(
     clause(cx, bound)
 }
 
-// The type that the environment of these clauses gives the placeholder.
+// Returns the type that the environment of these clauses gives the placeholder.
 fn ty_from(
     cx: &mut Interner,
     placeholder: PlaceholderConst,
     items: &[Clause],
 ) -> Result<Result<Ty, ConstTyFault>, Refusal> {
     let caller_bounds = clauses(cx, items)?;
-    if cx.owns_clauses(caller_bounds) {
+    if cx.owns(caller_bounds) {
         Ok(placeholder.find_const_ty_from_env(cx, ParamEnv { caller_bounds }))
     } else {
         Err(NOT_OWNED)
@@ -101,10 +101,10 @@ fn two_clauses_give_types(rt: HostRuntime) {
     holds_anew(&rt, rt.alloc(), two_clauses_give_types_holds);
 }
 
-// Whether no variable escapes the constants and types of the environment of this one clause.
+// Returns whether no variable escapes the constants and types of the environment of this one clause.
 fn is_closed(cx: &mut Interner, item: Clause) -> Result<bool, Refusal> {
     let caller_bounds = clauses(cx, &[item])?;
-    if cx.owns_clauses(caller_bounds) {
+    if cx.owns(caller_bounds) {
         Ok(ParamEnv { caller_bounds }.const_bounds_closed(cx))
     } else {
         Err(NOT_OWNED)

@@ -1,4 +1,4 @@
-//! Which token the queries of errors answer.
+//! The token that the queries of errors return.
 
 use super::holds_anew;
 use test_terms::{NOT_OWNED, has_flags, ref_ty, ty, u32_ty};
@@ -14,7 +14,7 @@ fn reference_of_an_error(cx: &mut Interner) -> Result<Ty, Refusal> {
     ref_ty(cx, region, number)
 }
 
-// Whether the queries of errors, and then of those that are no region's, answer this of the value.
+// Returns whether the query of errors, and the query of errors other than a region's, have these results for the value.
 fn reports<T: Owned + TypeFoldable>(
     cx: &Interner,
     value: &T,
@@ -41,7 +41,7 @@ fn first_error_of_a_pair(rt: HostRuntime) {
     holds_anew(&rt, rt.alloc(), first_error_of_a_pair_holds);
 }
 
-// An error of a region alone is none where others are asked for.
+// An error of a region alone doesn't count for the query of other errors.
 fn error_of_a_region_holds(cx: &mut Interner) -> Result<bool, Refusal> {
     let reference = reference_of_an_error(cx)?;
     reports(cx, &reference, Err(ErrorGuaranteed(7)), Ok(()))

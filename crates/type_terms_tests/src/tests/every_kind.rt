@@ -151,7 +151,7 @@ fn items_with_arguments(rt: HostRuntime) {
     holds_anew(&rt, rt.alloc(), items_with_arguments_holds);
 }
 
-// The type that stands for another.
+// Returns the kind of an alias.
 fn alias(args: GenericArgs, kind: AliasTyKind) -> TyKind {
     TyKind::Alias(AliasTy { args, kind })
 }
@@ -237,7 +237,7 @@ fn types_with_binders(rt: HostRuntime) {
     holds_anew(&rt, rt.alloc(), types_with_binders_holds);
 }
 
-// A trait with its arguments under a binder, and a trait without items: 0x1040008, 6.
+// Returns a trait with its arguments under a binder, and an auto trait: 0x1040008, 6.
 fn traits(cx: &mut Interner) -> Result<BoundExistentialPredicates, Refusal> {
     let args = far_args(cx)?;
     let vars = one_region(cx)?;
@@ -249,7 +249,7 @@ fn traits(cx: &mut Interner) -> Result<BoundExistentialPredicates, Refusal> {
     two_existentials(cx, first, second)
 }
 
-// What an associated item is, beside a trait without items: 0x1140008, 6.
+// Returns the predicate on an associated item, with an auto trait: 0x1140008, 6.
 fn projections(cx: &mut Interner) -> Result<BoundExistentialPredicates, Refusal> {
     let projection = ExistentialProjection {
         def_id: DefId::from_number(0),
@@ -327,7 +327,7 @@ fn variables_of_constants(rt: HostRuntime) {
     holds_anew(&rt, rt.alloc(), variables_of_constants_holds);
 }
 
-// A value of this type.
+// Returns a value of this type.
 fn value(ty: Ty, kind: ValTreeKind) -> ConstKind {
     ConstKind::Value(ValueConst {
         ty,
@@ -380,7 +380,7 @@ fn patterns(rt: HostRuntime) {
     holds_anew(&rt, rt.alloc(), patterns_holds);
 }
 
-// The predicate that is this clause.
+// Returns the predicate that is this clause.
 fn of_clause(kind: ClauseKind) -> PredicateKind {
     PredicateKind::Clause(kind)
 }

@@ -7,18 +7,18 @@ use type_terms::{
     GenericArgs, Interner, PolyExistentialPredicate, Refusal, TraitId,
 };
 
-// An auto trait, under a binder of these variables.
+// Returns an auto trait, under a binder of these variables.
 fn auto_trait(number: u32, vars: BoundVarKinds) -> Binder<ExistentialPredicate> {
     let trait_id = TraitId::from_number(number);
     Binder::bind_with_vars(ExistentialPredicate::AutoTrait(trait_id), vars)
 }
 
-// The auto traits of these numbers, each under a binder of no variables.
+// Returns the auto traits of these numbers, each under a binder of no variables.
 fn auto_traits<const N: usize>(numbers: [u32; N]) -> [Binder<ExistentialPredicate>; N] {
     numbers.map(|number| auto_trait(number, BoundVarKinds::default()))
 }
 
-// A trait without arguments, under a binder of these variables.
+// Returns a trait without arguments, under a binder of these variables.
 fn principal(vars: BoundVarKinds) -> Binder<ExistentialPredicate> {
     let trait_ref = ExistentialTraitRef {
         def_id: TraitId::from_number(0),
@@ -27,7 +27,7 @@ fn principal(vars: BoundVarKinds) -> Binder<ExistentialPredicate> {
     Binder::bind_with_vars(ExistentialPredicate::Trait(trait_ref), vars)
 }
 
-// The list of these predicates, by one call.
+// Returns the list of these predicates, by one call.
 fn at_once(
     cx: &mut Interner,
     predicates: &[Binder<ExistentialPredicate>],
@@ -39,7 +39,7 @@ fn at_once(
     }
 }
 
-// The existential predicate.
+// Returns the existential predicate.
 fn one(
     cx: &mut Interner,
     predicate: Binder<ExistentialPredicate>,
@@ -51,7 +51,7 @@ fn one(
     }
 }
 
-// The list of the two predicates, by a call for each and one for their list.
+// Returns the list of the two predicates, by a call for each and one for their list.
 fn in_turn(
     cx: &mut Interner,
     first: Binder<ExistentialPredicate>,
@@ -62,14 +62,14 @@ fn in_turn(
     two_existentials(cx, first, second)
 }
 
-// Whether so many existential predicates are stored, and so many lists of them.
+// Returns whether so many existential predicates are stored, and so many lists of them.
 fn are_stored(cx: &Interner, predicates: u32, lists: u32) -> bool {
     let newest = PolyExistentialPredicate::from_number(predicates.saturating_sub(1));
     let newest_list = BoundExistentialPredicates::from_number(lists.saturating_sub(1));
-    cx.owns_existential(newest) == (predicates > 0)
-        && !cx.owns_existential(PolyExistentialPredicate::from_number(predicates))
-        && cx.owns_existentials(newest_list)
-        && !cx.owns_existentials(BoundExistentialPredicates::from_number(lists))
+    cx.owns(newest) == (predicates > 0)
+        && !cx.owns(PolyExistentialPredicate::from_number(predicates))
+        && cx.owns(newest_list)
+        && !cx.owns(BoundExistentialPredicates::from_number(lists))
 }
 
 fn same_list_either_way_holds(cx: &mut Interner) -> Result<bool, Refusal> {
@@ -100,7 +100,7 @@ fn long_list_holds(cx: &mut Interner) -> Result<bool, Refusal> {
     let built = at_once(cx, &traits)?;
     Ok(
         are_stored(cx, 9, 2)
-            && cx.owns_existentials(built)
+            && cx.owns(built)
             && cx.existentials(built).len() == 10
             && at_once(cx, &traits) == Ok(built)
             && are_stored(cx, 9, 2),

@@ -15,7 +15,7 @@ use type_terms::{
     TraitAssocTyId, TyKind, UnevaluatedConst, UnevaluatedConstId, UnsafeBinderInner,
 };
 
-// The list of this existential predicate alone, under a binder of no variables.
+// Returns the list of this existential predicate alone, under a binder of no variables.
 fn one_existential(
     cx: &mut Interner,
     kind: ExistentialPredicate,
@@ -29,13 +29,13 @@ fn one_existential(
     }
 }
 
-// The list of the type parameter of index 0 alone.
+// Returns the list of the type parameter of index 0 alone.
 fn one_param(cx: &mut Interner) -> Result<GenericArgs, Refusal> {
     let parameter = param_ty(cx, 0)?;
     args(cx, &[GenericArg::from(parameter)])
 }
 
-// The contents of this type's binder are bound outside of it.
+// Returns a type under a binder, whose contents are bound outside of it.
 fn open_binder(cx: &mut Interner) -> Result<UnsafeBinderInner, Refusal> {
     let number = u32_ty(cx)?;
     let reference = ref_ty(cx, bound_region(1)?, number)?;
@@ -43,7 +43,7 @@ fn open_binder(cx: &mut Interner) -> Result<UnsafeBinderInner, Refusal> {
     Ok(UnsafeBinderInner::from(Binder::bind_with_vars(reference, vars)))
 }
 
-// The list of the predicate that an associated item is the type parameter of index 0.
+// Returns the list of the predicate that an associated item is the type parameter of index 0.
 fn projection_on_a_parameter(cx: &mut Interner) -> Result<BoundExistentialPredicates, Refusal> {
     let parameter = param_ty(cx, 0)?;
     let projection = ExistentialProjection {
@@ -79,7 +79,7 @@ fn flags_of_types(rt: HostRuntime) {
     holds_anew(&rt, rt.alloc(), flags_of_types_holds);
 }
 
-// The greatest index of a variable.
+// Returns the greatest index of a variable.
 fn deepest() -> Result<BoundVarIndexKind, Refusal> {
     Ok(BoundVarIndexKind::Bound(binder_index(4294967040)?))
 }
@@ -105,7 +105,7 @@ fn flags_of_the_deepest_variables(rt: HostRuntime) {
     holds_anew(&rt, rt.alloc(), flags_of_the_deepest_variables_holds);
 }
 
-// A binder's list of one type.
+// Returns a binder's list of one type.
 fn one_type(cx: &mut Interner) -> Result<BoundVarKinds, Refusal> {
     cx.mk_bound_vars(&[BoundVariableKind::Ty(BoundTyKind::Anon)])
 }
@@ -131,7 +131,7 @@ fn flags_of_predicates(rt: HostRuntime) {
     holds_anew(&rt, rt.alloc(), flags_of_predicates_holds);
 }
 
-// The stored clause `u32: '?0`, under a binder of these variables.
+// Returns the stored clause `u32: '?0`, under a binder of these variables.
 fn stored_outlives(cx: &mut Interner, vars: BoundVarKinds) -> Result<Predicate, Refusal> {
     let number = u32_ty(cx)?;
     let outlives = OutlivesPredicate(number, region_variable()?);
@@ -145,7 +145,7 @@ fn signed(cx: &mut Interner) -> Result<GenericArg, Refusal> {
     Ok(GenericArg::from(number))
 }
 
-// How the region variable of number 0 is refused.
+// Returns the refusal for the region variable of number 0.
 fn refused() -> Refusal {
     Refusal::RegionVariable(RegionVid::from_u32(0))
 }
@@ -181,7 +181,7 @@ fn instances_of_constants(rt: HostRuntime) {
     holds_anew(&rt, rt.alloc(), instances_of_constants_holds);
 }
 
-// What a clause is, under its binder.
+// A clause's kind, under its binder, is read back.
 fn clauses_are_read_back_holds(cx: &mut Interner) -> Result<bool, Refusal> {
     let vars = one_region(cx)?;
     let kind = ClauseKind::WellFormed(Term::from(u32_ty(cx)?));
@@ -198,8 +198,8 @@ fn clauses_are_read_back(rt: HostRuntime) {
     holds_anew(&rt, rt.alloc(), clauses_are_read_back_holds);
 }
 
-// A predicate that is no clause may take the place of a predicate, and is refused in a list of clauses: the fold ends
-// at the first one, and the folder isn't asked again.
+// A predicate that is not a clause may replace a predicate, and is refused in a list of clauses: the fold ends at the
+// first one, and the folder isn't called again.
 fn no_clause_among_clauses_holds(cx: &mut Interner) -> Result<bool, Refusal> {
     let none = BoundVarKinds::default();
     let first = stored_outlives(cx, none)?;

@@ -8,7 +8,7 @@ use type_terms::{
     Region, RegionCall, RegionKind, RegionVid, parse_line, run_calls,
 };
 
-// The calls of the lines.
+// Returns the calls of the lines.
 fn parse_calls(alloc: Global, lines: &str) -> Result<Vec<Call>, AllocError> {
     let mut calls = Vec::new(alloc);
     for line in lines.lines() {
@@ -19,19 +19,19 @@ fn parse_calls(alloc: Global, lines: &str) -> Result<Vec<Call>, AllocError> {
     Ok(calls)
 }
 
-// The answers to the calls of the lines.
+// Returns the answers to the calls of the lines.
 fn answer_all(cx: &mut Interner, lines: &str) -> Result<Vec<Answer>, Refusal> {
     let calls = parse_calls(cx.allocator(), lines)?;
     run_calls(cx, calls.as_slice())
 }
 
-// The last answer to the calls of the lines.
+// Returns the last answer to the calls of the lines.
 fn last_answer(cx: &mut Interner, lines: &str) -> Result<Answer, Refusal> {
     let answers = answer_all(cx, lines)?;
     answers.last().copied().ok_or(Refusal::NoSuchAnswer)
 }
 
-// Two types, one too many, the first again, and that it is the first.
+// Returns whether the answers are two types, a refused one, the first again, and that it is the first.
 fn are_limited(answers: &[Answer]) -> bool {
     match answers {
         [
@@ -55,7 +55,8 @@ fn limit_of_rows(rt: HostRuntime) {
     holds_within(&rt, rt.alloc(), 2, limit_of_rows_holds);
 }
 
-// A tuple and a function pointer, a type too many, and the first two again, of lists that are there.
+// Returns whether the answers are a tuple and a function pointer, a refused type, and the first two again, of lists
+// that are there.
 fn are_found(answers: &[Answer]) -> bool {
     matches!(
         answers,
@@ -80,7 +81,7 @@ fn known_lists_are_found_holds(cx: &mut Interner) -> Result<bool, Refusal> {
     Ok(are_found(answers.as_slice()))
 }
 
-// Where the table of types is full, what is there from a list or under a binder is found.
+// If the table of types is full, a stored type of a list or under a binder is found.
 #[test]
 fn known_lists_are_found(rt: HostRuntime) {
     holds_within(&rt, rt.alloc(), 3, known_lists_are_found_holds);
@@ -116,13 +117,13 @@ fn memory_for_each_new_term_holds(cx: &mut Interner) -> Result<bool, Refusal> {
     Ok(answers.len() == 7 && answers.iter().all(|answer| matches!(answer, Answer::Ty(_))))
 }
 
-// A runner that refuses whatever is new is wrong where memory is ample.
+// A runner that refuses every new term is wrong with ample memory.
 #[test]
 fn memory_for_each_new_term(rt: HostRuntime) {
     holds_anew(&rt, rt.alloc(), memory_for_each_new_term_holds);
 }
 
-// An argument whose name can't be stored where a table holds one row.
+// Returns an argument whose name can't be stored if a table holds one row.
 fn unstored(alloc: Global) -> Result<ArgCall, AllocError> {
     let name = String::from_str(alloc, "'a")?;
     Ok(ArgCall::Lifetime(RegionCall::ReEarlyParam { index: 0, name }))
@@ -140,7 +141,7 @@ fn arguments_are_not_built_holds(cx: &mut Interner) -> Result<bool, Refusal> {
     Ok(are_their_instances(answers.as_slice()) && absent == Answer::Refused(Refusal::NoSuchAnswer))
 }
 
-// A type and its instance, which are one, and a constant and its instance.
+// Returns whether the answers are a type and its instance, which are the same, and a constant and its instance.
 fn are_their_instances(answers: &[Answer]) -> bool {
     match answers {
         [

@@ -8,13 +8,13 @@ use type_terms::{
     TyVid,
 };
 
-// Whether the value's text is this one.
+// Returns whether the value's text is this one.
 fn reads_as<T: Display>(alloc: Global, value: &T, text: &str) -> Result<bool, Refusal> {
     let written = value.to_string(alloc)?;
     Ok(written.as_str() == text)
 }
 
-// The letter tells what the variable is for.
+// Returns whether each variable's text has the letter of its kind.
 fn are_variables(alloc: Global) -> Result<bool, Refusal> {
     Ok(
         reads_as(alloc, &TyVid::from_u32(3), "?3t")?
@@ -43,7 +43,7 @@ fn texts_of_ids(rt: HostRuntime) {
     holds(&rt, are_ids(rt.alloc()));
 }
 
-// What a message names of the refusal is in it.
+// Returns whether each message contains the refusal's data.
 fn are_messages(alloc: Global) -> Result<bool, Refusal> {
     let variable = Refusal::RegionVariable(RegionVid::from_u32(2));
     Ok(

@@ -1,14 +1,14 @@
-//! Orders of values that have one where their part has one.
+//! Orders of values that are ordered if their parts are.
 
 use std::cmp::Ordering;
 use type_terms::{BoundVar, EarlyBinder, Placeholder, UniverseIndex};
 
-// Whether the first comes before the second.
+// Returns whether the first comes before the second.
 fn precedes<T: Ord>(first: &T, second: &T) -> bool {
     first.cmp(second) == Ordering::Less && second.cmp(first) == Ordering::Greater
 }
 
-// By their universes, and then by what they stand for.
+// Returns whether they are ordered by their universes, and then by their variables.
 fn are_placeholders_ordered() -> bool {
     let zero = BoundVar::from_u32(0);
     let one = BoundVar::from_u32(1);
@@ -18,7 +18,7 @@ fn are_placeholders_ordered() -> bool {
     precedes(&near, &far) && precedes(&far, &last)
 }
 
-// By their values.
+// Returns whether they are ordered by their values.
 fn are_early_binders_ordered() -> bool {
     let first = EarlyBinder::bind(BoundVar::from_u32(0));
     let second = EarlyBinder::bind(BoundVar::from_u32(1));

@@ -1,4 +1,4 @@
-//! What the prelude brings in serves for a first function.
+//! The names of the prelude are enough for a first function.
 
 use super::holds_anew;
 use type_terms::prelude::*;

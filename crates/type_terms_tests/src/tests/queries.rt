@@ -1,4 +1,4 @@
-//! Each question that can be asked of any value, at values that answer it by yes and at values that answer it by no.
+//! Each query, at values for which it is true and at values for which it is false.
 
 use super::holds_anew;
 use std::rc::Rc;
@@ -11,7 +11,7 @@ use type_terms::{
     TypeFoldable, TypeVisitableExt, UnevaluatedConst, UnevaluatedConstId, UniverseIndex,
 };
 
-// A question on a value.
+// A query on a value.
 #[derive(Clone, Copy, PartialEq, Eq)]
 enum Query {
     Aliases,
@@ -38,7 +38,7 @@ enum Query {
     Global,
 }
 
-// All questions.
+// All queries.
 const QUERIES: [Query; 22] = [
     Query::Aliases,
     Query::OpaqueTypes,
@@ -64,7 +64,7 @@ const QUERIES: [Query; 22] = [
     Query::Global,
 ];
 
-// The answer of a value to a question, or none if the value isn't of this interner.
+// Returns the result of a query on a value, or `None` if the value isn't of this interner.
 fn answer<T: Owned + TypeFoldable>(cx: &Interner, value: &T, query: Query) -> Option<bool> {
     if !value.is_owned(cx) {
         return None;
@@ -95,7 +95,7 @@ fn answer<T: Owned + TypeFoldable>(cx: &Interner, value: &T, query: Query) -> Op
     })
 }
 
-// Whether the value answers these questions by yes, and all others by no.
+// Returns whether these queries are true for the value, and all others false.
 fn says_yes_to<T: Owned + TypeFoldable>(cx: &Interner, value: &T, yes: &[Query]) -> bool {
     for query in QUERIES {
         if answer(cx, value, query) != Some(yes.contains(&query)) {
@@ -105,9 +105,9 @@ fn says_yes_to<T: Owned + TypeFoldable>(cx: &Interner, value: &T, yes: &[Query])
     true
 }
 
-// What stands for a value that can be asked.
+// The source of a value for queries.
 trait Asked {
-    // Whether the value answers these questions by yes, and all others by no.
+    // Returns whether these queries are true for the value, and all others false.
     fn has_answers(&self, cx: &mut Interner, yes: &[Query]) -> Result<bool, Refusal>;
 }
 
@@ -132,7 +132,7 @@ impl Asked for RegionKind {
     }
 }
 
-// Whether each value answers the questions beside it by yes, and all others by no.
+// Returns whether for each value its queries are true, and all others false.
 fn are_answered<K: Asked>(cx: &mut Interner, rows: &[(K, &[Query])]) -> Result<bool, Refusal> {
     for row in rows {
         if !row.0.has_answers(cx, row.1)? {
@@ -142,7 +142,7 @@ fn are_answered<K: Asked>(cx: &mut Interner, rows: &[(K, &[Query])]) -> Result<b
     Ok(true)
 }
 
-// The alias of a type without arguments.
+// Returns the alias of a type without arguments.
 fn alias(kind: AliasTyKind) -> TyKind {
     let args = GenericArgs::default();
     TyKind::Alias(AliasTy { args, kind })
@@ -405,7 +405,7 @@ fn values_around_a_region(rt: HostRuntime) {
     holds_anew(&rt, rt.alloc(), values_around_a_region_holds);
 }
 
-// Whether a box of the value, and a shared one, have free regions.
+// Returns whether a box of the value, and a shared one, have free regions.
 fn have_free_regions<T: Owned + TypeFoldable + Copy>(
     cx: &Interner,
     value: T,

@@ -4,7 +4,7 @@ use super::holds_anew;
 use test_terms::ty;
 use type_terms::{EarlyBinder, GenericArg, Instantiate, Interner, ParamTy, Refusal, Ty, TyKind};
 
-// What T is with bool in T's place.
+// Returns `T` with `bool` for `T`.
 pub fn replaced(cx: &mut Interner) -> Result<Ty, Refusal> {
     let name = cx.symbol("T")?;
     let parameter = cx.mk_ty(TyKind::Param(ParamTy { index: 0, name }))?;

@@ -105,7 +105,7 @@ use type_terms::ValTree;
 use type_terms::ValTreeKind;
 use type_terms::ValueConst;
 
-// Whether the value's text is this one, after what was written before.
+// Returns whether the value's text is this one, after what was written before.
 fn reads<T: IrPrint + Owned>(cx: &Interner, value: &T, wanted: &str) -> Result<bool, Refusal> {
     if value.is_owned(cx) {
         let mut out = String::from_str(cx.allocator(), "= ")?;
@@ -116,7 +116,7 @@ fn reads<T: IrPrint + Owned>(cx: &Interner, value: &T, wanted: &str) -> Result<b
     }
 }
 
-// Whether the type of each kind has this text.
+// Returns whether the type of each kind has this text.
 fn types_read(cx: &mut Interner, rows: &[(TyKind, &str)]) -> Result<bool, Refusal> {
     for row in rows {
         let ty = ty(cx, row.0)?;
@@ -127,7 +127,7 @@ fn types_read(cx: &mut Interner, rows: &[(TyKind, &str)]) -> Result<bool, Refusa
     Ok(true)
 }
 
-// Whether the constant of each kind has this text.
+// Returns whether the constant of each kind has this text.
 fn constants_read(cx: &mut Interner, rows: &[(ConstKind, &str)]) -> Result<bool, Refusal> {
     for row in rows {
         let constant = constant(cx, row.0)?;
@@ -138,7 +138,7 @@ fn constants_read(cx: &mut Interner, rows: &[(ConstKind, &str)]) -> Result<bool,
     Ok(true)
 }
 
-// Whether the pattern of each kind has this text.
+// Returns whether the pattern of each kind has this text.
 fn patterns_read(cx: &mut Interner, rows: &[(PatternKind, &str)]) -> Result<bool, Refusal> {
     for row in rows {
         let pattern = pattern(cx, row.0)?;
@@ -149,7 +149,7 @@ fn patterns_read(cx: &mut Interner, rows: &[(PatternKind, &str)]) -> Result<bool
     Ok(true)
 }
 
-// Whether the predicate of each kind has this text.
+// Returns whether the predicate of each kind has this text.
 fn predicates_read(cx: &mut Interner, rows: &[(PredicateKind, &str)]) -> Result<bool, Refusal> {
     for row in rows {
         let predicate = predicate(cx, row.0, BoundVarKinds::default())?;
@@ -160,7 +160,7 @@ fn predicates_read(cx: &mut Interner, rows: &[(PredicateKind, &str)]) -> Result<
     Ok(true)
 }
 
-// Whether the region of each kind has this text.
+// Returns whether the region of each kind has this text.
 fn regions_read(cx: &Interner, rows: &[(RegionKind, &str)]) -> Result<bool, Refusal> {
     for row in rows {
         let region = Region::new(row.0)?;
@@ -227,7 +227,7 @@ fn variables(rt: HostRuntime) {
     holds_anew(&rt, rt.alloc(), variables_hold);
 }
 
-// A value of this type.
+// Returns a value of this type.
 fn value(ty: Ty, kind: ValTreeKind) -> ConstKind {
     ConstKind::Value(ValueConst {
         ty,
@@ -235,7 +235,7 @@ fn value(ty: Ty, kind: ValTreeKind) -> ConstKind {
     })
 }
 
-// The number, of the type `usize`.
+// Returns the number, of the type `usize`.
 fn number(cx: &mut Interner, bits: u128) -> Result<Const, Refusal> {
     let ty = ty(cx, TyKind::Uint(UintTy::Usize))?;
     let kind = value(ty, ValTreeKind::Leaf(ScalarInt { bits, size: 8 }));
@@ -293,7 +293,7 @@ fn lists(rt: HostRuntime) {
     holds_anew(&rt, rt.alloc(), lists_hold);
 }
 
-// The function pointer of these types, the last of which is its output.
+// Returns the function pointer of these types, the last of which is its output.
 fn pointer(cx: &mut Interner, types: &[Ty], kind: FnSigKind) -> Result<TyKind, Refusal> {
     let inputs_and_output = tys(cx, types)?;
     let vars = one_region(cx)?;
@@ -535,7 +535,7 @@ fn regions(rt: HostRuntime) {
     holds_anew(&rt, rt.alloc(), regions_hold);
 }
 
-// A region parameter of this name, seen from inside its item.
+// Returns a region parameter of this name, seen from inside its item.
 fn late(kind: BoundRegionKind) -> RegionKind {
     let scope = DefId::from_number(8);
     RegionKind::ReLateParam(LateParamRegion { scope, kind })
@@ -562,7 +562,7 @@ fn late_regions(rt: HostRuntime) {
     holds_anew(&rt, rt.alloc(), late_regions_hold);
 }
 
-// A trait with an argument, and what an associated item of it is.
+// Returns a trait with an argument, and the value of one of its associated items.
 fn bounds(cx: &mut Interner) -> Result<BoundExistentialPredicates, Refusal> {
     let name = cx.symbol("Iterator")?;
     let iterator = cx.declare_trait(name, 2)?;

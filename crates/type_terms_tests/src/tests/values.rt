@@ -1,4 +1,4 @@
-//! Generic calls of the library, each at the values that it is for.
+//! Generic calls of the library, each at its types of values.
 
 use super::{holds, holds_anew, holds_within, is_refused_anew};
 use std::alloc::Global;
@@ -14,7 +14,7 @@ use type_terms::{
     are_owned, shift_region,
 };
 
-// What a list of lent arguments tells of itself and of one of its places.
+// Returns the length of a borrowed list of arguments, whether it is empty, and the argument at a place.
 fn lent_at(
     cx: &Interner,
     items: &[GenericArg],
@@ -31,13 +31,13 @@ fn lent_at(
     }
 }
 
-// The same of a stored list.
+// Returns the same facts of a stored list.
 fn stored_at(
     cx: &Interner,
     items: GenericArgs,
     index: usize,
 ) -> Option<(usize, bool, Option<GenericArg>)> {
-    if cx.owns_args(items) {
+    if cx.owns(items) {
         Some((items.len(cx), items.is_empty(cx), items.get(cx, index)))
     } else {
         None
@@ -62,36 +62,36 @@ fn places_of_argument_lists(rt: HostRuntime) {
     holds_anew(&rt, rt.alloc(), places_of_argument_lists_holds);
 }
 
-// The kind of the type.
+// Returns the kind of the type.
 fn kind_of(cx: &Interner, ty: Ty) -> Option<TyKind> {
-    if cx.owns_ty(ty) {
+    if cx.owns(ty) {
         Some(*ty.kind(cx))
     } else {
         None
     }
 }
 
-// The last of the types.
+// Returns the last of the types.
 fn last_ty(cx: &Interner, list: Tys) -> Option<Ty> {
-    if cx.owns_tys(list) {
+    if cx.owns(list) {
         list.as_slice(cx).last().copied()
     } else {
         None
     }
 }
 
-// The last of the arguments.
+// Returns the last of the arguments.
 fn last_arg(cx: &Interner, list: GenericArgs) -> Option<GenericArg> {
-    if cx.owns_args(list) {
+    if cx.owns(list) {
         list.as_slice(cx).last().copied()
     } else {
         None
     }
 }
 
-// The last of a binder's variables.
+// Returns the last of a binder's variables.
 fn last_variable(cx: &Interner, list: BoundVarKinds) -> Option<BoundVariableKind> {
-    if cx.owns_bound_vars(list) {
+    if cx.owns(list) {
         list.as_slice(cx).last().copied()
     } else {
         None
@@ -110,7 +110,7 @@ fn stored_terms_are_read_back_holds(cx: &mut Interner) -> Result<bool, Refusal> 
         && last_arg(cx, arguments) == Some(GenericArg::from(slice))
         && last_variable(cx, vars) == Some(BoundVariableKind::Region(BoundRegionKind::Anon));
     let name = cx.symbol("T")?;
-    Ok(so_far && cx.owns_symbol(name) && name.as_str(cx) == "T")
+    Ok(so_far && cx.owns(name) && name.as_str(cx) == "T")
 }
 
 #[test]
@@ -118,7 +118,7 @@ fn stored_terms_are_read_back(rt: HostRuntime) {
     holds_anew(&rt, rt.alloc(), stored_terms_are_read_back_holds);
 }
 
-// The item at the end of the list, with its index.
+// Returns the item at the end of the list, with its index.
 fn pushed(list: &mut IndexVec<VariantIdx, u32>, item: u32) -> Result<VariantIdx, Refusal> {
     if list.has_next_index() {
         list.push(item)
@@ -228,13 +228,13 @@ fn shift_of_arguments(rt: HostRuntime) {
     holds_anew(&rt, rt.alloc(), shift_of_arguments_holds);
 }
 
-// The value with stored arguments in the places of its parameters.
+// Returns the value instantiated with stored arguments.
 fn instance_by_list<T: Owned + TypeFoldable + Copy>(
     cx: &mut Interner,
     value: T,
     args: GenericArgs,
 ) -> Result<T, Refusal> {
-    if value.is_owned(cx) && cx.owns_args(args) {
+    if value.is_owned(cx) && cx.owns(args) {
         let instance = EarlyBinder::bind(value).instantiate(cx, args)?;
         Ok(instance.skip_norm_wip())
     } else {
@@ -242,7 +242,7 @@ fn instance_by_list<T: Owned + TypeFoldable + Copy>(
     }
 }
 
-// Whether the value's instance is this one.
+// Returns whether the value's instance is this one.
 fn is_instance_by_list<T: Owned + TypeFoldable + Copy + PartialEq>(
     cx: &mut Interner,
     value: T,
@@ -331,7 +331,7 @@ fn instances_of_lists(rt: HostRuntime) {
     holds_anew(&rt, rt.alloc(), instances_of_lists_holds);
 }
 
-// Equal instances of a type that is met twice are built once, and only what holds a parameter is taken apart.
+// Equal instances of a type that occurs twice are built once, and only types that hold a parameter are taken apart.
 fn descents_holds(cx: &mut Interner) -> Result<bool, Refusal> {
     let parameter = param_ty(cx, 0)?;
     let number = u32_ty(cx)?;
@@ -350,7 +350,7 @@ fn descents(rt: HostRuntime) {
     holds_anew(&rt, rt.alloc(), descents_holds);
 }
 
-// What is told of a value by questions that take no index.
+// The results of the queries on a value that take no index.
 #[derive(Clone, Copy, Debug, PartialEq, Eq)]
 struct Facts {
     escapes: bool,
@@ -358,7 +358,7 @@ struct Facts {
     has_region: bool,
 }
 
-// What is told of the value.
+// Returns the results of these queries on the value.
 fn facts_of<T: Owned + TypeFoldable>(cx: &Interner, value: &T) -> Result<Facts, Refusal> {
     if value.is_owned(cx) {
         Ok(Facts {
@@ -371,7 +371,8 @@ fn facts_of<T: Owned + TypeFoldable>(cx: &Interner, value: &T) -> Result<Facts, 
     }
 }
 
-// Whether variables bound at this index or further out occur in the value, and whether variables bound further out do.
+// Returns whether variables bound at this index or further out occur in the value, and whether variables bound further
+// out do.
 fn bound_far_out<T: Owned + TypeFoldable>(
     cx: &Interner,
     value: &T,

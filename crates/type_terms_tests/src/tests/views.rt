@@ -88,7 +88,7 @@ fn arguments_are_lent(rt: HostRuntime) {
     holds_anew(&rt, rt.alloc(), arguments_are_lent_holds);
 }
 
-// What some questions tell of a value.
+// The results of some queries on a value.
 #[derive(Clone, Copy, PartialEq, Eq)]
 struct Told {
     param: bool,
@@ -96,28 +96,28 @@ struct Told {
     error: Result<(), ErrorGuaranteed>,
 }
 
-// What is told of a value without parameters, variables and errors.
+// The results for a value without parameters, variables and errors.
 const NOTHING: Told = Told {
     param: false,
     escapes: false,
     error: Ok(()),
 };
 
-// The same of a parameter.
+// The results for a parameter.
 const PARAMETER: Told = Told {
     param: true,
     escapes: false,
     error: Ok(()),
 };
 
-// The same of a variable that no binder binds.
+// The results for a variable that no binder binds.
 const VARIABLE: Told = Told {
     param: false,
     escapes: true,
     error: Ok(()),
 };
 
-// What is told of the value.
+// Returns the results of these queries on the value.
 fn asked<T: Owned>(cx: &Interner, value: &T) -> Result<Told, Refusal> {
     if value.is_owned(cx) {
         Ok(Told {
@@ -130,7 +130,7 @@ fn asked<T: Owned>(cx: &Interner, value: &T) -> Result<Told, Refusal> {
     }
 }
 
-// What is told of the inputs is what is told of their slice. The output, which isn't visited, has a variable.
+// The results for the inputs are the results for their slice. The output, which isn't visited, has a variable.
 fn inputs_are_visited_holds(cx: &mut Interner) -> Result<bool, Refusal> {
     let parameter = param_ty(cx, 0)?;
     let error = ty(cx, TyKind::Error(ErrorGuaranteed(3)))?;
@@ -154,7 +154,7 @@ fn inputs_are_visited(rt: HostRuntime) {
     holds_anew(&rt, rt.alloc(), inputs_are_visited_holds);
 }
 
-// A list without a last type has no inputs, and one that isn't there is none of the interner's.
+// A list without a last type has no inputs, and a list that isn't there is not the interner's.
 fn absent_inputs_are_visited_holds(cx: &mut Interner) -> Result<bool, Refusal> {
     let output = bound_ty(cx, 0)?;
     let list = tys(cx, &[output])?;
@@ -171,12 +171,12 @@ fn absent_inputs_are_visited(rt: HostRuntime) {
     holds_anew(&rt, rt.alloc(), absent_inputs_are_visited_holds);
 }
 
-// What is told of so many arguments of the list, from this place on.
+// Returns the results for `len` arguments of the list, from this place on.
 fn asked_from(cx: &Interner, list: GenericArgs, start: u32, len: u32) -> Result<Told, Refusal> {
     asked(cx, &GenericArgsSlice::from_parts(list, start, len))
 }
 
-// A list of a parameter, a variable and an error.
+// Returns a list of a parameter, a variable and an error.
 fn three_arguments(cx: &mut Interner) -> Result<GenericArgs, Refusal> {
     let parameter = GenericArg::from(param_ty(cx, 0)?);
     let variable = GenericArg::from(bound_ty(cx, 0)?);
@@ -184,7 +184,7 @@ fn three_arguments(cx: &mut Interner) -> Result<GenericArgs, Refusal> {
     args(cx, &[parameter, variable, error])
 }
 
-// Each argument tells of itself, and two of them of both, as their slices do.
+// The results for one argument or two are the results for their slices.
 fn arguments_are_visited_holds(cx: &mut Interner) -> Result<bool, Refusal> {
     let list = three_arguments(cx)?;
     let back = GenericArgsSlice::from_parts(list, 1, 2);
@@ -206,7 +206,7 @@ fn arguments_are_visited(rt: HostRuntime) {
     holds_anew(&rt, rt.alloc(), arguments_are_visited_holds);
 }
 
-// Of a view that reaches beyond its list, what is there is visited. An empty one tells of nothing.
+// In a view that reaches beyond its list, the arguments that are there are visited. In an empty one nothing is.
 fn arguments_beyond_the_list_holds(cx: &mut Interner) -> Result<bool, Refusal> {
     let list = three_arguments(cx)?;
     Ok(

@@ -2,7 +2,7 @@ use Rattle.std.proofs.Common.{◌≡◌, ◌<◌, List, inl, inr, Bool, true, fa
 use Rattle.std.specs.Prelude.{IsTrue, not}
 use Rattle.tt_kinds.specs.Tree as tree
 use Rattle.tt_kinds.specs.Kinds.{node_shape}
-use Rattle.tt_kinds.specs.declared.handle.Predicate.{Predicate}
+use Rattle.tt_kinds.specs.Handle.{Predicate}
 use Rattle.tt_kinds.specs.declared.parts.Child.{Child}
 use Rattle.tt_kinds.specs.declared.parts.Child.TheVariants as child
 use Rattle.tt_kinds.specs.declared.parts.Node.TheVariants as node

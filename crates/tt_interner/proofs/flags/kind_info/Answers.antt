@@ -11,8 +11,8 @@ use Rattle.tt_interner.proofs.flags.kind_info.Goals as goal
 pub parts_info-inside-requires : goal.parts_info-inside-requires
 parts_info-inside-requires c = rw c.parts.ensures (form_has_parts (kind_sort c.args.kind.now) _ (kind_form c.args.kind.now) c.requires.parts)
 
-pub bound_vars_info-requires : goal.bound_vars_info-requires
-bound_vars_info-requires c =
+pub info-requires : goal.info-requires
+info-requires c =
     form_has_vars (kind_sort c.args.kind.now) (size c.args.cx.now.rows) (kind_form c.args.kind.now) c.in-Some.vars (sym c.bound_vars.ensures ∙ c.in-Some.is) c.requires.parts
 
 pub returns-in-Some : goal.returns-in-Some
@@ -22,9 +22,9 @@ returns-in-Some c =
     let own = c.own_info-own.result in
     let binder = sym c.bound_vars.ensures ∙ c.in-Some.is in
     let within = form_has_vars (kind_sort c.args.kind.now) (size c.args.cx.now.rows) k c.in-Some.vars binder c.requires.parts in
-    info_under (kind_sort c.args.kind.now) f own c.parts_info-inside.result c.joined.result k c.in-Some.vars c.bound_vars_info.result binder
+    info_under (kind_sort c.args.kind.now) f own c.parts_info-inside.result c.joined.result k c.in-Some.vars c.info.result binder
     c.own_info-own.ensures.flags c.own_info-own.ensures.outer (rw c.parts.ensures at c.parts_info-inside.ensures)
-    (vars_within c.args.cx.now.rows c.are_rows.ensures.are c.in-Some.vars.number within) c.bound_vars_info.ensures
+    (vars_within c.args.cx.now.rows c.are_rows.ensures.are c.in-Some.vars.number within) c.info.ensures
     (c.joined.ensures ∙ ap (λ (x : FlagComputation). computed (bit_or own.flags.bits x.flags.bits) (max own.outer_exclusive_binder x.outer_exclusive_binder)) c.under_binder.ensures)
 
 pub returns-in-None : goal.returns-in-None

@@ -1,6 +1,6 @@
 use Rattle.std.proofs.Common.{ap, ◌∙◌}
 use Rattle.tt_kinds.specs.Shape.{name_of}
-use Rattle.tt_kinds.specs.declared.handle.Symbol.{Symbol}
+use Rattle.tt_kinds.specs.Handle.{Symbol}
 use Rattle.tt_interner.specs.Rows.{meaning}
 use Rattle.type_terms.proofs.PrintNames.{declared-text}
 use Rattle.type_terms.proofs.PrintSteps.{writes-same}

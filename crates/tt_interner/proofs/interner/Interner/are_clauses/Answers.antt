@@ -3,11 +3,12 @@ use Rattle.std.proofs.Common.{refl}
 use Rattle.std.proofs.lemmas.Bool.{false≢true}
 use Rattle.tt_interner.proofs.ClauseLemmas.{clauses_step, clauses_unstep, clauses_past}
 use Rattle.tt_interner.proofs.interner.Interner.are_clauses.Goals as goal
+use Rattle.tt_kinds.specs.Handle.{handle}
 
 pub loop-item-preserved : goal.loop-item-preserved
 loop-item-preserved c = (
   λ rest. c.loop-item.invariant.0 (clauses_unstep _ c.args.items.now c.loop-item.item-index _ c.loop-item-test.true (c.if-not-owns_clause.ensures.0 refl) rest),
-  λ all. (clauses_step _ c.args.items.now c.loop-item.item-index (record { number = 0 }) c.loop-item-test.true (c.loop-item.invariant.1 all)).1,
+  λ all. (clauses_step _ c.args.items.now c.loop-item.item-index (handle 0) c.loop-item-test.true (c.loop-item.invariant.1 all)).1,
 )
 
 pub returns : goal.returns

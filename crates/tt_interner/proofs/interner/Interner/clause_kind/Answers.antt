@@ -1,7 +1,7 @@
 -- by the predicate's tree
 use Rattle.std.proofs.Common.{◌≡◌, Bor, sym, ap, subst, ◌∙◌}
 use Rattle.tt_kinds.specs.declared.table.Table.TheVariants.{Predicates}
-use Rattle.tt_kinds.specs.declared.handle.Predicate.{Predicate}
+use Rattle.tt_kinds.specs.Handle.{Predicate}
 use Rattle.tt_kinds.specs.declared.predicate_kind.PredicateKind.{PredicateKind}
 use Rattle.tt_kinds.specs.Predicate.{is_clause_kind}
 use Rattle.tt_kinds.specs.declared.binder.Binder.{Binder}

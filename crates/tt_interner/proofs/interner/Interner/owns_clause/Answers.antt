@@ -2,7 +2,7 @@
 use Rattle.std.proofs.Common.{◌≡◌, ◌<◌, Bor, refl, sym, ap, subst, ◌∙◌}
 use Rattle.tt_kinds.specs.declared.predicate_kind.PredicateKind.{PredicateKind}
 use Rattle.tt_kinds.specs.declared.table.Table.TheVariants.{Predicates}
-use Rattle.tt_kinds.specs.declared.handle.Predicate.{Predicate}
+use Rattle.tt_kinds.specs.Handle.{Predicate}
 use Rattle.tt_kinds.specs.Predicate.{is_clause_kind}
 use Rattle.tt_interner.specs.Rows.{size, meaning}
 use Rattle.tt_interner.specs.Clauses.{is_clause_tree}
@@ -16,4 +16,4 @@ returns c =
     let tree = clause_at rows c.are_rows.ensures.are c.predicate_kind.result.now c.from_number-predicate.result.number c.predicate_kind.ensures in
     let answer : c.is_clause.result ≡ is_clause_tree (meaning rows Predicates c.args.clause.number) =
     c.is_clause.ensures ∙ ap (λ (b : Bor PredicateKind). is_clause_kind b.now) c.skip_binder.ensures ∙ ap is_clause_kind c.as_ref.ensures.value ∙ sym tree ∙ ap (λ n. is_clause_tree (meaning rows Predicates n)) same in
-    (λ is. record { within = subst (λ n. n < size rows Predicates) same (c.if-not-owns_predicate.ensures.0 refl); clause = sym answer ∙ is }, λ h. answer ∙ h.clause)
+    (λ is. record { within = subst (λ n. n < size rows Predicates) same (c.if-not-owns.ensures.0 refl); clause = sym answer ∙ is }, λ h. answer ∙ h.clause)

@@ -1,11 +1,11 @@
 -- by the typed call
 use Rattle.std.proofs.Common.{refl}
 use Rattle.tt_kinds.specs.Parts.{node_number}
-use Rattle.tt_kinds.specs.declared.handle.Ty.{Ty}
-use Rattle.tt_kinds.specs.declared.handle.Const.{Const}
-use Rattle.tt_kinds.specs.declared.handle.Pat.{Pat}
-use Rattle.tt_kinds.specs.declared.handle.Predicate.{Predicate}
-use Rattle.tt_kinds.specs.declared.handle.PolyExistentialPredicate.{PolyExistentialPredicate}
+use Rattle.tt_kinds.specs.Handle.{Ty}
+use Rattle.tt_kinds.specs.Handle.{Const}
+use Rattle.tt_kinds.specs.Handle.{Pat}
+use Rattle.tt_kinds.specs.Handle.{Predicate}
+use Rattle.tt_kinds.specs.Handle.{PolyExistentialPredicate}
 use Rattle.tt_interner.proofs.StoresLemmas.{Builds-ok_as, Builds-err_as}
 use Rattle.tt_interner.proofs.interner.Interner.store.Goals as goal
 

@@ -13,7 +13,7 @@ use Rattle.type_terms.proofs.PartLaws.{placed-passed, bound-record, placed-grows
 use Rattle.type_terms.proofs.BuildLaws.{term-placed}
 use Rattle.type_terms.proofs.ResultLaws.{passed}
 use Rattle.type_terms.proofs.RoomLaws.{record-room, binder-room, term-room}
-use Rattle.tt_kinds.specs.declared.handle.PolyExistentialPredicate.{PolyExistentialPredicate}
+use Rattle.tt_kinds.specs.Handle.{PolyExistentialPredicate}
 use Rattle.type_terms.proofs.run.existentials.build_existential.Goals as goal
 
 pub returns-in_err-kind-clause-existential : goal.returns-in_err-kind-clause-existential

@@ -8,25 +8,25 @@ use Rattle.type_terms.proofs.run.lookup.handle_pair.Goals as goal
 pub returns-in_err-first-clause-parts : goal.returns-in_err-first-clause-parts
 returns-in_err-first-clause-parts g c = λ terms o.
     let e = told_all terms.rows c.args.earlier.now in
-    let p = one (a_term g.A.Handle.table c.args.first) in
-    let q = one (a_term g.B.Handle.table c.args.second) in
+    let p = one (a_term g.A.TermHandle.table c.args.first) in
+    let q = one (a_term g.B.TermHandle.table c.args.second) in
     parts-passed terms e (p ∷ q ∷ []) _ c.from_residual.result c.in_err-first.field-0.0 c.from_residual.ensures.1
     (unbuilt-first (HasFullTable terms) e p (q ∷ []) c.in_err-first.field-0.0 (c.in_err-first.ensures.part terms o).err)
 
 pub returns-in_err-second-clause-parts : goal.returns-in_err-second-clause-parts
 returns-in_err-second-clause-parts g c = λ terms o.
     let e = told_all terms.rows c.args.earlier.now in
-    let p = one (a_term g.A.Handle.table c.args.first) in
-    let q = one (a_term g.B.Handle.table c.args.second) in
+    let p = one (a_term g.A.TermHandle.table c.args.first) in
+    let q = one (a_term g.B.TermHandle.table c.args.second) in
     parts-passed terms e (p ∷ q ∷ []) _ c.from_residual-in_err-second.result c.in_err-second.field-0.0 c.from_residual-in_err-second.ensures.1
     (unbuilt-second (HasFullTable terms) e p q [] c.in_err-second.field-0.0 (c.in_err-second.ensures.part terms o).err)
 
 pub returns-clause-parts : goal.returns-clause-parts
 returns-clause-parts g c = λ terms o.
-    let p = one (a_term g.A.Handle.table c.args.first) in
-    let q = one (a_term g.B.Handle.table c.args.second) in
+    let p = one (a_term g.A.TermHandle.table c.args.first) in
+    let q = one (a_term g.B.TermHandle.table c.args.second) in
     record {
-      ok = parts-two terms (told_all terms.rows c.args.earlier.now) p q (stored g.A.Handle.table (g.A.Handle.number c.in_ok-first.first)) (stored g.B.Handle.table (g.B.Handle.number c.in_ok-second.second))
+      ok = parts-two terms (told_all terms.rows c.args.earlier.now) p q (stored g.A.TermHandle.table (g.A.TermHandle.number c.in_ok-first.first)) (stored g.B.TermHandle.table (g.B.TermHandle.number c.in_ok-second.second))
           (c.in_ok-first.ensures.part terms o).ok (c.in_ok-second.ensures.part terms o).ok;
       err = tt;
     }

@@ -8,4 +8,4 @@ use Rattle.type_terms.proofs.run.lookup.handles_at.Given as goal
 
 abbrev pub invariant-loop-position : goal.invariant-loop-position
 invariant-loop-position g l = (terms : Terms) → AreOwned terms.rows l.earlier
-    → AreItemsOf terms (told_all terms.rows l.earlier) (terms_at g.T.Handle.table (take l.position-index l.positions)) (item_shapes (λ handle. stored g.T.Handle.table (g.T.Handle.number handle)) l.handles.items)
+    → AreItemsOf terms (told_all terms.rows l.earlier) (terms_at g.T.TermHandle.table (take l.position-index l.positions)) (item_shapes (λ handle. stored g.T.TermHandle.table (g.T.TermHandle.number handle)) l.handles.items)

@@ -8,4 +8,4 @@ use Rattle.type_terms.proofs.run.lookup.put_handles.Given as goal
 
 abbrev pub invariant-loop-i : goal.invariant-loop-i
 invariant-loop-i g l = (terms : Terms) → AreOwned terms.rows l.earlier
-    → AreItemsOf terms (told_all terms.rows l.earlier) (terms_at g.T.Handle.table (take l.i l.positions)) (item_shapes (λ handle. stored g.T.Handle.table (g.T.Handle.number handle)) (take l.i l.places))
+    → AreItemsOf terms (told_all terms.rows l.earlier) (terms_at g.T.TermHandle.table (take l.i l.positions)) (item_shapes (λ handle. stored g.T.TermHandle.table (g.T.TermHandle.number handle)) (take l.i l.places))

@@ -7,7 +7,7 @@ use Rattle.type_terms.proofs.run.parts.check_handle.Goals as goal
 pub returns-in_err-handle_at-clause-err : goal.returns-in_err-handle_at-clause-err
 returns-in_err-handle_at-clause-err g c =
     passed c.from_residual.result c.in_err-handle_at.field-0.0 _ c.from_residual.ensures.1
-    (unbuilt-unusable (HasFullTable c.args.cx.now) (told_all c.args.cx.now.rows c.args.earlier.now) (item_positions (a_term g.T.Handle.table c.args.position)) ⊥ c.in_err-handle_at.field-0.0
+    (unbuilt-unusable (HasFullTable c.args.cx.now) (told_all c.args.cx.now.rows c.args.earlier.now) (item_positions (a_term g.T.TermHandle.table c.args.position)) ⊥ c.in_err-handle_at.field-0.0
     c.in_err-handle_at.ensures.cause (c.in_err-handle_at.ensures.part c.args.cx.now c.requires).err)
 
 pub returns-clause-ok : goal.returns-clause-ok

@@ -1,0 +1,82 @@
+-- Handles by what they name.
+use Rattle.std.specs.Prelude.{ℕ}
+use Rattle.tt_kinds.specs.Handle.{Handle}
+use Rattle.tt_kinds.specs.Handle.{TypeRow}
+use Rattle.tt_kinds.specs.Handle.{ConstRow}
+use Rattle.tt_kinds.specs.Handle.{PatternRow}
+use Rattle.tt_kinds.specs.Handle.{PredicateRow}
+use Rattle.tt_kinds.specs.Handle.{ClauseRow}
+use Rattle.tt_kinds.specs.Handle.{ExistentialRow}
+use Rattle.tt_kinds.specs.Handle.{ClauseListRow}
+use Rattle.tt_kinds.specs.Handle.{ArgListRow}
+use Rattle.tt_kinds.specs.Handle.{TypeListRow}
+use Rattle.tt_kinds.specs.Handle.{ConstListRow}
+use Rattle.tt_kinds.specs.Handle.{PatternListRow}
+use Rattle.tt_kinds.specs.Handle.{VarListRow}
+use Rattle.tt_kinds.specs.Handle.{ExistentialListRow}
+use Rattle.tt_kinds.specs.Handle.{AssumptionListRow}
+use Rattle.tt_kinds.specs.Handle.{SymbolRow}
+
+-- the handle of a number
+abbrev pub handle : {K : Type 0} → ℕ → Handle K
+handle n = record { number = n; of = record {} }
+
+-- a type
+abbrev pub Ty : Type 0
+Ty = Handle TypeRow
+
+-- a constant
+abbrev pub Const : Type 0
+Const = Handle ConstRow
+
+-- a pattern
+abbrev pub Pat : Type 0
+Pat = Handle PatternRow
+
+-- a predicate
+abbrev pub Predicate : Type 0
+Predicate = Handle PredicateRow
+
+-- a clause
+abbrev pub Clause : Type 0
+Clause = Handle ClauseRow
+
+-- an existential predicate under its binder
+abbrev pub PolyExistentialPredicate : Type 0
+PolyExistentialPredicate = Handle ExistentialRow
+
+-- a list of clauses
+abbrev pub Clauses : Type 0
+Clauses = Handle ClauseListRow
+
+-- a list of generic arguments
+abbrev pub GenericArgs : Type 0
+GenericArgs = Handle ArgListRow
+
+-- a list of types
+abbrev pub Tys : Type 0
+Tys = Handle TypeListRow
+
+-- a list of constants
+abbrev pub Consts : Type 0
+Consts = Handle ConstListRow
+
+-- a list of patterns
+abbrev pub PatList : Type 0
+PatList = Handle PatternListRow
+
+-- a list of a binder's variables
+abbrev pub BoundVarKinds : Type 0
+BoundVarKinds = Handle VarListRow
+
+-- a list of existential predicates
+abbrev pub BoundExistentialPredicates : Type 0
+BoundExistentialPredicates = Handle ExistentialListRow
+
+-- a list of assumptions on regions
+abbrev pub RegionAssumptions : Type 0
+RegionAssumptions = Handle AssumptionListRow
+
+-- a name
+abbrev pub Symbol : Type 0
+Symbol = Handle SymbolRow
