@@ -57,12 +57,12 @@ child_list (child.List l) = Some l
 -- the term that a list of clauses is; any, where the list is another
 abbrev pub list_node : List → Node
 list_node (list.Clauses c) = node.Clauses c
-list_node _ = node.Ty (record { number = 0 })
+list_node _ = node.Ty (handle 0)
 
 -- the term that a child is; any, where it is none
 abbrev pub child_node : Child → Node
-child_node child.Absent = node.Ty (record { number = 0 })
-child_node (child.Region r) = node.Ty (record { number = 0 })
+child_node child.Absent = node.Ty (handle 0)
+child_node (child.Region r) = node.Ty (handle 0)
 child_node (child.Node n) = n
 child_node (child.List l) = list_node l
 
