@@ -38,7 +38,7 @@ use Rattle.tt_index.specs.contracts.numeric.IntTyPartialEq.TheImpl as ints
 use Rattle.tt_index.specs.contracts.numeric.UintTyPartialEq.TheImpl as uints
 use Rattle.tt_index.specs.contracts.numeric.FloatTyPartialEq.TheImpl as floats
 use Rattle.tt_index.specs.contracts.qualifier.MutabilityPartialEq.TheImpl as mutabilities
-use Rattle.tt_kinds.specs.Handle.{Handle}
+use Rattle.tt_kinds.specs.declared.handle.Handle.{Handle}
 use Rattle.tt_kinds.specs.contracts.bound.BoundVarIndexKindPartialEq.TheImpl as indices
 use Rattle.tt_kinds.specs.contracts.bound.BoundRegionKindPartialEq.TheImpl as region_kinds
 use Rattle.tt_kinds.specs.contracts.bound.BoundTyKindPartialEq.TheImpl as ty_var_kinds

@@ -6,7 +6,7 @@ use Rattle.std.proofs.lemmas.Bool.{false≢true}
 use Rattle.std.specs.Cmp.Lexicographic.{pointwise, lists_equiv, bytes_decides}
 use Rattle.std.specs.Str.{bytes_eq}
 use Rattle.tt_kinds.specs.Handle.{Ty}
-use Rattle.tt_kinds.specs.Handle.{Handle}
+use Rattle.tt_kinds.specs.declared.handle.Handle.{Handle}
 use Rattle.tt_kinds.specs.declared.generic_arg.GenericArgKind.{GenericArgKind}
 use Rattle.tt_kinds.specs.declared.bound.BoundVariableKind.{BoundVariableKind}
 use Rattle.tt_kinds.specs.declared.ty_kind.TyKind.{TyKind}

@@ -1,21 +1,21 @@
 -- Handles by what they name.
 use Rattle.std.specs.Prelude.{ℕ}
-use Rattle.tt_kinds.specs.Handle.{Handle}
-use Rattle.tt_kinds.specs.Handle.{TypeRow}
-use Rattle.tt_kinds.specs.Handle.{ConstRow}
-use Rattle.tt_kinds.specs.Handle.{PatternRow}
-use Rattle.tt_kinds.specs.Handle.{PredicateRow}
-use Rattle.tt_kinds.specs.Handle.{ClauseRow}
-use Rattle.tt_kinds.specs.Handle.{ExistentialRow}
-use Rattle.tt_kinds.specs.Handle.{ClauseListRow}
-use Rattle.tt_kinds.specs.Handle.{ArgListRow}
-use Rattle.tt_kinds.specs.Handle.{TypeListRow}
-use Rattle.tt_kinds.specs.Handle.{ConstListRow}
-use Rattle.tt_kinds.specs.Handle.{PatternListRow}
-use Rattle.tt_kinds.specs.Handle.{VarListRow}
-use Rattle.tt_kinds.specs.Handle.{ExistentialListRow}
-use Rattle.tt_kinds.specs.Handle.{AssumptionListRow}
-use Rattle.tt_kinds.specs.Handle.{SymbolRow}
+use Rattle.tt_kinds.specs.declared.handle.Handle.{Handle}
+use Rattle.tt_kinds.specs.declared.handle.TypeRow.{TypeRow}
+use Rattle.tt_kinds.specs.declared.handle.ConstRow.{ConstRow}
+use Rattle.tt_kinds.specs.declared.handle.PatternRow.{PatternRow}
+use Rattle.tt_kinds.specs.declared.handle.PredicateRow.{PredicateRow}
+use Rattle.tt_kinds.specs.declared.handle.ClauseRow.{ClauseRow}
+use Rattle.tt_kinds.specs.declared.handle.ExistentialRow.{ExistentialRow}
+use Rattle.tt_kinds.specs.declared.handle.ClauseListRow.{ClauseListRow}
+use Rattle.tt_kinds.specs.declared.handle.ArgListRow.{ArgListRow}
+use Rattle.tt_kinds.specs.declared.handle.TypeListRow.{TypeListRow}
+use Rattle.tt_kinds.specs.declared.handle.ConstListRow.{ConstListRow}
+use Rattle.tt_kinds.specs.declared.handle.PatternListRow.{PatternListRow}
+use Rattle.tt_kinds.specs.declared.handle.VarListRow.{VarListRow}
+use Rattle.tt_kinds.specs.declared.handle.ExistentialListRow.{ExistentialListRow}
+use Rattle.tt_kinds.specs.declared.handle.AssumptionListRow.{AssumptionListRow}
+use Rattle.tt_kinds.specs.declared.handle.SymbolRow.{SymbolRow}
 
 -- the handle of a number
 abbrev pub handle : {K : Type 0} → ℕ → Handle K
