@@ -2,6 +2,7 @@
 use Rattle.std.specs.Prelude.{◌≡◌, ◌⊎◌, Option, Some, None, ⊤}
 use Rattle.std.specs.Prelude.{List as Listed}
 use Rattle.tt_kinds.specs.Label.{static_region}
+use Rattle.tt_kinds.specs.Handle.{handle}
 use Rattle.tt_kinds.specs.Tree.{Depth, Tree}
 use Rattle.tt_kinds.specs.Shape as shape
 use Rattle.tt_kinds.specs.Shape.{Shape}
