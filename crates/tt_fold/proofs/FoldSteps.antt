@@ -53,7 +53,7 @@ pub node_is_kind : (rows : Listed Row) (n : Node) (k : Kind) → meaning rows (n
 node_is_kind rows n k h = stored_tree rows (node_table n) (node_number n) ∙ h
 
 -- what a stored term is to a hook
-node_root : (rows : Listed Row) (n : Node) → IsPartOf rows (node_shape n) → root (node_tree rows n) ≡ table_root (node_table n)
+pub node_root : (rows : Listed Row) (n : Node) → IsPartOf rows (node_shape n) → root (node_tree rows n) ≡ table_root (node_table n)
 node_root rows n h = rw (stored_tree rows (node_table n) (node_number n)) (root-meaning rows (node_table n) (node_number n) (in_range rows (node_table n) (node_number n) h))
 
 pub node_is_term : (rows : Listed Row) (n : Node) → IsPartOf rows (node_shape n) → HasHook n → IsTerm (node_tree rows n)

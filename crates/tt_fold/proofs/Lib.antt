@@ -9,6 +9,7 @@ mod FrameLaws
 mod GoingLaws
 mod ItemSteps
 mod FoldSteps
+mod ChildSteps
 mod ValueSteps
 mod BareLaws
 mod RecordSteps
