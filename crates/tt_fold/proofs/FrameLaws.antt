@@ -178,6 +178,7 @@ module _ {old new : Listed Row} (g : Grows old new) where
       record {
         in_range = in_range new (node_table n) (node_number n) (IsPart-grows old new g (node_shape n) h.in_range);
         has_kind = h.has_kind;
+        table = rw same h.table;
         bound_vars = rw same h.bound_vars;
         parts = rw same h.parts;
         named = rw same (HasParts-grows old new g (kind_shape (stored_kind old n)) h.named);

@@ -184,10 +184,12 @@ term_frame {rows} c contents n is part e node same t means =
 pub term_made : {rows : Listed Row} (c : Child) (contents : Contents) (n : Node) → IsWhole c → ArePartsOf rows (child_shapes c) → None ≡ child_list c
     → n ≡ child_node c → SameTerm c n
     → contents.bound_vars ≡ form_binder (kind_form (stored_kind rows n)) → contents.parts ≡ form_parts (kind_form (stored_kind rows n))
-    → HasParts (size rows) (kind_shape (stored_kind rows n)) → IsInner (kind_form (stored_kind rows n)) → IsTermFrame rows n contents 2
-term_made {rows} c contents n is part e node same b p named inner = record {
+    → kind_table (stored_kind rows n) ≡ node_table n → HasParts (size rows) (kind_shape (stored_kind rows n)) → IsInner (kind_form (stored_kind rows n))
+    → IsTermFrame rows n contents 2
+term_made {rows} c contents n is part e node same b p table named inner = record {
   in_range = in_range rows (node_table n) (node_number n) (hooked_part rows c n same (whole-part _ c is part));
   has_kind = rw node (no_clauses c is e);
+  table = table;
   bound_vars = b;
   parts = p;
   named = named;

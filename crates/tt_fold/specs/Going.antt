@@ -8,7 +8,7 @@ use Rattle.tt_kinds.specs.Tree.{Depth, Tree, param, bound, region, term, node, b
 use Rattle.tt_kinds.specs.Shape.{HasParts, name_of, rename_label}
 use Rattle.tt_kinds.specs.Parts.{node_table, node_number, list_sort, list_table, list_number, child_sort, IsItem}
 use Rattle.tt_kinds.specs.Kinds as kinds
-use Rattle.tt_kinds.specs.Kinds.{Form, form_parts, form_binder, kind_form, kind_shape, child_shapes, children_shapes}
+use Rattle.tt_kinds.specs.Kinds.{Form, form_parts, form_binder, kind_form, kind_shape, kind_table, child_shapes, children_shapes}
 use Rattle.tt_kinds.specs.declared.table.Table.TheVariants.{ClauseLists}
 use Rattle.tt_kinds.specs.declared.parts.Node.{Node}
 use Rattle.tt_kinds.specs.declared.parts.List.{List}
@@ -68,6 +68,7 @@ absent_among (child.List l ∷ cs) = absent_among cs
 pub record IsTermFrame (rows : Listed Row) (n : Node) (contents : Contents) (count : ℕ) : Type 0 where
   pub in_range : node_number n < size rows (node_table n)
   pub has_kind : node_table n ≡ ClauseLists → ⊥
+  pub table : kind_table (stored_kind rows n) ≡ node_table n
   pub bound_vars : contents.bound_vars ≡ form_binder (kind_form (stored_kind rows n))
   pub parts : contents.parts ≡ form_parts (kind_form (stored_kind rows n))
   pub named : HasParts (size rows) (kind_shape (stored_kind rows n))
