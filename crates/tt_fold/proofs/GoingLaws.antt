@@ -1,5 +1,5 @@
 -- The turns of the walk over stored terms.
-use Rattle.std.proofs.Common.{◌≡◌, ℕ, zero, suc, ◌+◌, ◌-◌, ◌<◌, ◌≤◌, [], ◌∷◌, ◌++◌, length, take, drop, slice_get, Some, None, Ok, Err, refl, ap, sym, subst, ◌∙◌, arith, append_assoc, length-append, inl, inr}
+use Rattle.std.proofs.Common.{◌≡◌, ℕ, zero, suc, ◌+◌, ◌-◌, ◌<◌, ◌≤◌, [], ◌∷◌, ◌++◌, length, take, drop, slice_get, Option, Some, None, Ok, Err, refl, ap, sym, subst, ◌∙◌, arith, append_assoc, length-append, inl, inr}
 use Rattle.std.proofs.Common.{List as Listed}
 use Rattle.std.specs.Prelude.{IsSome}
 use Rattle.std.proofs.lemmas.List.{append-nil}
@@ -37,8 +37,15 @@ stepped f = record { item = f.item; contents = f.contents; count = f.count; next
 pub stepped-frame : {rows : Listed Row} {f : Frame} → IsFrame rows f → IsFrame rows (stepped f)
 stepped-frame h = record { is = h.is; part = h.part; tree = h.tree; made = h.made }
 
+-- the child that is next
+pub next_part : {rows : Listed Row} {f : Frame} (c : Child) → IsFrame rows f → slice_get (children_in rows f) f.next ≡ Some c → ArePartsOf rows (child_shapes c)
+next_part {rows} {f} c h is_c = get_part rows (children_in rows f) f.next c is_c (frame-parts h)
+
 -- no frame is there to be taken
-pub no_frames : {A : Type 0} (n : ℕ) → (0 < n → IsSome {A} None) → n ≡ 0
+abbrev pub no_frame : Option Frame
+no_frame = None
+
+pub no_frames : (n : ℕ) → (0 < n → IsSome no_frame) → n ≡ 0
 no_frames zero f = refl
 no_frames (suc n) f = (let never = f (omega arith) in cc)
 
@@ -97,6 +104,26 @@ work_whole (items sort.Args) ts = omega arith
 work_whole (items sort.Pats) ts = omega arith
 work_whole (items sort.Existentials) ts = omega arith
 work_whole (items sort.Clauses) ts = omega arith
+
+-- what the walk of the whole promises where it fails
+abbrev pub Failed : {M E S : Type 0} (owned : Listed Row → S → Type 0) (means : Listed Row → S → M) (H : Hooks (Standing M) E) (gives : Refusal → E → Type 0)
+    (terms0 : Terms) (s0 : S) (first : Frame) → E → Terms → S → Type 0
+Failed owned means H gives terms0 s0 first e terms s = Goes owned means
+    (λ rows y m m'. IsChildFor first.item rows y × Rests H (outline_of terms0.rows first.item) (left_of terms0.rows first) m (child_tree rows y) m')
+    (RestFails H (errors_of gives terms) (outline_of terms0.rows first.item) (left_of terms0.rows first))
+    terms0 s0 (Err e) terms s
+
+-- what came of the innermost term or list, among the contexts around it
+pub record Risen {M E S : Type 0} (owned : Listed Row → S → Type 0) (means : Listed Row → S → M) (H : Hooks (Standing M) E)
+    (terms terms1 terms2 : Terms) (s s1 s2 : S) (f f' : Frame) (fs fs' : Listed Frame) (vs : Listed Child) (z y : Child) : Type 0 where
+  pub all : f.count ≤ f.next
+  pub popped : fs ≡ fs' ++ f' ∷ []
+  pub extends : Extends terms terms1
+  pub more : Extends terms1 terms2
+  pub is_owned : owned terms2.rows s2
+  pub built : Rebuilds H (outline_of terms.rows f.item) (children_trees terms.rows (last_of f.count vs)) (stands means terms s) (child_tree terms1.rows z) (stands means terms1 s1)
+  pub finished : Finishes H (child_tree terms1.rows f.item) (child_tree terms1.rows z) (stands means terms1 s1) (child_tree terms2.rows y) (stands means terms2 s2)
+  pub is_y : IsChildFor f.item terms2.rows y
 
 module _ {M E S : Type 0} {owned : Listed Row → S → Type 0} {means : Listed Row → S → M} {H : Hooks (Standing M) E} {gives : Refusal → E → Type 0}
     {terms0 : Terms} {s0 : S} {first : Frame} where
@@ -203,23 +230,16 @@ module _ {M E S : Type 0} {owned : Listed Row → S → Type 0} {means : Listed 
         fails = λ final e s' q. h.fails final e s' (rw left (halts_into b (rw (no_trees terms1.rows, v_same, n_same, t_same, r_same, o_same, l_same, c_same) at q)));
       }
 
-  -- what the walk of the whole promises where it fails
-  abbrev pub Failed : E → Terms → S → Type 0
-  Failed e terms s = Goes owned means
-      (λ rows y m m'. IsChildFor first.item rows y × Rests H (outline_of terms0.rows first.item) (left_of terms0.rows first) m (child_tree rows y) m')
-      (RestFails H (errors_of gives terms) (outline_of terms0.rows first.item) (left_of terms0.rows first))
-      terms0 s0 (Err e) terms s
-
   -- a refused growth
   pub going_stops : {terms : Terms} {s : S} {f : Frame} {fs : Listed Frame} {vs : Listed Child} {e : E}
-      → Going owned means H gives terms0 s0 first terms s f fs vs → ((u : Tree Depth) → (errors_of gives terms).unbuilt u e) → Failed e terms s
+      → Going owned means H gives terms0 s0 first terms s f fs vs → ((u : Tree Depth) → (errors_of gives terms).unbuilt u e) → Failed owned means H gives terms0 s0 first e terms s
   going_stops h b = record { extends = h.extends; is_owned = h.is_owned; outcome = h.fails _ _ _ (in_left (stopped b)) }
 
   -- a child fails
   pub going_child_fails : {terms terms1 : Terms} {s s1 : S} {f : Frame} {fs : Listed Frame} {vs : Listed Child} {e : E} (c : Child)
       → Going owned means H gives terms0 s0 first terms s f fs vs → slice_get (children_in terms.rows f) f.next ≡ Some c
       → Extends terms terms1 → owned terms1.rows s1 → ChildFails H (errors_of gives terms1) (stands means terms s) (child_trees terms.rows c) e (stands means terms1 s1)
-      → Failed e terms1 s1
+      → Failed owned means H gives terms0 s0 first e terms1 s1
   going_child_fails {terms} {f} c h is_c extends o fails = record {
     extends = Extends-trans h.extends extends;
     is_owned = o;
@@ -232,7 +252,7 @@ module _ {M E S : Type 0} {owned : Listed Row → S → Type 0} {means : Listed 
       → Extends terms terms1 → owned terms1.rows s1 → IsChildFor c terms1.rows y
       → WalksAll H (stands means terms s) (child_trees terms.rows c) (child_trees terms1.rows y) (stands means terms1 s1)
       → IsNotKept (wanted_by (outline_of terms1.rows f.item)) (child_trees terms1.rows y) r → gives r e
-      → Failed e terms1 s1
+      → Failed owned means H gives terms0 s0 first e terms1 s1
   going_not_kept {terms} {terms1} {s} {f} {r} c y h is_c extends o is_y w (inl k) gave =
       going_stops (going_past c y h is_c extends o is_y w k.0 refl) (λ u. (r, (gave, memory_unbuilt terms1 u r k.1)))
   going_not_kept {terms} {terms1} {s} {f} {e} {r} c y h is_c extends o is_y w (inr k) gave =
@@ -277,7 +297,7 @@ module _ {M E S : Type 0} {owned : Listed Row → S → Type 0} {means : Listed 
       → (h : Going owned means H gives terms0 s0 first terms s f fs vs) → f.count ≤ f.next
       → Extends terms terms1 → owned terms1.rows s1
       → RebuildFails H (errors_of gives terms1) (outline_of terms.rows f.item) (children_trees terms.rows (last_of f.count vs)) (stands means terms s) e (stands means terms1 s1)
-      → Failed e terms1 s1
+      → Failed owned means H gives terms0 s0 first e terms1 s1
   going_rebuild_fails {terms} {f} {vs} h all extends o fails =
       let k = rw (last_results h all, ← joined-none (children_trees terms.rows h.results)) at fails in
       record { extends = Extends-trans h.extends extends; is_owned = o; outcome = h.fails _ _ _ (rw (none_left h all) (in_rebuild done k)) }
@@ -302,13 +322,13 @@ module _ {M E S : Type 0} {owned : Listed Row → S → Type 0} {means : Listed 
       }
 
   -- the hook after the innermost term fails
-  pub going_finish_fails : {terms terms1 terms2 : Terms} {s s1 s2 : S} {f f' : Frame} {fs fs' : Listed Frame} {vs : Listed Child} {e : E} (z : Child)
+  pub going_finish_fails : {terms terms1 terms2 : Terms} {s s1 s2 : S} {f : Frame} {fs : Listed Frame} {vs : Listed Child} {e : E} (fs' : Listed Frame) (f' : Frame) (z : Child)
       → (h : Going owned means H gives terms0 s0 first terms s f fs vs) → f.count ≤ f.next → fs ≡ fs' ++ f' ∷ []
       → Extends terms terms1 → Extends terms1 terms2 → owned terms2.rows s2
       → Rebuilds H (outline_of terms.rows f.item) (children_trees terms.rows (last_of f.count vs)) (stands means terms s) (child_tree terms1.rows z) (stands means terms1 s1)
       → FinishFails H (errors_of gives terms2) (child_tree terms1.rows f.item) (child_tree terms1.rows z) (stands means terms1 s1) e (stands means terms2 s2)
-      → Failed e terms2 s2
-  going_finish_fails {terms} {terms1} {f} {f'} {fs'} {vs} z h all popped extends more o built fails =
+      → Failed owned means H gives terms0 s0 first e terms2 s2
+  going_finish_fails {terms} {terms1} {f} {vs} fs' f' z h all popped extends more o built fails =
       let k = rw (last_results h all, ← joined-none (children_trees terms.rows h.results)) at built in
       let fails1 = rw (item_tree-grows extends.rows h.holds.frame) at fails in
       let top = top_part h.below fs' f' (sym h.frames_are ∙ popped) in
@@ -318,24 +338,13 @@ module _ {M E S : Type 0} {owned : Listed Row → S → Type 0} {means : Listed 
         outcome = h.fails _ _ _ (rw (none_left h all, top.below_is) (in_finish done k fails1));
       }
 
-  -- what came of the innermost term or list, among the contexts around it
-  pub record Risen (terms terms1 terms2 : Terms) (s s1 s2 : S) (f f' : Frame) (fs fs' : Listed Frame) (vs : Listed Child) (z y : Child) : Type 0 where
-    pub all : f.count ≤ f.next
-    pub popped : fs ≡ fs' ++ f' ∷ []
-    pub extends : Extends terms terms1
-    pub more : Extends terms1 terms2
-    pub is_owned : owned terms2.rows s2
-    pub built : Rebuilds H (outline_of terms.rows f.item) (children_trees terms.rows (last_of f.count vs)) (stands means terms s) (child_tree terms1.rows z) (stands means terms1 s1)
-    pub finished : Finishes H (child_tree terms1.rows f.item) (child_tree terms1.rows z) (stands means terms1 s1) (child_tree terms2.rows y) (stands means terms2 s2)
-    pub is_y : IsChildFor f.item terms2.rows y
-
   pub rises : {terms terms1 terms2 : Terms} {s s1 s2 : S} {f f' : Frame} {fs fs' : Listed Frame} {vs : Listed Child} {z y : Child}
-      → f.count ≤ f.next → fs ≡ fs' ++ f' ∷ [] → Extends terms terms1 → Extends terms1 terms2 → owned terms2.rows s2
+      → Going owned means H gives terms0 s0 first terms s f fs vs → f.count ≤ f.next → fs ≡ fs' ++ f' ∷ [] → Extends terms terms1 → Extends terms1 terms2 → owned terms2.rows s2
       → Rebuilds H (outline_of terms.rows f.item) (children_trees terms.rows (last_of f.count vs)) (stands means terms s) (child_tree terms1.rows z) (stands means terms1 s1)
       → Finishes H (child_tree terms1.rows f.item) (child_tree terms1.rows z) (stands means terms1 s1) (child_tree terms2.rows y) (stands means terms2 s2)
       → IsChildFor f.item terms2.rows y
-      → Risen terms terms1 terms2 s s1 s2 f f' fs fs' vs z y
-  rises a b d e o r n i = record { all = a; popped = b; extends = d; more = e; is_owned = o; built = r; finished = n; is_y = i }
+      → Risen owned means H terms terms1 terms2 s s1 s2 f f' fs fs' vs z y
+  rises h a b d e o r n i = record { all = a; popped = b; extends = d; more = e; is_owned = o; built = r; finished = n; is_y = i }
 
   -- the frame around the innermost, among more rows
   pub outer_frame : {terms terms2 : Terms} {s : S} {f : Frame} {fs : Listed Frame} {vs : Listed Child} (fs' : Listed Frame) (f' : Frame)
@@ -346,15 +355,15 @@ module _ {M E S : Type 0} {owned : Listed Row → S → Type 0} {means : Listed 
       subst (λ x. IsFrame terms2.rows x) top.frame_is (frame-grows extends.rows are.0.holds.frame)
 
   -- what came of the innermost may be one of its results
-  pub outer_result : {terms terms2 : Terms} {s : S} {f : Frame} {fs : Listed Frame} {vs : Listed Child} (fs' : Listed Frame) (f' : Frame) (y : Child)
-      → Going owned means H gives terms0 s0 first terms s f fs vs → fs ≡ fs' ++ f' ∷ [] → IsChildFor f.item terms2.rows y → IsResult terms2.rows f' y
-  outer_result {terms} {terms2} fs' f' y h popped is_y =
+  pub outer_result : {terms : Terms} {rows : Listed Row} {s : S} {f : Frame} {fs : Listed Frame} {vs : Listed Child} (fs' : Listed Frame) (f' : Frame) (y : Child)
+      → Going owned means H gives terms0 s0 first terms s f fs vs → fs ≡ fs' ++ f' ∷ [] → IsChildFor f.item rows y → IsResult rows f' y
+  outer_result {rows} fs' f' y h popped is_y =
       let top = top_part h.below fs' f' (sym h.frames_are ∙ popped) in
       let are = rw top.below_is at h.below_are in
-      subst (λ x. IsResult terms2.rows x y) top.frame_is (record { owned = is_y.owned; fit = frame_fits _ _ _ are.0.holds.frame are.0.walked is_y.like })
+      subst (λ x. IsResult rows x y) top.frame_is (record { owned = is_y.owned; fit = frame_fits _ _ _ are.0.holds.frame are.0.walked is_y.like })
 
   pub going_up : {terms terms1 terms2 : Terms} {s s1 s2 : S} {f f' : Frame} {fs fs' : Listed Frame} {vs vs1 vs' : Listed Child} {z y : Child}
-      → (h : Going owned means H gives terms0 s0 first terms s f fs vs) → Risen terms terms1 terms2 s s1 s2 f f' fs fs' vs z y
+      → (h : Going owned means H gives terms0 s0 first terms s f fs vs) → Risen owned means H terms terms1 terms2 s s1 s2 f f' fs fs' vs z y
       → (HasUnwanted (wanted_by (outline_of terms2.rows f'.item)) (child_trees terms2.rows y) → ⊥)
       → vs1 ≡ take (length vs - f.count) vs → vs' ≡ vs1 ++ y ∷ []
       → Going owned means H gives terms0 s0 first terms2 s2 f' fs' vs'
@@ -404,10 +413,10 @@ module _ {M E S : Type 0} {owned : Listed Row → S → Type 0} {means : Listed 
 
   -- its result is not kept
   pub going_up_not_kept : {terms terms1 terms2 : Terms} {s s1 s2 : S} {f f' : Frame} {fs fs' : Listed Frame} {vs vs1 : Listed Child} {z y : Child} {e : E} {r : Refusal}
-      → (h : Going owned means H gives terms0 s0 first terms s f fs vs) → Risen terms terms1 terms2 s s1 s2 f f' fs fs' vs z y
+      → (h : Going owned means H gives terms0 s0 first terms s f fs vs) → Risen owned means H terms terms1 terms2 s s1 s2 f f' fs fs' vs z y
       → vs1 ≡ take (length vs - f.count) vs
       → IsNotKept (wanted_by (outline_of terms2.rows f'.item)) (child_trees terms2.rows y) r → gives r e
-      → Failed e terms2 s2
+      → Failed owned means H gives terms0 s0 first e terms2 s2
   going_up_not_kept {terms2} {r} h u taken (inl k) gave =
       going_stops (going_up h u k.0 taken refl) (λ t. (r, (gave, memory_unbuilt terms2 t r k.1)))
   going_up_not_kept {terms} {terms1} {terms2} {f} {f'} {fs'} {y} {e} h u taken (inr k) gave =

@@ -3,8 +3,8 @@ use Rattle.std.proofs.lemmas.Result.{err_from_is_err_and}
 use Rattle.tt_interner.proofs.Growth.{Extends-trans, AreParts-grows}
 use Rattle.tt_kinds.specs.Kinds.{child_shapes}
 use Rattle.tt_fold.proofs.WantedLaws.{memory_unbuilt}
-use Rattle.tt_fold.proofs.FrameLaws.{get_part, frame-parts, frame-grows, frame_fits}
-use Rattle.tt_fold.proofs.GoingLaws.{stepped-frame, no_frames, going_starts, going_past, going_into, going_stops, going_child_fails, going_not_kept, going_rebuild_fails, going_ends, going_finish_fails, going_up, going_up_not_kept, rises, outer_frame, outer_result, last_held, enough_values, total_past, total_into, total_up}
+use Rattle.tt_fold.proofs.FrameLaws.{frame-grows, frame_fits}
+use Rattle.tt_fold.proofs.GoingLaws.{stepped-frame, next_part, no_frames, going_starts, going_past, going_into, going_stops, going_child_fails, going_not_kept, going_rebuild_fails, going_ends, going_finish_fails, going_up, going_up_not_kept, rises, outer_frame, outer_result, last_held, enough_values, total_past, total_into, total_up}
 use Rattle.tt_fold.proofs.stack.fold_frames.Goals as goal
 
 pub walk-init : goal.walk-init
@@ -13,11 +13,14 @@ walk-init g c = going_starts c.requires.owned c.requires.frame c.requires.start 
 pub next_child-child-requires-clause-frame : goal.next_child-child-requires-clause-frame
 next_child-child-requires-clause-frame g c = c.walk.invariant.holds.frame
 
+pub overflow_add-frame : goal.overflow_add-frame
+overflow_add-frame g c = (let h = c.type_inv in let k = c.walk.frame in ?)
+
 pub begin-requires-clause-owned : goal.begin-requires-clause-owned
 begin-requires-clause-owned g c = c.walk.invariant.is_owned
 
 pub begin-requires-clause-child : goal.begin-requires-clause-child
-begin-requires-clause-child g c = get_part _ _ _ _ c.next_child-child.ensures (frame-parts c.walk.invariant.holds.frame)
+begin-requires-clause-child g c = next_part _ c.walk.invariant.holds.frame c.next_child-child.ensures
 
 pub returns-in_err-begun : goal.returns-in_err-begun
 returns-in_err-begun g c =
@@ -74,21 +77,21 @@ pub rebuild-requires-clause-owned : goal.rebuild-requires-clause-owned
 rebuild-requires-clause-owned g c = c.walk.invariant.is_owned
 
 pub rebuild-requires-clause-holds : goal.rebuild-requires-clause-holds
-rebuild-requires-clause-holds g c = last_held c.walk.invariant c.if-next-count.false
+rebuild-requires-clause-holds g c = last_held c.walk.invariant c.if-frame.false
 
 pub rebuild-requires-clause-full : goal.rebuild-requires-clause-full
-rebuild-requires-clause-full g c = enough_values c.walk.invariant c.if-next-count.false
+rebuild-requires-clause-full g c = enough_values c.walk.invariant c.if-frame.false
 
 pub returns-in_err-rebuilt : goal.returns-in_err-rebuilt
 returns-in_err-rebuilt g c =
     let p = err_from_is_err_and c.from_residual-in_err-rebuilt.result c.from_residual-in_err-rebuilt.ensures.1 in
     let d = c.in_err-rebuilt.ensures.goes in
-    rw (p.1, p.2) (going_rebuild_fails c.walk.invariant c.if-next-count.false d.extends d.is_owned d.outcome)
+    rw (p.1, p.2) (going_rebuild_fails c.walk.invariant c.if-frame.false d.extends d.is_owned d.outcome)
 
 pub returns-in-None : goal.returns-in-None
 returns-in-None g c =
     let d = c.in_ok-rebuilt.ensures.goes in
-    going_ends _ c.walk.invariant c.if-next-count.false (no_frames _ c.in-None.ensures.variant.1) d.extends d.is_owned d.outcome.0 d.outcome.1
+    going_ends _ c.walk.invariant c.if-frame.false (no_frames _ c.in-None.ensures.variant.1) d.extends d.is_owned d.outcome.0 d.outcome.1
 
 pub finish-requires-clause-before : goal.finish-requires-clause-before
 finish-requires-clause-before g c = (frame-grows c.in_ok-rebuilt.ensures.goes.extends.rows c.walk.invariant.holds.frame).part
@@ -101,7 +104,7 @@ returns-in_err-value-in-Some g c =
     let p = err_from_is_err_and c.from_residual-in_err-value-in-Some.result c.from_residual-in_err-value-in-Some.ensures.1 in
     let d = c.in_ok-rebuilt.ensures.goes in
     let f = c.in_err-value-in-Some.ensures in
-    rw (p.1, p.2) (going_finish_fails _ c.walk.invariant c.if-next-count.false c.in-Some.ensures.items d.extends f.extends f.is_owned d.outcome.1 f.outcome)
+    rw (p.1, p.2) (going_finish_fails _ _ _ c.walk.invariant c.if-frame.false c.in-Some.ensures.items d.extends f.extends f.is_owned d.outcome.1 f.outcome)
 
 pub keep-requires-in-Some-clause-frame : goal.keep-requires-in-Some-clause-frame
 keep-requires-in-Some-clause-frame g c =
@@ -119,7 +122,7 @@ walk-preserved g c =
     let d = c.in_ok-rebuilt.ensures in
     let f = c.in_ok-value-in-Some.ensures in
     let k = c.in_ok-keep-in-Some.ensures in
-    let r = rises c.if-next-count.false c.in-Some.ensures.items d.goes.extends f.extends f.is_owned d.goes.outcome.1 f.outcome.1 f.outcome.0 in
+    let r = rises c.walk.invariant c.if-frame.false c.in-Some.ensures.items d.goes.extends f.extends f.is_owned d.goes.outcome.1 f.outcome.1 f.outcome.0 in
     going_up c.walk.invariant r k.wanted d.values k.kept
 
 pub returns-in_err-keep-in-Some : goal.returns-in_err-keep-in-Some
@@ -127,5 +130,5 @@ returns-in_err-keep-in-Some g c =
     let p = err_from_is_err_and c.from_residual-in_err-keep-in-Some.result c.from_residual-in_err-keep-in-Some.ensures.1 in
     let d = c.in_ok-rebuilt.ensures in
     let f = c.in_ok-value-in-Some.ensures in
-    let r = rises c.if-next-count.false c.in-Some.ensures.items d.goes.extends f.extends f.is_owned d.goes.outcome.1 f.outcome.1 f.outcome.0 in
+    let r = rises c.walk.invariant c.if-frame.false c.in-Some.ensures.items d.goes.extends f.extends f.is_owned d.goes.outcome.1 f.outcome.1 f.outcome.0 in
     rw p.1 (going_up_not_kept c.walk.invariant r d.values c.in_err-keep-in-Some.ensures.failed p.2)
