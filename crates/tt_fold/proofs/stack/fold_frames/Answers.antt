@@ -13,9 +13,6 @@ walk-init g c = going_starts c.requires.owned c.requires.frame c.requires.start 
 pub next_child-child-requires-clause-frame : goal.next_child-child-requires-clause-frame
 next_child-child-requires-clause-frame g c = c.walk.invariant.holds.frame
 
-pub overflow_add-frame : goal.overflow_add-frame
-overflow_add-frame g c = (let h = c.type_inv in let k = c.walk.frame in ?)
-
 pub begin-requires-clause-owned : goal.begin-requires-clause-owned
 begin-requires-clause-owned g c = c.walk.invariant.is_owned
 
