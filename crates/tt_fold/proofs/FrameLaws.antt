@@ -1,5 +1,5 @@
 -- Frames among more rows, and the children that are left in them.
-use Rattle.std.proofs.Common.{◌≡◌, ℕ, zero, suc, ◌+◌, ◌-◌, ◌<◌, ◌≤◌, [], ◌∷◌, ◌++◌, length, take, drop, slice_get, get_or, All, Option, Some, None, refl, ap, sym, ◌∙◌, arith, length-append}
+use Rattle.std.proofs.Common.{◌≡◌, ℕ, zero, suc, ◌+◌, ◌-◌, ◌^◌, ◌<◌, ◌≤◌, [], ◌∷◌, ◌++◌, length, take, drop, slice_get, get_or, All, Option, Some, None, refl, ap, sym, ◌∙◌, arith, length-append}
 use Rattle.std.proofs.Common.{List as Listed}
 use Rattle.std.proofs.lemmas.List.{drop_more}
 use Rattle.std.proofs.Math.ListN.{drop_of_length-le}
@@ -119,6 +119,10 @@ pub counted : (rows : Listed Row) (n : Node) (contents : Contents) (count : ℕ)
 counted rows n contents count (Some l) h = h.counted
 counted rows n contents count None h = h.counted
 
+counted-fits : (rows : Listed Row) (n : Node) (contents : Contents) (count : ℕ) (l : Option List) → IsMadeOf rows n contents count l → count < 2 ^ 64
+counted-fits rows n contents count (Some l) h = h.fits
+counted-fits rows n contents count None h = omega (arith, h.counted)
+
 -- absent children are few
 no_absent : (P : Child → Type 0) (cs : Listed Child) → (P child.Absent → ⊥) → All P cs → absent_among cs ≡ 0
 no_absent P [] never a = refl
@@ -172,6 +176,7 @@ module _ {old new : Listed Row} (g : Grows old new) where
         parts = rw same (AreParts-grows old new g (children_shapes (children_at old l)) h.parts);
         fit = rw same h.fit;
         counted = rw same h.counted;
+        fits = h.fits;
       }
   made-grows n contents count None h =
       let same = stored_kind-grows old new g n h.in_range in
@@ -206,6 +211,9 @@ frame_fits {f} i c y h e s = fits_by _ (child_node f.item) f.contents f.count (c
 
 pub frame-count : {rows : Listed Row} {f : Frame} → IsFrame rows f → f.count ≡ length (children_in rows f)
 frame-count {f} h = counted _ (child_node f.item) f.contents f.count (child_list f.item) h.made
+
+pub frame-fits : {rows : Listed Row} {f : Frame} → IsFrame rows f → f.count < 2 ^ 64
+frame-fits {f} h = counted-fits _ (child_node f.item) f.contents f.count (child_list f.item) h.made
 
 pub frame-absent : {rows : Listed Row} {f : Frame} → IsFrame rows f → absent_among (children_in rows f) ≤ 2
 frame-absent {f} h = few_absent _ (child_node f.item) f.contents f.count (child_list f.item) h.made

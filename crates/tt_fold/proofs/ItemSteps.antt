@@ -1,5 +1,5 @@
 -- What the walk asks of a term or a list, and what it builds of one: what the calls promise makes what the whole promises.
-use Rattle.std.proofs.Common.{◌≡◌, ℕ, ◌<◌, ◌+◌, [], ◌∷◌, length, drop, All, Result, Ok, Err, Option, Some, None, refl, ap, sym, subst, ◌∙◌, inl, inr, arith}
+use Rattle.std.proofs.Common.{◌≡◌, ℕ, ◌<◌, ◌+◌, ◌^◌, [], ◌∷◌, length, drop, All, Result, Ok, Err, Option, Some, None, refl, ap, sym, subst, ◌∙◌, inl, inr, arith}
 use Rattle.std.proofs.Common.{List as Listed}
 use Rattle.std.proofs.lemmas.Result.{MatchResult-weaker}
 use Rattle.std.proofs.lemmas.Option.{same_Some, none-some}
@@ -152,9 +152,9 @@ as_child {rows} {y} same sorts is = record { owned = part-whole _ y same.is (rw 
 pub list_opened : {rows : Listed Row} {count : ℕ} (c : Child) (contents : Contents) (l : List) → IsWhole c → ArePartsOf rows (child_shapes c) → Some l ≡ child_list c
     → count ≡ length (children_at rows l)
     → meaning rows (list_table l) (list_number l) ≡ items_tree (list_sort l) (children_trees rows (children_at rows l))
-    → ArePartsOf rows (children_shapes (children_at rows l)) → All (λ x. IsItem (list_sort l) (child_sort x)) (children_at rows l)
+    → ArePartsOf rows (children_shapes (children_at rows l)) → All (λ x. IsItem (list_sort l) (child_sort x)) (children_at rows l) → count < 2 ^ 64
     → IsOpened rows c (record { item = c; contents = contents; count = count; next = 0 })
-list_opened {rows} c contents l is part e counted means parts fit =
+list_opened {rows} c contents l is part e counted means parts fit fits =
     let shape = list_shape_of c l (sym e) in
     let at = subst (λ x. IsPartOf rows x) shape (whole-part rows c is part) in
     record {
@@ -162,7 +162,7 @@ list_opened {rows} c contents l is part e counted means parts fit =
         is = is;
         part = part;
         tree = rw (← e) (ap (tree_in rows) shape ∙ stored_tree rows (list_table l) (list_number l) ∙ means);
-        made = rw (← e) (record { in_range = in_range rows (list_table l) (list_number l) at; parts = parts; fit = fit; counted = counted });
+        made = rw (← e) (record { in_range = in_range rows (list_table l) (list_number l) at; parts = parts; fit = fit; counted = counted; fits = fits });
       };
       same = refl;
       start = refl;

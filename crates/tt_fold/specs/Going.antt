@@ -1,5 +1,5 @@
 -- What holds at each turn of the walk over stored terms.
-use Rattle.std.specs.Prelude.{◌≡◌, ◌<◌, ◌⊎◌, ◌+◌, ◌-◌, ℕ, suc, Option, Some, None, [], ◌∷◌, ◌++◌, length, take, drop, slice_get, All, ⊤}
+use Rattle.std.specs.Prelude.{◌≡◌, ◌<◌, ◌⊎◌, ◌+◌, ◌-◌, ◌^◌, ℕ, suc, Option, Some, None, [], ◌∷◌, ◌++◌, length, take, drop, slice_get, All, ⊤}
 use Rattle.std.specs.Prelude.{List as Listed}
 use Rattle.tt_index.specs.declared.refusal.Refusal.{Refusal}
 use Rattle.tt_index.specs.declared.refusal.Refusal.TheVariants.{Memory, NotAClause}
@@ -81,6 +81,7 @@ pub record IsListFrame (rows : Listed Row) (l : List) (count : ℕ) : Type 0 whe
   pub parts : ArePartsOf rows (children_shapes (children_at rows l))
   pub fit : All (λ c. IsItem (list_sort l) (child_sort c)) (children_at rows l)
   pub counted : count ≡ length (children_at rows l)
+  pub fits : count < 2 ^ 64
 
 -- what a frame says of its term or its list
 abbrev pub IsMadeOf : Listed Row → Node → Contents → ℕ → Option List → Type 0

@@ -3,7 +3,7 @@ use Rattle.std.proofs.lemmas.Result.{err_from_is_err_and}
 use Rattle.tt_interner.proofs.Growth.{Extends-trans, AreParts-grows}
 use Rattle.tt_kinds.specs.Kinds.{child_shapes}
 use Rattle.tt_fold.proofs.WantedLaws.{memory_unbuilt}
-use Rattle.tt_fold.proofs.FrameLaws.{frame-grows, frame_fits}
+use Rattle.tt_fold.proofs.FrameLaws.{frame-fits, frame-grows, frame_fits}
 use Rattle.tt_fold.proofs.GoingLaws.{stepped-frame, next_part, no_frames, going_starts, going_past, going_into, going_stops, going_child_fails, going_not_kept, going_rebuild_fails, going_ends, going_finish_fails, going_up, going_up_not_kept, rises, outer_frame, outer_result, last_held, enough_values, total_past, total_into, total_up}
 use Rattle.tt_fold.proofs.stack.fold_frames.Goals as goal
 
@@ -12,6 +12,11 @@ walk-init g c = going_starts c.requires.owned c.requires.frame c.requires.start 
 
 pub next_child-child-requires-clause-frame : goal.next_child-child-requires-clause-frame
 next_child-child-requires-clause-frame g c = c.walk.invariant.holds.frame
+
+pub overflow_add-frame : goal.overflow_add-frame
+overflow_add-frame g c =
+    let fits = frame-fits c.walk.invariant.holds.frame in
+    omega (arith, fits, c.if-frame.true)
 
 pub begin-requires-clause-owned : goal.begin-requires-clause-owned
 begin-requires-clause-owned g c = c.walk.invariant.is_owned
