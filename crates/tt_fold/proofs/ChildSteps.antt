@@ -17,7 +17,7 @@ use Rattle.tt_visit.specs.Root.{root, table_root, a_part}
 use Rattle.tt_fold.specs.Walk.{Hooks, Errors, Walks, WalksInside, WalksAll, done, next, Fails, InsideFails, ChildFails, child_failed}
 use Rattle.tt_fold.specs.Counts.{Standing, stands}
 use Rattle.tt_fold.specs.Steps.{Goes, Folds, IsPartOf, tree_in}
-use Rattle.tt_fold.specs.Still.{EndsAt, StaysStill}
+use Rattle.tt_fold.specs.Still.{IsAlone, EndsAt}
 use Rattle.tt_fold.specs.Parts.{ArePartsOf, child_trees, children_trees, node_tree, list_tree, IsNodeFor, IsListFor, IsChildFor}
 use Rattle.tt_fold.specs.Stack.{whole, binder_of, TakesAny, Opens, Rests, RestFails, Finishes, FinishFails}
 use Rattle.tt_fold.specs.Items.{child_shape, child_tree, child_node, IsWhole, HasTerm, IsList}
@@ -82,15 +82,31 @@ table_no_part (node_is.Predicate x) e = cc
 table_no_part (node_is.Existential x) e = cc
 table_no_part (node_is.Clauses x) e = cc
 
-node_no_part : {rows : Listed Row} (n : Node) → IsPartOf rows (node_shape n) → root (node_tree rows n) ≡ a_part → ⊥
-node_no_part {rows} n part e = table_no_part n (sym (node_root rows n part) ∙ e)
+node_no_part : (rows : Listed Row) (n : Node) → IsPartOf rows (node_shape n) → root (node_tree rows n) ≡ a_part → ⊥
+node_no_part rows n part e = table_no_part n (sym (node_root rows n part) ∙ e)
 
 -- the children of a frame that is opened
-opened_tree : {old rows : Listed Row} {n : Node} {f : Frame} → node_tree rows n ≡ node_tree old n → IsOpened rows (child.Node n) f
+opened_tree : (old : Listed Row) {rows : Listed Row} {n : Node} {f : Frame} → node_tree rows n ≡ node_tree old n → IsOpened rows (child.Node n) f
     → node_tree old n ≡ whole (outline_of rows f.item) (left_of rows f)
-opened_tree {rows} {n} {f} same h =
+opened_tree old {rows} {n} {f} same h =
     let left : left_of rows f ≡ children_trees rows (children_in rows f) = ap (λ k. children_trees rows (drop k (children_in rows f))) h.start in
     sym same ∙ ap (child_tree rows) (sym h.same) ∙ h.is.tree ∙ ap (whole (outline_of rows f.item)) (sym left)
+
+module _ {M E S : Type 0} {owned : Listed Row → S → Type 0} {means : Listed Row → S → M} {H : Hooks (Standing M) E} where
+  -- the result of what is inside a child is of its sort
+  pub rest_is : {terms1 terms2 : Terms} {s1 s2 : S} {c y : Child} {f : Frame} {another : Errors E} → IsOpened terms1.rows c f
+      → Goes owned means
+      (λ rows z m m'. IsChildFor f.item rows z × Rests H (outline_of terms1.rows f.item) (left_of terms1.rows f) m (child_tree rows z) m')
+      (RestFails H another (outline_of terms1.rows f.item) (left_of terms1.rows f)) terms1 s1 (Ok y) terms2 s2
+      → IsChildFor c terms2.rows y
+  rest_is {terms2} {y} opened w = subst (λ x. IsChildFor x terms2.rows y) opened.same w.outcome.0
+
+  -- where the walk ends at once, it is not inside
+  pub never_inside : {terms terms1 : Terms} {s s1 : S} {c : Child} {f : Frame} {touches_nothing : Tree Depth → Type 0} {other : Errors E}
+      → ArePartsOf terms.rows (child_shapes c)
+      → Goes owned means (IsBegun H (child_trees terms.rows c) (child_tree terms.rows c) c) (λ m x m'. ChildFails H other m (child_trees terms.rows c) x m') terms s (Ok (begun.Inside f)) terms1 s1
+      → IsAlone (child_shape c) → EndsAt H touches_nothing (stands means terms s) (child_tree terms.rows c) → ⊥
+  never_inside {terms} {c} part d alone ends = never_descends terms.rows c (opened_whole d.outcome.0) part alone ends d.outcome.1.asked
 
 module _ {M E S : Type 0} {owned : Listed Row → S → Type 0} {means : Listed Row → S → M} {H : Hooks (Standing M) E} {errors : Errors E} where
   -- a child that is done at once, or fails at once
@@ -142,21 +158,6 @@ module _ {M E S : Type 0} {owned : Listed Row → S → Type 0} {means : Listed 
             (λ z h. (h.0, rw (whole-tree terms.rows c is, whole-tree terms3.rows z (like-whole z c h.0.like is)) (WalksAll-one (walks_whole d.outcome.1 rests.walked rests.built h.1))))
             (λ e h. rw (whole-tree terms.rows c is) (child_failed (finish_fails d.outcome.1 rests.walked rests.built h)));
       }
-
-  -- the result of what is inside a child is of its sort
-  pub rest_is : {terms1 terms2 : Terms} {s1 s2 : S} {c y : Child} {f : Frame} {another : Errors E} → IsOpened terms1.rows c f
-      → Goes owned means
-      (λ rows z m m'. IsChildFor f.item rows z × Rests H (outline_of terms1.rows f.item) (left_of terms1.rows f) m (child_tree rows z) m')
-      (RestFails H another (outline_of terms1.rows f.item) (left_of terms1.rows f)) terms1 s1 (Ok y) terms2 s2
-      → IsChildFor c terms2.rows y
-  rest_is {terms2} {y} opened w = subst (λ x. IsChildFor x terms2.rows y) opened.same w.outcome.0
-
-  -- the terms stay where the walk ends at once
-  pub child_still : {terms terms1 terms2 : Terms} {s s1 : S} {c : Child} {f : Frame} {touches_nothing : Listed Row → S → Tree Depth → Type 0} {other : Errors E}
-      → ArePartsOf terms.rows (child_shapes c)
-      → Goes owned means (IsBegun H (child_trees terms.rows c) (child_tree terms.rows c) c) (λ m x m'. ChildFails H other m (child_trees terms.rows c) x m') terms s (Ok (begun.Inside f)) terms1 s1
-      → StaysStill H touches_nothing means (child_shape c) terms s terms2
-  child_still {terms} {c} part d = λ alone ends. absurd (never_descends terms.rows c (opened_whole d.outcome.0) part alone ends d.outcome.1.asked)
 
   -- a term by itself
   pub node_fails : {terms terms1 : Terms} {s s1 : S} {n : Node} {e : E}
@@ -211,8 +212,8 @@ module _ {M E S : Type 0} {owned : Listed Row → S → Type 0} {means : Listed 
       let opened = d.outcome.0 in
       let any = subst (λ x. TakesAny (outline_of terms1.rows x)) (sym opened.same) d.outcome.1 in
       let opens = subst (λ x. Opens H (binder_of (outline_of terms1.rows x)) (stands means terms s) (stands means terms1 s1)) (sym opened.same) d.outcome.2 in
-      let tree = opened_tree (fill-grows _ _ d.extends.rows (node_shape n) part) opened in
-      let no_part = subst (λ t. root t ≡ a_part → ⊥) tree (node_no_part n part) in
+      let tree = opened_tree terms.rows (fill-grows _ _ d.extends.rows (node_shape n) part) opened in
+      let no_part = subst (λ t. root t ≡ a_part → ⊥) tree (node_no_part terms.rows n part) in
       record { extends = Extends-trans d.extends r.extends; is_owned = r.is_owned; outcome = rw tree (inside_rest_fails _ any no_part opens r.outcome) }
 
   pub inside_ends : {terms terms1 terms2 : Terms} {s s1 s2 : S} {n m : Node} {y : Child} {f : Frame} {other another : Errors E} → IsPartOf terms.rows (node_shape n)
@@ -226,8 +227,8 @@ module _ {M E S : Type 0} {owned : Listed Row → S → Type 0} {means : Listed 
       let opened = d.outcome.0 in
       let any = subst (λ x. TakesAny (outline_of terms1.rows x)) (sym opened.same) d.outcome.1 in
       let opens = subst (λ x. Opens H (binder_of (outline_of terms1.rows x)) (stands means terms s) (stands means terms1 s1)) (sym opened.same) d.outcome.2 in
-      let tree = opened_tree (fill-grows _ _ d.extends.rows (node_shape n) part) opened in
-      let no_part = subst (λ t. root t ≡ a_part → ⊥) tree (node_no_part n part) in
+      let tree = opened_tree terms.rows (fill-grows _ _ d.extends.rows (node_shape n) part) opened in
+      let no_part = subst (λ t. root t ≡ a_part → ⊥) tree (node_no_part terms.rows n part) in
       let b = node_back n y m (rest_is opened r) e in
       let rests = subst (λ u. Rests H (outline_of terms1.rows f.item) (left_of terms1.rows f) (stands means terms1 s1) u (stands means terms2 s2)) b.tree r.outcome.1 in
       record {

@@ -1,7 +1,7 @@
 use Rattle.std.proofs.lemmas.Result.{err_from_is_err_and}
 use Rattle.tt_interner.proofs.Growth.{Extends-trans, AreParts-grows}
 use Rattle.tt_kinds.specs.Kinds.{child_shapes}
-use Rattle.tt_fold.proofs.ChildSteps.{opened_whole, child_not_begun, child_done, child_rest_fails, child_ends, child_still, rest_is}
+use Rattle.tt_fold.proofs.ChildSteps.{opened_whole, child_not_begun, child_done, child_rest_fails, child_ends, never_inside, rest_is}
 use Rattle.tt_fold.proofs.walk.fold_child.Goals as goal
 
 pub returns-in_err-begun-clause-folds : goal.returns-in_err-begun-clause-folds
@@ -12,16 +12,16 @@ returns-in_err-begun-clause-folds g c =
 pub returns-in-Done-clause-folds : goal.returns-in-Done-clause-folds
 returns-in-Done-clause-folds g c = child_done (rw c.in-Done.is at c.in_ok-begun.ensures.goes)
 
-pub fold_frames-rebuilt-requires-clause-owned : goal.fold_frames-rebuilt-requires-clause-owned
-fold_frames-rebuilt-requires-clause-owned g c = c.in_ok-begun.ensures.goes.is_owned
+pub fold_frames-requires-clause-owned : goal.fold_frames-requires-clause-owned
+fold_frames-requires-clause-owned g c = c.in_ok-begun.ensures.goes.is_owned
 
-pub fold_frames-rebuilt-requires-clause-frame : goal.fold_frames-rebuilt-requires-clause-frame
-fold_frames-rebuilt-requires-clause-frame g c =
+pub fold_frames-requires-clause-frame : goal.fold_frames-requires-clause-frame
+fold_frames-requires-clause-frame g c =
     let d = rw c.in-Inside.is at c.in_ok-begun.ensures.goes in
     d.outcome.0.is
 
-pub fold_frames-rebuilt-requires-clause-start : goal.fold_frames-rebuilt-requires-clause-start
-fold_frames-rebuilt-requires-clause-start g c =
+pub fold_frames-requires-clause-start : goal.fold_frames-requires-clause-start
+fold_frames-requires-clause-start g c =
     let d = rw c.in-Inside.is at c.in_ok-begun.ensures.goes in
     d.outcome.0.start
 
@@ -34,7 +34,7 @@ returns-in_err-rebuilt-in-Inside-clause-folds g c =
 pub returns-in_err-rebuilt-in-Inside-clause-still : goal.returns-in_err-rebuilt-in-Inside-clause-still
 returns-in_err-rebuilt-in-Inside-clause-still g c =
     let d = rw c.in-Inside.is at c.in_ok-begun.ensures.goes in
-    child_still c.requires.child d
+    λ alone ends. absurd (never_inside c.requires.child d alone ends)
 
 pub finish-requires-clause-before : goal.finish-requires-clause-before
 finish-requires-clause-before g c =
@@ -59,4 +59,4 @@ returns-in_ok-rebuilt-in-Inside-clause-folds g c =
 pub returns-in_ok-rebuilt-in-Inside-clause-still : goal.returns-in_ok-rebuilt-in-Inside-clause-still
 returns-in_ok-rebuilt-in-Inside-clause-still g c =
     let d = rw c.in-Inside.is at c.in_ok-begun.ensures.goes in
-    child_still c.requires.child d
+    λ alone ends. absurd (never_inside c.requires.child d alone ends)

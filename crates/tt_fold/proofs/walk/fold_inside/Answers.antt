@@ -4,8 +4,8 @@ use Rattle.tt_fold.proofs.PartLaws.{one_part}
 use Rattle.tt_fold.proofs.ChildSteps.{term_back, rest_is, inside_not_open, inside_none, inside_rest, inside_ends}
 use Rattle.tt_fold.proofs.walk.fold_inside.Goals as goal
 
-pub open-opened-requires-clause-item : goal.open-opened-requires-clause-item
-open-opened-requires-clause-item g c = one_part _ (node_shape c.args.node) c.requires.node
+pub open-requires-clause-item : goal.open-requires-clause-item
+open-requires-clause-item g c = one_part _ (node_shape c.args.node) c.requires.node
 
 pub returns-in_err-opened : goal.returns-in_err-opened
 returns-in_err-opened g c =
@@ -15,16 +15,16 @@ returns-in_err-opened g c =
 pub returns-in-None : goal.returns-in-None
 returns-in-None g c = inside_none c.requires.node (rw c.in-None.is at c.in_ok-opened.ensures)
 
-pub fold_frames-rebuilt-requires-clause-owned : goal.fold_frames-rebuilt-requires-clause-owned
-fold_frames-rebuilt-requires-clause-owned g c = c.in_ok-opened.ensures.is_owned
+pub fold_frames-requires-clause-owned : goal.fold_frames-requires-clause-owned
+fold_frames-requires-clause-owned g c = c.in_ok-opened.ensures.is_owned
 
-pub fold_frames-rebuilt-requires-clause-frame : goal.fold_frames-rebuilt-requires-clause-frame
-fold_frames-rebuilt-requires-clause-frame g c =
+pub fold_frames-requires-clause-frame : goal.fold_frames-requires-clause-frame
+fold_frames-requires-clause-frame g c =
     let d = rw c.in-Some.is at c.in_ok-opened.ensures in
     d.outcome.0.is
 
-pub fold_frames-rebuilt-requires-clause-start : goal.fold_frames-rebuilt-requires-clause-start
-fold_frames-rebuilt-requires-clause-start g c =
+pub fold_frames-requires-clause-start : goal.fold_frames-requires-clause-start
+fold_frames-requires-clause-start g c =
     let d = rw c.in-Some.is at c.in_ok-opened.ensures in
     d.outcome.0.start
 

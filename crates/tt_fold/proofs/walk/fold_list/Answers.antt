@@ -4,8 +4,8 @@ use Rattle.tt_fold.proofs.PartLaws.{one_part}
 use Rattle.tt_fold.proofs.ChildSteps.{list_back, list_fails, list_folds}
 use Rattle.tt_fold.proofs.walk.fold_list.Goals as goal
 
-pub fold_child-folded-requires-clause-child : goal.fold_child-folded-requires-clause-child
-fold_child-folded-requires-clause-child g c = one_part _ (list_shape c.args.list) c.requires.list
+pub fold_child-requires-clause-child : goal.fold_child-requires-clause-child
+fold_child-requires-clause-child g c = one_part _ (list_shape c.args.list) c.requires.list
 
 pub returns-in_err-folded : goal.returns-in_err-folded
 returns-in_err-folded g c =

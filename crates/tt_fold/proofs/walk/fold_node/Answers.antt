@@ -4,8 +4,8 @@ use Rattle.tt_fold.proofs.PartLaws.{one_part}
 use Rattle.tt_fold.proofs.ChildSteps.{term_back, node_fails, node_folds}
 use Rattle.tt_fold.proofs.walk.fold_node.Goals as goal
 
-pub fold_child-folded-requires-clause-child : goal.fold_child-folded-requires-clause-child
-fold_child-folded-requires-clause-child g c = one_part _ (node_shape c.args.node) c.requires.node
+pub fold_child-requires-clause-child : goal.fold_child-requires-clause-child
+fold_child-requires-clause-child g c = one_part _ (node_shape c.args.node) c.requires.node
 
 pub returns-in_err-folded-clause-folds : goal.returns-in_err-folded-clause-folds
 returns-in_err-folded-clause-folds g c =
@@ -15,5 +15,5 @@ returns-in_err-folded-clause-folds g c =
 pub term_in-requires : goal.term_in-requires
 term_in-requires g c = term_back _ _ c.in_ok-folded.ensures.folds.outcome.0
 
-pub returns-in_ok-folded-clause-folds : goal.returns-in_ok-folded-clause-folds
-returns-in_ok-folded-clause-folds g c = node_folds c.in_ok-folded.ensures.folds c.term_in.ensures.node
+pub returns-clause-folds : goal.returns-clause-folds
+returns-clause-folds g c = node_folds c.in_ok-folded.ensures.folds c.term_in.ensures.node

@@ -10,8 +10,8 @@ returns-in_err-core_enter g c =
     let p = err_from_is_err_and c.from_residual.result c.from_residual.ensures.1 in
     rw (p.1, p.2) (record { extends = c.in_err-core_enter.ensures.extends; is_owned = c.in_err-core_enter.ensures.owned; outcome = in_enter_failed c.in_err-core_enter.ensures.result })
 
-pub fold_parts-new_parts-requires-clause-parts : goal.fold_parts-new_parts-requires-clause-parts
-fold_parts-new_parts-requires-clause-parts g c =
+pub fold_parts-requires-clause-parts : goal.fold_parts-requires-clause-parts
+fold_parts-requires-clause-parts g c =
     AreParts-grows _ _ c.in_ok-core_enter.ensures.extends.rows _ c.requires.parts
 
 pub returns-in_err-new_parts : goal.returns-in_err-new_parts
