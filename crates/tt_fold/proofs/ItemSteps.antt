@@ -462,11 +462,6 @@ module _ {rows : Listed Row} {f : Frame} {results : Listed Child} (h : Holds row
   pub term_binder : binder_of (outline_of rows f.item) ≡ binder_in rows f.contents.bound_vars
   term_binder = ap binder_of term_outline ∙ form_binder_of rows (kind_form (stored_kind rows n)) ∙ ap (binder_in rows) (sym term_facts.bound_vars)
 
-  pub term_has_binder : HasBinder rows f.contents.bound_vars
-  term_has_binder =
-      let k = stored_kind rows n in
-      rw term_facts.bound_vars (form-binder rows (kind_sort k) (kind_form k) term_facts.named)
-
   -- the results by their places
   pub term_like : (q : Parts) → results ≡ q.first ∷ q.second ∷ [] → AreLike (form_parts (kind_form (stored_kind rows n))) q
   term_like q are =

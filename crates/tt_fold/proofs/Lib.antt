@@ -2,7 +2,6 @@ pub mod PartLaws
 pub mod WantedLaws
 mod FormLaws
 mod WalkLaws
-mod StillLaws
 mod CoreSteps
 mod StackLaws
 mod FrameLaws

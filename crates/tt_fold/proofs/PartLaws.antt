@@ -93,19 +93,3 @@ module _ {old new : List Row} (g : Grows old new) where
   pub binder-kept : (b : Option BoundVarKinds) → HasBinder old b → HasBinder new b
   binder-kept None h = tt
   binder-kept (Some vars) h = vars-kept vars h
-
-  pub binder-grows : (b : Option BoundVarKinds) → HasBinder old b → binder_in new b ≡ binder_in old b
-  binder-grows None h = refl
-  binder-grows (Some vars) h = ap Some (vars-grow vars h)
-
-  pub weight-grows : (c : Child) → ArePartsOf old (child_shapes c) → child_weight new c ≡ child_weight old c
-  weight-grows child.Absent h = refl
-  weight-grows (child.Region r) h = refl
-  weight-grows (child.Node n) h = ap suc (age-grows _ _ g (node_table n) (node_number n) (in_range old (node_table n) (node_number n) (only_part old (node_shape n) h)))
-  weight-grows (child.List l) h = ap suc (age-grows _ _ g (list_table l) (list_number l) (in_range old (list_table l) (list_number l) (only_part old (list_shape l) h)))
-
-  pub weights-grow : (p : Parts) → ArePartsOf old (parts_shapes p) → parts_weight new p ≡ parts_weight old p
-  weights-grow p h =
-      let first = weight-grows p.first (left_parts old (child_shapes p.first) (child_shapes p.second) h) in
-      let second = weight-grows p.second (right_parts old (child_shapes p.first) (child_shapes p.second) h) in
-      rw (first, second) refl

@@ -163,7 +163,6 @@ module _ {M E : Type 0} {H : Hooks M E} {errors : Errors E} where
   list_rest_fails (items sort.Args) is opens_bare (in_whole w (not_rebuilt fit leaves_bare b)) = node_not_built w b
   list_rest_fails (items sort.Pats) is opens_bare (in_whole w (not_rebuilt fit leaves_bare b)) = node_not_built w b
   list_rest_fails (items sort.Existentials) is opens_bare (in_whole w (not_rebuilt fit leaves_bare b)) = node_not_built w b
-
   list_rest_fails (items sort.Tys) is opens_bare (in_whole w (not_left x)) = elim x [ ]
   list_rest_fails (items sort.Consts) is opens_bare (in_whole w (not_left x)) = elim x [ ]
   list_rest_fails (items sort.Args) is opens_bare (in_whole w (not_left x)) = elim x [ ]

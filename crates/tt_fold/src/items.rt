@@ -1,7 +1,9 @@
 //! Children as the walk takes them: terms and lists as one, where a list of clauses is also a term.
 
-ghost use Rattle.std.specs.Prelude.{◌≡◌};
-ghost use Rattle.tt_kinds.specs.Parts.{child_sort};
+ghost use Rattle.std.specs.Prelude.{◌≡◌, ◌↔◌, IfErr, IsTrue, OnErr, OnOk};
+ghost use Rattle.tt_index.specs.declared.refusal.Refusal.TheVariants.{NotAClause};
+ghost use Rattle.tt_kinds.specs.Kinds.{child_shapes};
+ghost use Rattle.tt_kinds.specs.Parts.{child_sort, IsItem};
 ghost use Rattle.tt_kinds.specs.declared.parts.Child.TheVariants as child;
 ghost use Rattle.tt_fold.specs.Items.{
   child_list,
@@ -15,9 +17,13 @@ ghost use Rattle.tt_fold.specs.Items.{
   SameList,
   SameTerm,
 };
+ghost use Rattle.tt_fold.specs.Parts.{ArePartsOf, child_trees};
+ghost use Rattle.tt_fold.specs.Walk.{clause_trees, HasUnwanted, wanted_of};
 
 use crate::list_of_sort::list_clauses;
-use tt_kinds::{Child, List, Node};
+use tt_index::Refusal;
+use tt_interner::{AsClause, Interner};
+use tt_kinds::{Child, List, ListSort, Node};
 
 // The list that a child is, if it is one. A list of clauses may also be there as a term.
 #[inline(always)]
@@ -38,11 +44,8 @@ fn clause_list(node: Node) -> Option<List>
 {
     match node {
         Node::Clauses(clauses) => Some(List::Clauses(clauses)),
-        Node::Ty(_)
-        | Node::Const(_)
-        | Node::Pat(_)
-        | Node::Predicate(_)
-        | Node::Existential(_) => None,
+        Node::Ty(_) | Node::Const(_) | Node::Pat(_) | Node::Predicate(_) | Node::Existential(_) =>
+            None,
     }
 }
 
@@ -92,11 +95,8 @@ fn hooked_list(list: List) -> Option<Node>
 {
     match list {
         List::Clauses(clauses) => Some(Node::Clauses(clauses)),
-        List::Tys(_)
-        | List::Consts(_)
-        | List::Args(_)
-        | List::Pats(_)
-        | List::Existentials(_) => None,
+        List::Tys(_) | List::Consts(_) | List::Args(_) | List::Pats(_) | List::Existentials(_) =>
+            None,
     }
 }
 
@@ -134,6 +134,49 @@ pub(crate) fn list_of(item: Child) -> List
 {
     match item {
         Child::List(list) => list,
+        _ => unreachable!(),
+    }
+}
+
+// Whether there is no child.
+#[inline(always)]
+pub(crate) fn is_absent(child: &Child) -> bool
+    ensures { IsTrue result ↔ (child.now ≡ Child.Absent) }
+{
+    match child {
+        Child::Absent => true,
+        Child::Region(_) | Child::Node(_) | Child::List(_) => false,
+    }
+}
+
+// Whether what came of an item may be in a list of the sort: in one of clauses, only a clause.
+#[inline(always)]
+pub(crate) fn check_item(cx: &Interner, sort: ListSort, item: &Child) -> Result<(), Refusal>
+    requires item { ArePartsOf cx.now.rows (child_shapes item.now) }
+    requires fit { IsItem sort (child_sort item.now) }
+    ensures ok { OnOk result (HasUnwanted (wanted_of sort) (child_trees cx.now.rows item.now) → ⊥) }
+    ensures err { OnErr result (HasUnwanted (wanted_of sort) (child_trees cx.now.rows item.now)) }
+    ensures refusal { IfErr result (λ e. e ≡ NotAClause) }
+{
+    match sort {
+        ListSort::Clauses => check_clause(cx, item),
+        _ => Ok(()),
+    }
+}
+
+// Whether the item is a clause, as each of a list of clauses has to be.
+fn check_clause(cx: &Interner, item: &Child) -> Result<(), Refusal>
+    requires item { ArePartsOf cx.now.rows (child_shapes item.now) }
+    requires fit { IsItem ListSort.Clauses (child_sort item.now) }
+    ensures ok { OnOk result (HasUnwanted clause_trees (child_trees cx.now.rows item.now) → ⊥) }
+    ensures err { OnErr result (HasUnwanted clause_trees (child_trees cx.now.rows item.now)) }
+    ensures refusal { IfErr result (λ e. e ≡ NotAClause) }
+{
+    match item {
+        Child::Node(node) => match node.predicate().as_clause(cx) {
+            Some(_) => Ok(()),
+            None => Err(Refusal::NotAClause),
+        },
         _ => unreachable!(),
     }
 }

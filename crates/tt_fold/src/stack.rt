@@ -64,12 +64,11 @@ ghost use Rattle.tt_fold.specs.Going.{
 
 use crate::core_folder::Core;
 use crate::folder::Step;
-use crate::items::{as_item, as_list_item, hooked_in, list_in, term_in};
-use crate::walk::{check_item, is_absent};
+use crate::items::{as_item, as_list_item, check_item, hooked_in, is_absent, list_in, term_in};
 use smallvec::SmallVec;
 use tt_index::Refusal;
-use tt_interner::node::Contents;
 use tt_interner::Interner;
+use tt_interner::node::Contents;
 use tt_kinds::{BoundVarKinds, Child, List, Parts};
 
 // A term or a list whose children are walked.
@@ -334,7 +333,12 @@ pub(crate) fn finish<M, F: Core<M>>(
     requires rebuilt { IsChildFor before.now cx.old.rows rebuilt }
     ensures { Goes F.owned F.meaning
         (λ rows y s s'. IsChildFor before.now rows y
-        × Finishes F.hooks (child_tree cx.old.rows before.now) (child_tree cx.old.rows rebuilt) s (child_tree rows y) s')
+        × Finishes F.hooks
+        (child_tree cx.old.rows before.now)
+        (child_tree cx.old.rows rebuilt)
+        s
+        (child_tree rows y)
+        s')
         (FinishFails F.hooks
         (errors_of F.Error.from_gives cx.new)
         (child_tree cx.old.rows before.now)
@@ -419,12 +423,7 @@ fn next_child(cx: &Interner, frame: &Frame) -> Child
 
 // Keeps the result of a child of the frame. Of an item of a list of clauses has to come a clause.
 #[inline(always)]
-fn keep(
-    cx: &Interner,
-    frame: &Frame,
-    values: &mut Values,
-    value: Child,
-) -> Result<(), Refusal>
+fn keep(cx: &Interner, frame: &Frame, values: &mut Values, value: Child) -> Result<(), Refusal>
     requires frame { IsFrame cx.now.rows frame.now }
     requires child { IsResult cx.now.rows frame.now value }
     ensures kept { OnOk result (values.new.items ≡ values.old.items ++ value ∷ []) }

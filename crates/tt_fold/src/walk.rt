@@ -2,20 +2,15 @@
 //!
 //! It goes over the parts of kinds, so that it has no line for any kind.
 
-ghost use Rattle.std.specs.Prelude.{◌≡◌, ◌↔◌, IfErr, IsTrue, OnOk, OnErr, Some};
-ghost use Rattle.tt_index.specs.declared.refusal.Refusal.TheVariants.{NotAClause};
+ghost use Rattle.std.specs.Prelude.{Some};
 ghost use Rattle.tt_kinds.specs.Kinds.{child_shapes, list_shape, node_shape, parts_shapes};
-ghost use Rattle.tt_kinds.specs.Parts.{child_sort, IsItem};
 ghost use Rattle.tt_fold.specs.Walk.{
   any_trees,
   ChildFails,
-  clause_trees,
   Fails,
   FailsAll,
   FailsUnder,
-  HasUnwanted,
   InsideFails,
-  wanted_of,
   Walks,
   WalksAll,
   WalksInside,
@@ -40,10 +35,9 @@ ghost use Rattle.tt_fold.specs.Parts.{
 
 use crate::core_folder::Core;
 use crate::items::{list_of, term_in};
-use crate::stack::{begin, finish, fold_frames, open, Begun};
-use tt_index::Refusal;
-use tt_interner::{AsClause, Interner};
-use tt_kinds::{BoundVarKinds, Child, List, ListSort, Node, Parts};
+use crate::stack::{Begun, begin, finish, fold_frames, open};
+use tt_interner::Interner;
+use tt_kinds::{BoundVarKinds, Child, List, Node, Parts};
 
 // The walk of a stored term. In place in its callers, so that a term whose hook answers at once costs no call.
 #[inline(always)]
@@ -83,17 +77,6 @@ pub(crate) fn fold_inside<M, F: Core<M>>(
             let rebuilt = fold_frames::<M, F>(cx, folder, frame)?;
             Ok(term_in(&rebuilt))
         }
-    }
-}
-
-// Whether there is no child.
-#[inline(always)]
-pub(crate) fn is_absent(child: &Child) -> bool
-    ensures { IsTrue result ↔ (child.now ≡ Child.Absent) }
-{
-    match child {
-        Child::Absent => true,
-        Child::Region(_) | Child::Node(_) | Child::List(_) => false,
     }
 }
 
@@ -196,36 +179,4 @@ pub(crate) fn fold_list<M, F: Core<M>>(
 {
     let folded = fold_child::<M, F>(cx, folder, Child::List(list))?;
     Ok(list_of(folded))
-}
-
-// Whether what came of an item may be in a list of the sort: in one of clauses, only a clause.
-#[inline(always)]
-pub(crate) fn check_item(cx: &Interner, sort: ListSort, item: &Child) -> Result<(), Refusal>
-    requires item { ArePartsOf cx.now.rows (child_shapes item.now) }
-    requires fit { IsItem sort (child_sort item.now) }
-    ensures ok { OnOk result (HasUnwanted (wanted_of sort) (child_trees cx.now.rows item.now) → ⊥) }
-    ensures err { OnErr result (HasUnwanted (wanted_of sort) (child_trees cx.now.rows item.now)) }
-    ensures refusal { IfErr result (λ e. e ≡ NotAClause) }
-{
-    match sort {
-        ListSort::Clauses => check_clause(cx, item),
-        _ => Ok(()),
-    }
-}
-
-// Whether the item is a clause, as each of a list of clauses has to be.
-fn check_clause(cx: &Interner, item: &Child) -> Result<(), Refusal>
-    requires item { ArePartsOf cx.now.rows (child_shapes item.now) }
-    requires fit { IsItem ListSort.Clauses (child_sort item.now) }
-    ensures ok { OnOk result (HasUnwanted clause_trees (child_trees cx.now.rows item.now) → ⊥) }
-    ensures err { OnErr result (HasUnwanted clause_trees (child_trees cx.now.rows item.now)) }
-    ensures refusal { IfErr result (λ e. e ≡ NotAClause) }
-{
-    match item {
-        Child::Node(node) => match node.predicate().as_clause(cx) {
-            Some(_) => Ok(()),
-            None => Err(Refusal::NotAClause),
-        },
-        _ => unreachable!(),
-    }
 }
