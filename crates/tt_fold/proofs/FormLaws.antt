@@ -17,7 +17,7 @@ use Rattle.tt_interner.specs.Rows.{Row, size, meaning, Grows, IsOlder, AreOlder}
 use Rattle.tt_interner.proofs.Growth.{HasParts-grows, row-grows}
 use Rattle.tt_fold.specs.Walk.{is_type_tree, any_trees, wanted_in}
 use Rattle.tt_fold.proofs.PartLaws.{left_parts, right_parts}
-use Rattle.tt_fold.specs.Parts.{IsLeaf, ArePartsOf, HasBinder, child_weight, parts_weight}
+use Rattle.tt_fold.specs.Parts.{HoldsAny, IsInner, IsLeaf, ArePartsOf, HasBinder, child_weight, parts_weight}
 
 -- the label means the same among more rows, and its names are theirs
 pub record KeepsLabel (old new : List Row) (l : Label ℕ) : Type 0 where
@@ -81,17 +81,6 @@ kind-const m (kind.Pat k) h = absurd (cc)
 kind-const m (kind.Predicate b) h = absurd (cc)
 kind-const m (kind.Existential b) h = absurd (cc)
 
--- of the children of a term with the label may come any trees
-abbrev pub HoldsAny : Label ℕ → Type 0
-HoldsAny l = (name : ℕ → Name) → wanted_in (rename_label name l) ≡ any_trees
-
--- a form that has children or a binder, and is no list of clauses
-abbrev pub IsInner : Form (Label ℕ) → Type 0
-IsInner (param i name) = ⊥
-IsInner (bound d e) = ⊥
-IsInner (plain l p) = HoldsAny l
-IsInner (under l vars m p) = HoldsAny l
-
 inner : {L : Type 0} (label : L → Label ℕ) → ((l : L) → HoldsAny (label l)) → (f : Form L)
     → ((form_binder (relabelled label f) ≡ None) → ((form_parts (relabelled label f)).first ≡ child.Absent) → ((form_parts (relabelled label f)).second ≡ child.Absent) → ⊥)
     → IsInner (relabelled label f)
@@ -137,48 +126,6 @@ refilled-parts old rows s q (bound d e) n is b h = absurd is
 refilled-parts old rows s q (plain l p) n is b h = (n.named, h)
 refilled-parts old rows s q (under l vars m p) n is b h = (n.0.named, ((b, (refl, n.1.named, h)), tt))
 
--- the contents of a kind came before it
-child-older : (rows : List Row) (a : ℕ) (c : Child) (ss : Shapes) → AreOlder rows a (append (child_shapes c) ss) → child_weight rows c ≤ a
-child-older rows a child.Absent ss h = omega arith
-child-older rows a (child.Region r) ss h = omega arith
-child-older rows a (child.Node n) ss h = omega (arith, h.0)
-child-older rows a (child.List l) ss h = omega (arith, h.0)
-
-second-older : (rows : List Row) (a : ℕ) (c : Child) (ss : Shapes) → AreOlder rows a (append (child_shapes c) ss) → AreOlder rows a ss
-second-older rows a child.Absent ss h = h
-second-older rows a (child.Region r) ss h = h.1
-second-older rows a (child.Node n) ss h = h.1
-second-older rows a (child.List l) ss h = h.1
-
-append-nothing : (ss : Shapes) → append ss shape.none ≡ ss
-append-nothing shape.none = refl
-append-nothing (shape.also s ss) = ap (shape.also s) (append-nothing ss)
-
-pub alone-older : (rows : List Row) (a : ℕ) (c : Child) → AreOlder rows a (child_shapes c) → child_weight rows c ≤ a
-alone-older rows a c h = child-older rows a c shape.none (rw (append-nothing (child_shapes c)) h)
-
-parts-older : (rows : List Row) (a : ℕ) (p : Parts) → AreOlder rows a (parts_shapes p) → parts_weight rows p ≤ a
-parts-older rows a p h =
-    let first = child-older rows a p.first (child_shapes p.second) h in
-    let second = alone-older rows a p.second (second-older rows a p.first (child_shapes p.second) h) in
-    omega (arith, first, second)
-
-pub form-older : (rows : List Row) (a : ℕ) (s : Sort) (f : Form (Label ℕ)) → IsOlder rows a (form_shape s f) → parts_weight rows (form_parts f) ≤ a
-form-older rows a s (param i name) h = omega arith
-form-older rows a s (bound d e) h = omega arith
-form-older rows a s (plain l p) h = parts-older rows a p h
-form-older rows a s (under l vars m p) h = parts-older rows a p h.0
-
 -- the items of a list
-pub item-older : (rows : List Row) (a : ℕ) (list : List Child) (n : ℕ) (x : Child) → slice_get list n ≡ Some x → AreOlder rows a (children_shapes list) → child_weight rows x ≤ a
-item-older rows a [] n x e h = absurd (none-some x e)
-item-older rows a (c ∷ cs) zero x e h = let low = child-older rows a c (children_shapes cs) h in rw (same_Some c x e) at low
-item-older rows a (c ∷ cs) (suc n) x e h = item-older rows a cs n x e (second-older rows a c (children_shapes cs) h)
-
-pub item-part : (rows : List Row) (list : List Child) (n : ℕ) (x : Child) → slice_get list n ≡ Some x → ArePartsOf rows (children_shapes list) → ArePartsOf rows (child_shapes x)
-item-part rows [] n x e h = absurd (none-some x e)
-item-part rows (c ∷ cs) zero x e h = let part = left_parts rows (child_shapes c) (children_shapes cs) h in rw (same_Some c x e) at part
-item-part rows (c ∷ cs) (suc n) x e h = item-part rows cs n x e (right_parts rows (child_shapes c) (children_shapes cs) h)
-
 pub item-fits : (P : Child → Type 0) (list : List Child) (n : ℕ) (x : Child) → slice_get list n ≡ Some x → All P list → P x
 item-fits P list n x e h = let fit = h n x (slice_get_within list n x e) in rw (get_or_from_slice_get list n x x e) at fit

@@ -2,9 +2,13 @@ pub mod PartLaws
 pub mod WantedLaws
 mod FormLaws
 mod WalkLaws
-mod StillLaws
 mod CoreSteps
+mod StackLaws
+mod FrameLaws
+mod GoingLaws
+mod ItemSteps
 mod FoldSteps
+mod ChildSteps
 mod ValueSteps
 mod BareLaws
 mod RecordSteps

@@ -14,6 +14,7 @@ use Rattle.tt_kinds.specs.declared.parts.Parts.{Parts}
 use Rattle.tt_kinds.specs.Shape.{vars_of}
 use Rattle.tt_interner.specs.Rows.{Row, size, meaning, Grows}
 use Rattle.tt_fold.specs.Steps.{IsPartOf, tree_in, HasVars, vars_in}
+use Rattle.tt_fold.specs.Stack.{joined}
 use Rattle.tt_fold.specs.Parts.{ArePartsOf, trees_in, HasBinder, binder_in, child_weight, parts_weight}
 use Rattle.tt_interner.proofs.Growth.{size-grows, meaning-grows, age-grows}
 
@@ -58,11 +59,6 @@ pub right_parts : (rows : List Row) (ss us : Shapes) → ArePartsOf rows (append
 right_parts rows none us h = h
 right_parts rows (also s ss) us h = right_parts rows ss us h.1
 
--- the trees, one after another
-abbrev pub joined : Forest Depth → Forest Depth → Forest Depth
-joined tree.none us = us
-joined (tree.also t ts) us = tree.also t (joined ts us)
-
 pub joined-none : (ts : Forest Depth) → joined ts tree.none ≡ ts
 joined-none tree.none = refl
 joined-none (tree.also t ts) = ap (tree.also t) (joined-none ts)
@@ -97,19 +93,3 @@ module _ {old new : List Row} (g : Grows old new) where
   pub binder-kept : (b : Option BoundVarKinds) → HasBinder old b → HasBinder new b
   binder-kept None h = tt
   binder-kept (Some vars) h = vars-kept vars h
-
-  pub binder-grows : (b : Option BoundVarKinds) → HasBinder old b → binder_in new b ≡ binder_in old b
-  binder-grows None h = refl
-  binder-grows (Some vars) h = ap Some (vars-grow vars h)
-
-  pub weight-grows : (c : Child) → ArePartsOf old (child_shapes c) → child_weight new c ≡ child_weight old c
-  weight-grows child.Absent h = refl
-  weight-grows (child.Region r) h = refl
-  weight-grows (child.Node n) h = ap suc (age-grows _ _ g (node_table n) (node_number n) (in_range old (node_table n) (node_number n) (only_part old (node_shape n) h)))
-  weight-grows (child.List l) h = ap suc (age-grows _ _ g (list_table l) (list_number l) (in_range old (list_table l) (list_number l) (only_part old (list_shape l) h)))
-
-  pub weights-grow : (p : Parts) → ArePartsOf old (parts_shapes p) → parts_weight new p ≡ parts_weight old p
-  weights-grow p h =
-      let first = weight-grows p.first (left_parts old (child_shapes p.first) (child_shapes p.second) h) in
-      let second = weight-grows p.second (right_parts old (child_shapes p.first) (child_shapes p.second) h) in
-      rw (first, second) refl

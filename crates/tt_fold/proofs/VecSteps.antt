@@ -14,7 +14,8 @@ use Rattle.tt_fold.specs.Walk.{Errors, Hooks, Walks, WalksAll, Fails, at_node, d
 use Rattle.tt_fold.specs.Counts.{Standing}
 use Rattle.tt_fold.specs.Steps.{Folds, IsPartOf, tree_in, IsPartBy, tree_by}
 use Rattle.tt_fold.specs.Parts.{ArePartsOf, trees_in, FoldsValues}
-use Rattle.tt_fold.proofs.PartLaws.{one_part, right_parts, append_parts, append_trees, joined, no_parts, no_trees, one_tree}
+use Rattle.tt_fold.specs.Stack.{joined}
+use Rattle.tt_fold.proofs.PartLaws.{one_part, right_parts, append_parts, append_trees, no_parts, no_trees, one_tree}
 use Rattle.tt_fold.proofs.WalkLaws.{WalksAll-append, FailsAll-append, WalksAll-one}
 
 pub nil-from_length : {A : Type 0} (xs : List A) → length xs ≡ 0 → xs ≡ []

@@ -1,17 +1,18 @@
 -- What has to come of the children of a term, and of the items of a list.
 use Rattle.std.proofs.Common.{inl, inr, ◌≡◌, List}
-use Rattle.tt_index.specs.declared.refusal.Refusal.TheVariants.{NotAClause}
+use Rattle.tt_index.specs.declared.refusal.Refusal.{Refusal}
+use Rattle.tt_index.specs.declared.refusal.Refusal.TheVariants.{Memory, NotAClause}
 use Rattle.tt_kinds.specs.Label.{Name, Label, clause_list_label}
 use Rattle.tt_kinds.specs.Tree.{Depth, Tree, term, Forest, none, also}
 use Rattle.tt_kinds.specs.Shape.{fill_all}
 use Rattle.tt_kinds.specs.declared.parts.Child.{Child}
 use Rattle.tt_kinds.specs.declared.parts.Child.TheVariants as child
 use Rattle.tt_interner.specs.Rows.{Row}
-use Rattle.tt_interner.specs.Stored.{Terms, IsNoClauseList}
+use Rattle.tt_interner.specs.Stored.{Terms, IsNoClauseList, IsUnbuilt}
 use Rattle.tt_fold.specs.Walk.{Hooks, Errors, WalksAll, done, next, Wanted, any_trees, clause_trees, wanted_in, HasUnwanted, FailsAll, here, no_clause, ChildFails, child_failed}
 use Rattle.tt_fold.specs.Steps.{refusals_of}
 use Rattle.tt_fold.specs.Parts.{child_trees}
-use Rattle.tt_fold.proofs.PartLaws.{joined}
+use Rattle.tt_fold.specs.Stack.{joined}
 
 pub none-wanted : (w : Wanted) → HasUnwanted w none → ⊥
 none-wanted any_trees h = h
@@ -59,3 +60,7 @@ TellsOfLists {E} errors = (u : Tree Depth) (e : E) → IsNoClauseList u → erro
 
 pub refusals-tell : (terms : Terms) → TellsOfLists (refusals_of terms)
 refusals-tell terms u e bad b = (NotAClause, (b, bad))
+
+-- want of memory says of each tree that it is not built
+pub memory_unbuilt : (terms : Terms) (u : Tree Depth) (r : Refusal) → r ≡ Memory → IsUnbuilt terms u r
+memory_unbuilt terms u r same = rw same tt

@@ -12,6 +12,9 @@ pub mod Notes
 pub mod Shift
 pub mod MemoryGrowth
 pub mod Parts
+pub mod Stack
+pub mod Items
+pub mod Going
 pub mod RegionFolder
 pub mod RegionFolderGrowth
 pub mod Regions

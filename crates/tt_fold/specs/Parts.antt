@@ -1,11 +1,12 @@
 -- The promises of the walk's calls on terms, lists and the parts of kinds.
 use Rattle.std.specs.Prelude.{◌≡◌, ◌++◌, ℕ, suc, max, Option, Some, None, Result, Ok, Err, MatchResult, All, take, ⊤}
 use Rattle.std.specs.Prelude.{List as Listed}
-use Rattle.tt_kinds.specs.Label.{Name, VarKind}
+use Rattle.tt_kinds.specs.Label.{Name, VarKind, Label}
 use Rattle.tt_kinds.specs.Tree.{Depth, Tree, Forest}
-use Rattle.tt_kinds.specs.Shape.{Shape, Shapes, AreParts, fill_all, item_shapes}
+use Rattle.tt_kinds.specs.Shape.{Shape, Shapes, AreParts, fill_all, item_shapes, rename_label}
 use Rattle.tt_kinds.specs.Parts.{node_table, node_number, list_sort, list_table, list_number, child_sort, AreLike, IsItem}
-use Rattle.tt_kinds.specs.Kinds.{node_shape, list_shape, child_shapes, parts_shapes, children_shapes, items_tree}
+use Rattle.tt_kinds.specs.Kinds as form
+use Rattle.tt_kinds.specs.Kinds.{Form, node_shape, list_shape, child_shapes, parts_shapes, children_shapes, items_tree}
 use Rattle.tt_kinds.specs.Handle.{BoundVarKinds}
 use Rattle.tt_kinds.specs.declared.parts.Node.{Node}
 use Rattle.tt_kinds.specs.declared.parts.List.{List}
@@ -17,7 +18,7 @@ use Rattle.tt_interner.specs.Rows.{Row, size, meaning, age}
 use Rattle.tt_interner.specs.Stored.{Terms, Extends}
 use Rattle.tt_interner.specs.Children.{children_at}
 use Rattle.tt_visit.specs.Root.{hooked, table_root}
-use Rattle.tt_fold.specs.Walk.{Hooks, Errors, WalksAll, HasUnwanted, wanted_of, FailsAll}
+use Rattle.tt_fold.specs.Walk.{Hooks, Errors, WalksAll, HasUnwanted, any_trees, wanted_in, wanted_of, FailsAll}
 use Rattle.tt_fold.specs.Counts.{Standing, stands}
 use Rattle.tt_fold.specs.Steps.{IsPartOf, tree_in, HasVars, vars_in}
 use Rattle.tt_fold.specs.declared.folder.Step.{Step}
@@ -107,6 +108,17 @@ pub record IsLeaf (bound_vars : Option BoundVarKinds) (parts : Parts) : Type 0 w
   pub binder : bound_vars ≡ None
   pub first : parts.first ≡ child.Absent
   pub second : parts.second ≡ child.Absent
+
+-- of the children of a term with the label may come any trees
+abbrev pub HoldsAny : Label ℕ → Type 0
+HoldsAny l = (name : ℕ → Name) → wanted_in (rename_label name l) ≡ any_trees
+
+-- a form that has children or a binder, and is no list of clauses
+abbrev pub IsInner : Form (Label ℕ) → Type 0
+IsInner (form.param i name) = ⊥
+IsInner (form.bound d e) = ⊥
+IsInner (form.plain l p) = HoldsAny l
+IsInner (form.under l vars m p) = HoldsAny l
 
 -- one more than the age of the row that a child names, or 0
 abbrev pub child_weight : Listed Row → Child → ℕ

@@ -12,7 +12,7 @@ use Rattle.tt_interner.specs.Rows.{Row, size, meaning, IsClause}
 use Rattle.tt_fold.specs.Parts.{ArePartsOf, child_trees}
 use Rattle.tt_fold.proofs.PartLaws.{in_range, only_part, one_tree, stored_tree}
 use Rattle.tt_kinds.specs.Kinds.{child_shapes}
-use Rattle.tt_fold.proofs.walk.check_clause.Goals as goal
+use Rattle.tt_fold.proofs.items.check_clause.Goals as goal
 
 module _ (rows : List Row) (x : Child) (p : Predicate) (is : x ≡ child.Node (node.Predicate p)) where
   trees : child_trees rows x ≡ tree.also (meaning rows Predicates p.number) tree.none

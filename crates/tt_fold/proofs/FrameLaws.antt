@@ -1,0 +1,286 @@
+-- Frames among more rows, and the children that are left in them.
+use Rattle.std.proofs.Common.{◌≡◌, ℕ, zero, suc, ◌+◌, ◌-◌, ◌^◌, ◌<◌, ◌≤◌, [], ◌∷◌, ◌++◌, length, take, drop, slice_get, get_or, All, Option, Some, None, refl, ap, sym, ◌∙◌, arith, length-append}
+use Rattle.std.proofs.Common.{List as Listed}
+use Rattle.std.proofs.lemmas.List.{drop_more}
+use Rattle.std.proofs.Math.ListN.{drop_of_length-le}
+use Rattle.std.proofs.lemmas.Option.{slice_get_within, get_or_from_slice_get, same_Some, none-some}
+use Rattle.tt_kinds.specs.Label.{Label}
+use Rattle.tt_kinds.specs.Tree.{Depth, Tree, also, none, Forest}
+use Rattle.tt_kinds.specs.Parts.{node_table, node_number, list_table, list_number, list_sort, child_sort, IsItem}
+use Rattle.tt_kinds.specs.Shape.{append, HasParts, fill}
+use Rattle.tt_kinds.specs.Kinds.{Form, param, bound, plain, under, form_binder, form_parts, kind_form, kind_sort, kind_shape, node_shape, list_shape, child_shapes, parts_shapes, children_shapes}
+use Rattle.tt_kinds.specs.declared.parts.Child.{Child}
+use Rattle.tt_kinds.specs.declared.parts.Child.TheVariants as child
+use Rattle.tt_kinds.specs.declared.parts.List.{List}
+use Rattle.tt_kinds.specs.declared.parts.ListSort.{ListSort}
+use Rattle.tt_kinds.specs.declared.parts.ListSort.TheVariants as sort
+use Rattle.tt_kinds.specs.declared.parts.Node.{Node}
+use Rattle.tt_kinds.specs.declared.parts.Parts.{Parts}
+use Rattle.tt_interner.specs.declared.nodes.Contents.{Contents}
+use Rattle.tt_interner.specs.Rows.{Row, size, Grows}
+use Rattle.tt_interner.specs.Children.{children_at}
+use Rattle.tt_interner.specs.Nodes.{stored_kind}
+use Rattle.tt_interner.proofs.Growth.{IsPart-grows, AreParts-grows, HasParts-grows, fill-grows, fill_all-grows, children_at-grows, stored_kind-grows}
+use Rattle.tt_fold.specs.Walk.{HasUnwanted}
+use Rattle.tt_fold.specs.Steps.{IsPartOf, tree_in}
+use Rattle.tt_fold.specs.Parts.{ArePartsOf, HasBinder, child_trees, children_trees, trees_in, IsChildFor}
+use Rattle.tt_fold.specs.Stack.{joined, Outline, Context, wanted_by}
+use Rattle.tt_fold.specs.Stack as outline
+use Rattle.tt_fold.specs.Items.{child_shape, child_tree, child_list, child_node, IsWhole}
+use Rattle.tt_fold.specs.Going.{form_outline, outline_by, outline_of, children_by, children_in, absent_among, IsTermFrame, IsListFrame, IsMadeOf, IsFrame, Fits, AreAlike, Holds, left_of, Part, frames_of, context_of, contexts, IsBelow, AreBelow, work, work_all, frame_work, frames_work}
+use Rattle.tt_fold.specs.declared.stack.Frame.{Frame}
+use Rattle.tt_fold.proofs.PartLaws.{one_tree, no_trees, append_trees, append_parts, right_parts, left_parts, children-append, children-one, in_range, is_part, vars-grow}
+use Rattle.tt_fold.proofs.FormLaws.{KeepsLabels, form-labels, form-parts, form-binder, item-fits}
+
+-- a child that is there
+pub whole-part : (rows : Listed Row) (c : Child) → IsWhole c → ArePartsOf rows (child_shapes c) → IsPartOf rows (child_shape c)
+whole-part rows child.Absent is h = absurd is
+whole-part rows (child.Region r) is h = absurd is
+whole-part rows (child.Node n) is h = h.0
+whole-part rows (child.List l) is h = h.0
+
+pub part-whole : (rows : Listed Row) (c : Child) → IsWhole c → IsPartOf rows (child_shape c) → ArePartsOf rows (child_shapes c)
+part-whole rows child.Absent is h = absurd is
+part-whole rows (child.Region r) is h = absurd is
+part-whole rows (child.Node n) is h = (h, tt)
+part-whole rows (child.List l) is h = (h, tt)
+
+pub whole-tree : (rows : Listed Row) (c : Child) → IsWhole c → child_trees rows c ≡ also (child_tree rows c) none
+whole-tree rows child.Absent is = absurd is
+whole-tree rows (child.Region r) is = absurd is
+whole-tree rows (child.Node n) is = one_tree rows (node_shape n)
+whole-tree rows (child.List l) is = one_tree rows (list_shape l)
+
+pub like-whole : (y c : Child) → child_sort y ≡ child_sort c → IsWhole c → IsWhole y
+like-whole y child.Absent e is = absurd is
+like-whole y (child.Region r) e is = absurd is
+like-whole child.Absent (child.Node n) e is = (cc)
+like-whole (child.Region r) (child.Node n) e is = (cc)
+like-whole (child.Node m) (child.Node n) e is = tt
+like-whole (child.List l) (child.Node n) e is = tt
+like-whole child.Absent (child.List m) e is = (cc)
+like-whole (child.Region r) (child.List m) e is = (cc)
+like-whole (child.Node n) (child.List m) e is = tt
+like-whole (child.List l) (child.List m) e is = tt
+
+-- lists of children
+pub last_trees : (rows : Listed Row) (cs : Listed Child) (c : Child) → children_trees rows (cs ++ c ∷ []) ≡ joined (children_trees rows cs) (child_trees rows c)
+last_trees rows cs c =
+    ap (trees_in rows) (children-append cs (c ∷ []) ∙ ap (append (children_shapes cs)) (children-one c)) ∙ append_trees rows (children_shapes cs) (child_shapes c)
+
+pub last_parts : (rows : Listed Row) (cs : Listed Child) (c : Child) → ArePartsOf rows (children_shapes cs) → ArePartsOf rows (child_shapes c) → ArePartsOf rows (children_shapes (cs ++ c ∷ []))
+last_parts rows cs c h k = rw (children-append cs (c ∷ []), children-one c) (append_parts rows (children_shapes cs) (child_shapes c) h k)
+
+pub two_shapes : (p : Parts) → children_shapes (p.first ∷ p.second ∷ []) ≡ parts_shapes p
+two_shapes p = ap (append (child_shapes p.first)) (children-one p.second)
+
+pub drop_parts : (rows : Listed Row) (n : ℕ) (cs : Listed Child) → ArePartsOf rows (children_shapes cs) → ArePartsOf rows (children_shapes (drop n cs))
+drop_parts rows zero cs h = h
+drop_parts rows (suc n) [] h = h
+drop_parts rows (suc n) (c ∷ cs) h = drop_parts rows n cs (right_parts rows (child_shapes c) (children_shapes cs) h)
+
+pub get_part : (rows : Listed Row) (cs : Listed Child) (n : ℕ) (c : Child) → slice_get cs n ≡ Some c → ArePartsOf rows (children_shapes cs) → ArePartsOf rows (child_shapes c)
+get_part rows [] n c e h = absurd (none-some c e)
+get_part rows (x ∷ cs) zero c e h = let part = left_parts rows (child_shapes x) (children_shapes cs) h in rw (same_Some x c e) at part
+get_part rows (x ∷ cs) (suc n) c e h = get_part rows cs n c e (right_parts rows (child_shapes x) (children_shapes cs) h)
+
+pub drop_next : (cs : Listed Child) (n : ℕ) (c : Child) → slice_get cs n ≡ Some c → drop n cs ≡ c ∷ drop (n + 1) cs
+drop_next cs n c e = drop_more cs n c (slice_get_within cs n c e) ∙ ap (λ k. k ∷ drop (n + 1) cs) (get_or_from_slice_get cs n c c e)
+
+pub trees_next : (rows : Listed Row) (cs : Listed Child) (n : ℕ) (c : Child) → slice_get cs n ≡ Some c
+    → children_trees rows (drop n cs) ≡ joined (child_trees rows c) (children_trees rows (drop (n + 1) cs))
+trees_next rows cs n c e = ap (children_trees rows) (drop_next cs n c e) ∙ append_trees rows (child_shapes c) (children_shapes (drop (n + 1) cs))
+
+pub trees_end : (rows : Listed Row) (cs : Listed Child) (n : ℕ) → length cs ≤ n → children_trees rows (drop n cs) ≡ none
+trees_end rows cs n h = ap (children_trees rows) (drop_of_length-le cs h) ∙ no_trees rows
+
+-- values and the children that they came of
+pub alike_more : (vs cs : Listed Child) (v c : Child) → AreAlike vs cs → slice_get cs (length vs) ≡ Some c → child_sort v ≡ child_sort c → AreAlike (vs ++ v ∷ []) cs
+alike_more [] [] v c h e s = absurd (none-some c e)
+alike_more [] (k ∷ cs) v c h e s = (s ∙ ap child_sort (sym (same_Some k c e)), tt)
+alike_more (x ∷ vs) [] v c h e s = absurd h
+alike_more (x ∷ vs) (k ∷ cs) v c h e s = (h.0, alike_more vs cs v c h.1 e s)
+
+pub alike_length : (vs cs : Listed Child) → AreAlike vs cs → length vs ≤ length cs
+alike_length [] cs h = omega arith
+alike_length (v ∷ vs) [] h = absurd h
+alike_length (v ∷ vs) (c ∷ cs) h = omega (arith, alike_length vs cs h.1)
+
+pub alike_all : (P : Child → Type 0) (vs cs : Listed Child) → ((v c : Child) → child_sort v ≡ child_sort c → P c → P v) → AreAlike vs cs → All P cs → All P vs
+alike_all P [] cs f h a = λ k d lt. absurd (omega (arith, lt))
+alike_all P (v ∷ vs) [] f h a = absurd h
+alike_all P (v ∷ vs) (c ∷ cs) f h a = λ k d lt. elim k as (λ j. j < length (v ∷ vs) → P (get_or (v ∷ vs) j d)) [
+  | zero ↦ λ l. f v c h.0 (a 0 c (omega arith))
+  | suc j ↦ λ l. alike_all P vs cs f h.1 (λ i e lt2. a (suc i) e (omega (arith, lt2))) j d (omega (arith, l))
+] lt
+
+-- how many children a frame has
+pub counted : (rows : Listed Row) (n : Node) (contents : Contents) (count : ℕ) (l : Option List) → IsMadeOf rows n contents count l → count ≡ length (children_by rows contents.parts l)
+counted rows n contents count (Some l) h = h.counted
+counted rows n contents count None h = h.counted
+
+counted-fits : (rows : Listed Row) (n : Node) (contents : Contents) (count : ℕ) (l : Option List) → IsMadeOf rows n contents count l → count < 2 ^ 64
+counted-fits rows n contents count (Some l) h = h.fits
+counted-fits rows n contents count None h = omega (arith, h.counted)
+
+-- absent children are few
+no_absent : (P : Child → Type 0) (cs : Listed Child) → (P child.Absent → ⊥) → All P cs → absent_among cs ≡ 0
+no_absent P [] never a = refl
+no_absent P (child.Absent ∷ cs) never a = absurd (never (a 0 child.Absent (omega arith)))
+no_absent P (child.Region r ∷ cs) never a = no_absent P cs never (λ i e lt. a (suc i) e (omega (arith, lt)))
+no_absent P (child.Node n ∷ cs) never a = no_absent P cs never (λ i e lt. a (suc i) e (omega (arith, lt)))
+no_absent P (child.List l ∷ cs) never a = no_absent P cs never (λ i e lt. a (suc i) e (omega (arith, lt)))
+
+absent_length : (cs : Listed Child) → absent_among cs ≤ length cs
+absent_length [] = omega arith
+absent_length (child.Absent ∷ cs) = omega (arith, absent_length cs)
+absent_length (child.Region r ∷ cs) = omega (arith, absent_length cs)
+absent_length (child.Node n ∷ cs) = omega (arith, absent_length cs)
+absent_length (child.List l ∷ cs) = omega (arith, absent_length cs)
+
+no_item : (s : ListSort) → IsItem s (child_sort child.Absent) → ⊥
+no_item sort.Tys h = h
+no_item sort.Consts h = h
+no_item sort.Args h = h
+no_item sort.Pats h = h
+no_item sort.Existentials h = h
+no_item sort.Clauses h = h
+
+pub few_absent : (rows : Listed Row) (n : Node) (contents : Contents) (count : ℕ) (l : Option List) → IsMadeOf rows n contents count l → absent_among (children_by rows contents.parts l) ≤ 2
+few_absent rows n contents count (Some l) h = omega (arith, no_absent (λ c. IsItem (list_sort l) (child_sort c)) (children_at rows l) (no_item (list_sort l)) h.fit)
+few_absent rows n contents count None h = omega (arith, absent_length (contents.parts.first ∷ contents.parts.second ∷ []))
+
+module _ {old new : Listed Row} (g : Grows old new) where
+  pub form_outline-grows : (f : Form (Label ℕ)) → KeepsLabels old new f → HasBinder old (form_binder f) → form_outline new f ≡ form_outline old f
+  form_outline-grows (param i name) k b = refl
+  form_outline-grows (bound d e) k b = refl
+  form_outline-grows (plain l p) k b = ap outline.plain (sym k.same)
+  form_outline-grows (under l vars m p) k b = rw (k.0.same, k.1.same, vars-grow g vars b) refl
+
+  outline_by-grows : (n : Node) (contents : Contents) (count : ℕ) (l : Option List) → IsMadeOf old n contents count l → outline_by new n l ≡ outline_by old n l
+  outline_by-grows n contents count (Some l) h = refl
+  outline_by-grows n contents count None h =
+      let f = kind_form (stored_kind old n) in
+      ap (λ k. form_outline new (kind_form k)) (stored_kind-grows old new g n h.in_range)
+      ∙ form_outline-grows f (form-labels old new g (kind_sort (stored_kind old n)) f h.named) (form-binder old (kind_sort (stored_kind old n)) f h.named)
+
+  children_by-grows : (n : Node) (contents : Contents) (count : ℕ) (l : Option List) → IsMadeOf old n contents count l → children_by new contents.parts l ≡ children_by old contents.parts l
+  children_by-grows n contents count (Some l) h = children_at-grows old new g l h.in_range
+  children_by-grows n contents count None h = refl
+
+  made-grows : (n : Node) (contents : Contents) (count : ℕ) (l : Option List) → IsMadeOf old n contents count l → IsMadeOf new n contents count l
+  made-grows n contents count (Some l) h =
+      let same = children_at-grows old new g l h.in_range in
+      record {
+        in_range = in_range new (list_table l) (list_number l) (IsPart-grows old new g (list_shape l) h.in_range);
+        parts = rw same (AreParts-grows old new g (children_shapes (children_at old l)) h.parts);
+        fit = rw same h.fit;
+        counted = rw same h.counted;
+        fits = h.fits;
+      }
+  made-grows n contents count None h =
+      let same = stored_kind-grows old new g n h.in_range in
+      record {
+        in_range = in_range new (node_table n) (node_number n) (IsPart-grows old new g (node_shape n) h.in_range);
+        has_kind = h.has_kind;
+        table = rw same h.table;
+        bound_vars = rw same h.bound_vars;
+        parts = rw same h.parts;
+        named = rw same (HasParts-grows old new g (kind_shape (stored_kind old n)) h.named);
+        inner = rw same h.inner;
+        counted = h.counted;
+      }
+
+pub children_by-parts : (rows : Listed Row) (n : Node) (contents : Contents) (count : ℕ) (l : Option List) → IsMadeOf rows n contents count l → ArePartsOf rows (children_shapes (children_by rows contents.parts l))
+children_by-parts rows n contents count (Some l) h = h.parts
+children_by-parts rows n contents count None h =
+    let k = stored_kind rows n in
+    rw (two_shapes contents.parts, h.parts) (form-parts rows (kind_sort k) (kind_form k) h.named)
+
+pub frame-parts : {rows : Listed Row} {f : Frame} → IsFrame rows f → ArePartsOf rows (children_shapes (children_in rows f))
+frame-parts {f} h = children_by-parts _ (child_node f.item) f.contents f.count (child_list f.item) h.made
+
+-- a value of the sort of a frame's child
+fits_by : (rows : Listed Row) (n : Node) (contents : Contents) (count : ℕ) (l : Option List) (i : ℕ) (c y : Child)
+    → IsMadeOf rows n contents count l → slice_get (children_by rows contents.parts l) i ≡ Some c → child_sort y ≡ child_sort c → Fits l y
+fits_by rows n contents count (Some l) i c y h e s = rw s (item-fits (λ x. IsItem (list_sort l) (child_sort x)) (children_at rows l) i c e h.fit)
+fits_by rows n contents count None i c y h e s = tt
+
+pub frame_fits : {rows : Listed Row} {f : Frame} (i : ℕ) (c y : Child) → IsFrame rows f → slice_get (children_in rows f) i ≡ Some c → child_sort y ≡ child_sort c → Fits (child_list f.item) y
+frame_fits {f} i c y h e s = fits_by _ (child_node f.item) f.contents f.count (child_list f.item) i c y h.made e s
+
+pub frame-count : {rows : Listed Row} {f : Frame} → IsFrame rows f → f.count ≡ length (children_in rows f)
+frame-count {f} h = counted _ (child_node f.item) f.contents f.count (child_list f.item) h.made
+
+pub frame-fits : {rows : Listed Row} {f : Frame} → IsFrame rows f → f.count < 2 ^ 64
+frame-fits {f} h = counted-fits _ (child_node f.item) f.contents f.count (child_list f.item) h.made
+
+pub frame-absent : {rows : Listed Row} {f : Frame} → IsFrame rows f → absent_among (children_in rows f) ≤ 2
+frame-absent {f} h = few_absent _ (child_node f.item) f.contents f.count (child_list f.item) h.made
+
+module _ {old new : Listed Row} (g : Grows old new) where
+  pub item_tree-grows : {f : Frame} → IsFrame old f → child_tree new f.item ≡ child_tree old f.item
+  item_tree-grows {f} h = fill-grows old new g (child_shape f.item) (whole-part _ f.item h.is h.part)
+
+  pub outline-grows : {f : Frame} → IsFrame old f → outline_of new f.item ≡ outline_of old f.item
+  outline-grows {f} h = outline_by-grows g (child_node f.item) f.contents f.count (child_list f.item) h.made
+
+  pub children-grow : {f : Frame} → IsFrame old f → children_in new f ≡ children_in old f
+  children-grow {f} h = children_by-grows g (child_node f.item) f.contents f.count (child_list f.item) h.made
+
+  pub frame-grows : {f : Frame} → IsFrame old f → IsFrame new f
+  frame-grows {f} h = record {
+    is = h.is;
+    part = AreParts-grows old new g (child_shapes f.item) h.part;
+    tree = rw (item_tree-grows h, outline-grows h, children-grow h, fill_all-grows old new g (children_shapes (children_in old f)) (frame-parts h)) h.tree;
+    made = made-grows g (child_node f.item) f.contents f.count (child_list f.item) h.made;
+  }
+
+  pub values-grow : (vs : Listed Child) → ArePartsOf old (children_shapes vs) → children_trees new vs ≡ children_trees old vs
+  values-grow vs h = fill_all-grows old new g (children_shapes vs) h
+
+  pub left-grows : {f : Frame} → IsFrame old f → left_of new f ≡ left_of old f
+  left-grows {f} h =
+      ap (λ cs. children_trees new (drop f.next cs)) (children-grow h)
+      ∙ values-grow (drop f.next (children_in old f)) (drop_parts old f.next (children_in old f) (frame-parts h))
+
+  pub holds-grows : {f : Frame} {vs : Listed Child} → Holds old f vs → Holds new f vs
+  holds-grows {f} {vs} h = record {
+    frame = frame-grows h.frame;
+    owned = AreParts-grows old new g (children_shapes vs) h.owned;
+    alike = rw (children-grow h.frame) h.alike;
+    wanted = rw (outline-grows h.frame, values-grow vs h.owned) h.wanted;
+  }
+
+  pub below-grows : (root item : Child) (ps : Listed Part) → AreBelow old root item ps → AreBelow new root item ps
+  below-grows root item [] h = h
+  below-grows root item (p ∷ ps) h = (
+    record { holds = holds-grows h.0.holds; counted = h.0.counted; walked = rw (children-grow h.0.holds.frame) h.0.walked },
+    below-grows root p.frame.item ps h.1,
+  )
+
+  context-grows : (p : Part) → Holds old p.frame p.values → context_of new p ≡ context_of old p
+  context-grows p h = rw (item_tree-grows h.frame, outline-grows h.frame, values-grow p.values h.owned, left-grows h.frame) refl
+
+  pub contexts-grow : (root item : Child) (ps : Listed Part) → AreBelow old root item ps → contexts new ps ≡ contexts old ps
+  contexts-grow root item [] h = refl
+  contexts-grow root item (p ∷ ps) h = rw (context-grows p h.0.holds, contexts-grow root p.frame.item ps h.1) refl
+
+  pub frame_work-grows : {f : Frame} → IsFrame old f → frame_work new f ≡ frame_work old f
+  frame_work-grows {f} h =
+      ap (λ cs. suc (absent_among (drop f.next cs) + work_all (left_of new f))) (children-grow h)
+      ∙ ap (λ ts. suc (absent_among (drop f.next (children_in old f)) + work_all ts)) (left-grows h)
+
+-- the work of frames
+pub frames_work-append : (rows : Listed Row) (fs : Listed Frame) (f : Frame) → frames_work rows (fs ++ f ∷ []) ≡ frames_work rows fs + frame_work rows f
+frames_work-append rows [] f = omega arith
+frames_work-append rows (x ∷ fs) f = omega (arith, frames_work-append rows fs f)
+
+pub frames_work-grows : {old new : Listed Row} → Grows old new → (root item : Child) (ps : Listed Part) → AreBelow old root item ps → frames_work new (frames_of ps) ≡ frames_work old (frames_of ps)
+frames_work-grows g root item [] h = refl
+frames_work-grows {old} {new} g root item (p ∷ ps) h =
+    let a = frames_work-append new (frames_of ps) p.frame in
+    let b = frames_work-append old (frames_of ps) p.frame in
+    let c = frames_work-grows g root p.frame.item ps h.1 in
+    let d = frame_work-grows g h.0.holds.frame in
+    omega (arith, a, b, c, d)

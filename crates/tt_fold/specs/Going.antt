@@ -1,0 +1,243 @@
+-- What holds at each turn of the walk over stored terms.
+use Rattle.std.specs.Prelude.{◌≡◌, ◌<◌, ◌⊎◌, ◌+◌, ◌-◌, ◌^◌, ℕ, suc, Option, Some, None, [], ◌∷◌, ◌++◌, length, take, drop, slice_get, All, ⊤}
+use Rattle.std.specs.Prelude.{List as Listed}
+use Rattle.tt_index.specs.declared.refusal.Refusal.{Refusal}
+use Rattle.tt_index.specs.declared.refusal.Refusal.TheVariants.{Memory, NotAClause}
+use Rattle.tt_kinds.specs.Label.{Label, record_label, text_label}
+use Rattle.tt_kinds.specs.Tree.{Depth, Tree, param, bound, region, term, node, binder, Forest, none, also}
+use Rattle.tt_kinds.specs.Shape.{HasParts, name_of, rename_label}
+use Rattle.tt_kinds.specs.Parts.{node_table, node_number, list_sort, list_table, list_number, child_sort, IsItem}
+use Rattle.tt_kinds.specs.Kinds as kinds
+use Rattle.tt_kinds.specs.Kinds.{Form, form_parts, form_binder, kind_form, kind_shape, kind_table, child_shapes, children_shapes}
+use Rattle.tt_kinds.specs.declared.table.Table.TheVariants.{ClauseLists}
+use Rattle.tt_kinds.specs.declared.parts.Node.{Node}
+use Rattle.tt_kinds.specs.declared.parts.List.{List}
+use Rattle.tt_kinds.specs.declared.parts.Child.{Child}
+use Rattle.tt_kinds.specs.declared.parts.Child.TheVariants as child
+use Rattle.tt_kinds.specs.declared.parts.Parts.{Parts}
+use Rattle.tt_interner.specs.Rows.{Row, size, meaning}
+use Rattle.tt_interner.specs.Stored.{Terms, Extends}
+use Rattle.tt_interner.specs.Children.{children_at}
+use Rattle.tt_interner.specs.Nodes.{stored_kind}
+use Rattle.tt_interner.specs.declared.nodes.Contents.{Contents}
+use Rattle.tt_fold.specs.Walk.{Hooks, Wanted, Walks, WalksInside, WalksAll, HasUnwanted}
+use Rattle.tt_fold.specs.Counts.{Standing, stands}
+use Rattle.tt_fold.specs.Steps.{errors_of, vars_in}
+use Rattle.tt_fold.specs.Parts.{ArePartsOf, trees_in, child_trees, children_trees, IsChildFor, IsInner}
+use Rattle.tt_fold.specs.Items.{child_tree, child_list, child_node, IsWhole}
+use Rattle.tt_fold.specs.Stack.{Outline, plain, under, items, whole, binder_of, wanted_by, TakesAny, Asks, Opens, Begins, Rebuilds, Rests, RestFails, Context, Proceeds, Halts}
+use Rattle.tt_fold.specs.declared.stack.Begun.{Begun}
+use Rattle.tt_fold.specs.declared.stack.Begun.TheVariants as begun
+use Rattle.tt_fold.specs.declared.stack.Frame.{Frame}
+use Rattle.tt_fold.specs.declared.folder.Step.{Step}
+use Rattle.tt_fold.specs.declared.folder.Step.TheVariants as step
+
+-- the outline of a form
+abbrev pub form_outline : Listed Row → Form (Label ℕ) → Outline
+form_outline rows (kinds.param i name) = plain (text_label [])
+form_outline rows (kinds.bound d e) = plain (text_label [])
+form_outline rows (kinds.plain l p) = plain (rename_label (name_of (meaning rows)) l)
+form_outline rows (kinds.under l vars m p) =
+    under (rename_label (name_of (meaning rows)) l) (vars_in rows vars) (rename_label (name_of (meaning rows)) (record_label m))
+
+-- the outline of a term or a list, by the list that it is or the term
+abbrev pub outline_by : Listed Row → Node → Option List → Outline
+outline_by rows n (Some l) = items (list_sort l)
+outline_by rows n None = form_outline rows (kind_form (stored_kind rows n))
+
+abbrev pub outline_of : Listed Row → Child → Outline
+outline_of rows c = outline_by rows (child_node c) (child_list c)
+
+-- the children, by the list that it is or the term's parts
+abbrev pub children_by : Listed Row → Parts → Option List → Listed Child
+children_by rows p (Some l) = children_at rows l
+children_by rows p None = p.first ∷ p.second ∷ []
+
+abbrev pub children_in : Listed Row → Frame → Listed Child
+children_in rows f = children_by rows f.contents.parts (child_list f.item)
+
+-- how many children are absent
+abbrev pub absent_among : Listed Child → ℕ
+absent_among [] = 0
+absent_among (child.Absent ∷ cs) = suc (absent_among cs)
+absent_among (child.Region r ∷ cs) = absent_among cs
+absent_among (child.Node n ∷ cs) = absent_among cs
+absent_among (child.List l ∷ cs) = absent_among cs
+
+-- the contents are the stored term's, and it has some
+pub record IsTermFrame (rows : Listed Row) (n : Node) (contents : Contents) (count : ℕ) : Type 0 where
+  pub in_range : node_number n < size rows (node_table n)
+  pub has_kind : node_table n ≡ ClauseLists → ⊥
+  pub table : kind_table (stored_kind rows n) ≡ node_table n
+  pub bound_vars : contents.bound_vars ≡ form_binder (kind_form (stored_kind rows n))
+  pub parts : contents.parts ≡ form_parts (kind_form (stored_kind rows n))
+  pub named : HasParts (size rows) (kind_shape (stored_kind rows n))
+  pub inner : IsInner (kind_form (stored_kind rows n))
+  pub counted : count ≡ 2
+
+-- the list is stored, and holds so many children
+pub record IsListFrame (rows : Listed Row) (l : List) (count : ℕ) : Type 0 where
+  pub in_range : list_number l < size rows (list_table l)
+  pub parts : ArePartsOf rows (children_shapes (children_at rows l))
+  pub fit : All (λ c. IsItem (list_sort l) (child_sort c)) (children_at rows l)
+  pub counted : count ≡ length (children_at rows l)
+  pub fits : count < 2 ^ 64
+
+-- what a frame says of its term or its list
+abbrev pub IsMadeOf : Listed Row → Node → Contents → ℕ → Option List → Type 0
+IsMadeOf rows n contents count (Some l) = IsListFrame rows l count
+IsMadeOf rows n contents count None = IsTermFrame rows n contents count
+
+-- the frame's term or list is the rows', and is made of its children
+pub record IsFrame (rows : Listed Row) (f : Frame) : Type 0 where
+  pub is : IsWhole f.item
+  pub part : ArePartsOf rows (child_shapes f.item)
+  pub tree : child_tree rows f.item ≡ whole (outline_of rows f.item) (children_trees rows (children_in rows f))
+  pub made : IsMadeOf rows (child_node f.item) f.contents f.count (child_list f.item)
+
+-- each value is of the sort of the child in its place
+abbrev pub AreAlike : Listed Child → Listed Child → Type 0
+AreAlike [] cs = ⊤
+AreAlike (v ∷ vs) [] = ⊥
+AreAlike (v ∷ vs) (c ∷ cs) = (child_sort v ≡ child_sort c) × AreAlike vs cs
+
+-- the values came of the frame's first children
+pub record Holds (rows : Listed Row) (f : Frame) (values : Listed Child) : Type 0 where
+  pub frame : IsFrame rows f
+  pub owned : ArePartsOf rows (children_shapes values)
+  pub alike : AreAlike values (children_in rows f)
+  pub wanted : HasUnwanted (wanted_by (outline_of rows f.item)) (children_trees rows values) → ⊥
+
+-- the trees of the children that were not begun
+abbrev pub left_of : Listed Row → Frame → Forest Depth
+left_of rows f = children_trees rows (drop f.next (children_in rows f))
+
+-- the value may be one of the list's items
+abbrev pub Fits : Option List → Child → Type 0
+Fits (Some l) value = IsItem (list_sort l) (child_sort value)
+Fits None value = ⊤
+
+-- the value may be one of the frame's results, if it is what has to come
+pub record IsResult (rows : Listed Row) (f : Frame) (value : Child) : Type 0 where
+  pub owned : ArePartsOf rows (child_shapes value)
+  pub fit : Fits (child_list f.item) value
+
+-- the memory for a value is refused, or it is not what has to come
+abbrev pub IsNotKept : Wanted → Forest Depth → Refusal → Type 0
+IsNotKept w ts e = ((HasUnwanted w ts → ⊥) × (e ≡ Memory)) ⊎ (HasUnwanted w ts × (e ≡ NotAClause))
+
+-- the last values
+abbrev pub last_of : ℕ → Listed Child → Listed Child
+last_of n values = drop (length values - n) values
+
+-- a frame and the results of its first children
+pub record Part : Type 0 where
+  pub frame : Frame
+  pub values : Listed Child
+
+-- the frames of parts, the innermost first, in the order in which they came
+abbrev pub frames_of : Listed Part → Listed Frame
+frames_of [] = []
+frames_of (p ∷ ps) = frames_of ps ++ p.frame ∷ []
+
+-- their results in the order in which they came
+abbrev pub values_of : Listed Part → Listed Child
+values_of [] = []
+values_of (p ∷ ps) = values_of ps ++ p.values
+
+abbrev pub context_of : Listed Row → Part → Context
+context_of rows p = record {
+  before = child_tree rows p.frame.item;
+  outline = outline_of rows p.frame.item;
+  done = children_trees rows p.values;
+  left = left_of rows p.frame;
+}
+
+abbrev pub contexts : Listed Row → Listed Part → Listed Context
+contexts rows [] = []
+contexts rows (p ∷ ps) = context_of rows p ∷ contexts rows ps
+
+-- the values are those of the children before this one, which is being walked
+pub record IsBelow (rows : Listed Row) (item : Child) (p : Part) : Type 0 where
+  pub holds : Holds rows p.frame p.values
+  pub counted : length p.values + 1 ≡ p.frame.next
+  pub walked : slice_get (children_in rows p.frame) (length p.values) ≡ Some item
+
+-- each part's child is the term or the list of the part before it, the outermost is the root
+abbrev pub AreBelow : Listed Row → Child → Child → Listed Part → Type 0
+AreBelow rows root item [] = item ≡ root
+AreBelow rows root item (p ∷ ps) = IsBelow rows item p × AreBelow rows root p.frame.item ps
+
+abbrev mutual
+  -- the work that the walk of a tree is
+  pub work : Tree Depth → ℕ
+  work (param s i name) = 0
+  work (bound s d e) = 0
+  work (region r) = 0
+  work (term l ts) = suc (suc (suc (work_all ts)))
+  work (node l ts) = suc (suc (suc (work_all ts)))
+  work (binder vs t) = work t
+
+  pub work_all : Forest Depth → ℕ
+  work_all none = 0
+  work_all (also t ts) = suc (work t) + work_all ts
+
+-- the work that is left in a frame, and in frames
+abbrev pub frame_work : Listed Row → Frame → ℕ
+frame_work rows f = suc (absent_among (drop f.next (children_in rows f)) + work_all (left_of rows f))
+
+abbrev pub frames_work : Listed Row → Listed Frame → ℕ
+frames_work rows [] = 0
+frames_work rows (f ∷ fs) = frame_work rows f + frames_work rows fs
+
+abbrev pub total_work : Listed Row → Frame → Listed Frame → ℕ
+total_work rows f fs = frame_work rows f + frames_work rows fs
+
+-- the frame of the term or the list with all of its children left
+pub record IsOpened (rows : Listed Row) (item : Child) (f : Frame) : Type 0 where
+  pub is : IsFrame rows f
+  pub same : f.item ≡ item
+  pub start : f.next ≡ 0
+
+module _ {M E : Type 0} (H : Hooks M E) where
+  -- the hook answered for the child, which has this tree
+  abbrev pub IsAsked : Tree Depth → Child → Listed Row → Step Child → M → M → Type 0
+  IsAsked t item rows (step.Replace y) s s' = IsChildFor item rows y × Walks H s t (child_tree rows y) s'
+  IsAsked t item rows step.Keep s s' = Walks H s t t s'
+  IsAsked t item rows step.Descend s s' = Asks H t s s'
+
+  -- the contents of the term were begun, or there are none
+  abbrev pub IsOpen : Tree Depth → Child → Listed Row → Option Frame → M → M → Type 0
+  IsOpen t item rows (Some f) s s' = IsOpened rows item f × TakesAny (outline_of rows item) × Opens H (binder_of (outline_of rows item)) s s'
+  IsOpen t item rows None s s' = WalksInside H s t t s'
+
+  -- the child came to another, or its children are next
+  abbrev pub IsBegun : Forest Depth → Tree Depth → Child → Listed Row → Begun → M → M → Type 0
+  IsBegun ts t item rows (begun.Done y) s s' = IsChildFor item rows y × WalksAll H s ts (child_trees rows y) s'
+  IsBegun ts t item rows (begun.Inside f) s s' = IsOpened rows item f × Begins H t (outline_of rows item) (left_of rows f) s s'
+
+  -- the frame's term or list is built of the results
+  abbrev pub IsRebuilt : Listed Row → Frame → Listed Child → Listed Row → Child → M → M → Type 0
+  IsRebuilt rows0 f results rows y s s' =
+      IsChildFor f.item rows y × Rebuilds H (outline_of rows0 f.item) (children_trees rows0 results) s (child_tree rows y) s'
+
+-- The walk of the root's children, begun among the terms0 and in the state s0, has come to the terms and the state s, to the
+-- innermost frame, the frames around it and the values of them all. Whatever is left to do makes the walk of the whole.
+pub record Going {M E S : Type 0} (owned : Listed Row → S → Type 0) (means : Listed Row → S → M) (H : Hooks (Standing M) E) (gives : Refusal → E → Type 0)
+    (terms0 : Terms) (s0 : S) (first : Frame) (terms : Terms) (s : S) (frame : Frame) (frames : Listed Frame) (values : Listed Child) : Type 0 where
+  pub below : Listed Part
+  pub results : Listed Child
+  pub frames_are : frames ≡ frames_of below
+  pub values_are : values ≡ values_of below ++ results
+  pub extends : Extends terms0 terms
+  pub is_owned : owned terms.rows s
+  pub holds : Holds terms.rows frame results
+  pub counted : length results ≡ frame.next
+  pub below_are : AreBelow terms.rows first.item frame.item below
+  pub ends : (u : Tree Depth) (s' : Standing M)
+      → Proceeds H (child_tree terms.rows frame.item) (outline_of terms.rows frame.item) (children_trees terms.rows results) (left_of terms.rows frame) (contexts terms.rows below) (stands means terms s) u s'
+      → Rests H (outline_of terms0.rows first.item) (left_of terms0.rows first) (stands means terms0 s0) u s'
+  -- the terms at the end say what an error tells
+  pub fails : (final : Terms) (e : E) (s' : Standing M)
+      → Halts H (errors_of gives final) (child_tree terms.rows frame.item) (outline_of terms.rows frame.item) (children_trees terms.rows results) (left_of terms.rows frame) (contexts terms.rows below) (stands means terms s) e s'
+      → RestFails H (errors_of gives final) (outline_of terms0.rows first.item) (left_of terms0.rows first) (stands means terms0 s0) e s'

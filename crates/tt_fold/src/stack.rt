@@ -1,0 +1,540 @@
+//! The walk of what is inside a term or a list. Its stack is on the heap, so that terms may be of any depth.
+
+ghost use Rattle.std.specs.Prelude.{
+  ◌≡◌,
+  ◌<◌,
+  ◌≤◌,
+  ◌-◌,
+  ◌++◌,
+  ◌∷◌,
+  [],
+  IfErr,
+  IsTrue,
+  ◌↔◌,
+  None,
+  length,
+  OnOk,
+  slice_get,
+  Some,
+  take,
+};
+ghost use Rattle.tt_kinds.specs.Kinds.{child_shapes};
+ghost use Rattle.tt_fold.specs.Walk.{ChildFails, Fails, HasUnwanted, InsideFails};
+ghost use Rattle.tt_fold.specs.Steps.{errors_of, Goes};
+ghost use Rattle.tt_fold.specs.Still.{StaysStill};
+ghost use Rattle.tt_fold.specs.Parts.{
+  ArePartsOf,
+  binder_in,
+  child_trees,
+  children_trees,
+  HasBinder,
+  IsChildFor,
+  IsLeaf,
+};
+ghost use Rattle.tt_fold.specs.Items.{child_list, child_shape, child_tree, IsWhole};
+ghost use Rattle.tt_index.specs.declared.refusal.Refusal.TheVariants.{Memory};
+ghost use Rattle.tt_fold.specs.Stack.{
+  EnterFails,
+  FinishFails,
+  Finishes,
+  LeaveFails,
+  Leaves,
+  Opens,
+  RebuildFails,
+  Rebuilds,
+  RestFails,
+  Rests,
+  wanted_by,
+};
+ghost use Rattle.tt_fold.specs.Going.{
+  children_in,
+  Holds,
+  IsAsked,
+  IsBegun,
+  IsFrame,
+  IsNotKept,
+  IsOpen,
+  IsOpened,
+  IsRebuilt,
+  IsResult,
+  last_of,
+  left_of,
+  outline_of,
+};
+
+use crate::core_folder::Core;
+use crate::folder::Step;
+use crate::items::{as_item, as_list_item, check_item, hooked_in, is_absent, list_in, term_in};
+use smallvec::SmallVec;
+use tt_index::Refusal;
+use tt_interner::Interner;
+use tt_interner::nodes::Contents;
+use tt_kinds::{BoundVarKinds, Child, List, Parts};
+
+// A term or a list whose children are walked.
+#[derive(Clone, Copy)]
+pub(crate) struct Frame {
+    // The term or the list.
+    item: Child,
+    // The contents of a term. A list has none.
+    contents: Contents,
+    // How many children there are.
+    count: usize,
+    // How many of them were begun.
+    next: usize,
+}
+
+impl Default for Frame {
+    fn default() -> Frame {
+        Frame {
+            item: Child::Absent,
+            contents: Contents {
+                bound_vars: None,
+                parts: Parts::none(),
+            },
+            count: 0,
+            next: 0,
+        }
+    }
+}
+
+// What a child comes to at first: its result, or what is inside.
+pub(crate) enum Begun {
+    Done(Child),
+    Inside(Frame),
+}
+
+// The frames around the innermost one. A walk that isn't deep needs no allocation.
+type Frames = SmallVec<Frame, 8>;
+
+// The results of the children of all frames. A few short lists need no allocation.
+type Values = SmallVec<Child, 16>;
+
+// Begins a child: asks its hook, and enters its binder.
+#[inline(always)]
+pub(crate) fn begin<M, F: Core<M>>(
+    cx: &mut Interner,
+    folder: &mut F,
+    child: &Child,
+) -> Result<Begun, F::Error>
+    requires owned { F.owned cx.old.rows folder.old }
+    requires child { ArePartsOf cx.old.rows (child_shapes child.now) }
+    ensures still { StaysStill F.hooks F.touches_nothing F.meaning (child_shape child.now) cx.old folder.old cx.new }
+    ensures goes { Goes F.owned F.meaning
+        (IsBegun F.hooks (child_trees cx.old.rows child.now) (child_tree cx.old.rows child.now) child.now)
+        (λ s e s'. ChildFails F.hooks
+        (errors_of F.Error.from_gives cx.new)
+        s
+        (child_trees cx.old.rows child.now)
+        e
+        s')
+        cx.old folder.old result cx.new folder.new }
+{
+    match child {
+        Child::Absent => Ok(Begun::Done(Child::Absent)),
+        Child::Region(region) => {
+            let new_region = folder.core_region(cx, *region)?;
+            Ok(Begun::Done(Child::Region(new_region)))
+        }
+        _ => begin_item::<M, F>(cx, folder, child),
+    }
+}
+
+// The same of a term or a list. One without children is done at once.
+#[inline(always)]
+fn begin_item<M, F: Core<M>>(
+    cx: &mut Interner,
+    folder: &mut F,
+    item: &Child,
+) -> Result<Begun, F::Error>
+    requires owned { F.owned cx.old.rows folder.old }
+    requires item { ArePartsOf cx.old.rows (child_shapes item.now) }
+    requires whole { IsWhole item.now }
+    ensures still { StaysStill F.hooks F.touches_nothing F.meaning (child_shape item.now) cx.old folder.old cx.new }
+    ensures goes { Goes F.owned F.meaning
+        (IsBegun F.hooks (child_trees cx.old.rows item.now) (child_tree cx.old.rows item.now) item.now)
+        (λ s e s'. Fails F.hooks (errors_of F.Error.from_gives cx.new) s (child_tree cx.old.rows item.now) e s')
+        cx.old folder.old result cx.new folder.new }
+{
+    let step = ask::<M, F>(cx, folder, item)?;
+    match step {
+        Step::Replace(new) => Ok(Begun::Done(new)),
+        Step::Keep => Ok(Begun::Done(*item)),
+        Step::Descend => {
+            let opened = open::<M, F>(cx, folder, item)?;
+            match opened {
+                Some(frame) => Ok(Begun::Inside(frame)),
+                None => {
+                    let value = finish::<M, F>(cx, folder, item, *item)?;
+                    Ok(Begun::Done(value))
+                }
+            }
+        }
+    }
+}
+
+// Asks the hook of a term or a list. Where there is none, its children are next.
+#[inline(always)]
+fn ask<M, F: Core<M>>(
+    cx: &mut Interner,
+    folder: &mut F,
+    item: &Child,
+) -> Result<Step<Child>, F::Error>
+    requires owned { F.owned cx.old.rows folder.old }
+    requires item { ArePartsOf cx.old.rows (child_shapes item.now) }
+    requires whole { IsWhole item.now }
+    ensures still { F.touches_nothing cx.old.rows folder.old (child_tree cx.old.rows item.now) → cx.new ≡ cx.old }
+    ensures goes { Goes F.owned F.meaning
+        (IsAsked F.hooks (child_tree cx.old.rows item.now) item.now)
+        (λ s e s'. Fails F.hooks (errors_of F.Error.from_gives cx.new) s (child_tree cx.old.rows item.now) e s')
+        cx.old folder.old result cx.new folder.new }
+{
+    match hooked_in(item) {
+        None => Ok(Step::Descend),
+        Some(node) => {
+            let step = folder.core_term(cx, node)?;
+            match step {
+                Step::Replace(new) => Ok(Step::Replace(as_item(item, new))),
+                Step::Keep => Ok(Step::Keep),
+                Step::Descend => Ok(Step::Descend),
+            }
+        }
+    }
+}
+
+// Begins the children of a term or a list. A term without children has none.
+pub(crate) fn open<M, F: Core<M>>(
+    cx: &mut Interner,
+    folder: &mut F,
+    item: &Child,
+) -> Result<Option<Frame>, F::Error>
+    requires owned { F.owned cx.old.rows folder.old }
+    requires item { ArePartsOf cx.old.rows (child_shapes item.now) }
+    requires whole { IsWhole item.now }
+    ensures { Goes F.owned F.meaning
+        (IsOpen F.hooks (child_tree cx.old.rows item.now) item.now)
+        (λ s e s'. InsideFails F.hooks (errors_of F.Error.from_gives cx.new) s (child_tree cx.old.rows item.now) e s')
+        cx.old folder.old result cx.new folder.new }
+{
+    match list_in(item) {
+        Some(list) => Ok(Some(list_frame(cx, item, list))),
+        None => open_term::<M, F>(cx, folder, item),
+    }
+}
+
+// A list before its children.
+#[inline(always)]
+fn list_frame(cx: &Interner, item: &Child, list: List) -> Frame
+    requires item { ArePartsOf cx.now.rows (child_shapes item.now) }
+    requires whole { IsWhole item.now }
+    requires list { Some list ≡ child_list item.now }
+    ensures { IsOpened cx.now.rows item.now result }
+{
+    Frame {
+        item: *item,
+        contents: Contents {
+            bound_vars: None,
+            parts: Parts::none(),
+        },
+        count: cx.list_len(list),
+        next: 0,
+    }
+}
+
+// Begins the children of a term.
+#[inline(always)]
+fn open_term<M, F: Core<M>>(
+    cx: &mut Interner,
+    folder: &mut F,
+    item: &Child,
+) -> Result<Option<Frame>, F::Error>
+    requires owned { F.owned cx.old.rows folder.old }
+    requires item { ArePartsOf cx.old.rows (child_shapes item.now) }
+    requires whole { IsWhole item.now }
+    requires term { None ≡ child_list item.now }
+    ensures { Goes F.owned F.meaning
+        (IsOpen F.hooks (child_tree cx.old.rows item.now) item.now)
+        (λ s e s'. InsideFails F.hooks (errors_of F.Error.from_gives cx.new) s (child_tree cx.old.rows item.now) e s')
+        cx.old folder.old result cx.new folder.new }
+{
+    let contents = cx.node_parts(term_in(item));
+    if is_leaf(&contents) {
+        return Ok(None);
+    }
+    enter::<M, F>(cx, folder, contents.bound_vars)?;
+    Ok(Some(Frame {
+        item: *item,
+        contents,
+        count: 2,
+        next: 0,
+    }))
+}
+
+// Whether there are neither children nor a binder, so that the term need not be built again.
+#[inline(always)]
+fn is_leaf(contents: &Contents) -> bool
+    ensures { IsTrue result ↔ IsLeaf contents.now.bound_vars contents.now.parts }
+{
+    let parts = &contents.parts;
+    contents.bound_vars.is_none() && is_absent(&parts.first) && is_absent(&parts.second)
+}
+
+// Before the children of a term.
+#[inline(always)]
+fn enter<M, F: Core<M>>(
+    cx: &mut Interner,
+    folder: &mut F,
+    binder: Option<BoundVarKinds>,
+) -> Result<(), F::Error>
+    requires owned { F.owned cx.old.rows folder.old }
+    requires binder { HasBinder cx.old.rows binder }
+    ensures { Goes F.owned F.meaning
+        (λ _ _ s s'. Opens F.hooks (binder_in cx.old.rows binder) s s')
+        (EnterFails F.hooks (errors_of F.Error.from_gives cx.new) (binder_in cx.old.rows binder))
+        cx.old folder.old result cx.new folder.new }
+{
+    match binder {
+        None => Ok(()),
+        Some(vars) => folder.core_enter(cx, vars),
+    }
+}
+
+// After the children of a term.
+#[inline(always)]
+fn leave<M, F: Core<M>>(
+    cx: &mut Interner,
+    folder: &mut F,
+    binder: Option<BoundVarKinds>,
+) -> Result<(), F::Error>
+    requires owned { F.owned cx.old.rows folder.old }
+    requires binder { HasBinder cx.old.rows binder }
+    ensures { Goes F.owned F.meaning
+        (λ _ _ s s'. Leaves F.hooks (binder_in cx.old.rows binder) s s')
+        (LeaveFails F.hooks (errors_of F.Error.from_gives cx.new) (binder_in cx.old.rows binder))
+        cx.old folder.old result cx.new folder.new }
+{
+    match binder {
+        None => Ok(()),
+        Some(vars) => folder.core_leave(cx, vars),
+    }
+}
+
+// Asks the hook after the contents of a term or a list, where there is one.
+#[inline(always)]
+pub(crate) fn finish<M, F: Core<M>>(
+    cx: &mut Interner,
+    folder: &mut F,
+    before: &Child,
+    rebuilt: Child,
+) -> Result<Child, F::Error>
+    requires owned { F.owned cx.old.rows folder.old }
+    requires before { ArePartsOf cx.old.rows (child_shapes before.now) }
+    requires whole { IsWhole before.now }
+    requires rebuilt { IsChildFor before.now cx.old.rows rebuilt }
+    ensures { Goes F.owned F.meaning
+        (λ rows y s s'. IsChildFor before.now rows y
+        × Finishes F.hooks
+        (child_tree cx.old.rows before.now)
+        (child_tree cx.old.rows rebuilt)
+        s
+        (child_tree rows y)
+        s')
+        (FinishFails F.hooks
+        (errors_of F.Error.from_gives cx.new)
+        (child_tree cx.old.rows before.now)
+        (child_tree cx.old.rows rebuilt))
+        cx.old folder.old result cx.new folder.new }
+{
+    match hooked_in(before) {
+        None => Ok(rebuilt),
+        Some(node) => {
+            let new = folder.core_after_term(cx, node, term_in(&rebuilt))?;
+            Ok(as_item(before, new))
+        }
+    }
+}
+
+// The walk of the children of a term or a list, and what is built of their results.
+#[inline(never)]
+pub(crate) fn fold_frames<M, F: Core<M>>(
+    cx: &mut Interner,
+    folder: &mut F,
+    first: Frame,
+) -> Result<Child, F::Error>
+    requires owned { F.owned cx.old.rows folder.old }
+    requires frame { IsFrame cx.old.rows first }
+    requires start { first.next ≡ 0 }
+    ensures { Goes F.owned F.meaning
+        (λ rows y s s'. IsChildFor first.item rows y
+        × Rests F.hooks (outline_of cx.old.rows first.item) (left_of cx.old.rows first) s (child_tree rows y) s')
+        (RestFails F.hooks
+        (errors_of F.Error.from_gives cx.new)
+        (outline_of cx.old.rows first.item)
+        (left_of cx.old.rows first))
+        cx.old folder.old result cx.new folder.new }
+{
+    let mut frames: Frames = SmallVec::new(cx.allocator());
+    let mut values: Values = SmallVec::new(cx.allocator());
+    let mut frame = first;
+    'walk: loop {
+        if frame.next < frame.count {
+            let child = next_child(cx, &frame);
+            frame.next += 1;
+            let begun = begin::<M, F>(cx, folder, &child)?;
+            match begun {
+                Begun::Done(value) => keep(cx, &frame, &mut values, value)?,
+                Begun::Inside(inner) => {
+                    suspend(&mut frames, &frame)?;
+                    frame = inner;
+                }
+            }
+        } else {
+            let rebuilt = rebuild::<M, F>(cx, folder, &frame, &mut values)?;
+            match frames.pop() {
+                None => return Ok(rebuilt),
+                Some(outer) => {
+                    let value = finish::<M, F>(cx, folder, &frame.item, rebuilt)?;
+                    frame = outer;
+                    keep(cx, &frame, &mut values, value)?;
+                }
+            }
+        }
+    }
+}
+
+// The child that is to be begun.
+#[inline(always)]
+fn next_child(cx: &Interner, frame: &Frame) -> Child
+    requires frame { IsFrame cx.now.rows frame.now }
+    requires more { frame.now.next < frame.now.count }
+    ensures { slice_get (children_in cx.now.rows frame.now) frame.now.next ≡ Some result }
+{
+    match list_in(&frame.item) {
+        Some(list) => cx.list_child(list, frame.next),
+        None => {
+            if frame.next == 0 {
+                frame.contents.parts.first
+            } else {
+                frame.contents.parts.second
+            }
+        }
+    }
+}
+
+// Keeps the result of a child of the frame. Of an item of a list of clauses has to come a clause.
+#[inline(always)]
+fn keep(cx: &Interner, frame: &Frame, values: &mut Values, value: Child) -> Result<(), Refusal>
+    requires frame { IsFrame cx.now.rows frame.now }
+    requires child { IsResult cx.now.rows frame.now value }
+    ensures kept { OnOk result (values.new.items ≡ values.old.items ++ value ∷ []) }
+    ensures wanted { OnOk result
+        (HasUnwanted (wanted_by (outline_of cx.now.rows frame.now.item)) (child_trees cx.now.rows value) → ⊥) }
+    ensures failed { IfErr result
+        (IsNotKept (wanted_by (outline_of cx.now.rows frame.now.item)) (child_trees cx.now.rows value)) }
+{
+    if let Some(list) = list_in(&frame.item) {
+        check_item(cx, list.sort(), &value)?;
+    }
+    values.push(value)?;
+    Ok(())
+}
+
+// Puts a frame aside until the child that was begun is done.
+#[inline(always)]
+fn suspend(frames: &mut Frames, frame: &Frame) -> Result<(), Refusal>
+    ensures kept { OnOk result (frames.new.items ≡ frames.old.items ++ frame.now ∷ []) }
+    ensures memory { IfErr result (λ e. e ≡ Memory) }
+{
+    frames.reserve(1)?;
+    frames.push_reserved(Frame {
+        item: frame.item,
+        contents: frame.contents,
+        count: frame.count,
+        next: frame.next,
+    });
+    Ok(())
+}
+
+// Builds a term or a list of the results of its children, which are the last values.
+fn rebuild<M, F: Core<M>>(
+    cx: &mut Interner,
+    folder: &mut F,
+    frame: &Frame,
+    values: &mut Values,
+) -> Result<Child, F::Error>
+    requires owned { F.owned cx.old.rows folder.old }
+    requires holds { Holds cx.old.rows frame.now (last_of frame.now.count values.old.items) }
+    requires full { frame.now.count ≤ length values.old.items }
+    ensures values { OnOk result
+        (values.new.items ≡ take (length values.old.items - frame.now.count) values.old.items) }
+    ensures goes { Goes F.owned F.meaning
+        (IsRebuilt F.hooks cx.old.rows frame.now (last_of frame.now.count values.old.items))
+        (RebuildFails F.hooks
+        (errors_of F.Error.from_gives cx.new)
+        (outline_of cx.old.rows frame.now.item)
+        (children_trees cx.old.rows (last_of frame.now.count values.old.items)))
+        cx.old folder.old result cx.new folder.new }
+{
+    match list_in(&frame.item) {
+        Some(list) => {
+            let results = last_values(values, frame.count);
+            let new_list = cx.store_list(list.sort(), results)?;
+            values.truncate(values.len() - frame.count);
+            Ok(as_list_item(&frame.item, new_list))
+        }
+        None => rebuild_term::<M, F>(cx, folder, frame, values),
+    }
+}
+
+// Builds a term of the results of its children.
+fn rebuild_term<M, F: Core<M>>(
+    cx: &mut Interner,
+    folder: &mut F,
+    frame: &Frame,
+    values: &mut Values,
+) -> Result<Child, F::Error>
+    requires owned { F.owned cx.old.rows folder.old }
+    requires holds { Holds cx.old.rows frame.now (last_of 2 values.old.items) }
+    requires full { 2 ≤ length values.old.items }
+    requires term { None ≡ child_list frame.now.item }
+    ensures values { OnOk result (values.new.items ≡ take (length values.old.items - 2) values.old.items) }
+    ensures goes { Goes F.owned F.meaning
+        (IsRebuilt F.hooks cx.old.rows frame.now (last_of 2 values.old.items))
+        (RebuildFails F.hooks
+        (errors_of F.Error.from_gives cx.new)
+        (outline_of cx.old.rows frame.now.item)
+        (children_trees cx.old.rows (last_of 2 values.old.items)))
+        cx.old folder.old result cx.new folder.new }
+{
+    leave::<M, F>(cx, folder, frame.contents.bound_vars)?;
+    let parts = take_parts(values);
+    let new_node = cx.store_like(term_in(&frame.item), parts)?;
+    Ok(as_item(&frame.item, new_node))
+}
+
+// Takes the last two values, the results of a term's children.
+#[inline(always)]
+fn take_parts(values: &mut Values) -> Parts
+    requires { 2 ≤ length values.old.items }
+    ensures parts { last_of 2 values.old.items ≡ result.first ∷ result.second ∷ [] }
+    ensures values { values.new.items ≡ take (length values.old.items - 2) values.old.items }
+{
+    let start = values.len() - 2;
+    let last = &values.as_slice()[start..];
+    let parts = Parts {
+        first: last[0],
+        second: last[1],
+    };
+    values.truncate(start);
+    parts
+}
+
+// The last values, so many.
+#[inline(always)]
+fn last_values(values: &Values, count: usize) -> &[Child]
+    requires { count ≤ length values.now.items }
+    ensures { result.now ≡ last_of count values.now.items }
+{
+    let start = values.len() - count;
+    &values.as_slice()[start..]
+}
