@@ -6,6 +6,7 @@ pub mod flags;
 pub mod folders;
 pub mod kinds;
 pub mod terms;
+pub mod visitors;
 
 pub use checks::{answer_anew, answer_within, instance, is_instance, is_shifted, shifted};
 pub use flags::{Built, Flagged, are_infos, has_flags, info, info_of_kind, info_of_predicate};
@@ -16,5 +17,7 @@ pub use kinds::{
 };
 pub use terms::{
     NOT_OWNED, args, args_from_iter, binder_index, bound_region, bound_ty, one_region,
-    param_region, param_ty, ref_ty, region_variable, ty, tys, tys_from_iter, u32_ty,
+    param_region, param_ty, pointer, ref_ty, region_variable, tuple, ty, tys, tys_from_iter,
+    u32_ty,
 };
+pub use visitors::occurs;

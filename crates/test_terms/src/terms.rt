@@ -1,10 +1,10 @@
 //! Types, regions and their lists.
 
 use type_terms::{
-    BoundRegion, BoundRegionKind, BoundTy, BoundTyKind, BoundVar, BoundVarIndexKind, BoundVarKinds,
-    BoundVariableKind, DebruijnIndex, EarlyParamRegion, GenericArg, GenericArgs, Interner,
-    Mutability, ParamTy, Refusal, Region, RegionKind, RegionVid, Ty, TyKind, Tys, UintTy,
-    are_owned,
+    Binder, BoundRegion, BoundRegionKind, BoundTy, BoundTyKind, BoundVar, BoundVarIndexKind,
+    BoundVarKinds, BoundVariableKind, DebruijnIndex, EarlyParamRegion, FnHeader, FnSigKind,
+    FnSigTys, GenericArg, GenericArgs, Interner, Mutability, ParamTy, Refusal, Region, RegionKind,
+    RegionVid, Ty, TyKind, Tys, UintTy, are_owned,
 };
 
 // The refusal of a helper whose condition doesn't hold. The library never returns it.
@@ -113,4 +113,19 @@ pub fn one_region(cx: &mut Interner) -> Result<BoundVarKinds, Refusal> {
 // Returns `&'r T`.
 pub fn ref_ty(cx: &mut Interner, region: Region, referent: Ty) -> Result<Ty, Refusal> {
     ty(cx, TyKind::Ref(region, referent, Mutability::Not))
+}
+
+// Returns the tuple of these types.
+pub fn tuple(cx: &mut Interner, types: &[Ty]) -> Result<Ty, Refusal> {
+    let items = tys(cx, types)?;
+    ty(cx, TyKind::Tuple(items))
+}
+
+// Returns the pointer to a function of these types, the last of which is its output, under a binder of no variables.
+pub fn pointer(cx: &mut Interner, types: &[Ty]) -> Result<Ty, Refusal> {
+    let inputs_and_output = tys(cx, types)?;
+    let signature = FnSigTys { inputs_and_output };
+    let fn_sig_kind = FnSigKind::default();
+    let bound = Binder::bind_with_vars(signature, BoundVarKinds::default());
+    ty(cx, TyKind::FnPtr(bound, FnHeader { fn_sig_kind }))
 }

@@ -1,26 +1,8 @@
 //! A type that occurs again is taken apart once.
 
 use super::holds_anew;
-use test_terms::{bound_region, instance, param_ty, ref_ty, ty, tys};
-use type_terms::{
-    Binder, BoundVarKinds, FnHeader, FnSigKind, FnSigTys, GenericArg, IntTy, Interner, Refusal, Ty,
-    TyKind,
-};
-
-// Returns the tuple of these types.
-pub fn tuple(cx: &mut Interner, types: &[Ty]) -> Result<Ty, Refusal> {
-    let items = tys(cx, types)?;
-    ty(cx, TyKind::Tuple(items))
-}
-
-// Returns the pointer to a function of these types, the last of which is its output, under a binder of no variables.
-pub fn pointer(cx: &mut Interner, types: &[Ty]) -> Result<Ty, Refusal> {
-    let inputs_and_output = tys(cx, types)?;
-    let signature = FnSigTys { inputs_and_output };
-    let fn_sig_kind = FnSigKind::default();
-    let bound = Binder::bind_with_vars(signature, BoundVarKinds::default());
-    ty(cx, TyKind::FnPtr(bound, FnHeader { fn_sig_kind }))
-}
+use test_terms::{bound_region, instance, param_ty, pointer, ref_ty, tuple, ty};
+use type_terms::{GenericArg, IntTy, Interner, Refusal, Ty, TyKind};
 
 // `&'^D.0 i32`, of the binder of this index.
 pub fn bound_ref(cx: &mut Interner, binder: u32) -> Result<Ty, Refusal> {

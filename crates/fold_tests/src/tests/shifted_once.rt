@@ -1,9 +1,9 @@
 //! Arguments are shifted past the binders above their parameters: once past each number of binders, and past no others.
 
-use super::remembering::{bound_ref, pointer, tuple};
+use super::remembering::bound_ref;
 use super::sharing::paired;
 use super::{holds_anew, holds_within};
-use test_terms::{binder_index, constant, info, instance, param_ty, ty, u32_ty};
+use test_terms::{binder_index, constant, info, instance, param_ty, pointer, tuple, ty, u32_ty};
 use type_terms::{
     BoundConst, BoundVar, BoundVarIndexKind, Const, ConstKind, GenericArg, Interner, ParamConst,
     Refusal, Ty, TyKind, UintTy,

@@ -6,37 +6,11 @@ ghost use Rattle.tt_visit.specs.Types.{breaks_at};
 
 use super::holds_anew;
 use std::ops::ControlFlow;
-use test_terms::{NOT_OWNED, bound_region, one_region, ref_ty, ty, u32_ty};
+use test_terms::{NOT_OWNED, bound_region, occurs, one_region, ref_ty, ty, u32_ty};
 use type_terms::{
     Binder, InternedKind, Interner, Next, Owned, Refusal, Region, Ty, TyKind, TypeInspector,
     inspect_types,
 };
-
-// Breaks at the type.
-#[derive(Drop)]
-struct Occurrence(Ty);
-
-impl TypeInspector for Occurrence {
-    type Break = ();
-
-    ghost shape = { λ s. ty_shape s.0 };
-
-    fn inspect_ty(&mut self, _cx: &Interner, ty: Ty) -> ControlFlow<(), Next> {
-        if ty == self.0 {
-            return ControlFlow::Break(());
-        }
-        ControlFlow::Continue(Next::Descend)
-    }
-}
-
-// Returns whether the type occurs in the value.
-fn occurs<T: Owned>(cx: &Interner, value: &T, ty: Ty) -> Result<bool, Refusal> {
-    if value.is_owned(cx) && ty.is_owned(cx) {
-        Ok(inspect_types(cx, value, &mut Occurrence(ty)).is_break())
-    } else {
-        Err(NOT_OWNED)
-    }
-}
 
 fn types_occur_holds(cx: &mut Interner) -> Result<bool, Refusal> {
     let number = u32_ty(cx)?;
