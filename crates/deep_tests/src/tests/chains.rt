@@ -2,16 +2,15 @@
 
 use super::{LEVELS, Link, holds_anew};
 use test_terms::{
-    bound_ty, is_instance, is_shifted, occurs, param_ty, pointer, ref_ty, region_variable, tuple,
-    u32_ty,
+    NOT_OWNED, bound_ty, is_instance, is_shifted, occurs, param_ty, pointer, ref_ty, tuple, u32_ty,
 };
-use type_terms::{GenericArg, Interner, IrPrint, Owned, Refusal, Ty};
+use type_terms::{GenericArg, Interner, IrPrint, Owned, Refusal, Region, RegionKind, Ty};
 
 // Returns the type that the link makes of the type inside.
 fn around(cx: &mut Interner, link: Link, inside: Ty) -> Result<Ty, Refusal> {
     match link {
         Link::Reference => {
-            let region = region_variable()?;
+            let region = Region::new(RegionKind::ReStatic)?;
             ref_ty(cx, region, inside)
         }
         Link::Pair => {
@@ -57,13 +56,27 @@ fn is_found(cx: &mut Interner, link: Link) -> Result<bool, Refusal> {
     Ok(occurs(cx, &value, parameter) == Ok(true) && occurs(cx, &value, absent) == Ok(false))
 }
 
-// The text of a chain around a parameter is as long as the texts of its links, of `each` bytes, and of the parameter.
-fn is_printed(cx: &mut Interner, link: Link, each: usize) -> Result<bool, Refusal> {
-    let parameter = param_ty(cx, 0)?;
-    let value = chain(cx, link, parameter)?;
+// Returns the length of the type's text.
+fn text_len(cx: &Interner, ty: Ty) -> Result<usize, Refusal> {
     let mut text = String::new(cx.allocator());
-    let printed = value.is_owned(cx) && value.print(cx, &mut text).is_ok();
-    Ok(printed && text.len() == each.saturating_mul(LEVELS as usize).saturating_add(1))
+    if ty.is_owned(cx) {
+        match ty.print(cx, &mut text) {
+            Ok(()) => Ok(text.len()),
+            Err(_) => Err(Refusal::Memory),
+        }
+    } else {
+        Err(NOT_OWNED)
+    }
+}
+
+// The text of a chain is as long as the texts of its links and of the type inside together.
+fn is_printed(cx: &mut Interner, link: Link) -> Result<bool, Refusal> {
+    let parameter = param_ty(cx, 0)?;
+    let one = around(cx, link, parameter)?;
+    let all = chain(cx, link, parameter)?;
+    let inside = text_len(cx, parameter)?;
+    let each = text_len(cx, one)?.saturating_sub(inside);
+    Ok(text_len(cx, all)? == each.saturating_mul(LEVELS as usize).saturating_add(inside))
 }
 
 fn references_are_folded_holds(cx: &mut Interner) -> Result<bool, Refusal> {
@@ -102,12 +115,11 @@ fn types_are_found(rt: HostRuntime) {
     holds_anew(&rt, rt.alloc(), types_are_found_holds);
 }
 
-// The links' texts are `&'?0 `, `(` with `, u32)`, and `fn() -> `.
 fn chains_are_printed_holds(cx: &mut Interner) -> Result<bool, Refusal> {
     Ok(
-        is_printed(cx, Link::Reference, 5)?
-            && is_printed(cx, Link::Pair, 7)?
-            && is_printed(cx, Link::Function, 8)?,
+        is_printed(cx, Link::Reference)?
+            && is_printed(cx, Link::Pair)?
+            && is_printed(cx, Link::Function)?,
     )
 }
 
