@@ -4,8 +4,16 @@ use Rattle.tt_kinds.specs.Tree.{Depth, Tree, Forest, param, bound, region, term,
 use Rattle.tt_kinds.specs.Shape.{fill_all, AreParts}
 use Rattle.tt_kinds.specs.Kinds.{child_shapes}
 use Rattle.tt_interner.specs.Rows.{Row, size, meaning}
+use Rattle.type_terms.specs.declared.ir_print.layout.Style.{Style}
+use Rattle.type_terms.specs.declared.ir_print.layout.Place.{Place}
+use Rattle.type_terms.specs.declared.ir_print.layout.Place.TheVariants as place
 use Rattle.type_terms.specs.declared.ir_print.pieces.Piece.{Piece}
-use Rattle.type_terms.specs.Text.{names, child_text, Begins}
+use Rattle.type_terms.specs.Text.{before_child, closing, names, child_text, Begins}
+
+-- the text at a place
+abbrev pub place_text : Style → Place → List ℕ
+place_text s (place.Before first last) = before_child s first last
+place_text s (place.After n) = closing s n
 
 abbrev mutual
   -- how many pieces a tree's text is made of, without the piece that is the tree
@@ -30,7 +38,7 @@ child_work (also t ts) = inner_work t
 module _ (rows : List Row) where
   -- the text of a piece
   abbrev pub piece_text : Piece → List ℕ
-  piece_text p = p.before.now ++ child_text (names rows) [] p.style (fill_all (meaning rows) (child_shapes p.child))
+  piece_text p = place_text p.style p.place ++ child_text (names rows) [] p.style (fill_all (meaning rows) (child_shapes p.child))
 
   -- the texts of pieces, the last of which comes first
   abbrev pub pieces_text : List Piece → List ℕ

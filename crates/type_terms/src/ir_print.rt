@@ -228,7 +228,7 @@ fn write_piece(
         (piece_text cx.now.rows piece.now)
         (child_work (fill_all (meaning cx.now.rows) (child_shapes piece.now.child))) }
 {
-    write_text(out, piece.before)?;
+    write_text(out, piece.style.text_at(piece.place))?;
     match piece.child {
         Child::Absent => Ok(()),
         Child::Region(region) => write_region(cx, out, region),
@@ -248,7 +248,7 @@ fn write_child(cx: &Interner, out: &mut String, child: &Child) -> Result<(), All
         (fill_all (meaning cx.now.rows) (child_shapes child.now))) }
 {
     let mut pieces: Pieces = SmallVec::new(cx.allocator());
-    push_child(&mut pieces, "", Style::Joined, child)?;
+    push_child(&mut pieces, Style::Joined, child, true, true)?;
     'write: loop {
         match pieces.pop() {
             None => return Ok(()),

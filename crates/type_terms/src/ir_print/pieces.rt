@@ -9,21 +9,21 @@ ghost use Rattle.tt_kinds.specs.Shape.{AreParts, IsPart, Meaning, fill, fill_all
 ghost use Rattle.tt_kinds.specs.Tree.{count_trees};
 ghost use Rattle.tt_interner.specs.Rows.{Row, meaning, size};
 ghost use Rattle.type_terms.specs.Pieces.{Adds, forest_work, inner_work};
-ghost use Rattle.type_terms.specs.Text.{are_none, child_text, closing, names, style_in, text_in, texts};
+ghost use Rattle.type_terms.specs.Text.{are_none, before_child, child_text, closing, names, style_in, text_in, texts};
 
-use super::layout::Style;
+use super::layout::{Place, Style};
 use smallvec::SmallVec;
 use std::alloc::AllocError;
 use tt_interner::Interner;
 use tt_kinds::{Child, List, Parts};
 
-/// A text, and perhaps a child after it, in a term of the style.
+/// The text at a place of a term, and the child that comes then, if there is one.
 #[derive(Clone, Copy)]
 pub(crate) struct Piece {
-    /// The text that comes first.
-    pub(crate) before: &'static str,
-    /// The style of the term that the child is in.
+    /// The style of the term.
     pub(crate) style: Style,
+    /// The place.
+    pub(crate) place: Place,
     /// The child.
     pub(crate) child: Child,
 }
@@ -35,39 +35,49 @@ pub(crate) type Pieces = SmallVec<Piece, 16>;
 impl Default for Piece {
     fn default() -> Piece {
         Piece {
-            before: "",
             style: Style::Joined,
+            place: Place::After(0),
             child: Child::Absent,
         }
     }
 }
 
-// Adds a text.
-fn push_text(pieces: &mut Pieces, words: &'static str) -> Result<(), AllocError>
-    ensures { (rows : Items Row) → OnOk result (Adds rows pieces.old.items pieces.new.items words.now 1) }
+// Adds the text after so many children.
+fn push_end(pieces: &mut Pieces, style: Style, count: usize) -> Result<(), AllocError>
+    ensures { (rows : Items Row) → OnOk result (Adds
+        rows
+        pieces.old.items
+        pieces.new.items
+        (closing style count)
+        1) }
 {
     pieces.reserve(1)?;
     pieces.push_reserved(Piece {
-        before: words,
-        style: Style::Joined,
+        style,
+        place: Place::After(count),
         child: Child::Absent,
     });
     Ok(())
 }
 
-// Adds one part or item, with the text in front of it.
+// Adds a child, which may be the first and the last, with the text in front of it.
 pub(crate) fn push_child(
     pieces: &mut Pieces,
-    before: &'static str,
     style: Style,
     child: &Child,
+    first: bool,
+    last: bool,
 ) -> Result<(), AllocError>
     ensures { (rows : Items Row) → AreParts (size rows) (child_shapes child.now)
         → OnOk result (Adds
         rows
         pieces.old.items
         pieces.new.items
-        (child_text (names rows) before.now style (fill_all (meaning rows) (child_shapes child.now)))
+        (child_text
+        (names rows)
+        (before_child style first last)
+        style
+        (fill_all (meaning rows) (child_shapes child.now)))
         (forest_work (fill_all (meaning rows) (child_shapes child.now)))) }
 {
     if is_absent(child) {
@@ -75,8 +85,8 @@ pub(crate) fn push_child(
     }
     pieces.reserve(1)?;
     pieces.push_reserved(Piece {
-        before,
         style,
+        place: Place::Before { first, last },
         child: *child,
     });
     Ok(())
@@ -97,11 +107,11 @@ pub(crate) fn push_parts(
         ++ closing style (count_trees (fill_all (meaning rows) (parts_shapes parts.now))))
         (suc (forest_work (fill_all (meaning rows) (parts_shapes parts.now))))) }
 {
-    push_text(pieces, style.closing(part_count(parts)))?;
-    let before = style.before_child(is_absent(&parts.first), true);
-    push_child(pieces, before, style, &parts.second)?;
-    let before = style.before_child(true, is_absent(&parts.second));
-    push_child(pieces, before, style, &parts.first)
+    push_end(pieces, style, part_count(parts))?;
+    let no_first = is_absent(&parts.first);
+    push_child(pieces, style, &parts.second, no_first, true)?;
+    let no_second = is_absent(&parts.second);
+    push_child(pieces, style, &parts.first, true, no_second)
 }
 
 // Adds the items of a stored list in a term of this style, and the text after them. What is written first is added last.
@@ -121,13 +131,12 @@ pub(crate) fn push_list(
 {
     let items = items_style(style, list);
     let count = cx.list_len(list);
-    push_text(pieces, items.closing(count))?;
+    push_end(pieces, items, count)?;
     let mut index = count;
     'items: while index > 0 {
         index -= 1;
         let child = cx.list_child(list, index);
-        let before = items.before_child(index == 0, index + 1 == count);
-        push_child(pieces, before, items, &child)?;
+        push_child(pieces, items, &child, index == 0, index + 1 == count)?;
     }
     Ok(())
 }
