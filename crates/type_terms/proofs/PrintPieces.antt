@@ -1,6 +1,6 @@
 -- Pieces of a text: what is added, and what is left.
 use Rattle.std.proofs.Common.{◌≡◌, ℕ, suc, ◌+◌, ◌<◌, ◌≤◌, ◌==◌, Bool, true, false, List, [], ◌∷◌, ◌++◌, Ok, Err, Result, OnOk, length, drop, refl, ap, sym, ◌∙◌, append_assoc, arith}
-use Rattle.std.specs.Prelude.{Some, slice_get}
+use Rattle.std.specs.Prelude.{Some, None, Option, IsSome, slice_get}
 use Rattle.std.proofs.lemmas.Grind.{common_steps}
 use Rattle.std.proofs.lemmas.List.{append-nil}
 use Rattle.tt_kinds.specs.Label.{Name, Sort, Label, type_label, const_label}
@@ -19,10 +19,14 @@ use Rattle.type_terms.specs.declared.ir_print.layout.Style.{Style}
 use Rattle.type_terms.specs.declared.ir_print.layout.Place.TheVariants as place
 use Rattle.type_terms.specs.declared.ir_print.pieces.Piece.{Piece}
 use Rattle.type_terms.specs.Text.{style_in, are_none, before_child, closing, names, text_in, texts, child_text, Begins, Writes}
-use Rattle.type_terms.specs.Pieces.{inner_work, forest_work, child_work, piece_text, pieces_text, pieces_work, ArePieces, Adds, Opened, Opens}
-use Rattle.type_terms.proofs.PrintSteps.{begins-more}
+use Rattle.type_terms.specs.Pieces.{inner_work, forest_work, child_work, piece_text, pieces_text, pieces_work, ArePieces, Adds, Opened, Opens, Left}
+use Rattle.type_terms.proofs.PrintSteps.{begins-more, writes-nothing}
 use Rattle.type_terms.proofs.PrintLaws.{list-written}
 use Rattle.type_terms.proofs.PrintParts.{AreItems, parts-written, count-items, item-then, drop-from}
+
+-- no piece was left
+abbrev no_piece : Option Piece
+no_piece = None
 
 module _ (rows : List Row) where
   abbrev work_of : Piece → ℕ
@@ -141,6 +145,59 @@ module _ (rows : List Row) where
     kept = h.kept;
   }
   opens-as (Err e) a b old new x y m n same more h = record { opened = tt; kept = h.kept }
+
+  -- a text was written, and a later one was written or refused, and no piece was added
+  pub opens-written : {T U E : Type 0} (x : T) (r : Result U E) (a b c : List ℕ) (old : List Piece) (first rest : List ℕ) → Writes {T = T} {E = E} (Ok x) a b first → Writes r b c rest
+      → Opens rows r a c old old (first ++ rest) 0
+  opens-written x (Ok y) a b c old first rest h k = record {
+    opened = record {
+      text = ap (λ w. w ++ pieces_text rows old) (k.written ∙ ap (λ w. w ++ rest) h.written ∙ append_assoc a first rest) ∙ append_assoc a (first ++ rest) (pieces_text rows old);
+      low = omega arith;
+      parts = λ all. all;
+    };
+    kept = begins-more a b c h.kept k.kept;
+  }
+  opens-written x (Err e) a b c old first rest h k = record { opened = tt; kept = begins-more a b c h.kept k.kept }
+
+  -- a text was begun by adding pieces alone
+  pub opens-added : {U E : Type 0} (r : Result U E) (a : List ℕ) (old new : List Piece) (whole : List ℕ) (work : ℕ) → OnOk r (Adds rows old new whole work) → Opens rows r a a old new whole work
+  opens-added {U} {E} r a old new whole work h = opens-adds {T = Unit} {U = U} {E = E} tt r a a old new [] whole work (writes-nothing tt a) h
+
+  -- at the start nothing is written, and all is left
+  pub left-starts : (a : List ℕ) (none ps : List Piece) (whole : List ℕ) (work : ℕ) → none ≡ [] → Adds rows none ps whole work → Left rows a a ps whole
+  left-starts a none ps whole work is h =
+      let k = rw is at h in
+      record { text = ap (λ w. a ++ w) (k.text ∙ append-nil whole); kept = record { rest = []; is = sym (append-nil a) }; parts = k.parts tt }
+
+  -- the next piece was taken and begun
+  pub left-goes-on : (a b c : List ℕ) (ps rest new : List Piece) (p : Piece) (whole : List ℕ) (work : ℕ) → Left rows a b ps whole → ps ≡ rest ++ p ∷ []
+      → Opened rows b c rest new (piece_text rows p) work → Begins b c → Left rows a c new whole
+  left-goes-on a b c ps rest new p whole work h is k more = record {
+    text = k.text ∙ ap (λ w. b ++ w) (sym (text-pushed rest p) ∙ ap (pieces_text rows) (sym is)) ∙ h.text;
+    kept = begins-more a b c h.kept more;
+    parts = k.parts (parts-popped rest p (rw is at h.parts)).0;
+  }
+
+  -- the handles in the next piece are in range
+  pub left-piece : (a b : List ℕ) (ps rest : List Piece) (p : Piece) (whole : List ℕ) → Left rows a b ps whole → ps ≡ rest ++ p ∷ [] → AreParts (size rows) (child_shapes p.child)
+  left-piece a b ps rest p whole h is = (parts-popped rest p (rw is at h.parts)).1
+
+  -- less is left after a piece was begun
+  pub left-smaller : (b c : List ℕ) (ps rest new : List Piece) (p : Piece) (whole : List ℕ) → ps ≡ rest ++ p ∷ []
+      → Opened rows b c rest new whole (child_work (fill_all (meaning rows) (child_shapes p.child))) → pieces_work rows new < pieces_work rows ps
+  left-smaller b c ps rest new p whole is k =
+      let before : pieces_work rows ps ≡ suc (child_work (fill_all (meaning rows) (child_shapes p.child))) + pieces_work rows rest = ap (pieces_work rows) is ∙ work-pushed rest p in
+      let low = k.low in
+      omega arith
+
+  -- all is written
+  pub left-ends : {T E : Type 0} (x : T) (a b : List ℕ) (ps : List Piece) (whole : List ℕ) → Left rows a b ps whole → (0 < length ps → IsSome no_piece) → Writes {T = T} {E = E} (Ok x) a b whole
+  left-ends x a b [] whole h none = record { written = sym (append-nil b) ∙ h.text; kept = h.kept }
+  left-ends x a b (p ∷ ps) whole h none = absurd (let never = none (omega arith) in cc)
+
+  -- memory was refused
+  pub left-refused : {T E : Type 0} (e : E) (a b c : List ℕ) (ps : List Piece) (whole : List ℕ) → Left rows a b ps whole → Begins b c → Writes {T = T} {E = E} (Err e) a c whole
+  left-refused e a b c ps whole h more = record { written = tt; kept = begins-more a b c h.kept more }
 
 module _ (f : Meaning) where
   -- the work of a child, and then of others

@@ -71,3 +71,9 @@ module _ (rows : List Row) where
   pub record Opens {T E : Type 0} (result : Result T E) (a b : List ℕ) (old new : List Piece) (whole : List ℕ) (work : ℕ) : Type 0 where
     pub opened : OnOk result (Opened a b old new whole work)
     pub kept : Begins a b
+
+  -- what was written, and the pieces that are left, are the whole text behind the old one
+  pub record Left (a b : List ℕ) (ps : List Piece) (whole : List ℕ) : Type 0 where
+    pub text : b ++ pieces_text ps ≡ a ++ whole
+    pub kept : Begins a b
+    pub parts : ArePieces ps

@@ -3,8 +3,6 @@
 ghost use Rattle.std.specs.Prelude.{
   ◌≡◌,
   ◌<◌,
-  ◌≤◌,
-  true,
   [],
   ◌∷◌,
   ◌++◌,
@@ -13,33 +11,20 @@ ghost use Rattle.std.specs.Prelude.{
   OnErr,
   OnOk,
 };
-ghost use Rattle.tt_kinds.specs.Kinds.{
-  child_shapes,
-  items_label,
-  kind_shape,
-  list_shape,
-  node_shape,
-  parts_shapes,
-  region_shape,
-};
-ghost use Rattle.tt_kinds.specs.Label.{Name};
-ghost use Rattle.tt_kinds.specs.Parts.{list_sort};
-ghost use Rattle.tt_kinds.specs.Shape.{AreParts, HasParts, IsPart, Meaning, fill, fill_all, name_of};
-ghost use Rattle.tt_kinds.specs.Tree.{count_trees};
+ghost use Rattle.tt_kinds.specs.Kinds.{child_shapes, kind_shape, node_shape, region_shape};
+ghost use Rattle.tt_kinds.specs.Shape.{AreParts, HasParts, IsPart, fill, fill_all, name_of};
 ghost use Rattle.tt_kinds.specs.declared.table.Table.TheVariants.{Symbols};
 ghost use Rattle.tt_interner.specs.Rows.{meaning, size};
+ghost use Rattle.type_terms.specs.Pieces.{Opens, child_work, inner_work, piece_text};
 ghost use Rattle.type_terms.specs.Spelling.{IsNamedSubject, head_of, rename_head, rename_subject, subject_of};
 ghost use Rattle.type_terms.specs.Text.{
   Writes,
-  are_none,
   child_text,
   head_text,
   names,
-  style_in,
   subject_text,
   text,
   text_in,
-  texts,
 };
 ghost use Rattle.type_terms.specs.declared.ir_print.layout.Style.{Style as Styles};
 
@@ -56,7 +41,7 @@ use spelling::{Spelling, Subject, kind_spelling, region_spelling};
 use std::alloc::AllocError;
 use tt_interner::{InternedText, Interner};
 use tt_kinds::{
-    Child, Clause, Const, DefId, GenericArg, GenericArgKind, Kind, List, Node, Parts, Pat,
+    Child, Clause, Const, DefId, GenericArg, GenericArgKind, Kind, List, Node, Pat,
     PolyExistentialPredicate, Predicate, Region, Symbol, Term, TermKind, Ty,
 };
 use tt_visit::TypeVisitable;
