@@ -3,11 +3,10 @@ use Rattle.std.proofs.Common.{◌≡◌, ℕ, suc, ◌+◌, ◌<◌, ◌≤◌, 
 use Rattle.std.specs.Prelude.{Some, None, Option, IsSome, slice_get}
 use Rattle.std.proofs.lemmas.Grind.{common_steps}
 use Rattle.std.proofs.lemmas.List.{append-nil}
-use Rattle.tt_kinds.specs.Label.{Name, Sort, Label, type_label, const_label}
-use Rattle.tt_kinds.specs.Tree as tree
+use Rattle.tt_kinds.specs.Label.{Name, Sort, Label}
 use Rattle.tt_kinds.specs.Tree.{Depth, Tree, Forest, count_trees}
 use Rattle.tt_kinds.specs.Shape.{Shapes, Meaning, AreParts, fill, fill_all, append}
-use Rattle.tt_kinds.specs.Kinds.{items_label, Form, param, bound, plain, under, form_parts, form_shape, kind_form, kind_sort, kind_shape, child_shapes, children_shapes, parts_shapes, region_shape, node_shape, list_shape, items_tree}
+use Rattle.tt_kinds.specs.Kinds.{items_label, Form, param, bound, plain, under, form_parts, form_shape, kind_form, kind_sort, kind_shape, child_shapes, children_shapes, parts_shapes, items_tree}
 use Rattle.tt_kinds.specs.declared.parts.Child.{Child}
 use Rattle.tt_kinds.specs.declared.parts.Child.TheVariants as child
 use Rattle.tt_kinds.specs.declared.parts.Parts.{Parts}
@@ -20,7 +19,7 @@ use Rattle.type_terms.specs.declared.ir_print.layout.Place.TheVariants as place
 use Rattle.type_terms.specs.declared.ir_print.pieces.Piece.{Piece}
 use Rattle.type_terms.specs.Text.{style_in, are_none, before_child, closing, names, text_in, texts, child_text, Begins, Writes}
 use Rattle.type_terms.specs.Pieces.{inner_work, forest_work, child_work, piece_text, pieces_text, pieces_work, ArePieces, Adds, Opened, Opens, Left}
-use Rattle.type_terms.proofs.PrintSteps.{begins-more, writes-nothing}
+use Rattle.type_terms.proofs.PrintSteps.{begins-same, begins-more}
 use Rattle.type_terms.proofs.PrintLaws.{list-written}
 use Rattle.type_terms.proofs.PrintParts.{AreItems, parts-written, count-items, item-then, drop-from}
 
@@ -101,24 +100,18 @@ module _ (rows : List Row) where
   adds-absent old s (child.Node n) first none = let never = none in cc
   adds-absent old s (child.List l) first none = let never = none in cc
 
-  -- a text was begun by writing, and then by adding pieces
-  pub opens-adds : {T U E : Type 0} (x : T) (r : Result U E) (a b : List ℕ) (old new : List Piece) (first rest : List ℕ) (work : ℕ) → Writes {T = T} {E = E} (Ok x) a b first
-      → OnOk r (Adds rows old new rest work) → Opens rows r a b old new (first ++ rest) work
-  opens-adds x (Ok y) a b old new first rest work h k = record {
-    opened = record {
-      text = ap (λ w. b ++ w) k.text ∙ ap (λ w. w ++ (rest ++ pieces_text rows old)) h.written ∙ append_assoc a first (rest ++ pieces_text rows old)
-          ∙ ap (λ w. a ++ w) (sym (append_assoc first rest (pieces_text rows old)));
-      low = k.low;
-      parts = k.parts;
-    };
+  -- a text was begun by adding pieces alone
+  pub opens-added : {T E : Type 0} (r : Result T E) (a : List ℕ) (old new : List Piece) (whole : List ℕ) (work : ℕ) → OnOk r (Adds rows old new whole work) → Opens rows r a a old new whole work
+  opens-added (Ok x) a old new whole work h = record { opened = record { text = ap (λ w. a ++ w) h.text; low = h.low; parts = h.parts }; kept = begins-same a }
+  opens-added (Err e) a old new whole work h = record { opened = tt; kept = begins-same a }
+
+  -- a text was written, or refused, and no piece was added
+  pub opens-written : {T E : Type 0} (r : Result T E) (a b : List ℕ) (old : List Piece) (whole : List ℕ) → Writes r a b whole → Opens rows r a b old old whole 0
+  opens-written (Ok x) a b old whole h = record {
+    opened = record { text = ap (λ w. w ++ pieces_text rows old) h.written ∙ append_assoc a whole (pieces_text rows old); low = omega arith; parts = λ all. all };
     kept = h.kept;
   }
-  opens-adds x (Err e) a b old new first rest work h k = record { opened = tt; kept = h.kept }
-
-  -- memory for the first part of a text was refused
-  pub opens-refused : {T U E F : Type 0} (e : E) (e' : F) (a b : List ℕ) (old new : List Piece) (first whole : List ℕ) (work : ℕ) → Writes {T = T} {E = E} (Err e) a b first
-      → Opens rows {T = U} {E = F} (Err e') a b old new whole work
-  opens-refused e e' a b old new first whole work h = record { opened = tt; kept = h.kept }
+  opens-written (Err e) a b old whole h = record { opened = tt; kept = h.kept }
 
   -- a text was written, and a later one was begun
   pub opens-then : {T U E : Type 0} (x : T) (r : Result U E) (a b c : List ℕ) (old new : List Piece) (first rest : List ℕ) (work : ℕ) → Writes {T = T} {E = E} (Ok x) a b first
@@ -146,28 +139,11 @@ module _ (rows : List Row) where
   }
   opens-as (Err e) a b old new x y m n same more h = record { opened = tt; kept = h.kept }
 
-  -- a text was written, and a later one was written or refused, and no piece was added
-  pub opens-written : {T U E : Type 0} (x : T) (r : Result U E) (a b c : List ℕ) (old : List Piece) (first rest : List ℕ) → Writes {T = T} {E = E} (Ok x) a b first → Writes r b c rest
-      → Opens rows r a c old old (first ++ rest) 0
-  opens-written x (Ok y) a b c old first rest h k = record {
-    opened = record {
-      text = ap (λ w. w ++ pieces_text rows old) (k.written ∙ ap (λ w. w ++ rest) h.written ∙ append_assoc a first rest) ∙ append_assoc a (first ++ rest) (pieces_text rows old);
-      low = omega arith;
-      parts = λ all. all;
-    };
-    kept = begins-more a b c h.kept k.kept;
-  }
-  opens-written x (Err e) a b c old first rest h k = record { opened = tt; kept = begins-more a b c h.kept k.kept }
-
-  -- a text was begun by adding pieces alone
-  pub opens-added : {U E : Type 0} (r : Result U E) (a : List ℕ) (old new : List Piece) (whole : List ℕ) (work : ℕ) → OnOk r (Adds rows old new whole work) → Opens rows r a a old new whole work
-  opens-added {U} {E} r a old new whole work h = opens-adds {T = Unit} {U = U} {E = E} tt r a a old new [] whole work (writes-nothing tt a) h
-
   -- at the start nothing is written, and all is left
   pub left-starts : (a : List ℕ) (none ps : List Piece) (whole : List ℕ) (work : ℕ) → none ≡ [] → Adds rows none ps whole work → Left rows a a ps whole
   left-starts a none ps whole work is h =
       let k = rw is at h in
-      record { text = ap (λ w. a ++ w) (k.text ∙ append-nil whole); kept = record { rest = []; is = sym (append-nil a) }; parts = k.parts tt }
+      record { text = ap (λ w. a ++ w) (k.text ∙ append-nil whole); kept = begins-same a; parts = k.parts tt }
 
   -- the next piece was taken and begun
   pub left-goes-on : (a b c : List ℕ) (ps rest new : List Piece) (p : Piece) (whole : List ℕ) (work : ℕ) → Left rows a b ps whole → ps ≡ rest ++ p ∷ []
@@ -194,10 +170,6 @@ module _ (rows : List Row) where
   pub left-ends : {T E : Type 0} (x : T) (a b : List ℕ) (ps : List Piece) (whole : List ℕ) → Left rows a b ps whole → (0 < length ps → IsSome no_piece) → Writes {T = T} {E = E} (Ok x) a b whole
   left-ends x a b [] whole h none = record { written = sym (append-nil b) ∙ h.text; kept = h.kept }
   left-ends x a b (p ∷ ps) whole h none = absurd (let never = none (omega arith) in cc)
-
-  -- memory was refused
-  pub left-refused : {T E : Type 0} (e : E) (a b c : List ℕ) (ps : List Piece) (whole : List ℕ) → Left rows a b ps whole → Begins b c → Writes {T = T} {E = E} (Err e) a c whole
-  left-refused e a b c ps whole h more = record { written = tt; kept = begins-more a b c h.kept more }
 
 module _ (f : Meaning) where
   -- the work of a child, and then of others
@@ -235,7 +207,7 @@ module _ (rows : List Row) (s : Style) where
       → Adds rows b c (child_text (names rows) (before_child s no_first true) s (fill_all (meaning rows) (child_shapes p.second))) (forest_work (fill_all (meaning rows) (child_shapes p.second)))
       → OnOk r (Adds rows c d (child_text (names rows) (before_child s true no_second) s (fill_all (meaning rows) (child_shapes p.first))) (forest_work (fill_all (meaning rows) (child_shapes p.first))))
       → OnOk r (Adds rows a d (texts (names rows) s true (fill_all (meaning rows) (parts_shapes p)) ++ closing s (count_trees (fill_all (meaning rows) (parts_shapes p))))
-          (suc (forest_work (fill_all (meaning rows) (parts_shapes p)))))
+      (suc (forest_work (fill_all (meaning rows) (parts_shapes p)))))
   adds-parts (Ok y) a b c d p n no_first no_second count is_first is_second h k l =
       let all = adds-then rows a c d _ _ _ _ (adds-then rows a b c _ _ _ _ h k) l in
       let first = child_text (names rows) (before_child s true no_second) s (fill_all (meaning rows) (child_shapes p.first)) in

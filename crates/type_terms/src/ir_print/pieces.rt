@@ -1,4 +1,4 @@
-//! The pieces of a text that are still to be written. They are kept on the heap, so that a term may be as deep as memory
+//! The pieces of a text that are still to be written. They are on the heap, so that a term may be as deep as memory
 //! allows.
 
 ghost use Rattle.std.specs.Prelude.{◌≡◌, ◌≤◌, suc, true, [], ◌∷◌, ◌++◌, List as Items, OnOk};
@@ -93,11 +93,7 @@ pub(crate) fn push_child(
 }
 
 // Adds the parts of a term, and the text after them. What is written first is added last.
-pub(crate) fn push_parts(
-    pieces: &mut Pieces,
-    style: Style,
-    parts: &Parts,
-) -> Result<(), AllocError>
+pub(crate) fn push_parts(pieces: &mut Pieces, style: Style, parts: &Parts) -> Result<(), AllocError>
     ensures { (rows : Items Row) → AreParts (size rows) (parts_shapes parts.now)
         → OnOk result (Adds
         rows
@@ -114,7 +110,8 @@ pub(crate) fn push_parts(
     push_child(pieces, style, &parts.first, true, no_second)
 }
 
-// Adds the items of a stored list in a term of this style, and the text after them. What is written first is added last.
+// Adds the items of a stored list, in a term of this style, and the text after them. What is written first is added
+// last.
 pub(crate) fn push_list(
     cx: &Interner,
     pieces: &mut Pieces,

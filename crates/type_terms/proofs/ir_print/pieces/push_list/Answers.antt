@@ -1,4 +1,4 @@
-use Rattle.std.proofs.Common.{◌≡◌, ◌+◌, ◌-◌, sym, arith}
+use Rattle.std.proofs.Common.{◌≡◌, ◌+◌, ◌-◌, arith}
 use Rattle.tt_kinds.specs.Shape.{fill}
 use Rattle.tt_kinds.specs.Parts.{list_sort}
 use Rattle.tt_interner.specs.Rows.{size}

@@ -1,4 +1,3 @@
-use Rattle.std.proofs.Common.{◌≡◌}
 use Rattle.tt_kinds.specs.Kinds.{child_shapes}
 use Rattle.tt_interner.specs.Rows.{size, meaning}
 use Rattle.tt_interner.proofs.InfoLemmas.{AreParts-append}
