@@ -19,3 +19,4 @@ pub mod PrintSteps
 pub mod PrintNames
 pub mod PrintLaws
 pub mod PrintParts
+pub mod PrintPieces

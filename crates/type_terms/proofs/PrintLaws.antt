@@ -5,7 +5,6 @@ use Rattle.std.proofs.lemmas.List.{append-nil}
 use Rattle.tt_kinds.specs.Label.{Name, Sort, region_sort, type_sort, const_sort, VarKind, RegionName, anonymous, printed, named, environment, FreeRegion, static_region, late_param_region, TypeLabel, infer_type, raw_ptr_type, ConstLabel, infer_const, PatternLabel, range_pattern, RecordLabel, pair_record, host_effect_record, unstable_feature_record, Label, type_label, const_label, pattern_label, predicate_label, existential_label, record_label}
 use Rattle.tt_kinds.specs.Tree as tree
 use Rattle.tt_kinds.specs.Tree.{Depth, at, canonical, Tree, Forest, none, also, count_trees}
-use Rattle.tt_kinds.specs.Shape as shape
 use Rattle.tt_kinds.specs.Shape.{Meaning, Sizes, fill, fill_all, name_of, rename_label, rename_record, rename_free, rename_region, vars_of, IsNamed, IsNamedLabel, IsNamedRecord, HasParts, IsPart}
 use Rattle.tt_kinds.specs.Kinds.{Form, param, bound, plain, under, form_parts, form_shape, kind_form, kind_sort, kind_shape, relabelled, ty_form, const_form, value_form, pattern_form, predicate_form, existential_form, parts_shapes, region_shape, items_label, items_tree}
 use Rattle.tt_kinds.specs.Bound.{depth, region_name}
@@ -20,11 +19,9 @@ use Rattle.tt_kinds.specs.declared.const_kind.ConstKind.TheVariants as const
 use Rattle.tt_kinds.specs.declared.const_kind.ValTreeKind.{ValTreeKind}
 use Rattle.tt_kinds.specs.declared.const_kind.ValTreeKind.TheVariants as valtree
 use Rattle.tt_kinds.specs.declared.predicate.BoundConstness.TheVariants as constness
-use Rattle.tt_kinds.specs.declared.predicate_kind.AliasRelationDirection.TheVariants as direction
 use Rattle.tt_index.specs.declared.qualifier.Mutability.TheVariants.{Not, Mut}
 use Rattle.tt_kinds.specs.declared.region_kind.RegionKind.{RegionKind}
 use Rattle.tt_kinds.specs.declared.region_kind.RegionKind.TheVariants.{ReEarlyParam, ReBound, ReLateParam, ReStatic, ReVar, RePlaceholder, ReErased, ReError}
-use Rattle.tt_kinds.specs.declared.bound.BoundRegionKind.TheVariants as region_kind
 use Rattle.tt_kinds.specs.declared.parts.Parts.{Parts}
 use Rattle.tt_kinds.specs.declared.parts.Kind.{Kind}
 use Rattle.tt_kinds.specs.declared.parts.Kind.TheVariants as kind

@@ -1,5 +1,5 @@
 -- The texts of parts and of the items of a list.
-use Rattle.std.proofs.Common.{◌≡◌, ℕ, suc, ◌+◌, ◌<◌, ◌≤◌, ◌==◌, Bool, true, false, List, [], ◌∷◌, ◌++◌, length, drop, get_or, refl, ap, sym, eq-eqb, ◌∙◌, append_assoc, arith}
+use Rattle.std.proofs.Common.{◌≡◌, ℕ, suc, ◌+◌, ◌<◌, ◌==◌, Bool, true, false, List, [], ◌∷◌, ◌++◌, length, drop, get_or, refl, ap, sym, eq-eqb, ◌∙◌, append_assoc, arith}
 use Rattle.std.specs.Prelude.{All, Some, slice_get}
 use Rattle.std.proofs.lemmas.Grind.{common_steps}
 use Rattle.std.proofs.lemmas.Bool.Decides.{nat_tests}
@@ -82,14 +82,6 @@ module _ (f : Meaning) where
   pub count-parts : (p : Parts) → count_trees (fill_all f (child_shapes p.first)) + count_trees (fill_all f (child_shapes p.second)) ≡ count_trees (fill_all f (parts_shapes p))
   count-parts p = count-then p.first (child_shapes p.second)
 
--- a child that is absent is no other one
-pub absent-known : (f : Meaning) (c : Child) → c ≡ child.Absent → are_none (fill_all f (child_shapes c)) ≡ false → ⊥
-unfolding fill_all
-absent-known f child.Absent e h = let never = h in cc
-absent-known f (child.Region r) e h = let never = e in cc
-absent-known f (child.Node n) e h = let never = e in cc
-absent-known f (child.List l) e h = let never = e in cc
-
 -- a list holds no child that is absent
 item-there : (o : ListSort) (c : Child) → IsItem o (child_sort c) → c ≡ child.Absent → ⊥
 item-there o (child.Region r) h e = let never = e in cc
@@ -102,7 +94,7 @@ item-there sort.Pats child.Absent h e = h
 item-there sort.Existentials child.Absent h e = h
 item-there sort.Clauses child.Absent h e = h
 
-drop-from : (list : List Child) (n : ℕ) (x : Child) → slice_get list n ≡ Some x → drop n list ≡ x ∷ drop (n + 1) list
+pub drop-from : (list : List Child) (n : ℕ) (x : Child) → slice_get list n ≡ Some x → drop n list ≡ x ∷ drop (n + 1) list
 drop-from list n x here =
     let is : get_or list n x ≡ x = get_or_from_slice_get list n x x here in
     let low : n < length list = slice_get_within list n x here in
@@ -156,21 +148,3 @@ module _ (item_name : ℕ → Name) (f : Meaning) (s : Style) (o : ListSort) (li
       let later : (n + 1 == 0) ≡ false = grind (arith, nat_tests) in
       let item : IsItem o (child_sort x) = All-head (λ c. IsItem o (child_sort c)) x (drop (n + 1) list) (rw start at (All-drop (λ c. IsItem o (child_sort c)) n list are)) in
       rw (start, ← last, later) (child-then item_name f s (n == 0) x (children_shapes (drop (n + 1) list)) (item-there o x item))
-
-  -- what is written after one item more
-  pub items-step : (a b c before : List ℕ) (x : Child) (count : ℕ) (whole : List ℕ) → slice_get list n ≡ Some x → AreItems f o list → count ≡ length list
-      → before ≡ before_child s (n == 0) (n + 1 == count)
-      → b ++ texts item_name s (n == 0) (fill_all f (children_shapes (drop n list))) ≡ a ++ whole → c ≡ b ++ child_text item_name before s (fill_all f (child_shapes x))
-      → c ++ texts item_name s (n + 1 == 0) (fill_all f (children_shapes (drop (n + 1) list))) ≡ a ++ whole
-  items-step a b c before x count whole here are of_count of_before so_far written =
-      let item = child_text item_name (before_child s (n == 0) (n + 1 == length list)) s (fill_all f (child_shapes x)) in
-      let rest = texts item_name s (n + 1 == 0) (fill_all f (children_shapes (drop (n + 1) list))) in
-      let now : c ≡ b ++ item = rw (of_before, of_count) at written in
-      ap (λ w. w ++ rest) now ∙ append_assoc b item rest ∙ ap (λ w. b ++ w) (item-then x here are) ∙ so_far
-
-  -- what is written after all items
-  pub items-all : (a b whole : List ℕ) → length list ≤ n → b ++ texts item_name s (n == 0) (fill_all f (children_shapes (drop n list))) ≡ a ++ whole → b ≡ a ++ whole
-  unfolding fill_all
-  items-all a b whole all so_far =
-      let ended : drop n list ≡ [] = grind (arith, common_steps) in
-      sym (append-nil b) ∙ (rw ended at so_far)

@@ -6,3 +6,4 @@ pub mod Room
 pub mod Build
 pub mod Text
 pub mod Spelling
+pub mod Pieces

@@ -3,8 +3,6 @@
 ghost use Rattle.std.specs.Prelude.{
   ◌≡◌,
   ◌<◌,
-  ◌≤◌,
-  true,
   [],
   ◌∷◌,
   ◌++◌,
@@ -13,47 +11,37 @@ ghost use Rattle.std.specs.Prelude.{
   OnErr,
   OnOk,
 };
-ghost use Rattle.tt_kinds.specs.Kinds.{
-  child_shapes,
-  items_label,
-  kind_shape,
-  list_shape,
-  node_shape,
-  parts_shapes,
-  region_shape,
-};
-ghost use Rattle.tt_kinds.specs.Label.{Name};
-ghost use Rattle.tt_kinds.specs.Parts.{list_sort};
-ghost use Rattle.tt_kinds.specs.Shape.{AreParts, HasParts, IsPart, Meaning, fill, fill_all, name_of};
-ghost use Rattle.tt_kinds.specs.Tree.{count_trees};
+ghost use Rattle.tt_kinds.specs.Kinds.{child_shapes, kind_shape, node_shape, region_shape};
+ghost use Rattle.tt_kinds.specs.Shape.{AreParts, HasParts, IsPart, fill, fill_all, name_of};
 ghost use Rattle.tt_kinds.specs.declared.table.Table.TheVariants.{Symbols};
 ghost use Rattle.tt_interner.specs.Rows.{meaning, size};
+ghost use Rattle.type_terms.specs.Pieces.{Opens, child_work, inner_work, piece_text};
 ghost use Rattle.type_terms.specs.Spelling.{IsNamedSubject, head_of, rename_head, rename_subject, subject_of};
 ghost use Rattle.type_terms.specs.Text.{
   Writes,
-  are_none,
   child_text,
   head_text,
   names,
-  style_in,
   subject_text,
   text,
   text_in,
-  texts,
 };
 ghost use Rattle.type_terms.specs.declared.ir_print.layout.Style.{Style as Styles};
 
 mod layout;
+mod pieces;
 mod spelling;
 mod words;
 
 use itoa::Buffer;
 use layout::Style;
+use pieces::{Piece, Pieces, push_child, push_list, push_parts};
+use smallvec::SmallVec;
 use spelling::{Spelling, Subject, kind_spelling, region_spelling};
 use std::alloc::AllocError;
 use tt_interner::{InternedText, Interner};
 use tt_kinds::{
-    Child, Clause, Const, DefId, GenericArg, GenericArgKind, Kind, List, Node, Parts, Pat,
+    Child, Clause, Const, DefId, GenericArg, GenericArgKind, Kind, List, Node, Pat,
     PolyExistentialPredicate, Predicate, Region, Symbol, Term, TermKind, Ty,
 };
 use tt_visit::TypeVisitable;
@@ -155,138 +143,103 @@ fn write_region(cx: &Interner, out: &mut String, region: Region) -> Result<(), A
     write_head(cx, out, &spelling)
 }
 
-// Appends a stored term, in a term of this style.
-#[cycle(print)]
-fn write_node(cx: &Interner, out: &mut String, style: Style, node: Node) -> Result<(), AllocError>
+// Begins a stored term, in a term of this style: appends its head, and adds the pieces after it.
+fn write_node(
+    cx: &Interner,
+    out: &mut String,
+    pieces: &mut Pieces,
+    style: Style,
+    node: Node,
+) -> Result<(), AllocError>
     requires { IsPart (size cx.now.rows) (node_shape node) }
-    ensures { Writes result (string_bytes out.old) (string_bytes out.new)
-        (text_in (names cx.now.rows) style (fill (meaning cx.now.rows) (node_shape node))) }
+    ensures { Opens
+        cx.now.rows
+        result
+        (string_bytes out.old)
+        (string_bytes out.new)
+        pieces.old.items
+        pieces.new.items
+        (text_in (names cx.now.rows) style (fill (meaning cx.now.rows) (node_shape node)))
+        (inner_work (fill (meaning cx.now.rows) (node_shape node))) }
 {
     match node {
-        Node::Clauses(clauses) => write_list(cx, out, style, List::Clauses(clauses)),
+        Node::Clauses(clauses) => push_list(cx, pieces, style, List::Clauses(clauses)),
         _ => {
             let kind = cx.node_kind(node);
-            write_kind(cx, out, &kind)
+            write_kind(cx, out, pieces, &kind)
         }
     }
 }
 
-// Appends the term of this kind.
-#[cycle(print)]
-fn write_kind(cx: &Interner, out: &mut String, kind: &Kind) -> Result<(), AllocError>
+// Begins the term of this kind.
+fn write_kind(
+    cx: &Interner,
+    out: &mut String,
+    pieces: &mut Pieces,
+    kind: &Kind,
+) -> Result<(), AllocError>
     requires { HasParts (size cx.now.rows) (kind_shape kind.now) }
-    ensures { (s : Styles) → Writes result (string_bytes out.old) (string_bytes out.new)
-        (text_in (names cx.now.rows) s (fill (meaning cx.now.rows) (kind_shape kind.now))) }
+    ensures { (s : Styles) → Opens
+        cx.now.rows
+        result
+        (string_bytes out.old)
+        (string_bytes out.new)
+        pieces.old.items
+        pieces.new.items
+        (text_in (names cx.now.rows) s (fill (meaning cx.now.rows) (kind_shape kind.now)))
+        (inner_work (fill (meaning cx.now.rows) (kind_shape kind.now))) }
 {
     let spelling = kind_spelling(kind);
     write_head(cx, out, &spelling)?;
     let parts = kind.parts();
-    write_parts(cx, out, spelling.style, &parts)?;
-    write_text(out, spelling.style.closing(part_count(&parts)))
+    push_parts(pieces, spelling.style, &parts)
 }
 
-// Appends parts, in order.
-#[cycle(print)]
-fn write_parts(
+// Begins a piece.
+fn write_piece(
     cx: &Interner,
     out: &mut String,
-    style: Style,
-    parts: &Parts,
+    pieces: &mut Pieces,
+    piece: &Piece,
 ) -> Result<(), AllocError>
-    requires { AreParts (size cx.now.rows) (parts_shapes parts.now) }
-    ensures { Writes result (string_bytes out.old) (string_bytes out.new)
-        (texts (names cx.now.rows) style true (fill_all (meaning cx.now.rows) (parts_shapes parts.now))) }
+    requires { AreParts (size cx.now.rows) (child_shapes piece.now.child) }
+    ensures { Opens
+        cx.now.rows
+        result
+        (string_bytes out.old)
+        (string_bytes out.new)
+        pieces.old.items
+        pieces.new.items
+        (piece_text cx.now.rows piece.now)
+        (child_work (fill_all (meaning cx.now.rows) (child_shapes piece.now.child))) }
 {
-    let before = style.before_child(true, is_absent(&parts.second));
-    write_child(cx, out, before, style, &parts.first)?;
-    let before = style.before_child(is_absent(&parts.first), true);
-    write_child(cx, out, before, style, &parts.second)
+    write_text(out, piece.style.text_at(piece.place))?;
+    match piece.child {
+        Child::Absent => Ok(()),
+        Child::Region(region) => write_region(cx, out, region),
+        Child::Node(node) => write_node(cx, out, pieces, piece.style, node),
+        Child::List(list) => push_list(cx, pieces, piece.style, list),
+    }
 }
 
-// Appends one part or item, with the text in front of it.
-#[cycle(print)]
-fn write_child(
-    cx: &Interner,
-    out: &mut String,
-    before: &str,
-    style: Style,
-    child: &Child,
-) -> Result<(), AllocError>
+// Appends a child by itself.
+fn write_child(cx: &Interner, out: &mut String, child: &Child) -> Result<(), AllocError>
     requires { AreParts (size cx.now.rows) (child_shapes child.now) }
     ensures { Writes result (string_bytes out.old) (string_bytes out.new)
         (child_text
         (names cx.now.rows)
-        before.now
-        style
+        []
+        Style.Joined
         (fill_all (meaning cx.now.rows) (child_shapes child.now))) }
 {
-    if is_absent(child) {
-        return Ok(());
+    let mut pieces: Pieces = SmallVec::new(cx.allocator());
+    push_child(&mut pieces, Style::Joined, child, true, true)?;
+    'write: loop {
+        match pieces.pop() {
+            None => return Ok(()),
+            Some(piece) => write_piece(cx, out, &mut pieces, &piece)?,
+        }
     }
-    write_text(out, before)?;
-    match child {
-        Child::Absent => Ok(()),
-        Child::Region(region) => write_region(cx, out, *region),
-        Child::Node(node) => write_node(cx, out, style, *node),
-        Child::List(list) => write_list(cx, out, style, *list),
-    }
-}
-
-// Appends a stored list, in a term of this style.
-#[cycle(print)]
-fn write_list(cx: &Interner, out: &mut String, style: Style, list: List) -> Result<(), AllocError>
-    requires { IsPart (size cx.now.rows) (list_shape list) }
-    ensures { Writes result (string_bytes out.old) (string_bytes out.new)
-        (text_in (names cx.now.rows) style (fill (meaning cx.now.rows) (list_shape list))) }
-{
-    let items = items_style(style, list);
-    let count = cx.list_len(list);
-    for index in 0..count {
-        let child = cx.list_child(list, index);
-        let before = items.before_child(index == 0, index + 1 == count);
-        write_child(cx, out, before, items, &child)?;
-    }
-    write_text(out, items.closing(count))
-}
-
-// Returns the style of a list's items, in a term of this style.
-fn items_style(style: Style, list: List) -> Style
-    ensures { result ≡ style_in style (items_label {N = Name} (list_sort list)) }
-{
-    match list {
-        List::Clauses(_) => Style::Listed,
-        _ => style.of_list(),
-    }
-}
-
-// Returns whether there is no child.
-#[tactic(auto, unfolding(tt_kinds::specs::Shape::fill_all))]
-fn is_absent(child: &Child) -> bool
-    ensures { (f : Meaning) → result ≡ are_none (fill_all f (child_shapes child.now)) }
-{
-    match child {
-        Child::Absent => true,
-        Child::Region(_) | Child::Node(_) | Child::List(_) => false,
-    }
-}
-
-// Returns the number of children: one or none.
-#[tactic(auto, unfolding(tt_kinds::specs::Shape::fill_all))]
-fn child_count(child: &Child) -> usize
-    ensures count { (f : Meaning) → result ≡ count_trees (fill_all f (child_shapes child.now)) }
-    ensures few { result ≤ 1 }
-{
-    match child {
-        Child::Absent => 0,
-        Child::Region(_) | Child::Node(_) | Child::List(_) => 1,
-    }
-}
-
-// Returns the number of parts.
-fn part_count(parts: &Parts) -> usize
-    ensures { (f : Meaning) → result ≡ count_trees (fill_all f (parts_shapes parts.now)) }
-{
-    child_count(&parts.first) + child_count(&parts.second)
 }
 
 // Appends a child by itself, or nothing if memory for it is refused.
@@ -302,7 +255,7 @@ fn print_child(cx: &Interner, out: &mut String, child: &Child) -> Result<(), All
     ensures err { OnErr result (string_bytes out.new ≡ string_bytes out.old) }
 {
     let start = out.len();
-    match write_child(cx, out, "", Style::Joined, child) {
+    match write_child(cx, out, child) {
         Ok(()) => Ok(()),
         Err(e) => {
             out.truncate(start);

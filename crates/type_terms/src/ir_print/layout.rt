@@ -1,6 +1,7 @@
 //! The styles of a term's children: what is written before, between and after them.
 
 ghost use Rattle.std.specs.Prelude.{◌≡◌};
+ghost use Rattle.type_terms.specs.Pieces.{place_text};
 ghost use Rattle.type_terms.specs.Text.{before_child, closing, list_style, opening, separator};
 
 /// The style in which the children of a term, or the items of a list, are written.
@@ -56,6 +57,15 @@ pub(crate) enum Style {
     Alternatives,
     /// The list of a value's values: `(A, B)`.
     Values,
+}
+
+/// A place in the text of a term's children.
+#[derive(Clone, Copy)]
+pub(crate) enum Place {
+    /// In front of a child, which may be the first and the last.
+    Before { first: bool, last: bool },
+    /// After so many children.
+    After(usize),
 }
 
 impl Style {
@@ -117,7 +127,7 @@ impl Style {
     }
 
     // Returns the text in front of a child.
-    pub(crate) fn before_child(self, first: bool, last: bool) -> &'static str
+    fn before_child(self, first: bool, last: bool) -> &'static str
         ensures { result.now ≡ before_child self first last }
     {
         if first {
@@ -128,7 +138,7 @@ impl Style {
     }
 
     // Returns the text after `count` children.
-    pub(crate) fn closing(self, count: usize) -> &'static str
+    fn closing(self, count: usize) -> &'static str
         ensures { result.now ≡ closing self count }
     {
         match (self, count) {
@@ -145,6 +155,16 @@ impl Style {
             (Style::Bounds, 0) => "",
             (Style::Bounds, _) => " + ",
             _ => "",
+        }
+    }
+
+    // Returns the text at this place.
+    pub(crate) fn text_at(self, place: Place) -> &'static str
+        ensures { result.now ≡ place_text self place }
+    {
+        match place {
+            Place::Before { first, last } => self.before_child(first, last),
+            Place::After(count) => self.closing(count),
         }
     }
 }
