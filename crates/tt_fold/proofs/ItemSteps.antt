@@ -107,7 +107,7 @@ item_root rows (child.Region r) is h = absurd is
 item_root rows (child.Node n) is h = rw (stored_tree rows (node_table n) (node_number n)) (root-meaning rows (node_table n) (node_number n) (in_range rows (node_table n) (node_number n) h))
 item_root rows (child.List l) is h = rw (stored_tree rows (list_table l) (list_number l)) (root-meaning rows (list_table l) (list_number l) (in_range rows (list_table l) (list_number l) h))
 
--- a term or a list that stands alone has a hook
+-- a term or a list by itself has a hook
 pub alone_root : (rows : Listed Row) (c : Child) → IsWhole c → IsPartOf rows (child_shape c) → IsAlone (child_shape c) → root (child_tree rows c) ≡ hooked
 alone_root rows child.Absent is h alone = absurd is
 alone_root rows (child.Region r) is h alone = absurd is

@@ -161,7 +161,7 @@ abbrev pub contexts : Listed Row → Listed Part → Listed Context
 contexts rows [] = []
 contexts rows (p ∷ ps) = context_of rows p ∷ contexts rows ps
 
--- the values are those of the children before this one, which is being walked
+-- the values came of the children before this one, which is being walked
 pub record IsBelow (rows : Listed Row) (item : Child) (p : Part) : Type 0 where
   pub holds : Holds rows p.frame p.values
   pub counted : length p.values + 1 ≡ p.frame.next
