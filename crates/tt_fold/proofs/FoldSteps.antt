@@ -1,48 +1,33 @@
 -- One step of a fold over plain variables: what the parts promise makes what the whole promises.
-use Rattle.std.proofs.Common.{◌≡◌, ℕ, zero, suc, ◌+◌, ◌<◌, ◌≤◌, [], ◌∷◌, ◌++◌, length, take, drop, slice_get, get_or, All, Result, Ok, Err, Option, Some, None, refl, ap, sym, subst, ◌∙◌, arith}
+use Rattle.std.proofs.Common.{◌≡◌, ◌<◌, Result, Ok, Err, Option, Some, None, refl, ap, subst, ◌∙◌}
 use Rattle.std.proofs.Common.{List as Listed}
-use Rattle.std.proofs.lemmas.Grind.{common_steps}
-use Rattle.std.proofs.lemmas.List.Elements.{All-append}
-use Rattle.std.proofs.lemmas.List.{take-append-drop}
-use Rattle.std.proofs.lemmas.Option.{slice_get_within, get_or_from_slice_get}
 use Rattle.std.proofs.lemmas.Result.{MatchResult-weaker}
 use Rattle.tt_index.specs.declared.refusal.Refusal.{Refusal}
 use Rattle.tt_index.specs.declared.refusal.Refusal.TheVariants.{Memory, TableFull, GreatestIndex, NotAClause}
-use Rattle.tt_kinds.specs.Tree.{Depth, Tree}
-use Rattle.tt_kinds.specs.Parts as sorts
-use Rattle.tt_kinds.specs.Parts.{node_table, node_number, sort_list_table, list_sort, list_table, list_number, child_sort, IsItem}
-use Rattle.tt_kinds.specs.Kinds.{form_binder, form_parts, refilled, kind_form, kind_sort, kind_shape, kind_table, node_shape, list_shape, region_shape, child_shapes, parts_shapes, children_shapes, items_tree}
-use Rattle.tt_kinds.specs.Shape.{append, fill, HasParts, IsTooDeep}
+use Rattle.tt_kinds.specs.Parts.{node_table, node_number, sort_list_table, list_sort, list_table, list_number}
+use Rattle.tt_kinds.specs.Kinds.{kind_shape, kind_table, node_shape, list_shape, region_shape, child_shapes, parts_shapes}
+use Rattle.tt_kinds.specs.Shape.{fill, HasParts, IsTooDeep}
 use Rattle.tt_kinds.specs.Handle.{BoundVarKinds}
 use Rattle.tt_kinds.specs.declared.region_kind.RegionKind.{RegionKind}
 use Rattle.tt_kinds.specs.declared.parts.Node.{Node}
-use Rattle.tt_kinds.specs.declared.parts.Node.TheVariants as node_is
 use Rattle.tt_kinds.specs.declared.parts.List.{List}
 use Rattle.tt_kinds.specs.declared.parts.ListSort.{ListSort}
-use Rattle.tt_kinds.specs.declared.parts.ListSort.TheVariants as sort_is
-use Rattle.tt_kinds.specs.declared.parts.List.TheVariants as list_is
-use Rattle.tt_kinds.specs.Handle.{Clauses}
-use Rattle.tt_kinds.specs.declared.table.Table.TheVariants.{ClauseLists}
 use Rattle.tt_kinds.specs.declared.parts.Child.{Child}
-use Rattle.tt_kinds.specs.declared.parts.Child.TheVariants as child
 use Rattle.tt_kinds.specs.declared.parts.Parts.{Parts}
 use Rattle.tt_kinds.specs.declared.parts.Kind.{Kind}
 use Rattle.tt_kinds.specs.declared.parts.Kind.TheVariants as kind
 use Rattle.tt_interner.specs.Rows.{Row, row_table, row_shape, kind_row, size, meaning}
 use Rattle.tt_interner.specs.Stored.{Terms, Extends, IsCause, IsUnbuilt}
-use Rattle.tt_interner.specs.Children.{children_at}
-use Rattle.tt_visit.specs.Root.{unhooked, root, table_root}
+use Rattle.tt_visit.specs.Root.{root, table_root}
 use Rattle.tt_visit.proofs.VisitSteps.{root-meaning, root-region}
-use Rattle.tt_fold.specs.Walk.{Errors, ChildFails, child_failed, any_trees, wanted_of, HasUnwanted, WalksItems, ItemsFail, items_failed, list_not_built, IsRegion, IsPassed, IsTerm, Hooks, descend, Walks, Descends, WalksInside, WalksAll, WalksUnder, descended, passed, rebuilt, done, at_region, in_open, in_binder, Fails, DescentFails, FailsAll, FailsUnder, descent_failed, passed_failed, inside_failed, not_built, after_failed, InsideFails, region_failed, stopped, in_open_failed, in_under_failed, in_leave_failed}
+use Rattle.tt_fold.specs.Walk.{Errors, ChildFails, any_trees, IsRegion, Hooks, WalksAll, WalksUnder, in_open, in_binder, FailsAll, FailsUnder, in_open_failed, in_under_failed, in_leave_failed}
 use Rattle.tt_fold.specs.Counts.{Standing, stands}
-use Rattle.tt_fold.specs.Steps.{Goes, Folds, IsPartOf, tree_in, HasVars, vars_in}
-use Rattle.tt_fold.specs.Parts.{ArePartsOf, trees_in, node_tree, list_tree, child_trees, parts_trees, children_trees, IsNodeFor, IsListFor, IsChildFor, ArePartsFor, HasHook, HasBinder, binder_in, IsInner, IsLeaf, FoldsSoFar, FoldsItems}
-use Rattle.tt_interner.proofs.Growth.{Extends-refl, Extends-trans, AreParts-grows, fill-grows, fill_all-grows}
-use Rattle.tt_fold.specs.Stack.{joined}
-use Rattle.tt_fold.proofs.PartLaws.{is_part, in_range, stored_tree, one_part, one_tree, no_parts, no_trees, append_parts, right_parts, append_trees, children-append, children-one, vars-grow, binder-grows}
-use Rattle.tt_fold.proofs.WantedLaws.{none-wanted, joined-wanted, child_fails, child_unwanted}
-use Rattle.tt_fold.proofs.FormLaws.{form-labels}
-use Rattle.tt_fold.proofs.WalkLaws.{walks_list, fails_list, walks_clauses, fails_clauses, WalksAll-append, FailsAll-append, FailsAll-before, WalksAll-one, walks_leaf, walks_form, fails_form}
+use Rattle.tt_fold.specs.Steps.{Folds, IsPartOf, tree_in, HasVars, vars_in}
+use Rattle.tt_fold.specs.Parts.{ArePartsOf, node_tree, list_tree, child_trees, parts_trees, IsNodeFor, IsChildFor, ArePartsFor, binder_in}
+use Rattle.tt_interner.proofs.Growth.{Extends-trans, AreParts-grows, fill_all-grows}
+use Rattle.tt_fold.proofs.PartLaws.{is_part, in_range, stored_tree, append_parts, right_parts, append_trees, vars-grow}
+use Rattle.tt_fold.proofs.WantedLaws.{child_fails}
+use Rattle.tt_fold.proofs.WalkLaws.{WalksAll-append, FailsAll-append, FailsAll-before}
 
 -- what a region is
 pub region-is : (rows : Listed Row) (r : RegionKind) → IsRegion (tree_in rows (region_shape r))

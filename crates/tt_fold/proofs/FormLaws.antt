@@ -1,23 +1,22 @@
 -- Kinds by their forms.
-use Rattle.std.proofs.Common.{true, false, All, [], ◌∷◌, zero, slice_get, ◌≡◌, ℕ, suc, ◌≤◌, List, Some, None, refl, ap, sym, arith}
-use Rattle.std.proofs.lemmas.Option.{slice_get_within, same_Some, none-some, get_or_from_slice_get}
+use Rattle.std.proofs.Common.{true, false, All, [], slice_get, ◌≡◌, ℕ, List, Some, None, refl, ap, sym}
+use Rattle.std.proofs.lemmas.Option.{slice_get_within, get_or_from_slice_get}
 use Rattle.tt_kinds.specs.Label.{Name, Sort, type_sort, const_sort, TypeLabel, ConstLabel, Label, type_label, const_label, text_label, record_label}
 use Rattle.tt_kinds.specs.Tree as tree
 use Rattle.tt_kinds.specs.Tree.{Depth, Tree}
 use Rattle.tt_kinds.specs.Shape as shape
-use Rattle.tt_kinds.specs.Shape.{Shape, Shapes, Meaning, Sizes, HasParts, IsTooDeep, fill, name_of, rename_label, IsNamedLabel, append}
-use Rattle.tt_kinds.specs.Kinds.{Form, param, bound, plain, under, form_parts, form_binder, refilled, relabelled, form_shape, kind_form, kind_shape, kind_table, ty_form, const_form, child_shapes, parts_shapes, children_shapes}
+use Rattle.tt_kinds.specs.Shape.{Meaning, Sizes, HasParts, IsTooDeep, fill, name_of, rename_label, IsNamedLabel}
+use Rattle.tt_kinds.specs.Kinds.{Form, param, bound, plain, under, form_parts, form_binder, refilled, relabelled, form_shape, kind_form, kind_shape, kind_table, ty_form, const_form, parts_shapes}
 use Rattle.tt_kinds.specs.declared.table.Table.TheVariants.{Types, Consts}
 use Rattle.tt_kinds.specs.declared.parts.Child.{Child}
 use Rattle.tt_kinds.specs.declared.parts.Child.TheVariants as child
 use Rattle.tt_kinds.specs.declared.parts.Kind.{Kind}
 use Rattle.tt_kinds.specs.declared.parts.Kind.TheVariants as kind
 use Rattle.tt_kinds.specs.declared.parts.Parts.{Parts}
-use Rattle.tt_interner.specs.Rows.{Row, size, meaning, Grows, IsOlder, AreOlder}
+use Rattle.tt_interner.specs.Rows.{Row, size, meaning, Grows}
 use Rattle.tt_interner.proofs.Growth.{HasParts-grows, row-grows}
-use Rattle.tt_fold.specs.Walk.{is_type_tree, any_trees, wanted_in}
-use Rattle.tt_fold.proofs.PartLaws.{left_parts, right_parts}
-use Rattle.tt_fold.specs.Parts.{HoldsAny, IsInner, IsLeaf, ArePartsOf, HasBinder, child_weight, parts_weight}
+use Rattle.tt_fold.specs.Walk.{is_type_tree}
+use Rattle.tt_fold.specs.Parts.{HoldsAny, IsInner, IsLeaf, ArePartsOf, HasBinder}
 
 -- the label means the same among more rows, and its names are theirs
 pub record KeepsLabel (old new : List Row) (l : Label ℕ) : Type 0 where

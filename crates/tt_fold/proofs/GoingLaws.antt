@@ -49,7 +49,7 @@ pub no_frames : (n : ℕ) → (0 < n → IsSome no_frame) → n ≡ 0
 no_frames zero f = refl
 no_frames (suc n) f = (let never = f (omega arith) in cc)
 
--- the last frame is that of the first part
+-- the last frame is the first part's
 record Top (below : Listed Part) (fs : Listed Frame) (f : Frame) : Type 0 where
   part : Part
   rest : Listed Part

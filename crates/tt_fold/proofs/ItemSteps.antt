@@ -1,14 +1,13 @@
 -- What the walk asks of a term or a list, and what it builds of one: what the calls promise makes what the whole promises.
-use Rattle.std.proofs.Common.{◌≡◌, ℕ, ◌<◌, ◌+◌, ◌^◌, [], ◌∷◌, length, drop, All, Result, Ok, Err, Option, Some, None, refl, ap, sym, subst, ◌∙◌, inl, inr, arith}
+use Rattle.std.proofs.Common.{◌≡◌, ℕ, ◌<◌, ◌^◌, [], ◌∷◌, length, drop, All, Result, Ok, Err, Option, Some, None, refl, ap, sym, subst, ◌∙◌, inl, inr}
 use Rattle.std.proofs.Common.{List as Listed}
 use Rattle.std.proofs.lemmas.Result.{MatchResult-weaker}
 use Rattle.std.proofs.lemmas.Option.{same_Some, none-some}
 use Rattle.std.specs.Prelude.{MatchResult}
-use Rattle.tt_index.specs.declared.refusal.Refusal.{Refusal}
 use Rattle.tt_kinds.specs.Label.{Sort, Label}
-use Rattle.tt_kinds.specs.Tree.{Depth, Tree, Forest, also, none}
+use Rattle.tt_kinds.specs.Tree.{Depth, Tree}
 use Rattle.tt_kinds.specs.Parts.{node_table, node_number, list_table, list_number, list_sort, child_sort, IsItem, AreLike}
-use Rattle.tt_kinds.specs.Shape.{fill, fill_all, HasParts, IsTooDeep}
+use Rattle.tt_kinds.specs.Shape.{fill, HasParts}
 use Rattle.tt_kinds.specs.Kinds.{Form, param, bound, plain, under, form_binder, form_parts, form_shape, refilled, kind_form, kind_sort, kind_shape, kind_table, node_shape, list_shape, region_shape, child_shapes, parts_shapes, children_shapes, items_tree}
 use Rattle.tt_kinds.specs.Handle.{BoundVarKinds}
 use Rattle.tt_kinds.specs.declared.region_kind.RegionKind.{RegionKind}
@@ -18,8 +17,6 @@ use Rattle.tt_kinds.specs.declared.parts.Child.TheVariants as child
 use Rattle.tt_kinds.specs.declared.parts.Kind.{Kind}
 use Rattle.tt_kinds.specs.declared.parts.List.{List}
 use Rattle.tt_kinds.specs.declared.parts.List.TheVariants as list_is
-use Rattle.tt_kinds.specs.declared.parts.ListSort.{ListSort}
-use Rattle.tt_kinds.specs.declared.parts.ListSort.TheVariants as sort
 use Rattle.tt_kinds.specs.declared.parts.Node.{Node}
 use Rattle.tt_kinds.specs.declared.parts.Node.TheVariants as node_is
 use Rattle.tt_kinds.specs.declared.parts.Parts.{Parts}
@@ -28,23 +25,21 @@ use Rattle.tt_interner.specs.Rows.{Row, size, meaning, Grows}
 use Rattle.tt_interner.specs.Stored.{Terms, Extends}
 use Rattle.tt_interner.specs.Children.{children_at}
 use Rattle.tt_interner.specs.Nodes.{stored_kind}
-use Rattle.tt_interner.proofs.Growth.{Extends-refl, Extends-trans, IsPart-grows, AreParts-grows, fill-grows, fill_all-grows}
-use Rattle.tt_visit.specs.Root.{Root, root, table_root, hooked, unhooked, a_part}
+use Rattle.tt_interner.proofs.Growth.{Extends-refl, Extends-trans, AreParts-grows, fill-grows, fill_all-grows}
+use Rattle.tt_visit.specs.Root.{root, hooked, unhooked, a_part}
 use Rattle.tt_visit.proofs.VisitSteps.{root-meaning, root-region}
-use Rattle.tt_fold.specs.Walk.{Hooks, Errors, replace, keep, descend, IsTerm, Walks, replaced, kept, descended, passed, rebuilt, at_region, WalksInside, WalksAll, done, Fails, term_failed, region_failed, descent_failed, passed_failed, inside_failed, after_failed, InsideFails, ChildFails, child_failed, HasUnwanted}
+use Rattle.tt_fold.specs.Walk.{Hooks, Errors, replace, keep, descend, IsTerm, replaced, kept, at_region, done, Fails, term_failed, region_failed, InsideFails, ChildFails, child_failed}
 use Rattle.tt_fold.specs.Counts.{Standing, stands}
-use Rattle.tt_fold.specs.Steps.{Goes, IsPartOf, tree_in, answer_of, HasVars, vars_in}
-use Rattle.tt_fold.specs.Still.{IsAlone, EndsAt, StaysStill}
-use Rattle.tt_fold.specs.Parts.{ArePartsOf, trees_in, child_trees, children_trees, node_tree, list_tree, HasHook, HasBinder, binder_in, IsInner, IsLeaf, IsNodeFor, IsChildFor, IsStepFor}
-use Rattle.tt_fold.specs.Stack as outline
-use Rattle.tt_fold.specs.Stack.{Outline, whole, binder_of, wanted_by, TakesAny, Asks, asks, passes, at_list, Opens, opens_bare, opens_binder, Leaves, leaves_bare, leaves_binder, EnterFails, enter_fails, LeaveFails, leave_fails, Begins, Rebuilds, rebuilds, RebuildFails, not_left, not_rebuilt, Finishes, finishes, unasked, FinishFails}
-use Rattle.tt_fold.specs.Items.{child_shape, child_tree, child_list, child_node, child_root, IsWhole, IsTermOf, IsListOf, SameTerm, SameList, IsHooked, IsHookOf}
-use Rattle.tt_fold.specs.Going.{form_outline, outline_of, children_in, IsTermFrame, IsListFrame, IsFrame, Holds, AreAlike, IsOpened, IsAsked, IsOpen, IsBegun, IsRebuilt, left_of}
-use Rattle.tt_fold.specs.declared.folder.Step.{Step}
+use Rattle.tt_fold.specs.Steps.{Goes, IsPartOf, tree_in, vars_in}
+use Rattle.tt_fold.specs.Still.{IsAlone, EndsAt}
+use Rattle.tt_fold.specs.Parts.{ArePartsOf, trees_in, child_trees, children_trees, node_tree, list_tree, binder_in, IsInner, IsLeaf, IsNodeFor, IsChildFor}
+use Rattle.tt_fold.specs.Stack.{whole, binder_of, TakesAny, Asks, asks, passes, at_list, Opens, opens_bare, opens_binder, Leaves, leaves_bare, leaves_binder, EnterFails, enter_fails, LeaveFails, leave_fails, rebuilds, RebuildFails, not_left, not_rebuilt, Finishes, finishes, unasked, FinishFails}
+use Rattle.tt_fold.specs.Items.{child_shape, child_tree, child_list, child_node, child_root, IsWhole, SameTerm, SameList, IsHooked, IsHookOf}
+use Rattle.tt_fold.specs.Going.{form_outline, outline_of, children_in, IsTermFrame, IsFrame, Holds, IsOpened, IsAsked, IsOpen, IsBegun, IsRebuilt, left_of}
 use Rattle.tt_fold.specs.declared.folder.Step.TheVariants as step
 use Rattle.tt_fold.specs.declared.stack.Begun.TheVariants as begun
 use Rattle.tt_fold.specs.declared.stack.Frame.{Frame}
-use Rattle.tt_fold.proofs.PartLaws.{stored_tree, in_range, is_part, no_trees, one_tree, no_parts, one_part}
+use Rattle.tt_fold.proofs.PartLaws.{stored_tree, in_range, no_trees, one_tree, no_parts, one_part}
 use Rattle.tt_fold.proofs.WalkLaws.{walks_leaf, WalksAll-one}
 use Rattle.tt_fold.proofs.StackLaws.{enter_fails_inside, asks_fails, leaf_fails, leaf_walks}
 use Rattle.tt_fold.proofs.FrameLaws.{whole-part, part-whole, whole-tree, like-whole, alike_all, two_shapes, form_outline-grows, outline-grows, frame-grows}
@@ -112,7 +107,7 @@ item_root rows (child.Region r) is h = absurd is
 item_root rows (child.Node n) is h = rw (stored_tree rows (node_table n) (node_number n)) (root-meaning rows (node_table n) (node_number n) (in_range rows (node_table n) (node_number n) h))
 item_root rows (child.List l) is h = rw (stored_tree rows (list_table l) (list_number l)) (root-meaning rows (list_table l) (list_number l) (in_range rows (list_table l) (list_number l) h))
 
--- a term or a list that stands alone has a hook
+-- a term or a list by itself has a hook
 pub alone_root : (rows : Listed Row) (c : Child) → IsWhole c → IsPartOf rows (child_shape c) → IsAlone (child_shape c) → root (child_tree rows c) ≡ hooked
 alone_root rows child.Absent is h alone = absurd is
 alone_root rows (child.Region r) is h alone = absurd is

@@ -1,22 +1,19 @@
 -- Shapes of handles, of children and of parts.
-use Rattle.std.proofs.Common.{◌≡◌, ℕ, suc, ◌<◌, List, [], ◌∷◌, ◌++◌, Option, Some, None, refl, ap, sym, ◌∙◌, arith}
+use Rattle.std.proofs.Common.{◌≡◌, ℕ, ◌<◌, List, [], ◌∷◌, ◌++◌, Option, Some, None, refl, ap, sym, ◌∙◌, arith}
 use Rattle.tt_kinds.specs.Tree as tree
 use Rattle.tt_kinds.specs.Tree.{Depth, Forest}
 use Rattle.tt_kinds.specs.Shape.{Shape, Shapes, stored, none, also, append, fill, fill_all}
-use Rattle.tt_kinds.specs.Parts.{node_table, node_number, list_table, list_number}
-use Rattle.tt_kinds.specs.Kinds.{node_shape, list_shape, child_shapes, parts_shapes, children_shapes}
+use Rattle.tt_kinds.specs.Kinds.{child_shapes, children_shapes}
 use Rattle.tt_kinds.specs.declared.table.Table.{Table}
 use Rattle.tt_kinds.specs.declared.table.Table.TheVariants.{VarLists}
 use Rattle.tt_kinds.specs.Handle.{BoundVarKinds}
 use Rattle.tt_kinds.specs.declared.parts.Child.{Child}
-use Rattle.tt_kinds.specs.declared.parts.Child.TheVariants as child
-use Rattle.tt_kinds.specs.declared.parts.Parts.{Parts}
 use Rattle.tt_kinds.specs.Shape.{vars_of}
 use Rattle.tt_interner.specs.Rows.{Row, size, meaning, Grows}
 use Rattle.tt_fold.specs.Steps.{IsPartOf, tree_in, HasVars, vars_in}
 use Rattle.tt_fold.specs.Stack.{joined}
-use Rattle.tt_fold.specs.Parts.{ArePartsOf, trees_in, HasBinder, binder_in, child_weight, parts_weight}
-use Rattle.tt_interner.proofs.Growth.{size-grows, meaning-grows, age-grows}
+use Rattle.tt_fold.specs.Parts.{ArePartsOf, trees_in, HasBinder}
+use Rattle.tt_interner.proofs.Growth.{size-grows, meaning-grows}
 
 -- a handle in range, its tree
 pub is_part : (rows : List Row) (t : Table) (n : ℕ) → n < size rows t → IsPartOf rows (stored t n)

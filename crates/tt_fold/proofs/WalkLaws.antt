@@ -1,23 +1,18 @@
 -- The walks of two parts of a list make the walk of the whole, and the parts' walk makes the walk of their term.
-use Rattle.std.proofs.Common.{◌≡◌, ℕ, List, Some, None, refl}
-use Rattle.std.proofs.lemmas.Option.{same_Some}
+use Rattle.std.proofs.Common.{◌≡◌, ℕ, List, None}
 use Rattle.tt_kinds.specs.Label.{Sort, Label}
 use Rattle.tt_kinds.specs.Tree as tree
 use Rattle.tt_kinds.specs.Tree.{Depth, Tree, Forest}
 use Rattle.tt_kinds.specs.Shape.{fill}
-use Rattle.tt_kinds.specs.Kinds.{Form, param, bound, plain, under, form_parts, form_binder, refilled, form_shape, parts_shapes, kind_form, kind_sort, kind_shape}
+use Rattle.tt_kinds.specs.Kinds.{Form, param, bound, plain, under, form_parts, form_binder, form_shape, kind_form, kind_sort, kind_shape}
 use Rattle.tt_kinds.specs.declared.parts.Child.TheVariants as child
 use Rattle.tt_kinds.specs.declared.parts.Kind.{Kind}
-use Rattle.tt_kinds.specs.declared.parts.Parts.{Parts}
-use Rattle.tt_kinds.specs.declared.parts.ListSort.{ListSort}
-use Rattle.tt_kinds.specs.declared.parts.ListSort.TheVariants as sorts
 use Rattle.tt_interner.specs.Rows.{Row}
-use Rattle.tt_fold.specs.Walk.{Hooks, Errors, Wanted, HasUnwanted, WalksItems, ItemsFail, items_failed, list_not_built, Walks, Fails, node_not_built, not_built, WalksAll, done, next, FailsAll, here, later, stopped, no_clause, WalksUnder, in_open, in_binder, FailsUnder, in_open_failed, in_enter_failed, in_under_failed, in_leave_failed, WalksInside, in_term, in_param, in_bound, InsideFails, in_term_failed, at_binder, at_node, enter_failed, under_failed, leave_failed, node_failed}
-use Rattle.tt_fold.specs.Steps.{tree_in, vars_in}
-use Rattle.tt_fold.specs.Parts.{trees_in, binder_in, IsInner, IsLeaf}
+use Rattle.tt_fold.specs.Walk.{Hooks, Errors, Wanted, HasUnwanted, Walks, WalksAll, done, next, FailsAll, here, later, stopped, no_clause, WalksInside, in_term, in_param, in_bound}
+use Rattle.tt_fold.specs.Steps.{tree_in}
+use Rattle.tt_fold.specs.Parts.{IsLeaf}
 use Rattle.tt_fold.specs.Stack.{joined}
-use Rattle.tt_fold.proofs.WantedLaws.{none-wanted, any-wanted, first-unwanted, later-unwanted}
-use Rattle.tt_fold.proofs.FormLaws.{KeepsLabels}
+use Rattle.tt_fold.proofs.WantedLaws.{none-wanted, first-unwanted, later-unwanted}
 
 pub WalksAll-append : {M E : Type 0} {H : Hooks M E} {s s1 s2 : M} {ts us vs ws : Forest Depth}
     → WalksAll H s ts us s1 → WalksAll H s1 vs ws s2 → WalksAll H s (joined ts vs) (joined us ws) s2

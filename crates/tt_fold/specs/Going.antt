@@ -45,6 +45,7 @@ abbrev pub outline_by : Listed Row → Node → Option List → Outline
 outline_by rows n (Some l) = items (list_sort l)
 outline_by rows n None = form_outline rows (kind_form (stored_kind rows n))
 
+-- the outline of a child that is a term or a list
 abbrev pub outline_of : Listed Row → Child → Outline
 outline_of rows c = outline_by rows (child_node c) (child_list c)
 
@@ -53,6 +54,7 @@ abbrev pub children_by : Listed Row → Parts → Option List → Listed Child
 children_by rows p (Some l) = children_at rows l
 children_by rows p None = p.first ∷ p.second ∷ []
 
+-- the children of a frame's term or list
 abbrev pub children_in : Listed Row → Frame → Listed Child
 children_in rows f = children_by rows f.contents.parts (child_list f.item)
 
@@ -145,6 +147,7 @@ abbrev pub values_of : Listed Part → Listed Child
 values_of [] = []
 values_of (p ∷ ps) = values_of ps ++ p.values
 
+-- a part among the rows: its tree, its results and the children that are left
 abbrev pub context_of : Listed Row → Part → Context
 context_of rows p = record {
   before = child_tree rows p.frame.item;
@@ -153,11 +156,12 @@ context_of rows p = record {
   left = left_of rows p.frame;
 }
 
+-- the contexts of parts, in the same order
 abbrev pub contexts : Listed Row → Listed Part → Listed Context
 contexts rows [] = []
 contexts rows (p ∷ ps) = context_of rows p ∷ contexts rows ps
 
--- the values are those of the children before this one, which is being walked
+-- the values came of the children before this one, which is being walked
 pub record IsBelow (rows : Listed Row) (item : Child) (p : Part) : Type 0 where
   pub holds : Holds rows p.frame p.values
   pub counted : length p.values + 1 ≡ p.frame.next
@@ -182,14 +186,16 @@ abbrev mutual
   work_all none = 0
   work_all (also t ts) = suc (work t) + work_all ts
 
--- the work that is left in a frame, and in frames
+-- the work that is left in a frame
 abbrev pub frame_work : Listed Row → Frame → ℕ
 frame_work rows f = suc (absent_among (drop f.next (children_in rows f)) + work_all (left_of rows f))
 
+-- the work that is left in frames
 abbrev pub frames_work : Listed Row → Listed Frame → ℕ
 frames_work rows [] = 0
 frames_work rows (f ∷ fs) = frame_work rows f + frames_work rows fs
 
+-- the work that is left in the innermost frame and the frames around it
 abbrev pub total_work : Listed Row → Frame → Listed Frame → ℕ
 total_work rows f fs = frame_work rows f + frames_work rows fs
 

@@ -1,7 +1,8 @@
 -- a copy of the assumptions is folded, and what came of them is stored
 use Rattle.std.proofs.Common.{refl}
 use Rattle.std.proofs.lemmas.Result.{err_from_is_err_and}
-use Rattle.tt_fold.proofs.FoldSteps.{memory_unbuilt, stands-still}
+use Rattle.tt_fold.proofs.WantedLaws.{memory_unbuilt}
+use Rattle.tt_fold.proofs.FoldSteps.{stands-still}
 use Rattle.tt_fold.proofs.AssumptionSteps.{sequence-part, sequence-parts, vector-error, not_stored, copy_stops, assumptions_fail, assumptions_not_stored, assumptions_stored}
 use Rattle.tt_fold.specs.GrowthLaws.{stored-adds}
 use Rattle.tt_fold.proofs.assumptions.RegionAssumptionsTypeFoldable.fold_core.Goals as goal

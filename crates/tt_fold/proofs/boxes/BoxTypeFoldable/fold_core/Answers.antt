@@ -2,7 +2,7 @@ use Rattle.std.proofs.Common.{refl}
 use Rattle.std.proofs.lemmas.Result.{err_from_is_err_and}
 use Rattle.tt_kinds.specs.Label.{present_record}
 use Rattle.tt_visit.specs.Containers.{boxed_shape}
-use Rattle.tt_fold.proofs.FoldSteps.{memory_unbuilt}
+use Rattle.tt_fold.proofs.WantedLaws.{memory_unbuilt}
 use Rattle.tt_fold.proofs.RecordSteps.{one-inner, one_fails, one_folds}
 use Rattle.tt_fold.proofs.BoxSteps.{one_not_built}
 use Rattle.tt_fold.proofs.boxes.BoxTypeFoldable.fold_core.Goals as goal

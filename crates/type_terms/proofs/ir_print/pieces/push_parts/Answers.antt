@@ -1,6 +1,6 @@
 use Rattle.tt_kinds.specs.Kinds.{child_shapes}
 use Rattle.tt_interner.specs.Rows.{size, meaning}
-use Rattle.tt_interner.proofs.InfoLemmas.{AreParts-append}
+use Rattle.tt_interner.proofs.InfoLaws.{AreParts-append}
 use Rattle.type_terms.proofs.PrintPieces.{adds-parts}
 use Rattle.type_terms.proofs.ir_print.pieces.push_parts.Goals as goal
 
