@@ -230,8 +230,8 @@ HasFrame rows (Continue None) = ⊤
 HasFrame rows (Break b) = ⊤
 
 module _ {M B S : Type 0} (means : List Row → S → M) (V : Visits M B) where
-  -- A call began the visit of x in the visitor's state s, and answered r: what it says of one that breaks, of one that is done,
-  -- and of one of which a frame is left.
+  -- A call began the visit of x in the visitor's state s, and answered r: what it says of a visit that breaks, of one that is
+  -- done, and of one that leaves a frame.
   abbrev pub Begins : {X : Type 0} → (M → X → M → Type 0) → (M → X → B → M → Type 0) → ℕ → ℕ → List Row → S → X → ControlFlow B (Option Frame) → S → Type 0
   Begins goes breaks height work rows s x r s' = MatchControlFlow r
       (λ o. Begun V rows (goes (means rows s) x) (breaks (means rows s) x) height work o (means rows s'))

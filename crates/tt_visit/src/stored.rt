@@ -1,7 +1,8 @@
 //! The visit of stored terms and lists.
 //!
-//! A term's visit is begun by its hooks. What is left of it then is a frame, and the visit of a frame is one loop, whose
-//! stack is on the heap: so a term may be as deep as memory allows. A term's last child needs no room there.
+//! The visit of a term begins with its hooks, and leaves a frame: the children that are left, and their binder. One loop
+//! visits a frame, with its stack on the heap, so that a deep term doesn't exhaust the machine's stack. A term's last
+//! child needs room there only under a binder.
 
 ghost use Rattle.std.specs.Prelude.{None, Some, ◌<◌, ◌≡◌, ◌+◌};
 ghost use Rattle.tt_kinds.specs.Shape.{AreParts, HasParts, IsPart, fill, fill_all};
