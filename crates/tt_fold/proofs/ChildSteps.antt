@@ -1,9 +1,9 @@
 -- The walk of a child from its begin to its end: what the calls promise makes what the whole promises.
-use Rattle.std.proofs.Common.{◌≡◌, [], ◌∷◌, drop, Result, Ok, Err, Option, Some, None, refl, ap, sym, subst, ◌∙◌}
+use Rattle.std.proofs.Common.{◌≡◌, drop, Result, Ok, Err, Some, None, refl, ap, sym, subst, ◌∙◌}
 use Rattle.std.proofs.Common.{List as Listed}
 use Rattle.std.proofs.lemmas.Result.{MatchResult-weaker}
-use Rattle.tt_kinds.specs.Tree.{Depth, Tree, Forest, also, none}
-use Rattle.tt_kinds.specs.Parts.{node_table, list_sort, child_sort}
+use Rattle.tt_kinds.specs.Tree.{Depth, Tree, also, none}
+use Rattle.tt_kinds.specs.Parts.{node_table}
 use Rattle.tt_kinds.specs.Kinds.{node_shape, list_shape, child_shapes}
 use Rattle.tt_kinds.specs.declared.parts.Child.{Child}
 use Rattle.tt_kinds.specs.declared.parts.Child.TheVariants as child
@@ -11,12 +11,12 @@ use Rattle.tt_kinds.specs.declared.parts.List.{List}
 use Rattle.tt_kinds.specs.declared.parts.Node.{Node}
 use Rattle.tt_kinds.specs.declared.parts.Node.TheVariants as node_is
 use Rattle.tt_interner.specs.Rows.{Row}
-use Rattle.tt_interner.specs.Stored.{Terms, Extends}
-use Rattle.tt_interner.proofs.Growth.{Extends-trans, IsPart-grows, AreParts-grows, fill-grows}
+use Rattle.tt_interner.specs.Stored.{Terms}
+use Rattle.tt_interner.proofs.Growth.{Extends-trans, IsPart-grows, fill-grows}
 use Rattle.tt_visit.specs.Root.{root, table_root, a_part}
 use Rattle.tt_fold.specs.Walk.{Hooks, Errors, Walks, WalksInside, WalksAll, done, next, Fails, InsideFails, ChildFails, child_failed}
 use Rattle.tt_fold.specs.Counts.{Standing, stands}
-use Rattle.tt_fold.specs.Steps.{Goes, Folds, IsPartOf, tree_in}
+use Rattle.tt_fold.specs.Steps.{Goes, Folds, IsPartOf}
 use Rattle.tt_fold.specs.Still.{IsAlone, EndsAt}
 use Rattle.tt_fold.specs.Parts.{ArePartsOf, child_trees, children_trees, node_tree, list_tree, IsNodeFor, IsListFor, IsChildFor}
 use Rattle.tt_fold.specs.Stack.{whole, binder_of, TakesAny, Opens, Rests, RestFails, Finishes, FinishFails}

@@ -5,24 +5,21 @@ use Rattle.std.specs.Prelude.{IsSome}
 use Rattle.std.proofs.lemmas.List.{append-nil}
 use Rattle.std.proofs.Math.Seq.{drop-append_seam, take-append_seam}
 use Rattle.tt_index.specs.declared.refusal.Refusal.{Refusal}
-use Rattle.tt_index.specs.declared.refusal.Refusal.TheVariants.{NotAClause}
-use Rattle.tt_kinds.specs.Tree.{Depth, Tree, term, node, also, none, Forest}
-use Rattle.tt_kinds.specs.Parts.{child_sort}
-use Rattle.tt_kinds.specs.Kinds.{child_shapes, children_shapes, region_shape}
+use Rattle.tt_kinds.specs.Tree.{Depth, Tree, also, none, Forest}
+use Rattle.tt_kinds.specs.Kinds.{child_shapes, region_shape}
 use Rattle.tt_kinds.specs.declared.parts.Child.{Child}
 use Rattle.tt_kinds.specs.declared.parts.Child.TheVariants as child
 use Rattle.tt_kinds.specs.declared.parts.ListSort.TheVariants as sort
-use Rattle.tt_interner.specs.Rows.{Row, Grows}
-use Rattle.tt_interner.specs.Stored.{Terms, Extends, IsUnbuilt}
-use Rattle.tt_interner.proofs.Growth.{Extends-refl, Extends-trans, AreParts-grows, fill-grows}
-use Rattle.tt_fold.specs.Walk.{Hooks, HasUnwanted, WalksAll, done, here, stopped, no_clause, FailsAll, ChildFails}
+use Rattle.tt_interner.specs.Rows.{Row}
+use Rattle.tt_interner.specs.Stored.{Terms, Extends}
+use Rattle.tt_interner.proofs.Growth.{Extends-refl, Extends-trans, fill-grows}
+use Rattle.tt_fold.specs.Walk.{Hooks, HasUnwanted, WalksAll, done, stopped, ChildFails}
 use Rattle.tt_fold.specs.Counts.{Standing, stands}
 use Rattle.tt_fold.specs.Steps.{Goes, errors_of}
 use Rattle.tt_fold.specs.Parts.{ArePartsOf, child_trees, children_trees, IsChildFor}
-use Rattle.tt_fold.specs.Stack.{joined, Outline, plain, under, items, whole, wanted_by, Begins, Rebuilds, RebuildFails, Finishes, FinishFails, Rests, RestFails, in_left, in_rebuild, in_finish, not_wanted, Halts}
+use Rattle.tt_fold.specs.Stack.{joined, Outline, plain, under, items, whole, wanted_by, Begins, Rebuilds, RebuildFails, Finishes, FinishFails, Rests, RestFails, in_left, in_rebuild, in_finish, not_wanted}
 use Rattle.tt_fold.specs.Items.{child_tree, IsWhole}
-use Rattle.tt_fold.specs.Going.{outline_of, children_in, absent_among, IsFrame, AreAlike, Holds, IsNotKept, IsResult, last_of, left_of, Part, frames_of, values_of, contexts, IsBelow, AreBelow, work, work_all, frame_work, frames_work, total_work, IsOpened, IsBegun, Going}
-use Rattle.tt_fold.specs.declared.stack.Begun.TheVariants as begun
+use Rattle.tt_fold.specs.Going.{outline_of, children_in, absent_among, IsFrame, Holds, IsNotKept, IsResult, last_of, left_of, Part, frames_of, values_of, work, work_all, frames_work, total_work, IsOpened, Going}
 use Rattle.tt_fold.specs.declared.stack.Frame.{Frame}
 use Rattle.tt_fold.proofs.PartLaws.{joined-none, no_trees, no_parts, one_tree}
 use Rattle.tt_fold.proofs.WantedLaws.{none-wanted, joined-wanted, child_fails, child_unwanted, memory_unbuilt}

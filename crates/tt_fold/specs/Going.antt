@@ -1,5 +1,5 @@
 -- What holds at each turn of the walk over stored terms.
-use Rattle.std.specs.Prelude.{◌≡◌, ◌<◌, ◌⊎◌, ◌+◌, ◌-◌, ◌^◌, ℕ, suc, Option, Some, None, [], ◌∷◌, ◌++◌, length, take, drop, slice_get, All, ⊤}
+use Rattle.std.specs.Prelude.{◌≡◌, ◌<◌, ◌⊎◌, ◌+◌, ◌-◌, ◌^◌, ℕ, suc, Option, Some, None, [], ◌∷◌, ◌++◌, length, drop, slice_get, All, ⊤}
 use Rattle.std.specs.Prelude.{List as Listed}
 use Rattle.tt_index.specs.declared.refusal.Refusal.{Refusal}
 use Rattle.tt_index.specs.declared.refusal.Refusal.TheVariants.{Memory, NotAClause}
@@ -23,7 +23,7 @@ use Rattle.tt_interner.specs.declared.nodes.Contents.{Contents}
 use Rattle.tt_fold.specs.Walk.{Hooks, Wanted, Walks, WalksInside, WalksAll, HasUnwanted}
 use Rattle.tt_fold.specs.Counts.{Standing, stands}
 use Rattle.tt_fold.specs.Steps.{errors_of, vars_in}
-use Rattle.tt_fold.specs.Parts.{ArePartsOf, trees_in, child_trees, children_trees, IsChildFor, IsInner}
+use Rattle.tt_fold.specs.Parts.{ArePartsOf, child_trees, children_trees, IsChildFor, IsInner}
 use Rattle.tt_fold.specs.Items.{child_tree, child_list, child_node, IsWhole}
 use Rattle.tt_fold.specs.Stack.{Outline, plain, under, items, whole, binder_of, wanted_by, TakesAny, Asks, Opens, Begins, Rebuilds, Rests, RestFails, Context, Proceeds, Halts}
 use Rattle.tt_fold.specs.declared.stack.Begun.{Begun}

@@ -7,7 +7,7 @@ use Rattle.tt_kinds.specs.Tree.{Depth, Tree}
 use Rattle.tt_kinds.specs.Shape as shape
 use Rattle.tt_kinds.specs.Shape.{Shape}
 use Rattle.tt_kinds.specs.Parts.{node_table, list_sort, list_table}
-use Rattle.tt_kinds.specs.Kinds.{node_shape, list_shape, region_shape, child_shapes}
+use Rattle.tt_kinds.specs.Kinds.{node_shape, list_shape, region_shape}
 use Rattle.tt_kinds.specs.declared.table.Table.TheVariants.{ClauseLists}
 use Rattle.tt_kinds.specs.declared.parts.Node.{Node}
 use Rattle.tt_kinds.specs.declared.parts.Node.TheVariants as node
