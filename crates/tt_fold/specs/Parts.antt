@@ -120,45 +120,6 @@ IsInner (form.bound d e) = ⊥
 IsInner (form.plain l p) = HoldsAny l
 IsInner (form.under l vars m p) = HoldsAny l
 
--- one more than the age of the row that a child names, or 0
-abbrev pub child_weight : Listed Row → Child → ℕ
-child_weight rows child.Absent = 0
-child_weight rows (child.Region r) = 0
-child_weight rows (child.Node n) = suc (age rows (node_table n) (node_number n))
-child_weight rows (child.List l) = suc (age rows (list_table l) (list_number l))
-
--- the greatest weight of the parts
-abbrev pub parts_weight : Listed Row → Parts → ℕ
-parts_weight rows p = max (child_weight rows p.first) (child_weight rows p.second)
-
--- the first n items of the list were folded, from the terms and the state s to terms' and s', and gave the others
-pub record FoldsSoFar {M E S : Type 0} (owned : Listed Row → S → Type 0) (means : Listed Row → S → M) (H : Hooks (Standing M) E)
-    (terms : Terms) (s : S) (sort : ListSort) (list : Listed Child) (n : ℕ) (items : Listed Child) (terms' : Terms) (s' : S) : Type 0 where
-  pub extends : Extends terms terms'
-  pub is_owned : owned terms'.rows s'
-  pub are_items : ArePartsOf terms'.rows (children_shapes items)
-  pub fit : All (λ c. IsItem sort (child_sort c)) items
-  pub wanted : HasUnwanted (wanted_of sort) (children_trees terms'.rows items) → ⊥
-  pub walked : WalksAll H (stands means terms s) (children_trees terms.rows (take n list)) (children_trees terms'.rows items) (stands means terms' s')
-
--- the children are among the rows, and of the sort that the list holds
-pub record AreItems (sort : ListSort) (rows : Listed Row) (items : Listed Child) : Type 0 where
-  pub owned : ArePartsOf rows (children_shapes items)
-  pub fit : All (λ c. IsItem sort (child_sort c)) items
-  pub wanted : HasUnwanted (wanted_of sort) (children_trees rows items) → ⊥
-
--- A fold took the children of the list of the terms, which make its tree, to a result with children to view, the terms to
--- terms', and the folder's state s to s'.
-pub record FoldsItems {M E S V : Type 0} (view : V → Listed Child) (owned : Listed Row → S → Type 0) (means : Listed Row → S → M) (H : Hooks (Standing M) E)
-    (errors : Errors E) (terms : Terms) (s : S) (list : List) (r : Result V E) (terms' : Terms) (s' : S) : Type 0 where
-  pub of_children : list_tree terms.rows list ≡ items_tree (list_sort list) (children_trees terms.rows (children_at terms.rows list))
-  pub extends : Extends terms terms'
-  pub is_owned : owned terms'.rows s'
-  pub outcome : MatchResult r
-      (λ items. AreItems (list_sort list) terms'.rows (view items)
-      × WalksAll H (stands means terms s) (children_trees terms.rows (children_at terms.rows list)) (children_trees terms'.rows (view items)) (stands means terms' s'))
-      (λ e. FailsAll H errors (wanted_of (list_sort list)) (stands means terms s) (children_trees terms.rows (children_at terms.rows list)) e (stands means terms' s'))
-
 -- some values of the list were folded, from the terms and the state s to terms' and s', and gave the others; the rest is left
 pub record FoldsValues {M E S T : Type 0} (shape : T → Shape) (owned : Listed Row → S → Type 0) (means : Listed Row → S → M) (H : Hooks (Standing M) E)
     (terms : Terms) (s : S) (list values rest : Listed T) (terms' : Terms) (s' : S) : Type 0 where

@@ -184,23 +184,6 @@ module _ {M E : Type 0} (H : Hooks M E) (errors : Errors E) where
     in_leave_failed : {s s1 s2 s_end : M} {vs : List (VarKind Name)} {ts us : Forest Depth} {e : E}
         → H.enter s vs s1 → WalksAll H s1 ts us s2 → H.leave_fails errors.unbuilt s2 vs e s_end → FailsUnder (Some vs) s ts e s_end
 
--- the walk of a stored list's children, and the list of their results
-pub record WalksItems {M E : Type 0} (H : Hooks M E) (sort : ListSort) (s : M) (t u : Tree Depth) (s' : M) : Type 0 where
-  pub items : Forest Depth
-  pub results : Forest Depth
-  pub is_list : t ≡ items_tree sort items
-  pub becomes : u ≡ items_tree sort results
-  pub walked : WalksAll H s items results s'
-  pub fit : HasUnwanted (wanted_of sort) results → ⊥
-
--- the same for a walk that ends with an error
-module _ {M E : Type 0} (H : Hooks M E) (errors : Errors E) (sort : ListSort) where
-  pub data ItemsFail : M → Tree Depth → E → M → Type 0 where
-    items_failed : {s s_end : M} {t : Tree Depth} {ts : Forest Depth} {e : E}
-        → t ≡ items_tree sort ts → FailsAll H errors (wanted_of sort) s ts e s_end → ItemsFail s t e s_end
-    list_not_built : {s s1 : M} {t : Tree Depth} {ts us : Forest Depth} {e : E}
-        → t ≡ items_tree sort ts → WalksAll H s ts us s1 → (HasUnwanted (wanted_of sort) us → ⊥) → errors.unbuilt (items_tree sort us) e → ItemsFail s t e s1
-
 -- the walk of a term, or of a value under a binder, without its own hooks
 module _ {M E : Type 0} (H : Hooks M E) where
   pub data SuperWalks : M → Tree Depth → Tree Depth → M → Type 0 where

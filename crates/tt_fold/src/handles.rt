@@ -8,7 +8,6 @@ ghost use Rattle.tt_fold.specs.Steps.{IsPartBy};
 
 use crate::core_folder::Core;
 use crate::foldable::{TypeFoldable, TypeSuperFoldable};
-use crate::list_of_sort::{list_args, list_consts, list_existentials, list_pats, list_tys};
 use crate::walk::{fold_inside, fold_list, fold_node};
 use tt_index::Refusal;
 use tt_interner::{AsClause, AsPredicate, Interner};
@@ -151,7 +150,7 @@ impl TypeSuperFoldable for Clauses {
 impl TypeFoldable for Tys {
     fn fold_core<M, F: Core<M>>(self, cx: &mut Interner, folder: &mut F) -> Result<Tys, F::Error> {
         let list = fold_list::<M, F>(cx, folder, List::Tys(self))?;
-        Ok(list_tys(list))
+        Ok(list.tys())
     }
 }
 
@@ -162,7 +161,7 @@ impl TypeFoldable for Consts {
         folder: &mut F,
     ) -> Result<Consts, F::Error> {
         let list = fold_list::<M, F>(cx, folder, List::Consts(self))?;
-        Ok(list_consts(list))
+        Ok(list.consts())
     }
 }
 
@@ -173,7 +172,7 @@ impl TypeFoldable for GenericArgs {
         folder: &mut F,
     ) -> Result<GenericArgs, F::Error> {
         let list = fold_list::<M, F>(cx, folder, List::Args(self))?;
-        Ok(list_args(list))
+        Ok(list.args())
     }
 }
 
@@ -184,7 +183,7 @@ impl TypeFoldable for PatList {
         folder: &mut F,
     ) -> Result<PatList, F::Error> {
         let list = fold_list::<M, F>(cx, folder, List::Pats(self))?;
-        Ok(list_pats(list))
+        Ok(list.pats())
     }
 }
 
@@ -195,7 +194,7 @@ impl TypeFoldable for BoundExistentialPredicates {
         folder: &mut F,
     ) -> Result<BoundExistentialPredicates, F::Error> {
         let list = fold_list::<M, F>(cx, folder, List::Existentials(self))?;
-        Ok(list_existentials(list))
+        Ok(list.existentials())
     }
 }
 

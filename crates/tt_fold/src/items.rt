@@ -20,7 +20,6 @@ ghost use Rattle.tt_fold.specs.Items.{
 ghost use Rattle.tt_fold.specs.Parts.{ArePartsOf, child_trees};
 ghost use Rattle.tt_fold.specs.Walk.{clause_trees, HasUnwanted, wanted_of};
 
-use crate::list_of_sort::list_clauses;
 use tt_index::Refusal;
 use tt_interner::{AsClause, Interner};
 use tt_kinds::{Child, List, ListSort, Node};
@@ -59,7 +58,7 @@ pub(crate) fn term_in(item: &Child) -> Node
 {
     match item {
         Child::Node(node) => *node,
-        Child::List(list) => Node::Clauses(list_clauses(*list)),
+        Child::List(list) => Node::Clauses(list.clauses()),
         _ => unreachable!(),
     }
 }
@@ -122,7 +121,7 @@ pub(crate) fn as_list_item(item: &Child, list: List) -> Child
 {
     match item {
         Child::List(_) => Child::List(list),
-        _ => Child::Node(Node::Clauses(list_clauses(list))),
+        _ => Child::Node(Node::Clauses(list.clauses())),
     }
 }
 

@@ -13,7 +13,6 @@ pub mod foldable;
 pub mod folder;
 mod handles;
 mod items;
-mod list_of_sort;
 pub mod memory;
 mod records;
 pub mod region_folder;

@@ -6,6 +6,7 @@
 ghost use Rattle.std.specs.Prelude.{◌≡◌, ◌↔◌, IsTrue};
 ghost use Rattle.tt_kinds.specs.Parts.{AreLike, node_table, list_sort, no_parts, one_part, two_parts};
 ghost use Rattle.tt_kinds.specs.declared.parts.Node.TheVariants as node;
+ghost use Rattle.tt_kinds.specs.declared.parts.List.TheVariants as list;
 
 mod child_access;
 mod const_parts;
@@ -253,6 +254,75 @@ impl List {
             List::Pats(_) => ListSort::Pats,
             List::Existentials(_) => ListSort::Existentials,
             List::Clauses(_) => ListSort::Clauses,
+        }
+    }
+}
+
+// Each method is for a list of that sort; a `match` tests it.
+impl List {
+    /// Returns the list of types.
+    pub fn tys(self) -> Tys
+        requires { list_sort self ≡ ListSort.Tys }
+        ensures { self ≡ list.Tys result }
+    {
+        match self {
+            List::Tys(tys) => tys,
+            _ => unreachable!(),
+        }
+    }
+
+    /// Returns the list of constants.
+    pub fn consts(self) -> Consts
+        requires { list_sort self ≡ ListSort.Consts }
+        ensures { self ≡ list.Consts result }
+    {
+        match self {
+            List::Consts(consts) => consts,
+            _ => unreachable!(),
+        }
+    }
+
+    /// Returns the list of generic arguments.
+    pub fn args(self) -> GenericArgs
+        requires { list_sort self ≡ ListSort.Args }
+        ensures { self ≡ list.Args result }
+    {
+        match self {
+            List::Args(args) => args,
+            _ => unreachable!(),
+        }
+    }
+
+    /// Returns the list of patterns.
+    pub fn pats(self) -> PatList
+        requires { list_sort self ≡ ListSort.Pats }
+        ensures { self ≡ list.Pats result }
+    {
+        match self {
+            List::Pats(pats) => pats,
+            _ => unreachable!(),
+        }
+    }
+
+    /// Returns the list of existential predicates.
+    pub fn existentials(self) -> BoundExistentialPredicates
+        requires { list_sort self ≡ ListSort.Existentials }
+        ensures { self ≡ list.Existentials result }
+    {
+        match self {
+            List::Existentials(existentials) => existentials,
+            _ => unreachable!(),
+        }
+    }
+
+    /// Returns the list of clauses.
+    pub fn clauses(self) -> Clauses
+        requires { list_sort self ≡ ListSort.Clauses }
+        ensures { self ≡ list.Clauses result }
+    {
+        match self {
+            List::Clauses(clauses) => clauses,
+            _ => unreachable!(),
         }
     }
 }
