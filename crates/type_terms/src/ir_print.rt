@@ -276,7 +276,7 @@ pub trait IrPrint: TypeVisitable {
     /// [`Owned::is_owned`](tt_visit::Owned::is_owned) tests it. An id that names no declaration of this interner is
     /// written as `#` and its number.
     ///
-    /// If memory for the text is refused, `out` is unchanged.
+    /// A term may be as deep as memory allows. If memory is refused, `out` is unchanged.
     fn print(&self, cx: &Interner, out: &mut String) -> Result<(), AllocError>
         requires { IsPart (size cx.now.rows) (Self.shape self.now) }
         ensures ok { OnOk result (string_bytes out.new

@@ -29,7 +29,7 @@ pub(crate) struct Piece {
 }
 
 /// The pieces that are still to be written, the next one last. A small term needs no allocation.
-pub(crate) type Pieces = SmallVec<Piece, 16>;
+pub(crate) type Pieces = SmallVec<Piece, 8>;
 
 // A small vector keeps the default in its unused places.
 impl Default for Piece {
@@ -42,7 +42,7 @@ impl Default for Piece {
     }
 }
 
-// Adds the text after so many children.
+// Adds the text after `count` children.
 fn push_end(pieces: &mut Pieces, style: Style, count: usize) -> Result<(), AllocError>
     ensures { (rows : Items Row) → OnOk result (Adds
         rows
