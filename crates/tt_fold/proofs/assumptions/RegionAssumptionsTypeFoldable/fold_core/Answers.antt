@@ -23,18 +23,18 @@ returns-in_err-folded-clause-folds g c =
     rw (p.1, p.2) (assumptions_fail c.args.self (λ v. v.items) c.are_rows.ensures.are (rw c.in_ok-items.ensures.ok c.as_slice.ensures) (λ us h. vector-error {E = g.row.F-Error.Denot} g.F.Error.From.from_gives c.fold_core.new.cx _ us h) c.in_err-folded.ensures.folds)
 
 pub mk_assumptions-requires : goal.mk_assumptions-requires
-mk_assumptions-requires g c = rw c.as_slice.ensures.value (sequence-parts _ _ c.in_ok-folded.ensures.folds.outcome.0)
+mk_assumptions-requires g c = rw c.as_slice-2.ensures.value (sequence-parts _ _ c.in_ok-folded.ensures.folds.outcome.0)
 
 pub returns-in_err-list-clause-folds : goal.returns-in_err-list-clause-folds
 returns-in_err-list-clause-folds g c =
     let p = err_from_is_err_and c.from_residual-in_err-list.result c.from_residual-in_err-list.ensures.1 in
-    let b = rw c.as_slice.ensures.value at c.in_err-list.ensures in
+    let b = rw c.as_slice-2.ensures.value at c.in_err-list.ensures in
     rw p.1 (assumptions_not_stored c.args.self (λ v. v.items) c.are_rows.ensures.are (rw c.in_ok-items.ensures.ok c.as_slice.ensures) c.in_ok-folded.ensures.folds b.err
     (c.in_err-list.field-0.0, (p.2, rw b.err (not_stored c.fold_core.new.cx _ _ (sequence-parts _ _ c.in_ok-folded.ensures.folds.outcome.0) b.cause))))
 
 pub returns-clause-folds : goal.returns-clause-folds
 returns-clause-folds g c =
-    let b = rw c.as_slice.ensures.value at c.in_ok-list.ensures in
+    let b = rw c.as_slice-2.ensures.value at c.in_ok-list.ensures in
     let o = c.in_ok-folded.ensures.folds.is_owned in
     let adds = stored-adds refl b.stored in
     assumptions_stored c.args.self (λ v. v.items) c.are_rows.ensures.are (rw c.in_ok-items.ensures.ok c.as_slice.ensures) c.in_ok-list.list c.in_ok-folded.ensures.folds b (g.met.F.Core.still_owned _ _ _ adds o)
