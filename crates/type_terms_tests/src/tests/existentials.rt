@@ -4,7 +4,7 @@ use super::{holds_anew, holds_within};
 use test_terms::{NOT_OWNED, one_region, two_existentials};
 use type_terms::{
     Binder, BoundExistentialPredicates, BoundVarKinds, ExistentialPredicate, ExistentialTraitRef,
-    GenericArgs, Interner, PolyExistentialPredicate, Refusal, TraitId,
+    GenericArgs, InternedList, Interner, PolyExistentialPredicate, Refusal, TraitId,
 };
 
 // Returns an auto trait, under a binder of these variables.
