@@ -24,7 +24,7 @@ use tt_index::Refusal;
 use tt_interner::{AsClause, Interner};
 use tt_kinds::{Child, List, ListSort, Node};
 
-// The list that a child is, if it is one. A list of clauses may also be there as a term.
+// Returns the list that a child is, if it is one. A list of clauses may also be a term.
 #[inline(always)]
 pub(crate) fn list_in(item: &Child) -> Option<List>
     ensures { result ≡ child_list item.now }
@@ -36,7 +36,7 @@ pub(crate) fn list_in(item: &Child) -> Option<List>
     }
 }
 
-// The list that a term is, if it is one of clauses.
+// Returns the list that a term is, if it is a list of clauses.
 #[inline(always)]
 fn clause_list(node: Node) -> Option<List>
     ensures { result ≡ child_list (child.Node node) }
@@ -48,7 +48,7 @@ fn clause_list(node: Node) -> Option<List>
     }
 }
 
-// The term that a child is.
+// Returns the term that a child is.
 #[inline(always)]
 pub(crate) fn term_in(item: &Child) -> Node
     requires { HasTerm item.now }
@@ -63,7 +63,7 @@ pub(crate) fn term_in(item: &Child) -> Node
     }
 }
 
-// The term at which a hook is asked, if it is one.
+// Returns the term at which a hook is called, if there is one.
 #[inline(always)]
 pub(crate) fn hooked_in(item: &Child) -> Option<Node>
     requires { IsWhole item.now }
@@ -76,7 +76,7 @@ pub(crate) fn hooked_in(item: &Child) -> Option<Node>
     }
 }
 
-// The term, where a hook is asked at it.
+// Returns the term if a hook is called at it.
 #[inline(always)]
 fn hooked_node(node: Node) -> Option<Node>
     ensures { IsHookOf (child.Node node) result }
@@ -87,7 +87,7 @@ fn hooked_node(node: Node) -> Option<Node>
     }
 }
 
-// A list of clauses as the term that it is.
+// Returns a list of clauses as a term.
 #[inline(always)]
 fn hooked_list(list: List) -> Option<Node>
     ensures { IsHookOf (child.List list) result }
@@ -99,7 +99,7 @@ fn hooked_list(list: List) -> Option<Node>
     }
 }
 
-// A term in the place of a child.
+// Returns the term as a child like `item`.
 #[inline(always)]
 pub(crate) fn as_item(item: &Child, node: Node) -> Child
     requires { IsTermOf item.now node }
@@ -112,7 +112,7 @@ pub(crate) fn as_item(item: &Child, node: Node) -> Child
     }
 }
 
-// A list in the place of a child.
+// Returns the list as a child like `item`.
 #[inline(always)]
 pub(crate) fn as_list_item(item: &Child, list: List) -> Child
     requires { IsListOf item.now list }
@@ -125,7 +125,7 @@ pub(crate) fn as_list_item(item: &Child, list: List) -> Child
     }
 }
 
-// The list that a child is.
+// Returns the list that a child is.
 #[inline(always)]
 pub(crate) fn list_of(item: Child) -> List
     requires { IsList item }
@@ -137,7 +137,7 @@ pub(crate) fn list_of(item: Child) -> List
     }
 }
 
-// Whether there is no child.
+// Returns whether there is no child.
 #[inline(always)]
 pub(crate) fn is_absent(child: &Child) -> bool
     ensures { IsTrue result ↔ (child.now ≡ Child.Absent) }
@@ -148,7 +148,7 @@ pub(crate) fn is_absent(child: &Child) -> bool
     }
 }
 
-// Whether what came of an item may be in a list of the sort: in one of clauses, only a clause.
+// Tests whether the result of an item may be in a list of this sort: in a list of clauses, only a clause may.
 #[inline(always)]
 pub(crate) fn check_item(cx: &Interner, sort: ListSort, item: &Child) -> Result<(), Refusal>
     requires item { ArePartsOf cx.now.rows (child_shapes item.now) }
@@ -163,7 +163,7 @@ pub(crate) fn check_item(cx: &Interner, sort: ListSort, item: &Child) -> Result<
     }
 }
 
-// Whether the item is a clause, as each of a list of clauses has to be.
+// Tests whether the item is a clause.
 fn check_clause(cx: &Interner, item: &Child) -> Result<(), Refusal>
     requires item { ArePartsOf cx.now.rows (child_shapes item.now) }
     requires fit { IsItem ListSort.Clauses (child_sort item.now) }

@@ -1,4 +1,4 @@
-//! The walk of what is inside a term or a list. Its stack is on the heap, so that terms may be of any depth.
+//! The walk of the contents of a term or a list. Its stack is on the heap, so that terms may be of any depth.
 
 ghost use Rattle.std.specs.Prelude.{
   ◌≡◌,
@@ -78,9 +78,9 @@ pub(crate) struct Frame {
     item: Child,
     // The contents of a term. A list has none.
     contents: Contents,
-    // How many children there are.
+    // The number of children.
     count: usize,
-    // How many of them were begun.
+    // The number of children that were begun.
     next: usize,
 }
 
@@ -98,7 +98,7 @@ impl Default for Frame {
     }
 }
 
-// What a child comes to at first: its result, or what is inside.
+// A child that was begun: its result, or the frame of its contents.
 pub(crate) enum Begun {
     Done(Child),
     Inside(Frame),
@@ -110,7 +110,7 @@ type Frames = SmallVec<Frame, 8>;
 // The results of the children of all frames. A few short lists need no allocation.
 type Values = SmallVec<Child, 16>;
 
-// Begins a child: asks its hook, and enters its binder.
+// Begins a child: calls its hook, and enters its binder.
 #[inline(always)]
 pub(crate) fn begin<M, F: Core<M>>(
     cx: &mut Interner,
@@ -140,7 +140,7 @@ pub(crate) fn begin<M, F: Core<M>>(
     }
 }
 
-// The same of a term or a list. One without children is done at once.
+// Begins a term or a list. A term without children is done at once.
 #[inline(always)]
 fn begin_item<M, F: Core<M>>(
     cx: &mut Interner,
@@ -173,7 +173,7 @@ fn begin_item<M, F: Core<M>>(
     }
 }
 
-// Asks the hook of a term or a list. Where there is none, its children are next.
+// Calls the hook of a term or a list. Without a hook, its children are next.
 #[inline(always)]
 fn ask<M, F: Core<M>>(
     cx: &mut Interner,
@@ -222,7 +222,7 @@ pub(crate) fn open<M, F: Core<M>>(
     }
 }
 
-// A list before its children.
+// Returns the frame of a list, before its children.
 #[inline(always)]
 fn list_frame(cx: &Interner, item: &Child, list: List) -> Frame
     requires item { ArePartsOf cx.now.rows (child_shapes item.now) }
@@ -270,7 +270,7 @@ fn open_term<M, F: Core<M>>(
     }))
 }
 
-// Whether there are neither children nor a binder, so that the term need not be built again.
+// Returns whether there are neither children nor a binder, so that the term need not be built again.
 #[inline(always)]
 fn is_leaf(contents: &Contents) -> bool
     ensures { IsTrue result ↔ IsLeaf contents.now.bound_vars contents.now.parts }
@@ -279,7 +279,7 @@ fn is_leaf(contents: &Contents) -> bool
     contents.bound_vars.is_none() && is_absent(&parts.first) && is_absent(&parts.second)
 }
 
-// Before the children of a term.
+// Enters the binder of a term, if it has one.
 #[inline(always)]
 fn enter<M, F: Core<M>>(
     cx: &mut Interner,
@@ -299,7 +299,7 @@ fn enter<M, F: Core<M>>(
     }
 }
 
-// After the children of a term.
+// Leaves the binder of a term, if it has one.
 #[inline(always)]
 fn leave<M, F: Core<M>>(
     cx: &mut Interner,
@@ -319,7 +319,7 @@ fn leave<M, F: Core<M>>(
     }
 }
 
-// Asks the hook after the contents of a term or a list, where there is one.
+// Calls the hook after the contents of a term or a list, if it has one.
 #[inline(always)]
 pub(crate) fn finish<M, F: Core<M>>(
     cx: &mut Interner,
@@ -354,7 +354,7 @@ pub(crate) fn finish<M, F: Core<M>>(
     }
 }
 
-// The walk of the children of a term or a list, and what is built of their results.
+// Walks the children of a term or a list, and returns what is built of their results.
 #[inline(never)]
 pub(crate) fn fold_frames<M, F: Core<M>>(
     cx: &mut Interner,
@@ -402,7 +402,7 @@ pub(crate) fn fold_frames<M, F: Core<M>>(
     }
 }
 
-// The child that is to be begun.
+// Returns the child that is begun next.
 #[inline(always)]
 fn next_child(cx: &Interner, frame: &Frame) -> Child
     requires frame { IsFrame cx.now.rows frame.now }
@@ -421,7 +421,7 @@ fn next_child(cx: &Interner, frame: &Frame) -> Child
     }
 }
 
-// Keeps the result of a child of the frame. Of an item of a list of clauses has to come a clause.
+// Keeps the result of a child of the frame. The result of an item of a list of clauses has to be a clause.
 #[inline(always)]
 fn keep(cx: &Interner, frame: &Frame, values: &mut Values, value: Child) -> Result<(), Refusal>
     requires frame { IsFrame cx.now.rows frame.now }
@@ -439,7 +439,7 @@ fn keep(cx: &Interner, frame: &Frame, values: &mut Values, value: Child) -> Resu
     Ok(())
 }
 
-// Puts a frame aside until the child that was begun is done.
+// Keeps a frame until the child that was begun is done.
 #[inline(always)]
 fn suspend(frames: &mut Frames, frame: &Frame) -> Result<(), Refusal>
     ensures kept { OnOk result (frames.new.items ≡ frames.old.items ++ frame.now ∷ []) }
@@ -455,7 +455,7 @@ fn suspend(frames: &mut Frames, frame: &Frame) -> Result<(), Refusal>
     Ok(())
 }
 
-// Builds a term or a list of the results of its children, which are the last values.
+// Builds a term or a list from the results of its children, which are the last values.
 fn rebuild<M, F: Core<M>>(
     cx: &mut Interner,
     folder: &mut F,
@@ -486,7 +486,7 @@ fn rebuild<M, F: Core<M>>(
     }
 }
 
-// Builds a term of the results of its children.
+// Builds a term from the results of its children.
 fn rebuild_term<M, F: Core<M>>(
     cx: &mut Interner,
     folder: &mut F,
@@ -529,7 +529,7 @@ fn take_parts(values: &mut Values) -> Parts
     parts
 }
 
-// The last values, so many.
+// Returns the last `count` values.
 #[inline(always)]
 fn last_values(values: &Values, count: usize) -> &[Child]
     requires { count ≤ length values.now.items }

@@ -39,7 +39,7 @@ use crate::stack::{Begun, begin, finish, fold_frames, open};
 use tt_interner::Interner;
 use tt_kinds::{BoundVarKinds, Child, List, Node, Parts};
 
-// The walk of a stored term. In place in its callers, so that a term whose hook answers at once costs no call.
+// Walks a stored term. It is inlined in its callers, so that a term whose hook answers at once costs no call.
 #[inline(always)]
 pub(crate) fn fold_node<M, F: Core<M>>(
     cx: &mut Interner,
@@ -57,7 +57,7 @@ pub(crate) fn fold_node<M, F: Core<M>>(
     Ok(term_in(&folded))
 }
 
-// The walk of the contents of a term, and the term with what came of it.
+// Walks the contents of a term, and returns the term with their results.
 #[inline(never)]
 pub(crate) fn fold_inside<M, F: Core<M>>(
     cx: &mut Interner,
@@ -80,7 +80,7 @@ pub(crate) fn fold_inside<M, F: Core<M>>(
     }
 }
 
-// The walk of parts, under their binder if they have one.
+// Walks parts, under their binder if they have one.
 #[inline(always)]
 pub(crate) fn fold_contents<M, F: Core<M>>(
     cx: &mut Interner,
@@ -102,7 +102,7 @@ pub(crate) fn fold_contents<M, F: Core<M>>(
     }
 }
 
-// The walk of parts under a binder.
+// Walks parts under a binder.
 fn fold_under<M, F: Core<M>>(
     cx: &mut Interner,
     folder: &mut F,
@@ -123,7 +123,7 @@ fn fold_under<M, F: Core<M>>(
     Ok(new_parts)
 }
 
-// The walk of parts in order.
+// Walks parts in order.
 #[inline(always)]
 pub(crate) fn fold_parts<M, F: Core<M>>(
     cx: &mut Interner,
@@ -141,7 +141,7 @@ pub(crate) fn fold_parts<M, F: Core<M>>(
     Ok(Parts { first, second })
 }
 
-// The walk of a child. One whose hook answers at once starts no stack.
+// Walks a child. A child whose hook answers at once starts no stack.
 #[inline(always)]
 pub(crate) fn fold_child<M, F: Core<M>>(
     cx: &mut Interner,
@@ -165,7 +165,7 @@ pub(crate) fn fold_child<M, F: Core<M>>(
     }
 }
 
-// The walk of a stored list. One of clauses has a hook.
+// Walks a stored list. A list of clauses has a hook.
 pub(crate) fn fold_list<M, F: Core<M>>(
     cx: &mut Interner,
     folder: &mut F,

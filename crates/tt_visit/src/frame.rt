@@ -1,4 +1,4 @@
-//! What is left of the terms and lists whose visit was begun.
+//! The rests of terms and lists whose visit was begun.
 
 ghost use Rattle.std.specs.Prelude.{◌≡◌, List as Items, [], ◌∷◌, drop, IsTrue, IsFalse, MatchOption, None};
 ghost use Rattle.tt_kinds.specs.Kinds.{parts_shapes};
@@ -191,7 +191,7 @@ impl Frame {
     }
 }
 
-/// Keeps what is left of a term, and returns whether there was room for it. None is needed where nothing is left.
+/// Keeps what is left of a term, and returns whether there was room for it. If nothing is left, none is needed.
 pub(crate) fn keep(frames: &mut Frames, rest: &Rest) -> bool
     ensures kept { IsTrue result → IsKept frames.old.items rest.now frames.new.items }
     ensures refused { IsFalse result → frames.new.items ≡ frames.old.items }

@@ -90,7 +90,7 @@ pub fn visit_node<V: TypeVisitor>(
     finish(cx, visitor, begun)
 }
 
-// The visit of the contents of a stored term, without its own hook.
+// Visits the contents of a stored term, without its own hook.
 pub(crate) fn visit_inside<V: TypeVisitor>(
     cx: &Interner,
     visitor: &mut V,
@@ -124,7 +124,7 @@ pub fn visit_kind<V: TypeVisitor>(
     finish(cx, visitor, begun)
 }
 
-// The visit of parts under a binder.
+// Visits parts under a binder.
 pub(crate) fn visit_under<V: TypeVisitor>(
     cx: &Interner,
     visitor: &mut V,
@@ -145,7 +145,7 @@ pub(crate) fn visit_under<V: TypeVisitor>(
     finish(cx, visitor, begun)
 }
 
-// The visit of parts in order.
+// Visits parts in order.
 pub(crate) fn visit_parts<V: TypeVisitor>(
     cx: &Interner,
     visitor: &mut V,
@@ -199,7 +199,7 @@ fn finish<V: TypeVisitor>(
     }
 }
 
-// The visit of what is left of a term or a list. Where memory for the stack is refused, a term is visited by a call of
+// Visits what is left of a term or a list. If memory for the stack is refused, a term is visited by a call of
 // this function, on the machine's stack: the visit is the same, and there is no refusal that it could answer.
 fn visit_frame<V: TypeVisitor>(
     cx: &Interner,
@@ -281,7 +281,7 @@ fn leave_all<V: TypeVisitor>(cx: &Interner, visitor: &mut V, frames: Frames)
     }
 }
 
-// Begins the visit of one part or item. Where it isn't done by that, what is left of it is returned.
+// Begins the visit of one part or item, and returns what is left of it, if anything is.
 fn begin_child<V: TypeVisitor>(
     cx: &Interner,
     visitor: &mut V,
@@ -448,7 +448,7 @@ fn begin_list<V: TypeVisitor>(
     }
 }
 
-// The items of a stored list.
+// Returns the frame of a stored list, before its items.
 fn list_frame(cx: &Interner, list: List) -> Frame
     requires { IsPart (size cx.now.rows) (list_shape list) }
     ensures frame { IsFrame cx.now.rows result }
@@ -464,7 +464,7 @@ fn list_frame(cx: &Interner, list: List) -> Frame
     Frame::of_items(list, cx.list_len(list))
 }
 
-// What the hook of a stored term answers. A term without a hook is gone into.
+// Calls the hook of a stored term. A term without a hook is entered.
 fn ask<V: TypeVisitor>(cx: &Interner, visitor: &mut V, node: Node) -> ControlFlow<V::Break, Next>
     requires owned { V.owned cx.now.rows visitor.old }
     requires node { IsPart (size cx.now.rows) (node_shape node) }
@@ -483,7 +483,7 @@ fn ask<V: TypeVisitor>(cx: &Interner, visitor: &mut V, node: Node) -> ControlFlo
     }
 }
 
-// The visitor is told of the error of a kind, if it has one.
+// Tells the visitor of the error of a kind, if it has one.
 fn tell_error<V: TypeVisitor>(
     cx: &Interner,
     visitor: &mut V,
