@@ -141,7 +141,7 @@ pub(crate) fn begin<M, F: Core<M>>(
 }
 
 // Begins a term or a list. A term without children is done at once.
-#[inline(always)]
+#[inline(never)]
 fn begin_item<M, F: Core<M>>(
     cx: &mut Interner,
     folder: &mut F,
@@ -440,7 +440,7 @@ fn keep(cx: &Interner, frame: &Frame, values: &mut Values, value: Child) -> Resu
 }
 
 // Keeps a frame until the child that was begun is done.
-#[inline(always)]
+#[inline(never)]
 fn suspend(frames: &mut Frames, frame: &Frame) -> Result<(), Refusal>
     ensures kept { OnOk result (frames.new.items ≡ frames.old.items ++ frame.now ∷ []) }
     ensures memory { IfErr result (λ e. e ≡ Memory) }
