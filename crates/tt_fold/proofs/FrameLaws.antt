@@ -8,7 +8,7 @@ use Rattle.tt_kinds.specs.Label.{Label}
 use Rattle.tt_kinds.specs.Tree.{also, none}
 use Rattle.tt_kinds.specs.Parts.{node_table, node_number, list_table, list_number, list_sort, child_sort, IsItem}
 use Rattle.tt_kinds.specs.Shape.{append}
-use Rattle.tt_kinds.specs.Kinds.{Form, param, bound, plain, under, form_binder, kind_form, kind_sort, kind_shape, node_shape, list_shape, child_shapes, parts_shapes, children_shapes}
+use Rattle.tt_kinds.specs.Kinds.{Form, param, bound, plain, under, form_binder, form_parts, kind_form, kind_sort, kind_shape, node_shape, list_shape, child_shapes, parts_shapes, children_shapes}
 use Rattle.tt_kinds.specs.declared.parts.Child.{Child}
 use Rattle.tt_kinds.specs.declared.parts.Child.TheVariants as child
 use Rattle.tt_kinds.specs.declared.parts.List.{List}
@@ -16,7 +16,6 @@ use Rattle.tt_kinds.specs.declared.parts.ListSort.{ListSort}
 use Rattle.tt_kinds.specs.declared.parts.ListSort.TheVariants as sort
 use Rattle.tt_kinds.specs.declared.parts.Node.{Node}
 use Rattle.tt_kinds.specs.declared.parts.Parts.{Parts}
-use Rattle.tt_interner.specs.declared.nodes.Contents.{Contents}
 use Rattle.tt_interner.specs.Rows.{Row, Grows}
 use Rattle.tt_interner.specs.Children.{children_at}
 use Rattle.tt_interner.specs.Nodes.{stored_kind}
@@ -114,13 +113,13 @@ alike_all P (v ∷ vs) (c ∷ cs) f h a = λ k d lt. elim k as (λ j. j < length
 ] lt
 
 -- how many children a frame has
-pub counted : (rows : Listed Row) (n : Node) (contents : Contents) (count : ℕ) (l : Option List) → IsMadeOf rows n contents count l → count ≡ length (children_by rows contents.parts l)
-counted rows n contents count (Some l) h = h.counted
-counted rows n contents count None h = h.counted
+pub counted : (rows : Listed Row) (n : Node) (count : ℕ) (l : Option List) → IsMadeOf rows n count l → count ≡ length (children_by rows n l)
+counted rows n count (Some l) h = h.counted
+counted rows n count None h = h.counted
 
-counted-fits : (rows : Listed Row) (n : Node) (contents : Contents) (count : ℕ) (l : Option List) → IsMadeOf rows n contents count l → count < 2 ^ 64
-counted-fits rows n contents count (Some l) h = h.fits
-counted-fits rows n contents count None h = omega (arith, h.counted)
+counted-fits : (rows : Listed Row) (n : Node) (count : ℕ) (l : Option List) → IsMadeOf rows n count l → count < 2 ^ 64
+counted-fits rows n count (Some l) h = h.fits
+counted-fits rows n count None h = omega (arith, h.counted)
 
 -- absent children are few
 no_absent : (P : Child → Type 0) (cs : Listed Child) → (P child.Absent → ⊥) → All P cs → absent_among cs ≡ 0
@@ -145,9 +144,9 @@ no_item sort.Pats h = h
 no_item sort.Existentials h = h
 no_item sort.Clauses h = h
 
-pub few_absent : (rows : Listed Row) (n : Node) (contents : Contents) (count : ℕ) (l : Option List) → IsMadeOf rows n contents count l → absent_among (children_by rows contents.parts l) ≤ 2
-few_absent rows n contents count (Some l) h = omega (arith, no_absent (λ c. IsItem (list_sort l) (child_sort c)) (children_at rows l) (no_item (list_sort l)) h.fit)
-few_absent rows n contents count None h = omega (arith, absent_length (contents.parts.first ∷ contents.parts.second ∷ []))
+pub few_absent : (rows : Listed Row) (n : Node) (count : ℕ) (l : Option List) → IsMadeOf rows n count l → absent_among (children_by rows n l) ≤ 2
+few_absent rows n count (Some l) h = omega (arith, no_absent (λ c. IsItem (list_sort l) (child_sort c)) (children_at rows l) (no_item (list_sort l)) h.fit)
+few_absent rows n count None h = omega (arith, absent_length (children_by rows n None))
 
 module _ {old new : Listed Row} (g : Grows old new) where
   pub form_outline-grows : (f : Form (Label ℕ)) → KeepsLabels old new f → HasBinder old (form_binder f) → form_outline new f ≡ form_outline old f
@@ -156,19 +155,20 @@ module _ {old new : Listed Row} (g : Grows old new) where
   form_outline-grows (plain l p) k b = ap outline.plain (sym k.same)
   form_outline-grows (under l vars m p) k b = rw (k.0.same, k.1.same, vars-grow g vars b) refl
 
-  outline_by-grows : (n : Node) (contents : Contents) (count : ℕ) (l : Option List) → IsMadeOf old n contents count l → outline_by new n l ≡ outline_by old n l
-  outline_by-grows n contents count (Some l) h = refl
-  outline_by-grows n contents count None h =
+  outline_by-grows : (n : Node) (count : ℕ) (l : Option List) → IsMadeOf old n count l → outline_by new n l ≡ outline_by old n l
+  outline_by-grows n count (Some l) h = refl
+  outline_by-grows n count None h =
       let f = kind_form (stored_kind old n) in
       ap (λ k. form_outline new (kind_form k)) (stored_kind-grows old new g n h.in_range)
       ∙ form_outline-grows f (form-labels old new g (kind_sort (stored_kind old n)) f h.named) (form-binder old (kind_sort (stored_kind old n)) f h.named)
 
-  children_by-grows : (n : Node) (contents : Contents) (count : ℕ) (l : Option List) → IsMadeOf old n contents count l → children_by new contents.parts l ≡ children_by old contents.parts l
-  children_by-grows n contents count (Some l) h = children_at-grows old new g l h.in_range
-  children_by-grows n contents count None h = refl
+  children_by-grows : (n : Node) (count : ℕ) (l : Option List) → IsMadeOf old n count l → children_by new n l ≡ children_by old n l
+  children_by-grows n count (Some l) h = children_at-grows old new g l h.in_range
+  children_by-grows n count None h =
+      ap (λ k. (form_parts (kind_form k)).first ∷ (form_parts (kind_form k)).second ∷ []) (stored_kind-grows old new g n h.in_range)
 
-  made-grows : (n : Node) (contents : Contents) (count : ℕ) (l : Option List) → IsMadeOf old n contents count l → IsMadeOf new n contents count l
-  made-grows n contents count (Some l) h =
+  made-grows : (n : Node) (count : ℕ) (l : Option List) → IsMadeOf old n count l → IsMadeOf new n count l
+  made-grows n count (Some l) h =
       let same = children_at-grows old new g l h.in_range in
       record {
         in_range = in_range new (list_table l) (list_number l) (IsPart-grows old new g (list_shape l) h.in_range);
@@ -177,62 +177,60 @@ module _ {old new : Listed Row} (g : Grows old new) where
         counted = rw same h.counted;
         fits = h.fits;
       }
-  made-grows n contents count None h =
+  made-grows n count None h =
       let same = stored_kind-grows old new g n h.in_range in
       record {
         in_range = in_range new (node_table n) (node_number n) (IsPart-grows old new g (node_shape n) h.in_range);
         has_kind = h.has_kind;
         table = rw same h.table;
-        bound_vars = rw same h.bound_vars;
-        parts = rw same h.parts;
         named = rw same (HasParts-grows old new g (kind_shape (stored_kind old n)) h.named);
         inner = rw same h.inner;
         counted = h.counted;
       }
 
-pub children_by-parts : (rows : Listed Row) (n : Node) (contents : Contents) (count : ℕ) (l : Option List) → IsMadeOf rows n contents count l → ArePartsOf rows (children_shapes (children_by rows contents.parts l))
-children_by-parts rows n contents count (Some l) h = h.parts
-children_by-parts rows n contents count None h =
+pub children_by-parts : (rows : Listed Row) (n : Node) (count : ℕ) (l : Option List) → IsMadeOf rows n count l → ArePartsOf rows (children_shapes (children_by rows n l))
+children_by-parts rows n count (Some l) h = h.parts
+children_by-parts rows n count None h =
     let k = stored_kind rows n in
-    rw (two_shapes contents.parts, h.parts) (form-parts rows (kind_sort k) (kind_form k) h.named)
+    rw (two_shapes (form_parts (kind_form k))) (form-parts rows (kind_sort k) (kind_form k) h.named)
 
 pub frame-parts : {rows : Listed Row} {f : Frame} → IsFrame rows f → ArePartsOf rows (children_shapes (children_in rows f))
-frame-parts {f} h = children_by-parts _ (child_node f.item) f.contents f.count (child_list f.item) h.made
+frame-parts {f} h = children_by-parts _ (child_node f.item) f.count (child_list f.item) h.made
 
 -- a value of the sort of a frame's child
-fits_by : (rows : Listed Row) (n : Node) (contents : Contents) (count : ℕ) (l : Option List) (i : ℕ) (c y : Child)
-    → IsMadeOf rows n contents count l → slice_get (children_by rows contents.parts l) i ≡ Some c → child_sort y ≡ child_sort c → Fits l y
-fits_by rows n contents count (Some l) i c y h e s = rw s (item-fits (λ x. IsItem (list_sort l) (child_sort x)) (children_at rows l) i c e h.fit)
-fits_by rows n contents count None i c y h e s = tt
+fits_by : (rows : Listed Row) (n : Node) (count : ℕ) (l : Option List) (i : ℕ) (c y : Child)
+    → IsMadeOf rows n count l → slice_get (children_by rows n l) i ≡ Some c → child_sort y ≡ child_sort c → Fits l y
+fits_by rows n count (Some l) i c y h e s = rw s (item-fits (λ x. IsItem (list_sort l) (child_sort x)) (children_at rows l) i c e h.fit)
+fits_by rows n count None i c y h e s = tt
 
 pub frame_fits : {rows : Listed Row} {f : Frame} (i : ℕ) (c y : Child) → IsFrame rows f → slice_get (children_in rows f) i ≡ Some c → child_sort y ≡ child_sort c → Fits (child_list f.item) y
-frame_fits {f} i c y h e s = fits_by _ (child_node f.item) f.contents f.count (child_list f.item) i c y h.made e s
+frame_fits {f} i c y h e s = fits_by _ (child_node f.item) f.count (child_list f.item) i c y h.made e s
 
 pub frame-count : {rows : Listed Row} {f : Frame} → IsFrame rows f → f.count ≡ length (children_in rows f)
-frame-count {f} h = counted _ (child_node f.item) f.contents f.count (child_list f.item) h.made
+frame-count {f} h = counted _ (child_node f.item) f.count (child_list f.item) h.made
 
 pub frame-fits : {rows : Listed Row} {f : Frame} → IsFrame rows f → f.count < 2 ^ 64
-frame-fits {f} h = counted-fits _ (child_node f.item) f.contents f.count (child_list f.item) h.made
+frame-fits {f} h = counted-fits _ (child_node f.item) f.count (child_list f.item) h.made
 
 pub frame-absent : {rows : Listed Row} {f : Frame} → IsFrame rows f → absent_among (children_in rows f) ≤ 2
-frame-absent {f} h = few_absent _ (child_node f.item) f.contents f.count (child_list f.item) h.made
+frame-absent {f} h = few_absent _ (child_node f.item) f.count (child_list f.item) h.made
 
 module _ {old new : Listed Row} (g : Grows old new) where
   pub item_tree-grows : {f : Frame} → IsFrame old f → child_tree new f.item ≡ child_tree old f.item
   item_tree-grows {f} h = fill-grows old new g (child_shape f.item) (whole-part _ f.item h.is h.part)
 
   pub outline-grows : {f : Frame} → IsFrame old f → outline_of new f.item ≡ outline_of old f.item
-  outline-grows {f} h = outline_by-grows g (child_node f.item) f.contents f.count (child_list f.item) h.made
+  outline-grows {f} h = outline_by-grows g (child_node f.item) f.count (child_list f.item) h.made
 
   pub children-grow : {f : Frame} → IsFrame old f → children_in new f ≡ children_in old f
-  children-grow {f} h = children_by-grows g (child_node f.item) f.contents f.count (child_list f.item) h.made
+  children-grow {f} h = children_by-grows g (child_node f.item) f.count (child_list f.item) h.made
 
   pub frame-grows : {f : Frame} → IsFrame old f → IsFrame new f
   frame-grows {f} h = record {
     is = h.is;
     part = AreParts-grows old new g (child_shapes f.item) h.part;
     tree = rw (item_tree-grows h, outline-grows h, children-grow h, fill_all-grows old new g (children_shapes (children_in old f)) (frame-parts h)) h.tree;
-    made = made-grows g (child_node f.item) f.contents f.count (child_list f.item) h.made;
+    made = made-grows g (child_node f.item) f.count (child_list f.item) h.made;
   }
 
   pub values-grow : (vs : Listed Child) → ArePartsOf old (children_shapes vs) → children_trees new vs ≡ children_trees old vs

@@ -29,7 +29,7 @@ use Rattle.tt_fold.proofs.FrameLaws.{whole-part, whole-tree, like-whole, last_tr
 
 -- a frame with one more child begun
 abbrev pub stepped : Frame → Frame
-stepped f = record { item = f.item; contents = f.contents; count = f.count; next = f.next + 1 }
+stepped f = record { item = f.item; count = f.count; next = f.next + 1 }
 
 pub stepped-frame : {rows : Listed Row} {f : Frame} → IsFrame rows f → IsFrame rows (stepped f)
 stepped-frame h = record { is = h.is; part = h.part; tree = h.tree; made = h.made }

@@ -20,7 +20,6 @@ use Rattle.tt_kinds.specs.declared.parts.List.TheVariants as list_is
 use Rattle.tt_kinds.specs.declared.parts.Node.{Node}
 use Rattle.tt_kinds.specs.declared.parts.Node.TheVariants as node_is
 use Rattle.tt_kinds.specs.declared.parts.Parts.{Parts}
-use Rattle.tt_interner.specs.declared.nodes.Contents.{Contents}
 use Rattle.tt_interner.specs.Rows.{Row, size, meaning, Grows}
 use Rattle.tt_interner.specs.Stored.{Terms, Extends}
 use Rattle.tt_interner.specs.Children.{children_at}
@@ -144,12 +143,12 @@ as_child : {rows : Listed Row} {c y : Child} {n m : Node} → SameTerm y m → c
 as_child {rows} {y} same sorts is = record { owned = part-whole _ y same.is (rw same.shape is.owned); like = sorts }
 
 -- a list before its children
-pub list_opened : {rows : Listed Row} {count : ℕ} (c : Child) (contents : Contents) (l : List) → IsWhole c → ArePartsOf rows (child_shapes c) → Some l ≡ child_list c
+pub list_opened : {rows : Listed Row} {count : ℕ} (c : Child) (l : List) → IsWhole c → ArePartsOf rows (child_shapes c) → Some l ≡ child_list c
     → count ≡ length (children_at rows l)
     → meaning rows (list_table l) (list_number l) ≡ items_tree (list_sort l) (children_trees rows (children_at rows l))
     → ArePartsOf rows (children_shapes (children_at rows l)) → All (λ x. IsItem (list_sort l) (child_sort x)) (children_at rows l) → count < 2 ^ 64
-    → IsOpened rows c (record { item = c; contents = contents; count = count; next = 0 })
-list_opened {rows} c contents l is part e counted means parts fit fits =
+    → IsOpened rows c (record { item = c; count = count; next = 0 })
+list_opened {rows} c l is part e counted means parts fit fits =
     let shape = list_shape_of c l (sym e) in
     let at = subst (λ x. IsPartOf rows x) shape (whole-part rows c is part) in
     record {
@@ -164,29 +163,27 @@ list_opened {rows} c contents l is part e counted means parts fit fits =
     }
 
 -- a term before its children
-term_frame : {rows : Listed Row} (c : Child) (contents : Contents) (n : Node) → IsWhole c → ArePartsOf rows (child_shapes c) → None ≡ child_list c
-    → n ≡ child_node c → SameTerm c n → IsTermFrame rows n contents 2
+term_frame : {rows : Listed Row} (c : Child) (n : Node) → IsWhole c → ArePartsOf rows (child_shapes c) → None ≡ child_list c
+    → n ≡ child_node c → SameTerm c n → IsTermFrame rows n 2
     → meaning rows (node_table n) (node_number n) ≡ fill (meaning rows) (kind_shape (stored_kind rows n))
-    → IsFrame rows (record { item = c; contents = contents; count = 2; next = 0 })
-term_frame {rows} c contents n is part e node same t means =
+    → IsFrame rows (record { item = c; count = 2; next = 0 })
+term_frame {rows} c n is part e node same t means =
     let k = stored_kind rows n in
-    let kids = ap (trees_in rows) (two_shapes contents.parts ∙ ap parts_shapes t.parts) in
-    let tree : child_tree rows c ≡ whole (form_outline rows (kind_form k)) (children_trees rows (contents.parts.first ∷ contents.parts.second ∷ [])) =
+    let p = form_parts (kind_form k) in
+    let kids = ap (trees_in rows) (two_shapes p) in
+    let tree : child_tree rows c ≡ whole (form_outline rows (kind_form k)) (children_trees rows (p.first ∷ p.second ∷ [])) =
     rw kids (ap (tree_in rows) same.shape ∙ stored_tree rows (node_table n) (node_number n) ∙ means ∙ form_whole rows (kind_sort k) (kind_form k) t.inner) in
     record { is = is; part = part; tree = rw (← e, ← node) tree; made = rw (← e, ← node) t }
 
 -- what the interner says of a term
-pub term_made : {rows : Listed Row} (c : Child) (contents : Contents) (n : Node) → IsWhole c → ArePartsOf rows (child_shapes c) → None ≡ child_list c
+pub term_made : {rows : Listed Row} (c : Child) (n : Node) → IsWhole c → ArePartsOf rows (child_shapes c) → None ≡ child_list c
     → n ≡ child_node c → SameTerm c n
-    → contents.bound_vars ≡ form_binder (kind_form (stored_kind rows n)) → contents.parts ≡ form_parts (kind_form (stored_kind rows n))
     → kind_table (stored_kind rows n) ≡ node_table n → HasParts (size rows) (kind_shape (stored_kind rows n)) → IsInner (kind_form (stored_kind rows n))
-    → IsTermFrame rows n contents 2
-term_made {rows} c contents n is part e node same b p table named inner = record {
+    → IsTermFrame rows n 2
+term_made {rows} c n is part e node same table named inner = record {
   in_range = in_range rows (node_table n) (node_number n) (hooked_part rows c n same (whole-part _ c is part));
   has_kind = rw node (no_clauses c is e);
   table = table;
-  bound_vars = b;
-  parts = p;
   named = named;
   inner = inner;
   counted = refl;
@@ -231,30 +228,30 @@ module _ {M E S : Type 0} {owned : Listed Row → S → Type 0} {means : Listed 
       let tree = ap (tree_in terms.rows) same.shape ∙ stored_tree terms.rows (node_table n) (node_number n) ∙ is in
       record { extends = Extends-refl terms; is_owned = o; outcome = rw tree (walks_leaf H _ terms.rows (stored_kind terms.rows n) leaf) }
 
-  pub open_fails : {terms terms1 : Terms} {s s1 : S} {e : E} (c : Child) (contents : Contents) (n : Node) → IsWhole c → ArePartsOf terms.rows (child_shapes c) → None ≡ child_list c
-      → n ≡ child_node c → SameTerm c n → IsTermFrame terms.rows n contents 2
+  pub open_fails : {terms terms1 : Terms} {s s1 : S} {e : E} (c : Child) (b : Option BoundVarKinds) (n : Node) → IsWhole c → ArePartsOf terms.rows (child_shapes c) → None ≡ child_list c
+      → n ≡ child_node c → SameTerm c n → b ≡ form_binder (kind_form (stored_kind terms.rows n)) → IsTermFrame terms.rows n 2
       → meaning terms.rows (node_table n) (node_number n) ≡ fill (meaning terms.rows) (kind_shape (stored_kind terms.rows n))
-      → Goes owned means (λ _ _ m m'. Opens H (binder_in terms.rows contents.bound_vars) m m') (EnterFails H errors (binder_in terms.rows contents.bound_vars)) terms s (unit_err e) terms1 s1
+      → Goes owned means (λ _ _ m m'. Opens H (binder_in terms.rows b) m m') (EnterFails H errors (binder_in terms.rows b)) terms s (unit_err e) terms1 s1
       → Goes owned means (IsOpen H (child_tree terms.rows c) c) (λ m x m'. InsideFails H errors m (child_tree terms.rows c) x m') terms s (Err e) terms1 s1
-  open_fails {terms} c contents n is part e node same t means_is d =
+  open_fails {terms} c b n is part e node same vars_are t means_is d =
       let f = kind_form (stored_kind terms.rows n) in
-      let frame = term_frame c contents n is part e node same t means_is in
-      let tree = frame.tree ∙ ap (λ o. whole o (children_trees terms.rows (children_in terms.rows (record { item = c; contents = contents; count = 2; next = 0 })))) (outline_is terms.rows c n e node) in
-      let k = rw (t.bound_vars, ← form_binder_of terms.rows f) at d.outcome in
+      let frame = term_frame c n is part e node same t means_is in
+      let tree = frame.tree ∙ ap (λ o. whole o (children_trees terms.rows (children_in terms.rows (record { item = c; count = 2; next = 0 })))) (outline_is terms.rows c n e node) in
+      let k = rw (vars_are, ← form_binder_of terms.rows f) at d.outcome in
       record { extends = d.extends; is_owned = d.is_owned; outcome = rw tree (enter_fails_inside (form_outline terms.rows f) _ (form_any terms.rows f t.inner) k) }
 
-  pub open_ok : {terms terms1 : Terms} {s s1 : S} (c : Child) (contents : Contents) (n : Node) → IsWhole c → ArePartsOf terms.rows (child_shapes c) → None ≡ child_list c
-      → n ≡ child_node c → SameTerm c n → IsTermFrame terms.rows n contents 2
+  pub open_ok : {terms terms1 : Terms} {s s1 : S} (c : Child) (b : Option BoundVarKinds) (n : Node) → IsWhole c → ArePartsOf terms.rows (child_shapes c) → None ≡ child_list c
+      → n ≡ child_node c → SameTerm c n → b ≡ form_binder (kind_form (stored_kind terms.rows n)) → IsTermFrame terms.rows n 2
       → meaning terms.rows (node_table n) (node_number n) ≡ fill (meaning terms.rows) (kind_shape (stored_kind terms.rows n))
-      → Goes owned means (λ _ _ m m'. Opens H (binder_in terms.rows contents.bound_vars) m m') (EnterFails H errors (binder_in terms.rows contents.bound_vars)) terms s (Ok (tt {0})) terms1 s1
+      → Goes owned means (λ _ _ m m'. Opens H (binder_in terms.rows b) m m') (EnterFails H errors (binder_in terms.rows b)) terms s (Ok (tt {0})) terms1 s1
       → Goes owned means (IsOpen H (child_tree terms.rows c) c) (λ m x m'. InsideFails H errors m (child_tree terms.rows c) x m') terms s
-      (Ok (Some (record { item = c; contents = contents; count = 2; next = 0 }))) terms1 s1
-  open_ok {terms} {terms1} c contents n is part e node same t means_is d =
+      (Ok (Some (record { item = c; count = 2; next = 0 }))) terms1 s1
+  open_ok {terms} {terms1} c b n is part e node same vars_are t means_is d =
       let f = kind_form (stored_kind terms.rows n) in
-      let frame = term_frame c contents n is part e node same t means_is in
+      let frame = term_frame c n is part e node same t means_is in
       let before = outline_is terms.rows c n e node in
       let after = outline-grows d.extends.rows frame ∙ before in
-      let k = rw (t.bound_vars, ← form_binder_of terms.rows f) at d.outcome in
+      let k = rw (vars_are, ← form_binder_of terms.rows f) at d.outcome in
       record {
         extends = d.extends;
         is_owned = d.is_owned;
@@ -448,21 +445,22 @@ list_fits {rows} {results} l h e =
 
 -- a term's frame and what came of its children
 module _ {rows : Listed Row} {f : Frame} {results : Listed Child} (h : Holds rows f results) (n : Node) (e : None ≡ child_list f.item) (node : n ≡ child_node f.item) where
-  pub term_facts : IsTermFrame rows n f.contents f.count
+  pub term_facts : IsTermFrame rows n f.count
   term_facts = rw (← e, ← node) at h.frame.made
 
   pub term_outline : outline_of rows f.item ≡ form_outline rows (kind_form (stored_kind rows n))
   term_outline = outline_is rows f.item n e node
 
-  pub term_binder : binder_of (outline_of rows f.item) ≡ binder_in rows f.contents.bound_vars
-  term_binder = ap binder_of term_outline ∙ form_binder_of rows (kind_form (stored_kind rows n)) ∙ ap (binder_in rows) (sym term_facts.bound_vars)
+  pub term_binder : (b : Option BoundVarKinds) → b ≡ form_binder (kind_form (stored_kind rows n)) → binder_of (outline_of rows f.item) ≡ binder_in rows b
+  term_binder b vars_are = ap binder_of term_outline ∙ form_binder_of rows (kind_form (stored_kind rows n)) ∙ ap (binder_in rows) (sym vars_are)
 
   -- the results by their places
   pub term_like : (q : Parts) → results ≡ q.first ∷ q.second ∷ [] → AreLike (form_parts (kind_form (stored_kind rows n))) q
   term_like q are =
-      let kids : children_in rows f ≡ f.contents.parts.first ∷ f.contents.parts.second ∷ [] = rw (← e) refl in
+      let p = form_parts (kind_form (stored_kind rows n)) in
+      let kids : children_in rows f ≡ p.first ∷ p.second ∷ [] = rw (← e, ← node) refl in
       let alike = rw (are, kids) at h.alike in
-      rw (← term_facts.parts) (record { first = alike.0; second = alike.1.0 })
+      record { first = alike.0; second = alike.1.0 }
 
   pub term_parts : (q : Parts) → results ≡ q.first ∷ q.second ∷ [] → ArePartsOf rows (parts_shapes q)
   term_parts q are = rw (← two_shapes q) (rw are at h.owned)
@@ -506,35 +504,38 @@ module _ {M E S : Type 0} {owned : Listed Row → S → Type 0} {means : Listed 
       }
 
   -- the binder of a term is not left
-  pub rebuild_not_left : {terms terms1 : Terms} {s s1 : S} {e : E} {f : Frame} {results : Listed Child} (n : Node) → Holds terms.rows f results → None ≡ child_list f.item → n ≡ child_node f.item
-      → Goes owned means (λ _ _ m m'. Leaves H (binder_in terms.rows f.contents.bound_vars) m m') (LeaveFails H errors (binder_in terms.rows f.contents.bound_vars)) terms s (unit_err e) terms1 s1
+  pub rebuild_not_left : {terms terms1 : Terms} {s s1 : S} {e : E} {f : Frame} {results : Listed Child} {b : Option BoundVarKinds} (n : Node) → Holds terms.rows f results → None ≡ child_list f.item → n ≡ child_node f.item
+      → b ≡ form_binder (kind_form (stored_kind terms.rows n))
+      → Goes owned means (λ _ _ m m'. Leaves H (binder_in terms.rows b) m m') (LeaveFails H errors (binder_in terms.rows b)) terms s (unit_err e) terms1 s1
       → Goes owned means (IsRebuilt H terms.rows f results) (RebuildFails H errors (outline_of terms.rows f.item) (children_trees terms.rows results)) terms s (Err e) terms1 s1
-  rebuild_not_left n h e node d =
-      let k = rw (← term_binder h n e node) at d.outcome in
+  rebuild_not_left n h e node vars_are d =
+      let k = rw (← term_binder h n e node _ vars_are) at d.outcome in
       record { extends = d.extends; is_owned = d.is_owned; outcome = not_left k }
 
   -- it is not stored
-  pub rebuild_not_stored : {terms terms1 terms2 : Terms} {s s1 : S} {e : E} {f : Frame} {results : Listed Child} {other : Errors E} (n : Node) (q : Parts) (j : Kind)
+  pub rebuild_not_stored : {terms terms1 terms2 : Terms} {s s1 : S} {e : E} {f : Frame} {results : Listed Child} {other : Errors E} {b : Option BoundVarKinds} (n : Node) (q : Parts) (j : Kind)
       → Holds terms.rows f results → None ≡ child_list f.item → n ≡ child_node f.item
-      → Goes owned means (λ _ _ m m'. Leaves H (binder_in terms.rows f.contents.bound_vars) m m') (LeaveFails H other (binder_in terms.rows f.contents.bound_vars)) terms s (Ok (tt {0})) terms1 s1
+      → b ≡ form_binder (kind_form (stored_kind terms.rows n))
+      → Goes owned means (λ _ _ m m'. Leaves H (binder_in terms.rows b) m m') (LeaveFails H other (binder_in terms.rows b)) terms s (Ok (tt {0})) terms1 s1
       → results ≡ q.first ∷ q.second ∷ [] → kind_form j ≡ refilled q (kind_form (stored_kind terms.rows n)) → kind_sort j ≡ kind_sort (stored_kind terms.rows n)
       → terms2 ≡ terms1 → errors.unbuilt (tree_in terms1.rows (kind_shape j)) e
       → Goes owned means (IsRebuilt H terms.rows f results) (RebuildFails H errors (outline_of terms.rows f.item) (children_trees terms.rows results)) terms s (Err e) terms2 s1
-  rebuild_not_stored n q j h e node d are form sort_is same b =
-      let l = rw (← term_binder h n e node) at d.outcome in
+  rebuild_not_stored n q j h e node vars_are d are form sort_is same b =
+      let l = rw (← term_binder h n e node _ vars_are) at d.outcome in
       let c = rw (term_rebuilt h n e node q j d.extends.rows are form sort_is) at b in
       rw same (record { extends = d.extends; is_owned = d.is_owned; outcome = not_rebuilt h.wanted l c })
 
   -- or it is
-  pub rebuild_stored : {terms terms1 terms2 : Terms} {s s1 : S} {f : Frame} {results : Listed Child} {y : Child} {other : Errors E} (n u : Node) (q : Parts) (j : Kind)
+  pub rebuild_stored : {terms terms1 terms2 : Terms} {s s1 : S} {f : Frame} {results : Listed Child} {y : Child} {other : Errors E} {b : Option BoundVarKinds} (n u : Node) (q : Parts) (j : Kind)
       → Holds terms.rows f results → None ≡ child_list f.item → n ≡ child_node f.item
-      → Goes owned means (λ _ _ m m'. Leaves H (binder_in terms.rows f.contents.bound_vars) m m') (LeaveFails H other (binder_in terms.rows f.contents.bound_vars)) terms s (Ok (tt {0})) terms1 s1
+      → b ≡ form_binder (kind_form (stored_kind terms.rows n))
+      → Goes owned means (λ _ _ m m'. Leaves H (binder_in terms.rows b) m m') (LeaveFails H other (binder_in terms.rows b)) terms s (Ok (tt {0})) terms1 s1
       → results ≡ q.first ∷ q.second ∷ [] → kind_form j ≡ refilled q (kind_form (stored_kind terms.rows n)) → kind_sort j ≡ kind_sort (stored_kind terms.rows n)
       → Extends terms1 terms2 → owned terms2.rows s1 → stands means terms2 s1 ≡ stands means terms1 s1
       → SameTerm y u → child_sort y ≡ child_sort f.item → IsNodeFor n terms2.rows u → node_tree terms2.rows u ≡ tree_in terms1.rows (kind_shape j)
       → Goes owned means (IsRebuilt H terms.rows f results) (RebuildFails H errors (outline_of terms.rows f.item) (children_trees terms.rows results)) terms s (Ok y) terms2 s1
-  rebuild_stored {terms2} n u q j h e node d are form sort_is extends o still same sorts for_n tree =
-      let l = rw (← term_binder h n e node) at d.outcome in
+  rebuild_stored {terms2} n u q j h e node vars_are d are form sort_is extends o still same sorts for_n tree =
+      let l = rw (← term_binder h n e node _ vars_are) at d.outcome in
       let built = ap (tree_in terms2.rows) same.shape ∙ tree ∙ term_rebuilt h n e node q j d.extends.rows are form sort_is in
       record {
         extends = Extends-trans d.extends extends;

@@ -19,7 +19,6 @@ use Rattle.tt_interner.specs.Rows.{Row, size, meaning}
 use Rattle.tt_interner.specs.Stored.{Terms, Extends}
 use Rattle.tt_interner.specs.Children.{children_at}
 use Rattle.tt_interner.specs.Nodes.{stored_kind}
-use Rattle.tt_interner.specs.declared.nodes.Contents.{Contents}
 use Rattle.tt_fold.specs.Walk.{Hooks, Wanted, Walks, WalksInside, WalksAll, HasUnwanted}
 use Rattle.tt_fold.specs.Counts.{Standing, stands}
 use Rattle.tt_fold.specs.Steps.{errors_of, vars_in}
@@ -49,14 +48,18 @@ outline_by rows n None = form_outline rows (kind_form (stored_kind rows n))
 abbrev pub outline_of : Listed Row → Child → Outline
 outline_of rows c = outline_by rows (child_node c) (child_list c)
 
--- the children, by the list that it is or the term's parts
-abbrev pub children_by : Listed Row → Parts → Option List → Listed Child
-children_by rows p (Some l) = children_at rows l
-children_by rows p None = p.first ∷ p.second ∷ []
+-- the children of a stored term
+abbrev pub term_parts_at : Listed Row → Node → Parts
+term_parts_at rows n = form_parts (kind_form (stored_kind rows n))
+
+-- the children, by the list that it is or the term
+abbrev pub children_by : Listed Row → Node → Option List → Listed Child
+children_by rows n (Some l) = children_at rows l
+children_by rows n None = (term_parts_at rows n).first ∷ (term_parts_at rows n).second ∷ []
 
 -- the children of a frame's term or list
 abbrev pub children_in : Listed Row → Frame → Listed Child
-children_in rows f = children_by rows f.contents.parts (child_list f.item)
+children_in rows f = children_by rows (child_node f.item) (child_list f.item)
 
 -- how many children are absent
 abbrev pub absent_among : Listed Child → ℕ
@@ -66,13 +69,11 @@ absent_among (child.Region r ∷ cs) = absent_among cs
 absent_among (child.Node n ∷ cs) = absent_among cs
 absent_among (child.List l ∷ cs) = absent_among cs
 
--- the contents are the stored term's, and it has some
-pub record IsTermFrame (rows : Listed Row) (n : Node) (contents : Contents) (count : ℕ) : Type 0 where
+-- the term is stored, and it has contents
+pub record IsTermFrame (rows : Listed Row) (n : Node) (count : ℕ) : Type 0 where
   pub in_range : node_number n < size rows (node_table n)
   pub has_kind : node_table n ≡ ClauseLists → ⊥
   pub table : kind_table (stored_kind rows n) ≡ node_table n
-  pub bound_vars : contents.bound_vars ≡ form_binder (kind_form (stored_kind rows n))
-  pub parts : contents.parts ≡ form_parts (kind_form (stored_kind rows n))
   pub named : HasParts (size rows) (kind_shape (stored_kind rows n))
   pub inner : IsInner (kind_form (stored_kind rows n))
   pub counted : count ≡ 2
@@ -86,16 +87,16 @@ pub record IsListFrame (rows : Listed Row) (l : List) (count : ℕ) : Type 0 whe
   pub fits : count < 2 ^ 64
 
 -- what a frame says of its term or its list
-abbrev pub IsMadeOf : Listed Row → Node → Contents → ℕ → Option List → Type 0
-IsMadeOf rows n contents count (Some l) = IsListFrame rows l count
-IsMadeOf rows n contents count None = IsTermFrame rows n contents count
+abbrev pub IsMadeOf : Listed Row → Node → ℕ → Option List → Type 0
+IsMadeOf rows n count (Some l) = IsListFrame rows l count
+IsMadeOf rows n count None = IsTermFrame rows n count
 
 -- the frame's term or list is the rows', and is made of its children
 pub record IsFrame (rows : Listed Row) (f : Frame) : Type 0 where
   pub is : IsWhole f.item
   pub part : ArePartsOf rows (child_shapes f.item)
   pub tree : child_tree rows f.item ≡ whole (outline_of rows f.item) (children_trees rows (children_in rows f))
-  pub made : IsMadeOf rows (child_node f.item) f.contents f.count (child_list f.item)
+  pub made : IsMadeOf rows (child_node f.item) f.count (child_list f.item)
 
 -- each value is of the sort of the child in its place
 abbrev pub AreAlike : Listed Child → Listed Child → Type 0

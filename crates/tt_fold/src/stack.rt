@@ -74,10 +74,8 @@ use tt_kinds::{BoundVarKinds, Child, List, Parts};
 // A term or a list whose children are walked.
 #[derive(Clone, Copy)]
 pub(crate) struct Frame {
-    // The term or the list.
+    // The term or the list. Its children are read in its row.
     item: Child,
-    // The contents of a term. A list has none.
-    contents: Contents,
     // The number of children.
     count: usize,
     // The number of children that were begun.
@@ -88,10 +86,6 @@ impl Default for Frame {
     fn default() -> Frame {
         Frame {
             item: Child::Absent,
-            contents: Contents {
-                bound_vars: None,
-                parts: Parts::none(),
-            },
             count: 0,
             next: 0,
         }
@@ -141,7 +135,7 @@ pub(crate) fn begin<M, F: Core<M>>(
 }
 
 // Begins a term or a list. A term without children is done at once.
-#[inline(never)]
+#[inline(always)]
 fn begin_item<M, F: Core<M>>(
     cx: &mut Interner,
     folder: &mut F,
@@ -203,6 +197,7 @@ fn ask<M, F: Core<M>>(
 }
 
 // Begins the children of a term or a list. A term without children has none.
+#[inline(always)]
 pub(crate) fn open<M, F: Core<M>>(
     cx: &mut Interner,
     folder: &mut F,
@@ -232,10 +227,6 @@ fn list_frame(cx: &Interner, item: &Child, list: List) -> Frame
 {
     Frame {
         item: *item,
-        contents: Contents {
-            bound_vars: None,
-            parts: Parts::none(),
-        },
         count: cx.list_len(list),
         next: 0,
     }
@@ -264,7 +255,6 @@ fn open_term<M, F: Core<M>>(
     enter::<M, F>(cx, folder, contents.bound_vars)?;
     Ok(Some(Frame {
         item: *item,
-        contents,
         count: 2,
         next: 0,
     }))
@@ -412,10 +402,11 @@ fn next_child(cx: &Interner, frame: &Frame) -> Child
     match list_in(&frame.item) {
         Some(list) => cx.list_child(list, frame.next),
         None => {
+            let contents = cx.node_parts(term_in(&frame.item));
             if frame.next == 0 {
-                frame.contents.parts.first
+                contents.parts.first
             } else {
-                frame.contents.parts.second
+                contents.parts.second
             }
         }
     }
@@ -440,7 +431,7 @@ fn keep(cx: &Interner, frame: &Frame, values: &mut Values, value: Child) -> Resu
 }
 
 // Keeps a frame until the child that was begun is done.
-#[inline(never)]
+#[inline(always)]
 fn suspend(frames: &mut Frames, frame: &Frame) -> Result<(), Refusal>
     ensures kept { OnOk result (frames.new.items ≡ frames.old.items ++ frame.now ∷ []) }
     ensures memory { IfErr result (λ e. e ≡ Memory) }
@@ -448,7 +439,6 @@ fn suspend(frames: &mut Frames, frame: &Frame) -> Result<(), Refusal>
     frames.reserve(1)?;
     frames.push_reserved(Frame {
         item: frame.item,
-        contents: frame.contents,
         count: frame.count,
         next: frame.next,
     });
@@ -456,6 +446,7 @@ fn suspend(frames: &mut Frames, frame: &Frame) -> Result<(), Refusal>
 }
 
 // Builds a term or a list from the results of its children, which are the last values.
+#[inline(always)]
 fn rebuild<M, F: Core<M>>(
     cx: &mut Interner,
     folder: &mut F,
@@ -487,6 +478,7 @@ fn rebuild<M, F: Core<M>>(
 }
 
 // Builds a term from the results of its children.
+#[inline(always)]
 fn rebuild_term<M, F: Core<M>>(
     cx: &mut Interner,
     folder: &mut F,
@@ -506,9 +498,11 @@ fn rebuild_term<M, F: Core<M>>(
         (children_trees cx.old.rows (last_of 2 values.old.items)))
         cx.old folder.old result cx.new folder.new }
 {
-    leave::<M, F>(cx, folder, frame.contents.bound_vars)?;
+    let node = term_in(&frame.item);
+    let contents = cx.node_parts(node);
+    leave::<M, F>(cx, folder, contents.bound_vars)?;
     let parts = take_parts(values);
-    let new_node = cx.store_like(term_in(&frame.item), parts)?;
+    let new_node = cx.store_like(node, parts)?;
     Ok(as_item(&frame.item, new_node))
 }
 
