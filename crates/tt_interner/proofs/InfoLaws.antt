@@ -17,7 +17,7 @@ use Rattle.tt_kinds.specs.Tree.{Tree, Forest, Depth}
 use Rattle.tt_kinds.specs.Reading.{read_all, greatest_reach_all, outer_binder}
 use Rattle.tt_kinds.specs.Scan.{scan, scan_all}
 use Rattle.tt_kinds.specs.Shape.{Shape, Shapes, term, node, stored, none, also, append, item_shapes, Meaning, vars_of, name_of, rename_kind, rename_record, rename_label, fill, fill_all, Sizes, IsPart, AreParts, HasParts, IsTooDeep}
-use Rattle.tt_kinds.specs.Kinds.{Form, param, bound, plain, under, form_parts, form_binder, form_shape, parts_shapes}
+use Rattle.tt_kinds.specs.Kinds.{Form, param, bound, plain, under, relabelled, form_parts, form_binder, form_shape, parts_shapes}
 use Rattle.tt_kinds.proofs.PlainLaws.{outer_binder-binder}
 use Rattle.tt_interner.specs.Stored.{IsInfo}
 use Rattle.tt_interner.specs.Tables.{AreInfosOf, AreJoined}
@@ -114,6 +114,18 @@ AreParts-join size none us h k = k
 AreParts-join size (also s ss) us h k = (h.0, AreParts-join size ss us h.1 k)
 
 -- A kind by its form.
+
+pub relabelled_parts : {L K : Type 0} (f : L → K) (k : Form L) → form_parts (relabelled f k) ≡ form_parts k
+relabelled_parts f (param i name) = refl
+relabelled_parts f (bound d e) = refl
+relabelled_parts f (plain l p) = refl
+relabelled_parts f (under l vars m p) = refl
+
+pub relabelled_binder : {L K : Type 0} (f : L → K) (k : Form L) → form_binder (relabelled f k) ≡ form_binder k
+relabelled_binder f (param i name) = refl
+relabelled_binder f (bound d e) = refl
+relabelled_binder f (plain l p) = refl
+relabelled_binder f (under l vars m p) = refl
 
 module _ (s : Sort) where
   -- the children of a kind are in range

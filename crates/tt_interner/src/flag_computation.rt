@@ -1,10 +1,10 @@
 //! The flags and outer exclusive binders of kinds and lists, computed from their contents.
 
-ghost use Rattle.std.specs.Prelude.{◌≡◌, ◌<◌, map};
+ghost use Rattle.std.specs.Prelude.{◌≡◌, ◌<◌, ℕ, map, Some};
 ghost use Rattle.tt_index.specs.Greatest.{greatest};
 ghost use Rattle.tt_kinds.specs.Bound.{var_kind};
 ghost use Rattle.tt_kinds.specs.Parts.{node_number, node_table, list_number, list_table};
-ghost use Rattle.tt_kinds.specs.Label.{list_flags};
+ghost use Rattle.tt_kinds.specs.Label.{Label, list_flags, Sort, type_label, type_sort};
 ghost use Rattle.tt_kinds.specs.Shape.{
   Meaning,
   fill,
@@ -14,7 +14,15 @@ ghost use Rattle.tt_kinds.specs.Shape.{
   HasParts,
   IsTooDeep,
 };
+ghost use Rattle.tt_kinds.specs.Handle.{BoundVarKinds};
+ghost use Rattle.tt_kinds.specs.declared.table.Table.TheVariants.{VarLists};
 ghost use Rattle.tt_kinds.specs.Kinds.{
+  Form,
+  form_binder,
+  form_parts,
+  form_shape,
+  relabelled,
+  ty_form,
   kind_form,
   kind_sort,
   kind_shape,
@@ -40,8 +48,8 @@ use crate::interner::Interner;
 use tt_flags::{FlagComputation, TypeFlags};
 use tt_index::{DebruijnIndex, GREATEST_INDEX};
 use tt_kinds::{
-    Binder, BoundVariableKind, Child, Clause, ConstKind, Kind, List, Node, OwnFlags, Parts,
-    PredicateKind, Region, TyKind,
+    Binder, BoundVarKinds, BoundVariableKind, Child, Clause, ConstKind, Kind, List, Node, OwnFlags,
+    Parts, PredicateKind, Region, TyKind,
 };
 
 /// Computes the information of terms that aren't stored yet. Every handle and name in them has to be the interner's.
@@ -79,7 +87,7 @@ impl ForKind for FlagComputation {
         if kind.is_too_deep() {
             return deepest_info(kind.own_flags());
         }
-        kind_info(cx, &Kind::Ty(*kind))
+        ty_kind_info(cx, kind)
     }
 
     fn for_const_kind(cx: &Interner, kind: &ConstKind) -> FlagComputation {
@@ -115,10 +123,41 @@ pub(crate) fn kind_info(cx: &Interner, kind: &Kind) -> FlagComputation
     requires shallow { IsTooDeep (kind_shape kind.now) → ⊥ }
     ensures { IsInfo result (fill (meaning cx.now.rows) (kind_shape kind.now)) }
 {
-    cx.are_rows();
     let own = own_info(kind);
-    let inside = parts_info(cx, &kind.parts());
-    match kind.bound_vars() {
+    contents_info(cx, own, kind.bound_vars(), &kind.parts())
+}
+
+/// Returns the information of a type of this kind.
+#[inline(always)]
+pub(crate) fn ty_kind_info(cx: &Interner, kind: &TyKind) -> FlagComputation
+    requires parts { HasParts (size cx.now.rows) (ty_kind_shape kind.now) }
+    requires shallow { IsTooDeep (ty_kind_shape kind.now) → ⊥ }
+    ensures { IsInfo result (fill (meaning cx.now.rows) (ty_kind_shape kind.now)) }
+{
+    let own = own_ty_info(kind);
+    contents_info(cx, own, kind.bound_vars(), &kind.parts())
+}
+
+// Returns the information of a term with this information of its own, of its parts and of their binder.
+#[inline(always)]
+fn contents_info(
+    cx: &Interner,
+    own: FlagComputation,
+    bound_vars: Option<BoundVarKinds>,
+    parts: &Parts,
+) -> FlagComputation
+    requires parts { AreParts (size cx.now.rows) (parts_shapes parts.now) }
+    requires vars { (vars : BoundVarKinds) → bound_vars ≡ Some vars → vars.number < size cx.now.rows VarLists }
+    ensures { (sort : Sort) (form : Form (Label ℕ))
+        → parts.now ≡ form_parts form
+        → bound_vars ≡ form_binder form
+        → own.flags.bits ≡ own_flags sort form
+        → own.outer_exclusive_binder ≡ own_reach form
+        → IsInfo result (fill (meaning cx.now.rows) (form_shape sort form)) }
+{
+    cx.are_rows();
+    let inside = parts_info(cx, parts);
+    match bound_vars {
         Some(vars) => own.joined(inside.under_binder(cx.info(vars).flags)),
         None => own.joined(inside),
     }
@@ -132,15 +171,25 @@ fn own_info(kind: &Kind) -> FlagComputation
     ensures outer { result.outer_exclusive_binder ≡ own_reach (kind_form kind.now) }
 {
     match kind {
-        Kind::Ty(kind) => FlagComputation {
-            flags: kind.own_flags(),
-            outer_exclusive_binder: kind.own_outer_exclusive_binder(),
-        },
+        Kind::Ty(kind) => own_ty_info(kind),
         Kind::Const(kind) => FlagComputation {
             flags: kind.own_flags(),
             outer_exclusive_binder: kind.own_outer_exclusive_binder(),
         },
         Kind::Pat(_) | Kind::Predicate(_) | Kind::Existential(_) => FlagComputation::new(),
+    }
+}
+
+// Returns the information of a type's kind itself, without its parts.
+#[inline(always)]
+fn own_ty_info(kind: &TyKind) -> FlagComputation
+    requires { IsTooDeep (ty_kind_shape kind.now) → ⊥ }
+    ensures flags { result.flags.bits ≡ own_flags type_sort (relabelled type_label (ty_form kind.now)) }
+    ensures outer { result.outer_exclusive_binder ≡ own_reach (relabelled type_label (ty_form kind.now)) }
+{
+    FlagComputation {
+        flags: kind.own_flags(),
+        outer_exclusive_binder: kind.own_outer_exclusive_binder(),
     }
 }
 

@@ -11,7 +11,7 @@ ghost use Rattle.tt_interner.specs.Stored.{IsAt, Puts, Builds};
 
 use super::Interner;
 use crate::collect::collected;
-use crate::flag_computation::{items_info, kind_info};
+use crate::flag_computation::{items_info, ty_kind_info};
 use crate::handle::{InternedKind, InternedList};
 use crate::tables::{find_or_add, find_or_add_list, find_or_insert, key_at};
 use tt_index::{Mutability, Refusal};
@@ -25,7 +25,7 @@ impl Interner {
         requires shallow { IsTooDeep (ty_kind_shape kind.now) → ⊥ }
         ensures { Puts result (λ ty. ty.number) self.old self.new (type_row kind.now) }
     {
-        let info = kind_info(self, &Kind::Ty(*kind));
+        let info = ty_kind_info(self, kind);
         let number = match find_or_add(
             &mut self.order,
             self.limit,
