@@ -134,7 +134,7 @@ placed-keeps_clause : (k : ℕ) (l : Label Name) (ts : Forest Depth) (answers : 
 placed-keeps_clause k clause_label ts answers h = h.0 (others-before k ts answers h.1)
 placed-keeps_clause k _ ts answers h = h
 
--- why a walk ended after the answers, where `Stands` says what stands in the tree with answers placed, and Fit that its binders fit
+-- why a walk ended after the answers, where `Stands` relates the walk to the tree with answers placed, and Fit says that its binders fit
 pub data Why (unbuilt : Tree Depth → Refusal → Type 0) (Stands : Tree Depth → List (Tree Depth) → Type 0) (Fit : Type 0) (answers : List (Tree Depth)) (e : Refusal) : Type 0 where
   all_unbuilt : ((u : Tree Depth) → unbuilt u e) → Why unbuilt Stands Fit answers e
   one_unbuilt : (u : Tree Depth) → ((more : List (Tree Depth)) → Stands u (answers ++ more)) → (IsNoClauseList u → ⊥) → unbuilt u e → Why unbuilt Stands Fit answers e

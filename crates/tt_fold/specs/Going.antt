@@ -8,7 +8,7 @@ use Rattle.tt_kinds.specs.Tree.{Depth, Tree, param, bound, region, term, node, b
 use Rattle.tt_kinds.specs.Shape.{HasParts, name_of, rename_label}
 use Rattle.tt_kinds.specs.Parts.{node_table, node_number, list_sort, list_table, list_number, child_sort, IsItem}
 use Rattle.tt_kinds.specs.Kinds as kinds
-use Rattle.tt_kinds.specs.Kinds.{Form, form_parts, form_binder, kind_form, kind_shape, kind_table, child_shapes, children_shapes}
+use Rattle.tt_kinds.specs.Kinds.{Form, form_parts, kind_form, kind_shape, kind_table, child_shapes, children_shapes}
 use Rattle.tt_kinds.specs.declared.table.Table.TheVariants.{ClauseLists}
 use Rattle.tt_kinds.specs.declared.parts.Node.{Node}
 use Rattle.tt_kinds.specs.declared.parts.List.{List}

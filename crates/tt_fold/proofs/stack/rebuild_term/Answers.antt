@@ -1,4 +1,4 @@
-use Rattle.std.proofs.Common.{refl, sym, ◌∙◌}
+use Rattle.std.proofs.Common.{sym, ◌∙◌}
 use Rattle.std.proofs.lemmas.Result.{err_from_is_err_and}
 use Rattle.tt_kinds.specs.Kinds.{kind_form, kind_sort, kind_shape}
 use Rattle.tt_kinds.specs.Shape.{HasParts, IsTooDeep}
