@@ -29,7 +29,7 @@ use tt_flags::TypeFlags;
 use tt_fold::memory::{Memory, look_up};
 use tt_fold::{Step, TypeFolder, shift_region};
 use tt_index::{GREATEST_INDEX, Refusal};
-use tt_interner::{Flags, InternedKind, Interner, count_descent};
+use tt_interner::{Flags, InternedKind, Interner};
 use tt_kinds::{
     BoundVarKinds, Clauses, Const, ConstKind, GenericArgKind, Predicate, Region, RegionKind, Ty,
     TyKind,
@@ -340,7 +340,7 @@ impl<S: SliceLike> TypeFolder for ArgFolder<S> {
             None => match look_up(cx, &self.memory, ty, self.binders_passed) {
                 Some(known) => Ok(Step::Replace(known)),
                 None => {
-                    count_descent(cx);
+                    cx.count_descent();
                     Ok(Step::Descend)
                 }
             },

@@ -36,7 +36,7 @@ use crate::foldable::TypeFoldable;
 use crate::folder::{Step, TypeFolder};
 use crate::memory::{Memory, look_up};
 use tt_index::{DebruijnIndex, Refusal};
-use tt_interner::{Flags, Interner, count_shift_descent};
+use tt_interner::{Flags, Interner};
 use tt_kinds::{
     BoundConst, BoundTy, BoundVarIndexKind, BoundVarKinds, Clauses, Const, ConstKind, Kind, Node,
     Predicate, Region, RegionKind, Ty, TyKind,
@@ -224,7 +224,7 @@ impl TypeFolder for Shifter {
             None => match look_up(cx, &self.memory, ty, self.current_index.as_u32()) {
                 Some(after) => Ok(Step::Replace(after)),
                 None => {
-                    count_shift_descent(cx);
+                    cx.count_shift_descent();
                     Ok(Step::Descend)
                 }
             },

@@ -3,3 +3,4 @@ pub mod ClosureKind
 pub mod Greatest
 pub mod Text
 pub mod Variance
+pub mod Equality

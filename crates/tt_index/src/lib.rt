@@ -5,6 +5,7 @@ pub mod abi;
 pub mod bound_var;
 pub mod closure_kind;
 pub mod debruijn;
+pub mod equality;
 pub mod field;
 pub mod idx;
 pub mod index;

@@ -7,11 +7,16 @@ use crate::vid::RegionVid;
 use std::alloc::{AllocError, AllocFailed};
 use thiserror::Error;
 
-/// Why a call was refused. A refused call leaves the meaning of every handle unchanged, and a refused call that builds
-/// or declares adds nothing. If a call could be refused for several causes, it returns one of them.
+/// Why a call was refused. A refused call leaves the meaning of every handle unchanged. If a call could be refused for
+/// several causes, it returns one of them.
+///
+/// A refused call that adds one row at most, such as `mk_ty` or `declare_trait`, adds nothing, and neither does
+/// `mk_existentials`. Any other call that builds may leave rows that no result names: `mk_tuple` the list of types,
+/// `mk_param` the name, and a fold the terms that it built before it was refused.
 #[derive(Clone, Copy, Debug, PartialEq, Eq, Drop, Error)]
 pub enum Refusal {
-    /// A list or a table could not grow: the allocator refused memory during the call.
+    /// A list or a table could not grow: the allocator refused memory during the call. A call that first collects more
+    /// than eight items, as `mk_existentials` does, needs memory for them even if all that it would add is there.
     #[error("memory was refused during the call: free some, and call again")]
     Memory,
     /// The term or declaration is new, and its table already holds as many rows as its limit allows.

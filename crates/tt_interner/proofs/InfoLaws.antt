@@ -115,18 +115,6 @@ AreParts-join size (also s ss) us h k = (h.0, AreParts-join size ss us h.1 k)
 
 -- A kind by its form.
 
-pub relabelled_parts : {L K : Type 0} (f : L → K) (k : Form L) → form_parts (relabelled f k) ≡ form_parts k
-relabelled_parts f (param i name) = refl
-relabelled_parts f (bound d e) = refl
-relabelled_parts f (plain l p) = refl
-relabelled_parts f (under l vars m p) = refl
-
-pub relabelled_binder : {L K : Type 0} (f : L → K) (k : Form L) → form_binder (relabelled f k) ≡ form_binder k
-relabelled_binder f (param i name) = refl
-relabelled_binder f (bound d e) = refl
-relabelled_binder f (plain l p) = refl
-relabelled_binder f (under l vars m p) = refl
-
 module _ (s : Sort) where
   -- the children of a kind are in range
   pub form_has_parts : (size : Sizes) (k : Form (Label ℕ)) → HasParts size (form_shape s k) → AreParts size (parts_shapes (form_parts k))

@@ -4,8 +4,6 @@ pub mod Fill
 pub mod ShapeLaws
 pub mod ViewLaws
 pub mod Trees
-pub mod KeyLaws
-pub mod KindKeys
 pub mod ClauseLaws
 pub mod FoundLaws
 pub mod StoreSteps

@@ -52,7 +52,7 @@ pub trait FindConstTy: Sized {
     ghost constant: { Self → Placeholder BoundConst };
 
     /// Returns the type of the one clause `ConstArgHasType` of the environment that is about this constant. The
-    /// environment has to be of the interner; [`Interner::owns`] tests its list.
+    /// environment has to be of the interner; [`Interner::owns_clauses`] tests its list.
     ///
     /// Fails with `Missing` if there is no such clause, and with `Duplicate` if there are two or more, which may be
     /// equal. The clause's binder is dropped from the type: [`ConstBounds::const_bounds_closed`] tests that no variable
@@ -80,7 +80,7 @@ pub trait ConstBounds: Sized {
     ghost as_env: { Self → ParamEnv };
 
     /// Returns whether in each clause `ConstArgHasType` no variable escapes the constant or the type once the clause's
-    /// binder is dropped. The environment has to be of the interner; [`Interner::owns`] tests its list.
+    /// binder is dropped. The environment has to be of the interner; [`Interner::owns_clauses`] tests its list.
     fn const_bounds_closed(self, cx: &Interner) -> bool
         requires { (as_env self).caller_bounds.number < size cx.now.rows ClauseLists }
         ensures { IsTrue result ↔ AreBoundsClosed cx.now.rows (as_env self) };

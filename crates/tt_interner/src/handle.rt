@@ -1,5 +1,5 @@
-//! Access to the rows that handles name. A handle has to be of the interner; [`Interner::owns`] and
-//! [`Interner::owns_clause`] test it.
+//! Access to the rows that handles name. A handle has to be of the interner: [`Interner::owns_ty`],
+//! [`Interner::owns_clause`] and the other tests by name test it, and [`Interner::owns`] does in generic code.
 
 ghost use Rattle.std.specs.Prelude.{◌≡◌, ◌<◌, ℕ, List, MatchOption};
 ghost use Rattle.tt_kinds.specs.declared.table.Table.{Table};

@@ -17,7 +17,6 @@ pub use env::{ConstBounds, ConstTyFault, FindConstTy};
 pub use flag_computation::ForKind;
 pub use flags::Flags;
 pub use handle::{AsClause, AsPredicate, InternedKind, InternedList, InternedText};
-pub use interner::counters::{count_descent, count_shift_descent};
 pub use interner::{Interner, RegionName};
 pub use laws::{
     equal_handles_for_equal_trees, growth_keeps_declarations, growth_keeps_rows, growth_keeps_trees,

@@ -16,3 +16,5 @@ pub mod ValueLaws
 pub mod BareLaws
 pub mod Examples
 pub mod ForestLaws
+pub mod EqualityLaws
+pub mod KindEqualityLaws

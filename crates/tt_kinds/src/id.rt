@@ -247,3 +247,19 @@ impl IsDeclared for FreeTyAlias {
 
 /// A type alias whose bounds are checked, and which can always be normalized away.
 pub type FreeTyAliasId = Id<FreeTyAlias>;
+
+/// Does nothing. The contract is a law: it says by name which sort of declaration the ids of each mark name.
+pub fn marks_name_their_sorts()
+    ensures adt_id { ⟦<DataType as IsDeclared>⟧.SORT ≡ sort.Adt }
+    ensures foreign_id { ⟦<ForeignType as IsDeclared>⟧.SORT ≡ sort.Foreign }
+    ensures closure_id { ⟦<Closure as IsDeclared>⟧.SORT ≡ sort.Closure }
+    ensures coroutine_closure_id { ⟦<CoroutineClosure as IsDeclared>⟧.SORT ≡ sort.CoroutineClosure }
+    ensures coroutine_id { ⟦<Coroutine as IsDeclared>⟧.SORT ≡ sort.Coroutine }
+    ensures trait_id { ⟦<Trait as IsDeclared>⟧.SORT ≡ sort.Trait }
+    ensures impl_id { ⟦<Implementation as IsDeclared>⟧.SORT ≡ sort.Impl }
+    ensures unevaluated_const_id { ⟦<UnevaluatedConstant as IsDeclared>⟧.SORT ≡ sort.Const }
+    ensures trait_assoc_ty_id { ⟦<TraitAssocTy as IsDeclared>⟧.SORT ≡ sort.AssocTy }
+    ensures inherent_assoc_ty_id { ⟦<InherentAssocTy as IsDeclared>⟧.SORT ≡ sort.Inherent }
+    ensures opaque_ty_id { ⟦<OpaqueType as IsDeclared>⟧.SORT ≡ sort.Opaque }
+    ensures free_ty_alias_id { ⟦<FreeTyAlias as IsDeclared>⟧.SORT ≡ sort.Free }
+{}

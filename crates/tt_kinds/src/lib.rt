@@ -6,6 +6,7 @@ pub mod binder;
 pub mod bound;
 pub mod const_kind;
 pub mod declaration;
+pub mod equality;
 pub mod error_guaranteed;
 pub mod existential;
 pub mod field;

@@ -16,19 +16,12 @@ pub struct Placeholder<T> {
     pub bound: T,
 }
 
-impl<T: Copy> Placeholder<T> {
+impl<T> Placeholder<T> {
     /// Returns the placeholder of this universe for this variable.
     pub fn new(universe: UniverseIndex, bound: T) -> Placeholder<T>
         ensures { result ≡ record { universe = universe; bound = bound } }
     {
         Placeholder { universe, bound }
-    }
-
-    /// Returns the universe in which it can be named.
-    pub fn universe(self) -> UniverseIndex
-        ensures { result ≡ self.universe }
-    {
-        self.universe
     }
 
     /// Returns the same variable in another universe.
@@ -39,6 +32,15 @@ impl<T: Copy> Placeholder<T> {
             universe,
             bound: self.bound,
         }
+    }
+}
+
+impl<T: Drop> Placeholder<T> {
+    /// Returns the universe in which it can be named.
+    pub fn universe(self) -> UniverseIndex
+        ensures { result ≡ self.universe }
+    {
+        self.universe
     }
 }
 

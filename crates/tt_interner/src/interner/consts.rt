@@ -44,7 +44,7 @@ impl Interner {
 }
 
 impl Interner {
-    /// Returns the list of these constants, in order. They have to be of this interner; [`Interner::owns`] tests
+    /// Returns the list of these constants, in order. They have to be of this interner; [`Interner::owns_const`] tests
     /// it.
     ///
     /// Refused with `TableFull` if the list is new and the table has as many rows as it may have, and with `Memory`.

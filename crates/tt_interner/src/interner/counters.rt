@@ -1,29 +1,33 @@
 //! The counting of types that are taken apart.
 //!
-//! The folders of the crates above call these functions. They are no methods of the interner, so a user of the folders
-//! alone can't change the counts.
+//! The folders of the crates above call these methods, which change no row. A caller who counts too makes
+//! [`Interner::descents`] and [`Interner::shift_descents`] tell more than those folders did, and changes nothing else.
 
 ghost use Rattle.std.specs.Prelude.{◌≡◌};
 ghost use Rattle.tt_interner.specs.Stored.{counted};
 
 use super::Interner;
 
-/// Counts that an argument folder takes a type apart.
-pub fn count_descent(cx: &mut Interner)
-    ensures rows { cx.new.rows ≡ cx.old.rows }
-    ensures limit { cx.new.limit ≡ cx.old.limit }
-    ensures descents { cx.new.counters.descents ≡ counted cx.old.counters.descents }
-    ensures shift_descents { cx.new.counters.shift_descents ≡ cx.old.counters.shift_descents }
-{
-    cx.descents = cx.descents.saturating_add(1);
-}
+impl Interner {
+    /// Adds one to [`Interner::descents`], unless that is the greatest number. The argument folder calls it where it
+    /// takes a type apart.
+    pub fn count_descent(&mut self)
+        ensures rows { self.new.rows ≡ self.old.rows }
+        ensures limit { self.new.limit ≡ self.old.limit }
+        ensures descents { self.new.counters.descents ≡ counted self.old.counters.descents }
+        ensures shift_descents { self.new.counters.shift_descents ≡ self.old.counters.shift_descents }
+    {
+        self.descents = self.descents.saturating_add(1);
+    }
 
-/// Counts that a shifter takes a type apart.
-pub fn count_shift_descent(cx: &mut Interner)
-    ensures rows { cx.new.rows ≡ cx.old.rows }
-    ensures limit { cx.new.limit ≡ cx.old.limit }
-    ensures descents { cx.new.counters.descents ≡ cx.old.counters.descents }
-    ensures shift_descents { cx.new.counters.shift_descents ≡ counted cx.old.counters.shift_descents }
-{
-    cx.shift_descents = cx.shift_descents.saturating_add(1);
+    /// Adds one to [`Interner::shift_descents`], unless that is the greatest number. The shifter calls it where it takes
+    /// a type apart.
+    pub fn count_shift_descent(&mut self)
+        ensures rows { self.new.rows ≡ self.old.rows }
+        ensures limit { self.new.limit ≡ self.old.limit }
+        ensures descents { self.new.counters.descents ≡ self.old.counters.descents }
+        ensures shift_descents { self.new.counters.shift_descents ≡ counted self.old.counters.shift_descents }
+    {
+        self.shift_descents = self.shift_descents.saturating_add(1);
+    }
 }

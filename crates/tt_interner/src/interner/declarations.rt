@@ -85,7 +85,7 @@ impl Interner {
     }
 
     /// Declares a trait of this name, with this many parameters, including the self type. The name has to be of this
-    /// interner; [`Interner::owns`] tests it.
+    /// interner; [`Interner::owns_symbol`] tests it.
     ///
     /// Each call makes a new id, even if another declaration has the name. Refused with `TableFull` if there are as
     /// many declarations as there may be, and with `Memory`; then nothing changes.

@@ -48,7 +48,7 @@ impl Interner {
 
 impl Interner {
     /// Returns the list of these existential predicates, in order. They have to be of this interner;
-    /// [`Interner::owns`] tests it.
+    /// [`Interner::owns_existential`] tests it.
     ///
     /// Refused with `TableFull` if the list is new and the table has as many rows as it may have, and with `Memory`.
     pub fn mk_existential_list(
@@ -103,8 +103,11 @@ impl Interner {
     /// name in them has to be this interner's; [`Interner::owns_existential_kinds`] tests it.
     ///
     /// Refused with `TableFull` if one of them or the list is new and its table has as many rows as it may have, and
-    /// with `Memory`. If refused, none of them is added, not even those before the one that had no room. A list that is
-    /// stored already is found without growth; the handles of more than eight predicates are collected in a vector.
+    /// with `Memory`. If refused, none of them is added, not even those before the one that had no room.
+    ///
+    /// Up to eight predicates that are stored already, as their list is, are found without growth. The handles of more
+    /// than eight are collected in a vector first, so the call may be refused with `Memory` even if all of them and
+    /// their list are stored already.
     pub fn mk_existentials(
         &mut self,
         predicates: &[Binder<ExistentialPredicate>],

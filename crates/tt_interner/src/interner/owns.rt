@@ -39,15 +39,18 @@ impl Interner {
         }
     }
 
-    /// Returns whether `handle` names a row of this interner: a type, a constant, a list or whatever else is stored.
-    /// For a clause it tests that there is such a predicate; [`Interner::owns_clause`] also tests that it is a clause.
+    /// Returns whether `handle` names a row of this interner, for generic code. If you know what the handle is of, use
+    /// the test by name, such as [`Interner::owns_ty`], whose contract names the table.
+    ///
+    /// Of a [`Clause`] this tests only that there is such a predicate. Calls that take a clause also require that it is
+    /// one, which [`Interner::owns_clause`] tests.
     pub fn owns<K: IsStored>(&self, handle: Handle<K>) -> bool
         ensures { IsTrue result ↔ (handle.number < size self.now.rows K.TABLE) }
     {
         (handle.number() as usize) < self.table_len(K::TABLE)
     }
 
-    /// Returns whether `clause` is a predicate of this interner, and a clause.
+    /// Returns whether `clause` is a predicate of this interner, and a clause: the whole condition of calls that take one.
     pub fn owns_clause(&self, clause: Clause) -> bool
         ensures { IsTrue result ↔ IsClause self.now.rows clause.number }
     {

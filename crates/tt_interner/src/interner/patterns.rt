@@ -39,7 +39,7 @@ impl Interner {
 }
 
 impl Interner {
-    /// Returns the list of these patterns, in order. They have to be of this interner; [`Interner::owns`] tests it.
+    /// Returns the list of these patterns, in order. They have to be of this interner; [`Interner::owns_pat`] tests it.
     ///
     /// Refused with `TableFull` if the list is new and the table has as many rows as it may have, and with `Memory`.
     pub fn mk_pat_list(&mut self, items: &[Pat]) -> Result<PatList, Refusal>

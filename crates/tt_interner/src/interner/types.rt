@@ -58,7 +58,7 @@ impl Interner {
     }
 
     /// Returns the reference to this type, as [`Interner::mk_ty`] does for its kind. The region's name and the type
-    /// have to be this interner's; [`Interner::owns_region`] and [`Interner::owns`] test it.
+    /// have to be this interner's; [`Interner::owns_region`] and [`Interner::owns_ty`] test it.
     pub fn mk_ref(
         &mut self,
         region: Region,
@@ -72,7 +72,8 @@ impl Interner {
     }
 
     /// Returns the tuple of these types, in order, as [`Interner::mk_tys`] and then [`Interner::mk_ty`] do. The types
-    /// have to be of this interner; [`Interner::owns`] tests it. If the tuple is refused, the list may stay.
+    /// have to be of this interner; [`Interner::owns_ty`] tests it. If the tuple is refused, the list of its types may stay
+    /// as a row that no result names; what was there keeps its meaning.
     pub fn mk_tuple(&mut self, items: &[Ty]) -> Result<Ty, Refusal>
         requires { AreParts (size self.old.rows) (item_shapes ty_shape items.now) }
         ensures { BuildsOf
@@ -90,7 +91,7 @@ impl Interner {
     }
 
     /// Returns the type parameter of this index and name, as [`Interner::symbol`] and then [`Interner::mk_ty`] do. If
-    /// the parameter is refused, the name may stay.
+    /// the parameter is refused, the name may stay as a row that no result names; what was there keeps its meaning.
     pub fn mk_param(&mut self, index: u32, name: &str) -> Result<Ty, Refusal>
         ensures { BuildsOf
             (λ symbol. symbol.number)
@@ -108,7 +109,7 @@ impl Interner {
 }
 
 impl Interner {
-    /// Returns the list of these types, in order. They have to be of this interner; [`Interner::owns`]
+    /// Returns the list of these types, in order. They have to be of this interner; [`Interner::owns_ty`]
     /// tests it.
     ///
     /// Refused with `TableFull` if the list is new and the table has as many rows as it may have, and with `Memory`.

@@ -71,6 +71,6 @@ returns-in-None-look_up-clause-result c =
     let taken = term_taken c.args.self.now.amount c.args.self.now.current_index t (part-type c.args.cx.now.rows Types c.args.ty.number c.requires.ty) (rw tree other) far in
     let h = c.count_shift_descent.ensures in (
       tt,
-      type_taken c.args.self.now.amount c.args.self.now.current_index c.args.cx.now c.count_shift_descent.new.cx c.args.self.now.memory h.rows h.descents h.shift_descents t taken
+      type_taken c.args.self.now.amount c.args.self.now.current_index c.args.cx.now c.count_shift_descent.new.self c.args.self.now.memory h.rows h.descents h.shift_descents t taken
           (rw c.as_u32.ensures.number at c.in-None-look_up.ensures.trees),
     )

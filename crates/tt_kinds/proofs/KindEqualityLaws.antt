@@ -1,4 +1,4 @@
--- The `==` of constants, patterns and predicates holds exactly of equal values.
+-- The `==` of constants, patterns and predicates holds of equal values alone.
 use Rattle.std.proofs.Common.{◌≡◌, true, ◌&&◌, eqb, refl, ap}
 use Rattle.std.proofs.lemmas.Bool.{eqb-true, false≢true}
 use Rattle.std.proofs.Math.Bool.{beq}
@@ -28,6 +28,9 @@ use Rattle.tt_kinds.specs.declared.predicate_kind.PredicateKind.{PredicateKind}
 use Rattle.tt_kinds.specs.declared.predicate_kind.PredicateKind.TheVariants as predicate
 use Rattle.tt_kinds.specs.declared.existential.ExistentialPredicate.{ExistentialPredicate}
 use Rattle.tt_kinds.specs.declared.existential.ExistentialPredicate.TheVariants as existential
+use Rattle.tt_kinds.specs.declared.parts.Kind.{Kind}
+use Rattle.tt_kinds.specs.declared.parts.Kind.TheVariants as kind
+use Rattle.tt_kinds.specs.contracts.parts.KindPartialEq.TheImpl as any_kinds
 use Rattle.tt_kinds.specs.contracts.bound.BoundVarIndexKindPartialEq.TheImpl as indices
 use Rattle.tt_kinds.specs.contracts.region_kind.RegionKindPartialEq.TheImpl as regions
 use Rattle.tt_kinds.specs.contracts.term.TermKindPartialEq.TheImpl as term_kinds
@@ -40,7 +43,7 @@ use Rattle.tt_kinds.specs.contracts.predicate_kind.ClauseKindPartialEq.TheImpl a
 use Rattle.tt_kinds.specs.contracts.predicate_kind.AliasRelationDirectionPartialEq.TheImpl as directions
 use Rattle.tt_kinds.specs.contracts.predicate_kind.PredicateKindPartialEq.TheImpl as predicate_kinds
 use Rattle.tt_kinds.specs.contracts.existential.ExistentialPredicatePartialEq.TheImpl as existential_kinds
-use Rattle.tt_interner.proofs.KeyLaws.{both, two_exact, two_numbers, index_exact, placeholder_exact, region_exact}
+use Rattle.tt_kinds.proofs.EqualityLaws.{both, two_exact, two_numbers, index_exact, placeholder_exact, region_exact, kind_exact}
 use Rattle.tt_kinds.specs.Id.{id_of}
 use Rattle.tt_kinds.specs.Handle.{handle}
 
@@ -153,3 +156,15 @@ existential_kind_exact (existential.Projection p) (existential.Projection q) e =
     λ i. existential.Projection (record { def_id = record { number = ids i }; args = handle (lists i); term = terms i })
 existential_kind_exact (existential.AutoTrait c) (existential.AutoTrait d) e = ap (λ n. existential.AutoTrait (id_of n)) (eqb-true c.number d.number e)
 existential_kind_exact _ _ e = absurd (false≢true e)
+
+pub any_kind_exact : (a b : Kind) → (any_kinds.ghosts).eq a b ≡ true → a ≡ b
+any_kind_exact (kind.Ty k) (kind.Ty l) e = ap kind.Ty (kind_exact k l e)
+any_kind_exact (kind.Const k) (kind.Const l) e = ap kind.Const (const_kind_exact k l e)
+any_kind_exact (kind.Pat k) (kind.Pat l) e = ap kind.Pat (pattern_kind_exact k l e)
+any_kind_exact (kind.Predicate p) (kind.Predicate q) e =
+    two_exact (λ k n. kind.Predicate (record { value = k; bound_vars = handle n })) ((predicate_kinds.ghosts).eq p.value q.value) (eqb p.bound_vars.number q.bound_vars.number)
+    (predicate_kind_exact p.value q.value) (eqb-true p.bound_vars.number q.bound_vars.number) e
+any_kind_exact (kind.Existential p) (kind.Existential q) e =
+    two_exact (λ k n. kind.Existential (record { value = k; bound_vars = handle n })) ((existential_kinds.ghosts).eq p.value q.value) (eqb p.bound_vars.number q.bound_vars.number)
+    (existential_kind_exact p.value q.value) (eqb-true p.bound_vars.number q.bound_vars.number) e
+any_kind_exact _ _ e = absurd (false≢true e)

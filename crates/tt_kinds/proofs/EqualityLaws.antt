@@ -1,5 +1,5 @@
--- The keys' `==` holds exactly of equal values.
-use Rattle.std.proofs.Common.{◌≡◌, ℕ, Bool, true, false, ◌&&◌, eqb, refl, ap}
+-- The `==` of types, regions and arguments holds of equal values alone.
+use Rattle.std.proofs.Common.{◌≡◌, ℕ, Bool, true, false, ◌&&◌, eqb, refl, ap, subst}
 use Rattle.std.proofs.lemmas.Bool.{eqb-true, false≢true}
 use Rattle.tt_index.specs.declared.numeric.IntTy.{IntTy}
 use Rattle.tt_index.specs.declared.numeric.IntTy.TheVariants.{Isize, I8, I16, I32, I64, I128}
@@ -49,8 +49,13 @@ use Rattle.tt_kinds.specs.contracts.region_kind.RegionKindPartialEq.TheImpl as r
 use Rattle.tt_kinds.specs.contracts.generic_arg.GenericArgPartialEq.TheImpl as args
 use Rattle.tt_kinds.specs.contracts.ty_kind.InferTyPartialEq.TheImpl as infers
 use Rattle.tt_kinds.specs.contracts.ty_kind.TyKindPartialEq.TheImpl as kinds
+use Rattle.tt_index.specs.Equality.{IsSameness}
 use Rattle.tt_kinds.specs.Id.{id_of}
 use Rattle.tt_kinds.specs.Handle.{handle}
+
+-- an equality that holds of equal values alone, and of each value and itself
+pub sameness : {A : Type 0} (eq : A → A → Bool) → ((a b : A) → eq a b ≡ true → a ≡ b) → ((a : A) → eq a a ≡ true) → IsSameness eq
+sameness eq exact same a b = (exact a b, λ e. subst (λ x. eq a x ≡ true) e (same a))
 
 -- both parts of a test hold
 pub both : (a b : Bool) → (a && b) ≡ true → (a ≡ true) × (b ≡ true)
