@@ -16,3 +16,5 @@ pub mod DeclarationLaws
 pub mod Keys
 pub mod NodeSteps
 pub mod EnvSteps
+pub mod ReadsLaws
+pub mod OwnedLaws

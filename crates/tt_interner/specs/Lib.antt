@@ -14,3 +14,5 @@ pub mod Collect
 pub mod Views
 pub mod Existentials
 pub mod Info
+pub mod Reads
+pub mod Owned

@@ -6,6 +6,7 @@ ghost use Rattle.tt_kinds.specs.declared.table.Table.{Table};
 ghost use Rattle.tt_kinds.specs.declared.table.Table.TheVariants.{Predicates, Symbols};
 ghost use Rattle.tt_interner.specs.Clauses.{clause_predicate};
 ghost use Rattle.tt_interner.specs.Rows.{Row, text_row, predicate_row, size, IsClause};
+ghost use Rattle.tt_interner.specs.Reads.{Reads};
 ghost use Rattle.tt_interner.specs.Stored.{IsAt};
 
 use crate::interner::Interner;
@@ -23,10 +24,10 @@ pub trait InternedKind: Sized {
     // The row of a kind.
     ghost row_of: { Self.Kind → Row };
 
-    /// Returns the term's kind, borrowed from the interner.
+    /// Returns the term's kind, borrowed from the interner. The handles in it are this interner's too.
     fn kind<'a>(self, cx: &'a Interner) -> &'a Self::Kind
         requires { handle_number self < size cx.now.rows handle_table }
-        ensures { IsAt cx.now.rows (row_of result.now) (handle_number self) };
+        ensures { Reads cx.now.rows handle_table (handle_number self) (row_of result.now) };
 }
 
 /// A handle of a stored list.
@@ -41,10 +42,10 @@ pub trait InternedList: Sized {
     // The row of a list.
     ghost row_of_items: { List Self.Item → Row };
 
-    /// Returns the items in order, borrowed from the interner.
+    /// Returns the items in order, borrowed from the interner. The handles in them are this interner's too.
     fn as_slice<'a>(self, cx: &'a Interner) -> &'a [Self::Item]
         requires { list_number self < size cx.now.rows list_table }
-        ensures { IsAt cx.now.rows (row_of_items result.now) (list_number self) };
+        ensures { Reads cx.now.rows list_table (list_number self) (row_of_items result.now) };
 }
 
 /// A clause, which is a predicate too.
@@ -56,10 +57,10 @@ pub trait AsPredicate: Sized {
     fn as_predicate(self) -> Predicate
         ensures { result.number ≡ clause_number self };
 
-    /// Returns the clause's kind, under its binder.
+    /// Returns the clause's kind, under its binder. The handles in it are this interner's too.
     fn kind(self, cx: &Interner) -> Binder<ClauseKind>
         requires { IsClause cx.now.rows (clause_number self) }
-        ensures { IsAt cx.now.rows (predicate_row (clause_predicate result)) (clause_number self) };
+        ensures { Reads cx.now.rows Predicates (clause_number self) (predicate_row (clause_predicate result)) };
 }
 
 /// A predicate, which may be a clause. It has to be of the interner.

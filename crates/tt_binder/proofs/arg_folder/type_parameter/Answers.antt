@@ -8,10 +8,10 @@ kind-requires c = type_within c.args.cx.now.rows c.args.ty c.requires
 
 pub returns-in-Param : goal.returns-in-Param
 returns-in-Param c =
-    let e = kind_tree c.args.cx.now.rows c.args.ty _ c.are_rows.ensures.are c.kind.ensures in
+    let e = kind_tree c.args.cx.now.rows c.args.ty _ c.are_rows.ensures.are c.kind.ensures.row in
     rw (e, c.in-Param.is) (type_param_found (meaning c.args.cx.now.rows) c.in-Param.parameter)
 
 pub returns-in_default : goal.returns-in_default
 returns-in_default c =
-    let e = kind_tree c.args.cx.now.rows c.args.ty _ c.are_rows.ensures.are c.kind.ensures in
+    let e = kind_tree c.args.cx.now.rows c.args.ty _ c.are_rows.ensures.are c.kind.ensures.row in
     λ i h. type_param_none (meaning c.args.cx.now.rows) _ c.in_default.not-Param i (rw e at h)

@@ -13,7 +13,7 @@ pub returns : goal.returns
 returns c =
     let rows = c.args.self.now.rows in
     let same : c.from_number-predicate.result.number ≡ c.args.clause.number = ap (λ (p : Predicate). p.number) c.from_number-predicate.ensures ∙ c.number.ensures in
-    let tree = clause_at rows c.are_rows.ensures.are c.kind.result.now c.from_number-predicate.result.number c.kind.ensures in
+    let tree = clause_at rows c.are_rows.ensures.are c.kind.result.now c.from_number-predicate.result.number c.kind.ensures.row in
     let answer : c.is_clause.result ≡ is_clause_tree (meaning rows Predicates c.args.clause.number) =
     c.is_clause.ensures ∙ ap (λ (b : Bor PredicateKind). is_clause_kind b.now) c.skip_binder.ensures ∙ ap is_clause_kind c.as_ref.ensures.value ∙ sym tree ∙ ap (λ n. is_clause_tree (meaning rows Predicates n)) same in
     (λ is. record { within = subst (λ n. n < size rows Predicates) same (c.if-not-owns.ensures.0 refl); clause = sym answer ∙ is }, λ h. answer ∙ h.clause)

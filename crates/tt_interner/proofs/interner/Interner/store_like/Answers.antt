@@ -14,14 +14,14 @@ pub with_parts-kind-requires : goal.with_parts-kind-requires
 with_parts-kind-requires c =
     let k : Kind = kind.Ty c.kind.result.now in
     let table : kind_table k ≡ node_table c.args.node = rw c.in-Ty.is refl in
-    let at : IsAt c.args.self.now.rows (type_row c.kind.result.now) (node_number c.args.node) = rw c.in-Ty.is c.kind.ensures in
+    let at : IsAt c.args.self.now.rows (type_row c.kind.result.now) (node_number c.args.node) = rw c.in-Ty.is c.kind.ensures.row in
     rw (kind_there _ c.args.node k table at, parts-relabelled {K = Label ℕ} type_label (ty_form c.kind.result.now)) at c.requires.like
 
 pub store-requires : goal.store-requires
 store-requires c =
     let k : Kind = kind.Ty c.kind.result.now in
     let table : kind_table k ≡ node_table c.args.node = rw c.in-Ty.is refl in
-    let at : IsAt c.args.self.now.rows (type_row c.kind.result.now) (node_number c.args.node) = rw c.in-Ty.is c.kind.ensures in
+    let at : IsAt c.args.self.now.rows (type_row c.kind.result.now) (node_number c.args.node) = rw c.in-Ty.is c.kind.ensures.row in
     let form = ap (relabelled type_label) c.with_parts-kind.ensures ∙ refilled-relabelled type_label c.args.parts (ty_form c.kind.result.now) in
     like_parts _ c.args.node k (kind.Ty c.with_parts-kind.result) c.args.parts (is_node _ c.are_rows.ensures.are c.args.node k table at) refl form c.requires.parts
 
@@ -29,6 +29,6 @@ pub returns-in-Ty : goal.returns-in-Ty
 returns-in-Ty c =
     let k : Kind = kind.Ty c.kind.result.now in
     let table : kind_table k ≡ node_table c.args.node = rw c.in-Ty.is refl in
-    let at : IsAt c.args.self.now.rows (type_row c.kind.result.now) (node_number c.args.node) = rw c.in-Ty.is c.kind.ensures in
+    let at : IsAt c.args.self.now.rows (type_row c.kind.result.now) (node_number c.args.node) = rw c.in-Ty.is c.kind.ensures.row in
     let form = ap (relabelled type_label) c.with_parts-kind.ensures ∙ refilled-relabelled type_label c.args.parts (ty_form c.kind.result.now) in
     builds_like c.store.result c.args.self.now c.store.new.self c.args.node k (kind.Ty c.with_parts-kind.result) c.args.parts (kind_there _ c.args.node k table at) table form c.store.ensures.builds c.store.ensures.table

@@ -9,10 +9,10 @@ use Rattle.tt_visit.proofs.VisitSteps.{flow-weaker}
 use Rattle.tt_visit.proofs.handles.RegionAssumptionsTypeVisitable.visit_with.Goals as goal
 
 pub visit_values-requires-clause-values : goal.visit_values-requires-clause-values
-visit_values-requires-clause-values g c = (Means-row _ c.are_rows.ensures.are AssumptionLists _ (assumptions_row c.as_slice.result.now) c.as_slice.ensures).parts.1
+visit_values-requires-clause-values g c = (Means-row _ c.are_rows.ensures.are AssumptionLists _ (assumptions_row c.as_slice.result.now) c.as_slice.ensures.row).parts.1
 
 pub returns-clause-result : goal.returns-clause-result
 unfolding fill fill_all
 returns-clause-result g c =
-    let is = (Means-row _ c.are_rows.ensures.are AssumptionLists _ (assumptions_row c.as_slice.result.now) c.as_slice.ensures).tree in
+    let is = (Means-row _ c.are_rows.ensures.are AssumptionLists _ (assumptions_row c.as_slice.result.now) c.as_slice.ensures.row).tree in
     flow-weaker c.visit_values.result c.visit_values.ensures.result (λ _ h. rw is (node_seen refl h)) (λ b h. rw is (node_broke refl h))

@@ -7,10 +7,10 @@ use Rattle.tt_visit.proofs.views.GenericArgsSliceTypeVisitable.visit_with.Goals 
 pub visit_values-requires-clause-values : goal.visit_values-requires-clause-values
 visit_values-requires-clause-values g c =
     rw c.span-arguments.ensures
-    (args_owned c.args.cx.now.rows c.are_rows.ensures.are c.args-2.result c.as_slice-list.result.now c.as_slice-list.ensures _ c.start.result)
+    (args_owned c.args.cx.now.rows c.are_rows.ensures.are c.args-2.result c.as_slice-list.result.now c.as_slice-list.ensures.row _ c.start.result)
 
 pub returns-clause-result : goal.returns-clause-result
 returns-clause-result g c =
     let is = args-tree c.args.cx.now.rows c.are_rows.ensures.are c.args.self.now c.args-2.result c.as_slice-list.result.now c.span-arguments.result.now
-    c.args-2.ensures c.as_slice-list.ensures (rw (← c.start.ensures, ← c.len.ensures) c.span-arguments.ensures) in
+    c.args-2.ensures c.as_slice-list.ensures.row (rw (← c.start.ensures, ← c.len.ensures) c.span-arguments.ensures) in
     flow-weaker c.visit_values.result c.visit_values.ensures.result (λ _ h. rw is (node_seen refl h)) (λ b h. rw is (node_broke refl h))

@@ -2,8 +2,10 @@
 use Rattle.std.proofs.Common.{refl}
 use Rattle.tt_kinds.specs.declared.table.Table.TheVariants.{AssumptionLists}
 use Rattle.tt_interner.specs.Rows.{assumptions_row}
+use Rattle.tt_interner.proofs.ReadsLaws.{reads}
 use Rattle.tt_interner.proofs.TableLaws.{key_row}
 use Rattle.tt_interner.proofs.interner.assumptions.RegionAssumptionsInternedList.as_slice.Goals as goal
 
 pub returns : goal.returns
-returns c = rw (c.as_slice.ensures.value, ← c.cx.view_is) (key_row _ _ _ c.cx.invariant.tables AssumptionLists (λ k. assumptions_row k.items) (λ v. v) c.cx.inside.assumption_lists.entries refl _ _ refl (rw c.number.ensures at c.key_at.ensures))
+returns c = rw (c.as_slice.ensures.value, ← c.cx.view_is)
+    (reads _ c.cx.invariant.tables.are AssumptionLists _ _ refl (key_row _ _ _ c.cx.invariant.tables AssumptionLists (λ k. assumptions_row k.items) (λ v. v) c.cx.inside.assumption_lists.entries refl _ _ refl (rw c.number.ensures at c.key_at.ensures)))

@@ -2,8 +2,10 @@
 use Rattle.std.proofs.Common.{refl}
 use Rattle.tt_kinds.specs.declared.table.Table.TheVariants.{ExistentialLists}
 use Rattle.tt_interner.specs.Rows.{existentials_row}
+use Rattle.tt_interner.proofs.ReadsLaws.{reads}
 use Rattle.tt_interner.proofs.TableLaws.{key_row}
 use Rattle.tt_interner.proofs.interner.existentials.BoundExistentialPredicatesInternedList.as_slice.Goals as goal
 
 pub returns : goal.returns
-returns c = rw (c.as_slice.ensures.value, ← c.cx.view_is) (key_row _ _ _ c.cx.invariant.tables ExistentialLists (λ k. existentials_row k.items) (λ v. v) c.cx.inside.existential_lists.entries refl _ _ refl (rw c.number.ensures at c.key_at.ensures))
+returns c = rw (c.as_slice.ensures.value, ← c.cx.view_is)
+    (reads _ c.cx.invariant.tables.are ExistentialLists _ _ refl (key_row _ _ _ c.cx.invariant.tables ExistentialLists (λ k. existentials_row k.items) (λ v. v) c.cx.inside.existential_lists.entries refl _ _ refl (rw c.number.ensures at c.key_at.ensures)))
