@@ -22,6 +22,7 @@ pub mod RegionKind
 pub mod FnSig
 pub mod Shape
 pub mod Parts
+pub mod Range
 pub mod Kinds
 pub mod Values
 pub mod Bare
