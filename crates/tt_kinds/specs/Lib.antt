@@ -23,6 +23,7 @@ pub mod FnSig
 pub mod Shape
 pub mod Parts
 pub mod Range
+pub mod Fitting
 pub mod Kinds
 pub mod Values
 pub mod Bare

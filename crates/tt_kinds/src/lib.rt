@@ -9,6 +9,7 @@ pub mod declaration;
 pub mod error_guaranteed;
 pub mod existential;
 pub mod field;
+pub mod fitting;
 pub mod fn_sig;
 pub mod generic_arg;
 pub mod handle;
