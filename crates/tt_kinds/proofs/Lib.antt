@@ -4,6 +4,8 @@ pub mod ParamLaws
 pub mod PutLaws
 pub mod OuterLaws
 pub mod FitsLaws
+pub mod RangeLaws
+pub mod FittingLaws
 pub mod PlainLaws
 pub mod MatchedLaws
 pub mod MetLaws

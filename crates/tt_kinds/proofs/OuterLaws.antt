@@ -45,7 +45,7 @@ IsBelow b (at d) = d < b
 IsBelow b canonical = ⊤
 
 -- the index of a variable that does not reach past m binders
-index-below : (m k : ℕ) (d : Depth) → reach (place k d) ≤ m → IsBelow (k + m) d
+pub index-below : (m k : ℕ) (d : Depth) → reach (place k d) ≤ m → IsBelow (k + m) d
 index-below m k (at d) h = elim (cases_lt d k) [ inl g ↦ omega arith | inr g ↦ outside g ]
   where
     outside : k ≤ d → d < k + m

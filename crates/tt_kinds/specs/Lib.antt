@@ -22,6 +22,8 @@ pub mod RegionKind
 pub mod FnSig
 pub mod Shape
 pub mod Parts
+pub mod Range
+pub mod Fitting
 pub mod Kinds
 pub mod Values
 pub mod Bare

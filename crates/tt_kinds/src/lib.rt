@@ -10,6 +10,7 @@ pub mod equality;
 pub mod error_guaranteed;
 pub mod existential;
 pub mod field;
+pub mod fitting;
 pub mod fn_sig;
 pub mod generic_arg;
 pub mod handle;
