@@ -17,7 +17,7 @@ use Rattle.tt_kinds.specs.Tree.{Tree, Forest, Depth}
 use Rattle.tt_kinds.specs.Reading.{read_all, greatest_reach_all, outer_binder}
 use Rattle.tt_kinds.specs.Scan.{scan, scan_all}
 use Rattle.tt_kinds.specs.Shape.{Shape, Shapes, term, node, stored, none, also, append, item_shapes, Meaning, vars_of, name_of, rename_kind, rename_record, rename_label, fill, fill_all, Sizes, IsPart, AreParts, HasParts, IsTooDeep}
-use Rattle.tt_kinds.specs.Kinds.{Form, param, bound, plain, under, relabelled, form_parts, form_binder, form_shape, parts_shapes}
+use Rattle.tt_kinds.specs.Kinds.{Form, param, bound, plain, under, form_parts, form_binder, form_shape, parts_shapes}
 use Rattle.tt_kinds.proofs.PlainLaws.{outer_binder-binder}
 use Rattle.tt_interner.specs.Stored.{IsInfo}
 use Rattle.tt_interner.specs.Tables.{AreInfosOf, AreJoined}

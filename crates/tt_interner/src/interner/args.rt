@@ -1,12 +1,12 @@
 //! Lists of generic arguments.
 
-ghost use Rattle.std.specs.Prelude.{◌≡◌, ◌<◌, List};
+ghost use Rattle.std.specs.Prelude.{◌<◌, List};
 ghost use Rattle.std.specs.Iterator.{Drains, IsFinite};
 ghost use Rattle.tt_kinds.specs.Shape.{item_shapes, AreParts};
 ghost use Rattle.tt_kinds.specs.Kinds.{arg_shape};
 ghost use Rattle.tt_interner.specs.Collect.{BuildsFrom};
 ghost use Rattle.tt_interner.specs.Rows.{args_row, size};
-ghost use Rattle.tt_interner.specs.Stored.{IsAt, Builds};
+ghost use Rattle.tt_interner.specs.Stored.{Builds};
 
 use super::Interner;
 use crate::collect::collected;

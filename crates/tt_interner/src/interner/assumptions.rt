@@ -4,7 +4,7 @@ ghost use Rattle.std.specs.Prelude.{◌<◌};
 ghost use Rattle.tt_kinds.specs.Shape.{item_shapes, AreParts};
 ghost use Rattle.tt_kinds.specs.Values.{assumption_shape};
 ghost use Rattle.tt_interner.specs.Rows.{assumptions_row, size};
-ghost use Rattle.tt_interner.specs.Stored.{IsAt, Builds};
+ghost use Rattle.tt_interner.specs.Stored.{Builds};
 
 use super::Interner;
 use crate::flag_computation::items_info;

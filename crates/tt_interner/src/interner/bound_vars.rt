@@ -1,10 +1,10 @@
 //! Lists of a binder's variables.
 
-ghost use Rattle.std.specs.Prelude.{◌≡◌, ◌<◌};
+ghost use Rattle.std.specs.Prelude.{◌<◌};
 ghost use Rattle.tt_kinds.specs.Shape.{HasParts};
 ghost use Rattle.tt_kinds.specs.Kinds.{vars_row_shape};
 ghost use Rattle.tt_interner.specs.Rows.{vars_row, size};
-ghost use Rattle.tt_interner.specs.Stored.{IsAt, Builds};
+ghost use Rattle.tt_interner.specs.Stored.{Builds};
 
 use super::Interner;
 use crate::flag_computation::vars_info;

@@ -1,10 +1,10 @@
 //! Constants, and lists of constants.
 
-ghost use Rattle.std.specs.Prelude.{◌≡◌, ◌<◌};
+ghost use Rattle.std.specs.Prelude.{◌<◌};
 ghost use Rattle.tt_kinds.specs.Shape.{item_shapes, AreParts, HasParts};
 ghost use Rattle.tt_kinds.specs.Kinds.{const_kind_shape, const_shape};
 ghost use Rattle.tt_interner.specs.Rows.{const_row, consts_row, size};
-ghost use Rattle.tt_interner.specs.Stored.{IsAt, Builds};
+ghost use Rattle.tt_interner.specs.Stored.{Builds};
 
 use super::Interner;
 use crate::flag_computation::{items_info, kind_info};

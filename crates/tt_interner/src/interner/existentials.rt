@@ -4,7 +4,7 @@ ghost use Rattle.std.specs.Prelude.{◌≡◌, ◌<◌, ◌≤◌, length, take,
 ghost use Rattle.tt_kinds.specs.Shape.{item_shapes, AreParts, HasParts};
 ghost use Rattle.tt_kinds.specs.Kinds.{existential_kind_shape, existential_shape};
 ghost use Rattle.tt_interner.specs.Rows.{existential_row, existentials_row, size};
-ghost use Rattle.tt_interner.specs.Stored.{IsAt, Builds};
+ghost use Rattle.tt_interner.specs.Stored.{Builds};
 ghost use Rattle.tt_interner.specs.Existentials.{HaveParts, AreExistentials, BuildsAll, PutsEach};
 
 use super::Interner;

@@ -1,10 +1,10 @@
 //! Patterns, and lists of patterns.
 
-ghost use Rattle.std.specs.Prelude.{◌≡◌, ◌<◌};
+ghost use Rattle.std.specs.Prelude.{◌<◌};
 ghost use Rattle.tt_kinds.specs.Shape.{item_shapes, AreParts, HasParts};
 ghost use Rattle.tt_kinds.specs.Kinds.{pattern_kind_shape, pat_shape};
 ghost use Rattle.tt_interner.specs.Rows.{pat_row, pats_row, size};
-ghost use Rattle.tt_interner.specs.Stored.{IsAt, Builds};
+ghost use Rattle.tt_interner.specs.Stored.{Builds};
 
 use super::Interner;
 use crate::flag_computation::{items_info, kind_info};

@@ -1,11 +1,10 @@
 //! Predicates, and lists of clauses.
 
-ghost use Rattle.std.specs.Prelude.{◌≡◌, ◌<◌, ◌↔◌, IsTrue};
+ghost use Rattle.std.specs.Prelude.{◌<◌, ◌↔◌, IsTrue};
 ghost use Rattle.tt_kinds.specs.Shape.{HasParts};
 ghost use Rattle.tt_kinds.specs.Kinds.{predicate_kind_shape};
-ghost use Rattle.tt_interner.specs.Clauses.{clause_predicate};
-ghost use Rattle.tt_interner.specs.Rows.{predicate_row, clauses_row, size, AreClauses, IsClause};
-ghost use Rattle.tt_interner.specs.Stored.{IsAt, Builds};
+ghost use Rattle.tt_interner.specs.Rows.{predicate_row, clauses_row, size, AreClauses};
+ghost use Rattle.tt_interner.specs.Stored.{Builds};
 
 use super::Interner;
 use crate::flag_computation::{ForKind, items_info};

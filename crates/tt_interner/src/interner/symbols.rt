@@ -1,7 +1,7 @@
 //! Symbols.
 
-ghost use Rattle.std.specs.Prelude.{◌≡◌, ◌<◌, MatchOption};
-ghost use Rattle.tt_interner.specs.Rows.{text_row, size, IsNew};
+ghost use Rattle.std.specs.Prelude.{◌<◌, MatchOption};
+ghost use Rattle.tt_interner.specs.Rows.{text_row, IsNew};
 ghost use Rattle.tt_interner.specs.Stored.{IsAt, Adds, Builds};
 
 use super::Interner;

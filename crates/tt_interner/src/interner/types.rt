@@ -1,13 +1,13 @@
 //! Types, and lists of them.
 
-ghost use Rattle.std.specs.Prelude.{◌≡◌, ◌<◌, List};
+ghost use Rattle.std.specs.Prelude.{◌<◌, List};
 ghost use Rattle.std.specs.Iterator.{Drains, IsFinite};
 ghost use Rattle.tt_kinds.specs.Shape.{AreParts, HasParts, IsTooDeep, item_shapes};
 ghost use Rattle.tt_kinds.specs.Kinds.{ty_kind_shape, ty_shape};
 ghost use Rattle.tt_interner.specs.Chained.{BuildsOf};
 ghost use Rattle.tt_interner.specs.Collect.{BuildsFrom};
 ghost use Rattle.tt_interner.specs.Rows.{type_row, tys_row, text_row, size};
-ghost use Rattle.tt_interner.specs.Stored.{IsAt, Puts, Builds};
+ghost use Rattle.tt_interner.specs.Stored.{Puts, Builds};
 
 use super::Interner;
 use crate::collect::collected;

@@ -1,5 +1,5 @@
 -- The equality of pairs of children by the one of children, and of what outlives by the one of regions.
-use Rattle.std.proofs.Common.{rules, ◌≡◌, ◌&&◌, true, refl}
+use Rattle.std.proofs.Common.{rules, ◌&&◌, refl}
 use Rattle.tt_index.specs.Equality.{IsSameness}
 use Rattle.tt_kinds.specs.contracts.parts.ChildPartialEq.TheImpl as children
 use Rattle.tt_kinds.specs.contracts.parts.PartsPartialEq.TheImpl as pairs
