@@ -1,7 +1,8 @@
 -- Lists whose items are an interner's, for any shape of the items.
-use Rattle.std.proofs.Common.{◌≡◌, ℕ, zero, suc, ◌<◌, List, [], ◌∷◌, ◌++◌, length, get_or, slice_get, set, take, drop, replicate, All, Some, subst, arith}
+use Rattle.std.proofs.Common.{◌≡◌, ℕ, zero, suc, ◌<◌, List, [], ◌∷◌, ◌++◌, length, get_or, slice_get, set, take, drop, replicate, All, Option, Some, refl, subst, sym, arith}
 use Rattle.std.proofs.lemmas.Option.{none-some, same_Some}
 use Rattle.tt_kinds.specs.Shape.{Shape, item_shapes}
+use Rattle.tt_kinds.specs.Values.{option_shape}
 use Rattle.tt_interner.specs.Owned.{IsOwned, AreOwned}
 use Rattle.tt_interner.specs.Stored.{Terms, Extends}
 use Rattle.tt_interner.proofs.Growth.{IsPart-grows, AreParts-grows}
@@ -18,6 +19,20 @@ module _ {T : Type 0} (shape : T → Shape) (terms : Terms) where
   found_owned [] i x e owned = absurd (none-some x e)
   found_owned (y ∷ xs) zero x e owned = subst (IsOwned shape terms) (same_Some y x e) owned.0
   found_owned (y ∷ xs) (suc i) x e owned = found_owned xs i x e owned.1
+
+  -- the item of which `get` says that it is at the place; `lent` is the list as it was lent
+  pub get_owned : (xs lent : List T) (i : ℕ) (x : T) → lent ≡ xs → i < length lent → x ≡ get_or lent i x → AreOwned shape terms xs → IsOwned shape terms x
+  get_owned xs lent i x same h at owned =
+      let all : AreOwned shape terms lent = subst (AreOwned shape terms) (sym same) owned in
+      subst (IsOwned shape terms) (sym at) (item_owned lent i x h all)
+
+  -- the value in an option that is owned
+  pub some_owned : (o : Option T) (x : T) → o ≡ Some x → IsOwned (option_shape shape) terms o → IsOwned shape terms x
+  some_owned o x is owned = (subst (IsOwned (option_shape shape) terms) is owned).2.0
+
+  -- and an option with an owned value
+  pub owned_some : (x : T) → IsOwned shape terms x → IsOwned (option_shape shape) terms (Some x)
+  owned_some x owned = (refl, tt, (owned, tt))
 
   -- a list with an item replaced
   pub set_owned : (xs : List T) (i : ℕ) (x : T) → AreOwned shape terms xs → IsOwned shape terms x → AreOwned shape terms (set xs i x)
