@@ -14,3 +14,4 @@ pub mod Collect
 pub mod Views
 pub mod Existentials
 pub mod Info
+pub mod Fitting
