@@ -1,12 +1,11 @@
 -- Which values of an interner fit, by its rows.
-use Rattle.std.proofs.Common.{inl, inr, ◌≡◌, ℕ, suc, ◌+◌, ◌*◌, ◌<◌, ◌≤◌, List, [], ◌∷◌, length, max, refl, ap, sym, subst, arith}
+use Rattle.std.proofs.Common.{inl, inr, ◌≡◌, ℕ, ◌+◌, ◌*◌, ◌<◌, ◌≤◌, List, [], ◌∷◌, refl, arith}
 use Rattle.tt_index.specs.Greatest.{greatest}
 use Rattle.tt_kinds.specs.Label.{Sort, Label, type_label, const_label, type_sort, const_sort}
-use Rattle.tt_kinds.specs.Tree.{Depth, Tree}
 use Rattle.tt_kinds.specs.Reading.{read, FitsUnder}
-use Rattle.tt_kinds.specs.Shape.{Shape, IsPart, fill, HasParts}
-use Rattle.tt_kinds.specs.Kinds.{Form, param, bound, plain, under, relabelled, form_shape, ty_form, const_form, pattern_form, predicate_form, existential_form, value_form, const_kind_shape, ty_shape, const_shape, pat_shape, clause_shape, existential_shape, arg_shape}
-use Rattle.tt_kinds.specs.Range.{IndicesFit, IndicesFitIn, binders_in, binders_among}
+use Rattle.tt_kinds.specs.Shape.{Shape, IsPart, fill}
+use Rattle.tt_kinds.specs.Kinds.{Form, param, bound, plain, under, relabelled, form_shape, ty_form, pattern_form, predicate_form, existential_form, value_form, const_kind_shape, ty_shape, const_shape, pat_shape, clause_shape, existential_shape}
+use Rattle.tt_kinds.specs.Range.{IndicesFit, IndicesFitIn, binders_in}
 use Rattle.tt_kinds.specs.Fitting.{BindersFit}
 use Rattle.tt_kinds.specs.declared.const_kind.ValTreeKind.TheVariants as valtree
 use Rattle.tt_kinds.specs.declared.const_kind.ValTreeKind.{ValTreeKind}

@@ -1,5 +1,5 @@
 -- by the form that the contents are of
-use Rattle.std.proofs.Common.{sym, ap, ◌∙◌, ◌≡◌, ◌≤◌, bit_or, max, arith}
+use Rattle.std.proofs.Common.{sym, ap, ◌∙◌, bit_or, max}
 use Rattle.tt_flags.specs.FlagComputation.{computed}
 use Rattle.tt_flags.specs.declared.flag_computation.FlagComputation.{FlagComputation}
 use Rattle.tt_interner.specs.Rows.{meaning}

@@ -1,6 +1,6 @@
 -- by the form of the kind
 use Rattle.std.proofs.Common.{sym, ◌∙◌}
-use Rattle.tt_kinds.specs.Kinds.{parts_shapes, kind_form, kind_sort}
+use Rattle.tt_kinds.specs.Kinds.{kind_form, kind_sort}
 use Rattle.tt_interner.specs.Rows.{size}
 use Rattle.tt_kinds.proofs.RangeLaws.{form-fits}
 use Rattle.tt_interner.proofs.InfoLaws.{form_has_parts, form_has_vars}

@@ -1,5 +1,5 @@
 -- by the form of the type's kind
-use Rattle.std.proofs.Common.{ℕ, refl, sym, ◌∙◌}
+use Rattle.std.proofs.Common.{ℕ, sym, ◌∙◌}
 use Rattle.tt_kinds.specs.Label.{Label, type_sort, type_label}
 use Rattle.tt_kinds.specs.Kinds.{relabelled, ty_form}
 use Rattle.tt_interner.specs.Rows.{size}
