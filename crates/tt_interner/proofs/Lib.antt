@@ -9,6 +9,7 @@ pub mod FoundLaws
 pub mod StoreSteps
 pub mod InfoLaws
 pub mod TableLaws
+pub mod FittingLaws
 pub mod PutSteps
 pub mod TakeBackSteps
 pub mod ExistentialSteps

@@ -6,6 +6,7 @@ use Rattle.tt_flags.specs.declared.flag_computation.FlagComputation.{FlagComputa
 use Rattle.tt_index.specs.declared.refusal.Refusal.{Refusal}
 use Rattle.tt_index.specs.declared.refusal.Refusal.TheVariants.{Memory, TableFull}
 use Rattle.tt_kinds.specs.Shape.{fill, HasParts, IsTooDeep}
+use Rattle.tt_kinds.specs.Range.{IndicesFitIn}
 use Rattle.tt_interner.specs.Rows.{Row, row_table, row_shape, size, meaning, IsNew, HoldsClauses, AreRows}
 use Rattle.tt_interner.specs.Stored.{Terms, Counters, IsInfo, IsAt, Puts, Builds}
 use Rattle.tt_interner.specs.Tables.{Tables, entries_of, with_entries, rows_in_order, entries_by, Keeps}
@@ -46,13 +47,13 @@ module _ {K : Type 0} (order : List Table) (ts : Tables) (limit : ℕ) (counters
         pushed : position test (keys_of es) ≡ None → with_entries ts (row_table r) (entries_by row (λ v. v) es') ≡ with_entries ts (row_table r) (entries_of ts (row_table r) ++ (record { row = r; info = info }) ∷ [])
         pushed none = ap (with_entries ts (row_table r)) (more none ∙ ap (λ l. l ++ (record { row = r; info = info }) ∷ []) (sym is))
 
-        pub put_kept : HasParts (size old.rows) (row_shape r) → (IsTooDeep (row_shape r) → ⊥) → HoldsClauses old.rows r → Keeps order' (with_entries ts (row_table r) (entries_by row (λ v. v) es')) limit
-        put_kept parts shallow holds =
+        pub put_kept : HasParts (size old.rows) (row_shape r) → IndicesFitIn (row_shape r) → HoldsClauses old.rows r → Keeps order' (with_entries ts (row_table r) (entries_by row (λ v. v) es')) limit
+        put_kept parts fit holds =
             let many = count _ _ _ keeps.tables (row_table r) row (λ v. v) es is in
             found_or_absent _ _ _ keeps.tables (row_table r) row (λ v. v) es is test r refl key
             (λ n place at. still_kept order order' ts _ limit counters old view_is keeps (found n place).1 (stays (found n place).2))
             (λ none new. kept order order' ts _ limit counters old view_is keeps (record { row = r; info = info }) (pushed none) (noted none) n' ((last none).0 ∙ many) (last none).1
-            parts shallow holds (subst (λ (v : Terms). IsNew r v.rows) view_is new) is_info)
+            parts fit holds (subst (λ (v : Terms). IsNew r v.rows) view_is new) is_info)
 
         pub put : {H : Type 0} (number : H → ℕ) (h : H) → number h ≡ n' → Puts (Ok h) number old (record { rows = rows_in_order order' (with_entries ts (row_table r) (entries_by row (λ v. v) es')); limit = limit; counters = counters }) r
         put number h named =

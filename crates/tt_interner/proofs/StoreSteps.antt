@@ -4,6 +4,7 @@ use Rattle.std.proofs.lemmas.Option.{slice_get_within}
 use Rattle.tt_index.specs.declared.refusal.Refusal.{Refusal}
 use Rattle.tt_index.specs.declared.refusal.Refusal.TheVariants.{Memory, TableFull, GreatestIndex}
 use Rattle.tt_kinds.specs.Shape.{fill, IsTooDeep}
+use Rattle.tt_kinds.proofs.RangeLaws.{fits-not_deep}
 use Rattle.tt_interner.specs.Rows.{Row, row_table, row_shape, table, size, meaning, IsNew, AreRows, Grows}
 use Rattle.tt_interner.specs.Stored.{Terms, IsAt, IsCause, Stores, Adds, Puts, Builds}
 use Rattle.tt_interner.proofs.RowLaws.{row-new, meaning-new}
@@ -49,7 +50,7 @@ Grows-add (Err e) r old new is same = subst (λ (t : Terms). Grows old.rows t.ro
 pub deep_new : (r : Row) → IsTooDeep (row_shape r) → (rows : List Row) → AreRows rows → IsNew r rows
 unfolding IsNew AreRows
 deep_new r deep [] are = tt
-deep_new r deep (q ∷ rows) are = (λ same. are.2 (subst (λ x. IsTooDeep (row_shape x)) (sym same) deep), deep_new r deep rows are.4)
+deep_new r deep (q ∷ rows) are = (λ same. fits-not_deep (row_shape q) are.2 (subst (λ x. IsTooDeep (row_shape x)) (sym same) deep), deep_new r deep rows are.4)
 
 module _ {H : Type 0} (number : H → ℕ) (old : Terms) (r : Row) (are : AreRows old.rows) where
   -- the row was found

@@ -14,7 +14,8 @@ use Rattle.tt_kinds.specs.Tree.{Tree, Depth}
 use Rattle.tt_index.specs.declared.refusal.Refusal.{Refusal}
 use Rattle.tt_index.specs.declared.refusal.Refusal.TheVariants.{Memory, TableFull}
 use Rattle.tt_kinds.specs.Label.{clause_list_label, list_label, var_list_label, text_label}
-use Rattle.tt_kinds.specs.Shape.{none, fill, HasParts, IsTooDeep}
+use Rattle.tt_kinds.specs.Shape.{none, fill, HasParts}
+use Rattle.tt_kinds.specs.Range.{IndicesFitIn}
 use Rattle.tt_interner.specs.Rows.{Row, clauses_row, tys_row, consts_row, args_row, pats_row, vars_row, existentials_row, assumptions_row, text_row, row_table, row_shape, is_in, table, size, meaning, IsNew, HoldsClauses, AreRows}
 use Rattle.tt_interner.specs.Stored.{Terms, Counters, Adds, IsInfo, HasFirst, IsAt, first_rows, anonymous_text}
 use Rattle.tt_interner.specs.Tables.{Entry, Tables, entries_of, with_entries, push, rows_of, infos_of, reversed, merged, rows_in_order, entries_by, listed_by, AreInfos, AreTables, Keeps, no_info}
@@ -153,11 +154,11 @@ infos_of-push t e ts = ap (map (λ (x : Entry). x.info)) (entries_of-push t e ts
 
 -- the tables with a new entry
 pub AreTables-push : (rows : List Row) (ts : Tables) (limit : ℕ) (e : Entry) → AreTables rows ts limit
-    → HasParts (size rows) (row_shape e.row) → (IsTooDeep (row_shape e.row) → ⊥) → HoldsClauses rows e.row → IsNew e.row rows → size rows (row_table e.row) < limit → IsInfo e.info (fill (meaning rows) (row_shape e.row))
+    → HasParts (size rows) (row_shape e.row) → IndicesFitIn (row_shape e.row) → HoldsClauses rows e.row → IsNew e.row rows → size rows (row_table e.row) < limit → IsInfo e.info (fill (meaning rows) (row_shape e.row))
     → AreTables (e.row ∷ rows) (push (row_table e.row) e ts) limit
 unfolding AreRows
-AreTables-push rows ts limit e are parts shallow holds new room is = let r = e.row in let own = row_table e.row in record {
-  are = (parts, new, shallow, holds, are.are);
+AreTables-push rows ts limit e are parts fit holds new room is = let r = e.row in let own = row_table e.row in record {
+  are = (parts, new, fit, holds, are.are);
   has = by_table r (λ t. table t (r ∷ rows) ≡ rows_of (push own e ts) t)
       (table-new r rows ∙ ap (λ l. l ++ r ∷ []) (are.has own) ∙ sym (rows_of-push own e ts))
       (λ t other. table-other r rows t other ∙ are.has t ∙ ap (map (λ (x : Entry). x.row)) (sym (entries_of-other own t e ts (apart t r other))));
@@ -254,18 +255,18 @@ module _ (order : List Table) (ts ts' : Tables) (e : Entry) (is : ts' ≡ push (
   pub rows_added : rows_in_order (order ++ row_table e.row ∷ []) ts' ≡ e.row ∷ rows_in_order order ts
   rows_added = ap (rows_in_order (order ++ row_table e.row ∷ [])) is ∙ rows_in_order-push order (row_table e.row) e ts
 
-  pub AreTables-added : (limit : ℕ) → AreTables (rows_in_order order ts) ts limit → HasParts (size (rows_in_order order ts)) (row_shape e.row) → (IsTooDeep (row_shape e.row) → ⊥)
+  pub AreTables-added : (limit : ℕ) → AreTables (rows_in_order order ts) ts limit → HasParts (size (rows_in_order order ts)) (row_shape e.row) → IndicesFitIn (row_shape e.row)
       → HoldsClauses (rows_in_order order ts) e.row → IsNew e.row (rows_in_order order ts) → size (rows_in_order order ts) (row_table e.row) < limit → IsInfo e.info (fill (meaning (rows_in_order order ts)) (row_shape e.row))
       → AreTables (rows_in_order (order ++ row_table e.row ∷ []) ts') ts' limit
-  AreTables-added limit are parts shallow holds new room info = rw (rows_added, is) (AreTables-push (rows_in_order order ts) ts limit e are parts shallow holds new room info)
+  AreTables-added limit are parts fit holds new room info = rw (rows_added, is) (AreTables-push (rows_in_order order ts) ts limit e are parts fit holds new room info)
 
 -- What a building call owes, by what its value was.
 module _ (order order' : List Table) (ts ts' : Tables) (limit : ℕ) (counters : Counters) (old : Terms) (view_is : record { rows = rows_in_order order ts; limit = limit; counters = counters } ≡ old) (keeps : Keeps order ts limit) where
   module _ (e : Entry) (is : ts' ≡ push (row_table e.row) e ts) (noted : order' ≡ order ++ row_table e.row ∷ []) (n : ℕ) (last : n ≡ size (rows_in_order order ts) (row_table e.row)) (room : n < limit) where
-    pub kept : HasParts (size old.rows) (row_shape e.row) → (IsTooDeep (row_shape e.row) → ⊥) → HoldsClauses old.rows e.row → IsNew e.row old.rows → IsInfo e.info (fill (meaning old.rows) (row_shape e.row)) → Keeps order' ts' limit
-    kept parts shallow holds new info = record {
+    pub kept : HasParts (size old.rows) (row_shape e.row) → IndicesFitIn (row_shape e.row) → HoldsClauses old.rows e.row → IsNew e.row old.rows → IsInfo e.info (fill (meaning old.rows) (row_shape e.row)) → Keeps order' ts' limit
+    kept parts fit holds new info = record {
       tables = rw noted (AreTables-added order ts ts' e is limit keeps.tables
-          (subst (λ (v : Terms). HasParts (size v.rows) (row_shape e.row)) (sym view_is) parts) shallow
+          (subst (λ (v : Terms). HasParts (size v.rows) (row_shape e.row)) (sym view_is) parts) fit
           (subst (λ (v : Terms). HoldsClauses v.rows e.row) (sym view_is) holds)
           (subst (λ (v : Terms). IsNew e.row v.rows) (sym view_is) new)
           (omega arith)
@@ -387,23 +388,23 @@ AreTables-first : (limit : ℕ) → 0 < limit → limit ≤ greatest → AreTabl
 unfolding table IsNew
 AreTables-first limit some small =
     let before = AreTables-none limit small in
-    let tys = AreTables-push [] no_tables limit (first_of (tys_row [])) before (tt, tt) (λ d. d) tt tt some
+    let tys = AreTables-push [] no_tables limit (first_of (tys_row [])) before (tt, tt) tt tt tt some
     (info_node (meaning []) no_info (list_label TypeLists) refl) in
-    let args = AreTables-push (tys_row [] ∷ []) _ limit (first_of (args_row [])) tys (tt, tt) (λ d. d) tt ((λ e. cc), tt) some
+    let args = AreTables-push (tys_row [] ∷ []) _ limit (first_of (args_row [])) tys (tt, tt) tt tt ((λ e. cc), tt) some
     (info_node (meaning (tys_row [] ∷ [])) no_info (list_label ArgLists) refl) in
-    let vars = AreTables-push (args_row [] ∷ tys_row [] ∷ []) _ limit (first_of (vars_row [])) args (tt, tt) (λ d. d) tt ((λ e. cc), ((λ e. cc), tt)) some
+    let vars = AreTables-push (args_row [] ∷ tys_row [] ∷ []) _ limit (first_of (vars_row [])) args (tt, tt) tt tt ((λ e. cc), ((λ e. cc), tt)) some
     (info_node (meaning (args_row [] ∷ tys_row [] ∷ [])) no_info (var_list_label []) refl) in
-    let consts = AreTables-push (vars_row [] ∷ args_row [] ∷ tys_row [] ∷ []) _ limit (first_of (consts_row [])) vars (tt, tt) (λ d. d) tt ((λ e. cc), ((λ e. cc), ((λ e. cc), tt))) some
+    let consts = AreTables-push (vars_row [] ∷ args_row [] ∷ tys_row [] ∷ []) _ limit (first_of (consts_row [])) vars (tt, tt) tt tt ((λ e. cc), ((λ e. cc), ((λ e. cc), tt))) some
     (info_node (meaning (vars_row [] ∷ args_row [] ∷ tys_row [] ∷ [])) no_info (list_label ConstLists) refl) in
-    let pats = AreTables-push (consts_row [] ∷ vars_row [] ∷ args_row [] ∷ tys_row [] ∷ []) _ limit (first_of (pats_row [])) consts (tt, tt) (λ d. d) tt ((λ e. cc), ((λ e. cc), ((λ e. cc), ((λ e. cc), tt)))) some
+    let pats = AreTables-push (consts_row [] ∷ vars_row [] ∷ args_row [] ∷ tys_row [] ∷ []) _ limit (first_of (pats_row [])) consts (tt, tt) tt tt ((λ e. cc), ((λ e. cc), ((λ e. cc), ((λ e. cc), tt)))) some
     (info_node (meaning (consts_row [] ∷ vars_row [] ∷ args_row [] ∷ tys_row [] ∷ [])) no_info (list_label PatternLists) refl) in
-    let clauses = AreTables-push (pats_row [] ∷ consts_row [] ∷ vars_row [] ∷ args_row [] ∷ tys_row [] ∷ []) _ limit (first_of (clauses_row [])) pats (tt, tt) (λ d. d) tt ((λ e. cc), ((λ e. cc), ((λ e. cc), ((λ e. cc), ((λ e. cc), tt))))) some
+    let clauses = AreTables-push (pats_row [] ∷ consts_row [] ∷ vars_row [] ∷ args_row [] ∷ tys_row [] ∷ []) _ limit (first_of (clauses_row [])) pats (tt, tt) tt tt ((λ e. cc), ((λ e. cc), ((λ e. cc), ((λ e. cc), ((λ e. cc), tt))))) some
     (info_term (meaning (pats_row [] ∷ consts_row [] ∷ vars_row [] ∷ args_row [] ∷ tys_row [] ∷ [])) no_info clause_list_label none refl (infos_none _)) in
-    let existentials = AreTables-push (clauses_row [] ∷ pats_row [] ∷ consts_row [] ∷ vars_row [] ∷ args_row [] ∷ tys_row [] ∷ []) _ limit (first_of (existentials_row [])) clauses (tt, tt) (λ d. d) tt ((λ e. cc), ((λ e. cc), ((λ e. cc), ((λ e. cc), ((λ e. cc), ((λ e. cc), tt)))))) some
+    let existentials = AreTables-push (clauses_row [] ∷ pats_row [] ∷ consts_row [] ∷ vars_row [] ∷ args_row [] ∷ tys_row [] ∷ []) _ limit (first_of (existentials_row [])) clauses (tt, tt) tt tt ((λ e. cc), ((λ e. cc), ((λ e. cc), ((λ e. cc), ((λ e. cc), ((λ e. cc), tt)))))) some
     (info_node (meaning (clauses_row [] ∷ pats_row [] ∷ consts_row [] ∷ vars_row [] ∷ args_row [] ∷ tys_row [] ∷ [])) no_info (list_label ExistentialLists) refl) in
-    let assumptions = AreTables-push (existentials_row [] ∷ clauses_row [] ∷ pats_row [] ∷ consts_row [] ∷ vars_row [] ∷ args_row [] ∷ tys_row [] ∷ []) _ limit (first_of (assumptions_row [])) existentials (tt, tt) (λ d. d) tt ((λ e. cc), ((λ e. cc), ((λ e. cc), ((λ e. cc), ((λ e. cc), ((λ e. cc), ((λ e. cc), tt))))))) some
+    let assumptions = AreTables-push (existentials_row [] ∷ clauses_row [] ∷ pats_row [] ∷ consts_row [] ∷ vars_row [] ∷ args_row [] ∷ tys_row [] ∷ []) _ limit (first_of (assumptions_row [])) existentials (tt, tt) tt tt ((λ e. cc), ((λ e. cc), ((λ e. cc), ((λ e. cc), ((λ e. cc), ((λ e. cc), ((λ e. cc), tt))))))) some
     (info_node (meaning (existentials_row [] ∷ clauses_row [] ∷ pats_row [] ∷ consts_row [] ∷ vars_row [] ∷ args_row [] ∷ tys_row [] ∷ [])) no_info (list_label AssumptionLists) refl) in
-    AreTables-push (assumptions_row [] ∷ existentials_row [] ∷ clauses_row [] ∷ pats_row [] ∷ consts_row [] ∷ vars_row [] ∷ args_row [] ∷ tys_row [] ∷ []) _ limit (first_of (text_row anonymous_text)) assumptions (tt, tt) (λ d. d) tt ((λ e. cc), ((λ e. cc), ((λ e. cc), ((λ e. cc), ((λ e. cc), ((λ e. cc), ((λ e. cc), ((λ e. cc), tt)))))))) some
+    AreTables-push (assumptions_row [] ∷ existentials_row [] ∷ clauses_row [] ∷ pats_row [] ∷ consts_row [] ∷ vars_row [] ∷ args_row [] ∷ tys_row [] ∷ []) _ limit (first_of (text_row anonymous_text)) assumptions (tt, tt) tt tt ((λ e. cc), ((λ e. cc), ((λ e. cc), ((λ e. cc), ((λ e. cc), ((λ e. cc), ((λ e. cc), ((λ e. cc), tt)))))))) some
     (info_node (meaning (assumptions_row [] ∷ existentials_row [] ∷ clauses_row [] ∷ pats_row [] ∷ consts_row [] ∷ vars_row [] ∷ args_row [] ∷ tys_row [] ∷ [])) no_info (text_label anonymous_text) refl)
 
 pub Keeps-first : (order : List Table) (ts : Tables) (limit : ℕ) → order ≡ first_order → ts ≡ first_tables → 0 < limit → limit ≤ greatest → Keeps order ts limit

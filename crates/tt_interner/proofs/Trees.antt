@@ -6,6 +6,7 @@ use Rattle.tt_kinds.specs.declared.table.Table.TheVariants.{VarLists, Symbols}
 use Rattle.tt_kinds.specs.Label.{var_list_label, text_label}
 use Rattle.tt_kinds.specs.Tree as tree
 use Rattle.tt_kinds.specs.Shape.{fill, text_of, vars_of, HasParts, IsTooDeep}
+use Rattle.tt_kinds.proofs.RangeLaws.{fits-not_deep}
 use Rattle.tt_interner.specs.Rows.{Row, text_row, row_table, row_shape, table, size, meaning, IsNew, AreRows}
 use Rattle.tt_interner.proofs.Fill.{fill-one_row, Distinguishes, tree_table}
 use Rattle.tt_interner.proofs.Growth.{HasParts-more, row-same}
@@ -67,7 +68,7 @@ unfolding table AreRows
 Means-row [] are t n q e = absurd (none-some q e)
 Means-row (r ∷ rows) are t n q e = ⊎_elim
     (λ old. Means-old r rows t n q old (Means-row rows are.4 t n q (sym (row-old r rows t n old) ∙ e)))
-    (λ newest. Means-at r rows t n q newest (same_Some r q (sym (row_at_newest r rows t n newest) ∙ e)) (Means-new r rows are.0 are.2))
+    (λ newest. Means-at r rows t n q newest (same_Some r q (sym (row_at_newest r rows t n newest) ∙ e)) (Means-new r rows are.0 (fits-not_deep (row_shape r) are.2)))
     (place_cases r rows t n (slice_get_within (table t (r ∷ rows)) n q e))
 
 -- each handle in range has a row

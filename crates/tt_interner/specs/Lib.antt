@@ -16,3 +16,4 @@ pub mod Existentials
 pub mod Info
 pub mod Reads
 pub mod Owned
+pub mod Fitting

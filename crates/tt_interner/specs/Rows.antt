@@ -2,7 +2,8 @@
 use Rattle.std.specs.Prelude.{◌≢◌, ◌≡◌, ℕ, ◌==◌, ◌<◌, ◌≤◌, Bool, ◌&&◌, List, [], ◌∷◌, ◌++◌, length, ⊤, if◌then◌else◌, IsTrue}
 use Rattle.tt_kinds.specs.Tree as tree
 use Rattle.tt_kinds.specs.Label.{text_label}
-use Rattle.tt_kinds.specs.Shape.{Shape, Shapes, param, bound, region, term, node, binder, stored, part_of, none, also, Meaning, fill, Sizes, HasParts, IsTooDeep}
+use Rattle.tt_kinds.specs.Shape.{Shape, Shapes, param, bound, region, term, node, binder, stored, part_of, none, also, Meaning, fill, Sizes, HasParts}
+use Rattle.tt_kinds.specs.Range.{IndicesFitIn}
 use Rattle.tt_kinds.specs.Kinds.{ty_kind_shape, const_kind_shape, pattern_kind_shape, predicate_kind_shape, existential_kind_shape, clauses_row_shape, tys_row_shape, consts_row_shape, args_row_shape, pats_row_shape, vars_row_shape, existentials_row_shape, text_row_shape, declaration_row_shape}
 use Rattle.tt_kinds.specs.Values.{assumptions_row_shape}
 use Rattle.tt_kinds.specs.Handle.{Ty}
@@ -150,10 +151,10 @@ abbrev pub HoldsClauses : List Row → Row → Type 0
 HoldsClauses rows (clauses_row cs) = AreClauses rows cs
 HoldsClauses rows _ = ⊤
 
--- each row is stored once, names only rows before it, has no index that is too great, and is no list of clauses with another item
+-- each row is stored once, names only rows before it, has no index of the greatest or above, and is no list of clauses with another item
 unfoldable pub AreRows : List Row → Type 0
 AreRows [] = ⊤
-AreRows (r ∷ rows) = HasParts (size rows) (row_shape r) × IsNew r rows × (IsTooDeep (row_shape r) → ⊥) × HoldsClauses rows r × AreRows rows
+AreRows (r ∷ rows) = HasParts (size rows) (row_shape r) × IsNew r rows × IndicesFitIn (row_shape r) × HoldsClauses rows r × AreRows rows
 
 -- the handles in a shape came before so many rows
 abbrev mutual

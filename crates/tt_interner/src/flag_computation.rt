@@ -36,6 +36,7 @@ ghost use Rattle.tt_kinds.specs.Kinds.{
   parts_shapes,
 };
 ghost use Rattle.tt_kinds.specs.OwnFlags.{own_flags, own_reach};
+ghost use Rattle.tt_kinds.specs.Range.{IndicesFitIn, IndicesFitAmong};
 ghost use Rattle.tt_kinds.specs.Reading.{outer_binder};
 ghost use Rattle.tt_kinds.specs.Scan.{scan};
 ghost use Rattle.tt_flags.specs.FlagComputation.{computed};
@@ -121,7 +122,8 @@ fn deepest_info(flags: TypeFlags) -> FlagComputation
 pub(crate) fn kind_info(cx: &Interner, kind: &Kind) -> FlagComputation
     requires parts { HasParts (size cx.now.rows) (kind_shape kind.now) }
     requires shallow { IsTooDeep (kind_shape kind.now) → ⊥ }
-    ensures { IsInfo result (fill (meaning cx.now.rows) (kind_shape kind.now)) }
+    ensures info { IsInfo result (fill (meaning cx.now.rows) (kind_shape kind.now)) }
+    ensures fit { IndicesFitIn (kind_shape kind.now) }
 {
     let own = own_info(kind);
     contents_info(cx, own, kind.bound_vars(), &kind.parts())
@@ -132,7 +134,8 @@ pub(crate) fn kind_info(cx: &Interner, kind: &Kind) -> FlagComputation
 pub(crate) fn ty_kind_info(cx: &Interner, kind: &TyKind) -> FlagComputation
     requires parts { HasParts (size cx.now.rows) (ty_kind_shape kind.now) }
     requires shallow { IsTooDeep (ty_kind_shape kind.now) → ⊥ }
-    ensures { IsInfo result (fill (meaning cx.now.rows) (ty_kind_shape kind.now)) }
+    ensures info { IsInfo result (fill (meaning cx.now.rows) (ty_kind_shape kind.now)) }
+    ensures fit { IndicesFitIn (ty_kind_shape kind.now) }
 {
     let own = own_ty_info(kind);
     contents_info(cx, own, kind.bound_vars(), &kind.parts())
@@ -148,15 +151,18 @@ fn contents_info(
 ) -> FlagComputation
     requires parts { AreParts (size cx.now.rows) (parts_shapes parts.now) }
     requires vars { (vars : BoundVarKinds) → bound_vars ≡ Some vars → vars.number < size cx.now.rows VarLists }
-    ensures { (sort : Sort) (form : Form (Label ℕ))
+    ensures info { (sort : Sort) (form : Form (Label ℕ))
         → parts.now ≡ form_parts form
         → bound_vars ≡ form_binder form
         → own.flags.bits ≡ own_flags sort form
         → own.outer_exclusive_binder ≡ own_reach form
         → IsInfo result (fill (meaning cx.now.rows) (form_shape sort form)) }
+    ensures fit { IndicesFitAmong (parts_shapes parts.now) }
 {
     cx.are_rows();
     let inside = parts_info(cx, parts);
+    // A region's index is below the greatest, since the number that the parts reach is an index too.
+    let _fits = inside.outer_exclusive_binder.as_u32();
     match bound_vars {
         Some(vars) => own.joined(inside.under_binder(cx.info(vars).flags)),
         None => own.joined(inside),

@@ -1,8 +1,9 @@
 //! The interner.
 
 ghost use Rattle.tt_index.specs.Greatest.{greatest};
-ghost use Rattle.std.specs.Prelude.{◌≡◌, ◌<◌, IfOk, IfErr, min};
-ghost use Rattle.tt_interner.specs.Rows.{AreRows};
+ghost use Rattle.std.specs.Prelude.{◌≡◌, ◌<◌, ◌≤◌, IfOk, IfErr, min};
+ghost use Rattle.tt_kinds.specs.declared.table.Table.{Table};
+ghost use Rattle.tt_interner.specs.Rows.{AreRows, size};
 ghost use Rattle.tt_interner.specs.Stored.{first_rows, HasFirst};
 ghost use Rattle.tt_interner.specs.Laws.{AreInterned};
 
@@ -140,10 +141,12 @@ impl Interner {
         })
     }
 
-    /// Does nothing. The contract gives callers the facts that hold for all rows.
+    /// Does nothing. The contract gives callers the facts that hold for all rows. No table has more rows than
+    /// [`Interner::limit`].
     pub fn are_rows(&self)
         ensures are { AreRows self.now.rows }
         ensures first { HasFirst self.now.rows }
+        ensures within { (table : Table) → size self.now.rows table ≤ self.now.limit }
     {
         let _order = &self.order;
     }
@@ -154,6 +157,13 @@ impl Interner {
         ensures { AreInterned self.now.rows }
     {
         self.are_rows();
+    }
+
+    /// Returns how many rows each table may have at most.
+    pub fn limit(&self) -> u32
+        ensures { result ≡ self.now.limit }
+    {
+        self.limit
     }
 
     /// Returns the allocator of the tables.

@@ -4,6 +4,7 @@
 mod children;
 mod collect;
 pub mod env;
+mod fitting;
 pub mod flag_computation;
 pub mod flags;
 pub mod handle;
@@ -14,6 +15,7 @@ mod tables;
 pub mod ty_info;
 
 pub use env::{ConstBounds, ConstTyFault, FindConstTy};
+pub use fitting::{few_rows_fit, stored_indices_fit, stored_values_fit};
 pub use flag_computation::ForKind;
 pub use flags::Flags;
 pub use handle::{AsClause, AsPredicate, InternedKind, InternedList, InternedText};

@@ -11,6 +11,7 @@ use Rattle.tt_kinds.specs.Shape.{Shape, Shapes, param, bound, region, term, node
 use Rattle.tt_kinds.specs.Kinds as kinds
 use Rattle.tt_kinds.specs.Kinds.{Form, region_shape, arg_shape, child_shapes, parts_shapes, form_parts, form_shape}
 use Rattle.tt_kinds.specs.Values.{assumption_shape}
+use Rattle.tt_kinds.specs.RegionKind.{IsShallow}
 use Rattle.tt_kinds.specs.declared.table.Table.{Table}
 use Rattle.tt_kinds.specs.declared.region_kind.RegionKind.{RegionKind}
 use Rattle.tt_kinds.specs.declared.region_kind.RegionKind.TheVariants.{ReEarlyParam, ReBound, ReLateParam, ReStatic, ReVar, RePlaceholder, ReErased, ReError}
@@ -86,6 +87,17 @@ append-unbound (also s ss) us h k = let rest = append-unbound ss us (omega arith
 
 pub parts-unbound : (p : Parts) → binders_among (parts_shapes p) ≡ 0
 parts-unbound p = append-unbound (child_shapes p.first) (child_shapes p.second) (child-unbound p.first) (child-unbound p.second)
+
+-- a region that can be built
+pub shallow_region-fits : (r : RegionKind) → IsShallow r → IndicesFitIn (region_shape r)
+shallow_region-fits (ReEarlyParam p) h = tt
+shallow_region-fits (ReBound i b) h = h
+shallow_region-fits (ReLateParam p) h = tt
+shallow_region-fits ReStatic h = tt
+shallow_region-fits (ReVar v) h = tt
+shallow_region-fits (RePlaceholder p) h = tt
+shallow_region-fits ReErased h = tt
+shallow_region-fits (ReError e) h = tt
 
 -- the parts of a kind, from what they reach
 pub parts-fit : (f : Meaning) (p : Parts) → greatest_reach_all (read_all 0 (fill_all f (parts_shapes p))) ≤ greatest → IndicesFitAmong (parts_shapes p)

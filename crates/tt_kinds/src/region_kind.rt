@@ -92,6 +92,7 @@ impl Region {
     ghost use Rattle.tt_kinds.specs.Shape.{Meaning, fill};
     ghost use Rattle.tt_kinds.specs.Kinds.{region_shape};
     ghost use Rattle.tt_kinds.specs.Scan.{scan};
+    ghost use Rattle.tt_kinds.specs.Range.{IndicesFitIn};
     ghost use Rattle.tt_kinds.specs.Reading.{outer_binder};
 
     /// Returns the region of this kind. Refused with `GreatestIndex` if it is a bound region with the greatest index,
@@ -129,6 +130,7 @@ impl Region {
     pub fn in_range(self) -> bool
         ensures holds { IsTrue result }
         ensures shallow { IsShallow self }
+        ensures fit { IndicesFitIn (region_shape self) }
     {
         self.kind.is_shallow()
     }

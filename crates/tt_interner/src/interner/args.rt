@@ -26,6 +26,8 @@ impl Interner {
         ensures { Builds result (λ list. list.number) self.old self.new (args_row items.now) }
     {
         let info = items_info(self, items);
+        // A region's index is below the greatest, since the number that the items reach is an index too.
+        let _fits = info.outer_exclusive_binder.as_u32();
         let number = match find_or_add_list(
             &mut self.order,
             self.limit,
@@ -64,6 +66,7 @@ impl Interner {
         ensures { Builds result (λ list. list.number) self.old self.new (args_row items.items) }
     {
         let info = items_info(self, items.as_slice());
+        let _fits = info.outer_exclusive_binder.as_u32();
         let number = match find_or_insert(
             &mut self.order,
             self.limit,

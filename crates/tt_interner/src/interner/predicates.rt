@@ -7,12 +7,11 @@ ghost use Rattle.tt_interner.specs.Rows.{predicate_row, clauses_row, size, AreCl
 ghost use Rattle.tt_interner.specs.Stored.{Builds};
 
 use super::Interner;
-use crate::flag_computation::{ForKind, items_info};
+use crate::flag_computation::{items_info, kind_info};
 use crate::handle::{AsPredicate, InternedKind, InternedList};
 use crate::tables::{find_or_add, find_or_add_list, find_or_insert, key_at};
-use tt_flags::FlagComputation;
 use tt_index::Refusal;
-use tt_kinds::{Binder, Clause, ClauseKind, Clauses, Predicate, PredicateKind, Table};
+use tt_kinds::{Binder, Clause, ClauseKind, Clauses, Kind, Predicate, PredicateKind, Table};
 
 impl Interner {
     /// Returns the predicate of this kind under this binder. Every handle and name in it has to be this interner's;
@@ -24,7 +23,7 @@ impl Interner {
         requires { HasParts (size self.old.rows) (predicate_kind_shape kind) }
         ensures { Builds result (λ handle. handle.number) self.old self.new (predicate_row kind) }
     {
-        let info = FlagComputation::for_predicate(self, &kind);
+        let info = kind_info(self, &Kind::Predicate(kind));
         let number = match find_or_add(
             &mut self.order,
             self.limit,

@@ -20,7 +20,7 @@ invariant_of-self-2 c =
     let many = count _ _ _ c.self.invariant.tables Symbols (λ k. text_row (string_bytes k)) (λ v. no_info) c.self.inside.symbols.entries refl in
     let is = ap (with_entries (tables c.self.inside) Symbols) (entries_by-added (λ k. string_bytes k) text_row (λ v. no_info) c.self.inside.symbols.entries _ c.args.text.now tt c.in-Ok.ensures.entries) in
     kept c.self.inside.order.items _ (tables c.self.inside) _ _ _ _ c.self.view_is c.self.invariant _ is c.in-Ok.ensures.order _ (c.in-Ok.ensures.number.0 ∙ many) c.in-Ok.ensures.number.1
-    (tt, tt) (λ deep. deep) tt c.requires (info_node _ _ (text_label c.args.text.now) refl)
+    (tt, tt) tt tt c.requires (info_node _ _ (text_label c.args.text.now) refl)
 
 pub returns : goal.returns
 returns c =

@@ -17,7 +17,7 @@ invariant_of-self-2 c =
     let is = ap (with_entries (tables c.self.inside) Declarations) (declared_entries-added c.self.inside.declarations.items _ _ _ c.in-Ok.ensures.declarations counted) in
     let new = declared_new _ _ _ c.self.invariant.tables c.self.inside.declarations.items refl _ _ counted in
     kept c.self.inside.order.items _ (tables c.self.inside) _ _ _ _ c.self.view_is c.self.invariant _ is c.in-Ok.ensures.order _ (c.in-Ok.ensures.number.0 ∙ many) c.in-Ok.ensures.number.1
-    (c.requires, tt) (λ deep. deep) tt (subst (λ v. IsNew (declared_row (size c.args.self.now.rows Declarations) (record { kind = c.args.kind; name = c.args.name })) v.rows) c.self.view_is new) (info_node _ _ (declaration_label _ c.args.kind c.args.name.number) refl)
+    (c.requires, tt) tt tt (subst (λ v. IsNew (declared_row (size c.args.self.now.rows Declarations) (record { kind = c.args.kind; name = c.args.name })) v.rows) c.self.view_is new) (info_node _ _ (declaration_label _ c.args.kind c.args.name.number) refl)
 
 pub returns : goal.returns
 returns c =

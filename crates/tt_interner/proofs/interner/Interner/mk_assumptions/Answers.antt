@@ -4,6 +4,8 @@ use Rattle.tt_interner.specs.Rows.{assumptions_row}
 use Rattle.tt_interner.specs.Kept.{tables}
 use Rattle.tt_kinds.specs.declared.table.Table.TheVariants.{AssumptionLists}
 use Rattle.tt_interner.proofs.InfoLaws.{info_list}
+use Rattle.tt_interner.specs.Rows.{meaning}
+use Rattle.tt_kinds.proofs.RangeLaws.{assumptions-fit}
 use Rattle.tt_interner.proofs.TableLaws.{entries_by-added}
 use Rattle.tt_interner.proofs.PutSteps.{few, put_kept, built, built_refused}
 use Rattle.tt_interner.proofs.Keys.{assumptions_key}
@@ -15,7 +17,7 @@ find_or_add_list-requires c = few c.self.inside.order.items (tables c.self.insid
 pub invariant_of-self-2 : goal.invariant_of-self-2
 invariant_of-self-2 c = put_kept c.self.inside.order.items (tables c.self.inside) _ _ _ c.self.view_is c.self.invariant (λ k. assumptions_row k.items) _ (assumptions_row c.args.items.now) (assumptions_key (λ k. k.items) c.args.items.now) c.self.inside.assumption_lists.entries refl c.items_info-info.result (info_list _ _ AssumptionLists _ c.items_info-info.ensures)
     _ _ refl _ c.in-Ok.ensures.found _ refl c.in-Ok.ensures.order (λ none. entries_by-added (λ k. k.items) assumptions_row (λ v. v) c.self.inside.assumption_lists.entries _ c.args.items.now c.items_info-info.result (c.in-Ok.ensures.entries none)) c.in-Ok.ensures.number
-    (tt, c.requires) (λ deep. deep) tt
+    (tt, c.requires) (let reached = c.items_info-info.ensures.outer in assumptions-fit (meaning c.args.self.now.rows) c.args.items.now (rw (← reached, ← c.as_u32-fits.ensures.number) c.as_u32-fits.ensures.fits)) tt
 
 pub returns : goal.returns
 returns c = built c.self.inside.order.items (tables c.self.inside) _ _ _ c.self.view_is c.self.invariant (λ k. assumptions_row k.items) _ (assumptions_row c.args.items.now) (assumptions_key (λ k. k.items) c.args.items.now) c.self.inside.assumption_lists.entries refl c.items_info-info.result (info_list _ _ AssumptionLists _ c.items_info-info.ensures)

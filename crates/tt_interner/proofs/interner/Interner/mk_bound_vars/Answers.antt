@@ -17,7 +17,7 @@ find_or_add_list-requires c = few c.self.inside.order.items (tables c.self.insid
 pub invariant_of-self-2 : goal.invariant_of-self-2
 invariant_of-self-2 c = put_kept c.self.inside.order.items (tables c.self.inside) _ _ _ c.self.view_is c.self.invariant (λ k. vars_row k.items) _ (vars_row c.args.items.now) (vars_key (λ k. k.items) c.args.items.now) c.self.inside.var_lists.entries refl c.vars_info-info.result (info_node _ _ (var_list_label (map var_kind c.args.items.now)) c.vars_info-info.ensures)
     _ _ refl _ c.in-Ok.ensures.found _ refl c.in-Ok.ensures.order (λ none. entries_by-added (λ k. k.items) vars_row (λ v. v) c.self.inside.var_lists.entries _ c.args.items.now c.vars_info-info.result (c.in-Ok.ensures.entries none)) c.in-Ok.ensures.number
-    c.requires (λ deep. deep) tt
+    c.requires tt tt
 
 pub returns : goal.returns
 returns c = built c.self.inside.order.items (tables c.self.inside) _ _ _ c.self.view_is c.self.invariant (λ k. vars_row k.items) _ (vars_row c.args.items.now) (vars_key (λ k. k.items) c.args.items.now) c.self.inside.var_lists.entries refl c.vars_info-info.result (info_node _ _ (var_list_label (map var_kind c.args.items.now)) c.vars_info-info.ensures)

@@ -5,6 +5,8 @@ use Rattle.tt_interner.specs.Kept.{tables}
 use Rattle.tt_kinds.specs.Label.{clause_list_label}
 use Rattle.tt_interner.proofs.ClauseLaws.{clauses_in_range}
 use Rattle.tt_interner.proofs.InfoLaws.{info_term}
+use Rattle.tt_kinds.specs.Kinds.{clause_shape}
+use Rattle.tt_kinds.proofs.RangeLaws.{items-fit}
 use Rattle.tt_interner.proofs.TableLaws.{entries_by-added}
 use Rattle.tt_interner.proofs.PutSteps.{few, put_kept, built, built_refused}
 use Rattle.tt_interner.proofs.Keys.{clauses_key}
@@ -19,7 +21,7 @@ find_or_add_list-requires c = few c.self.inside.order.items (tables c.self.insid
 pub invariant_of-self-2 : goal.invariant_of-self-2
 invariant_of-self-2 c = put_kept c.self.inside.order.items (tables c.self.inside) _ _ _ c.self.view_is c.self.invariant (λ k. clauses_row k.items) _ (clauses_row c.args.items.now) (clauses_key (λ k. k.items) c.args.items.now) c.self.inside.clause_lists.entries refl c.items_info-info.result (info_term _ _ clause_list_label _ refl c.items_info-info.ensures)
     _ _ refl _ c.in-Ok.ensures.found _ refl c.in-Ok.ensures.order (λ none. entries_by-added (λ k. k.items) clauses_row (λ v. v) c.self.inside.clause_lists.entries _ c.args.items.now c.items_info-info.result (c.in-Ok.ensures.entries none)) c.in-Ok.ensures.number
-    (tt, clauses_in_range _ c.args.items.now c.requires) (λ deep. deep) c.requires
+    (tt, clauses_in_range _ c.args.items.now c.requires) (items-fit clause_shape (λ x. tt) c.args.items.now) c.requires
 
 pub returns : goal.returns
 returns c = built c.self.inside.order.items (tables c.self.inside) _ _ _ c.self.view_is c.self.invariant (λ k. clauses_row k.items) _ (clauses_row c.args.items.now) (clauses_key (λ k. k.items) c.args.items.now) c.self.inside.clause_lists.entries refl c.items_info-info.result (info_term _ _ clause_list_label _ refl c.items_info-info.ensures)

@@ -12,19 +12,19 @@ pub find_or_add-requires-clause-few : goal.find_or_add-requires-clause-few
 find_or_add-requires-clause-few c = few c.self.inside.order.items (tables c.self.inside) _ _ _ c.self.view_is c.self.invariant existential_row _ (existential_row c.args.kind) (existential_key c.args.kind) c.self.inside.existentials.entries refl
 
 pub find_or_add-requires-clause-same : goal.find_or_add-requires-clause-same
-find_or_add-requires-clause-same c = same c.self.inside.order.items (tables c.self.inside) _ _ _ c.self.view_is c.self.invariant existential_row _ (existential_row c.args.kind) (existential_key c.args.kind) c.self.inside.existentials.entries refl c.kind_info-info.result c.kind_info-info.ensures
+find_or_add-requires-clause-same c = same c.self.inside.order.items (tables c.self.inside) _ _ _ c.self.view_is c.self.invariant existential_row _ (existential_row c.args.kind) (existential_key c.args.kind) c.self.inside.existentials.entries refl c.kind_info-info.result c.kind_info-info.ensures.info
 
 pub invariant_of-self-2 : goal.invariant_of-self-2
-invariant_of-self-2 c = put_kept c.self.inside.order.items (tables c.self.inside) _ _ _ c.self.view_is c.self.invariant existential_row _ (existential_row c.args.kind) (existential_key c.args.kind) c.self.inside.existentials.entries refl c.kind_info-info.result c.kind_info-info.ensures
+invariant_of-self-2 c = put_kept c.self.inside.order.items (tables c.self.inside) _ _ _ c.self.view_is c.self.invariant existential_row _ (existential_row c.args.kind) (existential_key c.args.kind) c.self.inside.existentials.entries refl c.kind_info-info.result c.kind_info-info.ensures.info
     _ _ refl _ c.in-Ok.ensures.found _ refl c.in-Ok.ensures.order (λ none. ap (entries_by existential_row (λ v. v)) (c.in-Ok.ensures.entries none) ∙ entries_by-push existential_row (λ v. v) c.self.inside.existentials.entries c.args.kind c.kind_info-info.result) c.in-Ok.ensures.number
-    c.requires (λ deep. deep) tt
+    c.requires c.kind_info-info.ensures.fit tt
 
 pub returns : goal.returns
-returns c = built c.self.inside.order.items (tables c.self.inside) _ _ _ c.self.view_is c.self.invariant existential_row _ (existential_row c.args.kind) (existential_key c.args.kind) c.self.inside.existentials.entries refl c.kind_info-info.result c.kind_info-info.ensures
+returns c = built c.self.inside.order.items (tables c.self.inside) _ _ _ c.self.view_is c.self.invariant existential_row _ (existential_row c.args.kind) (existential_key c.args.kind) c.self.inside.existentials.entries refl c.kind_info-info.result c.kind_info-info.ensures.info
     _ _ refl _ c.in-Ok.ensures.found _ refl c.in-Ok.ensures.order (λ none. ap (entries_by existential_row (λ v. v)) (c.in-Ok.ensures.entries none) ∙ entries_by-push existential_row (λ v. v) c.self.inside.existentials.entries c.args.kind c.kind_info-info.result) c.in-Ok.ensures.number
     (λ handle. handle.number) c.from_number.result (ap (λ handle. handle.number) c.from_number.ensures) (λ deep. deep)
 
 pub returns-in-Err : goal.returns-in-Err
-returns-in-Err c = built_refused c.self.inside.order.items (tables c.self.inside) _ _ _ c.self.view_is c.self.invariant existential_row _ (existential_row c.args.kind) (existential_key c.args.kind) c.self.inside.existentials.entries refl c.kind_info-info.result c.kind_info-info.ensures
+returns-in-Err c = built_refused c.self.inside.order.items (tables c.self.inside) _ _ _ c.self.view_is c.self.invariant existential_row _ (existential_row c.args.kind) (existential_key c.args.kind) c.self.inside.existentials.entries refl c.kind_info-info.result c.kind_info-info.ensures.info
     _ _ refl _ c.in-Err.ensures.found _ refl c.in-Err.ensures.order_stays c.in-Err.ensures.entries_stay c.in-Err.ensures.cause c.in-Err.ensures.full
     (λ handle. handle.number) (λ deep. deep)

@@ -4,6 +4,8 @@ use Rattle.tt_interner.specs.Rows.{tys_row}
 use Rattle.tt_interner.specs.Kept.{tables}
 use Rattle.tt_kinds.specs.declared.table.Table.TheVariants.{TypeLists}
 use Rattle.tt_interner.proofs.InfoLaws.{info_list}
+use Rattle.tt_kinds.specs.Kinds.{ty_shape}
+use Rattle.tt_kinds.proofs.RangeLaws.{items-fit}
 use Rattle.tt_interner.proofs.TableLaws.{entries_by-added}
 use Rattle.tt_interner.proofs.PutSteps.{few, put_kept, built, built_refused}
 use Rattle.tt_interner.proofs.Keys.{tys_key}
@@ -15,7 +17,7 @@ find_or_add_list-requires c = few c.self.inside.order.items (tables c.self.insid
 pub invariant_of-self-2 : goal.invariant_of-self-2
 invariant_of-self-2 c = put_kept c.self.inside.order.items (tables c.self.inside) _ _ _ c.self.view_is c.self.invariant (λ k. tys_row k.items) _ (tys_row c.args.items.now) (tys_key (λ k. k.items) c.args.items.now) c.self.inside.type_lists.entries refl c.items_info-info.result (info_list _ _ TypeLists _ c.items_info-info.ensures)
     _ _ refl _ c.in-Ok.ensures.found _ refl c.in-Ok.ensures.order (λ none. entries_by-added (λ k. k.items) tys_row (λ v. v) c.self.inside.type_lists.entries _ c.args.items.now c.items_info-info.result (c.in-Ok.ensures.entries none)) c.in-Ok.ensures.number
-    (tt, c.requires) (λ deep. deep) tt
+    (tt, c.requires) (items-fit ty_shape (λ x. tt) c.args.items.now) tt
 
 pub returns : goal.returns
 returns c = built c.self.inside.order.items (tables c.self.inside) _ _ _ c.self.view_is c.self.invariant (λ k. tys_row k.items) _ (tys_row c.args.items.now) (tys_key (λ k. k.items) c.args.items.now) c.self.inside.type_lists.entries refl c.items_info-info.result (info_list _ _ TypeLists _ c.items_info-info.ensures)

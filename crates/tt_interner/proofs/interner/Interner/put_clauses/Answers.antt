@@ -6,6 +6,8 @@ use Rattle.tt_interner.specs.Kept.{tables}
 use Rattle.tt_kinds.specs.Label.{clause_list_label}
 use Rattle.tt_interner.proofs.ClauseLaws.{clauses_in_range}
 use Rattle.tt_interner.proofs.InfoLaws.{info_term}
+use Rattle.tt_kinds.specs.Kinds.{clause_shape}
+use Rattle.tt_kinds.proofs.RangeLaws.{items-fit}
 use Rattle.tt_interner.proofs.TableLaws.{entries_by-push}
 use Rattle.tt_interner.proofs.PutSteps.{few, same, put_kept, built, built_refused}
 use Rattle.tt_interner.proofs.Keys.{clauses_key}
@@ -23,7 +25,7 @@ find_or_insert-requires-clause-same c = same c.self.inside.order.items (tables c
 pub invariant_of-self-2 : goal.invariant_of-self-2
 invariant_of-self-2 c = put_kept c.self.inside.order.items (tables c.self.inside) _ _ _ c.self.view_is c.self.invariant (λ k. clauses_row k.items) _ (clauses_row c.args.items.items) (clauses_key (λ k. k.items) c.args.items.items) c.self.inside.clause_lists.entries refl c.items_info-info.result (info_term _ _ clause_list_label _ refl (rw c.as_slice.ensures.value at c.items_info-info.ensures))
     _ _ refl _ c.in-Ok.ensures.found _ refl c.in-Ok.ensures.order (λ none. ap (entries_by (λ k. clauses_row k.items) (λ v. v)) (c.in-Ok.ensures.entries none) ∙ entries_by-push (λ k. clauses_row k.items) (λ v. v) c.self.inside.clause_lists.entries c.args.items c.items_info-info.result) c.in-Ok.ensures.number
-    (tt, clauses_in_range _ c.args.items.items c.requires) (λ deep. deep) c.requires
+    (tt, clauses_in_range _ c.args.items.items c.requires) (items-fit clause_shape (λ x. tt) c.args.items.items) c.requires
 
 pub returns : goal.returns
 returns c = built c.self.inside.order.items (tables c.self.inside) _ _ _ c.self.view_is c.self.invariant (λ k. clauses_row k.items) _ (clauses_row c.args.items.items) (clauses_key (λ k. k.items) c.args.items.items) c.self.inside.clause_lists.entries refl c.items_info-info.result (info_term _ _ clause_list_label _ refl (rw c.as_slice.ensures.value at c.items_info-info.ensures))

@@ -12,19 +12,19 @@ pub find_or_add-requires-clause-few : goal.find_or_add-requires-clause-few
 find_or_add-requires-clause-few c = few c.self.inside.order.items (tables c.self.inside) _ _ _ c.self.view_is c.self.invariant type_row _ (type_row c.args.kind.now) (type_key c.args.kind.now) c.self.inside.types.entries refl
 
 pub find_or_add-requires-clause-same : goal.find_or_add-requires-clause-same
-find_or_add-requires-clause-same c = same c.self.inside.order.items (tables c.self.inside) _ _ _ c.self.view_is c.self.invariant type_row _ (type_row c.args.kind.now) (type_key c.args.kind.now) c.self.inside.types.entries refl c.ty_kind_info-info.result c.ty_kind_info-info.ensures
+find_or_add-requires-clause-same c = same c.self.inside.order.items (tables c.self.inside) _ _ _ c.self.view_is c.self.invariant type_row _ (type_row c.args.kind.now) (type_key c.args.kind.now) c.self.inside.types.entries refl c.ty_kind_info-info.result c.ty_kind_info-info.ensures.info
 
 pub invariant_of-self-2 : goal.invariant_of-self-2
-invariant_of-self-2 c = put_kept c.self.inside.order.items (tables c.self.inside) _ _ _ c.self.view_is c.self.invariant type_row _ (type_row c.args.kind.now) (type_key c.args.kind.now) c.self.inside.types.entries refl c.ty_kind_info-info.result c.ty_kind_info-info.ensures
+invariant_of-self-2 c = put_kept c.self.inside.order.items (tables c.self.inside) _ _ _ c.self.view_is c.self.invariant type_row _ (type_row c.args.kind.now) (type_key c.args.kind.now) c.self.inside.types.entries refl c.ty_kind_info-info.result c.ty_kind_info-info.ensures.info
     _ _ refl _ c.in-Ok.ensures.found _ refl c.in-Ok.ensures.order (λ none. ap (entries_by type_row (λ v. v)) (c.in-Ok.ensures.entries none) ∙ entries_by-push type_row (λ v. v) c.self.inside.types.entries c.args.kind.now c.ty_kind_info-info.result) c.in-Ok.ensures.number
-    c.requires.parts c.requires.shallow tt
+    c.requires.parts c.ty_kind_info-info.ensures.fit tt
 
 pub returns : goal.returns
-returns c = put c.self.inside.order.items (tables c.self.inside) _ _ _ c.self.view_is c.self.invariant type_row _ (type_row c.args.kind.now) (type_key c.args.kind.now) c.self.inside.types.entries refl c.ty_kind_info-info.result c.ty_kind_info-info.ensures
+returns c = put c.self.inside.order.items (tables c.self.inside) _ _ _ c.self.view_is c.self.invariant type_row _ (type_row c.args.kind.now) (type_key c.args.kind.now) c.self.inside.types.entries refl c.ty_kind_info-info.result c.ty_kind_info-info.ensures.info
     _ _ refl _ c.in-Ok.ensures.found _ refl c.in-Ok.ensures.order (λ none. ap (entries_by type_row (λ v. v)) (c.in-Ok.ensures.entries none) ∙ entries_by-push type_row (λ v. v) c.self.inside.types.entries c.args.kind.now c.ty_kind_info-info.result) c.in-Ok.ensures.number
     (λ ty. ty.number) c.from_number.result (ap (λ ty. ty.number) c.from_number.ensures)
 
 pub returns-in-Err : goal.returns-in-Err
-returns-in-Err c = put_refused c.self.inside.order.items (tables c.self.inside) _ _ _ c.self.view_is c.self.invariant type_row _ (type_row c.args.kind.now) (type_key c.args.kind.now) c.self.inside.types.entries refl c.ty_kind_info-info.result c.ty_kind_info-info.ensures
+returns-in-Err c = put_refused c.self.inside.order.items (tables c.self.inside) _ _ _ c.self.view_is c.self.invariant type_row _ (type_row c.args.kind.now) (type_key c.args.kind.now) c.self.inside.types.entries refl c.ty_kind_info-info.result c.ty_kind_info-info.ensures.info
     _ _ refl _ c.in-Err.ensures.found _ refl c.in-Err.ensures.order_stays c.in-Err.ensures.entries_stay c.in-Err.ensures.cause c.in-Err.ensures.full
     (λ ty. ty.number)

@@ -5,6 +5,8 @@ use Rattle.tt_interner.specs.Rows.{tys_row}
 use Rattle.tt_interner.specs.Kept.{tables}
 use Rattle.tt_kinds.specs.declared.table.Table.TheVariants.{TypeLists}
 use Rattle.tt_interner.proofs.InfoLaws.{info_list}
+use Rattle.tt_kinds.specs.Kinds.{ty_shape}
+use Rattle.tt_kinds.proofs.RangeLaws.{items-fit}
 use Rattle.tt_interner.proofs.TableLaws.{entries_by-push}
 use Rattle.tt_interner.proofs.PutSteps.{few, same, put_kept, built, built_refused}
 use Rattle.tt_interner.proofs.Keys.{tys_key}
@@ -19,7 +21,7 @@ find_or_insert-requires-clause-same c = same c.self.inside.order.items (tables c
 pub invariant_of-self-2 : goal.invariant_of-self-2
 invariant_of-self-2 c = put_kept c.self.inside.order.items (tables c.self.inside) _ _ _ c.self.view_is c.self.invariant (λ k. tys_row k.items) _ (tys_row c.args.items.items) (tys_key (λ k. k.items) c.args.items.items) c.self.inside.type_lists.entries refl c.items_info-info.result (info_list _ _ TypeLists _ (rw c.as_slice.ensures.value at c.items_info-info.ensures))
     _ _ refl _ c.in-Ok.ensures.found _ refl c.in-Ok.ensures.order (λ none. ap (entries_by (λ k. tys_row k.items) (λ v. v)) (c.in-Ok.ensures.entries none) ∙ entries_by-push (λ k. tys_row k.items) (λ v. v) c.self.inside.type_lists.entries c.args.items c.items_info-info.result) c.in-Ok.ensures.number
-    (tt, c.requires) (λ deep. deep) tt
+    (tt, c.requires) (items-fit ty_shape (λ x. tt) c.args.items.items) tt
 
 pub returns : goal.returns
 returns c = built c.self.inside.order.items (tables c.self.inside) _ _ _ c.self.view_is c.self.invariant (λ k. tys_row k.items) _ (tys_row c.args.items.items) (tys_key (λ k. k.items) c.args.items.items) c.self.inside.type_lists.entries refl c.items_info-info.result (info_list _ _ TypeLists _ (rw c.as_slice.ensures.value at c.items_info-info.ensures))
