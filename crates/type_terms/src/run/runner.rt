@@ -6,7 +6,7 @@ ghost use Rattle.type_terms.specs.declared.run.call.Call.{Call};
 ghost use Rattle.tt_interner.specs.Stored.{Terms, Extends};
 ghost use Rattle.type_terms.specs.Told.{told, told_all, setting, IsOwned, AreOwned};
 ghost use Rattle.type_terms.specs.Means.{id_positions, AreTerms, IsAllowed, Means};
-ghost use Rattle.type_terms.specs.Build.{AddsAnswer};
+ghost use Rattle.type_terms.specs.Runner.{AddsAnswer, AnswersInTurn};
 
 use crate::run::answer::Answer;
 use crate::run::answers::folds::{erase_at, instantiate_at, shift_at};
@@ -33,6 +33,7 @@ pub fn run_calls(cx: &mut Interner, calls: &[Call]) -> Result<Vec<Answer>, Refus
         []
         calls.now
         (told_all cx.new.rows answers.items)) }
+    ensures in_turn { IfOk result (λ answers. AnswersInTurn cx.old cx.new [] calls.now answers.items) }
     ensures cause { IfErr result (λ e. e ≡ Refusal.Memory) }
 {
     let mut answers = Vec::with_capacity(cx.allocator(), calls.len())?;
