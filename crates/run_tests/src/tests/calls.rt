@@ -547,7 +547,7 @@ fn known_part_call(alloc: Global, number: u32) -> Result<Call, AllocError> {
 }
 
 // Returns a call of this number of a list, which instantiates a parameter. The second names an argument that can't be
-// stored if there is room for one symbol.
+// stored in full tables: there is room for `'_`, which is there from the start, and for the parameter's name.
 fn parameter_call(alloc: Global, number: u32) -> Result<Call, AllocError> {
     match number {
         1 => Ok(Call::Ty(TyCall::Param {
@@ -576,7 +576,7 @@ fn parameter_call(alloc: Global, number: u32) -> Result<Call, AllocError> {
 #[test]
 fn parameters_in_full_tables(rt: HostRuntime) -> Result<(), Fail> {
     let wanted = "type type yes refused refused none ";
-    check_within(&rt, rt.alloc(), 1, Subject::Parameters, 6, wanted)
+    check_within(&rt, rt.alloc(), 2, Subject::Parameters, 6, wanted)
 }
 
 // A type that a call stored as a part of its answer is built again in a full table.
