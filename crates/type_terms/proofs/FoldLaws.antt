@@ -1,13 +1,14 @@
 -- The calls that fold terms, and the arguments of calls, over plain variables.
-use Rattle.std.proofs.Common.{◌≡◌, ◌<◌, ℕ, false, inl, inr, List, [], ◌∷◌, ◌++◌, Some, None, Option, Result, Ok, Err, refl, ap, sym, ◌∙◌, subst}
+use Rattle.std.proofs.Common.{◌≡◌, ◌<◌, ℕ, inl, inr, List, [], ◌∷◌, ◌++◌, Some, None, Option, Result, Ok, Err, refl, ap, sym, ◌∙◌, subst}
 use Rattle.std.specs.Prelude.{IsErrAnd, IsSomeAnd, ◌⊎◌}
 use Rattle.std.specs.declared.alloc.Global.{Global}
 use Rattle.std.specs.declared.vec.Vec.{Vec}
 use Rattle.std.proofs.lemmas.List.{map-append}
 use Rattle.tt_index.specs.declared.refusal.Refusal.{Refusal}
 use Rattle.tt_index.specs.declared.refusal.Refusal.TheVariants.{Memory, TableFull, GreatestIndex, NoArguments, ArgOutOfRange, ArgKind, RegionVariable, NotAClause, NoSuchAnswer}
-use Rattle.tt_kinds.specs.Label.{region_sort, type_sort, const_sort}
-use Rattle.tt_kinds.specs.Tree.{Tree, Depth, Place}
+use Rattle.tt_kinds.specs.Label.{Name, Sort, region_sort, type_sort, const_sort}
+use Rattle.tt_kinds.specs.Tree.{Tree, Depth, Place, param}
+use Rattle.tt_kinds.specs.Cause.{Cause}
 use Rattle.tt_kinds.specs.Argument.{Argument, put, readings}
 use Rattle.tt_kinds.specs.Param.{holds_param}
 use Rattle.tt_kinds.specs.Reading.{read, move, outer_binder}
@@ -27,6 +28,7 @@ use Rattle.tt_interner.specs.Stored.{Terms, Extends}
 use Rattle.tt_binder.specs.Arguments.{argument_of}
 use Rattle.tt_binder.specs.ArgumentLaws.{arguments-still}
 use Rattle.tt_binder.specs.Instance.{HasNoCause, IsPlain, IsReason, ComesBack}
+use Rattle.tt_binder.proofs.HookLaws.{param_by_index}
 use Rattle.tt_binder.proofs.InstanceLaws.{instance_back}
 use Rattle.type_terms.specs.declared.run.answer.Answer.{Answer}
 use Rattle.type_terms.specs.declared.run.answer.Answer.TheVariants as answer
@@ -38,7 +40,8 @@ use Rattle.type_terms.specs.declared.run.call.Call.TheVariants as call
 use Rattle.type_terms.specs.CallForm.{Named, one, a_term, region_tree, IsRegionTooDeep, item_positions, items_positions, IsItemTooDeep, AreItemsTooDeep, arg_item, arg_items, args_ids}
 use Rattle.type_terms.specs.Told.{Told, term, told, told_all, AreOwned, HasFullTable, Setting, setting}
 use Rattle.type_terms.specs.Means as means
-use Rattle.type_terms.specs.Means.{IsUnchanged, AddsNothing, NamesTerms, too_deep, Term, term_at, number_at, tree_at, positions, AreTerms, Suits, Tells, argument, arguments, IsAllowed, MayRefuse, want_of_memory, full_table, no_term, unfit, unsuited}
+use Rattle.type_terms.specs.Means.{IsUnchanged, IsParameter, IsParameterOf, AddsNothing, NamesTerms, too_deep, Term, term_at, number_at, tree_at, positions, AreTerms, Suits, Tells, argument, arguments, IsAllowed, MayRefuse, want_of_memory, full_table, no_term, unfit, unsuited}
+use Rattle.type_terms.specs.Room.{IsForRoom}
 use Rattle.type_terms.specs.Build.{IsUnusable, IsUsable, IsAnswerAt, IsHandle, IsUnchangedAt, IsUnbuilt, IsPartOf, IsRegionOf, IsArgumentOf, GivesArgument, AreArgumentsOf, GivesArguments}
 use Rattle.type_terms.proofs.PartLaws.{AreTerms-append, all_placed-grow, items-none, items-more}
 use Rattle.type_terms.proofs.LookupLaws.{told-at, in_range-at, ty-handle, const-handle, pat-handle, predicate-handle, clauses-handle, args-handle}
@@ -100,6 +103,18 @@ absent-refused P rows earlier n ns c q w r i h =
 pub full-table : (terms : Terms) (u : Tree Depth) → Stored.IsUnbuilt terms u TableFull → HasFullTable terms
 full-table terms u h = record { table = row_table h.row; full = h.full }
 
+-- the tree of a term that is itself a parameter
+pub parameter-tree : (s : Sort) (i : ℕ) (v : Term) → IsParameterOf s i v → (name : Name) × (v.tree ≡ param s i name)
+parameter-tree type_sort i v h = param_by_index type_sort i v.tree h.1
+parameter-tree const_sort i v h = param_by_index const_sort i v.tree h.1
+parameter-tree region_sort i v h = absurd h
+
+-- want of room is no cause
+cause-no-room : (t : Tree Depth) (args : List (Argument Depth)) (r : Refusal) → Cause t args r → IsForRoom r → ⊥
+cause-no-room t args Memory h room = h
+cause-no-room t args TableFull h room = h
+cause-no-room t args _ h room = room
+
 module _ (e : List Told) (p : ℕ) (table : Table) (u : Tree Depth) (at : term_at e p ≡ Some (record { table = table; tree = u })) where
   is_term : IsSomeAnd (term_at e p) (λ t. Unit {0})
   is_term = rw at tt
@@ -140,10 +155,10 @@ module _ (e : List Told) (p : ℕ) (table : Table) (u : Tree Depth) (at : term_a
     named = AreTerms-append e (args_ids list.items) (items_positions (arg_items list.items)) ids items
 
     -- why an instantiation that builds is refused
-    inst-reason : (old new : Terms) (r : Refusal) → (((list.items ≡ []) × (holds_param (tree_at e p) ≡ false)) ⊎ IsSomeAnd (term_at e p) IsUnchanged → ⊥)
+    inst-reason : (old new : Terms) (r : Refusal) → (AddsNothing (setting old new) e (call.Instantiate p list) → IsForRoom r → ⊥)
         → IsReason new (arguments e list.items) (tree_at e p) r → MayRefuse (setting old new) e (call.Instantiate p list) r
-    inst-reason old new Memory g h = want_of_memory (tt, g) refl
-    inst-reason old new TableFull g h = full_table (tt, g) (full-table new h.0 h.2) refl
+    inst-reason old new Memory g h = want_of_memory (tt, λ a. g a tt) refl
+    inst-reason old new TableFull g h = full_table (tt, λ a. g a tt) (full-table new h.0 h.2) refl
     inst-reason old new GreatestIndex g h = unfit (is_term, named) h refl
     inst-reason old new NoArguments g h = unsuited (is_term, named) h
     inst-reason old new (ArgOutOfRange i) g h = unsuited (is_term, named) h
@@ -153,11 +168,18 @@ module _ (e : List Told) (p : ℕ) (table : Table) (u : Tree Depth) (at : term_a
     inst-reason old new NoSuchAnswer g h = unsuited (is_term, named) h
 
     pub inst-refused : (old new : Terms) (args : List (Argument Depth)) (r : Refusal) → args ≡ arguments e list.items → (ComesBack args u → ⊥)
-        → (IsUnchanged (record { table = table; tree = u }) → ComesBack args u) → IsReason new args u r → MayRefuse (setting old new) e (call.Instantiate p list) r
-    inst-refused old new args r same g back h =
-        inst-reason old new r (λ a. elim a [
+        → (IsUnchanged (record { table = table; tree = u }) → ComesBack args u)
+        → ((s : Sort) (i : ℕ) (name : Name) → u ≡ param s i name → Cause (param s i name) args r)
+        → IsReason new args u r → MayRefuse (setting old new) e (call.Instantiate p list) r
+    inst-refused old new args r same g back caused h =
+        inst-reason old new r (λ a room. elim a [
           | inl b ↦ g (record { no_param = ap holds_param (sym tree-is) ∙ b.1; hides = inl (same ∙ ap (λ (cs : List ArgCall). arguments e cs) b.0) })
-          | inr b ↦ g (back (subst (λ (o : Option Term). IsSomeAnd o IsUnchanged) at b))
+          | inr b ↦ elim (subst (λ (o : Option Term). IsSomeAnd o (λ v. IsUnchanged v ⊎ IsParameter v)) at b) [
+            | inl kept ↦ g (back kept)
+            | inr whole ↦
+                let found = parameter-tree whole.0 whole.1 (record { table = table; tree = u }) whole.2 in
+                cause-no-room (param whole.0 whole.1 found.0) args r (caused whole.0 whole.1 found.0 found.1) room
+          ]
         ])
         (subst (λ (t : Tree Depth). IsReason new (arguments e list.items) t r) (sym tree-is)
         (subst (λ (ys : List (Argument Depth)). IsReason new ys u r) same h))
@@ -180,8 +202,12 @@ unchanged-back rows args table n w h = record { no_param = h.0; hides = inr h.1 
 
 -- why an instantiation adds nothing
 pub inst-adds : (s : Setting) (e : List Told) (p : ℕ) (list : Vec ArgCall Global) {P : Type 0} → AddsNothing s e (call.Instantiate p list)
-    → (list.items ≡ [] → P) → (IsSomeAnd (term_at e p) IsUnchanged → P) → P
-inst-adds s e p list a f g = elim a [ inl b ↦ f b.0 | inr b ↦ g b ]
+    → (list.items ≡ [] → P) → (IsSomeAnd (term_at e p) IsUnchanged → P) → (IsSomeAnd (term_at e p) IsParameter → P) → P
+inst-adds s e p list {P = P} a f g h = elim a [ inl b ↦ f b.0 | inr b ↦ either (term_at e p) b g h ]
+  where
+    either : (o : Option Term) → IsSomeAnd o (λ u. IsUnchanged u ⊎ IsParameter u) → (IsSomeAnd o IsUnchanged → P) → (IsSomeAnd o IsParameter → P) → P
+    either None b g h = absurd b
+    either (Some u) b g h = elim b [ inl x ↦ g x | inr x ↦ h x ]
 
 -- arguments that can't be used are a reason
 pub unusable-refused : (s : Setting) (e : List Told) (c : Call) (ns : List Named) (deep : Type 0) (r : Refusal) → (NamesTerms e c → AreTerms e ns) → (deep → means.IsTooDeep e c)

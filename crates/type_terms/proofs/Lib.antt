@@ -12,6 +12,7 @@ pub mod BuildLaws
 pub mod NameLaws
 pub mod KindLaws
 pub mod FoldLaws
+pub mod ParameterLaws
 pub mod EraseLaws
 pub mod QueryLaws
 pub mod DeclareLaws

@@ -15,7 +15,7 @@ use Rattle.tt_kinds.specs.Declaration.{sort_of}
 use Rattle.tt_interner.specs.Rows.{Row, declared_row, text_row, table, row_table, row_shape, size, AreRows, Grows}
 use Rattle.tt_interner.specs.Declarations.{declared_at, declaration_of}
 use Rattle.tt_interner.specs.Stored.{Terms, Extends}
-use Rattle.tt_interner.proofs.Growth.{Extends-refl, size-grows, in_range-grows, meaning-grows}
+use Rattle.tt_interner.proofs.Growth.{Extends-refl, Extends-trans, size-grows, in_range-grows, meaning-grows}
 use Rattle.tt_interner.proofs.DeclarationLaws.{declared_at-grows}
 use Rattle.tt_interner.specs.Env.{row_at}
 use Rattle.tt_interner.proofs.Trees.{Means-row}
@@ -26,6 +26,7 @@ use Rattle.type_terms.specs.declared.run.answer.Answer.{Answer}
 use Rattle.type_terms.specs.declared.run.answer.Answer.TheVariants as answer
 use Rattle.type_terms.specs.Told.{Told, term, declared, truth, info, refused, bad, told, told_all, IsOwned, AreOwned, HasFullTable, IsStored, Setting, setting}
 use Rattle.type_terms.specs.Means.{AddsNothing, Grows as GrowsIn, MayRefuse, want_of_memory, full_table, no_term, too_deep, unfit, unsuited, Declares, IsAllowed, Means}
+use Rattle.type_terms.specs.Runner.{AddsAnswer, IsAnswered, AnswersInTurn}
 
 -- the name of a declaration's row is a text
 name-in-row : (bounds : Sizes) (q : Row) → row_table q ≡ Declarations → HasParts bounds (row_shape q) → (declaration_of q).name.number < bounds Symbols
@@ -92,6 +93,10 @@ pub AreOwned-append : (rows : List Row) (answers : List Answer) (a : Answer) →
     → AreOwned rows (answers ++ a ∷ [])
 AreOwned-append rows [] a h k = (k, tt)
 AreOwned-append rows (b ∷ answers) a h k = (h.0, AreOwned-append rows answers a h.1 k)
+
+pub AreOwned-last : (rows : List Row) (answers : List Answer) (a : Answer) → AreOwned rows (answers ++ a ∷ []) → IsOwned rows a
+AreOwned-last rows [] a h = h.0
+AreOwned-last rows (b ∷ answers) a h = AreOwned-last rows answers a h.1
 
 -- a full table stays full
 pub HasFullTable-extends : (old new : Terms) → Extends old new → HasFullTable old → HasFullTable new
@@ -160,14 +165,28 @@ Means-append s e (d ∷ cs) [] c t h k = absurd h
 Means-append s e (d ∷ cs) (u ∷ ts) c t h k =
     (h.0, Means-append s (e ++ u ∷ []) cs ts c t h.1 (subst (λ (x : List Told). IsAllowed s x c t) (sym (append_assoc e (u ∷ []) ts)) k))
 
+-- one call more, in turn
+pub AnswersInTurn-append : (old mid new : Terms) (e : List Answer) (cs : List Call) (bs : List Answer) (c : Call) (a : Answer)
+    → AnswersInTurn old mid e cs bs → IsAnswered mid new (e ++ bs) c a → AnswersInTurn old new e (cs ++ c ∷ []) (bs ++ a ∷ [])
+AnswersInTurn-append old mid new e [] [] c a h k = (new, rw append-nil at (rw h at k), refl)
+AnswersInTurn-append old mid new e [] (b ∷ bs) c a h k = absurd h
+AnswersInTurn-append old mid new e (d ∷ cs) [] c a h k = absurd h
+AnswersInTurn-append old mid new e (d ∷ cs) (b ∷ bs) c a h k = (
+  h.0,
+  h.1,
+  AnswersInTurn-append h.0 mid new (e ++ b ∷ []) cs bs c a h.2
+      (subst (λ (x : List Answer). IsAnswered mid new x c a) (sym (append_assoc e (b ∷ []) bs)) k),
+)
+
 -- the answers belong to the calls, from the terms at the start
 pub record Ran (start now : Terms) (calls : List Call) (answers : List Answer) : Type 0 where
   pub extends : Extends start now
   pub owned : AreOwned now.rows answers
   pub means : Means (setting start now) [] calls (told_all now.rows answers)
+  pub in_turn : AnswersInTurn start now [] calls answers
 
 pub ran-nothing : (terms : Terms) → Ran terms terms [] []
-ran-nothing terms = record { extends = Extends-refl terms; owned = tt; means = tt }
+ran-nothing terms = record { extends = Extends-refl terms; owned = tt; means = tt; in_turn = refl }
 
 -- a call after those that were answered, whatever they were
 pub ran-more : (start old new : Terms) (calls : List Call) (answers : List Answer) (c : Call) (a : Answer)
@@ -182,3 +201,19 @@ ran-more start old new calls answers c a x h are e k m =
     (Means-append (setting start new) [] calls (told_all old.rows answers) c (told new.rows a)
     (Means-wider (setting start old) (setting start new) (HasFullTable-extends old new e) (omega arith) (λ t u i. i) [] calls (told_all old.rows answers) m)
     (IsAllowed-wider (setting old new) (setting start new) (λ f. f) more (IsStored-grows start.rows old.rows x.rows) (told_all old.rows answers) c (told new.rows a) k))
+
+-- a run goes on by the call that is answered next
+pub ran-next : (start old new : Terms) (calls : List Call) (answers after : List Answer) (c : Call) → Ran start old calls answers → Extends old new → AreOwned new.rows after
+    → AddsAnswer old new answers c after
+    → ((first : Terms) (before : List Call) → Extends first old → Means (setting first old) [] before (told_all old.rows answers)
+    → Means (setting first new) [] (before ++ c ∷ []) (told_all new.rows after))
+    → Ran start new (calls ++ c ∷ []) after
+ran-next start old new calls answers after c ran e owned adds means =
+    let last = AreOwned-last new.rows answers adds.answer (rw adds.added at owned) in
+    record {
+      extends = Extends-trans ran.extends e;
+      owned = owned;
+      means = means start calls ran.extends ran.means;
+      in_turn = rw adds.added
+          (AnswersInTurn-append start old new [] calls answers c adds.answer ran.in_turn (record { extends = e; owned = last; allowed = adds.allowed }));
+    }

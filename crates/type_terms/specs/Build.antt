@@ -1,5 +1,5 @@
 -- The promises of the steps of a building call.
-use Rattle.std.specs.Prelude.{◌≡◌, ◌↔◌, ℕ, ◌<◌, List, [], ◌∷◌, ◌++◌, map, Result, IfOk, IfErr, OnOk, Some, IsSome, IsSomeAnd, ⊤}
+use Rattle.std.specs.Prelude.{◌≡◌, ◌↔◌, ℕ, ◌<◌, List, [], map, Result, IfOk, IfErr, OnOk, Some, IsSome, IsSomeAnd, ⊤}
 use Rattle.tt_index.specs.declared.refusal.Refusal.{Refusal}
 use Rattle.tt_index.specs.declared.refusal.Refusal.TheVariants.{Memory, TableFull, GreatestIndex, NoSuchAnswer}
 use Rattle.tt_kinds.specs.Label.{var_list_label}
@@ -249,9 +249,3 @@ pub record Answers (old new : Terms) (earlier : List Told) (call : Call) (result
   pub owned : IfOk result (IsOwned new.rows)
   pub ok : IfOk result (λ a. IsAllowed (setting old new) earlier call (told new.rows a))
   pub err : IfErr result (MayRefuse (setting old new) earlier call)
-
--- the answers have one more, which may be the call's answer
-pub record AddsAnswer (old new : Terms) (before : List Answer) (call : Call) (after : List Answer) : Type 0 where
-  pub answer : Answer
-  pub added : after ≡ before ++ answer ∷ []
-  pub allowed : IsAllowed (setting old new) (told_all old.rows before) call (told new.rows answer)

@@ -4,6 +4,8 @@ pub mod Told
 pub mod Means
 pub mod Room
 pub mod Build
+pub mod Parameters
+pub mod Runner
 pub mod Text
 pub mod Spelling
 pub mod Pieces

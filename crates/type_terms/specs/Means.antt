@@ -3,7 +3,7 @@ use Rattle.std.specs.Prelude.{◌≡◌, ◌≢◌, ◌↔◌, ◌⊎◌, ℕ, �
 use Rattle.std.specs.String.{string_bytes}
 use Rattle.tt_index.specs.declared.refusal.Refusal.{Refusal}
 use Rattle.tt_index.specs.declared.refusal.Refusal.TheVariants.{Memory, TableFull, GreatestIndex, NoSuchAnswer}
-use Rattle.tt_kinds.specs.Label.{Name, region_sort, type_sort, const_sort, erased_region}
+use Rattle.tt_kinds.specs.Label.{Name, Sort, region_sort, type_sort, const_sort, erased_region}
 use Rattle.tt_kinds.specs.Tree as tree
 use Rattle.tt_kinds.specs.Tree.{Depth, Place, Tree}
 use Rattle.tt_kinds.specs.Reading.{read, move, outer_binder, Fits}
@@ -18,6 +18,7 @@ use Rattle.tt_kinds.specs.declared.table.Table.{Table}
 use Rattle.tt_kinds.specs.declared.table.Table.TheVariants.{Types, Consts, Patterns, Predicates, ClauseLists, ArgLists}
 use Rattle.tt_interner.specs.Clauses.{is_clause_tree}
 use Rattle.tt_interner.specs.Stored.{most_in_place}
+use Rattle.tt_binder.specs.Instantiation.{IsParam}
 use Rattle.tt_binder.specs.Untouched.{IsUntouched}
 use Rattle.type_terms.specs.declared.run.call.ArgCall.{ArgCall}
 use Rattle.type_terms.specs.declared.run.call.ArgCall.TheVariants as arg
@@ -230,7 +231,17 @@ IsThere s earlier table f = IsOfShortLists f × IsKnown s earlier table (form_tr
 abbrev pub IsUnchanged : Term → Type 0
 IsUnchanged u = IsUntouched u.tree
 
--- the call adds nothing: the term that it builds is there, or the term that it folds stays as it is
+-- the term is the parameter of this sort and index
+abbrev pub IsParameterOf : Sort → ℕ → Term → Type 0
+IsParameterOf type_sort i u = (u.table ≡ Types) × IsParam type_sort i u.tree
+IsParameterOf const_sort i u = (u.table ≡ Consts) × IsParam const_sort i u.tree
+IsParameterOf region_sort i u = ⊥
+
+-- the term is itself a parameter, of a type or of a constant: its instance is the argument that is told
+abbrev pub IsParameter : Term → Type 0
+IsParameter u = (s : Sort) × (i : ℕ) × IsParameterOf s i u
+
+-- the call adds nothing: the term that it builds is there, or the term that it folds stays as it is or is itself a parameter
 abbrev pub AddsNothing : Setting → List Told → Call → Type 0
 AddsNothing s earlier (call.Ty k) = IsThere s earlier Types (ty_form (number_at earlier) k)
 AddsNothing s earlier (call.Const k) = IsThere s earlier Consts (const_form (number_at earlier) k)
@@ -243,7 +254,7 @@ AddsNothing s earlier (call.Args args) =
 AddsNothing s earlier (call.Shift p n) = (n ≡ 0) ⊎ (outer_binder (tree_at earlier p) ≡ 0)
 AddsNothing s earlier (call.EraseRegions p) = met 0 (tree_at earlier p) ≡ []
 AddsNothing s earlier (call.Instantiate p args) =
-    ((args.items ≡ []) × (holds_param (tree_at earlier p) ≡ false)) ⊎ IsSomeAnd (term_at earlier p) IsUnchanged
+    ((args.items ≡ []) × (holds_param (tree_at earlier p) ≡ false)) ⊎ IsSomeAnd (term_at earlier p) (λ u. IsUnchanged u ⊎ IsParameter u)
 AddsNothing s earlier _ = ⊥
 
 -- the call may need memory or a row

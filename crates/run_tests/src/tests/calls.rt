@@ -50,6 +50,8 @@ enum Subject {
     KnownClauses,
     KnownPredicates,
     KnownTraitObjects,
+    KnownParts,
+    Parameters,
 }
 
 // Returns the call of this number of the subject's list.
@@ -69,6 +71,8 @@ fn call(alloc: Global, subject: Subject, number: u32) -> Result<Call, AllocError
         Subject::KnownClauses => known_clause_call(alloc, number),
         Subject::KnownPredicates => known_predicate_call(alloc, number),
         Subject::KnownTraitObjects => known_object_call(alloc, number),
+        Subject::KnownParts => known_part_call(alloc, number),
+        Subject::Parameters => parameter_call(alloc, number),
     }
 }
 
@@ -521,6 +525,65 @@ fn known_object_call(alloc: Global, number: u32) -> Result<Call, AllocError> {
         4 => Ok(Call::Equal(2, 3)),
         _ => trait_object(alloc, ExistentialKindCall::Trait(1, Vec::new(alloc))),
     }
+}
+
+// Returns a call of this number of a list. The sixth builds a type that the fifth stored as a part of its answer, and
+// that no answer is. The last type is new.
+fn known_part_call(alloc: Global, number: u32) -> Result<Call, AllocError> {
+    match number {
+        1 => Ok(Call::Ty(TyCall::Param {
+            index: 0,
+            name: String::from_str(alloc, "T")?,
+        })),
+        2 => Ok(Call::Ty(TyCall::Slice(1))),
+        3 => Ok(Call::Ty(TyCall::Slice(2))),
+        4 => Ok(Call::Ty(TyCall::Bool)),
+        5 => Ok(Call::Instantiate(3, vec![in alloc; ArgCall::Type(4)]?)),
+        6 => Ok(Call::Ty(TyCall::Slice(4))),
+        7 => Ok(Call::Ty(TyCall::Slice(6))),
+        8 => Ok(Call::Equal(5, 7)),
+        _ => Ok(Call::Ty(TyCall::Slice(7))),
+    }
+}
+
+// Returns a call of this number of a list, which instantiates a parameter. The second names an argument that can't be
+// stored in full tables: there is room for `'_`, which is there from the start, and for the parameter's name.
+fn parameter_call(alloc: Global, number: u32) -> Result<Call, AllocError> {
+    match number {
+        1 => Ok(Call::Ty(TyCall::Param {
+            index: 0,
+            name: String::from_str(alloc, "T")?,
+        })),
+        2 => {
+            let name = String::from_str(alloc, "'a")?;
+            let region = RegionCall::ReEarlyParam { index: 1, name };
+            Ok(Call::Instantiate(
+                1,
+                vec![in alloc; ArgCall::Type(1), ArgCall::Lifetime(region)]?,
+            ))
+        }
+        3 => Ok(Call::Equal(1, 2)),
+        4 => Ok(Call::Instantiate(1, Vec::new(alloc))),
+        5 => {
+            let region = RegionCall::ReStatic;
+            Ok(Call::Instantiate(1, vec![in alloc; ArgCall::Lifetime(region)]?))
+        }
+        _ => Ok(Call::Instantiate(1, vec![in alloc; ArgCall::Type(4)]?)),
+    }
+}
+
+// A parameter is replaced by its argument in full tables, and nothing is built for the other arguments.
+#[test]
+fn parameters_in_full_tables(rt: HostRuntime) -> Result<(), Fail> {
+    let wanted = "type type yes refused refused none ";
+    check_within(&rt, rt.alloc(), 2, Subject::Parameters, 6, wanted)
+}
+
+// A type that a call stored as a part of its answer is built again in a full table.
+#[test]
+fn known_parts_in_full_tables(rt: HostRuntime) -> Result<(), Fail> {
+    let wanted = "type type type type type type type yes refused ";
+    check_within(&rt, rt.alloc(), 6, Subject::KnownParts, 9, wanted)
 }
 
 // If a table is full, stored terms are built again, and new ones are refused.

@@ -3,5 +3,6 @@
 pub mod folds;
 pub mod ids;
 pub mod lookup;
+pub mod parameters;
 pub mod queries;
 pub mod term_handle;

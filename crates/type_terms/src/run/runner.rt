@@ -6,7 +6,7 @@ ghost use Rattle.type_terms.specs.declared.run.call.Call.{Call};
 ghost use Rattle.tt_interner.specs.Stored.{Terms, Extends};
 ghost use Rattle.type_terms.specs.Told.{told, told_all, setting, IsOwned, AreOwned};
 ghost use Rattle.type_terms.specs.Means.{id_positions, AreTerms, IsAllowed, Means};
-ghost use Rattle.type_terms.specs.Build.{AddsAnswer};
+ghost use Rattle.type_terms.specs.Runner.{AddsAnswer, AnswersInTurn};
 
 use crate::run::answer::Answer;
 use crate::run::answers::folds::{erase_at, instantiate_at, shift_at};
@@ -24,7 +24,19 @@ use tt_interner::Interner;
 
 /// Answers each call in order. A call's positions name the answers before it.
 ///
-/// The run is refused with `Memory` if there is no memory for the list of answers, and never otherwise.
+/// The run is refused with `Memory` if there is no memory for the list of answers, and never otherwise. If a call is
+/// refused, the calls after it are answered all the same.
+///
+/// Each answer is one that its call may have in the interner as the calls before it left it. In particular, these calls
+/// are refused with neither `Memory` nor `TableFull`:
+///
+/// - one that builds a term that is stored by then, even if it was stored as a part of another term and no answer is it.
+///   A term with a list of more than eight items (terms, arguments, existential predicates or variables of a binder) is
+///   excepted: its items are collected in memory before the list is looked up;
+/// - a shift by 0, or of a term that no variable escapes; an erasing of a term in which no region is met;
+/// - an instantiation of a type or a constant that is itself a parameter, of a term without parameters if there are no
+///   arguments, and of one in which no region variable is exposed either, whatever the arguments are;
+/// - `Equal`, `Info` and `Bad`.
 pub fn run_calls(cx: &mut Interner, calls: &[Call]) -> Result<Vec<Answer>, Refusal>
     ensures extends { Extends cx.old cx.new }
     ensures owned { IfOk result (λ answers. AreOwned cx.new.rows answers.items) }
@@ -33,6 +45,7 @@ pub fn run_calls(cx: &mut Interner, calls: &[Call]) -> Result<Vec<Answer>, Refus
         []
         calls.now
         (told_all cx.new.rows answers.items)) }
+    ensures in_turn { IfOk result (λ answers. AnswersInTurn cx.old cx.new [] calls.now answers.items) }
     ensures cause { IfErr result (λ e. e ≡ Refusal.Memory) }
 {
     let mut answers = Vec::with_capacity(cx.allocator(), calls.len())?;
@@ -46,7 +59,7 @@ pub fn run_calls(cx: &mut Interner, calls: &[Call]) -> Result<Vec<Answer>, Refus
 /// answers belong to the calls before this one, they are then the answers to all of the calls.
 ///
 /// Refused with `Memory` if the list of answers is full and cannot grow, and never otherwise. Then the answers are
-/// unchanged.
+/// unchanged. The appended answer is a refusal for want of memory only if it may be one in [`run_calls`].
 pub fn answer_next(cx: &mut Interner, answers: &mut Vec<Answer>, call: &Call) -> Result<(), Refusal>
     requires { AreOwned cx.old.rows answers.old.items }
     ensures extends { Extends cx.old cx.new }

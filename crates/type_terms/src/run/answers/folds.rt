@@ -15,11 +15,12 @@ ghost use Rattle.type_terms.specs.declared.run.call.Call.TheVariants.{
 };
 ghost use Rattle.type_terms.specs.CallForm.{args_ids};
 ghost use Rattle.type_terms.specs.Told.{Told, told, told_all, IsOwned, AreOwned};
-ghost use Rattle.type_terms.specs.Means.{as_term, term_at, AreTerms, IsUnchanged};
+ghost use Rattle.type_terms.specs.Means.{as_term, term_at, AreTerms, IsParameter, IsUnchanged};
 ghost use Rattle.type_terms.specs.Build.{Answers, AreArgumentsOf, IsUnchangedAt};
 
 use crate::run::answer::Answer;
 use crate::run::answers::lookup::answer_at;
+use crate::run::answers::parameters::{argument_for, parameter_at};
 use crate::run::answers::term_handle::TermHandle;
 use crate::run::build::lists::{build_args, check_args};
 use crate::run::call::ArgCall;
@@ -95,8 +96,9 @@ fn erased<T: TermHandle>(cx: &mut Interner, term: T) -> Result<Answer, Refusal>
     Ok(erased.into_answer())
 }
 
-/// Returns the term at the position, instantiated. The ids that the arguments name have to be there. A term with
-/// neither a parameter nor an exposed region variable is returned unchanged, and no argument is built.
+/// Returns the term at the position, instantiated. The ids that the arguments name have to be there. For a term that is
+/// itself a parameter, the term that its argument names is returned; a term with neither a parameter nor an exposed
+/// region variable is returned unchanged. In both cases no argument is built.
 pub fn instantiate_at(
     cx: &mut Interner,
     earlier: &[Answer],
@@ -104,6 +106,30 @@ pub fn instantiate_at(
     args: &[ArgCall],
 ) -> Result<Answer, Refusal>
     requires { AreOwned cx.old.rows earlier.now }
+    ensures extends { Extends cx.old cx.new }
+    ensures answers { (list : Vec ArgCall Global) →
+        list.items ≡ args.now →
+        AreTerms (told_all cx.old.rows earlier.now) (args_ids list.items) →
+        Answers cx.old cx.new (told_all cx.old.rows earlier.now) (Instantiates position list) result }
+{
+    match parameter_at(cx, earlier, position) {
+        Some(parameter) => {
+            check_args(cx, earlier, args)?;
+            argument_for(earlier, args, parameter)
+        }
+        None => instantiate_whole(cx, earlier, position, args),
+    }
+}
+
+// Returns the term at the position, instantiated, if it is not itself a parameter.
+fn instantiate_whole(
+    cx: &mut Interner,
+    earlier: &[Answer],
+    position: u32,
+    args: &[ArgCall],
+) -> Result<Answer, Refusal>
+    requires owned { AreOwned cx.old.rows earlier.now }
+    requires whole { IsSomeAnd (term_at (told_all cx.old.rows earlier.now) position) IsParameter → ⊥ }
     ensures extends { Extends cx.old cx.new }
     ensures answers { (list : Vec ArgCall Global) →
         list.items ≡ args.now →
@@ -170,6 +196,7 @@ fn instantiate_changed(
 ) -> Result<Answer, Refusal>
     requires owned { AreOwned cx.old.rows earlier.now }
     requires changes { IsSomeAnd (term_at (told_all cx.old.rows earlier.now) position) IsUnchanged → ⊥ }
+    requires whole { IsSomeAnd (term_at (told_all cx.old.rows earlier.now) position) IsParameter → ⊥ }
     ensures extends { Extends cx.old cx.new }
     ensures answers { (list : Vec ArgCall Global) →
         list.items ≡ args.now →

@@ -27,7 +27,7 @@ returns-in_err-args-clause-answers c = λ list same ids.
     answer-passed c.args.cx.now c.build_args.new.cx (told_all c.args.cx.now.rows c.args.earlier.now) (call.Instantiate c.args.position list) c.from_residual-in_err-args.result c.in_err-args.field-0.0 c.from_residual-in_err-args.ensures.1
     (unbuilt-refused (setting c.args.cx.now c.build_args.new.cx) (told_all c.args.cx.now.rows c.args.earlier.now) (call.Instantiate c.args.position list) (items_positions (arg_items list.items)) (AreItemsTooDeep (arg_items list.items))
     c.in_err-args.field-0.0 tt (λ a. inst-adds (setting c.args.cx.now c.build_args.new.cx) (told_all c.args.cx.now.rows c.args.earlier.now) c.args.position list a
-    (λ none. let built = c.in_err-args.ensures.none (sym same ∙ none) in absurd (cc)) (λ b. absurd (c.requires.changes b))) (λ h. AreTerms-second (told_all c.args.cx.now.rows c.args.earlier.now) (args_ids list.items) (items_positions (arg_items list.items)) h.1) (λ d. d) u)
+    (λ none. let built = c.in_err-args.ensures.none (sym same ∙ none) in absurd (cc)) (λ b. absurd (c.requires.changes b)) (λ b. absurd (c.requires.whole b))) (λ h. AreTerms-second (told_all c.args.cx.now.rows c.args.earlier.now) (args_ids list.items) (items_positions (arg_items list.items)) h.1) (λ d. d) u)
 
 pub instantiated-requires-clause-term : goal.instantiated-requires-clause-term
 instantiated-requires-clause-term c =

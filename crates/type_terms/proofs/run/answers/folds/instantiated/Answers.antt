@@ -18,6 +18,7 @@ returns-in_err-instance-clause-answers g c = λ e p list at ids args.
     c.args.cx.now c.instantiate.new.cx (arguments c.args.cx.now.rows c.args.args.now) c.in_err-instance.field-0.0 args.means
     (λ a. let came = ((rw (c.bind.ensures, g.met.T.TermHandle.is_stored c.args.term) at c.in_err-instance.ensures.promise.same) a).0 in absurd (cc))
     (unchanged-back c.args.cx.now.rows (arguments c.args.cx.now.rows c.args.args.now) g.T.TermHandle.table (g.T.TermHandle.number c.args.term) c.requires.term)
+    (rw (c.bind.ensures, g.met.T.TermHandle.is_stored c.args.term) at c.in_err-instance.ensures.promise.parameter)
     (rw (c.bind.ensures, g.met.T.TermHandle.is_stored c.args.term) at c.in_err-instance.ensures.promise.err))
 
 pub returns-clause-answers : goal.returns-clause-answers

@@ -1,0 +1,16 @@
+use Rattle.std.proofs.Common.{refl}
+use Rattle.tt_kinds.specs.declared.table.Table.TheVariants.{Consts}
+use Rattle.tt_interner.specs.Rows.{meaning, const_row}
+use Rattle.tt_interner.proofs.Trees.{Means-row}
+use Rattle.tt_binder.proofs.HookLaws.{const_param_found, const_param_none}
+use Rattle.type_terms.proofs.run.answers.parameters.const_parameter.Goals as goal
+
+pub returns-in-Param : goal.returns-in-Param
+returns-in-Param c =
+    let means = Means-row c.args.cx.now.rows c.are_rows.ensures.are Consts c.args.constant.number (const_row c.kind.result.now) c.kind.ensures in
+    (refl, rw (means.tree, c.in-Param.is) (const_param_found (meaning c.args.cx.now.rows) c.in-Param.parameter))
+
+pub returns-in_default : goal.returns-in_default
+returns-in_default c =
+    let means = Means-row c.args.cx.now.rows c.are_rows.ensures.are Consts c.args.constant.number (const_row c.kind.result.now) c.kind.ensures in
+    λ i h. const_param_none (meaning c.args.cx.now.rows) _ c.in_default.not-Param i (rw means.tree at h)
