@@ -31,6 +31,7 @@ pub mod CountLaws
 mod NoteLaws
 pub mod MemoryLaws
 mod TypesOnceLaws
+mod TypesOnceCalls
 mod TypesOnceSteps
 mod RegionFolderLaws
 mod RegionFolderSteps

@@ -82,7 +82,7 @@ pairs_none among n = record { pairs = []; distinct = tt; each = λ p h. absurd h
 
 abbrev mutual
   -- how many stored terms a tree has
-  size : Tree Depth → ℕ
+  pub size : Tree Depth → ℕ
   size (param s i name) = zero
   size (bound s d e) = zero
   size (region r) = zero
@@ -90,7 +90,7 @@ abbrev mutual
   size (node l ts) = size_all ts
   size (binder vs t) = size t
 
-  size_all : Forest Depth → ℕ
+  pub size_all : Forest Depth → ℕ
   size_all none = zero
   size_all (also t ts) = size t + size_all ts
 

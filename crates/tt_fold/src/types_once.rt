@@ -2,8 +2,8 @@
 
 ghost use Rattle.std.specs.Prelude.{IfErr, IfOk};
 ghost use Rattle.tt_interner.specs.Stored.{Extends};
-ghost use Rattle.tt_fold.specs.TypesOnce.{IsSteady, steadily};
-ghost use Rattle.tt_fold.specs.Steps.{IsPartBy, tree_by, errors_of};
+ghost use Rattle.tt_fold.specs.TypesOnce.{CallsOnce, FailsOnce, IsSteady, steadily};
+ghost use Rattle.tt_fold.specs.Steps.{IsErrorOfUnbuilt, IsPartBy, tree_by, errors_of};
 ghost use Rattle.tt_fold.specs.Walk.{Fails, Walks};
 
 use crate::core_folder::Core;
@@ -47,7 +47,7 @@ impl<F: TypeReplacer> Core<Once> for Recalling<F> {
 
     ghost owned = { λ rows s. IsPartBy F.TypeReplacer.shape rows s.folder × OwnsMemos rows s.memory };
 
-    ghost hooks = { recalling F.TypeReplacer.hooks };
+    ghost hooks = { recalling (tree_by F.TypeReplacer.shape) F.TypeReplacer.hooks };
 
     #[inline(always)]
     fn core_region(&mut self, _cx: &mut Interner, region: Region) -> Result<Region, F::Error> {
@@ -103,11 +103,13 @@ impl<F: TypeReplacer> Core<Once> for Recalling<F> {
 }
 
 /// Returns the value with its types replaced by the folder's results, as [`replace_types`](crate::replace_types) does.
-/// The folder's result has to depend on the type alone: its state has to mean the same after each call.
+/// The folder's result has to depend on the type alone: its state has to mean the same after each call. The state of a
+/// folder without handles always does; one with handles says so in its `hooks`.
 ///
-/// The result of a type that was taken apart is remembered until the call ends, so the type is taken apart once, at
-/// however many places it is. The resulting tree is one that a fold without memory gives. The errors are the errors of
-/// a fold without memory, and `Memory` also if the memory for the results of more than eight types is refused.
+/// The result of a type that the folder has taken apart is remembered until the call ends. So the folder answers
+/// `Descend` at most once at a type, at however many places it is, and the contents of the type are visited once. The
+/// resulting tree is one that a fold without memory gives. The errors are the errors of a fold without memory, and
+/// `Memory` also if the memory for the results of more than eight types is refused.
 pub fn replace_types_once<T: TypeFoldable, F: TypeReplacer + Drop>(
     cx: &mut Interner,
     value: T,
@@ -115,7 +117,7 @@ pub fn replace_types_once<T: TypeFoldable, F: TypeReplacer + Drop>(
 ) -> Result<T, F::Error>
     requires state { IsPartBy F.shape cx.old.rows folder }
     requires value { IsPartBy T.shape cx.old.rows value }
-    requires steady { IsSteady F.hooks }
+    requires steady { IsSteady F.shape F.hooks }
     ensures extends { Extends cx.old cx.new }
     ensures in_range { IfOk result (λ replaced. IsPartBy T.shape cx.new.rows replaced) }
     ensures plain { IfOk result (λ replaced. Walks
@@ -131,6 +133,20 @@ pub fn replace_types_once<T: TypeFoldable, F: TypeReplacer + Drop>(
         (tree_by T.shape cx.old.rows value)
         e
         tt) }
+    ensures once { IfOk result (λ replaced. CallsOnce
+        F.hooks
+        (tree_by F.shape cx.old.rows folder)
+        (tree_by T.shape cx.old.rows value)
+        cx.old.counters
+        cx.new.counters) }
+    ensures once_until { IfErr result (λ e. FailsOnce
+        F.hooks
+        (tree_by F.shape cx.old.rows folder)
+        (IsErrorOfUnbuilt F.Error.from_gives cx.new)
+        (tree_by T.shape cx.old.rows value)
+        cx.old.counters
+        e
+        cx.new.counters) }
 {
     let mut recalling = Recalling {
         folder,

@@ -1,8 +1,9 @@
 use Rattle.std.proofs.Common.{refl, sym, ◌∙◌}
 use Rattle.std.proofs.lemmas.Bool.{true≢false}
 use Rattle.tt_interner.proofs.Growth.{Extends-refl}
+use Rattle.tt_fold.specs.Steps.{tree_by}
 use Rattle.tt_fold.proofs.MemoryLaws.{note_owned}
-use Rattle.tt_fold.proofs.TypeLaws.{is-type}
+use Rattle.tt_fold.proofs.TypeLaws.{is-type, no-type}
 use Rattle.tt_fold.proofs.TypesOnceSteps.{noted_node}
 use Rattle.tt_fold.proofs.types_once.RecallingCoreOnce.core_after_term.Goals as goal
 
@@ -19,8 +20,17 @@ returns-in_ok-note-in-Ty g c =
         c.requires.rebuilt,
         (
           refl,
-          λ _. noted_node g.F.TypeReplacer.hooks c.args._cx.now.rows _ c.args._cx.now.counters c.args.self.now.memory c.note.new.self c.args.before c.args.rebuilt c.in-Ty.ty c.ty.result c.in-Ty.is c.ty.ensures put,
+          λ _. noted_node (tree_by g.F.TypeReplacer.shape) g.F.TypeReplacer.hooks c.args._cx.now.rows _ c.args._cx.now.counters c.args.self.now.memory c.note.new.self c.args.before c.args.rebuilt c.in-Ty.ty c.ty.result c.in-Ty.is c.ty.ensures put,
           λ other. absurd (true≢false (sym is ∙ rw c.in-Ty.is at other)),
         ),
       );
+    }
+
+pub returns-in_default : goal.returns-in_default
+returns-in_default g c =
+    let other = no-type c.args._cx.now.rows c.args.before c.in_default.not-Ty c.requires.before in
+    record {
+      extends = Extends-refl _;
+      is_owned = c.requires.owned;
+      outcome = (c.requires.rebuilt, (refl, (λ is_ty. absurd (true≢false (sym is_ty ∙ other))), λ _. refl));
     }

@@ -16,17 +16,17 @@ pub returns-in-Some-clause-goes : goal.returns-in-Some-clause-goes
 returns-in-Some-clause-goes g c =
     let is = is-type c.args.cx.now.rows c.in-Ty.ty (rw c.in-Ty.is at c.requires.node) in
     let known = c.in-Some.ensures.trees in
-    asks node.Ty ty_shape (λ _. refl) (λ _ _. refl) (recalling g.F.TypeReplacer.hooks) c.in-Ty.ty (Ok (step.Replace c.in-Some.after)) c.in-Ty.is (Extends-refl _) c.requires.owned
+    asks node.Ty ty_shape (λ _. refl) (λ _ _. refl) (recalling (tree_by g.F.TypeReplacer.shape) g.F.TypeReplacer.hooks) c.in-Ty.ty (Ok (step.Replace c.in-Some.after)) c.in-Ty.is (Extends-refl _) c.requires.owned
     (known.0, (λ _. recalled known.1, λ other. absurd (true≢false (sym is ∙ other))))
 
 pub returns-in-None-clause-goes : goal.returns-in-None-clause-goes
 returns-in-None-clause-goes g c =
     let is = is-type c.args.cx.now.rows c.in-Ty.ty (rw c.in-Ty.is at c.requires.node) in
     let extends = c.replace_ty.ensures.extends in
-    rw c.ty_step.ensures (asks node.Ty ty_shape (λ _. refl) (λ _ _. refl) (recalling g.F.TypeReplacer.hooks) c.in-Ty.ty c.replace_ty.result c.in-Ty.is extends
+    rw c.ty_step.ensures (asks node.Ty ty_shape (λ _. refl) (λ _ _. refl) (recalling (tree_by g.F.TypeReplacer.shape) g.F.TypeReplacer.hooks) c.in-Ty.ty c.replace_ty.result c.in-Ty.is extends
     (c.replace_ty.ensures.owned, OwnsMemos-still _ _ c.args.self.now.memory extends.rows c.requires.owned.1)
     (own_answer (tree_by g.F.TypeReplacer.shape) g.F.TypeReplacer.hooks _ c.args.cx.now c.replace_ty.new.cx c.args.self.now.folder c.replace_ty.new.self c.args.self.now.memory c.in-Ty.ty c.replace_ty.result
-    extends c.requires.owned.1 is c.replace_ty.ensures.result))
+    extends c.requires.owned.1 c.in-None.ensures.trees is c.replace_ty.ensures.result))
 
 pub returns-in_default-clause-goes : goal.returns-in_default-clause-goes
 returns-in_default-clause-goes g c =
