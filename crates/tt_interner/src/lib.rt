@@ -21,7 +21,6 @@ pub use flags::Flags;
 pub use handle::{AsClause, AsPredicate, InternedKind, InternedList, InternedText};
 pub use interner::{Interner, RegionName};
 pub use laws::{
-    equal_answers_are_same, equal_handles_for_equal_trees, growth_keeps_declarations,
-    growth_keeps_rows, growth_keeps_trees,
+    equal_handles_for_equal_trees, growth_keeps_declarations, growth_keeps_rows, growth_keeps_trees,
 };
 pub use ty_info::WithCachedTypeInfo;

@@ -101,7 +101,6 @@ pub use tt_interner::InternedText;
 pub use tt_interner::Interner;
 pub use tt_interner::RegionName;
 pub use tt_interner::WithCachedTypeInfo;
-pub use tt_interner::equal_answers_are_same;
 pub use tt_interner::equal_handles_for_equal_trees;
 pub use tt_interner::growth_keeps_declarations;
 pub use tt_interner::growth_keeps_rows;
