@@ -1,5 +1,5 @@
-//! A user's table of bindings. The contracts say that its handles are the interner's: when an entry is set or pushed, and
-//! whatever the interner builds.
+//! A user's table of bindings. The contracts say that its handles are the interner's: when an entry is set or pushed,
+//! and whatever the interner builds.
 
 ghost use Rattle.std.specs.Prelude.{IfOk};
 ghost use Rattle.tt_kinds.specs.Kinds.{ty_shape};
