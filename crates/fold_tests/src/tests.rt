@@ -2,6 +2,7 @@
 
 mod asked_again;
 mod binders;
+mod bindings;
 mod canonicalizer;
 mod containers;
 mod context;
@@ -11,12 +12,14 @@ mod full;
 mod guide;
 mod normalizer;
 mod one_clause;
+mod own_arguments;
 mod regions;
 mod remembering;
 mod replacers;
 mod resolver;
 mod sharing;
 mod shifted_once;
+mod taken_apart;
 mod users;
 mod visitors;
 

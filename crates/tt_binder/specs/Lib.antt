@@ -2,6 +2,8 @@ pub mod Arguments
 pub mod Shifted
 pub mod Sharing
 pub mod ArgumentLaws
+pub mod ArgsSlice
+pub mod ArgsSliceLaws
 pub mod Instantiation
 pub mod Instance
 pub mod Promise

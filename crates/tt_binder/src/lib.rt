@@ -2,6 +2,7 @@
 #![tactic(auto)]
 
 mod arg_folder;
+pub mod args_slice;
 pub mod instantiate;
 mod shifted;
 pub mod slice_like;
