@@ -34,5 +34,6 @@ mod TypesOnceLaws
 mod TypesOnceSteps
 mod RegionFolderLaws
 mod RegionFolderSteps
+mod LentLaws
 pub mod RegionAnswers
 mod Examples
