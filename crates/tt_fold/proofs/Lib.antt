@@ -35,5 +35,6 @@ mod TypesOnceCalls
 mod TypesOnceSteps
 mod RegionFolderLaws
 mod RegionFolderSteps
+mod LentLaws
 pub mod RegionAnswers
 mod Examples

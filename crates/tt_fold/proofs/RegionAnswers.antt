@@ -1,7 +1,7 @@
--- What a caller of `fold_regions` shows of its closure.
-use Rattle.std.proofs.Common.{ℕ, List, [], ◌∷◌}
+-- What a caller of `fold_regions` and `fold_regions_with` shows of its closure, and what it learns of the calls.
+use Rattle.std.proofs.Common.{◌≡◌, ℕ, List, [], ◌∷◌, ◌++◌, append-nil, append_assoc, refl, subst}
 use Rattle.tt_kinds.specs.declared.region_kind.RegionKind.{RegionKind}
-use Rattle.tt_fold.specs.RegionFolder.{HasName, AnswersEach, AnswersRegions}
+use Rattle.tt_fold.specs.RegionFolder.{HasName, RegionCall, AreMade, AnswersEach, AnswersRegions}
 
 -- A closure answers regions of the interner where an invariant says so that holds of it, and that each call keeps.
 module _ {F : Type 0} (step : F → RegionKind → ℕ → RegionKind → F → Type 0) (symbols : ℕ) (I : F → Type 0)
@@ -13,7 +13,26 @@ module _ {F : Type 0} (step : F → RegionKind → ℕ → RegionKind → F → 
   pub answers_by : (f : F) → I f → AnswersRegions step symbols f
   answers_by f i = record { at = λ calls. each_by calls f i }
 
--- so does one whose every answer has a name
-pub answers_always : {F : Type 0} (step : F → RegionKind → ℕ → RegionKind → F → Type 0) (symbols : ℕ)
-    → ((f : F) (r : RegionKind) (k : ℕ) (a : RegionKind) (g : F) → step f r k a g → HasName symbols a) → (f : F) → AnswersRegions step symbols f
-answers_always step symbols always f = answers_by step symbols (λ s. Unit {0}) (λ s r k a g i named h. (always s r k a g h, tt)) f tt
+module _ {F : Type 0} (step : F → RegionKind → ℕ → RegionKind → F → Type 0) (symbols : ℕ) (f : F) where
+  -- so does one whose answer has a name wherever the region has one, whatever state it is in
+  pub answers_always : ((p : F) (r : RegionKind) (k : ℕ) (a : RegionKind) (q : F) → HasName symbols r → step p r k a q → HasName symbols a) → AnswersRegions step symbols f
+  answers_always always = answers_by step symbols (λ p. Unit {0}) (λ p r k a q i named s. (always p r k a q named s, tt)) f tt
+
+  -- and one that a call leaves as it was, if its answers have names
+  pub answers_unchanged : ((r : RegionKind) (k : ℕ) (a : RegionKind) (q : F) → HasName symbols r → step f r k a q → HasName symbols a × (q ≡ f)) → AnswersRegions step symbols f
+  answers_unchanged answers =
+      answers_by step symbols (λ p. p ≡ f) (λ p r k a q is named s. answers r k a q named (subst (λ p'. step p' r k a q) is s)) f refl
+
+-- what shows it of most closures: `#[tactic(auto, using(tt_fold::proofs::RegionAnswers::region_answers))]`
+pub ruleset region_answers = (answers_always, answers_unchanged)
+
+-- What holds before the calls, and of the calls with one more wherever it holds of the ones before, holds of all that were made.
+module _ {F : Type 0} (step : F → RegionKind → ℕ → RegionKind → F → Type 0) (I : List RegionCall → F → Type 0)
+    (next : (before : List RegionCall) (c : RegionCall) (p q : F) → I before p → step p c.region c.depth c.answer q → I (before ++ (c ∷ [])) q) where
+  after_more : (before calls : List RegionCall) (p q : F) → I before p → AreMade step p calls q → I (before ++ calls) q
+  after_more before [] p q i made = subst (I (before ++ [])) made (rw (append-nil before) i)
+  after_more before (c ∷ calls) p q i made =
+      subst (λ all. I all q) (append_assoc before (c ∷ []) calls) (after_more (before ++ (c ∷ [])) calls made.0 q (next before c p made.0 i made.1) made.2)
+
+  pub after_calls : (calls : List RegionCall) (p q : F) → I [] p → AreMade step p calls q → I calls q
+  after_calls calls p q i made = after_more [] calls p q i made

@@ -166,19 +166,17 @@ module _ {F : Type 0} (step : F → RegionKind → ℕ → RegionKind → F → 
       let m = asks step (walks-quietly (region_hooks step) w).0 in
       record {
         calls = m.calls;
-        last = s'.state.closure;
         made = m.made;
         are_met = m.are_met;
         are_placed = m.are_placed [] ∙ ap (placed 0 t) (append-nil (answered names m.calls));
       }
 
   walk_ends : (names : ℕ → Name) (f : F) (counters : Counters) (terms : Terms) (t : Tree Depth) (e : Refusal) (s' : Standing (Asking F)) → KeepsClauses t
-      → Fails (keeps_counters (region_hooks step)) (refusals_of terms) (just_made step names f counters) t e s' → PlacesSome step names terms f t e
+      → Fails (keeps_counters (region_hooks step)) (refusals_of terms) (just_made step names f counters) t e s' → PlacesSome step names terms f t e s'.state.closure
   walk_ends names f counters terms t e s' keeps d =
       let m = asks_some step (refusals_of terms) (fails-quietly (region_hooks step) (refusals_of terms) d).0 keeps in
       record {
         calls = m.calls;
-        last = s'.state.closure;
         rest = m.rest;
         made = m.made;
         are_first = m.are_first;
@@ -189,15 +187,15 @@ module _ {F : Type 0} (step : F → RegionKind → ℕ → RegionKind → F → 
   walk_places_some names f counters terms t e s' fine d = walk_ends names f counters terms t e s' (keeps-fine t fine) d
 
 -- what a fold of regions of a whole value promises
-pub record IsFolded {F T : Type 0} (step : F → RegionKind → ℕ → RegionKind → F → Type 0) (shape : T → Shape) (f : F) (terms : Terms) (x : T) (result : Result T Refusal) (terms' : Terms) : Type 0 where
-  pub placed : IfOk result (λ y. Places step (names_in terms.rows) f (tree_by shape terms.rows x) (tree_by shape terms'.rows y))
-  pub err : IfErr result (λ e. PlacesSome step (names_in terms.rows) terms' f (tree_by shape terms.rows x) e)
+pub record IsFolded {F T : Type 0} (step : F → RegionKind → ℕ → RegionKind → F → Type 0) (shape : T → Shape) (f : F) (terms : Terms) (x : T) (result : Result T Refusal) (terms' : Terms) (last : F) : Type 0 where
+  pub placed : IfOk result (λ y. Places step (names_in terms.rows) f (tree_by shape terms.rows x) (tree_by shape terms'.rows y) last)
+  pub err : IfErr result (λ e. PlacesSome step (names_in terms.rows) terms' f (tree_by shape terms.rows x) e last)
 
 pub folded : {F S T : Type 0} {step : F → RegionKind → ℕ → RegionKind → F → Type 0} {owned : List Row → S → Type 0} {means : List Row → S → Asking F}
     {terms terms' : Terms} {s s' : S} {x : T} (shape : T → Shape) (f : F) (result : Result T Refusal)
     → Folds owned means (IsPartBy shape) (tree_by shape) (Walks (keeps_counters (region_hooks step))) (Fails (keeps_counters (region_hooks step)) (refusals_of terms')) terms s x result terms' s'
     → means terms.rows s ≡ record { closure = f; under = 0; names = names_in terms.rows } → KeepsClauses (tree_by shape terms.rows x)
-    → IsFolded step shape f terms x result terms'
+    → IsFolded step shape f terms x result terms' (means terms'.rows s').closure
 folded {step} {terms} {x} shape f (Ok y) d start keeps =
     record { placed = walk_places step (names_in terms.rows) f terms.counters (tree_by shape terms.rows x) _ _ (rw start at d.outcome.1); err = tt }
 folded {step} {terms} {terms'} {x} shape f (Err e) d start keeps =
@@ -208,5 +206,5 @@ pub not-some : (ms : List Met) → (ms ≢ [] → false ≡ true) → ms ≡ []
 not-some [] h = refl
 not-some (m ∷ ms) h = let never : false ≡ true = h (λ none. cc) in cc
 
-pub nothing_placed : {F : Type 0} (step : F → RegionKind → ℕ → RegionKind → F → Type 0) (names : ℕ → Name) (f : F) (t : Tree Depth) → met 0 t ≡ [] → Places step names f t t
-nothing_placed step names f t h = record { calls = []; last = f; made = refl; are_met = sym h; are_placed = sym (placed-none 0 t [] h) }
+pub nothing_placed : {F : Type 0} (step : F → RegionKind → ℕ → RegionKind → F → Type 0) (names : ℕ → Name) (f : F) (t : Tree Depth) → met 0 t ≡ [] → Places step names f t t f
+nothing_placed step names f t h = record { calls = []; made = refl; are_met = sym h; are_placed = sym (placed-none 0 t [] h) }

@@ -115,18 +115,18 @@ module _ {F : Type 0} (step : F → RegionKind → ℕ → RegionKind → F → 
   pub record AnswersRegions (symbols : ℕ) (f : F) : Type 0 where
     pub at : (calls : List (RegionKind × ℕ)) → AnswersEach symbols f calls
 
-  -- the closure was called at exactly the regions met in t, in order, and the answers are in their places in u
-  pub record Places (names : ℕ → Name) (f : F) (t u : Tree Depth) : Type 0 where
+  -- the closure f was called at exactly the regions met in t, in order, which left it as last, and the answers are in their
+  -- places in u
+  pub record Places (names : ℕ → Name) (f : F) (t u : Tree Depth) (last : F) : Type 0 where
     pub calls : List RegionCall
-    pub last : F
     pub made : AreMade f calls last
     pub are_met : asked names calls ≡ met 0 t
     pub are_placed : u ≡ placed 0 t (answered names calls)
 
-  -- the closure was called at the first of the regions met in t, in order, and then the fold was refused
-  pub record PlacesSome (names : ℕ → Name) (terms : Terms) (f : F) (t : Tree Depth) (e : Refusal) : Type 0 where
+  -- the closure f was called at exactly the first of the regions met in t, in order, which left it as last, and then the fold
+  -- was refused
+  pub record PlacesSome (names : ℕ → Name) (terms : Terms) (f : F) (t : Tree Depth) (e : Refusal) (last : F) : Type 0 where
     pub calls : List RegionCall
-    pub last : F
     pub rest : List Met
     pub made : AreMade f calls last
     pub are_first : asked names calls ++ rest ≡ met 0 t
@@ -162,13 +162,13 @@ module _ {F : Type 0} (step : F → RegionKind → ℕ → RegionKind → F → 
   abbrev pub just_made : (ℕ → Name) → F → Counters → Standing (Asking F)
   just_made names f counters = record { state = record { closure = f; under = 0; names = names }; counters = counters }
 
-  -- the walk of a new folder of regions calls the closure at the regions met, and places the answers
+  -- the walk of a new folder of regions calls its closure at exactly the regions met, and places the answers
   abbrev pub RegionFoldersPlace : Type 0
   RegionFoldersPlace = (names : ℕ → Name) (f : F) (counters : Counters) (t u : Tree Depth) (s' : Standing (Asking F)) →
-      Walks (keeps_counters region_hooks) (just_made names f counters) t u s' → Places names f t u
+      Walks (keeps_counters region_hooks) (just_made names f counters) t u s' → Places names f t u s'.state.closure
 
-  -- if it ends early, in a tree whose lists of clauses hold clauses alone, it called the closure at the first of them
+  -- if it ends early, in a tree whose lists of clauses hold clauses alone, it called its closure at exactly the first of them
   abbrev pub RegionFoldersPlaceSome : Type 0
   RegionFoldersPlaceSome = (names : ℕ → Name) (f : F) (counters : Counters) (terms : Terms) (t : Tree Depth) (e : Refusal) (s' : Standing (Asking F)) →
       ((u : Tree Depth) → StandsIn u t → IsNoClauseList u → ⊥) →
-      Fails (keeps_counters region_hooks) (refusals_of terms) (just_made names f counters) t e s' → PlacesSome names terms f t e
+      Fails (keeps_counters region_hooks) (refusals_of terms) (just_made names f counters) t e s' → PlacesSome names terms f t e s'.state.closure

@@ -28,7 +28,7 @@ mod walk;
 pub use foldable::{TypeFoldable, TypeSuperFoldable};
 pub use folder::{FallibleTypeFolder, Step, TypeFolder};
 pub use memory::{Memory, look_up};
-pub use region_folder::{RegionFolder, fold_regions, region_folders_place};
+pub use region_folder::{RegionFolder, fold_regions, fold_regions_with, region_folders_place};
 pub use region_replacer::{RegionReplacer, replace_regions};
 pub use shared::ClonesTree;
 pub use shift::{shift_region, shift_vars};

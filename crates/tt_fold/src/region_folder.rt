@@ -191,11 +191,12 @@ impl<F: FnMut(Region, DebruijnIndex) -> Region> TypeFolder for RegionFolder<F> {
 /// Refused with `Memory` if the memory for something new is refused, with `TableFull` if a term or a list of the result
 /// is not stored yet and its table has as many rows as it may have, and with `GreatestIndex` if more binders than the
 /// greatest index counts are nested. If there is no such region, the value itself is returned, the closure is not
-/// called, and nothing is built. The function follows the compiler's `fold_regions`.
+/// called, and nothing is built. The function follows the compiler's `fold_regions`. To use the closure again, or to
+/// read what it recorded, lend it to [`fold_regions_with`].
 pub fn fold_regions<T: TypeFoldable, F: FnMut(Region, DebruijnIndex) -> Region + Drop>(
     cx: &mut Interner,
     value: T,
-    f: F,
+    mut f: F,
 ) -> Result<T, Refusal>
     requires value { IsPartBy T.shape cx.old.rows value }
     requires callable { F.IsAlwaysCallable f }
@@ -206,18 +207,81 @@ pub fn fold_regions<T: TypeFoldable, F: FnMut(Region, DebruijnIndex) -> Region +
     ensures extends { Extends cx.old cx.new }
     ensures counters { cx.new.counters ≡ cx.old.counters }
     ensures in_range { IfOk result (λ folded. IsPartBy T.shape cx.new.rows folded) }
-    ensures placed { IfOk result (λ folded. Places (λ p region depth answer q. F.step p region depth answer q)
-        (names_in cx.old.rows) f (tree_by T.shape cx.old.rows value) (tree_by T.shape cx.new.rows folded)) }
-    ensures err { IfErr result (PlacesSome (λ p region depth answer q. F.step p region depth answer q)
-        (names_in cx.old.rows) cx.new f (tree_by T.shape cx.old.rows value)) }
+    ensures placed { IfOk result (λ folded. (last : F)
+        × Places (λ p region depth answer q. F.step p region depth answer q) (names_in cx.old.rows) f
+        (tree_by T.shape cx.old.rows value) (tree_by T.shape cx.new.rows folded) last) }
+    ensures err { IfErr result (λ refusal. (last : F)
+        × PlacesSome (λ p region depth answer q. F.step p region depth answer q) (names_in cx.old.rows) cx.new f
+        (tree_by T.shape cx.old.rows value) refusal last) }
     ensures same { met 0 (tree_by T.shape cx.old.rows value) ≡ [] → (result ≡ Ok value) × (cx.new ≡ cx.old) }
+{
+    fold_regions_with(cx, value, &mut f)
+}
+
+/// Does what [`fold_regions`] does, with a closure that is lent. So the caller has the closure afterwards, in the state
+/// that the calls left, also after a refusal: then it was called at the first of the regions. If there is no region to
+/// replace, the closure is as it was.
+pub fn fold_regions_with<T: TypeFoldable, F: FnMut(Region, DebruijnIndex) -> Region>(
+    cx: &mut Interner,
+    value: T,
+    f: &mut F,
+) -> Result<T, Refusal>
+    requires value { IsPartBy T.shape cx.old.rows value }
+    requires callable { F.IsAlwaysCallable f.old }
+    requires answers { AnswersRegions
+        (λ p region depth answer q. F.step p region depth answer q)
+        (size cx.old.rows Symbols)
+        f.old }
+    ensures extends { Extends cx.old cx.new }
+    ensures counters { cx.new.counters ≡ cx.old.counters }
+    ensures in_range { IfOk result (λ folded. IsPartBy T.shape cx.new.rows folded) }
+    ensures placed { IfOk result (λ folded.
+        Places (λ p region depth answer q. F.step p region depth answer q) (names_in cx.old.rows) f.old
+        (tree_by T.shape cx.old.rows value) (tree_by T.shape cx.new.rows folded) f.new) }
+    ensures err { IfErr result (λ refusal.
+        PlacesSome (λ p region depth answer q. F.step p region depth answer q) (names_in cx.old.rows) cx.new f.old
+        (tree_by T.shape cx.old.rows value) refusal f.new) }
+    ensures same { met 0 (tree_by T.shape cx.old.rows value) ≡ [] →
+        (result ≡ Ok value) × (cx.new ≡ cx.old) × (f.new ≡ f.old) }
+    ensures callable { F.IsAlwaysCallable f.new }
 {
     if !value.meets_regions(cx) {
         return Ok(value);
     }
+    fold_met_regions(cx, value, f)
+}
+
+// Does the same, and walks the value even if there is no region to replace.
+fn fold_met_regions<T: TypeFoldable, F: FnMut(Region, DebruijnIndex) -> Region>(
+    cx: &mut Interner,
+    value: T,
+    f: &mut F,
+) -> Result<T, Refusal>
+    requires value { IsPartBy T.shape cx.old.rows value }
+    requires callable { F.IsAlwaysCallable f.old }
+    requires answers { AnswersRegions
+        (λ p region depth answer q. F.step p region depth answer q)
+        (size cx.old.rows Symbols)
+        f.old }
+    ensures extends { Extends cx.old cx.new }
+    ensures counters { cx.new.counters ≡ cx.old.counters }
+    ensures in_range { IfOk result (λ folded. IsPartBy T.shape cx.new.rows folded) }
+    ensures placed { IfOk result (λ folded.
+        Places (λ p region depth answer q. F.step p region depth answer q) (names_in cx.old.rows) f.old
+        (tree_by T.shape cx.old.rows value) (tree_by T.shape cx.new.rows folded) f.new) }
+    ensures err { IfErr result (λ refusal.
+        PlacesSome (λ p region depth answer q. F.step p region depth answer q) (names_in cx.old.rows) cx.new f.old
+        (tree_by T.shape cx.old.rows value) refusal f.new) }
+    ensures callable { F.IsAlwaysCallable f.new }
+{
     // Each stored list of clauses holds clauses alone, so none with regions replaced is refused for an item.
     cx.are_rows();
-    let mut folder = RegionFolder::new(f);
+    let lent = |region: Region, depth: DebruijnIndex|
+        requires callable { F.IsAlwaysCallable f.now }
+        ensures callable { F.IsAlwaysCallable f.exit.now }
+        ensures stepped { F.step f.entry.now region depth result f.exit.now }
+    { f(region, depth) };
+    let mut folder = RegionFolder::new(lent);
     value.fold_with(cx, &mut folder)
 }
 

@@ -46,9 +46,9 @@ module _ {F : Type 0} (step : F → RegionKind → ℕ → RegionKind → F → 
   pub answers-regions : (symbols : ℕ) (f : F) → Erases f → AnswersRegions step symbols f
   answers-regions symbols f h = record { at = λ calls. each-erased symbols calls f h }
 
-  pub places-erased : (f : F) (t u : Tree Depth) → Erases f → Places step names f t u → u ≡ erased t
+  pub places-erased : (f : F) (t u : Tree Depth) → Erases f → (last : F) × Places step names f t u last → u ≡ erased t
   places-erased f t u h p =
-      p.are_placed ∙ ap (placed 0 t) (answers-erased p.calls f p.last h p.made ∙ ap (map (λ (m : Met). tree.region erased_region)) p.are_met)
+      p.1.are_placed ∙ ap (placed 0 t) (answers-erased p.1.calls f p.0 h p.1.made ∙ ap (map (λ (m : Met). tree.region erased_region)) p.1.are_met)
 
 -- where a closure answers regions with names as it is asked about such ones, it answers regions
 module _ {F : Type 0} (step : F → RegionKind → ℕ → RegionKind → F → Type 0) (symbols : ℕ)
@@ -102,10 +102,10 @@ module _ (e : List Told) (p : ℕ) (table : Table) (u : Tree Depth) (at : term_a
   erase-reason old new answers NoSuchAnswer g h = absurd h
 
   pub erase-refused : {F : Type 0} (step : F → RegionKind → ℕ → RegionKind → F → Type 0) (names : ℕ → Name) (f : F) (old new : Terms) (r : Refusal)
-      → (met 0 u ≡ [] → ⊥) → PlacesSome step names new f u r → MayRefuse (setting old new) e (call.EraseRegions p) r
+      → (met 0 u ≡ [] → ⊥) → (last : F) × PlacesSome step names new f u r last → MayRefuse (setting old new) e (call.EraseRegions p) r
   erase-refused step names f old new r g h =
-      erase-reason old new (answered names h.calls) r (subst (λ (t : Tree Depth). met 0 t ≡ [] → ⊥) (sym tree-is) g)
-      (subst (λ (t : Tree Depth). IsPlacingRefusal new t (answered names h.calls) r) (sym tree-is) h.refused)
+      erase-reason old new (answered names h.1.calls) r (subst (λ (t : Tree Depth). met 0 t ≡ [] → ⊥) (sym tree-is) g)
+      (subst (λ (t : Tree Depth). IsPlacingRefusal new t (answered names h.1.calls) r) (sym tree-is) h.1.refused)
 
   pub erase-allowed : (s : Setting) (v : Tree Depth) → v ≡ erased u → IsAllowed s e (call.EraseRegions p) (term table v)
   erase-allowed s v same = ((is_term, tt), (λ d. d), rw at refl, same ∙ ap erased (sym tree-is), λ r c. c)

@@ -50,6 +50,7 @@ pub use tt_fold::core_folder::Core;
 pub use tt_fold::core_folder::Fallible;
 pub use tt_fold::core_folder::Plain;
 pub use tt_fold::fold_regions;
+pub use tt_fold::fold_regions_with;
 pub use tt_fold::region_folders_place;
 pub use tt_fold::region_replacer::Regions;
 pub use tt_fold::replace_regions;
