@@ -33,6 +33,8 @@ pub mod MemoryLaws
 mod TypesOnceLaws
 mod TypesOnceCalls
 mod TypesOnceSteps
+pub mod KeptLaws
+pub mod FunctionalLaws
 mod RegionFolderLaws
 mod RegionFolderSteps
 mod LentLaws

@@ -13,7 +13,7 @@ use super::sharing::paired;
 use test_terms::{NOT_OWNED, bound_region, one_region, ref_ty, ty, u32_ty};
 use type_terms::{
     Binder, Interner, Owned, Refusal, Region, RegionKind, RegionReplacer, Step, Ty, TyKind,
-    TypeFoldable, TypeReplacer, replace_regions, replace_types, replace_types_once,
+    TypeFoldable, TypeReplacer, UintTy, replace_regions, replace_types, replace_types_once,
 };
 
 // Replaces each region by one.
@@ -203,4 +203,41 @@ fn a_shared_type_is_replaced_once_holds(cx: &mut Interner) -> Result<bool, Refus
 #[test]
 fn a_shared_type_is_replaced_once(rt: HostRuntime) {
     holds_anew(&rt, rt.alloc(), a_shared_type_is_replaced_once_holds);
+}
+
+// Replaces each `bool` by `u8`. It holds no handles and promises nothing of its hook.
+#[derive(Drop)]
+struct Bytes;
+
+impl TypeReplacer for Bytes {
+    type Error = Refusal;
+
+    fn replace_ty(&mut self, cx: &mut Interner, ty: Ty) -> Result<Step<Ty>, Refusal> {
+        match *ty.kind(cx) {
+            TyKind::Bool => Ok(Step::Replace(cx.mk_ty(TyKind::Uint(UintTy::U8))?)),
+            _ => Ok(Step::Descend),
+        }
+    }
+}
+
+// Returns the value with `u8` for `bool`, by a fold that remembers the results of types.
+fn with_bytes<T: Owned + TypeFoldable>(cx: &mut Interner, value: T) -> Result<T, Refusal> {
+    if value.is_owned(cx) {
+        replace_types_once(cx, value, Bytes)
+    } else {
+        Err(NOT_OWNED)
+    }
+}
+
+fn a_folder_without_promises_remembers_holds(cx: &mut Interner) -> Result<bool, Refusal> {
+    let truth = ty(cx, TyKind::Bool)?;
+    let byte = ty(cx, TyKind::Uint(UintTy::U8))?;
+    let before = paired(cx, truth, 64)?;
+    let after = paired(cx, byte, 64)?;
+    Ok(with_bytes(cx, (before, truth)) == Ok((after, byte)))
+}
+
+#[test]
+fn a_folder_without_promises_remembers(rt: HostRuntime) {
+    holds_anew(&rt, rt.alloc(), a_folder_without_promises_remembers_holds);
 }
