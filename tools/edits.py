@@ -36,14 +36,14 @@ def called(text, parameters, between=""):
 
 def parts_of(header):
     """Returns the parameters, the trait and the type that the first line of an impl names; of no trait, an empty text."""
-    header, parameters = " ".join(header.rstrip("{").split()).removeprefix("impl"), []
+    header, parameters = re.sub(r"^impl", "", " ".join(header.rstrip("{").split())), []
     if header.startswith("<"):
         depth, end = 0, 0
         for end, letter in enumerate(header):
             depth += (letter == "<") - (letter == ">" and header[end - 1] != "-")
             if not depth:
                 break
-        parameters = [it.split(":")[0].strip().removeprefix("const ") for it in header[1:end].split(",")]
+        parameters = [re.sub(r"^const ", "", it.split(":")[0].strip()) for it in header[1:end].split(",")]
         header = header[end + 1 :]
     trait, _, subject = header.strip().rpartition(" for ")
     return parameters, trait, subject
@@ -59,7 +59,7 @@ def owner_name(header):
 
 def functions(path, text):
     """Returns the functions of a file's text."""
-    module = path.removeprefix("src/").removesuffix(".rt").replace("/", "::")
+    module = re.sub(r"^src/|\.rt$", "", path).replace("/", "::")
     module = "" if module in ("lib", "main") else f"{module}::"
     text = COMMENT.sub(lambda it: re.sub(r"[^\n]", " ", it[0]), text)
     found, owner, cycle = [], "", None
@@ -93,7 +93,7 @@ def applied(edit, texts, folder):
     texts, path, old = dict(texts), None, None
     for line in read(edit).split("\n"):
         word, _, text = line.partition(":")
-        text = text.removeprefix(" ")
+        text = re.sub("^ ", "", text)
         if word == "file":
             path = text
             texts.setdefault(path, read(f"{folder}/{path}"))
