@@ -36,8 +36,8 @@ use crate::ty_kind::{
 };
 use crate::view::{FnInputTys, GenericArgsSlice};
 
-/// `==` holds of two records of one type exactly if they are the same. `T` is the type of what a record holds, if it may
-/// be any type, and `M` the mark of a handle or an id.
+/// `==` holds of two records of one type exactly if they are the same. `T` is the type of what a record holds, if it
+/// may be any type, and `M` the mark of a handle or an id.
 pub fn equal_records_are_same<T: PartialEq, M>()
     ensures alias_term { IsSameness ⟦<AliasTerm as PartialEq>⟧.eq }
     ensures alias_ty { IsSameness ⟦<AliasTy as PartialEq>⟧.eq }

@@ -20,8 +20,8 @@ impl Interner {
         self.descents = self.descents.saturating_add(1);
     }
 
-    /// Adds one to [`Interner::shift_descents`], unless that is the greatest number. The shifter calls it where it takes
-    /// a type apart.
+    /// Adds one to [`Interner::shift_descents`], unless that is the greatest number. The shifter calls it where it
+    /// takes a type apart.
     pub fn count_shift_descent(&mut self)
         ensures rows { self.new.rows ≡ self.old.rows }
         ensures limit { self.new.limit ≡ self.old.limit }

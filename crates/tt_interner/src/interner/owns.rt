@@ -50,7 +50,8 @@ impl Interner {
         (handle.number() as usize) < self.table_len(K::TABLE)
     }
 
-    /// Returns whether `clause` is a predicate of this interner, and a clause: the whole condition of calls that take one.
+    /// Returns whether `clause` is a predicate of this interner, and a clause: the whole condition of calls that take
+    /// one.
     pub fn owns_clause(&self, clause: Clause) -> bool
         ensures { IsTrue result ↔ IsClause self.now.rows clause.number }
     {

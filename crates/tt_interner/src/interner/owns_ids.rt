@@ -21,8 +21,9 @@ impl Interner {
         self.owns_def_id(id) && self.declaration(id).kind.sort() == sort
     }
 
-    /// Returns whether `id` names a declaration of this interner that has the sort of its type, for generic code. If you
-    /// know what the id is of, use the test by name, such as [`Interner::owns_trait_id`], whose contract names the sort.
+    /// Returns whether `id` names a declaration of this interner that has the sort of its type, for generic code. If
+    /// you know what the id is of, use the test by name, such as [`Interner::owns_trait_id`], whose contract names the
+    /// sort.
     pub fn owns_id<S: IsDeclared>(&self, id: Id<S>) -> bool
         ensures { IsTrue result ↔ IsOfSort self.now.rows S.SORT id.number }
     {
@@ -94,7 +95,8 @@ impl Interner {
         self.owns_id(assoc_ty_id)
     }
 
-    /// Returns whether `inherent_id` names an associated type of an inherent implementation that this interner has declared.
+    /// Returns whether `inherent_id` names an associated type of an inherent implementation that this interner has
+    /// declared.
     pub fn owns_inherent_assoc_ty_id(&self, inherent_id: InherentAssocTyId) -> bool
         ensures { IsTrue result ↔ IsOfSort self.now.rows sort.Inherent inherent_id.number }
     {

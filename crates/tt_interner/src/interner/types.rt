@@ -72,8 +72,8 @@ impl Interner {
     }
 
     /// Returns the tuple of these types, in order, as [`Interner::mk_tys`] and then [`Interner::mk_ty`] do. The types
-    /// have to be of this interner; [`Interner::owns_ty`] tests it. If the tuple is refused, the list of its types may stay
-    /// as a row that no result names; what was there keeps its meaning.
+    /// have to be of this interner; [`Interner::owns_ty`] tests it. If the tuple is refused, the list of its types may
+    /// stay as a row that no result names; what was there keeps its meaning.
     pub fn mk_tuple(&mut self, items: &[Ty]) -> Result<Ty, Refusal>
         requires { AreParts (size self.old.rows) (item_shapes ty_shape items.now) }
         ensures { BuildsOf
