@@ -96,6 +96,7 @@ fn shift_all(cx: &mut Interner, types: &mut Vec<Ty>, amount: u32) -> Result<(), 
 }
 
 // Makes two variables, binds the first to a slice of the second, and reads both bindings.
+#[tactic(auto, using(tt_interner::proofs::OwnedLaws::owned_laws))]
 fn is_bound(cx: &mut Interner, bindings: &mut Vec<Option<Ty>>) -> Result<bool, TypeError>
     requires { AreOwned (option_shape ty_shape) cx.old bindings.old.items }
 {
