@@ -8,6 +8,7 @@ mod containers;
 mod context;
 mod every_fold;
 mod every_list;
+mod fitting;
 mod full;
 mod guide;
 mod normalizer;

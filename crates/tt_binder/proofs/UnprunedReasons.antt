@@ -19,6 +19,7 @@ use Rattle.tt_fold.specs.Steps.{tree_in}
 use Rattle.tt_fold.specs.Stands.{StandsIn, StandsAmong, itself, in_term, in_node, in_binder, in_first, in_later}
 use Rattle.tt_fold.proofs.ClauseLaws.{KeepsClauses, value_keeps}
 use Rattle.tt_binder.specs.Instance.{IsPlain}
+use Rattle.tt_interner.proofs.FittingLaws.{value-fits}
 use Rattle.tt_binder.specs.Unpruned.{Replacing, outside, value_of, value_for, value_or, IsValueRefusal, IsLeafRefusal, HeedsNone, Gives, EndsAt, IsPlainReason, only, IsUnseen, HoldsNoRegionVar, PruningIsUnseen}
 use Rattle.tt_binder.proofs.UnprunedLaws.{Meets, Meets_all, IsRooted, param_placed, fits_or, does, met_at_end, Goes, goes, ends, either}
 use Rattle.tt_binder.proofs.UnprunedTrees.{value_rooted}
@@ -313,4 +314,4 @@ module _ (args : List (Argument Depth)) (t : Tree Depth) (some : args ≢ []) (l
     }
 
 pub pruning_unseen : PruningIsUnseen
-pruning_unseen rows args s are part some lacks fit = is_unseen args (tree_in rows s) some lacks fit (value_rooted rows are s part) (value_keeps rows are s part)
+pruning_unseen rows args s are part some lacks fit binders = is_unseen args (tree_in rows s) some lacks (value-fits rows s are part fit binders) (value_rooted rows are s part) (value_keeps rows are s part)

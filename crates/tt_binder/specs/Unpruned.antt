@@ -6,6 +6,8 @@ use Rattle.tt_index.specs.declared.refusal.Refusal.TheVariants.{Memory, TableFul
 use Rattle.tt_kinds.specs.Label.{Sort, region_var}
 use Rattle.tt_kinds.specs.Tree.{Depth, Tree, param, region}
 use Rattle.tt_kinds.specs.Reading.{read, FitsUnder, Fits}
+use Rattle.tt_kinds.specs.Range.{IndicesFitIn}
+use Rattle.tt_kinds.specs.Fitting.{BindersFit}
 use Rattle.tt_kinds.specs.Argument.{Argument, same_sort, put, readings}
 use Rattle.tt_kinds.specs.Plain.{shift_tree}
 use Rattle.tt_kinds.specs.Cause.{Cause}
@@ -136,8 +138,9 @@ pub record IsUnseen (args : List (Argument Depth)) (t : Tree Depth) : Type 0 whe
 abbrev pub HoldsNoRegionVar : Tree Depth → Type 0
 HoldsNoRegionVar t = (x : ℕ) → StandsIn (region (region_var x)) t → ⊥
 
--- If an interner's value holds no region variable and fits, and there is an argument, the walk over its tree that skips
--- nothing gives the tree that plain replacement gives, and ends for the same reasons.
+-- If an interner's value holds no region variable, its binders fit, and so do the indices that it has beside its handles, and
+-- there is an argument, the walk over its tree that skips nothing gives the tree that plain replacement gives, and ends for
+-- the same reasons.
 abbrev pub PruningIsUnseen : Type 0
 PruningIsUnseen = (rows : List Row) (args : List (Argument Depth)) (s : Shape) → AreRows rows → IsPartOf rows s → args ≢ []
-    → HoldsNoRegionVar (tree_in rows s) → Fits (read 0 (tree_in rows s)) → IsUnseen args (tree_in rows s)
+    → HoldsNoRegionVar (tree_in rows s) → IndicesFitIn s → BindersFit 0 (tree_in rows s) → IsUnseen args (tree_in rows s)

@@ -149,7 +149,9 @@ impl<T: TypeFoldable> Instantiate<T> for EarlyBinder<T> {
 
 /// Does nothing. The contract gives callers the fact that a walk over a value's whole tree, which uses no flag and
 /// replaces each parameter, gives the same tree as [`Instantiate::instantiate`] and is refused for the same causes, if
-/// no region inference variable occurs in the value, its indices and binders are in range, and there is an argument.
+/// no region inference variable occurs in the value, no more binders than the greatest index counts are nested in it,
+/// and there is an argument. Only a value that has regions or indices of its own, beside its handles, has to have them
+/// in range: [`stored_values_fit`](tt_interner::stored_values_fit) says that stored terms do.
 pub fn pruning_is_unseen()
     ensures { PruningIsUnseen }
 {}

@@ -1,12 +1,13 @@
 -- The calls of a folder of regions to its closure, and the places of the answers.
-use Rattle.std.specs.Prelude.{◌≡◌, ℕ, suc, ◌-◌, ◌<◌, ◌≤◌, ◌⊎◌, Bool, true, false, not, nat_lt, List, [], ◌∷◌, ◌++◌, map, ⊤}
+use Rattle.std.specs.Prelude.{◌≡◌, ℕ, suc, ◌-◌, ◌≤◌, ◌⊎◌, Bool, true, false, not, nat_lt, List, [], ◌∷◌, ◌++◌, map, ⊤}
 use Rattle.std.specs.List.{FoldsTo}
 use Rattle.tt_index.specs.Greatest.{greatest}
 use Rattle.tt_index.specs.declared.refusal.Refusal.{Refusal}
 use Rattle.tt_index.specs.declared.refusal.Refusal.TheVariants.{Memory, TableFull, GreatestIndex}
 use Rattle.tt_kinds.specs.Label.{Name, text_label}
-use Rattle.tt_kinds.specs.Tree.{Depth, Tree, param, bound, region, term, node, binder, Forest, none, also}
+use Rattle.tt_kinds.specs.Tree.{Depth, Tree, region, node, none}
 use Rattle.tt_kinds.specs.Met.{Met, met, placed}
+pub use Rattle.tt_kinds.specs.Fitting.{BindersFit, BindersFit_all}
 use Rattle.tt_kinds.specs.Shape.{fill, IsPart, name_of}
 use Rattle.tt_kinds.specs.Kinds.{region_shape}
 use Rattle.tt_kinds.specs.declared.bound.BoundVarIndexKind.{BoundVarIndexKind}
@@ -75,20 +76,6 @@ deeper s = record { closure = s.closure; under = suc s.under; names = s.names }
 -- the state one binder further out
 abbrev pub higher : {F : Type 0} → Asking F → Asking F
 higher s = record { closure = s.closure; under = s.under - 1; names = s.names }
-
-abbrev mutual
-  -- under k binders no more binders than the greatest index counts are nested
-  pub BindersFit : ℕ → Tree Depth → Type 0
-  BindersFit k (param s i name) = ⊤
-  BindersFit k (bound s d e) = ⊤
-  BindersFit k (region r) = ⊤
-  BindersFit k (term l ts) = BindersFit_all k ts
-  BindersFit k (node l ts) = BindersFit_all k ts
-  BindersFit k (binder vs t) = (k < greatest) × BindersFit (suc k) t
-
-  pub BindersFit_all : ℕ → Forest Depth → Type 0
-  BindersFit_all k none = ⊤
-  BindersFit_all k (also t ts) = BindersFit k t × BindersFit_all k ts
 
 -- Why a fold of the regions in a tree ended after these answers: the memory for something new was refused, a term or a list
 -- that has the answers in it, whatever the next ones are, is new and its table is full, or binders are nested too deep.
