@@ -14,6 +14,7 @@ mod guide;
 mod normalizer;
 mod one_clause;
 mod own_arguments;
+mod recorded;
 mod regions;
 mod remembering;
 mod replacers;

@@ -1,16 +1,28 @@
-//! The traits whose methods users call, and the commonest types, for `use type_terms::prelude::*;`.
+//! The traits whose methods users call, the traits that they implement, and the commonest types and functions, for
+//! `use type_terms::prelude::*;`.
 
 pub use crate::ir_print::IrPrint;
 pub use tt_binder::Instantiate;
-pub use tt_fold::{Step, TypeFoldable, TypeSuperFoldable, fold_regions, shift_vars};
-pub use tt_index::{BoundVar, DebruijnIndex, Idx, Refusal};
+pub use tt_fold::{
+    Step, TypeFoldable, TypeFolder, TypeReplacer, TypeSuperFoldable, fold_regions, replace_types,
+    replace_types_once, shift_vars,
+};
+pub use tt_index::{
+    BoundVar, DebruijnIndex, ExternAbi, FloatTy, Idx, IntTy, Mutability, Refusal, RegionVid,
+    Safety, TyVid, UintTy, UniverseIndex,
+};
 pub use tt_interner::{
     AsClause, AsPredicate, Flags, InternedKind, InternedList, InternedText, Interner,
 };
 pub use tt_kinds::{
-    Binder, Clause, ClauseKind, Const, ConstKind, EarlyBinder, GenericArg, GenericArgKind,
-    Predicate, PredicateKind, Region, RegionKind, Term, TermKind, Ty, TyKind,
+    AdtId, AliasTy, AliasTyKind, Binder, BoundRegion, BoundRegionKind, BoundTy, BoundTyKind,
+    BoundVarIndexKind, BoundVarKinds, BoundVariableKind, Clause, ClauseKind, Clauses, Const,
+    ConstKind, DefId, EarlyBinder, ErrorGuaranteed, FnHeader, FnSigKind, FnSigTys, GenericArg,
+    GenericArgKind, GenericArgs, InferTy, OutlivesPredicate, ParamEnv, ParamTy, PlaceholderType,
+    Predicate, PredicateKind, Region, RegionKind, Symbol, Term, TermKind, TraitId, TraitPredicate,
+    TraitRef, Ty, TyKind, Tys,
 };
 pub use tt_visit::{
-    InternedView, Next, Owned, TypeSuperVisitable, TypeVisitable, TypeVisitableExt,
+    InternedView, Next, Owned, TypeInspector, TypeSuperVisitable, TypeVisitable, TypeVisitableExt,
+    TypeVisitor, are_owned, inspect_types,
 };

@@ -12,8 +12,8 @@ use super::holds_anew;
 use super::sharing::paired;
 use test_terms::{NOT_OWNED, bound_region, one_region, ref_ty, ty, u32_ty};
 use type_terms::{
-    Binder, Interner, Owned, Refusal, Region, RegionKind, RegionReplacer, Step, Ty, TyKind,
-    TypeFoldable, TypeReplacer, UintTy, replace_regions, replace_types, replace_types_once,
+    Binder, InternedKind, Interner, Owned, Refusal, Region, RegionKind, RegionReplacer, Step, Ty,
+    TyKind, TypeFoldable, TypeReplacer, UintTy, replace_regions, replace_types, replace_types_once,
 };
 
 // Replaces each region by one.
