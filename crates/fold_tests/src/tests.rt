@@ -14,7 +14,6 @@ mod guide;
 mod normalizer;
 mod one_clause;
 mod own_arguments;
-mod recorded;
 mod regions;
 mod remembering;
 mod replacers;

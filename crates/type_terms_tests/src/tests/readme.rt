@@ -2,11 +2,12 @@
 
 use super::holds_anew;
 use test_terms::ty;
-use type_terms::prelude::*;
+use type_terms::{EarlyBinder, GenericArg, Instantiate, Interner, ParamTy, Refusal, Ty, TyKind};
 
 // Returns `T` with `bool` for `T`.
 pub fn replaced(cx: &mut Interner) -> Result<Ty, Refusal> {
-    let parameter = cx.mk_param(0, "T")?;
+    let name = cx.symbol("T")?;
+    let parameter = cx.mk_ty(TyKind::Param(ParamTy { index: 0, name }))?;
     let argument = cx.mk_ty(TyKind::Bool)?;
     let args = [GenericArg::from(argument)];
     let answer = EarlyBinder::bind(parameter).instantiate(cx, args.as_slice())?;
