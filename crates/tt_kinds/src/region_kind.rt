@@ -108,6 +108,33 @@ impl Region {
         }
     }
 
+    /// Returns `'static`.
+    pub fn new_static() -> Region
+        ensures { result ≡ RegionKind.ReStatic }
+    {
+        Region {
+            kind: RegionKind::ReStatic,
+        }
+    }
+
+    /// Returns the erased region.
+    pub fn new_erased() -> Region
+        ensures { result ≡ RegionKind.ReErased }
+    {
+        Region {
+            kind: RegionKind::ReErased,
+        }
+    }
+
+    /// Returns the region inference variable of this number.
+    pub fn new_var(vid: RegionVid) -> Region
+        ensures { result ≡ RegionKind.ReVar vid }
+    {
+        Region {
+            kind: RegionKind::ReVar(vid),
+        }
+    }
+
     /// Returns the bound region of this index. Refused with `GreatestIndex` if the index is the greatest, and never
     /// otherwise.
     pub fn new_bound(index: DebruijnIndex, bound_region: BoundRegion) -> Result<Region, Refusal>
