@@ -14,3 +14,5 @@ mod UnprunedLaws
 mod UnprunedTrees
 mod UnprunedReasons
 mod UnprunedExamples
+mod SharingExamples
+mod InstanceExamples

@@ -1,12 +1,11 @@
 //! The folder that replaces parameters by arguments.
 
-ghost use Rattle.std.specs.Prelude.{◌≡◌, ◌≢◌, ◌≤◌, ◌++◌, [], List, ℕ, MatchOption, MatchResult, IfOk, IfErr, Some, slice_get};
+ghost use Rattle.std.specs.Prelude.{◌≡◌, ◌≢◌, ◌≤◌, ◌++◌, [], ℕ, MatchOption, MatchResult, IfOk, IfErr, Some, slice_get};
 ghost use Rattle.std.specs.Map.{keys_of};
 ghost use Rattle.tt_kinds.specs.Label.{Name, const_sort, region_sort, type_sort};
 ghost use Rattle.tt_kinds.specs.Tree.{param};
 ghost use Rattle.tt_kinds.specs.Kinds.{const_shape, region_shape, ty_shape};
 ghost use Rattle.tt_kinds.specs.Cause.{Cause};
-ghost use Rattle.tt_interner.specs.Rows.{Row};
 ghost use Rattle.tt_interner.specs.Stored.{Extends};
 ghost use Rattle.tt_fold.specs.Memory.{memos};
 ghost use Rattle.tt_fold.specs.Steps.{IsPartOf, IsRefused, tree_in};

@@ -7,7 +7,6 @@ ghost use Rattle.tt_kinds.specs.Tree.{param};
 ghost use Rattle.tt_kinds.specs.Param.{holds_param};
 ghost use Rattle.tt_kinds.specs.Cause.{Cause};
 ghost use Rattle.tt_kinds.specs.Count.{generic_types, positions};
-ghost use Rattle.tt_interner.specs.Rows.{Row};
 ghost use Rattle.tt_interner.specs.Stored.{Extends};
 ghost use Rattle.tt_fold.specs.Places.{CountsPairs};
 ghost use Rattle.tt_fold.specs.Steps.{IsPartBy, tree_by};

@@ -1,7 +1,6 @@
 //! The test of whether arguments leave a value as it is.
 
-ghost use Rattle.std.specs.Prelude.{◌↔◌, IsTrue, List};
-ghost use Rattle.tt_interner.specs.Rows.{Row};
+ghost use Rattle.std.specs.Prelude.{◌↔◌, IsTrue};
 ghost use Rattle.tt_fold.specs.Steps.{IsPartBy, tree_by};
 ghost use Rattle.tt_binder.specs.Untouched.{IsUntouched, untouched_visits};
 

@@ -1,13 +1,13 @@
 -- Folders whose hooks have one answer, and folders whose hooks never fail.
-use Rattle.std.proofs.Common.{◌≡◌, ◌⊎◌, inl, inr, true, false, refl, sym, ap, subst, ◌∙◌}
-use Rattle.std.proofs.lemmas.Bool.{cases_Bool, true≢false}
+use Rattle.std.proofs.Common.{◌≡◌, ◌⊎◌, inl, inr, refl, sym, ap, subst, ◌∙◌}
+use Rattle.std.proofs.lemmas.Bool.{cases_Bool}
 use Rattle.std.specs.Prelude.{List}
 use Rattle.tt_index.specs.declared.refusal.Refusal.{Refusal}
 use Rattle.tt_index.specs.declared.refusal.Refusal.TheVariants.{Memory, TableFull, GreatestIndex, NoArguments, ArgOutOfRange, ArgKind, RegionVariable, NotAClause, NoSuchAnswer}
 use Rattle.tt_kinds.specs.Label.{Name, VarKind, Label, list_label, record_label, clause_label, static_region}
 use Rattle.tt_kinds.specs.Tree.{Depth, Tree, Forest, region, term, node, binder}
 use Rattle.tt_interner.specs.Stored.{Terms, IsUnbuilt}
-use Rattle.tt_visit.specs.Root.{a_region, hooked, unhooked, term_root, node_root}
+use Rattle.tt_visit.specs.Root.{a_region, hooked, unhooked, node_root}
 use Rattle.tt_fold.specs.Steps.{refusals_of}
 use Rattle.tt_fold.specs.Types.{TypeHooks, only_types}
 use Rattle.tt_fold.specs.Walk.{Hooks, Answer, replace, keep, descend, is_type_tree, IsRegion, IsTerm, IsPassed, Errors, Wanted, Walks, Descends, WalksInside, WalksAll, at_region, replaced, kept, descended, passed, rebuilt, at_node, at_binder, in_term, in_param, in_bound, done, next, Fails, DescentFails, InsideFails, FailsAll, region_failed, term_failed, descent_failed, passed_failed, enter_failed, under_failed, leave_failed, node_failed, node_not_built, clause_lost, stopped, inside_failed, not_built, after_failed, in_term_failed, here, later, no_clause}

@@ -40,3 +40,5 @@ mod RegionFolderSteps
 mod LentLaws
 pub mod RegionAnswers
 mod Examples
+pub mod ShiftExamples
+mod PlaceExamples

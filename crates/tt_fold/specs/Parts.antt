@@ -1,24 +1,22 @@
 -- The promises of the walk's calls on terms, lists and the parts of kinds.
-use Rattle.std.specs.Prelude.{◌≡◌, ◌++◌, ℕ, suc, max, Option, Some, None, Result, Ok, Err, MatchResult, All, take, ⊤}
+use Rattle.std.specs.Prelude.{◌≡◌, ◌++◌, ℕ, Option, Some, None, Result, Ok, Err, ⊤}
 use Rattle.std.specs.Prelude.{List as Listed}
 use Rattle.tt_kinds.specs.Label.{Name, VarKind, Label}
 use Rattle.tt_kinds.specs.Tree.{Depth, Tree, Forest}
 use Rattle.tt_kinds.specs.Shape.{Shape, Shapes, AreParts, fill_all, item_shapes, rename_label}
-use Rattle.tt_kinds.specs.Parts.{node_table, node_number, list_sort, list_table, list_number, child_sort, AreLike, IsItem}
+use Rattle.tt_kinds.specs.Parts.{node_table, list_sort, child_sort, AreLike}
 use Rattle.tt_kinds.specs.Kinds as form
-use Rattle.tt_kinds.specs.Kinds.{Form, node_shape, list_shape, child_shapes, parts_shapes, children_shapes, items_tree}
+use Rattle.tt_kinds.specs.Kinds.{Form, node_shape, list_shape, child_shapes, parts_shapes, children_shapes}
 use Rattle.tt_kinds.specs.Handle.{BoundVarKinds}
 use Rattle.tt_kinds.specs.declared.parts.Node.{Node}
 use Rattle.tt_kinds.specs.declared.parts.List.{List}
-use Rattle.tt_kinds.specs.declared.parts.ListSort.{ListSort}
 use Rattle.tt_kinds.specs.declared.parts.Child.{Child}
 use Rattle.tt_kinds.specs.declared.parts.Child.TheVariants as child
 use Rattle.tt_kinds.specs.declared.parts.Parts.{Parts}
-use Rattle.tt_interner.specs.Rows.{Row, size, meaning, age}
+use Rattle.tt_interner.specs.Rows.{Row, size, meaning}
 use Rattle.tt_interner.specs.Stored.{Terms, Extends}
-use Rattle.tt_interner.specs.Children.{children_at}
 use Rattle.tt_visit.specs.Root.{hooked, table_root}
-use Rattle.tt_fold.specs.Walk.{Hooks, Errors, WalksAll, HasUnwanted, any_trees, wanted_in, wanted_of, FailsAll}
+use Rattle.tt_fold.specs.Walk.{Hooks, WalksAll, any_trees, wanted_in}
 use Rattle.tt_fold.specs.Counts.{Standing, stands}
 use Rattle.tt_fold.specs.Steps.{IsPartOf, tree_in, HasVars, vars_in}
 use Rattle.tt_fold.specs.declared.folder.Step.{Step}

@@ -41,7 +41,6 @@ ghost use Rattle.tt_fold.specs.Stack.{
   Leaves,
   Opens,
   RebuildFails,
-  Rebuilds,
   RestFails,
   Rests,
   wanted_by,

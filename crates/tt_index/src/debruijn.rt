@@ -1,6 +1,6 @@
 //! De Bruijn indices: which binder a bound variable belongs to.
 
-ghost use Rattle.std.specs.Prelude.{◌≡◌, ◌+◌, ◌-◌, ◌≤◌, ◌↔◌, IsTrue, ℕ};
+ghost use Rattle.std.specs.Prelude.{◌≡◌, ◌+◌, ◌-◌, ◌≤◌, ◌↔◌, IsTrue};
 ghost use Rattle.tt_index.specs.Greatest.{greatest};
 
 use crate::GREATEST_INDEX;

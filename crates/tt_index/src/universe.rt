@@ -1,6 +1,6 @@
 //! Universes: which names are visible while types are checked under `for<..>` binders.
 
-ghost use Rattle.std.specs.Prelude.{◌≡◌, ◌+◌, ◌<◌, ◌≤◌, ◌↔◌, IsTrue, ℕ};
+ghost use Rattle.std.specs.Prelude.{◌≡◌, ◌+◌, ◌<◌, ◌≤◌, ◌↔◌, IsTrue};
 ghost use Rattle.tt_index.specs.Greatest.{greatest};
 
 use crate::GREATEST_INDEX;

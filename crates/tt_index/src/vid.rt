@@ -1,6 +1,6 @@
 //! Inference variables, each kind numbered from 0 in the order in which inference makes them.
 
-ghost use Rattle.std.specs.Prelude.{◌≡◌, Some, codes, ℕ};
+ghost use Rattle.std.specs.Prelude.{Some, codes};
 ghost use Rattle.tt_index.specs.Text.{region_vid_text, vid_text};
 
 use crate::index::Index;

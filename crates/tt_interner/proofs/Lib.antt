@@ -19,3 +19,4 @@ pub mod NodeSteps
 pub mod EnvSteps
 pub mod ReadsLaws
 pub mod OwnedLaws
+mod EnvExamples

@@ -1,5 +1,9 @@
 -- Small terms, and what the definitions say of them.
-use Rattle.std.proofs.Common.{inl, inr, ◌≡◌, ℕ, List, [], ◌∷◌, refl, arith}
+use Rattle.std.proofs.Common.{inl, inr, ◌≡◌, ℕ, ◌+◌, List, [], ◌∷◌, true, refl, arith}
+use Rattle.tt_index.specs.Abi.{abi_number}
+use Rattle.tt_index.specs.declared.abi.ExternAbi.TheVariants.{C}
+use Rattle.tt_index.specs.declared.qualifier.Safety.TheVariants.{Safe}
+use Rattle.tt_kinds.specs.FnSig.{safety_bits, variadic_bits}
 use Rattle.tt_kinds.specs.Handle.{handle}
 use Rattle.tt_kinds.specs.Id.{id_of}
 use Rattle.tt_index.specs.declared.numeric.IntTy.TheVariants as int
@@ -7,11 +11,10 @@ use Rattle.tt_index.specs.declared.numeric.UintTy.TheVariants as uint
 use Rattle.tt_index.specs.declared.qualifier.Mutability.TheVariants as mutability
 use Rattle.tt_index.specs.declared.refusal.Refusal.TheVariants.{NoArguments, ArgOutOfRange, ArgKind, RegionVariable}
 use Rattle.tt_kinds.specs.declared.bound.BoundTyKind.TheVariants as bound_ty
-use Rattle.tt_kinds.specs.declared.ty_kind.InferTy.TheVariants.{TyVar, FreshIntTy}
 use Rattle.tt_kinds.specs.declared.alias.AliasTyKind.TheVariants as alias
-use Rattle.tt_kinds.specs.declared.const_kind.InferConst.TheVariants.{Var, Fresh}
+use Rattle.tt_kinds.specs.declared.const_kind.InferConst.TheVariants.{Var}
 use Rattle.tt_kinds.specs.declared.table.Table.TheVariants.{TypeLists, ArgLists, ExistentialLists}
-use Rattle.tt_kinds.specs.Label.{Name, region_sort, type_sort, const_sort, anonymous, VarKind, region_variable, type_variable, const_variable, Entry, static_region, erased_region, region_var, error_region, late_param_region, placeholder_region, TypeLabel, char_type, int_type, uint_type, placeholder_type, infer_type, error_type, ref_type, tuple_type, fn_ptr_type, adt_type, array_type, pat_type, dynamic_type, coroutine_type, alias_type, ConstLabel, infer_const, placeholder_const, unevaluated_const, leaf_const, error_const, range_pattern, not_null_pattern, RecordLabel, fn_sig_tys_record, trait_record, region_outlives_record, projection_record, existential_trait_record, auto_trait_record, Label, type_label, const_label, pattern_label, predicate_label, existential_label, clause_list_label, list_label, record_label}
+use Rattle.tt_kinds.specs.Label.{Name, region_sort, type_sort, const_sort, anonymous, VarKind, region_variable, type_variable, Entry, static_region, erased_region, region_var, TypeLabel, char_type, int_type, uint_type, ref_type, tuple_type, fn_ptr_type, adt_type, array_type, pat_type, dynamic_type, coroutine_type, coroutine_witness_type, unsafe_binder_type, alias_type, ConstLabel, infer_const, unevaluated_const, leaf_const, range_pattern, not_null_pattern, RecordLabel, fn_sig_tys_record, unsafe_binder_record, trait_record, region_outlives_record, type_outlives_record, projection_record, well_formed_record, normalizes_to_record, existential_trait_record, existential_projection_record, auto_trait_record, Label, type_label, const_label, pattern_label, predicate_label, existential_label, clause_list_label, list_label, record_label}
 use Rattle.tt_kinds.specs.Tree.{Depth, at, canonical, own, outer, Tree, param, bound, region, term, node, binder, Forest, none, also}
 use Rattle.tt_kinds.specs.Reading.{read, move, outer_binder, Fits}
 use Rattle.tt_kinds.specs.Argument.{Argument, put, readings}
@@ -107,6 +110,19 @@ second_region = bound region_sort (at 0) (record { var = 1; kind = region_variab
 second_unmatched : MatchedUnder (one_region ∷ []) (read 1 second_region) → ⊥
 second_unmatched h = cc
 
+-- a binder's variables count whether or not they are used
+abbrev unit : Tree Depth
+unit = tuple none
+
+abbrev two_regions : List (VarKind Name)
+two_regions = region_variable anonymous ∷ one_region
+
+unused_flags : (scan (fn_ptr one_region (also unit none)) ≡ 0x1000000) × (outer_binder (fn_ptr one_region (also unit none)) ≡ 0)
+unused_flags = (refl, refl)
+
+half_used_flags : scan (fn_ptr two_regions (also (reference (region_at (at 0)) u32) (also unit none))) ≡ 0x1040000
+half_used_flags = refl
+
 -- a pointer in a pointer: the inner one's other region is the outer one's own
 abbrev inner_pointer : Tree Depth
 inner_pointer = fn_ptr one_region
@@ -179,6 +195,17 @@ last_fits = omega arith
 last_shifted : Fits (read 0 (shift_tree 0 1 last_bound)) → ⊥
 last_shifted h = omega arith
 
+-- put under a binder, the one before it is the last that fits
+abbrev under_a_binder : Tree Depth → Tree Depth
+under_a_binder t = fn_ptr [] (also t (also unit none))
+
+last_put : (inst_tree 0 (type_arg (bound type_sort (at 4294967038) a_type) ∷ []) (under_a_binder (parameter 0)) ≡ under_a_binder last_bound)
+    × (scan (under_a_binder last_bound) ≡ 0x80000) × (outer_binder (under_a_binder last_bound) ≡ 4294967039)
+last_put = (refl, refl, refl)
+
+past_put : Fits (read 0 (inst_tree 0 (type_arg last_bound ∷ []) (under_a_binder (parameter 0)))) → ⊥
+past_put h = omega arith
+
 -- why an instantiation is refused: no arguments, too few, one of another sort
 no_arguments : Cause (parameter 0) [] NoArguments
 no_arguments = (refl, tt)
@@ -240,92 +267,13 @@ own_region_stays = refl
 captured_flags : (scan captured_pointer ≡ 0x1040000) × (outer_binder captured_pointer ≡ 0)
 captured_flags = (refl, refl)
 
--- a leaf, by its flags and how far it reaches
+-- a tree, by its flags and how far it reaches
 abbrev Says : Tree Depth → ℕ → ℕ → Type 0
 Says t flags reach = (scan t ≡ flags) × (outer_binder t ≡ reach)
-
--- regions of each kind
-param_region_says : Says (param region_sort 0 []) 0x20202 0
-param_region_says = (refl, refl)
-
-bound_region_says : Says (region_at (at 4)) 0x40000 5
-bound_region_says = (refl, refl)
-
-canonical_region_says : Says (region_at canonical) 0x4040000 0
-canonical_region_says = (refl, refl)
-
-static_region_says : Says (region static_region) 0x20000 0
-static_region_says = (refl, refl)
-
-region_var_says : Says (region (region_var 6)) 0x20210 0
-region_var_says = (refl, refl)
-
-late_param_region_says : Says (region (late_param_region 2 anonymous)) 0x20200 0
-late_param_region_says = (refl, refl)
-
-placeholder_region_says : Says (region (placeholder_region 1 0 anonymous)) 0x20280 0
-placeholder_region_says = (refl, refl)
-
-erased_region_says : Says (region erased_region) 0x200000 0
-erased_region_says = (refl, refl)
-
-error_region_says : Says (region (error_region 3)) 0x30000 0
-error_region_says = (refl, refl)
-
--- types and constants that are leaves
-number_says : Says u32 0 0
-number_says = (refl, refl)
-
-param_type_says : Says (parameter 0) 0x1 0
-param_type_says = (refl, refl)
-
-param_const_says : Says (param const_sort 0 []) 0x4 0
-param_const_says = (refl, refl)
-
-bound_type_says : Says (bound type_sort (at 4) a_type) 0x80000 5
-bound_type_says = (refl, refl)
-
-canonical_type_says : Says (bound type_sort canonical a_type) 0x4080000 0
-canonical_type_says = (refl, refl)
-
-placeholder_type_says : Says (type_leaf (placeholder_type (record { universe = 1; bound = record { var = 0; kind = bound_ty.Anon } }))) 0x40 0
-placeholder_type_says = (refl, refl)
-
-infer_type_says : Says (type_leaf (infer_type (TyVar 6))) 0x8 0
-infer_type_says = (refl, refl)
-
-fresh_type_says : Says (type_leaf (infer_type (FreshIntTy 6))) 0x400000 0
-fresh_type_says = (refl, refl)
-
-error_type_says : Says (type_leaf (error_type 3)) 0x8000 0
-error_type_says = (refl, refl)
-
--- what an unnamed bound constant of number 0 says of itself
-abbrev a_const : Entry Name
-a_const = record { var = 0; kind = const_variable }
 
 -- constants without parts
 abbrev const_leaf : {I : Type 0} → ConstLabel → Tree I
 const_leaf l = term (const_label l) none
-
--- constants that are leaves
-bound_const_says : Says (bound const_sort (at 4) a_const) 0x100000 5
-bound_const_says = (refl, refl)
-
-canonical_const_says : Says (bound const_sort canonical a_const) 0x4100000 0
-canonical_const_says = (refl, refl)
-
-infer_const_says : Says (const_leaf (infer_const (Var 6))) 0x20 0
-infer_const_says = (refl, refl)
-
-fresh_const_says : Says (const_leaf (infer_const (Fresh 6))) 0x800000 0
-fresh_const_says = (refl, refl)
-
-placeholder_const_says : Says (const_leaf (placeholder_const (record { universe = 1; bound = record { var = 0 } }))) 0x100 0
-placeholder_const_says = (refl, refl)
-
-error_const_says : Says (const_leaf (error_const 3)) 0x8000 0
-error_const_says = (refl, refl)
 
 -- a list of arguments
 abbrev args : {I : Type 0} → Forest I → Tree I
@@ -335,28 +283,23 @@ args ts = node (list_label ArgLists) ts
 abbrev of_args : {I : Type 0} → Label Name → Forest I → Tree I
 of_args l ts = term l (also (args ts) none)
 
--- the kinds that add a flag to their arguments' flags
+-- types and constants over arguments, with and without a flag of their own
 coroutine_says : Says (of_args (type_label (coroutine_type 0)) (also (parameter 0) none)) 0x2000001 0
 coroutine_says = (refl, refl)
 
-projection_says : Says (of_args (type_label (alias_type (alias.Projection (id_of 0)))) none) 0x400 0
+witness_says : Says (of_args (type_label (coroutine_witness_type 0)) (also (parameter 0) none)) 0x1 0
+witness_says = (refl, refl)
+
+projection_says : Says (of_args (type_label (alias_type (alias.Projection (id_of 0)))) (also (parameter 0) none)) 0x401 0
 projection_says = (refl, refl)
 
-inherent_says : Says (of_args (type_label (alias_type (alias.Inherent (id_of 0)))) none) 0x2000 0
-inherent_says = (refl, refl)
-
-opaque_says : Says (of_args (type_label (alias_type (alias.Opaque (id_of 0)))) none) 0x1000 0
-opaque_says = (refl, refl)
-
-free_alias_says : Says (of_args (type_label (alias_type (alias.Free (id_of 0)))) none) 0x800 0
-free_alias_says = (refl, refl)
-
-unevaluated_says : Says (of_args (const_label (unevaluated_const 0)) none) 0x4000 0
-unevaluated_says = (refl, refl)
-
--- and one that adds none
 adt_says : Says (of_args (type_label (adt_type 0)) (also (parameter 0) (also (region_at (at 4)) none))) 0x40001 5
 adt_says = (refl, refl)
+
+-- a type under a binder, with a region of the binder outside
+open_binder_says : Says (term (type_label unsafe_binder_type)
+    (also (binder one_region (node (record_label unsafe_binder_record) (also (reference (region_at (at 1)) u32) none))) none)) 0x1040000 1
+open_binder_says = (refl, refl)
 
 -- `[T; N]` of two parameters
 abbrev array : Tree Depth
@@ -402,6 +345,14 @@ outlives_shifted = refl
 projected : Says (predicate [] (projection_record 0) (also (args (also (parameter 0) none)) (also u32 none))) 0x1 0
 projected = (refl, refl)
 
+-- nor does one that is normalized
+normalized : Says (predicate [] (normalizes_to_record 0) (also (args (also (parameter 0) none)) (also u32 none))) 0x1 0
+normalized = (refl, refl)
+
+-- a predicate under a binder of one type
+well_formed : Says (predicate (type_variable bound_ty.Anon ∷ []) well_formed_record (also (parameter 0) none)) 0x1000001 0
+well_formed = (refl, refl)
+
 -- a list of clauses
 clauses_say : Says (term clause_list_label (also (outlives (at 1)) (also (predicate [] (trait_record 0) (also (args (also (parameter 0) none)) none)) none))) 0x1040001 1
 clauses_say = (refl, refl)
@@ -419,16 +370,33 @@ object d = term (type_label dynamic_type)
 object_says : Says (object (at 1)) 0x1060000 1
 object_says = (refl, refl)
 
+-- one of a projection on a parameter
+projection_object_says : Says (term (type_label dynamic_type) (also (node (list_label ExistentialLists)
+    (also (existential [] (existential_projection_record 0) (also (args none) (also (parameter 0) none))) none))
+    (also (region erased_region) none))) 0x200001 0
+projection_object_says = (refl, refl)
+
 -- outside of the trait object only the region outside and the last one are met
 object_met : met 0 (object (at 1)) ≡ record { standing = region_at (at 1); under = 1 } ∷ record { standing = region static_region; under = 0 } ∷ []
 object_met = refl
 
--- a region variable in a predicate without parameters is hidden, and in such a constant it isn't
-hidden_variable : Cause (predicate [] region_outlives_record (also (region (region_var 0)) (also (region static_region) none))) (type_arg i32 ∷ []) (RegionVariable 0) → ⊥
+-- a region variable in a stored predicate without parameters is hidden, and in such a constant, or one that isn't stored, it isn't
+abbrev outlives_variable : Forest Depth
+outlives_variable = also u32 (also (region (region_var 0)) none)
+
+hidden_variable : Cause (predicate [] type_outlives_record outlives_variable) (type_arg i32 ∷ []) (RegionVariable 0) → ⊥
 hidden_variable h = elim h.1.0 [ inl x ↦ elim x [ inl a ↦ a | inr y ↦ elim y [ inl b ↦ b | inr c ↦ c ] ] | inr z ↦ z ]
 
 shown_variable : Cause (of_args (const_label (unevaluated_const 0)) (also (region (region_var 0)) none)) (type_arg i32 ∷ []) (RegionVariable 0)
 shown_variable = ((λ e. cc), (tt, inl (inl refl)))
+
+bare_variable : Cause (node (record_label type_outlives_record) outlives_variable) (type_arg i32 ∷ []) (RegionVariable 0)
+bare_variable = ((λ e. cc), inr (inl refl))
+
+-- an array of such a length that holds no parameter hides it again
+hidden_in_array : Cause (term (type_label array_type) (also u32 (also (of_args (const_label (unevaluated_const 0)) (also (region (region_var 0)) none)) none)))
+    (type_arg i32 ∷ []) (RegionVariable 0) → ⊥
+hidden_in_array h = elim h.1.0 [ inl x ↦ x | inr y ↦ elim y [ inl z ↦ elim z [ inl a ↦ elim a [ inl b ↦ b | inr c ↦ c ] | inr d ↦ d ] | inr e ↦ e ] ]
 
 -- a kind that isn't stored has no flag of its own, and a token of an error has the flags of both sorts
 token_says : (f : Meaning) → Says (fill f (token_shape 3)) 0x18000 0
@@ -452,3 +420,7 @@ part_says = (refl, refl, refl)
 
 inputs_say : (items_in all_but_last two ≡ also i32 none) × (items_in all_but_last none ≡ none)
 inputs_say = (refl, refl)
+
+-- the byte of a safe variadic function of C that may unwind
+signature_byte : abi_number (C true) + safety_bits Safe + variadic_bits true ≡ 194
+signature_byte = refl

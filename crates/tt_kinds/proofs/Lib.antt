@@ -17,6 +17,8 @@ pub mod FormLaws
 pub mod ValueLaws
 pub mod BareLaws
 pub mod Examples
+pub mod KindExamples
+pub mod ScanExamples
 pub mod ForestLaws
 pub mod EqualityLaws
 pub mod KindEqualityLaws

@@ -13,3 +13,4 @@ pub mod HasTypeFlagsLaws
 pub mod HasEscapingVarsLaws
 pub mod HasErrorLaws
 pub mod MeetsRegionsLaws
+mod QueryExamples

@@ -1,9 +1,6 @@
 //! The visits of records: values that hold handles and have no row of their own.
 
-ghost use Rattle.std.specs.ControlFlow.{MatchControlFlow};
-ghost use Rattle.tt_kinds.specs.Shape.{IsPart, Shape, fill};
-ghost use Rattle.tt_interner.specs.Rows.{meaning, size};
-ghost use Rattle.tt_visit.specs.Visit.{Breaks, GoesOver};
+ghost use Rattle.tt_kinds.specs.Shape.{Shape, fill};
 
 use crate::stored::{visit_parts, visit_under};
 use crate::visitable::TypeVisitable;
