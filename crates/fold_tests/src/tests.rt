@@ -1,27 +1,20 @@
 //! Walks by the library's and by a user's visitors and folders, compared with terms that are built by hand.
 
-mod asked_again;
-mod binders;
 mod bindings;
 mod canonicalizer;
-mod containers;
 mod context;
-mod every_fold;
-mod every_list;
 mod fitting;
-mod full;
 mod guide;
 mod normalizer;
-mod one_clause;
 mod own_arguments;
+mod recorded;
 mod regions;
-mod remembering;
 mod replacers;
 mod resolver;
 mod sharing;
-mod shifted_once;
 mod taken_apart;
 mod users;
+mod values;
 mod visitors;
 
 use std::alloc::Global;

@@ -4,12 +4,10 @@ ghost use Rattle.std.specs.Prelude.{IsTrue};
 ghost use Rattle.tt_kinds.specs.Shape.{IsPart};
 ghost use Rattle.tt_interner.specs.Rows.{size};
 
-use crate::kinds::{constant, pattern, predicate};
-use crate::terms::{NOT_OWNED, one_region, ty};
+use crate::terms::NOT_OWNED;
 use type_terms::{
-    BoundVarKinds, Clauses, Const, ConstKind, Flags, GenericArg, GenericArgs, Interner, Owned, Pat,
-    PatternKind, Predicate, PredicateKind, Refusal, Region, RegionAssumptions, Ty, TyKind,
-    TypeFlags, TypeFoldable, TypeVisitableExt, Tys,
+    BoundVarKinds, Clauses, Const, Flags, GenericArg, GenericArgs, Interner, Pat, Predicate,
+    Refusal, Ty,
 };
 
 // A handle that can test whether its flags can be read in an interner.
@@ -24,12 +22,6 @@ impl Flagged for Ty {
     }
 }
 
-impl Flagged for Tys {
-    fn has_flags(&self, cx: &Interner) -> bool {
-        cx.owns(*self)
-    }
-}
-
 impl Flagged for GenericArgs {
     fn has_flags(&self, cx: &Interner) -> bool {
         cx.owns(*self)
@@ -39,12 +31,6 @@ impl Flagged for GenericArgs {
 impl Flagged for BoundVarKinds {
     fn has_flags(&self, cx: &Interner) -> bool {
         cx.owns(*self)
-    }
-}
-
-impl Flagged for Region {
-    fn has_flags(&self, cx: &Interner) -> bool {
-        cx.owns_region(self)
     }
 }
 
@@ -78,12 +64,6 @@ impl Flagged for Clauses {
     }
 }
 
-impl Flagged for RegionAssumptions {
-    fn has_flags(&self, cx: &Interner) -> bool {
-        cx.owns(*self)
-    }
-}
-
 // Returns the flags and the outer exclusive binder, as numbers.
 pub fn info<T: Flagged>(cx: &Interner, term: &T) -> Result<(u32, u32), Refusal> {
     if term.has_flags(cx) {
@@ -94,69 +74,4 @@ pub fn info<T: Flagged>(cx: &Interner, term: &T) -> Result<(u32, u32), Refusal> 
     } else {
         Err(NOT_OWNED)
     }
-}
-
-// Returns whether the value has a flag of the mask.
-pub fn has_flags<T: Owned + TypeFoldable>(cx: &Interner, value: &T, mask: TypeFlags) -> bool {
-    value.is_owned(cx) && value.has_type_flags(cx, mask)
-}
-
-// Returns the flags and the outer exclusive binder of the type of this kind.
-pub fn info_of_kind(cx: &mut Interner, kind: TyKind) -> Result<(u32, u32), Refusal> {
-    let term = ty(cx, kind)?;
-    info(cx, &term)
-}
-
-// Returns the flags and the outer exclusive binder of a predicate.
-pub fn info_of_predicate(
-    cx: &mut Interner,
-    kind: PredicateKind,
-    vars: BoundVarKinds,
-) -> Result<(u32, u32), Refusal> {
-    let term = predicate(cx, kind, vars)?;
-    info(cx, &term)
-}
-
-// A kind whose term can be built, and whose cached information can then be read.
-pub trait Built {
-    // Returns the flags and the outer exclusive binder of the term.
-    fn info_of_term(&self, cx: &mut Interner) -> Result<(u32, u32), Refusal>;
-}
-
-impl Built for TyKind {
-    fn info_of_term(&self, cx: &mut Interner) -> Result<(u32, u32), Refusal> {
-        info_of_kind(cx, *self)
-    }
-}
-
-impl Built for ConstKind {
-    fn info_of_term(&self, cx: &mut Interner) -> Result<(u32, u32), Refusal> {
-        let term = constant(cx, *self)?;
-        info(cx, &term)
-    }
-}
-
-impl Built for PatternKind {
-    fn info_of_term(&self, cx: &mut Interner) -> Result<(u32, u32), Refusal> {
-        let term = pattern(cx, *self)?;
-        info(cx, &term)
-    }
-}
-
-// The predicate is under a binder of one region.
-impl Built for PredicateKind {
-    fn info_of_term(&self, cx: &mut Interner) -> Result<(u32, u32), Refusal> {
-        let vars = one_region(cx)?;
-        info_of_predicate(cx, *self, vars)
-    }
-}
-
-// Returns whether the term of each kind has these flags and this outer exclusive binder.
-pub fn are_infos<K: Built>(cx: &mut Interner, rows: &[(K, u32, u32)]) -> Result<bool, Refusal> {
-    for row in rows {
-        if row.0.info_of_term(cx)? != (row.1, row.2) {
-            return Ok(false);
-        }
-    }
-    Ok(true)
 }

@@ -3,14 +3,12 @@
 
 pub mod checks;
 pub mod flags;
-pub mod folders;
 pub mod kinds;
 pub mod terms;
 pub mod visitors;
 
 pub use checks::{answer_anew, answer_within, instance, is_instance, is_shifted, shifted};
-pub use flags::{Built, Flagged, are_infos, has_flags, info, info_of_kind, info_of_predicate};
-pub use folders::with_one_predicate;
+pub use flags::{Flagged, info};
 pub use kinds::{
     clause, clauses, constant, consts, existential, pattern, predicate, two_existentials,
     two_patterns,

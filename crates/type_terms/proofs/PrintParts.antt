@@ -8,16 +8,19 @@ use Rattle.std.proofs.lemmas.List.Elements.{All-head, All-tail, All-drop}
 use Rattle.std.proofs.lemmas.Option.{slice_get_within, get_or_from_slice_get}
 use Rattle.tt_kinds.specs.Label.{Name}
 use Rattle.tt_kinds.specs.Tree.{count_trees}
-use Rattle.tt_kinds.specs.Shape.{Shapes, Meaning, fill, fill_all, append}
+use Rattle.tt_kinds.specs.Shape.{Shapes, Meaning, fill, fill_all, name_of, append}
 use Rattle.tt_kinds.specs.Kinds.{region_shape, node_shape, list_shape, child_shapes, children_shapes, parts_shapes}
-use Rattle.tt_kinds.specs.Parts.{IsItem, child_sort}
+use Rattle.tt_kinds.specs.Parts.{IsItem, child_sort, one_part}
 use Rattle.tt_kinds.specs.declared.parts.ListSort.{ListSort}
 use Rattle.tt_kinds.specs.declared.parts.ListSort.TheVariants as sort
 use Rattle.tt_kinds.specs.declared.parts.Child.{Child}
 use Rattle.tt_kinds.specs.declared.parts.Child.TheVariants as child
 use Rattle.tt_kinds.specs.declared.parts.Parts.{Parts}
 use Rattle.type_terms.specs.declared.ir_print.layout.Style.{Style}
-use Rattle.type_terms.specs.Text.{are_none, before_child, text_in, texts, child_text}
+use Rattle.type_terms.specs.declared.ir_print.layout.Style.TheVariants as style
+use Rattle.type_terms.specs.declared.ir_print.spelling.Spelling.{Spelling}
+use Rattle.type_terms.specs.Text.{Head, word, are_none, before_child, closing, head_text, text_in, texts, child_text}
+use Rattle.type_terms.specs.Spelling.{head_of, rename_head, spelled_text}
 
 module _ (item_name : ℕ → Name) (f : Meaning) (s : Style) where
   -- the last child
@@ -148,3 +151,22 @@ module _ (item_name : ℕ → Name) (f : Meaning) (s : Style) (o : ListSort) (li
       let later : (n + 1 == 0) ≡ false = grind (arith, nat_tests) in
       let item : IsItem o (child_sort x) = All-head (λ c. IsItem o (child_sort c)) x (drop (n + 1) list) (rw start at (All-drop (λ c. IsItem o (child_sort c)) n list are)) in
       rw (start, ← last, later) (child-then item_name f s (n == 0) x (children_shapes (drop (n + 1) list)) (item-there o x item))
+
+module _ (item_name : ℕ → Name) (f : Meaning) where
+  -- a child by itself, with nothing around it
+  alone-text : (c : Child) → texts item_name style.Joined true (fill_all f (parts_shapes (one_part c))) ++ closing style.Joined (count_trees (fill_all f (parts_shapes (one_part c))))
+      ≡ child_text item_name [] style.Joined (fill_all f (child_shapes c))
+  unfolding fill_all
+  alone-text child.Absent = refl
+  alone-text (child.Region r) = append-nil (text_in item_name style.Joined (fill f (region_shape r)) ++ []) ∙ append-nil (text_in item_name style.Joined (fill f (region_shape r)))
+  alone-text (child.Node n) = append-nil (text_in item_name style.Joined (fill f (node_shape n)) ++ []) ∙ append-nil (text_in item_name style.Joined (fill f (node_shape n)))
+  alone-text (child.List l) = append-nil (text_in item_name style.Joined (fill f (list_shape l)) ++ []) ∙ append-nil (text_in item_name style.Joined (fill f (list_shape l)))
+
+  -- what is spelled by no word around one child is the child's text
+  pub child-spelled : (s : Spelling) (c : Child) → head_of s ≡ word [] → s.style ≡ style.Joined
+      → spelled_text item_name f s (fill_all f (parts_shapes (one_part c))) ≡ child_text item_name [] style.Joined (fill_all f (child_shapes c))
+  child-spelled s c of_head of_style =
+      let ts = fill_all f (parts_shapes (one_part c)) in
+      ap (λ (h : Head ℕ). head_text item_name (rename_head (name_of f) h) ++ (texts item_name s.style true ts ++ closing s.style (count_trees ts))) of_head
+      ∙ ap (λ (x : Style). texts item_name x true ts ++ closing x (count_trees ts)) of_style
+      ∙ alone-text c

@@ -19,7 +19,7 @@ use Rattle.type_terms.specs.declared.ir_print.layout.Place.TheVariants as place
 use Rattle.type_terms.specs.declared.ir_print.pieces.Piece.{Piece}
 use Rattle.type_terms.specs.Text.{style_in, are_none, before_child, closing, names, text_in, texts, child_text, Begins, Writes}
 use Rattle.type_terms.specs.Pieces.{inner_work, forest_work, child_work, piece_text, pieces_text, pieces_work, ArePieces, Adds, Opened, Opens, Left}
-use Rattle.type_terms.proofs.PrintSteps.{begins-same, begins-more}
+use Rattle.type_terms.proofs.PrintSteps.{begins-same, begins-more, writes-end}
 use Rattle.type_terms.proofs.PrintLaws.{list-written}
 use Rattle.type_terms.proofs.PrintParts.{AreItems, parts-written, count-items, item-then, drop-from}
 
@@ -144,6 +144,14 @@ module _ (rows : List Row) where
   left-starts a none ps whole work is h =
       let k = rw is at h in
       record { text = ap (λ w. a ++ w) (k.text ∙ append-nil whole); kept = begins-same a; parts = k.parts tt }
+
+  -- all is left
+  pub left-all : (a : List ℕ) (ps : List Piece) → ArePieces rows ps → Left rows a a ps (pieces_text rows ps)
+  left-all a ps parts = record { text = refl; kept = begins-same a; parts = parts }
+
+  -- what was left was written
+  pub left-written : {T E : Type 0} (r : Result T E) (a b c : List ℕ) (ps : List Piece) (whole : List ℕ) → Left rows a b ps whole → Writes r b c (pieces_text rows ps) → Writes r a c whole
+  left-written r a b c ps whole h k = writes-end r a b c (pieces_text rows ps) whole h.text h.kept k
 
   -- the next piece was taken and begun
   pub left-goes-on : (a b c : List ℕ) (ps rest new : List Piece) (p : Piece) (whole : List ℕ) (work : ℕ) → Left rows a b ps whole → ps ≡ rest ++ p ∷ []

@@ -1,5 +1,5 @@
 -- The promises of the steps of a building call.
-use Rattle.std.specs.Prelude.{◌≡◌, ◌↔◌, ℕ, ◌<◌, List, [], map, Result, IfOk, IfErr, OnOk, Some, IsSome, IsSomeAnd, ⊤}
+use Rattle.std.specs.Prelude.{◌≡◌, ◌↔◌, ℕ, ◌<◌, List, [], map, Result, IfOk, IfErr, OnOk, Some, IsSome, IsSomeAnd}
 use Rattle.tt_index.specs.declared.refusal.Refusal.{Refusal}
 use Rattle.tt_index.specs.declared.refusal.Refusal.TheVariants.{Memory, TableFull, GreatestIndex, NoSuchAnswer}
 use Rattle.tt_kinds.specs.Label.{var_list_label}

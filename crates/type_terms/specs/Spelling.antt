@@ -1,11 +1,13 @@
 -- How the kinds of terms are spelled: their heads and styles, by their labels.
-use Rattle.std.specs.Prelude.{ℕ, ◌<◌, []}
-use Rattle.tt_kinds.specs.Label.{type_sort, Label, type_label}
+use Rattle.std.specs.Prelude.{ℕ, ◌<◌, true, List, [], ◌++◌, Option, Some, None}
+use Rattle.tt_kinds.specs.Label.{Name, Sort, Label}
 use Rattle.tt_kinds.specs.Kinds.{Form, param, bound, plain, under}
 use Rattle.tt_kinds.specs.Shape as shape
-use Rattle.tt_kinds.specs.Shape.{Shape, Sizes}
-use Rattle.tt_kinds.specs.declared.table.Table.TheVariants.{Symbols}
-use Rattle.type_terms.specs.Text.{Subject, nothing, words, numbered, paired, item, called, Head, no_head, with_word, type_head, record_head, head, bound_head, free_head, record_style, style_in}
+use Rattle.tt_kinds.specs.Shape.{Shape, Sizes, Meaning, name_of, vars_of}
+use Rattle.tt_kinds.specs.Tree.{Depth, Forest, count_trees}
+use Rattle.tt_kinds.specs.declared.table.Table.TheVariants.{Symbols, VarLists}
+use Rattle.tt_kinds.specs.Handle.{BoundVarKinds}
+use Rattle.type_terms.specs.Text.{Subject, nothing, words, numbered, paired, sized, item, called, Head, no_head, with_word, record_head, head_in, bound_head, free_head, record_style, style_in, closing, head_text, variables_text, texts}
 use Rattle.type_terms.specs.declared.ir_print.layout.Style.{Style}
 use Rattle.type_terms.specs.declared.ir_print.layout.Style.TheVariants as style
 use Rattle.type_terms.specs.declared.ir_print.spelling.Subject.{Subject as SpelledSubject}
@@ -17,8 +19,9 @@ abbrev pub subject_of : SpelledSubject → Subject ℕ
 subject_of spelled.Nothing = nothing
 subject_of (spelled.Words w) = words w.now
 subject_of (spelled.Numbered n) = numbered n
-subject_of (spelled.Bits n) = numbered n
+subject_of (spelled.Counted n) = numbered n
 subject_of (spelled.Paired m n) = paired m n
+subject_of (spelled.Sized bits bytes) = sized bits bytes
 subject_of (spelled.Item d) = item d.number
 subject_of (spelled.Called s) = called s.number
 
@@ -26,17 +29,12 @@ subject_of (spelled.Called s) = called s.number
 abbrev pub head_of : Spelling → Head ℕ
 head_of s = record { before = s.before.now; subject = subject_of s.subject; after = s.after.now }
 
--- the head of a term under a binder: a type's own, or the head of the record under the binder
-abbrev pub under_head : Label ℕ → Head ℕ → Head ℕ
-under_head (type_label l) h = type_head l
-under_head _ h = h
-
--- the head of a form
-abbrev pub form_head : Form (Label ℕ) → Head ℕ
-form_head (param i name) = with_word [] (called name)
-form_head (bound d e) = bound_head type_sort d e.var
-form_head (plain l p) = head l
-form_head (under l vars m p) = under_head l (record_head m)
+-- the head of a form, where a variable represents something of the sort
+abbrev pub form_head : Sort → Form (Label ℕ) → Head ℕ
+form_head s (param i name) = with_word [] (called name)
+form_head s (bound d e) = bound_head s d e.var
+form_head s (plain l p) = head_in style.Joined l
+form_head s (under l vars m p) = record_head (style_in style.Joined l) m
 
 -- the style of a form's children
 abbrev pub form_style : Form (Label ℕ) → Style
@@ -59,6 +57,7 @@ module _ {N M : Type 0} (name : N → M) where
   rename_subject (words w) = words w
   rename_subject (numbered n) = numbered n
   rename_subject (paired m n) = paired m n
+  rename_subject (sized m n) = sized m n
   rename_subject (item d) = item d
   rename_subject (called n) = called (name n)
 
@@ -70,3 +69,12 @@ module _ {N M : Type 0} (name : N → M) where
 abbrev pub IsNamedSubject : Sizes → Subject ℕ → Type 0
 IsNamedSubject size (called n) = n < size Symbols
 IsNamedSubject size _ = Unit {0}
+
+-- the variables of a binder, if there is one
+abbrev pub binder_text : (ℕ → Name) → Meaning → Option BoundVarKinds → List ℕ
+binder_text item_name f None = []
+binder_text item_name f (Some vars) = variables_text item_name 0 (vars_of (f VarLists vars.number))
+
+-- the text of what is spelled so, around its children
+abbrev pub spelled_text : (ℕ → Name) → Meaning → Spelling → Forest Depth → List ℕ
+spelled_text item_name f s ts = head_text item_name (rename_head (name_of f) (head_of s)) ++ (texts item_name s.style true ts ++ closing s.style (count_trees ts))

@@ -15,6 +15,8 @@ use Rattle.tt_index.specs.declared.qualifier.Mutability.TheVariants.{Not, Mut}
 use Rattle.tt_index.specs.Abi.{abi_number}
 use Rattle.tt_kinds.specs.FnSig.{safety_bits, variadic_bits}
 use Rattle.tt_kinds.specs.declared.fn_sig.FnSigKind.{FnSigKind}
+use Rattle.tt_kinds.specs.declared.bound.BoundTyKind.{BoundTyKind}
+use Rattle.tt_kinds.specs.declared.bound.BoundTyKind.TheVariants as bound_ty
 use Rattle.tt_kinds.specs.Alias.{alias_number}
 use Rattle.tt_kinds.specs.declared.ty_kind.InferTy.{InferTy}
 use Rattle.tt_kinds.specs.declared.ty_kind.InferTy.TheVariants.{TyVar, IntVar, FloatVar, FreshTy, FreshIntTy, FreshFloatTy}
@@ -25,7 +27,9 @@ use Rattle.tt_kinds.specs.declared.predicate.BoundConstness.TheVariants as const
 use Rattle.tt_kinds.specs.declared.predicate_kind.AliasRelationDirection.{AliasRelationDirection}
 use Rattle.tt_kinds.specs.declared.predicate_kind.AliasRelationDirection.TheVariants as direction
 use Rattle.tt_kinds.specs.declared.table.Table.TheVariants.{Declarations}
-use Rattle.tt_kinds.specs.Label.{Name, Sort, region_sort, RegionName, anonymous, printed, named, environment, FreeRegion, static_region, erased_region, region_var, error_region, late_param_region, placeholder_region, TypeLabel, bool_type, char_type, int_type, uint_type, float_type, str_type, never_type, placeholder_type, infer_type, error_type, ref_type, raw_ptr_type, slice_type, tuple_type, fn_ptr_type, foreign_type, adt_type, array_type, pat_type, unsafe_binder_type, dynamic_type, closure_type, coroutine_closure_type, coroutine_type, coroutine_witness_type, alias_type, ConstLabel, infer_const, placeholder_const, unevaluated_const, leaf_const, branch_const, error_const, expr_const, PatternLabel, range_pattern, or_pattern, not_null_pattern, RecordLabel, fn_sig_tys_record, trait_record, host_effect_record, region_outlives_record, type_outlives_record, projection_record, const_has_type_record, well_formed_record, const_evaluatable_record, unstable_feature_record, dyn_compatible_record, subtype_record, coerce_record, const_equate_record, ambiguous_record, normalizes_to_record, alias_relate_record, existential_trait_record, existential_projection_record, auto_trait_record, Label, type_label, const_label, pattern_label, clause_list_label, list_label, record_label}
+use Rattle.tt_kinds.specs.declared.declaration.DeclarationKind.{DeclarationKind}
+use Rattle.tt_kinds.specs.declared.declaration.DeclarationKind.TheVariants as declaration
+use Rattle.tt_kinds.specs.Label.{Name, Sort, region_sort, type_sort, const_sort, RegionName, anonymous, printed, named, environment, VarKind, region_variable, type_variable, const_variable, FreeRegion, static_region, erased_region, region_var, error_region, late_param_region, placeholder_region, TypeLabel, bool_type, char_type, int_type, uint_type, float_type, str_type, never_type, placeholder_type, infer_type, error_type, ref_type, raw_ptr_type, slice_type, tuple_type, fn_ptr_type, foreign_type, adt_type, array_type, pat_type, unsafe_binder_type, dynamic_type, closure_type, coroutine_closure_type, coroutine_type, coroutine_witness_type, alias_type, ConstLabel, infer_const, placeholder_const, unevaluated_const, leaf_const, branch_const, error_const, expr_const, PatternLabel, range_pattern, or_pattern, not_null_pattern, RecordLabel, fn_sig_tys_record, unsafe_binder_record, trait_record, host_effect_record, region_outlives_record, type_outlives_record, projection_record, const_has_type_record, well_formed_record, const_evaluatable_record, unstable_feature_record, dyn_compatible_record, subtype_record, coerce_record, const_equate_record, ambiguous_record, normalizes_to_record, alias_relate_record, existential_trait_record, existential_projection_record, auto_trait_record, trait_ref_record, alias_term_record, alias_ty_record, fn_sig_record, param_env_record, Label, type_label, const_label, pattern_label, clause_list_label, list_label, record_label}
 use Rattle.tt_kinds.specs.Tree.{Depth, at, canonical, Tree, Forest, param, bound, region, term, node, binder, none, also, count_trees}
 use Rattle.tt_kinds.specs.Shape.{name_of}
 use Rattle.tt_interner.specs.Rows.{Row, size, meaning}
@@ -40,6 +44,8 @@ pub data Subject (N : Type 0) : Type 0 where
   numbered : ℕ → Subject N
   -- two numbers, with a dot between them
   paired : ℕ → ℕ → Subject N
+  -- a value's bits, and how many bytes it has
+  sized : ℕ → ℕ → Subject N
   -- the declaration of this number
   item : ℕ → Subject N
   called : N → Subject N
@@ -120,10 +126,6 @@ abi_words k =
 abbrev pub is_variadic : FnSigKind → Bool
 is_variadic k = has_some_abi k Safe true || has_some_abi k Unsafe true
 
--- the style of a signature's types
-abbrev pub signature_style : FnSigKind → Style
-signature_style k = if is_variadic k then style.Variadic else style.Signature
-
 module _ {N : Type 0} where
   -- the head of an inference variable
   abbrev pub infer_head : InferTy → Head N
@@ -155,12 +157,12 @@ module _ {N : Type 0} where
   type_head (raw_ptr_type m) = pointer_head m
   type_head slice_type = word (codes "[")
   type_head tuple_type = no_head
-  type_head (fn_ptr_type h) = record { before = safety_word h.fn_sig_kind; subject = words (abi_words h.fn_sig_kind); after = codes "fn" }
+  type_head (fn_ptr_type h) = no_head
   type_head (foreign_type d) = with_word [] (item d)
   type_head (adt_type d) = with_word [] (item d)
   type_head array_type = word (codes "[")
-  type_head pat_type = no_head
-  type_head unsafe_binder_type = word (codes "unsafe binder ")
+  type_head pat_type = word (codes "pattern_type!(")
+  type_head unsafe_binder_type = no_head
   type_head dynamic_type = word (codes "dyn ")
   type_head (closure_type d) = with_word (codes "{closure ") (item d)
   type_head (coroutine_closure_type d) = with_word (codes "{coroutine closure ") (item d)
@@ -176,9 +178,9 @@ module _ {N : Type 0} where
   -- the heads of constants
   abbrev pub const_head : ConstLabel → Head N
   const_head (infer_const i) = infer_const_head i
-  const_head (placeholder_const p) = with_word (codes "!") (paired p.universe p.bound.var)
+  const_head (placeholder_const p) = record { before = codes "!"; subject = paired p.universe p.bound.var; after = codes "c" }
   const_head (unevaluated_const d) = with_word [] (item d)
-  const_head (leaf_const bits bytes) = record { before = []; subject = numbered bits; after = codes "_" }
+  const_head (leaf_const bits bytes) = record { before = []; subject = sized bits bytes; after = codes "_" }
   const_head branch_const = no_head
   const_head (error_const e) = word (codes "{const error}")
   const_head (expr_const tag) = with_word (codes "{expr ") (numbered tag)
@@ -186,7 +188,7 @@ module _ {N : Type 0} where
   -- the heads of patterns
   abbrev pub pattern_head : PatternLabel → Head N
   pattern_head range_pattern = no_head
-  pattern_head or_pattern = no_head
+  pattern_head or_pattern = word (codes "(")
   pattern_head not_null_pattern = word (codes "!null")
 
   -- the head of a predicate on the effects of a trait's items
@@ -194,43 +196,62 @@ module _ {N : Type 0} where
   effect_head constness.Const d = with_word (codes "HostEffectPredicate(const ") (item d)
   effect_head constness.Maybe d = with_word (codes "HostEffectPredicate([const] ") (item d)
 
-  -- the heads of records
-  abbrev pub record_head : RecordLabel N → Head N
-  record_head (trait_record d) = with_word (codes "TraitPredicate(") (item d)
-  record_head (host_effect_record d c) = effect_head c d
-  record_head region_outlives_record = word (codes "OutlivesPredicate(")
-  record_head type_outlives_record = word (codes "OutlivesPredicate(")
-  record_head (projection_record d) = with_word (codes "ProjectionPredicate(") (item d)
-  record_head const_has_type_record = word (codes "ConstArgHasType(")
-  record_head well_formed_record = word (codes "WellFormed(")
-  record_head const_evaluatable_record = word (codes "ConstEvaluatable(")
-  record_head (unstable_feature_record name) = with_word (codes "UnstableFeature(") (called name)
-  record_head (dyn_compatible_record d) = with_word (codes "DynCompatible(") (item d)
-  record_head (subtype_record b) = word (codes "SubtypePredicate(")
-  record_head coerce_record = word (codes "CoercePredicate(")
-  record_head const_equate_record = word (codes "ConstEquate(")
-  record_head ambiguous_record = word (codes "Ambiguous")
-  record_head (normalizes_to_record d) = with_word (codes "NormalizesTo(") (item d)
-  record_head (alias_relate_record r) = word (codes "AliasRelate(")
-  record_head (existential_trait_record d) = with_word [] (item d)
-  record_head (existential_projection_record d) = with_word [] (item d)
-  record_head (auto_trait_record d) = with_word [] (item d)
-  record_head _ = no_head
+  -- the head of a subtyping predicate, which says whether the first type is the expected one
+  abbrev pub subtype_head : Bool → Head N
+  subtype_head true = word (codes "SubtypePredicate(a_is_expected: true, ")
+  subtype_head false = word (codes "SubtypePredicate(a_is_expected: false, ")
 
-  -- the head of a label
-  abbrev pub head : Label N → Head N
-  head (type_label l) = type_head l
-  head (const_label l) = const_head l
-  head (pattern_label l) = pattern_head l
-  head (record_label l) = record_head l
-  head _ = no_head
+  -- the words of a function in front of its types, where the style has them
+  abbrev pub fn_head : Style → Head N
+  fn_head (style.Signature k) = record { before = safety_word k; subject = words (abi_words k); after = codes "fn" }
+  fn_head _ = no_head
+
+  -- the heads of records in a term of the style
+  abbrev pub record_head : Style → RecordLabel N → Head N
+  record_head s fn_sig_tys_record = fn_head s
+  record_head s unsafe_binder_record = word (codes "unsafe binder ")
+  record_head s (trait_record d) = with_word (codes "TraitPredicate(") (item d)
+  record_head s (host_effect_record d c) = effect_head c d
+  record_head s region_outlives_record = word (codes "OutlivesPredicate(")
+  record_head s type_outlives_record = word (codes "OutlivesPredicate(")
+  record_head s (projection_record d) = with_word (codes "ProjectionPredicate(") (item d)
+  record_head s const_has_type_record = word (codes "ConstArgHasType(")
+  record_head s well_formed_record = word (codes "WellFormed(")
+  record_head s const_evaluatable_record = word (codes "ConstEvaluatable(")
+  record_head s (unstable_feature_record name) = with_word (codes "UnstableFeature(") (called name)
+  record_head s (dyn_compatible_record d) = with_word (codes "DynCompatible(") (item d)
+  record_head s (subtype_record b) = subtype_head b
+  record_head s coerce_record = word (codes "CoercePredicate(")
+  record_head s const_equate_record = word (codes "ConstEquate(")
+  record_head s ambiguous_record = word (codes "Ambiguous")
+  record_head s (normalizes_to_record d) = with_word (codes "NormalizesTo(") (item d)
+  record_head s (alias_relate_record r) = word (codes "AliasRelate(")
+  record_head s (existential_trait_record d) = with_word [] (item d)
+  record_head s (existential_projection_record d) = with_word [] (item d)
+  record_head s (auto_trait_record d) = with_word [] (item d)
+  record_head s (trait_ref_record d) = with_word [] (item d)
+  record_head s (alias_term_record d) = with_word [] (item d)
+  record_head s (alias_ty_record k) = with_word [] (item (alias_number k))
+  record_head s (fn_sig_record k) = fn_head (style.Signature k)
+  record_head s param_env_record = word (codes "ParamEnv(")
+  record_head s _ = no_head
+
+  -- the head of a label in a term of the style
+  abbrev pub head_in : Style → Label N → Head N
+  head_in s (type_label l) = type_head l
+  head_in s (const_label l) = const_head l
+  head_in s (pattern_label l) = pattern_head l
+  head_in s (record_label l) = record_head s l
+  head_in s _ = no_head
 
   -- the mark of a bound variable, and its numbers
   abbrev pub bound_head : Sort → Depth → ℕ → Head N
   bound_head region_sort (at d) var = with_word (codes "'^") (paired d var)
   bound_head region_sort canonical var = with_word (codes "'^c.") (numbered var)
-  bound_head _ (at d) var = with_word (codes "^") (paired d var)
-  bound_head _ canonical var = with_word (codes "^c.") (numbered var)
+  bound_head type_sort (at d) var = with_word (codes "^") (paired d var)
+  bound_head type_sort canonical var = with_word (codes "^c.") (numbered var)
+  bound_head const_sort (at d) var = record { before = codes "^"; subject = paired d var; after = codes "c" }
+  bound_head const_sort canonical var = record { before = codes "^c."; subject = numbered var; after = codes "c" }
 
   -- the name of a region
   abbrev pub region_name_head : RegionName N → Head N
@@ -239,10 +260,34 @@ module _ {N : Type 0} where
   region_name_head (named d) = with_word [] (item d)
   region_name_head environment = word (codes "'{env}")
 
+  -- the mark of a binder's variable, and its place in the list
+  abbrev pub variable_head : ℕ → VarKind N → Head N
+  variable_head n (region_variable r) = with_word (codes "'^") (numbered n)
+  variable_head n (type_variable k) = with_word (codes "^") (numbered n)
+  variable_head n const_variable = record { before = codes "^"; subject = numbered n; after = codes "c" }
+
+  -- the name of a bound region after its place, if it has one
+  abbrev pub region_title : RegionName N → Head N
+  region_title anonymous = no_head
+  region_title (printed name) = with_word (codes " ") (called name)
+  region_title (named d) = with_word (codes " ") (item d)
+  region_title environment = word (codes " '{env}")
+
+  -- the name of a bound type after its place, if it has one
+  abbrev pub ty_title : BoundTyKind → Head N
+  ty_title bound_ty.Anon = no_head
+  ty_title (bound_ty.Param d) = with_word (codes " ") (item d.number)
+
+  -- the name of a binder's variable after its place, if it has one
+  abbrev pub variable_title : VarKind N → Head N
+  variable_title (region_variable r) = region_title r
+  variable_title (type_variable k) = ty_title k
+  variable_title const_variable = no_head
+
   -- a region that is neither an early parameter nor bound
   abbrev pub free_head : FreeRegion N → Head N
   free_head static_region = word (codes "'static")
-  free_head erased_region = word (codes "'erased")
+  free_head erased_region = word (codes "'{erased}")
   free_head (region_var v) = with_word (codes "'?") (numbered v)
   free_head (error_region e) = word (codes "'{region error}")
   free_head (late_param_region d r) = region_name_head r
@@ -256,7 +301,7 @@ type_style slice_type = style.Square
 type_style tuple_type = style.Tuple
 type_style (adt_type d) = style.Generic
 type_style array_type = style.Square
-type_style (fn_ptr_type h) = signature_style h.fn_sig_kind
+type_style (fn_ptr_type h) = style.Signature h.fn_sig_kind
 type_style pat_type = style.Restricted
 type_style dynamic_type = style.Dynamic
 type_style (closure_type d) = style.Braced
@@ -284,14 +329,9 @@ abbrev pub relation_style : AliasRelationDirection → Style
 relation_style direction.Equate = style.Equated
 relation_style direction.Subtype = style.Subtyped
 
--- the style of a signature's types, in a term of this style
-abbrev pub signature_in : Style → Style
-signature_in style.Variadic = style.Variadic
-signature_in _ = style.Signature
-
 -- the style of a record's members, in a term of the first style
 abbrev pub record_style : {N : Type 0} → Style → RecordLabel N → Style
-record_style s fn_sig_tys_record = signature_in s
+record_style s fn_sig_tys_record = s
 record_style s (trait_record d) = style.Record
 record_style s (host_effect_record d c) = style.Record
 record_style s region_outlives_record = style.Record
@@ -309,6 +349,11 @@ record_style s (normalizes_to_record d) = style.Record
 record_style s (alias_relate_record r) = relation_style r
 record_style s (existential_trait_record d) = style.Generic
 record_style s (existential_projection_record d) = style.Generic
+record_style s (trait_ref_record d) = style.Generic
+record_style s (alias_term_record d) = style.Generic
+record_style s (alias_ty_record k) = style.Generic
+record_style s (fn_sig_record k) = style.Signature k
+record_style s param_env_record = style.Record
 record_style s _ = style.Joined
 
 -- the style of a list in a term of this style
@@ -317,8 +362,7 @@ list_style style.Generic = style.Arguments
 list_style style.Braced = style.Arguments
 list_style style.Record = style.Arguments
 list_style style.Tuple = style.Elements
-list_style style.Signature = style.Inputs
-list_style style.Variadic = style.VariadicInputs
+list_style (style.Signature k) = if is_variadic k then style.VariadicInputs else style.Inputs
 list_style style.Dynamic = style.Bounds
 list_style style.OneOf = style.Alternatives
 list_style style.Branch = style.Values
@@ -377,6 +421,8 @@ before_child s false last = separator s last
 -- the text after so many children
 abbrev pub closing : Style → ℕ → List ℕ
 closing style.Square n = codes "]"
+closing style.Restricted n = codes ")"
+closing style.OneOf n = codes ")"
 closing style.Braced n = codes "}"
 closing style.Record n = codes ")"
 closing style.Equated n = codes ")"
@@ -394,6 +440,16 @@ closing style.Bounds zero = []
 closing style.Bounds (suc n) = codes " + "
 closing _ n = []
 
+-- the text in front of the variable of this place in a binder's list
+abbrev pub before_variable : ℕ → List ℕ
+before_variable zero = codes "for<"
+before_variable (suc n) = codes ", "
+
+-- the text after so many variables of a binder
+abbrev pub after_variables : ℕ → List ℕ
+after_variables zero = []
+after_variables (suc n) = codes "> "
+
 -- there are no trees
 abbrev pub are_none : {I : Type 0} → Forest I → Bool
 are_none none = true
@@ -406,6 +462,7 @@ module _ (item_name : ℕ → Name) where
   subject_text (words w) = w
   subject_text (numbered n) = decimal n
   subject_text (paired m n) = decimal m ++ (46 ∷ decimal n)
+  subject_text (sized m n) = decimal m ++ (58 ∷ decimal n)
   subject_text (item d) = item_name d
   subject_text (called name) = name
 
@@ -413,15 +470,24 @@ module _ (item_name : ℕ → Name) where
   abbrev pub head_text : Head Name → List ℕ
   head_text h = h.before ++ (subject_text h.subject ++ h.after)
 
+  -- the variable of this place in a binder's list
+  abbrev pub variable_text : ℕ → VarKind Name → List ℕ
+  variable_text n v = head_text (variable_head n v) ++ head_text (variable_title v)
+
+  -- the variables of a binder from this place on
+  abbrev pub variables_text : ℕ → List (VarKind Name) → List ℕ
+  variables_text n [] = after_variables n
+  variables_text n (v ∷ vs) = before_variable n ++ (variable_text n v ++ variables_text (suc n) vs)
+
   abbrev mutual
     -- the text of a tree in a term of the style
     pub text_in : Style → Tree Depth → List ℕ
     text_in s (param o i name) = name
     text_in s (bound o d e) = head_text (bound_head o d e.var)
     text_in s (region r) = head_text (free_head r)
-    text_in s (term l ts) = head_text (head l) ++ (texts (style_in s l) true ts ++ closing (style_in s l) (count_trees ts))
-    text_in s (node l ts) = head_text (head l) ++ (texts (style_in s l) true ts ++ closing (style_in s l) (count_trees ts))
-    text_in s (binder vs t) = text_in s t
+    text_in s (term l ts) = head_text (head_in s l) ++ (texts (style_in s l) true ts ++ closing (style_in s l) (count_trees ts))
+    text_in s (node l ts) = head_text (head_in s l) ++ (texts (style_in s l) true ts ++ closing (style_in s l) (count_trees ts))
+    text_in s (binder vs t) = variables_text 0 vs ++ text_in s t
 
     -- the texts of children, each with the text in front of it; the first of them may be the first of all
     pub texts : Style → Bool → Forest Depth → List ℕ
@@ -437,9 +503,23 @@ module _ (item_name : ℕ → Name) where
   abbrev pub text : Tree Depth → List ℕ
   text t = text_in style.Joined t
 
--- the name of the declaration of a number, or the number if there is none
+-- the own name of the declaration of a number, or the number if there is none
+abbrev pub own_name : List Row → ℕ → Name
+own_name rows d = if nat_lt d (size rows Declarations) then name_of (meaning rows) (declared_at rows (record { number = d })).name.number else 35 ∷ decimal d
+
+-- what is in front of the name of what is declared: the trait or the implementation that it belongs to
+abbrev pub owner_of : List Row → DeclarationKind → Name
+owner_of rows (declaration.AssocTy t) = own_name rows t.number ++ codes "::"
+owner_of rows (declaration.Inherent i) = own_name rows i.number ++ codes "::"
+owner_of rows _ = []
+
+-- what is in front of the name of the declaration of a number
+abbrev pub owner_name : List Row → ℕ → Name
+owner_name rows d = if nat_lt d (size rows Declarations) then owner_of rows (declared_at rows (record { number = d })).kind else []
+
+-- the name of the declaration of a number
 abbrev pub names : List Row → ℕ → Name
-names rows d = if nat_lt d (size rows Declarations) then name_of (meaning rows) (declared_at rows (record { number = d })).name.number else 35 ∷ decimal d
+names rows d = owner_name rows d ++ own_name rows d
 
 -- bytes were added, or none
 pub record Begins (old new : List ℕ) : Type 0 where

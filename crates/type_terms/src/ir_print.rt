@@ -6,43 +6,75 @@ ghost use Rattle.std.specs.Prelude.{
   [],
   ◌∷◌,
   ◌++◌,
+  codes,
   decimal,
   string_bytes,
+  IfOk,
   OnErr,
   OnOk,
+  Some,
 };
-ghost use Rattle.tt_kinds.specs.Kinds.{child_shapes, kind_shape, node_shape, region_shape};
-ghost use Rattle.tt_kinds.specs.Shape.{AreParts, HasParts, IsPart, fill, fill_all, name_of};
-ghost use Rattle.tt_kinds.specs.declared.table.Table.TheVariants.{Symbols};
+ghost use Rattle.tt_kinds.specs.Kinds.{child_shapes, kind_shape, node_shape, parts_shapes, region_shape};
+ghost use Rattle.tt_kinds.specs.Bound.{var_kind};
+ghost use Rattle.tt_kinds.specs.Shape.{
+  AreParts,
+  HasParts,
+  IsNamedKind,
+  IsPart,
+  fill,
+  fill_all,
+  name_of,
+  rename_kind,
+  vars_of,
+};
+ghost use Rattle.tt_kinds.specs.declared.table.Table.TheVariants.{Symbols, VarLists};
+ghost use Rattle.tt_kinds.specs.Handle.{BoundVarKinds};
 ghost use Rattle.tt_interner.specs.Rows.{meaning, size};
-ghost use Rattle.type_terms.specs.Pieces.{Opens, child_work, inner_work, piece_text};
-ghost use Rattle.type_terms.specs.Spelling.{IsNamedSubject, head_of, rename_head, rename_subject, subject_of};
+ghost use Rattle.type_terms.specs.Pieces.{ArePieces, Opens, child_work, inner_work, piece_text, pieces_text};
+ghost use Rattle.type_terms.specs.Spelling.{
+  IsNamedSubject,
+  binder_text,
+  head_of,
+  rename_head,
+  rename_subject,
+  spelled_text,
+  subject_of,
+};
 ghost use Rattle.type_terms.specs.Text.{
   Writes,
   child_text,
   head_text,
   names,
+  own_name,
+  owner_name,
+  owner_of,
   subject_text,
   text,
   text_in,
+  variable_text,
+  variables_text,
 };
 ghost use Rattle.type_terms.specs.declared.ir_print.layout.Style.{Style as Styles};
 
 mod layout;
 mod pieces;
 mod spelling;
+mod values;
 mod words;
 
 use itoa::Buffer;
-use layout::Style;
-use pieces::{Piece, Pieces, push_child, push_list, push_parts};
+use layout::{Style, after_variables, before_variable};
+use pieces::{Piece, Pieces, push_list, push_parts};
 use smallvec::SmallVec;
-use spelling::{Spelling, Subject, kind_spelling, region_spelling};
+use spelling::{
+    Spelling, Subject, kind_spelling, region_spelling, variable_spelling, variable_title, worded,
+};
 use std::alloc::AllocError;
-use tt_interner::{InternedText, Interner};
+use tt_interner::{InternedList, InternedText, Interner};
 use tt_kinds::{
-    Child, Clause, Const, DefId, GenericArg, GenericArgKind, Kind, List, Node, Pat,
-    PolyExistentialPredicate, Predicate, Region, Symbol, Term, TermKind, Ty,
+    BoundVarKinds, BoundVariableKind, Child, Clause, Const, DeclarationKind, DefId, GenericArg,
+    GenericArgKind, Kind, List, Node, Parts, Pat, PolyExistentialPredicate, Predicate, Region,
+    Symbol, Term, TermKind, Ty,
 };
 use tt_visit::TypeVisitable;
 
@@ -60,7 +92,14 @@ fn write_number(out: &mut String, number: u32) -> Result<(), AllocError>
     out.push_str(Buffer::new().format(number))
 }
 
-// Appends the bits, as a number.
+// Appends the place in a list.
+fn write_place(out: &mut String, place: usize) -> Result<(), AllocError>
+    ensures { Writes result (string_bytes out.old) (string_bytes out.new) (decimal place) }
+{
+    out.push_str(Buffer::new().format(place))
+}
+
+// Appends a value's bits, as a number.
 fn write_bits(out: &mut String, bits: u128) -> Result<(), AllocError>
     ensures { Writes result (string_bytes out.old) (string_bytes out.new) (decimal bits) }
 {
@@ -92,15 +131,62 @@ fn write_symbol(cx: &Interner, out: &mut String, name: Symbol) -> Result<(), All
     write_text(out, name.as_str(cx))
 }
 
-// Appends the name of a declaration, or its number if the interner has none of this id.
-fn write_item(cx: &Interner, out: &mut String, id: DefId) -> Result<(), AllocError>
-    ensures { Writes result (string_bytes out.old) (string_bytes out.new) (names cx.now.rows id.number) }
+// Appends the own name of a declaration, or its number if the interner has none of this id.
+fn write_own_name(cx: &Interner, out: &mut String, id: DefId) -> Result<(), AllocError>
+    ensures { Writes result (string_bytes out.old) (string_bytes out.new) (own_name cx.now.rows id.number) }
 {
     if cx.owns_def_id(id) {
         write_symbol(cx, out, cx.item_name(id))
     } else {
         write_marked(out, "#", id.number())
     }
+}
+
+// Appends a value's bits and its size, with a colon between them.
+fn write_sized(out: &mut String, bits: u128, size: u8) -> Result<(), AllocError>
+    ensures { Writes result (string_bytes out.old) (string_bytes out.new) (decimal bits ++ (58 ∷ decimal size)) }
+{
+    write_bits(out, bits)?;
+    write_marked(out, ":", size as u32)
+}
+
+// Appends the name of a trait or an implementation, in front of an item that belongs to it.
+fn write_path(cx: &Interner, out: &mut String, id: DefId) -> Result<(), AllocError>
+    ensures { Writes result (string_bytes out.old) (string_bytes out.new)
+        (own_name cx.now.rows id.number ++ codes "::") }
+{
+    write_own_name(cx, out, id)?;
+    write_text(out, "::")
+}
+
+// Appends the trait or the implementation that a declaration of this kind belongs to, if there is one.
+fn write_owner_of(cx: &Interner, out: &mut String, kind: &DeclarationKind) -> Result<(), AllocError>
+    ensures { Writes result (string_bytes out.old) (string_bytes out.new) (owner_of cx.now.rows kind.now) }
+{
+    match kind {
+        DeclarationKind::AssocTy(id) => write_path(cx, out, DefId::from_number(id.number())),
+        DeclarationKind::Inherent(id) => write_path(cx, out, DefId::from_number(id.number())),
+        _ => Ok(()),
+    }
+}
+
+// Appends the trait or the implementation that a declaration belongs to, if the interner has it and there is one.
+fn write_owner(cx: &Interner, out: &mut String, id: DefId) -> Result<(), AllocError>
+    ensures { Writes result (string_bytes out.old) (string_bytes out.new) (owner_name cx.now.rows id.number) }
+{
+    if cx.owns_def_id(id) {
+        write_owner_of(cx, out, &cx.declaration(id).kind)
+    } else {
+        Ok(())
+    }
+}
+
+// Appends the name of a declaration, behind the trait or the implementation that it belongs to.
+fn write_item(cx: &Interner, out: &mut String, id: DefId) -> Result<(), AllocError>
+    ensures { Writes result (string_bytes out.old) (string_bytes out.new) (names cx.now.rows id.number) }
+{
+    write_owner(cx, out, id)?;
+    write_own_name(cx, out, id)
 }
 
 // Appends the part of a term's data that is written.
@@ -115,8 +201,9 @@ fn write_subject(cx: &Interner, out: &mut String, subject: &Subject) -> Result<(
         Subject::Nothing => Ok(()),
         Subject::Words(words) => write_text(out, *words),
         Subject::Numbered(number) => write_number(out, *number),
-        Subject::Bits(bits) => write_bits(out, *bits),
+        Subject::Counted(place) => write_place(out, *place),
         Subject::Paired(first, second) => write_pair(out, *first, *second),
+        Subject::Sized(bits, size) => write_sized(out, *bits, *size),
         Subject::Item(id) => write_item(cx, out, *id),
         Subject::Called(name) => write_symbol(cx, out, *name),
     }
@@ -131,6 +218,59 @@ fn write_head(cx: &Interner, out: &mut String, spelling: &Spelling) -> Result<()
     write_text(out, spelling.before)?;
     write_subject(cx, out, &spelling.subject)?;
     write_text(out, spelling.after)
+}
+
+// Appends a binder's variable of this place in its list.
+fn write_variable(
+    cx: &Interner,
+    out: &mut String,
+    place: usize,
+    kind: &BoundVariableKind,
+) -> Result<(), AllocError>
+    requires { IsNamedKind (size cx.now.rows) (var_kind kind.now) }
+    ensures { Writes result (string_bytes out.old) (string_bytes out.new)
+        (variable_text
+        (names cx.now.rows)
+        place
+        (rename_kind (name_of (meaning cx.now.rows)) (var_kind kind.now))) }
+{
+    let spelling = variable_spelling(place, kind);
+    write_head(cx, out, &spelling)?;
+    let title = variable_title(kind);
+    write_head(cx, out, &title)
+}
+
+// Appends the variables of a binder.
+fn write_variables(cx: &Interner, out: &mut String, vars: BoundVarKinds) -> Result<(), AllocError>
+    requires { vars.number < size cx.now.rows VarLists }
+    ensures { Writes result (string_bytes out.old) (string_bytes out.new)
+        (variables_text (names cx.now.rows) 0 (vars_of (meaning cx.now.rows VarLists vars.number))) }
+{
+    cx.are_rows();
+    let items = vars.as_slice(cx);
+    let mut place = 0;
+    'variables: while place < items.len() {
+        write_text(out, before_variable(place))?;
+        write_variable(cx, out, place, &items[place])?;
+        place += 1;
+    }
+    write_text(out, after_variables(place))
+}
+
+// Appends the variables of a binder, if there is one.
+fn write_binder(
+    cx: &Interner,
+    out: &mut String,
+    vars: Option<BoundVarKinds>,
+) -> Result<(), AllocError>
+    requires { (list : BoundVarKinds) → vars ≡ Some list → list.number < size cx.now.rows VarLists }
+    ensures { Writes result (string_bytes out.old) (string_bytes out.new)
+        (binder_text (names cx.now.rows) (meaning cx.now.rows) vars) }
+{
+    match vars {
+        None => Ok(()),
+        Some(vars) => write_variables(cx, out, vars),
+    }
 }
 
 // Appends a region.
@@ -189,6 +329,7 @@ fn write_kind(
         (text_in (names cx.now.rows) s (fill (meaning cx.now.rows) (kind_shape kind.now)))
         (inner_work (fill (meaning cx.now.rows) (kind_shape kind.now))) }
 {
+    write_binder(cx, out, kind.bound_vars())?;
     let spelling = kind_spelling(kind);
     write_head(cx, out, &spelling)?;
     let parts = kind.parts();
@@ -222,22 +363,65 @@ fn write_piece(
     }
 }
 
-// Appends a child by itself.
-fn write_child(cx: &Interner, out: &mut String, child: &Child) -> Result<(), AllocError>
-    requires { AreParts (size cx.now.rows) (child_shapes child.now) }
-    ensures { Writes result (string_bytes out.old) (string_bytes out.new)
-        (child_text
-        (names cx.now.rows)
-        []
-        Style.Joined
-        (fill_all (meaning cx.now.rows) (child_shapes child.now))) }
+// Appends the pieces, and what they begin.
+fn write_pieces(cx: &Interner, out: &mut String, pieces: &mut Pieces) -> Result<(), AllocError>
+    requires { ArePieces cx.now.rows pieces.old.items }
+    ensures { Writes result (string_bytes out.old) (string_bytes out.new) (pieces_text cx.now.rows pieces.old.items) }
 {
-    let mut pieces: Pieces = SmallVec::new(cx.allocator());
-    push_child(&mut pieces, Style::Joined, child, true, true)?;
     'write: loop {
         match pieces.pop() {
             None => return Ok(()),
-            Some(piece) => write_piece(cx, out, &mut pieces, &piece)?,
+            Some(piece) => write_piece(cx, out, pieces, &piece)?,
+        }
+    }
+}
+
+// Appends what is spelled so, and its parts.
+fn write_record(
+    cx: &Interner,
+    out: &mut String,
+    spelling: &Spelling,
+    parts: &Parts,
+) -> Result<(), AllocError>
+    requires named { IsNamedSubject (size cx.now.rows) (head_of spelling.now).subject }
+    requires parts { AreParts (size cx.now.rows) (parts_shapes parts.now) }
+    ensures { Writes result (string_bytes out.old) (string_bytes out.new)
+        (spelled_text
+        (names cx.now.rows)
+        (meaning cx.now.rows)
+        spelling.now
+        (fill_all (meaning cx.now.rows) (parts_shapes parts.now))) }
+{
+    write_head(cx, out, spelling)?;
+    let mut pieces: Pieces = SmallVec::new(cx.allocator());
+    push_parts(&mut pieces, spelling.style, parts)?;
+    write_pieces(cx, out, &mut pieces)
+}
+
+// Appends what is spelled so, and its parts, or nothing if memory for it is refused.
+fn print_record(
+    cx: &Interner,
+    out: &mut String,
+    spelling: &Spelling,
+    parts: &Parts,
+) -> Result<(), AllocError>
+    requires named { IsNamedSubject (size cx.now.rows) (head_of spelling.now).subject }
+    requires parts { AreParts (size cx.now.rows) (parts_shapes parts.now) }
+    ensures ok { OnOk result (string_bytes out.new
+        ≡ string_bytes out.old
+        ++ spelled_text
+        (names cx.now.rows)
+        (meaning cx.now.rows)
+        spelling.now
+        (fill_all (meaning cx.now.rows) (parts_shapes parts.now))) }
+    ensures err { OnErr result (string_bytes out.new ≡ string_bytes out.old) }
+{
+    let start = out.len();
+    match write_record(cx, out, spelling, parts) {
+        Ok(()) => Ok(()),
+        Err(e) => {
+            out.truncate(start);
+            Err(e)
         }
     }
 }
@@ -254,23 +438,22 @@ fn print_child(cx: &Interner, out: &mut String, child: &Child) -> Result<(), All
         (fill_all (meaning cx.now.rows) (child_shapes child.now))) }
     ensures err { OnErr result (string_bytes out.new ≡ string_bytes out.old) }
 {
-    let start = out.len();
-    match write_child(cx, out, child) {
-        Ok(()) => Ok(()),
-        Err(e) => {
-            out.truncate(start);
-            Err(e)
-        }
-    }
+    let spelling = worded("", Style::Joined);
+    print_record(cx, out, &spelling, &Parts::one(*child))
 }
 
 /// A value whose text can be written.
 ///
 /// The text is close to the compiler's debug output: `&'^0.0 u32`, `fn(T) -> (u32, T)`, `dyn Iterator + 'static`. The
-/// result of a function pointer is always written, even `()`.
+/// result of a function pointer is always written, even `()`. A binder's variables are numbered, a constant has a `c`
+/// at its end, and a name comes after its number: `for<'^0, ^1 T, ^2c> fn(^0.1) -> ()`. A binder without variables
+/// isn't written. An associated type comes behind its trait: `Iterator::Item<T>`. A value is its bits, its size in
+/// bytes and its type: `4:8_usize`.
 ///
-/// A binder's list of variables isn't written, nor the name of a bound variable or a placeholder, so different terms
-/// may have the same text.
+/// Terms that differ have texts that differ, except where only a name tells them apart, or what has no text. Names are
+/// written as they are, so different items or parameters of one name have the same text, and so have a trait object's
+/// auto trait and the same trait without arguments. What isn't written: a parameter's index, the item of a region
+/// parameter seen from inside it, the name of a bound variable or of a placeholder, and the token of an error.
 pub trait IrPrint: TypeVisitable {
     /// Appends the value's text to `out`. The value's handles have to be of this interner;
     /// [`Owned::is_owned`](tt_visit::Owned::is_owned) tests it. An id that names no declaration of this interner is
@@ -283,6 +466,17 @@ pub trait IrPrint: TypeVisitable {
             ≡ string_bytes out.old
             ++ text (names cx.now.rows) (fill (meaning cx.now.rows) (Self.shape self.now))) }
         ensures err { OnErr result (string_bytes out.new ≡ string_bytes out.old) };
+
+    /// Returns the value's text, as [`print`](IrPrint::print) appends it.
+    final fn to_text(&self, cx: &Interner) -> Result<String, AllocError>
+        requires { IsPart (size cx.now.rows) (Self.shape self.now) }
+        ensures { IfOk result (λ written. string_bytes written
+            ≡ text (names cx.now.rows) (fill (meaning cx.now.rows) (Self.shape self.now))) }
+    {
+        let mut written = String::new(cx.allocator());
+        self.print(cx, &mut written)?;
+        Ok(written)
+    }
 }
 
 impl IrPrint for Ty {

@@ -7,40 +7,14 @@ ghost use Rattle.tt_kinds.specs.Values.{option_shape};
 ghost use Rattle.tt_interner.specs.Owned.{AreOwned, IsOwned};
 ghost use Rattle.tt_interner.specs.Stored.{Extends};
 
+use super::guide::Fault;
 use super::holds_anew;
-use std::alloc::{AllocError, AllocFailed};
 use test_terms::{NOT_OWNED, bound_ty, u32_ty};
 use type_terms::{InferTy, Interner, Owned, Refusal, Ty, TyKind, TyVid, shift_vars};
 
-// Why a type can't be inferred.
-#[derive(Clone, Copy, Debug, PartialEq, Eq, Drop)]
-enum TypeError {
-    TooManyVariables,
-    Refused(Refusal),
-}
-
-impl From<Refusal> for TypeError {
-    fn from(refusal: Refusal) -> TypeError {
-        TypeError::Refused(refusal)
-    }
-}
-
-impl From<AllocError> for TypeError {
-    fn from(_error: AllocError) -> TypeError {
-        TypeError::Refused(Refusal::Memory)
-    }
-}
-
-// `push` returns the item with the error.
-impl<T: Drop> From<AllocFailed<T>> for TypeError {
-    fn from(_error: AllocFailed<T>) -> TypeError {
-        TypeError::Refused(Refusal::Memory)
-    }
-}
-
 // Returns a new variable, which is unbound.
 #[tactic(auto, using(tt_interner::proofs::OwnedLaws::owned_laws))]
-fn fresh(cx: &mut Interner, bindings: &mut Vec<Option<Ty>>) -> Result<Ty, TypeError>
+fn fresh(cx: &mut Interner, bindings: &mut Vec<Option<Ty>>) -> Result<Ty, Fault>
     requires { AreOwned (option_shape ty_shape) cx.old bindings.old.items }
     ensures extends { Extends cx.old cx.new }
     ensures owned { IfOk result (λ ty. IsOwned ty_shape cx.new ty) }
@@ -48,7 +22,7 @@ fn fresh(cx: &mut Interner, bindings: &mut Vec<Option<Ty>>) -> Result<Ty, TypeEr
 {
     let number = bindings.len();
     if number >= 1_000_000 {
-        return Err(TypeError::TooManyVariables);
+        return Err(Fault::Refused(Refusal::TableFull));
     }
     let vid = TyVid::from_u32(number as u32);
     let ty = cx.mk_ty(TyKind::Infer(InferTy::TyVar(vid)))?;
@@ -97,7 +71,7 @@ fn shift_all(cx: &mut Interner, types: &mut Vec<Ty>, amount: u32) -> Result<(), 
 
 // Makes two variables, binds the first to a slice of the second, and reads both bindings.
 #[tactic(auto, using(tt_interner::proofs::OwnedLaws::owned_laws))]
-fn is_bound(cx: &mut Interner, bindings: &mut Vec<Option<Ty>>) -> Result<bool, TypeError>
+fn is_bound(cx: &mut Interner, bindings: &mut Vec<Option<Ty>>) -> Result<bool, Fault>
     requires { AreOwned (option_shape ty_shape) cx.old bindings.old.items }
 {
     let first = fresh(cx, bindings)?;

@@ -1,7 +1,7 @@
 //! A user's canonicalizer: inference variables are replaced by variables of a canonical query.
 
-use super::{holds_anew, holds_within};
-use test_terms::{NOT_OWNED, bound_region, ref_ty, ty, tys};
+use super::holds_within;
+use test_terms::{NOT_OWNED, ty, tys};
 use type_terms::{
     BoundTy, BoundTyKind, BoundVar, BoundVarIndexKind, InferTy, InternedKind, Interner, Owned,
     Refusal, Step, Ty, TyKind, TyVid, TypeFoldable, TypeReplacer, replace_types,
@@ -81,42 +81,32 @@ fn canonicalized<T: Owned + TypeFoldable>(
     }
 }
 
+// Variables are numbered as they are met. There is no room for a third variable of the query; the canonicalizer is used
+// again, and has kept its numbers.
 fn variables_are_numbered_as_they_are_met_holds(cx: &mut Interner) -> Result<bool, Refusal> {
-    let (seven, three) = (variable(cx, 7)?, variable(cx, 3)?);
+    let (seven, three, nine) = (variable(cx, 7)?, variable(cx, 3)?, variable(cx, 9)?);
     let (first, second) = (canonical(cx, 0)?, canonical(cx, 1)?);
-    let region = bound_region(0)?;
-    let before = ref_ty(cx, region, seven)?;
-    let after = ref_ty(cx, region, first)?;
+    let before = ty(cx, TyKind::Slice(seven))?;
+    let after = ty(cx, TyKind::Slice(first))?;
     let query = tys(cx, &[before, three, seven])?;
     let wanted = tys(cx, &[after, second, first])?;
     let mut folder = Canonicalizer {
         met: Vec::new(cx.allocator()),
     };
-    Ok(canonicalized(cx, query, &mut folder) == Ok(wanted) && folder.met.len() == 2)
+    Ok(
+        canonicalized(cx, query, &mut folder) == Ok(wanted)
+            && folder.met.len() == 2
+            && canonicalized(cx, (seven, nine), &mut folder) == Err(Refusal::TableFull)
+            && canonicalized(cx, (three, seven), &mut folder) == Ok((second, first)),
+    )
 }
 
 #[test]
 fn variables_are_numbered_as_they_are_met(rt: HostRuntime) {
-    holds_anew(
+    holds_within(
         &rt,
         rt.alloc(),
+        7,
         variables_are_numbered_as_they_are_met_holds,
     );
-}
-
-// There is no room for a second variable of the query. The first is found again, under its number.
-fn numbers_stay_after_a_refusal_holds(cx: &mut Interner) -> Result<bool, Refusal> {
-    let (seven, three) = (variable(cx, 7)?, variable(cx, 3)?);
-    let first = canonical(cx, 0)?;
-    let mut folder = Canonicalizer {
-        met: Vec::new(cx.allocator()),
-    };
-    let refused = canonicalized(cx, (seven, three), &mut folder);
-    let found = canonicalized(cx, (seven, seven), &mut folder);
-    Ok(refused == Err(Refusal::TableFull) && found == Ok((first, first)))
-}
-
-#[test]
-fn numbers_stay_after_a_refusal(rt: HostRuntime) {
-    holds_within(&rt, rt.alloc(), 3, numbers_stay_after_a_refusal_holds);
 }

@@ -2,7 +2,7 @@
 
 ghost use Rattle.tt_kinds.specs.Kinds.{ty_shape};
 
-use super::{holds_anew, holds_within};
+use super::holds_within;
 use test_terms::{NOT_OWNED, args, bound_region, param_ty, ref_ty, ty, u32_ty};
 use type_terms::{
     AliasTy, AliasTyKind, EarlyBinder, FreeTyAliasId, GenericArg, Instantiate, InternedKind,
@@ -54,52 +54,29 @@ fn normalized<T: Owned + TypeFoldable>(
     }
 }
 
-// The alias is normalized to the slice of its argument, inside references too.
+// The alias is normalized to the slice of its argument, inside references too. There is no room for another instance; the
+// folder is used again, and finds one that is there.
 fn aliases_are_normalized_holds(cx: &mut Interner) -> Result<bool, Refusal> {
     let parameter = param_ty(cx, 0)?;
     let right_side = ty(cx, TyKind::Slice(parameter))?;
     let number = u32_ty(cx)?;
     let use_of_number = alias(cx, number)?;
     let reference = ref_ty(cx, bound_region(0)?, use_of_number)?;
-    let use_of_reference = alias(cx, reference)?;
     let slice = ty(cx, TyKind::Slice(number))?;
     let reference_to_slice = ref_ty(cx, bound_region(0)?, slice)?;
-    let slice_of_references = ty(cx, TyKind::Slice(reference))?;
+    let use_of_reference = alias(cx, reference)?;
+    let use_of_parameter = alias(cx, parameter)?;
     let mut folder = Normalizer {
         right_side: EarlyBinder::bind(right_side),
     };
     Ok(
         normalized(cx, (use_of_number, reference), &mut folder) == Ok((slice, reference_to_slice))
-            && normalized(cx, use_of_reference, &mut folder) == Ok(slice_of_references),
+            && normalized(cx, use_of_reference, &mut folder) == Err(Refusal::TableFull)
+            && normalized(cx, use_of_parameter, &mut folder) == Ok(right_side),
     )
 }
 
 #[test]
 fn aliases_are_normalized(rt: HostRuntime) {
-    holds_anew(&rt, rt.alloc(), aliases_are_normalized_holds);
-}
-
-// There is no room for the instance. Another instance is there, and the folder finds it.
-fn instances_are_found_after_a_refusal_holds(cx: &mut Interner) -> Result<bool, Refusal> {
-    let parameter = param_ty(cx, 0)?;
-    let right_side = ty(cx, TyKind::Slice(parameter))?;
-    let number = u32_ty(cx)?;
-    let use_of_number = alias(cx, number)?;
-    let use_of_parameter = alias(cx, parameter)?;
-    let mut folder = Normalizer {
-        right_side: EarlyBinder::bind(right_side),
-    };
-    let refused = normalized(cx, use_of_number, &mut folder);
-    let found = normalized(cx, use_of_parameter, &mut folder);
-    Ok(refused == Err(Refusal::TableFull) && found == Ok(right_side))
-}
-
-#[test]
-fn instances_are_found_after_a_refusal(rt: HostRuntime) {
-    holds_within(
-        &rt,
-        rt.alloc(),
-        5,
-        instances_are_found_after_a_refusal_holds,
-    );
+    holds_within(&rt, rt.alloc(), 9, aliases_are_normalized_holds);
 }

@@ -4,9 +4,7 @@ ghost use Rattle.std.specs.Prelude.{ℕ, IfOk};
 ghost use Rattle.tt_fold.specs.RegionFolder.{HasName};
 
 use super::holds_anew;
-use test_terms::{
-    NOT_OWNED, binder_index, bound_region, info, one_region, ref_ty, ty, tys, u32_ty,
-};
+use test_terms::{NOT_OWNED, bound_region, one_region, ref_ty, ty, tys, u32_ty};
 use type_terms::{
     Binder, BoundRegion, BoundRegionKind, BoundVar, BoundVarIndexKind, BoundVarKinds,
     DebruijnIndex, FnHeader, FnSigKind, FnSigTys, Interner, Owned, Refusal, Region, RegionKind,
@@ -103,13 +101,8 @@ fn folded<T: Owned + TypeFoldable>(
     }
 }
 
-// Returns the value with its regions replaced by region variables, from number 0 on.
-pub fn renumbered<T: Owned + TypeFoldable>(cx: &mut Interner, value: T) -> Result<T, Refusal> {
-    folded(cx, value, &mut Record::new(Kind::Variable))
-}
-
 // Returns the pointer to a function of these types under a binder of these variables.
-pub fn pointer(cx: &mut Interner, types: &[Ty], vars: BoundVarKinds) -> Result<Ty, Refusal> {
+fn pointer(cx: &mut Interner, types: &[Ty], vars: BoundVarKinds) -> Result<Ty, Refusal> {
     let inputs_and_output = tys(cx, types)?;
     let signature = Binder::bind_with_vars(FnSigTys { inputs_and_output }, vars);
     let fn_sig_kind = FnSigKind::default();
@@ -123,103 +116,39 @@ pub fn static_ref(cx: &mut Interner) -> Result<Ty, Refusal> {
 }
 
 // `&'?N u32`.
-pub fn variable_ref(cx: &mut Interner, variable: u32) -> Result<Ty, Refusal> {
+fn variable_ref(cx: &mut Interner, variable: u32) -> Result<Ty, Refusal> {
     let number = u32_ty(cx)?;
     ref_ty(cx, answer(Kind::Variable, variable)?, number)
 }
 
-// The closure is called twice for one handle that occurs at two places.
+// The closure is called at each place of a region, twice for one handle that occurs at two, but not at the region that a
+// pointer's binder binds; its answers are not shifted.
 fn each_place_is_asked_about_holds(cx: &mut Interner) -> Result<bool, Refusal> {
-    let region = Region::new(RegionKind::ReStatic)?;
-    let value = static_ref(cx)?;
-    let mut record = Record::new(Kind::Variable);
-    let pair = folded(cx, (value, value), &mut record)?;
+    let number = u32_ty(cx)?;
+    let vars = one_region(cx)?;
+    let (own, outer) = (bound_region(0)?, bound_region(1)?);
+    let last = Region::new(RegionKind::ReStatic)?;
+    let own_ref = ref_ty(cx, own, number)?;
+    let outer_ref = ref_ty(cx, outer, number)?;
+    let last_ref = static_ref(cx)?;
+    let before = pointer(cx, &[own_ref, outer_ref, last_ref], vars)?;
+    let mut numbered = Record::new(Kind::Variable);
+    let variables = folded(cx, (last_ref, (last_ref, number)), &mut numbered)?;
+    let innermost = BoundVarIndexKind::Bound(DebruijnIndex::INNERMOST);
+    let mut bound = Record::new(Kind::Bound(innermost));
+    let after = folded(cx, before, &mut bound)?;
+    let wanted = pointer(cx, &[own_ref, own_ref, own_ref], vars)?;
     let first = variable_ref(cx, 0)?;
     let second = variable_ref(cx, 1)?;
-    Ok(record.is(&[(region, 0), (region, 0)]) && pair == (first, second))
+    Ok(
+        numbered.is(&[(last, 0), (last, 0)])
+            && variables == (first, (second, number))
+            && bound.is(&[(outer, 1), (last, 1)])
+            && after == wanted,
+    )
 }
 
 #[test]
 fn each_place_is_asked_about(rt: HostRuntime) {
     holds_anew(&rt, rt.alloc(), each_place_is_asked_about_holds);
-}
-
-// Returns whether `fn(&'static u32)` under a binder of no variables becomes a pointer of these flags and this outer
-// exclusive binder if the answers are bound there.
-fn stands_as_answered(
-    cx: &mut Interner,
-    index: BoundVarIndexKind,
-    flags: u32,
-    outer: u32,
-) -> Result<bool, Refusal> {
-    let value = static_ref(cx)?;
-    let before = pointer(cx, &[value], BoundVarKinds::default())?;
-    let mut record = Record::new(Kind::Bound(index));
-    let after = folded(cx, before, &mut record)?;
-    let number = u32_ty(cx)?;
-    let reference = ref_ty(cx, answer(Kind::Bound(index), 0)?, number)?;
-    let wanted = pointer(cx, &[reference], BoundVarKinds::default())?;
-    let info = info(cx, &wanted)?;
-    let region = Region::new(RegionKind::ReStatic)?;
-    Ok(record.is(&[(region, 1)]) && after == wanted && info == (flags, outer))
-}
-
-// An answer is not shifted, whatever binders enclose its place.
-fn answers_stand_as_they_are_holds(cx: &mut Interner) -> Result<bool, Refusal> {
-    let greatest = BoundVarIndexKind::Bound(binder_index(4294967039)?);
-    Ok(
-        stands_as_answered(cx, greatest, 0x40000, 4294967039)?
-            && stands_as_answered(cx, BoundVarIndexKind::Canonical, 0x4040000, 0)?,
-    )
-}
-
-#[test]
-fn answers_stand_as_they_are(rt: HostRuntime) {
-    holds_anew(&rt, rt.alloc(), answers_stand_as_they_are_holds);
-}
-
-// The closure isn't called at the region that the pointer's binder binds; its answers are bound there.
-fn own_regions_are_not_asked_about_holds(cx: &mut Interner) -> Result<bool, Refusal> {
-    let number = u32_ty(cx)?;
-    let vars = one_region(cx)?;
-    let own = ref_ty(cx, bound_region(0)?, number)?;
-    let outer = ref_ty(cx, bound_region(1)?, number)?;
-    let last = static_ref(cx)?;
-    let before = pointer(cx, &[own, outer, last], vars)?;
-    let mut record = Record::new(Kind::Bound(BoundVarIndexKind::Bound(DebruijnIndex::INNERMOST)));
-    let after = folded(cx, before, &mut record)?;
-    let wanted = pointer(cx, &[own, own, own], vars)?;
-    let info = info(cx, &wanted)?;
-    let region = Region::new(RegionKind::ReStatic)?;
-    Ok(
-        record.is(&[(bound_region(1)?, 1), (region, 1)])
-            && after == wanted
-            && info == (0x1040000, 0),
-    )
-}
-
-#[test]
-fn own_regions_are_not_asked_about(rt: HostRuntime) {
-    holds_anew(&rt, rt.alloc(), own_regions_are_not_asked_about_holds);
-}
-
-// If no region is met, the value is returned, the closure isn't called, and no row is added.
-fn nothing_is_asked_about_holds(cx: &mut Interner) -> Result<bool, Refusal> {
-    let number = u32_ty(cx)?;
-    let vars = one_region(cx)?;
-    let own = ref_ty(cx, bound_region(0)?, number)?;
-    let before = pointer(cx, &[own, number], vars)?;
-    let mut record = Record::new(Kind::Variable);
-    let after = folded(cx, (before, number), &mut record)?;
-    let next = ty(cx, TyKind::Str)?;
-    Ok(
-        record.is(&[])
-            && after == (before, number)
-            && next.number() == before.number().saturating_add(1),
-    )
-}
-
-#[test]
-fn nothing_is_asked_about(rt: HostRuntime) {
-    holds_anew(&rt, rt.alloc(), nothing_is_asked_about_holds);
 }

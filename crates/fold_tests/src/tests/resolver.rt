@@ -4,7 +4,7 @@ ghost use Rattle.tt_kinds.specs.Kinds.{ty_shape};
 ghost use Rattle.tt_kinds.specs.Values.{option_shape, sequence_shape};
 
 use super::canonicalizer::variable;
-use super::{holds_anew, holds_within};
+use super::holds_within;
 use test_terms::{NOT_OWNED, ty, tys};
 use type_terms::{
     InferTy, InternedKind, Interner, Owned, Refusal, Step, Ty, TyKind, TypeFoldable, TypeReplacer,
@@ -46,12 +46,14 @@ pub fn resolved<T: Owned + TypeFoldable>(
     }
 }
 
-// If a binding holds a variable, a second call resolves it.
+// If a binding holds a variable, a second call resolves it. There is no room for a slice that isn't there yet; the resolver
+// is used again, and has kept its bindings.
 fn bindings_are_put_in_holds(cx: &mut Interner) -> Result<bool, Refusal> {
     let (zero, one, two) = (variable(cx, 0)?, variable(cx, 1)?, variable(cx, 2)?);
     let truth = ty(cx, TyKind::Bool)?;
     let slice = ty(cx, TyKind::Slice(one))?;
     let resolved_slice = ty(cx, TyKind::Slice(truth))?;
+    let slice_of_zero = ty(cx, TyKind::Slice(zero))?;
     let value = tys(cx, &[zero, one, two])?;
     let once = tys(cx, &[slice, truth, two])?;
     let twice = tys(cx, &[resolved_slice, truth, two])?;
@@ -59,6 +61,7 @@ fn bindings_are_put_in_holds(cx: &mut Interner) -> Result<bool, Refusal> {
     let mut folder = Resolver { bindings };
     Ok(
         resolved(cx, value, &mut folder) == Ok(once)
+            && resolved(cx, slice_of_zero, &mut folder) == Err(Refusal::TableFull)
             && resolved(cx, once, &mut folder) == Ok(twice)
             && resolved(cx, twice, &mut folder) == Ok(twice),
     )
@@ -66,22 +69,5 @@ fn bindings_are_put_in_holds(cx: &mut Interner) -> Result<bool, Refusal> {
 
 #[test]
 fn bindings_are_put_in(rt: HostRuntime) {
-    holds_anew(&rt, rt.alloc(), bindings_are_put_in_holds);
-}
-
-// There is no room for the resolved slice. The resolver is used again, and succeeds.
-fn bindings_stay_after_a_refusal_holds(cx: &mut Interner) -> Result<bool, Refusal> {
-    let zero = variable(cx, 0)?;
-    let truth = ty(cx, TyKind::Bool)?;
-    let slice = ty(cx, TyKind::Slice(zero))?;
-    let bindings = Vec::from_slice(cx.allocator(), &[Some(truth)])?;
-    let mut folder = Resolver { bindings };
-    let refused = resolved(cx, slice, &mut folder);
-    let found = resolved(cx, (zero, truth), &mut folder);
-    Ok(refused == Err(Refusal::TableFull) && found == Ok((truth, truth)))
-}
-
-#[test]
-fn bindings_stay_after_a_refusal(rt: HostRuntime) {
-    holds_within(&rt, rt.alloc(), 3, bindings_stay_after_a_refusal_holds);
+    holds_within(&rt, rt.alloc(), 7, bindings_are_put_in_holds);
 }

@@ -1,7 +1,7 @@
 //! Visitors, folders and values as a user of the library writes them.
 
 ghost use Rattle.std.specs.Prelude.{◌≡◌, ◌⊎◌, ℕ, ⊤, refl};
-ghost use Rattle.tt_kinds.specs.Kinds.{region_shape, ty_shape};
+ghost use Rattle.tt_kinds.specs.Kinds.{predicate_shape, region_shape, ty_shape};
 ghost use Rattle.tt_kinds.specs.Tree.{Depth, Tree};
 ghost use Rattle.tt_kinds.specs.Values.{pair_shape};
 ghost use Rattle.tt_visit.specs.declared.visitor.Next.TheVariants.{Descend as GoesOn};
@@ -11,14 +11,15 @@ ghost use Rattle.tt_fold.specs.Steps.{IsPartOf, tree_in};
 use super::{holds_anew, holds_within};
 use std::ops::ControlFlow;
 use test_terms::{
-    NOT_OWNED, args, bound_region, bound_ty, is_instance, is_shifted, one_region, param_region,
-    param_ty, ref_ty, region_variable, ty, tys, u32_ty,
+    NOT_OWNED, bound_region, bound_ty, clause, clauses, is_instance, is_shifted, one_region,
+    param_region, param_ty, predicate, ref_ty, region_variable, ty, tys, u32_ty,
 };
 use type_terms::{
-    Binder, BoundVarKinds, Clauses, Const, Core, ErrorGuaranteed, FallibleTypeFolder, FnSigTys,
-    GenericArg, Interner, Kind, List, Next, Node, Owned, Predicate, Refusal, Region, RegionKind,
-    Step, Ty, TyKind, TypeFoldable, TypeFolder, TypeSuperFoldable, TypeSuperVisitable,
-    TypeVisitable, TypeVisitor, Tys, visit_kind, visit_list, visit_node,
+    AsPredicate, Binder, BoundVarKinds, Clause, ClauseKind, Clauses, Const, Core, ErrorGuaranteed,
+    FallibleTypeFolder, GenericArg, InternedKind, Interner, Kind, List, Next, Node, Owned,
+    Predicate, PredicateKind, Refusal, Region, RegionKind, Step, Term, Ty, TyKind, TypeFoldable,
+    TypeFolder, TypeSuperFoldable, TypeSuperVisitable, TypeVisitable, TypeVisitor, Tys, visit_kind,
+    visit_list, visit_node,
 };
 
 // Counts the regions outside of errors, and breaks at an error.
@@ -87,84 +88,47 @@ fn counted(outcome: ControlFlow<u32, ()>, visitor: &RegionCount) -> Result<u64, 
 }
 
 // Returns the count of regions in the value, or its first error.
-fn regions_in<T: Owned + TypeFoldable>(cx: &Interner, value: &T) -> Option<Result<u64, u32>> {
+fn regions_in<T: Owned>(cx: &Interner, value: &T) -> Result<Result<u64, u32>, Refusal> {
     if !value.is_owned(cx) {
-        return None;
+        return Err(NOT_OWNED);
     }
     let mut visitor = RegionCount { count: 0 };
     let outcome = value.visit_with(cx, &mut visitor);
-    Some(counted(outcome, &visitor))
-}
-
-// Returns whether the value has so many regions and no error.
-fn has_regions<T: Owned + TypeFoldable>(cx: &Interner, value: &T, count: u64) -> bool {
-    regions_in(cx, value) == Some(Ok(count))
+    Ok(counted(outcome, &visitor))
 }
 
 // Returns the same without the value's own hook.
-fn regions_inside<T: Owned + TypeFoldable + TypeSuperVisitable>(
+fn regions_inside<T: Owned + TypeSuperVisitable>(
     cx: &Interner,
     value: &T,
-) -> Option<Result<u64, u32>> {
+) -> Result<Result<u64, u32>, Refusal> {
     if !value.is_owned(cx) {
-        return None;
+        return Err(NOT_OWNED);
     }
     let mut visitor = RegionCount { count: 0 };
     let outcome = value.super_visit_with(cx, &mut visitor);
-    Some(counted(outcome, &visitor))
+    Ok(counted(outcome, &visitor))
 }
 
-// Returns whether so many regions occur in the value, and no error.
-fn has_regions_inside<T: Owned + TypeFoldable + TypeSuperVisitable>(
+// Returns the count of regions in stored terms, by their rows, and in a kind that may be stored or not, all together.
+fn regions_in_rows(
     cx: &Interner,
-    value: &T,
-    count: u64,
-) -> bool {
-    regions_inside(cx, value) == Some(Ok(count))
-}
-
-// Returns the count of regions in a pair of two borrowed values, or its first error.
-fn regions_in_lent<A: Owned + TypeFoldable, B: Owned>(
-    cx: &Interner,
-    first: &A,
-    second: &B,
-) -> Option<Result<u64, u32>> {
-    if !first.is_owned(cx) || !second.is_owned(cx) {
-        return None;
+    ty: Ty,
+    list: Tys,
+    kind: TyKind,
+) -> Result<Result<u64, u32>, Refusal> {
+    if !(cx.owns(ty) && cx.owns(list) && cx.owns_kind(&kind)) {
+        return Err(NOT_OWNED);
     }
     let mut visitor = RegionCount { count: 0 };
-    let outcome = (first, second).visit_with(cx, &mut visitor);
-    Some(counted(outcome, &visitor))
-}
-
-// Returns the count of regions in a stored type, by its row, or its first error.
-fn regions_in_node(cx: &Interner, ty: Ty) -> Option<Result<u64, u32>> {
-    if !cx.owns(ty) {
-        return None;
+    let mut outcome = visit_node(cx, &mut visitor, Node::Ty(ty));
+    if outcome.is_continue() {
+        outcome = visit_list(cx, &mut visitor, List::Tys(list));
     }
-    let mut visitor = RegionCount { count: 0 };
-    let outcome = visit_node(cx, &mut visitor, Node::Ty(ty));
-    Some(counted(outcome, &visitor))
-}
-
-// Returns the count of regions in a stored list, by its row, or its first error.
-fn regions_in_list(cx: &Interner, list: Tys) -> Option<Result<u64, u32>> {
-    if !cx.owns(list) {
-        return None;
+    if outcome.is_continue() {
+        outcome = visit_kind(cx, &mut visitor, &Kind::Ty(kind));
     }
-    let mut visitor = RegionCount { count: 0 };
-    let outcome = visit_list(cx, &mut visitor, List::Tys(list));
-    Some(counted(outcome, &visitor))
-}
-
-// Returns the count of regions in a kind, stored or not, or its first error.
-fn regions_in_kind(cx: &Interner, kind: TyKind) -> Option<Result<u64, u32>> {
-    if !cx.owns_kind(&kind) {
-        return None;
-    }
-    let mut visitor = RegionCount { count: 0 };
-    let outcome = visit_kind(cx, &mut visitor, &Kind::Ty(kind));
-    Some(counted(outcome, &visitor))
+    Ok(counted(outcome, &visitor))
 }
 
 fn regions_are_counted_holds(cx: &mut Interner) -> Result<bool, Refusal> {
@@ -172,18 +136,14 @@ fn regions_are_counted_holds(cx: &mut Interner) -> Result<bool, Refusal> {
     let region = bound_region(0)?;
     let one = ref_ty(cx, region, number)?;
     let two = ref_ty(cx, region, one)?;
-    let so_far = has_regions(cx, &region, 1)
-        && has_regions(cx, &two, 2)
-        && has_regions_inside(cx, &two, 2)
-        && regions_in_node(cx, two) == Some(Ok(2))
-        && has_regions(cx, &(region, two), 3)
-        && regions_in_lent(cx, &two, &one) == Some(Ok(3));
+    let vars = one_region(cx)?;
     let list = tys(cx, &[one, number, two])?;
+    let bound = Binder::bind_with_vars(list, vars);
     Ok(
-        so_far
-            && has_regions(cx, &list, 3)
-            && regions_in_list(cx, list) == Some(Ok(3))
-            && regions_in_kind(cx, TyKind::Tuple(list)) == Some(Ok(3)),
+        regions_in(cx, &(&(region, two), GenericArg::from(one))) == Ok(Ok(4))
+            && regions_inside(cx, &two) == Ok(Ok(2))
+            && regions_inside(cx, &bound) == Ok(Ok(3))
+            && regions_in_rows(cx, two, list, TyKind::Tuple(list)) == Ok(Ok(8)),
     )
 }
 
@@ -192,35 +152,16 @@ fn regions_are_counted(rt: HostRuntime) {
     holds_anew(&rt, rt.alloc(), regions_are_counted_holds);
 }
 
-fn regions_are_counted_under_binders_holds(cx: &mut Interner) -> Result<bool, Refusal> {
-    let number = u32_ty(cx)?;
-    let one = ref_ty(cx, bound_region(0)?, number)?;
-    let vars = one_region(cx)?;
-    let inputs_and_output = tys(cx, &[one, one])?;
-    let signature = FnSigTys { inputs_and_output };
-    let bound = Binder::bind_with_vars(signature, vars);
-    let so_far = has_regions(cx, &signature, 2)
-        && has_regions(cx, &bound, 2)
-        && has_regions_inside(cx, &bound, 2);
-    let arg = GenericArg::from(one);
-    let so_far = so_far && has_regions(cx, &arg, 1);
-    let list = args(cx, &[arg, GenericArg::from(bound_region(0)?)])?;
-    Ok(so_far && has_regions(cx, &list, 2))
-}
-
-#[test]
-fn regions_are_counted_under_binders(rt: HostRuntime) {
-    holds_anew(&rt, rt.alloc(), regions_are_counted_under_binders_holds);
-}
-
+// An error ends the visit, under a binder too. The error's token in a region is not an error of a type.
 fn an_error_ends_the_visit_holds(cx: &mut Interner) -> Result<bool, Refusal> {
     let error = ty(cx, TyKind::Error(ErrorGuaranteed(7)))?;
-    let reference = ref_ty(cx, bound_region(0)?, error)?;
-    let vars = one_region(cx)?;
-    let so_far = regions_in(cx, &Binder::bind_with_vars(reference, vars)) == Some(Err(7));
-    // An error token in a region is not an error of a type.
     let region = Region::new(RegionKind::ReError(ErrorGuaranteed(7)))?;
-    Ok(so_far && has_regions(cx, &region, 1))
+    let reference = ref_ty(cx, region, error)?;
+    let vars = one_region(cx)?;
+    Ok(
+        regions_in(cx, &Binder::bind_with_vars(reference, vars)) == Ok(Err(7))
+            && regions_in(cx, &region) == Ok(Ok(1)),
+    )
 }
 
 #[test]
@@ -228,26 +169,28 @@ fn an_error_ends_the_visit(rt: HostRuntime) {
     holds_anew(&rt, rt.alloc(), an_error_ends_the_visit_holds);
 }
 
-// Replaces one type by another.
+// Replaces one type by another and each predicate by one, and counts its calls at predicates.
 #[derive(Drop)]
-pub struct StandIn {
-    pub from: Ty,
-    pub to: Ty,
+struct StandIn {
+    from: Ty,
+    to: Ty,
+    predicate: Predicate,
+    asked: u64,
 }
 
 impl TypeFolder for StandIn {
     ghost use Rattle.tt_interner.proofs.Growth.{IsPart-grows, fill-grows};
 
-    ghost Meaning = { Tree Depth };
+    ghost Meaning = { Tree Depth × Tree Depth };
 
-    ghost meaning = { λ rows s. tree_in rows (ty_shape s.to) };
+    ghost meaning = { λ rows s. (tree_in rows (ty_shape s.to), tree_in rows (predicate_shape s.predicate)) };
 
-    ghost owned = { λ rows s. IsPartOf rows (ty_shape s.to) };
+    ghost owned = { λ rows s. IsPartOf rows (ty_shape s.to) × IsPartOf rows (predicate_shape s.predicate) };
 
     ghost hooks = { record {
       on_region = λ s t r s'. (r ≡ t) × (s' ≡ s);
       region_fails = λ unbuilt s t e s'. ⊥;
-      on_term = λ s t a s'. ((a ≡ replace s.state) ⊎ (a ≡ descend)) × (s' ≡ s);
+      on_term = λ s t a s'. ((a ≡ replace s.state.0) ⊎ (a ≡ replace s.state.1) ⊎ (a ≡ descend)) × (s' ≡ s);
       term_fails = λ unbuilt s t e s'. ⊥;
       after_term = λ s t u r s'. (r ≡ u) × (s' ≡ s);
       after_fails = λ unbuilt s t u e s'. ⊥;
@@ -291,7 +234,8 @@ impl TypeFolder for StandIn {
         _cx: &mut Interner,
         _predicate: Predicate,
     ) -> Result<Step<Predicate>, Refusal> {
-        Ok(Step::Descend)
+        self.asked = self.asked.saturating_add(1);
+        Ok(Step::Replace(self.predicate))
     }
 
     fn after_predicate(
@@ -328,132 +272,122 @@ impl TypeFolder for StandIn {
         Ok(())
     }
 
-    ghost still_owned = { λ old new s g h. IsPart-grows old new g.grows (ty_shape s.to) h };
+    ghost still_owned = { λ old new s g h. (
+      IsPart-grows old new g.grows (ty_shape s.to) h.0,
+      IsPart-grows old new g.grows (predicate_shape s.predicate) h.1,
+    ) };
 
-    ghost still_means = { λ old new s g h. fill-grows old new g.grows (ty_shape s.to) h };
+    ghost still_means = { λ old new s g h. Prim.rw (
+      fill-grows old new g.grows (ty_shape s.to) h.0,
+      fill-grows old new g.grows (predicate_shape s.predicate) h.1,
+    ) refl };
 }
 
-// Returns the value with one type replaced by another.
-pub fn replaced<T: Owned + TypeFoldable>(
+// Returns a predicate that is not a clause.
+fn ambiguous(cx: &mut Interner) -> Result<Predicate, Refusal> {
+    predicate(cx, PredicateKind::Ambiguous, BoundVarKinds::default())
+}
+
+// Returns the value folded by the folder.
+fn folded<T: Owned + TypeFoldable>(
     cx: &mut Interner,
     value: T,
-    from: Ty,
-    to: Ty,
+    folder: &mut StandIn,
 ) -> Result<T, Refusal> {
-    if value.is_owned(cx) && to.is_owned(cx) {
-        value.fold_with(cx, &mut StandIn { from, to })
+    if value.is_owned(cx) && folder.to.is_owned(cx) && folder.predicate.is_owned(cx) {
+        value.fold_with(cx, folder)
     } else {
         Err(NOT_OWNED)
     }
 }
 
 // Returns the same without the value's own hook.
-fn replaced_inside<T: Owned + TypeFoldable + TypeSuperFoldable>(
+fn folded_inside<T: Owned + TypeFoldable + TypeSuperFoldable>(
     cx: &mut Interner,
     value: T,
-    from: Ty,
-    to: Ty,
+    folder: &mut StandIn,
 ) -> Result<T, Refusal> {
-    if value.is_owned(cx) && to.is_owned(cx) {
-        value.super_fold_with(cx, &mut StandIn { from, to })
+    if value.is_owned(cx) && folder.to.is_owned(cx) && folder.predicate.is_owned(cx) {
+        value.super_fold_with(cx, folder)
     } else {
         Err(NOT_OWNED)
     }
 }
 
-// Returns whether the value with the types replaced is this one.
-pub fn is_replaced<T: Owned + TypeFoldable + PartialEq>(
-    cx: &mut Interner,
-    value: T,
-    from: Ty,
-    to: Ty,
-    after: T,
-) -> bool {
-    match replaced(cx, value, from, to) {
-        Ok(result) => result == after,
-        Err(_) => false,
-    }
+// Returns the folder that replaces the one type by the other, and predicates by one that is not a clause.
+fn stand_in(cx: &mut Interner, from: Ty, to: Ty) -> Result<StandIn, Refusal> {
+    Ok(StandIn {
+        from,
+        to,
+        predicate: ambiguous(cx)?,
+        asked: 0,
+    })
 }
 
-// Returns the same without the value's own hook.
-pub fn is_replaced_inside<T: Owned + TypeFoldable + TypeSuperFoldable + PartialEq>(
-    cx: &mut Interner,
-    value: T,
-    from: Ty,
-    to: Ty,
-    after: T,
-) -> bool {
-    match replaced_inside(cx, value, from, to) {
-        Ok(result) => result == after,
-        Err(_) => false,
-    }
-}
-
+// A fold finds the type in the items of lists, under binders and in values; one without the value's own hook leaves the
+// value itself. If a walk has to store a type and the table is full, it is refused; the folder is used again, and finds its
+// result.
 fn types_are_replaced_holds(cx: &mut Interner) -> Result<bool, Refusal> {
     let from = u32_ty(cx)?;
     let to = ty(cx, TyKind::Bool)?;
     let region = bound_region(0)?;
+    let vars = one_region(cx)?;
     let before = ref_ty(cx, region, from)?;
     let after = ref_ty(cx, region, to)?;
+    let slice = ty(cx, TyKind::Slice(from))?;
+    let old_list = tys(cx, &[before, from, to])?;
+    let new_list = tys(cx, &[after, to, to])?;
+    let old_bound = Binder::bind_with_vars(old_list, vars);
+    let new_bound = Binder::bind_with_vars(new_list, vars);
+    let mut folder = stand_in(cx, from, to)?;
     Ok(
-        is_replaced(cx, before, from, to, after)
-            && is_replaced(cx, region, from, to, region)
-            && is_replaced(cx, (before, from), from, to, (after, to))
-            && is_replaced(
-                cx,
-                GenericArg::from(before),
-                from,
-                to,
-                GenericArg::from(after),
-            )
-            && is_replaced_inside(cx, before, from, to, after)
-            && is_replaced_inside(cx, from, from, to, from)
-            && is_replaced(cx, before, before, from, from),
+        folded(cx, old_bound, &mut folder) == Ok(new_bound)
+            && folded_inside(cx, old_bound, &mut folder) == Ok(new_bound)
+            && folded_inside(cx, from, &mut folder) == Ok(from)
+            && folded(cx, slice, &mut folder) == Err(Refusal::TableFull)
+            && folded(cx, (region, (before, from)), &mut folder) == Ok((region, (after, to)))
+            && folder.asked == 0,
     )
 }
 
 #[test]
 fn types_are_replaced(rt: HostRuntime) {
-    holds_anew(&rt, rt.alloc(), types_are_replaced_holds);
+    holds_within(&rt, rt.alloc(), 5, types_are_replaced_holds);
 }
 
-fn types_are_replaced_in_lists_holds(cx: &mut Interner) -> Result<bool, Refusal> {
-    let from = u32_ty(cx)?;
-    let to = ty(cx, TyKind::Bool)?;
-    let before = tys(cx, &[from, to])?;
-    let after = tys(cx, &[to, to])?;
-    let old_args = args(cx, &[GenericArg::from(from)])?;
-    let new_args = args(cx, &[GenericArg::from(to)])?;
-    Ok(is_replaced(cx, before, from, to, after) && is_replaced(cx, old_args, from, to, new_args))
+// Returns the clause that the type is well formed, under a binder of no variables.
+fn well_formed(cx: &mut Interner, subject: Ty) -> Result<Clause, Refusal> {
+    let kind = PredicateKind::Clause(ClauseKind::WellFormed(Term::from(subject)));
+    let stored = predicate(cx, kind, BoundVarKinds::default())?;
+    clause(cx, stored)
 }
 
-#[test]
-fn types_are_replaced_in_lists(rt: HostRuntime) {
-    holds_anew(&rt, rt.alloc(), types_are_replaced_in_lists_holds);
-}
-
-fn types_are_replaced_in_signatures_holds(cx: &mut Interner) -> Result<bool, Refusal> {
-    let from = u32_ty(cx)?;
-    let to = ty(cx, TyKind::Bool)?;
-    let before = FnSigTys {
-        inputs_and_output: tys(cx, &[from, to])?,
-    };
-    let after = FnSigTys {
-        inputs_and_output: tys(cx, &[to, to])?,
-    };
+// A folder that returns a predicate that is not a clause is refused at the first clause, and isn't called again. A `Clause`
+// that is not one is folded as a predicate.
+fn a_clause_stays_one_holds(cx: &mut Interner) -> Result<bool, Refusal> {
+    let number = u32_ty(cx)?;
+    let item = well_formed(cx, number)?;
+    let list = clauses(cx, &[item, item])?;
+    let items = vec![in cx.allocator(); item, item]?;
     let vars = one_region(cx)?;
-    let bound = Binder::bind_with_vars(before, vars);
-    let new_bound = Binder::bind_with_vars(after, vars);
+    let bound = Binder::bind_with_vars(item, vars);
+    let mut folder = stand_in(cx, number, number)?;
+    let to = folder.predicate;
+    let no_clause = Clause::from_number(to.number());
     Ok(
-        is_replaced(cx, before, from, to, after)
-            && is_replaced(cx, bound, from, to, new_bound)
-            && is_replaced_inside(cx, bound, from, to, new_bound),
+        folded(cx, list, &mut folder) == Err(Refusal::NotAClause)
+            && folder.asked == 1
+            && folded(cx, items, &mut folder).err() == Some(Refusal::NotAClause)
+            && folded(cx, bound, &mut folder) == Err(Refusal::NotAClause)
+            && folder.asked == 3
+            && folded(cx, item.as_predicate(), &mut folder) == Ok(to)
+            && folded(cx, no_clause, &mut folder) == Ok(no_clause),
     )
 }
 
 #[test]
-fn types_are_replaced_in_signatures(rt: HostRuntime) {
-    holds_anew(&rt, rt.alloc(), types_are_replaced_in_signatures_holds);
+fn a_clause_stays_one(rt: HostRuntime) {
+    holds_anew(&rt, rt.alloc(), a_clause_stays_one_holds);
 }
 
 // Why a value has not exactly one region.
@@ -585,27 +519,21 @@ impl FallibleTypeFolder for OneRegion {
     ghost still_means = { λ old new s g h. refl };
 }
 
-// Returns the value, if it has one region at most.
-fn with_one_region<T: Owned + TypeFoldable>(cx: &mut Interner, value: T) -> Result<T, NotOne> {
-    if value.is_owned(cx) {
-        value.try_fold_with(cx, &mut OneRegion { met: 0 })
-    } else {
-        Err(NotOne::Refused(NOT_OWNED))
-    }
-}
-
-// Returns whether the value is refused for its second region, after so many regions.
-fn is_refused_at<T: Owned + TypeFoldable>(cx: &mut Interner, value: T, count: u64) -> bool {
+// Returns the value, if it has one region at most, and how many regions were met.
+fn with_one_region<T: Owned + TypeFoldable>(
+    cx: &mut Interner,
+    value: T,
+) -> (Result<T, NotOne>, u64) {
     if value.is_owned(cx) {
         let mut folder = OneRegion { met: 0 };
-        let error = value.try_fold_with(cx, &mut folder).err();
-        error == Some(NotOne::SecondRegion) && folder.met == count
+        let result = value.try_fold_with(cx, &mut folder);
+        (result, folder.met)
     } else {
-        false
+        (Err(NotOne::Refused(NOT_OWNED)), 0)
     }
 }
 
-// Returns the same without the value's own hook.
+// Returns the value without a call of its own hook, if one region at most occurs in it.
 fn with_one_region_inside<T: Owned + TypeFoldable + TypeSuperFoldable>(
     cx: &mut Interner,
     value: T,
@@ -617,56 +545,27 @@ fn with_one_region_inside<T: Owned + TypeFoldable + TypeSuperFoldable>(
     }
 }
 
+// A fold ends at the first error: the third region is not visited.
 fn a_second_region_is_refused_holds(cx: &mut Interner) -> Result<bool, Refusal> {
     let number = u32_ty(cx)?;
-    let region = bound_region(0)?;
-    let one = ref_ty(cx, region, number)?;
-    let two = ref_ty(cx, region, one)?;
+    let first = ref_ty(cx, Region::new(RegionKind::ReStatic)?, number)?;
+    let second = ref_ty(cx, Region::new(RegionKind::ReErased)?, number)?;
+    let third = ref_ty(cx, region_variable()?, number)?;
     let vars = one_region(cx)?;
-    let bound = Binder::bind_with_vars(two, vars);
+    let nested = ref_ty(cx, bound_region(0)?, first)?;
+    let bound = Binder::bind_with_vars(nested, vars);
     Ok(
-        with_one_region(cx, one) == Ok(one)
-            && with_one_region(cx, two) == Err(NotOne::SecondRegion)
-            && with_one_region(cx, (one, region)) == Err(NotOne::SecondRegion)
-            && with_one_region(cx, bound) == Err(NotOne::SecondRegion)
-            && with_one_region_inside(cx, one) == Ok(one)
-            && with_one_region_inside(cx, bound) == Err(NotOne::SecondRegion),
+        with_one_region(cx, (first, second, third)) == (Err(NotOne::SecondRegion), 2)
+            && with_one_region(cx, bound) == (Err(NotOne::SecondRegion), 2)
+            && with_one_region(cx, (first, number)) == (Ok((first, number)), 1)
+            && with_one_region_inside(cx, bound) == Err(NotOne::SecondRegion)
+            && with_one_region_inside(cx, first) == Ok(first),
     )
 }
 
 #[test]
 fn a_second_region_is_refused(rt: HostRuntime) {
     holds_anew(&rt, rt.alloc(), a_second_region_is_refused_holds);
-}
-
-// A fold ends at the first error: the third region is not visited.
-fn the_first_error_ends_the_fold_holds(cx: &mut Interner) -> Result<bool, Refusal> {
-    let number = u32_ty(cx)?;
-    let first = ref_ty(cx, Region::new(RegionKind::ReStatic)?, number)?;
-    let second = ref_ty(cx, Region::new(RegionKind::ReErased)?, number)?;
-    let third = ref_ty(cx, region_variable()?, number)?;
-    Ok(is_refused_at(cx, (first, second, third), 2))
-}
-
-#[test]
-fn the_first_error_ends_the_fold(rt: HostRuntime) {
-    holds_anew(&rt, rt.alloc(), the_first_error_ends_the_fold_holds);
-}
-
-// If a walk has to store a type and the table is full, the folder's error holds the refusal.
-fn a_refusal_becomes_the_own_error_holds(cx: &mut Interner) -> Result<bool, Refusal> {
-    let from = u32_ty(cx)?;
-    let to = ty(cx, TyKind::Bool)?;
-    let slice = ty(cx, TyKind::Slice(from))?;
-    Ok(
-        replaced(cx, slice, from, to) == Err(Refusal::TableFull)
-            && NotOne::from(Refusal::TableFull) == NotOne::Refused(Refusal::TableFull),
-    )
-}
-
-#[test]
-fn a_refusal_becomes_the_own_error(rt: HostRuntime) {
-    holds_within(&rt, rt.alloc(), 3, a_refusal_becomes_the_own_error_holds);
 }
 
 // A loan: for how long, and of what.
@@ -718,12 +617,13 @@ fn a_loan_is_shifted_and_instantiated_holds(cx: &mut Interner) -> Result<bool, R
         ty: param_ty(cx, 0)?,
     };
     let given = [GenericArg::from(inner.ty), GenericArg::from(inner.region)];
+    let mut folder = stand_in(cx, inner.ty, outer.ty)?;
     Ok(
         so_far
             && is_instance(cx, declared, &given, inner)
-            && has_regions(cx, &inner, 1)
-            && replaced(cx, inner, inner.ty, outer.ty)?.ty == outer.ty
-            && with_one_region(cx, inner) == Ok(inner),
+            && regions_in(cx, &inner) == Ok(Ok(1))
+            && folded(cx, inner, &mut folder)?.ty == outer.ty
+            && with_one_region(cx, inner) == (Ok(inner), 1),
     )
 }
 

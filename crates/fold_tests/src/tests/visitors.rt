@@ -1,4 +1,4 @@
-//! Visitors with one hook: one that asks a question, and one that breaks with a handle.
+//! Visitors with one hook: one that breaks with a handle, and one that asks a question.
 
 ghost use Rattle.std.specs.Prelude.{⊤};
 ghost use Rattle.tt_kinds.specs.Kinds.{ty_shape};
@@ -6,31 +6,10 @@ ghost use Rattle.tt_visit.specs.Types.{breaks_at};
 
 use super::holds_anew;
 use std::ops::ControlFlow;
-use test_terms::{NOT_OWNED, bound_region, occurs, one_region, ref_ty, ty, u32_ty};
+use test_terms::{NOT_OWNED, bound_region, occurs, ref_ty, u32_ty};
 use type_terms::{
-    Binder, InternedKind, Interner, Next, Owned, Refusal, Region, Ty, TyKind, TypeInspector,
-    inspect_types,
+    InternedKind, Interner, Next, Owned, Refusal, Region, Ty, TyKind, TypeInspector, inspect_types,
 };
-
-fn types_occur_holds(cx: &mut Interner) -> Result<bool, Refusal> {
-    let number = u32_ty(cx)?;
-    let truth = ty(cx, TyKind::Bool)?;
-    let region = bound_region(0)?;
-    let one = ref_ty(cx, region, number)?;
-    let two = ref_ty(cx, region, one)?;
-    let vars = one_region(cx)?;
-    Ok(
-        occurs(cx, &(two, region), number) == Ok(true)
-            && occurs(cx, &Binder::bind_with_vars(two, vars), one) == Ok(true)
-            && occurs(cx, &two, truth) == Ok(false)
-            && occurs(cx, &one, two) == Ok(false),
-    )
-}
-
-#[test]
-fn types_occur(rt: HostRuntime) {
-    holds_anew(&rt, rt.alloc(), types_occur_holds);
-}
 
 // Breaks with the first reference to the type.
 #[derive(Drop)]
@@ -71,7 +50,7 @@ fn region_of_reference<T: Owned>(
     }
 }
 
-// The break value of the visit is the interner's.
+// The break value of the visit is the interner's. A type occurs in itself, and not in its parts.
 fn references_are_found_holds(cx: &mut Interner) -> Result<bool, Refusal> {
     let number = u32_ty(cx)?;
     let (near, far) = (bound_region(0)?, bound_region(1)?);
@@ -80,7 +59,9 @@ fn references_are_found_holds(cx: &mut Interner) -> Result<bool, Refusal> {
     Ok(
         region_of_reference(cx, &(number, two), number) == Ok(Some(far))
             && region_of_reference(cx, &two, one) == Ok(Some(near))
-            && region_of_reference(cx, &two, two) == Ok(None),
+            && region_of_reference(cx, &two, two) == Ok(None)
+            && occurs(cx, &(near, two), two) == Ok(true)
+            && occurs(cx, &one, two) == Ok(false),
     )
 }
 

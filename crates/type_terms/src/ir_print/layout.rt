@@ -2,7 +2,18 @@
 
 ghost use Rattle.std.specs.Prelude.{◌≡◌};
 ghost use Rattle.type_terms.specs.Pieces.{place_text};
-ghost use Rattle.type_terms.specs.Text.{before_child, closing, list_style, opening, separator};
+ghost use Rattle.type_terms.specs.Text.{
+  after_variables,
+  before_child,
+  before_variable,
+  closing,
+  list_style,
+  opening,
+  separator,
+};
+
+use super::words::is_variadic;
+use tt_kinds::FnSigKind;
 
 /// The style in which the children of a term, or the items of a list, are written.
 #[derive(Clone, Copy)]
@@ -15,14 +26,12 @@ pub(crate) enum Style {
     MutReference,
     /// `[T]`, `[T; N]`.
     Square,
-    /// `T is PATTERN`.
+    /// A type and its pattern: `T is PATTERN`.
     Restricted,
     /// A tuple, around the list of its types.
     Tuple,
-    /// A signature, around the list of its types.
-    Signature,
-    /// A variadic signature, around the list of its types.
-    Variadic,
+    /// A function of this kind, around the list of its types.
+    Signature(FnSigKind),
     /// A trait object: the list of its predicates, and its region.
     Dynamic,
     /// A name, its arguments and perhaps its value: `NAME<A> = T`.
@@ -76,8 +85,13 @@ impl Style {
         match self {
             Style::Generic | Style::Braced | Style::Record => Style::Arguments,
             Style::Tuple => Style::Elements,
-            Style::Signature => Style::Inputs,
-            Style::Variadic => Style::VariadicInputs,
+            Style::Signature(kind) => {
+                if is_variadic(kind) {
+                    Style::VariadicInputs
+                } else {
+                    Style::Inputs
+                }
+            }
             Style::Dynamic => Style::Bounds,
             Style::OneOf => Style::Alternatives,
             Style::Branch => Style::Values,
@@ -144,7 +158,10 @@ impl Style {
         match (self, count) {
             (Style::Square, _) => "]",
             (Style::Braced, _) => "}",
-            (Style::Record | Style::Equated | Style::Subtyped, _) => ")",
+            (
+                Style::Restricted | Style::OneOf | Style::Record | Style::Equated | Style::Subtyped,
+                _,
+            ) => ")",
             (Style::Listed, 0) => "[]",
             (Style::Listed, _) => "]",
             (Style::Arguments, 0) => "",
@@ -166,5 +183,25 @@ impl Style {
             Place::Before { first, last } => self.before_child(first, last),
             Place::After(count) => self.closing(count),
         }
+    }
+}
+
+// Returns the text in front of the variable of this place in a binder's list.
+pub(crate) fn before_variable(place: usize) -> &'static str
+    ensures { result.now ≡ before_variable place }
+{
+    match place {
+        0 => "for<",
+        _ => ", ",
+    }
+}
+
+// Returns the text after `count` variables of a binder.
+pub(crate) fn after_variables(count: usize) -> &'static str
+    ensures { result.now ≡ after_variables count }
+{
+    match count {
+        0 => "",
+        _ => "> ",
     }
 }

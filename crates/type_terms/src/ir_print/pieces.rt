@@ -1,7 +1,7 @@
 //! The pieces of a text that are still to be written. They are on the heap, so that a term may be as deep as memory
 //! allows.
 
-ghost use Rattle.std.specs.Prelude.{◌≡◌, ◌≤◌, suc, true, [], ◌∷◌, ◌++◌, List as Items, OnOk};
+ghost use Rattle.std.specs.Prelude.{◌≡◌, ◌≤◌, suc, true, ◌++◌, List as Items, OnOk};
 ghost use Rattle.tt_kinds.specs.Kinds.{child_shapes, items_label, list_shape, parts_shapes};
 ghost use Rattle.tt_kinds.specs.Label.{Name};
 ghost use Rattle.tt_kinds.specs.Parts.{list_sort};
@@ -61,7 +61,7 @@ fn push_end(pieces: &mut Pieces, style: Style, count: usize) -> Result<(), Alloc
 }
 
 // Adds a child, which may be the first and the last, with the text in front of it.
-pub(crate) fn push_child(
+fn push_child(
     pieces: &mut Pieces,
     style: Style,
     child: &Child,

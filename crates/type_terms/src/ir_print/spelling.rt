@@ -1,7 +1,7 @@
 //! How terms are spelled: the text in front of their children, and the style of the children.
 
 ghost use Rattle.std.specs.Prelude.{◌≡◌, [], codes};
-ghost use Rattle.tt_kinds.specs.Bound.{depth, region_name};
+ghost use Rattle.tt_kinds.specs.Bound.{depth, region_name, var_kind};
 ghost use Rattle.tt_kinds.specs.Kinds.{
   const_form,
   existential_form,
@@ -14,13 +14,13 @@ ghost use Rattle.tt_kinds.specs.Kinds.{
   ty_form,
   value_form,
 };
-ghost use Rattle.tt_kinds.specs.Label.{const_label, ref_type, region_sort, type_label, type_sort};
+ghost use Rattle.tt_kinds.specs.Kinds.{kind_sort};
+ghost use Rattle.tt_kinds.specs.Label.{const_label, const_sort, ref_type, region_sort, type_label, type_sort};
 ghost use Rattle.type_terms.specs.Text.{
   abi_words,
   bound_head,
   called,
   effect_head,
-  infer_const_head,
   infer_head,
   item,
   numbered,
@@ -33,9 +33,12 @@ ghost use Rattle.type_terms.specs.Text.{
   region_name_head,
   relation_style,
   safety_word,
-  signature_in,
-  signature_style,
+  subtype_head,
+  region_title,
+  ty_title,
   type_style,
+  variable_head,
+  variable_title,
   with_word,
   word,
   words,
@@ -43,12 +46,12 @@ ghost use Rattle.type_terms.specs.Text.{
 ghost use Rattle.type_terms.specs.Spelling.{form_head, form_style, head_of, region_head, subject_of};
 
 use super::layout::Style;
-use super::words::{abi_words, float_name, int_name, is_variadic, safety_word, uint_name};
+use super::words::{abi_words, float_name, int_name, safety_word, uint_name};
 use tt_index::Mutability;
 use tt_kinds::{
-    AliasRelationDirection, BoundConstness, BoundRegionKind, BoundVarIndexKind, ClauseKind,
-    ConstKind, DefId, ExistentialPredicate, FnSigKind, InferConst, InferTy, Kind, PatternKind,
-    PredicateKind, RegionKind, Symbol, TyKind, ValTreeKind, ValueConst,
+    AliasRelationDirection, BoundConstness, BoundRegionKind, BoundTyKind, BoundVarIndexKind,
+    BoundVariableKind, ClauseKind, ConstKind, DefId, ExistentialPredicate, FnSigKind, InferConst,
+    InferTy, Kind, PatternKind, PredicateKind, RegionKind, Symbol, TyKind, ValTreeKind, ValueConst,
 };
 
 /// The part of a term's data that is written.
@@ -60,10 +63,12 @@ pub(crate) enum Subject {
     Words(&'static str),
     /// A number.
     Numbered(u32),
-    /// The bits of a value, as a number.
-    Bits(u128),
+    /// A place in a list.
+    Counted(usize),
     /// Two numbers, with a dot between them.
     Paired(u32, u32),
+    /// The bits of a value as a number, and its size in bytes, with a colon between them.
+    Sized(u128, u8),
     /// The name of a declaration.
     Item(DefId),
     /// A name.
@@ -92,7 +97,7 @@ fn alone(before: &'static str) -> Spelling
 }
 
 // Returns the spelling by a word, and children in the style.
-fn worded(before: &'static str, style: Style) -> Spelling
+pub(crate) fn worded(before: &'static str, style: Style) -> Spelling
     ensures head { head_of result ≡ word before.now }
     ensures style { result.style ≡ style }
 {
@@ -113,7 +118,7 @@ fn followed(before: &'static str, subject: Subject, style: Style) -> Spelling
 }
 
 // Returns the spelling by a word, the name of the declaration of this number, and children in the style.
-fn declared(before: &'static str, number: u32, style: Style) -> Spelling
+pub(crate) fn declared(before: &'static str, number: u32, style: Style) -> Spelling
     ensures head { head_of result ≡ with_word before.now (item number) }
     ensures style { result.style ≡ style }
 {
@@ -158,21 +163,17 @@ fn marked(mark: &'static str, first: u32, second: u32) -> Spelling
 }
 
 // Returns the spelling of a function pointer, in front of its signature.
-fn fn_spelling(kind: FnSigKind) -> Spelling
+pub(crate) fn fn_spelling(kind: FnSigKind) -> Spelling
     ensures before { result.before.now ≡ safety_word kind }
     ensures subject { subject_of result.subject ≡ words (abi_words kind) }
     ensures after { result.after.now ≡ codes "fn" }
-    ensures style { result.style ≡ signature_in (signature_style kind) }
+    ensures style { result.style ≡ Style.Signature kind }
 {
     Spelling {
         before: safety_word(kind),
         subject: Subject::Words(abi_words(kind)),
         after: "fn",
-        style: if is_variadic(kind) {
-            Style::Variadic
-        } else {
-            Style::Signature
-        },
+        style: Style::Signature(kind),
     }
 }
 
@@ -212,7 +213,20 @@ fn infer_spelling(var: InferTy) -> Spelling
     }
 }
 
-// Returns the spelling of a bound type or constant, by its index and its place.
+// Returns the spelling by a mark, and two numbers with a dot between them, of a constant.
+fn marked_const(mark: &'static str, first: u32, second: u32) -> Spelling
+    ensures head { head_of result ≡ record { before = mark.now; subject = paired first second; after = codes "c" } }
+    ensures style { result.style ≡ Style.Joined }
+{
+    Spelling {
+        before: mark,
+        subject: Subject::Paired(first, second),
+        after: "c",
+        style: Style::Joined,
+    }
+}
+
+// Returns the spelling of a bound type, by its index and its place.
 fn bound_spelling(index: BoundVarIndexKind, var: u32) -> Spelling
     ensures head { head_of result ≡ bound_head type_sort (depth index) var }
     ensures style { result.style ≡ Style.Joined }
@@ -220,6 +234,17 @@ fn bound_spelling(index: BoundVarIndexKind, var: u32) -> Spelling
     match index {
         BoundVarIndexKind::Bound(index) => marked("^", index.as_u32(), var),
         BoundVarIndexKind::Canonical => followed("^c.", Subject::Numbered(var), Style::Joined),
+    }
+}
+
+// Returns the spelling of a bound constant, by its index and its place.
+fn bound_const_spelling(index: BoundVarIndexKind, var: u32) -> Spelling
+    ensures head { head_of result ≡ bound_head const_sort (depth index) var }
+    ensures style { result.style ≡ Style.Joined }
+{
+    match index {
+        BoundVarIndexKind::Bound(index) => marked_const("^", index.as_u32(), var),
+        BoundVarIndexKind::Canonical => enclosed("^c.", var, "c"),
     }
 }
 
@@ -236,7 +261,7 @@ fn bound_region_spelling(index: BoundVarIndexKind, var: u32) -> Spelling
 
 // Returns how a type is spelled.
 fn ty_spelling(kind: &TyKind) -> Spelling
-    ensures head { head_of result ≡ form_head (relabelled type_label (ty_form kind.now)) }
+    ensures head { head_of result ≡ form_head type_sort (relabelled type_label (ty_form kind.now)) }
     ensures style { result.style ≡ form_style (relabelled type_label (ty_form kind.now)) }
 {
     match kind {
@@ -257,7 +282,7 @@ fn ty_spelling(kind: &TyKind) -> Spelling
         TyKind::Slice(_) | TyKind::Array(_, _) => worded("[", Style::Square),
         TyKind::Tuple(_) => worded("", Style::Tuple),
         TyKind::FnPtr(_, header) => fn_spelling(header.fn_sig_kind),
-        TyKind::Pat(_, _) => worded("", Style::Restricted),
+        TyKind::Pat(_, _) => worded("pattern_type!(", Style::Restricted),
         TyKind::UnsafeBinder(_) => alone("unsafe binder "),
         TyKind::Dynamic(_, _) => worded("dyn ", Style::Dynamic),
         TyKind::Foreign(id) => declared("", id.number(), Style::Joined),
@@ -273,14 +298,14 @@ fn ty_spelling(kind: &TyKind) -> Spelling
 // Returns how a value is spelled, in front of its type.
 fn value_spelling(value: &ValueConst) -> Spelling
     ensures head { head_of result
-        ≡ form_head (relabelled const_label (value_form value.now.ty value.now.valtree.kind)) }
+        ≡ form_head const_sort (relabelled const_label (value_form value.now.ty value.now.valtree.kind)) }
     ensures style { result.style
         ≡ form_style (relabelled const_label (value_form value.now.ty value.now.valtree.kind)) }
 {
     match value.valtree.kind() {
         ValTreeKind::Leaf(scalar) => Spelling {
             before: "",
-            subject: Subject::Bits(scalar.bits),
+            subject: Subject::Sized(scalar.bits, scalar.size),
             after: "_",
             style: Style::Joined,
         },
@@ -290,15 +315,15 @@ fn value_spelling(value: &ValueConst) -> Spelling
 
 // Returns how a constant is spelled.
 fn const_spelling(kind: &ConstKind) -> Spelling
-    ensures head { head_of result ≡ form_head (relabelled const_label (const_form kind.now)) }
+    ensures head { head_of result ≡ form_head const_sort (relabelled const_label (const_form kind.now)) }
     ensures style { result.style ≡ form_style (relabelled const_label (const_form kind.now)) }
 {
     match kind {
         ConstKind::Param(param) => named(param.name),
         ConstKind::Infer(InferConst::Var(var)) => enclosed("?", var.as_u32(), "c"),
         ConstKind::Infer(InferConst::Fresh(number)) => enclosed("Fresh(", *number, ")"),
-        ConstKind::Bound(index, var) => bound_spelling(*index, var.var().as_u32()),
-        ConstKind::Placeholder(p) => marked("!", p.universe().as_u32(), p.var().as_u32()),
+        ConstKind::Bound(index, var) => bound_const_spelling(*index, var.var().as_u32()),
+        ConstKind::Placeholder(p) => { marked_const("!", p.universe().as_u32(), p.var().as_u32()) }
         ConstKind::Unevaluated(constant) => declared("", constant.def.number(), Style::Generic),
         ConstKind::Value(value) => value_spelling(value),
         ConstKind::Error(_) => alone("{const error}"),
@@ -313,7 +338,7 @@ fn pattern_spelling(kind: &PatternKind) -> Spelling
 {
     match kind {
         PatternKind::Range { .. } => worded("", Style::Range),
-        PatternKind::Or(_) => worded("", Style::OneOf),
+        PatternKind::Or(_) => worded("(", Style::OneOf),
         PatternKind::NotNull => alone("!null"),
     }
 }
@@ -330,8 +355,8 @@ fn effect_spelling(constness: BoundConstness, number: u32) -> Spelling
 }
 
 // Returns how a clause is spelled.
-fn clause_spelling(kind: &ClauseKind) -> Spelling
-    ensures head { head_of result ≡ record_head (clause_form kind.now).label }
+pub(crate) fn clause_spelling(kind: &ClauseKind) -> Spelling
+    ensures head { head_of result ≡ record_head Style.Joined (clause_form kind.now).label }
     ensures style { result.style ≡ record_style Style.Joined (clause_form kind.now).label }
 {
     match kind {
@@ -360,6 +385,18 @@ fn clause_spelling(kind: &ClauseKind) -> Spelling
     }
 }
 
+// Returns how a subtyping predicate is spelled, which says whether the first type is the expected one.
+fn subtype_spelling(a_is_expected: bool) -> Spelling
+    ensures head { head_of result ≡ subtype_head a_is_expected }
+    ensures style { result.style ≡ Style.Record }
+{
+    if a_is_expected {
+        worded("SubtypePredicate(a_is_expected: true, ", Style::Record)
+    } else {
+        worded("SubtypePredicate(a_is_expected: false, ", Style::Record)
+    }
+}
+
 // Returns the style of two terms that may be aliases.
 fn relation_style(direction: AliasRelationDirection) -> Style
     ensures { result ≡ relation_style direction }
@@ -371,14 +408,14 @@ fn relation_style(direction: AliasRelationDirection) -> Style
 }
 
 // Returns how a predicate is spelled.
-fn predicate_spelling(kind: &PredicateKind) -> Spelling
-    ensures head { head_of result ≡ record_head (predicate_form kind.now).label }
+pub(crate) fn predicate_spelling(kind: &PredicateKind) -> Spelling
+    ensures head { head_of result ≡ record_head Style.Joined (predicate_form kind.now).label }
     ensures style { result.style ≡ record_style Style.Joined (predicate_form kind.now).label }
 {
     match kind {
         PredicateKind::Clause(clause) => clause_spelling(clause),
         PredicateKind::DynCompatible(id) => declared("DynCompatible(", id.number(), Style::Record),
-        PredicateKind::Subtype(_) => worded("SubtypePredicate(", Style::Record),
+        PredicateKind::Subtype(p) => subtype_spelling(p.a_is_expected),
         PredicateKind::Coerce(_) => worded("CoercePredicate(", Style::Record),
         PredicateKind::ConstEquate(_, _) => worded("ConstEquate(", Style::Record),
         PredicateKind::Ambiguous => alone("Ambiguous"),
@@ -392,8 +429,8 @@ fn predicate_spelling(kind: &PredicateKind) -> Spelling
 }
 
 // Returns how an existential predicate is spelled.
-fn existential_spelling(kind: &ExistentialPredicate) -> Spelling
-    ensures head { head_of result ≡ record_head (existential_form kind.now).label }
+pub(crate) fn existential_spelling(kind: &ExistentialPredicate) -> Spelling
+    ensures head { head_of result ≡ record_head Style.Joined (existential_form kind.now).label }
     ensures style { result.style ≡ record_style Style.Joined (existential_form kind.now).label }
 {
     match kind {
@@ -405,7 +442,7 @@ fn existential_spelling(kind: &ExistentialPredicate) -> Spelling
 
 // Returns how a stored term is spelled.
 pub(crate) fn kind_spelling(kind: &Kind) -> Spelling
-    ensures head { head_of result ≡ form_head (kind_form kind.now) }
+    ensures head { head_of result ≡ form_head (kind_sort kind.now) (kind_form kind.now) }
     ensures style { result.style ≡ form_style (kind_form kind.now) }
 {
     match kind {
@@ -441,7 +478,58 @@ pub(crate) fn region_spelling(kind: &RegionKind) -> Spelling
         RegionKind::ReStatic => alone("'static"),
         RegionKind::ReVar(var) => followed("'?", Subject::Numbered(var.as_u32()), Style::Joined),
         RegionKind::RePlaceholder(p) => marked("'!", p.universe().as_u32(), p.var().as_u32()),
-        RegionKind::ReErased => alone("'erased"),
+        RegionKind::ReErased => alone("'{erased}"),
         RegionKind::ReError(_) => alone("'{region error}"),
+    }
+}
+
+// Returns how the variable of this place in a binder's list is spelled, without its name.
+pub(crate) fn variable_spelling(place: usize, kind: &BoundVariableKind) -> Spelling
+    ensures { head_of result ≡ variable_head place (var_kind kind.now) }
+{
+    match kind {
+        BoundVariableKind::Region(_) => followed("'^", Subject::Counted(place), Style::Joined),
+        BoundVariableKind::Ty(_) => followed("^", Subject::Counted(place), Style::Joined),
+        BoundVariableKind::Const => Spelling {
+            before: "^",
+            subject: Subject::Counted(place),
+            after: "c",
+            style: Style::Joined,
+        },
+    }
+}
+
+// Returns how the name of a bound region is spelled, after its place in its binder's list.
+fn region_title(kind: BoundRegionKind) -> Spelling
+    ensures { head_of result ≡ region_title (region_name kind) }
+{
+    match kind {
+        BoundRegionKind::Anon => alone(""),
+        BoundRegionKind::NamedForPrinting(name) => {
+            followed(" ", Subject::Called(name), Style::Joined)
+        }
+        BoundRegionKind::Named(id) => declared(" ", id.number(), Style::Joined),
+        BoundRegionKind::ClosureEnv => alone(" '{env}"),
+    }
+}
+
+// Returns how the name of a bound type is spelled, after its place in its binder's list.
+fn ty_title(kind: BoundTyKind) -> Spelling
+    ensures { head_of result ≡ ty_title kind }
+{
+    match kind {
+        BoundTyKind::Anon => alone(""),
+        BoundTyKind::Param(id) => declared(" ", id.number(), Style::Joined),
+    }
+}
+
+// Returns how the name of a binder's variable is spelled, after its place in the list.
+pub(crate) fn variable_title(kind: &BoundVariableKind) -> Spelling
+    ensures { head_of result ≡ variable_title (var_kind kind.now) }
+{
+    match kind {
+        BoundVariableKind::Region(kind) => region_title(*kind),
+        BoundVariableKind::Ty(kind) => ty_title(*kind),
+        BoundVariableKind::Const => alone(""),
     }
 }

@@ -2,12 +2,11 @@
 
 use super::holds_anew;
 use test_terms::ty;
-use type_terms::{EarlyBinder, GenericArg, Instantiate, Interner, ParamTy, Refusal, Ty, TyKind};
+use type_terms::prelude::*;
 
 // Returns `T` with `bool` for `T`.
 pub fn replaced(cx: &mut Interner) -> Result<Ty, Refusal> {
-    let name = cx.symbol("T")?;
-    let parameter = cx.mk_ty(TyKind::Param(ParamTy { index: 0, name }))?;
+    let parameter = cx.mk_param(0, "T")?;
     let argument = cx.mk_ty(TyKind::Bool)?;
     let args = [GenericArg::from(argument)];
     let answer = EarlyBinder::bind(parameter).instantiate(cx, args.as_slice())?;

@@ -1,12 +1,11 @@
-use Rattle.std.proofs.Common.{◌≡◌, length, arith}
-use Rattle.std.specs.Prelude.{string_bytes}
-use Rattle.std.proofs.lemmas.Str.{IsUtf8-had}
-use Rattle.type_terms.proofs.PrintSteps.{old-end}
+use Rattle.tt_interner.specs.Rows.{meaning}
+use Rattle.type_terms.specs.Text.{names}
+use Rattle.type_terms.proofs.PrintParts.{child-spelled}
+use Rattle.type_terms.proofs.PrintSteps.{printed-same}
 use Rattle.type_terms.proofs.ir_print.print_child.Goals as goal
 
-pub truncate-requires : goal.truncate-requires
-truncate-requires c =
-    let counted = c.args.out.now.bytes.ok.0 in
-    let count : c.len-start.result ≡ length (string_bytes c.args.out.now) = omega (arith, counted, c.len-start.ensures) in
-    let end = old-end (string_bytes c.args.out.now) (string_bytes c.write_child.new.out) c.len-start.result (IsUtf8-had _ c.args.out.now.ok) (IsUtf8-had _ c.write_child.new.out.ok) count c.write_child.ensures.kept in
-    λ within. (end.0.0, λ some. end.0.1)
+pub returns-clause-ok : goal.returns-clause-ok
+returns-clause-ok c =
+    printed-same _ _ _ _ _
+    (child-spelled (names c.args.cx.now.rows) (meaning c.args.cx.now.rows) c.worded-spelling.result c.args.child.now c.worded-spelling.ensures.head c.worded-spelling.ensures.style)
+    (rw c.one.ensures at c.print_record.ensures.ok)

@@ -1,49 +1,22 @@
 //! The building of regions and of binders' variables.
 
-ghost use Rattle.std.specs.Prelude.{◌≡◌, ◌≤◌, IfErr, map, take, length, [], ◌∷◌, List, OnErr};
-ghost use Rattle.tt_index.specs.declared.refusal.Refusal.TheVariants.{NoSuchAnswer};
+ghost use Rattle.std.specs.Prelude.{◌≡◌, ◌≤◌, IfErr, map, take, length, List, OnErr};
 ghost use Rattle.tt_kinds.specs.Tree as tree;
 ghost use Rattle.tt_kinds.specs.Label.{
   region_sort,
-  type_sort,
-  type_variable,
-  type_label,
-  placeholder_type,
-  foreign_type,
-  ref_type,
-  array_type,
-  pat_type,
-  unsafe_binder_type,
-  unsafe_binder_record,
-  fn_ptr_type,
-  fn_sig_tys_record,
   late_param_region,
   placeholder_region,
 };
 ghost use Rattle.tt_kinds.specs.Bound.{depth};
 ghost use Rattle.tt_kinds.specs.Shape.{IsGreatest};
 ghost use Rattle.tt_kinds.specs.Shape as shape;
-ghost use Rattle.tt_kinds.specs.Kinds.{ty_kind_shape, args_shape};
 ghost use Rattle.tt_interner.specs.Rows.{Row, text_row, IsNew};
-ghost use Rattle.tt_interner.specs.Stored.{Terms, Extends};
-ghost use Rattle.type_terms.specs.declared.run.call.Call.TheVariants.{Ty as BuildsTy};
+ghost use Rattle.tt_interner.specs.Stored.{Extends};
 ghost use Rattle.type_terms.specs.CallForm.{
   name_text,
   region_text,
   variable_text,
-  ty_ids,
-  ty_form,
-  alias_of,
   param,
-  plain,
-  under,
-  one,
-  a_region,
-  a_term,
-  a_list,
-  terms_at,
-  args_part,
-  item_type,
   called,
   ty_called,
   variable_kind,
@@ -51,18 +24,16 @@ ghost use Rattle.type_terms.specs.CallForm.{
   region_tree,
   IsRegionTooDeep,
 };
-ghost use Rattle.type_terms.specs.Told.{Told, told_all, AreOwned};
-ghost use Rattle.type_terms.specs.Means.{number_at, AreTerms};
+ghost use Rattle.type_terms.specs.Told.{told_all};
+ghost use Rattle.type_terms.specs.Means.{number_at};
 ghost use Rattle.type_terms.specs.Build.{
   GivesName,
   GivesVariable,
   GivesVariables,
   GivesRegion,
-  GivesKind,
-  Answers,
   PutsVariables,
 };
-ghost use Rattle.type_terms.specs.Room.{IsForRoom, LacksText, VarsNeedRoom, FormNeedsRoom};
+ghost use Rattle.type_terms.specs.Room.{IsForRoom, LacksText, VarsNeedRoom};
 
 use crate::run::answer::Answer;
 use crate::run::answers::ids::{def_at, number_at};

@@ -1,10 +1,9 @@
 //! The building of types.
 
-ghost use Rattle.std.specs.Prelude.{◌≡◌, ◌≤◌, IfErr, map, take, length, [], ◌∷◌, List, OnErr};
+ghost use Rattle.std.specs.Prelude.{◌≡◌, IfErr, map, length, [], ◌∷◌, List, OnErr};
 ghost use Rattle.tt_index.specs.declared.refusal.Refusal.TheVariants.{NoSuchAnswer};
 ghost use Rattle.tt_kinds.specs.Tree as tree;
 ghost use Rattle.tt_kinds.specs.Label.{
-  region_sort,
   type_sort,
   type_variable,
   type_label,
@@ -17,20 +16,15 @@ ghost use Rattle.tt_kinds.specs.Label.{
   unsafe_binder_record,
   fn_ptr_type,
   fn_sig_tys_record,
-  late_param_region,
-  placeholder_region,
 };
 ghost use Rattle.tt_kinds.specs.Bound.{depth};
-ghost use Rattle.tt_kinds.specs.Shape.{IsGreatest};
 ghost use Rattle.tt_kinds.specs.Shape as shape;
 ghost use Rattle.tt_kinds.specs.Kinds.{ty_kind_shape, args_shape};
 ghost use Rattle.tt_interner.specs.Rows.{Row, text_row, IsNew};
 ghost use Rattle.tt_interner.specs.Stored.{Terms, Extends};
 ghost use Rattle.type_terms.specs.declared.run.call.Call.TheVariants.{Ty as BuildsTy};
 ghost use Rattle.type_terms.specs.CallForm.{
-  name_text,
   region_text,
-  variable_text,
   ty_ids,
   ty_form,
   alias_of,
@@ -44,25 +38,16 @@ ghost use Rattle.type_terms.specs.CallForm.{
   terms_at,
   args_part,
   item_type,
-  called,
   ty_called,
   variable_kind,
-  region_entry,
-  region_tree,
-  IsRegionTooDeep,
 };
 ghost use Rattle.type_terms.specs.Told.{Told, told_all, AreOwned};
 ghost use Rattle.type_terms.specs.Means.{number_at, AreTerms};
 ghost use Rattle.type_terms.specs.Build.{
-  GivesName,
-  GivesVariable,
-  GivesVariables,
-  GivesRegion,
   GivesKind,
   Answers,
-  PutsVariables,
 };
-ghost use Rattle.type_terms.specs.Room.{IsForRoom, LacksText, VarsNeedRoom, FormNeedsRoom};
+ghost use Rattle.type_terms.specs.Room.{IsForRoom, LacksText, FormNeedsRoom};
 
 use crate::run::answer::Answer;
 use crate::run::answers::ids::{def_at, number_at};

@@ -1,0 +1,66 @@
+//! What is checked by a function of its own, named by a word.
+//!
+//! Such a function answers whether what it checks holds, on the interner of the case. It is called again after a
+//! refusal for want of memory, and at the end of the case.
+
+mod copies;
+mod lists;
+mod names;
+
+use type_terms::{Interner, Refusal};
+
+/// A check by a function.
+#[derive(Clone, Copy, PartialEq, Eq)]
+pub enum Routine {
+    /// The list of an iterator's types is the list of their slice.
+    TypesOfAnIterator,
+    /// The list of an iterator's arguments is the list of their slice.
+    ArgumentsOfAnIterator,
+    /// A list of existential predicates is the same if it is built at once.
+    ExistentialsAtOnce,
+    /// An item is pushed onto a list by index, or the list is as it was.
+    ItemsArePushed,
+    /// Copies of lists and other values are equal to them.
+    ValuesAreCopied,
+    /// The items of small vectors and of sets are visited.
+    ItemsAreVisited,
+    /// Each text has its symbol.
+    TextsAreSymbols,
+    /// Bound regions are called by their declarations' names.
+    RegionsAreCalled,
+    /// Each declaration has its id, even if names repeat.
+    IdsAreNew,
+}
+
+impl Routine {
+    /// Returns the routine of this name.
+    pub fn of(word: &str) -> Option<Routine> {
+        match word {
+            "types_of_an_iterator" => Some(Routine::TypesOfAnIterator),
+            "arguments_of_an_iterator" => Some(Routine::ArgumentsOfAnIterator),
+            "existentials_at_once" => Some(Routine::ExistentialsAtOnce),
+            "items_are_pushed" => Some(Routine::ItemsArePushed),
+            "values_are_copied" => Some(Routine::ValuesAreCopied),
+            "items_are_visited" => Some(Routine::ItemsAreVisited),
+            "texts_are_symbols" => Some(Routine::TextsAreSymbols),
+            "regions_are_called" => Some(Routine::RegionsAreCalled),
+            "ids_are_new" => Some(Routine::IdsAreNew),
+            _ => None,
+        }
+    }
+
+    /// Returns whether what the routine checks holds.
+    pub fn holds(self, cx: &mut Interner) -> Result<bool, Refusal> {
+        match self {
+            Routine::TypesOfAnIterator => lists::types_of_an_iterator(cx),
+            Routine::ArgumentsOfAnIterator => lists::arguments_of_an_iterator(cx),
+            Routine::ExistentialsAtOnce => lists::existentials_at_once(cx),
+            Routine::ItemsArePushed => lists::items_are_pushed(cx),
+            Routine::ValuesAreCopied => copies::values_are_copied(cx),
+            Routine::ItemsAreVisited => copies::items_are_visited(cx),
+            Routine::TextsAreSymbols => names::texts_are_symbols(cx),
+            Routine::RegionsAreCalled => names::regions_are_called(cx),
+            Routine::IdsAreNew => names::ids_are_new(cx),
+        }
+    }
+}

@@ -1,0 +1,2 @@
+-- The lemmas of the tests.
+pub mod RecordLaws

@@ -1,0 +1,233 @@
+//! Calls that only read, each at a value or two. None of them takes memory, and their contracts give their results.
+
+use super::holds_anew;
+use test_terms::{
+    NOT_OWNED, args, binder_index, bound_region, bound_ty, clause, clauses, constant, info,
+    one_region, param_ty, predicate, region_variable, ty, tys, u32_ty,
+};
+use type_terms::{
+    AliasTy, AliasTyKind, AsPredicate, Binder, BoundRegionKind, BoundVar, BoundVarKinds,
+    BoundVariableKind, Clause, ClauseKind, ConstBounds, ConstKind, ConstTyFault, CoroutineId,
+    ErrorGuaranteed, FindConstTy, FlagComputation, FnInputTys, ForKind, GREATEST_INDEX, GenericArg,
+    GenericArgs, GenericArgsSlice, InferTy, InternedKind, InternedList, InternedText, InternedView,
+    Interner, OpaqueTyId, Owned, ParamEnv, PlaceholderConst, PlaceholderType, PredicateKind,
+    Refusal, Region, RegionKind, SliceLike, Term, TyKind, TyVid, TypeFlags, TypeVisitableExt,
+    UintTy, UniverseIndex,
+};
+
+// Returns whether each query on the value has this result, but `is_global`, which has the opposite one.
+fn all_say<T: Owned>(cx: &Interner, value: &T, wanted: bool) -> bool {
+    value.is_owned(cx)
+        && value.has_type_flags(cx, TypeFlags::HAS_INFER) == wanted
+        && value.has_param(cx) == wanted
+        && value.has_aliases(cx) == wanted
+        && value.has_opaque_types(cx) == wanted
+        && value.has_coroutines(cx) == wanted
+        && value.references_error(cx) == wanted
+        && value.has_non_region_error(cx) == wanted
+        && value.has_non_region_param(cx) == wanted
+        && value.has_infer_regions(cx) == wanted
+        && value.has_infer_types(cx) == wanted
+        && value.has_non_region_infer(cx) == wanted
+        && value.has_infer(cx) == wanted
+        && value.has_placeholders(cx) == wanted
+        && value.has_non_region_placeholders(cx) == wanted
+        && value.has_regions(cx) == wanted
+        && value.has_free_regions(cx) == wanted
+        && value.has_erased_regions(cx) == wanted
+        && value.has_erasable_regions(cx) == wanted
+        && value.meets_regions(cx) == wanted
+        && value.has_bound_regions(cx) == wanted
+        && value.has_non_region_bound_vars(cx) == wanted
+        && value.has_bound_vars(cx) == wanted
+        && value.still_further_specializable(cx) == wanted
+        && value.has_escaping_bound_vars(cx) == wanted
+        && value.is_global(cx) != wanted
+}
+
+// Returns types of which each has something that a query looks for.
+fn types_for_queries(cx: &mut Interner) -> Result<[GenericArg; 7], Refusal> {
+    let none = GenericArgs::default();
+    let def_id = OpaqueTyId::from_number(0);
+    let alias = AliasTy {
+        args: none,
+        kind: AliasTyKind::Opaque { def_id },
+    };
+    let anon = PlaceholderType::new_anon(UniverseIndex::from_u32(1), BoundVar::from_u32(0));
+    Ok([
+        GenericArg::from(ty(cx, TyKind::Error(ErrorGuaranteed(3)))?),
+        GenericArg::from(ty(cx, TyKind::Alias(alias))?),
+        GenericArg::from(ty(cx, TyKind::Coroutine(CoroutineId::from_number(0), none))?),
+        GenericArg::from(ty(cx, TyKind::Placeholder(anon))?),
+        GenericArg::from(ty(cx, TyKind::Infer(InferTy::TyVar(TyVid::from_u32(0))))?),
+        GenericArg::from(param_ty(cx, 0)?),
+        GenericArg::from(bound_ty(cx, 2)?),
+    ])
+}
+
+// Returns regions of which each has something that a query looks for, the region of an error first.
+fn regions_for_queries() -> Result<[GenericArg; 4], Refusal> {
+    Ok([
+        GenericArg::from(Region::new(RegionKind::ReError(ErrorGuaranteed(7)))?),
+        GenericArg::from(region_variable()?),
+        GenericArg::from(Region::new(RegionKind::ReErased)?),
+        GenericArg::from(bound_region(0)?),
+    ])
+}
+
+// The first error is the region's. A variable is bound by the binder of index 2, and none further out.
+fn queries_holds(cx: &mut Interner) -> Result<bool, Refusal> {
+    let types = types_for_queries(cx)?;
+    let types = args(cx, types.as_slice())?;
+    let regions = args(cx, regions_for_queries()?.as_slice())?;
+    let value = (regions, types);
+    let plain = [GenericArg::from(u32_ty(cx)?)];
+    let plain = (args(cx, plain.as_slice())?, GenericArgs::default());
+    let so_far = all_say(cx, &value, true) && all_say(cx, &plain, false);
+    if !value.is_owned(cx) || !plain.is_owned(cx) {
+        return Err(NOT_OWNED);
+    }
+    let first = Err(ErrorGuaranteed(7));
+    let near = binder_index(1)?;
+    let far = binder_index(2)?;
+    let farthest = binder_index(GREATEST_INDEX)?;
+    Ok(
+        so_far
+            && value.error_reported(cx) == first
+            && value.non_region_error_reported(cx) == first
+            && plain.error_reported(cx) == Ok(())
+            && plain.non_region_error_reported(cx) == Ok(())
+            && value.has_vars_bound_at_or_above(cx, far)
+            && value.has_vars_bound_above(cx, near)
+            && !value.has_vars_bound_above(cx, far)
+            && !value.has_vars_bound_above(cx, farthest),
+    )
+}
+
+// The inputs are the types but the last, and the arguments of a slice the ones at its places: a variable escapes from
+// what isn't there alone.
+fn views_holds(cx: &mut Interner) -> Result<bool, Refusal> {
+    let number = u32_ty(cx)?;
+    let variable = bound_ty(cx, 0)?;
+    let inputs = FnInputTys::from_parts(tys(cx, &[number, number, variable])?);
+    let arg = GenericArg::from(number);
+    let list = args(cx, &[arg, arg, GenericArg::from(variable)])?;
+    let front = GenericArgsSlice::from_parts(list, 0, 2);
+    let past = GenericArgsSlice::from_parts(list, 2, 2);
+    if !cx.owns_input_tys(inputs) || !cx.owns_args_slice(front) || !past.is_owned(cx) {
+        return Err(NOT_OWNED);
+    }
+    Ok(
+        inputs.as_slice(cx) == [number, number].as_slice()
+            && !inputs.has_escaping_bound_vars(cx)
+            && front.as_slice(cx) == [arg, arg].as_slice()
+            && !front.has_escaping_bound_vars(cx)
+            && SliceLike::len(front, cx) == 2
+            && SliceLike::get(front, cx, 2) == None
+            && !cx.owns_args_slice(past)
+            && past.has_escaping_bound_vars(cx),
+    )
+}
+
+// Returns the clause that the placeholder constant has the type `usize`, under a binder of these variables.
+fn typed(
+    cx: &mut Interner,
+    placeholder: PlaceholderConst,
+    vars: BoundVarKinds,
+) -> Result<Clause, Refusal> {
+    let subject = constant(cx, ConstKind::Placeholder(placeholder))?;
+    let usize_ty = ty(cx, TyKind::Uint(UintTy::Usize))?;
+    let kind = PredicateKind::Clause(ClauseKind::ConstArgHasType(subject, usize_ty));
+    let bound = predicate(cx, kind, vars)?;
+    clause(cx, bound)
+}
+
+// One clause gives the constant its type, and neither two nor none do.
+fn environments_holds(cx: &mut Interner) -> Result<bool, Refusal> {
+    let asked = PlaceholderConst::new_anon(UniverseIndex::from_u32(1), BoundVar::from_u32(0));
+    let item = typed(cx, asked, BoundVarKinds::default())?;
+    let vars = one_region(cx)?;
+    let other = typed(cx, asked, vars)?;
+    let usize_ty = ty(cx, TyKind::Uint(UintTy::Usize))?;
+    let one = clauses(cx, &[item])?;
+    let two = clauses(cx, &[item, other])?;
+    let none = clauses(cx, &[])?;
+    if !cx.owns(one) || !cx.owns(two) || !cx.owns(none) {
+        return Err(NOT_OWNED);
+    }
+    let env = |caller_bounds| ParamEnv { caller_bounds };
+    Ok(
+        asked.find_const_ty_from_env(cx, env(one)) == Ok(usize_ty)
+            && asked.find_const_ty_from_env(cx, env(two)) == Err(ConstTyFault::Duplicate)
+            && asked.find_const_ty_from_env(cx, env(none)) == Err(ConstTyFault::Missing)
+            && env(two).const_bounds_closed(cx),
+    )
+}
+
+// What was stored is read back: a type, a clause, a name, and lists.
+fn handles_holds(cx: &mut Interner) -> Result<bool, Refusal> {
+    let number = u32_ty(cx)?;
+    let slice = ty(cx, TyKind::Slice(number))?;
+    let kind = ClauseKind::WellFormed(Term::from(number));
+    let vars = one_region(cx)?;
+    let stored = predicate(cx, PredicateKind::Clause(kind), vars)?;
+    let stored = clause(cx, stored)?;
+    let list = args(cx, &[GenericArg::from(slice)])?;
+    let name = cx.symbol("T")?;
+    if !cx.owns(slice) || !cx.owns_clause(stored) || !cx.owns(vars) || !cx.owns(list) {
+        return Err(NOT_OWNED);
+    }
+    Ok(
+        *slice.kind(cx) == TyKind::Slice(number)
+            && stored.kind(cx) == Binder::bind_with_vars(kind, vars)
+            && vars.as_slice(cx).first() == Some(&BoundVariableKind::Region(BoundRegionKind::Anon))
+            && list.as_slice(cx).first() == Some(&GenericArg::from(slice))
+            && SliceLike::len(list, cx) == 1
+            && cx.owns(name)
+            && name.as_str(cx) == "T",
+    )
+}
+
+// Returns the flags and the outer exclusive binder as numbers.
+fn numbers(computed: FlagComputation) -> (u32, u32) {
+    (
+        computed.flags.bits(),
+        computed.outer_exclusive_binder.as_u32(),
+    )
+}
+
+// The flags of kinds that aren't stored, and the cached ones of a list of clauses, of a binder's variables and of an
+// argument.
+fn flags_holds(cx: &mut Interner) -> Result<bool, Refusal> {
+    let variable = bound_ty(cx, 2)?;
+    let vars = one_region(cx)?;
+    let kind = PredicateKind::Clause(ClauseKind::WellFormed(Term::from(variable)));
+    let stored = predicate(cx, kind, vars)?;
+    let items = [clause(cx, stored)?];
+    let list = clauses(cx, &items)?;
+    let slice = TyKind::Slice(variable);
+    let error = ConstKind::Error(ErrorGuaranteed(3));
+    let bound = Binder::bind_with_vars(kind, vars);
+    let so_far = info(cx, &list) == Ok((0x1080000, 2))
+        && info(cx, &vars) == Ok((0x1000000, 0))
+        && info(cx, &GenericArg::from(variable)) == Ok((0x80000, 3));
+    if !cx.owns_kind(&slice) || !cx.owns_predicate_kind(&bound) || !cx.are_clauses(&items) {
+        return Err(NOT_OWNED);
+    }
+    Ok(
+        so_far
+            && numbers(FlagComputation::for_kind(cx, &slice)) == (0x80000, 3)
+            && numbers(FlagComputation::for_const_kind(cx, &error)) == (0x8000, 0)
+            && numbers(FlagComputation::for_predicate(cx, &bound)) == (0x1080000, 2)
+            && numbers(FlagComputation::for_clauses(cx, &items)) == (0x1080000, 2),
+    )
+}
+
+#[test]
+fn calls_that_read(rt: HostRuntime) {
+    holds_anew(&rt, rt.alloc(), queries_holds);
+    holds_anew(&rt, rt.alloc(), views_holds);
+    holds_anew(&rt, rt.alloc(), environments_holds);
+    holds_anew(&rt, rt.alloc(), handles_holds);
+    holds_anew(&rt, rt.alloc(), flags_holds);
+}
