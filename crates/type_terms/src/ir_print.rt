@@ -450,7 +450,7 @@ fn print_child(cx: &Interner, out: &mut String, child: &Child) -> Result<(), All
 /// isn't written. An associated type comes behind its trait: `Iterator::Item<T>`. A value is its bits, its size in
 /// bytes and its type: `4:8_usize`.
 ///
-/// Terms that differ have texts that differ, except where only a name tells them apart, or what has no text. Names are
+/// Texts are made to tell terms apart, but no contract promises that different terms have different texts. Names are
 /// written as they are, so different items or parameters of one name have the same text, and so have a trait object's
 /// auto trait and the same trait without arguments. What isn't written: a parameter's index, the item of a region
 /// parameter seen from inside it, the name of a bound variable or of a placeholder, and the token of an error.
