@@ -3,6 +3,8 @@
 use crate::answers::{Printer, owns_answers};
 use crate::case::Case;
 use crate::containers::changed;
+use crate::definitions::defined;
+use crate::derived::derived;
 use crate::reader::read_step;
 use crate::scripts::run_whole;
 use crate::steps::Step;
@@ -107,6 +109,13 @@ fn ask(cx: &mut Interner, answers: &mut Vec<Answer>, step: &Step) -> Result<Answ
             *change,
             positions.as_slice(),
         )),
+        Step::Derived(derivation) => answer_of(derived(cx, answers.as_slice(), *derivation)),
+        Step::Defined(position, variants) => answer_of(defined(
+            cx,
+            answers.as_slice(),
+            *position,
+            variants.as_str(),
+        ).map(Answer::Truth)),
         Step::Holds(routine) => answer_of(routine.holds(cx).map(Answer::Truth)),
     };
     match answer {

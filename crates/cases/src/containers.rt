@@ -34,8 +34,8 @@ pub fn changed(
     Ok(Answer::Args(args(cx, items.as_slice())?))
 }
 
-// Returns the type at the position.
-fn type_at(answers: &[Answer], position: u32) -> Result<Ty, Refusal> {
+/// Returns the type at the position.
+pub fn type_at(answers: &[Answer], position: u32) -> Result<Ty, Refusal> {
     let index = (position as usize).checked_sub(1).ok_or(NOT_OWNED)?;
     match answers.get(index) {
         Some(Answer::Ty(ty)) => Ok(*ty),

@@ -10,6 +10,8 @@ mod attempt;
 mod case;
 mod containers;
 mod declarations;
+mod definitions;
+mod derived;
 mod predicates;
 mod reader;
 mod regions;

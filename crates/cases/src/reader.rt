@@ -4,7 +4,7 @@ use crate::arguments::{arguments, positions};
 use crate::declarations::declaration;
 use crate::predicates::predicate;
 use crate::routines::Routine;
-use crate::steps::{Change, Container, Step};
+use crate::steps::{Change, Container, Derivation, Step};
 use crate::terms::{constant, pattern, ty};
 use crate::words::{Unread, Words};
 use std::alloc::Global;
@@ -36,8 +36,28 @@ fn step(alloc: Global, line: &str) -> Result<Step, Unread> {
             let change = change(&mut words)?;
             Ok(Step::Changed(container, change, positions(alloc, &words)?))
         }
-        first => Ok(Step::Call(call(alloc, first, &mut words)?)),
+        "define" => {
+            let position = words.position()?;
+            Ok(Step::Defined(position, String::from_str(alloc, words.rest())?))
+        }
+        first => match derivation(first, &mut words)? {
+            Some(derivation) => Ok(Step::Derived(derivation)),
+            None => Ok(Step::Call(call(alloc, first, &mut words)?)),
+        },
     }
+}
+
+// Returns what the words want of a type, if this first word says that.
+fn derivation(first: &str, words: &mut Words) -> Result<Option<Derivation>, Unread> {
+    let derivation = match first {
+        "fn_sig" => Derivation::Signature(words.position()?),
+        "fields" => Derivation::Fields(words.position()?),
+        "with_self" => Derivation::WithSelf(words.position()?, words.position()?),
+        "trait_args" => Derivation::TraitArgs(words.position()?),
+        "own_args" => Derivation::OwnArgs(words.position()?),
+        _ => return Ok(None),
+    };
+    Ok(Some(derivation))
 }
 
 // Returns the call of this first word, which scripts don't know, and the further words.

@@ -57,6 +57,21 @@ pub enum Change {
     Replace(u32, u32),
 }
 
+/// What the library makes of the type at a position.
+#[derive(Clone, Copy, PartialEq, Eq)]
+pub enum Derivation {
+    /// Its signature, as the type of the pointers to functions of this signature.
+    Signature(u32),
+    /// The list of its fields' types.
+    Fields(u32),
+    /// The alias with the type at the second position in place of its self type.
+    WithSelf(u32, u32),
+    /// The arguments of the trait that the alias is an item of.
+    TraitArgs(u32),
+    /// The other arguments of such an alias.
+    OwnArgs(u32),
+}
+
 /// A step of a case. Each has an answer, which later steps may name by its number.
 #[derive(Drop)]
 pub enum Step {
@@ -65,6 +80,10 @@ pub enum Step {
     /// A change of the types at these positions, in a container. The answer is the list of the types that are then in
     /// the container.
     Changed(Container, Change, Vec<u32>),
+    /// What the library makes of a type.
+    Derived(Derivation),
+    /// Whether the data type that is declared at the position has these variants. It gets them if it isn't defined yet.
+    Defined(u32, String),
     /// Whether what a routine checks holds.
     Holds(Routine),
 }
@@ -85,7 +104,7 @@ impl Step {
                 | Call::EraseRegions(_) => false,
                 _ => true,
             },
-            Step::Changed(..) | Step::Holds(_) => false,
+            Step::Changed(..) | Step::Derived(_) | Step::Defined(..) | Step::Holds(_) => false,
         }
     }
 }

@@ -39,19 +39,38 @@ pub fn ty(alloc: Global, first: &str, words: &mut Words) -> Result<TyCall, Unrea
             vars: variables(alloc, words.word())?,
             ty: words.position()?,
         }),
-        "unsafe_fn" => Ok(TyCall::FnPtr {
-            vars: variables(alloc, words.word())?,
-            inputs_and_output: positions(alloc, words)?,
-            header: unsafe_header(),
-        }),
+        "fn_ptr" => {
+            let fn_sig_kind = fn_sig_kind(words.word())?;
+            Ok(TyCall::FnPtr {
+                vars: variables(alloc, words.word())?,
+                inputs_and_output: positions(alloc, words)?,
+                header: FnHeader { fn_sig_kind },
+            })
+        }
         _ => named_variable(first, words),
     }
 }
 
-// Returns the header of an unsafe function of C's calling convention, with any number of arguments.
-fn unsafe_header() -> FnHeader {
-    let fn_sig_kind = FnSigKind::new(ExternAbi::C { unwind: false }, Safety::Unsafe, true);
-    FnHeader { fn_sig_kind }
+/// Returns the parts of a signature other than its types: `plain` is a safe function, `variadic` an unsafe one of C's
+/// calling convention with any number of arguments, and `splat:N` a safe one whose argument N is splatted.
+pub fn fn_sig_kind(word: &str) -> Result<FnSigKind, Unread> {
+    let plain = FnHeader::dummy().fn_sig_kind;
+    match word {
+        "plain" => Ok(plain),
+        "variadic" => {
+            let unsafe_c = plain.set_abi(ExternAbi::C { unwind: false });
+            Ok(unsafe_c.set_safety(Safety::Unsafe).set_c_variadic(true))
+        }
+        _ => {
+            let digits = word.strip_prefix("splat:").ok_or(Unread::Unknown)?;
+            let index = digits.parse::<u16>().map_err(|_| Unread::Unknown)?;
+            if FnSigKind::fits_splat(Some(index)) {
+                Ok(plain.set_splat(Some(index)))
+            } else {
+                Err(Unread::Unknown)
+            }
+        }
+    }
 }
 
 // Returns a type variable with a name.
@@ -80,6 +99,7 @@ fn named_variable(first: &str, words: &mut Words) -> Result<TyCall, Unread> {
 fn item(words: &mut Words) -> Result<ItemCall, Unread> {
     match words.word() {
         "adt" => Ok(ItemCall::Adt(words.position()?)),
+        "fn" => Ok(ItemCall::FnDef(words.position()?)),
         "closure" => Ok(ItemCall::Closure(words.position()?)),
         "coroutine_closure" => Ok(ItemCall::CoroutineClosure(words.position()?)),
         "coroutine" => Ok(ItemCall::Coroutine(words.position()?)),

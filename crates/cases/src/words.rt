@@ -48,6 +48,13 @@ impl<'a> Words<'a> {
         self.rest
     }
 
+    /// Returns all words that are left but the last one, which is then the next.
+    pub fn all_but_last(&mut self) -> Words<'a> {
+        let (before, last) = self.rest.rsplit_once(" ").unwrap_or(("", self.rest));
+        self.rest = last;
+        Words::new(before)
+    }
+
     /// Returns the number of the next word.
     pub fn number(&mut self) -> Result<u32, Unread> {
         number(self.word())

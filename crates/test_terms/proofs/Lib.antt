@@ -1,1 +1,1 @@
-mod IterLaws
+pub mod IterLaws

@@ -2,7 +2,7 @@
 use Rattle.std.proofs.Common.{◌≡◌, ℕ, zero, suc, ◌%◌, [], ◌∷◌, refl, sym, ap, ◌∙◌, arith, Bool, true, false}
 use Rattle.std.specs.Prelude.{IsTrue, ◌≢◌, bit_and}
 use Rattle.std.proofs.lemmas.Nat.{and_mask}
-use Rattle.tt_kinds.specs.Label.{Name, TypeLabel, placeholder_type, infer_type, error_type, coroutine_type, alias_type, ConstLabel, infer_const, placeholder_const, unevaluated_const, error_const, Label, type_label, const_label, pattern_label, predicate_label, existential_label, clause_list_label, list_label, var_list_label, text_label, declaration_label, record_label, error_label, clause_label, infer_flags, alias_flags, flags_of_type, infer_const_flags, flags_of_const, flags_of_label}
+use Rattle.tt_kinds.specs.Label.{Name, TypeLabel, placeholder_type, infer_type, error_type, coroutine_type, alias_type, ConstLabel, infer_const, placeholder_const, unevaluated_const, error_const, Label, type_label, const_label, pattern_label, predicate_label, existential_label, clause_list_label, list_label, var_list_label, text_label, declaration_label, definition_label, record_label, error_label, clause_label, infer_flags, alias_flags, flags_of_type, infer_const_flags, flags_of_const, flags_of_label}
 use Rattle.tt_kinds.specs.Tree.{Depth, Tree, param, bound, region, term, node, binder}
 use Rattle.tt_kinds.specs.Scan.{scan}
 use Rattle.tt_kinds.specs.Param.{holds_param}
@@ -64,6 +64,7 @@ label_sets_none (var_list_label []) = refl
 label_sets_none (var_list_label (v ∷ vs)) = refl
 label_sets_none (text_label bytes) = refl
 label_sets_none (declaration_label n k name) = refl
+label_sets_none (definition_label n vs) = refl
 label_sets_none (record_label l) = refl
 label_sets_none (error_label e) = refl
 label_sets_none clause_label = refl

@@ -10,9 +10,11 @@ pub mod PositionLaws
 pub mod ClauseLaws
 pub mod InstanceLaws
 pub mod StillLaws
+pub mod FieldLaws
 mod UnprunedLaws
 mod UnprunedTrees
 mod UnprunedReasons
 mod UnprunedExamples
 mod SharingExamples
 mod InstanceExamples
+mod FieldExamples

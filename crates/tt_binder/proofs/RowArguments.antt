@@ -15,7 +15,7 @@ use Rattle.tt_kinds.specs.Handle.{Clauses}
 use Rattle.tt_kinds.specs.Handle.{GenericArgs}
 use Rattle.tt_kinds.specs.declared.ty_kind.TyKind.{TyKind}
 use Rattle.tt_kinds.specs.declared.const_kind.ConstKind.{ConstKind}
-use Rattle.tt_interner.specs.Rows.{Row, type_row, const_row, pat_row, predicate_row, existential_row, clauses_row, tys_row, consts_row, args_row, pats_row, vars_row, existentials_row, assumptions_row, text_row, declared_row, row_table, row_shape, table, size, meaning, AreRows}
+use Rattle.tt_interner.specs.Rows.{Row, type_row, const_row, pat_row, predicate_row, existential_row, clauses_row, tys_row, consts_row, args_row, pats_row, vars_row, existentials_row, assumptions_row, text_row, declared_row, defined_row, row_table, row_shape, table, size, meaning, AreRows}
 use Rattle.tt_interner.proofs.RowLaws.{IsNewest, place_cases, meaning-old, meaning-new}
 use Rattle.tt_interner.proofs.Trees.{Means-row}
 use Rattle.tt_interner.specs.Stored.{IsAt}
@@ -84,6 +84,7 @@ row_is f (existentials_row ps) = tt
 row_is f (assumptions_row ps) = tt
 row_is f (text_row bytes) = tt
 row_is f (declared_row n d) = tt
+row_is f (defined_row n vs) = tt
 
 newest_is : (r : Row) (rows : List Row) (t : Table) (n : ℕ) → IsNewest r rows t n → IsOf t (meaning (r ∷ rows) t n)
 newest_is r rows t n newest =

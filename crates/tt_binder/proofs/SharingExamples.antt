@@ -30,7 +30,7 @@ abbrev pub tuple : Forest Depth → Tree Depth
 tuple ts = term (type_label tuple_type) (also (types ts) none)
 
 abbrev pub pointer : Forest Depth → Tree Depth
-pointer ts = term (type_label (fn_ptr_type (record { fn_sig_kind = record { flags = 0 } })))
+pointer ts = term (type_label (fn_ptr_type (record { fn_sig_kind = record { flags = 0; splat = 65535 } })))
     (also (binder [] (node (record_label fn_sig_tys_record) (also (types ts) none))) none)
 
 -- `(P, P, fn(Q))`, where P and Q are the tuples of these types alone

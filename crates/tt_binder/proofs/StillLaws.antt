@@ -5,7 +5,7 @@ use Rattle.tt_kinds.specs.Tree as tree
 use Rattle.tt_kinds.specs.Tree.{Depth, Tree}
 use Rattle.tt_kinds.specs.Shape.{Shape, param, bound, region, term, node, binder, stored, part_of, fill}
 use Rattle.tt_kinds.specs.declared.table.Table.{Table}
-use Rattle.tt_kinds.specs.declared.table.Table.TheVariants.{Types, Consts, Patterns, Predicates, Existentials, ClauseLists, TypeLists, ConstLists, ArgLists, PatternLists, VarLists, ExistentialLists, AssumptionLists, Symbols, Declarations}
+use Rattle.tt_kinds.specs.declared.table.Table.TheVariants.{Types, Consts, Patterns, Predicates, Existentials, ClauseLists, TypeLists, ConstLists, ArgLists, PatternLists, VarLists, ExistentialLists, AssumptionLists, Symbols, Declarations, Definitions}
 use Rattle.tt_interner.specs.Rows.{Row}
 use Rattle.tt_visit.specs.Root.{a_region, hooked, root, sort_root, table_root}
 use Rattle.tt_visit.proofs.VisitSteps.{root-meaning}
@@ -53,6 +53,7 @@ no_regions ExistentialLists h = cc
 no_regions AssumptionLists h = cc
 no_regions Symbols h = cc
 no_regions Declarations h = cc
+no_regions Definitions h = cc
 
 sort_hooked : (t : Table) (o : Sort) → table_root t ≡ sort_root o → table_root t ≡ hooked
 sort_hooked t region_sort h = absurd (no_regions t h)

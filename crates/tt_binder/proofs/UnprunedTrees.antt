@@ -9,7 +9,7 @@ use Rattle.tt_kinds.specs.Shape.{Shape, Shapes, Meaning, Sizes, fill, fill_all, 
 use Rattle.tt_kinds.specs.Kinds.{Form, param, bound, plain, under, relabelled, form_shape, ty_form, const_form}
 use Rattle.tt_kinds.specs.declared.table.Table.{Table}
 use Rattle.tt_kinds.proofs.ForestLaws.{IsOfEach, list-each}
-use Rattle.tt_interner.specs.Rows.{Row, type_row, const_row, pat_row, predicate_row, existential_row, clauses_row, tys_row, consts_row, args_row, pats_row, vars_row, existentials_row, assumptions_row, text_row, declared_row, row_shape, table, size, meaning, AreRows}
+use Rattle.tt_interner.specs.Rows.{Row, type_row, const_row, pat_row, predicate_row, existential_row, clauses_row, tys_row, consts_row, args_row, pats_row, vars_row, existentials_row, assumptions_row, text_row, declared_row, defined_row, row_shape, table, size, meaning, AreRows}
 use Rattle.tt_interner.proofs.RowLaws.{IsNewest, place_cases, meaning-old, meaning-new}
 use Rattle.tt_visit.specs.Root.{hooked, unhooked, term_root}
 use Rattle.tt_fold.specs.Steps.{IsPartOf, tree_in}
@@ -82,6 +82,7 @@ row-root f (existentials_row ps) = tt
 row-root f (assumptions_row ps) = tt
 row-root f (text_row bytes) = tt
 row-root f (declared_row n d) = tt
+row-root f (defined_row n vs) = tt
 
 stored-rooted : (rows : List Row) → AreRows rows → (t : Table) (n : ℕ) → n < size rows t → IsRooted (meaning rows t n)
 unfolding table AreRows

@@ -4,7 +4,7 @@ use Rattle.std.specs.Prelude.{IsSome}
 use Rattle.std.specs.Bool.{OnTrue}
 use Rattle.tt_index.specs.declared.refusal.Refusal.{Refusal}
 use Rattle.tt_index.specs.declared.refusal.Refusal.TheVariants.{Memory, TableFull, GreatestIndex, NoArguments, ArgOutOfRange, ArgKind, RegionVariable, NotAClause, NoSuchAnswer}
-use Rattle.tt_kinds.specs.Label.{Name, region_sort, type_sort, const_sort, VarKind, type_label, const_label, pattern_label, predicate_label, existential_label, clause_list_label, list_label, var_list_label, text_label, declaration_label, record_label, error_label, clause_label, Label, is_type_or_clause}
+use Rattle.tt_kinds.specs.Label.{Name, region_sort, type_sort, const_sort, VarKind, type_label, const_label, pattern_label, predicate_label, existential_label, clause_list_label, list_label, var_list_label, text_label, declaration_label, definition_label, record_label, error_label, clause_label, Label, is_type_or_clause}
 use Rattle.tt_kinds.specs.Tree.{Depth, Tree, Forest, param, bound, region, term, node, binder, none, also}
 use Rattle.tt_kinds.specs.Argument.{argument}
 use Rattle.tt_kinds.specs.Param.{holds_param, EachParam_among, IsGeneric_among}
@@ -54,6 +54,7 @@ passed-gone (term (list_label t) ts) is = tt
 passed-gone (term (var_list_label vs) ts) is = tt
 passed-gone (term (text_label bytes) ts) is = tt
 passed-gone (term (declaration_label n k name) ts) is = tt
+passed-gone (term (definition_label n vs) ts) is = tt
 passed-gone (term (record_label l) ts) is = tt
 passed-gone (term (error_label e) ts) is = tt
 passed-gone (term clause_label ts) is = tt
@@ -67,6 +68,7 @@ passed-gone (node (list_label t) ts) is = cc
 passed-gone (node (var_list_label vs) ts) is = cc
 passed-gone (node (text_label bytes) ts) is = cc
 passed-gone (node (declaration_label n k name) ts) is = cc
+passed-gone (node (definition_label n vs) ts) is = cc
 passed-gone (node (record_label l) ts) is = cc
 passed-gone (node (error_label e) ts) is = cc
 passed-gone (node clause_label ts) is = cc

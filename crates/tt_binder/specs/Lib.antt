@@ -9,3 +9,5 @@ pub mod Instance
 pub mod Promise
 pub mod Untouched
 pub mod Unpruned
+pub mod FnSig
+pub mod Fields

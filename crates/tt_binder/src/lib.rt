@@ -3,11 +3,15 @@
 
 mod arg_folder;
 pub mod args_slice;
+mod fields;
+mod fn_sig;
 pub mod instantiate;
 mod shifted;
 pub mod slice_like;
 mod untouched;
 
+pub use fields::DataTypes;
+pub use fn_sig::TypeSignature;
 pub use instantiate::{Instantiate, pruning_is_unseen};
 pub use slice_like::SliceLike;
 pub use untouched::is_untouched;

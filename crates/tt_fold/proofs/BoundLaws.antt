@@ -32,7 +32,7 @@ use Rattle.tt_kinds.specs.declared.parts.Kind.{Kind}
 use Rattle.tt_kinds.specs.declared.parts.Kind.TheVariants as kind
 use Rattle.tt_kinds.specs.declared.table.Table.{Table}
 use Rattle.tt_kinds.specs.declared.table.Table.TheVariants.{Types, Consts, Predicates, ClauseLists}
-use Rattle.tt_interner.specs.Rows.{Row, type_row, const_row, pat_row, predicate_row, existential_row, clauses_row, tys_row, consts_row, args_row, pats_row, vars_row, existentials_row, assumptions_row, text_row, declared_row, row_table, row_shape, table, size, meaning}
+use Rattle.tt_interner.specs.Rows.{Row, type_row, const_row, pat_row, predicate_row, existential_row, clauses_row, tys_row, consts_row, args_row, pats_row, vars_row, existentials_row, assumptions_row, text_row, declared_row, defined_row, row_table, row_shape, table, size, meaning}
 use Rattle.tt_interner.specs.Stored.{Terms, Builds, IsCause}
 use Rattle.tt_interner.proofs.RowLaws.{IsNewest, place_cases, meaning-old, meaning-new}
 use Rattle.tt_fold.proofs.PartLaws.{is_part, in_range, stored_tree}
@@ -261,6 +261,7 @@ row-other f (existentials_row ps) h = absurd h
 row-other f (assumptions_row ps) h = absurd h
 row-other f (text_row bytes) h = absurd h
 row-other f (declared_row n d) h = absurd h
+row-other f (defined_row n vs) h = absurd h
 
 other-more : (r : Row) (rows : List Row) (t : Table) (n : ℕ) → IsOfClauses t → (n < size rows t → IsOther (meaning rows t n))
     → (n < size rows t) ⊎ IsNewest r rows t n → IsOther (meaning (r ∷ rows) t n)

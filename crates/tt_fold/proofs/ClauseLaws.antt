@@ -13,7 +13,7 @@ use Rattle.tt_kinds.specs.declared.table.Table.{Table}
 use Rattle.tt_kinds.specs.Handle.{Clause}
 use Rattle.tt_interner.specs.Clauses.{is_clause_part, is_clause_inside, is_clause_tree, HasOther}
 use Rattle.tt_kinds.proofs.ForestLaws.{IsOfEach, list-each}
-use Rattle.tt_interner.specs.Rows.{Row, type_row, const_row, pat_row, predicate_row, existential_row, clauses_row, tys_row, consts_row, args_row, pats_row, vars_row, existentials_row, assumptions_row, text_row, declared_row, row_shape, table, size, meaning, AreRows, AreClauses, HoldsClauses}
+use Rattle.tt_interner.specs.Rows.{Row, type_row, const_row, pat_row, predicate_row, existential_row, clauses_row, tys_row, consts_row, args_row, pats_row, vars_row, existentials_row, assumptions_row, text_row, declared_row, defined_row, row_shape, table, size, meaning, AreRows, AreClauses, IsWellFormed}
 use Rattle.tt_interner.specs.Stored.{IsNoClauseList}
 use Rattle.tt_interner.proofs.RowLaws.{IsNewest, place_cases, meaning-old, meaning-new}
 use Rattle.tt_fold.specs.Walk.{LosesClause}
@@ -173,7 +173,7 @@ form_fine label sort f labels (bound d e) h = h
 form_fine label sort f labels (plain l p) h = labels l _ h
 form_fine label sort f labels (under l vars m p) h = labels l _ h
 
-row_fine : (rows : List Row) (r : Row) → HoldsClauses rows r → IsNoClauseList (fill (meaning rows) (row_shape r)) → ⊥
+row_fine : (rows : List Row) (r : Row) → IsWellFormed rows r → IsNoClauseList (fill (meaning rows) (row_shape r)) → ⊥
 unfolding fill
 row_fine rows (type_row k) holds h = form_fine type_label type_sort (meaning rows) (λ l ts bad. bad) (ty_form k) h
 row_fine rows (const_row k) holds h = form_fine const_label const_sort (meaning rows) (λ l ts bad. bad) (const_form k) h
@@ -190,6 +190,7 @@ row_fine rows (existentials_row ps) holds h = h
 row_fine rows (assumptions_row ps) holds h = h
 row_fine rows (text_row bytes) holds h = h
 row_fine rows (declared_row n d) holds h = h
+row_fine rows (defined_row n vs) holds h = h
 
 stored_keeps : (rows : List Row) → AreRows rows → (t : Table) (n : ℕ) → n < size rows t → KeepsClauses (meaning rows t n)
 unfolding table AreRows

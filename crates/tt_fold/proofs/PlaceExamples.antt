@@ -28,7 +28,7 @@ abbrev types : Forest Depth → Tree Depth
 types ts = node (list_label TypeLists) ts
 
 abbrev pointer : List (VarKind Name) → Forest Depth → Tree Depth
-pointer vs ts = term (type_label (fn_ptr_type (record { fn_sig_kind = record { flags = 0 } })))
+pointer vs ts = term (type_label (fn_ptr_type (record { fn_sig_kind = record { flags = 0; splat = 65535 } })))
     (also (binder vs (node (record_label fn_sig_tys_record) (also (types ts) none))) none)
 
 -- the first variable of a binder, without a name

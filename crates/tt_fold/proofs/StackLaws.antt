@@ -1,6 +1,6 @@
 -- Each turn of the walk, seen from what is left to do.
 use Rattle.std.proofs.Common.{◌≡◌, List, [], ◌∷◌, refl, ap, sym, ◌∙◌}
-use Rattle.tt_kinds.specs.Label.{Name, Sort, region_sort, type_sort, const_sort, Label, type_label, const_label, pattern_label, predicate_label, existential_label, clause_list_label, list_label, var_list_label, text_label, declaration_label, record_label, error_label, clause_label}
+use Rattle.tt_kinds.specs.Label.{Name, Sort, region_sort, type_sort, const_sort, Label, type_label, const_label, pattern_label, predicate_label, existential_label, clause_list_label, list_label, var_list_label, text_label, declaration_label, definition_label, record_label, error_label, clause_label}
 use Rattle.tt_kinds.specs.Tree.{Depth, Tree, Forest, none, also}
 use Rattle.tt_kinds.specs.declared.parts.ListSort.TheVariants as sort
 use Rattle.tt_visit.specs.Root.{root, sort_root, term_root, a_part}
@@ -25,6 +25,7 @@ no_part (list_label t) e = cc
 no_part (var_list_label vs) e = cc
 no_part (text_label cs) e = cc
 no_part (declaration_label n k m) e = cc
+no_part (definition_label n vs) e = cc
 no_part (record_label l) e = cc
 no_part (error_label n) e = cc
 no_part clause_label e = cc

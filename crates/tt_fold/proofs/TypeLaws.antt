@@ -9,7 +9,7 @@ use Rattle.tt_kinds.specs.declared.parts.Node.{Node}
 use Rattle.tt_kinds.specs.declared.parts.Node.TheVariants as node
 use Rattle.tt_kinds.specs.declared.table.Table.{Table}
 use Rattle.tt_kinds.specs.declared.table.Table.TheVariants.{Types, Consts, Patterns, Predicates, Existentials, ClauseLists}
-use Rattle.tt_interner.specs.Rows.{Row, type_row, const_row, pat_row, predicate_row, existential_row, clauses_row, tys_row, consts_row, args_row, pats_row, vars_row, existentials_row, assumptions_row, text_row, declared_row, row_table, row_shape, size, meaning, table}
+use Rattle.tt_interner.specs.Rows.{Row, type_row, const_row, pat_row, predicate_row, existential_row, clauses_row, tys_row, consts_row, args_row, pats_row, vars_row, existentials_row, assumptions_row, text_row, declared_row, defined_row, row_table, row_shape, size, meaning, table}
 use Rattle.tt_interner.proofs.RowLaws.{IsNewest, place_cases, meaning-old, meaning-new}
 use Rattle.tt_fold.specs.Walk.{is_type_tree, descend}
 use Rattle.tt_fold.specs.Parts.{node_tree}
@@ -41,6 +41,7 @@ row-type f (existentials_row ps) = refl
 row-type f (assumptions_row ps) = refl
 row-type f (text_row bytes) = refl
 row-type f (declared_row n d) = refl
+row-type f (defined_row n vs) = refl
 
 type-more : (r : Row) (rows : List Row) (t : Table) (n : ℕ) → (n < size rows t → is_type_tree (meaning rows t n) ≡ is_types t)
     → (n < size rows t) ⊎ IsNewest r rows t n → is_type_tree (meaning (r ∷ rows) t n) ≡ is_types t

@@ -17,7 +17,7 @@ use Rattle.tt_kinds.specs.Label.{Name, is_clause_record}
 use Rattle.tt_kinds.specs.Predicate.{is_clause_kind}
 use Rattle.tt_kinds.specs.Shape.{item_shapes, name_of, rename_record, fill, fill_all, AreParts}
 use Rattle.tt_kinds.specs.Kinds.{clause_shape, children_shapes, clause_form, predicate_form}
-use Rattle.tt_interner.specs.Rows.{Row, predicate_row, clauses_row, table, size, meaning, AreRows, IsClause, AreClauses, HoldsClauses}
+use Rattle.tt_interner.specs.Rows.{Row, predicate_row, clauses_row, table, size, meaning, AreRows, IsClause, AreClauses, IsWellFormed}
 use Rattle.tt_interner.specs.Clauses.{is_clause_tree, HasOther}
 use Rattle.tt_interner.specs.Children.{clause_child}
 use Rattle.tt_interner.specs.Stored.{IsAt}
@@ -60,7 +60,7 @@ unfolding table AreRows
 clauses_stored [] are cs n at = absurd (none-some (clauses_row cs) at)
 clauses_stored (r ∷ rows) are cs n at = AreClauses-more r rows cs (⊎_elim
     (λ old. clauses_stored rows are.4 cs n (sym (row-old r rows ClauseLists n old) ∙ at))
-    (λ newest. subst (HoldsClauses rows) (same_Some r (clauses_row cs) (sym (row_at_newest r rows ClauseLists n newest) ∙ at)) are.3)
+    (λ newest. subst (IsWellFormed rows) (same_Some r (clauses_row cs) (sym (row_at_newest r rows ClauseLists n newest) ∙ at)) are.3)
     (place_cases r rows ClauseLists n (slice_get_within (table ClauseLists (r ∷ rows)) n (clauses_row cs) at)))
 
 clause_label : (name : ℕ → Name) (k : ClauseKind) → is_clause_record (rename_record name (clause_form k).label) ≡ true

@@ -3,7 +3,7 @@ use Rattle.std.proofs.Common.{◌≡◌, ℕ, ◌<◌, List, [], ◌∷◌, Opti
 use Rattle.std.specs.Prelude.{map, ⊤}
 use Rattle.tt_kinds.specs.declared.table.Table.{Table}
 use Rattle.tt_kinds.specs.declared.table.Table.TheVariants.{VarLists, Symbols}
-use Rattle.tt_kinds.specs.Label.{Name, RegionName, anonymous, printed, named, environment, VarKind, region_variable, type_variable, const_variable, Entry, FreeRegion, static_region, erased_region, region_var, error_region, late_param_region, placeholder_region, RecordLabel, fn_sig_tys_record, pair_record, triple_record, absent_record, present_record, sequence_record, unsafe_binder_record, trait_record, host_effect_record, region_outlives_record, type_outlives_record, projection_record, const_has_type_record, well_formed_record, const_evaluatable_record, unstable_feature_record, dyn_compatible_record, subtype_record, coerce_record, const_equate_record, ambiguous_record, normalizes_to_record, alias_relate_record, existential_trait_record, existential_projection_record, auto_trait_record, trait_ref_record, alias_term_record, alias_ty_record, outlives_record, type_and_mut_record, fn_sig_record, param_env_record, witness_types_record, bare_param_record, bare_bound_record, bare_type_record, bare_const_record, bare_pattern_record, Label, type_label, const_label, pattern_label, predicate_label, existential_label, clause_list_label, list_label, var_list_label, text_label, declaration_label, record_label, error_label, clause_label, label_table}
+use Rattle.tt_kinds.specs.Label.{Name, RegionName, anonymous, printed, named, environment, VarKind, region_variable, type_variable, const_variable, Entry, FreeRegion, static_region, erased_region, region_var, error_region, late_param_region, placeholder_region, RecordLabel, fn_sig_tys_record, pair_record, triple_record, absent_record, present_record, sequence_record, unsafe_binder_record, trait_record, host_effect_record, region_outlives_record, type_outlives_record, projection_record, const_has_type_record, well_formed_record, const_evaluatable_record, unstable_feature_record, dyn_compatible_record, subtype_record, coerce_record, const_equate_record, ambiguous_record, normalizes_to_record, alias_relate_record, existential_trait_record, existential_projection_record, auto_trait_record, trait_ref_record, alias_term_record, alias_ty_record, outlives_record, type_and_mut_record, fn_sig_record, param_env_record, witness_types_record, bare_param_record, bare_bound_record, bare_type_record, bare_const_record, bare_pattern_record, Label, type_label, const_label, pattern_label, predicate_label, existential_label, clause_list_label, list_label, var_list_label, text_label, declaration_label, definition_label, record_label, error_label, clause_label, label_table}
 use Rattle.tt_kinds.specs.Tree as tree
 use Rattle.tt_kinds.specs.Tree.{Tree, Depth}
 use Rattle.tt_kinds.specs.Shape.{Shape, Shapes, param, bound, region, term, node, binder, stored, part_of, none, also, Meaning, Sizes, text_of, vars_of, name_of, rename_region, rename_kind, rename_entry, rename_free, rename_record, rename_label, fill, fill_all, sort_table, IsNamed, IsNamedKind, AreNamedKinds, IsNamedFree, IsNamedRecord, IsNamedLabel, IsPart, AreParts, HasParts}
@@ -41,6 +41,7 @@ label_table-rename name (list_label t) = refl
 label_table-rename name (var_list_label vs) = refl
 label_table-rename name (text_label bytes) = refl
 label_table-rename name (declaration_label i k n) = refl
+label_table-rename name (definition_label i vs) = refl
 label_table-rename name (record_label l) = refl
 label_table-rename name (error_label e) = refl
 label_table-rename name clause_label = refl
@@ -158,6 +159,7 @@ module _ (size : Sizes) (f : Meaning) (d : Distinguishes size f) where
   label_one (declaration_label i k n) (declaration_label i' k' n') p q e =
       let places : i ≡ i' = cc in let kinds : k ≡ k' = cc in let texts : name_of f n ≡ name_of f n' = cc in
       let names = name_one n n' p q texts in cc
+  label_one (definition_label i vs) (definition_label i' vs') p q e = cc
   label_one (record_label l) (record_label l') p q e =
       let records : rename_record (name_of f) l ≡ rename_record (name_of f) l' = cc in ap record_label (record_one l l' p q records)
   label_one (error_label x) (error_label x') p q e = cc

@@ -5,7 +5,7 @@ use Rattle.tt_kinds.specs.Label.{Sort, Label, type_label, const_label, type_sort
 use Rattle.tt_kinds.specs.Reading.{read, FitsUnder}
 use Rattle.tt_kinds.specs.Shape.{Shape, IsPart, fill}
 use Rattle.tt_kinds.specs.Kinds.{Form, param, bound, plain, under, relabelled, form_shape, ty_form, pattern_form, predicate_form, existential_form, value_form, const_kind_shape, ty_shape, const_shape, pat_shape, clause_shape, existential_shape}
-use Rattle.tt_kinds.specs.Range.{IndicesFit, IndicesFitIn, binders_in}
+use Rattle.tt_kinds.specs.Range.{IndicesFit, IndicesFitIn, binders_in, binders_among}
 use Rattle.tt_kinds.specs.Fitting.{BindersFit}
 use Rattle.tt_kinds.specs.declared.const_kind.ValTreeKind.TheVariants as valtree
 use Rattle.tt_kinds.specs.declared.const_kind.ValTreeKind.{ValTreeKind}
@@ -14,8 +14,11 @@ use Rattle.tt_kinds.specs.declared.const_kind.ConstKind.TheVariants as const
 use Rattle.tt_kinds.specs.declared.table.Table.{Table}
 use Rattle.tt_kinds.specs.declared.table.Table.TheVariants.{Types, Predicates, Existentials}
 use Rattle.tt_kinds.proofs.RangeLaws.{parts-unbound, items-unbound, args-unbound, assumptions-unbound, part-fits, row-fits}
+use Rattle.tt_kinds.specs.Values.{declared_shapes}
+use Rattle.tt_kinds.proofs.ValueLaws.{declared_by}
 use Rattle.tt_kinds.proofs.FittingLaws.{tree-fits, part-binders, row-binders}
-use Rattle.tt_interner.specs.Rows.{Row, type_row, const_row, pat_row, predicate_row, existential_row, clauses_row, tys_row, consts_row, args_row, pats_row, vars_row, existentials_row, assumptions_row, text_row, declared_row, row_table, row_shape, table, size, meaning, AreRows}
+use Rattle.tt_interner.specs.Rows.{Row, type_row, const_row, pat_row, predicate_row, existential_row, clauses_row, tys_row, consts_row, args_row, pats_row, vars_row, existentials_row, assumptions_row, text_row, declared_row, defined_row, row_table, row_shape, table, size, meaning, AreRows}
+use Rattle.tt_interner.proofs.DefinitionShapes.{definition-unbound}
 use Rattle.tt_interner.proofs.RowLaws.{IsNewest, place_cases, size-more, meaning-old, meaning-new}
 use Rattle.tt_interner.proofs.TableLaws.{size_own}
 
@@ -83,7 +86,8 @@ row-binding r rows = own r (size-more r rows Types) (size-more r rows Predicates
     own (existentials_row ps) a b c more = let none_has = items-unbound existential_shape (λ x. refl) ps in omega arith
     own (assumptions_row ps) a b c more = let none_has = assumptions-unbound ps in omega arith
     own (text_row bytes) a b c more = omega arith
-    own (declared_row n d) a b c more = omega arith
+    own (declared_row n d) a b c more = let none_has : binders_among (declared_shapes d.kind) ≡ 0 = declared_by (λ ss. binders_among ss ≡ 0) refl (λ vars tys. refl) d.kind in omega arith
+    own (defined_row n vs) a b c more = let none_has = definition-unbound vs in omega arith
 
 stored-binders : (rows : List Row) → AreRows rows → (k : ℕ) (t : Table) (n : ℕ) → n < size rows t → k + binding rows ≤ greatest → BindersFit k (meaning rows t n)
 unfolding table AreRows

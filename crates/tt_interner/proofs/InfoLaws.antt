@@ -11,7 +11,7 @@ use Rattle.tt_flags.specs.declared.flag_computation.FlagComputation.{FlagComputa
 use Rattle.tt_kinds.specs.Handle.{BoundVarKinds}
 use Rattle.tt_kinds.specs.declared.table.Table.{Table}
 use Rattle.tt_kinds.specs.declared.table.Table.TheVariants.{VarLists}
-use Rattle.tt_kinds.specs.Label.{Name, Sort, VarKind, Label, type_label, const_label, pattern_label, predicate_label, existential_label, clause_list_label, list_label, var_list_label, text_label, declaration_label, record_label, error_label, clause_label, list_flags, flags_of_label}
+use Rattle.tt_kinds.specs.Label.{Name, Sort, VarKind, Label, type_label, const_label, pattern_label, predicate_label, existential_label, clause_list_label, list_label, var_list_label, text_label, declaration_label, definition_label, record_label, error_label, clause_label, list_flags, flags_of_label}
 use Rattle.tt_kinds.specs.Tree as tree
 use Rattle.tt_kinds.specs.Tree.{Tree, Forest, Depth}
 use Rattle.tt_kinds.specs.Reading.{read_all, greatest_reach_all, outer_binder}
@@ -41,6 +41,7 @@ flags_of_label-rename name (list_label t) = refl
 flags_of_label-rename name (var_list_label vs) = list_flags-map (rename_kind name) vs
 flags_of_label-rename name (text_label bytes) = refl
 flags_of_label-rename name (declaration_label i k n) = refl
+flags_of_label-rename name (definition_label i vs) = refl
 flags_of_label-rename name (record_label l) = refl
 flags_of_label-rename name (error_label e) = refl
 flags_of_label-rename name clause_label = refl

@@ -14,9 +14,13 @@ pub mod PutSteps
 pub mod TakeBackSteps
 pub mod ExistentialSteps
 pub mod DeclarationLaws
+pub mod DefinitionShapes
+pub mod DefinitionLaws
 pub mod Keys
 pub mod NodeSteps
 pub mod EnvSteps
 pub mod ReadsLaws
 pub mod OwnedLaws
+pub mod AliasLaws
 mod EnvExamples
+mod AliasExamples

@@ -7,8 +7,10 @@ use Rattle.tt_index.specs.declared.refusal.Refusal.{Refusal}
 use Rattle.tt_index.specs.declared.refusal.Refusal.TheVariants.{Memory, TableFull}
 use Rattle.tt_kinds.specs.Shape.{fill, HasParts, IsTooDeep}
 use Rattle.tt_kinds.specs.Range.{IndicesFitIn}
-use Rattle.tt_interner.specs.Rows.{Row, row_table, row_shape, size, meaning, IsNew, HoldsClauses, AreRows}
+use Rattle.tt_interner.specs.Rows.{Row, row_table, row_shape, size, meaning, IsNew, IsWellFormed, AreRows}
 use Rattle.tt_interner.specs.Stored.{Terms, Counters, IsInfo, IsAt, Puts, Builds}
+use Rattle.tt_interner.specs.Info.{keeps_info}
+use Rattle.std.specs.Prelude.{IsTrue}
 use Rattle.tt_interner.specs.Tables.{Tables, entries_of, with_entries, rows_in_order, entries_by, Keeps}
 use Rattle.tt_interner.proofs.FoundLaws.{IsKey}
 use Rattle.tt_interner.proofs.StoreSteps.{Builds-put}
@@ -30,8 +32,8 @@ module _ {K : Type 0} (order : List Table) (ts : Tables) (limit : ℕ) (counters
   are = subst (λ (v : Terms). AreRows v.rows) view_is keeps.tables.are
 
   module _ (info : FlagComputation) (is_info : IsInfo info (fill (meaning old.rows) (row_shape r))) where
-    pub same : (there : FlagComputation) → lookup test es ≡ Some there → there ≡ info
-    same there h = same_info _ _ _ keeps.tables (row_table r) row es is test r refl key there info h
+    pub same : IsTrue (keeps_info (row_table r)) → (there : FlagComputation) → lookup test es ≡ Some there → there ≡ info
+    same has_info there h = same_info _ _ _ keeps.tables (row_table r) row es is has_info test r refl key there info h
         (subst (λ (v : Terms). IsInfo info (fill (meaning v.rows) (row_shape r))) (sym view_is) is_info)
 
     -- where it was found, nothing changed
@@ -47,7 +49,7 @@ module _ {K : Type 0} (order : List Table) (ts : Tables) (limit : ℕ) (counters
         pushed : position test (keys_of es) ≡ None → with_entries ts (row_table r) (entries_by row (λ v. v) es') ≡ with_entries ts (row_table r) (entries_of ts (row_table r) ++ (record { row = r; info = info }) ∷ [])
         pushed none = ap (with_entries ts (row_table r)) (more none ∙ ap (λ l. l ++ (record { row = r; info = info }) ∷ []) (sym is))
 
-        pub put_kept : HasParts (size old.rows) (row_shape r) → IndicesFitIn (row_shape r) → HoldsClauses old.rows r → Keeps order' (with_entries ts (row_table r) (entries_by row (λ v. v) es')) limit
+        pub put_kept : HasParts (size old.rows) (row_shape r) → IndicesFitIn (row_shape r) → IsWellFormed old.rows r → Keeps order' (with_entries ts (row_table r) (entries_by row (λ v. v) es')) limit
         put_kept parts fit holds =
             let many = count _ _ _ keeps.tables (row_table r) row (λ v. v) es is in
             found_or_absent _ _ _ keeps.tables (row_table r) row (λ v. v) es is test r refl key

@@ -6,7 +6,7 @@ use Rattle.std.proofs.lemmas.Bool.{eqb-true}
 use Rattle.std.proofs.lemmas.Bool.{cases_lt}
 use Rattle.std.proofs.lemmas.Option.{same_Some, slice_get-get_or}
 use Rattle.tt_kinds.specs.declared.table.Table.{Table}
-use Rattle.tt_kinds.specs.declared.table.Table.TheVariants.{Types, Consts, Patterns, Predicates, Existentials, ClauseLists, TypeLists, ConstLists, ArgLists, PatternLists, VarLists, ExistentialLists, AssumptionLists, Symbols, Declarations}
+use Rattle.tt_kinds.specs.declared.table.Table.TheVariants.{Types, Consts, Patterns, Predicates, Existentials, ClauseLists, TypeLists, ConstLists, ArgLists, PatternLists, VarLists, ExistentialLists, AssumptionLists, Symbols, Declarations, Definitions}
 use Rattle.tt_kinds.specs.Shape.{fill}
 use Rattle.tt_interner.specs.Rows.{Row, row_table, table_number, is_in, table, size, meaning, age, row_shape}
 
@@ -37,7 +37,8 @@ table_at (suc (suc (suc (suc (suc (suc (suc (suc (suc (suc zero)))))))))) = VarL
 table_at (suc (suc (suc (suc (suc (suc (suc (suc (suc (suc (suc zero))))))))))) = ExistentialLists
 table_at (suc (suc (suc (suc (suc (suc (suc (suc (suc (suc (suc (suc zero)))))))))))) = AssumptionLists
 table_at (suc (suc (suc (suc (suc (suc (suc (suc (suc (suc (suc (suc (suc zero))))))))))))) = Symbols
-table_at _ = Declarations
+table_at (suc (suc (suc (suc (suc (suc (suc (suc (suc (suc (suc (suc (suc (suc zero)))))))))))))) = Declarations
+table_at _ = Definitions
 
 table_at-table_number : (t : Table) → table_at (table_number t) ≡ t
 table_at-table_number Types = refl
@@ -55,6 +56,7 @@ table_at-table_number ExistentialLists = refl
 table_at-table_number AssumptionLists = refl
 table_at-table_number Symbols = refl
 table_at-table_number Declarations = refl
+table_at-table_number Definitions = refl
 
 -- a row is in the table that the test says
 pub in_table : (t : Table) (r : Row) → is_in t r ≡ true → row_table r ≡ t
@@ -77,6 +79,7 @@ is_in_self ExistentialLists = refl
 is_in_self AssumptionLists = refl
 is_in_self Symbols = refl
 is_in_self Declarations = refl
+is_in_self Definitions = refl
 
 pub is_in_own : (r : Row) → is_in (row_table r) r ≡ true
 is_in_own r = is_in_self (row_table r)

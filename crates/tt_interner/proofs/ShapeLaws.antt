@@ -35,7 +35,7 @@ use Rattle.tt_kinds.specs.declared.existential.ExistentialPredicate.{Existential
 use Rattle.tt_kinds.specs.declared.existential.ExistentialPredicate.TheVariants as existential
 use Rattle.tt_kinds.specs.declared.table.Table.{Table}
 use Rattle.tt_kinds.specs.declared.table.Table.TheVariants.{Types, Consts, TypeLists, ConstLists, PatternLists, ExistentialLists, AssumptionLists, VarLists, Symbols}
-use Rattle.tt_kinds.specs.Label.{Sort, type_sort, const_sort, RegionName, anonymous, printed, named, environment, VarKind, region_variable, type_variable, const_variable, FreeRegion, static_region, erased_region, region_var, error_region, late_param_region, placeholder_region, TypeLabel, bool_type, char_type, int_type, uint_type, float_type, str_type, never_type, placeholder_type, infer_type, error_type, ref_type, raw_ptr_type, slice_type, tuple_type, fn_ptr_type, foreign_type, adt_type, array_type, pat_type, unsafe_binder_type, dynamic_type, closure_type, coroutine_closure_type, coroutine_type, coroutine_witness_type, alias_type, ConstLabel, infer_const, placeholder_const, unevaluated_const, leaf_const, branch_const, error_const, expr_const, PatternLabel, range_pattern, or_pattern, not_null_pattern, RecordLabel, trait_record, host_effect_record, region_outlives_record, type_outlives_record, projection_record, const_has_type_record, well_formed_record, const_evaluatable_record, unstable_feature_record, dyn_compatible_record, subtype_record, coerce_record, const_equate_record, ambiguous_record, normalizes_to_record, alias_relate_record, existential_trait_record, existential_projection_record, auto_trait_record, Label, type_label, const_label, pattern_label, predicate_label, existential_label, clause_list_label, list_label, var_list_label, text_label, declaration_label, record_label, error_label, clause_label, label_table}
+use Rattle.tt_kinds.specs.Label.{Sort, type_sort, const_sort, RegionName, anonymous, printed, named, environment, VarKind, region_variable, type_variable, const_variable, FreeRegion, static_region, erased_region, region_var, error_region, late_param_region, placeholder_region, TypeLabel, bool_type, char_type, int_type, uint_type, float_type, str_type, never_type, placeholder_type, infer_type, error_type, ref_type, raw_ptr_type, slice_type, tuple_type, fn_ptr_type, foreign_type, adt_type, fn_def_type, array_type, pat_type, unsafe_binder_type, dynamic_type, closure_type, coroutine_closure_type, coroutine_type, coroutine_witness_type, alias_type, ConstLabel, infer_const, placeholder_const, unevaluated_const, leaf_const, branch_const, error_const, expr_const, PatternLabel, range_pattern, or_pattern, not_null_pattern, RecordLabel, trait_record, host_effect_record, region_outlives_record, type_outlives_record, projection_record, const_has_type_record, well_formed_record, const_evaluatable_record, unstable_feature_record, dyn_compatible_record, subtype_record, coerce_record, const_equate_record, ambiguous_record, normalizes_to_record, alias_relate_record, existential_trait_record, existential_projection_record, auto_trait_record, Label, type_label, const_label, pattern_label, predicate_label, existential_label, clause_list_label, list_label, var_list_label, text_label, declaration_label, definition_label, record_label, error_label, clause_label, label_table}
 use Rattle.tt_kinds.specs.Tree as tree
 use Rattle.tt_kinds.specs.Tree.{Depth, at, canonical}
 use Rattle.tt_kinds.specs.Bound.{depth, region_name, var_kind}
@@ -43,8 +43,17 @@ use Rattle.tt_kinds.specs.Parts.{term_child}
 use Rattle.tt_kinds.specs.Shape.{Shape, Shapes, param, bound, region, term, node, binder, stored, none, also, append, Meaning, fill, name_of, text_of, vars_of, item_shapes, sort_table}
 use Rattle.tt_kinds.specs.Kinds as form
 use Rattle.tt_kinds.specs.Kinds.{Form, ty_form, const_form, form_shape, relabelled, value_form, clause_form, predicate_form, existential_form, parts_shapes, child_shapes, ty_kind_shape, const_kind_shape, pattern_kind_shape, region_shape, ty_shape, const_shape, arg_shape, pat_shape, existential_shape, clause_shape}
-use Rattle.tt_kinds.specs.Values.{assumption_shape}
-use Rattle.tt_interner.specs.Rows.{Row, type_row, const_row, pat_row, predicate_row, existential_row, clauses_row, tys_row, consts_row, args_row, pats_row, vars_row, existentials_row, assumptions_row, text_row, declared_row, row_table, row_shape}
+use Rattle.tt_kinds.specs.Values.{assumption_shape, item_label, declared_shapes}
+use Rattle.tt_kinds.specs.Label.{ItemLabel, trait_item, assoc_ty_item, inherent_item, fn_item, plain_item}
+use Rattle.tt_kinds.specs.declared.declaration.DeclarationKind.{DeclarationKind}
+use Rattle.tt_kinds.specs.declared.declaration.DeclarationKind.TheVariants as item
+use Rattle.tt_kinds.specs.declared.declaration.DeclarationSort.{DeclarationSort}
+use Rattle.tt_kinds.specs.declared.declaration.DeclarationSort.TheVariants as sort
+use Rattle.tt_kinds.specs.declared.fn_sig.FnSig.{FnSig}
+use Rattle.tt_kinds.specs.declared.fn_sig.FnSigKind.{FnSigKind}
+use Rattle.tt_kinds.specs.declared.binder.Binder.{Binder}
+use Rattle.tt_kinds.specs.declared.binder.EarlyBinder.{EarlyBinder}
+use Rattle.tt_interner.specs.Rows.{Row, type_row, const_row, pat_row, predicate_row, existential_row, clauses_row, tys_row, consts_row, args_row, pats_row, vars_row, existentials_row, assumptions_row, text_row, declared_row, defined_row, row_table, row_shape}
 use Rattle.tt_interner.proofs.Fill.{tree_table, label_table-rename}
 use Rattle.tt_kinds.specs.Id.{id_of}
 use Rattle.tt_kinds.specs.Handle.{handle}
@@ -142,6 +151,7 @@ kind_from tuple_type ss = ty.Tuple (handle (number_at 0 ss))
 kind_from (fn_ptr_type h) ss =
     ty.FnPtr (record { value = record { inputs_and_output = handle (number_at 0 (parts_under (part_at 0 ss))) }; bound_vars = handle (vars_from (part_at 0 ss)) }) h
 kind_from (foreign_type d) ss = ty.Foreign (id_of d)
+kind_from (fn_def_type d) ss = ty.FnDef (id_of d) (handle (number_at 0 ss))
 kind_from (adt_type d) ss = ty.Adt (id_of d) (handle (number_at 0 ss))
 kind_from array_type ss = ty.Array (handle (number_at 0 ss)) (handle (number_at 1 ss))
 kind_from pat_type ss = ty.Pat (handle (number_at 0 ss)) (handle (number_at 1 ss))
@@ -211,6 +221,28 @@ list_from ExistentialLists ss = existentials_row (items_from (λ s. handle (numb
 list_from AssumptionLists ss = assumptions_row (items_from assumption_from ss)
 list_from _ ss = args_row (items_from arg_from ss)
 
+abbrev sig_from : FnSigKind → Shapes → EarlyBinder (Binder FnSig)
+sig_from k ss = record { value = record { value = record { inputs_and_output = handle (number_at 1 ss); fn_sig_kind = k }; bound_vars = handle (number_at 0 ss) } }
+
+abbrev plain_from : DeclarationSort → DeclarationKind
+plain_from sort.Impl = item.Impl
+plain_from sort.Adt = item.Adt
+plain_from sort.Opaque = item.Opaque
+plain_from sort.Free = item.Free
+plain_from sort.Foreign = item.Foreign
+plain_from sort.Closure = item.Closure
+plain_from sort.CoroutineClosure = item.CoroutineClosure
+plain_from sort.Coroutine = item.Coroutine
+plain_from sort.Const = item.Const
+plain_from _ = item.Param
+
+abbrev item_from : ItemLabel → Shapes → DeclarationKind
+item_from (trait_item params) ss = item.Trait params
+item_from (assoc_ty_item d) ss = item.AssocTy (id_of d)
+item_from (inherent_item d) ss = item.Inherent (id_of d)
+item_from (fn_item k) ss = item.Fn (sig_from k ss)
+item_from (plain_item s) ss = plain_from s
+
 abbrev label_from : Label ℕ → Shapes → Row
 label_from (type_label l) ss = type_row (kind_from l ss)
 label_from (const_label l) ss = const_row (const_from l ss)
@@ -221,7 +253,8 @@ label_from clause_list_label ss = clauses_row (items_from (λ s. handle (number_
 label_from (list_label t) ss = list_from t ss
 label_from (var_list_label vs) ss = vars_row (map var_from vs)
 label_from (text_label bytes) ss = text_row bytes
-label_from (declaration_label i k n) ss = declared_row i (record { kind = k; name = handle n })
+label_from (declaration_label i k n) ss = declared_row i (record { kind = item_from k ss; name = handle n })
+label_from (definition_label i vs) ss = defined_row i vs
 label_from (record_label l) ss = text_row []
 label_from (error_label e) ss = text_row []
 label_from clause_label ss = text_row []
@@ -341,6 +374,7 @@ row_from-kind_shape (ty.Ref r t m) = ap (λ x. type_row (ty.Ref x t m)) (region_
 row_from-kind_shape (ty.FnPtr b h) = refl
 row_from-kind_shape (ty.UnsafeBinder b) = refl
 row_from-kind_shape (ty.Dynamic ps r) = ap (λ x. type_row (ty.Dynamic ps x)) (region_from-region_shape r)
+row_from-kind_shape (ty.FnDef d args) = refl
 row_from-kind_shape (ty.Closure d args) = refl
 row_from-kind_shape (ty.CoroutineClosure d args) = refl
 row_from-kind_shape (ty.Coroutine d args) = refl
@@ -401,6 +435,10 @@ existential_back (existential.Trait t) = refl
 existential_back (existential.Projection p) = ap (λ t. existential.Projection (record { def_id = p.def_id; args = p.args; term = t })) (term_back p.term)
 existential_back (existential.AutoTrait d) = refl
 
+item_back : (k : DeclarationKind) → item_from (item_label k) (declared_shapes k) ≡ k
+item_back (item.Fn sig) = refl
+item_back _ = refl
+
 row_from-row_shape : (r : Row) → row_from (row_shape r) ≡ r
 row_from-row_shape (type_row k) = row_from-kind_shape k
 row_from-row_shape (const_row k) = row_from-const k
@@ -416,7 +454,8 @@ row_from-row_shape (vars_row vs) = ap vars_row (vars_from-vars vs)
 row_from-row_shape (existentials_row ps) = ap existentials_row (items_from-item_shapes existential_shape (λ s. handle (number_from s)) (λ p. refl) ps)
 row_from-row_shape (assumptions_row ps) = ap assumptions_row (items_from-item_shapes assumption_shape assumption_from assumption_back ps)
 row_from-row_shape (text_row bytes) = refl
-row_from-row_shape (declared_row n d) = refl
+row_from-row_shape (declared_row n d) = ap (λ k. declared_row n (record { kind = k; name = d.name })) (item_back d.kind)
+row_from-row_shape (defined_row n vs) = refl
 
 -- rows of one shape are one
 pub shape_one : (q r : Row) → row_shape q ≡ row_shape r → q ≡ r
@@ -447,6 +486,7 @@ root_of_row f (existentials_row ps) = refl
 root_of_row f (assumptions_row ps) = refl
 root_of_row f (text_row bytes) = refl
 root_of_row f (declared_row n d) = refl
+root_of_row f (defined_row n vs) = refl
 
 pub text_of_row : (f : Meaning) (r : Row) → row_table r ≡ Symbols → fill f (row_shape r) ≡ tree.node (text_label (text_of (fill f (row_shape r)))) tree.none
 unfolding fill

@@ -7,7 +7,7 @@ use Rattle.std.proofs.lemmas.Map.{none_passes_from_lookup}
 use Rattle.std.specs.Option.{option_map}
 use Rattle.std.specs.Map.{keys_of, values_of, lookup}
 use Rattle.tt_kinds.specs.declared.table.Table.{Table}
-use Rattle.tt_kinds.specs.declared.table.Table.TheVariants.{Types, Consts, Patterns, Predicates, Existentials, ClauseLists, TypeLists, ConstLists, ArgLists, PatternLists, VarLists, ExistentialLists, AssumptionLists, Symbols, Declarations}
+use Rattle.tt_kinds.specs.declared.table.Table.TheVariants.{Types, Consts, Patterns, Predicates, Existentials, ClauseLists, TypeLists, ConstLists, ArgLists, PatternLists, VarLists, ExistentialLists, AssumptionLists, Symbols, Declarations, Definitions}
 use Rattle.tt_flags.specs.FlagComputation.{computed}
 use Rattle.tt_flags.specs.declared.flag_computation.FlagComputation.{FlagComputation}
 use Rattle.tt_kinds.specs.Tree.{Tree, Depth}
@@ -16,8 +16,10 @@ use Rattle.tt_index.specs.declared.refusal.Refusal.TheVariants.{Memory, TableFul
 use Rattle.tt_kinds.specs.Label.{clause_list_label, list_label, var_list_label, text_label}
 use Rattle.tt_kinds.specs.Shape.{none, fill, HasParts}
 use Rattle.tt_kinds.specs.Range.{IndicesFitIn}
-use Rattle.tt_interner.specs.Rows.{Row, clauses_row, tys_row, consts_row, args_row, pats_row, vars_row, existentials_row, assumptions_row, text_row, row_table, row_shape, is_in, table, size, meaning, IsNew, HoldsClauses, AreRows}
+use Rattle.tt_interner.specs.Rows.{Row, clauses_row, tys_row, consts_row, args_row, pats_row, vars_row, existentials_row, assumptions_row, text_row, row_table, row_shape, is_in, table, size, meaning, IsNew, IsWellFormed, AreRows}
 use Rattle.tt_interner.specs.Stored.{Terms, Counters, Adds, IsInfo, HasFirst, IsAt, first_rows, anonymous_text}
+use Rattle.tt_interner.specs.Info.{keeps_info}
+use Rattle.std.specs.Prelude.{IsTrue}
 use Rattle.tt_interner.specs.Tables.{Entry, Tables, entries_of, with_entries, push, rows_of, infos_of, reversed, merged, rows_in_order, entries_by, listed_by, AreInfos, AreTables, Keeps, no_info}
 use Rattle.tt_interner.proofs.RowLaws.{in_table, is_in_own, table-other, table-new, meaning-old, meaning-new, slice_get-push_before, slice_get-push_last, row-old}
 use Rattle.tt_interner.proofs.InfoLaws.{info_node, info_term, infos_none}
@@ -45,6 +47,7 @@ reversed-push ExistentialLists e ts = rw (reverse-append ts.existential_lists (e
 reversed-push AssumptionLists e ts = rw (reverse-append ts.assumption_lists (e ∷ [])) refl
 reversed-push Symbols e ts = rw (reverse-append ts.symbols (e ∷ [])) refl
 reversed-push Declarations e ts = rw (reverse-append ts.declarations (e ∷ [])) refl
+reversed-push Definitions e ts = rw (reverse-append ts.definitions (e ∷ [])) refl
 
 -- and the other tables are those before it
 merged-push : (t : Table) (e : Entry) (order : List Table) (ts : Tables) → merged (t ∷ order) (with_entries ts t (e ∷ entries_of ts t)) ≡ e.row ∷ merged order ts
@@ -64,6 +67,7 @@ merged-push ExistentialLists e order ts = refl
 merged-push AssumptionLists e order ts = refl
 merged-push Symbols e order ts = refl
 merged-push Declarations e order ts = refl
+merged-push Definitions e order ts = refl
 
 entries_of-push : (t : Table) (e : Entry) (ts : Tables) → entries_of (push t e ts) t ≡ entries_of ts t ++ e ∷ []
 entries_of-push Types e ts = refl
@@ -81,6 +85,7 @@ entries_of-push ExistentialLists e ts = refl
 entries_of-push AssumptionLists e ts = refl
 entries_of-push Symbols e ts = refl
 entries_of-push Declarations e ts = refl
+entries_of-push Definitions e ts = refl
 
 pub entries_of-other : (t u : Table) (e : Entry) (ts : Tables) → (t ≡ u → ⊥) → entries_of (push t e ts) u ≡ entries_of ts u
 entries_of-other Types Types e ts apart = absurd (apart refl)
@@ -98,6 +103,7 @@ entries_of-other ExistentialLists ExistentialLists e ts apart = absurd (apart re
 entries_of-other AssumptionLists AssumptionLists e ts apart = absurd (apart refl)
 entries_of-other Symbols Symbols e ts apart = absurd (apart refl)
 entries_of-other Declarations Declarations e ts apart = absurd (apart refl)
+entries_of-other Definitions Definitions e ts apart = absurd (apart refl)
 entries_of-other _ _ e ts apart = refl
 
 -- From here on no lemma names a table.
@@ -154,7 +160,7 @@ infos_of-push t e ts = ap (map (λ (x : Entry). x.info)) (entries_of-push t e ts
 
 -- the tables with a new entry
 pub AreTables-push : (rows : List Row) (ts : Tables) (limit : ℕ) (e : Entry) → AreTables rows ts limit
-    → HasParts (size rows) (row_shape e.row) → IndicesFitIn (row_shape e.row) → HoldsClauses rows e.row → IsNew e.row rows → size rows (row_table e.row) < limit → IsInfo e.info (fill (meaning rows) (row_shape e.row))
+    → HasParts (size rows) (row_shape e.row) → IndicesFitIn (row_shape e.row) → IsWellFormed rows e.row → IsNew e.row rows → size rows (row_table e.row) < limit → (IsTrue (keeps_info (row_table e.row)) → IsInfo e.info (fill (meaning rows) (row_shape e.row)))
     → AreTables (e.row ∷ rows) (push (row_table e.row) e ts) limit
 unfolding AreRows
 AreTables-push rows ts limit e are parts fit holds new room is = let r = e.row in let own = row_table e.row in record {
@@ -162,10 +168,10 @@ AreTables-push rows ts limit e are parts fit holds new room is = let r = e.row i
   has = by_table r (λ t. table t (r ∷ rows) ≡ rows_of (push own e ts) t)
       (table-new r rows ∙ ap (λ l. l ++ r ∷ []) (are.has own) ∙ sym (rows_of-push own e ts))
       (λ t other. table-other r rows t other ∙ are.has t ∙ ap (map (λ (x : Entry). x.row)) (sym (entries_of-other own t e ts (apart t r other))));
-  infos = by_table r (λ t. AreInfos (r ∷ rows) t (infos_of (push own e ts) t))
-      (subst (AreInfos (r ∷ rows) own) (sym (infos_of-push own e ts)) (AreInfos-own r rows (infos_of ts own) e.info (size_own r rows) is (are.infos own)))
-      (λ t other. subst (λ es. AreInfos (r ∷ rows) t (map (λ (x : Entry). x.info) es)) (sym (entries_of-other own t e ts (apart t r other)))
-      (AreInfos-other r rows t (infos_of ts t) (ap length (table-other r rows t other)) (are.infos t)));
+  infos = by_table r (λ t. IsTrue (keeps_info t) → AreInfos (r ∷ rows) t (infos_of (push own e ts) t))
+      (λ keeps. subst (AreInfos (r ∷ rows) own) (sym (infos_of-push own e ts)) (AreInfos-own r rows (infos_of ts own) e.info (size_own r rows) (is keeps) (are.infos own keeps)))
+      (λ t other keeps. subst (λ es. AreInfos (r ∷ rows) t (map (λ (x : Entry). x.info) es)) (sym (entries_of-other own t e ts (apart t r other)))
+      (AreInfos-other r rows t (infos_of ts t) (ap length (table-other r rows t other)) (are.infos t keeps)));
   within = by_table r (λ t. size (r ∷ rows) t ≤ limit)
       (let more = size_own r rows in omega arith)
       (λ t other. let same = ap length (table-other r rows t other) in let few = are.within t in omega arith);
@@ -217,21 +223,21 @@ slice_get-infos row (e ∷ es) zero = refl
 slice_get-infos row (e ∷ es) (suc i) = slice_get-infos row es i
 
 pub info_within : {K : Type 0} (rows : List Row) (ts : Tables) (limit : ℕ) → AreTables rows ts limit → (t : Table) (row : K → Row) (es : List (K × FlagComputation)) → entries_of ts t ≡ entries_by row (λ v. v) es
-    → (n : ℕ) (i : FlagComputation) → slice_get (values_of es) n ≡ Some i → IsInfo i (meaning rows t n)
-info_within rows ts limit are t row es is n i e =
-    (are.infos t).each n i (ap (λ l. slice_get (map (λ (x : Entry). x.info) l) n) is ∙ slice_get-infos row es n ∙ e)
+    → IsTrue (keeps_info t) → (n : ℕ) (i : FlagComputation) → slice_get (values_of es) n ≡ Some i → IsInfo i (meaning rows t n)
+info_within rows ts limit are t row es is keeps n i e =
+    (are.infos t keeps).each n i (ap (λ l. slice_get (map (λ (x : Entry). x.info) l) n) is ∙ slice_get-infos row es n ∙ e)
 
 -- there is one info of a tree
 info_same : (a b : FlagComputation) (t : Tree Depth) → IsInfo a t → IsInfo b t → a ≡ b
 info_same a b t x y = ap (λ n. computed n a.outer_exclusive_binder) (x.flags ∙ sym y.flags) ∙ ap (computed b.flags.bits) (x.outer ∙ sym y.outer)
 
 -- what is kept beside a kind that is there is its info
-pub same_info : {K : Type 0} (rows : List Row) (ts : Tables) (limit : ℕ) → AreTables rows ts limit → (t : Table) (row : K → Row) (es : List (K × FlagComputation)) → entries_of ts t ≡ entries_by row (λ v. v) es
+pub same_info : {K : Type 0} (rows : List Row) (ts : Tables) (limit : ℕ) → AreTables rows ts limit → (t : Table) (row : K → Row) (es : List (K × FlagComputation)) → entries_of ts t ≡ entries_by row (λ v. v) es → IsTrue (keeps_info t)
     → (test : K → Bool) (r : Row) → row_table r ≡ t → IsKey test row r → (v i : FlagComputation) → lookup test es ≡ Some v → IsInfo i (fill (meaning rows) (row_shape r)) → v ≡ i
-same_info rows ts limit are t row es is test r own key v i h info =
+same_info rows ts limit are t row es is keeps test r own key v i h info =
     let place = value_place test es v h in
     let at = found rows ts limit are t row (λ x. x) es is test r own key place.0 place.1 in
-    let kept = info_within rows ts limit are t row es is place.0 v place.2 in
+    let kept = info_within rows ts limit are t row es is keeps place.0 v place.2 in
     let means = (Means-row rows are.are (row_table r) place.0 r at).tree in
     info_same v i (meaning rows t place.0) kept (subst (IsInfo i) (sym means ∙ ap (λ u. meaning rows u place.0) own) info)
 
@@ -256,23 +262,27 @@ module _ (order : List Table) (ts ts' : Tables) (e : Entry) (is : ts' ≡ push (
   rows_added = ap (rows_in_order (order ++ row_table e.row ∷ [])) is ∙ rows_in_order-push order (row_table e.row) e ts
 
   pub AreTables-added : (limit : ℕ) → AreTables (rows_in_order order ts) ts limit → HasParts (size (rows_in_order order ts)) (row_shape e.row) → IndicesFitIn (row_shape e.row)
-      → HoldsClauses (rows_in_order order ts) e.row → IsNew e.row (rows_in_order order ts) → size (rows_in_order order ts) (row_table e.row) < limit → IsInfo e.info (fill (meaning (rows_in_order order ts)) (row_shape e.row))
+      → IsWellFormed (rows_in_order order ts) e.row → IsNew e.row (rows_in_order order ts) → size (rows_in_order order ts) (row_table e.row) < limit → (IsTrue (keeps_info (row_table e.row)) → IsInfo e.info (fill (meaning (rows_in_order order ts)) (row_shape e.row)))
       → AreTables (rows_in_order (order ++ row_table e.row ∷ []) ts') ts' limit
   AreTables-added limit are parts fit holds new room info = rw (rows_added, is) (AreTables-push (rows_in_order order ts) ts limit e are parts fit holds new room info)
 
 -- What a building call owes, by what its value was.
 module _ (order order' : List Table) (ts ts' : Tables) (limit : ℕ) (counters : Counters) (old : Terms) (view_is : record { rows = rows_in_order order ts; limit = limit; counters = counters } ≡ old) (keeps : Keeps order ts limit) where
   module _ (e : Entry) (is : ts' ≡ push (row_table e.row) e ts) (noted : order' ≡ order ++ row_table e.row ∷ []) (n : ℕ) (last : n ≡ size (rows_in_order order ts) (row_table e.row)) (room : n < limit) where
-    pub kept : HasParts (size old.rows) (row_shape e.row) → IndicesFitIn (row_shape e.row) → HoldsClauses old.rows e.row → IsNew e.row old.rows → IsInfo e.info (fill (meaning old.rows) (row_shape e.row)) → Keeps order' ts' limit
-    kept parts fit holds new info = record {
+    -- the information is right where the table keeps any
+    pub kept_by : HasParts (size old.rows) (row_shape e.row) → IndicesFitIn (row_shape e.row) → IsWellFormed old.rows e.row → IsNew e.row old.rows → (IsTrue (keeps_info (row_table e.row)) → IsInfo e.info (fill (meaning old.rows) (row_shape e.row))) → Keeps order' ts' limit
+    kept_by parts fit holds new info = record {
       tables = rw noted (AreTables-added order ts ts' e is limit keeps.tables
           (subst (λ (v : Terms). HasParts (size v.rows) (row_shape e.row)) (sym view_is) parts) fit
-          (subst (λ (v : Terms). HoldsClauses v.rows e.row) (sym view_is) holds)
+          (subst (λ (v : Terms). IsWellFormed v.rows e.row) (sym view_is) holds)
           (subst (λ (v : Terms). IsNew e.row v.rows) (sym view_is) new)
           (omega arith)
-          (subst (λ (v : Terms). IsInfo e.info (fill (meaning v.rows) (row_shape e.row))) (sym view_is) info));
+          (λ keeps_its. subst (λ (v : Terms). IsInfo e.info (fill (meaning v.rows) (row_shape e.row))) (sym view_is) (info keeps_its)));
       first = (e.row ∷ keeps.first.0, ap (λ o. rows_in_order o ts') noted ∙ rows_added order ts ts' e is ∙ ap (λ rows. e.row ∷ rows) keeps.first.1);
     }
+
+    pub kept : HasParts (size old.rows) (row_shape e.row) → IndicesFitIn (row_shape e.row) → IsWellFormed old.rows e.row → IsNew e.row old.rows → IsInfo e.info (fill (meaning old.rows) (row_shape e.row)) → Keeps order' ts' limit
+    kept parts fit holds new info = kept_by parts fit holds new (λ keeps. info)
 
     pub added : {H : Type 0} (number : H → ℕ) (h : H) → number h ≡ n → Adds (Ok h) number old (record { rows = rows_in_order order' ts'; limit = limit; counters = counters }) e.row
     added number h same = rw (← view_is) (Adds-ok number (record { rows = rows_in_order order ts; limit = limit; counters = counters }) e.row h (record { rows = rows_in_order order' ts'; limit = limit; counters = counters })
@@ -309,6 +319,7 @@ no_tables = record {
   assumption_lists = [];
   symbols = [];
   declarations = [];
+  definitions = [];
 }
 
 AreTables-none : (limit : ℕ) → limit ≤ greatest → AreTables [] no_tables limit
@@ -316,7 +327,7 @@ unfolding table AreRows
 AreTables-none limit small = record {
   are = tt;
   has = λ t. none_of t;
-  infos = λ t. record { as_many = ap length (infos_of_none t); each = λ n info e. absurd (none-some info (ap (λ l. slice_get l n) (sym (infos_of_none t)) ∙ e)) };
+  infos = λ t keeps. record { as_many = ap length (infos_of_none t); each = λ n info e. absurd (none-some info (ap (λ l. slice_get l n) (sym (infos_of_none t)) ∙ e)) };
   within = λ t. omega arith;
   small = small;
 }
@@ -337,6 +348,7 @@ AreTables-none limit small = record {
     none_of AssumptionLists = refl
     none_of Symbols = refl
     none_of Declarations = refl
+    none_of Definitions = refl
 
     infos_of_none : (t : Table) → infos_of no_tables t ≡ []
     infos_of_none Types = refl
@@ -354,6 +366,7 @@ AreTables-none limit small = record {
     infos_of_none AssumptionLists = refl
     infos_of_none Symbols = refl
     infos_of_none Declarations = refl
+    infos_of_none Definitions = refl
 
 abbrev pub first_of : Row → Entry
 first_of r = record { row = r; info = no_info }
@@ -375,6 +388,7 @@ first_tables = record {
   assumption_lists = first_of (assumptions_row []) ∷ [];
   symbols = first_of (text_row anonymous_text) ∷ [];
   declarations = [];
+  definitions = [];
 }
 
 abbrev pub first_order : List Table
@@ -389,23 +403,23 @@ unfolding table IsNew
 AreTables-first limit some small =
     let before = AreTables-none limit small in
     let tys = AreTables-push [] no_tables limit (first_of (tys_row [])) before (tt, tt) tt tt tt some
-    (info_node (meaning []) no_info (list_label TypeLists) refl) in
+    (λ keeps. info_node (meaning []) no_info (list_label TypeLists) refl) in
     let args = AreTables-push (tys_row [] ∷ []) _ limit (first_of (args_row [])) tys (tt, tt) tt tt ((λ e. cc), tt) some
-    (info_node (meaning (tys_row [] ∷ [])) no_info (list_label ArgLists) refl) in
+    (λ keeps. info_node (meaning (tys_row [] ∷ [])) no_info (list_label ArgLists) refl) in
     let vars = AreTables-push (args_row [] ∷ tys_row [] ∷ []) _ limit (first_of (vars_row [])) args (tt, tt) tt tt ((λ e. cc), ((λ e. cc), tt)) some
-    (info_node (meaning (args_row [] ∷ tys_row [] ∷ [])) no_info (var_list_label []) refl) in
+    (λ keeps. info_node (meaning (args_row [] ∷ tys_row [] ∷ [])) no_info (var_list_label []) refl) in
     let consts = AreTables-push (vars_row [] ∷ args_row [] ∷ tys_row [] ∷ []) _ limit (first_of (consts_row [])) vars (tt, tt) tt tt ((λ e. cc), ((λ e. cc), ((λ e. cc), tt))) some
-    (info_node (meaning (vars_row [] ∷ args_row [] ∷ tys_row [] ∷ [])) no_info (list_label ConstLists) refl) in
+    (λ keeps. info_node (meaning (vars_row [] ∷ args_row [] ∷ tys_row [] ∷ [])) no_info (list_label ConstLists) refl) in
     let pats = AreTables-push (consts_row [] ∷ vars_row [] ∷ args_row [] ∷ tys_row [] ∷ []) _ limit (first_of (pats_row [])) consts (tt, tt) tt tt ((λ e. cc), ((λ e. cc), ((λ e. cc), ((λ e. cc), tt)))) some
-    (info_node (meaning (consts_row [] ∷ vars_row [] ∷ args_row [] ∷ tys_row [] ∷ [])) no_info (list_label PatternLists) refl) in
+    (λ keeps. info_node (meaning (consts_row [] ∷ vars_row [] ∷ args_row [] ∷ tys_row [] ∷ [])) no_info (list_label PatternLists) refl) in
     let clauses = AreTables-push (pats_row [] ∷ consts_row [] ∷ vars_row [] ∷ args_row [] ∷ tys_row [] ∷ []) _ limit (first_of (clauses_row [])) pats (tt, tt) tt tt ((λ e. cc), ((λ e. cc), ((λ e. cc), ((λ e. cc), ((λ e. cc), tt))))) some
-    (info_term (meaning (pats_row [] ∷ consts_row [] ∷ vars_row [] ∷ args_row [] ∷ tys_row [] ∷ [])) no_info clause_list_label none refl (infos_none _)) in
+    (λ keeps. info_term (meaning (pats_row [] ∷ consts_row [] ∷ vars_row [] ∷ args_row [] ∷ tys_row [] ∷ [])) no_info clause_list_label none refl (infos_none _)) in
     let existentials = AreTables-push (clauses_row [] ∷ pats_row [] ∷ consts_row [] ∷ vars_row [] ∷ args_row [] ∷ tys_row [] ∷ []) _ limit (first_of (existentials_row [])) clauses (tt, tt) tt tt ((λ e. cc), ((λ e. cc), ((λ e. cc), ((λ e. cc), ((λ e. cc), ((λ e. cc), tt)))))) some
-    (info_node (meaning (clauses_row [] ∷ pats_row [] ∷ consts_row [] ∷ vars_row [] ∷ args_row [] ∷ tys_row [] ∷ [])) no_info (list_label ExistentialLists) refl) in
+    (λ keeps. info_node (meaning (clauses_row [] ∷ pats_row [] ∷ consts_row [] ∷ vars_row [] ∷ args_row [] ∷ tys_row [] ∷ [])) no_info (list_label ExistentialLists) refl) in
     let assumptions = AreTables-push (existentials_row [] ∷ clauses_row [] ∷ pats_row [] ∷ consts_row [] ∷ vars_row [] ∷ args_row [] ∷ tys_row [] ∷ []) _ limit (first_of (assumptions_row [])) existentials (tt, tt) tt tt ((λ e. cc), ((λ e. cc), ((λ e. cc), ((λ e. cc), ((λ e. cc), ((λ e. cc), ((λ e. cc), tt))))))) some
-    (info_node (meaning (existentials_row [] ∷ clauses_row [] ∷ pats_row [] ∷ consts_row [] ∷ vars_row [] ∷ args_row [] ∷ tys_row [] ∷ [])) no_info (list_label AssumptionLists) refl) in
+    (λ keeps. info_node (meaning (existentials_row [] ∷ clauses_row [] ∷ pats_row [] ∷ consts_row [] ∷ vars_row [] ∷ args_row [] ∷ tys_row [] ∷ [])) no_info (list_label AssumptionLists) refl) in
     AreTables-push (assumptions_row [] ∷ existentials_row [] ∷ clauses_row [] ∷ pats_row [] ∷ consts_row [] ∷ vars_row [] ∷ args_row [] ∷ tys_row [] ∷ []) _ limit (first_of (text_row anonymous_text)) assumptions (tt, tt) tt tt ((λ e. cc), ((λ e. cc), ((λ e. cc), ((λ e. cc), ((λ e. cc), ((λ e. cc), ((λ e. cc), ((λ e. cc), tt)))))))) some
-    (info_node (meaning (assumptions_row [] ∷ existentials_row [] ∷ clauses_row [] ∷ pats_row [] ∷ consts_row [] ∷ vars_row [] ∷ args_row [] ∷ tys_row [] ∷ [])) no_info (text_label anonymous_text) refl)
+    (λ keeps. info_node (meaning (assumptions_row [] ∷ existentials_row [] ∷ clauses_row [] ∷ pats_row [] ∷ consts_row [] ∷ vars_row [] ∷ args_row [] ∷ tys_row [] ∷ [])) no_info (text_label anonymous_text) refl)
 
 pub Keeps-first : (order : List Table) (ts : Tables) (limit : ℕ) → order ≡ first_order → ts ≡ first_tables → 0 < limit → limit ≤ greatest → Keeps order ts limit
 Keeps-first order ts limit is_order is_ts some small = rw (is_order, is_ts) (record {
@@ -459,6 +473,7 @@ pub record HaveFirst (ts : Tables) : Type 0 where
   pub symbols : ts.symbols ≡ first_of (text_row anonymous_text) ∷ []
   pub assumption_lists : ts.assumption_lists ≡ first_of (assumptions_row []) ∷ []
   pub declarations : ts.declarations ≡ []
+  pub definitions : ts.definitions ≡ []
 
 pub are_first_tables : (ts : Tables) → HaveFirst ts → ts ≡ first_tables
 are_first_tables ts have = λ i. record {
@@ -477,4 +492,5 @@ are_first_tables ts have = λ i. record {
   assumption_lists = have.assumption_lists i;
   symbols = have.symbols i;
   declarations = have.declarations i;
+  definitions = have.definitions i;
 }

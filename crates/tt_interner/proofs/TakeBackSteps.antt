@@ -7,9 +7,11 @@ use Rattle.tt_flags.specs.declared.flag_computation.FlagComputation.{FlagComputa
 use Rattle.tt_kinds.specs.declared.binder.Binder.{Binder}
 use Rattle.tt_kinds.specs.declared.existential.ExistentialPredicate.{ExistentialPredicate}
 use Rattle.tt_kinds.specs.declared.table.Table.{Table}
-use Rattle.tt_kinds.specs.declared.table.Table.TheVariants.{Types, Consts, Patterns, Predicates, Existentials, ClauseLists, TypeLists, ConstLists, ArgLists, PatternLists, VarLists, ExistentialLists, AssumptionLists, Symbols, Declarations}
+use Rattle.tt_kinds.specs.declared.table.Table.TheVariants.{Types, Consts, Patterns, Predicates, Existentials, ClauseLists, TypeLists, ConstLists, ArgLists, PatternLists, VarLists, ExistentialLists, AssumptionLists, Symbols, Declarations, Definitions}
 use Rattle.tt_interner.specs.Rows.{Row, existential_row, text_row, row_table, table, size, AreRows}
 use Rattle.tt_interner.specs.Stored.{Terms, Counters, IsInfo, first_rows, anonymous_text}
+use Rattle.tt_interner.specs.Info.{keeps_info}
+use Rattle.std.specs.Prelude.{IsTrue}
 use Rattle.tt_interner.specs.Tables.{Entry, Tables, entries_of, with_entries, push, rows_of, infos_of, reversed, newest, older, merged, rows_in_order, entries_by, AreInfos, AreTables, Keeps}
 use Rattle.tt_interner.specs.Existentials.{AreExistentials}
 use Rattle.tt_interner.proofs.RowLaws.{table-other, table-new, meaning-old, slice_get-push_before, slice_get-push_last, size-more}
@@ -51,6 +53,7 @@ entries_of-reversed ExistentialLists ts = refl
 entries_of-reversed AssumptionLists ts = refl
 entries_of-reversed Symbols ts = refl
 entries_of-reversed Declarations ts = refl
+entries_of-reversed Definitions ts = refl
 
 -- the newest row is the row of the last table's last entry
 newest_row : (order : List Table) (t : Table) (ts : Tables) (r : Row) (rest : List Row) → rows_in_order (order ++ t ∷ []) ts ≡ r ∷ rest → newest (reverse (entries_of ts t)) ≡ r
@@ -98,15 +101,15 @@ AreTables-pop rows ts limit e are = let r = e.row in let own = row_table e.row i
   has = by_table r (λ t. table t rows ≡ rows_of ts t)
       (same_from_push _ _ r r (sym (table-new r rows) ∙ are.has own ∙ rows_of-push own e ts)).0
       (λ t other. sym (table-other r rows t other) ∙ are.has t ∙ ap (map (λ (x : Entry). x.row)) (entries_of-other own t e ts (apart t r other)));
-  infos = by_table r (λ t. AreInfos rows t (infos_of ts t))
-      (let all = subst (AreInfos (r ∷ rows) own) (infos_of-push own e ts) (are.infos own) in
+  infos = by_table r (λ t. IsTrue (keeps_info t) → AreInfos rows t (infos_of ts t))
+      (λ keeps. let all = subst (AreInfos (r ∷ rows) own) (infos_of-push own e ts) (are.infos own keeps) in
       let as_many = all.as_many in
       let more = size_own r rows in
       let pushed = length_push (infos_of ts own) e.info in
       AreInfos-older r rows own (infos_of ts own ++ e.info ∷ []) (infos_of ts own) (omega arith)
       (λ n i at. slice_get-push_before (infos_of ts own) e.info n (slice_get_within (infos_of ts own) n i at) ∙ at) all)
-      (λ t other.
-      let all = subst (λ es. AreInfos (r ∷ rows) t (map (λ (x : Entry). x.info) es)) (entries_of-other own t e ts (apart t r other)) (are.infos t) in
+      (λ t other keeps.
+      let all = subst (λ es. AreInfos (r ∷ rows) t (map (λ (x : Entry). x.info) es)) (entries_of-other own t e ts (apart t r other)) (are.infos t keeps) in
       AreInfos-older r rows t (infos_of ts t) (infos_of ts t) (all.as_many ∙ ap length (table-other r rows t other)) (λ n i at. at) all);
   within = λ t. let more = size-more r rows t in let few = are.within t in omega arith;
   small = are.small;

@@ -1,5 +1,5 @@
 -- No part of a list stands in what a row holds.
-use Rattle.std.proofs.Common.{ℕ, List, [], ◌∷◌}
+use Rattle.std.proofs.Common.{ℕ, List, [], ◌∷◌, Option, Some, None}
 use Rattle.tt_kinds.specs.declared.generic_arg.GenericArgKind.{GenericArgKind}
 use Rattle.tt_kinds.specs.declared.generic_arg.GenericArgKind.TheVariants as arg
 use Rattle.tt_kinds.specs.declared.parts.Child.{Child}
@@ -10,8 +10,11 @@ use Rattle.tt_kinds.specs.declared.region_kind.RegionKind.TheVariants.{ReEarlyPa
 use Rattle.tt_kinds.specs.Label.{Sort, type_sort, const_sort, Label, type_label, const_label}
 use Rattle.tt_kinds.specs.Kinds.{Form, param, bound, plain, under, relabelled, form_shape, ty_form, const_form, pattern_form, predicate_form, existential_form, region_shape, ty_shape, const_shape, pat_shape, existential_shape, clause_shape, arg_shape, child_shapes, parts_shapes}
 use Rattle.tt_kinds.specs.Shape.{Shape, Shapes, none, also, append, item_shapes}
-use Rattle.tt_kinds.specs.Values.{assumption_shape}
-use Rattle.tt_interner.specs.Rows.{Row, type_row, const_row, pat_row, predicate_row, existential_row, clauses_row, tys_row, consts_row, args_row, pats_row, vars_row, existentials_row, assumptions_row, text_row, declared_row, row_shape}
+use Rattle.tt_kinds.specs.Variant.{Variant}
+use Rattle.tt_kinds.specs.Handle.{Symbol}
+use Rattle.tt_kinds.specs.Values.{assumption_shape, symbol_shape, option_shape, field_def_shape, variant_shape}
+use Rattle.tt_kinds.proofs.ValueLaws.{declared_by}
+use Rattle.tt_interner.specs.Rows.{Row, type_row, const_row, pat_row, predicate_row, existential_row, clauses_row, tys_row, consts_row, args_row, pats_row, vars_row, existentials_row, assumptions_row, text_row, declared_row, defined_row, row_shape}
 use Rattle.tt_interner.proofs.Fill.{HasNoView, HaveNoViews}
 
 region_no_view : (r : RegionKind) → HasNoView (region_shape r)
@@ -52,6 +55,13 @@ form_no_view s (bound d e) = tt
 form_no_view s (plain l p) = parts_no_views p
 form_no_view s (under l vars m p) = (parts_no_views p, tt)
 
+name_no_view : (n : Option Symbol) → HasNoView (option_shape symbol_shape n)
+name_no_view None = tt
+name_no_view (Some x) = (tt, tt)
+
+variant_no_view : (v : Variant) → HasNoView (variant_shape v)
+variant_no_view v = (name_no_view v.name, (items_no_views field_def_shape (λ f. (tt, (tt, tt))) v.fields, tt))
+
 -- what a row holds is handles and data
 pub row_no_view : (r : Row) → HasNoView (row_shape r)
 row_no_view (type_row k) = form_no_view type_sort (relabelled type_label (ty_form k))
@@ -68,4 +78,5 @@ row_no_view (vars_row vs) = tt
 row_no_view (existentials_row ps) = items_no_views existential_shape (λ p. tt) ps
 row_no_view (assumptions_row ps) = items_no_views assumption_shape (λ p. (arg_no_view p.0, (region_no_view p.1, tt))) ps
 row_no_view (text_row bytes) = tt
-row_no_view (declared_row n d) = tt
+row_no_view (declared_row n d) = declared_by HaveNoViews tt (λ vars tys. (tt, (tt, tt))) d.kind
+row_no_view (defined_row n vs) = items_no_views variant_shape variant_no_view vs

@@ -3,7 +3,7 @@ use Rattle.std.specs.String.{string_bytes}
 use Rattle.tt_interner.specs.declared.interner.Interner.TheInside.{Inside}
 use Rattle.tt_interner.specs.Rows.{type_row, const_row, pat_row, predicate_row, existential_row, clauses_row, tys_row, consts_row, args_row, pats_row, vars_row, existentials_row, assumptions_row, text_row}
 use Rattle.tt_interner.specs.Stored.{Terms}
-use Rattle.tt_interner.specs.Tables.{Tables, no_info, entries_by, declared_entries, rows_in_order, Keeps}
+use Rattle.tt_interner.specs.Tables.{Tables, no_info, entries_by, declared_entries, defined_entries, rows_in_order, Keeps}
 
 -- the tables
 abbrev pub tables : Inside → Tables
@@ -23,6 +23,7 @@ tables i = record {
   assumption_lists = entries_by (λ k. assumptions_row k.items) (λ v. v) i.assumption_lists.entries;
   symbols = entries_by (λ k. text_row (string_bytes k)) (λ v. no_info) i.symbols.entries;
   declarations = declared_entries 0 i.declarations.items;
+  definitions = defined_entries i.definitions.entries;
 }
 
 -- the terms of the interner, as contracts see them

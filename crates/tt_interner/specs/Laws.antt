@@ -1,11 +1,13 @@
 -- Laws of all rows that an interner may have.
-use Rattle.std.specs.Prelude.{◌≡◌, ◌↔◌, ℕ, ◌<◌, List}
+use Rattle.std.specs.Prelude.{◌≡◌, ◌↔◌, ℕ, ◌<◌, List, Some}
 use Rattle.tt_kinds.specs.declared.table.Table.{Table}
 use Rattle.tt_kinds.specs.declared.table.Table.TheVariants.{Declarations}
 use Rattle.tt_kinds.specs.declared.id.DefId.{DefId}
 use Rattle.tt_interner.specs.Rows.{Row, size, meaning, AreRows, Grows}
 use Rattle.tt_interner.specs.Stored.{IsAt}
 use Rattle.tt_interner.specs.Declarations.{declared_at}
+use Rattle.tt_interner.specs.Definitions.{variants_of}
+use Rattle.tt_kinds.specs.Variant.{Variant}
 
 -- handles in range are equal exactly when their trees are
 abbrev pub AreInterned : List Row → Type 0
@@ -26,3 +28,7 @@ KeepsRows = (old new : List Row) → Grows old new → (r : Row) (n : ℕ) → I
 -- the declaration of an id stays, whatever rows come
 abbrev pub KeepsDeclarations : Type 0
 KeepsDeclarations = (old new : List Row) → Grows old new → (id : DefId) → id.number < size old Declarations → (id.number < size new Declarations) × (declared_at new id ≡ declared_at old id)
+
+-- the variants of a data type stay, whatever rows come
+abbrev pub KeepsDefinitions : Type 0
+KeepsDefinitions = (old new : List Row) → Grows old new → (n : ℕ) (vs : List Variant) → variants_of old n ≡ Some vs → variants_of new n ≡ Some vs

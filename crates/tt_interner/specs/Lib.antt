@@ -10,8 +10,10 @@ pub mod Laws
 pub mod Env
 pub mod Nodes
 pub mod Declarations
+pub mod Definitions
 pub mod Collect
 pub mod Views
+pub mod Alias
 pub mod Existentials
 pub mod Info
 pub mod Reads

@@ -4,8 +4,9 @@ use Rattle.tt_kinds.specs.Tree as tree
 use Rattle.tt_kinds.specs.Label.{text_label}
 use Rattle.tt_kinds.specs.Shape.{Shape, Shapes, param, bound, region, term, node, binder, stored, part_of, none, also, Meaning, fill, Sizes, HasParts}
 use Rattle.tt_kinds.specs.Range.{IndicesFitIn}
-use Rattle.tt_kinds.specs.Kinds.{ty_kind_shape, const_kind_shape, pattern_kind_shape, predicate_kind_shape, existential_kind_shape, clauses_row_shape, tys_row_shape, consts_row_shape, args_row_shape, pats_row_shape, vars_row_shape, existentials_row_shape, text_row_shape, declaration_row_shape}
-use Rattle.tt_kinds.specs.Values.{assumptions_row_shape}
+use Rattle.tt_kinds.specs.Kinds.{ty_kind_shape, const_kind_shape, pattern_kind_shape, predicate_kind_shape, existential_kind_shape, clauses_row_shape, tys_row_shape, consts_row_shape, args_row_shape, pats_row_shape, vars_row_shape, existentials_row_shape, text_row_shape}
+use Rattle.tt_kinds.specs.Variant.{Variant, HasIndices}
+use Rattle.tt_kinds.specs.Values.{assumptions_row_shape, declaration_row_shape, definition_row_shape}
 use Rattle.tt_kinds.specs.Handle.{Ty}
 use Rattle.tt_kinds.specs.Handle.{Const}
 use Rattle.tt_kinds.specs.Handle.{Pat}
@@ -25,9 +26,9 @@ use Rattle.tt_kinds.specs.declared.parts.Kind.{Kind}
 use Rattle.tt_kinds.specs.declared.parts.Kind.TheVariants as kind
 use Rattle.tt_interner.specs.Clauses.{is_clause_tree}
 use Rattle.tt_kinds.specs.declared.table.Table.{Table}
-use Rattle.tt_kinds.specs.declared.table.Table.TheVariants.{Types, Consts, Patterns, Predicates, Existentials, ClauseLists, TypeLists, ConstLists, ArgLists, PatternLists, VarLists, ExistentialLists, AssumptionLists, Symbols, Declarations}
+use Rattle.tt_kinds.specs.declared.table.Table.TheVariants.{Types, Consts, Patterns, Predicates, Existentials, ClauseLists, TypeLists, ConstLists, ArgLists, PatternLists, VarLists, ExistentialLists, AssumptionLists, Symbols, Declarations, Definitions}
 
--- a row: one stored term, list, text or declaration
+-- a row: one stored term, list, text, declaration or definition
 pub data Row : Type 0 where
   type_row : TyKind → Row
   const_row : ConstKind → Row
@@ -45,6 +46,8 @@ pub data Row : Type 0 where
   text_row : List ℕ → Row
   -- a declaration, and its place among the declarations: two of them may have the same name
   declared_row : ℕ → Declaration → Row
+  -- the variants of the data type of an id
+  defined_row : ℕ → List Variant → Row
 
 -- the table that a row is in
 abbrev pub row_table : Row → Table
@@ -63,6 +66,7 @@ row_table (existentials_row ps) = ExistentialLists
 row_table (assumptions_row ps) = AssumptionLists
 row_table (text_row bytes) = Symbols
 row_table (declared_row n d) = Declarations
+row_table (defined_row n vs) = Definitions
 
 -- the shape of a row
 abbrev pub row_shape : Row → Shape
@@ -81,6 +85,7 @@ row_shape (existentials_row ps) = existentials_row_shape ps
 row_shape (assumptions_row ps) = assumptions_row_shape ps
 row_shape (text_row bytes) = text_row_shape bytes
 row_shape (declared_row n d) = declaration_row_shape n d
+row_shape (defined_row n vs) = definition_row_shape n vs
 
 -- the row of a kind
 abbrev pub kind_row : Kind → Row
@@ -107,6 +112,7 @@ table_number ExistentialLists = 11
 table_number AssumptionLists = 12
 table_number Symbols = 13
 table_number Declarations = 14
+table_number Definitions = 15
 
 -- the row is in the table
 abbrev pub is_in : Table → Row → Bool
@@ -146,15 +152,16 @@ abbrev pub AreClauses : List Row → List Clause → Type 0
 AreClauses rows [] = ⊤
 AreClauses rows (c ∷ cs) = IsClause rows c.number × AreClauses rows cs
 
--- if the row is a list of clauses, each item is a clause
-abbrev pub HoldsClauses : List Row → Row → Type 0
-HoldsClauses rows (clauses_row cs) = AreClauses rows cs
-HoldsClauses rows _ = ⊤
+-- the items of a list of clauses are clauses, and a definition has no more variants and fields than indices can number
+abbrev pub IsWellFormed : List Row → Row → Type 0
+IsWellFormed rows (clauses_row cs) = AreClauses rows cs
+IsWellFormed rows (defined_row n vs) = HasIndices vs
+IsWellFormed rows _ = ⊤
 
--- each row is stored once, names only rows before it, has no index of the greatest or above, and is no list of clauses with another item
+-- each row is stored once, names only rows before it, has no index of the greatest or above, and is well-formed
 unfoldable pub AreRows : List Row → Type 0
 AreRows [] = ⊤
-AreRows (r ∷ rows) = HasParts (size rows) (row_shape r) × IsNew r rows × IndicesFitIn (row_shape r) × HoldsClauses rows r × AreRows rows
+AreRows (r ∷ rows) = HasParts (size rows) (row_shape r) × IsNew r rows × IndicesFitIn (row_shape r) × IsWellFormed rows r × AreRows rows
 
 -- the handles in a shape came before so many rows
 abbrev mutual

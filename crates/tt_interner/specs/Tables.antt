@@ -1,14 +1,20 @@
 -- The contents of the tables, and the tables seen as one list of rows.
-use Rattle.std.specs.Prelude.{◌≡◌, ℕ, ◌+◌, ◌≤◌, List, [], ◌∷◌, ◌++◌, length, map, reverse, slice_get, max, bit_or, Some}
+use Rattle.std.specs.declared.alloc.Global.{Global}
+use Rattle.std.specs.declared.vec.Vec.{Vec}
+use Rattle.std.specs.Prelude.{◌≡◌, ℕ, ◌+◌, ◌≤◌, List, [], ◌∷◌, ◌++◌, length, map, reverse, slice_get, max, bit_or, Some, IsTrue}
 use Rattle.tt_flags.specs.FlagComputation.{computed}
 use Rattle.tt_flags.specs.declared.flag_computation.FlagComputation.{FlagComputation}
 use Rattle.tt_kinds.specs.Tree.{Forest, Depth}
 use Rattle.tt_kinds.specs.Scan.{scan_all}
 use Rattle.tt_kinds.specs.Reading.{read_all, greatest_reach_all}
+use Rattle.tt_kinds.specs.Variant.{variant_of}
 use Rattle.tt_kinds.specs.declared.declaration.Declaration.{Declaration}
+use Rattle.tt_kinds.specs.declared.variant.VariantDef.{VariantDef}
+use Rattle.tt_kinds.specs.declared.id.Id.{Id}
 use Rattle.tt_kinds.specs.declared.table.Table.{Table}
-use Rattle.tt_kinds.specs.declared.table.Table.TheVariants.{Types, Consts, Patterns, Predicates, Existentials, ClauseLists, TypeLists, ConstLists, ArgLists, PatternLists, VarLists, ExistentialLists, AssumptionLists, Symbols, Declarations}
-use Rattle.tt_interner.specs.Rows.{Row, text_row, declared_row, table, size, meaning, AreRows}
+use Rattle.tt_kinds.specs.declared.table.Table.TheVariants.{Types, Consts, Patterns, Predicates, Existentials, ClauseLists, TypeLists, ConstLists, ArgLists, PatternLists, VarLists, ExistentialLists, AssumptionLists, Symbols, Declarations, Definitions}
+use Rattle.tt_interner.specs.Rows.{Row, text_row, declared_row, defined_row, table, size, meaning, AreRows}
+use Rattle.tt_interner.specs.Info.{keeps_info}
 use Rattle.tt_interner.specs.Stored.{IsInfo, first_rows}
 use Rattle.tt_index.specs.Greatest.{greatest}
 
@@ -48,6 +54,7 @@ pub record Tables : Type 0 where
   pub assumption_lists : List Entry
   pub symbols : List Entry
   pub declarations : List Entry
+  pub definitions : List Entry
 
 -- the entries of one table
 abbrev pub entries_of : Tables → Table → List Entry
@@ -66,6 +73,7 @@ entries_of ts ExistentialLists = ts.existential_lists
 entries_of ts AssumptionLists = ts.assumption_lists
 entries_of ts Symbols = ts.symbols
 entries_of ts Declarations = ts.declarations
+entries_of ts Definitions = ts.definitions
 
 -- the tables with other entries in one
 abbrev pub with_entries : Tables → Table → List Entry → Tables
@@ -84,6 +92,7 @@ with_entries ts ExistentialLists es = record ts { existential_lists = es }
 with_entries ts AssumptionLists es = record ts { assumption_lists = es }
 with_entries ts Symbols es = record ts { symbols = es }
 with_entries ts Declarations es = record ts { declarations = es }
+with_entries ts Definitions es = record ts { definitions = es }
 
 -- the tables with one entry more
 abbrev pub push : Table → Entry → Tables → Tables
@@ -115,6 +124,7 @@ reversed ts = record {
   assumption_lists = reverse ts.assumption_lists;
   symbols = reverse ts.symbols;
   declarations = reverse ts.declarations;
+  definitions = reverse ts.definitions;
 }
 
 -- the row of the newest entry
@@ -145,6 +155,10 @@ abbrev pub declared_entries : ℕ → List Declaration → List Entry
 declared_entries n [] = []
 declared_entries n (d ∷ ds) = record { row = declared_row n d; info = no_info } ∷ declared_entries (n + 1) ds
 
+-- the entries of definitions
+abbrev pub defined_entries : {S : Type 0} → List (Id S × Vec VariantDef Global) → List Entry
+defined_entries es = map (λ e. record { row = defined_row e.0.number (map variant_of e.1.items); info = no_info }) es
+
 -- the entries of a map whose keys own memory, by what the keys hold
 abbrev pub listed_by : {K X V : Type 0} → (K → X) → List (K × V) → List (X × V)
 listed_by hold es = map (λ e. (hold e.0, e.1)) es
@@ -158,7 +172,7 @@ pub record AreInfos (rows : List Row) (t : Table) (infos : List FlagComputation)
 pub record AreTables (rows : List Row) (ts : Tables) (limit : ℕ) : Type 0 where
   pub are : AreRows rows
   pub has : (t : Table) → table t rows ≡ rows_of ts t
-  pub infos : (t : Table) → AreInfos rows t (infos_of ts t)
+  pub infos : (t : Table) → IsTrue (keeps_info t) → AreInfos rows t (infos_of ts t)
   pub within : (t : Table) → size rows t ≤ limit
   pub small : limit ≤ greatest
 

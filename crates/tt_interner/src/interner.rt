@@ -13,6 +13,7 @@ mod bound_vars;
 mod consts;
 mod counters;
 mod declarations;
+mod definitions;
 mod empty_lists;
 mod existentials;
 mod info;
@@ -27,7 +28,7 @@ mod symbols;
 mod types;
 
 use crate::tables::first_text;
-pub use declarations::RegionName;
+pub use declarations::{AliasOfId, RegionName};
 use empty_lists::{empty_lists, more_empty_lists};
 use indexmap::IndexMap;
 use std::alloc::Global;
@@ -35,9 +36,9 @@ use std::marker::Model;
 use tt_flags::FlagComputation;
 use tt_index::{GREATEST_INDEX, Refusal};
 use tt_kinds::{
-    Binder, BoundVariableKind, Clause, Const, ConstKind, Declaration, ExistentialPredicate,
+    AdtId, Binder, BoundVariableKind, Clause, Const, ConstKind, Declaration, ExistentialPredicate,
     GenericArg, OutlivesPredicate, Pat, PatternKind, PolyExistentialPredicate, PredicateKind,
-    Table, Ty, TyKind,
+    Table, Ty, TyKind, VariantDef,
 };
 
 /// Stores each type, constant, pattern, predicate, list and text once, so that handles of one table are equal exactly
@@ -62,6 +63,8 @@ pub struct Interner {
     symbols: IndexMap<String, ()>,
     // an id's number is its declaration's place
     declarations: Vec<Declaration>,
+    // the variants of each data type that has some
+    definitions: IndexMap<AdtId, Vec<VariantDef>>,
     // the table of each row, in the order in which rows came
     order: Vec<Table>,
     limit: u32,
@@ -134,6 +137,7 @@ impl Interner {
             assumption_lists: more.assumption_lists,
             symbols,
             declarations: Vec::new(alloc),
+            definitions: IndexMap::new(alloc),
             order,
             limit: limit.min(GREATEST_INDEX),
             descents: 0,

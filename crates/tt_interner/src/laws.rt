@@ -1,6 +1,13 @@
 //! Laws of all rows that an interner may have, and so of its handles after any calls.
 
-ghost use Rattle.tt_interner.specs.Laws.{EqualTrees, KeepsTrees, KeepsRows, KeepsDeclarations};
+ghost use Rattle.tt_interner.specs.Alias.{JoinsTraitArgs};
+ghost use Rattle.tt_interner.specs.Laws.{
+  EqualTrees,
+  KeepsTrees,
+  KeepsRows,
+  KeepsDeclarations,
+  KeepsDefinitions,
+};
 
 /// Two handles of one table have equal trees exactly when they are equal.
 pub fn equal_handles_for_equal_trees()
@@ -20,4 +27,15 @@ pub fn growth_keeps_rows()
 /// New rows leave the declaration of each id unchanged.
 pub fn growth_keeps_declarations()
     ensures { KeepsDeclarations }
+{}
+
+/// New rows leave the variants of each data type unchanged.
+pub fn growth_keeps_definitions()
+    ensures { KeepsDefinitions }
+{}
+
+/// The arguments of an alias's trait reference, and then the alias's own arguments, are all of the alias's arguments:
+/// whenever [`InternedAlias::trait_ref_and_own_args`](crate::InternedAlias::trait_ref_and_own_args) is not refused.
+pub fn alias_args_are_joined()
+    ensures { JoinsTraitArgs }
 {}

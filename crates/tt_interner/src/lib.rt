@@ -1,6 +1,7 @@
 //! The interner: each type, list and text is stored once, together with its flags.
 #![tactic(auto)]
 
+mod alias;
 mod children;
 mod collect;
 pub mod env;
@@ -11,16 +12,20 @@ pub mod handle;
 mod interner;
 mod laws;
 pub mod nodes;
+mod signature;
 mod tables;
 pub mod ty_info;
 
+pub use alias::InternedAlias;
 pub use env::{ConstBounds, ConstTyFault, FindConstTy};
 pub use fitting::{few_rows_fit, stored_indices_fit, stored_values_fit};
 pub use flag_computation::ForKind;
 pub use flags::Flags;
 pub use handle::{AsClause, AsPredicate, InternedKind, InternedList, InternedText};
-pub use interner::{Interner, RegionName};
+pub use interner::{AliasOfId, Interner, RegionName};
 pub use laws::{
-    equal_handles_for_equal_trees, growth_keeps_declarations, growth_keeps_rows, growth_keeps_trees,
+    alias_args_are_joined, equal_handles_for_equal_trees, growth_keeps_declarations,
+    growth_keeps_definitions, growth_keeps_rows, growth_keeps_trees,
 };
+pub use signature::SignatureTys;
 pub use ty_info::WithCachedTypeInfo;

@@ -149,8 +149,9 @@ alias_exact (alias.Opaque n) (alias.Opaque m) e = ap (λ k. alias.Opaque (id_of 
 alias_exact (alias.Free n) (alias.Free m) e = ap (λ k. alias.Free (id_of k)) (eqb-true n.number m.number e)
 alias_exact _ _ e = absurd (false≢true e)
 
-header_exact : (a b : FnHeader) → eqb a.fn_sig_kind.flags b.fn_sig_kind.flags ≡ true → a ≡ b
-header_exact a b e = ap (λ n. record { fn_sig_kind = record { flags = n } }) (eqb-true a.fn_sig_kind.flags b.fn_sig_kind.flags e)
+header_exact : (a b : FnHeader) → (eqb a.fn_sig_kind.flags b.fn_sig_kind.flags && eqb a.fn_sig_kind.splat b.fn_sig_kind.splat) ≡ true → a ≡ b
+header_exact a b e =
+    two_numbers (λ n m. record { fn_sig_kind = record { flags = n; splat = m } }) a.fn_sig_kind.flags a.fn_sig_kind.splat b.fn_sig_kind.flags b.fn_sig_kind.splat e
 
 binder_exact : (a b : Binder FnSigTys) → (eqb a.value.inputs_and_output.number b.value.inputs_and_output.number && eqb a.bound_vars.number b.bound_vars.number) ≡ true → a ≡ b
 binder_exact a b e =
@@ -217,9 +218,10 @@ kind_exact (ty.Slice t) (ty.Slice t') e = ap ty.Slice (handle_exact t t' e)
 kind_exact (ty.Tuple ts) (ty.Tuple ts') e = ap (λ n. ty.Tuple (handle n)) (eqb-true ts.number ts'.number e)
 kind_exact (ty.FnPtr b h) (ty.FnPtr b' h') e =
     let k = both (eqb b.value.inputs_and_output.number b'.value.inputs_and_output.number && eqb b.bound_vars.number b'.bound_vars.number)
-    (eqb h.fn_sig_kind.flags h'.fn_sig_kind.flags) e in
+    (eqb h.fn_sig_kind.flags h'.fn_sig_kind.flags && eqb h.fn_sig_kind.splat h'.fn_sig_kind.splat) e in
     let binders = binder_exact b b' k.0 in let headers = header_exact h h' k.1 in cc
 kind_exact (ty.Adt d args) (ty.Adt d' args') e = two_numbers (λ n m. ty.Adt (id_of n) (handle m)) d.number args.number d'.number args'.number e
+kind_exact (ty.FnDef d args) (ty.FnDef d' args') e = two_numbers (λ n m. ty.FnDef (id_of n) (handle m)) d.number args.number d'.number args'.number e
 kind_exact (ty.Foreign d) (ty.Foreign d') e = ap (λ n. ty.Foreign (id_of n)) (eqb-true d.number d'.number e)
 kind_exact (ty.Array t c) (ty.Array t' c') e = two_numbers (λ n m. ty.Array (handle n) (handle m)) t.number c.number t'.number c'.number e
 kind_exact (ty.Pat t p) (ty.Pat t' p') e = two_numbers (λ n m. ty.Pat (handle n) (handle m)) t.number p.number t'.number p'.number e

@@ -72,7 +72,7 @@ one_region = region_variable anonymous ∷ []
 
 -- a function pointer under a binder of these variables, of these inputs and output
 abbrev fn_ptr : {I : Type 0} → List (VarKind Name) → Forest I → Tree I
-fn_ptr vs ts = term (type_label (fn_ptr_type (record { fn_sig_kind = record { flags = 0 } })))
+fn_ptr vs ts = term (type_label (fn_ptr_type (record { fn_sig_kind = record { flags = 0; splat = 65535 } })))
     (also (binder vs (node (record_label fn_sig_tys_record) (also (node (list_label TypeLists) ts) none))) none)
 
 -- `for<'a> fn(&'a u32, &'b u32)`, where 'b is bound at this index

@@ -173,6 +173,7 @@ bound_types = refl
 -- types with children
 type_nodes : Agree kind.Ty (
     (ty.Adt (id_of 0) args, plain (one_part the_args))
+    ∷ (ty.FnDef (id_of 0) args, plain (one_part the_args))
     ∷ (ty.Closure (id_of 0) args, plain (one_part the_args))
     ∷ (ty.CoroutineClosure (id_of 0) args, plain (one_part the_args))
     ∷ (ty.Coroutine (id_of 0) args, around 0x2000000 (one_part the_args))
@@ -201,7 +202,7 @@ alias_nodes = refl
 
 -- types with a binder
 type_binders : Agree kind.Ty (
-    (ty.FnPtr (bound (record { inputs_and_output = tys })) (record { fn_sig_kind = record { flags = 0 } }), under vars (one_part the_tys))
+    (ty.FnPtr (bound (record { inputs_and_output = tys })) (record { fn_sig_kind = record { flags = 0; splat = 65535 } }), under vars (one_part the_tys))
     ∷ (ty.UnsafeBinder (record { 0 = bound t }), under vars (one_part (the_type t)))
     ∷ [])
 type_binders = refl

@@ -19,6 +19,8 @@ pub mod BareLaws
 pub mod Examples
 pub mod KindExamples
 pub mod ScanExamples
+mod SignatureExamples
 pub mod ForestLaws
 pub mod EqualityLaws
 pub mod KindEqualityLaws
+pub mod SignatureLaws

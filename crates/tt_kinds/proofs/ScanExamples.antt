@@ -155,6 +155,7 @@ under_none x = record { value = x; bound_vars = no_vars }
 -- types with their contents
 types : AreRows kind.Ty (
     (ty.Adt (id_of 0) args, 0x40008, 7)
+    ∷ (ty.FnDef (id_of 0) args, 0x40008, 7)
     ∷ (ty.Coroutine (id_of 0) args, 0x2040008, 7)
     ∷ (ty.CoroutineWitness (id_of 0) args, 0x40008, 7)
     ∷ (alias_of (alias.Projection (id_of 0)), 0x40408, 7)
@@ -165,7 +166,7 @@ types : AreRows kind.Ty (
     ∷ (ty.RawPtr u mutability.Mut, 0x80000, 3)
     ∷ (ty.Ref (ReBound (Bound 3) a_region) u mutability.«Not», 0xC0000, 4)
     ∷ (ty.Tuple tys, 0x80001, 3)
-    ∷ (ty.FnPtr (under_vars (record { inputs_and_output = tys })) (record { fn_sig_kind = record { flags = 0 } }), 0x1080001, 2)
+    ∷ (ty.FnPtr (under_vars (record { inputs_and_output = tys })) (record { fn_sig_kind = record { flags = 0; splat = 65535 } }), 0x1080001, 2)
     ∷ (ty.UnsafeBinder (record { 0 = under_vars u }), 0x1080000, 2)
     ∷ (ty.UnsafeBinder (record { 0 = under_none u }), 0x80000, 2)
     ∷ (ty.Dynamic existentials ReErased, 0x1240008, 6)

@@ -1,9 +1,13 @@
--- The records of kinds are the records of the values inside them.
-use Rattle.std.proofs.Common.{◌≡◌, refl}
+-- The records of kinds are the records of the values inside them, and the terms of a declaration.
+use Rattle.std.proofs.Common.{◌≡◌, ℕ, refl}
 use Rattle.tt_kinds.specs.Shape as shape
+use Rattle.tt_kinds.specs.Shape.{Shapes}
 use Rattle.tt_kinds.specs.Kinds.{child_shapes, term_kind_shape, term_shape}
 use Rattle.tt_kinds.specs.Parts.{term_kind_child, term_child}
-use Rattle.tt_kinds.specs.Values.{trait_predicate_shape, host_effect_shape, projection_shape, normalizes_to_shape, subtype_shape, coerce_shape, clause_record_shape, predicate_record_shape}
+use Rattle.tt_kinds.specs.Values.{trait_predicate_shape, host_effect_shape, projection_shape, normalizes_to_shape, subtype_shape, coerce_shape, clause_record_shape, predicate_record_shape, declared_shapes}
+use Rattle.tt_kinds.specs.declared.declaration.DeclarationKind.{DeclarationKind}
+use Rattle.tt_kinds.specs.declared.declaration.DeclarationKind.TheVariants as kind
+use Rattle.tt_kinds.specs.declared.table.Table.TheVariants.{TypeLists, VarLists}
 use Rattle.tt_kinds.specs.declared.term.Term.{Term}
 use Rattle.tt_kinds.specs.declared.term.TermKind.{TermKind}
 use Rattle.tt_kinds.specs.declared.term.TermKind.TheVariants as term
@@ -41,3 +45,8 @@ subtype-record p = refl
 
 pub coerce-record : (p : CoercePredicate) → predicate_record_shape (predicate.Coerce p) ≡ coerce_shape p
 coerce-record p = refl
+
+-- a declaration has no terms, but for the lists of a function's signature
+pub declared_by : (P : Shapes → Type 0) → P shape.none → ((vars tys : ℕ) → P (shape.also (shape.stored VarLists vars) (shape.also (shape.stored TypeLists tys) shape.none))) → (k : DeclarationKind) → P (declared_shapes k)
+declared_by P none lists (kind.Fn sig) = lists sig.value.bound_vars.number sig.value.value.inputs_and_output.number
+declared_by P none lists _ = none

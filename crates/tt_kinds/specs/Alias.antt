@@ -1,9 +1,10 @@
 -- Aliases.
-use Rattle.std.specs.Prelude.{ℕ, List, codes}
+use Rattle.std.specs.Prelude.{ℕ, List, Option, Some, None, codes}
 use Rattle.tt_kinds.specs.declared.alias.AliasTyKind.{AliasTyKind}
 use Rattle.tt_kinds.specs.declared.alias.AliasTyKind.TheVariants.{Projection, Inherent, Opaque, Free}
 use Rattle.tt_kinds.specs.declared.declaration.DeclarationSort.{DeclarationSort}
 use Rattle.tt_kinds.specs.declared.declaration.DeclarationSort.TheVariants as sort
+use Rattle.tt_kinds.specs.Id.{id_of}
 
 -- the sort of an alias's declaration
 abbrev pub alias_sort : AliasTyKind → DeclarationSort
@@ -25,3 +26,11 @@ alias_number (Projection d) = d.number
 alias_number (Inherent d) = d.number
 alias_number (Opaque d) = d.number
 alias_number (Free d) = d.number
+
+-- the kind of alias that a declaration of this sort is, with its number, if it is an alias
+abbrev pub alias_of : DeclarationSort → ℕ → Option AliasTyKind
+alias_of sort.AssocTy number = Some (Projection (id_of number))
+alias_of sort.Inherent number = Some (Inherent (id_of number))
+alias_of sort.Opaque number = Some (Opaque (id_of number))
+alias_of sort.Free number = Some (Free (id_of number))
+alias_of _ number = None

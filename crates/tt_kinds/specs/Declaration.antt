@@ -13,6 +13,7 @@ sort_of (kind.AssocTy trait_id) = sort.AssocTy
 sort_of kind.Impl = sort.Impl
 sort_of (kind.Inherent impl_id) = sort.Inherent
 sort_of kind.Adt = sort.Adt
+sort_of (kind.Fn sig) = sort.Fn
 sort_of kind.Opaque = sort.Opaque
 sort_of kind.Free = sort.Free
 sort_of kind.Foreign = sort.Foreign

@@ -1,6 +1,6 @@
 -- The table of kinds: the label of each, and its children in order. The tree of a kind comes from this table alone.
 use Rattle.std.specs.Prelude.{ℕ, List, [], ◌∷◌, map, Option, Some, None}
-use Rattle.tt_kinds.specs.Label.{Sort, region_sort, type_sort, const_sort, Entry, static_region, erased_region, region_var, error_region, late_param_region, placeholder_region, TypeLabel, bool_type, char_type, int_type, uint_type, float_type, str_type, never_type, placeholder_type, infer_type, error_type, ref_type, raw_ptr_type, slice_type, tuple_type, fn_ptr_type, foreign_type, adt_type, array_type, pat_type, unsafe_binder_type, dynamic_type, closure_type, coroutine_closure_type, coroutine_type, coroutine_witness_type, alias_type, ConstLabel, infer_const, placeholder_const, unevaluated_const, leaf_const, branch_const, error_const, expr_const, PatternLabel, range_pattern, or_pattern, not_null_pattern, RecordLabel, fn_sig_tys_record, unsafe_binder_record, trait_record, host_effect_record, region_outlives_record, type_outlives_record, projection_record, const_has_type_record, well_formed_record, const_evaluatable_record, unstable_feature_record, dyn_compatible_record, subtype_record, coerce_record, const_equate_record, ambiguous_record, normalizes_to_record, alias_relate_record, existential_trait_record, existential_projection_record, auto_trait_record, Label, type_label, const_label, pattern_label, predicate_label, existential_label, clause_list_label, list_label, var_list_label, text_label, declaration_label, record_label}
+use Rattle.tt_kinds.specs.Label.{Sort, region_sort, type_sort, const_sort, Entry, static_region, erased_region, region_var, error_region, late_param_region, placeholder_region, TypeLabel, bool_type, char_type, int_type, uint_type, float_type, str_type, never_type, placeholder_type, infer_type, error_type, ref_type, raw_ptr_type, slice_type, tuple_type, fn_ptr_type, foreign_type, adt_type, fn_def_type, array_type, pat_type, unsafe_binder_type, dynamic_type, closure_type, coroutine_closure_type, coroutine_type, coroutine_witness_type, alias_type, ConstLabel, infer_const, placeholder_const, unevaluated_const, leaf_const, branch_const, error_const, expr_const, PatternLabel, range_pattern, or_pattern, not_null_pattern, RecordLabel, fn_sig_tys_record, unsafe_binder_record, trait_record, host_effect_record, region_outlives_record, type_outlives_record, projection_record, const_has_type_record, well_formed_record, const_evaluatable_record, unstable_feature_record, dyn_compatible_record, subtype_record, coerce_record, const_equate_record, ambiguous_record, normalizes_to_record, alias_relate_record, existential_trait_record, existential_projection_record, auto_trait_record, Label, type_label, const_label, pattern_label, predicate_label, existential_label, clause_list_label, list_label, var_list_label, text_label, record_label}
 use Rattle.tt_kinds.specs.Tree as tree
 use Rattle.tt_kinds.specs.Tree.{Depth, Tree, Forest}
 use Rattle.tt_kinds.specs.Bound.{depth, region_name, region_entry, ty_entry, const_entry, var_kind}
@@ -22,7 +22,6 @@ use Rattle.tt_kinds.specs.Handle.{PatList}
 use Rattle.tt_kinds.specs.Handle.{BoundExistentialPredicates}
 use Rattle.tt_kinds.specs.Handle.{BoundVarKinds}
 use Rattle.tt_kinds.specs.Handle.{GenericArgs}
-use Rattle.tt_kinds.specs.declared.declaration.Declaration.{Declaration}
 use Rattle.tt_kinds.specs.declared.binder.Binder.{Binder}
 use Rattle.tt_kinds.specs.declared.bound.BoundVariableKind.{BoundVariableKind}
 use Rattle.tt_kinds.specs.declared.fn_sig.FnSigTys.{FnSigTys}
@@ -118,6 +117,7 @@ ty_form (ty.Tuple ts) = plain tuple_type (one_part (child.List (list.Tys ts)))
 ty_form (ty.FnPtr b h) = under (fn_ptr_type h) b.bound_vars fn_sig_tys_record (one_part (child.List (list.Tys b.value.inputs_and_output)))
 ty_form (ty.Foreign d) = plain (foreign_type d.number) no_parts
 ty_form (ty.Adt d args) = plain (adt_type d.number) (one_part (child.List (list.Args args)))
+ty_form (ty.FnDef d args) = plain (fn_def_type d.number) (one_part (child.List (list.Args args)))
 ty_form (ty.Array t c) = plain array_type (two_parts (child.Node (node.Ty t)) (child.Node (node.Const c)))
 ty_form (ty.Pat t p) = plain pat_type (two_parts (child.Node (node.Ty t)) (child.Node (node.Pat p)))
 ty_form (ty.UnsafeBinder b) = under unsafe_binder_type b.0.bound_vars unsafe_binder_record (one_part (child.Node (node.Ty b.0.value)))
@@ -423,7 +423,3 @@ vars_row_shape vs = shape.node (var_list_label (map var_kind vs)) shape.none
 -- what the row of a text is
 abbrev pub text_row_shape : List ℕ → Shape
 text_row_shape bytes = shape.node (text_label bytes) shape.none
-
--- what the row of a declaration is, with its place among the declarations
-abbrev pub declaration_row_shape : ℕ → Declaration → Shape
-declaration_row_shape n d = shape.node (declaration_label n d.kind d.name.number) shape.none

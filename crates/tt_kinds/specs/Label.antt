@@ -18,11 +18,12 @@ use Rattle.tt_kinds.specs.declared.ty_kind.InferTy.{InferTy}
 use Rattle.tt_kinds.specs.declared.ty_kind.InferTy.TheVariants.{TyVar, IntVar, FloatVar, FreshTy, FreshIntTy, FreshFloatTy}
 use Rattle.tt_kinds.specs.declared.const_kind.InferConst.{InferConst}
 use Rattle.tt_kinds.specs.declared.const_kind.InferConst.TheVariants.{Var, Fresh}
-use Rattle.tt_kinds.specs.declared.declaration.DeclarationKind.{DeclarationKind}
+use Rattle.tt_kinds.specs.declared.declaration.DeclarationSort.{DeclarationSort}
 use Rattle.tt_kinds.specs.declared.predicate.BoundConstness.{BoundConstness}
 use Rattle.tt_kinds.specs.declared.predicate_kind.AliasRelationDirection.{AliasRelationDirection}
+use Rattle.tt_kinds.specs.Variant.{Variant}
 use Rattle.tt_kinds.specs.declared.table.Table.{Table}
-use Rattle.tt_kinds.specs.declared.table.Table.TheVariants.{Types, Consts, Patterns, Predicates, Existentials, ClauseLists, VarLists, Symbols, Declarations}
+use Rattle.tt_kinds.specs.declared.table.Table.TheVariants.{Types, Consts, Patterns, Predicates, Existentials, ClauseLists, VarLists, Symbols, Declarations, Definitions}
 
 -- a name: the bytes of its text
 abbrev pub Name : Type 0
@@ -78,6 +79,7 @@ pub data TypeLabel : Type 0 where
   fn_ptr_type : FnHeader → TypeLabel
   foreign_type : ℕ → TypeLabel
   adt_type : ℕ → TypeLabel
+  fn_def_type : ℕ → TypeLabel
   array_type : TypeLabel
   pat_type : TypeLabel
   unsafe_binder_type : TypeLabel
@@ -152,6 +154,19 @@ pub data RecordLabel (N : Type 0) : Type 0 where
   bare_const_record : ConstLabel → RecordLabel N
   bare_pattern_record : PatternLabel → RecordLabel N
 
+-- what is declared, without its terms
+pub data ItemLabel : Type 0 where
+  -- the number of its parameters
+  trait_item : ℕ → ItemLabel
+  -- its trait
+  assoc_ty_item : ℕ → ItemLabel
+  -- its implementation
+  inherent_item : ℕ → ItemLabel
+  -- what its signature has beside types
+  fn_item : FnSigKind → ItemLabel
+  -- an item of another sort
+  plain_item : DeclarationSort → ItemLabel
+
 -- a node's kind, with its data other than terms
 pub data Label (N : Type 0) : Type 0 where
   type_label : TypeLabel → Label N
@@ -165,7 +180,9 @@ pub data Label (N : Type 0) : Type 0 where
   var_list_label : List (VarKind N) → Label N
   text_label : List ℕ → Label N
   -- its place among the declarations, what is declared, and its name
-  declaration_label : ℕ → DeclarationKind → N → Label N
+  declaration_label : ℕ → ItemLabel → N → Label N
+  -- the id of a data type, and its variants as they are: no term holds a definition
+  definition_label : ℕ → List Variant → Label N
   record_label : RecordLabel N → Label N
   -- the token of an error that belongs to no stored term
   error_label : ℕ → Label N
@@ -252,6 +269,7 @@ flags_of_label (list_label t) = 0
 flags_of_label (var_list_label vs) = list_flags vs
 flags_of_label (text_label bytes) = 0
 flags_of_label (declaration_label n k name) = 0
+flags_of_label (definition_label n vs) = 0
 flags_of_label (record_label l) = 0
 flags_of_label (error_label e) = has_error
 flags_of_label clause_label = 0
@@ -278,6 +296,7 @@ label_table (list_label t) = Some t
 label_table (var_list_label vs) = Some VarLists
 label_table (text_label bytes) = Some Symbols
 label_table (declaration_label n k name) = Some Declarations
+label_table (definition_label n vs) = Some Definitions
 label_table (record_label l) = None
 label_table (error_label e) = None
 label_table clause_label = None

@@ -1,5 +1,10 @@
--- Laws of trees and their readings, for all trees, all numbers of binders above them and all lists of arguments.
-use Rattle.std.specs.Prelude.{◌≡◌, ℕ, ◌+◌, ◌≤◌, List, map, false}
+-- Laws of trees and their readings, for all trees, all numbers of binders above them and all lists of arguments, and of signatures.
+use Rattle.std.specs.Prelude.{◌≡◌, ℕ, ◌+◌, ◌≤◌, List, Option, Bool, map, false}
+use Rattle.tt_index.specs.declared.abi.ExternAbi.{ExternAbi}
+use Rattle.tt_index.specs.declared.qualifier.Safety.{Safety}
+use Rattle.tt_kinds.specs.declared.binder.Binder.{Binder}
+use Rattle.tt_kinds.specs.declared.fn_sig.FnSig.{FnSig}
+use Rattle.tt_kinds.specs.FnSig.{AreRead, types_in, header_in, joined}
 use Rattle.tt_kinds.specs.Label.{Name, VarKind}
 use Rattle.tt_kinds.specs.Tree.{Depth, Place, Tree}
 use Rattle.tt_kinds.specs.Reading.{read, move, outer_binder}
@@ -61,3 +66,11 @@ ShiftKeepsLow = (k n : ℕ) (t : Tree Depth) → outer_binder t ≤ k → shift_
 -- a shift by 0 keeps each tree
 abbrev pub ShiftByZero : Type 0
 ShiftByZero = (k : ℕ) (t : Tree Depth) → shift_tree k 0 t ≡ t
+
+-- each part that was packed is read back
+abbrev pub PackedPartsAreRead : Type 0
+PackedPartsAreRead = (abi : ExternAbi) (safety : Safety) (variadic : Bool) (splat : Option ℕ) → AreRead abi safety variadic splat
+
+-- the types and the other parts of a signature, joined, are the signature
+abbrev pub SplitIsJoined : Type 0
+SplitIsJoined = (sig : Binder FnSig) → joined (types_in sig) (header_in sig) ≡ sig

@@ -20,6 +20,7 @@ pub mod Predicate
 pub mod Declaration
 pub mod RegionKind
 pub mod FnSig
+pub mod Variant
 pub mod Shape
 pub mod Parts
 pub mod Range

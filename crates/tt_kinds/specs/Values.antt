@@ -1,11 +1,19 @@
 -- Values that have no row of their own: records, and their contents.
 use Rattle.std.specs.Prelude.{ℕ, Option, Some, None, Result, Ok, Err, List}
 use Rattle.tt_kinds.specs.Label.{RecordLabel, trait_ref_record, alias_term_record, alias_ty_record, outlives_record, type_and_mut_record, fn_sig_record, param_env_record, witness_types_record, projection_record, normalizes_to_record, trait_record, host_effect_record, subtype_record, coerce_record, record_label, list_label, pair_record, triple_record, absent_record, present_record, sequence_record, existential_trait_record, existential_projection_record, unsafe_binder_record, clause_label}
+use Rattle.tt_kinds.specs.Label.{ItemLabel, trait_item, assoc_ty_item, inherent_item, fn_item, plain_item, declaration_label, definition_label}
+use Rattle.tt_kinds.specs.Declaration.{sort_of}
+use Rattle.tt_kinds.specs.Variant.{Variant}
+use Rattle.tt_kinds.specs.declared.variant.FieldDef.{FieldDef}
+use Rattle.tt_kinds.specs.declared.declaration.Declaration.{Declaration}
+use Rattle.tt_kinds.specs.declared.declaration.DeclarationKind.{DeclarationKind}
+use Rattle.tt_kinds.specs.declared.declaration.DeclarationKind.TheVariants as kind
 use Rattle.tt_kinds.specs.Shape as shape
-use Rattle.tt_kinds.specs.Shape.{Shape, all_but_last, span, item_shapes}
+use Rattle.tt_kinds.specs.Shape.{Shape, Shapes, all_but_last, span, item_shapes}
 use Rattle.tt_kinds.specs.Kinds.{region_shape, arg_shape, ty_shape, tys_shape, args_shape, clause_shape, clauses_shape, term_shape, clause_form, predicate_form, existential_form, record_shape}
-use Rattle.tt_kinds.specs.declared.table.Table.TheVariants.{AssumptionLists, TypeLists, ArgLists}
+use Rattle.tt_kinds.specs.declared.table.Table.TheVariants.{AssumptionLists, TypeLists, ArgLists, VarLists, Symbols}
 use Rattle.tt_kinds.specs.Handle.{Clause}
+use Rattle.tt_kinds.specs.Handle.{Symbol}
 use Rattle.tt_kinds.specs.Handle.{RegionAssumptions}
 use Rattle.tt_kinds.specs.declared.generic_arg.GenericArgKind.{GenericArgKind}
 use Rattle.tt_kinds.specs.declared.alias.AliasTy.{AliasTy}
@@ -30,6 +38,14 @@ use Rattle.tt_kinds.specs.declared.view.GenericArgsSlice.{GenericArgsSlice}
 use Rattle.tt_kinds.specs.declared.existential.ExistentialPredicate.{ExistentialPredicate}
 use Rattle.tt_kinds.specs.declared.existential.ExistentialTraitRef.{ExistentialTraitRef}
 use Rattle.tt_kinds.specs.declared.existential.ExistentialProjection.{ExistentialProjection}
+
+-- what is declared, without its terms
+abbrev pub item_label : DeclarationKind → ItemLabel
+item_label (kind.Trait params) = trait_item params
+item_label (kind.AssocTy trait_id) = assoc_ty_item trait_id.number
+item_label (kind.Inherent impl_id) = inherent_item impl_id.number
+item_label (kind.Fn sig) = fn_item sig.value.value.fn_sig_kind
+item_label k = plain_item (sort_of k)
 
 -- a record of one value
 abbrev pub one_record : RecordLabel ℕ → Shape → Shape
@@ -113,6 +129,31 @@ one_clause_shape c = shape.node clause_label (shape.also (clause_shape c) shape.
 -- a signature
 abbrev pub fn_sig_shape : FnSig → Shape
 fn_sig_shape s = one_record (fn_sig_record s.fn_sig_kind) (tys_shape s.inputs_and_output)
+
+-- the terms of what is declared: the variables that a function's signature binds, and its types
+abbrev pub declared_shapes : DeclarationKind → Shapes
+declared_shapes (kind.Fn sig) = shape.also (shape.stored VarLists sig.value.bound_vars.number) (shape.also (tys_shape sig.value.value.inputs_and_output) shape.none)
+declared_shapes _ = shape.none
+
+-- what the row of a declaration is, with its place among the declarations
+abbrev pub declaration_row_shape : ℕ → Declaration → Shape
+declaration_row_shape n d = shape.node (declaration_label n (item_label d.kind) d.name.number) (declared_shapes d.kind)
+
+-- a name, by its number
+abbrev pub symbol_shape : Symbol → Shape
+symbol_shape s = shape.stored Symbols s.number
+
+-- a field of a data type
+abbrev pub field_def_shape : FieldDef → Shape
+field_def_shape f = two_record pair_record (symbol_shape f.name) (ty_shape f.ty)
+
+-- a variant of a data type
+abbrev pub variant_shape : Variant → Shape
+variant_shape v = two_record pair_record (option_shape symbol_shape v.name) (sequence_shape field_def_shape v.fields)
+
+-- what the row of a definition is, with the number of the data type's id
+abbrev pub definition_row_shape : ℕ → List Variant → Shape
+definition_row_shape n vs = shape.node (definition_label n vs) (item_shapes variant_shape vs)
 
 -- the assumptions inside an item
 abbrev pub param_env_shape : ParamEnv → Shape

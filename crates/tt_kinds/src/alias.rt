@@ -1,7 +1,8 @@
 //! Aliases: types and constants that normalize to others.
 
-ghost use Rattle.std.specs.Prelude.{◌≡◌};
+ghost use Rattle.std.specs.Prelude.{◌≡◌, ◌↔◌, IsTrue};
 ghost use Rattle.tt_kinds.specs.Alias.{alias_name, alias_number, alias_sort};
+ghost use Rattle.tt_kinds.specs.declared.declaration.DeclarationSort.TheVariants as sort;
 
 use crate::declaration::DeclarationSort;
 use crate::handle::GenericArgs;
@@ -78,6 +79,29 @@ pub struct AliasTy {
     pub args: GenericArgs,
     /// The kind of the alias.
     pub kind: AliasTyKind,
+}
+
+impl AliasTy {
+    /// Returns the alias of this kind with these arguments.
+    pub fn new_from_args(kind: AliasTyKind, args: GenericArgs) -> AliasTy
+        ensures { result ≡ record { args = args; kind = kind } }
+    {
+        AliasTy { args, kind }
+    }
+
+    /// Returns whether it is an opaque type.
+    pub fn is_opaque(self) -> bool
+        ensures { IsTrue result ↔ (alias_sort self.kind ≡ sort.Opaque) }
+    {
+        matches!(self.kind, AliasTyKind::Opaque { .. })
+    }
+
+    /// Returns whether it is an associated type of a trait.
+    pub fn is_projection(self) -> bool
+        ensures { IsTrue result ↔ (alias_sort self.kind ≡ sort.AssocTy) }
+    {
+        matches!(self.kind, AliasTyKind::Projection { .. })
+    }
 }
 
 /// An alias of a type or a constant.

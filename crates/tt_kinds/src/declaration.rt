@@ -3,6 +3,8 @@
 ghost use Rattle.std.specs.Prelude.{◌≡◌};
 ghost use Rattle.tt_kinds.specs.Declaration.{sort_of};
 
+use crate::binder::{Binder, EarlyBinder};
+use crate::fn_sig::FnSig;
 use crate::handle::Symbol;
 use crate::id::{ImplId, TraitId};
 
@@ -22,6 +24,8 @@ pub enum DeclarationKind {
     Inherent(ImplId),
     /// A struct, an enum or a union.
     Adt,
+    /// A function of this signature.
+    Fn(EarlyBinder<Binder<FnSig>>),
     /// An opaque type, such as `impl Trait` as a result.
     Opaque,
     /// A type alias whose bounds are checked, and which can always be normalized away.
@@ -53,6 +57,8 @@ pub enum DeclarationSort {
     Inherent,
     /// A struct, an enum or a union.
     Adt,
+    /// A function.
+    Fn,
     /// An opaque type.
     Opaque,
     /// A type alias whose bounds are checked, and which can always be normalized away.
@@ -82,6 +88,7 @@ impl DeclarationKind {
             DeclarationKind::Impl => DeclarationSort::Impl,
             DeclarationKind::Inherent(_) => DeclarationSort::Inherent,
             DeclarationKind::Adt => DeclarationSort::Adt,
+            DeclarationKind::Fn(_) => DeclarationSort::Fn,
             DeclarationKind::Opaque => DeclarationSort::Opaque,
             DeclarationKind::Free => DeclarationSort::Free,
             DeclarationKind::Foreign => DeclarationSort::Foreign,

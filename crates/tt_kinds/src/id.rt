@@ -122,8 +122,14 @@ impl IsDeclared for ForeignType {
 /// A foreign type, which is declared elsewhere.
 pub type ForeignId = Id<ForeignType>;
 
-/// The mark of functions, which can't be declared yet.
+/// The mark of functions.
 pub enum Function {}
+
+impl IsDeclared for Function {
+    ghost SORT = { sort.Fn };
+
+    const SORT: DeclarationSort = DeclarationSort::Fn;
+}
 
 /// A function.
 pub type FunctionId = Id<Function>;
@@ -251,6 +257,7 @@ pub type FreeTyAliasId = Id<FreeTyAlias>;
 /// Does nothing. The contract is a law: it says by name which sort of declaration the ids of each mark name.
 pub fn marks_name_their_sorts()
     ensures adt_id { ⟦<DataType as IsDeclared>⟧.SORT ≡ sort.Adt }
+    ensures function_id { ⟦<Function as IsDeclared>⟧.SORT ≡ sort.Fn }
     ensures foreign_id { ⟦<ForeignType as IsDeclared>⟧.SORT ≡ sort.Foreign }
     ensures closure_id { ⟦<Closure as IsDeclared>⟧.SORT ≡ sort.Closure }
     ensures coroutine_closure_id { ⟦<CoroutineClosure as IsDeclared>⟧.SORT ≡ sort.CoroutineClosure }

@@ -15,6 +15,8 @@ ghost use Rattle.tt_kinds.specs.Laws.{
   ShiftsRead,
   ShiftKeepsLow,
   ShiftByZero,
+  PackedPartsAreRead,
+  SplitIsJoined,
 };
 
 /// If each parameter has an argument, two replacements in turn are one, by the first one's arguments with the second
@@ -81,4 +83,14 @@ pub fn shift_keeps_low_trees()
 /// A shift by 0 keeps each tree.
 pub fn shift_by_zero_keeps_trees()
     ensures { ShiftByZero }
+{}
+
+/// Each part of a signature's kind that was packed is what its call reads.
+pub fn packed_parts_are_read()
+    ensures { PackedPartsAreRead }
+{}
+
+/// A signature that was split is joined again by [`Binder::with`](crate::binder::Binder::with).
+pub fn split_signatures_are_joined()
+    ensures { SplitIsJoined }
 {}

@@ -26,6 +26,7 @@ pub mod region_kind;
 pub mod table;
 pub mod term;
 pub mod ty_kind;
+pub mod variant;
 pub mod view;
 
 pub use alias::AliasTerm;
@@ -138,5 +139,7 @@ pub use ty_kind::ParamTy;
 pub use ty_kind::TyKind;
 pub use ty_kind::TypeAndMut;
 pub use ty_kind::UnsafeBinderInner;
+pub use variant::FieldDef;
+pub use variant::VariantDef;
 pub use view::FnInputTys;
 pub use view::GenericArgsSlice;

@@ -33,4 +33,6 @@ pub enum Table {
     Symbols,
     /// Declarations, each under its id.
     Declarations,
+    /// Definitions of data types, at most one for each id.
+    Definitions,
 }

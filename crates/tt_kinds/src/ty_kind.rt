@@ -13,9 +13,10 @@ use crate::fn_sig::{FnHeader, FnSigTys};
 use crate::handle::{
     BoundExistentialPredicates, BoundVarKinds, Const, GenericArgs, Pat, Symbol, Ty, Tys,
 };
-use crate::id::{AdtId, ClosureId, CoroutineClosureId, CoroutineId, ForeignId};
+use crate::id::{AdtId, ClosureId, CoroutineClosureId, CoroutineId, ForeignId, FunctionId};
 use crate::placeholder::PlaceholderType;
 use crate::region_kind::Region;
+use std::ops::Deref;
 use tt_index::{FloatTy, FloatVid, IntTy, IntVid, Mutability, TyVid, UintTy};
 
 /// A type parameter of an item, which is replaced when the item is instantiated.
@@ -81,6 +82,18 @@ impl UnsafeBinderInner {
     }
 }
 
+impl Deref for UnsafeBinderInner {
+    type Target = Binder<Ty>;
+
+    ghost deref_gives = { λ inner binder. binder ≡ inner.0 };
+
+    fn deref(&self) -> &Binder<Ty>
+        ensures { result.now ≡ self.now.0 }
+    {
+        &self.0
+    }
+}
+
 impl From<Binder<Ty>> for UnsafeBinderInner {
     ghost from_gives = { λ binder inner. inner.0 ≡ binder };
 
@@ -112,6 +125,8 @@ pub enum TyKind {
     Float(FloatTy),
     /// A struct, an enum or a union.
     Adt(AdtId, GenericArgs),
+    /// The type of a function item, which has one value.
+    FnDef(FunctionId, GenericArgs),
     /// A foreign type, which is declared elsewhere.
     Foreign(ForeignId),
     /// `str`.

@@ -2,7 +2,7 @@
 use Rattle.std.proofs.Common.{inl, inr, ◌≡◌, ℕ, ◌+◌, ◌-◌, ◌<◌, ◌≤◌, refl, ap, sym, ◌∙◌, arith}
 use Rattle.std.specs.Prelude.{⊤, false, ◌⊎◌}
 use Rattle.tt_index.specs.Greatest.{greatest}
-use Rattle.tt_kinds.specs.Label.{Name, Label, type_label, const_label, pattern_label, predicate_label, existential_label, clause_list_label, list_label, var_list_label, text_label, declaration_label, record_label, error_label, clause_label}
+use Rattle.tt_kinds.specs.Label.{Name, Label, type_label, const_label, pattern_label, predicate_label, existential_label, clause_list_label, list_label, var_list_label, text_label, declaration_label, definition_label, record_label, error_label, clause_label}
 use Rattle.tt_kinds.specs.Tree.{Depth, Tree, Forest, param, bound, region, term, node, binder, none, also}
 use Rattle.tt_kinds.specs.Reading.{read, read_all, greatest_reach, greatest_reach_all, outer_binder}
 use Rattle.tt_kinds.proofs.OuterLaws.{greatest_reach-deeper}
@@ -64,6 +64,8 @@ no-leaf (text_label x) (inl e) = let never = e in cc
 no-leaf (text_label x) (inr e) = let never = e in cc
 no-leaf (declaration_label n k name) (inl e) = let never = e in cc
 no-leaf (declaration_label n k name) (inr e) = let never = e in cc
+no-leaf (definition_label n vs) (inl e) = let never = e in cc
+no-leaf (definition_label n vs) (inr e) = let never = e in cc
 no-leaf (record_label x) (inl e) = let never = e in cc
 no-leaf (record_label x) (inr e) = let never = e in cc
 no-leaf (error_label x) (inl e) = let never = e in cc
@@ -83,6 +85,7 @@ term-no-region (list_label x) e = let never = e in cc
 term-no-region (var_list_label x) e = let never = e in cc
 term-no-region (text_label x) e = let never = e in cc
 term-no-region (declaration_label n k name) e = let never = e in cc
+term-no-region (definition_label n vs) e = let never = e in cc
 term-no-region (record_label x) e = let never = e in cc
 term-no-region (error_label x) e = let never = e in cc
 term-no-region clause_label e = let never = e in cc

@@ -6,7 +6,7 @@ use Rattle.std.specs.Int.Bits.{and_zero_r}
 use Rattle.std.proofs.lemmas.Nat.Bits.{bit_at_and, bit_at_or, bit_at-zero, same_from_bits}
 use Rattle.std.proofs.lemmas.Bool.{eqb-true}
 use Rattle.std.proofs.lemmas.Grind.{numeral_and}
-use Rattle.tt_kinds.specs.Label.{Name, TypeLabel, ConstLabel, Label, type_label, const_label, pattern_label, predicate_label, existential_label, clause_list_label, list_label, var_list_label, text_label, declaration_label, record_label, error_label, clause_label, list_flags, flags_of_label, flags_of_type, flags_of_const, bool_type, char_type, int_type, uint_type, float_type, str_type, never_type, placeholder_type, infer_type, error_type, ref_type, raw_ptr_type, slice_type, tuple_type, fn_ptr_type, foreign_type, adt_type, array_type, pat_type, unsafe_binder_type, dynamic_type, closure_type, coroutine_closure_type, coroutine_type, coroutine_witness_type, alias_type, infer_const, placeholder_const, unevaluated_const, leaf_const, branch_const, error_const, expr_const}
+use Rattle.tt_kinds.specs.Label.{Name, TypeLabel, ConstLabel, Label, type_label, const_label, pattern_label, predicate_label, existential_label, clause_list_label, list_label, var_list_label, text_label, declaration_label, definition_label, record_label, error_label, clause_label, list_flags, flags_of_label, flags_of_type, flags_of_const, bool_type, char_type, int_type, uint_type, float_type, str_type, never_type, placeholder_type, infer_type, error_type, ref_type, raw_ptr_type, slice_type, tuple_type, fn_ptr_type, foreign_type, adt_type, fn_def_type, array_type, pat_type, unsafe_binder_type, dynamic_type, closure_type, coroutine_closure_type, coroutine_type, coroutine_witness_type, alias_type, infer_const, placeholder_const, unevaluated_const, leaf_const, branch_const, error_const, expr_const}
 use Rattle.tt_kinds.specs.Tree.{Depth, Tree, Forest, term, node, binder, none, also}
 use Rattle.tt_flags.specs.TypeFlags.{has_binder_vars, has_error}
 use Rattle.tt_kinds.specs.Shape.{Meaning, fill, vars_of}
@@ -78,6 +78,7 @@ part-flags m (list_label t) is = and_zero_r m
 part-flags m (var_list_label vs) is = cc
 part-flags m (text_label bytes) is = cc
 part-flags m (declaration_label n k name) is = cc
+part-flags m (definition_label n vs) is = cc
 part-flags m (record_label l) is = and_zero_r m
 part-flags m (error_label e) is = cc
 part-flags m clause_label is = and_zero_r m
@@ -94,6 +95,7 @@ unhooked-flags m (list_label t) is = cc
 unhooked-flags m (var_list_label vs) is = cc
 unhooked-flags m (text_label bytes) is = cc
 unhooked-flags m (declaration_label n k name) is = cc
+unhooked-flags m (definition_label n vs) is = cc
 unhooked-flags m (record_label l) is = cc
 unhooked-flags m (error_label e) is = cc
 unhooked-flags m clause_label is = cc
@@ -182,6 +184,7 @@ type-plain tuple_type = refl
 type-plain (fn_ptr_type h) = refl
 type-plain (foreign_type d) = refl
 type-plain (adt_type d) = refl
+type-plain (fn_def_type d) = refl
 type-plain array_type = refl
 type-plain pat_type = refl
 type-plain unsafe_binder_type = refl
@@ -217,6 +220,7 @@ label-plain (var_list_label []) = refl
 label-plain (var_list_label (v ∷ vs)) = refl
 label-plain (text_label bytes) = refl
 label-plain (declaration_label n k name) = refl
+label-plain (definition_label n vs) = refl
 label-plain (record_label l) = refl
 label-plain (error_label e) = refl
 label-plain clause_label = refl

@@ -4,7 +4,7 @@ use Rattle.std.specs.Prelude.{Option, Some, None, Bool, true, false, ⊤, IsTrue
 use Rattle.std.proofs.lemmas.Nat.{and_comm}
 use Rattle.std.proofs.lemmas.Bool.{cases_lt, le-ltb}
 use Rattle.tt_index.specs.Greatest.{greatest}
-use Rattle.tt_kinds.specs.Label.{Name, Sort, region_sort, type_sort, const_sort, VarKind, Entry, FreeRegion, static_region, erased_region, region_var, error_region, late_param_region, placeholder_region, TypeLabel, ConstLabel, infer_type, alias_type, infer_const, Label, type_label, const_label, pattern_label, predicate_label, existential_label, clause_list_label, list_label, var_list_label, text_label, declaration_label, record_label, error_label, clause_label, infer_flags, alias_flags, infer_const_flags, list_flags, flags_of_label, flags_of_type, flags_of_const}
+use Rattle.tt_kinds.specs.Label.{Name, Sort, region_sort, type_sort, const_sort, VarKind, Entry, FreeRegion, static_region, erased_region, region_var, error_region, late_param_region, placeholder_region, TypeLabel, ConstLabel, infer_type, alias_type, infer_const, Label, type_label, const_label, pattern_label, predicate_label, existential_label, clause_list_label, list_label, var_list_label, text_label, declaration_label, definition_label, record_label, error_label, clause_label, infer_flags, alias_flags, infer_const_flags, list_flags, flags_of_label, flags_of_type, flags_of_const}
 use Rattle.tt_kinds.specs.Tree.{Depth, at, canonical, own, outer, Tree, Forest, param, bound, region, term, node, binder, none, also}
 use Rattle.tt_kinds.specs.Reading.{read, read_all, reach, greatest_reach, greatest_reach_all, outer_binder}
 use Rattle.tt_kinds.specs.Scan.{scan, scan_all, region_flags}
@@ -160,6 +160,7 @@ label-regionless (list_label t) = refl
 label-regionless (var_list_label vs) = list-regionless vs
 label-regionless (text_label bytes) = refl
 label-regionless (declaration_label n k name) = refl
+label-regionless (definition_label n vs) = refl
 label-regionless (record_label l) = refl
 label-regionless (error_label e) = refl
 label-regionless clause_label = refl

@@ -4,14 +4,14 @@ use Rattle.std.specs.Prelude.{Some, None, slice_get}
 use Rattle.std.specs.ControlFlow.{MatchControlFlow}
 use Rattle.std.proofs.lemmas.Grind.{common_steps}
 use Rattle.std.proofs.lemmas.Option.{slice_get_within, get_or_from_slice_get}
-use Rattle.tt_kinds.specs.Label.{Name, Sort, region_sort, type_sort, const_sort, TypeLabel, ConstLabel, Label, type_label, const_label, pattern_label, predicate_label, existential_label, clause_list_label, list_label, var_list_label, text_label, declaration_label, record_label, error_label, clause_label}
+use Rattle.tt_kinds.specs.Label.{Name, Sort, region_sort, type_sort, const_sort, TypeLabel, ConstLabel, Label, type_label, const_label, pattern_label, predicate_label, existential_label, clause_list_label, list_label, var_list_label, text_label, declaration_label, definition_label, record_label, error_label, clause_label}
 use Rattle.tt_kinds.specs.Tree as tree
 use Rattle.tt_kinds.specs.Tree.{Depth, Tree, Forest}
 use Rattle.tt_kinds.specs.Shape.{Shapes, none, also, append, rename_label, rename_record, Meaning, Sizes, AreParts, HasParts, fill, fill_all, name_of}
 use Rattle.tt_kinds.specs.Kinds.{Form, param, bound, plain, under, ty_form, const_form, kind_form, relabelled, form_binder, form_parts, form_shape, kind_sort, kind_shape, region_shape, child_shapes, parts_shapes, children_shapes, items_tree}
 use Rattle.tt_kinds.specs.declared.parts.Kind.{Kind}
 use Rattle.tt_kinds.specs.declared.table.Table.{Table}
-use Rattle.tt_interner.specs.Rows.{Row, type_row, const_row, pat_row, predicate_row, existential_row, clauses_row, tys_row, consts_row, args_row, pats_row, existentials_row, assumptions_row, vars_row, text_row, declared_row, row_table, row_shape, table, size, meaning}
+use Rattle.tt_interner.specs.Rows.{Row, type_row, const_row, pat_row, predicate_row, existential_row, clauses_row, tys_row, consts_row, args_row, pats_row, existentials_row, assumptions_row, vars_row, text_row, declared_row, defined_row, row_table, row_shape, table, size, meaning}
 use Rattle.tt_interner.proofs.RowLaws.{place_cases, IsNewest, meaning-old, meaning-new}
 use Rattle.tt_kinds.specs.declared.parts.Child.{Child}
 use Rattle.tt_kinds.specs.declared.parts.Node.{Node}
@@ -66,6 +66,7 @@ root-row f (assumptions_row ps) = refl
 root-row f (vars_row vs) = refl
 root-row f (text_row bytes) = refl
 root-row f (declared_row n d) = refl
+root-row f (defined_row n vs) = refl
 
 -- what a handle's tree is
 older-or-newest : (r : Row) (rows : List Row) (t : Table) (n : ℕ) → (n < size rows t → root (meaning rows t n) ≡ table_root t)
@@ -97,6 +98,7 @@ no-error (list_label t) is = refl
 no-error (var_list_label vs) is = refl
 no-error (text_label bytes) is = refl
 no-error (declaration_label n k name) is = refl
+no-error (definition_label n vs) is = refl
 no-error (record_label l) is = refl
 no-error (error_label e) is = cc
 no-error clause_label is = refl
@@ -171,6 +173,7 @@ error_of-rename name (list_label t) = refl
 error_of-rename name (var_list_label vs) = refl
 error_of-rename name (text_label bytes) = refl
 error_of-rename name (declaration_label i k n) = refl
+error_of-rename name (definition_label i vs) = refl
 error_of-rename name (record_label l) = refl
 error_of-rename name (error_label e) = refl
 error_of-rename name clause_label = refl

@@ -7,7 +7,7 @@ use Rattle.type_terms.specs.declared.run.answer.Answer.{Answer}
 use Rattle.type_terms.specs.declared.run.answer.Answer.TheVariants as answer
 use Rattle.type_terms.specs.declared.run.call.Call.{Call}
 use Rattle.type_terms.specs.declared.run.call.Call.TheVariants as call
-use Rattle.type_terms.specs.CallForm.{Named, of_id, an_id, any_id, args_ids, ty_ids, const_ids, predicate_ids, arg_items, args_part, ty_form, const_form, predicate_form, form_positions, items_positions, part_positions}
+use Rattle.type_terms.specs.CallForm.{Named, of_id, an_id, any_id, args_ids, ty_ids, const_ids, predicate_ids, declared_ids, declared_positions, arg_items, args_part, ty_form, const_form, predicate_form, form_positions, items_positions, part_positions}
 use Rattle.type_terms.specs.Told.{Told, told, told_all}
 use Rattle.type_terms.specs.Means.{as_id, id_at, number_at, id_positions, Tells, AreTerms, NamesTerms}
 use Rattle.type_terms.specs.Build.{IsAnswerAt}
@@ -51,4 +51,5 @@ ids-named e (call.Const k) h = AreTerms-first e (const_ids k) (form_positions (c
 ids-named e (call.Predicate k) h = AreTerms-first e (predicate_ids k) (form_positions (predicate_form (number_at e) k)) h
 ids-named e (call.Args args) h = AreTerms-first e (args_ids args.items) (part_positions (args_part args.items)) h
 ids-named e (call.Instantiate p args) h = AreTerms-first e (args_ids args.items) (items_positions (arg_items args.items)) h.1
+ids-named e (call.Declare d) h = AreTerms-first e (declared_ids d.kind) (declared_positions d.kind) h
 ids-named e _ h = tt

@@ -2,24 +2,16 @@
 use Rattle.std.proofs.Common.{◌≡◌, ℕ, ◌<◌, ◌≤◌, List, [], ◌∷◌, ◌++◌, refl, ap, sym, ◌∙◌, subst, arith, append_assoc, append-nil, inl, inr}
 use Rattle.std.proofs.lemmas.List.{map-append}
 use Rattle.tt_index.specs.declared.refusal.Refusal.{Refusal}
-use Rattle.tt_kinds.specs.Label.{Name}
-use Rattle.tt_kinds.specs.Shape.{Sizes, HasParts, text_of}
 use Rattle.tt_kinds.specs.Tree.{Tree, Depth}
-use Rattle.tt_kinds.specs.declared.id.DefId.{DefId}
 use Rattle.tt_kinds.specs.declared.table.Table.{Table}
-use Rattle.tt_kinds.specs.declared.table.Table.TheVariants.{Types, Consts, Patterns, Predicates, ClauseLists, ArgLists, Symbols, Declarations}
+use Rattle.tt_kinds.specs.declared.table.Table.TheVariants.{Types, Consts, Patterns, Predicates, ClauseLists, ArgLists, Declarations}
 use Rattle.tt_kinds.specs.declared.declaration.Declaration.{Declaration}
-use Rattle.tt_kinds.specs.declared.declaration.DeclarationKind.{DeclarationKind}
 use Rattle.tt_kinds.specs.declared.declaration.DeclarationSort.{DeclarationSort}
 use Rattle.tt_kinds.specs.Declaration.{sort_of}
-use Rattle.tt_interner.specs.Rows.{Row, declared_row, text_row, table, row_table, row_shape, size, AreRows, Grows}
-use Rattle.tt_interner.specs.Declarations.{declared_at, declaration_of}
+use Rattle.tt_interner.specs.Rows.{Row, size, Grows}
 use Rattle.tt_interner.specs.Stored.{Terms, Extends}
 use Rattle.tt_interner.proofs.Growth.{Extends-refl, Extends-trans, size-grows, in_range-grows, meaning-grows}
 use Rattle.tt_interner.proofs.DeclarationLaws.{declared_at-grows}
-use Rattle.tt_interner.specs.Env.{row_at}
-use Rattle.tt_interner.proofs.Trees.{Means-row}
-use Rattle.std.proofs.lemmas.Option.{slice_get-get_or}
 use Rattle.type_terms.specs.declared.run.call.Call.{Call}
 use Rattle.type_terms.specs.declared.run.call.Call.TheVariants as call
 use Rattle.type_terms.specs.declared.run.answer.Answer.{Answer}
@@ -28,20 +20,7 @@ use Rattle.type_terms.specs.Told.{Told, term, declared, truth, info, refused, ba
 use Rattle.type_terms.specs.Means.{AddsNothing, Grows as GrowsIn, MayRefuse, want_of_memory, full_table, no_term, too_deep, unfit, unsuited, Declares, IsAllowed, Means}
 use Rattle.type_terms.specs.Runner.{AddsAnswer, IsAnswered, AnswersInTurn}
 
--- the name of a declaration's row is a text
-name-in-row : (bounds : Sizes) (q : Row) → row_table q ≡ Declarations → HasParts bounds (row_shape q) → (declaration_of q).name.number < bounds Symbols
-name-in-row bounds (declared_row n d) is parts = parts.0
-name-in-row bounds _ is parts = absurd (cc)
-
--- the name of what is declared is a text
-name-in-range : (rows : List Row) → AreRows rows → (id : DefId) → id.number < size rows Declarations → (declared_at rows id).name.number < size rows Symbols
-unfolding declared_at
-name-in-range rows are id h =
-    let q = row_at rows Declarations id.number in
-    let means = Means-row rows are Declarations id.number q (slice_get-get_or (table Declarations rows) id.number (text_row []) h) in
-    name-in-row (size rows) q means.same_table means.parts
-
-module _ (old new : List Row) (g : Grows old new) (are : AreRows old) where
+module _ (old new : List Row) (g : Grows old new) where
   pub told-grows : (a : Answer) → IsOwned old a → told new a ≡ told old a
   told-grows (answer.Ty t) h = ap (term Types) (meaning-grows old new g Types t.number h)
   told-grows (answer.Const t) h = ap (term Consts) (meaning-grows old new g Consts t.number h)
@@ -49,11 +28,7 @@ module _ (old new : List Row) (g : Grows old new) (are : AreRows old) where
   told-grows (answer.Predicate t) h = ap (term Predicates) (meaning-grows old new g Predicates t.number h)
   told-grows (answer.Clauses t) h = ap (term ClauseLists) (meaning-grows old new g ClauseLists t.number h)
   told-grows (answer.Args t) h = ap (term ArgLists) (meaning-grows old new g ArgLists t.number h)
-  told-grows (answer.Id s d) h =
-      let within = name-in-range old are d h.0 in
-      let same = declared_at-grows old new g d h.0 in
-      let text = ap text_of (meaning-grows old new g Symbols (declared_at old d).name.number within) in
-      rw (same, text) refl
+  told-grows (answer.Id s d) h = ap (declared s d.number) (meaning-grows old new g Declarations d.number h.0)
   told-grows (answer.Truth b) h = refl
   told-grows (answer.Info flags outer) h = refl
   told-grows (answer.Refused r) h = refl
@@ -132,19 +107,18 @@ module _ (s t : Setting) (full : s.full → t.full) (fewer : t.declarations ≤ 
   MayRefuse-wider e c r (unfit n u i) = unfit n u i
   MayRefuse-wider e c r (unsuited n h) = unsuited n h
 
-  Declares-wider : (e : List Told) (c : Call) (sort : DeclarationSort) (n : ℕ) (kind : DeclarationKind) (name : Name) → Declares s e c sort n kind name → Declares t e c sort n kind name
-  Declares-wider e (call.Declare d) sort n kind name h = record {
+  Declares-wider : (e : List Told) (c : Call) (sort : DeclarationSort) (n : ℕ) (u : Tree Depth) → Declares s e c sort n u → Declares t e c sort n u
+  Declares-wider e (call.Declare d) sort n u h = record {
     sorted = h.sorted;
     declares = h.declares;
-    called = h.called;
     new = let above = h.new in omega (arith, fewer);
     later = h.later;
   }
-  Declares-wider e _ sort n kind name h = absurd h
+  Declares-wider e _ sort n u h = absurd h
 
   pub IsAllowed-wider : (e : List Told) (c : Call) (u : Told) → IsAllowed s e c u → IsAllowed t e c u
   IsAllowed-wider e c (term table v) h = h
-  IsAllowed-wider e c (declared sort n kind name) h = (h.0, Declares-wider e c sort n kind name h.1)
+  IsAllowed-wider e c (declared sort n v) h = (h.0, Declares-wider e c sort n v h.1)
   IsAllowed-wider e c (truth b) h = h
   IsAllowed-wider e c (info flags outer) h = h
   IsAllowed-wider e c (refused r) h = MayRefuse-wider e c r h
@@ -190,12 +164,12 @@ ran-nothing terms = record { extends = Extends-refl terms; owned = tt; means = t
 
 -- a call after those that were answered, whatever they were
 pub ran-more : (start old new : Terms) (calls : List Call) (answers : List Answer) (c : Call) (a : Answer)
-    → Extends start old → AreOwned old.rows answers → AreRows old.rows → Extends old new
+    → Extends start old → AreOwned old.rows answers → Extends old new
     → IsAllowed (setting old new) (told_all old.rows answers) c (told new.rows a)
     → Means (setting start old) [] calls (told_all old.rows answers)
     → Means (setting start new) [] (calls ++ c ∷ []) (told_all new.rows (answers ++ a ∷ []))
-ran-more start old new calls answers c a x h are e k m =
-    let same = told_all-grows old.rows new.rows e.rows are answers h in
+ran-more start old new calls answers c a x h e k m =
+    let same = told_all-grows old.rows new.rows e.rows answers h in
     let more = size-grows start.rows old.rows x.rows Declarations in
     rw (map-append (told new.rows) answers (a ∷ []), same)
     (Means-append (setting start new) [] calls (told_all old.rows answers) c (told new.rows a)

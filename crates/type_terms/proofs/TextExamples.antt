@@ -1,9 +1,8 @@
 -- Terms and their texts, and terms that differ and have texts that differ.
-use Rattle.std.proofs.Common.{◌≡◌, ℕ, suc, zero, ◌+◌, List, [], ◌∷◌, Bool, true, false, refl}
+use Rattle.std.proofs.Common.{◌≡◌, ℕ, suc, zero, ◌+◌, Some, None, List, [], ◌∷◌, Bool, true, false, refl}
 use Rattle.std.specs.Prelude.{◌&&◌, codes}
 use Rattle.std.specs.Fmt.{digits}
 use Rattle.std.specs.Str.{bytes_eq}
-use Rattle.tt_index.specs.Abi.{abi_number}
 use Rattle.tt_index.specs.Text.{vid_text, region_vid_text}
 use Rattle.tt_index.specs.declared.numeric.IntTy.TheVariants as int
 use Rattle.tt_index.specs.declared.numeric.UintTy.TheVariants as uint
@@ -14,7 +13,7 @@ use Rattle.tt_index.specs.declared.qualifier.Safety.{Safety}
 use Rattle.tt_index.specs.declared.qualifier.Safety.TheVariants.{Safe, Unsafe}
 use Rattle.tt_index.specs.declared.qualifier.Mutability.TheVariants as mutability
 use Rattle.tt_kinds.specs.Declaration.{id_text}
-use Rattle.tt_kinds.specs.FnSig.{safety_bits, variadic_bits}
+use Rattle.tt_kinds.specs.FnSig.{packed}
 use Rattle.tt_kinds.specs.Id.{id_of}
 use Rattle.tt_kinds.specs.declared.alias.AliasTyKind.TheVariants as alias
 use Rattle.tt_kinds.specs.declared.bound.BoundTyKind.TheVariants as bound_ty
@@ -24,7 +23,7 @@ use Rattle.tt_kinds.specs.declared.predicate.BoundConstness.TheVariants as const
 use Rattle.tt_kinds.specs.declared.predicate_kind.AliasRelationDirection.TheVariants as direction
 use Rattle.tt_kinds.specs.declared.table.Table.TheVariants.{TypeLists, ConstLists, ArgLists, PatternLists, ExistentialLists}
 use Rattle.tt_kinds.specs.declared.ty_kind.InferTy.TheVariants as infer
-use Rattle.tt_kinds.specs.Label.{Name, region_sort, type_sort, const_sort, anonymous, printed, named, environment, VarKind, region_variable, type_variable, const_variable, static_region, erased_region, region_var, error_region, late_param_region, placeholder_region, TypeLabel, bool_type, char_type, int_type, uint_type, float_type, str_type, never_type, placeholder_type, infer_type, error_type, ref_type, raw_ptr_type, slice_type, tuple_type, fn_ptr_type, foreign_type, adt_type, array_type, pat_type, unsafe_binder_type, dynamic_type, closure_type, coroutine_closure_type, coroutine_type, coroutine_witness_type, alias_type, ConstLabel, infer_const, placeholder_const, unevaluated_const, leaf_const, branch_const, error_const, expr_const, range_pattern, or_pattern, not_null_pattern, RecordLabel, fn_sig_tys_record, unsafe_binder_record, trait_record, host_effect_record, region_outlives_record, type_outlives_record, projection_record, const_has_type_record, well_formed_record, const_evaluatable_record, unstable_feature_record, dyn_compatible_record, subtype_record, coerce_record, const_equate_record, ambiguous_record, normalizes_to_record, alias_relate_record, existential_trait_record, existential_projection_record, auto_trait_record, trait_ref_record, alias_term_record, alias_ty_record, fn_sig_record, param_env_record, type_label, const_label, pattern_label, predicate_label, existential_label, clause_list_label, list_label, record_label}
+use Rattle.tt_kinds.specs.Label.{Name, region_sort, type_sort, const_sort, anonymous, printed, named, environment, VarKind, region_variable, type_variable, const_variable, static_region, erased_region, region_var, error_region, late_param_region, placeholder_region, TypeLabel, bool_type, char_type, int_type, uint_type, float_type, str_type, never_type, placeholder_type, infer_type, error_type, ref_type, raw_ptr_type, slice_type, tuple_type, fn_ptr_type, foreign_type, adt_type, fn_def_type, array_type, pat_type, unsafe_binder_type, dynamic_type, closure_type, coroutine_closure_type, coroutine_type, coroutine_witness_type, alias_type, ConstLabel, infer_const, placeholder_const, unevaluated_const, leaf_const, branch_const, error_const, expr_const, range_pattern, or_pattern, not_null_pattern, RecordLabel, fn_sig_tys_record, unsafe_binder_record, trait_record, host_effect_record, region_outlives_record, type_outlives_record, projection_record, const_has_type_record, well_formed_record, const_evaluatable_record, unstable_feature_record, dyn_compatible_record, subtype_record, coerce_record, const_equate_record, ambiguous_record, normalizes_to_record, alias_relate_record, existential_trait_record, existential_projection_record, auto_trait_record, trait_ref_record, alias_term_record, alias_ty_record, fn_sig_record, param_env_record, type_label, const_label, pattern_label, predicate_label, existential_label, clause_list_label, list_label, record_label}
 use Rattle.tt_kinds.specs.Tree.{Depth, at, canonical, Tree, param, bound, region, term, node, binder, Forest, none, also}
 use Rattle.type_terms.specs.Text.{text}
 
@@ -159,7 +158,7 @@ lists = refl
 
 -- what a function is besides its types
 abbrev made : ExternAbi → Safety → Bool → FnSigKind
-made convention safety variadic = record { flags = abi_number convention + safety_bits safety + variadic_bits variadic }
+made convention safety variadic = packed convention safety variadic None
 
 -- a function pointer of these types, under a binder of these variables
 abbrev pointer : List (VarKind Name) → FnSigKind → Forest Depth → Tree Depth
@@ -168,11 +167,19 @@ pointer vs kind ts = ty (fn_ptr_type (record { fn_sig_kind = kind })) (one (bind
 functions : AreWritten (
     (pointer [] (made abi.Rust Safe false) (two parameter (ty tuple_type (one (types (two u32 parameter))))), codes "fn(T) -> (u32, T)")
     ∷ (pointer [] (made abi.Rust Safe false) (three parameter u32 never), codes "fn(T, u32) -> !")
+    ∷ (pointer [] (packed (abi.C false) Unsafe false (Some 0)) (two parameter u32), codes "unsafe extern \"C\" splat(0) fn(T) -> u32")
+    ∷ (pointer [] (packed abi.Rust Safe false (Some 65534)) (two parameter u32), codes "splat(65534) fn(T) -> u32")
     ∷ (pointer [] (made (abi.C false) Unsafe true) (one never), codes "unsafe extern \"C\" fn(...) -> !")
     ∷ (pointer [] (made (abi.C false) Unsafe true) (two parameter never), codes "unsafe extern \"C\" fn(T, ...) -> !")
     ∷ (pointer [] (made (abi.System true) Safe false) (two never never), codes "extern \"system-unwind\" fn(!) -> !")
     ∷ [])
+unfolding digits
 functions = refl
+
+-- pointers that differ in the splatted argument alone
+splatted_apart : AreToldApart (pointer [] (made abi.Rust Safe false) (one u32)) (pointer [] (packed abi.Rust Safe false (Some 0)) (one u32))
+unfolding digits
+splatted_apart = refl
 
 -- the function pointer from `u32` to `usize`, under a binder of these variables
 abbrev quantified : List (VarKind Name) → Tree Depth
@@ -196,6 +203,7 @@ variables_apart = refl
 
 items : AreWritten (
     (ty (adt_type 0) (one (args none)), codes "Vec")
+    ∷ (ty (fn_def_type 0) (one (args (one parameter))), codes "Vec<T>")
     ∷ (ty (adt_type 0) (one (args (two parameter lifetime))), codes "Vec<T, 'a>")
     ∷ (ty (foreign_type 0) none, codes "Vec")
     ∷ (ty (closure_type 3) (one (args none)), codes "{closure Item}")

@@ -9,15 +9,22 @@ use Rattle.tt_kinds.specs.Reading.{outer_binder}
 use Rattle.tt_kinds.specs.Bound.{region_name, var_kind}
 use Rattle.tt_kinds.specs.Shape.{Shape, Shapes, name_of, rename_region, rename_kind, IsNamed, IsNamedKind, AreNamedKinds, fill, fill_all, item_shapes, IsPart, AreParts, HasParts}
 use Rattle.tt_kinds.specs.Shape as shape
-use Rattle.tt_kinds.specs.Kinds.{RecordForm, record_shape, region_shape, arg_shape, clause_shape}
+use Rattle.tt_kinds.specs.Kinds.{RecordForm, record_shape, region_shape, arg_shape, clause_shape, tys_shape}
+use Rattle.tt_kinds.specs.Declaration.{sort_of}
+use Rattle.tt_kinds.specs.Values.{declared_shapes, item_label}
 use Rattle.tt_kinds.specs.Handle.{Clause}
 use Rattle.tt_kinds.specs.declared.region_kind.RegionKind.{RegionKind}
 use Rattle.tt_kinds.specs.declared.bound.BoundRegionKind.{BoundRegionKind}
 use Rattle.tt_kinds.specs.declared.bound.BoundVariableKind.{BoundVariableKind}
 use Rattle.tt_kinds.specs.Handle.{BoundVarKinds}
+use Rattle.tt_kinds.specs.declared.binder.Binder.{Binder}
+use Rattle.tt_kinds.specs.declared.binder.EarlyBinder.{EarlyBinder}
+use Rattle.tt_kinds.specs.declared.declaration.DeclarationKind.{DeclarationKind}
 use Rattle.tt_kinds.specs.declared.declaration.DeclarationSort.{DeclarationSort}
+use Rattle.tt_kinds.specs.declared.fn_sig.FnSig.{FnSig}
+use Rattle.tt_kinds.specs.declared.fn_sig.FnSigKind.{FnSigKind}
 use Rattle.tt_kinds.specs.declared.table.Table.{Table}
-use Rattle.tt_kinds.specs.declared.table.Table.TheVariants.{VarLists}
+use Rattle.tt_kinds.specs.declared.table.Table.TheVariants.{Types, TypeLists, VarLists}
 use Rattle.tt_interner.specs.Rows.{Row, size, meaning, AreClauses}
 use Rattle.tt_interner.specs.Stored.{Terms}
 use Rattle.type_terms.specs.declared.run.answer.Answer.{Answer}
@@ -25,13 +32,14 @@ use Rattle.type_terms.specs.declared.run.answer.Answer.TheVariants as answer
 use Rattle.type_terms.specs.declared.run.call.RegionNameCall.{RegionNameCall}
 use Rattle.type_terms.specs.declared.run.call.VariableCall.{VariableCall}
 use Rattle.type_terms.specs.declared.run.call.ArgCall.{ArgCall}
+use Rattle.type_terms.specs.declared.run.call.DeclarationKindCall.{DeclarationKindCall}
 use Rattle.type_terms.specs.declared.run.call.Call.{Call}
 use Rattle.tt_binder.specs.Arguments.{argument_of}
 use Rattle.tt_binder.specs.Arguments.{arguments as built_arguments}
 use Rattle.tt_kinds.specs.declared.generic_arg.GenericArgKind.{GenericArgKind}
 use Rattle.std.specs.declared.alloc.Global.{Global}
 use Rattle.std.specs.declared.vec.Vec.{Vec}
-use Rattle.type_terms.specs.CallForm.{of_id, CallForm, Named, Item, Part, called, variable_kind, item_tree, items_trees, part_tree, parts_trees, item_positions, items_positions, part_positions, parts_positions, IsItemTooDeep, AreItemsTooDeep, IsPartTooDeep, ArePartsTooDeep, form_positions, form_tree, IsFormTooDeep, arg_item, arg_items, clause_items, RecordCall, record_tree}
+use Rattle.type_terms.specs.CallForm.{a_list, terms_at, declared_sort, declared_item, declared_trees, declared_positions, of_id, CallForm, Named, Item, Part, called, variable_kind, item_tree, items_trees, part_tree, parts_trees, item_positions, items_positions, part_positions, parts_positions, IsItemTooDeep, AreItemsTooDeep, IsPartTooDeep, ArePartsTooDeep, form_positions, form_tree, IsFormTooDeep, arg_item, arg_items, clause_items, RecordCall, record_tree}
 use Rattle.type_terms.specs.Told.{Told, term, told, told_all, handle_table, IsOwned, AreOwned, HasFullTable, setting}
 use Rattle.type_terms.specs.Means.{IsUnchanged, as_term, term_at, as_id, id_at, number_at, Tells, tree_at, argument, arguments, AreTerms, IsAllowed, MayRefuse}
 
@@ -243,6 +251,30 @@ pub record AreArgumentsOf (terms : Terms) (earlier : List Told) (calls : List Ar
 pub record GivesArguments (terms : Terms) (earlier : List Told) (calls : List ArgCall) (result : Result (Vec GenericArgKind Global) Refusal) : Type 0 where
   pub ok : IfOk result (λ args. AreArgumentsOf terms earlier calls args.items)
   pub err : IfErr result (IsUnbuilt (HasFullTable terms) earlier (items_positions (arg_items calls)) (AreItemsTooDeep (arg_items calls)))
+
+-- what is declared is what the call says
+pub record IsDeclaredBy (terms : Terms) (earlier : List Told) (call : DeclarationKindCall) (kind : DeclarationKind) : Type 0 where
+  pub sorted : sort_of kind ≡ declared_sort call
+  pub item : item_label kind ≡ declared_item (number_at earlier) call
+  pub parts : AreParts (size terms.rows) (declared_shapes kind)
+  pub means : fill_all (meaning terms.rows) (declared_shapes kind) ≡ declared_trees (number_at earlier) (tree_at earlier) call
+  pub named : AreTerms earlier (declared_positions call)
+
+-- the result is that, or a refusal with a reason
+pub record GivesDeclared (terms : Terms) (earlier : List Told) (call : DeclarationKindCall) (result : Result DeclarationKind Refusal) : Type 0 where
+  pub ok : IfOk result (IsDeclaredBy terms earlier call)
+  pub err : IfErr result (IsUnbuilt (HasFullTable terms) earlier (declared_positions call) ⊥)
+
+-- the signature has these variables, the types at the positions, and these other parts
+pub record IsSigOf (terms : Terms) (earlier : List Told) (vars : List VariableCall) (positions : List ℕ) (kind : FnSigKind) (sig : EarlyBinder (Binder FnSig)) : Type 0 where
+  pub variables : IsVariableListOf terms (number_at earlier) vars sig.value.bound_vars
+  pub types : IsPartOf terms earlier (a_list TypeLists (terms_at Types positions)) (tys_shape sig.value.value.inputs_and_output)
+  pub other : sig.value.value.fn_sig_kind ≡ kind
+
+-- the result is that signature, or a refusal with a reason
+pub record GivesSig (terms : Terms) (earlier : List Told) (vars : List VariableCall) (positions : List ℕ) (kind : FnSigKind) (result : Result (EarlyBinder (Binder FnSig)) Refusal) : Type 0 where
+  pub ok : IfOk result (IsSigOf terms earlier vars positions kind)
+  pub err : IfErr result (IsUnbuilt (HasFullTable terms) earlier (part_positions (a_list TypeLists (terms_at Types positions))) ⊥)
 
 -- the result may be the call's answer, if the terms grow from the old ones to the new ones
 pub record Answers (old new : Terms) (earlier : List Told) (call : Call) (result : Result Answer Refusal) : Type 0 where

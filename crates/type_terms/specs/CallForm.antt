@@ -1,7 +1,7 @@
 -- What building calls build: the tree over the trees and the ids at the positions that they name, and what they ask of what is there.
 use Rattle.std.specs.Prelude.{ℕ, ◌≤◌, List, [], ◌∷◌, ◌++◌, map, length, All, ◌⊎◌, ⊤, Option, Some, None}
 use Rattle.std.specs.String.{string_bytes}
-use Rattle.tt_kinds.specs.Label.{Name, Sort, region_sort, type_sort, const_sort, RegionName, anonymous, printed, named, environment, VarKind, region_variable, type_variable, const_variable, Entry, static_region, erased_region, region_var, error_region, late_param_region, placeholder_region, TypeLabel, bool_type, char_type, int_type, uint_type, float_type, str_type, never_type, placeholder_type, infer_type, error_type, ref_type, raw_ptr_type, slice_type, tuple_type, fn_ptr_type, foreign_type, adt_type, array_type, closure_type, coroutine_closure_type, coroutine_type, coroutine_witness_type, alias_type, infer_const, placeholder_const, unevaluated_const, leaf_const, branch_const, error_const, expr_const, pat_type, unsafe_binder_type, range_pattern, or_pattern, not_null_pattern, unsafe_binder_record, trait_record, host_effect_record, region_outlives_record, type_outlives_record, projection_record, const_has_type_record, well_formed_record, const_evaluatable_record, unstable_feature_record, dyn_compatible_record, subtype_record, coerce_record, const_equate_record, ambiguous_record, normalizes_to_record, alias_relate_record, dynamic_type, existential_trait_record, existential_projection_record, auto_trait_record, RecordLabel, fn_sig_tys_record, Label, type_label, const_label, pattern_label, predicate_label, existential_label, clause_list_label, list_label, record_label}
+use Rattle.tt_kinds.specs.Label.{Name, Sort, region_sort, type_sort, const_sort, RegionName, anonymous, printed, named, environment, VarKind, region_variable, type_variable, const_variable, Entry, static_region, erased_region, region_var, error_region, late_param_region, placeholder_region, TypeLabel, bool_type, char_type, int_type, uint_type, float_type, str_type, never_type, placeholder_type, infer_type, error_type, ref_type, raw_ptr_type, slice_type, tuple_type, fn_ptr_type, foreign_type, adt_type, fn_def_type, array_type, closure_type, coroutine_closure_type, coroutine_type, coroutine_witness_type, alias_type, infer_const, placeholder_const, unevaluated_const, leaf_const, branch_const, error_const, expr_const, pat_type, unsafe_binder_type, range_pattern, or_pattern, not_null_pattern, unsafe_binder_record, trait_record, host_effect_record, region_outlives_record, type_outlives_record, projection_record, const_has_type_record, well_formed_record, const_evaluatable_record, unstable_feature_record, dyn_compatible_record, subtype_record, coerce_record, const_equate_record, ambiguous_record, normalizes_to_record, alias_relate_record, dynamic_type, existential_trait_record, existential_projection_record, auto_trait_record, RecordLabel, fn_sig_tys_record, Label, type_label, const_label, pattern_label, predicate_label, existential_label, clause_list_label, list_label, record_label, var_list_label, declaration_label, ItemLabel, trait_item, assoc_ty_item, inherent_item, fn_item, plain_item}
 use Rattle.tt_kinds.specs.Tree as tree
 use Rattle.tt_kinds.specs.Tree.{Depth, Tree, Forest, none, also}
 use Rattle.tt_kinds.specs.Bound.{depth}
@@ -44,10 +44,9 @@ use Rattle.type_terms.specs.declared.run.call.PredicateCall.{PredicateCall}
 use Rattle.type_terms.specs.declared.run.call.ExistentialKindCall.{ExistentialKindCall}
 use Rattle.type_terms.specs.declared.run.call.ExistentialKindCall.TheVariants as existential
 use Rattle.type_terms.specs.declared.run.call.ExistentialCall.{ExistentialCall}
+use Rattle.type_terms.specs.declared.run.call.DeclareCall.{DeclareCall}
 use Rattle.type_terms.specs.declared.run.call.DeclarationKindCall.{DeclarationKindCall}
 use Rattle.type_terms.specs.declared.run.call.DeclarationKindCall.TheVariants as declares
-use Rattle.tt_kinds.specs.declared.declaration.DeclarationKind.{DeclarationKind}
-use Rattle.tt_kinds.specs.declared.declaration.DeclarationKind.TheVariants as kind
 use Rattle.tt_kinds.specs.declared.declaration.DeclarationSort.{DeclarationSort}
 use Rattle.tt_kinds.specs.declared.declaration.DeclarationSort.TheVariants as sort
 use Rattle.type_terms.specs.declared.run.call.TyCall.{TyCall}
@@ -219,6 +218,7 @@ module _ (ids : ℕ → ℕ) where
   -- the item of a type with arguments
   abbrev pub item_type : ItemCall → TypeLabel
   item_type (item.Adt p) = adt_type (ids p)
+  item_type (item.FnDef p) = fn_def_type (ids p)
   item_type (item.Closure p) = closure_type (ids p)
   item_type (item.CoroutineClosure p) = coroutine_closure_type (ids p)
   item_type (item.Coroutine p) = coroutine_type (ids p)
@@ -463,6 +463,7 @@ alias_ids (alias.Free p) = an_id sort.Free p
 -- the position of the id that an item names
 abbrev pub item_ids : ItemCall → List Named
 item_ids (item.Adt p) = an_id sort.Adt p
+item_ids (item.FnDef p) = an_id sort.Fn p
 item_ids (item.Closure p) = an_id sort.Closure p
 item_ids (item.CoroutineClosure p) = an_id sort.CoroutineClosure p
 item_ids (item.Coroutine p) = an_id sort.Coroutine p
@@ -528,6 +529,7 @@ declared_sort (declares.AssocTy p) = sort.AssocTy
 declared_sort declares.Impl = sort.Impl
 declared_sort (declares.Inherent p) = sort.Inherent
 declared_sort declares.Adt = sort.Adt
+declared_sort (declares.Fn vars ts kind) = sort.Fn
 declared_sort declares.Opaque = sort.Opaque
 declared_sort declares.Free = sort.Free
 declared_sort declares.Foreign = sort.Foreign
@@ -537,26 +539,29 @@ declared_sort declares.Coroutine = sort.Coroutine
 declared_sort declares.Const = sort.Const
 declared_sort declares.Param = sort.Param
 
--- what a call declares, if these are the numbers of the ids at positions
-abbrev pub declared_kind : (ℕ → ℕ) → DeclarationKindCall → DeclarationKind
-declared_kind ids (declares.Trait params) = kind.Trait params
-declared_kind ids (declares.AssocTy p) = kind.AssocTy (id_of (ids p))
-declared_kind ids declares.Impl = kind.Impl
-declared_kind ids (declares.Inherent p) = kind.Inherent (id_of (ids p))
-declared_kind ids declares.Adt = kind.Adt
-declared_kind ids declares.Opaque = kind.Opaque
-declared_kind ids declares.Free = kind.Free
-declared_kind ids declares.Foreign = kind.Foreign
-declared_kind ids declares.Closure = kind.Closure
-declared_kind ids declares.CoroutineClosure = kind.CoroutineClosure
-declared_kind ids declares.Coroutine = kind.Coroutine
-declared_kind ids declares.Const = kind.Const
-declared_kind ids declares.Param = kind.Param
+-- what a call declares, without the terms in it: each id by its number
+abbrev pub declared_item : (ℕ → ℕ) → DeclarationKindCall → ItemLabel
+declared_item ids (declares.Trait params) = trait_item params
+declared_item ids (declares.AssocTy p) = assoc_ty_item (ids p)
+declared_item ids (declares.Inherent p) = inherent_item (ids p)
+declared_item ids (declares.Fn vars ts kind) = fn_item kind
+declared_item ids k = plain_item (declared_sort k)
 
--- the position of the trait or the implementation that a declaration names
+-- what the call declares has no terms
+abbrev pub HasNoTerms : DeclarationKindCall → Type 0
+HasNoTerms (declares.Fn vars ts kind) = ⊥
+HasNoTerms _ = ⊤
+
+-- the positions of ids that the variables of a function's signature name
+abbrev pub declared_ids : DeclarationKindCall → List Named
+declared_ids (declares.Fn vars ts kind) = variables_ids vars.items
+declared_ids _ = []
+
+-- the positions that a declaration names: its trait, its implementation, or the types of its signature
 abbrev pub declared_positions : DeclarationKindCall → List Named
 declared_positions (declares.AssocTy p) = record { want = of_id sort.Trait; position = p } ∷ []
 declared_positions (declares.Inherent p) = record { want = of_id sort.Impl; position = p } ∷ []
+declared_positions (declares.Fn vars ts kind) = part_positions (a_list TypeLists (terms_at Types ts.items))
 declared_positions _ = []
 
 -- the trees of a list, in order
@@ -580,6 +585,16 @@ module _ (ids : ℕ → ℕ) (at : ℕ → Tree Depth) where
   abbrev pub part_tree : Part → Tree Depth
   part_tree (one i) = item_tree i
   part_tree (a_list t is) = tree.node (list_label t) (items_trees is)
+
+  -- the trees of the terms in what a call declares: a function's variables, and its types
+  abbrev pub declared_trees : DeclarationKindCall → Forest Depth
+  declared_trees (declares.Fn vars ts kind) =
+      also (tree.node (var_list_label (map (variable_kind ids) vars.items)) none) (also (part_tree (a_list TypeLists (terms_at Types ts.items))) none)
+  declared_trees _ = none
+
+  -- the tree of the declaration that a call makes, with its place among the declarations
+  abbrev pub declaration_tree : ℕ → DeclareCall → Tree Depth
+  declaration_tree n d = tree.node (declaration_label n (declared_item ids d.kind) (string_bytes d.name)) (declared_trees d.kind)
 
   -- the trees of children, in order
   abbrev pub parts_trees : List Part → Forest Depth

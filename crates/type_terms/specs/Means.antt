@@ -1,9 +1,8 @@
 -- The answers that a list of calls may have. Nothing is looked up in a table: each handle is replaced by its tree.
 use Rattle.std.specs.Prelude.{◌≡◌, ◌≢◌, ◌↔◌, ◌⊎◌, ℕ, ◌<◌, ◌≤◌, suc, zero, Bool, false, IsTrue, List, [], ◌∷◌, ◌++◌, map, Option, Some, None, IsSomeAnd, slice_get, length, ⊤}
-use Rattle.std.specs.String.{string_bytes}
 use Rattle.tt_index.specs.declared.refusal.Refusal.{Refusal}
 use Rattle.tt_index.specs.declared.refusal.Refusal.TheVariants.{Memory, TableFull, GreatestIndex, NoSuchAnswer}
-use Rattle.tt_kinds.specs.Label.{Name, Sort, region_sort, type_sort, const_sort, erased_region}
+use Rattle.tt_kinds.specs.Label.{Sort, region_sort, type_sort, const_sort, erased_region}
 use Rattle.tt_kinds.specs.Tree as tree
 use Rattle.tt_kinds.specs.Tree.{Depth, Place, Tree}
 use Rattle.tt_kinds.specs.Reading.{read, move, outer_binder, Fits}
@@ -12,7 +11,6 @@ use Rattle.tt_kinds.specs.Scan.{scan}
 use Rattle.tt_kinds.specs.Cause.{Cause}
 use Rattle.tt_kinds.specs.Met.{met, placed}
 use Rattle.tt_kinds.specs.Param.{holds_param}
-use Rattle.tt_kinds.specs.declared.declaration.DeclarationKind.{DeclarationKind}
 use Rattle.tt_kinds.specs.declared.declaration.DeclarationSort.{DeclarationSort}
 use Rattle.tt_kinds.specs.declared.table.Table.{Table}
 use Rattle.tt_kinds.specs.declared.table.Table.TheVariants.{Types, Consts, Patterns, Predicates, ClauseLists, ArgLists}
@@ -25,7 +23,7 @@ use Rattle.type_terms.specs.declared.run.call.ArgCall.TheVariants as arg
 use Rattle.type_terms.specs.declared.run.call.Call.{Call}
 use Rattle.type_terms.specs.declared.run.call.DeclareCall.{DeclareCall}
 use Rattle.type_terms.specs.declared.run.call.Call.TheVariants as call
-use Rattle.type_terms.specs.CallForm.{CallForm, IsShort, IsOfShortLists, form_tree, Want, of_table, of_clause, as_at, of_any, with_flags, of_id, of_any_id, Named, arg_items, args_part, args_ids, ty_ids, const_ids, predicate_ids, ty_form, const_form, pat_form, predicate_form, declared_sort, declared_kind, declared_positions, clause_items, clauses_tree, form_positions, items_positions, part_positions, part_tree, region_tree, IsFormTooDeep, IsPartTooDeep, AreItemsTooDeep}
+use Rattle.type_terms.specs.CallForm.{CallForm, IsShort, IsOfShortLists, form_tree, Want, of_table, of_clause, as_at, of_any, with_flags, of_id, of_any_id, Named, arg_items, args_part, args_ids, ty_ids, const_ids, predicate_ids, ty_form, const_form, pat_form, predicate_form, declared_sort, declared_ids, declared_positions, declaration_tree, clause_items, clauses_tree, form_positions, items_positions, part_positions, part_tree, region_tree, IsFormTooDeep, IsPartTooDeep, AreItemsTooDeep}
 use Rattle.type_terms.specs.Told.{Setting, Told, term, declared, truth, info, refused, bad}
 
 -- a term with its table
@@ -50,7 +48,7 @@ pub record Id : Type 0 where
 
 -- the id that was told
 abbrev pub as_id : Option Told → Option Id
-as_id (Some (declared s n k name)) = Some (record { sort = s; number = n })
+as_id (Some (declared s n t)) = Some (record { sort = s; number = n })
 as_id _ = None
 
 -- the id at a position, counted from 1
@@ -89,12 +87,13 @@ table_at earlier p = table_of (term_at earlier p)
 abbrev pub any : ℕ → Named
 any p = record { want = of_any; position = p }
 
--- the positions of ids that a call names, except for a call that declares
+-- the positions of ids that a call names, except for the one in which a call declares something
 abbrev pub id_positions : Call → List Named
 id_positions (call.Ty k) = ty_ids k
 id_positions (call.Const k) = const_ids k
 id_positions (call.Predicate k) = predicate_ids k
 id_positions (call.Args args) = args_ids args.items
+id_positions (call.Declare d) = declared_ids d.kind
 id_positions (call.Instantiate p args) = args_ids args.items
 id_positions _ = []
 
@@ -106,7 +105,7 @@ positions earlier (call.Pat k) = form_positions (pat_form k)
 positions earlier (call.Predicate k) = predicate_ids k ++ form_positions (predicate_form (number_at earlier) k)
 positions earlier (call.Clauses ps) = items_positions (clause_items ps.items)
 positions earlier (call.Args args) = args_ids args.items ++ part_positions (args_part args.items)
-positions earlier (call.Declare d) = declared_positions d.kind
+positions earlier (call.Declare d) = declared_ids d.kind ++ declared_positions d.kind
 positions earlier (call.Shift p n) = any p ∷ []
 positions earlier (call.EraseRegions p) = any p ∷ []
 positions earlier (call.Instantiate p args) = any p ∷ (args_ids args.items ++ items_positions (arg_items args.items))
@@ -284,28 +283,27 @@ GivesInfo earlier _ flags outer = ⊥
 -- the number is above each id that was told
 abbrev pub IsAbove : List Told → ℕ → Type 0
 IsAbove [] n = ⊤
-IsAbove (declared s m k name ∷ ts) n = (m < n) × IsAbove ts n
+IsAbove (declared s m t ∷ ts) n = (m < n) × IsAbove ts n
 IsAbove (t ∷ ts) n = IsAbove ts n
 
--- the id is new, and names the declaration that the call makes: its sort, kind and name
-pub record GivesId (s : Setting) (earlier : List Told) (call : DeclareCall) (sort : DeclarationSort) (n : ℕ) (kind : DeclarationKind) (name : Name) : Type 0 where
+-- the id is new, and names the declaration that the call makes: its sort and its tree
+pub record GivesId (s : Setting) (earlier : List Told) (call : DeclareCall) (sort : DeclarationSort) (n : ℕ) (t : Tree Depth) : Type 0 where
   pub sorted : sort ≡ declared_sort call.kind
-  pub declares : kind ≡ declared_kind (number_at earlier) call.kind
-  pub called : name ≡ string_bytes call.name
+  pub declares : t ≡ declaration_tree (number_at earlier) (tree_at earlier) n call
   -- no declaration that was there before the calls has its number, and none that was told
   pub new : s.declarations ≤ n
   pub later : IsAbove earlier n
 
 -- the call declares, and the id names its declaration
-abbrev pub Declares : Setting → List Told → Call → DeclarationSort → ℕ → DeclarationKind → Name → Type 0
-Declares s earlier (call.Declare d) sort n kind name = GivesId s earlier d sort n kind name
-Declares s earlier _ sort n kind name = ⊥
+abbrev pub Declares : Setting → List Told → Call → DeclarationSort → ℕ → Tree Depth → Type 0
+Declares s earlier (call.Declare d) sort n t = GivesId s earlier d sort n t
+Declares s earlier _ sort n t = ⊥
 
 -- the call may have this answer after what was told earlier
 abbrev pub IsAllowed : Setting → List Told → Call → Told → Type 0
 IsAllowed s earlier c (term table t) =
     NamesTerms earlier c × (IsTooDeep earlier c → ⊥) × (given_table earlier c ≡ Some table) × Gives earlier c t × ((r : Refusal) → HasCause earlier c r → ⊥)
-IsAllowed s earlier c (declared sort n kind name) = NamesTerms earlier c × Declares s earlier c sort n kind name
+IsAllowed s earlier c (declared sort n t) = NamesTerms earlier c × Declares s earlier c sort n t
 IsAllowed s earlier c (truth b) = NamesTerms earlier c × GivesTruth earlier c b
 IsAllowed s earlier c (info flags outer) = NamesTerms earlier c × GivesInfo earlier c flags outer
 IsAllowed s earlier c (refused r) = MayRefuse s earlier c r

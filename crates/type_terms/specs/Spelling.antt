@@ -7,7 +7,7 @@ use Rattle.tt_kinds.specs.Shape.{Shape, Sizes, Meaning, name_of, vars_of}
 use Rattle.tt_kinds.specs.Tree.{Depth, Forest, count_trees}
 use Rattle.tt_kinds.specs.declared.table.Table.TheVariants.{Symbols, VarLists}
 use Rattle.tt_kinds.specs.Handle.{BoundVarKinds}
-use Rattle.type_terms.specs.Text.{Subject, nothing, words, numbered, paired, sized, item, called, Head, no_head, with_word, record_head, head_in, bound_head, free_head, record_style, style_in, closing, head_text, variables_text, texts}
+use Rattle.type_terms.specs.Text.{Subject, nothing, words, convention, numbered, paired, sized, item, called, Head, no_head, with_word, record_head, head_in, bound_head, free_head, record_style, style_in, closing, head_text, variables_text, texts}
 use Rattle.type_terms.specs.declared.ir_print.layout.Style.{Style}
 use Rattle.type_terms.specs.declared.ir_print.layout.Style.TheVariants as style
 use Rattle.type_terms.specs.declared.ir_print.spelling.Subject.{Subject as SpelledSubject}
@@ -18,6 +18,7 @@ use Rattle.type_terms.specs.declared.ir_print.spelling.Spelling.{Spelling}
 abbrev pub subject_of : SpelledSubject → Subject ℕ
 subject_of spelled.Nothing = nothing
 subject_of (spelled.Words w) = words w.now
+subject_of (spelled.Convention w i) = convention w.now i
 subject_of (spelled.Numbered n) = numbered n
 subject_of (spelled.Counted n) = numbered n
 subject_of (spelled.Paired m n) = paired m n
@@ -55,6 +56,7 @@ module _ {N M : Type 0} (name : N → M) where
   abbrev pub rename_subject : Subject N → Subject M
   rename_subject nothing = nothing
   rename_subject (words w) = words w
+  rename_subject (convention w i) = convention w i
   rename_subject (numbered n) = numbered n
   rename_subject (paired m n) = paired m n
   rename_subject (sized m n) = sized m n

@@ -1,5 +1,5 @@
 -- The texts of terms. Each is made from the term's tree: the node's head, then its children in order with separators between them, then its end.
-use Rattle.std.specs.Prelude.{ℕ, zero, suc, ◌+◌, ◌==◌, Bool, true, false, ◌||◌, nat_lt, if◌then◌else◌, List, [], ◌∷◌, ◌++◌, codes, decimal, ◌≡◌, Result, OnOk}
+use Rattle.std.specs.Prelude.{ℕ, zero, suc, Bool, true, false, nat_lt, if◌then◌else◌, Option, None, Some, List, [], ◌∷◌, ◌++◌, codes, decimal, ◌≡◌, Result, OnOk}
 use Rattle.tt_index.specs.declared.numeric.IntTy.{IntTy}
 use Rattle.tt_index.specs.declared.numeric.IntTy.TheVariants as int
 use Rattle.tt_index.specs.declared.numeric.UintTy.{UintTy}
@@ -12,8 +12,7 @@ use Rattle.tt_index.specs.declared.qualifier.Safety.{Safety}
 use Rattle.tt_index.specs.declared.qualifier.Safety.TheVariants.{Safe, Unsafe}
 use Rattle.tt_index.specs.declared.qualifier.Mutability.{Mutability}
 use Rattle.tt_index.specs.declared.qualifier.Mutability.TheVariants.{Not, Mut}
-use Rattle.tt_index.specs.Abi.{abi_number}
-use Rattle.tt_kinds.specs.FnSig.{safety_bits, variadic_bits}
+use Rattle.tt_kinds.specs.FnSig.{abi_in, safety_in, is_variadic_in, splat_in}
 use Rattle.tt_kinds.specs.declared.fn_sig.FnSigKind.{FnSigKind}
 use Rattle.tt_kinds.specs.declared.bound.BoundTyKind.{BoundTyKind}
 use Rattle.tt_kinds.specs.declared.bound.BoundTyKind.TheVariants as bound_ty
@@ -29,7 +28,7 @@ use Rattle.tt_kinds.specs.declared.predicate_kind.AliasRelationDirection.TheVari
 use Rattle.tt_kinds.specs.declared.table.Table.TheVariants.{Declarations}
 use Rattle.tt_kinds.specs.declared.declaration.DeclarationKind.{DeclarationKind}
 use Rattle.tt_kinds.specs.declared.declaration.DeclarationKind.TheVariants as declaration
-use Rattle.tt_kinds.specs.Label.{Name, Sort, region_sort, type_sort, const_sort, RegionName, anonymous, printed, named, environment, VarKind, region_variable, type_variable, const_variable, FreeRegion, static_region, erased_region, region_var, error_region, late_param_region, placeholder_region, TypeLabel, bool_type, char_type, int_type, uint_type, float_type, str_type, never_type, placeholder_type, infer_type, error_type, ref_type, raw_ptr_type, slice_type, tuple_type, fn_ptr_type, foreign_type, adt_type, array_type, pat_type, unsafe_binder_type, dynamic_type, closure_type, coroutine_closure_type, coroutine_type, coroutine_witness_type, alias_type, ConstLabel, infer_const, placeholder_const, unevaluated_const, leaf_const, branch_const, error_const, expr_const, PatternLabel, range_pattern, or_pattern, not_null_pattern, RecordLabel, fn_sig_tys_record, unsafe_binder_record, trait_record, host_effect_record, region_outlives_record, type_outlives_record, projection_record, const_has_type_record, well_formed_record, const_evaluatable_record, unstable_feature_record, dyn_compatible_record, subtype_record, coerce_record, const_equate_record, ambiguous_record, normalizes_to_record, alias_relate_record, existential_trait_record, existential_projection_record, auto_trait_record, trait_ref_record, alias_term_record, alias_ty_record, fn_sig_record, param_env_record, Label, type_label, const_label, pattern_label, clause_list_label, list_label, record_label}
+use Rattle.tt_kinds.specs.Label.{Name, Sort, region_sort, type_sort, const_sort, RegionName, anonymous, printed, named, environment, VarKind, region_variable, type_variable, const_variable, FreeRegion, static_region, erased_region, region_var, error_region, late_param_region, placeholder_region, TypeLabel, bool_type, char_type, int_type, uint_type, float_type, str_type, never_type, placeholder_type, infer_type, error_type, ref_type, raw_ptr_type, slice_type, tuple_type, fn_ptr_type, foreign_type, adt_type, fn_def_type, array_type, pat_type, unsafe_binder_type, dynamic_type, closure_type, coroutine_closure_type, coroutine_type, coroutine_witness_type, alias_type, ConstLabel, infer_const, placeholder_const, unevaluated_const, leaf_const, branch_const, error_const, expr_const, PatternLabel, range_pattern, or_pattern, not_null_pattern, RecordLabel, fn_sig_tys_record, unsafe_binder_record, trait_record, host_effect_record, region_outlives_record, type_outlives_record, projection_record, const_has_type_record, well_formed_record, const_evaluatable_record, unstable_feature_record, dyn_compatible_record, subtype_record, coerce_record, const_equate_record, ambiguous_record, normalizes_to_record, alias_relate_record, existential_trait_record, existential_projection_record, auto_trait_record, trait_ref_record, alias_term_record, alias_ty_record, fn_sig_record, param_env_record, Label, type_label, const_label, pattern_label, clause_list_label, list_label, record_label}
 use Rattle.tt_kinds.specs.Tree.{Depth, at, canonical, Tree, Forest, param, bound, region, term, node, binder, none, also, count_trees}
 use Rattle.tt_kinds.specs.Shape.{name_of}
 use Rattle.tt_interner.specs.Rows.{Row, size, meaning}
@@ -41,6 +40,8 @@ use Rattle.type_terms.specs.declared.ir_print.layout.Style.TheVariants as style
 pub data Subject (N : Type 0) : Type 0 where
   nothing : Subject N
   words : List ℕ → Subject N
+  -- the words of a calling convention, and the index of a splatted argument
+  convention : List ℕ → Option ℕ → Subject N
   numbered : ℕ → Subject N
   -- two numbers, with a dot between them
   paired : ℕ → ℕ → Subject N
@@ -94,37 +95,25 @@ float_name float.F32 = codes "f32"
 float_name float.F64 = codes "f64"
 float_name float.F128 = codes "f128"
 
--- a function pointer has this calling convention, and this safety and variadicity
-abbrev pub is_made : FnSigKind → ExternAbi → Safety → Bool → Bool
-is_made k abi safety variadic = k.flags == abi_number abi + safety_bits safety + variadic_bits variadic
-
--- a function pointer has this calling convention
-abbrev pub has_abi : FnSigKind → ExternAbi → Bool
-has_abi k abi = is_made k abi Safe false || is_made k abi Safe true || is_made k abi Unsafe false || is_made k abi Unsafe true
-
--- a function pointer has some calling convention, and this safety and variadicity
-abbrev pub has_some_abi : FnSigKind → Safety → Bool → Bool
-has_some_abi k s v =
-    is_made k Rust s v || is_made k (C false) s v || is_made k (C true) s v || is_made k (System false) s v || is_made k (System true) s v || is_made k RustCall s v || is_made k Unadjusted s v
-
 -- the word of a function that isn't safe
-abbrev pub safety_word : FnSigKind → List ℕ
-safety_word k = if has_some_abi k Unsafe false || has_some_abi k Unsafe true then codes "unsafe " else []
+abbrev pub safety_word : Safety → List ℕ
+safety_word Safe = []
+safety_word Unsafe = codes "unsafe "
 
 -- the words of a calling convention; Rust's own has none
-abbrev pub abi_words : FnSigKind → List ℕ
-abi_words k =
-    if has_abi k (C false) then codes "extern \"C\" "
-    else if has_abi k (C true) then codes "extern \"C-unwind\" "
-    else if has_abi k (System false) then codes "extern \"system\" "
-    else if has_abi k (System true) then codes "extern \"system-unwind\" "
-    else if has_abi k RustCall then codes "extern \"rust-call\" "
-    else if has_abi k Unadjusted then codes "extern \"unadjusted\" "
-    else []
+abbrev pub abi_words : ExternAbi → List ℕ
+abi_words Rust = []
+abi_words (C false) = codes "extern \"C\" "
+abi_words (C true) = codes "extern \"C-unwind\" "
+abi_words (System false) = codes "extern \"system\" "
+abi_words (System true) = codes "extern \"system-unwind\" "
+abi_words RustCall = codes "extern \"rust-call\" "
+abi_words Unadjusted = codes "extern \"unadjusted\" "
 
--- more arguments may follow the inputs
-abbrev pub is_variadic : FnSigKind → Bool
-is_variadic k = has_some_abi k Safe true || has_some_abi k Unsafe true
+-- the words of a splatted argument, if there is one
+abbrev pub splat_words : Option ℕ → List ℕ
+splat_words None = []
+splat_words (Some n) = codes "splat(" ++ (decimal n ++ codes ") ")
 
 module _ {N : Type 0} where
   -- the head of an inference variable
@@ -160,6 +149,7 @@ module _ {N : Type 0} where
   type_head (fn_ptr_type h) = no_head
   type_head (foreign_type d) = with_word [] (item d)
   type_head (adt_type d) = with_word [] (item d)
+  type_head (fn_def_type d) = with_word [] (item d)
   type_head array_type = word (codes "[")
   type_head pat_type = word (codes "pattern_type!(")
   type_head unsafe_binder_type = no_head
@@ -203,7 +193,7 @@ module _ {N : Type 0} where
 
   -- the words of a function in front of its types, where the style has them
   abbrev pub fn_head : Style → Head N
-  fn_head (style.Signature k) = record { before = safety_word k; subject = words (abi_words k); after = codes "fn" }
+  fn_head (style.Signature k) = record { before = safety_word (safety_in k); subject = convention (abi_words (abi_in k)) (splat_in k); after = codes "fn" }
   fn_head _ = no_head
 
   -- the heads of records in a term of the style
@@ -300,6 +290,7 @@ type_style (ref_type Mut) = style.MutReference
 type_style slice_type = style.Square
 type_style tuple_type = style.Tuple
 type_style (adt_type d) = style.Generic
+type_style (fn_def_type d) = style.Generic
 type_style array_type = style.Square
 type_style (fn_ptr_type h) = style.Signature h.fn_sig_kind
 type_style pat_type = style.Restricted
@@ -362,7 +353,7 @@ list_style style.Generic = style.Arguments
 list_style style.Braced = style.Arguments
 list_style style.Record = style.Arguments
 list_style style.Tuple = style.Elements
-list_style (style.Signature k) = if is_variadic k then style.VariadicInputs else style.Inputs
+list_style (style.Signature k) = if is_variadic_in k then style.VariadicInputs else style.Inputs
 list_style style.Dynamic = style.Bounds
 list_style style.OneOf = style.Alternatives
 list_style style.Branch = style.Values
@@ -460,6 +451,7 @@ module _ (item_name : ℕ → Name) where
   abbrev pub subject_text : Subject Name → List ℕ
   subject_text nothing = []
   subject_text (words w) = w
+  subject_text (convention w i) = w ++ splat_words i
   subject_text (numbered n) = decimal n
   subject_text (paired m n) = decimal m ++ (46 ∷ decimal n)
   subject_text (sized m n) = decimal m ++ (58 ∷ decimal n)

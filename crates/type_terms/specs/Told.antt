@@ -1,16 +1,13 @@
 -- The content of answers, with each handle replaced by its tree.
 use Rattle.std.specs.Prelude.{◌≡◌, ℕ, ◌<◌, ◌≤◌, Bool, List, [], ◌∷◌, map, Option, Some, None, ⊤}
 use Rattle.tt_index.specs.declared.refusal.Refusal.{Refusal}
-use Rattle.tt_kinds.specs.Label.{Name}
-use Rattle.tt_kinds.specs.Shape.{name_of}
 use Rattle.tt_kinds.specs.Tree.{Depth, Tree}
 use Rattle.tt_kinds.specs.declared.table.Table.{Table}
-use Rattle.tt_kinds.specs.declared.declaration.DeclarationKind.{DeclarationKind}
 use Rattle.tt_kinds.specs.declared.declaration.DeclarationSort.{DeclarationSort}
 use Rattle.tt_kinds.specs.declared.table.Table.TheVariants.{Types, Consts, Patterns, Predicates, ClauseLists, ArgLists, Declarations}
 use Rattle.tt_interner.specs.Rows.{Row, size, meaning}
 use Rattle.tt_interner.specs.Stored.{Terms}
-use Rattle.tt_interner.specs.Declarations.{IsOfSort, declared_at}
+use Rattle.tt_interner.specs.Declarations.{IsOfSort}
 use Rattle.type_terms.specs.declared.run.answer.Answer.{Answer}
 use Rattle.type_terms.specs.declared.run.answer.Answer.TheVariants as answer
 
@@ -18,8 +15,8 @@ use Rattle.type_terms.specs.declared.run.answer.Answer.TheVariants as answer
 pub data Told : Type 0 where
   -- a term of the table
   term : Table → Tree Depth → Told
-  -- the id of a declaration of this sort: its number, what is declared, and its name
-  declared : DeclarationSort → ℕ → DeclarationKind → Name → Told
+  -- the id of a declaration of this sort: its number, and its tree, which is what is declared with its name
+  declared : DeclarationSort → ℕ → Tree Depth → Told
   truth : Bool → Told
   info : ℕ → ℕ → Told
   refused : Refusal → Told
@@ -33,7 +30,7 @@ told rows (answer.Pat p) = term Patterns (meaning rows Patterns p.number)
 told rows (answer.Predicate p) = term Predicates (meaning rows Predicates p.number)
 told rows (answer.Clauses l) = term ClauseLists (meaning rows ClauseLists l.number)
 told rows (answer.Args l) = term ArgLists (meaning rows ArgLists l.number)
-told rows (answer.Id sort id) = declared sort id.number (declared_at rows id).kind (name_of (meaning rows) (declared_at rows id).name.number)
+told rows (answer.Id sort id) = declared sort id.number (meaning rows Declarations id.number)
 told rows (answer.Truth b) = truth b
 told rows (answer.Info flags outer) = info flags.bits outer
 told rows (answer.Refused r) = refused r

@@ -48,6 +48,7 @@ ghost use Rattle.type_terms.specs.Text.{
   own_name,
   owner_name,
   owner_of,
+  splat_words,
   subject_text,
   text,
   text_in,
@@ -120,6 +121,27 @@ fn write_pair(out: &mut String, first: u32, second: u32) -> Result<(), AllocErro
 {
     write_number(out, first)?;
     write_marked(out, ".", second)
+}
+
+// Appends the words of a splatted argument, if there is one.
+fn write_splat(out: &mut String, index: Option<u16>) -> Result<(), AllocError>
+    ensures { Writes result (string_bytes out.old) (string_bytes out.new) (splat_words index) }
+{
+    match index {
+        None => Ok(()),
+        Some(index) => {
+            write_marked(out, "splat(", index as u32)?;
+            write_text(out, ") ")
+        }
+    }
+}
+
+// Appends the words of a calling convention, and of a splatted argument, if there is one.
+fn write_convention(out: &mut String, words: &str, index: Option<u16>) -> Result<(), AllocError>
+    ensures { Writes result (string_bytes out.old) (string_bytes out.new) (words.now ++ splat_words index) }
+{
+    write_text(out, words)?;
+    write_splat(out, index)
 }
 
 // Appends the text of a symbol.
@@ -200,6 +222,7 @@ fn write_subject(cx: &Interner, out: &mut String, subject: &Subject) -> Result<(
     match subject {
         Subject::Nothing => Ok(()),
         Subject::Words(words) => write_text(out, *words),
+        Subject::Convention(words, index) => write_convention(out, *words, *index),
         Subject::Numbered(number) => write_number(out, *number),
         Subject::Counted(place) => write_place(out, *place),
         Subject::Paired(first, second) => write_pair(out, *first, *second),

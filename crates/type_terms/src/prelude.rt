@@ -2,7 +2,7 @@
 //! `use type_terms::prelude::*;`.
 
 pub use crate::ir_print::IrPrint;
-pub use tt_binder::Instantiate;
+pub use tt_binder::{DataTypes, Instantiate, TypeSignature};
 pub use tt_fold::{
     Step, TypeFoldable, TypeFolder, TypeReplacer, TypeSuperFoldable, fold_regions, replace_types,
     replace_types_once, shift_vars,
@@ -12,15 +12,16 @@ pub use tt_index::{
     Safety, TyVid, UintTy, UniverseIndex,
 };
 pub use tt_interner::{
-    AsClause, AsPredicate, Flags, InternedKind, InternedList, InternedText, Interner,
+    AliasOfId, AsClause, AsPredicate, Flags, InternedAlias, InternedKind, InternedList,
+    InternedText, Interner, SignatureTys,
 };
 pub use tt_kinds::{
     AdtId, AliasTy, AliasTyKind, Binder, BoundRegion, BoundRegionKind, BoundTy, BoundTyKind,
     BoundVarIndexKind, BoundVarKinds, BoundVariableKind, Clause, ClauseKind, Clauses, Const,
-    ConstKind, DefId, EarlyBinder, ErrorGuaranteed, FnHeader, FnSigKind, FnSigTys, GenericArg,
-    GenericArgKind, GenericArgs, InferTy, OutlivesPredicate, ParamEnv, ParamTy, PlaceholderType,
-    Predicate, PredicateKind, Region, RegionKind, Symbol, Term, TermKind, TraitId, TraitPredicate,
-    TraitRef, Ty, TyKind, Tys,
+    ConstKind, DefId, EarlyBinder, ErrorGuaranteed, FieldDef, FnHeader, FnSig, FnSigKind, FnSigTys,
+    FunctionId, GenericArg, GenericArgKind, GenericArgs, InferTy, OutlivesPredicate, ParamEnv,
+    ParamTy, PlaceholderType, Predicate, PredicateKind, Region, RegionKind, Symbol, Term, TermKind,
+    TraitId, TraitPredicate, TraitRef, Ty, TyKind, Tys, VariantDef,
 };
 pub use tt_visit::{
     InternedView, Next, Owned, TypeInspector, TypeSuperVisitable, TypeVisitable, TypeVisitableExt,

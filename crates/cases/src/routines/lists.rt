@@ -5,8 +5,9 @@ use test_terms::{
     tys_from_iter, u32_ty,
 };
 use type_terms::{
-    Binder, BoundExistentialPredicates, BoundVarKinds, ExistentialPredicate, ExistentialTraitRef,
-    FieldIdx, GenericArg, GenericArgs, IndexVec, Interner, Refusal, Region, TraitId, Tys,
+    AliasTy, AliasTyKind, Binder, BoundExistentialPredicates, BoundVarKinds, ExistentialPredicate,
+    ExistentialTraitRef, FieldIdx, GenericArg, GenericArgs, IndexVec, InternedAlias, Interner,
+    OpaqueTyId, Refusal, Region, TraitId, Tys, are_owned,
 };
 
 /// The list of an iterator's types is the list of their slice, of no type and of nine types too.
@@ -22,15 +23,33 @@ pub fn types_of_an_iterator(cx: &mut Interner) -> Result<bool, Refusal> {
     Ok(by_iterator == by_slice && of_none == Tys::default() && of_none != by_slice)
 }
 
-/// The same of generic arguments, whose order counts.
+// Returns the arguments of an opaque type that is made of these.
+fn alias_args(cx: &mut Interner, items: &[GenericArg]) -> Result<GenericArgs, Refusal> {
+    let kind = AliasTyKind::Opaque {
+        def_id: OpaqueTyId::from_number(0),
+    };
+    if are_owned(cx, items) {
+        Ok(AliasTy::new(cx, kind, items.iter().copied())?.args)
+    } else {
+        Err(NOT_OWNED)
+    }
+}
+
+/// The same of generic arguments, whose order counts, and of an alias's.
 pub fn arguments_of_an_iterator(cx: &mut Interner) -> Result<bool, Refusal> {
     let number = GenericArg::from(u32_ty(cx)?);
     let region = GenericArg::from(Region::new_static());
     let by_slice = args(cx, &[number, region])?;
     let by_iterator = args_from_iter(cx, &[number, region])?;
+    let by_alias = alias_args(cx, &[number, region])?;
     let turned = args_from_iter(cx, &[region, number])?;
     let of_none = args_from_iter(cx, &[])?;
-    Ok(by_iterator == by_slice && turned != by_slice && of_none == GenericArgs::default())
+    Ok(
+        by_iterator == by_slice
+            && by_alias == by_slice
+            && turned != by_slice
+            && of_none == GenericArgs::default(),
+    )
 }
 
 // Returns the list of these predicates, by one call.

@@ -18,8 +18,12 @@ pub enum Fault {
     Foreign,
     // A data type has another number of parameters.
     WrongNumber,
+    // A data type has its fields already, or there are too many.
+    Defined,
     // The type has no such field.
     NoField,
+    // The type has no signature with an output.
+    NoFunction,
     // The library refused a call.
     Refused(Refusal),
 }
@@ -78,25 +82,44 @@ fn is_built_once(cx: &mut Interner) -> Result<bool, Fault> {
     Ok(first == second && text.as_str() == "for<'^0> fn(&'^0.0 T) -> (u32, T)")
 }
 
-// A struct with one field. The library keeps its id and its name, and the checker the rest.
+// A struct. The library keeps its name and its fields, and the checker the number of its parameters.
 #[derive(Clone, Copy)]
 struct DataType {
     id: AdtId,
     params: usize,
-    field: EarlyBinder<Ty>,
 }
 
-// `struct Items<T> { all: [T] }`.
-fn declared(cx: &mut Interner) -> Result<DataType, Refusal> {
-    let name = cx.symbol("Items")?;
+// `struct Node<T> { value: T, next: *const Node<T> }`.
+fn declared(cx: &mut Interner) -> Result<DataType, Fault> {
+    let name = cx.symbol("Node")?;
     let id = cx.declare_adt(name)?;
     let param = cx.mk_param(0, "T")?;
-    let field = EarlyBinder::bind(cx.mk_ty(TyKind::Slice(param))?);
-    Ok(DataType {
-        id,
-        params: 1,
-        field,
-    })
+    let value = FieldDef {
+        name: cx.symbol("value")?,
+        ty: param,
+    };
+    let params = cx.mk_args(&[GenericArg::from(param)])?;
+    let node = cx.mk_ty(TyKind::Adt(id, params))?;
+    let next = FieldDef {
+        name: cx.symbol("next")?,
+        ty: cx.mk_ty(TyKind::RawPtr(node, Mutability::Not))?,
+    };
+    define(cx, id, &[value, next])?;
+    Ok(DataType { id, params: 1 })
+}
+
+// Gives the struct these fields.
+fn define(cx: &mut Interner, id: AdtId, fields: &[FieldDef]) -> Result<(), Fault> {
+    let fields = Vec::from_slice(cx.allocator(), fields)?;
+    let mut variants = Vec::new(cx.allocator());
+    variants.push(VariantDef { name: None, fields })?;
+    if !cx.owns_adt_id(id) || !cx.owns_variants(variants.as_slice()) {
+        return Err(Fault::Foreign);
+    }
+    if cx.is_defined(id) || !Interner::fits_declaration(variants.as_slice()) {
+        return Err(Fault::Defined);
+    }
+    Ok(cx.define_adt(id, EarlyBinder::bind(variants))?)
 }
 
 // Returns the data type at these arguments.
@@ -111,31 +134,92 @@ fn applied(cx: &mut Interner, data: DataType, args: &[GenericArg]) -> Result<Ty,
     Ok(cx.mk_ty(TyKind::Adt(data.id, args))?)
 }
 
-// Returns the type of the field, in a value of this type.
-fn field_type(cx: &mut Interner, data: DataType, ty: Ty) -> Result<Ty, Fault> {
-    if !ty.is_owned(cx) || !data.field.skip_binder().is_owned(cx) {
+// Returns the type of the field of this name, in a value of this type.
+fn field_type(cx: &mut Interner, ty: Ty, name: Symbol) -> Result<Ty, Fault> {
+    if !ty.is_owned(cx) {
         return Err(Fault::Foreign);
     }
-    let TyKind::Adt(id, args) = *ty.kind(cx) else {
-        return Err(Fault::NoField);
-    };
-    if id != data.id {
+    if !cx.is_adt(ty) {
         return Err(Fault::NoField);
     }
-    let field = data.field.instantiate(cx, args)?;
-    Ok(field.skip_norm_wip())
+    let fields = cx.fields_of(ty)?;
+    match fields.iter().find(|field| field.name == name) {
+        Some(field) => Ok(field.ty),
+        None => Err(Fault::NoField),
+    }
 }
 
-// The field of `Items<bool>` is a `[bool]`, and `bool` has none. `Items` without arguments isn't built.
+// The fields of a `Node<bool>` are a `bool` and a pointer to such a node, and `bool` has none. `Node` without arguments
+// isn't built.
 fn is_declared(cx: &mut Interner) -> Result<bool, Fault> {
     let data = declared(cx)?;
     let truth = cx.mk_ty(TyKind::Bool)?;
-    let wanted = cx.mk_ty(TyKind::Slice(truth))?;
-    let items = applied(cx, data, &[GenericArg::from(truth)])?;
+    let node = applied(cx, data, &[GenericArg::from(truth)])?;
+    if !node.is_owned(cx) {
+        return Err(Fault::Foreign);
+    }
+    let pointer = cx.mk_ty(TyKind::RawPtr(node, Mutability::Not))?;
+    let (value, next) = (cx.symbol("value")?, cx.symbol("next")?);
     Ok(
-        field_type(cx, data, items) == Ok(wanted)
-            && field_type(cx, data, truth) == Err(Fault::NoField)
+        field_type(cx, node, value) == Ok(truth)
+            && field_type(cx, node, next) == Ok(pointer)
+            && field_type(cx, truth, value) == Err(Fault::NoField)
             && applied(cx, data, &[]) == Err(Fault::WrongNumber),
+    )
+}
+
+// `fn first<T>([T]) -> T`.
+fn declared_function(cx: &mut Interner) -> Result<FunctionId, Fault> {
+    let param = cx.mk_param(0, "T")?;
+    let slice = cx.mk_ty(TyKind::Slice(param))?;
+    let sig = FnSig {
+        inputs_and_output: cx.mk_tys(&[slice, param])?,
+        fn_sig_kind: FnSigKind::new(ExternAbi::Rust, Safety::Safe, false),
+    };
+    let sig = Binder::bind_with_vars(sig, BoundVarKinds::default());
+    let name = cx.symbol("first")?;
+    if !cx.owns_signature(&sig) {
+        return Err(Fault::Foreign);
+    }
+    Ok(cx.declare_function(name, EarlyBinder::bind(sig))?)
+}
+
+// Returns the type of the function, at this argument.
+fn function_item(cx: &mut Interner, id: FunctionId, argument: Ty) -> Result<Ty, Fault> {
+    if !argument.is_owned(cx) {
+        return Err(Fault::Foreign);
+    }
+    let args = cx.mk_args(&[GenericArg::from(argument)])?;
+    Ok(cx.mk_ty(TyKind::FnDef(id, args))?)
+}
+
+// Returns what a call of a value of this type returns.
+fn output_of(cx: &mut Interner, callee: Ty) -> Result<Binder<Ty>, Fault> {
+    if !callee.is_owned(cx) {
+        return Err(Fault::Foreign);
+    }
+    let kind = *callee.kind(cx);
+    if !kind.has_fn_sig(cx) || !cx.owns_kind(&kind) {
+        return Err(Fault::NoFunction);
+    }
+    let sig = kind.fn_sig(cx)?;
+    if !sig.has_output(cx) {
+        return Err(Fault::NoFunction);
+    }
+    Ok(sig.output(cx))
+}
+
+// `first` at `bool` returns a `bool`, and a pointer to a function its output. `bool` can't be called.
+fn is_called(cx: &mut Interner) -> Result<bool, Fault> {
+    let id = declared_function(cx)?;
+    let truth = cx.mk_ty(TyKind::Bool)?;
+    let item = function_item(cx, id, truth)?;
+    let pointer = signature(cx)?;
+    let output = output_of(cx, pointer)?;
+    Ok(
+        output_of(cx, item)?.skip_binder() == truth
+            && text_of(cx, output.skip_binder())?.as_str() == "(u32, T)"
+            && output_of(cx, truth) == Err(Fault::NoFunction),
     )
 }
 
@@ -402,6 +486,7 @@ fn is_nested(cx: &mut Interner) -> Result<bool, Refusal> {
 fn steps_hold(cx: &mut Interner) -> Result<bool, Fault> {
     let built = is_built_once(cx)?;
     let declared = is_declared(cx)?;
+    let called = is_called(cx)?;
     let asked = is_asked(cx)?;
     let instantiated = is_instantiated(cx)?;
     let shifted = is_shifted_by_two(cx)?;
@@ -409,7 +494,7 @@ fn steps_hold(cx: &mut Interner) -> Result<bool, Fault> {
     let folded = is_folded(cx)?;
     let compared = is_compared(cx)?;
     let nested = is_nested(cx)?;
-    let first = built && declared && asked && instantiated && shifted;
+    let first = built && declared && called && asked && instantiated && shifted;
     Ok(first && visited && folded && compared && nested)
 }
 

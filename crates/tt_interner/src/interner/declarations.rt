@@ -1,6 +1,8 @@
 //! Declarations. Each has its own id, even if names repeat.
 
 ghost use Rattle.std.specs.Prelude.{
+  Option,
+  ℕ,
   ◌≡◌,
   ◌⊎◌,
   ◌<◌,
@@ -20,14 +22,28 @@ ghost use Rattle.std.specs.Prelude.{
 ghost use Rattle.tt_kinds.specs.declared.bound.BoundRegionKind.{BoundRegionKind};
 ghost use Rattle.tt_interner.specs.Rows.{declared_row, size};
 ghost use Rattle.tt_interner.specs.Stored.{IsAt};
-ghost use Rattle.tt_interner.specs.Declarations.{declared_at, Declares, is_anonymous, IsDeclared, title};
+ghost use Rattle.tt_interner.specs.Declarations.{
+  declared_at,
+  Declares,
+  is_anonymous,
+  IsDeclared,
+  IsOfSort,
+  title,
+};
+ghost use Rattle.tt_kinds.specs.Alias.{alias_of};
+ghost use Rattle.tt_kinds.specs.Declaration.{sort_of};
+ghost use Rattle.tt_kinds.specs.declared.declaration.DeclarationSort.{DeclarationSort};
+ghost use Rattle.tt_kinds.specs.Shape.{AreParts, IsPart};
+ghost use Rattle.tt_kinds.specs.Kinds.{binder_shape};
+ghost use Rattle.tt_kinds.specs.Values.{declared_shapes, fn_sig_shape};
 
 use super::Interner;
 use tt_index::Refusal;
 use tt_kinds::{
-    AdtId, BoundRegionKind, ClosureId, CoroutineClosureId, CoroutineId, Declaration,
-    DeclarationKind, DefId, ForeignId, FreeTyAliasId, ImplId, InherentAssocTyId, OpaqueTyId,
-    Symbol, Table, TraitAssocTyId, TraitId, UnevaluatedConstId,
+    AdtId, AliasTyKind, Binder, BoundRegionKind, ClosureId, CoroutineClosureId, CoroutineId,
+    Declaration, DeclarationKind, DeclarationSort, DefId, EarlyBinder, FnSig, ForeignId,
+    FreeTyAliasId, FunctionId, ImplId, InherentAssocTyId, OpaqueTyId, Symbol, Table,
+    TraitAssocTyId, TraitId, UnevaluatedConstId,
 };
 
 // Adds a declaration to a table that has less than `limit` rows, records it in the order, and returns its number. If
@@ -67,9 +83,11 @@ fn add_declaration(
 
 impl Interner {
     /// Declares something of this kind under this name, as the call for its kind does. Refused as
-    /// [`Interner::declare_trait`] is.
+    /// [`Interner::declare_trait`] is. The name, and a function's signature, have to be of this interner;
+    /// [`Interner::owns_symbol`] and [`Interner::owns_signature`] test it.
     pub fn declare(&mut self, kind: DeclarationKind, name: Symbol) -> Result<DefId, Refusal>
-        requires { name.number < size self.old.rows Table.Symbols }
+        requires name { name.number < size self.old.rows Table.Symbols }
+        requires terms { AreParts (size self.old.rows) (declared_shapes kind) }
         ensures { Declares result (λ id. id.number) self.old self.new kind name }
     {
         let number = match add_declaration(
@@ -140,6 +158,21 @@ impl Interner {
     {
         let id = self.declare(DeclarationKind::Adt, name)?;
         Ok(AdtId::from_number(id.number()))
+    }
+
+    /// Declares a function of this name and signature, as [`Interner::declare_trait`] does. The signature has to be of
+    /// this interner; [`Interner::owns_signature`] tests it.
+    pub fn declare_function(
+        &mut self,
+        name: Symbol,
+        sig: EarlyBinder<Binder<FnSig>>,
+    ) -> Result<FunctionId, Refusal>
+        requires name { name.number < size self.old.rows Table.Symbols }
+        requires sig { IsPart (size self.old.rows) (binder_shape fn_sig_shape sig.value) }
+        ensures { Declares result (λ id. id.number) self.old self.new (DeclarationKind.Fn sig) name }
+    {
+        let id = self.declare(DeclarationKind::Fn(sig), name)?;
+        Ok(FunctionId::from_number(id.number()))
     }
 
     /// Declares an opaque type, as [`Interner::declare_trait`] does.
@@ -256,6 +289,56 @@ impl Interner {
         self.declaration(id).name
     }
 
+    /// Returns the signature of a function, as it was declared. The function has to be of this interner;
+    /// [`Interner::owns_function_id`] tests it.
+    pub fn fn_sig_of(&self, id: FunctionId) -> EarlyBinder<Binder<FnSig>>
+        requires { IsOfSort self.now.rows DeclarationSort.Fn id.number }
+        ensures is { (declared_at self.now.rows (record { number = id.number })).kind ≡ DeclarationKind.Fn result }
+        ensures in_range { IsPart (size self.now.rows) (binder_shape fn_sig_shape result.value) }
+    {
+        self.are_rows();
+        match self.declaration(DefId::from(id)).kind {
+            DeclarationKind::Fn(sig) => sig,
+            _ => unreachable!(),
+        }
+    }
+
+    /// Returns the trait that an associated type was declared in. The associated type has to be of this interner;
+    /// [`Interner::owns_trait_assoc_ty_id`] tests it.
+    pub fn projection_parent(&self, id: TraitAssocTyId) -> TraitId
+        requires { IsOfSort self.now.rows DeclarationSort.AssocTy id.number }
+        ensures { (declared_at self.now.rows (record { number = id.number })).kind ≡ DeclarationKind.AssocTy result }
+    {
+        match self.declaration(DefId::from(id)).kind {
+            DeclarationKind::AssocTy(parent) => parent,
+            _ => unreachable!(),
+        }
+    }
+
+    /// Returns which alias the declaration is, if it is one. The id has to be of this interner;
+    /// [`Interner::owns_def_id`] tests it.
+    pub fn alias_kind(&self, id: DefId) -> Option<AliasTyKind>
+        requires { id.number < size self.now.rows Table.Declarations }
+        ensures { result ≡ alias_of (sort_of (declared_at self.now.rows id).kind) id.number }
+    {
+        let number = id.number();
+        match self.declaration(id).kind.sort() {
+            DeclarationSort::AssocTy => Some(AliasTyKind::Projection {
+                def_id: TraitAssocTyId::from_number(number),
+            }),
+            DeclarationSort::Inherent => Some(AliasTyKind::Inherent {
+                def_id: InherentAssocTyId::from_number(number),
+            }),
+            DeclarationSort::Opaque => Some(AliasTyKind::Opaque {
+                def_id: OpaqueTyId::from_number(number),
+            }),
+            DeclarationSort::Free => Some(AliasTyKind::Free {
+                def_id: FreeTyAliasId::from_number(number),
+            }),
+            _ => None,
+        }
+    }
+
     // Returns whether the name is `'_`.
     fn is_anonymous(&self, name: Symbol) -> bool
         requires { name.number < size self.now.rows Table.Symbols }
@@ -304,5 +387,25 @@ impl RegionName for BoundRegionKind {
 
     fn is_named(self, cx: &Interner) -> bool {
         self.get_name(cx).is_some()
+    }
+}
+
+/// Kinds of aliases, by the declarations of their ids.
+pub trait AliasOfId: Sized {
+    // The alias that a declaration of this sort and number is, if it is one.
+    ghost of_sort: { DeclarationSort → ℕ → Option Self };
+
+    /// Returns which alias the declaration is, if it is one, as [`Interner::alias_kind`] does. The id has to be of this
+    /// interner; [`Interner::owns_def_id`] tests it.
+    fn new_from_def_id(cx: &Interner, def_id: DefId) -> Option<Self>
+        requires { def_id.number < size cx.now.rows Table.Declarations }
+        ensures { result ≡ of_sort (sort_of (declared_at cx.now.rows def_id).kind) def_id.number };
+}
+
+impl AliasOfId for AliasTyKind {
+    ghost of_sort = { alias_of };
+
+    fn new_from_def_id(cx: &Interner, def_id: DefId) -> Option<AliasTyKind> {
+        cx.alias_kind(def_id)
     }
 }

@@ -43,7 +43,7 @@ impl Interner {
             Table::VarLists => info_at(&self.var_lists, number),
             Table::ExistentialLists => info_at(&self.existential_lists, number),
             Table::AssumptionLists => info_at(&self.assumption_lists, number),
-            Table::Symbols | Table::Declarations => unreachable!(),
+            Table::Symbols | Table::Declarations | Table::Definitions => unreachable!(),
         }
     }
 }

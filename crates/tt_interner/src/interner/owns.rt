@@ -36,6 +36,7 @@ impl Interner {
             Table::AssumptionLists => self.assumption_lists.len(),
             Table::Symbols => self.symbols.len(),
             Table::Declarations => self.declarations.len(),
+            Table::Definitions => self.definitions.len(),
         }
     }
 

@@ -8,8 +8,8 @@ ghost use Rattle.tt_interner.specs.Declarations.{IsOfSort};
 use super::Interner;
 use tt_kinds::{
     AdtId, ClosureId, CoroutineClosureId, CoroutineId, DeclarationSort, DefId, ForeignId,
-    FreeTyAliasId, Id, ImplId, InherentAssocTyId, IsDeclared, OpaqueTyId, TraitAssocTyId, TraitId,
-    UnevaluatedConstId,
+    FreeTyAliasId, FunctionId, Id, ImplId, InherentAssocTyId, IsDeclared, OpaqueTyId,
+    TraitAssocTyId, TraitId, UnevaluatedConstId,
 };
 
 impl Interner {
@@ -37,6 +37,13 @@ impl Interner {
         ensures { IsTrue result ↔ IsOfSort self.now.rows sort.Adt adt_id.number }
     {
         self.owns_id(adt_id)
+    }
+
+    /// Returns whether `function_id` names a function that this interner has declared.
+    pub fn owns_function_id(&self, function_id: FunctionId) -> bool
+        ensures { IsTrue result ↔ IsOfSort self.now.rows sort.Fn function_id.number }
+    {
+        self.owns_id(function_id)
     }
 
     /// Returns whether `foreign_id` names a foreign type that this interner has declared.

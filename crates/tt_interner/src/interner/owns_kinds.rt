@@ -4,7 +4,9 @@ ghost use Rattle.std.specs.Prelude.{◌<◌, ◌↔◌, IsTrue};
 ghost use Rattle.tt_kinds.specs.Shape.{AreParts, HasParts, IsPart};
 ghost use Rattle.tt_kinds.specs.Parts.{node_table, node_number, list_table, list_number};
 ghost use Rattle.tt_kinds.specs.Bare.{bare_const_shape, bare_pattern_shape, bare_ty_shape};
+ghost use Rattle.tt_kinds.specs.Values.{fn_sig_shape};
 ghost use Rattle.tt_kinds.specs.Kinds.{
+  binder_shape,
   child_shapes,
   parts_shapes,
   kind_form,
@@ -21,8 +23,8 @@ ghost use Rattle.tt_interner.specs.Existentials.{HaveParts};
 
 use super::Interner;
 use tt_kinds::{
-    Binder, BoundVarKinds, Child, ClauseKind, ConstKind, ExistentialPredicate, Kind, List, Node,
-    Parts, PatternKind, PredicateKind, TyKind,
+    Binder, BoundVarKinds, Child, ClauseKind, ConstKind, ExistentialPredicate, FnSig, Kind, List,
+    Node, Parts, PatternKind, PredicateKind, TyKind,
 };
 
 impl Interner {
@@ -110,6 +112,13 @@ impl Interner {
             return false;
         }
         self.owns_binder(kind.bound_vars())
+    }
+
+    /// Returns whether the types and the variables of the signature are lists of this interner.
+    pub fn owns_signature(&self, sig: &Binder<FnSig>) -> bool
+        ensures { IsTrue result ↔ IsPart (size self.now.rows) (binder_shape fn_sig_shape sig.now) }
+    {
+        self.owns(sig.skip_binder().inputs_and_output) && self.owns(sig.bound_vars())
     }
 
     /// Returns whether every handle and name in the kind of a type is this interner's: the kind can be stored, and it

@@ -31,6 +31,7 @@ impl TyKind {
     {
         match self {
             TyKind::Adt(_, args)
+            | TyKind::FnDef(_, args)
             | TyKind::Closure(_, args)
             | TyKind::CoroutineClosure(_, args)
             | TyKind::Coroutine(_, args)
@@ -72,6 +73,7 @@ impl TyKind {
     {
         match self {
             TyKind::Adt(id, _) => TyKind::Adt(*id, new.first.args()),
+            TyKind::FnDef(id, _) => TyKind::FnDef(*id, new.first.args()),
             TyKind::Array(_, _) => TyKind::Array(new.first.ty(), new.second.constant()),
             TyKind::Pat(_, _) => TyKind::Pat(new.first.ty(), new.second.pat()),
             TyKind::Slice(_) => TyKind::Slice(new.first.ty()),

@@ -12,7 +12,6 @@ ghost use Rattle.type_terms.specs.Text.{
   separator,
 };
 
-use super::words::is_variadic;
 use tt_kinds::FnSigKind;
 
 /// The style in which the children of a term, or the items of a list, are written.
@@ -86,7 +85,7 @@ impl Style {
             Style::Generic | Style::Braced | Style::Record => Style::Arguments,
             Style::Tuple => Style::Elements,
             Style::Signature(kind) => {
-                if is_variadic(kind) {
+                if kind.c_variadic() {
                     Style::VariadicInputs
                 } else {
                     Style::Inputs

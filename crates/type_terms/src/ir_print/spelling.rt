@@ -2,6 +2,7 @@
 
 ghost use Rattle.std.specs.Prelude.{◌≡◌, [], codes};
 ghost use Rattle.tt_kinds.specs.Bound.{depth, region_name, var_kind};
+ghost use Rattle.tt_kinds.specs.FnSig.{abi_in, safety_in, splat_in};
 ghost use Rattle.tt_kinds.specs.Kinds.{
   const_form,
   existential_form,
@@ -20,6 +21,7 @@ ghost use Rattle.type_terms.specs.Text.{
   abi_words,
   bound_head,
   called,
+  convention,
   effect_head,
   infer_head,
   item,
@@ -41,7 +43,6 @@ ghost use Rattle.type_terms.specs.Text.{
   variable_title,
   with_word,
   word,
-  words,
 };
 ghost use Rattle.type_terms.specs.Spelling.{form_head, form_style, head_of, region_head, subject_of};
 
@@ -61,6 +62,8 @@ pub(crate) enum Subject {
     Nothing,
     /// Words.
     Words(&'static str),
+    /// The words of a calling convention, and the index of a splatted argument, if there is one.
+    Convention(&'static str, Option<u16>),
     /// A number.
     Numbered(u32),
     /// A place in a list.
@@ -164,14 +167,14 @@ fn marked(mark: &'static str, first: u32, second: u32) -> Spelling
 
 // Returns the spelling of a function pointer, in front of its signature.
 pub(crate) fn fn_spelling(kind: FnSigKind) -> Spelling
-    ensures before { result.before.now ≡ safety_word kind }
-    ensures subject { subject_of result.subject ≡ words (abi_words kind) }
+    ensures before { result.before.now ≡ safety_word (safety_in kind) }
+    ensures subject { subject_of result.subject ≡ convention (abi_words (abi_in kind)) (splat_in kind) }
     ensures after { result.after.now ≡ codes "fn" }
     ensures style { result.style ≡ Style.Signature kind }
 {
     Spelling {
-        before: safety_word(kind),
-        subject: Subject::Words(abi_words(kind)),
+        before: safety_word(kind.safety()),
+        subject: Subject::Convention(abi_words(kind.abi()), kind.splat()),
         after: "fn",
         style: Style::Signature(kind),
     }
@@ -287,6 +290,7 @@ fn ty_spelling(kind: &TyKind) -> Spelling
         TyKind::Dynamic(_, _) => worded("dyn ", Style::Dynamic),
         TyKind::Foreign(id) => declared("", id.number(), Style::Joined),
         TyKind::Adt(id, _) => declared("", id.number(), Style::Generic),
+        TyKind::FnDef(id, _) => declared("", id.number(), Style::Generic),
         TyKind::Closure(id, _) => braced("{closure ", id.number()),
         TyKind::CoroutineClosure(id, _) => braced("{coroutine closure ", id.number()),
         TyKind::Coroutine(id, _) => braced("{coroutine ", id.number()),

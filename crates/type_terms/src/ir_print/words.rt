@@ -1,20 +1,9 @@
 //! Words: the names of numeric types, and the words of a function besides its types.
 
 ghost use Rattle.std.specs.Prelude.{◌≡◌};
-ghost use Rattle.type_terms.specs.Text.{
-  abi_words,
-  float_name,
-  has_abi,
-  has_some_abi,
-  int_name,
-  is_made,
-  is_variadic,
-  safety_word,
-  uint_name,
-};
+ghost use Rattle.type_terms.specs.Text.{abi_words, float_name, int_name, safety_word, uint_name};
 
 use tt_index::{ExternAbi, FloatTy, IntTy, Safety, UintTy};
-use tt_kinds::FnSigKind;
 
 // Returns the name of a signed integer type.
 pub(crate) fn int_name(ty: IntTy) -> &'static str
@@ -56,76 +45,27 @@ pub(crate) fn float_name(ty: FloatTy) -> &'static str
     }
 }
 
-// Returns whether a function has this calling convention, and this safety and variadicity.
-fn is_made(kind: FnSigKind, abi: ExternAbi, safety: Safety, c_variadic: bool) -> bool
-    ensures { result ≡ is_made kind abi safety c_variadic }
-{
-    kind == FnSigKind::new(abi, safety, c_variadic)
-}
-
-// Returns whether a function has this calling convention.
-fn has_abi(kind: FnSigKind, abi: ExternAbi) -> bool
-    ensures { result ≡ has_abi kind abi }
-{
-    is_made(kind, abi, Safety::Safe, false)
-        || is_made(kind, abi, Safety::Safe, true)
-        || is_made(kind, abi, Safety::Unsafe, false)
-        || is_made(kind, abi, Safety::Unsafe, true)
-}
-
-// Returns whether a function has some calling convention, and this safety and variadicity.
-fn has_some_abi(kind: FnSigKind, safety: Safety, c_variadic: bool) -> bool
-    ensures { result ≡ has_some_abi kind safety c_variadic }
-{
-    is_made(kind, ExternAbi::Rust, safety, c_variadic)
-        || is_made(kind, ExternAbi::C { unwind: false }, safety, c_variadic)
-        || is_made(kind, ExternAbi::C { unwind: true }, safety, c_variadic)
-        || is_made(
-            kind,
-            ExternAbi::System { unwind: false },
-            safety,
-            c_variadic,
-        )
-        || is_made(kind, ExternAbi::System { unwind: true }, safety, c_variadic)
-        || is_made(kind, ExternAbi::RustCall, safety, c_variadic)
-        || is_made(kind, ExternAbi::Unadjusted, safety, c_variadic)
-}
-
 // Returns the word of a function that isn't safe.
-pub(crate) fn safety_word(kind: FnSigKind) -> &'static str
-    ensures { result.now ≡ safety_word kind }
+pub(crate) fn safety_word(safety: Safety) -> &'static str
+    ensures { result.now ≡ safety_word safety }
 {
-    if has_some_abi(kind, Safety::Unsafe, false) || has_some_abi(kind, Safety::Unsafe, true) {
-        "unsafe "
-    } else {
-        ""
+    match safety {
+        Safety::Safe => "",
+        Safety::Unsafe => "unsafe ",
     }
 }
 
 // Returns the words of a calling convention. Rust's own has none.
-pub(crate) fn abi_words(kind: FnSigKind) -> &'static str
-    ensures { result.now ≡ abi_words kind }
+pub(crate) fn abi_words(abi: ExternAbi) -> &'static str
+    ensures { result.now ≡ abi_words abi }
 {
-    if has_abi(kind, ExternAbi::C { unwind: false }) {
-        "extern \"C\" "
-    } else if has_abi(kind, ExternAbi::C { unwind: true }) {
-        "extern \"C-unwind\" "
-    } else if has_abi(kind, ExternAbi::System { unwind: false }) {
-        "extern \"system\" "
-    } else if has_abi(kind, ExternAbi::System { unwind: true }) {
-        "extern \"system-unwind\" "
-    } else if has_abi(kind, ExternAbi::RustCall) {
-        "extern \"rust-call\" "
-    } else if has_abi(kind, ExternAbi::Unadjusted) {
-        "extern \"unadjusted\" "
-    } else {
-        ""
+    match abi {
+        ExternAbi::Rust => "",
+        ExternAbi::C { unwind: false } => "extern \"C\" ",
+        ExternAbi::C { unwind: true } => "extern \"C-unwind\" ",
+        ExternAbi::System { unwind: false } => "extern \"system\" ",
+        ExternAbi::System { unwind: true } => "extern \"system-unwind\" ",
+        ExternAbi::RustCall => "extern \"rust-call\" ",
+        ExternAbi::Unadjusted => "extern \"unadjusted\" ",
     }
-}
-
-// Returns whether more arguments may follow the inputs.
-pub(crate) fn is_variadic(kind: FnSigKind) -> bool
-    ensures { result ≡ is_variadic kind }
-{
-    has_some_abi(kind, Safety::Safe, true) || has_some_abi(kind, Safety::Unsafe, true)
 }

@@ -5,7 +5,7 @@ use tt_index::{
 };
 use tt_kinds::{
     AliasRelationDirection, BoundConst, BoundConstness, BoundVarIndexKind, ErrorGuaranteed,
-    FnHeader, InferConst, InferTy, PlaceholderConst, ScalarInt,
+    FnHeader, FnSigKind, InferConst, InferTy, PlaceholderConst, ScalarInt,
 };
 
 /// The name of a bound region of a call: a [`BoundRegionKind`](tt_kinds::BoundRegionKind) with a text in place of a
@@ -92,6 +92,8 @@ pub enum AliasCall {
 pub enum ItemCall {
     /// A struct, an enum or a union.
     Adt(u32),
+    /// A function.
+    FnDef(u32),
     /// A closure.
     Closure(u32),
     /// A closure that returns a coroutine.
@@ -329,8 +331,8 @@ pub enum ArgCall {
 }
 
 /// What is declared: a [`DeclarationKind`](tt_kinds::DeclarationKind) with the position of the declaring call in place
-/// of an id.
-#[derive(Clone, Copy, Debug, PartialEq, Eq)]
+/// of an id, and positions of types.
+#[derive(Debug, PartialEq, Eq, Drop)]
 pub enum DeclarationKindCall {
     /// A trait.
     Trait {
@@ -345,6 +347,15 @@ pub enum DeclarationKindCall {
     Inherent(u32),
     /// A struct, an enum or a union.
     Adt,
+    /// A function of this signature.
+    Fn {
+        /// The variables of the signature's binder.
+        vars: Vec<VariableCall>,
+        /// The types of the inputs in order, then the output's.
+        inputs_and_output: Vec<u32>,
+        /// The parts of the signature other than the types.
+        fn_sig_kind: FnSigKind,
+    },
     /// An opaque type.
     Opaque,
     /// A type alias whose bounds are checked, and which can always be normalized away.

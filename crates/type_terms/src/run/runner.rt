@@ -72,8 +72,6 @@ pub fn answer_next(cx: &mut Interner, answers: &mut Vec<Answer>, call: &Call) ->
     ensures stay { OnErr result (answers.new.items ≡ answers.old.items) }
     ensures room { vec_len answers.old < vec_capacity answers.old → IsOk result }
 {
-    // Each declaration's name is a symbol of the interner, so the declaration of an id stays as the interner grows.
-    cx.are_rows();
     let answer = answer_call(cx, answers.as_slice(), call);
     answers.push(answer)?;
     Ok(())

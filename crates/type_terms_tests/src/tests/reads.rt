@@ -6,12 +6,13 @@ use test_terms::{
     one_region, param_ty, predicate, region_variable, ty, tys, u32_ty,
 };
 use type_terms::{
-    AliasTy, AliasTyKind, AsPredicate, Binder, BoundRegionKind, BoundVar, BoundVarKinds,
+    AliasOfId, AliasTy, AliasTyKind, AsPredicate, Binder, BoundRegionKind, BoundVar, BoundVarKinds,
     BoundVariableKind, Clause, ClauseKind, ConstBounds, ConstKind, ConstTyFault, CoroutineId,
-    ErrorGuaranteed, FindConstTy, FlagComputation, FnInputTys, ForKind, GREATEST_INDEX, GenericArg,
-    GenericArgs, GenericArgsSlice, InferTy, InternedKind, InternedList, InternedText, InternedView,
-    Interner, OpaqueTyId, Owned, ParamEnv, PlaceholderConst, PlaceholderType, PredicateKind,
-    Refusal, Region, RegionKind, SliceLike, Term, TyKind, TyVid, TypeFlags, TypeVisitableExt,
+    EarlyBinder, ErrorGuaranteed, FindConstTy, FlagComputation, FnHeader, FnInputTys, FnSig,
+    FnSigTys, ForKind, FunctionId, GREATEST_INDEX, GenericArg, GenericArgs, GenericArgsSlice,
+    InferTy, InternedAlias, InternedKind, InternedList, InternedText, InternedView, Interner,
+    OpaqueTyId, Owned, ParamEnv, PlaceholderConst, PlaceholderType, PredicateKind, Refusal, Region,
+    RegionKind, Safety, SignatureTys, SliceLike, Term, TyKind, TyVid, TypeFlags, TypeVisitableExt,
     UintTy, UniverseIndex,
 };
 
@@ -188,6 +189,74 @@ fn handles_holds(cx: &mut Interner) -> Result<bool, Refusal> {
     )
 }
 
+// Returns a function of this signature.
+fn function(cx: &mut Interner, sig: Binder<FnSig>) -> Result<FunctionId, Refusal> {
+    if !cx.owns_signature(&sig) {
+        return Err(NOT_OWNED);
+    }
+    let name = cx.symbol("f")?;
+    cx.declare_function(name, EarlyBinder::bind(sig))
+}
+
+// The signature of a function is read back, with its inputs and its output.
+fn signatures_holds(cx: &mut Interner) -> Result<bool, Refusal> {
+    let (number, variable) = (u32_ty(cx)?, bound_ty(cx, 0)?);
+    let types = FnSigTys {
+        inputs_and_output: tys(cx, &[number, variable])?,
+    };
+    let sig = Binder::bind_with_vars(types, one_region(cx)?).with(FnHeader::dummy());
+    let id = function(cx, sig)?;
+    let dangerous = sig.skip_binder().set_safety(Safety::Unsafe);
+    if !cx.owns_function_id(id)
+        || !sig.has_output(cx)
+        || !sig.has_input(cx, 0)
+        || !types.has_output(cx)
+        || !types.has_input(cx, 0)
+    {
+        return Err(NOT_OWNED);
+    }
+    Ok(
+        cx.fn_sig_of(id).skip_binder() == sig
+            && sig.output(cx).skip_binder() == variable
+            && sig.input(cx, 0).skip_binder() == number
+            && types.output(cx) == variable
+            && types.input(cx, 0) == number
+            && !dangerous.has_input(cx, 1)
+            && !FnSig::dummy().has_output(cx)
+            && sig.is_fn_trait_compatible()
+            && !dangerous.is_fn_trait_compatible(),
+    )
+}
+
+// The alias that an associated type's declaration is, its trait, and its self type.
+fn aliases_holds(cx: &mut Interner) -> Result<bool, Refusal> {
+    let number = u32_ty(cx)?;
+    let list = args(cx, &[GenericArg::from(number)])?;
+    let name = cx.symbol("Item")?;
+    let trait_id = cx.declare_trait(name, 1)?;
+    let name = cx.symbol("Item")?;
+    let item = cx.declare_assoc_ty(name, trait_id)?;
+    let kind = AliasTyKind::Projection { def_id: item };
+    let alias = AliasTy::new_from_args(kind, list);
+    let id = kind.def_id();
+    if !cx.owns_trait_assoc_ty_id(item)
+        || !cx.owns_def_id(id)
+        || !alias.has_self_ty(cx)
+        || !alias.has_trait_def_id(cx)
+    {
+        return Err(NOT_OWNED);
+    }
+    Ok(
+        cx.projection_parent(item) == trait_id
+            && cx.alias_kind(id) == Some(kind)
+            && AliasTyKind::new_from_def_id(cx, id) == Some(kind)
+            && alias.self_ty(cx) == number
+            && alias.trait_def_id(cx) == trait_id
+            && alias.is_projection()
+            && !alias.is_opaque(),
+    )
+}
+
 // Returns the flags and the outer exclusive binder as numbers.
 fn numbers(computed: FlagComputation) -> (u32, u32) {
     (
@@ -229,5 +298,7 @@ fn calls_that_read(rt: HostRuntime) {
     holds_anew(&rt, rt.alloc(), views_holds);
     holds_anew(&rt, rt.alloc(), environments_holds);
     holds_anew(&rt, rt.alloc(), handles_holds);
+    holds_anew(&rt, rt.alloc(), signatures_holds);
+    holds_anew(&rt, rt.alloc(), aliases_holds);
     holds_anew(&rt, rt.alloc(), flags_holds);
 }

@@ -22,6 +22,7 @@ ghost use Rattle.type_terms.specs.CallForm.{
   clause_ids,
   predicate_kind_ids,
   predicate_ids,
+  declared_ids,
 };
 ghost use Rattle.type_terms.specs.Told.{told_all};
 ghost use Rattle.type_terms.specs.Means.{id_at, number_at, id_positions, AreTerms};
@@ -30,9 +31,9 @@ ghost use Rattle.type_terms.specs.Build.{IsIdAt};
 use crate::run::answer::Answer;
 use crate::run::answers::lookup::{answer_at, declared_at};
 use crate::run::call::{
-    AliasCall, ArgCall, BoundTyKindCall, Call, ClauseCall, ConstCall, ExistentialCall,
-    ExistentialKindCall, ItemCall, PredicateCall, PredicateKindCall, RegionCall, RegionNameCall,
-    TyCall, VariableCall,
+    AliasCall, ArgCall, BoundTyKindCall, Call, ClauseCall, ConstCall, DeclarationKindCall,
+    ExistentialCall, ExistentialKindCall, ItemCall, PredicateCall, PredicateKindCall, RegionCall,
+    RegionNameCall, TyCall, VariableCall,
 };
 use tt_kinds::{DeclarationSort, DefId, TraitId};
 
@@ -87,7 +88,18 @@ pub fn names_ids(earlier: &[Answer], call: &Call) -> bool
         Call::Const(kind) => names_const_ids(earlier, kind),
         Call::Predicate(predicate) => names_predicate_ids(earlier, predicate),
         Call::Args(args) => names_args_ids(earlier, args.as_slice()),
+        Call::Declare(declaration) => names_declared_ids(earlier, &declaration.kind),
         Call::Instantiate(_, args) => names_args_ids(earlier, args.as_slice()),
+        _ => true,
+    }
+}
+
+// Returns whether the declarations that the variables of a declared function name are there.
+fn names_declared_ids(earlier: &[Answer], call: &DeclarationKindCall) -> bool
+    ensures { (rows : List Row) → IsTrue result ↔ AreTerms (told_all rows earlier.now) (declared_ids call.now) }
+{
+    match call {
+        DeclarationKindCall::Fn { vars, .. } => names_variables_ids(earlier, vars.as_slice()),
         _ => true,
     }
 }
@@ -254,6 +266,7 @@ fn names_item_id(earlier: &[Answer], call: ItemCall) -> bool
 {
     match call {
         ItemCall::Adt(position) => is_id(earlier, position, DeclarationSort::Adt),
+        ItemCall::FnDef(position) => is_id(earlier, position, DeclarationSort::Fn),
         ItemCall::Closure(position) => is_id(earlier, position, DeclarationSort::Closure),
         ItemCall::CoroutineClosure(position) => {
             is_id(earlier, position, DeclarationSort::CoroutineClosure)

@@ -91,8 +91,6 @@ fn build_existentials(
         put_existentials(cx, earlier, calls, &mut places)?;
         return cx.mk_existential_list(&places[..calls.len()]);
     }
-    // The declaration of an id stays as the interner grows.
-    cx.are_rows();
     let mut built = Vec::with_capacity(cx.allocator(), calls.len())?;
     for call in calls {
         let existential = build_existential(cx, earlier, call)?;
@@ -126,8 +124,6 @@ fn put_existentials(
         (told_all cx.old.rows earlier.now)
         (map (existential_form (number_at (told_all cx.old.rows earlier.now))) calls.now)) }
 {
-    // The declaration of an id stays as the interner grows.
-    cx.are_rows();
     for (i, call) in calls.iter().enumerate() {
         places[i] = build_existential(cx, earlier, call)?;
     }

@@ -156,8 +156,6 @@ fn put_args(
     ensures room { IfErr result
         (PartNeedsRoom cx.new.rows (told_all cx.old.rows earlier.now) (args_part args.now)) }
 {
-    // The declaration of an id stays as the interner grows.
-    cx.are_rows();
     for (i, arg) in args.iter().enumerate() {
         places[i] = build_arg(cx, earlier, arg)?;
     }
@@ -175,8 +173,6 @@ pub fn build_args(
     ensures args { GivesArguments cx.new (told_all cx.old.rows earlier.now) args.now result }
     ensures none { args.now ≡ [] → IsOk result }
 {
-    // The declaration of an id stays as the interner grows.
-    cx.are_rows();
     let mut built = Vec::with_capacity(cx.allocator(), args.len())?;
     for arg in args {
         let arg = build_arg(cx, earlier, arg)?;

@@ -63,9 +63,9 @@ use tt_interner::Interner;
 use tt_kinds::{
     AdtId, AliasTy, AliasTyKind, Binder, BoundRegion, BoundRegionKind, BoundTy, BoundTyKind,
     BoundVarIndexKind, BoundVarKinds, BoundVariableKind, ClosureId, Const, CoroutineClosureId,
-    CoroutineId, EarlyParamRegion, FnHeader, FnSigTys, ForeignId, FreeTyAliasId, GenericArgs,
-    InherentAssocTyId, LateParamRegion, OpaqueTyId, ParamTy, Pat, Placeholder, Region, RegionKind,
-    Table, TraitAssocTyId, Ty, TyKind, UnsafeBinderInner,
+    CoroutineId, EarlyParamRegion, FnHeader, FnSigTys, ForeignId, FreeTyAliasId, FunctionId,
+    GenericArgs, InherentAssocTyId, LateParamRegion, OpaqueTyId, ParamTy, Pat, Placeholder, Region,
+    RegionKind, Table, TraitAssocTyId, Ty, TyKind, UnsafeBinderInner,
 };
 
 /// Returns the type that the call names, over the earlier answers. The ids that it names have to be there.
@@ -315,6 +315,9 @@ fn type_of_item(earlier: &[Answer], item: ItemCall, args: GenericArgs) -> TyKind
     match item {
         ItemCall::Adt(position) => {
             TyKind::Adt(AdtId::from_number(number_at(earlier, position)), args)
+        }
+        ItemCall::FnDef(position) => {
+            TyKind::FnDef(FunctionId::from_number(number_at(earlier, position)), args)
         }
         ItemCall::Closure(position) => {
             TyKind::Closure(ClosureId::from_number(number_at(earlier, position)), args)

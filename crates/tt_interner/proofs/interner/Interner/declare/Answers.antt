@@ -1,12 +1,13 @@
 -- the new declaration is the newest row
 use Rattle.std.proofs.Common.{ap, refl, subst, ◌∙◌, ◌≡◌, length}
 use Rattle.tt_kinds.specs.declared.table.Table.TheVariants.{Declarations}
-use Rattle.tt_kinds.specs.Label.{declaration_label}
+use Rattle.std.proofs.lemmas.Bool.{false≢true}
+use Rattle.tt_kinds.specs.Range.{IndicesFitAmong}
+use Rattle.tt_kinds.proofs.ValueLaws.{declared_by}
 use Rattle.tt_interner.specs.Rows.{declared_row, size, IsNew}
 use Rattle.tt_interner.specs.Tables.{with_entries, declared_entries}
 use Rattle.tt_interner.specs.Kept.{tables}
-use Rattle.tt_interner.proofs.InfoLaws.{info_node}
-use Rattle.tt_interner.proofs.TableLaws.{kept, added, refused}
+use Rattle.tt_interner.proofs.TableLaws.{kept_by, added, refused}
 use Rattle.tt_interner.proofs.DeclarationLaws.{declared_entries-added, declared_count, declared_new, Declares-added}
 use Rattle.tt_interner.proofs.interner.Interner.declare.Goals as goal
 
@@ -16,8 +17,8 @@ invariant_of-self-2 c =
     let counted : length c.self.inside.declarations.items ≡ size c.args.self.now.rows Declarations = many ∙ ap (λ v. size v.rows Declarations) c.self.view_is in
     let is = ap (with_entries (tables c.self.inside) Declarations) (declared_entries-added c.self.inside.declarations.items _ _ _ c.in-Ok.ensures.declarations counted) in
     let new = declared_new _ _ _ c.self.invariant.tables c.self.inside.declarations.items refl _ _ counted in
-    kept c.self.inside.order.items _ (tables c.self.inside) _ _ _ _ c.self.view_is c.self.invariant _ is c.in-Ok.ensures.order _ (c.in-Ok.ensures.number.0 ∙ many) c.in-Ok.ensures.number.1
-    (c.requires, tt) tt tt (subst (λ v. IsNew (declared_row (size c.args.self.now.rows Declarations) (record { kind = c.args.kind; name = c.args.name })) v.rows) c.self.view_is new) (info_node _ _ (declaration_label _ c.args.kind c.args.name.number) refl)
+    kept_by c.self.inside.order.items _ (tables c.self.inside) _ _ _ _ c.self.view_is c.self.invariant _ is c.in-Ok.ensures.order _ (c.in-Ok.ensures.number.0 ∙ many) c.in-Ok.ensures.number.1
+    (c.requires.name, c.requires.terms) (declared_by IndicesFitAmong tt (λ vars tys. (tt, (tt, tt))) c.args.kind) tt (subst (λ v. IsNew (declared_row (size c.args.self.now.rows Declarations) (record { kind = c.args.kind; name = c.args.name })) v.rows) c.self.view_is new) (λ keeps. absurd (false≢true keeps))
 
 pub returns : goal.returns
 returns c =

@@ -12,7 +12,7 @@ pub find_or_add-requires-clause-few : goal.find_or_add-requires-clause-few
 find_or_add-requires-clause-few c = few c.self.inside.order.items (tables c.self.inside) _ _ _ c.self.view_is c.self.invariant predicate_row _ (predicate_row c.args.kind) (predicate_key c.args.kind) c.self.inside.predicates.entries refl
 
 pub find_or_add-requires-clause-same : goal.find_or_add-requires-clause-same
-find_or_add-requires-clause-same c = same c.self.inside.order.items (tables c.self.inside) _ _ _ c.self.view_is c.self.invariant predicate_row _ (predicate_row c.args.kind) (predicate_key c.args.kind) c.self.inside.predicates.entries refl c.kind_info-info.result c.kind_info-info.ensures.info
+find_or_add-requires-clause-same c = same c.self.inside.order.items (tables c.self.inside) _ _ _ c.self.view_is c.self.invariant predicate_row _ (predicate_row c.args.kind) (predicate_key c.args.kind) c.self.inside.predicates.entries refl c.kind_info-info.result c.kind_info-info.ensures.info refl
 
 pub invariant_of-self-2 : goal.invariant_of-self-2
 invariant_of-self-2 c = put_kept c.self.inside.order.items (tables c.self.inside) _ _ _ c.self.view_is c.self.invariant predicate_row _ (predicate_row c.args.kind) (predicate_key c.args.kind) c.self.inside.predicates.entries refl c.kind_info-info.result c.kind_info-info.ensures.info

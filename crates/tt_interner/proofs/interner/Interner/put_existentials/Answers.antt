@@ -16,7 +16,7 @@ pub find_or_insert-requires-clause-few : goal.find_or_insert-requires-clause-few
 find_or_insert-requires-clause-few c = few c.self.inside.order.items (tables c.self.inside) _ _ _ c.self.view_is c.self.invariant (λ k. existentials_row k.items) _ (existentials_row c.args.items.items) (existentials_key (λ k. k.items) c.args.items.items) c.self.inside.existential_lists.entries refl
 
 pub find_or_insert-requires-clause-same : goal.find_or_insert-requires-clause-same
-find_or_insert-requires-clause-same c = same c.self.inside.order.items (tables c.self.inside) _ _ _ c.self.view_is c.self.invariant (λ k. existentials_row k.items) _ (existentials_row c.args.items.items) (existentials_key (λ k. k.items) c.args.items.items) c.self.inside.existential_lists.entries refl c.items_info-info.result (info_list _ _ ExistentialLists _ (rw c.as_slice.ensures.value at c.items_info-info.ensures))
+find_or_insert-requires-clause-same c = same c.self.inside.order.items (tables c.self.inside) _ _ _ c.self.view_is c.self.invariant (λ k. existentials_row k.items) _ (existentials_row c.args.items.items) (existentials_key (λ k. k.items) c.args.items.items) c.self.inside.existential_lists.entries refl c.items_info-info.result (info_list _ _ ExistentialLists _ (rw c.as_slice.ensures.value at c.items_info-info.ensures)) refl
 
 pub invariant_of-self-2 : goal.invariant_of-self-2
 invariant_of-self-2 c = put_kept c.self.inside.order.items (tables c.self.inside) _ _ _ c.self.view_is c.self.invariant (λ k. existentials_row k.items) _ (existentials_row c.args.items.items) (existentials_key (λ k. k.items) c.args.items.items) c.self.inside.existential_lists.entries refl c.items_info-info.result (info_list _ _ ExistentialLists _ (rw c.as_slice.ensures.value at c.items_info-info.ensures))

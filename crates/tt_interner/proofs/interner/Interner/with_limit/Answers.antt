@@ -4,7 +4,7 @@ use Rattle.std.specs.String.{string_bytes}
 use Rattle.tt_interner.specs.Rows.{type_row, const_row, pat_row, predicate_row, existential_row, clauses_row, tys_row, consts_row, args_row, pats_row, vars_row, existentials_row, assumptions_row, text_row}
 use Rattle.tt_kinds.specs.declared.table.Table.{Table}
 use Rattle.tt_kinds.specs.declared.table.Table.TheVariants.{TypeLists, ArgLists, VarLists, ConstLists, PatternLists, ClauseLists, ExistentialLists, AssumptionLists, Symbols}
-use Rattle.tt_interner.specs.Tables.{no_info, entries_by, declared_entries}
+use Rattle.tt_interner.specs.Tables.{no_info, entries_by, declared_entries, defined_entries}
 use Rattle.tt_interner.proofs.TableLaws.{Keeps-first, rows_are_first, are_first_tables, entries_by-first, first_order}
 use Rattle.tt_interner.proofs.interner.Interner.with_limit.Goals as goal
 use Rattle.tt_interner.specs.Stored.{anonymous_text}
@@ -33,6 +33,7 @@ invariant_of-result c = Keeps-first _ _ _
       symbols = entries_by-first (λ k. string_bytes k) text_row (λ v. no_info) c.in-Ok-first_text.symbols.entries anonymous_text tt c.in-Ok-first_text.ensures.entries;
       assumption_lists = entries_by-first (λ k. k.items) assumptions_row (λ v. v) c.in-Ok-more_empty_lists.lists.assumption_lists.entries [] no_info c.in-Ok-more_empty_lists.ensures.assumptions;
       declarations = ap (declared_entries 0) c.new-6.ensures.items;
+      definitions = ap defined_entries c.new-7.ensures.empty;
     }))
     (omega arith) (omega arith)
 
@@ -55,4 +56,5 @@ returns-clause-rows c = rows_are_first _ _
       symbols = entries_by-first (λ k. string_bytes k) text_row (λ v. no_info) c.in-Ok-first_text.symbols.entries anonymous_text tt c.in-Ok-first_text.ensures.entries;
       assumption_lists = entries_by-first (λ k. k.items) assumptions_row (λ v. v) c.in-Ok-more_empty_lists.lists.assumption_lists.entries [] no_info c.in-Ok-more_empty_lists.ensures.assumptions;
       declarations = ap (declared_entries 0) c.new-6.ensures.items;
+      definitions = ap defined_entries c.new-7.ensures.empty;
     }))

@@ -20,5 +20,5 @@ returns-clause-allowed c = record {
 pub returns-clause-means : goal.returns-clause-means
 returns-clause-means c first before extends means =
     rw c.in_ok-push.ensures.items
-    (ran-more first _ _ before _ _ _ extends c.requires c.are_rows.ensures.are c.answer_call-answer.ensures.extends
+    (ran-more first _ _ before _ _ _ extends c.requires c.answer_call-answer.ensures.extends
     (rw (← c.as_slice.ensures.value) c.answer_call-answer.ensures.allowed) means)

@@ -14,3 +14,6 @@ returns-in-Args c = λ rows. rw (c.in-Args.is, ← c.as_slice.ensures.value) (c.
 
 pub returns-in-Instantiate : goal.returns-in-Instantiate
 returns-in-Instantiate c = λ rows. rw (c.in-Instantiate.is, ← c.as_slice-in-Instantiate.ensures.value) (c.names_args_ids-in-Instantiate.ensures rows)
+
+pub returns-in-Declare : goal.returns-in-Declare
+returns-in-Declare c = λ rows. rw (c.in-Declare.is) (c.names_declared_ids.ensures rows)

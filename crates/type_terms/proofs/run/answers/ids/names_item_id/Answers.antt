@@ -3,6 +3,9 @@ use Rattle.type_terms.proofs.run.answers.ids.names_item_id.Goals as goal
 pub returns-in-Adt : goal.returns-in-Adt
 returns-in-Adt c = λ rows. rw (c.in-Adt.is) (c.is_id.ensures rows)
 
+pub returns-in-FnDef : goal.returns-in-FnDef
+returns-in-FnDef c = λ rows. rw (c.in-FnDef.is) (c.is_id-in-FnDef.ensures rows)
+
 pub returns-in-Closure : goal.returns-in-Closure
 returns-in-Closure c = λ rows. rw (c.in-Closure.is) (c.is_id-in-Closure.ensures rows)
 

@@ -1,38 +1,27 @@
-use Rattle.std.proofs.Common.{List, refl}
-use Rattle.tt_interner.specs.Rows.{Row}
-use Rattle.type_terms.specs.declared.run.call.DeclarationKindCall.TheVariants as declares
-use Rattle.type_terms.specs.CallForm.{declared_positions}
+-- a function has its signature, and nothing else has terms
+use Rattle.std.proofs.Common.{Ok}
 use Rattle.type_terms.specs.Told.{told_all}
-use Rattle.type_terms.specs.Means.{AreTerms}
-use Rattle.type_terms.proofs.ResultLaws.{passed}
+use Rattle.type_terms.specs.declared.run.call.DeclarationKindCall.TheVariants as declares
+use Rattle.type_terms.proofs.DeclareLaws.{declared-passed, sig-declared, no-function, item-declared}
 use Rattle.type_terms.proofs.run.build.declarations.declared_kind.Goals as goal
 
-pub returns-in_err-id-in-AssocTy-clause-absent : goal.returns-in_err-id-in-AssocTy-clause-absent
-returns-in_err-id-in-AssocTy-clause-absent c =
-    rw (c.in-AssocTy.is)
-    (passed c.from_residual.result c.in_err-id-in-AssocTy.field-0.0
-    (λ x. (rows : List Row) → AreTerms (told_all rows c.args.earlier.now) (declared_positions (declares.AssocTy c.in-AssocTy.position)) → ⊥) c.from_residual.ensures.1
-    (λ rows h. c.in_err-id-in-AssocTy.ensures.absent rows h.0))
+pub returns-in_err-sig-in-Fn-clause-kind : goal.returns-in_err-sig-in-Fn-clause-kind
+returns-in_err-sig-in-Fn-clause-kind c =
+    let e = told_all c.args.cx.now.rows c.args.earlier.now in
+    rw c.in-Fn.is
+    (declared-passed c.declared_sig.new.cx e (declares.Fn c.in-Fn.vars c.in-Fn.inputs_and_output c.in-Fn.fn_sig_kind) c.from_residual.result c.in_err-sig-in-Fn.field-0.0 c.from_residual.ensures.1
+    (rw (← c.as_slice.ensures.value) c.in_err-sig-in-Fn.ensures.sig.err))
 
-pub returns-in_ok-id-in-AssocTy-clause-named : goal.returns-in_ok-id-in-AssocTy-clause-named
-returns-in_ok-id-in-AssocTy-clause-named c = λ rows.
-    rw (c.in-AssocTy.is, c.in_ok-id-in-AssocTy.ensures.ok rows) (refl, tt)
+pub returns-in_ok-sig-in-Fn-clause-kind : goal.returns-in_ok-sig-in-Fn-clause-kind
+returns-in_ok-sig-in-Fn-clause-kind c =
+    let e = told_all c.args.cx.now.rows c.args.earlier.now in
+    rw c.in-Fn.is (record {
+      ok = sig-declared c.declared_sig.new.cx e c.in-Fn.vars c.in-Fn.inputs_and_output c.in-Fn.fn_sig_kind c.in_ok-sig-in-Fn.sig
+          (rw (← c.as_slice-vars.ensures.value, ← c.as_slice.ensures.value) c.in_ok-sig-in-Fn.ensures.sig.ok);
+      err = tt;
+    })
 
-pub returns-in_err-id-in-Inherent-clause-absent : goal.returns-in_err-id-in-Inherent-clause-absent
-returns-in_err-id-in-Inherent-clause-absent c =
-    rw (c.in-Inherent.is)
-    (passed c.from_residual-in_err-id-in-Inherent.result c.in_err-id-in-Inherent.field-0.0
-    (λ x. (rows : List Row) → AreTerms (told_all rows c.args.earlier.now) (declared_positions (declares.Inherent c.in-Inherent.position)) → ⊥) c.from_residual-in_err-id-in-Inherent.ensures.1
-    (λ rows h. c.in_err-id-in-Inherent.ensures.absent rows h.0))
-
-pub returns-in_ok-id-in-Inherent-clause-named : goal.returns-in_ok-id-in-Inherent-clause-named
-returns-in_ok-id-in-Inherent-clause-named c = λ rows.
-    rw (c.in-Inherent.is, c.in_ok-id-in-Inherent.ensures.ok rows) (refl, tt)
-
-pub returns-in_ok-id-in-AssocTy-clause-kind : goal.returns-in_ok-id-in-AssocTy-clause-kind
-returns-in_ok-id-in-AssocTy-clause-kind c = λ rows.
-    rw (c.in-AssocTy.is, c.in_ok-id-in-AssocTy.ensures.ok rows, c.from_number.ensures, c.number.ensures) refl
-
-pub returns-in_ok-id-in-Inherent-clause-kind : goal.returns-in_ok-id-in-Inherent-clause-kind
-returns-in_ok-id-in-Inherent-clause-kind c = λ rows.
-    rw (c.in-Inherent.is, c.in_ok-id-in-Inherent.ensures.ok rows, c.from_number-in-Inherent.ensures, c.number-in-Inherent.ensures) refl
+pub returns-in_default-clause-kind : goal.returns-in_default-clause-kind
+returns-in_default-clause-kind c =
+    item-declared c.args.cx.now c.args.cx.now.rows c.args.earlier.now c.args.call.now c.item_kind.result (no-function c.args.call.now c.in_default.not-Fn)
+    c.item_kind.ensures.sort c.item_kind.ensures.item c.item_kind.ensures.none c.item_kind.ensures.named c.item_kind.ensures.cause c.item_kind.ensures.absent

@@ -31,7 +31,7 @@ returns-in_err-existential-clause-extends c = Extends-trans c.loop-call.invarian
 
 pub returns-in_err-existential-clause-list : goal.returns-in_err-existential-clause-list
 returns-in_err-existential-clause-list c =
-    let same = told_all-grows c.args.cx.now.rows c.loop-call.cx.rows c.loop-call.invariant.0.rows c.are_rows.ensures.are c.args.earlier.now c.requires in
+    let same = told_all-grows c.args.cx.now.rows c.loop-call.cx.rows c.loop-call.invariant.0.rows c.args.earlier.now c.requires in
     let inside : c.loop-call.call-index < length c.args.calls.now = omega arith in
     let here = slice_get_read c.args.calls.now (length c.args.calls.now) c.loop-call.call-index c.call-item.result refl inside c.call-item.is in
     let e = told_all c.args.cx.now.rows c.args.earlier.now in
@@ -46,7 +46,7 @@ returns-in_err-push-clause-extends c = Extends-trans c.loop-call.invariant.0 c.b
 
 pub loop-call-preserved : goal.loop-call-preserved
 loop-call-preserved c =
-    let same = told_all-grows c.args.cx.now.rows c.loop-call.cx.rows c.loop-call.invariant.0.rows c.are_rows.ensures.are c.args.earlier.now c.requires in
+    let same = told_all-grows c.args.cx.now.rows c.loop-call.cx.rows c.loop-call.invariant.0.rows c.args.earlier.now c.requires in
     let inside : c.loop-call.call-index < length c.args.calls.now = omega arith in (
       Extends-trans c.loop-call.invariant.0 c.build_existential.ensures.extends,
       rw (take_more c.args.calls.now c.loop-call.call-index c.call-item.result inside, ← c.call-item.is, c.in_ok-push.ensures.items, map-append (existential_form (number_at (told_all c.args.cx.now.rows c.args.earlier.now))) _ (c.call-item.result ∷ []))

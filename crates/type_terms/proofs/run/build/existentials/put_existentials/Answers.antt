@@ -27,7 +27,7 @@ returns-in_err-places-clause-extends c = Extends-trans c.loop-i.invariant.0 c.bu
 
 pub returns-in_err-places-clause-existentials : goal.returns-in_err-places-clause-existentials
 returns-in_err-places-clause-existentials c =
-    let same = told_all-grows c.args.cx.now.rows c.loop-i.cx.rows c.loop-i.invariant.0.rows c.are_rows.ensures.are c.args.earlier.now c.requires.owned in
+    let same = told_all-grows c.args.cx.now.rows c.loop-i.cx.rows c.loop-i.invariant.0.rows c.args.earlier.now c.requires.owned in
     let inside : c.loop-i.i < length c.args.calls.now = omega arith in
     let here = slice_get_read c.args.calls.now (length c.args.calls.now) c.loop-i.i c.index-calls-i.result refl inside c.index-calls-i.is in
     let e = told_all c.args.cx.now.rows c.args.earlier.now in
@@ -39,7 +39,7 @@ returns-in_err-places-clause-existentials c =
 
 pub returns-in_err-places-clause-room : goal.returns-in_err-places-clause-room
 returns-in_err-places-clause-room c =
-    let same = told_all-grows c.args.cx.now.rows c.loop-i.cx.rows c.loop-i.invariant.0.rows c.are_rows.ensures.are c.args.earlier.now c.requires.owned in
+    let same = told_all-grows c.args.cx.now.rows c.loop-i.cx.rows c.loop-i.invariant.0.rows c.args.earlier.now c.requires.owned in
     let inside : c.loop-i.i < length c.args.calls.now = omega arith in
     let here = slice_get_read c.args.calls.now (length c.args.calls.now) c.loop-i.i c.index-calls-i.result refl inside c.index-calls-i.is in
     let e = told_all c.args.cx.now.rows c.args.earlier.now in
@@ -49,7 +49,7 @@ returns-in_err-places-clause-room c =
 
 pub loop-i-preserved : goal.loop-i-preserved
 loop-i-preserved c =
-    let same = told_all-grows c.args.cx.now.rows c.loop-i.cx.rows c.loop-i.invariant.0.rows c.are_rows.ensures.are c.args.earlier.now c.requires.owned in
+    let same = told_all-grows c.args.cx.now.rows c.loop-i.cx.rows c.loop-i.invariant.0.rows c.args.earlier.now c.requires.owned in
     let inside : c.loop-i.i < length c.args.calls.now = omega arith in
     let room : c.loop-i.i < length c.loop-i.places = omega (arith, c.loop-i.auto.places, c.requires.few, inside) in (
       Extends-trans c.loop-i.invariant.0 c.build_existential.ensures.extends,

@@ -21,7 +21,7 @@ returns-in_err-arg-clause-extends c = Extends-trans c.loop-arg.invariant.0 c.bui
 
 pub returns-in_err-arg-clause-args : goal.returns-in_err-arg-clause-args
 returns-in_err-arg-clause-args c =
-    let same = told_all-grows c.args.cx.now.rows c.loop-arg.cx.rows c.loop-arg.invariant.0.rows c.are_rows.ensures.are c.args.earlier.now c.requires in
+    let same = told_all-grows c.args.cx.now.rows c.loop-arg.cx.rows c.loop-arg.invariant.0.rows c.args.earlier.now c.requires in
     let inside : c.loop-arg.arg-index < length c.args.args.now = omega arith in
     let here = slice_get_read c.args.args.now (length c.args.args.now) c.loop-arg.arg-index c.arg-item.result refl inside c.arg-item.is in
     let e = told_all c.args.cx.now.rows c.args.earlier.now in
@@ -34,7 +34,7 @@ returns-in_err-push-clause-extends c = Extends-trans c.loop-arg.invariant.0 c.bu
 
 pub loop-arg-preserved : goal.loop-arg-preserved
 loop-arg-preserved c =
-    let same = told_all-grows c.args.cx.now.rows c.loop-arg.cx.rows c.loop-arg.invariant.0.rows c.are_rows.ensures.are c.args.earlier.now c.requires in
+    let same = told_all-grows c.args.cx.now.rows c.loop-arg.cx.rows c.loop-arg.invariant.0.rows c.args.earlier.now c.requires in
     let inside : c.loop-arg.arg-index < length c.args.args.now = omega arith in (
       Extends-trans c.loop-arg.invariant.0 c.build_arg.ensures.extends,
       rw (take_more c.args.args.now c.loop-arg.arg-index c.arg-item.result inside, ← c.arg-item.is, c.in_ok-push.ensures.items)

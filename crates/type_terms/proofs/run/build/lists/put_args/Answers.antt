@@ -23,7 +23,7 @@ returns-in_err-places-clause-extends c = Extends-trans c.loop-i.invariant.0 c.bu
 
 pub returns-in_err-places-clause-args : goal.returns-in_err-places-clause-args
 returns-in_err-places-clause-args c =
-    let same = told_all-grows c.args.cx.now.rows c.loop-i.cx.rows c.loop-i.invariant.0.rows c.are_rows.ensures.are c.args.earlier.now c.requires.owned in
+    let same = told_all-grows c.args.cx.now.rows c.loop-i.cx.rows c.loop-i.invariant.0.rows c.args.earlier.now c.requires.owned in
     let inside : c.loop-i.i < length c.args.args.now = omega arith in
     let here = slice_get_read c.args.args.now (length c.args.args.now) c.loop-i.i c.index-args-i.result refl inside c.index-args-i.is in
     let e = told_all c.args.cx.now.rows c.args.earlier.now in
@@ -33,7 +33,7 @@ returns-in_err-places-clause-args c =
 
 pub returns-in_err-places-clause-room : goal.returns-in_err-places-clause-room
 returns-in_err-places-clause-room c =
-    let same = told_all-grows c.args.cx.now.rows c.loop-i.cx.rows c.loop-i.invariant.0.rows c.are_rows.ensures.are c.args.earlier.now c.requires.owned in
+    let same = told_all-grows c.args.cx.now.rows c.loop-i.cx.rows c.loop-i.invariant.0.rows c.args.earlier.now c.requires.owned in
     let inside : c.loop-i.i < length c.args.args.now = omega arith in
     let here = slice_get_read c.args.args.now (length c.args.args.now) c.loop-i.i c.index-args-i.result refl inside c.index-args-i.is in
     passed c.from_residual.result c.in_err-places.field-0.0 _ c.from_residual.ensures.1
@@ -42,7 +42,7 @@ returns-in_err-places-clause-room c =
 
 pub loop-i-preserved : goal.loop-i-preserved
 loop-i-preserved c =
-    let same = told_all-grows c.args.cx.now.rows c.loop-i.cx.rows c.loop-i.invariant.0.rows c.are_rows.ensures.are c.args.earlier.now c.requires.owned in
+    let same = told_all-grows c.args.cx.now.rows c.loop-i.cx.rows c.loop-i.invariant.0.rows c.args.earlier.now c.requires.owned in
     let inside : c.loop-i.i < length c.args.args.now = omega arith in
     let room : c.loop-i.i < length c.loop-i.places = omega (arith, c.loop-i.auto.places, c.requires.few, inside) in (
       Extends-trans c.loop-i.invariant.0 c.build_arg.ensures.extends,

@@ -4,6 +4,9 @@ use Rattle.type_terms.proofs.run.build.types.type_of_item.Goals as goal
 pub returns-in-Adt : goal.returns-in-Adt
 returns-in-Adt c = λ rows. rw (c.in-Adt.is, c.from_number.ensures, c.number_at.ensures rows) refl
 
+pub returns-in-FnDef : goal.returns-in-FnDef
+returns-in-FnDef c = λ rows. rw (c.in-FnDef.is, c.from_number-in-FnDef.ensures, c.number_at-in-FnDef.ensures rows) refl
+
 pub returns-in-Closure : goal.returns-in-Closure
 returns-in-Closure c = λ rows. rw (c.in-Closure.is, c.from_number-in-Closure.ensures, c.number_at-in-Closure.ensures rows) refl
 

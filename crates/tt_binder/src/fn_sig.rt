@@ -1,0 +1,80 @@
+//! The signatures of types.
+
+ghost use Rattle.std.specs.Prelude.{◌<◌, ◌↔◌, IsTrue};
+ghost use Rattle.tt_kinds.specs.Bare.{bare_ty_shape};
+ghost use Rattle.tt_kinds.specs.Shape.{IsPart};
+ghost use Rattle.tt_kinds.specs.declared.declaration.DeclarationSort.TheVariants as sort;
+ghost use Rattle.tt_kinds.specs.declared.table.Table.TheVariants.{ArgLists};
+ghost use Rattle.tt_kinds.specs.declared.ty_kind.TyKind.{TyKind};
+ghost use Rattle.tt_interner.specs.Declarations.{IsOfSort};
+ghost use Rattle.tt_interner.specs.Rows.{size};
+ghost use Rattle.tt_binder.specs.FnSig.{GivesFnSig, HasFnSig, InstantiatesSig};
+
+use crate::instantiate::Instantiate;
+use tt_index::Refusal;
+use tt_interner::Interner;
+use tt_kinds::{Binder, BoundVarKinds, FnSig, FunctionId, GenericArgs, TyKind};
+
+/// Kinds of types, of which some have a signature.
+pub trait TypeSignature: Sized {
+    // The kind.
+    ghost kind_of: { Self → TyKind };
+
+    /// Returns whether the type is a function pointer, the type of a function that this interner has declared, or an
+    /// error.
+    fn has_fn_sig(&self, cx: &Interner) -> bool
+        ensures { IsTrue result ↔ HasFnSig cx.now.rows (kind_of self.now) };
+
+    /// Returns the signature: of a function pointer its types and its other parts; of a function item the declared
+    /// signature, instantiated with the item's arguments; of an error the signature without types. The type has to have
+    /// one, and its handles have to be this interner's; [`TypeSignature::has_fn_sig`] and [`Interner::owns_kind`] test
+    /// it.
+    ///
+    /// The signature of a function item is refused where [`Instantiate::instantiate`] of the declared one is. The others
+    /// build nothing and are never refused.
+    fn fn_sig(self, cx: &mut Interner) -> Result<Binder<FnSig>, Refusal>
+        requires sig { HasFnSig cx.old.rows (kind_of self) }
+        requires parts { IsPart (size cx.old.rows) (bare_ty_shape (kind_of self)) }
+        ensures { GivesFnSig (kind_of self) cx.old result cx.new };
+}
+
+// Returns the signature of a function as it is declared, instantiated with these arguments.
+fn instantiated_sig(
+    cx: &mut Interner,
+    id: FunctionId,
+    args: GenericArgs,
+) -> Result<Binder<FnSig>, Refusal>
+    requires id { IsOfSort cx.old.rows sort.Fn id.number }
+    requires args { args.number < size cx.old.rows ArgLists }
+    ensures { InstantiatesSig (record { number = id.number }) args cx.old result cx.new }
+{
+    let sig = cx.fn_sig_of(id);
+    match sig.instantiate(cx, args) {
+        Ok(instance) => Ok(instance.skip_norm_wip()),
+        Err(e) => Err(e),
+    }
+}
+
+impl TypeSignature for TyKind {
+    ghost kind_of = { λ kind. kind };
+
+    fn has_fn_sig(&self, cx: &Interner) -> bool {
+        match self {
+            TyKind::FnPtr(_, _) | TyKind::Error(_) => true,
+            TyKind::FnDef(id, _) => cx.owns_function_id(*id),
+            _ => false,
+        }
+    }
+
+    fn fn_sig(self, cx: &mut Interner) -> Result<Binder<FnSig>, Refusal> {
+        match self {
+            TyKind::FnPtr(types, header) => Ok(types.with(header)),
+            TyKind::FnDef(id, args) => instantiated_sig(cx, id, args),
+            TyKind::Error(_) => Ok(Binder::bind_with_vars(
+                FnSig::dummy(),
+                BoundVarKinds::default(),
+            )),
+            _ => unreachable!(),
+        }
+    }
+}
