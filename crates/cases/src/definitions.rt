@@ -39,7 +39,7 @@ fn data_type_at(answers: &[Answer], position: u32) -> Result<AdtId, Refusal> {
     }
 }
 
-// Returns the variants of a line. ` | ` stands between two.
+// Returns the variants of a line, separated by ` | `.
 fn variants(cx: &mut Interner, answers: &[Answer], line: &str) -> Result<Vec<VariantDef>, Refusal> {
     let mut variants = Vec::new(cx.allocator());
     for part in line.split(" | ") {

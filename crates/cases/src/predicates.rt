@@ -78,7 +78,7 @@ fn other_kind(alloc: Global, first: &str, words: &mut Words) -> Result<Predicate
     }
 }
 
-/// Returns the predicates of a trait object, of all further words. ` + ` stands between two.
+/// Returns the predicates of a trait object, of all further words, separated by ` + `.
 pub fn existentials(alloc: Global, words: &Words) -> Result<Vec<ExistentialCall>, Unread> {
     let mut existentials = Vec::new(alloc);
     for part in words.rest().split(" + ") {

@@ -31,7 +31,7 @@ pub struct Words<'a> {
 }
 
 impl<'a> Words<'a> {
-    /// Returns the words of the line. One space stands between two.
+    /// Returns the words of the line, separated by one space.
     pub fn new(line: &'a str) -> Words<'a> {
         Words { rest: line }
     }

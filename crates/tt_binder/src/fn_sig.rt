@@ -1,13 +1,17 @@
 //! The signatures of types.
 
-ghost use Rattle.std.specs.Prelude.{◌<◌, ◌↔◌, IsTrue};
+ghost use Rattle.std.specs.Prelude.{◌<◌, ◌↔◌, IsTrue, IfOk};
 ghost use Rattle.tt_kinds.specs.Bare.{bare_ty_shape};
+ghost use Rattle.tt_kinds.specs.Kinds.{binder_shape};
 ghost use Rattle.tt_kinds.specs.Shape.{IsPart};
+ghost use Rattle.tt_kinds.specs.Values.{fn_sig_shape};
 ghost use Rattle.tt_kinds.specs.declared.declaration.DeclarationSort.TheVariants as sort;
 ghost use Rattle.tt_kinds.specs.declared.table.Table.TheVariants.{ArgLists};
 ghost use Rattle.tt_kinds.specs.declared.ty_kind.TyKind.{TyKind};
 ghost use Rattle.tt_interner.specs.Declarations.{IsOfSort};
+ghost use Rattle.tt_interner.specs.Owned.{IsOwned};
 ghost use Rattle.tt_interner.specs.Rows.{size};
+ghost use Rattle.tt_interner.specs.Stored.{Extends};
 ghost use Rattle.tt_binder.specs.FnSig.{GivesFnSig, HasFnSig, InstantiatesSig};
 
 use crate::instantiate::Instantiate;
@@ -31,11 +35,13 @@ pub trait TypeSignature: Sized {
     /// it.
     ///
     /// The signature of a function item is refused where [`Instantiate::instantiate`] of the declared one is. The others
-    /// build nothing and are never refused.
+    /// build nothing and are never refused. The signature's handles are this interner's.
     fn fn_sig(self, cx: &mut Interner) -> Result<Binder<FnSig>, Refusal>
         requires sig { HasFnSig cx.old.rows (kind_of self) }
         requires parts { IsPart (size cx.old.rows) (bare_ty_shape (kind_of self)) }
-        ensures { GivesFnSig (kind_of self) cx.old result cx.new };
+        ensures gives { GivesFnSig (kind_of self) cx.old result cx.new }
+        ensures extends { Extends cx.old cx.new }
+        ensures owned { IfOk result (λ sig. IsOwned (binder_shape fn_sig_shape) cx.new sig) };
 }
 
 // Returns the signature of a function as it is declared, instantiated with these arguments.
@@ -46,7 +52,9 @@ fn instantiated_sig(
 ) -> Result<Binder<FnSig>, Refusal>
     requires id { IsOfSort cx.old.rows sort.Fn id.number }
     requires args { args.number < size cx.old.rows ArgLists }
-    ensures { InstantiatesSig (record { number = id.number }) args cx.old result cx.new }
+    ensures gives { InstantiatesSig (record { number = id.number }) args cx.old result cx.new }
+    ensures extends { Extends cx.old cx.new }
+    ensures owned { IfOk result (λ sig. IsOwned (binder_shape fn_sig_shape) cx.new sig) }
 {
     let sig = cx.fn_sig_of(id);
     match sig.instantiate(cx, args) {
@@ -70,10 +78,11 @@ impl TypeSignature for TyKind {
         match self {
             TyKind::FnPtr(types, header) => Ok(types.with(header)),
             TyKind::FnDef(id, args) => instantiated_sig(cx, id, args),
-            TyKind::Error(_) => Ok(Binder::bind_with_vars(
-                FnSig::dummy(),
-                BoundVarKinds::default(),
-            )),
+            TyKind::Error(_) => {
+                // The lists of the signature without types are the empty ones, which each interner has.
+                cx.are_rows();
+                Ok(Binder::bind_with_vars(FnSig::dummy(), BoundVarKinds::default()))
+            },
             _ => unreachable!(),
         }
     }

@@ -1,7 +1,7 @@
 -- The entries of definitions, and what the rows say of them.
 use Rattle.std.proofs.Common.{◌≡◌, ◌↔◌, IsTrue, take, Bor, ⊎_elim, ℕ, zero, suc, ◌<◌, ◌≤◌, ◌+◌, Bool, true, false, cond, if◌then◌else◌, eqb, List, [], ◌∷◌, ◌++◌, length, map, slice_get, All, Option, Some, None, is_some, Result, Ok, Err, refl, sym, ap, subst, ◌∙◌, arith}
 use Rattle.std.specs.Map.{lookup}
-use Rattle.std.specs.Option.{option_map, option_copied}
+use Rattle.std.specs.Option.{option_map, option_copied, option_or}
 use Rattle.std.specs.declared.alloc.Global.{Global}
 use Rattle.std.specs.declared.vec.Vec.{Vec}
 use Rattle.std.proofs.lemmas.Bool.{eqb-true, eq-eqb, false≢true}
@@ -19,8 +19,8 @@ use Rattle.tt_kinds.specs.declared.variant.FieldDef.{FieldDef}
 use Rattle.tt_kinds.specs.declared.variant.VariantDef.{VariantDef}
 use Rattle.tt_kinds.specs.declared.id.Id.{Id}
 use Rattle.tt_kinds.specs.declared.table.Table.TheVariants.{Definitions}
-use Rattle.tt_interner.specs.Rows.{Row, type_row, const_row, pat_row, predicate_row, existential_row, clauses_row, tys_row, consts_row, args_row, pats_row, vars_row, existentials_row, assumptions_row, text_row, declared_row, defined_row, is_in, table, size, IsNew, IsWellFormed, AreRows, Grows}
-use Rattle.tt_interner.specs.Definitions.{variants_among, variants_of, IsDefined, HasOwnName, IsOwnField, IsOwnVariant, FitsDeclaration, Defines}
+use Rattle.tt_interner.specs.Rows.{Row, defined_row, is_in, table, size, IsNew, IsWellFormed, AreRows, Grows}
+use Rattle.tt_interner.specs.Definitions.{variants_in, variants_among, variants_of, IsDefined, HasOwnName, IsOwnField, IsOwnVariant, FitsDeclaration, Defines}
 use Rattle.tt_interner.specs.Stored.{Terms, IsAt, Adds}
 use Rattle.tt_interner.specs.Tables.{Entry, Tables, AreTables, entries_of, defined_entries, no_info}
 use Rattle.tt_interner.proofs.RowLaws.{table-own, table-other, row-old, place_cases}
@@ -31,6 +31,10 @@ use Rattle.tt_interner.proofs.FoundLaws.{IsNew-from_table}
 abbrev kept_rows : {S : Type 0} → List (Id S × Vec VariantDef Global) → List Row
 kept_rows es = map (λ (e : Entry). e.row) (defined_entries es)
 
+-- a definition's variants, without their vectors
+abbrev variants : Vec VariantDef Global → List Variant
+variants vs = map variant_of vs.items
+
 -- one definition more
 pub defined_entries-push : {S : Type 0} (es es' : List (Id S × Vec VariantDef Global)) (id : Id S) (vs : Vec VariantDef Global) → es' ≡ es ++ (id, vs) ∷ []
     → defined_entries es' ≡ defined_entries es ++ record { row = defined_row id.number (map variant_of vs.items); info = no_info } ∷ []
@@ -39,31 +43,29 @@ defined_entries-push es es' id vs more =
 
 -- what the rows define is what a look-up finds
 variants-kept : {S : Type 0} (n : ℕ) (es : List (Id S × Vec VariantDef Global))
-    → variants_among n (kept_rows es) ≡ option_map (λ (vs : Vec VariantDef Global). map variant_of vs.items) (lookup (λ (k : Id S). eqb n k.number) es)
+    → variants_among n (kept_rows es) ≡ option_map variants (lookup (λ (k : Id S). eqb n k.number) es)
 variants-kept n [] = refl
-variants-kept {S} n (e ∷ es) = by (eqb n e.0.number) refl (variants-kept n es)
+variants-kept {S} n (e ∷ es) = by (eqb n e.0.number) (variants-kept n es)
   where
-    by : (b : Bool) → eqb n e.0.number ≡ b → variants_among n (kept_rows es) ≡ option_map (λ (vs : Vec VariantDef Global). map variant_of vs.items) (lookup (λ (k : Id S). eqb n k.number) es)
-        → variants_among n (kept_rows (e ∷ es)) ≡ option_map (λ (vs : Vec VariantDef Global). map variant_of vs.items) (lookup (λ (k : Id S). eqb n k.number) (e ∷ es))
-    by true p rest = ap (λ b. if b then Some (map variant_of e.1.items) else variants_among n (kept_rows es)) p ∙ sym (ap (λ b. option_map (λ (vs : Vec VariantDef Global). map variant_of vs.items) (cond b (Some e.1) (lookup (λ (k : Id S). eqb n k.number) es))) p)
-    by false p rest = ap (λ b. if b then Some (map variant_of e.1.items) else variants_among n (kept_rows es)) p ∙ rest ∙ sym (ap (λ b. option_map (λ (vs : Vec VariantDef Global). map variant_of vs.items) (cond b (Some e.1) (lookup (λ (k : Id S). eqb n k.number) es))) p)
+    by : (b : Bool) → variants_among n (kept_rows es) ≡ option_map variants (lookup (λ (k : Id S). eqb n k.number) es)
+        → option_or (if b then Some (variants e.1) else None) (variants_among n (kept_rows es)) ≡ option_map variants (cond b (Some e.1) (lookup (λ (k : Id S). eqb n k.number) es))
+    by true rest = refl
+    by false rest = rest
+
+-- a row that defines a data type has its variants
+defined_by : (n : ℕ) (vs : List Variant) → variants_in n (defined_row n vs) ≡ Some vs
+defined_by n vs = rw (eq-eqb n n refl) refl
 
 -- no row is another data type's
-IsNew-defined : {S : Type 0} (n : ℕ) (us : List Variant) (es : List (Id S × Vec VariantDef Global)) → variants_among n (kept_rows es) ≡ None → IsNew (defined_row n us) (kept_rows es)
+IsNew-defined : (n : ℕ) (us : List Variant) (rs : List Row) → variants_among n rs ≡ None → IsNew (defined_row n us) rs
 unfolding IsNew
 IsNew-defined n us [] none = tt
-IsNew-defined {S} n us (e ∷ es) none = by (eqb n e.0.number) refl (IsNew-defined n us es)
+IsNew-defined n us (r ∷ rs) none = by (variants_in n r) refl (IsNew-defined n us rs) none
   where
-    number_in : Row → ℕ
-    number_in (defined_row m vs) = m
-    number_in _ = 0
-
-    by : (b : Bool) → eqb n e.0.number ≡ b → (variants_among n (kept_rows es) ≡ None → IsNew (defined_row n us) (kept_rows es)) → IsNew (defined_row n us) (kept_rows (e ∷ es))
-    by true p rest = absurd (none-some _ (sym none ∙ ap (λ b. if b then Some (map variant_of e.1.items) else variants_among n (kept_rows es)) p))
-    by false p rest = (
-      λ same. let apart : eqb n e.0.number ≡ true = eq-eqb n e.0.number (sym (ap number_in same)) in cc,
-      rest (sym (ap (λ b. if b then Some (map variant_of e.1.items) else variants_among n (kept_rows es)) p) ∙ none),
-    )
+    by : (o : Option (List Variant)) → variants_in n r ≡ o → (variants_among n rs ≡ None → IsNew (defined_row n us) rs)
+        → option_or o (variants_among n rs) ≡ None → IsNew (defined_row n us) (r ∷ rs)
+    by None e rest none = (λ same. none-some us (sym e ∙ ap (variants_in n) same ∙ defined_by n us), rest none)
+    by (Some vs) e rest none = absurd (none-some vs (sym none))
 
 -- what the rows say of the definitions that are kept
 module _ {S : Type 0} (rows : List Row) (ts : Tables) (limit : ℕ) (are : AreTables rows ts limit) (es : List (Id S × Vec VariantDef Global)) (is : entries_of ts Definitions ≡ defined_entries es) where
@@ -73,37 +75,23 @@ module _ {S : Type 0} (rows : List Row) (ts : Tables) (limit : ℕ) (are : AreTa
   pub defined_count : length es ≡ size rows Definitions
   defined_count = sym (ap length has_rows ∙ length-map (defined_entries es) (λ (e : Entry). e.row) ∙ length-map es (λ e. record { row = defined_row e.0.number (map variant_of e.1.items); info = no_info }))
 
-  pub variants-found : (n : ℕ) → variants_of rows n ≡ option_map (λ (vs : Vec VariantDef Global). map variant_of vs.items) (lookup (λ (k : Id S). eqb n k.number) es)
+  pub variants-found : (n : ℕ) → variants_of rows n ≡ option_map variants (lookup (λ (k : Id S). eqb n k.number) es)
   unfolding variants_of
   variants-found n = ap (variants_among n) has_rows ∙ variants-kept n es
 
   pub defined_new : (n : ℕ) (us : List Variant) → variants_of rows n ≡ None → IsNew (defined_row n us) rows
   unfolding variants_of
-  defined_new n us none = IsNew-from_table (defined_row n us) rows (subst (IsNew (defined_row n us)) (sym has_rows) (IsNew-defined n us es (sym (ap (variants_among n) has_rows) ∙ none)))
+  defined_new n us none = IsNew-from_table (defined_row n us) rows (subst (IsNew (defined_row n us)) (sym has_rows) (IsNew-defined n us (kept_rows es) (sym (ap (variants_among n) has_rows) ∙ none)))
 
 -- a definition that is found is found among more rows
 among-append : (n : ℕ) (rs more : List Row) (vs : List Variant) → variants_among n rs ≡ Some vs → variants_among n (rs ++ more) ≡ Some vs
 among-append n [] more vs e = absurd (none-some vs e)
-among-append n (defined_row m us ∷ rs) more vs e = by (eqb n m) refl (among-append n rs more vs)
+among-append n (r ∷ rs) more vs e = by (variants_in n r) (among-append n rs more vs) e
   where
-    by : (b : Bool) → eqb n m ≡ b → (variants_among n rs ≡ Some vs → variants_among n (rs ++ more) ≡ Some vs) → variants_among n ((defined_row m us ∷ rs) ++ more) ≡ Some vs
-    by true p rest = rw p (sym (ap (λ b. if b then Some us else variants_among n rs) p) ∙ e)
-    by false p rest = rw p (rest (sym (ap (λ b. if b then Some us else variants_among n rs) p) ∙ e))
-among-append n (type_row k ∷ rs) more vs e = among-append n rs more vs e
-among-append n (const_row k ∷ rs) more vs e = among-append n rs more vs e
-among-append n (pat_row k ∷ rs) more vs e = among-append n rs more vs e
-among-append n (predicate_row k ∷ rs) more vs e = among-append n rs more vs e
-among-append n (existential_row k ∷ rs) more vs e = among-append n rs more vs e
-among-append n (clauses_row k ∷ rs) more vs e = among-append n rs more vs e
-among-append n (tys_row k ∷ rs) more vs e = among-append n rs more vs e
-among-append n (consts_row k ∷ rs) more vs e = among-append n rs more vs e
-among-append n (args_row k ∷ rs) more vs e = among-append n rs more vs e
-among-append n (pats_row k ∷ rs) more vs e = among-append n rs more vs e
-among-append n (vars_row k ∷ rs) more vs e = among-append n rs more vs e
-among-append n (existentials_row k ∷ rs) more vs e = among-append n rs more vs e
-among-append n (assumptions_row k ∷ rs) more vs e = among-append n rs more vs e
-among-append n (text_row k ∷ rs) more vs e = among-append n rs more vs e
-among-append n (declared_row i d ∷ rs) more vs e = among-append n rs more vs e
+    by : (o : Option (List Variant)) → (variants_among n rs ≡ Some vs → variants_among n (rs ++ more) ≡ Some vs)
+        → option_or o (variants_among n rs) ≡ Some vs → option_or o (variants_among n (rs ++ more)) ≡ Some vs
+    by None rest e = rest e
+    by (Some us) rest e = e
 
 variants-more : (r : Row) (rows : List Row) (n : ℕ) (vs : List Variant) → variants_of rows n ≡ Some vs → variants_of (r ∷ rows) n ≡ Some vs
 unfolding variants_of
@@ -123,27 +111,13 @@ variants-grow old new g n vs e = ap (λ rows. variants_of rows n) g.kept ∙ var
 
 -- what was added is found, where nothing was before
 among-last : (n : ℕ) (rs : List Row) (vs : List Variant) → variants_among n rs ≡ None → variants_among n (rs ++ defined_row n vs ∷ []) ≡ Some vs
-among-last n [] vs none = rw (eq-eqb n n refl) refl
-among-last n (defined_row m us ∷ rs) vs none = by (eqb n m) refl (among-last n rs vs)
+among-last n [] vs none = ap (λ o. option_or o None) (defined_by n vs)
+among-last n (r ∷ rs) vs none = by (variants_in n r) (among-last n rs vs) none
   where
-    by : (b : Bool) → eqb n m ≡ b → (variants_among n rs ≡ None → variants_among n (rs ++ defined_row n vs ∷ []) ≡ Some vs) → variants_among n ((defined_row m us ∷ rs) ++ defined_row n vs ∷ []) ≡ Some vs
-    by true p rest = absurd (none-some us (sym none ∙ ap (λ b. if b then Some us else variants_among n rs) p))
-    by false p rest = rw p (rest (sym (ap (λ b. if b then Some us else variants_among n rs) p) ∙ none))
-among-last n (type_row k ∷ rs) vs e = among-last n rs vs e
-among-last n (const_row k ∷ rs) vs e = among-last n rs vs e
-among-last n (pat_row k ∷ rs) vs e = among-last n rs vs e
-among-last n (predicate_row k ∷ rs) vs e = among-last n rs vs e
-among-last n (existential_row k ∷ rs) vs e = among-last n rs vs e
-among-last n (clauses_row k ∷ rs) vs e = among-last n rs vs e
-among-last n (tys_row k ∷ rs) vs e = among-last n rs vs e
-among-last n (consts_row k ∷ rs) vs e = among-last n rs vs e
-among-last n (args_row k ∷ rs) vs e = among-last n rs vs e
-among-last n (pats_row k ∷ rs) vs e = among-last n rs vs e
-among-last n (vars_row k ∷ rs) vs e = among-last n rs vs e
-among-last n (existentials_row k ∷ rs) vs e = among-last n rs vs e
-among-last n (assumptions_row k ∷ rs) vs e = among-last n rs vs e
-among-last n (text_row k ∷ rs) vs e = among-last n rs vs e
-among-last n (declared_row i d ∷ rs) vs e = among-last n rs vs e
+    by : (o : Option (List Variant)) → (variants_among n rs ≡ None → variants_among n (rs ++ defined_row n vs ∷ []) ≡ Some vs)
+        → option_or o (variants_among n rs) ≡ None → option_or o (variants_among n (rs ++ defined_row n vs ∷ [])) ≡ Some vs
+    by None rest none = rest none
+    by (Some us) rest none = absurd (none-some us (sym none))
 
 pub variants-new : (old new : List Row) (n : ℕ) (vs : List Variant) → new ≡ defined_row n vs ∷ old → variants_of old n ≡ None → variants_of new n ≡ Some vs
 unfolding variants_of
@@ -192,33 +166,24 @@ fields-few vs fits = (let same = length-map vs variant_of in let few = fits.0 in
         (All-head (λ (v : Variant). length v.fields ≤ greatest) (variant_of u) (map variant_of us) h)
         (unmapped us (All-tail (λ (v : Variant). length v.fields ≤ greatest) (variant_of u) (map variant_of us) h))
 
+-- a row that has the variants defines them
+defines : (n : ℕ) (r : Row) (vs : List Variant) → variants_in n r ≡ Some vs → r ≡ defined_row n vs
+defines n (defined_row m us) vs e = by (eqb n m) refl e
+  where
+    by : (b : Bool) → eqb n m ≡ b → (if b then Some us else None) ≡ Some vs → defined_row m us ≡ defined_row n vs
+    by true p e = let numbers : n ≡ m = eqb-true n m p in let same = same_Some us vs e in λ j. defined_row (sym numbers j) (same j)
+    by false p e = absurd (none-some vs e)
+defines n _ vs e = absurd (none-some vs e)
+
 -- the place of what is found
 among-place : (n : ℕ) (rs : List Row) (vs : List Variant) → variants_among n rs ≡ Some vs → (i : ℕ) × (slice_get rs i ≡ Some (defined_row n vs))
 among-place n [] vs e = absurd (none-some vs e)
-among-place n (defined_row m us ∷ rs) vs e = by (eqb n m) refl (among-place n rs vs)
+among-place n (r ∷ rs) vs e = by (variants_in n r) refl (among-place n rs vs) e
   where
-    by : (b : Bool) → eqb n m ≡ b → (variants_among n rs ≡ Some vs → (i : ℕ) × (slice_get rs i ≡ Some (defined_row n vs)))
-        → (i : ℕ) × (slice_get (defined_row m us ∷ rs) i ≡ Some (defined_row n vs))
-    by true p rest =
-        let numbers : n ≡ m = eqb-true n m p in
-        let variants = same_Some us vs (sym (ap (λ b. if b then Some us else variants_among n rs) p) ∙ e) in
-        (0, λ j. Some (defined_row (sym numbers j) (variants j)))
-    by false p rest = let there = rest (sym (ap (λ b. if b then Some us else variants_among n rs) p) ∙ e) in (suc there.0, there.1)
-among-place n (type_row k ∷ rs) vs e = let there = among-place n rs vs e in (suc there.0, there.1)
-among-place n (const_row k ∷ rs) vs e = let there = among-place n rs vs e in (suc there.0, there.1)
-among-place n (pat_row k ∷ rs) vs e = let there = among-place n rs vs e in (suc there.0, there.1)
-among-place n (predicate_row k ∷ rs) vs e = let there = among-place n rs vs e in (suc there.0, there.1)
-among-place n (existential_row k ∷ rs) vs e = let there = among-place n rs vs e in (suc there.0, there.1)
-among-place n (clauses_row k ∷ rs) vs e = let there = among-place n rs vs e in (suc there.0, there.1)
-among-place n (tys_row k ∷ rs) vs e = let there = among-place n rs vs e in (suc there.0, there.1)
-among-place n (consts_row k ∷ rs) vs e = let there = among-place n rs vs e in (suc there.0, there.1)
-among-place n (args_row k ∷ rs) vs e = let there = among-place n rs vs e in (suc there.0, there.1)
-among-place n (pats_row k ∷ rs) vs e = let there = among-place n rs vs e in (suc there.0, there.1)
-among-place n (vars_row k ∷ rs) vs e = let there = among-place n rs vs e in (suc there.0, there.1)
-among-place n (existentials_row k ∷ rs) vs e = let there = among-place n rs vs e in (suc there.0, there.1)
-among-place n (assumptions_row k ∷ rs) vs e = let there = among-place n rs vs e in (suc there.0, there.1)
-among-place n (text_row k ∷ rs) vs e = let there = among-place n rs vs e in (suc there.0, there.1)
-among-place n (declared_row i d ∷ rs) vs e = let there = among-place n rs vs e in (suc there.0, there.1)
+    by : (o : Option (List Variant)) → variants_in n r ≡ o → (variants_among n rs ≡ Some vs → (i : ℕ) × (slice_get rs i ≡ Some (defined_row n vs)))
+        → option_or o (variants_among n rs) ≡ Some vs → (i : ℕ) × (slice_get (r ∷ rs) i ≡ Some (defined_row n vs))
+    by None is rest e = let there = rest e in (suc there.0, there.1)
+    by (Some us) is rest e = (0, ap Some (defines n r vs (is ∙ e)))
 
 variants-at : (rows : List Row) (n : ℕ) (vs : List Variant) → variants_of rows n ≡ Some vs → (i : ℕ) × IsAt rows (defined_row n vs) i
 unfolding variants_of
@@ -257,13 +222,13 @@ module _ {S : Type 0} (rows : List Row) (ts : Tables) (limit : ℕ) (are : AreTa
     where
       by : (o : Option (Vec VariantDef Global)) → lookup (λ (k : Id S). eqb n k.number) es ≡ o → o ≡ None
       by None e = refl
-      by (Some vs) e = absurd (none-some (map variant_of vs.items) (sym (undefined rows n h) ∙ variants-found rows ts limit are es is n ∙ ap (option_map (λ (vs : Vec VariantDef Global). map variant_of vs.items)) e))
+      by (Some vs) e = absurd (none-some (map variant_of vs.items) (sym (undefined rows n h) ∙ variants-found rows ts limit are es is n ∙ ap (option_map variants) e))
 
   pub there : (n : ℕ) (vs : Vec VariantDef Global) → lookup (λ (k : Id S). eqb n k.number) es ≡ Some vs → variants_of rows n ≡ Some (map variant_of vs.items)
-  there n vs e = variants-found rows ts limit are es is n ∙ ap (option_map (λ (vs : Vec VariantDef Global). map variant_of vs.items)) e
+  there n vs e = variants-found rows ts limit are es is n ∙ ap (option_map variants) e
 
   pub absent : (n : ℕ) → lookup (λ (k : Id S). eqb n k.number) es ≡ None → IsDefined rows n → ⊥
-  absent n e h = false≢true (sym (ap is_some (variants-found rows ts limit are es is n ∙ ap (option_map (λ (vs : Vec VariantDef Global). map variant_of vs.items)) e)) ∙ h)
+  absent n e h = false≢true (sym (ap is_some (variants-found rows ts limit are es is n ∙ ap (option_map variants) e)) ∙ h)
 
 -- what a defining call promises of what it added
 pub Defines-added : {H : Type 0} (number : H → ℕ) (h : H) (old new : Terms) (n : ℕ) {us : List Variant} (vs : List Variant) → us ≡ vs → variants_of old.rows n ≡ None
@@ -290,7 +255,7 @@ mapped-some f (Some x) = refl
 pub defined_test : {S : Type 0} (rows : List Row) (ts : Tables) (limit : ℕ) (are : AreTables rows ts limit) (es : List (Id S × Vec VariantDef Global)) (is : entries_of ts Definitions ≡ defined_entries es)
     → (n : ℕ) → is_some (lookup (λ (k : Id S). eqb n k.number) es) ≡ is_some (variants_of rows n)
 defined_test rows ts limit are es is n =
-    mapped-some (λ (vs : Vec VariantDef Global). map variant_of vs.items) (lookup (λ k. eqb n k.number) es) ∙ sym (ap is_some (variants-found rows ts limit are es is n))
+    mapped-some variants (lookup (λ k. eqb n k.number) es) ∙ sym (ap is_some (variants-found rows ts limit are es is n))
 
 -- a loop over all variants, and their number, decide whether the declaration fits
 pub few-decides : (vs : List VariantDef) (i : ℕ) → length vs ≤ i → All (λ v. length v.fields.items ≤ greatest) (take i vs) → IsTrue (leb (length vs) greatest) ↔ FitsDeclaration vs

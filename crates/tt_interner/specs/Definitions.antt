@@ -1,6 +1,7 @@
 -- The definitions of data types, and the promise of a defining call.
 use Rattle.std.specs.Prelude.{◌≡◌, ℕ, ◌<◌, ◌≤◌, ◌==◌, List, [], ◌∷◌, length, Option, Some, None, is_some, IsTrue, Result, OnOk, OnErr, IfErr, if◌then◌else◌, ⊤}
 use Rattle.std.specs.List.{All}
+use Rattle.std.specs.Option.{option_or}
 use Rattle.tt_index.specs.Greatest.{greatest}
 use Rattle.tt_index.specs.declared.refusal.Refusal.{Refusal}
 use Rattle.tt_index.specs.declared.refusal.Refusal.TheVariants.{Memory}
@@ -12,11 +13,15 @@ use Rattle.tt_kinds.specs.declared.table.Table.TheVariants.{Definitions, Symbols
 use Rattle.tt_interner.specs.Rows.{Row, defined_row, table, size}
 use Rattle.tt_interner.specs.Stored.{Terms}
 
+-- the variants, if the row defines the data type of the number
+abbrev pub variants_in : ℕ → Row → Option (List Variant)
+variants_in n (defined_row m vs) = if n == m then Some vs else None
+variants_in n _ = None
+
 -- the variants in the first of the rows that defines the data type of the number
 abbrev pub variants_among : ℕ → List Row → Option (List Variant)
 variants_among n [] = None
-variants_among n (defined_row m vs ∷ rows) = if n == m then Some vs else variants_among n rows
-variants_among n (r ∷ rows) = variants_among n rows
+variants_among n (r ∷ rows) = option_or (variants_in n r) (variants_among n rows)
 
 -- the variants of the data type of the number, if it is defined
 unfoldable pub variants_of : List Row → ℕ → Option (List Variant)

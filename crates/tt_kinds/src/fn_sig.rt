@@ -118,9 +118,10 @@ impl FnSigKind {
         self.flags >= 128
     }
 
-    /// Returns the index of the splatted argument, if there is one.
+    /// Returns the index of the splatted argument, if there is one. [`FnSigKind::set_splat`] takes it as it is.
     pub fn splat(self) -> Option<u16>
-        ensures { result ≡ splat_in self }
+        ensures is { result ≡ splat_in self }
+        ensures fits { FitsSplat result }
     {
         if self.splat == 65535 {
             None
@@ -201,7 +202,8 @@ impl FnHeader {
 
     /// Returns the index of the splatted argument, if there is one.
     pub fn splat(self) -> Option<u16>
-        ensures { result ≡ splat_in self.fn_sig_kind }
+        ensures is { result ≡ splat_in self.fn_sig_kind }
+        ensures fits { FitsSplat result }
     {
         self.fn_sig_kind.splat()
     }
@@ -263,7 +265,8 @@ impl FnSig {
 
     /// Returns the index of the splatted argument, if there is one.
     pub fn splat(self) -> Option<u16>
-        ensures { result ≡ splat_in self.fn_sig_kind }
+        ensures is { result ≡ splat_in self.fn_sig_kind }
+        ensures fits { FitsSplat result }
     {
         let FnSig { fn_sig_kind, .. } = self;
         fn_sig_kind.splat()
@@ -353,7 +356,8 @@ impl Binder<FnSig> {
 
     /// Returns the index of the splatted argument, if there is one.
     pub fn splat(self) -> Option<u16>
-        ensures { result ≡ splat_in self.value.fn_sig_kind }
+        ensures is { result ≡ splat_in self.value.fn_sig_kind }
+        ensures fits { FitsSplat result }
     {
         self.fn_sig_kind().splat()
     }

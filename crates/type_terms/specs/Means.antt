@@ -87,7 +87,7 @@ table_at earlier p = table_of (term_at earlier p)
 abbrev pub any : ℕ → Named
 any p = record { want = of_any; position = p }
 
--- the positions of ids that a call names, except for the one in which a call declares something
+-- the positions of ids that a call names, except for the trait or implementation that a declaration names
 abbrev pub id_positions : Call → List Named
 id_positions (call.Ty k) = ty_ids k
 id_positions (call.Const k) = const_ids k

@@ -1,7 +1,7 @@
 //! The steps of the guide, docs/GUIDE.md.
 
 ghost use Rattle.std.specs.Prelude.{IfOk};
-ghost use Rattle.tt_kinds.specs.Kinds.{ty_shape};
+ghost use Rattle.tt_kinds.specs.Kinds.{binder_shape, ty_shape};
 ghost use Rattle.tt_interner.specs.Owned.{IsOwned};
 ghost use Rattle.tt_interner.specs.Stored.{Extends};
 
@@ -194,7 +194,10 @@ fn function_item(cx: &mut Interner, id: FunctionId, argument: Ty) -> Result<Ty, 
 }
 
 // Returns what a call of a value of this type returns.
-fn output_of(cx: &mut Interner, callee: Ty) -> Result<Binder<Ty>, Fault> {
+fn output_of(cx: &mut Interner, callee: Ty) -> Result<Binder<Ty>, Fault>
+    ensures extends { Extends cx.old cx.new }
+    ensures owned { IfOk result (λ output. IsOwned (binder_shape ty_shape) cx.new output) }
+{
     if !callee.is_owned(cx) {
         return Err(Fault::Foreign);
     }
