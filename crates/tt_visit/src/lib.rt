@@ -2,6 +2,7 @@
 #![tactic(auto)]
 
 mod bare;
+pub mod binder;
 mod containers;
 mod data;
 mod frame;
@@ -19,6 +20,7 @@ mod views;
 pub mod visitable;
 pub mod visitor;
 
+pub use binder::{BinderExt, EarlyBinderExt};
 pub use has_error::HasErrorVisitor;
 pub use has_escaping_vars::{FoundEscapingVars, HasEscapingVarsVisitor};
 pub use has_type_flags::{FoundFlags, HasTypeFlagsVisitor};

@@ -1,0 +1,80 @@
+//! Binders that bind nothing.
+
+ghost use Rattle.std.specs.Prelude.{None, Some, false, true, ◌<◌, ◌≡◌};
+ghost use Rattle.tt_kinds.specs.Handle.{handle};
+ghost use Rattle.tt_kinds.specs.Param.{holds_param};
+ghost use Rattle.tt_kinds.specs.Reading.{outer_binder};
+ghost use Rattle.tt_kinds.specs.Shape.{IsPart, fill};
+ghost use Rattle.tt_interner.specs.Rows.{meaning, size};
+
+use crate::queries::TypeVisitableExt;
+use crate::visitable::TypeVisitable;
+use tt_interner::Interner;
+use tt_kinds::{Binder, BoundVarKinds, EarlyBinder};
+
+/// Calls of a value under a binder that look at the value's variables.
+pub trait BinderExt<T: TypeVisitable>: Sized {
+    // The value under the binder.
+    ghost bound: { Self → T };
+
+    // The value under a binder of no variables.
+    ghost unbound: { T → Self };
+
+    /// Returns the value under a binder of no variables. No variable may escape the value, since the new binder would
+    /// capture it; [`TypeVisitableExt::has_escaping_bound_vars`] tests it.
+    fn dummy(cx: &Interner, value: T) -> Self
+        requires value { IsPart (size cx.now.rows) (T.shape value) }
+        requires closed { outer_binder (fill (meaning cx.now.rows) (T.shape value)) ≡ 0 }
+        ensures { result ≡ unbound value };
+
+    /// Returns the value without its binder, if no variable escapes it: none of this binder's, and none of a binder
+    /// further out. The value's handles have to be of this interner.
+    fn no_bound_vars(self, cx: &Interner) -> Option<T>
+        requires { IsPart (size cx.now.rows) (T.shape (bound self)) }
+        ensures closed { outer_binder (fill (meaning cx.now.rows) (T.shape (bound self))) ≡ 0 → result ≡ Some (bound self) }
+        ensures open { 0 < outer_binder (fill (meaning cx.now.rows) (T.shape (bound self))) → result ≡ None };
+}
+
+impl<T: TypeVisitable + Drop> BinderExt<T> for Binder<T> {
+    ghost bound = { λ binder. binder.value };
+
+    ghost unbound = { λ value. record { value = value; bound_vars = handle 0 } };
+
+    fn dummy(_cx: &Interner, value: T) -> Binder<T> {
+        Binder::bind_with_vars(value, BoundVarKinds::default())
+    }
+
+    fn no_bound_vars(self, cx: &Interner) -> Option<T> {
+        if self.as_ref().skip_binder().has_escaping_bound_vars(cx) {
+            None
+        } else {
+            Some(self.skip_binder())
+        }
+    }
+}
+
+/// Calls of a value in an item's declaration that look at the value's parameters.
+pub trait EarlyBinderExt<T: TypeVisitable>: Sized {
+    // The value in the declaration.
+    ghost declared: { Self → T };
+
+    /// Returns the value as it is declared, if no parameter occurs in it. The value's handles have to be of this
+    /// interner.
+    fn no_bound_vars(self, cx: &Interner) -> Option<T>
+        requires { IsPart (size cx.now.rows) (T.shape (declared self)) }
+        ensures none { holds_param (fill (meaning cx.now.rows) (T.shape (declared self))) ≡ false → result ≡ Some (declared self) }
+        ensures some { holds_param (fill (meaning cx.now.rows) (T.shape (declared self))) ≡ true → result ≡ None };
+}
+
+impl<T: TypeVisitable + Drop> EarlyBinderExt<T> for EarlyBinder<T> {
+    ghost declared = { λ binder. binder.value };
+
+    fn no_bound_vars(self, cx: &Interner) -> Option<T> {
+        let value = self.skip_binder();
+        if value.has_param(cx) {
+            None
+        } else {
+            Some(value)
+        }
+    }
+}
