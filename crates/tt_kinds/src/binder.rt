@@ -1,8 +1,10 @@
 //! Binders: values together with the variables that they bind.
 
-ghost use Rattle.std.specs.Prelude.{◌≡◌};
+ghost use Rattle.std.specs.Fn.{FnOnceReturnsAt, FnOnceTakesAt};
+ghost use Rattle.std.specs.Prelude.{◌≡◌, MatchOption, MatchResult};
 
 use crate::handle::BoundVarKinds;
+use std::ops::Deref;
 
 /// A value under a binder: the variables that it binds have the index 0 directly inside.
 ///
@@ -35,10 +37,17 @@ impl<T> Binder<T> {
         ensures value { result.value.now ≡ self.now.value }
         ensures bound_vars { result.bound_vars ≡ self.now.bound_vars }
     {
-        Binder {
-            value: &self.value,
-            bound_vars: self.bound_vars,
-        }
+        Binder::bind_with_vars(&self.value, self.bound_vars)
+    }
+
+    /// Returns a reference to what the value dereferences to, under the same binder.
+    pub fn as_deref(&self) -> Binder<&T::Target>
+    where
+        T: Deref,
+        ensures value { T.deref_gives self.now.value result.value.now }
+        ensures bound_vars { result.bound_vars ≡ self.now.bound_vars }
+    {
+        Binder::bind_with_vars(self.value.deref(), self.bound_vars)
     }
 
     /// Returns the variables that the binder binds.
@@ -46,6 +55,62 @@ impl<T> Binder<T> {
         ensures { result ≡ self.now.bound_vars }
     {
         self.bound_vars
+    }
+
+    /// Returns what `f` makes of the value, under the same binder.
+    pub fn map_bound<F: FnOnce(T) -> U, U>(self, f: F) -> Binder<U>
+        requires { F.pre f self.value }
+        ensures value { F.post f self.value result.value }
+        ensures bound_vars { result.bound_vars ≡ self.bound_vars }
+    {
+        let Binder { value, bound_vars } = self;
+        Binder::bind_with_vars(f(value), bound_vars)
+    }
+
+    /// Returns what `f` makes of a reference to the value, under the same binder.
+    pub fn map_bound_ref<F: FnOnce(&T) -> U, U>(&self, f: F) -> Binder<U>
+        requires { FnOnceTakesAt F.FnOnce f self.now.value }
+        ensures value { FnOnceReturnsAt F.FnOnce f self.now.value result.value }
+        ensures bound_vars { result.bound_vars ≡ self.now.bound_vars }
+    {
+        self.as_ref().map_bound(f)
+    }
+
+    /// Returns what `f` makes of the value, under the same binder.
+    ///
+    /// # Errors
+    ///
+    /// Returns the error that `f` returns.
+    pub fn try_map_bound<F: FnOnce(T) -> Result<U, E>, U, E>(self, f: F) -> Result<Binder<U>, E>
+        requires { F.pre f self.value }
+        ensures { MatchResult
+            result
+            (λ mapped. F.post f self.value (Ok mapped.value) × (mapped.bound_vars ≡ self.bound_vars))
+            (λ error. F.post f self.value (Err error)) }
+    {
+        let Binder { value, bound_vars } = self;
+        let mapped = f(value)?;
+        Ok(Binder::bind_with_vars(mapped, bound_vars))
+    }
+
+    /// Returns another value under the same binder. It may use fewer of the binder's variables, and no other ones.
+    pub fn rebind<U>(&self, value: U) -> Binder<U>
+        ensures { result ≡ record { value = value; bound_vars = self.now.bound_vars } }
+    {
+        Binder::bind_with_vars(value, self.bound_vars)
+    }
+}
+
+impl<T> Binder<Option<T>> {
+    /// Returns the value that is there, under the same binder, or `None`.
+    pub fn transpose(self) -> Option<Binder<T>>
+        ensures { MatchOption
+            self.value
+            (result ≡ None)
+            (λ value. result ≡ Some (record { value = value; bound_vars = self.bound_vars })) }
+    {
+        let Binder { value, bound_vars } = self;
+        Some(Binder::bind_with_vars(value?, bound_vars))
     }
 }
 
@@ -70,6 +135,77 @@ impl<T> EarlyBinder<T> {
     {
         let EarlyBinder { value } = self;
         value
+    }
+
+    /// Returns a reference to the value, with its parameters still to be replaced.
+    pub fn as_ref(&self) -> EarlyBinder<&T>
+        ensures { result.value.now ≡ self.now.value }
+    {
+        EarlyBinder::bind(&self.value)
+    }
+
+    /// Returns what `f` makes of the value, with its parameters still to be replaced.
+    pub fn map_bound<F: FnOnce(T) -> U, U>(self, f: F) -> EarlyBinder<U>
+        requires { F.pre f self.value }
+        ensures { F.post f self.value result.value }
+    {
+        let EarlyBinder { value } = self;
+        EarlyBinder::bind(f(value))
+    }
+
+    /// Returns what `f` makes of a reference to the value, with its parameters still to be replaced.
+    pub fn map_bound_ref<F: FnOnce(&T) -> U, U>(&self, f: F) -> EarlyBinder<U>
+        requires { FnOnceTakesAt F.FnOnce f self.now.value }
+        ensures { FnOnceReturnsAt F.FnOnce f self.now.value result.value }
+    {
+        let lent = self.as_ref();
+        lent.map_bound(f)
+    }
+
+    /// Returns what `f` makes of the value, with its parameters still to be replaced.
+    ///
+    /// # Errors
+    ///
+    /// Returns the error that `f` returns.
+    pub fn try_map_bound<F: FnOnce(T) -> Result<U, E>, U, E>(
+        self,
+        f: F,
+    ) -> Result<EarlyBinder<U>, E>
+        requires { F.pre f self.value }
+        ensures { MatchResult
+            result
+            (λ mapped. F.post f self.value (Ok mapped.value))
+            (λ error. F.post f self.value (Err error)) }
+    {
+        let EarlyBinder { value } = self;
+        let mapped = f(value)?;
+        Ok(EarlyBinder::bind(mapped))
+    }
+
+    /// Returns another value of the same declaration, with its parameters still to be replaced.
+    pub fn rebind<U>(&self, value: U) -> EarlyBinder<U>
+        ensures { result ≡ record { value = value } }
+    {
+        EarlyBinder::bind(value)
+    }
+
+    /// Returns the value with each parameter replaced by itself, which is the value as it is declared.
+    ///
+    /// Inside of the item its parameters stand for themselves.
+    pub fn instantiate_identity(self) -> Unnormalized<T>
+        ensures { result ≡ record { value = self.value } }
+    {
+        Unnormalized::new(self.skip_binder())
+    }
+}
+
+impl<T> EarlyBinder<Option<T>> {
+    /// Returns the value that is there, with its parameters still to be replaced, or `None`.
+    pub fn transpose(self) -> Option<EarlyBinder<T>>
+        ensures { MatchOption self.value (result ≡ None) (λ value. result ≡ Some (record { value = value })) }
+    {
+        let EarlyBinder { value } = self;
+        Some(EarlyBinder::bind(value?))
     }
 }
 
