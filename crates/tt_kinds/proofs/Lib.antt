@@ -24,3 +24,5 @@ pub mod ForestLaws
 pub mod EqualityLaws
 pub mod KindEqualityLaws
 pub mod SignatureLaws
+pub mod IteratorLaws
+mod IteratorExamples

@@ -29,5 +29,7 @@ pub mod Kinds
 pub mod Values
 pub mod Bare
 pub mod Handle
+pub mod BinderIter
+pub mod EarlyBinderIter
 pub mod Id
 pub mod OwnFlags
