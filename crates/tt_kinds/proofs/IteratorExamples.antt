@@ -32,7 +32,7 @@ variables_stay = (λ h. differ (ap (λ vars. vars.number) h.2), λ h. differ (ap
 
 -- the items of a declared list come with their parameters still to be replaced, or marked as not normalized
 declared_come : GivesEarly {A = ℕ} gives_list (record { t = 7 ∷ [] }) (Some (record { value = 7 })) (record { t = [] })
-    × GivesMarked {A = ℕ} gives_list (record { it = 7 ∷ [] }) (Some (record { value = 7 })) (record { it = [] })
+    × GivesMarked {A = ℕ} gives_list (record { iter = 7 ∷ [] }) (Some (record { value = 7 })) (record { iter = [] })
 declared_come = (refl, refl)
 
 -- an iterator of pairs, each of which dereferences to its second number

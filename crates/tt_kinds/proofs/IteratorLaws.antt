@@ -59,7 +59,7 @@ module _ {S A : Type 0} (gives : S → Option A → S → Type 0) where
 
   pub marked_runs : (s : IterIdentity S) → RunsMarked gives s
   marked_runs =
-      made_runs {K = Unit {0}} (GivesMarked gives) gives (λ s. s.it) (λ _. tt) (λ _ item. record { value = item })
+      made_runs {K = Unit {0}} (GivesMarked gives) gives (λ s. s.iter) (λ _. tt) (λ _ item. record { value = item })
       (λ s y t k. (y.value, k, (refl, refl)))
       (λ s t k. k)
 

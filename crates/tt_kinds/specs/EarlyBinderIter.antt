@@ -19,12 +19,12 @@ module _ {S A : Type 0} (gives : S → Option A → S → Type 0) where
 
   -- a call gave what the inner iterator gave, marked as not normalized
   abbrev pub GivesMarked : IterIdentity S → Option (Unnormalized A) → IterIdentity S → Type 0
-  GivesMarked s r t = gives s.it (option_map (λ item. item.value) r) t.it
+  GivesMarked s r t = gives s.iter (option_map (λ item. item.value) r) t.iter
 
   -- calls in a row give the inner iterator's items, in its order, each marked as not normalized
   abbrev pub RunsMarked : IterIdentity S → Type 0
   RunsMarked s =
-      EachRunFrom GivesMarked s (λ p. SomeRun gives s.it (λ q. IsCopiedRun p q (λ item. record { value = item })))
+      EachRunFrom GivesMarked s (λ p. SomeRun gives s.iter (λ q. IsCopiedRun p q (λ item. record { value = item })))
 
   module _ {B : Type 0} (dereferences : A → B → Type 0) where
     -- a call gave what the inner iterator's item dereferences to, marked as not normalized

@@ -15,7 +15,7 @@ pub struct EarlyBinderIter<T> {
 /// An iterator of a declared value's items, each as it is declared. [`EarlyBinder::iter_identity`] makes it.
 #[derive(Drop)]
 pub struct IterIdentity<I> {
-    it: I,
+    iter: I,
 }
 
 /// An iterator of what a declared value's items dereference to, each as it is declared.
@@ -38,11 +38,11 @@ impl<T: IntoIterator> EarlyBinder<T> {
 
     /// Returns an iterator of the value's items, each with its parameters replaced by themselves.
     pub fn iter_identity(self) -> IterIdentity<T::IntoIter>
-        ensures it { T.into_iter_gives self.value result.it }
+        ensures iter { T.into_iter_gives self.value result.iter }
         ensures runs { RunsMarked T.IntoIter.next_gives result }
     {
         IterIdentity {
-            it: self.skip_binder().into_iter(),
+            iter: self.skip_binder().into_iter(),
         }
     }
 
@@ -82,36 +82,36 @@ impl<T: Iterator> Iterator for EarlyBinderIter<T> {
 impl<I: Iterator> Iterator for IterIdentity<I> {
     type Item = Unnormalized<I::Item>;
 
-    ghost can_next = { λ s. I.can_next s.it };
+    ghost can_next = { λ s. I.can_next s.iter };
 
     ghost next_gives = { GivesMarked I.next_gives };
 
-    ghost remaining = { λ s. I.remaining s.it };
+    ghost remaining = { λ s. I.remaining s.iter };
 
     fn next(&mut self) -> Option<Unnormalized<I::Item>> {
-        let value = self.it.next()?;
+        let value = self.iter.next()?;
         Some(Unnormalized::new(value))
     }
 
     fn size_hint(&self) -> (usize, Option<usize>) {
-        self.it.size_hint()
+        self.iter.size_hint()
     }
 }
 
 impl<I: DoubleEndedIterator> DoubleEndedIterator for IterIdentity<I> {
-    ghost can_next_back = { λ s. I.can_next_back s.it };
+    ghost can_next_back = { λ s. I.can_next_back s.iter };
 
     ghost next_back_gives = { GivesMarked I.next_back_gives };
 
     fn next_back(&mut self) -> Option<Unnormalized<I::Item>> {
-        let value = self.it.next_back()?;
+        let value = self.iter.next_back()?;
         Some(Unnormalized::new(value))
     }
 }
 
 impl<I: ExactSizeIterator> ExactSizeIterator for IterIdentity<I> {
     fn len(&self) -> usize {
-        self.it.len()
+        self.iter.len()
     }
 }
 
