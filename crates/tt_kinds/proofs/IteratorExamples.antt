@@ -1,7 +1,7 @@
 -- Iterators of lists of numbers, and what the iterators of binders make of them.
 use Rattle.std.proofs.Common.{◌≡◌, ℕ, List, [], ◌∷◌, Option, Some, None, option_map, refl, ap, arith}
 use Rattle.std.specs.Iterator.{YieldsFirst}
-use Rattle.tt_kinds.specs.Handle.{BoundVarKinds, handle}
+use Rattle.tt_kinds.specs.Handle.{handle}
 use Rattle.tt_kinds.specs.BinderIter.{GivesUnderBinder}
 use Rattle.tt_kinds.specs.EarlyBinderIter.{GivesEarly, GivesMarked, GivesCopied}
 use Rattle.tt_kinds.specs.declared.binder.Binder.{Binder}

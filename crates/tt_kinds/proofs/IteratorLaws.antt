@@ -2,7 +2,7 @@
 use Rattle.std.proofs.Common.{◌≡◌, refl, sym, ap, subst, ◌∙◌, Option, None, Some, List, map, length, slice_get, fold}
 use lib.ListN.{length-map}
 use Rattle.std.specs.List.{AllZip}
-use Rattle.std.specs.Iterator.Runs.{Run, EachRunFrom, SomeRun, IsCopiedRun}
+use Rattle.std.specs.Iterator.Runs.{EachRunFrom, SomeRun, IsCopiedRun}
 use Rattle.std.proofs.iter.runs.Adapters.{beside, alongside}
 use Rattle.std.proofs.iter.runs.Lists.{linked, linked_long, linked_pairs, AllZip-map, slice_get-map, folded_map}
 use Rattle.std.proofs.iter.runs.Made.{run, at-is}

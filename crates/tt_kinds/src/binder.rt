@@ -4,7 +4,7 @@ ghost use Rattle.std.specs.Fn.{FnOnceReturnsAt, FnOnceTakesAt};
 ghost use Rattle.std.specs.Prelude.{◌≡◌, MatchOption, MatchResult};
 
 use crate::handle::BoundVarKinds;
-use std::ops::Deref;
+use std::ops::AsDeref;
 
 /// A value under a binder: the variables that it binds have the index 0 directly inside.
 ///
@@ -40,14 +40,15 @@ impl<T> Binder<T> {
         Binder::bind_with_vars(&self.value, self.bound_vars)
     }
 
-    /// Returns a reference to what the value dereferences to, under the same binder.
-    pub fn as_deref(&self) -> Binder<&T::Target>
+    /// Returns a reference to what the value dereferences to, under the same binder: of a vector its slice, of a
+    /// `String` its text.
+    pub fn as_deref<'a>(&'a self) -> Binder<T::Shown>
     where
-        T: Deref,
-        ensures value { T.deref_gives self.now.value result.value.now }
+        T: AsDeref<'a>,
+        ensures value { T.as_deref_gives self.now.value result.value }
         ensures bound_vars { result.bound_vars ≡ self.now.bound_vars }
     {
-        Binder::bind_with_vars(self.value.deref(), self.bound_vars)
+        Binder::bind_with_vars(self.value.shown(), self.bound_vars)
     }
 
     /// Returns the variables that the binder binds.
