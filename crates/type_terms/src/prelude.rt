@@ -24,6 +24,6 @@ pub use tt_kinds::{
     TraitId, TraitPredicate, TraitRef, Ty, TyKind, Tys, VariantDef,
 };
 pub use tt_visit::{
-    InternedView, Next, Owned, TypeInspector, TypeSuperVisitable, TypeVisitable, TypeVisitableExt,
-    TypeVisitor, are_owned, inspect_types,
+    BinderExt, EarlyBinderExt, InternedView, Next, Owned, TypeInspector, TypeSuperVisitable,
+    TypeVisitable, TypeVisitableExt, TypeVisitor, are_owned, inspect_types,
 };

@@ -1,5 +1,6 @@
 //! Tests of building terms and of queries, and that calls succeed with ample memory.
 
+mod binders;
 mod lists;
 mod messages;
 mod orders;

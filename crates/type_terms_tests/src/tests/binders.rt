@@ -1,0 +1,121 @@
+//! Binders and early binders: what is made of the value inside, and of its items.
+
+use super::holds_anew;
+use test_terms::{NOT_OWNED, bound_region, one_region, param_ty, ref_ty, u32_ty};
+use type_terms::{
+    Binder, BinderExt, BoundVarKinds, EarlyBinder, EarlyBinderExt, Interner, Owned, Refusal,
+    TypeVisitableExt, Unnormalized,
+};
+
+// What calls of a binder make of the value inside stays under the same variables.
+#[test]
+fn values_under_a_binder(rt: HostRuntime) {
+    let vars = BoundVarKinds::from_number(3);
+    let bound = Binder::bind_with_vars(7_u32, vars);
+    assert_eq!(rt; bound.map_bound(|n| n / 2), Binder::bind_with_vars(3, vars));
+    assert_eq!(rt;
+        bound.map_bound_ref(|n| *n == 7),
+        Binder::bind_with_vars(true, vars)
+    );
+    assert_eq!(rt; bound.rebind('x'), Binder::bind_with_vars('x', vars));
+    let kept: Result<Binder<u32>, u32> = bound.try_map_bound(|n| if n > 6 {
+        Ok(n / 2)
+    } else {
+        Err(n)
+    });
+    assert_eq!(rt; kept, Ok(Binder::bind_with_vars(3, vars)));
+    let refused: Result<Binder<u32>, u32> = bound.try_map_bound(|n| if n > 7 {
+        Ok(n)
+    } else {
+        Err(n)
+    });
+    assert_eq!(rt; refused, Err(7));
+    assert_eq!(rt;
+        Binder::bind_with_vars(Some(7_u32), vars).transpose(),
+        Some(bound)
+    );
+    let none: Option<u32> = None;
+    assert_eq!(rt; Binder::bind_with_vars(none, vars).transpose(), None);
+}
+
+#[test]
+fn values_as_declared(rt: HostRuntime) {
+    let declared = EarlyBinder::bind(7_u32);
+    assert_eq!(rt; declared.map_bound(|n| n / 2), EarlyBinder::bind(3));
+    assert_eq!(rt;
+        declared.map_bound_ref(|n| *n == 7),
+        EarlyBinder::bind(true)
+    );
+    assert_eq!(rt; declared.rebind('x'), EarlyBinder::bind('x'));
+    let refused: Result<EarlyBinder<u32>, u32> = declared.try_map_bound(|n| Err(n));
+    assert_eq!(rt; refused, Err(7));
+    assert_eq!(rt; EarlyBinder::bind(Some(7_u32)).transpose(), Some(declared));
+    assert_eq!(rt; declared.instantiate_identity(), Unnormalized::new(7));
+}
+
+// The iterators of the items are those of the standard library, so its adapters and `for` take them.
+#[test]
+fn items_under_a_binder(rt: HostRuntime) {
+    let vars = BoundVarKinds::from_number(3);
+    let bound = Binder::bind_with_vars([5_u32, 6, 7], vars);
+    assert_eq!(rt; bound.iter().len(), 3);
+    let mut sum = 0_u64;
+    for item in bound.iter() {
+        assert_eq!(rt; item.bound_vars(), vars);
+        sum = 10 * (sum % 1000) + u64::from(item.skip_binder() % 10);
+    }
+    assert_eq!(rt; sum, 567);
+    assert_eq!(rt;
+        bound.iter().rev().next(),
+        Some(Binder::bind_with_vars(7, vars))
+    );
+    assert_eq!(rt; bound.iter().map(|item| item.skip_binder()).next(), Some(5));
+}
+
+#[test]
+fn items_as_declared(rt: HostRuntime) {
+    let items = [5_u32, 6, 7];
+    let declared = EarlyBinder::bind(items);
+    assert_eq!(rt;
+        declared.transpose_iter().next(),
+        Some(EarlyBinder::bind(5))
+    );
+    assert_eq!(rt; declared.iter_identity().len(), 3);
+    assert_eq!(rt;
+        declared.iter_identity().next_back(),
+        Some(Unnormalized::new(7))
+    );
+    let lent = EarlyBinder::bind(items.iter());
+    assert_eq!(rt;
+        lent.iter_identity_copied().next_back(),
+        Some(Unnormalized::new(7))
+    );
+}
+
+// A binder that binds nothing that occurs in the value can be taken off, and one whose value names an outer binder
+// can't.
+fn no_bound_vars_holds(cx: &mut Interner) -> Result<bool, Refusal> {
+    let number = u32_ty(cx)?;
+    let vars = one_region(cx)?;
+    let reference = ref_ty(cx, bound_region(1)?, number)?;
+    let param = param_ty(cx, 0)?;
+    if !number.is_owned(cx) || !reference.is_owned(cx) || !param.is_owned(cx) {
+        return Err(NOT_OWNED);
+    }
+    let open = Binder::bind_with_vars(reference, BoundVarKinds::default());
+    if number.has_escaping_bound_vars(cx) {
+        return Ok(false);
+    }
+    Ok(
+        Binder::dummy(cx, number) == Binder::bind_with_vars(number, BoundVarKinds::default())
+            && Binder::bind_with_vars(number, vars).no_bound_vars(cx) == Some(number)
+            && open.no_bound_vars(cx) == None
+            && EarlyBinder::bind(number).no_bound_vars(cx) == Some(number)
+            && EarlyBinder::bind(param).no_bound_vars(cx) == None,
+    )
+}
+
+#[test]
+fn binders_that_bind_nothing(rt: HostRuntime) {
+    holds_anew(&rt, rt.alloc(), no_bound_vars_holds);
+}
