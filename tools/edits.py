@@ -36,7 +36,7 @@ def called(text, parameters, between=""):
 
 def parts_of(header):
     """Returns the parameters, the trait and the type that the first line of an impl names; of no trait, an empty text."""
-    header, parameters = re.sub(r"^impl", "", " ".join(header.rstrip("{").split())), []
+    header, parameters = re.sub(r"^impl", "", " ".join(header.rstrip("{").split()).partition(" where ")[0]), []
     if header.startswith("<"):
         depth, end = 0, 0
         for end, letter in enumerate(header):
@@ -54,6 +54,9 @@ def owner_name(header):
     if "trait " in header:
         return re.search(r"trait (\w+)", header)[1]
     parameters, trait, subject = parts_of(header)
+    # A parameter inside the argument of a type is part of the checker's name, as in Binder<Option<T>>.
+    if not trait and "<" in subject.partition("<")[2]:
+        parameters = []
     return called(subject, parameters) + called(trait, parameters) if trait else called(subject, parameters, "+")
 
 
