@@ -1,6 +1,9 @@
 //! Binders and early binders: what is made of the value inside, and of its items.
 
+ghost use Rattle.std.specs.Prelude.{IfOk, map, ◌≡◌};
+
 use super::holds_anew;
+use std::alloc::{AllocError, Global};
 use test_terms::{NOT_OWNED, bound_region, one_region, param_ty, ref_ty, u32_ty};
 use type_terms::{
     Binder, BinderExt, BoundVarKinds, EarlyBinder, EarlyBinderExt, Interner, Owned, Refusal,
@@ -53,6 +56,16 @@ fn values_as_declared(rt: HostRuntime) {
     assert_eq!(rt; declared.instantiate_identity(), Unnormalized::new(7));
 }
 
+// Returns the items of a declared vector, each with its parameters still to be replaced.
+fn declared_items(
+    alloc: Global,
+    declared: EarlyBinder<Vec<u32>>,
+) -> Result<Vec<EarlyBinder<u32>>, AllocError>
+    ensures { IfOk result (λ items. items.items ≡ map (λ item. record { value = item }) declared.value.items) }
+{
+    declared.transpose_iter().collect(alloc)
+}
+
 // The iterators of the items are those of the standard library, so its adapters and `for` take them.
 #[test]
 fn items_under_a_binder(rt: HostRuntime) {
@@ -75,6 +88,14 @@ fn items_under_a_binder(rt: HostRuntime) {
 #[test]
 fn items_as_declared(rt: HostRuntime) {
     let items = [5_u32, 6, 7];
+    let first = match items.iter().copied().collect(rt.alloc()) {
+        Ok(vector) => match declared_items(rt.alloc(), EarlyBinder::bind(vector)) {
+            Ok(declared) => declared.first().copied(),
+            Err(_) => None,
+        },
+        Err(_) => None,
+    };
+    assert_eq!(rt; first, Some(EarlyBinder::bind(5)));
     let declared = EarlyBinder::bind(items);
     assert_eq!(rt;
         declared.transpose_iter().next(),
