@@ -7,6 +7,7 @@ pub mod ArgsSliceLaws
 pub mod Instantiation
 pub mod Instance
 pub mod Promise
+pub mod IterInstantiated
 pub mod Untouched
 pub mod Unpruned
 pub mod FnSig
