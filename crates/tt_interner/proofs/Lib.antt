@@ -21,6 +21,7 @@ pub mod NodeSteps
 pub mod EnvSteps
 pub mod ReadsLaws
 pub mod OwnedLaws
+pub mod CollectLaws
 pub mod AliasLaws
 mod EnvExamples
 mod AliasExamples

@@ -1,10 +1,29 @@
--- The promise of a call that builds the list of an iterator's items.
-use Rattle.std.specs.Prelude.{◌≡◌, ◌⊎◌, ℕ, List, Option, Result, Err}
-use Rattle.std.specs.Iterator.{Drains}
+-- The promises of calls that collect the items of an iterator.
+use Rattle.std.specs.Prelude.{◌≡◌, ◌⊎◌, ℕ, ◌*◌, ◌<◌, ◌^◌, List, Option, Some, Result, Ok, Err, length, map}
+use Rattle.std.specs.Iterator.{Drains, Yields, YieldsThen}
+use Rattle.std.specs.Mem.{type_size}
+use denote.RattleType.{RattleType}
 use Rattle.tt_index.specs.declared.refusal.Refusal.{Refusal}
 use Rattle.tt_index.specs.declared.refusal.Refusal.TheVariants.{Memory}
 use Rattle.tt_interner.specs.Rows.{Row}
-use Rattle.tt_interner.specs.Stored.{Terms, Builds}
+use Rattle.tt_interner.specs.Stored.{Terms, Builds, most_in_place}
+
+-- as many items as are collected without memory fit into memory side by side, as they do for each type in a Rust array
+abbrev pub FewFit : RattleType → Type 0
+FewFit T = most_in_place * type_size T < 2 ^ 63
+
+-- the iterator yields more items than are collected without memory
+abbrev pub YieldsMany : {I A : Type 0} → (I → Option A → I → Type 0) → I → Type 0
+YieldsMany {I} {A} gives it = (items : List A) × (rest : I) × Yields gives it items rest × (most_in_place < length items)
+
+-- the iterator yields more values than are collected without memory, and no error before them
+abbrev pub YieldsManyOk : {I T E : Type 0} → (I → Option (Result T E) → I → Type 0) → I → Type 0
+YieldsManyOk {I} {T} gives it =
+    (values : List T) × (rest : I) × Yields gives it (map Ok values) rest × (most_in_place < length values)
+
+-- the iterator yields some values, and then the error
+abbrev pub YieldsErr : {I T E : Type 0} → (I → Option (Result T E) → I → Type 0) → I → E → Type 0
+YieldsErr {I} {T} gives it e = (values : List T) × (rest : I) × YieldsThen gives it (map Ok values) (Some (Err e)) rest
 
 -- the row is built, or there is no memory to collect its items
 abbrev pub BuildsCollected : {H : Type 0} → Result H Refusal → (H → ℕ) → Terms → Terms → Row → Type 0

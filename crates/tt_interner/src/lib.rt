@@ -17,6 +17,7 @@ mod tables;
 pub mod ty_info;
 
 pub use alias::InternedAlias;
+pub use collect::{collect_and_apply, try_collect_and_apply};
 pub use env::{ConstBounds, ConstTyFault, FindConstTy};
 pub use fitting::{few_rows_fit, stored_indices_fit, stored_values_fit};
 pub use flag_computation::ForKind;

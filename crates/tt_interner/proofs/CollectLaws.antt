@@ -1,0 +1,43 @@
+-- Items that don't fit, and an iterator whose items are made values by a closure that does nothing else.
+use Rattle.std.proofs.Common.{◌≡◌, sym, ◌∙◌, ap, subst, ℕ, ◌*◌, ◌<◌, ◌^◌, List, [], ◌∷◌, Option, Some, Result, Ok, Err, map, arith}
+use Rattle.std.proofs.lemmas.Bool.Decides.{nat_tests}
+use Rattle.std.specs.Fn.{Called, Mut}
+use Rattle.std.specs.Iterator.{Drains, Yields}
+use Rattle.std.specs.Iterator.Adapters.{map_source, map_callee, map_steps}
+use Rattle.tt_interner.specs.Collect.{YieldsErr, YieldsMany, YieldsManyOk}
+use prog.Memory.{capped}
+
+-- of a size beyond an eighth of the memory, eight don't fit
+pub too-large : (size word : ℕ) → word ≡ capped size → 1152921504606846975 < word → 8 * size < 2 ^ 63 → ⊥
+too-large size word is large fits = grind (arith, nat_tests)
+
+module _ {S T E F : Type 0} (steps : S → Option T → S → Type 0) (g : Mut F (T × Unit {0}) (Result T E)) (f : F) where
+  -- the closure makes each item a value, and stays as it is
+  abbrev pub MakesValues : Type 0
+  MakesValues = (x : T) (r : Result T E) (f' : F) → Called g f (x, tt) r f' → (f' ≡ f) × (r ≡ Ok x)
+
+  -- the values are the items of the source
+  source-yields : (xs : List T) (m n : _) → map_callee m ≡ f → MakesValues → Yields (map_steps steps g) m (map Ok xs) n
+      → Yields steps (map_source m) xs (map_source n) × (map_callee n ≡ f)
+  source-yields [] m n is only same = (ap map_source same, sym (ap map_callee same) ∙ is)
+  source-yields (x ∷ xs) m n is only (j, (y, step, call), rest) =
+      let k = only y (Ok x) (map_callee j) (subst (λ h. Called g h (y, tt) (Ok x) (map_callee j)) is call) in
+      let more = source-yields xs j n k.0 only rest in
+      let same : x ≡ y = cc in
+      ((map_source j, subst (λ z. steps (map_source m) (Some z) (map_source j)) (sym same) step, more.0), more.1)
+
+  pub source-drains : (xs : List T) (m : _) (s : S) → map_source m ≡ s → map_callee m ≡ f
+      → Drains (map_steps steps g) m (map Ok xs) → MakesValues → Drains steps s xs
+  source-drains xs m s from is (u, (v, ys, none)) only =
+      subst (λ z. Drains steps z xs) from (map_source u, (map_source v, (source-yields xs m v is only ys).0, none.0))
+
+  pub source-many : (m : _) (s : S) → map_source m ≡ s → map_callee m ≡ f
+      → YieldsManyOk (map_steps steps g) m → MakesValues → YieldsMany steps s
+  source-many m s from is (xs, rest, ys, many) only =
+      subst (λ z. YieldsMany steps z) from (xs, map_source rest, (source-yields xs m rest is only ys).0, many)
+
+  -- there is no error among them
+  pub no-error : (e : E) (m : _) → map_callee m ≡ f → YieldsErr (map_steps steps g) m e → MakesValues → ⊥
+  no-error e m is (xs, rest, (t, ys, (y, step, call))) only =
+      let k = only y (Err e) (map_callee rest) (subst (λ h. Called g h (y, tt) (Err e) (map_callee rest)) (source-yields xs m t is only ys).1 call) in
+      cc (k.1)
