@@ -4,6 +4,7 @@
 //! refusal for want of memory, and at the end of the case.
 
 mod copies;
+mod iterators;
 mod lists;
 mod names;
 
@@ -30,6 +31,10 @@ pub enum Routine {
     RegionsAreCalled,
     /// Each declaration has its id, even if names repeat.
     IdsAreNew,
+    /// The items of a declared list are instantiated from both ends, and a refused one is used up.
+    ItemsAreInstantiated,
+    /// All items of an iterator are handed to a closure, unless one of them is an error.
+    ItemsAreCollected,
 }
 
 impl Routine {
@@ -45,6 +50,8 @@ impl Routine {
             "texts_are_symbols" => Some(Routine::TextsAreSymbols),
             "regions_are_called" => Some(Routine::RegionsAreCalled),
             "ids_are_new" => Some(Routine::IdsAreNew),
+            "items_are_instantiated" => Some(Routine::ItemsAreInstantiated),
+            "items_are_collected" => Some(Routine::ItemsAreCollected),
             _ => None,
         }
     }
@@ -61,6 +68,8 @@ impl Routine {
             Routine::TextsAreSymbols => names::texts_are_symbols(cx),
             Routine::RegionsAreCalled => names::regions_are_called(cx),
             Routine::IdsAreNew => names::ids_are_new(cx),
+            Routine::ItemsAreInstantiated => iterators::items_are_instantiated(cx),
+            Routine::ItemsAreCollected => iterators::items_are_collected(cx),
         }
     }
 }

@@ -1,0 +1,98 @@
+//! Iterators whose items are instantiated one by one, and items that are collected for a closure.
+
+ghost use Rattle.std.specs.List.{All};
+ghost use Rattle.std.specs.Prelude.{IsTrue, ◌<◌};
+ghost use Rattle.tt_interner.specs.Rows.{size};
+ghost use Rattle.tt_kinds.specs.declared.table.Table.TheVariants.{ArgLists, Types};
+
+use test_terms::{NOT_OWNED, args, param_ty, tuple, ty, u32_ty};
+use type_terms::{
+    EarlyBinder, GenericArg, GenericArgs, Interner, IterInstantiate, Refusal, Ty, TyKind, UintTy,
+    Unnormalized, collect_and_apply, try_collect_and_apply,
+};
+
+// Returns whether all of the types are the interner's.
+fn are_types(cx: &Interner, types: &[Ty]) -> bool
+    ensures { IsTrue result → All (λ ty. ty.number < size cx.now.rows Types) types.now }
+{
+    types.iter().all(|ty| cx.owns_ty(*ty))
+}
+
+// Returns the instance that a step gave, if it gave one and it isn't refused.
+fn instance(step: Option<Result<Unnormalized<Ty>, Refusal>>) -> Result<Option<Ty>, Refusal> {
+    match step {
+        Some(Ok(instance)) => Ok(Some(instance.skip_norm_wip())),
+        Some(Err(refusal)) => Err(refusal),
+        None => Ok(None),
+    }
+}
+
+// Returns the first type's instance and the last one's.
+fn first_and_last(
+    cx: &mut Interner,
+    types: &[Ty],
+    args: GenericArgs,
+) -> Result<(Option<Ty>, Option<Ty>), Refusal>
+    requires args { args.number < size cx.old.rows ArgLists }
+    requires types { All (λ ty. ty.number < size cx.old.rows Types) types.now }
+{
+    let mut iter = EarlyBinder::bind(types.iter().copied()).iter_instantiated(args);
+    let first = instance(iter.next(cx))?;
+    let last = instance(iter.next_back(cx))?;
+    Ok((first, last))
+}
+
+// Returns how many types there are after the first that is refused, if one is.
+fn left_after_refusal(
+    cx: &mut Interner,
+    types: &[Ty],
+    args: GenericArgs,
+) -> Result<Option<usize>, Refusal>
+    requires args { args.number < size cx.old.rows ArgLists }
+    requires types { All (λ ty. ty.number < size cx.old.rows Types) types.now }
+{
+    let mut iter = EarlyBinder::bind(types.iter().copied()).iter_instantiated(args);
+    let _first = instance(iter.next(cx))?;
+    match iter.next(cx) {
+        Some(Err(Refusal::ArgOutOfRange { index: 1 })) => Ok(Some(iter.len())),
+        Some(Err(refusal)) => Err(refusal),
+        Some(Ok(_)) | None => Ok(None),
+    }
+}
+
+/// The items of a declared list are instantiated from both ends, and a refused one is used up.
+pub fn items_are_instantiated(cx: &mut Interner) -> Result<bool, Refusal> {
+    let param = param_ty(cx, 0)?;
+    let other = param_ty(cx, 1)?;
+    let one = tuple(cx, &[param])?;
+    let byte = ty(cx, TyKind::Uint(UintTy::U8))?;
+    let number = u32_ty(cx)?;
+    let instance = tuple(cx, &[number])?;
+    let list = args(cx, &[GenericArg::from(number)])?;
+    if !cx.owns_args(list) || !are_types(cx, &[one, byte]) {
+        return Err(NOT_OWNED);
+    }
+    let ends = first_and_last(cx, &[one, byte], list)?;
+    if !cx.owns_args(list) || !are_types(cx, &[param, other, byte]) {
+        return Err(NOT_OWNED);
+    }
+    let left = left_after_refusal(cx, &[param, other, byte], list)?;
+    Ok(ends == (Some(instance), Some(byte)) && left == Some(1))
+}
+
+/// A sum of nine numbers, of none, and the first error among three.
+pub fn items_are_collected(cx: &mut Interner) -> Result<bool, Refusal> {
+    let sum = collect_and_apply(cx.allocator(), (1..10_u32).into_iter(), |items| {
+        items
+            .iter()
+            .fold(0_u32, |sum, item| sum.wrapping_add(*item))
+    })?;
+    let none = collect_and_apply(cx.allocator(), (0..0_u32).into_iter(), |items| items.len())?;
+    let results: [Result<u32, Refusal>; 3] = [Ok(1), Err(Refusal::NoArguments), Ok(2)];
+    let error: Result<usize, Refusal> = try_collect_and_apply(
+        cx.allocator(),
+        results.into_iter(),
+        |items| items.len(),
+    );
+    Ok(sum == 45 && none == 0 && error == Err(Refusal::NoArguments))
+}
