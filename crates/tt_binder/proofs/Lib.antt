@@ -11,6 +11,7 @@ pub mod ClauseLaws
 pub mod InstanceLaws
 pub mod StillLaws
 pub mod FieldLaws
+pub mod ValidateLaws
 mod UnprunedLaws
 mod UnprunedTrees
 mod UnprunedReasons
@@ -18,3 +19,4 @@ mod UnprunedExamples
 mod SharingExamples
 mod InstanceExamples
 mod FieldExamples
+mod ValidateExamples

@@ -10,5 +10,6 @@ pub mod Promise
 pub mod IterInstantiated
 pub mod Untouched
 pub mod Unpruned
+pub mod Validate
 pub mod FnSig
 pub mod Fields

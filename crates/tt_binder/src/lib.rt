@@ -10,6 +10,7 @@ pub mod iter_instantiated;
 mod shifted;
 pub mod slice_like;
 mod untouched;
+pub mod validate_bound_vars;
 
 pub use fields::DataTypes;
 pub use fn_sig::TypeSignature;
@@ -17,3 +18,4 @@ pub use instantiate::{Instantiate, pruning_is_unseen};
 pub use iter_instantiated::{IterInstantiate, IterInstantiated, IterInstantiatedCopied};
 pub use slice_like::SliceLike;
 pub use untouched::is_untouched;
+pub use validate_bound_vars::{ValidateBoundVars, WrongBoundVar, validation_is_exact};

@@ -1,0 +1,102 @@
+-- Variables of the binder just outside of a value, and whether they agree with its list.
+use Rattle.std.specs.Prelude.{◌≡◌, ◌⊎◌, ℕ, suc, ◌+◌, ◌-◌, ◌≤◌, List, ⊤}
+use Rattle.tt_index.specs.Greatest.{greatest}
+use Rattle.tt_kinds.specs.Count.{TypeAt}
+use Rattle.tt_kinds.specs.Handle.{BoundVarKinds}
+use Rattle.tt_kinds.specs.Label.{Name, VarKind}
+use Rattle.tt_kinds.specs.Matched.{IsEntryOf}
+use Rattle.tt_kinds.specs.Range.{IndicesFit}
+use Rattle.tt_kinds.specs.Shape.{vars_of}
+use Rattle.tt_kinds.specs.Tree.{Depth, at, Tree, Forest, param, bound, region, term, node, binder, none, also}
+use Rattle.tt_kinds.specs.declared.table.Table.TheVariants.{VarLists}
+use Rattle.tt_interner.specs.Rows.{Row, meaning}
+use Rattle.tt_visit.specs.Visit.{Visits, GoesOver, Breaks}
+use Rattle.tt_visit.specs.declared.visitor.Next.{Next}
+use Rattle.tt_visit.specs.declared.visitor.Next.TheVariants.{Skip, Descend}
+use Rattle.tt_fold.specs.Places.{IsIn}
+use Rattle.tt_binder.specs.declared.validate_bound_vars.WrongBoundVar.{WrongBoundVar}
+
+abbrev mutual
+  -- under k binders of a tree: each variable of the binder just outside of the tree has its entry in the list
+  pub Agrees : List (VarKind Name) → ℕ → Tree Depth → Type 0
+  Agrees vs k (param s i name) = ⊤
+  Agrees vs k (bound s d e) = d ≡ at k → IsEntryOf vs e
+  Agrees vs k (region r) = ⊤
+  Agrees vs k (term l ts) = Agrees_all vs k ts
+  Agrees vs k (node l ts) = Agrees_all vs k ts
+  Agrees vs k (binder ws t) = Agrees vs (suc k) t
+
+  pub Agrees_all : List (VarKind Name) → ℕ → Forest Depth → Type 0
+  Agrees_all vs k none = ⊤
+  Agrees_all vs k (also t ts) = Agrees vs k t × Agrees_all vs k ts
+
+-- the variables of a stored list
+abbrev pub vars_at : List Row → BoundVarKinds → List (VarKind Name)
+vars_at rows vars = vars_of (meaning rows VarLists vars.number)
+
+-- a validation: the list of the binder just outside of the value, and under how many binders of the value it is
+pub record Validation : Type 0 where
+  pub vars : List (VarKind Name)
+  pub depth : ℕ
+  -- the types that were entered and are remembered, with the number of binders above each
+  pub seen : List TypeAt
+
+-- a term at the validation's place
+abbrev pub here : Validation → Tree Depth → TypeAt
+here s t = record { standing = t; under = s.depth }
+
+-- the types that are remembered agree
+abbrev pub SeenAgree : Validation → Type 0
+SeenAgree s = (p : TypeAt) → IsIn p s.seen → Agrees s.vars p.under p.standing
+
+-- the term itself is no variable that disagrees
+abbrev pub RootAgrees : List (VarKind Name) → ℕ → Tree Depth → Type 0
+RootAgrees vs k (bound s d e) = Agrees vs k (bound s d e)
+RootAgrees vs k _ = ⊤
+
+-- among the places no other one is new
+abbrev pub AddsPlace : TypeAt → List TypeAt → List TypeAt → Type 0
+AddsPlace p old new = (q : TypeAt) → IsIn q new → (q ≡ p) ⊎ IsIn q old
+
+-- a term is entered, and perhaps remembered
+pub record Descends (s : Validation) (t : Tree Depth) (s' : Validation) : Type 0 where
+  pub agrees : RootAgrees s.vars s.depth t
+  pub vars : s'.vars ≡ s.vars
+  pub depth : s'.depth ≡ s.depth
+  pub seen : AddsPlace (here s t) s.seen s'.seen
+
+-- a term that agrees is skipped, and one that was entered before; one that is entered is no variable that disagrees
+abbrev pub Looks : Validation → Tree Depth → Next → Validation → Type 0
+Looks s t Skip s' = (Agrees s.vars s.depth t ⊎ IsIn (here s t) s.seen) × (s' ≡ s)
+Looks s t Descend s' = Descends s t s'
+
+-- a place is skipped if it is remembered, and else entered
+abbrev pub EntersOnce : TypeAt → List TypeAt → Next → List TypeAt → Type 0
+EntersOnce p old Skip new = IsIn p old × (new ≡ old)
+EntersOnce p old Descend new = AddsPlace p old new
+
+-- a binder is entered with one more binder to count, and skipped if there is no index for it
+abbrev pub Enters : Validation → Next → Validation → Type 0
+Enters s Descend s' = s' ≡ record { vars = s.vars; depth = s.depth + 1; seen = s.seen }
+Enters s Skip s' = (greatest ≤ s.depth) × (s' ≡ s)
+
+-- what disagrees breaks
+abbrev pub validate_hooks : Visits Validation WrongBoundVar
+validate_hooks = record {
+  on_region = λ s t s'. (s' ≡ s) × Agrees s.vars s.depth t;
+  region_breaks = λ s t b s'. Agrees s.vars s.depth t → ⊥;
+  on_error = λ s e s'. s' ≡ s;
+  error_breaks = λ s e b s'. ⊥;
+  on_term = Looks;
+  term_breaks = λ s t b s'. Agrees s.vars s.depth t → ⊥;
+  enter = λ s vs next s'. Enters s next s';
+  enter_breaks = λ s vs b s'. ⊥;
+  leave = λ s vs s'. s' ≡ record { vars = s.vars; depth = s.depth - 1; seen = s.seen };
+}
+
+-- A visit that goes to its end found that all agree, and one that breaks that one disagrees. A visitor that is new remembers
+-- nothing, and after a visit that goes to its end what it remembers agrees.
+abbrev pub ValidationIsExact : Type 0
+ValidationIsExact = (s s' : Validation) (t : Tree Depth)
+    → (GoesOver validate_hooks s t s' → IndicesFit t → SeenAgree s → Agrees s.vars s.depth t × SeenAgree s')
+    × ((b : WrongBoundVar) → Breaks validate_hooks s t b s' → Agrees s.vars s.depth t → ⊥)
