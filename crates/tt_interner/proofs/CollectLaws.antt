@@ -1,5 +1,5 @@
 -- Items that don't fit, and an iterator whose items are made values by a closure that does nothing else.
-use Rattle.std.proofs.Common.{◌≡◌, sym, ◌∙◌, ap, subst, ℕ, ◌*◌, ◌<◌, ◌^◌, List, [], ◌∷◌, Option, Some, Result, Ok, Err, map, arith}
+use Rattle.std.proofs.Common.{◌≡◌, refl, sym, ◌∙◌, ap, subst, ℕ, ◌*◌, ◌<◌, ◌^◌, List, [], ◌∷◌, ◌++◌, Option, Some, Result, Ok, Err, map, arith}
 use Rattle.std.proofs.lemmas.Bool.Decides.{nat_tests}
 use Rattle.std.specs.Fn.{Called, Mut}
 use Rattle.std.specs.Iterator.{Drains, Yields}
@@ -41,3 +41,16 @@ module _ {S T E F : Type 0} (steps : S → Option T → S → Type 0) (g : Mut F
   no-error e m is (xs, rest, (t, ys, (y, step, call))) only =
       let k = only y (Err e) (map_callee rest) (subst (λ h. Called g h (y, tt) (Err e) (map_callee rest)) (source-yields xs m t is only ys).1 call) in
       cc (k.1)
+
+module _ {I A : Type 0} (gives : I → Option A → I → Type 0) where
+  -- one more item at the end
+  pub yields-more : (s : I) (xs : List A) (t : I) (x : A) (u : I) → Yields gives s xs t → gives t (Some x) u → Yields gives s (xs ++ x ∷ []) u
+  yields-more s [] t x u same step = (u, subst (λ z. gives z (Some x) u) (sym same) step, refl)
+  yields-more s (y ∷ xs) t x u (j, first, rest) step = (j, first, yields-more j xs t x u rest step)
+
+  -- an item and all others after the first ones
+  pub drains-joined : (s : I) (xs : List A) (t : I) (x : A) (u : I) (ys : List A) → Yields gives s xs t → gives t (Some x) u → Drains gives u ys
+      → Drains gives s (xs ++ x ∷ ys)
+  drains-joined s [] t x u ys same step (v, (w, rest, none)) = (v, (w, (u, subst (λ z. gives z (Some x) u) (sym same) step, rest), none))
+  drains-joined s (y ∷ xs) t x u ys (j, first, more) step rest =
+      let k = drains-joined j xs t x u ys more step rest in (k.0, (k.1.0, (j, first, k.1.1), k.1.2))

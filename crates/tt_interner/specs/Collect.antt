@@ -1,5 +1,5 @@
 -- The promises of calls that collect the items of an iterator.
-use Rattle.std.specs.Prelude.{◌≡◌, ◌⊎◌, ℕ, ◌*◌, ◌<◌, ◌^◌, List, Option, Some, Result, Ok, Err, length, map}
+use Rattle.std.specs.Prelude.{◌≡◌, ◌⊎◌, ℕ, ◌*◌, ◌<◌, ◌^◌, List, Option, Some, Result, Ok, Err, MatchOption, length, map, take}
 use Rattle.std.specs.Iterator.{Drains, Yields, YieldsThen}
 use Rattle.std.specs.Mem.{type_size}
 use denote.RattleType.{RattleType}
@@ -25,11 +25,17 @@ YieldsManyOk {I} {T} gives it =
 abbrev pub YieldsErr : {I T E : Type 0} → (I → Option (Result T E) → I → Type 0) → I → E → Type 0
 YieldsErr {I} {T} gives it e = (values : List T) × (rest : I) × YieldsThen gives it (map Ok values) (Some (Err e)) rest
 
+-- the places hold the first items of the iterator: all count of them, or as many as there are places, and the next one
+abbrev pub Fills : {I A : Type 0} → (I → Option A → I → Type 0) → I → I → List A → ℕ → Option A → Type 0
+Fills {I} gives it rest places count next =
+    MatchOption next (Drains gives it (take count places)) (λ item. YieldsThen gives it places (Some item) rest)
+
 -- the row is built, or there is no memory to collect its items
 abbrev pub BuildsCollected : {H : Type 0} → Result H Refusal → (H → ℕ) → Terms → Terms → Row → Type 0
 BuildsCollected result number old new row = Builds result number old new row ⊎ ((result ≡ Err Memory) × (new ≡ old))
 
--- the result is the list of all items of the iterator, as a building call returns it, or a refusal of memory
+-- the result is the list of all items of the iterator, as a building call returns it, or there is no memory for many
 abbrev pub BuildsFrom : {H I A : Type 0} → Result H Refusal → (H → ℕ) → Terms → Terms → (List A → Row) → (I → Option A → I → Type 0) → I → Type 0
 BuildsFrom {A} result number old new row gives it =
-    ((items : List A) × Drains gives it items × Builds result number old new (row items)) ⊎ ((result ≡ Err Memory) × (new ≡ old))
+    ((items : List A) × Drains gives it items × Builds result number old new (row items))
+    ⊎ (YieldsMany gives it × (result ≡ Err Memory) × (new ≡ old))

@@ -6,17 +6,19 @@ ghost use Rattle.std.specs.Prelude.{
   IfSome,
   List,
   Ok,
+  length,
   map,
   ◌++◌,
   ◌∷◌,
   ◌≡◌,
+  ◌≤◌,
   ◌⊎◌,
 };
 ghost use Rattle.std.specs.Fn.{FnOnceReturnsAt, FnOnceTakesAt};
 ghost use Rattle.std.specs.Iterator.{Drains, IsFinite};
 ghost use Rattle.std.specs.Result.{result_transpose};
 ghost use Rattle.tt_index.specs.declared.refusal.Refusal.TheVariants.{Memory};
-ghost use Rattle.tt_interner.specs.Collect.{FewFit, YieldsErr, YieldsMany, YieldsManyOk};
+ghost use Rattle.tt_interner.specs.Collect.{FewFit, Fills, YieldsErr, YieldsMany, YieldsManyOk};
 
 use crate::children::MOST_IN_PLACE;
 use std::alloc::Global;
@@ -26,17 +28,44 @@ use tt_index::Refusal;
 // The size in bytes up to which [`MOST_IN_PLACE`] values fit into memory side by side.
 const MOST_BYTES: usize = isize::MAX as usize / MOST_IN_PLACE;
 
-// Returns all items, in order.
-pub(crate) fn collected<T: Drop, I: Iterator<Item = T> + Drop>(
+// Puts items into the places until these are full or no item is left. Returns how many places are filled, and the item
+// after the last place, if there is one.
+pub(crate) fn fill<T: Copy + Drop, I: Iterator<Item = T>>(
+    places: &mut [T],
+    iter: &mut I,
+) -> (usize, Option<T>)
+    requires can { I.can_next iter.old }
+    requires ends { IsFinite (I.remaining iter.old) }
+    ensures fills { Fills I.next_gives iter.old iter.new places.new result.0 result.1 }
+    ensures in_places { result.0 ≤ length places.old }
+    ensures full { IfSome result.1 (λ _. length places.old ≤ length places.new) }
+    ensures goes_on { IfSome result.1 (λ _. I.can_next iter.new × IsFinite (I.remaining iter.new)) }
+{
+    for index in 0..places.len() {
+        let Some(item) = iter.next() else {
+            return (index, None);
+        };
+        places[index] = item;
+    }
+    (places.len(), iter.next())
+}
+
+// Returns these items, the next one, and all that are still to come.
+pub(crate) fn collected<T: Copy + Drop, I: Iterator<Item = T> + Drop>(
     alloc: Global,
+    items: &[T],
+    next: T,
     iter: I,
 ) -> Result<Vec<T>, Refusal>
     requires can { I.can_next iter }
     requires ends { IsFinite (I.remaining iter) }
-    ensures ok { IfOk result (λ all. Drains I.next_gives iter all.items) }
+    ensures ok { IfOk result (λ all. (rest : List T) × Drains I.next_gives iter rest
+        × (all.items ≡ items.now ++ next ∷ rest)) }
     ensures err { IfErr result (λ e. e ≡ Memory) }
 {
-    let all: Vec<T> = iter.collect(alloc)?;
+    let mut all = Vec::from_slice(alloc, items)?;
+    all.push(next)?;
+    all.extend(iter)?;
     Ok(all)
 }
 

@@ -9,12 +9,13 @@ ghost use Rattle.tt_interner.specs.Rows.{args_row, size};
 ghost use Rattle.tt_interner.specs.Stored.{Builds};
 
 use super::Interner;
-use crate::collect::collected;
+use crate::children::MOST_IN_PLACE;
+use crate::collect::{collected, fill};
 use crate::flag_computation::items_info;
 use crate::handle::InternedList;
 use crate::tables::{find_or_add_list, find_or_insert, key_at};
 use tt_index::Refusal;
-use tt_kinds::{GenericArg, GenericArgs, Table};
+use tt_kinds::{GenericArg, GenericArgs, Table, Ty};
 
 impl Interner {
     /// Returns the list of these generic arguments, in order. They have to be of this interner;
@@ -45,10 +46,12 @@ impl Interner {
     /// Returns the list of all items of the iterator, in order, as [`Interner::mk_args`] does for a slice. The iterator
     /// has to end, and its items have to be of this interner.
     ///
-    /// Refused with `Memory` also if there is none for the items, which are collected before the list is looked up.
+    /// Up to eight items are collected in place, so a list of them that is stored already is found without allocation.
+    /// Refused with `Memory` also if there are more and no memory for them, since they are collected before the list is
+    /// looked up.
     pub fn mk_args_from_iter<I: Iterator<Item = GenericArg> + Drop>(
         &mut self,
-        iter: I,
+        mut iter: I,
     ) -> Result<GenericArgs, Refusal>
         requires can { I.can_next iter }
         requires ends { IsFinite (I.remaining iter) }
@@ -56,8 +59,15 @@ impl Interner {
             → AreParts (size self.old.rows) (item_shapes arg_shape items) }
         ensures { BuildsFrom result (λ list. list.number) self.old self.new args_row I.next_gives iter }
     {
-        let items = collected(self.allocator(), iter)?;
-        self.put_args(items)
+        let mut places = [GenericArg::from(Ty::from_number(0)); MOST_IN_PLACE];
+        let (count, next) = fill(&mut places, &mut iter);
+        match next {
+            None => self.mk_args(&places[..count]),
+            Some(next) => {
+                let items = collected(self.allocator(), &places, next, iter)?;
+                self.put_args(items)
+            }
+        }
     }
 
     // Returns the list of these items, with one look-up; a new list keeps the vector.

@@ -10,7 +10,8 @@ ghost use Rattle.tt_interner.specs.Rows.{type_row, tys_row, text_row, size};
 ghost use Rattle.tt_interner.specs.Stored.{Puts, Builds};
 
 use super::Interner;
-use crate::collect::collected;
+use crate::children::MOST_IN_PLACE;
+use crate::collect::{collected, fill};
 use crate::flag_computation::{items_info, ty_kind_info};
 use crate::handle::{InternedKind, InternedList};
 use crate::tables::{find_or_add, find_or_add_list, find_or_insert, key_at};
@@ -135,10 +136,12 @@ impl Interner {
     /// Returns the list of all items of the iterator, in order, as [`Interner::mk_tys`] does for a slice. The iterator
     /// has to end, and its items have to be of this interner.
     ///
-    /// Refused with `Memory` also if there is none for the items, which are collected before the list is looked up.
+    /// Up to eight items are collected in place, so a list of them that is stored already is found without allocation.
+    /// Refused with `Memory` also if there are more and no memory for them, since they are collected before the list is
+    /// looked up.
     pub fn mk_type_list_from_iter<I: Iterator<Item = Ty> + Drop>(
         &mut self,
-        iter: I,
+        mut iter: I,
     ) -> Result<Tys, Refusal>
         requires can { I.can_next iter }
         requires ends { IsFinite (I.remaining iter) }
@@ -146,8 +149,15 @@ impl Interner {
             → AreParts (size self.old.rows) (item_shapes ty_shape items) }
         ensures { BuildsFrom result (λ list. list.number) self.old self.new tys_row I.next_gives iter }
     {
-        let items = collected(self.allocator(), iter)?;
-        self.put_tys(items)
+        let mut places = [Ty::from_number(0); MOST_IN_PLACE];
+        let (count, next) = fill(&mut places, &mut iter);
+        match next {
+            None => self.mk_tys(&places[..count]),
+            Some(next) => {
+                let items = collected(self.allocator(), &places, next, iter)?;
+                self.put_tys(items)
+            }
+        }
     }
 
     // Returns the list of these items, with one look-up; a new list keeps the vector.
