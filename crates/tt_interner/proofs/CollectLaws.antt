@@ -1,4 +1,4 @@
--- Items that don't fit, and an iterator whose items are made values by a closure that does nothing else.
+-- Items that don't fit, iterators whose items are made values, and the items that are collected in parts.
 use Rattle.std.proofs.Common.{◌≡◌, refl, sym, ◌∙◌, ap, subst, ℕ, ◌*◌, ◌<◌, ◌^◌, List, [], ◌∷◌, ◌++◌, Option, Some, Result, Ok, Err, map, arith}
 use Rattle.std.proofs.lemmas.Bool.Decides.{nat_tests}
 use Rattle.std.specs.Fn.{Called, Mut}
