@@ -7,6 +7,7 @@ mod copies;
 mod iterators;
 mod lists;
 mod names;
+mod validation;
 
 use type_terms::{Interner, Refusal};
 
@@ -35,6 +36,8 @@ pub enum Routine {
     ItemsAreInstantiated,
     /// All items of an iterator are handed to a closure, unless one of them is an error.
     ItemsAreCollected,
+    /// Variables agree with their binder's list, or don't.
+    VariablesAreValidated,
 }
 
 impl Routine {
@@ -52,6 +55,7 @@ impl Routine {
             "ids_are_new" => Some(Routine::IdsAreNew),
             "items_are_instantiated" => Some(Routine::ItemsAreInstantiated),
             "items_are_collected" => Some(Routine::ItemsAreCollected),
+            "variables_are_validated" => Some(Routine::VariablesAreValidated),
             _ => None,
         }
     }
@@ -70,6 +74,7 @@ impl Routine {
             Routine::IdsAreNew => names::ids_are_new(cx),
             Routine::ItemsAreInstantiated => iterators::items_are_instantiated(cx),
             Routine::ItemsAreCollected => iterators::items_are_collected(cx),
+            Routine::VariablesAreValidated => validation::variables_are_validated(cx),
         }
     }
 }
