@@ -42,7 +42,7 @@ fn first_and_last(
     Ok((first, last))
 }
 
-// Returns how many types there are after the first that is refused, if one is.
+// Returns how many types are left after the first one, if that one has no argument.
 fn left_after_refusal(
     cx: &mut Interner,
     types: &[Ty],
@@ -52,7 +52,6 @@ fn left_after_refusal(
     requires types { All (λ ty. ty.number < size cx.old.rows Types) types.now }
 {
     let mut iter = EarlyBinder::bind(types.iter().copied()).iter_instantiated(args);
-    let _first = instance(iter.next(cx))?;
     match iter.next(cx) {
         Some(Err(Refusal::ArgOutOfRange { index: 1 })) => Ok(Some(iter.len())),
         Some(Err(refusal)) => Err(refusal),
@@ -73,10 +72,10 @@ pub fn items_are_instantiated(cx: &mut Interner) -> Result<bool, Refusal> {
         return Err(NOT_OWNED);
     }
     let ends = first_and_last(cx, &[one, byte], list)?;
-    if !cx.owns_args(list) || !are_types(cx, &[param, other, byte]) {
+    if !cx.owns_args(list) || !are_types(cx, &[other, byte]) {
         return Err(NOT_OWNED);
     }
-    let left = left_after_refusal(cx, &[param, other, byte], list)?;
+    let left = left_after_refusal(cx, &[other, byte], list)?;
     Ok(ends == (Some(instance), Some(byte)) && left == Some(1))
 }
 
@@ -88,11 +87,22 @@ pub fn items_are_collected(cx: &mut Interner) -> Result<bool, Refusal> {
             .fold(0_u32, |sum, item| sum.wrapping_add(*item))
     })?;
     let none = collect_and_apply(cx.allocator(), (0..0_u32).into_iter(), |items| items.len())?;
-    let results: [Result<u32, Refusal>; 3] = [Ok(1), Err(Refusal::NoArguments), Ok(2)];
-    let error: Result<usize, Refusal> = try_collect_and_apply(
+    Ok(sum == 45 && none == 0 && is_refused_at_error(cx))
+}
+
+// Returns whether collecting stops at the second of three results, which is an error.
+fn is_refused_at_error(cx: &Interner) -> bool {
+    let results = (1..4_u32).into_iter().map(|n| {
+        if n == 2 {
+            Err(Refusal::NoArguments)
+        } else {
+            Ok(n)
+        }
+    });
+    let outcome: Result<usize, Refusal> = try_collect_and_apply(
         cx.allocator(),
-        results.into_iter(),
+        results,
         |items| items.len(),
     );
-    Ok(sum == 45 && none == 0 && error == Err(Refusal::NoArguments))
+    matches!(outcome, Err(Refusal::NoArguments))
 }
