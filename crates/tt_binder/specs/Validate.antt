@@ -54,7 +54,7 @@ abbrev pub RootAgrees : List (VarKind Name) → ℕ → Tree Depth → Type 0
 RootAgrees vs k (bound s d e) = Agrees vs k (bound s d e)
 RootAgrees vs k _ = ⊤
 
--- among the places no other one is new
+-- each new place is this one, or was there before
 abbrev pub AddsPlace : TypeAt → List TypeAt → List TypeAt → Type 0
 AddsPlace p old new = (q : TypeAt) → IsIn q new → (q ≡ p) ⊎ IsIn q old
 

@@ -68,7 +68,7 @@ module _ {S A : Type 0} (gives : S → Option A → S → Type 0) where
     abbrev copies : Unit {0} → A → Unnormalized B → Unit {0} → Type 0
     copies _ x y _ = dereferences x y.value
 
-    -- each copy stands in the relation R, where all copies do
+    -- R relates each item to its copy, if it relates each item to whatever it dereferences to
     related : (R : A → Unnormalized B → Type 0) → ((x : A) (y : Unnormalized B) → dereferences x y.value → R x y)
         → (xs : List A) (ys : List (Unnormalized B)) → linked copies tt xs ys → AllZip R xs ys
     related R all xs ys = linked_pairs copies R tt (λ x y q k. (refl, all x y k)) xs ys
