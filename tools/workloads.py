@@ -1,7 +1,7 @@
 """The scripts that bin/bench measures `terms` with.
 
-A workload is a function of this module. It returns the lines of a script (docs/SCRIPT.md), the same ones each time: what is
-drawn at random is drawn by `random.Random.random`, whose numbers for a seed are the same in every version of Python.
+A workload is a function of this module. It returns the lines of a script (docs/SCRIPT.md), the same ones each time:
+what is random is drawn by `random.Random.random`, whose numbers for a seed are the same in every version of Python.
 """
 
 import random
@@ -71,7 +71,7 @@ def intern(calls, seed):
 
 
 def pair(levels):
-    """A parameter paired with itself, that pair with itself and so on, instantiated; then the same is built and compared."""
+    """A parameter paired with itself, that pair with itself and so on, instantiated; the same is built and compared."""
     script = Script()
     top, made = script.call("param 0"), script.call("i32")
     for _ in range(levels):
@@ -106,7 +106,7 @@ def wide(parts, lists, seed):
 
 
 def deep(levels, shifts):
-    """A chain of references, a function in place of each tenth, around a variable that escapes: shifted by 1, 2 and so on."""
+    """A chain of references, a function in place of each tenth, around a variable that escapes: shifted by 1, 2 .."""
     script = Script()
     at = script.call("u32")
     # No binder of the chain binds it, however many there are.
@@ -120,9 +120,10 @@ def deep(levels, shifts):
 
 
 def spread(levels):
-    """Each type is in the next one twice, outside and under a binder, around a parameter: instantiated, and shifted by 1.
+    """Each type is in the next one twice, outside and under a binder, around a parameter: instantiated and shifted.
 
-    The types of n levels are under 0 to n binders each, so that there are n(n + 1) / 2 pairs of a tuple and a number of binders.
+    The tuple at k levels from the outside is under 0 to k binders, so that n levels have some n^2 / 2 pairs of a tuple
+    and a number of binders.
     """
     script = Script()
     top = script.call("param 0")
@@ -144,8 +145,11 @@ TYPES, REGIONS = 4, 2
 
 
 class Mixed:
-    """The script of `mixed`. A type that others are built of is a triple: its position, a bound on its tree, and whether a
-    region variable may be in it."""
+    """The script of `mixed`.
+
+    A type that others are built of is a triple: its position, a bound on its tree, and whether a region variable may be
+    in it.
+    """
 
     def __init__(self, seed):
         self.chance, self.script = Chance(seed), Script()
@@ -215,7 +219,8 @@ class Mixed:
         self.script.call(f"info {at}" if self.chance.below(2) else f"equal {at} {self.chance.of(self.types)[0]}")
 
     def bad(self):
-        self.script.call(self.chance.of(("u9", "ref %1", "tuple %", "shift %1", "ref '^4294967041.0 %1", "tuple %0", "fn 0")))
+        words = ("u9", "ref %1", "tuple %", "shift %1", "ref '^4294967041.0 %1", "tuple %0", "fn 0")
+        self.script.call(self.chance.of(words))
 
 
 def mixed(calls, seed):
