@@ -1,0 +1,19 @@
+use Rattle.std.proofs.Common.{sym, subst}
+use Rattle.tt_kinds.specs.Shape.{AreParts}
+use Rattle.tt_kinds.specs.Kinds.{child_shapes, kind_form, kind_sort, parts_shapes}
+use Rattle.tt_interner.specs.Rows.{size}
+use Rattle.tt_interner.proofs.InfoLaws.{AreParts-append, form_has_parts}
+use Rattle.unify.proofs.PairLaws.{pairs_pushed}
+use Rattle.unify.proofs.pairs.push_parts.Goals as goal
+
+pub returns : goal.returns
+returns c =
+    let rows = c.args.cx.now.rows in
+    let left = form_has_parts (kind_sort c.node_kind-left.result) (size rows) (kind_form c.node_kind-left.result) c.node_kind-left.ensures.parts in
+    let right = form_has_parts (kind_sort c.node_kind-right.result) (size rows) (kind_form c.node_kind-right.result) c.node_kind-right.ensures.parts in
+    let old = AreParts-append (size rows) (child_shapes c.parts-old.result.first) (child_shapes c.parts-old.result.second)
+    (subst (λ p. AreParts (size rows) (parts_shapes p)) (sym c.parts-old.ensures) left) in
+    let new = AreParts-append (size rows) (child_shapes c.parts-new.result.first) (child_shapes c.parts-new.result.second)
+    (subst (λ p. AreParts (size rows) (parts_shapes p)) (sym c.parts-new.ensures) right) in
+    let first = pairs_pushed c.args.cx.now c.args.pairs.now.items c.push.new.self.items c.parts-old.result.second c.parts-new.result.second c.in_ok-push.ensures.items c.requires.pairs old.1 new.1 in
+    pairs_pushed c.args.cx.now c.push.new.self.items c.push-2.new.self.items c.parts-old.result.first c.parts-new.result.first c.in_ok-push-2.ensures.items first old.0 new.0

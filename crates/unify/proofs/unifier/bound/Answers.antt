@@ -1,0 +1,30 @@
+use Rattle.std.proofs.Common.{refl, ap, ◌∙◌, arith}
+use Rattle.tt_kinds.specs.Kinds.{ty_shape}
+use Rattle.tt_kinds.specs.Values.{option_shape}
+use Rattle.tt_interner.proofs.Growth.{Extends-trans}
+use Rattle.tt_interner.proofs.OwnedLaws.{list_still_owned}
+use Rattle.tt_fold.specs.Steps.{tree_in}
+use Rattle.unify.specs.Bindings.{substitution}
+use Rattle.unify.specs.Substitution.{apply}
+use Rattle.unify.proofs.BindingsLaws.{bound_length, bound_refines}
+use Rattle.unify.proofs.unifier.bound.Goals as goal
+
+pub replaced-requires-clause-value : goal.replaced-requires-clause-value
+replaced-requires-clause-value c = (
+  refl,
+  tt,
+  list_still_owned (option_shape ty_shape) c.args.cx.now c.occurs_in.new.cx c.args.entries.items
+      (Extends-trans c.in_ok-ty.ensures.extends c.in_ok-occurs_in.ensures.extends) c.requires.table.owned.2,
+)
+
+pub index_mut-requires : goal.index_mut-requires
+index_mut-requires c =
+    let same = bound_length c.occurs_in.new.cx c.replaced.new.cx c.args.variable c.in_ok-ty.ty c.args.entries.items c.in_ok-entries.entries.items c.in_ok-entries.ensures.plain in
+    omega (arith, same, c.requires.inside, c.as_usize.ensures.number, c.in_ok-entries.entries.ok)
+
+pub returns-clause-refined : goal.returns-clause-refined
+returns-clause-refined c =
+    bound_refines c.args.cx.now c.resolved.new.cx c.occurs_in.new.cx c.replaced.new.cx c.args.entries.items c.in_ok-entries.entries.items c.args.variable c.as_usize.result c.args.ty c.in_ok-ty.ty
+    c.requires.table c.in_ok-ty.ensures.extends c.in_ok-occurs_in.ensures.extends c.in_ok-entries.ensures.extends
+    c.in_ok-ty.ensures.owned (c.in_ok-ty.ensures.plain ∙ ap (λ xs. apply (substitution c.args.cx.now xs) (tree_in c.args.cx.now.rows (ty_shape c.args.ty))) c.as_slice.ensures.value) (c.in_ok-occurs_in.ensures.exact.0 c.if-branch.false)
+    c.in_ok-entries.ensures.owned c.in_ok-entries.ensures.plain c.requires.inside c.requires.unbound c.as_usize.ensures.number

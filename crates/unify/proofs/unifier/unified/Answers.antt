@@ -1,0 +1,23 @@
+use Rattle.std.proofs.Common.{subst, sym}
+use Rattle.tt_interner.specs.Owned.{AreOwned}
+use Rattle.tt_interner.proofs.Growth.{Extends-refl}
+use Rattle.unify.specs.Pairs.{pair_shape}
+use Rattle.unify.proofs.BindingsLaws.{refined_itself}
+use Rattle.unify.proofs.PairLaws.{pairs_popped, pairs_pushed}
+use Rattle.unify.proofs.unifier.unified.Goals as goal
+
+pub loop-init : goal.loop-init
+loop-init c = record {
+  extends = Extends-refl c.args.cx.now;
+  pairs = pairs_pushed c.args.cx.now c.new-pairs.result.items c.push.new.self.items _ _ c.in_ok-push.ensures.items
+      (subst (AreOwned pair_shape c.args.cx.now) (sym c.new-pairs.ensures.items) tt) (c.requires.left, tt) (c.requires.right, tt);
+  refined = refined_itself c.args.cx.now c.args.entries.items c.requires.table;
+}
+
+pub unify_pair-requires-clause-pairs : goal.unify_pair-requires-clause-pairs
+unify_pair-requires-clause-pairs c =
+    (pairs_popped c.loop.cx c.pop.new.self.items c.in-Some.pair (subst (AreOwned pair_shape c.loop.cx) c.in-Some.ensures.items c.loop.invariant.pairs)).0
+
+pub unify_pair-requires-clause-pair : goal.unify_pair-requires-clause-pair
+unify_pair-requires-clause-pair c =
+    (pairs_popped c.loop.cx c.pop.new.self.items c.in-Some.pair (subst (AreOwned pair_shape c.loop.cx) c.in-Some.ensures.items c.loop.invariant.pairs)).1

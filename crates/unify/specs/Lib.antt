@@ -1,0 +1,4 @@
+pub mod Bindings
+pub mod Pairs
+pub mod Resolver
+pub mod Substitution

@@ -1,0 +1,25 @@
+-- What a folder answers that applies a substitution.
+use Rattle.std.specs.Prelude.{◌≡◌, ℕ, Option, Some, None}
+use Rattle.tt_kinds.specs.declared.ty_kind.TyKind.{TyKind}
+use Rattle.tt_kinds.specs.declared.ty_kind.TyKind.TheVariants.{Infer}
+use Rattle.tt_kinds.specs.declared.ty_kind.InferTy.TheVariants.{TyVar}
+use Rattle.tt_kinds.specs.Tree.{Depth, Tree, term}
+use Rattle.tt_fold.specs.Walk.{Answer, replace, keep, descend}
+use Rattle.unify.specs.Substitution.{Substitution, bound_to, apply}
+use Rattle.unify.specs.Bindings.{read}
+
+-- the number of the variable that a kind is
+abbrev pub kind_variable : TyKind → Option ℕ
+kind_variable (Infer (TyVar v)) = Some v
+kind_variable _ = None
+
+-- what a tree is bound to, if it is a bound variable
+abbrev pub binding : Substitution → Tree Depth → Option (Tree Depth)
+binding σ (term l ts) = bound_to σ l
+binding σ _ = None
+
+-- It replaces a bound variable by its binding, keeps a tree that stays as it is, and enters a tree that isn't bound.
+pub data Resolves (table t : Tree Depth) : Answer → Type 0 where
+  put : {r : Tree Depth} → binding (read table) t ≡ Some r → Resolves table t (replace r)
+  kept : apply (read table) t ≡ t → Resolves table t keep
+  entered : binding (read table) t ≡ None → Resolves table t descend

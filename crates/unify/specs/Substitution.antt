@@ -1,0 +1,87 @@
+-- Substitution of types for inference variables, on plain trees.
+use Rattle.std.specs.Prelude.{◌≡◌, ℕ, Option, Some, None, ⊤}
+use Rattle.tt_kinds.specs.Label.{Name, Label, type_label, infer_type}
+use Rattle.tt_kinds.specs.declared.ty_kind.InferTy.TheVariants.{TyVar}
+use Rattle.tt_kinds.specs.Tree.{Depth, Tree, param, bound, region, term, node, binder, Forest, none, also}
+
+-- what each variable is bound to, by the variable's number
+abbrev pub Substitution : Type 0
+Substitution = ℕ → Option (Tree Depth)
+
+-- the number of the variable that a term of this label is
+abbrev pub variable_of : Label Name → Option ℕ
+variable_of (type_label (infer_type (TyVar v))) = Some v
+variable_of _ = None
+
+-- the number of the variable that a tree is
+abbrev pub variable_in : Tree Depth → Option ℕ
+variable_in (term l ts) = variable_of l
+variable_in _ = None
+
+-- what a term of this label is bound to
+abbrev pub bound_to : Substitution → Label Name → Option (Tree Depth)
+bound_to σ (type_label (infer_type (TyVar v))) = σ v
+bound_to σ _ = None
+
+-- the binding, or the tree itself if there is none
+abbrev pub or_else : Option (Tree Depth) → Tree Depth → Tree Depth
+or_else (Some r) t = r
+or_else None t = t
+
+module _ (σ : Substitution) where
+  abbrev mutual
+    -- the tree with each bound variable replaced by its binding
+    pub apply : Tree Depth → Tree Depth
+    apply (param o i name) = param o i name
+    apply (bound o d e) = bound o d e
+    apply (region r) = region r
+    apply (term l ts) = or_else (bound_to σ l) (term l (apply_all ts))
+    apply (node l ts) = node l (apply_all ts)
+    apply (binder vs t) = binder vs (apply t)
+
+    -- the same for trees in order
+    pub apply_all : Forest Depth → Forest Depth
+    apply_all none = none
+    apply_all (also t ts) = also (apply t) (apply_all ts)
+
+module _ (v : ℕ) where
+  abbrev mutual
+    -- the variable is nowhere in the tree
+    pub IsWithout : Tree Depth → Type 0
+    IsWithout (param o i name) = ⊤
+    IsWithout (bound o d e) = ⊤
+    IsWithout (region r) = ⊤
+    IsWithout (term l ts) = (variable_of l ≡ Some v → ⊥) × AreWithout ts
+    IsWithout (node l ts) = AreWithout ts
+    IsWithout (binder vs t) = IsWithout t
+
+    -- the same for trees in order
+    pub AreWithout : Forest Depth → Type 0
+    AreWithout none = ⊤
+    AreWithout (also t ts) = IsWithout t × AreWithout ts
+
+-- no bound variable is in the tree
+abbrev pub IsResolved : Substitution → Tree Depth → Type 0
+IsResolved σ t = (v : ℕ) (r : Tree Depth) → σ v ≡ Some r → IsWithout v t
+
+-- no bound variable is in what a variable is bound to
+abbrev pub IsIdempotent : Substitution → Type 0
+IsIdempotent σ = (v : ℕ) (r : Tree Depth) → σ v ≡ Some r → IsResolved σ r
+
+-- what was replaced before is replaced again: the new bindings are the old ones with further variables bound
+abbrev pub Refines : Substitution → Substitution → Type 0
+Refines σ σ' = (t : Tree Depth) → apply σ' (apply σ t) ≡ apply σ' t
+
+-- the variable alone is bound, to this tree
+pub record BindsOnly (σ : Substitution) (v : ℕ) (r : Tree Depth) : Type 0 where
+  pub own : σ v ≡ Some r
+  pub others : (w : ℕ) (b : Tree Depth) → σ w ≡ Some b → (w ≡ v) × (b ≡ r)
+
+-- what the binding becomes if τ is applied to it, or τ's binding if there is none
+abbrev pub then : Option (Tree Depth) → Substitution → ℕ → Option (Tree Depth)
+then (Some b) τ v = Some (apply τ b)
+then None τ v = τ v
+
+-- first σ, then τ
+abbrev pub IsComposition : Substitution → Substitution → Substitution → Type 0
+IsComposition σ τ σ' = (v : ℕ) → σ' v ≡ then (σ v) τ v

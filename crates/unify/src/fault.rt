@@ -1,0 +1,45 @@
+//! Why two types can't be made equal.
+
+ghost use Rattle.std.specs.Prelude.{◌≡◌};
+
+use std::alloc::{AllocError, AllocFailed};
+use type_terms::{Refusal, Ty, TyVid};
+
+/// Why a call of the unifier fails.
+#[derive(Clone, Copy, Debug, PartialEq, Eq, Drop)]
+pub enum Fault {
+    /// The two types differ, whatever their variables are bound to.
+    Mismatch,
+    /// The variable occurs in the type that it would be bound to, so that the type would have to contain itself.
+    Occurs(TyVid, Ty),
+    /// The variable would be bound to a type with bound variables of a binder around it, and be used outside of this
+    /// binder.
+    Escapes(TyVid, Ty),
+    /// The bindings that were found don't make the two types equal. No input is known for which this is returned; the
+    /// proof doesn't exclude it.
+    Unsolved,
+    /// The library refused a call: memory is short ([`Refusal::Memory`]), or a table is full ([`Refusal::TableFull`]).
+    Refused(Refusal),
+}
+
+impl From<Refusal> for Fault {
+    ghost use Rattle.unify.specs.declared.fault.Fault.TheVariants.{Refused};
+
+    ghost from_gives = { λ refusal fault. fault ≡ Refused refusal };
+
+    fn from(refusal: Refusal) -> Fault {
+        Fault::Refused(refusal)
+    }
+}
+
+impl From<AllocError> for Fault {
+    fn from(error: AllocError) -> Fault {
+        Fault::Refused(Refusal::from(error))
+    }
+}
+
+impl<T: Drop> From<AllocFailed<T>> for Fault {
+    fn from(failed: AllocFailed<T>) -> Fault {
+        Fault::Refused(Refusal::from(failed))
+    }
+}

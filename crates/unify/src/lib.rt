@@ -1,0 +1,15 @@
+//! First-order unification of types with inference variables, a client of `type_terms` with its proof.
+//!
+//! A [`Bindings`] table says what each inference variable is bound to. [`unify`] makes two types equal by binding
+//! variables, and [`Bindings::resolve`] replaces the bound variables of a type.
+#![tactic(auto)]
+
+pub mod bindings;
+pub mod fault;
+mod pairs;
+mod resolver;
+mod unifier;
+
+pub use bindings::Bindings;
+pub use fault::Fault;
+pub use unifier::unify;

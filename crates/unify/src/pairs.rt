@@ -1,0 +1,102 @@
+//! Pairs of children that are to be made equal, and the pairs that their parts are.
+
+ghost use Rattle.std.specs.Prelude.{◌≢◌, ◌<◌, ◌≡◌, IfSome, MatchOption, OnOk};
+ghost use Rattle.tt_kinds.specs.declared.table.Table.TheVariants as table;
+ghost use Rattle.tt_kinds.specs.declared.parts.Child.TheVariants as child_of;
+ghost use Rattle.tt_kinds.specs.Kinds.{child_shapes, list_shape};
+ghost use Rattle.tt_kinds.specs.Shape.{also, none};
+ghost use Rattle.tt_kinds.specs.Parts.{list_number, list_table, node_number, node_table};
+ghost use Rattle.tt_interner.specs.Owned.{AreOwned, IsOwned};
+ghost use Rattle.tt_interner.specs.Rows.{size};
+ghost use Rattle.unify.specs.Pairs.{pair_shape, IsNoList};
+
+use crate::fault::Fault;
+use type_terms::{Child, Interner, List, Node};
+
+/// Two children of terms that are to be made equal.
+#[derive(Clone, Copy)]
+pub struct Pair {
+    pub left: Child,
+    pub right: Child,
+}
+
+/// Pushes the pairs of the parts of two terms, which have kinds. Fails with [`Fault::Mismatch`] if the terms differ in
+/// more than their parts.
+pub fn push_parts(
+    cx: &Interner,
+    pairs: &mut Vec<Pair>,
+    left: Node,
+    right: Node,
+) -> Result<(), Fault>
+    requires left { node_number left < size cx.now.rows (node_table left) }
+    requires left_kind { node_table left ≢ table.ClauseLists }
+    requires right { node_number right < size cx.now.rows (node_table right) }
+    requires right_kind { node_table right ≢ table.ClauseLists }
+    requires pairs { AreOwned pair_shape cx.now pairs.old.items }
+    ensures { OnOk result (AreOwned pair_shape cx.now pairs.new.items) }
+{
+    let (left, right) = (cx.node_kind(left), cx.node_kind(right));
+    let (old, new) = (left.parts(), right.parts());
+    // Two kinds that are equal once their parts are.
+    if !old.are_like(&new) || left.with_parts(new) != right {
+        return Err(Fault::Mismatch);
+    }
+    pairs.push(Pair {
+        left: old.second,
+        right: new.second,
+    })?;
+    pairs.push(Pair {
+        left: old.first,
+        right: new.first,
+    })?;
+    Ok(())
+}
+
+/// Pushes the pairs of the items of two lists. Fails with [`Fault::Mismatch`] if they have not as many, or of other sorts.
+pub fn push_items(
+    cx: &Interner,
+    pairs: &mut Vec<Pair>,
+    left: List,
+    right: List,
+) -> Result<(), Fault>
+    requires left { list_number left < size cx.now.rows (list_table left) }
+    requires right { list_number right < size cx.now.rows (list_table right) }
+    requires pairs { AreOwned pair_shape cx.now pairs.old.items }
+    ensures { OnOk result (AreOwned pair_shape cx.now pairs.new.items) }
+{
+    let len = cx.list_len(left);
+    if left.sort() != right.sort() || len != cx.list_len(right) {
+        return Err(Fault::Mismatch);
+    }
+    for place in 0..len {
+        pairs.push(Pair {
+            left: cx.list_child(left, place),
+            right: cx.list_child(right, place),
+        })?;
+    }
+    Ok(())
+}
+
+/// Returns the list that the child is, if it is one.
+pub fn as_list(child: Child) -> Option<List>
+    ensures { MatchOption result (IsNoList child) (λ list. child_shapes child ≡ also (list_shape list) none) }
+{
+    match child {
+        Child::List(list) => Some(list),
+        Child::Node(node) => match node {
+            Node::Clauses(clauses) => Some(List::Clauses(clauses)),
+            _ => None,
+        },
+        _ => None,
+    }
+}
+
+/// Returns the term that the child is, if it is one.
+pub fn as_node(child: Child) -> Option<Node>
+    ensures { IfSome result (λ node. child ≡ child_of.Node node) }
+{
+    match child {
+        Child::Node(node) => Some(node),
+        _ => None,
+    }
+}

@@ -1,0 +1,256 @@
+//! Unification: a stack of pairs that are to be made equal, and the bindings that make the pairs before them equal.
+
+ghost use Rattle.std.specs.Prelude.{◌≡◌, ◌<◌, None, IfOk, IfSome, OnErr, OnOk, get_or, length};
+ghost use Rattle.tt_kinds.specs.Kinds.{ty_shape};
+ghost use Rattle.tt_fold.specs.Steps.{tree_in};
+ghost use Rattle.tt_interner.specs.Owned.{AreOwned, IsOwned};
+ghost use Rattle.tt_interner.specs.Stored.{Extends};
+ghost use Rattle.unify.specs.Bindings.{IsRefined, IsTable, substitution, table_shape};
+ghost use Rattle.unify.specs.Pairs.{pair_shape, IsNoList};
+ghost use Rattle.unify.specs.Substitution.{apply, Refines};
+
+use crate::bindings::Bindings;
+use crate::fault::Fault;
+use crate::pairs::{Pair, as_list, as_node, push_items, push_parts};
+use crate::resolver::{binding_of, occurs_in, replaced, resolved, variable_of};
+use indexmap::IndexMap;
+use type_terms::{Child, Interner, Node, Refusal, Ty, TyVid, TypeVisitableExt};
+
+// How many pairs one call compares at most.
+const MOST_PAIRS: u32 = u32::MAX;
+
+// Two types that were compared.
+#[derive(Clone, Copy, PartialEq, Eq, Hash)]
+struct Compared {
+    left: Ty,
+    right: Ty,
+}
+
+// Returns the type's binding, if it is a bound variable, and otherwise the type.
+fn looked_up(cx: &Interner, entries: &[Option<Ty>], ty: Ty) -> Ty
+    requires entries { IsOwned table_shape cx.now entries.now }
+    requires ty { IsOwned ty_shape cx.now ty }
+    ensures { IsOwned ty_shape cx.now result }
+{
+    binding_of(cx, entries, ty).unwrap_or(ty)
+}
+
+// Returns the variable that the type is, if it is a variable of the table and not bound.
+fn unbound_variable(cx: &Interner, entries: &[Option<Ty>], ty: Ty) -> Option<TyVid>
+    requires { IsOwned ty_shape cx.now ty }
+    ensures { IfSome result (λ v. (v < length entries.now) × (get_or entries.now v None ≡ None)) }
+{
+    match variable_of(cx, ty) {
+        Some(variable) => match entries.get(variable.as_usize()) {
+            Some(None) => Some(variable),
+            _ => None,
+        },
+        None => None,
+    }
+}
+
+// Binds the variable to the type, and puts the type in its place in all other bindings.
+#[tactic(auto, using(crate::proofs::BindingsLaws::extends_further))]
+fn bound(
+    cx: &mut Interner,
+    entries: Vec<Option<Ty>>,
+    variable: TyVid,
+    ty: Ty,
+) -> Result<Vec<Option<Ty>>, Fault>
+    requires table { IsTable cx.old entries.items }
+    requires ty { IsOwned ty_shape cx.old ty }
+    requires inside { variable < length entries.items }
+    requires unbound { get_or entries.items variable None ≡ None }
+    ensures extends { Extends cx.old cx.new }
+    ensures refined { IfOk result (λ e. IsRefined cx.old entries.items cx.new e.items) }
+{
+    let ty = resolved(cx, entries.as_slice(), ty)?;
+    if occurs_in(cx, variable, ty)? {
+        return Err(Fault::Occurs(variable, ty));
+    }
+    if ty.has_escaping_bound_vars(cx) {
+        return Err(Fault::Escapes(variable, ty));
+    }
+    let mut entries = replaced(cx, entries, variable, ty)?;
+    entries[variable.as_usize()] = Some(ty);
+    Ok(entries)
+}
+
+// Makes two types equal, or pushes the pairs of their parts.
+#[tactic(auto, using(crate::proofs::BindingsLaws::extends_further))]
+fn unify_types(
+    cx: &mut Interner,
+    entries: Vec<Option<Ty>>,
+    pairs: &mut Vec<Pair>,
+    compared: &mut IndexMap<Compared, ()>,
+    left: Ty,
+    right: Ty,
+) -> Result<Vec<Option<Ty>>, Fault>
+    requires table { IsTable cx.old entries.items }
+    requires pairs { AreOwned pair_shape cx.old pairs.old.items }
+    requires left { IsOwned ty_shape cx.old left }
+    requires right { IsOwned ty_shape cx.old right }
+    ensures extends { Extends cx.old cx.new }
+    ensures pairs { IfOk result (λ e. AreOwned pair_shape cx.new pairs.new.items) }
+    ensures refined { IfOk result (λ e. IsRefined cx.old entries.items cx.new e.items) }
+{
+    let left = looked_up(cx, entries.as_slice(), left);
+    let right = looked_up(cx, entries.as_slice(), right);
+    if left == right {
+        return Ok(entries);
+    }
+    if let Some(variable) = unbound_variable(cx, entries.as_slice(), left) {
+        return bound(cx, entries, variable, right);
+    }
+    if let Some(variable) = unbound_variable(cx, entries.as_slice(), right) {
+        return bound(cx, entries, variable, left);
+    }
+    if compared.insert(Compared { left, right }, ())?.is_none() {
+        push_parts(cx, pairs, Node::Ty(left), Node::Ty(right))?;
+    }
+    Ok(entries)
+}
+
+// Makes two terms that have kinds equal, or pushes the pairs of their parts.
+#[tactic(auto, using(crate::proofs::BindingsLaws::extends_further))]
+fn unify_terms(
+    cx: &mut Interner,
+    entries: Vec<Option<Ty>>,
+    pairs: &mut Vec<Pair>,
+    compared: &mut IndexMap<Compared, ()>,
+    pair: Pair,
+) -> Result<Vec<Option<Ty>>, Fault>
+    requires table { IsTable cx.old entries.items }
+    requires pairs { AreOwned pair_shape cx.old pairs.old.items }
+    requires pair { IsOwned pair_shape cx.old pair }
+    requires left { IsNoList pair.left }
+    requires right { IsNoList pair.right }
+    ensures extends { Extends cx.old cx.new }
+    ensures pairs { IfOk result (λ e. AreOwned pair_shape cx.new pairs.new.items) }
+    ensures refined { IfOk result (λ e. IsRefined cx.old entries.items cx.new e.items) }
+{
+    let Some(left) = as_node(pair.left) else {
+        return Err(Fault::Mismatch);
+    };
+    let Some(right) = as_node(pair.right) else {
+        return Err(Fault::Mismatch);
+    };
+    if let (Node::Ty(left), Node::Ty(right)) = (left, right) {
+        return unify_types(cx, entries, pairs, compared, left, right);
+    }
+    push_parts(cx, pairs, left, right)?;
+    Ok(entries)
+}
+
+// Makes two children equal, or pushes the pairs of their parts.
+#[tactic(auto, using(crate::proofs::BindingsLaws::extends_further))]
+fn unify_pair(
+    cx: &mut Interner,
+    entries: Vec<Option<Ty>>,
+    pairs: &mut Vec<Pair>,
+    compared: &mut IndexMap<Compared, ()>,
+    pair: Pair,
+) -> Result<Vec<Option<Ty>>, Fault>
+    requires table { IsTable cx.old entries.items }
+    requires pairs { AreOwned pair_shape cx.old pairs.old.items }
+    requires pair { IsOwned pair_shape cx.old pair }
+    ensures extends { Extends cx.old cx.new }
+    ensures pairs { IfOk result (λ e. AreOwned pair_shape cx.new pairs.new.items) }
+    ensures refined { IfOk result (λ e. IsRefined cx.old entries.items cx.new e.items) }
+{
+    if pair.left == pair.right {
+        return Ok(entries);
+    }
+    match as_list(pair.left) {
+        Some(left) => match as_list(pair.right) {
+            Some(right) => {
+                push_items(cx, pairs, left, right)?;
+                Ok(entries)
+            }
+            None => Err(Fault::Mismatch),
+        },
+        None => match as_list(pair.right) {
+            Some(_) => Err(Fault::Mismatch),
+            None => unify_terms(cx, entries, pairs, compared, pair),
+        },
+    }
+}
+
+// Returns the table with as few more variables bound as make the two types equal.
+#[tactic(auto, using(crate::proofs::BindingsLaws::extends_further))]
+fn unified(
+    cx: &mut Interner,
+    entries: Vec<Option<Ty>>,
+    left: Ty,
+    right: Ty,
+) -> Result<Vec<Option<Ty>>, Fault>
+    requires table { IsTable cx.old entries.items }
+    requires left { IsOwned ty_shape cx.old left }
+    requires right { IsOwned ty_shape cx.old right }
+    ensures extends { Extends cx.old cx.new }
+    ensures refined { IfOk result (λ e. IsRefined cx.old entries.items cx.new e.items) }
+{
+    let mut entries = entries;
+    let mut compared = IndexMap::new(cx.allocator());
+    let mut pairs = Vec::new(cx.allocator());
+    pairs.push(Pair {
+        left: Child::Node(Node::Ty(left)),
+        right: Child::Node(Node::Ty(right)),
+    })?;
+    for _ in 0..MOST_PAIRS {
+        let Some(pair) = pairs.pop() else {
+            return Ok(entries);
+        };
+        entries = unify_pair(cx, entries, &mut pairs, &mut compared, pair)?;
+    }
+    Err(Fault::Refused(Refusal::TableFull))
+}
+
+// Returns the table that makes the two types equal.
+#[tactic(auto, using(crate::proofs::BindingsLaws::extends_further))]
+fn solution(cx: &mut Interner, bindings: &Bindings, left: Ty, right: Ty) -> Result<Bindings, Fault>
+    requires table { IsTable cx.old bindings.now }
+    requires left { IsOwned ty_shape cx.old left }
+    requires right { IsOwned ty_shape cx.old right }
+    ensures extends { Extends cx.old cx.new }
+    ensures refined { IfOk result (λ b. IsRefined cx.old bindings.now cx.new b) }
+    ensures unified { IfOk result (λ b. apply (substitution cx.new b) (tree_in cx.new.rows (ty_shape left))
+        ≡ apply (substitution cx.new b) (tree_in cx.new.rows (ty_shape right))) }
+{
+    let entries = unified(cx, bindings.copied(cx)?, left, right)?;
+    let solution = Bindings { entries };
+    // The solution is checked, so the proof needs nothing of the pairs but that their handles are the interner's.
+    let resolved_left = solution.resolve(cx, left)?;
+    let resolved_right = solution.resolve(cx, right)?;
+    if resolved_left != resolved_right {
+        return Err(Fault::Unsolved);
+    }
+    Ok(solution)
+}
+
+/// Makes two types equal by binding variables of the table. Types, constants, patterns and lists are compared by their
+/// parts, and regions by equality. Two types are compared once.
+///
+/// # Errors
+///
+/// If a call fails, the bindings are as before.
+///
+/// - [`Fault::Mismatch`] if the types differ where neither is a variable that is unbound
+/// - [`Fault::Occurs`] if a variable would be bound to a type that it occurs in
+/// - [`Fault::Escapes`] if a variable would be bound to a type that holds a bound variable of a binder around it
+/// - [`Fault::Refused`] if the library refuses a call
+#[tactic(auto, using(crate::proofs::BindingsLaws::extends_further))]
+pub fn unify(cx: &mut Interner, bindings: &mut Bindings, left: Ty, right: Ty) -> Result<(), Fault>
+    requires table { IsTable cx.old bindings.old }
+    requires left { IsOwned ty_shape cx.old left }
+    requires right { IsOwned ty_shape cx.old right }
+    ensures extends { Extends cx.old cx.new }
+    ensures refined { IsRefined cx.old bindings.old cx.new bindings.new }
+    ensures unified { OnOk result (
+        apply (substitution cx.new bindings.new) (tree_in cx.new.rows (ty_shape left))
+        ≡ apply (substitution cx.new bindings.new) (tree_in cx.new.rows (ty_shape right))) }
+    ensures same { OnErr result (bindings.new ≡ bindings.old) }
+{
+    *bindings = solution(cx, bindings, left, right)?;
+    Ok(())
+}
