@@ -7,6 +7,7 @@ mod copies;
 mod iterators;
 mod lists;
 mod names;
+mod unification;
 mod validation;
 
 use type_terms::{Interner, Refusal};
@@ -38,6 +39,8 @@ pub enum Routine {
     ItemsAreCollected,
     /// Variables agree with their binder's list, or don't.
     VariablesAreValidated,
+    /// Two types with variables are made equal.
+    TypesAreUnified,
 }
 
 impl Routine {
@@ -56,6 +59,7 @@ impl Routine {
             "items_are_instantiated" => Some(Routine::ItemsAreInstantiated),
             "items_are_collected" => Some(Routine::ItemsAreCollected),
             "variables_are_validated" => Some(Routine::VariablesAreValidated),
+            "types_are_unified" => Some(Routine::TypesAreUnified),
             _ => None,
         }
     }
@@ -75,6 +79,7 @@ impl Routine {
             Routine::ItemsAreInstantiated => iterators::items_are_instantiated(cx),
             Routine::ItemsAreCollected => iterators::items_are_collected(cx),
             Routine::VariablesAreValidated => validation::variables_are_validated(cx),
+            Routine::TypesAreUnified => unification::types_are_unified(cx),
         }
     }
 }
