@@ -5,3 +5,4 @@ pub mod KindLaws
 pub mod PairLaws
 pub mod ResolverSteps
 pub mod SubstitutionLaws
+pub mod UnificationLaws

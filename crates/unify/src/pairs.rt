@@ -68,7 +68,8 @@ pub fn push_items(
     if left.sort() != right.sort() || len != cx.list_len(right) {
         return Err(Fault::Mismatch);
     }
-    for place in 0..len {
+    // The first item is pushed last, so it is compared first.
+    for place in (0..len).rev() {
         pairs.push(Pair {
             left: cx.list_child(left, place),
             right: cx.list_child(right, place),

@@ -9,7 +9,7 @@ ghost use Rattle.unify.specs.Bindings.{IsTable};
 
 use std::alloc::Global;
 use std::process::Abort;
-use test_terms::{NOT_OWNED, answer_anew, ty};
+use test_terms::{NOT_OWNED, answer_anew, answer_within, ty};
 use type_terms::{InferTy, Interner, Owned, Refusal, Ty, TyKind, TyVid};
 use unify::{Bindings, Fault, unify};
 
@@ -22,6 +22,18 @@ fn holds_anew<F: FnOnce(&mut Interner) -> Result<bool, Refusal> + Drop>(
     requires { F.IsAlwaysCallable check }
 {
     assert_eq!(rt; answer_anew(alloc, check), Ok(true));
+}
+
+// Asserts the same on a new interner with at most `limit` rows in a table.
+fn holds_within<F: FnOnce(&mut Interner) -> Result<bool, Refusal> + Drop>(
+    rt: &impl Abort,
+    alloc: Global,
+    limit: u32,
+    check: F,
+)
+    requires { F.IsAlwaysCallable check }
+{
+    assert_eq!(rt; answer_within(alloc, limit, check), Ok(true));
 }
 
 // Returns the variable of this number, below 1,000.
@@ -77,7 +89,7 @@ fn become_one(cx: &mut Interner, left: Ty, right: Ty, both: Ty) -> Result<bool, 
 
 // Returns whether the two types can't be made equal because of this fault, and the table of variables stays unbound.
 fn fail_with(cx: &mut Interner, left: Ty, right: Ty, fault: Fault) -> Result<bool, Fault> {
-    let mut bindings = table_of(cx, 8)?;
+    let mut bindings = table_of(cx, 2)?;
     let outcome = unified(cx, &mut bindings, left, right);
     let first = resolved(cx, &bindings, left)?;
     let second = resolved(cx, &bindings, right)?;

@@ -1,6 +1,6 @@
 //! Types that can't be made equal, each with its fault.
 
-use super::{answer, fail_with, holds_anew, variable};
+use super::{answer, fail_with, holds_anew, holds_within, variable};
 use test_terms::{bound_ty, param_region, pointer, ref_ty, tuple, ty, u32_ty};
 use type_terms::{Interner, Refusal, Region, RegionKind, TyKind, TyVid};
 use unify::Fault;
@@ -77,4 +77,20 @@ fn bound_variables_stay_inside_holds(cx: &mut Interner) -> Result<bool, Refusal>
 #[test]
 fn bound_variables_stay_inside(rt: HostRuntime) {
     holds_anew(&rt, rt.alloc(), bound_variables_stay_inside_holds);
+}
+
+// `(?0, ?1)` and `(u32, [?0])`: there is no room for `[u32]`, so both variables stay unbound.
+fn a_full_table_unbinds_holds(cx: &mut Interner) -> Result<bool, Refusal> {
+    let (zero, one) = (variable(cx, 0)?, variable(cx, 1)?);
+    let number = u32_ty(cx)?;
+    let slice = ty(cx, TyKind::Slice(zero))?;
+    let left = tuple(cx, &[zero, one])?;
+    let right = tuple(cx, &[number, slice])?;
+    let fault = Fault::Refused(Refusal::TableFull);
+    Ok(answer(fail_with(cx, left, right, fault)))
+}
+
+#[test]
+fn a_full_table_unbinds(rt: HostRuntime) {
+    holds_within(&rt, rt.alloc(), 6, a_full_table_unbinds_holds);
 }

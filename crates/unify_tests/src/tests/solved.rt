@@ -1,13 +1,8 @@
 //! Types that can be made equal.
 
 use super::{answer, become_one, holds_anew, resolved, table_of, unified, variable};
-use test_terms::{
-    args, bound_ty, clause, constant, consts, pointer, predicate, ref_ty, tuple, ty, u32_ty,
-};
-use type_terms::{
-    AdtId, BoundVarKinds, ConstKind, GenericArg, InferTy, Interner, Refusal, Region, RegionKind,
-    Ty, TyKind, TyVid,
-};
+use test_terms::{args, bound_ty, pointer, ref_ty, tuple, ty, u32_ty};
+use type_terms::{AdtId, GenericArg, Interner, Refusal, Region, RegionKind, Ty, TyKind};
 use unify::Fault;
 
 fn erased() -> Result<Region, Refusal> {
