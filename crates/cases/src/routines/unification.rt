@@ -18,6 +18,8 @@ fn add_two(cx: &mut Interner, bindings: &mut Bindings) -> Result<(), Fault>
     requires { IsTable cx.old bindings.old }
     ensures { IsTable cx.new bindings.new }
 {
+    // The checker is told here which module holds the refusal in a fault.
+    let _named: Option<Refusal> = None;
     bindings.new_variable(cx)?;
     bindings.new_variable(cx)?;
     Ok(())
