@@ -1,4 +1,5 @@
 pub mod Bindings
+pub mod Faults
 pub mod Pairs
 pub mod Resolver
 pub mod Substitution

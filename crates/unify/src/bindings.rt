@@ -1,11 +1,12 @@
 //! The table of bindings.
 
-ghost use Rattle.std.specs.Prelude.{◌≡◌, [], None, Some, ◌++◌, ◌∷◌, length, IfOk, OnErr, OnOk};
+ghost use Rattle.std.specs.Prelude.{◌≡◌, [], None, Some, ◌++◌, ◌∷◌, length, IfErr, IfOk, OnErr, OnOk};
 ghost use Rattle.tt_kinds.specs.Kinds.{ty_shape};
 ghost use Rattle.tt_interner.specs.Owned.{IsOwned};
 ghost use Rattle.tt_interner.specs.Stored.{Extends};
 ghost use Rattle.tt_fold.specs.Steps.{tree_in};
 ghost use Rattle.unify.specs.Substitution.{apply, variable_in};
+ghost use Rattle.unify.specs.Faults.{IsForRoom};
 ghost use Rattle.unify.specs.Bindings.{IsTable, substitution};
 
 use crate::fault::Fault;
@@ -52,7 +53,8 @@ impl Bindings {
         self.entries.len()
     }
 
-    /// Returns a new variable, which is not bound.
+    /// Returns a new variable, which is not bound. Refused for want of memory, or where a table is full or no number is
+    /// left, with `TableFull`.
     pub fn new_variable(&mut self, cx: &mut Interner) -> Result<Ty, Fault>
         requires { IsTable cx.old self.old }
         ensures extends { Extends cx.old cx.new }
@@ -61,6 +63,7 @@ impl Bindings {
         ensures owned { IfOk result (λ ty. IsOwned ty_shape cx.new ty) }
         ensures is { IfOk result (λ ty. variable_in (tree_in cx.new.rows (ty_shape ty)) ≡ Some (length self.old)) }
         ensures same { OnErr result (self.new ≡ self.old) }
+        ensures err { IfErr result IsForRoom }
     {
         let number = self.len();
         if number > GREATEST {

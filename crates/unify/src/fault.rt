@@ -33,12 +33,22 @@ impl From<Refusal> for Fault {
 }
 
 impl From<AllocError> for Fault {
+    ghost use Rattle.tt_index.specs.declared.refusal.Refusal.TheVariants.{Memory};
+    ghost use Rattle.unify.specs.declared.fault.Fault.TheVariants.{Refused};
+
+    ghost from_gives = { λ _ fault. fault ≡ Refused Memory };
+
     fn from(error: AllocError) -> Fault {
         Fault::Refused(Refusal::from(error))
     }
 }
 
 impl<T: Drop> From<AllocFailed<T>> for Fault {
+    ghost use Rattle.tt_index.specs.declared.refusal.Refusal.TheVariants.{Memory};
+    ghost use Rattle.unify.specs.declared.fault.Fault.TheVariants.{Refused};
+
+    ghost from_gives = { λ _ fault. fault ≡ Refused Memory };
+
     fn from(failed: AllocFailed<T>) -> Fault {
         Fault::Refused(Refusal::from(failed))
     }

@@ -1,0 +1,11 @@
+-- Faults for want of room.
+use Rattle.std.specs.Prelude.{⊤}
+use Rattle.tt_index.specs.declared.refusal.Refusal.TheVariants.{Memory, TableFull}
+use Rattle.unify.specs.declared.fault.Fault.{Fault}
+use Rattle.unify.specs.declared.fault.Fault.TheVariants.{Refused}
+
+-- memory is short, or a table is full
+abbrev pub IsForRoom : Fault → Type 0
+IsForRoom (Refused Memory) = ⊤
+IsForRoom (Refused TableFull) = ⊤
+IsForRoom _ = ⊥
