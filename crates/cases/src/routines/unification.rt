@@ -18,7 +18,7 @@ fn add_two(cx: &mut Interner, bindings: &mut Bindings) -> Result<(), Fault>
     requires { IsTable cx.old bindings.old }
     ensures { IsTable cx.new bindings.new }
 {
-    // The checker is told here which module holds the refusal in a fault.
+    // Here the checker learns which module holds the refusal in a fault.
     let _named: Option<Refusal> = None;
     bindings.new_variable(cx)?;
     bindings.new_variable(cx)?;
@@ -47,6 +47,7 @@ fn become_one(
 
 // Returns the same with a new table of two variables.
 fn become_one_anew(cx: &mut Interner, left: Ty, right: Ty, both: Ty) -> Result<bool, Fault> {
+    let _named: Option<Refusal> = None;
     let mut bindings = Bindings::new(cx.allocator());
     add_two(cx, &mut bindings)?;
     become_one(cx, &mut bindings, left, right, both)
