@@ -23,8 +23,9 @@ def read(file):
 
 
 def called(text, parameters, between=""):
-    """Returns how the checker calls a type or a trait in the name of an impl: with what it is applied to, but for parameters."""
-    text, before = text.strip(), ""
+    """Returns how the checker calls a type or a trait in the name of an impl: with what it is applied to, but for parameters
+    and lifetimes."""
+    text, before = re.sub(r"'\w+\b,? *", "", text).strip(), ""
     if text.startswith("("):
         return f"Tuple{text.count(',') + 1}"
     while text[0] in "&[":
