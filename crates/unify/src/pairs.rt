@@ -6,7 +6,7 @@ ghost use Rattle.tt_kinds.specs.declared.parts.Child.TheVariants as child_of;
 ghost use Rattle.tt_kinds.specs.Kinds.{child_shapes, list_shape};
 ghost use Rattle.tt_kinds.specs.Shape.{also, none};
 ghost use Rattle.tt_kinds.specs.Parts.{list_number, list_table, node_number, node_table};
-ghost use Rattle.tt_interner.specs.Owned.{AreOwned, IsOwned};
+ghost use Rattle.tt_interner.specs.Owned.{AreOwned};
 ghost use Rattle.tt_interner.specs.Rows.{size};
 ghost use Rattle.unify.specs.Pairs.{pair_shape, IsNoList};
 

@@ -7,7 +7,7 @@ ghost use Rattle.tt_interner.specs.Owned.{AreOwned, IsOwned};
 ghost use Rattle.tt_interner.specs.Stored.{Extends};
 ghost use Rattle.unify.specs.Bindings.{IsRefined, IsTable, substitution, table_shape};
 ghost use Rattle.unify.specs.Pairs.{pair_shape, IsNoList};
-ghost use Rattle.unify.specs.Substitution.{apply, Refines};
+ghost use Rattle.unify.specs.Substitution.{apply};
 
 use crate::bindings::Bindings;
 use crate::fault::Fault;

@@ -1,6 +1,5 @@
 //! Types with variables, made equal by the client `unify`.
 
-ghost use Rattle.tt_interner.specs.Stored.{Extends};
 ghost use Rattle.unify.specs.Bindings.{IsTable};
 
 use test_terms::{NOT_OWNED, tuple, ty, u32_ty};
