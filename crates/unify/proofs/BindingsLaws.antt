@@ -238,14 +238,9 @@ refined_bound terms mid new xs ys v t table first second owned resolved without 
       refines = composition_refines (substitution terms xs) τ (substitution new (set ys v (Some t))) composed table.idempotent;
     }
 
--- what grew and grows again has grown
+-- what grew and grows again has grown; under this name an attribute can cite it
 pub extends_further : {a b c : Terms} → Extends a b → Extends b c → Extends a c
 extends_further = Extends-trans
-
--- a table in which a variable was replaced has as many entries
-pub bound_length : (terms new : Terms) (v : ℕ) (t : Ty) (xs ys : List (Option Ty))
-    → fill (meaning new.rows) (table_shape ys) ≡ apply (substitution terms (single_table v t)) (fill (meaning terms.rows) (table_shape xs)) → length ys ≡ length xs
-bound_length terms new v t xs ys applied = applied_length terms new (substitution terms (single_table v t)) xs ys applied
 
 -- The steps of binding a variable: the type is resolved, the variable doesn't occur in it, and it is replaced in the table.
 pub bound_refines : (terms a b new : Terms) (xs ys : List (Option Ty)) (v place : ℕ) (given t : Ty)

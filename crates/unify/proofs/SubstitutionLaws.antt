@@ -136,7 +136,10 @@ module _ (σ τ σ' : Substitution) (composed : IsComposition σ τ σ') where
 
   -- a composition refines its first substitution
   pub composition_refines : IsIdempotent σ → Refines σ σ'
-  composition_refines idem t = apply_composed (apply σ t) ∙ ap (apply τ) (applied_once σ t idem) ∙ sym (apply_composed t)
+  composition_refines idem v r is =
+      let stays : apply σ r ≡ r = resolved_stays σ r (idem v r is) in
+      let put : apply σ' r ≡ apply τ r = apply_composed r ∙ ap (apply τ) stays in
+      composed v ∙ rw (is, put) refl
 
   module _ (v : ℕ) (r : Tree Depth) (only : BindsOnly τ v r) (free : σ v ≡ None) (resolved : IsResolved σ r) (absent : IsWithout v r) (idem : IsIdempotent σ) where
     -- what τ puts in is without each variable that is bound
@@ -234,13 +237,35 @@ module _ (σ ρ : Substitution) (same : (v : ℕ) → σ v ≡ ρ v) where
 
 -- the same bindings refine themselves
 pub alike_refine : (σ ρ : Substitution) → ((v : ℕ) → ρ v ≡ σ v) → IsIdempotent σ → Refines σ ρ
-alike_refine σ ρ same idem t = apply_alike ρ σ same (apply σ t) ∙ applied_once σ t idem ∙ sym (apply_alike ρ σ same t)
+alike_refine σ ρ same idem v r is = same v ∙ is ∙ ap Some (sym (apply_alike ρ σ same r ∙ resolved_stays σ r (idem v r is)))
 
 -- each substitution that is idempotent refines itself
 pub refines_itself : (σ : Substitution) → IsIdempotent σ → Refines σ σ
-refines_itself σ idem t = applied_once σ t idem
+refines_itself σ idem v r is = is ∙ ap Some (sym (resolved_stays σ r (idem v r is)))
+
+module _ (σ σ' : Substitution) (refines : Refines σ σ') where
+  term_refined : (l : Label Name) (ts : Forest Depth) (o : Option (Tree Depth)) → bound_to σ l ≡ o
+      → apply_all σ' (apply_all σ ts) ≡ apply_all σ' ts → apply σ' (apply σ (tree.term l ts)) ≡ apply σ' (tree.term l ts)
+  term_refined l ts None e below = rw (e, below) refl
+  term_refined l ts (Some b) e below =
+      let found = bound_variable σ l b e in
+      let at : bound_to σ' l ≡ Some (apply σ' b) = variable_bound σ' l found.variable found.is ∙ refines found.variable b found.has in
+      rw (e, at) refl
+
+  mutual
+    -- what was replaced before is replaced again as if it had not been
+    pub trees_refined : (t : Tree Depth) → apply σ' (apply σ t) ≡ apply σ' t
+    trees_refined (tree.param o i name) = refl
+    trees_refined (tree.bound o d e) = refl
+    trees_refined (tree.region r) = refl
+    trees_refined (tree.term l ts) = term_refined l ts (bound_to σ l) refl (all_refined ts)
+    trees_refined (tree.node l ts) = ap (tree.node l) (all_refined ts)
+    trees_refined (tree.binder vs t) = ap (tree.binder vs) (trees_refined t)
+
+    all_refined : (ts : Forest Depth) → apply_all σ' (apply_all σ ts) ≡ apply_all σ' ts
+    all_refined tree.none = refl
+    all_refined (tree.also t ts) = rw (trees_refined t, all_refined ts) refl
 
 -- what refines a refinement refines the first
 pub refines_further : (σ ρ τ : Substitution) → Refines σ ρ → Refines ρ τ → Refines σ τ
-refines_further σ ρ τ first second t =
-    sym (second (apply σ t)) ∙ ap (apply τ) (first t) ∙ second t
+refines_further σ ρ τ first second v r is = second v (apply ρ r) (first v r is) ∙ ap Some (trees_refined ρ τ second r)

@@ -68,9 +68,9 @@ IsResolved σ t = (v : ℕ) (r : Tree Depth) → σ v ≡ Some r → IsWithout v
 abbrev pub IsIdempotent : Substitution → Type 0
 IsIdempotent σ = (v : ℕ) (r : Tree Depth) → σ v ≡ Some r → IsResolved σ r
 
--- what was replaced before is replaced again: the new bindings are the old ones with further variables bound
+-- what a variable is bound to stays so, with the new bindings put in: bindings only grow
 abbrev pub Refines : Substitution → Substitution → Type 0
-Refines σ σ' = (t : Tree Depth) → apply σ' (apply σ t) ≡ apply σ' t
+Refines σ σ' = (v : ℕ) (r : Tree Depth) → σ v ≡ Some r → σ' v ≡ Some (apply σ' r)
 
 -- the variable alone is bound, to this tree
 pub record BindsOnly (σ : Substitution) (v : ℕ) (r : Tree Depth) : Type 0 where

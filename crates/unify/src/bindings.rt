@@ -75,7 +75,8 @@ impl Bindings {
         Ok(ty)
     }
 
-    /// Returns the type with each bound variable replaced by its binding.
+    /// Returns the type with each bound variable replaced by its binding. Refused for want of memory, or where a table is
+    /// full, with `TableFull`.
     pub fn resolve(&self, cx: &mut Interner, ty: Ty) -> Result<Ty, Refusal>
         requires table { IsTable cx.old self.now }
         requires ty { IsOwned ty_shape cx.old ty }

@@ -6,7 +6,7 @@ use Rattle.tt_interner.proofs.OwnedLaws.{list_still_owned}
 use Rattle.tt_fold.specs.Steps.{tree_in}
 use Rattle.unify.specs.Bindings.{substitution}
 use Rattle.unify.specs.Substitution.{apply}
-use Rattle.unify.proofs.BindingsLaws.{bound_length, bound_refines}
+use Rattle.unify.proofs.BindingsLaws.{applied_length, bound_refines}
 use Rattle.unify.proofs.unifier.bound.Goals as goal
 
 pub replaced-requires-clause-value : goal.replaced-requires-clause-value
@@ -19,7 +19,7 @@ replaced-requires-clause-value c = (
 
 pub index_mut-requires : goal.index_mut-requires
 index_mut-requires c =
-    let same = bound_length c.occurs_in.new.cx c.replaced.new.cx c.args.variable c.in_ok-ty.ty c.args.entries.items c.in_ok-entries.entries.items c.in_ok-entries.ensures.plain in
+    let same = applied_length c.occurs_in.new.cx c.replaced.new.cx _ c.args.entries.items c.in_ok-entries.entries.items c.in_ok-entries.ensures.plain in
     omega (arith, same, c.requires.inside, c.as_usize.ensures.number, c.in_ok-entries.entries.ok)
 
 pub returns-clause-refined : goal.returns-clause-refined

@@ -1,7 +1,9 @@
-use Rattle.std.proofs.Common.{sym, ◌∙◌}
+use Rattle.std.proofs.Common.{subst, sym, ◌∙◌}
 use Rattle.tt_kinds.specs.Kinds.{ty_shape}
+use Rattle.tt_interner.proofs.Growth.{Extends-trans}
+use Rattle.unify.specs.Bindings.{IsRefined}
 use Rattle.tt_interner.proofs.OwnedLaws.{still_owned}
-use Rattle.unify.proofs.BindingsLaws.{unified_by}
+use Rattle.unify.proofs.BindingsLaws.{refined_further, refined_grown, unified_by}
 use Rattle.unify.proofs.ResolverSteps.{same_number}
 use Rattle.unify.proofs.unifier.solution.Goals as goal
 
@@ -14,3 +16,10 @@ returns-clause-unified c =
     (still_owned ty_shape c.args.cx.now c.unified.new.cx c.args.right c.in_ok-entries.ensures.extends c.requires.right)
     c.in_ok-resolved_left.ensures.owned c.in_ok-resolved_left.ensures.plain c.in_ok-resolved_right.ensures.plain
     (same_number _ _ (sym c.ne.ensures ∙ c.if-ne.false))
+
+pub returns-clause-refined : goal.returns-clause-refined
+returns-clause-refined c =
+    let copied = subst (λ xs. IsRefined c.args.cx.now xs c.unified.new.cx c.in_ok-entries.entries.items) c.in_ok-copied.ensures c.in_ok-entries.ensures.refined in
+    refined_further c.args.cx.now c.unified.new.cx c.resolve-2.new.cx c.args.bindings.now c.in_ok-entries.entries.items c.in_ok-entries.entries.items copied
+    (refined_grown c.unified.new.cx c.resolve-2.new.cx c.in_ok-entries.entries.items
+    (Extends-trans c.in_ok-resolved_left.ensures.extends c.in_ok-resolved_right.ensures.extends) c.in_ok-entries.ensures.refined.table)

@@ -1,8 +1,8 @@
 use Rattle.std.proofs.Common.{subst, sym}
 use Rattle.tt_interner.specs.Owned.{AreOwned}
-use Rattle.tt_interner.proofs.Growth.{Extends-refl}
+use Rattle.tt_interner.proofs.Growth.{Extends-refl, Extends-trans}
 use Rattle.unify.specs.Pairs.{pair_shape}
-use Rattle.unify.proofs.BindingsLaws.{refined_itself}
+use Rattle.unify.proofs.BindingsLaws.{refined_further, refined_itself}
 use Rattle.unify.proofs.PairLaws.{pairs_popped, pairs_pushed}
 use Rattle.unify.proofs.unifier.unified.Goals as goal
 
@@ -21,3 +21,11 @@ unify_pair-requires-clause-pairs c =
 pub unify_pair-requires-clause-pair : goal.unify_pair-requires-clause-pair
 unify_pair-requires-clause-pair c =
     (pairs_popped c.loop.cx c.pop.new.self.items c.in-Some.pair (subst (AreOwned pair_shape c.loop.cx) c.in-Some.ensures.items c.loop.invariant.pairs)).1
+
+pub loop-preserved : goal.loop-preserved
+loop-preserved c = record {
+  extends = Extends-trans c.loop.invariant.extends c.in_ok-entries.ensures.extends;
+  pairs = c.in_ok-entries.ensures.pairs;
+  refined = refined_further c.args.cx.now c.loop.cx c.unify_pair.new.cx c.args.entries.items c.loop.entries.items c.in_ok-entries.entries.items
+      c.loop.invariant.refined c.in_ok-entries.ensures.refined;
+}
