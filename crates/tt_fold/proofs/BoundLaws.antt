@@ -36,19 +36,19 @@ use Rattle.tt_interner.specs.Rows.{Row, type_row, const_row, pat_row, predicate_
 use Rattle.tt_interner.specs.Stored.{Terms, Builds, IsCause}
 use Rattle.tt_interner.proofs.RowLaws.{IsNewest, place_cases, meaning-old, meaning-new}
 use Rattle.tt_fold.proofs.PartLaws.{is_part, in_range, stored_tree}
-use Rattle.tt_fold.proofs.ShiftLaws.{index-moved}
+use Rattle.tt_fold.proofs.ShiftLaws.{index-moved, shift_done}
 use Rattle.tt_fold.specs.Walk.{is_type_tree}
 use Rattle.tt_fold.specs.Remember.{Done, IsTaken}
 use Rattle.tt_fold.specs.Steps.{IsPartOf, tree_in, IsRefused}
 use Rattle.tt_fold.specs.Shift.{Shift, moved_tree, IsTooFar, IsVariable, shifting, IsTooGreat, IsPast, IsOuter, bound_ty_in, bound_ty_of, bound_const_in, bound_const_of, moved_index}
 
 -- the tree of a bound variable
-abbrev bound_shape : Sort → BoundVarIndexKind → Entry ℕ → Shape
+abbrev pub bound_shape : Sort → BoundVarIndexKind → Entry ℕ → Shape
 bound_shape o i e = bound o (depth i) e
 
 -- a term of which nothing is bound outside is its own shift
 pub term_kept : (n k : ℕ) (t : Tree Depth) → (k < outer_binder t → false ≡ true) → Done shifting n k t t
-term_kept n k t closed = record { plain = sym (shift_tree-low k n t low); allows = tt }
+term_kept n k t closed = shift_done n k t t (sym (shift_tree-low k n t low))
   where
     low : outer_binder t ≤ k
     low = elim (cases_lt k (outer_binder t)) [ inl far ↦ absurd (let no : false ≡ true = closed far in cc) | inr le ↦ le ]
@@ -112,6 +112,34 @@ module _ (f : Meaning) (s : Shift) (o : Sort) (i : BoundVarIndexKind) (e : Entry
   unfolding fill
   deep_too_far out deep = deep-far s.amount s.under i out deep
 
+-- a bound variable, as it is stored
+pub bound_stored : {H : Type 0} (number : H → ℕ) (t : Table) (row : BoundVarIndexKind → Row) (o : Sort) (e : Entry ℕ)
+    → ((j : BoundVarIndexKind) → row_table (row j) ≡ t) → ((j : BoundVarIndexKind) → row_shape (row j) ≡ bound_shape o j e)
+    → (terms terms1 : Terms) (j : BoundVarIndexKind) (result : Result H Refusal)
+    → HasParts (size terms.rows) (row_shape (row j)) → Builds result number terms terms1 (row j)
+    → MatchResult result
+    (λ h. IsPartOf terms1.rows (stored t (number h)) × (tree_in terms1.rows (stored t (number h)) ≡ tree_in terms.rows (bound_shape o j e)))
+    (λ r. IsTooGreat r (IsGreatest (depth j)) ⊎ IsRefused terms1 (tree_in terms.rows (bound_shape o j e)) r)
+bound_stored {H} number t row o e of_table of_shape terms terms1 j result parts built = go result built
+  where
+    shaped : tree_in terms.rows (row_shape (row j)) ≡ tree_in terms.rows (bound_shape o j e)
+    shaped = ap (tree_in terms.rows) (of_shape j)
+
+    why : (r : Refusal) → IsCause terms (row j) r → IsTooGreat r (IsGreatest (depth j)) ⊎ IsRefused terms (tree_in terms.rows (bound_shape o j e)) r
+    why Memory cause = inr (Memory, (refl, tt))
+    why TableFull cause = inr (TableFull, (refl, record { row = row j; fills = shaped; parts = parts; new = cause.0; full = cause.1 }))
+    why GreatestIndex cause = inl (refl, rw (of_shape j) at cause)
+    why _ cause = absurd cause
+
+    go : (result : Result H Refusal) → Builds result number terms terms1 (row j) → MatchResult result
+        (λ h. IsPartOf terms1.rows (stored t (number h)) × (tree_in terms1.rows (stored t (number h)) ≡ tree_in terms.rows (bound_shape o j e)))
+        (λ r. IsTooGreat r (IsGreatest (depth j)) ⊎ IsRefused terms1 (tree_in terms.rows (bound_shape o j e)) r)
+    go (Ok h) b = (
+      is_part terms1.rows t (number h) (rw (of_table j) at b.in_range),
+      stored_tree terms1.rows t (number h) ∙ (rw (of_table j) at b.means) ∙ shaped,
+    )
+    go (Err r) b = rw b.err (why r b.cause)
+
 -- a moved bound variable, as it is built
 pub bound_built : {H : Type 0} (number : H → ℕ) (t : Table) (row : BoundVarIndexKind → Row) (o : Sort) (e : Entry ℕ)
     → ((j : BoundVarIndexKind) → row_table (row j) ≡ t) → ((j : BoundVarIndexKind) → row_shape (row j) ≡ bound_shape o j e)
@@ -120,29 +148,24 @@ pub bound_built : {H : Type 0} (number : H → ℕ) (t : Table) (row : BoundVarI
     → MatchResult result
     (λ h. IsPartOf terms1.rows (stored t (number h)) × (tree_in terms1.rows (stored t (number h)) ≡ moved_tree s (tree_in terms.rows (bound_shape o i e))))
     (λ r. IsTooGreat r (IsTooFar s (tree_in terms.rows (bound_shape o i e))) ⊎ IsRefused terms1 (moved_tree s (tree_in terms.rows (bound_shape o i e))) r)
-bound_built {H} number t row o e of_table of_shape terms terms1 s i j result out same parts built = go result built
+bound_built {H} number t row o e of_table of_shape terms terms1 s i j result out same parts built =
+    go result (bound_stored number t row o e of_table of_shape terms terms1 j result parts built)
   where
-    moved : tree_in terms.rows (row_shape (row j)) ≡ moved_tree s (tree_in terms.rows (bound_shape o i e))
-    moved = ap (tree_in terms.rows) (of_shape j) ∙ ap (λ j. tree_in terms.rows (bound_shape o j e)) same ∙ bound-moved (meaning terms.rows) s o i e
+    moved : tree_in terms.rows (bound_shape o j e) ≡ moved_tree s (tree_in terms.rows (bound_shape o i e))
+    moved = ap (λ j. tree_in terms.rows (bound_shape o j e)) same ∙ bound-moved (meaning terms.rows) s o i e
 
-    too_deep : IsTooDeep (row_shape (row j)) → IsTooFar s (tree_in terms.rows (bound_shape o i e))
-    too_deep deep = deep_too_far (meaning terms.rows) s o i e out (rw (of_shape j, same) at deep)
-
-    why : (r : Refusal) → IsCause terms (row j) r
-        → IsTooGreat r (IsTooFar s (tree_in terms.rows (bound_shape o i e))) ⊎ IsRefused terms (moved_tree s (tree_in terms.rows (bound_shape o i e))) r
-    why Memory cause = inr (Memory, (refl, tt))
-    why TableFull cause = inr (TableFull, (refl, record { row = row j; fills = moved; parts = parts; new = cause.0; full = cause.1 }))
-    why GreatestIndex cause = inl (refl, too_deep cause)
-    why _ cause = absurd cause
-
-    go : (result : Result H Refusal) → Builds result number terms terms1 (row j) → MatchResult result
+    go : (result : Result H Refusal)
+        → MatchResult result
+        (λ h. IsPartOf terms1.rows (stored t (number h)) × (tree_in terms1.rows (stored t (number h)) ≡ tree_in terms.rows (bound_shape o j e)))
+        (λ r. IsTooGreat r (IsGreatest (depth j)) ⊎ IsRefused terms1 (tree_in terms.rows (bound_shape o j e)) r)
+        → MatchResult result
         (λ h. IsPartOf terms1.rows (stored t (number h)) × (tree_in terms1.rows (stored t (number h)) ≡ moved_tree s (tree_in terms.rows (bound_shape o i e))))
         (λ r. IsTooGreat r (IsTooFar s (tree_in terms.rows (bound_shape o i e))) ⊎ IsRefused terms1 (moved_tree s (tree_in terms.rows (bound_shape o i e))) r)
-    go (Ok h) b = (
-      is_part terms1.rows t (number h) (rw (of_table j) at b.in_range),
-      stored_tree terms1.rows t (number h) ∙ (rw (of_table j) at b.means) ∙ moved,
-    )
-    go (Err r) b = rw b.err (why r b.cause)
+    go (Ok h) is = (is.0, is.1 ∙ moved)
+    go (Err r) is = elim is [
+      | inl deep ↦ inl (deep.0, deep_too_far (meaning terms.rows) s o i e out (rw same at deep.1))
+      | inr unbuilt ↦ inr (subst (λ u. IsRefused terms1 u r) moved unbuilt)
+    ]
 
 -- the form is no bound variable's
 abbrev IsFree : {L : Type 0} → Form L → Type 0

@@ -1,8 +1,8 @@
 -- The lists of clauses in a tree: in stored terms they hold clauses alone, and so they do in a tree with other indices or other
 -- trees for parameters.
-use Rattle.std.proofs.Common.{inl, inr, ◌≡◌, ℕ, suc, ◌<◌, List, [], ◌∷◌, refl, arith, Bool, true, false}
+use Rattle.std.proofs.Common.{inl, inr, ◌≡◌, ℕ, suc, ◌<◌, List, [], ◌∷◌, refl, sym, subst, arith, Bool, true, false}
 use Rattle.std.specs.Prelude.{IsTrue, not, ⊤}
-use Rattle.tt_kinds.specs.Label.{Name, Sort, type_sort, const_sort, Label, type_label, const_label, predicate_label, clause_list_label, clause_label, record_label}
+use Rattle.tt_kinds.specs.Label.{Name, Sort, Entry, type_sort, const_sort, Label, type_label, const_label, predicate_label, clause_list_label, clause_label, record_label}
 use Rattle.tt_kinds.specs.Tree as tree
 use Rattle.tt_kinds.specs.Tree.{Depth, Tree, Forest, none, also, rebuild, rebuild_all}
 use Rattle.tt_kinds.specs.Plain.{shifted, shift_tree, shift_forest}
@@ -17,6 +17,8 @@ use Rattle.tt_interner.specs.Rows.{Row, type_row, const_row, pat_row, predicate_
 use Rattle.tt_interner.specs.Stored.{IsNoClauseList}
 use Rattle.tt_interner.proofs.RowLaws.{IsNewest, place_cases, meaning-old, meaning-new}
 use Rattle.tt_fold.specs.Walk.{LosesClause}
+use Rattle.tt_fold.specs.Leaves.{with_leaves, with_leaves_all, reindexed}
+use Rattle.tt_fold.proofs.LeafLaws.{with_leaves-rebuild, with_leaves_all-rebuild}
 use Rattle.tt_fold.specs.Steps.{IsPartOf, tree_in}
 use Rattle.tt_fold.specs.Stands.{StandsIn, StandsAmong, itself, in_term, in_node, in_binder, in_first, in_later}
 
@@ -67,53 +69,67 @@ mutual
   all-keep-fine none h = tt
   all-keep-fine (also t ts) h = (keeps-fine t (λ u m. h u (in_first m)), all-keep-fine ts (λ u m. h u (in_later m)))
 
--- other indices and other trees for parameters leave clauses what they are
-module _ (index : ℕ → Depth → Depth) (parameter : ℕ → Sort → ℕ → Name → Tree Depth) where
-  clause_part : (k : ℕ) (t : Tree Depth) → is_clause_part t ≡ true → is_clause_part (rebuild index parameter k t) ≡ true
+-- other trees for leaves leave clauses what they are
+module _ (variable : ℕ → Sort → Depth → Entry Name → Tree Depth) (parameter : ℕ → Sort → ℕ → Name → Tree Depth) where
+  clause_part : (k : ℕ) (t : Tree Depth) → is_clause_part t ≡ true → is_clause_part (with_leaves variable parameter k t) ≡ true
   clause_part k (tree.node (record_label m) ts) h = h
   clause_part k _ h = cc
 
-  clause_inside : (k : ℕ) (ts : Forest Depth) → is_clause_inside ts ≡ true → is_clause_inside (rebuild_all index parameter k ts) ≡ true
+  clause_inside : (k : ℕ) (ts : Forest Depth) → is_clause_inside ts ≡ true → is_clause_inside (with_leaves_all variable parameter k ts) ≡ true
   clause_inside k (also (tree.binder vs t) none) h = clause_part (suc k) t h
   clause_inside k _ h = cc
 
-  clause_tree : (k : ℕ) (t : Tree Depth) → is_clause_tree t ≡ true → is_clause_tree (rebuild index parameter k t) ≡ true
+  clause_tree : (k : ℕ) (t : Tree Depth) → is_clause_tree t ≡ true → is_clause_tree (with_leaves variable parameter k t) ≡ true
   clause_tree k (tree.term predicate_label ts) h = clause_inside k ts h
   clause_tree k _ h = cc
 
-  other_before : (k : ℕ) (t : Tree Depth) → IsTrue (not (is_clause_tree (rebuild index parameter k t))) → IsTrue (not (is_clause_tree t))
+  other_before : (k : ℕ) (t : Tree Depth) → IsTrue (not (is_clause_tree (with_leaves variable parameter k t))) → IsTrue (not (is_clause_tree t))
   other_before k t h = by (is_clause_tree t) refl
     where
       by : (b : Bool) → is_clause_tree t ≡ b → IsTrue (not (is_clause_tree t))
       by true e = let never = rw (clause_tree k t e) at h in cc
       by false e = rw e refl
 
-  others_before : (k : ℕ) (ts : Forest Depth) → HasOther (rebuild_all index parameter k ts) → HasOther ts
+  others_before : (k : ℕ) (ts : Forest Depth) → HasOther (with_leaves_all variable parameter k ts) → HasOther ts
   others_before k none h = h
   others_before k (also t ts) h = elim h [ inl a ↦ inl (other_before k t a) | inr b ↦ inr (others_before k ts b) ]
 
-  pub list_before : (k : ℕ) (l : Label Name) (ts : Forest Depth) → IsNoClauseList (tree.term l (rebuild_all index parameter k ts)) → IsNoClauseList (tree.term l ts)
-  list_before k clause_list_label ts h = others_before k ts h
-  list_before k _ ts h = absurd h
+  pub leaves_list_before : (k : ℕ) (l : Label Name) (ts : Forest Depth) → IsNoClauseList (tree.term l (with_leaves_all variable parameter k ts)) → IsNoClauseList (tree.term l ts)
+  leaves_list_before k clause_list_label ts h = others_before k ts h
+  leaves_list_before k _ ts h = absurd h
 
   -- and a clause by itself one
-  pub rebuild-keeps_clause : (k : ℕ) (l : Label Name) (ts : Forest Depth) → LosesClause l ts (rebuild_all index parameter k ts) → ⊥
-  rebuild-keeps_clause k clause_label ts h = h.0 (others_before k ts h.1)
-  rebuild-keeps_clause k _ ts h = h
+  pub leaves-keep_clause : (k : ℕ) (l : Label Name) (ts : Forest Depth) → LosesClause l ts (with_leaves_all variable parameter k ts) → ⊥
+  leaves-keep_clause k clause_label ts h = h.0 (others_before k ts h.1)
+  leaves-keep_clause k _ ts h = h
 
-  module _ (given : (k : ℕ) (s : Sort) (i : ℕ) (name : Name) → KeepsClauses (parameter k s i name)) where
+  module _ (bound_given : (k : ℕ) (s : Sort) (d : Depth) (e : Entry Name) → KeepsClauses (variable k s d e)) (given : (k : ℕ) (s : Sort) (i : ℕ) (name : Name) → KeepsClauses (parameter k s i name)) where
     mutual
-      pub rebuild-keeps : (k : ℕ) (t : Tree Depth) → KeepsClauses t → KeepsClauses (rebuild index parameter k t)
-      rebuild-keeps k (tree.param s i name) h = given k s i name
-      rebuild-keeps k (tree.bound s d e) h = tt
-      rebuild-keeps k (tree.region r) h = tt
-      rebuild-keeps k (tree.term l ts) h = (λ bad. h.0 (list_before k l ts bad), rebuild_all-keeps k ts h.1)
-      rebuild-keeps k (tree.node l ts) h = rebuild_all-keeps k ts h
-      rebuild-keeps k (tree.binder vs t) h = rebuild-keeps (suc k) t h
+      pub leaves-keep : (k : ℕ) (t : Tree Depth) → KeepsClauses t → KeepsClauses (with_leaves variable parameter k t)
+      leaves-keep k (tree.param s i name) h = given k s i name
+      leaves-keep k (tree.bound s d e) h = bound_given k s d e
+      leaves-keep k (tree.region r) h = tt
+      leaves-keep k (tree.term l ts) h = (λ bad. h.0 (leaves_list_before k l ts bad), leaves_all-keep k ts h.1)
+      leaves-keep k (tree.node l ts) h = leaves_all-keep k ts h
+      leaves-keep k (tree.binder vs t) h = leaves-keep (suc k) t h
 
-      rebuild_all-keeps : (k : ℕ) (ts : Forest Depth) → KeepsClauses_all ts → KeepsClauses_all (rebuild_all index parameter k ts)
-      rebuild_all-keeps k none h = tt
-      rebuild_all-keeps k (also t ts) h = (rebuild-keeps k t h.0, rebuild_all-keeps k ts h.1)
+      leaves_all-keep : (k : ℕ) (ts : Forest Depth) → KeepsClauses_all ts → KeepsClauses_all (with_leaves_all variable parameter k ts)
+      leaves_all-keep k none h = tt
+      leaves_all-keep k (also t ts) h = (leaves-keep k t h.0, leaves_all-keep k ts h.1)
+
+-- and so do other indices and other trees for parameters
+module _ (index : ℕ → Depth → Depth) (parameter : ℕ → Sort → ℕ → Name → Tree Depth) where
+  pub list_before : (k : ℕ) (l : Label Name) (ts : Forest Depth) → IsNoClauseList (tree.term l (rebuild_all index parameter k ts)) → IsNoClauseList (tree.term l ts)
+  list_before k l ts h =
+      leaves_list_before (reindexed index) parameter k l ts (subst (λ us. IsNoClauseList (tree.term l us)) (sym (with_leaves_all-rebuild index parameter k ts)) h)
+
+  pub rebuild-keeps_clause : (k : ℕ) (l : Label Name) (ts : Forest Depth) → LosesClause l ts (rebuild_all index parameter k ts) → ⊥
+  rebuild-keeps_clause k l ts h =
+      leaves-keep_clause (reindexed index) parameter k l ts (subst (λ us. LosesClause l ts us) (sym (with_leaves_all-rebuild index parameter k ts)) h)
+
+  pub rebuild-keeps : ((k : ℕ) (s : Sort) (i : ℕ) (name : Name) → KeepsClauses (parameter k s i name)) → (k : ℕ) (t : Tree Depth) → KeepsClauses t → KeepsClauses (rebuild index parameter k t)
+  rebuild-keeps given k t h =
+      subst KeepsClauses (with_leaves-rebuild index parameter k t) (leaves-keep (reindexed index) parameter (λ j s d e. tt) given k t h)
 
 pub shift-keeps_clause : (k n : ℕ) (l : Label Name) (ts : Forest Depth) → LosesClause l ts (shift_forest k n ts) → ⊥
 shift-keeps_clause k n l ts h = rebuild-keeps_clause (shifted n) (λ k s i name. tree.param s i name) k l ts h

@@ -7,7 +7,7 @@ mod StackLaws
 mod FrameLaws
 mod GoingLaws
 mod ItemSteps
-mod FoldSteps
+pub mod FoldSteps
 mod ChildSteps
 mod ValueSteps
 mod BareLaws
@@ -18,9 +18,10 @@ mod DataSteps
 mod CloneSteps
 mod AssumptionSteps
 mod ClauseSteps
+pub mod LeafLaws
 pub mod ClauseLaws
 pub mod ShiftLaws
-mod BoundLaws
+pub mod BoundLaws
 mod ShiftSteps
 pub mod TypeLaws
 pub mod CounterLaws

@@ -11,7 +11,7 @@ use Rattle.tt_fold.specs.Counts.{Standing}
 use Rattle.tt_fold.specs.Places.{IsIn}
 use Rattle.tt_fold.specs.Stands.{itself, in_term as stands_in_term, in_node as stands_in_node, in_binder as stands_in_binder, in_first, in_later}
 use Rattle.tt_fold.specs.Remember.{Memo, State, Task, memo, deeper, shallower, one_more, made, made_all, Done, given, remembered, left_alone, taken_apart, gone_into, AfterTerm, noted, noted_again, not_noted, remembering}
-use Rattle.tt_fold.proofs.ClauseLaws.{rebuild-keeps_clause}
+use Rattle.tt_fold.proofs.ClauseLaws.{leaves-keep_clause}
 use Rattle.tt_fold.proofs.WantedLaws.{first-unwanted, later-unwanted, unwanted-list, TellsOfLists}
 use Rattle.tt_fold.proofs.PlaceLaws.{IsIn-append, IsIn-only}
 use Rattle.tt_fold.proofs.TaskLaws.{DoneAll, Refuses, without, too_far, caused, RefusesAll, without_any, without_one, without_lists, too_far_all, caused_among, TaskLaws}
@@ -85,10 +85,10 @@ module _ {R K : Type 0} (T : Task R K) (laws : TaskLaws T) where
   done_term q k l ts us entered d = record { plain = ap (term l) d.plain; allows = laws.allows_term q k l ts entered d.allow }
 
   done_node : (q : R) (k : ℕ) (l : Label Name) (ts us : Forest Depth) → DoneAll T q k ts us → Done T q k (node l ts) (node l us)
-  done_node q k l ts us d = record { plain = ap (node l) d.plain; allows = laws.allows_node q l ts d.allow }
+  done_node q k l ts us d = record { plain = ap (node l) d.plain; allows = laws.allows_node q k l ts d.allow }
 
   done_binder : (q : R) (k : ℕ) (vs : List (VarKind Name)) (t u : Tree Depth) → Done T q (suc k) t u → Done T q k (binder vs t) (binder vs u)
-  done_binder q k vs t u d = record { plain = ap (binder vs) d.plain; allows = laws.allows_binder q vs t d.allows }
+  done_binder q k vs t u d = record { plain = ap (binder vs) d.plain; allows = laws.allows_binder q k vs t d.allows }
 
   done_also : (q : R) (k : ℕ) (t u : Tree Depth) (ts us : Forest Depth) → Done T q k t u → DoneAll T q k ts us → DoneAll T q k (also t ts) (also u us)
   done_also q k t u ts us d ds = record { plain = ap2 also d.plain ds.plain; allow = (d.allows, ds.allow) }
@@ -162,12 +162,12 @@ module _ {R K : Type 0} (T : Task R K) (laws : TaskLaws T) where
     refuses_node l ts e (without_one u m h) = without u (stands_in_node m) h
     refuses_node l ts e (without_lists bad h) = absurd bad
     refuses_node l ts e (too_far_all is unfit) = too_far is unfit
-    refuses_node l ts e (caused_among u m h) = caused (laws.cause_node q l u ts e m h)
+    refuses_node l ts e (caused_among u m h) = caused (laws.cause_node q k l u ts e m h)
 
     refuses_binder : (vs : List (VarKind Name)) (t : Tree Depth) (e : Refusal) → Refuses T unbuilt q (suc k) t e → Refuses T unbuilt q k (binder vs t) e
     refuses_binder vs t e (without u m h) = without u (stands_in_binder m) h
     refuses_binder vs t e (too_far is unfit) = too_far is (λ fits. unfit fits.1)
-    refuses_binder vs t e (caused h) = caused (laws.cause_binder q vs t e h)
+    refuses_binder vs t e (caused h) = caused (laws.cause_binder q k vs t e h)
 
     too_deep : (vs : List (VarKind Name)) (t : Tree Depth) (e : Refusal) → e ≡ GreatestIndex → greatest ≤ k → Refuses T unbuilt q k (binder vs t) e
     too_deep vs t e is deep = too_far is (λ fits. omega (arith, fits.0, deep))
@@ -207,7 +207,7 @@ module _ {R K : Type 0} (T : Task R K) (laws : TaskLaws T) where
           record { why = without (made T s.state.rule s.state.under (node l ts)) itself here_built; rises = n.stays.rises }
       refused {s} (clause_lost {l} {ts} w lost b) knows =
           let never = subst (λ vs. LosesClause l ts vs) (does_all w knows).are_done.plain lost in
-          absurd (rebuild-keeps_clause (T.index s.state.rule) (T.parameter s.state.rule) s.state.under l ts never)
+          absurd (leaves-keep_clause (T.variable s.state.rule) (T.parameter s.state.rule) s.state.under l ts never)
 
       refused_descent : {s s' : Standing (State R K)} {t : Tree Depth} {e : Refusal} → DescentFails (remembering T) errors s t e s' → T.IsEntered s.state.rule s.state.under t
           → Knows s.state → Refused s t e s'

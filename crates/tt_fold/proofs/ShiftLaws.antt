@@ -35,9 +35,10 @@ use Rattle.tt_fold.specs.Places.{IsIn, CountsPairs, IsPlaceIn}
 use Rattle.tt_fold.specs.Remember.{State, Done, IsTaken, remembering}
 use Rattle.tt_fold.proofs.PlaceLaws.{IsMoving, moving_types-have}
 use Rattle.tt_fold.proofs.TaskLaws.{TaskLaws, Refuses, without, too_far, caused}
+use Rattle.tt_fold.proofs.LeafLaws.{moved-shift}
 use Rattle.tt_fold.proofs.RememberLaws.{does, refused}
 use Rattle.tt_fold.proofs.CountLaws.{knows-nothing, pairs_walked, pairs_failed}
-use Rattle.tt_fold.specs.Shift.{moved_tree, IsTooFar, IsVariable, shifting, shift_of, ShiftsCount, IsTooGreat, moved_index, moved_region, IsShiftedRegion, IsShiftRefusal, ShiftsOn, ComesOf, KeepsMatched}
+use Rattle.tt_fold.specs.Shift.{Shift, moved_tree, IsTooFar, IsVariable, shifting, shift_of, ShiftsCount, IsTooGreat, moved_index, moved_region, IsShiftedRegion, IsShiftRefusal, ShiftsOn, ComesOf, KeepsMatched}
 
 counts-still : (c : Counters) → ShiftsCount c c
 counts-still c = record { descents = refl; up = omega arith }
@@ -50,7 +51,7 @@ pub counted-one : (n : ℕ) → counted n ≤ suc n
 counted-one n = grind arith
 
 -- a term without a hook, and one that is taken apart, is no bound variable
-passed-other : (t : Tree Depth) → IsPassed t → IsVariable t → ⊥
+pub passed-other : (t : Tree Depth) → IsPassed t → IsVariable t → ⊥
 passed-other (bound region_sort d e) is h = cc
 passed-other (bound type_sort d e) is h = cc
 passed-other (bound const_sort d e) is h = cc
@@ -64,6 +65,15 @@ taken-other : (n k : ℕ) (t : Tree Depth) → IsTaken shifting n k t → IsVari
 taken-other n k (bound o d e) h is = h
 taken-other n k _ h is = is
 
+-- the shifted tree is what the task makes of a tree
+pub shift_done : (n k : ℕ) (t r : Tree Depth) → r ≡ shift_tree k n t → Done shifting n k t r
+shift_done n k t r is = record { plain = is ∙ sym (moved-shift n k t); allows = tt }
+
+shift_refused : (unbuilt : Tree Depth → Refusal → Type 0) (n k : ℕ) (t : Tree Depth) (e : Refusal)
+    → (let shift : Shift = record { amount = n; under = k } in IsTooGreat e (IsTooFar shift t) ⊎ unbuilt (moved_tree shift t) e) → Refuses shifting unbuilt n k t e
+shift_refused unbuilt n k t e (inl far) = too_far far.0 (subst (λ u. FitsUnder k (read k u) → ⊥) (sym (moved-shift n k t)) far.1)
+shift_refused unbuilt n k t e (inr u) = without (moved_tree (record { amount = n; under = k }) t) (subst (λ v. StandsIn (shift_tree k n t) v) (sym (moved-shift n k t)) itself) u
+
 -- what the shifter's task meets
 pub shifting_laws : TaskLaws shifting
 shifting_laws = record {
@@ -72,22 +82,22 @@ shifting_laws = record {
   param_stays = λ n k o i name entered. record { plain = refl; allows = tt };
   bound_stays = λ n k o d e entered. absurd (entered tt);
   allows_term = λ n k l ts entered h. tt;
-  allows_node = λ n l ts h. tt;
-  allows_binder = λ n vs t h. tt;
+  allows_node = λ n k l ts h. tt;
+  allows_binder = λ n k vs t h. tt;
   given = λ s t r kept c g. record {
-    is_done = record { plain = g.1; allows = tt };
+    is_done = shift_done s.state.rule s.state.under t r g.1;
     rises = rw g.2 (counts-still s.counters);
     amount = rw g.2 (omega arith);
   };
-  region_refused = λ unbuilt n k t e h. too_far h.0 h.1;
+  region_refused = λ unbuilt n k t e h. shift_refused unbuilt n k t e (inl h);
   term_refused = λ unbuilt s t e s' h. record {
-    why = elim h.1 [ inl far ↦ too_far far.0 far.1 | inr u ↦ without (moved_tree (shift_of s.state) t) itself u ];
+    why = shift_refused unbuilt s.state.rule s.state.under t e h.1;
     rises = rw h.0 (counts-still s.counters);
     amount = rw h.0 (omega arith);
   };
   cause_term = λ n k l t ts e entered m h. h;
-  cause_node = λ n l t ts e m h. h;
-  cause_binder = λ n vs t e h. h;
+  cause_node = λ n k l t ts e m h. h;
+  cause_binder = λ n k vs t e h. h;
   count_one = λ c. counted-one c.shift_descents;
   rises_one = λ c. record { descents = refl; up = counted-up c.shift_descents };
   rises_still = counts-still;
@@ -208,7 +218,7 @@ pub region_hook : (rows : List Row) (s : Standing (State ℕ ⊤)) (r : RegionKi
     (λ e. (s ≡ s) × IsTooGreat e (IsTooFar (shift_of s.state) (tree_in rows (region_shape r))))
 region_hook rows s r (Ok q) low part h = (
   rw h.0 (region-named (size rows) s.state.rule s.state.under r part),
-  (refl, record { plain = rw h.0 (region-moved (meaning rows) s.state.rule s.state.under r); allows = tt }),
+  (refl, shift_done s.state.rule s.state.under _ _ (rw h.0 (region-moved (meaning rows) s.state.rule s.state.under r))),
 )
 region_hook rows s r (Err e) low part h =
     (refl, (h.0, λ fits. h.1 (region-shallow (meaning rows) s.state.rule s.state.under r low fits)))
@@ -257,8 +267,8 @@ shift_refusal terms n t e keeps why = by_reason why
     unbuilt u _ h b = absurd b
 
     by_reason : Refuses shifting (IsRefused terms) n 0 t e → IsShiftRefusal terms n t e
-    by_reason (without u h b) = rw b.1.0 (unbuilt u b.0 h b.1.1)
-    by_reason (too_far is unfit) = rw is (λ fits. unfit (rw (read-shift_tree n 0 t) fits))
+    by_reason (without u h b) = rw b.1.0 (unbuilt u b.0 (subst (λ v. StandsIn u v) (moved-shift n 0 t) h) b.1.1)
+    by_reason (too_far is unfit) = rw is (λ fits. unfit (rw (moved-shift n 0 t, read-shift_tree n 0 t) fits))
     by_reason (caused h) = absurd h
 
 -- the state from which a shift starts
@@ -276,7 +286,8 @@ module _ {S T : Type 0} {owned : List Row → S → Type 0} {means : List Row �
       let fresh : from.state.memory ≡ [] = ap (λ q. q.memory) is in
       let w = d.outcome.1 in
       let done = does shifting shifting_laws w (knows-nothing shifting shifting_laws (moving_types from.state.under t) from to t fresh (taken-listed from.state.rule from.state.under t)) in
-      let tree = rw is at done.is_done.plain in
+      let made = rw is at done.is_done.plain in
+      let tree : tree_by shape terms'.rows y ≡ shift_tree 0 n t = made ∙ moved-shift n 0 t in
       let pairs = pairs_walked shifting shifting_laws (moving_types from.state.under t) from to t fresh (taken-listed from.state.rule from.state.under t) (tree_by shape terms'.rows y) w in
       record {
         tree = tree;

@@ -6,6 +6,7 @@ pub mod Steps
 pub mod Still
 pub mod Stands
 pub mod Places
+pub mod Leaves
 pub mod Remember
 pub mod Memory
 pub mod Notes

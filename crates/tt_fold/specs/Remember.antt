@@ -3,13 +3,14 @@ use Rattle.std.specs.Prelude.{◌≡◌, ℕ, suc, ◌-◌, ◌≤◌, ◌⊎◌
 use Rattle.tt_index.specs.Greatest.{greatest}
 use Rattle.tt_index.specs.declared.refusal.Refusal.{Refusal}
 use Rattle.tt_index.specs.declared.refusal.Refusal.TheVariants.{Memory, GreatestIndex}
-use Rattle.tt_kinds.specs.Label.{Name, Sort, is_type}
-use Rattle.tt_kinds.specs.Tree.{Depth, Tree, Forest, param, bound, region, term, node, binder, rebuild, rebuild_all}
+use Rattle.tt_kinds.specs.Label.{Name, Sort, Entry, is_type}
+use Rattle.tt_kinds.specs.Tree.{Depth, Tree, Forest, param, bound, region, term, node, binder}
 use Rattle.tt_kinds.specs.Count.{TypeAt}
 use Rattle.tt_interner.specs.Stored.{Counters}
 use Rattle.tt_fold.specs.Walk.{Hooks, Answer, replace, keep, descend, is_type_tree}
 use Rattle.tt_fold.specs.Counts.{Standing}
 use Rattle.tt_fold.specs.Places.{IsIn}
+use Rattle.tt_fold.specs.Leaves.{with_leaves, with_leaves_all}
 
 -- a type that was taken apart under a number of binders, and its result
 pub record Memo : Type 0 where
@@ -72,11 +73,11 @@ module _ {R K : Type 0} where
 
 -- The task of a folder by a rule of type R, which keeps a K besides its memory.
 pub record Task (R K : Type 0) : Type 1 where
-  -- the replacement of an index, and of a parameter, under a number of binders
-  pub index : R → ℕ → Depth → Depth
+  -- what takes the place of a bound variable, and of a parameter, under a number of binders
+  pub variable : R → ℕ → Sort → Depth → Entry Name → Tree Depth
   pub parameter : R → ℕ → Sort → ℕ → Name → Tree Depth
-  -- a further condition on a tree that isn't refused
-  pub Allows : R → Tree Depth → Type 0
+  -- a further condition on a tree under a number of binders that isn't refused
+  pub Allows : R → ℕ → Tree Depth → Type 0
   -- the term is entered
   pub IsEntered : R → ℕ → Tree Depth → Type 0
   -- the type has to be taken apart, if it isn't remembered
@@ -87,8 +88,8 @@ pub record Task (R K : Type 0) : Type 1 where
   pub RegionFails : (Tree Depth → Refusal → Type 0) → R → ℕ → Tree Depth → Refusal → Type 0
   -- why no answer is given at a term, and the state afterwards
   pub TermFails : (Tree Depth → Refusal → Type 0) → Standing (State R K) → Tree Depth → Refusal → Standing (State R K) → Type 0
-  -- why a tree is refused even if all can be built and all indices fit
-  pub IsCause : R → Tree Depth → Refusal → Type 0
+  -- why a tree under a number of binders is refused even if all can be built and all indices fit
+  pub IsCause : R → ℕ → Tree Depth → Refusal → Type 0
   -- the counts after one descent into a type, the count of these, and how counts may change
   pub count : Counters → Counters
   pub amount : Counters → ℕ
@@ -97,15 +98,15 @@ pub record Task (R K : Type 0) : Type 1 where
 module _ {R K : Type 0} (T : Task R K) where
   -- the result of the rule for a tree under k binders
   abbrev pub made : R → ℕ → Tree Depth → Tree Depth
-  made q k t = rebuild (T.index q) (T.parameter q) k t
+  made q k t = with_leaves (T.variable q) (T.parameter q) k t
 
   abbrev pub made_all : R → ℕ → Forest Depth → Forest Depth
-  made_all q k ts = rebuild_all (T.index q) (T.parameter q) k ts
+  made_all q k ts = with_leaves_all (T.variable q) (T.parameter q) k ts
 
   -- the rule under k binders allows the tree, and gives this result
   pub record Done (q : R) (k : ℕ) (t r : Tree Depth) : Type 0 where
     pub plain : r ≡ made q k t
-    pub allows : T.Allows q t
+    pub allows : T.Allows q k t
 
   -- the tree is a type with parts that has to be taken apart
   abbrev pub IsTaken : R → ℕ → Tree Depth → Type 0

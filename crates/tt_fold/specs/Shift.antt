@@ -25,6 +25,7 @@ use Rattle.tt_kinds.specs.Count.{moving_types}
 use Rattle.tt_kinds.specs.Handle.{Ty}
 use Rattle.tt_interner.specs.Rows.{Row}
 use Rattle.tt_interner.specs.Stored.{Counters, Terms, counted}
+use Rattle.tt_fold.specs.Leaves.{reindexed}
 use Rattle.tt_fold.specs.Remember.{State, Task}
 use Rattle.tt_fold.specs.Memory.{memos}
 use Rattle.tt_fold.specs.declared.memory.Place.{Place}
@@ -125,15 +126,15 @@ IsTooGreat e cause = (e ≡ GreatestIndex) × cause
 -- that were entered stays, and other terms are entered.
 abbrev pub shifting : Task ℕ ⊤
 shifting = record {
-  index = shifted;
+  variable = λ n. reindexed (shifted n);
   parameter = λ n. keep_parameter;
-  Allows = λ n t. ⊤;
+  Allows = λ n k t. ⊤;
   IsEntered = λ n k t. IsVariable t → ⊥;
   IsTodo = λ n k t. k < outer_binder t;
   Gives = λ s t r kept c. IsVariable t × (r ≡ moved_tree (shift_of s.state) t) × (c ≡ s.counters);
   RegionFails = λ unbuilt n k t e. IsTooGreat e (IsTooFar (record { amount = n; under = k }) t);
   TermFails = λ unbuilt s t e s'. (s' ≡ s) × (IsTooGreat e (IsTooFar (shift_of s.state) t) ⊎ unbuilt (moved_tree (shift_of s.state) t) e);
-  IsCause = λ n t e. ⊥;
+  IsCause = λ n k t e. ⊥;
   count = count_shift;
   amount = λ c. c.shift_descents;
   Rises = ShiftsCount;

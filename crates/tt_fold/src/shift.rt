@@ -111,8 +111,8 @@ pub fn shift_region(region: Region, amount: u32) -> Result<Region, Refusal>
     shift_region_under(region, DebruijnIndex::INNERMOST, amount)
 }
 
-// Returns the bound variable, if the type is one.
-fn bound_ty(kind: &Kind) -> Option<(BoundVarIndexKind, BoundTy)>
+/// Returns the bound variable, if the type is one.
+pub fn bound_ty(kind: &Kind) -> Option<(BoundVarIndexKind, BoundTy)>
     ensures { result ≡ bound_ty_of kind.now }
 {
     match kind {
@@ -124,8 +124,8 @@ fn bound_ty(kind: &Kind) -> Option<(BoundVarIndexKind, BoundTy)>
     }
 }
 
-// Returns the bound variable, if the constant is one.
-fn bound_const(kind: &Kind) -> Option<(BoundVarIndexKind, BoundConst)>
+/// Returns the bound variable, if the constant is one.
+pub fn bound_const(kind: &Kind) -> Option<(BoundVarIndexKind, BoundConst)>
     ensures { result ≡ bound_const_of kind.now }
 {
     match kind {
