@@ -4,8 +4,8 @@ use crate::containers::type_at;
 use crate::steps::Derivation;
 use test_terms::{NOT_OWNED, args, ty};
 use type_terms::{
-    AliasTy, Answer, DataTypes, GenericArg, InternedAlias, InternedKind, InternedView, Interner,
-    Refusal, Ty, TyKind, TypeSignature,
+    AliasTy, Answer, Binder, BoundVarKinds, DataTypes, GenericArg, InternedAlias, InternedKind,
+    InternedView, Interner, Refusal, Ty, TyKind, TypeSignature, instantiate_binder,
 };
 
 /// Answers what the library makes of a type.
@@ -17,6 +17,9 @@ pub fn derived(
     match derivation {
         Derivation::Signature(position) => signature(cx, type_at(answers, position)?),
         Derivation::Fields(position) => fields(cx, type_at(answers, position)?),
+        Derivation::Opened(position, argument) => {
+            opened(cx, type_at(answers, position)?, type_at(answers, argument)?)
+        }
         Derivation::WithSelf(position, self_type) => {
             let alias = alias(cx, type_at(answers, position)?)?;
             with_self(cx, alias, type_at(answers, self_type)?)
@@ -56,6 +59,16 @@ fn fields(cx: &mut Interner, of: Ty) -> Result<Answer, Refusal> {
         types.push(GenericArg::from(field.ty))?;
     }
     Ok(Answer::Args(args(cx, types.as_slice())?))
+}
+
+// Answers the type outside of a binder that it is under, with the argument for the binder's variable.
+fn opened(cx: &mut Interner, contents: Ty, argument: Ty) -> Result<Answer, Refusal> {
+    if !cx.owns(contents) || !cx.owns(argument) {
+        return Err(NOT_OWNED);
+    }
+    let binder = Binder::bind_with_vars(contents, BoundVarKinds::default());
+    let args = [GenericArg::from(argument)];
+    Ok(Answer::Ty(instantiate_binder(cx, binder, args.as_slice())?))
 }
 
 // Returns the alias that the type is.

@@ -52,6 +52,7 @@ fn derivation(first: &str, words: &mut Words) -> Result<Option<Derivation>, Unre
     let derivation = match first {
         "fn_sig" => Derivation::Signature(words.position()?),
         "fields" => Derivation::Fields(words.position()?),
+        "opened" => Derivation::Opened(words.position()?, words.position()?),
         "with_self" => Derivation::WithSelf(words.position()?, words.position()?),
         "trait_args" => Derivation::TraitArgs(words.position()?),
         "own_args" => Derivation::OwnArgs(words.position()?),

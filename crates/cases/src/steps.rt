@@ -64,6 +64,9 @@ pub enum Derivation {
     Signature(u32),
     /// The list of its fields' types.
     Fields(u32),
+    /// The type as the contents of a binder, without the binder, and with the type at the second position as the argument
+    /// for the binder's variable.
+    Opened(u32, u32),
     /// The alias with the type at the second position in place of its self type.
     WithSelf(u32, u32),
     /// The arguments of the trait that the alias is an item of.

@@ -43,7 +43,7 @@ use Rattle.tt_binder.specs.Instance.{HasNoCause, Composes, Commutes, StaysMatche
 use Rattle.tt_binder.proofs.FlagLaws.{hides_none}
 use Rattle.tt_binder.proofs.RowArguments.{type_stays, clause_stays}
 use Rattle.tt_fold.proofs.ClauseLaws.{KeepsClauses, never_bad}
-use Rattle.tt_binder.proofs.WalkLaws.{instantiation_laws, knows_first, left_done, passed-gone}
+use Rattle.tt_binder.proofs.WalkLaws.{made-inst, instantiation_laws, knows_first, left_done, passed-gone}
 
 -- the laws of an instance
 module _ (args : List (Argument Depth)) (t r : Tree Depth) (is : IsInstance args t r) where
@@ -62,7 +62,7 @@ module _ (args : List (Argument Depth)) (t r : Tree Depth) (is : IsInstance args
 -- what the folder does outside of each binder is an instance
 instance_done : (args : List (Argument Depth)) (t r : Tree Depth) → Instantiates args 0 t r → IsInstance args t r
 instance_done args t r d = record {
-  plain = ap (read 0) d.plain ∙ read-inst_tree 0 args t;
+  plain = ap (read 0) (d.plain ∙ made-inst args 0 t) ∙ read-inst_tree 0 args t;
   answered = d.allows.answered;
   no_cause = Cause-never args t d.allows.answered d.allows.hides;
 }
@@ -143,8 +143,8 @@ pub reason_refused : (terms : Terms) (args : Args) (s s' : Standing Instantiatio
 reason_refused terms args s s' t e is keeps f = at_root (subst (λ q. Refuses instantiation (IsRefused terms) q.rule q.under t e) is (walk_refused terms args s s' t e is f).why)
   where
     at_root : Refuses instantiation (IsRefused terms) args 0 t e → IsReason terms args t e
-    at_root (without u stands h) = rw h.1.0 (reason_unbuilt terms u args t h.0 keeps stands h.1.1)
-    at_root (too_far is unfit) = rw is (λ fits. unfit (rw (read-inst_tree 0 args t) fits))
+    at_root (without u stands h) = rw h.1.0 (reason_unbuilt terms u args t h.0 keeps (subst (λ v. StandsIn u v) (made-inst args 0 t) stands) h.1.1)
+    at_root (too_far is unfit) = rw is (λ fits. unfit (rw (made-inst args 0 t, read-inst_tree 0 args t) fits))
     at_root (caused h) = reason_caused terms args t e h
 
 -- outside of each binder a leaf is refused only for a cause

@@ -7,6 +7,9 @@ pub mod TaggedLaws
 pub mod SharingLaws
 pub mod UntouchedLaws
 pub mod PositionLaws
+pub mod OpeningLaws
+pub mod OpeningSteps
+pub mod OpeningOutcome
 pub mod ClauseLaws
 pub mod InstanceLaws
 pub mod StillLaws
@@ -18,5 +21,6 @@ mod UnprunedReasons
 mod UnprunedExamples
 mod SharingExamples
 mod InstanceExamples
+mod OpeningExamples
 mod FieldExamples
 mod ValidateExamples

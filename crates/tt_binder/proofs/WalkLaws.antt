@@ -1,12 +1,14 @@
 -- The laws of the argument folder's task: it gives plain replacement, and is refused only for its reasons.
-use Rattle.std.proofs.Common.{◌≡◌, ℕ, inl, inr, List, refl, sym, subst, arith, Bool, true, false}
+use Rattle.std.proofs.Common.{◌≡◌, ℕ, inl, inr, List, refl, sym, subst, ◌∙◌, arith, Bool, true, false}
 use Rattle.std.specs.Prelude.{IsSome}
 use Rattle.std.specs.Bool.{OnTrue}
 use Rattle.tt_index.specs.declared.refusal.Refusal.{Refusal}
 use Rattle.tt_index.specs.declared.refusal.Refusal.TheVariants.{Memory, TableFull, GreatestIndex, NoArguments, ArgOutOfRange, ArgKind, RegionVariable, NotAClause, NoSuchAnswer}
 use Rattle.tt_kinds.specs.Label.{Name, region_sort, type_sort, const_sort, VarKind, type_label, const_label, pattern_label, predicate_label, existential_label, clause_list_label, list_label, var_list_label, text_label, declaration_label, definition_label, record_label, error_label, clause_label, Label, is_type_or_clause}
 use Rattle.tt_kinds.specs.Tree.{Depth, Tree, Forest, param, bound, region, term, node, binder, none, also}
+use Rattle.tt_kinds.specs.Reading.{read, FitsUnder}
 use Rattle.tt_kinds.specs.Argument.{argument}
+use Rattle.tt_kinds.specs.Plain.{given_under, inst_tree}
 use Rattle.tt_kinds.specs.Param.{holds_param, EachParam_among, IsGeneric_among}
 use Rattle.tt_kinds.specs.Cause.{HidesRegionVars, HasExposed_among, Cause}
 use Rattle.tt_kinds.proofs.ParamLaws.{inst_tree-none, EachParam-none}
@@ -14,15 +16,24 @@ use Rattle.tt_kinds.proofs.ChildLaws.{Among, HasParam-among, HasExposed-among}
 use Rattle.tt_interner.specs.Stored.{Counters}
 use Rattle.tt_fold.specs.Counts.{Standing}
 use Rattle.tt_fold.specs.Walk.{IsPassed}
-use Rattle.tt_fold.specs.Remember.{IsTaken}
+use Rattle.tt_fold.specs.Remember.{made, IsTaken}
+use Rattle.tt_fold.specs.Stands.{StandsIn}
+use Rattle.tt_fold.proofs.LeafLaws.{with_leaves-rebuild}
 use Rattle.tt_fold.proofs.ShiftLaws.{counted-one, counted-up}
 use Rattle.tt_fold.proofs.RememberLaws.{Knows}
 use Rattle.tt_fold.proofs.TaskLaws.{AllowsAll, Refuses, without, too_far, caused, IsGiven, TaskLaws}
-use Rattle.tt_binder.specs.Instantiation.{Args, Kept, Instantiation, at_first, Instantiates, LeafRefuses, for_cause, shift_unbuilt, shift_too_far, IsInnerConst, IsGoneInto, PutsArgument, as_it_is, shifted_now, instantiation}
+use Rattle.tt_binder.specs.Instantiation.{Args, Kept, Instantiation, at_first, Instantiates, IsAllowed, LeafRefuses, for_cause, shift_unbuilt, shift_too_far, IsInnerConst, IsGoneInto, PutsArgument, as_it_is, shifted_now, instantiation}
+
+-- the instantiated tree is what the task makes of a tree
+pub made-inst : (args : Args) (k : ℕ) (t : Tree Depth) → made instantiation args k t ≡ inst_tree k args t
+made-inst args k t = with_leaves-rebuild (λ j d. d) (given_under args) k t
+
+inst_done : (args : Args) (k : ℕ) (t r : Tree Depth) → r ≡ inst_tree k args t → IsAllowed args t → Instantiates args k t r
+inst_done args k t r is allows = record { plain = is ∙ sym (made-inst args k t); allows = allows }
 
 -- what holds no parameter is instantiated to itself
 pub left_done : (args : Args) (k : ℕ) (t : Tree Depth) → holds_param t ≡ false → HidesRegionVars t → Instantiates args k t t
-left_done args k t h hides = record { plain = sym (inst_tree-none k args t h); allows = record { answered = EachParam-none _ t h; hides = hides } }
+left_done args k t h hides = inst_done args k t t (sym (inst_tree-none k args t h)) (record { answered = EachParam-none _ t h; hides = hides })
 
 -- where the hook answers so, and where there is none
 pub on_true : (b : Bool) {P : Type 0} → P → OnTrue b P
@@ -79,13 +90,13 @@ taken-gone args k (term l ts) taken = on_true (is_type_or_clause l) taken.1
 taken-gone args k _ taken = absurd taken
 
 -- what is allowed in all parts
-all_answered : (args : Args) (ts : Forest Depth) → AllowsAll instantiation args ts → EachParam_among (λ s i. IsSome (argument args s i)) ts
-all_answered args none h = tt
-all_answered args (also t ts) h = (h.0.answered, all_answered args ts h.1)
+all_answered : (args : Args) (k : ℕ) (ts : Forest Depth) → AllowsAll instantiation args k ts → EachParam_among (λ s i. IsSome (argument args s i)) ts
+all_answered args k none h = tt
+all_answered args k (also t ts) h = (h.0.answered, all_answered args k ts h.1)
 
-all_hide : (args : Args) (ts : Forest Depth) → AllowsAll instantiation args ts → (x : ℕ) → HasExposed_among x ts → ⊥
-all_hide args none h x e = e
-all_hide args (also t ts) h x e = elim e [ inl a ↦ h.0.hides x a | inr b ↦ all_hide args ts h.1 x b ]
+all_hide : (args : Args) (k : ℕ) (ts : Forest Depth) → AllowsAll instantiation args k ts → (x : ℕ) → HasExposed_among x ts → ⊥
+all_hide args k none h x e = e
+all_hide args k (also t ts) h x e = elim e [ inl a ↦ h.0.hides x a | inr b ↦ all_hide args k ts h.1 x b ]
 
 -- a cause in a child of a term or a node, or under a binder, is a cause in the whole
 Cause-term : (args : Args) (l : Label Name) (t : Tree Depth) (ts : Forest Depth) → Among t ts → OnTrue (is_type_or_clause l) (IsGeneric_among ts)
@@ -125,18 +136,18 @@ Cause-binder args vs t (RegionVariable x) h = h
 -- a leaf's refusal is one of a tree
 leaf_refused : (unbuilt : Tree Depth → Refusal → Type 0) (args : Args) (k : ℕ) (t : Tree Depth) (e : Refusal) → LeafRefuses unbuilt args k t e → Refuses instantiation unbuilt args k t e
 leaf_refused unbuilt args k t e (for_cause h) = caused h
-leaf_refused unbuilt args k t e (shift_unbuilt below u m h) = without u m h
-leaf_refused unbuilt args k t e (shift_too_far below is unfit) = too_far is unfit
+leaf_refused unbuilt args k t e (shift_unbuilt below u m h) = without u (subst (λ v. StandsIn u v) (sym (made-inst args k t)) m) h
+leaf_refused unbuilt args k t e (shift_too_far below is unfit) = too_far is (subst (λ u. FitsUnder k (read k u) → ⊥) (sym (made-inst args k t)) unfit)
 
 argument_given : (s : Standing Instantiation) (t r : Tree Depth) (kept : Kept) (c : Counters) → PutsArgument s.state.rule s.state.under t r s.state.kept s.counters kept c
     → IsGiven instantiation s t r c
 argument_given s t r kept c (as_it_is is) = record {
-  is_done = record { plain = is.plain; allows = is.allows };
+  is_done = inst_done s.state.rule s.state.under t r is.plain is.allows;
   rises = record { descents = omega arith; shift_descents = omega arith };
   amount = omega arith;
 }
 argument_given s t r kept c (shifted_now i n is place below now more pairs) = record {
-  is_done = record { plain = is.plain; allows = is.allows };
+  is_done = inst_done s.state.rule s.state.under t r is.plain is.allows;
   rises = record { descents = omega arith; shift_descents = more };
   amount = omega arith;
 }
@@ -148,9 +159,9 @@ instantiation_laws = record {
   taken_entered = taken-gone;
   param_stays = λ args k o i name entered. absurd entered;
   bound_stays = λ args k o d e entered. left_done args k (bound o d e) refl (λ x h. h);
-  allows_term = λ args k l ts entered all. record { answered = all_answered args ts all; hides = λ x h. all_hide args ts all x h.1 };
-  allows_node = λ args l ts all. record { answered = all_answered args ts all; hides = all_hide args ts all };
-  allows_binder = λ args vs t h. record { answered = h.answered; hides = h.hides };
+  allows_term = λ args k l ts entered all. record { answered = all_answered args k ts all; hides = λ x h. all_hide args k ts all x h.1 };
+  allows_node = λ args k l ts all. record { answered = all_answered args k ts all; hides = all_hide args k ts all };
+  allows_binder = λ args k vs t h. record { answered = h.answered; hides = h.hides };
   given = argument_given;
   region_refused = leaf_refused;
   term_refused = λ unbuilt s t e s' h. record {
@@ -159,8 +170,8 @@ instantiation_laws = record {
     amount = omega (arith, h.0);
   };
   cause_term = λ args k l t ts e entered m h. Cause-term args l t ts m entered e h;
-  cause_node = λ args l t ts e m h. Cause-node args l t ts m e h;
-  cause_binder = λ args vs t e h. Cause-binder args vs t e h;
+  cause_node = λ args k l t ts e m h. Cause-node args l t ts m e h;
+  cause_binder = λ args k vs t e h. Cause-binder args vs t e h;
   count_one = λ c. counted-one c.descents;
   rises_one = λ c. record { descents = counted-up c.descents; shift_descents = omega arith };
   rises_still = λ c. record { descents = omega arith; shift_descents = omega arith };

@@ -16,6 +16,7 @@ use Rattle.tt_fold.specs.Counts.{Standing}
 use Rattle.tt_fold.specs.Stands.{StandsIn}
 use Rattle.tt_fold.specs.Walk.{Hooks}
 use Rattle.tt_fold.specs.Places.{IsIn, CountsPairs}
+use Rattle.tt_fold.specs.Leaves.{reindexed}
 use Rattle.tt_fold.specs.Remember.{State, Task, Done, remembering}
 use Rattle.tt_binder.specs.Shifted.{param_at}
 use Rattle.tt_binder.specs.Sharing.{IsParamIn, moving_at}
@@ -112,16 +113,16 @@ pub data PutsArgument (args : Args) (k : ℕ) (t r : Tree Depth) : Kept → Coun
 -- the task of replacing parameters by arguments, which takes each type apart that holds a parameter
 abbrev pub instantiation : Task Args Kept
 instantiation = record {
-  index = λ args j d. d;
+  variable = λ args. reindexed (λ j d. d);
   parameter = given_under;
-  Allows = IsAllowed;
+  Allows = λ args k t. IsAllowed args t;
   IsEntered = λ args k t. IsGoneInto t;
   IsTodo = λ args k t. IsGenericTerm t;
   Gives = λ s t r kept c. PutsArgument s.state.rule s.state.under t r s.state.kept s.counters kept c;
   RegionFails = LeafRefuses;
   TermFails = λ unbuilt s t e s'. (s'.counters.descents ≡ s.counters.descents) × IsShiftCount s s'.counters.shift_descents
       × LeafRefuses unbuilt s.state.rule s.state.under t e;
-  IsCause = λ args t e. Cause t args e;
+  IsCause = λ args k t e. Cause t args e;
   count = λ c. record { descents = counted c.descents; shift_descents = c.shift_descents };
   amount = λ c. c.descents;
   Rises = Rises;

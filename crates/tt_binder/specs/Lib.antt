@@ -7,6 +7,10 @@ pub mod ArgsSliceLaws
 pub mod Instantiation
 pub mod Instance
 pub mod Promise
+pub mod Opening
+pub mod OpeningPromise
+pub mod BinderOpener
+pub mod OpenerLaws
 pub mod IterInstantiated
 pub mod Untouched
 pub mod Unpruned

@@ -96,8 +96,8 @@ fn const_at<S: SliceLike>(cx: &Interner, args: S, index: u32) -> Result<Const, R
     }
 }
 
-// Returns the argument for the region parameter of the index, shifted past the enclosing binders.
-fn region_argument<S: SliceLike>(
+/// Returns the argument for the region parameter of the index, shifted past the enclosing binders.
+pub fn region_argument<S: SliceLike>(
     cx: &Interner,
     args: S,
     binders_passed: u32,
@@ -128,8 +128,8 @@ fn region_argument<S: SliceLike>(
     Ok(shifted)
 }
 
-// Returns the argument for the type parameter of the index, shifted past the enclosing binders.
-fn type_argument<S: SliceLike>(
+/// Returns the argument for the type parameter of the index, shifted past the enclosing binders.
+pub fn type_argument<S: SliceLike>(
     cx: &mut Interner,
     args: S,
     shifted: &mut Shifted<Ty>,
@@ -179,8 +179,8 @@ fn type_argument<S: SliceLike>(
     Ok(placed)
 }
 
-// Returns the argument for the constant parameter of the index, shifted past the enclosing binders.
-fn const_argument<S: SliceLike>(
+/// Returns the argument for the constant parameter of the index, shifted past the enclosing binders.
+pub fn const_argument<S: SliceLike>(
     cx: &mut Interner,
     args: S,
     shifted: &mut Shifted<Const>,

@@ -3,10 +3,12 @@
 
 mod arg_folder;
 pub mod args_slice;
+mod binder_opener;
 mod fields;
 mod fn_sig;
 pub mod instantiate;
 pub mod iter_instantiated;
+pub mod open_binder;
 mod shifted;
 pub mod slice_like;
 mod untouched;
@@ -16,6 +18,7 @@ pub use fields::DataTypes;
 pub use fn_sig::TypeSignature;
 pub use instantiate::{Instantiate, pruning_is_unseen};
 pub use iter_instantiated::{IterInstantiate, IterInstantiated, IterInstantiatedCopied};
+pub use open_binder::instantiate_binder;
 pub use slice_like::SliceLike;
 pub use untouched::is_untouched;
 pub use validate_bound_vars::{ValidateBoundVars, WrongBoundVar, validation_is_exact};

@@ -14,7 +14,7 @@ use Rattle.tt_kinds.specs.Plain.{shifted}
 use Rattle.tt_kinds.proofs.ReadingLaws.{place-outer, shifted-outer}
 use Rattle.tt_kinds.proofs.OuterLaws.{shift_tree-low}
 use Rattle.tt_kinds.specs.Bound.{depth, ty_entry, const_entry}
-use Rattle.tt_kinds.specs.Shape.{Shape, bound, stored, HasParts, IsGreatest, IsTooDeep, Meaning, fill}
+use Rattle.tt_kinds.specs.Shape.{Shape, bound, stored, HasParts, IsGreatest, Meaning, fill}
 use Rattle.tt_kinds.specs.Kinds as forms
 use Rattle.tt_kinds.specs.Kinds.{Form, form_shape, relabelled, ty_form, value_form, const_form, kind_table, kind_shape, ty_kind_shape, const_kind_shape}
 use Rattle.tt_kinds.specs.Handle.{Ty}

@@ -41,6 +41,7 @@ pub use tt_binder::SliceLike;
 pub use tt_binder::TypeSignature;
 pub use tt_binder::ValidateBoundVars;
 pub use tt_binder::WrongBoundVar;
+pub use tt_binder::instantiate_binder;
 pub use tt_binder::pruning_is_unseen;
 pub use tt_binder::validation_is_exact;
 pub use tt_flags::FlagComputation;

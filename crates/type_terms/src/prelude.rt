@@ -2,7 +2,7 @@
 //! `use type_terms::prelude::*;`.
 
 pub use crate::ir_print::IrPrint;
-pub use tt_binder::{DataTypes, Instantiate, IterInstantiate, TypeSignature};
+pub use tt_binder::{DataTypes, Instantiate, IterInstantiate, TypeSignature, instantiate_binder};
 pub use tt_fold::{
     Step, TypeFoldable, TypeFolder, TypeReplacer, TypeSuperFoldable, fold_regions, replace_types,
     replace_types_once, shift_vars,

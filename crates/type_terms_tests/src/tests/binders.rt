@@ -4,10 +4,10 @@ ghost use Rattle.std.specs.Prelude.{IfOk, map, ◌≡◌};
 
 use super::holds_anew;
 use std::alloc::{AllocError, Global};
-use test_terms::{NOT_OWNED, bound_region, one_region, param_ty, ref_ty, u32_ty};
+use test_terms::{NOT_OWNED, bound_region, bound_ty, one_region, param_ty, pointer, ref_ty, u32_ty};
 use type_terms::{
-    Binder, BinderExt, BoundVarKinds, EarlyBinder, EarlyBinderExt, Interner, Owned, Refusal,
-    TypeVisitableExt, Unnormalized,
+    Binder, BinderExt, BoundVarKinds, EarlyBinder, EarlyBinderExt, GenericArg, Interner, Owned,
+    Refusal, Region, Ty, TypeVisitableExt, Unnormalized, are_owned, instantiate_binder,
 };
 
 // What calls of a binder make of the value inside stays under the same variables.
@@ -139,4 +139,49 @@ fn no_bound_vars_holds(cx: &mut Interner) -> Result<bool, Refusal> {
 #[test]
 fn binders_that_bind_nothing(rt: HostRuntime) {
     holds_anew(&rt, rt.alloc(), no_bound_vars_holds);
+}
+
+// Returns what the type is outside of a binder, with these arguments for the binder's variables.
+fn opened(cx: &mut Interner, ty: Ty, args: &[GenericArg]) -> Result<Ty, Refusal> {
+    if !ty.is_owned(cx) || !are_owned(cx, args) {
+        return Err(NOT_OWNED);
+    }
+    instantiate_binder(
+        cx,
+        Binder::bind_with_vars(ty, BoundVarKinds::default()),
+        args,
+    )
+}
+
+// A bound type and a bound region become their arguments, and a variable from outside loses the binder.
+fn variables_are_replaced_holds(cx: &mut Interner) -> Result<bool, Refusal> {
+    let number = u32_ty(cx)?;
+    let own = bound_ty(cx, 0)?;
+    let outer = bound_ty(cx, 1)?;
+    let reference = ref_ty(cx, bound_region(0)?, outer)?;
+    let opened_reference = ref_ty(cx, Region::new_static(), own)?;
+    Ok(
+        opened(cx, own, &[GenericArg::from(number)])? == number
+            && opened(cx, reference, &[GenericArg::from(Region::new_static())])? == opened_reference
+            && opened(cx, number, &[])? == number,
+    )
+}
+
+// Under a further binder the argument is shifted. One that is absent, or a region for a type, is refused.
+fn arguments_under_binders_hold(cx: &mut Interner) -> Result<bool, Refusal> {
+    let own = bound_ty(cx, 0)?;
+    let outer = bound_ty(cx, 1)?;
+    let under = pointer(cx, &[outer])?;
+    Ok(
+        opened(cx, under, &[GenericArg::from(own)])? == under
+            && opened(cx, under, &[]) == Err(Refusal::NoArguments)
+            && opened(cx, under, &[GenericArg::from(Region::new_static())])
+                == Err(Refusal::ArgKind { index: 0 }),
+    )
+}
+
+#[test]
+fn binders_are_taken_off(rt: HostRuntime) {
+    holds_anew(&rt, rt.alloc(), variables_are_replaced_holds);
+    holds_anew(&rt, rt.alloc(), arguments_under_binders_hold);
 }
