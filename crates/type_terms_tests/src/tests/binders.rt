@@ -4,7 +4,9 @@ ghost use Rattle.std.specs.Prelude.{IfOk, map, ◌≡◌};
 
 use super::holds_anew;
 use std::alloc::{AllocError, Global};
-use test_terms::{NOT_OWNED, bound_region, bound_ty, one_region, param_ty, pointer, ref_ty, u32_ty};
+use test_terms::{
+    NOT_OWNED, bound_region, bound_ty, one_region, param_ty, pointer, ref_ty, u32_ty,
+};
 use type_terms::{
     Binder, BinderExt, BoundVarKinds, EarlyBinder, EarlyBinderExt, GenericArg, Interner, Owned,
     Refusal, Region, Ty, TypeVisitableExt, Unnormalized, are_owned, instantiate_binder,
