@@ -17,10 +17,11 @@ use tt_visit::TypeVisitableExt;
 /// binder keeps its binder: its index is one less.
 ///
 /// Refused if there are no arguments and one of the binder's own variables occurs (`NoArguments`); if there are some,
-/// but none for such a variable (`ArgOutOfRange`), or one of another sort (`ArgKind`); if the result would need an index
-/// that is too great or would nest too many binders (`GreatestIndex`); if a term or a list of the result is not stored
-/// yet and its table has as many rows as it may have (`TableFull`); and if the memory for a new one, or for the results
-/// that are remembered until the call ends, is refused (`Memory`). If several reasons hold, one of them is returned.
+/// but none for such a variable (`ArgOutOfRange`), or one of another sort (`ArgKind`); if the result would need an
+/// index that is too great or would nest too many binders (`GreatestIndex`); if a term or a list of the result is not
+/// stored yet and its table has as many rows as it may have (`TableFull`); and if the memory for a new one, or for the
+/// results that are remembered until the call ends, is refused (`Memory`). If several reasons hold, one of them is
+/// returned.
 ///
 /// Contents in which no variable occurs that is bound by the binder or outside of it are returned unchanged, and
 /// nothing is built. Each type that has such a variable is taken apart once for each number of binders around its
