@@ -33,14 +33,14 @@ use Rattle.unify.specs.Substitution.{Assignment, variable_of, variable_in, bound
 use Rattle.unify.proofs.SubstitutionLaws.{bound_variable, inside, first_tree, other_trees}
 
 -- what is in a tree of this form
-abbrev contents : Form (Label ℕ) → Shapes
+abbrev pub contents : Form (Label ℕ) → Shapes
 contents (param i name) = shape.none
 contents (bound d e) = shape.none
 contents (plain l p) = parts_shapes p
 contents (under l vars r p) = shape.also (shape.binder vars.number (shape.node (record_label r) (parts_shapes p))) shape.none
 
 -- a form whose tree is a variable has no contents
-abbrev IsBare : Meaning → Sort → Form (Label ℕ) → Type 0
+abbrev pub IsBare : Meaning → Sort → Form (Label ℕ) → Type 0
 IsBare m s f = (v : ℕ) → variable_in (fill m (form_shape s f)) ≡ Some v → contents f ≡ shape.none
 
 value_bare : (m : Meaning) (t : Ty) (k : ValTreeKind) → IsBare m const_sort (relabelled const_label (value_form t k))
@@ -49,7 +49,7 @@ value_bare m t (valtree.Leaf s) v h = absurd (cc)
 value_bare m t (valtree.Branch cs) v h = absurd (cc)
 
 -- a variable has no parts
-kind_bare : (m : Meaning) (k : Kind) → IsBare m (kind_sort k) (kind_form k)
+pub kind_bare : (m : Meaning) (k : Kind) → IsBare m (kind_sort k) (kind_form k)
 unfolding fill
 kind_bare m (kind.Ty (ty.Infer (TyVar w))) v h = refl
 kind_bare m (kind.Ty k) v h = absurd (cc)

@@ -4,6 +4,7 @@ pub mod FlagLaws
 pub mod FormEqualities
 pub mod GeneralLaws
 pub mod KindLaws
+pub mod OccursLaws
 pub mod PairLaws
 pub mod ResolverSteps
 pub mod SolutionLaws

@@ -1,5 +1,5 @@
 -- What the steps of the unifier do to the solutions of bindings and pairs.
-use Rattle.std.proofs.Common.{◌≡◌, ℕ, List, Option, Some, Result, Ok, Err, IfOk, sym, subst, ap, ◌∙◌}
+use Rattle.std.proofs.Common.{◌≡◌, ℕ, List, Option, Some, Result, Ok, Err, IfOk, IfErr, sym, subst, ap, ◌∙◌}
 use Rattle.tt_kinds.specs.Tree as tree
 use Rattle.tt_kinds.specs.Tree.{Depth, Tree, Forest}
 use Rattle.tt_kinds.specs.Shape as shape
@@ -17,7 +17,9 @@ use Rattle.tt_interner.specs.Stored.{Terms, Extends}
 use Rattle.tt_fold.specs.Steps.{tree_in}
 use Rattle.unify.specs.Substitution.{Assignment, variable_in, assign, assign_all, Solves}
 use Rattle.unify.specs.Bindings.{substitution}
-use Rattle.unify.specs.Pairs.{pair_shape, child_trees, Equates, EquatesAll, EquatesTypes, KeepsSolutions}
+use Rattle.unify.specs.Pairs.{pair_shape, child_trees, Equates, EquatesAll, EquatesTypes, HasNoSolution, KeepsSolutions}
+use Rattle.unify.specs.Faults.{IsOccurs}
+use Rattle.unify.specs.declared.fault.Fault.{Fault}
 use Rattle.unify.specs.declared.pairs.Pair.{Pair}
 use Rattle.unify.proofs.SubstitutionLaws.{first_tree}
 use Rattle.unify.proofs.GeneralLaws.{variable_assigned}
@@ -64,6 +66,24 @@ module _ (a : Terms) (xs : List (Option Ty)) where
       → IfOk result (λ e. KeepsSolutions Meets a xs ps b (items e) qs) → IfOk result (λ e. KeepsSolutions Other a xs ps b (items e) qs)
   keeps_under b (Ok e) items ps qs Meets Other meets keeps = record { keep = λ ρ other solution. keeps.keep ρ (meets ρ other) solution }
   keeps_under b (Err e) items ps qs Meets Other meets keeps = tt
+
+  -- where binding a variable has no solution, two types that would become it and the type have none
+  pub bound_never : {T : Type 0} (result : Result T Fault) (ps : List Pair) (left right variable other : Ty) (v : ℕ)
+      → IfErr result (λ f. IsOccurs f → (ρ : Assignment) → ρ v ≡ assign ρ (tree_in a.rows (ty_shape other)) → Solves ρ (substitution a xs) → ⊥)
+      → variable_in (tree_in a.rows (ty_shape variable)) ≡ Some v
+      → ((ρ : Assignment) → Solves ρ (substitution a xs) → EquatesTypes ρ a left right → EquatesTypes ρ a variable other)
+      → IfErr result (λ f. IsOccurs f → HasNoSolution (λ ρ. EquatesTypes ρ a left right) a xs ps)
+  bound_never (Ok e) ps left right variable other v never is met = tt
+  bound_never (Err f) ps left right variable other v never is met = λ occurs. record {
+    never = λ ρ meets solution.
+        never occurs ρ (sym (variable_assigned ρ (tree_in a.rows (ty_shape variable)) v is) ∙ met ρ solution.solves meets) solution.solves;
+  }
+
+  -- what has no solution has none that meets more
+  pub never_under : {T : Type 0} (result : Result T Fault) (ps : List Pair) (Meets Other : Assignment → Type 0) → ((ρ : Assignment) → Other ρ → Meets ρ)
+      → IfErr result (λ f. IsOccurs f → HasNoSolution Meets a xs ps) → IfErr result (λ f. IsOccurs f → HasNoSolution Other a xs ps)
+  never_under (Ok e) ps Meets Other meets never = tt
+  never_under (Err f) ps Meets Other meets never = λ occurs. record { never = λ ρ other solution. (never occurs).never ρ (meets ρ other) solution }
 
 -- two types that become one tree, as children
 pub types_met : (ρ : Assignment) (a : Terms) (l r : Ty) → EquatesTypes ρ a l r

@@ -51,3 +51,7 @@ pub record IsSolution (ρ : Assignment) (terms : Terms) (entries : List (Option 
 -- whatever solves the earlier bindings and pairs, and meets the condition, solves the later bindings and pairs
 pub record KeepsSolutions (Meets : Assignment → Type 0) (old : Terms) (entries : List (Option Ty)) (pairs : List Pair) (new : Terms) (later : List (Option Ty)) (others : List Pair) : Type 0 where
   pub keep : (ρ : Assignment) → Meets ρ → IsSolution ρ old entries pairs → IsSolution ρ new later others
+
+-- nothing solves the bindings and pairs and meets the condition
+pub record HasNoSolution (Meets : Assignment → Type 0) (terms : Terms) (entries : List (Option Ty)) (pairs : List Pair) : Type 0 where
+  pub never : (ρ : Assignment) → Meets ρ → IsSolution ρ terms entries pairs → ⊥

@@ -109,3 +109,7 @@ Solves ρ σ = (v : ℕ) (r : Tree Depth) → σ v ≡ Some r → ρ v ≡ assig
 -- whatever solves the old bindings and makes the two trees equal solves the new bindings
 abbrev pub IsMostGeneral : Substitution → Tree Depth → Tree Depth → Substitution → Type 0
 IsMostGeneral σ t u σ' = (ρ : Assignment) → Solves ρ σ → assign ρ t ≡ assign ρ u → Solves ρ σ'
+
+-- nothing that solves the bindings makes the two trees equal
+abbrev pub HasNoUnifier : Substitution → Tree Depth → Tree Depth → Type 0
+HasNoUnifier σ t u = (ρ : Assignment) → Solves ρ σ → assign ρ t ≡ assign ρ u → ⊥

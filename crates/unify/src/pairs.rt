@@ -1,6 +1,6 @@
 //! Pairs of children that are to be made equal, and the pairs that their parts are.
 
-ghost use Rattle.std.specs.Prelude.{◌≢◌, ◌<◌, ◌≡◌, IfSome, MatchOption, OnOk};
+ghost use Rattle.std.specs.Prelude.{◌≢◌, ◌<◌, ◌≡◌, IfErr, IfSome, MatchOption, OnOk};
 ghost use Rattle.tt_kinds.specs.declared.table.Table.TheVariants as table;
 ghost use Rattle.tt_kinds.specs.declared.parts.Child.TheVariants as child_of;
 ghost use Rattle.tt_kinds.specs.Kinds.{child_shapes, list_shape, node_shape};
@@ -9,6 +9,7 @@ ghost use Rattle.tt_kinds.specs.Parts.{list_number, list_table, node_number, nod
 ghost use Rattle.tt_interner.specs.Owned.{AreOwned};
 ghost use Rattle.tt_interner.specs.Rows.{size};
 ghost use Rattle.tt_fold.specs.Steps.{tree_in};
+ghost use Rattle.unify.specs.Faults.{IsOccurs};
 ghost use Rattle.unify.specs.Pairs.{pair_shape, EquatesAll, IsNoList};
 ghost use Rattle.unify.specs.Substitution.{assign, Assignment};
 
@@ -39,6 +40,7 @@ pub fn push_parts(
     ensures general { OnOk result ((ρ : Assignment)
         → assign ρ (tree_in cx.now.rows (node_shape left)) ≡ assign ρ (tree_in cx.now.rows (node_shape right))
         → EquatesAll ρ cx.now pairs.old.items → EquatesAll ρ cx.now pairs.new.items) }
+    ensures err { IfErr result (λ fault. IsOccurs fault → ⊥) }
 {
     let (left, right) = (cx.node_kind(left), cx.node_kind(right));
     let (old, new) = (left.parts(), right.parts());
@@ -71,6 +73,7 @@ pub fn push_items(
     ensures general { OnOk result ((ρ : Assignment)
         → assign ρ (tree_in cx.now.rows (list_shape left)) ≡ assign ρ (tree_in cx.now.rows (list_shape right))
         → EquatesAll ρ cx.now pairs.old.items → EquatesAll ρ cx.now pairs.new.items) }
+    ensures err { IfErr result (λ fault. IsOccurs fault → ⊥) }
 {
     let len = cx.list_len(left);
     if left.sort() != right.sort() || len != cx.list_len(right) {

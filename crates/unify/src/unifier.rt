@@ -1,18 +1,19 @@
 //! Unification: a stack of pairs that are to be made equal, and the bindings that make the pairs before them equal.
 
-ghost use Rattle.std.specs.Prelude.{◌≡◌, ◌<◌, None, Some, IfOk, IfSome, OnErr, OnOk, get_or, length};
+ghost use Rattle.std.specs.Prelude.{◌≡◌, ◌<◌, None, Some, IfErr, IfOk, IfSome, OnErr, OnOk, get_or, length};
 ghost use Rattle.tt_kinds.specs.Kinds.{ty_shape};
 ghost use Rattle.tt_fold.specs.Steps.{tree_in};
 ghost use Rattle.tt_interner.specs.Owned.{AreOwned, IsOwned};
 ghost use Rattle.tt_interner.specs.Stored.{Extends};
 ghost use Rattle.unify.specs.Bindings.{IsRefined, IsTable, substitution, table_shape};
-ghost use Rattle.unify.specs.Pairs.{pair_shape, Equates, EquatesTypes, IsNoList, KeepsSolutions};
-ghost use Rattle.unify.specs.Substitution.{apply, assign, variable_in, Assignment, IsMostGeneral, Solves};
+ghost use Rattle.unify.specs.Faults.{IsOccurs};
+ghost use Rattle.unify.specs.Pairs.{pair_shape, Equates, EquatesTypes, HasNoSolution, IsNoList, KeepsSolutions};
+ghost use Rattle.unify.specs.Substitution.{apply, assign, variable_in, Assignment, HasNoUnifier, IsMostGeneral, Solves};
 
 use crate::bindings::Bindings;
 use crate::fault::Fault;
 use crate::pairs::{Pair, as_list, as_node, push_items, push_parts};
-use crate::resolver::{binding_of, occurs_in, replaced, resolved, variable_of};
+use crate::resolver::{binding_of, is_variable, occurs_in, replaced, resolved, variable_of};
 use indexmap::IndexMap;
 use type_terms::{Child, Interner, Node, Refusal, Ty, TyVid, TypeVisitableExt};
 
@@ -68,8 +69,15 @@ fn bound(
     ensures general { IfOk result (λ e. (ρ : Assignment)
         → ρ variable ≡ assign ρ (tree_in cx.old.rows (ty_shape ty))
         → Solves ρ (substitution cx.old entries.items) → Solves ρ (substitution cx.new e.items)) }
+    ensures occurs { IfErr result (λ fault. IsOccurs fault → (ρ : Assignment)
+        → ρ variable ≡ assign ρ (tree_in cx.old.rows (ty_shape ty))
+        → Solves ρ (substitution cx.old entries.items) → ⊥) }
 {
     let ty = resolved(cx, entries.as_slice(), ty)?;
+    if is_variable(cx, ty, variable) {
+        return Ok(entries);
+    }
+    cx.are_rows();
     if occurs_in(cx, variable, ty)? {
         return Err(Fault::Occurs(variable, ty));
     }
@@ -100,6 +108,8 @@ fn unify_types(
     ensures refined { IfOk result (λ e. IsRefined cx.old entries.items cx.new e.items) }
     ensures general { IfOk result (λ e. KeepsSolutions (λ ρ. EquatesTypes ρ cx.old left right)
         cx.old entries.items pairs.old.items cx.new e.items pairs.new.items) }
+    ensures occurs { IfErr result (λ fault. IsOccurs fault
+        → HasNoSolution (λ ρ. EquatesTypes ρ cx.old left right) cx.old entries.items pairs.old.items) }
 {
     let left = looked_up(cx, entries.as_slice(), left);
     let right = looked_up(cx, entries.as_slice(), right);
@@ -137,6 +147,8 @@ fn unify_terms(
     ensures refined { IfOk result (λ e. IsRefined cx.old entries.items cx.new e.items) }
     ensures general { IfOk result (λ e. KeepsSolutions (λ ρ. Equates ρ cx.old pair)
         cx.old entries.items pairs.old.items cx.new e.items pairs.new.items) }
+    ensures occurs { IfErr result (λ fault. IsOccurs fault
+        → HasNoSolution (λ ρ. Equates ρ cx.old pair) cx.old entries.items pairs.old.items) }
 {
     let Some(left) = as_node(pair.left) else {
         return Err(Fault::Mismatch);
@@ -168,6 +180,8 @@ fn unify_pair(
     ensures refined { IfOk result (λ e. IsRefined cx.old entries.items cx.new e.items) }
     ensures general { IfOk result (λ e. KeepsSolutions (λ ρ. Equates ρ cx.old pair)
         cx.old entries.items pairs.old.items cx.new e.items pairs.new.items) }
+    ensures occurs { IfErr result (λ fault. IsOccurs fault
+        → HasNoSolution (λ ρ. Equates ρ cx.old pair) cx.old entries.items pairs.old.items) }
 {
     if pair.left == pair.right {
         return Ok(entries);
@@ -205,6 +219,10 @@ fn unified(
         (tree_in cx.old.rows (ty_shape left))
         (tree_in cx.old.rows (ty_shape right))
         (substitution cx.new e.items)) }
+    ensures occurs { IfErr result (λ fault. IsOccurs fault → HasNoUnifier
+        (substitution cx.old entries.items)
+        (tree_in cx.old.rows (ty_shape left))
+        (tree_in cx.old.rows (ty_shape right))) }
 {
     let mut entries = entries;
     let mut compared = IndexMap::new(cx.allocator());
@@ -237,6 +255,10 @@ fn solution(cx: &mut Interner, bindings: &Bindings, left: Ty, right: Ty) -> Resu
         (tree_in cx.old.rows (ty_shape left))
         (tree_in cx.old.rows (ty_shape right))
         (substitution cx.new b)) }
+    ensures occurs { IfErr result (λ fault. IsOccurs fault → HasNoUnifier
+        (substitution cx.old bindings.now)
+        (tree_in cx.old.rows (ty_shape left))
+        (tree_in cx.old.rows (ty_shape right))) }
 {
     let entries = unified(cx, bindings.copied(cx)?, left, right)?;
     let solution = Bindings { entries };
@@ -275,6 +297,10 @@ pub fn unify(cx: &mut Interner, bindings: &mut Bindings, left: Ty, right: Ty) ->
         (tree_in cx.old.rows (ty_shape left))
         (tree_in cx.old.rows (ty_shape right))
         (substitution cx.new bindings.new)) }
+    ensures occurs { IfErr result (λ fault. IsOccurs fault → HasNoUnifier
+        (substitution cx.old bindings.old)
+        (tree_in cx.old.rows (ty_shape left))
+        (tree_in cx.old.rows (ty_shape right))) }
     ensures same { OnErr result (bindings.new ≡ bindings.old) }
 {
     *bindings = solution(cx, bindings, left, right)?;

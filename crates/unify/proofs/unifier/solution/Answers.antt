@@ -1,3 +1,4 @@
+use Rattle.std.proofs.lemmas.Result.{err_from_is_err_and}
 use Rattle.std.proofs.Common.{subst, sym, ◌∙◌}
 use Rattle.tt_kinds.specs.Kinds.{ty_shape}
 use Rattle.tt_interner.proofs.Growth.{Extends-trans}
@@ -33,3 +34,9 @@ returns-clause-general c = λ ρ solves equal.
     (sym (substitution_stays c.unified.new.cx c.resolve-2.new.cx c.in_ok-entries.entries.items
     (Extends-trans c.in_ok-resolved_left.ensures.extends c.in_ok-resolved_right.ensures.extends) c.in_ok-entries.ensures.refined.table.owned))
     (c.in_ok-entries.ensures.general ρ (subst (λ xs. Solves ρ (substitution c.args.cx.now xs)) (sym c.in_ok-copied.ensures) solves) equal)
+
+pub returns-in_err-entries-clause-occurs : goal.returns-in_err-entries-clause-occurs
+returns-in_err-entries-clause-occurs c =
+    let p = err_from_is_err_and c.from_residual-in_err-entries.result c.from_residual-in_err-entries.ensures.1 in
+    rw (p.1, p.2) (λ occurs ρ solves equal.
+    c.in_err-entries.ensures.occurs occurs ρ (subst (λ xs. Solves ρ (substitution c.args.cx.now xs)) (sym c.in_ok-copied.ensures) solves) equal)

@@ -1,3 +1,4 @@
+use Rattle.std.proofs.lemmas.Result.{err_from_is_err_and}
 use Rattle.std.proofs.Common.{subst, sym}
 use Rattle.tt_interner.specs.Owned.{AreOwned}
 use Rattle.tt_interner.proofs.Growth.{Extends-refl, Extends-trans}
@@ -39,3 +40,11 @@ loop-preserved c = record {
       let popped = equates_popped ρ c.loop.cx c.pop.new.self.items c.in-Some.pair (subst (EquatesAll ρ c.loop.cx) c.in-Some.ensures.items before.equates) in
       c.in_ok-entries.ensures.general.keep ρ popped.1 (record { solves = before.solves; equates = popped.0 });
 }
+
+pub returns-in_err-entries-clause-occurs : goal.returns-in_err-entries-clause-occurs
+returns-in_err-entries-clause-occurs c =
+    let p = err_from_is_err_and c.from_residual-in_err-entries.result c.from_residual-in_err-entries.ensures.1 in
+    rw (p.1, p.2) (λ occurs ρ solves equal.
+    let before = c.loop.invariant.general ρ solves equal in
+    let popped = equates_popped ρ c.loop.cx c.pop.new.self.items c.in-Some.pair (subst (EquatesAll ρ c.loop.cx) c.in-Some.ensures.items before.equates) in
+    (c.in_err-entries.ensures.occurs occurs).never ρ popped.1 (record { solves = before.solves; equates = popped.0 }))

@@ -6,6 +6,7 @@ use Rattle.std.proofs.Common.{Global, Vec, subst, sym}
 use Rattle.unify.specs.declared.pairs.Pair.{Pair}
 use Rattle.unify.proofs.SolutionLaws.{bound_keeps, looked_up_met, pairs_keep, same_solutions}
 use Rattle.unify.proofs.unifier.unify_types.Goals.{then-is_none+in_ok-push_parts, else-is_none}
+use Rattle.unify.proofs.SolutionLaws.{bound_never}
 use Rattle.unify.proofs.unifier.unify_types.Goals as goal
 
 pub returns-then-eq-clause-refined : goal.returns-then-eq-clause-refined
@@ -50,3 +51,18 @@ returns-clause-general c =
           c.as_slice.ensures.value c.as_slice-2.ensures.value c.looked_up-left.ensures.same c.looked_up-right.ensures.same ρ solves met) equates)
       | else-is_none w ↦ subst (λ (v : Vec Pair Global). EquatesAll ρ c.args.cx.now v.items) (sym w.pairs-is) equates
     ])
+
+pub returns-in-Some-clause-occurs : goal.returns-in-Some-clause-occurs
+returns-in-Some-clause-occurs c =
+    bound_never c.args.cx.now c.args.entries.items c.bound.result c.args.pairs.now.items c.args.left c.args.right c.looked_up-left.result c.looked_up-right.result c.in-Some.variable
+    c.bound.ensures.occurs c.in-Some.ensures.is
+    (looked_up_met c.args.cx.now c.args.entries.items c.as_slice.result.now c.as_slice-2.result.now c.args.left c.args.right c.looked_up-left.result c.looked_up-right.result
+    c.as_slice.ensures.value c.as_slice-2.ensures.value c.looked_up-left.ensures.same c.looked_up-right.ensures.same)
+
+pub returns-in-Some-unbound_variable-clause-occurs : goal.returns-in-Some-unbound_variable-clause-occurs
+returns-in-Some-unbound_variable-clause-occurs c =
+    bound_never c.args.cx.now c.args.entries.items c.bound-in-Some-unbound_variable.result c.args.pairs.now.items
+    c.args.left c.args.right c.looked_up-right.result c.looked_up-left.result c.in-Some-unbound_variable.variable
+    c.bound-in-Some-unbound_variable.ensures.occurs c.in-Some-unbound_variable.ensures.is
+    (λ ρ solves met. sym (looked_up_met c.args.cx.now c.args.entries.items c.as_slice.result.now c.as_slice-2.result.now c.args.left c.args.right c.looked_up-left.result c.looked_up-right.result
+    c.as_slice.ensures.value c.as_slice-2.ensures.value c.looked_up-left.ensures.same c.looked_up-right.ensures.same ρ solves met))
