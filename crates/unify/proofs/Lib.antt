@@ -5,6 +5,7 @@ pub mod FormEqualities
 pub mod GeneralLaws
 pub mod KindLaws
 pub mod OccursLaws
+pub mod OwnSolution
 pub mod PairLaws
 pub mod ResolverSteps
 pub mod SolutionLaws

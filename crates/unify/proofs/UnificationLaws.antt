@@ -16,6 +16,8 @@ use Rattle.unify.proofs.BindingsLaws.{pushed_same, substitution_stays}
 pub use Rattle.unify.proofs.BindingsLaws.{table_stays, empty_table, refined_further}
 -- what solves bindings makes of a resolved type what it makes of the type; what solves bindings solved the earlier ones
 pub use Rattle.unify.proofs.GeneralLaws.{solution_factors, solves_earlier}
+-- a table's bindings, as an assignment, solve the table, so there is a solution
+pub use Rattle.unify.proofs.OwnSolution.{bindings_solve}
 
 -- no variable occurs in what it is bound to
 pub never_within_itself : (terms : Terms) (entries : List (Option Ty)) → IsTable terms entries → (v : ℕ) (t : Tree Depth) → substitution terms entries v ≡ Some t → IsWithout v t

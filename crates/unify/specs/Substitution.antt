@@ -113,3 +113,11 @@ IsMostGeneral σ t u σ' = (ρ : Assignment) → Solves ρ σ → assign ρ t �
 -- nothing that solves the bindings makes the two trees equal
 abbrev pub HasNoUnifier : Substitution → Tree Depth → Tree Depth → Type 0
 HasNoUnifier σ t u = (ρ : Assignment) → Solves ρ σ → assign ρ t ≡ assign ρ u → ⊥
+
+-- the tree of the variable of this number
+abbrev pub variable_tree : ℕ → Tree Depth
+variable_tree v = term (type_label (infer_type (TyVar v))) none
+
+-- the bindings as an assignment: a variable without a binding stays itself
+abbrev pub as_assignment : Substitution → Assignment
+as_assignment σ v = or_else (σ v) (variable_tree v)

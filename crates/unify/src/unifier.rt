@@ -52,7 +52,8 @@ fn unbound_variable(cx: &Interner, entries: &[Option<Ty>], ty: Ty) -> Option<TyV
     }
 }
 
-// Binds the variable to the type, and puts the type in its place in all other bindings.
+// Binds the variable to the type, and puts the type in its place in all other bindings. A type that resolves to the
+// variable itself changes nothing.
 #[tactic(auto, using(crate::proofs::BindingsLaws::extends_further))]
 fn bound(
     cx: &mut Interner,
@@ -262,7 +263,8 @@ fn solution(cx: &mut Interner, bindings: &Bindings, left: Ty, right: Ty) -> Resu
 {
     let entries = unified(cx, bindings.copied(cx)?, left, right)?;
     let solution = Bindings { entries };
-    // The solution is checked, so the proof needs nothing of the pairs but that their handles are the interner's.
+    // The solution is checked, so the proof needs only that whatever makes the types equal makes the pairs equal, and
+    // not that the bindings do.
     let resolved_left = solution.resolve(cx, left)?;
     let resolved_right = solution.resolve(cx, right)?;
     if resolved_left != resolved_right {
@@ -272,14 +274,15 @@ fn solution(cx: &mut Interner, bindings: &Bindings, left: Ty, right: Ty) -> Resu
 }
 
 /// Makes two types equal by binding variables of the table. Types, constants, patterns and lists are compared by their
-/// parts, and regions by equality. Two types are compared once.
+/// parts, and regions by equality. Two types are compared once. The bindings are the most general ones: whatever solves
+/// the old bindings and makes the two types equal solves the new ones.
 ///
 /// # Errors
 ///
 /// If a call fails, the bindings are as before.
 ///
 /// - [`Fault::Mismatch`] if the types differ where neither is a variable that is unbound
-/// - [`Fault::Occurs`] if a variable would be bound to a type that it occurs in
+/// - [`Fault::Occurs`] if a variable would be bound to a type that it occurs in; then nothing makes the two types equal
 /// - [`Fault::Escapes`] if a variable would be bound to a type that holds a bound variable of a binder around it
 /// - [`Fault::Refused`] if the library refuses a call
 #[tactic(auto, using(crate::proofs::BindingsLaws::extends_further))]
