@@ -1,8 +1,13 @@
 pub mod ApplyLaws
 pub mod BindingsLaws
 pub mod FlagLaws
+pub mod FormEqualities
+pub mod GeneralLaws
 pub mod KindLaws
+pub mod OccursLaws
+pub mod OwnSolution
 pub mod PairLaws
 pub mod ResolverSteps
+pub mod SolutionLaws
 pub mod SubstitutionLaws
 pub mod UnificationLaws

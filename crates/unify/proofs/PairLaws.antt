@@ -1,15 +1,17 @@
 -- Pairs whose children are the interner's.
-use Rattle.std.proofs.Common.{◌≡◌, refl, ℕ, zero, suc, List, [], ◌∷◌, ◌++◌, slice_get, Some, Result, Ok, Err, IfOk, sym, subst}
+use Rattle.std.proofs.Common.{◌≡◌, refl, ℕ, zero, suc, List, [], ◌∷◌, ◌++◌, slice_get, Some, Result, Ok, Err, IfOk, sym, subst, ap, ◌∙◌}
 use Rattle.std.proofs.lemmas.Option.{none-some, same_Some}
 use Rattle.tt_kinds.specs.Shape.{AreParts, Sizes}
 use Rattle.tt_kinds.specs.Kinds.{child_shapes, children_shapes}
 use Rattle.tt_kinds.specs.declared.parts.Child.{Child}
 use Rattle.tt_interner.specs.Rows.{size}
 use Rattle.tt_interner.specs.Owned.{IsOwned, AreOwned}
-use Rattle.tt_interner.specs.Stored.{Terms}
+use Rattle.tt_interner.specs.Stored.{Terms, Extends}
+use Rattle.tt_interner.proofs.Growth.{fill_all-grows}
 use Rattle.tt_interner.proofs.InfoLaws.{AreParts-append, AreParts-join}
 use Rattle.tt_interner.proofs.OwnedLaws.{push_owned}
-use Rattle.unify.specs.Pairs.{pair_shape}
+use Rattle.unify.specs.Pairs.{pair_shape, child_trees, Equates, EquatesAll}
+use Rattle.unify.specs.Substitution.{Assignment, assign_all}
 use Rattle.unify.specs.declared.pairs.Pair.{Pair}
 
 -- a child of a list
@@ -45,3 +47,32 @@ if_ok (Err e) a = tt
 pub pairs_popped : (terms : Terms) (ps : List Pair) (p : Pair) → AreOwned pair_shape terms (ps ++ p ∷ []) → AreOwned pair_shape terms ps × IsOwned pair_shape terms p
 pairs_popped terms [] p owned = (tt, owned.0)
 pairs_popped terms (x ∷ ps) p owned = let rest = pairs_popped terms ps p owned.1 in ((owned.0, rest.0), rest.1)
+
+module _ (ρ : Assignment) where
+  -- pairs with one more that is made equal
+  pub equates_pushed : (terms : Terms) (ps qs : List Pair) (left right : Child) → qs ≡ ps ++ record { left = left; right = right } ∷ []
+      → EquatesAll ρ terms ps → assign_all ρ (child_trees terms left) ≡ assign_all ρ (child_trees terms right) → EquatesAll ρ terms qs
+  equates_pushed terms ps qs left right is equates same = subst (EquatesAll ρ terms) (sym is) (one_more terms ps left right equates same)
+    where
+      one_more : (terms : Terms) (ps : List Pair) (left right : Child) → EquatesAll ρ terms ps
+          → assign_all ρ (child_trees terms left) ≡ assign_all ρ (child_trees terms right) → EquatesAll ρ terms (ps ++ record { left = left; right = right } ∷ [])
+      one_more terms [] left right equates same = (same, tt)
+      one_more terms (x ∷ ps) left right equates same = (equates.0, one_more terms ps left right equates.1 same)
+
+  -- the pairs without the last one, and the last one
+  pub equates_popped : (terms : Terms) (ps : List Pair) (p : Pair) → EquatesAll ρ terms (ps ++ p ∷ []) → EquatesAll ρ terms ps × Equates ρ terms p
+  equates_popped terms [] p equates = (tt, equates.0)
+  equates_popped terms (x ∷ ps) p equates = let rest = equates_popped terms ps p equates.1 in ((equates.0, rest.0), rest.1)
+
+  module _ (old new : Terms) (extends : Extends old new) where
+    child_grown : (c : Child) → AreParts (size old.rows) (child_shapes c) → child_trees new c ≡ child_trees old c
+    child_grown c parts = fill_all-grows old.rows new.rows extends.rows (child_shapes c) parts
+
+    -- whatever the interner builds, children that are made equal stay so
+    pub equates_grown : (ps : List Pair) → AreOwned pair_shape old ps → EquatesAll ρ old ps → EquatesAll ρ new ps
+    equates_grown [] owned equates = tt
+    equates_grown (p ∷ ps) owned equates =
+        let parts = pair_parts old p owned.0 in (
+          ap (assign_all ρ) (child_grown p.left parts.0) ∙ equates.0 ∙ sym (ap (assign_all ρ) (child_grown p.right parts.1)),
+          equates_grown ps owned.1 equates.1,
+        )

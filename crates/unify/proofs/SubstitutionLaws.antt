@@ -7,12 +7,12 @@ use Rattle.tt_kinds.specs.Tree.{Depth, Tree, Forest}
 use Rattle.unify.specs.Substitution.{Substitution, variable_of, variable_in, bound_to, apply, apply_all, IsWithout, AreWithout, IsResolved, IsIdempotent, Refines, BindsOnly, IsComposition}
 
 -- a term that is bound is a variable
-record Bound (σ : Substitution) (l : Label Name) (b : Tree Depth) : Type 0 where
-  variable : ℕ
-  is : variable_of l ≡ Some variable
-  has : σ variable ≡ Some b
+pub record Bound (σ : Substitution) (l : Label Name) (b : Tree Depth) : Type 0 where
+  pub variable : ℕ
+  pub is : variable_of l ≡ Some variable
+  pub has : σ variable ≡ Some b
 
-bound_variable : (σ : Substitution) (l : Label Name) (b : Tree Depth) → bound_to σ l ≡ Some b → Bound σ l b
+pub bound_variable : (σ : Substitution) (l : Label Name) (b : Tree Depth) → bound_to σ l ≡ Some b → Bound σ l b
 bound_variable σ (type_label (infer_type (TyVar v))) b h = record { variable = v; is = refl; has = h }
 bound_variable σ l b h = absurd (cc)
 
@@ -26,7 +26,7 @@ no_variable σ (type_label (infer_type (TyVar w))) h = absurd (cc)
 no_variable σ l h = refl
 
 -- what is bound is bound to one tree
-same_binding : (a b : Tree Depth) → Some a ≡ Some b → a ≡ b
+pub same_binding : (a b : Tree Depth) → Some a ≡ Some b → a ≡ b
 same_binding a b h = cc
 
 -- the same for a term, from its contents
@@ -169,19 +169,19 @@ module _ (σ τ σ' : Substitution) (composed : IsComposition σ τ σ') where
     binding_keeps u s at w b has = image_without u (σ u) refl s at w b has
 
 -- the contents of a tree
-abbrev inside : Tree Depth → Forest Depth
+abbrev pub inside : Tree Depth → Forest Depth
 inside (tree.term l ts) = ts
 inside (tree.node l ts) = ts
 inside (tree.binder vs t) = tree.also t tree.none
 inside _ = tree.none
 
 -- the first of trees in order, if there is one
-abbrev first_tree : Tree Depth → Forest Depth → Tree Depth
+abbrev pub first_tree : Tree Depth → Forest Depth → Tree Depth
 first_tree d tree.none = d
 first_tree d (tree.also t ts) = t
 
 -- the others
-abbrev other_trees : Forest Depth → Forest Depth
+abbrev pub other_trees : Forest Depth → Forest Depth
 other_trees tree.none = tree.none
 other_trees (tree.also t ts) = ts
 

@@ -1,13 +1,23 @@
 -- What a caller of the unifier may use.
-use Rattle.std.proofs.Common.{◌≡◌, ℕ, List, Option, Some, sym, ap, ◌∙◌}
+use Rattle.std.proofs.Common.{◌≡◌, ℕ, List, [], ◌∷◌, ◌++◌, Option, Some, None, ◌↔◌, sym, ap, ◌∙◌}
 use Rattle.tt_kinds.specs.Tree.{Depth, Tree}
 use Rattle.tt_kinds.specs.Handle.{Ty}
-use Rattle.tt_interner.specs.Stored.{Terms}
-use Rattle.unify.specs.Substitution.{Substitution, apply, IsWithout, IsResolved, Refines}
-use Rattle.unify.specs.Bindings.{IsTable, substitution}
+use Rattle.tt_kinds.specs.Shape.{fill}
+use Rattle.tt_kinds.specs.Kinds.{ty_shape}
+use Rattle.tt_interner.specs.Owned.{IsOwned}
+use Rattle.tt_interner.specs.Stored.{Terms, Extends}
+use Rattle.tt_interner.proofs.Growth.{fill-grows}
+use Rattle.tt_fold.specs.Steps.{tree_in}
+use Rattle.unify.specs.Substitution.{Substitution, Assignment, apply, assign, IsWithout, IsResolved, Refines, Solves, IsMostGeneral}
+use Rattle.unify.specs.Bindings.{IsTable, IsRefined, substitution}
 use Rattle.unify.proofs.SubstitutionLaws.{applied_once, resolved_stays, trees_refined}
+use Rattle.unify.proofs.BindingsLaws.{pushed_same, substitution_stays}
 -- a table stays a table, whatever the interner builds; the empty table; bindings of several calls in turn only grow
 pub use Rattle.unify.proofs.BindingsLaws.{table_stays, empty_table, refined_further}
+-- what solves bindings makes of a resolved type what it makes of the type; what solves bindings solved the earlier ones
+pub use Rattle.unify.proofs.GeneralLaws.{solution_factors, solves_earlier}
+-- a table's bindings, as an assignment, solve the table, so there is a solution
+pub use Rattle.unify.proofs.OwnSolution.{bindings_solve}
 
 -- no variable occurs in what it is bound to
 pub never_within_itself : (terms : Terms) (entries : List (Option Ty)) → IsTable terms entries → (v : ℕ) (t : Tree Depth) → substitution terms entries v ≡ Some t → IsWithout v t
@@ -29,3 +39,39 @@ resolved_again σ σ' t refines = trees_refined σ σ' refines t
 -- types that are unified stay unified, whatever is bound later
 pub unified_stay : (σ σ' : Substitution) (t u : Tree Depth) → Refines σ σ' → apply σ t ≡ apply σ u → apply σ' t ≡ apply σ' u
 unified_stay σ σ' t u refines same = sym (trees_refined σ σ' refines t) ∙ ap (apply σ') same ∙ trees_refined σ σ' refines u
+
+-- each assignment that solves the old bindings and makes the two types equal factors through the new bindings
+pub unifier_factors : (ρ : Assignment) (σ σ' : Substitution) (t u : Tree Depth) → IsMostGeneral σ t u σ' → Solves ρ σ → assign ρ t ≡ assign ρ u
+    → (x : Tree Depth) → assign ρ (apply σ' x) ≡ assign ρ x
+unifier_factors ρ σ σ' t u general solves same x = solution_factors ρ σ' (general ρ solves same) x
+
+-- what solves bindings that unify two types makes the types equal
+pub solution_unifies : (ρ : Assignment) (σ : Substitution) (t u : Tree Depth) → Solves ρ σ → apply σ t ≡ apply σ u → assign ρ t ≡ assign ρ u
+solution_unifies ρ σ t u solves same = sym (solution_factors ρ σ solves t) ∙ ap (assign ρ) same ∙ solution_factors ρ σ solves u
+
+-- from the promises of `unify`: the new bindings are solved exactly by what solves the old ones and makes the two types equal
+pub solved_exactly : (ρ : Assignment) (old new : Terms) (entries later : List (Option Ty)) (left right : Ty) → Extends old new
+    → IsOwned ty_shape old left → IsOwned ty_shape old right → IsRefined old entries new later
+    → apply (substitution new later) (tree_in new.rows (ty_shape left)) ≡ apply (substitution new later) (tree_in new.rows (ty_shape right))
+    → IsMostGeneral (substitution old entries) (tree_in old.rows (ty_shape left)) (tree_in old.rows (ty_shape right)) (substitution new later)
+    → Solves ρ (substitution new later) ↔ (Solves ρ (substitution old entries) × (assign ρ (tree_in old.rows (ty_shape left)) ≡ assign ρ (tree_in old.rows (ty_shape right))))
+solved_exactly ρ old new entries later left right extends l r refined same general = (
+  λ solves. (
+    solves_earlier ρ (substitution old entries) (substitution new later) refined.refines solves,
+    ap (assign ρ) (sym (fill-grows old.rows new.rows extends.rows (ty_shape left) l))
+        ∙ solution_unifies ρ (substitution new later) (tree_in new.rows (ty_shape left)) (tree_in new.rows (ty_shape right)) solves same
+        ∙ ap (assign ρ) (fill-grows old.rows new.rows extends.rows (ty_shape right) r),
+  ),
+  λ both. general ρ both.0 both.1,
+)
+
+-- each assignment solves a table without variables
+pub empty_solved : (ρ : Assignment) (terms : Terms) → Solves ρ (substitution terms [])
+unfolding fill
+empty_solved ρ terms v r is = absurd (cc)
+
+-- what solves a table solves it with one more variable
+pub pushed_solved : (ρ : Assignment) (terms new : Terms) (entries : List (Option Ty)) → Extends terms new → IsTable terms entries
+    → Solves ρ (substitution terms entries) → Solves ρ (substitution new (entries ++ None ∷ []))
+pushed_solved ρ terms new entries extends table solves v r is =
+    solves v r (sym (ap (λ σ. σ v) (substitution_stays terms new entries extends table.owned)) ∙ sym (pushed_same new entries v) ∙ is)

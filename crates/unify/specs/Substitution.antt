@@ -85,3 +85,39 @@ then None τ v = τ v
 -- first σ, then τ
 abbrev pub IsComposition : Substitution → Substitution → Substitution → Type 0
 IsComposition σ τ σ' = (v : ℕ) → σ' v ≡ then (σ v) τ v
+
+-- a tree for each variable, by the variable's number
+abbrev pub Assignment : Type 0
+Assignment = ℕ → Tree Depth
+
+-- the substitution that binds each variable to its tree
+abbrev pub every : Assignment → Substitution
+every ρ v = Some (ρ v)
+
+-- the tree with each variable replaced by the variable's tree
+abbrev pub assign : Assignment → Tree Depth → Tree Depth
+assign ρ t = apply (every ρ) t
+
+-- the same for trees in order
+abbrev pub assign_all : Assignment → Forest Depth → Forest Depth
+assign_all ρ ts = apply_all (every ρ) ts
+
+-- each bound variable and its binding become one tree
+abbrev pub Solves : Assignment → Substitution → Type 0
+Solves ρ σ = (v : ℕ) (r : Tree Depth) → σ v ≡ Some r → ρ v ≡ assign ρ r
+
+-- whatever solves the old bindings and makes the two trees equal solves the new bindings
+abbrev pub IsMostGeneral : Substitution → Tree Depth → Tree Depth → Substitution → Type 0
+IsMostGeneral σ t u σ' = (ρ : Assignment) → Solves ρ σ → assign ρ t ≡ assign ρ u → Solves ρ σ'
+
+-- nothing that solves the bindings makes the two trees equal
+abbrev pub HasNoUnifier : Substitution → Tree Depth → Tree Depth → Type 0
+HasNoUnifier σ t u = (ρ : Assignment) → Solves ρ σ → assign ρ t ≡ assign ρ u → ⊥
+
+-- the tree of the variable of this number
+abbrev pub variable_tree : ℕ → Tree Depth
+variable_tree v = term (type_label (infer_type (TyVar v))) none
+
+-- the bindings as an assignment: a variable without a binding stays itself
+abbrev pub as_assignment : Substitution → Assignment
+as_assignment σ v = or_else (σ v) (variable_tree v)

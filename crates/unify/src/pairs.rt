@@ -1,14 +1,17 @@
 //! Pairs of children that are to be made equal, and the pairs that their parts are.
 
-ghost use Rattle.std.specs.Prelude.{◌≢◌, ◌<◌, ◌≡◌, IfSome, MatchOption, OnOk};
+ghost use Rattle.std.specs.Prelude.{◌≢◌, ◌<◌, ◌≡◌, IfErr, IfSome, MatchOption, OnOk};
 ghost use Rattle.tt_kinds.specs.declared.table.Table.TheVariants as table;
 ghost use Rattle.tt_kinds.specs.declared.parts.Child.TheVariants as child_of;
-ghost use Rattle.tt_kinds.specs.Kinds.{child_shapes, list_shape};
+ghost use Rattle.tt_kinds.specs.Kinds.{child_shapes, list_shape, node_shape};
 ghost use Rattle.tt_kinds.specs.Shape.{also, none};
 ghost use Rattle.tt_kinds.specs.Parts.{list_number, list_table, node_number, node_table};
 ghost use Rattle.tt_interner.specs.Owned.{AreOwned};
 ghost use Rattle.tt_interner.specs.Rows.{size};
-ghost use Rattle.unify.specs.Pairs.{pair_shape, IsNoList};
+ghost use Rattle.tt_fold.specs.Steps.{tree_in};
+ghost use Rattle.unify.specs.Faults.{IsOccurs};
+ghost use Rattle.unify.specs.Pairs.{pair_shape, EquatesAll, IsNoList};
+ghost use Rattle.unify.specs.Substitution.{assign, Assignment};
 
 use crate::fault::Fault;
 use type_terms::{Child, Interner, List, Node};
@@ -33,7 +36,11 @@ pub fn push_parts(
     requires right { node_number right < size cx.now.rows (node_table right) }
     requires right_kind { node_table right ≢ table.ClauseLists }
     requires pairs { AreOwned pair_shape cx.now pairs.old.items }
-    ensures { OnOk result (AreOwned pair_shape cx.now pairs.new.items) }
+    ensures owned { OnOk result (AreOwned pair_shape cx.now pairs.new.items) }
+    ensures general { OnOk result ((ρ : Assignment)
+        → assign ρ (tree_in cx.now.rows (node_shape left)) ≡ assign ρ (tree_in cx.now.rows (node_shape right))
+        → EquatesAll ρ cx.now pairs.old.items → EquatesAll ρ cx.now pairs.new.items) }
+    ensures err { IfErr result (λ fault. IsOccurs fault → ⊥) }
 {
     let (left, right) = (cx.node_kind(left), cx.node_kind(right));
     let (old, new) = (left.parts(), right.parts());
@@ -62,7 +69,11 @@ pub fn push_items(
     requires left { list_number left < size cx.now.rows (list_table left) }
     requires right { list_number right < size cx.now.rows (list_table right) }
     requires pairs { AreOwned pair_shape cx.now pairs.old.items }
-    ensures { OnOk result (AreOwned pair_shape cx.now pairs.new.items) }
+    ensures owned { OnOk result (AreOwned pair_shape cx.now pairs.new.items) }
+    ensures general { OnOk result ((ρ : Assignment)
+        → assign ρ (tree_in cx.now.rows (list_shape left)) ≡ assign ρ (tree_in cx.now.rows (list_shape right))
+        → EquatesAll ρ cx.now pairs.old.items → EquatesAll ρ cx.now pairs.new.items) }
+    ensures err { IfErr result (λ fault. IsOccurs fault → ⊥) }
 {
     let len = cx.list_len(left);
     if left.sort() != right.sort() || len != cx.list_len(right) {

@@ -1,18 +1,19 @@
 //! Unification: a stack of pairs that are to be made equal, and the bindings that make the pairs before them equal.
 
-ghost use Rattle.std.specs.Prelude.{◌≡◌, ◌<◌, None, IfOk, IfSome, OnErr, OnOk, get_or, length};
+ghost use Rattle.std.specs.Prelude.{◌≡◌, ◌<◌, None, Some, IfErr, IfOk, IfSome, OnErr, OnOk, get_or, length};
 ghost use Rattle.tt_kinds.specs.Kinds.{ty_shape};
 ghost use Rattle.tt_fold.specs.Steps.{tree_in};
 ghost use Rattle.tt_interner.specs.Owned.{AreOwned, IsOwned};
 ghost use Rattle.tt_interner.specs.Stored.{Extends};
 ghost use Rattle.unify.specs.Bindings.{IsRefined, IsTable, substitution, table_shape};
-ghost use Rattle.unify.specs.Pairs.{pair_shape, IsNoList};
-ghost use Rattle.unify.specs.Substitution.{apply};
+ghost use Rattle.unify.specs.Faults.{IsOccurs};
+ghost use Rattle.unify.specs.Pairs.{pair_shape, Equates, EquatesTypes, HasNoSolution, IsNoList, KeepsSolutions};
+ghost use Rattle.unify.specs.Substitution.{apply, assign, variable_in, Assignment, HasNoUnifier, IsMostGeneral, Solves};
 
 use crate::bindings::Bindings;
 use crate::fault::Fault;
 use crate::pairs::{Pair, as_list, as_node, push_items, push_parts};
-use crate::resolver::{binding_of, occurs_in, replaced, resolved, variable_of};
+use crate::resolver::{binding_of, is_variable, occurs_in, replaced, resolved, variable_of};
 use indexmap::IndexMap;
 use type_terms::{Child, Interner, Node, Refusal, Ty, TyVid, TypeVisitableExt};
 
@@ -30,7 +31,8 @@ struct Compared {
 fn looked_up(cx: &Interner, entries: &[Option<Ty>], ty: Ty) -> Ty
     requires entries { IsOwned table_shape cx.now entries.now }
     requires ty { IsOwned ty_shape cx.now ty }
-    ensures { IsOwned ty_shape cx.now result }
+    ensures owned { IsOwned ty_shape cx.now result }
+    ensures same { (ρ : Assignment) → Solves ρ (substitution cx.now entries.now) → EquatesTypes ρ cx.now ty result }
 {
     binding_of(cx, entries, ty).unwrap_or(ty)
 }
@@ -38,7 +40,8 @@ fn looked_up(cx: &Interner, entries: &[Option<Ty>], ty: Ty) -> Ty
 // Returns the variable that the type is, if it is a variable of the table and not bound.
 fn unbound_variable(cx: &Interner, entries: &[Option<Ty>], ty: Ty) -> Option<TyVid>
     requires { IsOwned ty_shape cx.now ty }
-    ensures { IfSome result (λ v. (v < length entries.now) × (get_or entries.now v None ≡ None)) }
+    ensures unbound { IfSome result (λ v. (v < length entries.now) × (get_or entries.now v None ≡ None)) }
+    ensures is { IfSome result (λ v. variable_in (tree_in cx.now.rows (ty_shape ty)) ≡ Some v) }
 {
     match variable_of(cx, ty) {
         Some(variable) => match entries.get(variable.as_usize()) {
@@ -49,7 +52,8 @@ fn unbound_variable(cx: &Interner, entries: &[Option<Ty>], ty: Ty) -> Option<TyV
     }
 }
 
-// Binds the variable to the type, and puts the type in its place in all other bindings.
+// Binds the variable to the type, and puts the type in its place in all other bindings. A type that resolves to the
+// variable itself changes nothing.
 #[tactic(auto, using(crate::proofs::BindingsLaws::extends_further))]
 fn bound(
     cx: &mut Interner,
@@ -63,8 +67,18 @@ fn bound(
     requires unbound { get_or entries.items variable None ≡ None }
     ensures extends { Extends cx.old cx.new }
     ensures refined { IfOk result (λ e. IsRefined cx.old entries.items cx.new e.items) }
+    ensures general { IfOk result (λ e. (ρ : Assignment)
+        → ρ variable ≡ assign ρ (tree_in cx.old.rows (ty_shape ty))
+        → Solves ρ (substitution cx.old entries.items) → Solves ρ (substitution cx.new e.items)) }
+    ensures occurs { IfErr result (λ fault. IsOccurs fault → (ρ : Assignment)
+        → ρ variable ≡ assign ρ (tree_in cx.old.rows (ty_shape ty))
+        → Solves ρ (substitution cx.old entries.items) → ⊥) }
 {
     let ty = resolved(cx, entries.as_slice(), ty)?;
+    if is_variable(cx, ty, variable) {
+        return Ok(entries);
+    }
+    cx.are_rows();
     if occurs_in(cx, variable, ty)? {
         return Err(Fault::Occurs(variable, ty));
     }
@@ -93,6 +107,10 @@ fn unify_types(
     ensures extends { Extends cx.old cx.new }
     ensures pairs { IfOk result (λ e. AreOwned pair_shape cx.new pairs.new.items) }
     ensures refined { IfOk result (λ e. IsRefined cx.old entries.items cx.new e.items) }
+    ensures general { IfOk result (λ e. KeepsSolutions (λ ρ. EquatesTypes ρ cx.old left right)
+        cx.old entries.items pairs.old.items cx.new e.items pairs.new.items) }
+    ensures occurs { IfErr result (λ fault. IsOccurs fault
+        → HasNoSolution (λ ρ. EquatesTypes ρ cx.old left right) cx.old entries.items pairs.old.items) }
 {
     let left = looked_up(cx, entries.as_slice(), left);
     let right = looked_up(cx, entries.as_slice(), right);
@@ -128,6 +146,10 @@ fn unify_terms(
     ensures extends { Extends cx.old cx.new }
     ensures pairs { IfOk result (λ e. AreOwned pair_shape cx.new pairs.new.items) }
     ensures refined { IfOk result (λ e. IsRefined cx.old entries.items cx.new e.items) }
+    ensures general { IfOk result (λ e. KeepsSolutions (λ ρ. Equates ρ cx.old pair)
+        cx.old entries.items pairs.old.items cx.new e.items pairs.new.items) }
+    ensures occurs { IfErr result (λ fault. IsOccurs fault
+        → HasNoSolution (λ ρ. Equates ρ cx.old pair) cx.old entries.items pairs.old.items) }
 {
     let Some(left) = as_node(pair.left) else {
         return Err(Fault::Mismatch);
@@ -157,6 +179,10 @@ fn unify_pair(
     ensures extends { Extends cx.old cx.new }
     ensures pairs { IfOk result (λ e. AreOwned pair_shape cx.new pairs.new.items) }
     ensures refined { IfOk result (λ e. IsRefined cx.old entries.items cx.new e.items) }
+    ensures general { IfOk result (λ e. KeepsSolutions (λ ρ. Equates ρ cx.old pair)
+        cx.old entries.items pairs.old.items cx.new e.items pairs.new.items) }
+    ensures occurs { IfErr result (λ fault. IsOccurs fault
+        → HasNoSolution (λ ρ. Equates ρ cx.old pair) cx.old entries.items pairs.old.items) }
 {
     if pair.left == pair.right {
         return Ok(entries);
@@ -189,6 +215,15 @@ fn unified(
     requires right { IsOwned ty_shape cx.old right }
     ensures extends { Extends cx.old cx.new }
     ensures refined { IfOk result (λ e. IsRefined cx.old entries.items cx.new e.items) }
+    ensures general { IfOk result (λ e. IsMostGeneral
+        (substitution cx.old entries.items)
+        (tree_in cx.old.rows (ty_shape left))
+        (tree_in cx.old.rows (ty_shape right))
+        (substitution cx.new e.items)) }
+    ensures occurs { IfErr result (λ fault. IsOccurs fault → HasNoUnifier
+        (substitution cx.old entries.items)
+        (tree_in cx.old.rows (ty_shape left))
+        (tree_in cx.old.rows (ty_shape right))) }
 {
     let mut entries = entries;
     let mut compared = IndexMap::new(cx.allocator());
@@ -216,10 +251,20 @@ fn solution(cx: &mut Interner, bindings: &Bindings, left: Ty, right: Ty) -> Resu
     ensures refined { IfOk result (λ b. IsRefined cx.old bindings.now cx.new b) }
     ensures unified { IfOk result (λ b. apply (substitution cx.new b) (tree_in cx.new.rows (ty_shape left))
         ≡ apply (substitution cx.new b) (tree_in cx.new.rows (ty_shape right))) }
+    ensures general { IfOk result (λ b. IsMostGeneral
+        (substitution cx.old bindings.now)
+        (tree_in cx.old.rows (ty_shape left))
+        (tree_in cx.old.rows (ty_shape right))
+        (substitution cx.new b)) }
+    ensures occurs { IfErr result (λ fault. IsOccurs fault → HasNoUnifier
+        (substitution cx.old bindings.now)
+        (tree_in cx.old.rows (ty_shape left))
+        (tree_in cx.old.rows (ty_shape right))) }
 {
     let entries = unified(cx, bindings.copied(cx)?, left, right)?;
     let solution = Bindings { entries };
-    // The solution is checked, so the proof needs nothing of the pairs but that their handles are the interner's.
+    // The solution is checked, so the proof needs only that whatever makes the types equal makes the pairs equal, and
+    // not that the bindings do.
     let resolved_left = solution.resolve(cx, left)?;
     let resolved_right = solution.resolve(cx, right)?;
     if resolved_left != resolved_right {
@@ -229,14 +274,15 @@ fn solution(cx: &mut Interner, bindings: &Bindings, left: Ty, right: Ty) -> Resu
 }
 
 /// Makes two types equal by binding variables of the table. Types, constants, patterns and lists are compared by their
-/// parts, and regions by equality. Two types are compared once.
+/// parts, and regions by equality. Two types are compared once. The bindings are the most general ones: whatever solves
+/// the old bindings and makes the two types equal solves the new ones.
 ///
 /// # Errors
 ///
 /// If a call fails, the bindings are as before.
 ///
 /// - [`Fault::Mismatch`] if the types differ where neither is a variable that is unbound
-/// - [`Fault::Occurs`] if a variable would be bound to a type that it occurs in
+/// - [`Fault::Occurs`] if a variable would be bound to a type that it occurs in; then nothing makes the two types equal
 /// - [`Fault::Escapes`] if a variable would be bound to a type that holds a bound variable of a binder around it
 /// - [`Fault::Refused`] if the library refuses a call
 #[tactic(auto, using(crate::proofs::BindingsLaws::extends_further))]
@@ -249,6 +295,15 @@ pub fn unify(cx: &mut Interner, bindings: &mut Bindings, left: Ty, right: Ty) ->
     ensures unified { OnOk result (
         apply (substitution cx.new bindings.new) (tree_in cx.new.rows (ty_shape left))
         ≡ apply (substitution cx.new bindings.new) (tree_in cx.new.rows (ty_shape right))) }
+    ensures general { OnOk result (IsMostGeneral
+        (substitution cx.old bindings.old)
+        (tree_in cx.old.rows (ty_shape left))
+        (tree_in cx.old.rows (ty_shape right))
+        (substitution cx.new bindings.new)) }
+    ensures occurs { IfErr result (λ fault. IsOccurs fault → HasNoUnifier
+        (substitution cx.old bindings.old)
+        (tree_in cx.old.rows (ty_shape left))
+        (tree_in cx.old.rows (ty_shape right))) }
     ensures same { OnErr result (bindings.new ≡ bindings.old) }
 {
     *bindings = solution(cx, bindings, left, right)?;

@@ -4,10 +4,15 @@ use Rattle.tt_kinds.specs.Kinds.{child_shapes, kind_form, kind_sort, parts_shape
 use Rattle.tt_interner.specs.Rows.{size}
 use Rattle.tt_interner.proofs.InfoLaws.{AreParts-append, form_has_parts}
 use Rattle.unify.proofs.PairLaws.{pairs_pushed}
+use Rattle.tt_interner.specs.Rows.{meaning}
+use Rattle.std.proofs.Common.{◌∙◌}
+use Rattle.unify.proofs.FormEqualities.{parts_met}
+use Rattle.unify.proofs.PairLaws.{equates_pushed}
+use Rattle.unify.proofs.SolutionLaws.{node_tree}
 use Rattle.unify.proofs.pairs.push_parts.Goals as goal
 
-pub returns : goal.returns
-returns c =
+pub returns-clause-owned : goal.returns-clause-owned
+returns-clause-owned c =
     let rows = c.args.cx.now.rows in
     let left = form_has_parts (kind_sort c.node_kind-left.result) (size rows) (kind_form c.node_kind-left.result) c.node_kind-left.ensures.parts in
     let right = form_has_parts (kind_sort c.node_kind-right.result) (size rows) (kind_form c.node_kind-right.result) c.node_kind-right.ensures.parts in
@@ -17,3 +22,12 @@ returns c =
     (subst (λ p. AreParts (size rows) (parts_shapes p)) (sym c.parts-new.ensures) right) in
     let first = pairs_pushed c.args.cx.now c.args.pairs.now.items c.push.new.self.items c.parts-old.result.second c.parts-new.result.second c.in_ok-push.ensures.items c.requires.pairs old.1 new.1 in
     pairs_pushed c.args.cx.now c.push.new.self.items c.push-2.new.self.items c.parts-old.result.first c.parts-new.result.first c.in_ok-push-2.ensures.items first old.0 new.0
+
+pub returns-clause-general : goal.returns-clause-general
+returns-clause-general c = λ ρ same equates.
+    let m = meaning c.args.cx.now.rows in
+    let both = parts_met ρ m c.args.left c.args.right c.node_kind-left.result c.node_kind-right.result c.with_parts.result c.parts-old.result c.parts-new.result
+    c.parts-old.ensures c.parts-new.ensures (c.are_like.ensures.0 c.if-not-are_like.false) c.with_parts.ensures.form (sym c.ne.ensures ∙ c.if-ne.false)
+    (node_tree m c.args.left _ c.node_kind-left.ensures.means) (node_tree m c.args.right _ c.node_kind-right.ensures.means) same in
+    let first = equates_pushed ρ c.args.cx.now c.args.pairs.now.items c.push.new.self.items c.parts-old.result.second c.parts-new.result.second c.in_ok-push.ensures.items equates both.1 in
+    equates_pushed ρ c.args.cx.now c.push.new.self.items c.push-2.new.self.items c.parts-old.result.first c.parts-new.result.first c.in_ok-push-2.ensures.items first both.0

@@ -7,6 +7,12 @@ use Rattle.tt_fold.specs.Steps.{tree_in}
 use Rattle.unify.specs.Bindings.{substitution}
 use Rattle.unify.specs.Substitution.{apply}
 use Rattle.unify.proofs.BindingsLaws.{applied_length, bound_refines}
+use Rattle.unify.proofs.GeneralLaws.{bound_solves}
+use Rattle.unify.specs.Substitution.{Solves}
+use Rattle.std.proofs.Common.{subst, sym}
+use Rattle.std.proofs.lemmas.Bool.{true≢false}
+use Rattle.unify.proofs.BindingsLaws.{refined_grown, substitution_stays}
+use Rattle.unify.proofs.OccursLaws.{occurs_fails}
 use Rattle.unify.proofs.unifier.bound.Goals as goal
 
 pub replaced-requires-clause-value : goal.replaced-requires-clause-value
@@ -28,3 +34,24 @@ returns-clause-refined c =
     c.requires.table c.in_ok-ty.ensures.extends c.in_ok-occurs_in.ensures.extends c.in_ok-entries.ensures.extends
     c.in_ok-ty.ensures.owned (c.in_ok-ty.ensures.plain ∙ ap (λ xs. apply (substitution c.args.cx.now xs) (tree_in c.args.cx.now.rows (ty_shape c.args.ty))) c.as_slice.ensures.value) (c.in_ok-occurs_in.ensures.exact.0 c.if-branch.false)
     c.in_ok-entries.ensures.owned c.in_ok-entries.ensures.plain c.requires.inside c.requires.unbound c.as_usize.ensures.number
+
+pub returns-clause-general : goal.returns-clause-general
+returns-clause-general c = λ ρ equal solves.
+    bound_solves ρ c.args.cx.now c.resolved.new.cx c.occurs_in.new.cx c.replaced.new.cx c.args.entries.items c.in_ok-entries.entries.items c.args.variable c.as_usize.result c.args.ty c.in_ok-ty.ty
+    c.requires.table c.in_ok-ty.ensures.extends c.in_ok-occurs_in.ensures.extends c.in_ok-entries.ensures.extends
+    c.in_ok-ty.ensures.owned (c.in_ok-ty.ensures.plain ∙ ap (λ xs. apply (substitution c.args.cx.now xs) (tree_in c.args.cx.now.rows (ty_shape c.args.ty))) c.as_slice.ensures.value)
+    c.in_ok-entries.ensures.plain c.requires.inside c.requires.unbound c.as_usize.ensures.number equal solves
+
+pub returns-then-is_variable-clause-refined : goal.returns-then-is_variable-clause-refined
+returns-then-is_variable-clause-refined c = refined_grown c.args.cx.now c.resolved.new.cx c.args.entries.items c.in_ok-ty.ensures.extends c.requires.table
+
+pub returns-then-is_variable-clause-general : goal.returns-then-is_variable-clause-general
+returns-then-is_variable-clause-general c = λ ρ equal solves.
+    subst (Solves ρ) (sym (substitution_stays c.args.cx.now c.resolved.new.cx c.args.entries.items c.in_ok-ty.ensures.extends c.requires.table.owned)) solves
+
+pub returns-then-branch-clause-occurs : goal.returns-then-branch-clause-occurs
+returns-then-branch-clause-occurs c = λ occurs ρ equal solves.
+    occurs_fails ρ c.args.cx.now c.resolved.new.cx c.args.entries.items c.args.variable c.args.ty c.in_ok-ty.ty c.are_rows.ensures.are
+    (c.in_ok-ty.ensures.plain ∙ ap (λ xs. apply (substitution c.args.cx.now xs) (tree_in c.args.cx.now.rows (ty_shape c.args.ty))) c.as_slice.ensures.value)
+    (λ is. true≢false (sym (c.is_variable.ensures.1 is) ∙ c.if-is_variable.false))
+    (λ without. true≢false (sym c.if-branch.true ∙ c.in_ok-occurs_in.ensures.exact.1 without)) equal solves

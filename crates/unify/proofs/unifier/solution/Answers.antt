@@ -1,3 +1,4 @@
+use Rattle.std.proofs.lemmas.Result.{err_from_is_err_and}
 use Rattle.std.proofs.Common.{subst, sym, ◌∙◌}
 use Rattle.tt_kinds.specs.Kinds.{ty_shape}
 use Rattle.tt_interner.proofs.Growth.{Extends-trans}
@@ -5,6 +6,9 @@ use Rattle.unify.specs.Bindings.{IsRefined}
 use Rattle.tt_interner.proofs.OwnedLaws.{still_owned}
 use Rattle.unify.proofs.BindingsLaws.{refined_further, refined_grown, unified_by}
 use Rattle.unify.proofs.ResolverSteps.{same_number}
+use Rattle.unify.specs.Bindings.{substitution}
+use Rattle.unify.specs.Substitution.{Solves}
+use Rattle.unify.proofs.BindingsLaws.{substitution_stays}
 use Rattle.unify.proofs.unifier.solution.Goals as goal
 
 pub returns-clause-unified : goal.returns-clause-unified
@@ -23,3 +27,16 @@ returns-clause-refined c =
     refined_further c.args.cx.now c.unified.new.cx c.resolve-2.new.cx c.args.bindings.now c.in_ok-entries.entries.items c.in_ok-entries.entries.items copied
     (refined_grown c.unified.new.cx c.resolve-2.new.cx c.in_ok-entries.entries.items
     (Extends-trans c.in_ok-resolved_left.ensures.extends c.in_ok-resolved_right.ensures.extends) c.in_ok-entries.ensures.refined.table)
+
+pub returns-clause-general : goal.returns-clause-general
+returns-clause-general c = λ ρ solves equal.
+    subst (Solves ρ)
+    (sym (substitution_stays c.unified.new.cx c.resolve-2.new.cx c.in_ok-entries.entries.items
+    (Extends-trans c.in_ok-resolved_left.ensures.extends c.in_ok-resolved_right.ensures.extends) c.in_ok-entries.ensures.refined.table.owned))
+    (c.in_ok-entries.ensures.general ρ (subst (λ xs. Solves ρ (substitution c.args.cx.now xs)) (sym c.in_ok-copied.ensures) solves) equal)
+
+pub returns-in_err-entries-clause-occurs : goal.returns-in_err-entries-clause-occurs
+returns-in_err-entries-clause-occurs c =
+    let p = err_from_is_err_and c.from_residual-in_err-entries.result c.from_residual-in_err-entries.ensures.1 in
+    rw (p.1, p.2) (λ occurs ρ solves equal.
+    c.in_err-entries.ensures.occurs occurs ρ (subst (λ xs. Solves ρ (substitution c.args.cx.now xs)) (sym c.in_ok-copied.ensures) solves) equal)

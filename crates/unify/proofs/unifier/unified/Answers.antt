@@ -1,9 +1,11 @@
+use Rattle.std.proofs.lemmas.Result.{err_from_is_err_and}
 use Rattle.std.proofs.Common.{subst, sym}
 use Rattle.tt_interner.specs.Owned.{AreOwned}
 use Rattle.tt_interner.proofs.Growth.{Extends-refl, Extends-trans}
-use Rattle.unify.specs.Pairs.{pair_shape}
+use Rattle.unify.specs.Pairs.{pair_shape, EquatesAll}
 use Rattle.unify.proofs.BindingsLaws.{refined_further, refined_itself}
-use Rattle.unify.proofs.PairLaws.{pairs_popped, pairs_pushed}
+use Rattle.unify.proofs.PairLaws.{equates_popped, equates_pushed, pairs_popped, pairs_pushed}
+use Rattle.unify.proofs.SolutionLaws.{types_met}
 use Rattle.unify.proofs.unifier.unified.Goals as goal
 
 pub loop-init : goal.loop-init
@@ -12,6 +14,11 @@ loop-init c = record {
   pairs = pairs_pushed c.args.cx.now c.new-pairs.result.items c.push.new.self.items _ _ c.in_ok-push.ensures.items
       (subst (AreOwned pair_shape c.args.cx.now) (sym c.new-pairs.ensures.items) tt) (c.requires.left, tt) (c.requires.right, tt);
   refined = refined_itself c.args.cx.now c.args.entries.items c.requires.table;
+  general = λ ρ solves equal. record {
+    solves = solves;
+    equates = equates_pushed ρ c.args.cx.now c.new-pairs.result.items c.push.new.self.items _ _ c.in_ok-push.ensures.items
+        (subst (EquatesAll ρ c.args.cx.now) (sym c.new-pairs.ensures.items) tt) (types_met ρ c.args.cx.now c.args.left c.args.right equal);
+  };
 }
 
 pub unify_pair-requires-clause-pairs : goal.unify_pair-requires-clause-pairs
@@ -28,4 +35,16 @@ loop-preserved c = record {
   pairs = c.in_ok-entries.ensures.pairs;
   refined = refined_further c.args.cx.now c.loop.cx c.unify_pair.new.cx c.args.entries.items c.loop.entries.items c.in_ok-entries.entries.items
       c.loop.invariant.refined c.in_ok-entries.ensures.refined;
+  general = λ ρ solves equal.
+      let before = c.loop.invariant.general ρ solves equal in
+      let popped = equates_popped ρ c.loop.cx c.pop.new.self.items c.in-Some.pair (subst (EquatesAll ρ c.loop.cx) c.in-Some.ensures.items before.equates) in
+      c.in_ok-entries.ensures.general.keep ρ popped.1 (record { solves = before.solves; equates = popped.0 });
 }
+
+pub returns-in_err-entries-clause-occurs : goal.returns-in_err-entries-clause-occurs
+returns-in_err-entries-clause-occurs c =
+    let p = err_from_is_err_and c.from_residual-in_err-entries.result c.from_residual-in_err-entries.ensures.1 in
+    rw (p.1, p.2) (λ occurs ρ solves equal.
+    let before = c.loop.invariant.general ρ solves equal in
+    let popped = equates_popped ρ c.loop.cx c.pop.new.self.items c.in-Some.pair (subst (EquatesAll ρ c.loop.cx) c.in-Some.ensures.items before.equates) in
+    (c.in_err-entries.ensures.occurs occurs).never ρ popped.1 (record { solves = before.solves; equates = popped.0 }))

@@ -6,3 +6,6 @@ returns-in_err-bindings-clause-refined c = refined_grown c.args.cx.now c.solutio
 
 pub returns-clause-unified : goal.returns-clause-unified
 returns-clause-unified c = c.in_ok-bindings.ensures.unified
+
+pub returns-clause-general : goal.returns-clause-general
+returns-clause-general c = c.in_ok-bindings.ensures.general

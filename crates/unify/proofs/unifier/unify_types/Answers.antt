@@ -1,7 +1,12 @@
 use Rattle.tt_interner.proofs.OwnedLaws.{list_still_owned}
-use Rattle.unify.specs.Pairs.{pair_shape}
+use Rattle.unify.specs.Pairs.{pair_shape, EquatesAll}
 use Rattle.unify.proofs.BindingsLaws.{refined_itself}
 use Rattle.unify.proofs.PairLaws.{if_ok}
+use Rattle.std.proofs.Common.{Global, Vec, subst, sym}
+use Rattle.unify.specs.declared.pairs.Pair.{Pair}
+use Rattle.unify.proofs.SolutionLaws.{bound_keeps, looked_up_met, pairs_keep, same_solutions}
+use Rattle.unify.proofs.unifier.unify_types.Goals.{then-is_none+in_ok-push_parts, else-is_none}
+use Rattle.unify.proofs.SolutionLaws.{bound_never}
 use Rattle.unify.proofs.unifier.unify_types.Goals as goal
 
 pub returns-then-eq-clause-refined : goal.returns-then-eq-clause-refined
@@ -18,3 +23,46 @@ returns-in-Some-unbound_variable-clause-pairs c =
 
 pub returns-clause-refined : goal.returns-clause-refined
 returns-clause-refined c = refined_itself c.args.cx.now c.args.entries.items c.requires.table
+
+pub returns-then-eq-clause-general : goal.returns-then-eq-clause-general
+returns-then-eq-clause-general c = same_solutions c.args.cx.now c.args.entries.items _ c.args.pairs.now.items
+
+pub returns-in-Some-clause-general : goal.returns-in-Some-clause-general
+returns-in-Some-clause-general c =
+    bound_keeps c.args.cx.now c.args.entries.items c.bound.new.cx c.bound.result (λ e. e.items) c.args.pairs.now.items c.args.left c.args.right c.looked_up-left.result c.looked_up-right.result c.in-Some.variable
+    c.bound.ensures.general c.bound.ensures.extends c.requires.pairs c.in-Some.ensures.is
+    (looked_up_met c.args.cx.now c.args.entries.items c.as_slice.result.now c.as_slice-2.result.now c.args.left c.args.right c.looked_up-left.result c.looked_up-right.result
+    c.as_slice.ensures.value c.as_slice-2.ensures.value c.looked_up-left.ensures.same c.looked_up-right.ensures.same)
+
+pub returns-in-Some-unbound_variable-clause-general : goal.returns-in-Some-unbound_variable-clause-general
+returns-in-Some-unbound_variable-clause-general c =
+    bound_keeps c.args.cx.now c.args.entries.items c.bound-in-Some-unbound_variable.new.cx c.bound-in-Some-unbound_variable.result (λ e. e.items) c.args.pairs.now.items
+    c.args.left c.args.right c.looked_up-right.result c.looked_up-left.result c.in-Some-unbound_variable.variable
+    c.bound-in-Some-unbound_variable.ensures.general c.bound-in-Some-unbound_variable.ensures.extends c.requires.pairs c.in-Some-unbound_variable.ensures.is
+    (λ ρ solves met. sym (looked_up_met c.args.cx.now c.args.entries.items c.as_slice.result.now c.as_slice-2.result.now c.args.left c.args.right c.looked_up-left.result c.looked_up-right.result
+    c.as_slice.ensures.value c.as_slice-2.ensures.value c.looked_up-left.ensures.same c.looked_up-right.ensures.same ρ solves met))
+
+pub returns-clause-general : goal.returns-clause-general
+returns-clause-general c =
+    pairs_keep c.args.cx.now c.args.entries.items _ c.args.pairs.now.items c.if-is_none.pairs.items
+    (λ ρ met solves equates. elim c.if-is_none.branch [
+      | then-is_none+in_ok-push_parts w ↦ subst (λ (v : Vec Pair Global). EquatesAll ρ c.args.cx.now v.items) (sym w.pairs-is) (w.in_ok-push_parts.ensures.general ρ
+          (looked_up_met c.args.cx.now c.args.entries.items c.as_slice.result.now c.as_slice-2.result.now c.args.left c.args.right c.looked_up-left.result c.looked_up-right.result
+          c.as_slice.ensures.value c.as_slice-2.ensures.value c.looked_up-left.ensures.same c.looked_up-right.ensures.same ρ solves met) equates)
+      | else-is_none w ↦ subst (λ (v : Vec Pair Global). EquatesAll ρ c.args.cx.now v.items) (sym w.pairs-is) equates
+    ])
+
+pub returns-in-Some-clause-occurs : goal.returns-in-Some-clause-occurs
+returns-in-Some-clause-occurs c =
+    bound_never c.args.cx.now c.args.entries.items c.bound.result c.args.pairs.now.items c.args.left c.args.right c.looked_up-left.result c.looked_up-right.result c.in-Some.variable
+    c.bound.ensures.occurs c.in-Some.ensures.is
+    (looked_up_met c.args.cx.now c.args.entries.items c.as_slice.result.now c.as_slice-2.result.now c.args.left c.args.right c.looked_up-left.result c.looked_up-right.result
+    c.as_slice.ensures.value c.as_slice-2.ensures.value c.looked_up-left.ensures.same c.looked_up-right.ensures.same)
+
+pub returns-in-Some-unbound_variable-clause-occurs : goal.returns-in-Some-unbound_variable-clause-occurs
+returns-in-Some-unbound_variable-clause-occurs c =
+    bound_never c.args.cx.now c.args.entries.items c.bound-in-Some-unbound_variable.result c.args.pairs.now.items
+    c.args.left c.args.right c.looked_up-right.result c.looked_up-left.result c.in-Some-unbound_variable.variable
+    c.bound-in-Some-unbound_variable.ensures.occurs c.in-Some-unbound_variable.ensures.is
+    (λ ρ solves met. sym (looked_up_met c.args.cx.now c.args.entries.items c.as_slice.result.now c.as_slice-2.result.now c.args.left c.args.right c.looked_up-left.result c.looked_up-right.result
+    c.as_slice.ensures.value c.as_slice-2.ensures.value c.looked_up-left.ensures.same c.looked_up-right.ensures.same ρ solves met))
