@@ -1,0 +1,77 @@
+//! What a line asks for: two types that can be made equal.
+
+use test_terms::{tuple, ty};
+use type_terms::{InferTy, IntTy, Interner, Refusal, Ty, TyKind, TyVid};
+
+/// Two types of a number of levels.
+#[derive(Clone, Copy)]
+pub enum Workload {
+    /// Level 0 is `?0` on the left and `i32` on the right. Level n + 1 is `(level n, level n)`, so the types have 2^n
+    /// places, which can't all be visited.
+    Pairs(u32),
+    /// Level 0 is `i32`. Level n + 1 is `(level n, ?n)` on the left and `(level n, i32)` on the right, so each level
+    /// has a variable to bind.
+    Chain(u32),
+}
+
+impl Workload {
+    /// Returns the workload of a line.
+    pub fn of(line: &str) -> Option<Workload> {
+        let (word, levels) = line.split_once(" ")?;
+        let levels = levels.parse::<u32>().ok()?;
+        match word {
+            "pairs" => Some(Workload::Pairs(levels)),
+            "chain" => Some(Workload::Chain(levels)),
+            _ => None,
+        }
+    }
+
+    /// Returns the number of variables of the two types.
+    pub fn variables(self) -> u32 {
+        match self {
+            Workload::Pairs(_) => 1,
+            Workload::Chain(levels) => levels,
+        }
+    }
+
+    /// Builds the two types.
+    pub fn sides(self, cx: &mut Interner) -> Result<(Ty, Ty), Refusal> {
+        let number = ty(cx, TyKind::Int(IntTy::I32))?;
+        match self {
+            Workload::Pairs(levels) => {
+                let zero = variable(cx, 0)?;
+                Ok((nested(cx, zero, levels)?, nested(cx, number, levels)?))
+            }
+            Workload::Chain(levels) => chain(cx, number, levels),
+        }
+    }
+}
+
+// Returns the variable of this number.
+fn variable(cx: &mut Interner, number: u32) -> Result<Ty, Refusal> {
+    if TyVid::fits(number) {
+        ty(cx, TyKind::Infer(InferTy::TyVar(TyVid::from_u32(number))))
+    } else {
+        Err(Refusal::TableFull)
+    }
+}
+
+// Returns pairs of pairs, this many levels of them, with the type at the bottom.
+fn nested(cx: &mut Interner, inner: Ty, levels: u32) -> Result<Ty, Refusal> {
+    let mut outer = inner;
+    for _ in 0..levels {
+        outer = tuple(cx, &[outer, outer])?;
+    }
+    Ok(outer)
+}
+
+// Returns two chains of this many levels that end in the type: one with a variable at each level, one with the type.
+fn chain(cx: &mut Interner, end: Ty, levels: u32) -> Result<(Ty, Ty), Refusal> {
+    let (mut left, mut right) = (end, end);
+    for level in 0..levels {
+        let own = variable(cx, level)?;
+        left = tuple(cx, &[left, own])?;
+        right = tuple(cx, &[right, end])?;
+    }
+    Ok((left, right))
+}
