@@ -138,8 +138,8 @@ fn calls_and_structs(rt: HostRuntime) -> Result<(), Fail> {
     Ok(())
 }
 
-// The program of the language's description.
-const EXAMPLE: &str = "
+/// A program with most of the language.
+pub const EXAMPLE: &str = "
     struct Pair<A, B> { first: A, second: B }
     struct Vec<T> { item: T }
     fn swap<A, B>(pair: Pair<A, B>) -> Pair<B, A> {

@@ -4,6 +4,7 @@ use crate::message::Message;
 use crate::read;
 use crate::syntax_error::SyntaxError;
 use crate::tests::at;
+use crate::tests::bodies::EXAMPLE;
 use std::alloc::{AllocError, Global};
 use std::string::String;
 use std::test::Fail;
@@ -62,7 +63,15 @@ fn selections_and_statements_are_not_nested(rt: HostRuntime) -> Result<(), Fail>
     Ok(())
 }
 
+// Any request for memory may be refused here, as `rt try --test --fail-alloc N` does with the Nth.
 #[test]
 fn refused_memory_is_told(rt: HostRuntime) {
-    assert_eq!(rt; SyntaxError::from(AllocError), SyntaxError::Memory);
+    if let Err(error) = read(rt.alloc(), EXAMPLE) {
+        assert_eq!(rt; error, SyntaxError::Memory);
+    }
+    match read(rt.alloc(), "fn f() { x }") {
+        Ok(_) => panic!(rt; "a program"),
+        Err(SyntaxError::Memory) => {}
+        Err(SyntaxError::Wrong(message)) => assert_eq!(rt; message.place, at(1, 10)),
+    }
 }
