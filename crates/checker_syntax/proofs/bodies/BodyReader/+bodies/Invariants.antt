@@ -1,4 +1,4 @@
-use Rattle.std.proofs.Common.{ℕ, ◌+◌, ◌*◌, ◌≤◌}
+use Rattle.std.proofs.Common.{◌+◌, ◌*◌, ◌≤◌}
 use Rattle.checker_syntax.specs.Tokens.{tokens_left}
 use Rattle.checker_syntax.proofs.bodies.BodyReader.+bodies.Given as goal
 
