@@ -113,8 +113,8 @@ fn references_and_selections(rt: HostRuntime) -> Result<(), Fail> {
 
 #[test]
 fn calls_and_structs(rt: HostRuntime) -> Result<(), Fail> {
-    let source =
-        "struct P<T> { x: T, y: T } fn g(a: i32);\nfn f(a: i32, y: i32) { P { y, x: g(f(a, 1,)), }; g(); P { x: 1, y: a }.x }";
+    let source = "struct P<T> { x: T, y: T } fn g(a: i32);
+fn f(a: i32, y: i32) { P { y, x: g(f(a, 1,)), }; g(); P { x: 1, y: a }.x }";
     let body = last_body(rt.alloc(), source)?;
     is_body(
         &rt,

@@ -57,7 +57,7 @@ fn tokens(rt: HostRuntime) {
 }
 
 #[test]
-fn what_was_expected(rt: HostRuntime) {
+fn what_was_expected_of_items(rt: HostRuntime) {
     for (source, place, text) in [
         ("f", at(1, 1), "expected `struct` or `fn`, found `f`"),
         (
@@ -86,6 +86,14 @@ fn what_was_expected(rt: HostRuntime) {
             "expected a name, found the end of the program",
         ),
         ("struct fn", at(1, 8), "expected a name, found `fn`"),
+    ] {
+        is_refused(&rt, rt.alloc(), source, place, text);
+    }
+}
+
+#[test]
+fn what_was_expected_after_names(rt: HostRuntime) {
+    for (source, place, text) in [
         (
             "struct S<1>",
             at(1, 10),
@@ -120,7 +128,7 @@ fn what_was_expected(rt: HostRuntime) {
 }
 
 #[test]
-fn what_was_expected_in_bodies(rt: HostRuntime) {
+fn what_was_expected_of_expressions(rt: HostRuntime) {
     for (source, place, text) in [
         (
             "fn f() {",
@@ -155,6 +163,14 @@ fn what_was_expected_in_bodies(rt: HostRuntime) {
         ),
         ("fn f() { (1, 2; }", at(1, 15), "expected `)`, found `;`"),
         ("fn f() { f(1 2) }", at(1, 14), "expected `)`, found `2`"),
+    ] {
+        is_refused(&rt, rt.alloc(), source, place, text);
+    }
+}
+
+#[test]
+fn what_was_expected_after_dots_and_in_structs(rt: HostRuntime) {
+    for (source, place, text) in [
         (
             "fn f() { 1.\"\" }",
             at(1, 12),
@@ -191,7 +207,7 @@ fn what_was_expected_in_bodies(rt: HostRuntime) {
 }
 
 #[test]
-fn names(rt: HostRuntime) {
+fn unknown_names(rt: HostRuntime) {
     for (source, place, text) in [
         ("fn f(x: Foo);", at(1, 9), "unknown type `Foo`"),
         ("fn f<A>(); fn g(a: A);", at(1, 20), "unknown type `A`"),
@@ -219,6 +235,14 @@ fn names(rt: HostRuntime) {
             at(1, 34),
             "unknown field `b` of `S`",
         ),
+    ] {
+        is_refused(&rt, rt.alloc(), source, place, text);
+    }
+}
+
+#[test]
+fn names_declared_twice_or_built_in(rt: HostRuntime) {
+    for (source, place, text) in [
         (
             "struct S; struct S;",
             at(1, 18),

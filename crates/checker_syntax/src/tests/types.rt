@@ -61,7 +61,8 @@ fn each_kind_of_type(rt: HostRuntime) -> Result<(), Fail> {
 #[test]
 fn structs_may_come_after_their_uses(rt: HostRuntime) -> Result<(), Fail> {
     let source =
-        "struct Two<A> { pair: Pair<A, Marker,>, }\nstruct Pair<A, B,> { first: &A, second: B }\nstruct Marker; struct None {}";
+        "struct Two<A> { pair: Pair<A, Marker,>, }\nstruct Pair<A, B,> { first: &A, second: B }\nstruct Marker;
+        struct None {}";
     let program = read(rt.alloc(), source)?;
     has_names(
         &rt,
