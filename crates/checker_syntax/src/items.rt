@@ -80,8 +80,8 @@ impl Items {
     }
 }
 
-/// Returns the beginnings of the items, and numbers them by their names. As no item is in another, each `struct` and `fn`
-/// begins one, and what stands between is passed over.
+/// Returns the beginnings of the items, and numbers them by their names. As no item is in another, each `struct` and
+/// `fn` begins one, and what stands between is passed over.
 pub fn read_heads<'a>(
     alloc: Global,
     tokens: &mut Tokens<'a>,
