@@ -1,0 +1,73 @@
+//! A reader of programs in a small language with generic structs and functions.
+//!
+//! [`read`] turns a source into a [`Program`](program::Program), in which each name is resolved and each type and
+//! expression numbered. Types are read, but not checked.
+#![tactic(auto)]
+
+mod bodies;
+mod declarations;
+mod items;
+mod lexer;
+pub mod message;
+mod names;
+pub mod program;
+pub mod syntax_error;
+#[cfg(test)]
+mod tests;
+mod token;
+mod tokens;
+mod types;
+
+use crate::bodies::BodyReader;
+use crate::declarations::{Signature, read_signature, read_struct};
+use crate::items::{Head, ItemKind, Items, read_heads};
+use crate::lexer::Lexer;
+use crate::program::{DataType, Function, Program};
+use crate::syntax_error::SyntaxError;
+use crate::tokens::Tokens;
+use crate::types::TypeReader;
+use std::alloc::Global;
+
+/// Returns the program of the source. The first error ends the reading: of the tokens first, then of the items' names
+/// and type parameters, then of the structs and signatures, then of the bodies.
+pub fn read(alloc: Global, source: &str) -> Result<Program, SyntaxError> {
+    let mut lexer = Lexer::new(alloc, source);
+    let list = lexer.tokens()?;
+    let end = lexer.end();
+    let names = lexer.into_names().into_texts();
+    let mut tokens = Tokens::new(alloc, source, list.as_slice(), end);
+    let mut items = Items::new(alloc);
+    let heads = read_heads(alloc, &mut tokens, &mut items)?;
+    let mut types = TypeReader::new(alloc, tokens, &items);
+    let (data, signatures) = read_declarations(alloc, &mut types, heads)?;
+    let mut bodies = BodyReader::new(alloc, types, &items, names.as_slice(), data.as_slice());
+    let mut functions = Vec::new(alloc);
+    for signature in signatures {
+        functions.push(bodies.read_function(signature)?)?;
+    }
+    let (types, parts) = bodies.into_types().into_lists();
+    Ok(Program {
+        names,
+        types,
+        parts,
+        data,
+        functions,
+    })
+}
+
+// Returns the structs, and the signatures of the functions.
+fn read_declarations<'a>(
+    alloc: Global,
+    types: &mut TypeReader<'a>,
+    heads: Vec<Head<'a>>,
+) -> Result<(Vec<DataType>, Vec<Signature<'a>>), SyntaxError> {
+    let mut data = Vec::new(alloc);
+    let mut signatures = Vec::new(alloc);
+    for head in heads {
+        match head.kind {
+            ItemKind::Struct => data.push(read_struct(alloc, types, head)?)?,
+            ItemKind::Fn => signatures.push(read_signature(alloc, types, head)?)?,
+        }
+    }
+    Ok((data, signatures))
+}
