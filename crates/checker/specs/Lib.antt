@@ -1,3 +1,3 @@
-pub mod Declared
+pub mod Items
 pub mod Scope
 pub mod Typing

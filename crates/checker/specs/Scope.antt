@@ -1,13 +1,15 @@
 -- What is known around an expression, and the trees of the types in it.
 use Rattle.std.specs.Prelude.{◌≡◌, ◌<◌, ℕ, List, Some, length, map, slice_get}
-use Rattle.tt_kinds.specs.Handle.{Ty}
+use Rattle.tt_kinds.specs.Argument.{Argument}
+use Rattle.tt_kinds.specs.Handle.{Ty, GenericArgs}
 use Rattle.tt_kinds.specs.Kinds.{ty_shape}
 use Rattle.tt_kinds.specs.Tree.{Depth, Tree}
 use Rattle.tt_interner.specs.Owned.{AreOwned}
 use Rattle.tt_interner.specs.Rows.{Row}
 use Rattle.tt_interner.specs.Stored.{Terms}
 use Rattle.tt_fold.specs.Steps.{tree_in}
-use Rattle.checker.specs.Declared.{IsDeclared}
+use Rattle.tt_binder.specs.Arguments.{arguments, args_at}
+use Rattle.checker.specs.Items.{IsDeclared}
 use Rattle.checker.specs.Typing.{Around}
 use Rattle.checker.specs.declared.scope.Scope.{Scope}
 
@@ -16,10 +18,10 @@ pub record IsScope (terms : Terms) (scope : Scope) : Type 0 where
   pub declared : IsDeclared terms scope.declared.now
   pub types : AreOwned ty_shape terms scope.types.now
 
--- there are as many types as operands, and each is the type of the operand in its place
-pub record AreOperands (scope : Scope) (i : ℕ) (ns : List ℕ) (types : List Ty) : Type 0 where
-  pub counted : length ns ≡ length types
-  pub each : (k n : ℕ) → slice_get ns k ≡ Some n → (ty : Ty) × (slice_get types k ≡ Some ty) × (n < i) × (slice_get scope.types.now n ≡ Some ty)
+-- there are as many types as numbers, and each is the type of the number in its place, which is below the limit
+pub record AreTypesBefore (types : List Ty) (limit : ℕ) (ns : List ℕ) (found : List Ty) : Type 0 where
+  pub counted : length ns ≡ length found
+  pub each : (k n : ℕ) → slice_get ns k ≡ Some n → (ty : Ty) × (slice_get found k ≡ Some ty) × (n < limit) × (slice_get types n ≡ Some ty)
 
 -- the trees of the types
 abbrev pub trees : List Row → List Ty → List (Tree Depth)
@@ -31,7 +33,11 @@ around terms scope = record {
   program = scope.program.now;
   function = scope.function.now;
   body = scope.body.now;
-  data = trees terms.rows scope.declared.now.data.items;
+  own = trees terms.rows scope.declared.now.data_types.items;
   written = trees terms.rows scope.declared.now.written.items;
   types = trees terms.rows scope.types.now;
 }
+
+-- the arguments in a stored list, by trees
+abbrev pub argument_trees : Terms → GenericArgs → List (Argument Depth)
+argument_trees terms args = arguments terms.rows (args_at terms.rows args)

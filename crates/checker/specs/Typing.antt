@@ -1,11 +1,13 @@
 -- The typing rules of the language, on plain trees of types.
-use Rattle.std.specs.Prelude.{◌≡◌, ◌<◌, ◌-◌, ℕ, List, [], ◌∷◌, length, Option, Some, None, map, drop, slice_get, IfSome, ⊤}
-use Rattle.std.specs.List.{take}
-use Rattle.tt_index.specs.declared.scalars.IntTy.TheVariants.{I32}
-use Rattle.tt_index.specs.declared.scalars.Mutability.{Mutability}
-use Rattle.tt_index.specs.declared.scalars.Mutability.TheVariants.{Not}
-use Rattle.tt_kinds.specs.Label.{TypeLabel, type_label, list_label, bool_type, char_type, int_type, str_type, tuple_type, ref_type, erased_region}
-use Rattle.tt_kinds.specs.Tree.{Depth, Tree, Forest, term, node, region, none, also}
+use Rattle.std.specs.Prelude.{◌≡◌, ◌<◌, ◌-◌, ℕ, List, [], ◌∷◌, length, Option, Some, None, map, drop, slice_get, take, IfSome}
+use Rattle.std.specs.String.{string_bytes}
+use Rattle.std.specs.declared.alloc.Global.{Global}
+use Rattle.std.specs.declared.string.String.{String}
+use Rattle.tt_index.specs.declared.numeric.IntTy.TheVariants.{I32}
+use Rattle.tt_index.specs.declared.qualifier.Mutability.{Mutability}
+use Rattle.tt_index.specs.declared.qualifier.Mutability.TheVariants.{Not}
+use Rattle.tt_kinds.specs.Label.{type_sort, TypeLabel, type_label, list_label, bool_type, char_type, int_type, str_type, tuple_type, ref_type, erased_region}
+use Rattle.tt_kinds.specs.Tree.{Depth, Tree, Forest, param, term, node, region, none, also}
 use Rattle.tt_kinds.specs.Argument.{Argument}
 use Rattle.tt_kinds.specs.declared.table.Table.TheVariants.{TypeLists}
 use Rattle.tt_binder.specs.Instance.{IsPlain}
@@ -17,6 +19,8 @@ use Rattle.checker_syntax.specs.declared.program.Body.{Body}
 use Rattle.checker_syntax.specs.declared.program.Span.{Span}
 use Rattle.checker_syntax.specs.declared.program.Literal.{Literal}
 use Rattle.checker_syntax.specs.declared.program.Literal.TheVariants as literal_of
+use Rattle.checker_syntax.specs.declared.program.WrittenType.{WrittenType}
+use Rattle.checker_syntax.specs.declared.program.WrittenType.TheVariants as written_as
 use Rattle.checker_syntax.specs.declared.program.Expression.{Expression}
 use Rattle.checker_syntax.specs.declared.program.Expression.TheVariants as of
 
@@ -61,13 +65,48 @@ IsItemOf k whole t = (ts : List (Tree Depth)) × (whole ≡ tuple_of ts) × (sli
 abbrev pub part : List ℕ → Span → List ℕ
 part numbers span = take (span.end - span.start) (drop span.start numbers)
 
+-- the thing of number n comes before the one of number i, and has this type among these
+abbrev pub Before : List (Tree Depth) → ℕ → ℕ → Tree Depth → Type 0
+Before types i n t = (n < i) × (slice_get types n ≡ Some t)
+
+-- there are as many numbers as types, and each is of a thing before the one of number i that has the type in its place
+pub record AllBefore (types : List (Tree Depth)) (i : ℕ) (ns : List ℕ) (ts : List (Tree Depth)) : Type 0 where
+  pub counted : length ns ≡ length ts
+  pub each : (k n : ℕ) → slice_get ns k ≡ Some n → (t : Tree Depth) × (slice_get ts k ≡ Some t) × Before types i n t
+
+-- types, as type arguments
+abbrev pub type_arguments : List (Tree Depth) → List (Argument Depth)
+type_arguments ts = map (λ t. record { sort = type_sort; value = t }) ts
+
+-- where the data types are of these types, at their own parameters, and the written types of those
+module _ (P : Program) (own written : List (Tree Depth)) where
+  -- the written type of number i is the type t
+  pub data IsWritten (i : ℕ) (t : Tree Depth) : WrittenType → Type 0 where
+    int : t ≡ simple (int_type I32) → IsWritten i t written_as.Int
+    bool : t ≡ simple bool_type → IsWritten i t written_as.Bool
+    char : t ≡ simple char_type → IsWritten i t written_as.Char
+    str : t ≡ simple str_type → IsWritten i t written_as.Str
+    -- a parameter of the item around: its number, and its name's
+    parameter : {k n : ℕ} {name : String Global} → slice_get P.names.items n ≡ Some name → t ≡ param type_sort k (string_bytes name)
+        → IsWritten i t (written_as.Param k n)
+    -- a data type at arguments, one for each parameter
+    data_type : {k : ℕ} {s : Span} {item : DataType} {whole : Tree Depth} {ts : List (Tree Depth)}
+        → slice_get P.«data».items k ≡ Some item → slice_get own k ≡ Some whole → length ts ≡ length item.params.items
+        → AllBefore written i (part P.parts.items s) ts → IsPlain (type_arguments ts) whole t → IsWritten i t (written_as.Data k s)
+    tuple : {s : Span} {ts : List (Tree Depth)} → AllBefore written i (part P.parts.items s) ts → t ≡ tuple_of ts → IsWritten i t (written_as.Tuple s)
+    reference : {n : ℕ} {u : Tree Depth} → Before written i n u → t ≡ reference_to u → IsWritten i t (written_as.Reference n)
+
+  -- each written type is the type of its number
+  pub record AreWritten : Type 0 where
+    pub each : (i : ℕ) (w : WrittenType) → slice_get P.types.items i ≡ Some w → (t : Tree Depth) × (slice_get written i ≡ Some t) × IsWritten i t w
+
 -- What is known around the expressions of a body.
 pub record Around : Type 0 where
   pub program : Program
   pub function : Function
   pub body : Body
   -- each data type, at its own parameters
-  pub data : List (Tree Depth)
+  pub own : List (Tree Depth)
   -- each written type
   pub written : List (Tree Depth)
   -- each expression's type
@@ -80,12 +119,11 @@ module _ (A : Around) where
 
   -- the operand comes before the expression, and has this type
   abbrev pub Operand : ℕ → ℕ → Tree Depth → Type 0
-  Operand i n t = (n < i) × (slice_get A.types n ≡ Some t)
+  Operand i n t = Before A.types i n t
 
-  -- there are as many operands as types, and each has the type in its place
-  pub record Operands (i : ℕ) (ns : List ℕ) (ts : List (Tree Depth)) : Type 0 where
-    pub counted : length ns ≡ length ts
-    pub each : (k n : ℕ) → slice_get ns k ≡ Some n → (t : Tree Depth) × (slice_get ts k ≡ Some t) × Operand i n t
+  -- so do operands, in order
+  abbrev pub Operands : ℕ → List ℕ → List (Tree Depth) → Type 0
+  Operands i ns ts = AllBefore A.types i ns ts
 
   -- the operand's type is the instance of the written one
   abbrev pub Fits : ℕ → List (Argument Depth) → ℕ → ℕ → Type 0
@@ -98,11 +136,11 @@ module _ (A : Around) where
 
   -- the type is the data type of this number and item at these arguments, one for each parameter
   pub record IsInstance (k : ℕ) (item : DataType) (args : List (Argument Depth)) (t : Tree Depth) : Type 0 where
-    pub own : Tree Depth
-    pub there : slice_get A.program.data.items k ≡ Some item
-    pub owned : slice_get A.data k ≡ Some own
+    pub whole : Tree Depth
+    pub there : slice_get A.program.«data».items k ≡ Some item
+    pub owned : slice_get A.own k ≡ Some whole
     pub counted : length args ≡ length item.params.items
-    pub plain : IsPlain args own t
+    pub plain : IsPlain args whole t
 
   -- the data type has a field of this name, which is of the type t at these arguments
   pub record HasField (item : DataType) (args : List (Argument Depth)) (name : ℕ) (t : Tree Depth) : Type 0 where
@@ -149,3 +187,10 @@ module _ (A : Around) where
     pub result : Tree Depth
     pub returned : slice_get A.types A.body.result ≡ Some result
     pub output : Writes A.function.output result
+
+-- The program has these types: its data types at their own parameters, its written types, and the expressions of each function.
+pub record IsTypedProgram (P : Program) (own written : List (Tree Depth)) (bodies : List (List (Tree Depth))) : Type 0 where
+  pub are_written : AreWritten P own written
+  pub typed : (f : ℕ) (item : Function) (body : Body) → slice_get P.functions.items f ≡ Some item → item.body ≡ Some body
+      → (types : List (Tree Depth)) × (slice_get bodies f ≡ Some types)
+      × IsTypedBody (record { program = P; function = item; body = body; own = own; written = written; types = types })

@@ -1,13 +1,18 @@
 //! The items of a program as the interner knows them.
 
-ghost use Rattle.std.specs.Prelude.{IfOk};
+ghost use Rattle.std.specs.Prelude.{◌≡◌, IfOk, length, map};
+ghost use Rattle.tt_binder.specs.Instance.{IsPlain};
+ghost use Rattle.tt_fold.specs.Steps.{tree_in};
+ghost use Rattle.tt_kinds.specs.declared.generic_arg.GenericArgKind.TheVariants.{«Type» as TypeArg};
 ghost use Rattle.tt_kinds.specs.Kinds.{args_shape, ty_shape};
 ghost use Rattle.tt_interner.specs.Owned.{AreOwned, IsOwned};
 ghost use Rattle.tt_interner.specs.Stored.{Extends};
-ghost use Rattle.checker.specs.Declared.{IsDeclared};
+ghost use Rattle.checker.specs.Items.{IsDeclared};
+ghost use Rattle.checker.specs.Scope.{trees};
+ghost use Rattle.checker.specs.Typing.{type_arguments, AreWritten, IsWritten};
 
 use crate::failure::Failure;
-use crate::lookup::{name_of, part_of, type_at};
+use crate::lookup::{name_of, part_of, type_at, type_before, types_before};
 use checker_syntax::program::{DataType, Function, Program, WrittenType};
 use type_terms::prelude::*;
 
@@ -15,7 +20,7 @@ use type_terms::prelude::*;
 #[derive(Drop)]
 pub struct Declared {
     /// Each data type, at its own parameters.
-    pub data: Vec<Ty>,
+    pub data_types: Vec<Ty>,
     /// Each written type.
     pub written: Vec<Ty>,
     /// The type of each function, at its own parameters.
@@ -27,15 +32,17 @@ pub struct Declared {
 pub fn declare(cx: &mut Interner, program: &Program) -> Result<Declared, Failure>
     ensures extends { Extends cx.old cx.new }
     ensures declared { IfOk result (λ d. IsDeclared cx.new d) }
+    ensures written { IfOk result (λ d. AreWritten
+        program.now
+        (trees cx.new.rows d.data_types.items)
+        (trees cx.new.rows d.written.items)) }
 {
-    let data = data_types(cx, program)?;
-    let written = written_types(cx, program, data.as_slice())?;
-    for (item, ty) in program.data.iter().zip(data.iter()) {
-        define(cx, program, item, *ty, written.as_slice())?;
-    }
+    let own = data_types(cx, program)?;
+    let written = written_types(cx, program, own.as_slice())?;
+    define_all(cx, program, own.as_slice(), written.as_slice())?;
     let functions = functions(cx, program, written.as_slice())?;
     Ok(Declared {
-        data,
+        data_types: own,
         written,
         functions,
     })
@@ -70,24 +77,38 @@ fn data_types(cx: &mut Interner, program: &Program) -> Result<Vec<Ty>, Failure>
 {
     let mut types = Vec::new(cx.allocator());
     for item in program.data.iter() {
-        let args = own_params(cx, program, item.params.as_slice())?;
-        let name = cx.symbol(name_of(program, item.name)?)?;
-        let id = cx.declare_adt(name)?;
-        types.push(cx.mk_ty(TyKind::Adt(id, args))?)?;
+        types.push(data_type(cx, program, item)?)?;
     }
     Ok(types)
 }
 
+// Declares a data type, and returns it at its own parameters.
+#[tactic(auto, using(tt_interner::proofs::OwnedLaws::owned_laws, crate::proofs::ClientLaws::client_laws))]
+fn data_type(cx: &mut Interner, program: &Program, item: &DataType) -> Result<Ty, Failure>
+    ensures extends { Extends cx.old cx.new }
+    ensures owned { IfOk result (λ ty. IsOwned ty_shape cx.new ty) }
+{
+    let name = cx.symbol(name_of(program, item.name)?)?;
+    let id = cx.declare_adt(name)?;
+    let args = own_params(cx, program, item.params.as_slice())?;
+    Ok(cx.mk_ty(TyKind::Adt(id, args))?)
+}
+
 // Returns the written types.
 #[tactic(auto, using(tt_interner::proofs::OwnedLaws::owned_laws, crate::proofs::ClientLaws::client_laws))]
-fn written_types(cx: &mut Interner, program: &Program, data: &[Ty]) -> Result<Vec<Ty>, Failure>
-    requires { AreOwned ty_shape cx.old data.now }
+fn written_types(cx: &mut Interner, program: &Program, own: &[Ty]) -> Result<Vec<Ty>, Failure>
+    requires { AreOwned ty_shape cx.old own.now }
     ensures extends { Extends cx.old cx.new }
     ensures owned { IfOk result (λ types. AreOwned ty_shape cx.new types.items) }
+    ensures written { IfOk result (λ types. AreWritten
+        program.now
+        (trees cx.old.rows own.now)
+        (trees cx.new.rows types.items)) }
 {
     let mut types = Vec::new(cx.allocator());
-    for written in program.types.iter() {
-        let ty = written_type(cx, program, data, types.as_slice(), *written)?;
+    for index in 0..program.types.len() {
+        let written = program.types[index];
+        let ty = written_type(cx, program, own, types.as_slice(), written)?;
         types.push(ty)?;
     }
     Ok(types)
@@ -98,70 +119,102 @@ fn written_types(cx: &mut Interner, program: &Program, data: &[Ty]) -> Result<Ve
 fn written_type(
     cx: &mut Interner,
     program: &Program,
-    data: &[Ty],
+    own: &[Ty],
     earlier: &[Ty],
     written: WrittenType,
 ) -> Result<Ty, Failure>
-    requires data { AreOwned ty_shape cx.old data.now }
+    requires own { AreOwned ty_shape cx.old own.now }
     requires earlier { AreOwned ty_shape cx.old earlier.now }
     ensures extends { Extends cx.old cx.new }
     ensures owned { IfOk result (λ ty. IsOwned ty_shape cx.new ty) }
+    ensures written { IfOk result (λ ty. IsWritten
+        program.now
+        (trees cx.old.rows own.now)
+        (trees cx.old.rows earlier.now)
+        (length earlier.now)
+        (tree_in cx.new.rows (ty_shape ty))
+        written) }
 {
-    let kind = match written {
-        WrittenType::Int => TyKind::Int(IntTy::I32),
-        WrittenType::Bool => TyKind::Bool,
-        WrittenType::Char => TyKind::Char,
-        WrittenType::Str => TyKind::Str,
+    match written {
+        WrittenType::Int => Ok(cx.mk_ty(TyKind::Int(IntTy::I32))?),
+        WrittenType::Bool => Ok(cx.mk_ty(TyKind::Bool)?),
+        WrittenType::Char => Ok(cx.mk_ty(TyKind::Char)?),
+        WrittenType::Str => Ok(cx.mk_ty(TyKind::Str)?),
         WrittenType::Param(number, name) => {
             let Ok(index) = u32::try_from(number) else {
                 return Err(Failure::Malformed);
             };
-            return Ok(cx.mk_param(index, name_of(program, name)?)?);
+            Ok(cx.mk_param(index, name_of(program, name)?)?)
         }
         WrittenType::Data(number, args) => {
+            let Some(item) = program.data.get(number) else {
+                return Err(Failure::Malformed);
+            };
             let args = part_of(program.parts.as_slice(), args)?;
-            return applied(cx, type_at(cx, data, number)?, earlier, args);
+            let args = types_before(cx, earlier, earlier.len(), args)?;
+            if args.len() != item.params.len() {
+                return Err(Failure::Malformed);
+            }
+            applied(cx, type_at(cx, own, number)?, args.as_slice())
         }
         WrittenType::Tuple(items) => {
             let items = part_of(program.parts.as_slice(), items)?;
-            let items = chosen(cx, earlier, items)?;
-            return Ok(cx.mk_tuple(items.as_slice())?);
+            let items = types_before(cx, earlier, earlier.len(), items)?;
+            Ok(cx.mk_tuple(items.as_slice())?)
         }
         WrittenType::Reference(referent) => {
-            let referent = type_at(cx, earlier, referent)?;
-            return Ok(cx.mk_ref(Region::new_erased(), referent, Mutability::Not)?);
+            let referent = type_before(cx, earlier, earlier.len(), referent)?;
+            Ok(cx.mk_ref(Region::new_erased(), referent, Mutability::Not)?)
         }
-    };
-    Ok(cx.mk_ty(kind)?)
-}
-
-// Returns the types of these numbers.
-#[tactic(auto, using(tt_interner::proofs::OwnedLaws::owned_laws, crate::proofs::ClientLaws::client_laws))]
-fn chosen(cx: &Interner, types: &[Ty], numbers: &[usize]) -> Result<Vec<Ty>, Failure>
-    requires { AreOwned ty_shape cx.now types.now }
-    ensures { IfOk result (λ items. AreOwned ty_shape cx.now items.items) }
-{
-    let mut items = Vec::new(cx.allocator());
-    for number in numbers.iter() {
-        items.push(type_at(cx, types, *number)?)?;
     }
-    Ok(items)
 }
 
-// Returns the data type at the arguments of these numbers.
+// Returns the data type at these arguments.
 #[tactic(auto, using(tt_interner::proofs::OwnedLaws::owned_laws, crate::proofs::ClientLaws::client_laws))]
-fn applied(cx: &mut Interner, data: Ty, types: &[Ty], numbers: &[usize]) -> Result<Ty, Failure>
-    requires data { IsOwned ty_shape cx.old data }
+fn applied(cx: &mut Interner, own: Ty, types: &[Ty]) -> Result<Ty, Failure>
+    requires own { IsOwned ty_shape cx.old own }
     requires types { AreOwned ty_shape cx.old types.now }
     ensures extends { Extends cx.old cx.new }
     ensures owned { IfOk result (λ ty. IsOwned ty_shape cx.new ty) }
+    ensures plain { IfOk result (λ ty. IsPlain
+        (type_arguments (trees cx.old.rows types.now))
+        (tree_in cx.old.rows (ty_shape own))
+        (tree_in cx.new.rows (ty_shape ty))) }
+{
+    let args = arguments_of(cx, types)?;
+    let instance = EarlyBinder::bind(own).instantiate(cx, args.as_slice())?;
+    Ok(instance.skip_norm_wip())
+}
+
+// Returns the types as arguments.
+fn arguments_of(cx: &Interner, types: &[Ty]) -> Result<Vec<GenericArg>, Failure>
+    requires { AreOwned ty_shape cx.now types.now }
+    ensures { IfOk result (λ args. args.items ≡ map TypeArg types.now) }
 {
     let mut args = Vec::new(cx.allocator());
-    for number in numbers.iter() {
-        args.push(GenericArg::from(type_at(cx, types, *number)?))?;
+    for ty in types.iter() {
+        args.push(GenericArg::from(*ty))?;
     }
-    let instance = EarlyBinder::bind(data).instantiate(cx, args.as_slice())?;
-    Ok(instance.skip_norm_wip())
+    Ok(args)
+}
+
+// Gives the data types their fields.
+#[tactic(auto, using(tt_interner::proofs::OwnedLaws::owned_laws, crate::proofs::ClientLaws::client_laws))]
+fn define_all(
+    cx: &mut Interner,
+    program: &Program,
+    own: &[Ty],
+    written: &[Ty],
+) -> Result<(), Failure>
+    requires own { AreOwned ty_shape cx.old own.now }
+    requires written { AreOwned ty_shape cx.old written.now }
+    ensures { Extends cx.old cx.new }
+{
+    for (number, item) in program.data.iter().enumerate() {
+        let ty = type_at(cx, own, number)?;
+        define(cx, program, item, ty, written)?;
+    }
+    Ok(())
 }
 
 // Gives a data type its fields.
@@ -177,12 +230,7 @@ fn define(
     requires written { AreOwned ty_shape cx.old written.now }
     ensures { Extends cx.old cx.new }
 {
-    let mut fields = Vec::new(cx.allocator());
-    for field in item.fields.iter() {
-        let name = cx.symbol(name_of(program, field.name)?)?;
-        let ty = type_at(cx, written, field.ty)?;
-        fields.push(FieldDef { name, ty })?;
-    }
+    let fields = field_defs(cx, program, item, written)?;
     let mut variants = Vec::new(cx.allocator());
     variants.push(VariantDef { name: None, fields })?;
     let TyKind::Adt(id, _) = *ty.kind(cx) else {
@@ -195,6 +243,26 @@ fn define(
         return Err(Failure::Malformed);
     }
     Ok(cx.define_adt(id, EarlyBinder::bind(variants))?)
+}
+
+// Returns the fields of a data type.
+#[tactic(auto, using(tt_interner::proofs::OwnedLaws::owned_laws, crate::proofs::ClientLaws::client_laws))]
+fn field_defs(
+    cx: &mut Interner,
+    program: &Program,
+    item: &DataType,
+    written: &[Ty],
+) -> Result<Vec<FieldDef>, Failure>
+    requires { AreOwned ty_shape cx.old written.now }
+    ensures { Extends cx.old cx.new }
+{
+    let mut fields = Vec::new(cx.allocator());
+    for field in item.fields.iter() {
+        let name = cx.symbol(name_of(program, field.name)?)?;
+        let ty = type_at(cx, written, field.ty)?;
+        fields.push(FieldDef { name, ty })?;
+    }
+    Ok(fields)
 }
 
 // Declares the functions, and returns their types at their own parameters.
@@ -223,18 +291,31 @@ fn function(
     ensures extends { Extends cx.old cx.new }
     ensures owned { IfOk result (λ ty. IsOwned ty_shape cx.new ty) }
 {
-    let mut types = chosen(cx, written, item.inputs.as_slice())?;
+    let sig = signature(cx, item, written)?;
+    let name = cx.symbol(name_of(program, item.name)?)?;
+    if !cx.owns_signature(&sig) {
+        return Err(Failure::Malformed);
+    }
+    let id = cx.declare_function(name, EarlyBinder::bind(sig))?;
+    let args = own_params(cx, program, item.params.as_slice())?;
+    Ok(cx.mk_ty(TyKind::FnDef(id, args))?)
+}
+
+// Returns the signature of a function.
+#[tactic(auto, using(tt_interner::proofs::OwnedLaws::owned_laws, crate::proofs::ClientLaws::client_laws))]
+fn signature(
+    cx: &mut Interner,
+    item: &Function,
+    written: &[Ty],
+) -> Result<Binder<FnSig>, Failure>
+    requires { AreOwned ty_shape cx.old written.now }
+    ensures { Extends cx.old cx.new }
+{
+    let mut types = types_before(cx, written, written.len(), item.inputs.as_slice())?;
     types.push(type_at(cx, written, item.output)?)?;
     let sig = FnSig {
         inputs_and_output: cx.mk_tys(types.as_slice())?,
         fn_sig_kind: FnSigKind::new(ExternAbi::Rust, Safety::Safe, false),
     };
-    let sig = Binder::bind_with_vars(sig, BoundVarKinds::default());
-    let name = cx.symbol(name_of(program, item.name)?)?;
-    let args = own_params(cx, program, item.params.as_slice())?;
-    if !cx.owns_signature(&sig) {
-        return Err(Failure::Malformed);
-    }
-    let id = cx.declare_function(name, EarlyBinder::bind(sig))?;
-    Ok(cx.mk_ty(TyKind::FnDef(id, args))?)
+    Ok(Binder::bind_with_vars(sig, BoundVarKinds::default()))
 }

@@ -11,7 +11,7 @@ ghost use Rattle.tt_interner.specs.Owned.{AreOwned, IsOwned};
 ghost use Rattle.tt_interner.specs.Stored.{Extends};
 ghost use Rattle.tt_kinds.specs.Kinds.{ty_shape};
 ghost use Rattle.unify.specs.Bindings.{IsTable};
-ghost use Rattle.checker.specs.Declared.{IsDeclared};
+ghost use Rattle.checker.specs.Items.{IsDeclared};
 ghost use Rattle.checker.specs.Scope.{IsScope};
 
 use crate::built::built;
@@ -34,8 +34,8 @@ pub struct Inferred {
 }
 
 /// Infers the types of a function's body.
-#[tactic(auto, using(tt_interner::proofs::OwnedLaws::owned_laws, crate::proofs::ClientLaws::client_laws))]
-pub fn inferred(
+#[tactic(auto, using(tt_interner::proofs::OwnedLaws::owned_laws, crate::proofs::ClientLaws::client_laws, crate::proofs::ScopeLaws::scope_laws))]
+pub fn infer_body(
     cx: &mut Interner,
     program: &Program,
     declared: &Declared,
@@ -72,7 +72,7 @@ pub fn inferred(
 }
 
 // Returns so many new variables.
-#[tactic(auto, using(tt_interner::proofs::OwnedLaws::owned_laws, crate::proofs::ClientLaws::client_laws))]
+#[tactic(auto, using(tt_interner::proofs::OwnedLaws::owned_laws, crate::proofs::ClientLaws::client_laws, crate::proofs::ScopeLaws::scope_laws))]
 fn fresh_variables(
     cx: &mut Interner,
     bindings: &mut Bindings,
@@ -91,7 +91,7 @@ fn fresh_variables(
 }
 
 // Infers the types of all expressions, and returns their subjects.
-#[tactic(auto, using(tt_interner::proofs::OwnedLaws::owned_laws, crate::proofs::ClientLaws::client_laws))]
+#[tactic(auto, using(tt_interner::proofs::OwnedLaws::owned_laws, crate::proofs::ClientLaws::client_laws, crate::proofs::ScopeLaws::scope_laws))]
 fn infer_all(
     cx: &mut Interner,
     scope: Scope<'_>,
@@ -111,7 +111,7 @@ fn infer_all(
 }
 
 // Returns the types with the variables replaced, which have to be known.
-#[tactic(auto, using(tt_interner::proofs::OwnedLaws::owned_laws, crate::proofs::ClientLaws::client_laws))]
+#[tactic(auto, using(tt_interner::proofs::OwnedLaws::owned_laws, crate::proofs::ClientLaws::client_laws, crate::proofs::ScopeLaws::scope_laws))]
 fn resolved(
     cx: &mut Interner,
     scope: Scope<'_>,
@@ -137,7 +137,7 @@ fn resolved(
 }
 
 // Infers the type of the expression of this number, and returns its subject.
-#[tactic(auto, using(tt_interner::proofs::OwnedLaws::owned_laws, crate::proofs::ClientLaws::client_laws))]
+#[tactic(auto, using(tt_interner::proofs::OwnedLaws::owned_laws, crate::proofs::ClientLaws::client_laws, crate::proofs::ScopeLaws::scope_laws))]
 fn infer(
     cx: &mut Interner,
     scope: Scope<'_>,
@@ -182,7 +182,7 @@ fn infer(
 }
 
 // Infers the type of a variable, which is the type that is written, if there is one, and its value's.
-#[tactic(auto, using(tt_interner::proofs::OwnedLaws::owned_laws, crate::proofs::ClientLaws::client_laws))]
+#[tactic(auto, using(tt_interner::proofs::OwnedLaws::owned_laws, crate::proofs::ClientLaws::client_laws, crate::proofs::ScopeLaws::scope_laws))]
 fn infer_let(
     cx: &mut Interner,
     scope: Scope<'_>,

@@ -4,20 +4,20 @@
 #![tactic(auto)]
 
 mod built;
-pub mod check;
+pub mod programs;
 pub mod declared;
 pub mod failure;
 mod infer;
 mod lookup;
-pub mod run;
+pub mod sources;
 pub mod scope;
 mod verify;
 mod wording;
 
-pub use check::{Checked, check, variables};
+pub use programs::{Checked, check, variables};
 pub use declared::{Declared, declare};
 pub use failure::Failure;
-pub use run::{Verdict, run, verdict};
+pub use sources::{Verdict, run, verdict_of};
 
 #[cfg(test)]
 mod tests;

@@ -1,8 +1,9 @@
 //! Items of a program's lists, by their numbers.
 
-ghost use Rattle.std.specs.Prelude.{◌≡◌, IfOk, Some, slice_get};
+ghost use Rattle.std.specs.Prelude.{◌≡◌, ◌<◌, IfOk, Some, slice_get};
 ghost use Rattle.tt_interner.specs.Owned.{AreOwned, IsOwned};
 ghost use Rattle.tt_kinds.specs.Kinds.{ty_shape};
+ghost use Rattle.checker.specs.Scope.{AreTypesBefore};
 ghost use Rattle.checker.specs.Typing.{part};
 
 use crate::failure::Failure;
@@ -26,10 +27,46 @@ pub fn type_at(cx: &Interner, types: &[Ty], number: usize) -> Result<Ty, Failure
     ensures is { IfOk result (λ ty. slice_get types.now number ≡ Some ty) }
     ensures owned { IfOk result (λ ty. IsOwned ty_shape cx.now ty) }
 {
-    match types.get(number) {
-        Some(ty) => Ok(*ty),
-        None => Err(Failure::Malformed),
+    let ty = at(types, number)?;
+    Ok(ty)
+}
+
+/// Returns the type of this number, which is below the limit.
+pub fn type_before(
+    cx: &Interner,
+    types: &[Ty],
+    limit: usize,
+    number: usize,
+) -> Result<Ty, Failure>
+    requires { AreOwned ty_shape cx.now types.now }
+    ensures before { IfOk result (λ _. number < limit) }
+    ensures is { IfOk result (λ ty. slice_get types.now number ≡ Some ty) }
+    ensures owned { IfOk result (λ ty. IsOwned ty_shape cx.now ty) }
+{
+    if number < limit {
+        type_at(cx, types, number)
+    } else {
+        Err(Failure::Malformed)
     }
+}
+
+/// Returns the types of these numbers, which are below the limit.
+#[tactic(auto, using(tt_interner::proofs::OwnedLaws::owned_laws))]
+pub fn types_before(
+    cx: &Interner,
+    types: &[Ty],
+    limit: usize,
+    numbers: &[usize],
+) -> Result<Vec<Ty>, Failure>
+    requires { AreOwned ty_shape cx.now types.now }
+    ensures owned { IfOk result (λ found. AreOwned ty_shape cx.now found.items) }
+    ensures are { IfOk result (λ found. AreTypesBefore types.now limit numbers.now found.items) }
+{
+    let mut found = Vec::new(cx.allocator());
+    for index in 0..numbers.len() {
+        found.push(type_before(cx, types, limit, numbers[index])?)?;
+    }
+    Ok(found)
 }
 
 /// Returns the numbers of this part of the list.

@@ -3,11 +3,11 @@
 ghost use Rattle.std.specs.Prelude.{◌≡◌, ◌<◌, IfOk, Some, slice_get};
 ghost use Rattle.tt_interner.specs.Owned.{AreOwned, IsOwned};
 ghost use Rattle.tt_kinds.specs.Kinds.{ty_shape};
-ghost use Rattle.checker.specs.Scope.{AreOperands, IsScope};
+ghost use Rattle.checker.specs.Scope.{AreTypesBefore, IsScope};
 
 use crate::declared::Declared;
 use crate::failure::Failure;
-use crate::lookup::{at, type_at};
+use crate::lookup::{at, type_at, type_before, types_before};
 use checker_syntax::program::{Body, Function, Place, Program};
 use type_terms::{Interner, Ty};
 
@@ -30,7 +30,7 @@ pub fn place_of(scope: Scope<'_>, number: usize) -> Result<Place, Failure> {
 /// Returns the type of the expression of this number.
 pub fn type_of(cx: &Interner, scope: Scope<'_>, number: usize) -> Result<Ty, Failure>
     requires { IsScope cx.now scope }
-    ensures is { IfOk result (λ ty. slice_get scope.types.now number ≡ Some ty) }
+    ensures is { IfOk result (λ ty. slice_get scope.entry.types.now number ≡ Some ty) }
     ensures owned { IfOk result (λ ty. IsOwned ty_shape cx.now ty) }
 {
     type_at(cx, scope.types, number)
@@ -45,18 +45,13 @@ pub fn operand(
 ) -> Result<Ty, Failure>
     requires { IsScope cx.now scope }
     ensures before { IfOk result (λ _. operand < expression) }
-    ensures is { IfOk result (λ ty. slice_get scope.types.now operand ≡ Some ty) }
+    ensures is { IfOk result (λ ty. slice_get scope.entry.types.now operand ≡ Some ty) }
     ensures owned { IfOk result (λ ty. IsOwned ty_shape cx.now ty) }
 {
-    if operand < expression {
-        type_of(cx, scope, operand)
-    } else {
-        Err(Failure::Malformed)
-    }
+    type_before(cx, scope.types, expression, operand)
 }
 
 /// Returns the types of the operands of an expression, by their numbers.
-#[tactic(auto, using(tt_interner::proofs::OwnedLaws::owned_laws))]
 pub fn operands(
     cx: &Interner,
     scope: Scope<'_>,
@@ -65,19 +60,15 @@ pub fn operands(
 ) -> Result<Vec<Ty>, Failure>
     requires { IsScope cx.now scope }
     ensures owned { IfOk result (λ types. AreOwned ty_shape cx.now types.items) }
-    ensures are { IfOk result (λ types. AreOperands scope expression numbers.now types.items) }
+    ensures are { IfOk result (λ types. AreTypesBefore scope.entry.types.now expression numbers.now types.items) }
 {
-    let mut types = Vec::new(cx.allocator());
-    for index in 0..numbers.len() {
-        types.push(operand(cx, scope, expression, numbers[index])?)?;
-    }
-    Ok(types)
+    types_before(cx, scope.types, expression, numbers)
 }
 
 /// Returns the written type of this number.
 pub fn written(cx: &Interner, scope: Scope<'_>, number: usize) -> Result<Ty, Failure>
     requires { IsScope cx.now scope }
-    ensures is { IfOk result (λ ty. slice_get scope.declared.now.written.items number ≡ Some ty) }
+    ensures is { IfOk result (λ ty. slice_get scope.entry.declared.now.written.items number ≡ Some ty) }
     ensures owned { IfOk result (λ ty. IsOwned ty_shape cx.now ty) }
 {
     type_at(cx, scope.declared.written.as_slice(), number)

@@ -1,6 +1,6 @@
 //! Programs are checked.
 
-use crate::check::check;
+use crate::programs::check;
 use crate::failure::Failure;
 use checker_syntax::program::Program;
 use std::alloc::Global;

@@ -2,6 +2,9 @@
 
 mod build;
 
+ghost use Rattle.std.specs.Prelude.{◌≤◌};
+ghost use Rattle.checker_syntax.specs.Tokens.{tokens_left};
+
 use crate::declarations::Signature;
 use crate::items::{DataName, Items};
 use crate::program::{Body, DataType, Expression, Function, Literal, Place};
@@ -117,7 +120,10 @@ impl<'a> BodyReader<'a> {
     }
 
     // Reads the rest of a block, and returns the number of its value.
-    fn block(&mut self, levels: usize) -> Result<usize, SyntaxError> {
+    #[cycle(bodies)]
+    fn block(&mut self, levels: usize) -> Result<usize, SyntaxError>
+        ensures { tokens_left self.new.types.tokens ≤ tokens_left self.old.types.tokens }
+    {
         let outer = self.scope.len();
         let value = self.statements(levels)?;
         self.scope.truncate(outer);
@@ -125,7 +131,10 @@ impl<'a> BodyReader<'a> {
     }
 
     // Reads statements and the closing brace after them, and returns the number of the last expression or of `()`.
-    fn statements(&mut self, levels: usize) -> Result<usize, SyntaxError> {
+    #[cycle(bodies)]
+    fn statements(&mut self, levels: usize) -> Result<usize, SyntaxError>
+        ensures { tokens_left self.new.types.tokens ≤ tokens_left self.old.types.tokens }
+    {
         loop {
             let place = self.types.tokens.peek().place;
             if self.types.tokens.eat(TokenKind::CloseBrace) {
@@ -146,7 +155,10 @@ impl<'a> BodyReader<'a> {
     }
 
     // Reads the rest of a `let` statement, whose keyword is at the place.
-    fn let_statement(&mut self, place: Place, levels: usize) -> Result<(), SyntaxError> {
+    #[cycle(bodies)]
+    fn let_statement(&mut self, place: Place, levels: usize) -> Result<(), SyntaxError>
+        ensures { tokens_left self.new.types.tokens ≤ tokens_left self.old.types.tokens }
+    {
         let name = self.types.tokens.name("a name")?;
         let mut ty = None;
         if self.types.tokens.eat(TokenKind::Colon) {
@@ -159,7 +171,10 @@ impl<'a> BodyReader<'a> {
     }
 
     // Reads an expression with at most so many levels, and returns its number.
-    fn expression(&mut self, levels: usize) -> Result<usize, SyntaxError> {
+    #[cycle(bodies)]
+    fn expression(&mut self, levels: usize) -> Result<usize, SyntaxError>
+        ensures { tokens_left self.new.types.tokens ≤ tokens_left self.old.types.tokens }
+    {
         if levels == 0 {
             return Err(self.types.tokens.too_deep());
         }
@@ -180,7 +195,10 @@ impl<'a> BodyReader<'a> {
     }
 
     // Reads an expression that isn't a reference, a dereference or a selection.
-    fn operand(&mut self, levels: usize) -> Result<usize, SyntaxError> {
+    #[cycle(bodies)]
+    fn operand(&mut self, levels: usize) -> Result<usize, SyntaxError>
+        ensures { tokens_left self.new.types.tokens ≤ tokens_left self.old.types.tokens }
+    {
         let token = self.types.tokens.peek();
         if let Some(literal) = literal(token.kind) {
             self.types.tokens.advance();
@@ -204,7 +222,10 @@ impl<'a> BodyReader<'a> {
     }
 
     // Reads what comes after a name: arguments, fields, or nothing of them after a variable.
-    fn named(&mut self, name: usize, token: Token, levels: usize) -> Result<usize, SyntaxError> {
+    #[cycle(bodies)]
+    fn named(&mut self, name: usize, token: Token, levels: usize) -> Result<usize, SyntaxError>
+        ensures { tokens_left self.new.types.tokens ≤ tokens_left self.old.types.tokens }
+    {
         if self.types.tokens.eat(TokenKind::OpenParen) {
             let function = self.function(name, token)?;
             let arguments = self.list(levels)?;
@@ -219,7 +240,10 @@ impl<'a> BodyReader<'a> {
     }
 
     // Reads the rest of a tuple or of an expression in parentheses.
-    fn parentheses(&mut self, place: Place, levels: usize) -> Result<usize, SyntaxError> {
+    #[cycle(bodies)]
+    fn parentheses(&mut self, place: Place, levels: usize) -> Result<usize, SyntaxError>
+        ensures { tokens_left self.new.types.tokens ≤ tokens_left self.old.types.tokens }
+    {
         let list = self.list(levels)?;
         if let [only] = list.numbers.as_slice()
             && !list.ends_in_comma
@@ -230,7 +254,10 @@ impl<'a> BodyReader<'a> {
     }
 
     // Reads expressions with commas between them, and the closing parenthesis after them.
-    fn list(&mut self, levels: usize) -> Result<List, SyntaxError> {
+    #[cycle(bodies)]
+    fn list(&mut self, levels: usize) -> Result<List, SyntaxError>
+        ensures { tokens_left self.new.types.tokens ≤ tokens_left self.old.types.tokens }
+    {
         let mut numbers = Vec::new(self.alloc);
         let mut ends_in_comma = false;
         while !self.types.tokens.eat(TokenKind::CloseParen) {
@@ -248,11 +275,14 @@ impl<'a> BodyReader<'a> {
     }
 
     // Reads the fields of a struct's value, and the closing brace after them.
+    #[cycle(bodies)]
     fn field_values(
         &mut self,
         data: DataName,
         levels: usize,
-    ) -> Result<Vec<FieldValue>, SyntaxError> {
+    ) -> Result<Vec<FieldValue>, SyntaxError>
+        ensures { tokens_left self.new.types.tokens ≤ tokens_left self.old.types.tokens }
+    {
         let mut values = Vec::new(self.alloc);
         while !self.types.tokens.eat(TokenKind::CloseBrace) {
             let token = self.types.tokens.peek();

@@ -1,5 +1,8 @@
 //! The items of a program: their names and type parameters.
 
+ghost use Rattle.std.specs.Prelude.{◌<◌, ◌≤◌, OnSome};
+ghost use Rattle.checker_syntax.specs.Tokens.{tokens_left};
+
 use crate::message::wrong;
 use crate::program::Place;
 use crate::syntax_error::SyntaxError;
@@ -93,19 +96,17 @@ pub fn read_heads<'a>(
 }
 
 // Passes over the tokens up to the next item's keyword and over it, and returns what it begins.
-fn next_item(tokens: &mut Tokens) -> Option<ItemKind> {
-    loop {
-        let kind = tokens.peek().kind;
-        if kind == TokenKind::End {
-            return None;
-        }
-        tokens.advance();
-        match kind {
+fn next_item(tokens: &mut Tokens) -> Option<ItemKind>
+    ensures { OnSome result (tokens_left tokens.new < tokens_left tokens.old) }
+{
+    while let Some(token) = tokens.next() {
+        match token.kind {
             TokenKind::Struct => return Some(ItemKind::Struct),
             TokenKind::Fn => return Some(ItemKind::Fn),
             _ => {}
         }
     }
+    None
 }
 
 // Returns the beginning of the item after its keyword, and numbers the item.
@@ -114,7 +115,9 @@ fn read_head<'a>(
     tokens: &mut Tokens<'a>,
     items: &mut Items,
     kind: ItemKind,
-) -> Result<Head<'a>, SyntaxError> {
+) -> Result<Head<'a>, SyntaxError>
+    ensures { tokens_left tokens.new ≤ tokens_left tokens.old }
+{
     let token = tokens.peek();
     let name = tokens.name("a name")?;
     if kind == ItemKind::Struct {
@@ -152,7 +155,9 @@ fn check_type_name(alloc: Global, tokens: &Tokens, token: Token) -> Result<(), S
 }
 
 // Returns the names of the type parameters that come next, if there are any.
-fn read_params(alloc: Global, tokens: &mut Tokens) -> Result<Vec<usize>, SyntaxError> {
+fn read_params(alloc: Global, tokens: &mut Tokens) -> Result<Vec<usize>, SyntaxError>
+    ensures { tokens_left tokens.new ≤ tokens_left tokens.old }
+{
     let mut params = Vec::new(alloc);
     if !tokens.eat(TokenKind::Less) {
         return Ok(params);

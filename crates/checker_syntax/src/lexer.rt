@@ -1,5 +1,7 @@
 //! Sources as lists of tokens.
 
+ghost use Rattle.std.specs.Prelude.{◌<◌, ◌≤◌, length, OnSome};
+
 use crate::message::wrong;
 use crate::names::Names;
 use crate::program::Place;
@@ -15,6 +17,7 @@ pub struct Lexer<'a> {
     rest: &'a str,
     place: Place,
     names: Names<'a>,
+    ghost within: { length rest.now ≤ length source.now },
 }
 
 impl<'a> Lexer<'a> {
@@ -37,12 +40,21 @@ impl<'a> Lexer<'a> {
     /// Returns the tokens that are left.
     pub fn tokens(&mut self) -> Result<Vec<Token>, SyntaxError> {
         let mut tokens = Vec::new(self.alloc);
-        self.skip_space();
-        while let Some(first) = self.peek() {
-            tokens.push(self.token(first)?)?;
+        loop {
             self.skip_space();
+            let place = self.place;
+            let start = self.position();
+            let Some(first) = self.advance() else {
+                return Ok(tokens);
+            };
+            let kind = self.token_kind(first, place, start)?;
+            tokens.push(Token {
+                kind,
+                place,
+                start,
+                end: self.position(),
+            })?;
         }
-        Ok(tokens)
     }
 
     /// Returns the token of the end of what was read.
@@ -61,27 +73,37 @@ impl<'a> Lexer<'a> {
     }
 
     // Returns the next character.
-    fn peek(&self) -> Option<char> {
+    fn peek(&self) -> Option<char>
+        ensures { OnSome result (0 < length self.now.rest.now) }
+    {
         self.rest.chars().next()
     }
 
     // Passes over the next character and returns it.
-    fn advance(&mut self) -> Option<char> {
+    fn advance(&mut self) -> Option<char>
+        ensures ahead { length self.new.rest.now ≤ length self.old.rest.now }
+        ensures passed { 0 < length self.old.rest.now → length self.new.rest.now < length self.old.rest.now }
+        ensures some { OnSome result (0 < length self.old.rest.now) }
+    {
         let mut characters = self.rest.chars();
-        let character = characters.next()?;
+        let next = characters.next();
         self.rest = characters.as_str();
         // A source has fewer bytes than a number has values, so neither sum saturates.
-        if character == '\n' {
-            self.place.line = self.place.line.saturating_add(1);
-            self.place.column = 1;
-        } else {
-            self.place.column = self.place.column.saturating_add(1);
+        match next {
+            Some('\n') => {
+                self.place.line = self.place.line.saturating_add(1);
+                self.place.column = 1;
+            }
+            Some(_) => self.place.column = self.place.column.saturating_add(1),
+            None => {}
         }
-        Some(character)
+        next
     }
 
     // Passes over the next character if it is this one, and says whether it is.
-    fn eat(&mut self, character: char) -> bool {
+    fn eat(&mut self, character: char) -> bool
+        ensures { length self.new.rest.now ≤ length self.old.rest.now }
+    {
         if self.peek() == Some(character) {
             self.advance();
             true
@@ -91,20 +113,25 @@ impl<'a> Lexer<'a> {
     }
 
     // Passes over white space and comments.
-    fn skip_space(&mut self) {
-        loop {
-            if self.rest.starts_with("//") {
-                self.skip_line();
-            } else if self.peek().is_some_and(|next| next.is_ascii_whitespace()) {
-                self.advance();
-            } else {
+    fn skip_space(&mut self)
+        ensures { length self.new.rest.now ≤ length self.old.rest.now }
+    {
+        while let Some(next) = self.peek() {
+            let is_comment = self.rest.starts_with("//");
+            if !is_comment && !next.is_ascii_whitespace() {
                 return;
+            }
+            self.advance();
+            if is_comment {
+                self.skip_line();
             }
         }
     }
 
     // Passes over the rest of the line.
-    fn skip_line(&mut self) {
+    fn skip_line(&mut self)
+        ensures { length self.new.rest.now ≤ length self.old.rest.now }
+    {
         while let Some(character) = self.advance() {
             if character == '\n' {
                 return;
@@ -112,56 +139,48 @@ impl<'a> Lexer<'a> {
         }
     }
 
-    // Returns the next token, which begins with this character.
-    fn token(&mut self, first: char) -> Result<Token, SyntaxError> {
-        let place = self.place;
-        let start = self.position();
-        let kind = self.token_kind(first)?;
-        Ok(Token {
-            kind,
-            place,
-            start,
-            end: self.position(),
-        })
-    }
-
-    // Passes over the next token, which begins with this character, and returns what it is.
-    fn token_kind(&mut self, first: char) -> Result<TokenKind, SyntaxError> {
-        if first.is_ascii_digit() {
-            self.integer()
-        } else if is_of_word(first) {
-            self.name_or_keyword()
-        } else if first == '\'' {
-            self.character()
-        } else if first == '"' {
-            self.text()
-        } else {
-            self.mark(first)
+    // Passes over the rest of the token of this first character, which is at the place and at the byte `start`, and
+    // returns what it is.
+    fn token_kind(
+        &mut self,
+        first: char,
+        place: Place,
+        start: usize,
+    ) -> Result<TokenKind, SyntaxError>
+        ensures { length self.new.rest.now ≤ length self.old.rest.now }
+    {
+        match first {
+            '\'' => self.character(place),
+            '"' => self.text(place),
+            '-' if self.eat('>') => Ok(TokenKind::Arrow),
+            _ if is_of_word(first) => self.word(first, place, start),
+            _ => match TokenKind::mark(first) {
+                Some(kind) => Ok(kind),
+                None => Err(wrong(place, format!(in self.alloc; "unknown character `{first}`"))),
+            },
         }
     }
 
-    // Passes over the letters, digits and `_` that come next, and returns them.
-    fn word(&mut self) -> &'a str {
-        let rest = self.rest.trim_start_matches(is_of_word);
-        let (word, rest) = self.rest.split_at(self.rest.len() - rest.len());
-        self.rest = rest;
-        self.place.column = self.place.column.saturating_add(word.len());
-        word
-    }
-
-    // Passes over a name or a keyword.
-    fn name_or_keyword(&mut self) -> Result<TokenKind, SyntaxError> {
-        let word = self.word();
+    // Passes over the rest of an integer, a name or a keyword of this first character.
+    fn word(&mut self, first: char, place: Place, start: usize) -> Result<TokenKind, SyntaxError>
+        ensures { length self.new.rest.now ≤ length self.old.rest.now }
+    {
+        while self.peek().is_some_and(is_of_word) {
+            self.advance();
+        }
+        // Tokens begin and end between characters.
+        let word = self.source.get(start..self.position()).unwrap_or("");
+        if first.is_ascii_digit() {
+            return self.integer(word, place);
+        }
         match TokenKind::keyword(word) {
             Some(keyword) => Ok(keyword),
             None => Ok(TokenKind::Name(self.names.number(word)?)),
         }
     }
 
-    // Passes over an integer literal.
-    fn integer(&mut self) -> Result<TokenKind, SyntaxError> {
-        let place = self.place;
-        let word = self.word();
+    // Returns the token of a word that begins with a digit.
+    fn integer(&self, word: &str, place: Place) -> Result<TokenKind, SyntaxError> {
         if word
             .chars()
             .all(|next| next.is_ascii_digit() || next == '_')
@@ -174,69 +193,55 @@ impl<'a> Lexer<'a> {
         Err(wrong(place, text))
     }
 
-    // Passes over a character literal.
-    fn character(&mut self) -> Result<TokenKind, SyntaxError> {
-        let place = self.place;
-        self.advance();
-        if self.eat('\'') {
-            let text = format!(in self.alloc; "a character literal is empty");
-            return Err(wrong(place, text));
-        }
-        if !self.part()? || !self.eat('\'') {
-            let text = format!(in self.alloc;
-                "a character literal isn't closed by `'` after one character"
-            );
-            return Err(wrong(place, text));
-        }
-        Ok(TokenKind::Char)
-    }
-
-    // Passes over a text literal.
-    fn text(&mut self) -> Result<TokenKind, SyntaxError> {
-        let place = self.place;
-        self.advance();
-        while !self.eat('"') {
-            if !self.part()? {
-                let text = format!(in self.alloc; "a text literal isn't closed by `\"`");
+    // Passes over the rest of a character literal.
+    fn character(&mut self, place: Place) -> Result<TokenKind, SyntaxError>
+        ensures { length self.new.rest.now ≤ length self.old.rest.now }
+    {
+        match self.advance() {
+            Some('\'') => {
+                let text = format!(in self.alloc; "a character literal is empty");
                 return Err(wrong(place, text));
             }
+            Some('\\') => self.escape()?,
+            Some(_) | None => {}
         }
-        Ok(TokenKind::Text)
+        if self.eat('\'') {
+            return Ok(TokenKind::Char);
+        }
+        let text = format!(in self.alloc;
+            "a character literal isn't closed by `'` after one character"
+        );
+        Err(wrong(place, text))
     }
 
-    // Passes over a character of a literal, or its escape. At the end of the source it returns `false`.
-    fn part(&mut self) -> Result<bool, SyntaxError> {
+    // Passes over the rest of a text literal.
+    fn text(&mut self, place: Place) -> Result<TokenKind, SyntaxError>
+        ensures { length self.new.rest.now ≤ length self.old.rest.now }
+    {
+        while let Some(character) = self.advance() {
+            match character {
+                '"' => return Ok(TokenKind::Text),
+                '\\' => self.escape()?,
+                _ => {}
+            }
+        }
+        Err(wrong(
+            place,
+            format!(in self.alloc; "a text literal isn't closed by `\"`"),
+        ))
+    }
+
+    // Passes over what comes after a backslash.
+    fn escape(&mut self) -> Result<(), SyntaxError>
+        ensures { length self.new.rest.now ≤ length self.old.rest.now }
+    {
         let place = self.place;
         match self.advance() {
-            Some('\\') => self.escape(place),
-            Some(_) => Ok(true),
-            None => Ok(false),
-        }
-    }
-
-    // Passes over what comes after the backslash at the place. At the end of the source it returns `false`.
-    fn escape(&mut self, place: Place) -> Result<bool, SyntaxError> {
-        match self.advance() {
-            Some('n' | 't' | '\\' | '\'' | '"' | '0') => Ok(true),
+            // The literal isn't closed, as its caller tells.
+            None => Ok(()),
+            Some('n' | 't' | '\\' | '\'' | '"' | '0') => Ok(()),
             Some(other) => {
                 let text = format!(in self.alloc; "unknown escape `\\{other}`");
-                Err(wrong(place, text))
-            }
-            None => Ok(false),
-        }
-    }
-
-    // Passes over a token of one character or two.
-    fn mark(&mut self, first: char) -> Result<TokenKind, SyntaxError> {
-        let place = self.place;
-        self.advance();
-        if first == '-' && self.eat('>') {
-            return Ok(TokenKind::Arrow);
-        }
-        match TokenKind::mark(first) {
-            Some(kind) => Ok(kind),
-            None => {
-                let text = format!(in self.alloc; "unknown character `{first}`");
                 Err(wrong(place, text))
             }
         }

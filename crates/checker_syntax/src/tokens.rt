@@ -1,7 +1,10 @@
 //! Tokens that are still to be read.
 
+ghost use Rattle.std.specs.Prelude.{◌<◌, ◌≤◌, OnSome};
+ghost use Rattle.std.specs.Bool.{OnTrue};
+ghost use Rattle.checker_syntax.specs.Tokens.{tokens_left};
+
 use crate::message::wrong;
-use crate::program::Place;
 use crate::syntax_error::SyntaxError;
 use crate::token::{Token, TokenKind};
 use std::alloc::Global;
@@ -44,15 +47,28 @@ impl<'a> Tokens<'a> {
         }
     }
 
+    /// Passes over the next token and returns it, unless none is left.
+    pub fn next(&mut self) -> Option<Token>
+        ensures ahead { tokens_left self.new ≤ tokens_left self.old }
+        ensures passed { OnSome result (tokens_left self.new < tokens_left self.old) }
+    {
+        let (first, rest) = self.rest.split_first()?;
+        self.rest = rest;
+        Some(*first)
+    }
+
     /// Passes over the next token.
-    pub fn advance(&mut self) {
-        if let Some((_, rest)) = self.rest.split_first() {
-            self.rest = rest;
-        }
+    pub fn advance(&mut self)
+        ensures { tokens_left self.new ≤ tokens_left self.old }
+    {
+        let _ = self.next();
     }
 
     /// Passes over the next token if it is of this kind, and says whether it is.
-    pub fn eat(&mut self, kind: TokenKind) -> bool {
+    pub fn eat(&mut self, kind: TokenKind) -> bool
+        ensures ahead { tokens_left self.new ≤ tokens_left self.old }
+        ensures passed { OnTrue result (tokens_left self.new < tokens_left self.old) }
+    {
         match self.rest.split_first() {
             Some((first, rest)) if first.kind == kind => {
                 self.rest = rest;
@@ -63,7 +79,9 @@ impl<'a> Tokens<'a> {
     }
 
     /// Passes over the next token, which has to be of this kind.
-    pub fn expect(&mut self, kind: TokenKind) -> Result<(), SyntaxError> {
+    pub fn expect(&mut self, kind: TokenKind) -> Result<(), SyntaxError>
+        ensures { tokens_left self.new ≤ tokens_left self.old }
+    {
         if self.eat(kind) {
             Ok(())
         } else {
@@ -72,7 +90,9 @@ impl<'a> Tokens<'a> {
     }
 
     /// Passes over the next token, which has to be a name, and returns its number. Messages call it `what`.
-    pub fn name(&mut self, what: &str) -> Result<usize, SyntaxError> {
+    pub fn name(&mut self, what: &str) -> Result<usize, SyntaxError>
+        ensures { tokens_left self.new ≤ tokens_left self.old }
+    {
         match self.peek().kind {
             TokenKind::Name(name) => {
                 self.advance();

@@ -1,5 +1,8 @@
 //! Types as they are written.
 
+ghost use Rattle.std.specs.Prelude.{◌≤◌};
+ghost use Rattle.checker_syntax.specs.Tokens.{tokens_left};
+
 use crate::items::{DataName, Items};
 use crate::message::wrong;
 use crate::program::{Span, WrittenType};
@@ -78,12 +81,16 @@ impl<'a> TypeReader<'a> {
     }
 
     /// Reads a type, and returns its number.
-    pub fn read_type(&mut self) -> Result<usize, SyntaxError> {
+    pub fn read_type(&mut self) -> Result<usize, SyntaxError>
+        ensures { tokens_left self.new.tokens ≤ tokens_left self.old.tokens }
+    {
         self.nested_type(LEVELS)
     }
 
     /// Adds the type `()`, and returns its number.
-    pub fn unit(&mut self) -> Result<usize, AllocError> {
+    pub fn unit(&mut self) -> Result<usize, AllocError>
+        ensures { tokens_left self.new.tokens ≤ tokens_left self.old.tokens }
+    {
         let none = Span {
             start: self.parts.len(),
             end: self.parts.len(),
@@ -92,7 +99,10 @@ impl<'a> TypeReader<'a> {
     }
 
     // Reads a type with at most so many levels.
-    fn nested_type(&mut self, levels: usize) -> Result<usize, SyntaxError> {
+    #[cycle(types)]
+    fn nested_type(&mut self, levels: usize) -> Result<usize, SyntaxError>
+        ensures { tokens_left self.new.tokens ≤ tokens_left self.old.tokens }
+    {
         if levels == 0 {
             return Err(self.tokens.too_deep());
         }
@@ -117,7 +127,10 @@ impl<'a> TypeReader<'a> {
     }
 
     // Reads the rest of a tuple, or of a type in parentheses.
-    fn tuple(&mut self, levels: usize) -> Result<usize, SyntaxError> {
+    #[cycle(types)]
+    fn tuple(&mut self, levels: usize) -> Result<usize, SyntaxError>
+        ensures { tokens_left self.new.tokens ≤ tokens_left self.old.tokens }
+    {
         let list = self.list(TokenKind::CloseParen, levels)?;
         if let [only] = list.numbers.as_slice()
             && !list.ends_in_comma
@@ -129,12 +142,15 @@ impl<'a> TypeReader<'a> {
     }
 
     // Reads the type arguments of a name, if there are any.
+    #[cycle(types)]
     fn with_arguments(
         &mut self,
         named: NamedType,
         token: Token,
         levels: usize,
-    ) -> Result<usize, SyntaxError> {
+    ) -> Result<usize, SyntaxError>
+        ensures { tokens_left self.new.tokens ≤ tokens_left self.old.tokens }
+    {
         let mut arguments = Vec::new(self.alloc);
         if self.tokens.eat(TokenKind::Less) {
             arguments = self.list(TokenKind::Greater, levels)?.numbers;
@@ -143,7 +159,10 @@ impl<'a> TypeReader<'a> {
     }
 
     // Reads types with commas between them, and the closing token after them.
-    fn list(&mut self, close: TokenKind, levels: usize) -> Result<List, SyntaxError> {
+    #[cycle(types)]
+    fn list(&mut self, close: TokenKind, levels: usize) -> Result<List, SyntaxError>
+        ensures { tokens_left self.new.tokens ≤ tokens_left self.old.tokens }
+    {
         let mut numbers = Vec::new(self.alloc);
         let mut ends_in_comma = false;
         while !self.tokens.eat(close) {
@@ -181,7 +200,9 @@ impl<'a> TypeReader<'a> {
         named: NamedType,
         arguments: &[usize],
         token: Token,
-    ) -> Result<usize, SyntaxError> {
+    ) -> Result<usize, SyntaxError>
+        ensures { tokens_left self.new.tokens ≤ tokens_left self.old.tokens }
+    {
         let params = match named {
             NamedType::Plain(_) => 0,
             NamedType::Data(data) => data.params,
@@ -199,14 +220,18 @@ impl<'a> TypeReader<'a> {
     }
 
     // Adds the type, and returns its number.
-    fn push(&mut self, ty: WrittenType) -> Result<usize, AllocError> {
+    fn push(&mut self, ty: WrittenType) -> Result<usize, AllocError>
+        ensures { tokens_left self.new.tokens ≤ tokens_left self.old.tokens }
+    {
         let number = self.types.len();
         self.types.push(ty)?;
         Ok(number)
     }
 
     // Adds the numbers to the parts, and returns where they are.
-    fn push_parts(&mut self, numbers: &[usize]) -> Result<Span, AllocError> {
+    fn push_parts(&mut self, numbers: &[usize]) -> Result<Span, AllocError>
+        ensures { tokens_left self.new.tokens ≤ tokens_left self.old.tokens }
+    {
         let start = self.parts.len();
         self.parts.extend_from_slice(numbers)?;
         Ok(Span {

@@ -10,7 +10,7 @@ ghost use Rattle.tt_kinds.specs.Values.{fn_sig_shape};
 
 use crate::failure::Failure;
 use crate::infer::equality::{equate, fresh_variable, is_of};
-use crate::lookup::{part_of, type_at};
+use crate::lookup::{at, part_of, type_at};
 use crate::scope::{Scope, operand, place_of};
 use crate::wording::wrong_count;
 use checker_syntax::program::Span;
@@ -18,7 +18,7 @@ use type_terms::prelude::*;
 use unify::Bindings;
 
 // Returns the type with new variables for this many parameters.
-#[tactic(auto, using(tt_interner::proofs::OwnedLaws::owned_laws, crate::proofs::ClientLaws::client_laws))]
+#[tactic(auto, using(tt_interner::proofs::OwnedLaws::owned_laws, crate::proofs::ClientLaws::client_laws, crate::proofs::ScopeLaws::scope_laws))]
 fn fresh_instance(
     cx: &mut Interner,
     bindings: &mut Bindings,
@@ -40,7 +40,7 @@ fn fresh_instance(
 }
 
 // Makes the types of the operands equal to those that are expected, in order.
-#[tactic(auto, using(tt_interner::proofs::OwnedLaws::owned_laws, crate::proofs::ClientLaws::client_laws))]
+#[tactic(auto, using(tt_interner::proofs::OwnedLaws::owned_laws, crate::proofs::ClientLaws::client_laws, crate::proofs::ScopeLaws::scope_laws))]
 fn equate_each(
     cx: &mut Interner,
     scope: Scope<'_>,
@@ -62,7 +62,7 @@ fn equate_each(
 }
 
 /// Infers the type of a call, and the type arguments of the function, and returns the type of the function at these.
-#[tactic(auto, using(tt_interner::proofs::OwnedLaws::owned_laws, crate::proofs::ClientLaws::client_laws))]
+#[tactic(auto, using(tt_interner::proofs::OwnedLaws::owned_laws, crate::proofs::ClientLaws::client_laws, crate::proofs::ScopeLaws::scope_laws))]
 pub fn infer_call(
     cx: &mut Interner,
     scope: Scope<'_>,
@@ -95,7 +95,7 @@ pub fn infer_call(
 }
 
 // Returns the types of the inputs and of the output of a function's type.
-#[tactic(auto, using(tt_interner::proofs::OwnedLaws::owned_laws, crate::proofs::ClientLaws::client_laws))]
+#[tactic(auto, using(tt_interner::proofs::OwnedLaws::owned_laws, crate::proofs::ClientLaws::client_laws, crate::proofs::ScopeLaws::scope_laws))]
 fn signature(cx: &mut Interner, item: Ty) -> Result<(Vec<Ty>, Ty), Failure>
     requires { IsOwned ty_shape cx.old item }
     ensures extends { Extends cx.old cx.new }
@@ -116,7 +116,7 @@ fn signature(cx: &mut Interner, item: Ty) -> Result<(Vec<Ty>, Ty), Failure>
 }
 
 // Returns the types of a signature's inputs.
-#[tactic(auto, using(tt_interner::proofs::OwnedLaws::owned_laws, crate::proofs::ClientLaws::client_laws))]
+#[tactic(auto, using(tt_interner::proofs::OwnedLaws::owned_laws, crate::proofs::ClientLaws::client_laws, crate::proofs::ScopeLaws::scope_laws))]
 fn inputs_of(cx: &Interner, sig: FnSig) -> Result<Vec<Ty>, Failure>
     requires { IsOwned fn_sig_shape cx.now sig }
     ensures { IfOk result (λ inputs. AreOwned ty_shape cx.now inputs.items) }
@@ -130,7 +130,7 @@ fn inputs_of(cx: &Interner, sig: FnSig) -> Result<Vec<Ty>, Failure>
 }
 
 /// Infers the type of a data type expression, and the type arguments of the data type.
-#[tactic(auto, using(tt_interner::proofs::OwnedLaws::owned_laws, crate::proofs::ClientLaws::client_laws))]
+#[tactic(auto, using(tt_interner::proofs::OwnedLaws::owned_laws, crate::proofs::ClientLaws::client_laws, crate::proofs::ScopeLaws::scope_laws))]
 pub fn infer_data(
     cx: &mut Interner,
     scope: Scope<'_>,
@@ -148,7 +148,7 @@ pub fn infer_data(
         return Err(Failure::Malformed);
     };
     let values = part_of(scope.body.operands.as_slice(), fields)?;
-    let ty = type_at(cx, scope.declared.data.as_slice(), data)?;
+    let ty = type_at(cx, scope.declared.data_types.as_slice(), data)?;
     let ty = fresh_instance(cx, bindings, ty, item.params.len())?;
     let types = field_types(cx, ty)?;
     if values.len() != types.len() {
@@ -159,7 +159,7 @@ pub fn infer_data(
 }
 
 // Returns the types of a data type's fields.
-#[tactic(auto, using(tt_interner::proofs::OwnedLaws::owned_laws, crate::proofs::ClientLaws::client_laws))]
+#[tactic(auto, using(tt_interner::proofs::OwnedLaws::owned_laws, crate::proofs::ClientLaws::client_laws, crate::proofs::ScopeLaws::scope_laws))]
 fn field_types(cx: &mut Interner, ty: Ty) -> Result<Vec<Ty>, Failure>
     requires { IsOwned ty_shape cx.old ty }
     ensures extends { Extends cx.old cx.new }
@@ -170,8 +170,8 @@ fn field_types(cx: &mut Interner, ty: Ty) -> Result<Vec<Ty>, Failure>
     }
     let fields = cx.fields_of(ty)?;
     let mut types = Vec::new(cx.allocator());
-    for field in fields.iter() {
-        types.push(field.ty)?;
+    for index in 0..fields.len() {
+        types.push(at(fields.as_slice(), index)?.ty)?;
     }
     Ok(types)
 }

@@ -9,7 +9,7 @@ ghost use Rattle.checker.specs.Scope.{IsScope};
 
 use crate::failure::Failure;
 use crate::infer::equality::is_of;
-use crate::lookup::name_of;
+use crate::lookup::{at, name_of, type_at};
 use crate::scope::{Scope, operand, place_of};
 use crate::wording::{no_field, no_item, unknown_type};
 use type_terms::prelude::*;
@@ -19,7 +19,7 @@ use unify::Bindings;
 const MOST_REFERENCES: u32 = u32::MAX;
 
 // Returns the type that a reference refers to, if need be through further ones, and otherwise the type itself.
-#[tactic(auto, using(tt_interner::proofs::OwnedLaws::owned_laws, crate::proofs::ClientLaws::client_laws))]
+#[tactic(auto, using(tt_interner::proofs::OwnedLaws::owned_laws, crate::proofs::ClientLaws::client_laws, crate::proofs::ScopeLaws::scope_laws))]
 fn without_references(cx: &Interner, ty: Ty) -> Ty
     requires { IsOwned ty_shape cx.now ty }
     ensures { IsOwned ty_shape cx.now result }
@@ -35,7 +35,7 @@ fn without_references(cx: &Interner, ty: Ty) -> Ty
 }
 
 // Returns the type of the operand as far as it is known, out of references.
-#[tactic(auto, using(tt_interner::proofs::OwnedLaws::owned_laws, crate::proofs::ClientLaws::client_laws))]
+#[tactic(auto, using(tt_interner::proofs::OwnedLaws::owned_laws, crate::proofs::ClientLaws::client_laws, crate::proofs::ScopeLaws::scope_laws))]
 fn known(
     cx: &mut Interner,
     scope: Scope<'_>,
@@ -55,7 +55,7 @@ fn known(
 }
 
 // Returns the type of the field of this name, if the type has one.
-#[tactic(auto, using(tt_interner::proofs::OwnedLaws::owned_laws, crate::proofs::ClientLaws::client_laws))]
+#[tactic(auto, using(tt_interner::proofs::OwnedLaws::owned_laws, crate::proofs::ClientLaws::client_laws, crate::proofs::ScopeLaws::scope_laws))]
 fn field_type(cx: &mut Interner, ty: Ty, name: Symbol) -> Result<Option<Ty>, Failure>
     requires { IsOwned ty_shape cx.old ty }
     ensures extends { Extends cx.old cx.new }
@@ -65,10 +65,13 @@ fn field_type(cx: &mut Interner, ty: Ty, name: Symbol) -> Result<Option<Ty>, Fai
         return Ok(None);
     }
     let fields = cx.fields_of(ty)?;
-    match fields.iter().find(|field| field.name == name) {
-        Some(field) => Ok(Some(field.ty)),
-        None => Ok(None),
+    for index in 0..fields.len() {
+        let field = at(fields.as_slice(), index)?;
+        if field.name == name {
+            return Ok(Some(field.ty));
+        }
     }
+    Ok(None)
 }
 
 // Returns whether the type is a variable, so that nothing is known of it.
@@ -79,7 +82,7 @@ fn is_unknown(cx: &Interner, ty: Ty) -> bool
 }
 
 /// Infers the type of a field of a value.
-#[tactic(auto, using(tt_interner::proofs::OwnedLaws::owned_laws, crate::proofs::ClientLaws::client_laws))]
+#[tactic(auto, using(tt_interner::proofs::OwnedLaws::owned_laws, crate::proofs::ClientLaws::client_laws, crate::proofs::ScopeLaws::scope_laws))]
 pub fn infer_field(
     cx: &mut Interner,
     scope: Scope<'_>,
@@ -108,7 +111,7 @@ pub fn infer_field(
 }
 
 /// Infers the type of an item of a tuple.
-#[tactic(auto, using(tt_interner::proofs::OwnedLaws::owned_laws, crate::proofs::ClientLaws::client_laws))]
+#[tactic(auto, using(tt_interner::proofs::OwnedLaws::owned_laws, crate::proofs::ClientLaws::client_laws, crate::proofs::ScopeLaws::scope_laws))]
 pub fn infer_item(
     cx: &mut Interner,
     scope: Scope<'_>,
@@ -135,13 +138,13 @@ pub fn infer_item(
 }
 
 // Returns the type of the item of this number, if the type is a tuple that has it.
-#[tactic(auto, using(tt_interner::proofs::OwnedLaws::owned_laws, crate::proofs::ClientLaws::client_laws))]
+#[tactic(auto, using(tt_interner::proofs::OwnedLaws::owned_laws))]
 fn item_type(cx: &Interner, ty: Ty, item: usize) -> Option<Ty>
     requires { IsOwned ty_shape cx.now ty }
     ensures { IfSome result (λ item. IsOwned ty_shape cx.now item) }
 {
-    match *ty.kind(cx) {
-        TyKind::Tuple(items) => items.as_slice(cx).get(item).copied(),
-        _ => None,
-    }
+    let TyKind::Tuple(items) = *ty.kind(cx) else {
+        return None;
+    };
+    type_at(cx, items.as_slice(cx), item).ok()
 }

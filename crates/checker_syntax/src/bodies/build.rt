@@ -1,5 +1,8 @@
 //! Expressions of parts that are read.
 
+ghost use Rattle.std.specs.Prelude.{◌≤◌};
+ghost use Rattle.checker_syntax.specs.Tokens.{tokens_left};
+
 use crate::bodies::{BodyReader, FieldValue, Variable};
 use crate::items::DataName;
 use crate::message::wrong;
@@ -28,7 +31,9 @@ impl<'a> BodyReader<'a> {
         value: usize,
         ty: Option<usize>,
         place: Place,
-    ) -> Result<(), SyntaxError> {
+    ) -> Result<(), SyntaxError>
+        ensures { tokens_left self.new.types.tokens ≤ tokens_left self.old.types.tokens }
+    {
         let statement = self.push(Expression::Let(value, ty), place)?;
         self.scope.push(Variable {
             name,
@@ -42,7 +47,9 @@ impl<'a> BodyReader<'a> {
         &mut self,
         expression: Expression,
         place: Place,
-    ) -> Result<usize, SyntaxError> {
+    ) -> Result<usize, SyntaxError>
+        ensures { tokens_left self.new.types.tokens ≤ tokens_left self.old.types.tokens }
+    {
         let number = self.expressions.len();
         self.expressions.push(expression)?;
         self.places.push(place)?;
@@ -50,7 +57,9 @@ impl<'a> BodyReader<'a> {
     }
 
     // Adds the tuple of these items.
-    pub(super) fn tuple(&mut self, items: &[usize], place: Place) -> Result<usize, SyntaxError> {
+    pub(super) fn tuple(&mut self, items: &[usize], place: Place) -> Result<usize, SyntaxError>
+        ensures { tokens_left self.new.types.tokens ≤ tokens_left self.old.types.tokens }
+    {
         let span = self.push_operands(items)?;
         self.push(Expression::Tuple(span), place)
     }
@@ -61,7 +70,9 @@ impl<'a> BodyReader<'a> {
         function: usize,
         arguments: &[usize],
         place: Place,
-    ) -> Result<usize, SyntaxError> {
+    ) -> Result<usize, SyntaxError>
+        ensures { tokens_left self.new.types.tokens ≤ tokens_left self.old.types.tokens }
+    {
         let span = self.push_operands(arguments)?;
         self.push(Expression::Call(function, span), place)
     }
@@ -72,19 +83,29 @@ impl<'a> BodyReader<'a> {
         data: DataName,
         values: &[FieldValue],
         token: Token,
-    ) -> Result<usize, SyntaxError> {
-        let start = self.operands.len();
+    ) -> Result<usize, SyntaxError>
+        ensures { tokens_left self.new.types.tokens ≤ tokens_left self.old.types.tokens }
+    {
+        let operands = self.in_declared_order(data, values, token)?;
+        let span = self.push_operands(operands.as_slice())?;
+        self.push(Expression::Data(data.number, span), token.place)
+    }
+
+    // Returns the values of the data type's fields. It is an error if one isn't given.
+    fn in_declared_order(
+        &self,
+        data: DataName,
+        values: &[FieldValue],
+        token: Token,
+    ) -> Result<Vec<usize>, SyntaxError> {
+        let mut operands = Vec::new(self.alloc);
         for field in self.fields(data) {
             match values.iter().find(|value| value.name == field.name) {
-                Some(given) => self.operands.push(given.value)?,
+                Some(given) => operands.push(given.value)?,
                 None => return Err(self.missing_field(field.name, token)),
             }
         }
-        let span = Span {
-            start,
-            end: self.operands.len(),
-        };
-        self.push(Expression::Data(data.number, span), token.place)
+        Ok(operands)
     }
 
     // Returns the function that is called.
@@ -104,20 +125,25 @@ impl<'a> BodyReader<'a> {
     }
 
     // Adds a use of the innermost variable of this name.
-    pub(super) fn variable(&mut self, name: usize, token: Token) -> Result<usize, SyntaxError> {
+    pub(super) fn variable(&mut self, name: usize, token: Token) -> Result<usize, SyntaxError>
+        ensures { tokens_left self.new.types.tokens ≤ tokens_left self.old.types.tokens }
+    {
         let found = self
             .scope
             .iter()
             .rev()
-            .find(|variable| variable.name == name);
+            .find(|variable| variable.name == name)
+            .map(|variable| variable.value);
         match found {
-            Some(variable) => self.push(variable.value, token.place),
+            Some(value) => self.push(value, token.place),
             None => Err(self.unknown("value", token)),
         }
     }
 
     // Reads what comes after the dot, and adds the field or item of the value.
-    pub(super) fn selection(&mut self, value: usize) -> Result<usize, SyntaxError> {
+    pub(super) fn selection(&mut self, value: usize) -> Result<usize, SyntaxError>
+        ensures { tokens_left self.new.types.tokens ≤ tokens_left self.old.types.tokens }
+    {
         let token = self.types.tokens.peek();
         match token.kind {
             TokenKind::Name(name) => {
@@ -159,7 +185,9 @@ impl<'a> BodyReader<'a> {
     }
 
     // Adds the numbers to the operands, and returns where they are.
-    fn push_operands(&mut self, numbers: &[usize]) -> Result<Span, AllocError> {
+    fn push_operands(&mut self, numbers: &[usize]) -> Result<Span, AllocError>
+        ensures { tokens_left self.new.types.tokens ≤ tokens_left self.old.types.tokens }
+    {
         let start = self.operands.len();
         self.operands.extend_from_slice(numbers)?;
         Ok(Span {

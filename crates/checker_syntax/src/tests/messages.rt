@@ -44,8 +44,8 @@ fn tokens(rt: HostRuntime) {
         ("''", at(1, 1), "a character literal is empty"),
         (" \"ab\n", at(1, 2), "a text literal isn't closed by `\"`"),
         ("\"\\", at(1, 1), "a text literal isn't closed by `\"`"),
-        ("\"\\q\"", at(1, 2), "unknown escape `\\q`"),
-        ("'\\é'", at(1, 2), "unknown escape `\\é`"),
+        ("\"\\q\"", at(1, 3), "unknown escape `\\q`"),
+        ("'\\é'", at(1, 3), "unknown escape `\\é`"),
         (
             "1_0a;",
             at(1, 1),

@@ -4,12 +4,12 @@ ghost use Rattle.std.specs.Prelude.{IfOk};
 ghost use Rattle.tt_kinds.specs.Kinds.{ty_shape};
 ghost use Rattle.tt_interner.specs.Owned.{AreOwned};
 ghost use Rattle.tt_interner.specs.Stored.{Extends};
-ghost use Rattle.checker.specs.Declared.{IsDeclared};
-ghost use Rattle.checker.specs.Declared.{AreTyped};
+ghost use Rattle.checker.specs.Items.{IsDeclared};
+ghost use Rattle.checker.specs.Items.{AreTyped};
 
 use crate::declared::{Declared, declare};
 use crate::failure::Failure;
-use crate::infer::inferred;
+use crate::infer::infer_body;
 use crate::lookup::{at, type_at};
 use crate::scope::Scope;
 use crate::verify::verify;
@@ -55,7 +55,7 @@ fn types_of(
     let Some(body) = &function.body else {
         return Ok(Vec::new(cx.allocator()));
     };
-    let found = inferred(cx, program, declared, function, body)?;
+    let found = infer_body(cx, program, declared, function, body)?;
     let scope = Scope {
         program,
         declared,

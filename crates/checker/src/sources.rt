@@ -1,6 +1,6 @@
 //! Programs from an input.
 
-use crate::check::{check, variables};
+use crate::programs::{check, variables};
 use crate::failure::Failure;
 use checker_syntax::message::Message;
 use checker_syntax::program::Program;
@@ -29,16 +29,16 @@ impl From<AllocError> for Verdict {
 }
 
 /// Reads the source of a program, and checks it.
-pub fn verdict(alloc: Global, source: &str) -> Verdict {
+pub fn verdict_of(alloc: Global, source: &str) -> Verdict {
     match read(alloc, source) {
-        Ok(program) => verdict_of(alloc, &program),
+        Ok(program) => checked(alloc, &program),
         Err(SyntaxError::Wrong(message)) => Verdict::Wrong(message),
         Err(SyntaxError::Memory) => Verdict::from(AllocError),
     }
 }
 
 // Checks the program.
-fn verdict_of(alloc: Global, program: &Program) -> Verdict {
+fn checked(alloc: Global, program: &Program) -> Verdict {
     let mut cx = match Interner::new(alloc) {
         Ok(cx) => cx,
         Err(refusal) => return Verdict::GivenUp(Failure::Refused(refusal)),
@@ -66,7 +66,7 @@ pub fn run<R: Read + Drop, W: Write + Drop>(
     mut output: W,
 ) -> io::Result<bool> {
     let source = io::read_to_string(alloc, input)?;
-    let is_accepted = match verdict(alloc, source.as_str()) {
+    let is_accepted = match verdict_of(alloc, source.as_str()) {
         Verdict::Accepted(lines) => {
             output.write_all(lines.as_bytes())?;
             output.write_all(b"accepted\n")?;

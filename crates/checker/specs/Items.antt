@@ -11,7 +11,7 @@ use Rattle.checker.specs.declared.declared.Declared.{Declared}
 
 -- all types are the interner's
 pub record IsDeclared (terms : Terms) (d : Declared) : Type 0 where
-  pub data : AreOwned ty_shape terms d.data.items
+  pub data_types : AreOwned ty_shape terms d.data_types.items
   pub written : AreOwned ty_shape terms d.written.items
   pub functions : AreOwned ty_shape terms d.functions.items
 
