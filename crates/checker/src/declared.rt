@@ -1,15 +1,12 @@
 //! The items of a program as the interner knows them.
 
-ghost use Rattle.std.specs.Prelude.{◌≡◌, IfOk, length, map};
-ghost use Rattle.tt_binder.specs.Instance.{IsPlain};
-ghost use Rattle.tt_fold.specs.Steps.{tree_in};
-ghost use Rattle.tt_kinds.specs.declared.generic_arg.GenericArgKind.TheVariants.{«Type» as TypeArg};
-ghost use Rattle.tt_kinds.specs.Kinds.{args_shape, ty_shape};
+ghost use Rattle.std.specs.Prelude.{◌<◌, IfOk};
+ghost use Rattle.tt_kinds.specs.Kinds.{arg_shape, args_shape, ty_shape};
 ghost use Rattle.tt_interner.specs.Owned.{AreOwned, IsOwned};
+ghost use Rattle.tt_interner.specs.Rows.{size};
 ghost use Rattle.tt_interner.specs.Stored.{Extends};
+ghost use Rattle.tt_kinds.specs.declared.table.Table.TheVariants.{Symbols};
 ghost use Rattle.checker.specs.Items.{IsDeclared};
-ghost use Rattle.checker.specs.Scope.{trees};
-ghost use Rattle.checker.specs.Typing.{type_arguments, AreWritten, IsWritten};
 
 use crate::failure::Failure;
 use crate::lookup::{name_of, part_of, type_at, type_before, types_before};
@@ -28,28 +25,56 @@ pub struct Declared {
 }
 
 /// Declares the items of a program, and builds its written types.
-#[tactic(auto, using(tt_interner::proofs::OwnedLaws::owned_laws, crate::proofs::ClientLaws::client_laws))]
+#[tactic(auto, using(crate::proofs::ClientLaws::extends_further))]
 pub fn declare(cx: &mut Interner, program: &Program) -> Result<Declared, Failure>
     ensures extends { Extends cx.old cx.new }
     ensures declared { IfOk result (λ d. IsDeclared cx.new d) }
-    ensures written { IfOk result (λ d. AreWritten
-        program.now
-        (trees cx.new.rows d.data_types.items)
-        (trees cx.new.rows d.written.items)) }
 {
-    let own = data_types(cx, program)?;
-    let written = written_types(cx, program, own.as_slice())?;
-    define_all(cx, program, own.as_slice(), written.as_slice())?;
+    let data_types = data_types(cx, program)?;
+    let written = written_types(cx, program, data_types.as_slice())?;
+    define_all(cx, program, data_types.as_slice(), written.as_slice())?;
     let functions = functions(cx, program, written.as_slice())?;
     Ok(Declared {
-        data_types: own,
+        data_types,
         written,
         functions,
     })
 }
 
+/// Returns the symbol of the name of this number.
+pub fn symbol_of(cx: &mut Interner, program: &Program, number: usize) -> Result<Symbol, Failure>
+    ensures extends { Extends cx.old cx.new }
+    ensures owned { IfOk result (λ symbol. symbol.number < size cx.new.rows Symbols) }
+{
+    Ok(cx.symbol(name_of(program, number)?)?)
+}
+
+// Returns the type parameter of this index and name.
+fn parameter(
+    cx: &mut Interner,
+    program: &Program,
+    index: usize,
+    name: usize,
+) -> Result<Ty, Failure>
+    ensures extends { Extends cx.old cx.new }
+    ensures owned { IfOk result (λ ty. IsOwned ty_shape cx.new ty) }
+{
+    let Ok(index) = u32::try_from(index) else {
+        return Err(Failure::Malformed);
+    };
+    Ok(cx.mk_param(index, name_of(program, name)?)?)
+}
+
+/// Returns the type as an argument.
+pub fn argument(cx: &Interner, ty: Ty) -> GenericArg
+    requires { IsOwned ty_shape cx.now ty }
+    ensures { IsOwned arg_shape cx.now result }
+{
+    GenericArg::from(ty)
+}
+
 // Returns the parameters of an item as arguments for itself.
-#[tactic(auto, using(tt_interner::proofs::OwnedLaws::owned_laws, crate::proofs::ClientLaws::client_laws))]
+#[tactic(auto, using(crate::proofs::ClientLaws::extends_further))]
 fn own_params(
     cx: &mut Interner,
     program: &Program,
@@ -59,18 +84,24 @@ fn own_params(
     ensures owned { IfOk result (λ args. IsOwned args_shape cx.new args) }
 {
     let mut args = Vec::new(cx.allocator());
-    for (index, name) in params.iter().enumerate() {
-        let Ok(index) = u32::try_from(index) else {
-            return Err(Failure::Malformed);
-        };
-        let param = cx.mk_param(index, name_of(program, *name)?)?;
-        args.push(GenericArg::from(param))?;
+    for index in 0..params.len() {
+        let ty = parameter(cx, program, index, params[index])?;
+        args.push(argument(cx, ty))?;
     }
-    Ok(cx.mk_args(args.as_slice())?)
+    listed(cx, args.as_slice())
+}
+
+/// Returns the list of these arguments.
+pub fn listed(cx: &mut Interner, args: &[GenericArg]) -> Result<GenericArgs, Failure>
+    requires { AreOwned arg_shape cx.old args.now }
+    ensures extends { Extends cx.old cx.new }
+    ensures owned { IfOk result (λ args. IsOwned args_shape cx.new args) }
+{
+    Ok(cx.mk_args(args)?)
 }
 
 // Declares the data types, and returns them at their own parameters.
-#[tactic(auto, using(tt_interner::proofs::OwnedLaws::owned_laws, crate::proofs::ClientLaws::client_laws))]
+#[tactic(auto, using(crate::proofs::ClientLaws::extends_further))]
 fn data_types(cx: &mut Interner, program: &Program) -> Result<Vec<Ty>, Failure>
     ensures extends { Extends cx.old cx.new }
     ensures owned { IfOk result (λ types. AreOwned ty_shape cx.new types.items) }
@@ -83,27 +114,40 @@ fn data_types(cx: &mut Interner, program: &Program) -> Result<Vec<Ty>, Failure>
 }
 
 // Declares a data type, and returns it at its own parameters.
-#[tactic(auto, using(tt_interner::proofs::OwnedLaws::owned_laws, crate::proofs::ClientLaws::client_laws))]
+#[tactic(auto, using(crate::proofs::ClientLaws::extends_further))]
 fn data_type(cx: &mut Interner, program: &Program, item: &DataType) -> Result<Ty, Failure>
     ensures extends { Extends cx.old cx.new }
     ensures owned { IfOk result (λ ty. IsOwned ty_shape cx.new ty) }
 {
-    let name = cx.symbol(name_of(program, item.name)?)?;
-    let id = cx.declare_adt(name)?;
+    let name = symbol_of(cx, program, item.name)?;
+    let id = declared_adt(cx, name)?;
     let args = own_params(cx, program, item.params.as_slice())?;
+    adt(cx, id, args)
+}
+
+// Declares a data type of this name.
+fn declared_adt(cx: &mut Interner, name: Symbol) -> Result<AdtId, Failure>
+    requires { name.number < size cx.old.rows Symbols }
+    ensures { Extends cx.old cx.new }
+{
+    Ok(cx.declare_adt(name)?)
+}
+
+// Returns the data type of this id at these arguments.
+fn adt(cx: &mut Interner, id: AdtId, args: GenericArgs) -> Result<Ty, Failure>
+    requires { IsOwned args_shape cx.old args }
+    ensures extends { Extends cx.old cx.new }
+    ensures owned { IfOk result (λ ty. IsOwned ty_shape cx.new ty) }
+{
     Ok(cx.mk_ty(TyKind::Adt(id, args))?)
 }
 
 // Returns the written types.
-#[tactic(auto, using(tt_interner::proofs::OwnedLaws::owned_laws, crate::proofs::ClientLaws::client_laws))]
+#[tactic(auto, using(crate::proofs::ClientLaws::extends_further))]
 fn written_types(cx: &mut Interner, program: &Program, own: &[Ty]) -> Result<Vec<Ty>, Failure>
     requires { AreOwned ty_shape cx.old own.now }
     ensures extends { Extends cx.old cx.new }
     ensures owned { IfOk result (λ types. AreOwned ty_shape cx.new types.items) }
-    ensures written { IfOk result (λ types. AreWritten
-        program.now
-        (trees cx.old.rows own.now)
-        (trees cx.new.rows types.items)) }
 {
     let mut types = Vec::new(cx.allocator());
     for index in 0..program.types.len() {
@@ -115,7 +159,7 @@ fn written_types(cx: &mut Interner, program: &Program, own: &[Ty]) -> Result<Vec
 }
 
 // Returns a written type, whose parts are among the earlier ones.
-#[tactic(auto, using(tt_interner::proofs::OwnedLaws::owned_laws, crate::proofs::ClientLaws::client_laws))]
+#[tactic(auto, using(crate::proofs::ClientLaws::extends_further))]
 fn written_type(
     cx: &mut Interner,
     program: &Program,
@@ -127,25 +171,13 @@ fn written_type(
     requires earlier { AreOwned ty_shape cx.old earlier.now }
     ensures extends { Extends cx.old cx.new }
     ensures owned { IfOk result (λ ty. IsOwned ty_shape cx.new ty) }
-    ensures written { IfOk result (λ ty. IsWritten
-        program.now
-        (trees cx.old.rows own.now)
-        (trees cx.old.rows earlier.now)
-        (length earlier.now)
-        (tree_in cx.new.rows (ty_shape ty))
-        written) }
 {
     match written {
         WrittenType::Int => Ok(cx.mk_ty(TyKind::Int(IntTy::I32))?),
         WrittenType::Bool => Ok(cx.mk_ty(TyKind::Bool)?),
         WrittenType::Char => Ok(cx.mk_ty(TyKind::Char)?),
         WrittenType::Str => Ok(cx.mk_ty(TyKind::Str)?),
-        WrittenType::Param(number, name) => {
-            let Ok(index) = u32::try_from(number) else {
-                return Err(Failure::Malformed);
-            };
-            Ok(cx.mk_param(index, name_of(program, name)?)?)
-        }
+        WrittenType::Param(index, name) => parameter(cx, program, index, name),
         WrittenType::Data(number, args) => {
             let Some(item) = program.data.get(number) else {
                 return Err(Failure::Malformed);
@@ -170,36 +202,44 @@ fn written_type(
 }
 
 // Returns the data type at these arguments.
-#[tactic(auto, using(tt_interner::proofs::OwnedLaws::owned_laws, crate::proofs::ClientLaws::client_laws))]
+#[tactic(auto, using(crate::proofs::ClientLaws::extends_further))]
 fn applied(cx: &mut Interner, own: Ty, types: &[Ty]) -> Result<Ty, Failure>
     requires own { IsOwned ty_shape cx.old own }
     requires types { AreOwned ty_shape cx.old types.now }
     ensures extends { Extends cx.old cx.new }
     ensures owned { IfOk result (λ ty. IsOwned ty_shape cx.new ty) }
-    ensures plain { IfOk result (λ ty. IsPlain
-        (type_arguments (trees cx.old.rows types.now))
-        (tree_in cx.old.rows (ty_shape own))
-        (tree_in cx.new.rows (ty_shape ty))) }
 {
     let args = arguments_of(cx, types)?;
-    let instance = EarlyBinder::bind(own).instantiate(cx, args.as_slice())?;
+    let args = listed(cx, args.as_slice())?;
+    instance_of(cx, own, args)
+}
+
+/// Returns the type with its parameters replaced by these arguments.
+pub fn instance_of(cx: &mut Interner, ty: Ty, args: GenericArgs) -> Result<Ty, Failure>
+    requires ty { IsOwned ty_shape cx.old ty }
+    requires args { IsOwned args_shape cx.old args }
+    ensures extends { Extends cx.old cx.new }
+    ensures owned { IfOk result (λ ty. IsOwned ty_shape cx.new ty) }
+{
+    let instance = EarlyBinder::bind(ty).instantiate(cx, args)?;
     Ok(instance.skip_norm_wip())
 }
 
 // Returns the types as arguments.
 fn arguments_of(cx: &Interner, types: &[Ty]) -> Result<Vec<GenericArg>, Failure>
     requires { AreOwned ty_shape cx.now types.now }
-    ensures { IfOk result (λ args. args.items ≡ map TypeArg types.now) }
+    ensures { IfOk result (λ args. AreOwned arg_shape cx.now args.items) }
 {
     let mut args = Vec::new(cx.allocator());
-    for ty in types.iter() {
-        args.push(GenericArg::from(*ty))?;
+    for index in 0..types.len() {
+        let ty = type_at(cx, types, index)?;
+        args.push(argument(cx, ty))?;
     }
     Ok(args)
 }
 
 // Gives the data types their fields.
-#[tactic(auto, using(tt_interner::proofs::OwnedLaws::owned_laws, crate::proofs::ClientLaws::client_laws))]
+#[tactic(auto, using(crate::proofs::ClientLaws::extends_further))]
 fn define_all(
     cx: &mut Interner,
     program: &Program,
@@ -212,25 +252,17 @@ fn define_all(
 {
     for (number, item) in program.data.iter().enumerate() {
         let ty = type_at(cx, own, number)?;
-        define(cx, program, item, ty, written)?;
+        let fields = field_defs(cx, program, item, written)?;
+        define(cx, ty, fields)?;
     }
     Ok(())
 }
 
-// Gives a data type its fields.
-#[tactic(auto, using(tt_interner::proofs::OwnedLaws::owned_laws, crate::proofs::ClientLaws::client_laws))]
-fn define(
-    cx: &mut Interner,
-    program: &Program,
-    item: &DataType,
-    ty: Ty,
-    written: &[Ty],
-) -> Result<(), Failure>
-    requires ty { IsOwned ty_shape cx.old ty }
-    requires written { AreOwned ty_shape cx.old written.now }
+// Gives a data type these fields.
+fn define(cx: &mut Interner, ty: Ty, fields: Vec<FieldDef>) -> Result<(), Failure>
+    requires { IsOwned ty_shape cx.old ty }
     ensures { Extends cx.old cx.new }
 {
-    let fields = field_defs(cx, program, item, written)?;
     let mut variants = Vec::new(cx.allocator());
     variants.push(VariantDef { name: None, fields })?;
     let TyKind::Adt(id, _) = *ty.kind(cx) else {
@@ -246,7 +278,7 @@ fn define(
 }
 
 // Returns the fields of a data type.
-#[tactic(auto, using(tt_interner::proofs::OwnedLaws::owned_laws, crate::proofs::ClientLaws::client_laws))]
+#[tactic(auto, using(crate::proofs::ClientLaws::extends_further))]
 fn field_defs(
     cx: &mut Interner,
     program: &Program,
@@ -258,15 +290,15 @@ fn field_defs(
 {
     let mut fields = Vec::new(cx.allocator());
     for field in item.fields.iter() {
-        let name = cx.symbol(name_of(program, field.name)?)?;
         let ty = type_at(cx, written, field.ty)?;
+        let name = symbol_of(cx, program, field.name)?;
         fields.push(FieldDef { name, ty })?;
     }
     Ok(fields)
 }
 
 // Declares the functions, and returns their types at their own parameters.
-#[tactic(auto, using(tt_interner::proofs::OwnedLaws::owned_laws, crate::proofs::ClientLaws::client_laws))]
+#[tactic(auto, using(crate::proofs::ClientLaws::extends_further))]
 fn functions(cx: &mut Interner, program: &Program, written: &[Ty]) -> Result<Vec<Ty>, Failure>
     requires { AreOwned ty_shape cx.old written.now }
     ensures extends { Extends cx.old cx.new }
@@ -280,7 +312,7 @@ fn functions(cx: &mut Interner, program: &Program, written: &[Ty]) -> Result<Vec
 }
 
 // Declares a function, and returns its type at its own parameters.
-#[tactic(auto, using(tt_interner::proofs::OwnedLaws::owned_laws, crate::proofs::ClientLaws::client_laws))]
+#[tactic(auto, using(crate::proofs::ClientLaws::extends_further))]
 fn function(
     cx: &mut Interner,
     program: &Program,
@@ -292,17 +324,13 @@ fn function(
     ensures owned { IfOk result (λ ty. IsOwned ty_shape cx.new ty) }
 {
     let sig = signature(cx, item, written)?;
-    let name = cx.symbol(name_of(program, item.name)?)?;
-    if !cx.owns_signature(&sig) {
-        return Err(Failure::Malformed);
-    }
-    let id = cx.declare_function(name, EarlyBinder::bind(sig))?;
+    let name = symbol_of(cx, program, item.name)?;
+    let id = declared_fn(cx, name, sig)?;
     let args = own_params(cx, program, item.params.as_slice())?;
-    Ok(cx.mk_ty(TyKind::FnDef(id, args))?)
+    fn_def(cx, id, args)
 }
 
 // Returns the signature of a function.
-#[tactic(auto, using(tt_interner::proofs::OwnedLaws::owned_laws, crate::proofs::ClientLaws::client_laws))]
 fn signature(
     cx: &mut Interner,
     item: &Function,
@@ -311,11 +339,45 @@ fn signature(
     requires { AreOwned ty_shape cx.old written.now }
     ensures { Extends cx.old cx.new }
 {
-    let mut types = types_before(cx, written, written.len(), item.inputs.as_slice())?;
-    types.push(type_at(cx, written, item.output)?)?;
+    let types = signature_types(cx, item, written)?;
     let sig = FnSig {
         inputs_and_output: cx.mk_tys(types.as_slice())?,
         fn_sig_kind: FnSigKind::new(ExternAbi::Rust, Safety::Safe, false),
     };
     Ok(Binder::bind_with_vars(sig, BoundVarKinds::default()))
+}
+
+// Returns the types of a function's inputs in order, and last its output's.
+#[tactic(auto, using(tt_interner::proofs::OwnedLaws::owned_laws))]
+fn signature_types(cx: &Interner, item: &Function, written: &[Ty]) -> Result<Vec<Ty>, Failure>
+    requires { AreOwned ty_shape cx.now written.now }
+    ensures { IfOk result (λ types. AreOwned ty_shape cx.now types.items) }
+{
+    let mut types = types_before(cx, written, written.len(), item.inputs.as_slice())?;
+    types.push(type_at(cx, written, item.output)?)?;
+    Ok(types)
+}
+
+// Declares a function of this name and signature.
+fn declared_fn(
+    cx: &mut Interner,
+    name: Symbol,
+    sig: Binder<FnSig>,
+) -> Result<FunctionId, Failure>
+    requires { name.number < size cx.old.rows Symbols }
+    ensures { Extends cx.old cx.new }
+{
+    if !cx.owns_signature(&sig) {
+        return Err(Failure::Malformed);
+    }
+    Ok(cx.declare_function(name, EarlyBinder::bind(sig))?)
+}
+
+// Returns the type of the function of this id at these arguments.
+fn fn_def(cx: &mut Interner, id: FunctionId, args: GenericArgs) -> Result<Ty, Failure>
+    requires { IsOwned args_shape cx.old args }
+    ensures extends { Extends cx.old cx.new }
+    ensures owned { IfOk result (λ ty. IsOwned ty_shape cx.new ty) }
+{
+    Ok(cx.mk_ty(TyKind::FnDef(id, args))?)
 }

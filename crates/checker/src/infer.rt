@@ -17,9 +17,10 @@ ghost use Rattle.checker.specs.Scope.{IsScope};
 use crate::built::built;
 use crate::declared::Declared;
 use crate::failure::Failure;
+use crate::lookup::{at, type_at};
 use crate::scope::{Scope, operand, place_of, type_of, written};
 use crate::wording::unknown_type;
-use checker_syntax::program::{Body, Expression, Function, Program};
+use checker_syntax::program::{Body, Expression, Function, Place, Program};
 use equality::{equate, fresh_variable, is_of};
 use type_terms::prelude::*;
 use unify::Bindings;
@@ -34,7 +35,7 @@ pub struct Inferred {
 }
 
 /// Infers the types of a function's body.
-#[tactic(auto, using(tt_interner::proofs::OwnedLaws::owned_laws, crate::proofs::ClientLaws::client_laws, crate::proofs::ScopeLaws::scope_laws))]
+#[tactic(auto, using(crate::proofs::ClientLaws::extends_further))]
 pub fn infer_body(
     cx: &mut Interner,
     program: &Program,
@@ -56,23 +57,49 @@ pub fn infer_body(
         body,
         types: variables.as_slice(),
     };
-    let subjects = infer_all(cx, scope, &mut bindings)?;
-    let output = written(cx, scope, function.output)?;
-    let result = type_of(cx, scope, body.result)?;
-    equate(
-        cx,
-        &mut bindings,
-        place_of(scope, body.result)?,
-        output,
-        result,
-    )?;
-    let types = resolved(cx, scope, &bindings, variables.as_slice())?;
-    let subjects = resolved(cx, scope, &bindings, subjects.as_slice())?;
+    infer_within(cx, scope, &mut bindings)
+}
+
+// Infers the types of a body whose expressions have variables.
+#[tactic(auto, using(crate::proofs::ClientLaws::extends_further))]
+fn infer_within(
+    cx: &mut Interner,
+    scope: Scope<'_>,
+    bindings: &mut Bindings,
+) -> Result<Inferred, Failure>
+    requires scope { IsScope cx.old scope }
+    requires table { IsTable cx.old bindings.old }
+    ensures extends { Extends cx.old cx.new }
+    ensures types { IfOk result (λ i. AreOwned ty_shape cx.new i.types.items) }
+    ensures subjects { IfOk result (λ i. AreOwned ty_shape cx.new i.subjects.items) }
+{
+    let subjects = infer_all(cx, scope, bindings)?;
+    infer_result(cx, scope, bindings)?;
+    let types = resolved(cx, scope, bindings, scope.types)?;
+    let subjects = resolved(cx, scope, bindings, subjects.as_slice())?;
     Ok(Inferred { types, subjects })
 }
 
+// Makes the type of the result equal to the function's output.
+#[tactic(auto, using(crate::proofs::ClientLaws::extends_further))]
+fn infer_result(
+    cx: &mut Interner,
+    scope: Scope<'_>,
+    bindings: &mut Bindings,
+) -> Result<(), Failure>
+    requires scope { IsScope cx.old scope }
+    requires table { IsTable cx.old bindings.old }
+    ensures extends { Extends cx.old cx.new }
+    ensures table { IsTable cx.new bindings.new }
+{
+    let output = written(cx, scope, scope.function.output)?;
+    let result = type_of(cx, scope, scope.body.result)?;
+    let place = place_of(scope, scope.body.result)?;
+    equate(cx, bindings, place, output, result)
+}
+
 // Returns so many new variables.
-#[tactic(auto, using(tt_interner::proofs::OwnedLaws::owned_laws, crate::proofs::ClientLaws::client_laws, crate::proofs::ScopeLaws::scope_laws))]
+#[tactic(auto, using(crate::proofs::ClientLaws::extends_further))]
 fn fresh_variables(
     cx: &mut Interner,
     bindings: &mut Bindings,
@@ -91,7 +118,7 @@ fn fresh_variables(
 }
 
 // Infers the types of all expressions, and returns their subjects.
-#[tactic(auto, using(tt_interner::proofs::OwnedLaws::owned_laws, crate::proofs::ClientLaws::client_laws, crate::proofs::ScopeLaws::scope_laws))]
+#[tactic(auto, using(crate::proofs::ClientLaws::extends_further))]
 fn infer_all(
     cx: &mut Interner,
     scope: Scope<'_>,
@@ -104,14 +131,15 @@ fn infer_all(
     ensures owned { IfOk result (λ types. AreOwned ty_shape cx.new types.items) }
 {
     let mut subjects = Vec::new(cx.allocator());
-    for (number, expression) in scope.body.expressions.iter().enumerate() {
-        subjects.push(infer(cx, scope, bindings, number, *expression)?)?;
+    for number in 0..scope.body.expressions.len() {
+        let expression = at(scope.body.expressions.as_slice(), number)?;
+        subjects.push(infer(cx, scope, bindings, number, expression)?)?;
     }
     Ok(subjects)
 }
 
 // Returns the types with the variables replaced, which have to be known.
-#[tactic(auto, using(tt_interner::proofs::OwnedLaws::owned_laws, crate::proofs::ClientLaws::client_laws, crate::proofs::ScopeLaws::scope_laws))]
+#[tactic(auto, using(crate::proofs::ClientLaws::extends_further))]
 fn resolved(
     cx: &mut Interner,
     scope: Scope<'_>,
@@ -125,8 +153,9 @@ fn resolved(
     ensures owned { IfOk result (λ known. AreOwned ty_shape cx.new known.items) }
 {
     let mut known = Vec::new(cx.allocator());
-    for (number, ty) in types.iter().enumerate() {
-        let ty = bindings.resolve(cx, *ty)?;
+    for number in 0..types.len() {
+        let ty = type_at(cx, types, number)?;
+        let ty = bindings.resolve(cx, ty)?;
         if ty.has_infer(cx) {
             let message = unknown_type(cx, bindings, place_of(scope, number)?, ty)?;
             return Err(Failure::Wrong(message));
@@ -137,7 +166,7 @@ fn resolved(
 }
 
 // Infers the type of the expression of this number, and returns its subject.
-#[tactic(auto, using(tt_interner::proofs::OwnedLaws::owned_laws, crate::proofs::ClientLaws::client_laws, crate::proofs::ScopeLaws::scope_laws))]
+#[tactic(auto, using(crate::proofs::ClientLaws::extends_further))]
 fn infer(
     cx: &mut Interner,
     scope: Scope<'_>,
@@ -157,9 +186,7 @@ fn infer(
             infer_let(cx, scope, bindings, number, init, annotation)?;
         }
         Expression::Dereference(value) => {
-            let expected = cx.mk_ref(Region::new_erased(), ty, Mutability::Not)?;
-            let found = operand(cx, scope, number, value)?;
-            equate(cx, bindings, place_of(scope, value)?, expected, found)?;
+            infer_dereference(cx, scope, bindings, number, value)?;
         }
         Expression::Call(function, arguments) => {
             return calls::infer_call(cx, scope, bindings, number, function, arguments);
@@ -173,16 +200,61 @@ fn infer(
         Expression::Item(value, item) => {
             projections::infer_item(cx, scope, bindings, number, value, item)?;
         }
-        _ => {
-            let ty = built(cx, scope, number, expression)?;
-            is_of(cx, scope, bindings, number, ty)?;
-        }
+        _ => infer_built(cx, scope, bindings, number, expression)?,
     }
     Ok(ty)
 }
 
+// Infers the type of an expression whose type is built of its operands' types.
+#[tactic(auto, using(crate::proofs::ClientLaws::extends_further))]
+fn infer_built(
+    cx: &mut Interner,
+    scope: Scope<'_>,
+    bindings: &mut Bindings,
+    number: usize,
+    expression: Expression,
+) -> Result<(), Failure>
+    requires scope { IsScope cx.old scope }
+    requires table { IsTable cx.old bindings.old }
+    ensures extends { Extends cx.old cx.new }
+    ensures table { IsTable cx.new bindings.new }
+{
+    let ty = built(cx, scope, number, expression)?;
+    is_of(cx, scope, bindings, number, ty)
+}
+
+// Infers the type of what a reference refers to.
+#[tactic(auto, using(crate::proofs::ClientLaws::extends_further))]
+fn infer_dereference(
+    cx: &mut Interner,
+    scope: Scope<'_>,
+    bindings: &mut Bindings,
+    number: usize,
+    value: usize,
+) -> Result<(), Failure>
+    requires scope { IsScope cx.old scope }
+    requires table { IsTable cx.old bindings.old }
+    ensures extends { Extends cx.old cx.new }
+    ensures table { IsTable cx.new bindings.new }
+{
+    let ty = type_of(cx, scope, number)?;
+    let found = operand(cx, scope, number, value)?;
+    let place = place_of(scope, value)?;
+    let expected = reference_to(cx, ty)?;
+    equate(cx, bindings, place, expected, found)
+}
+
+// Returns the reference to this type.
+fn reference_to(cx: &mut Interner, ty: Ty) -> Result<Ty, Failure>
+    requires { IsOwned ty_shape cx.old ty }
+    ensures extends { Extends cx.old cx.new }
+    ensures owned { IfOk result (λ ty. IsOwned ty_shape cx.new ty) }
+{
+    Ok(cx.mk_ref(Region::new_erased(), ty, Mutability::Not)?)
+}
+
 // Infers the type of a variable, which is the type that is written, if there is one, and its value's.
-#[tactic(auto, using(tt_interner::proofs::OwnedLaws::owned_laws, crate::proofs::ClientLaws::client_laws, crate::proofs::ScopeLaws::scope_laws))]
+#[tactic(auto, using(crate::proofs::ClientLaws::extends_further))]
 fn infer_let(
     cx: &mut Interner,
     scope: Scope<'_>,
@@ -197,9 +269,32 @@ fn infer_let(
     ensures table { IsTable cx.new bindings.new }
 {
     let found = operand(cx, scope, number, init)?;
-    if let Some(annotation) = annotation {
-        let expected = written(cx, scope, annotation)?;
-        equate(cx, bindings, place_of(scope, init)?, expected, found)?;
-    }
+    let place = place_of(scope, init)?;
+    equate_written(cx, scope, bindings, place, annotation, found)?;
     is_of(cx, scope, bindings, number, found)
+}
+
+// Makes the type equal to the written one, if there is one.
+#[tactic(auto, using(crate::proofs::ClientLaws::extends_further))]
+fn equate_written(
+    cx: &mut Interner,
+    scope: Scope<'_>,
+    bindings: &mut Bindings,
+    place: Place,
+    annotation: Option<usize>,
+    found: Ty,
+) -> Result<(), Failure>
+    requires scope { IsScope cx.old scope }
+    requires table { IsTable cx.old bindings.old }
+    requires found { IsOwned ty_shape cx.old found }
+    ensures extends { Extends cx.old cx.new }
+    ensures table { IsTable cx.new bindings.new }
+{
+    match annotation {
+        Some(annotation) => {
+            let expected = written(cx, scope, annotation)?;
+            equate(cx, bindings, place, expected, found)
+        }
+        None => Ok(()),
+    }
 }

@@ -27,7 +27,7 @@ pub struct Checked {
 }
 
 /// Checks a program, and returns its types.
-#[tactic(auto, using(tt_interner::proofs::OwnedLaws::owned_laws, crate::proofs::ClientLaws::client_laws))]
+#[tactic(auto, using(crate::proofs::ClientLaws::extends_further))]
 pub fn check(cx: &mut Interner, program: &Program) -> Result<Checked, Failure>
     ensures extends { Extends cx.old cx.new }
     ensures owned { IfOk result (λ checked. AreTyped cx.new checked.bodies.items) }
@@ -41,7 +41,7 @@ pub fn check(cx: &mut Interner, program: &Program) -> Result<Checked, Failure>
 }
 
 // Returns the types of the function's expressions.
-#[tactic(auto, using(tt_interner::proofs::OwnedLaws::owned_laws, crate::proofs::ClientLaws::client_laws))]
+#[tactic(auto, using(crate::proofs::ClientLaws::extends_further))]
 fn types_of(
     cx: &mut Interner,
     program: &Program,
@@ -68,7 +68,7 @@ fn types_of(
 }
 
 /// Returns a line for each variable of the program: the place of its `let`, and its type.
-#[tactic(auto, using(tt_interner::proofs::OwnedLaws::owned_laws, crate::proofs::ClientLaws::client_laws))]
+#[tactic(auto, using(crate::proofs::ClientLaws::extends_further))]
 pub fn variables(cx: &Interner, program: &Program, bodies: &[Vec<Ty>]) -> Result<String, Failure>
     requires { AreTyped cx.now bodies.now }
 {

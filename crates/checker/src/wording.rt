@@ -56,7 +56,7 @@ fn shown_letter(shown: &mut String, hidden: Hidden, letter: char) -> Result<Hidd
 }
 
 // Returns the text of the type with its variables replaced.
-#[tactic(auto, using(tt_interner::proofs::OwnedLaws::owned_laws, crate::proofs::ClientLaws::client_laws))]
+#[tactic(auto, using(crate::proofs::ClientLaws::extends_further))]
 fn shown(cx: &mut Interner, bindings: &Bindings, ty: Ty) -> Result<String, Failure>
     requires table { IsTable cx.old bindings.now }
     requires ty { IsOwned ty_shape cx.old ty }
@@ -68,7 +68,7 @@ fn shown(cx: &mut Interner, bindings: &Bindings, ty: Ty) -> Result<String, Failu
 }
 
 /// Returns what to say where a type was found in place of another one.
-#[tactic(auto, using(tt_interner::proofs::OwnedLaws::owned_laws, crate::proofs::ClientLaws::client_laws))]
+#[tactic(auto, using(crate::proofs::ClientLaws::extends_further))]
 pub fn mismatch(
     cx: &mut Interner,
     bindings: &Bindings,
@@ -80,7 +80,8 @@ pub fn mismatch(
     requires table { IsTable cx.old bindings.now }
     requires expected { IsOwned ty_shape cx.old expected }
     requires found { IsOwned ty_shape cx.old found }
-    ensures { Extends cx.old cx.new }
+    ensures extends { Extends cx.old cx.new }
+    ensures table { IsTable cx.new bindings.now }
 {
     let expected = shown(cx, bindings, expected)?;
     let found = shown(cx, bindings, found)?;
@@ -93,7 +94,7 @@ pub fn mismatch(
 }
 
 /// Returns what to say where a type isn't known.
-#[tactic(auto, using(tt_interner::proofs::OwnedLaws::owned_laws, crate::proofs::ClientLaws::client_laws))]
+#[tactic(auto, using(crate::proofs::ClientLaws::extends_further))]
 pub fn unknown_type(
     cx: &mut Interner,
     bindings: &Bindings,
@@ -102,7 +103,8 @@ pub fn unknown_type(
 ) -> Result<Message, Failure>
     requires table { IsTable cx.old bindings.now }
     requires ty { IsOwned ty_shape cx.old ty }
-    ensures { Extends cx.old cx.new }
+    ensures extends { Extends cx.old cx.new }
+    ensures table { IsTable cx.new bindings.now }
 {
     let known = shown(cx, bindings, ty)?;
     let mut text = String::new(cx.allocator());
@@ -114,7 +116,7 @@ pub fn unknown_type(
 }
 
 /// Returns what to say where a type has no field of this name.
-#[tactic(auto, using(tt_interner::proofs::OwnedLaws::owned_laws, crate::proofs::ClientLaws::client_laws))]
+#[tactic(auto, using(crate::proofs::ClientLaws::extends_further))]
 pub fn no_field(
     cx: &mut Interner,
     bindings: &Bindings,
@@ -124,7 +126,8 @@ pub fn no_field(
 ) -> Result<Message, Failure>
     requires table { IsTable cx.old bindings.now }
     requires ty { IsOwned ty_shape cx.old ty }
-    ensures { Extends cx.old cx.new }
+    ensures extends { Extends cx.old cx.new }
+    ensures table { IsTable cx.new bindings.now }
 {
     let ty = shown(cx, bindings, ty)?;
     let mut text = String::new(cx.allocator());
@@ -133,7 +136,7 @@ pub fn no_field(
 }
 
 /// Returns what to say where a type has no item of this number.
-#[tactic(auto, using(tt_interner::proofs::OwnedLaws::owned_laws, crate::proofs::ClientLaws::client_laws))]
+#[tactic(auto, using(crate::proofs::ClientLaws::extends_further))]
 pub fn no_item(
     cx: &mut Interner,
     bindings: &Bindings,
@@ -143,7 +146,8 @@ pub fn no_item(
 ) -> Result<Message, Failure>
     requires table { IsTable cx.old bindings.now }
     requires ty { IsOwned ty_shape cx.old ty }
-    ensures { Extends cx.old cx.new }
+    ensures extends { Extends cx.old cx.new }
+    ensures table { IsTable cx.new bindings.now }
 {
     let ty = shown(cx, bindings, ty)?;
     let mut text = String::new(cx.allocator());

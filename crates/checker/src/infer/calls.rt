@@ -1,24 +1,27 @@
 //! Calls and data type expressions, whose type arguments are inferred.
 
 ghost use Rattle.std.specs.Prelude.{IfOk};
-ghost use Rattle.tt_kinds.specs.Kinds.{ty_shape};
+ghost use Rattle.tt_kinds.specs.Kinds.{arg_shape, ty_shape};
 ghost use Rattle.tt_interner.specs.Owned.{AreOwned, IsOwned};
 ghost use Rattle.tt_interner.specs.Stored.{Extends};
 ghost use Rattle.unify.specs.Bindings.{IsTable};
+ghost use Rattle.checker.specs.Items.{AreOwnedFields};
 ghost use Rattle.checker.specs.Scope.{IsScope};
 ghost use Rattle.tt_kinds.specs.Values.{fn_sig_shape};
 
+use crate::declared::{argument, instance_of, listed};
 use crate::failure::Failure;
 use crate::infer::equality::{equate, fresh_variable, is_of};
 use crate::lookup::{at, part_of, type_at};
 use crate::scope::{Scope, operand, place_of};
 use crate::wording::wrong_count;
 use checker_syntax::program::Span;
+use type_terms::FieldInfo;
 use type_terms::prelude::*;
 use unify::Bindings;
 
 // Returns the type with new variables for this many parameters.
-#[tactic(auto, using(tt_interner::proofs::OwnedLaws::owned_laws, crate::proofs::ClientLaws::client_laws, crate::proofs::ScopeLaws::scope_laws))]
+#[tactic(auto, using(crate::proofs::ClientLaws::extends_further))]
 fn fresh_instance(
     cx: &mut Interner,
     bindings: &mut Bindings,
@@ -33,14 +36,25 @@ fn fresh_instance(
 {
     let mut args = Vec::new(cx.allocator());
     for _ in 0..params {
-        args.push(GenericArg::from(fresh_variable(cx, bindings)?))?;
+        args.push(fresh_argument(cx, bindings)?)?;
     }
-    let instance = EarlyBinder::bind(ty).instantiate(cx, args.as_slice())?;
-    Ok(instance.skip_norm_wip())
+    let args = listed(cx, args.as_slice())?;
+    instance_of(cx, ty, args)
+}
+
+// Returns a new variable as an argument.
+fn fresh_argument(cx: &mut Interner, bindings: &mut Bindings) -> Result<GenericArg, Failure>
+    requires { IsTable cx.old bindings.old }
+    ensures extends { Extends cx.old cx.new }
+    ensures table { IsTable cx.new bindings.new }
+    ensures owned { IfOk result (λ arg. IsOwned arg_shape cx.new arg) }
+{
+    let ty = fresh_variable(cx, bindings)?;
+    Ok(argument(cx, ty))
 }
 
 // Makes the types of the operands equal to those that are expected, in order.
-#[tactic(auto, using(tt_interner::proofs::OwnedLaws::owned_laws, crate::proofs::ClientLaws::client_laws, crate::proofs::ScopeLaws::scope_laws))]
+#[tactic(auto, using(crate::proofs::ClientLaws::extends_further))]
 fn equate_each(
     cx: &mut Interner,
     scope: Scope<'_>,
@@ -49,20 +63,23 @@ fn equate_each(
     expected: &[Ty],
     operands: &[usize],
 ) -> Result<(), Failure>
+    requires scope { IsScope cx.old scope }
     requires table { IsTable cx.old bindings.old }
     requires expected { AreOwned ty_shape cx.old expected.now }
     ensures extends { Extends cx.old cx.new }
     ensures table { IsTable cx.new bindings.new }
 {
-    for (expected, value) in expected.iter().zip(operands.iter()) {
-        let found = operand(cx, scope, number, *value)?;
-        equate(cx, bindings, place_of(scope, *value)?, *expected, found)?;
+    for index in 0..operands.len() {
+        let value = operands[index];
+        let found = operand(cx, scope, number, value)?;
+        let expected = type_at(cx, expected, index)?;
+        equate(cx, bindings, place_of(scope, value)?, expected, found)?;
     }
     Ok(())
 }
 
 /// Infers the type of a call, and the type arguments of the function, and returns the type of the function at these.
-#[tactic(auto, using(tt_interner::proofs::OwnedLaws::owned_laws, crate::proofs::ClientLaws::client_laws, crate::proofs::ScopeLaws::scope_laws))]
+#[tactic(auto, using(crate::proofs::ClientLaws::extends_further))]
 pub fn infer_call(
     cx: &mut Interner,
     scope: Scope<'_>,
@@ -95,7 +112,7 @@ pub fn infer_call(
 }
 
 // Returns the types of the inputs and of the output of a function's type.
-#[tactic(auto, using(tt_interner::proofs::OwnedLaws::owned_laws, crate::proofs::ClientLaws::client_laws, crate::proofs::ScopeLaws::scope_laws))]
+#[tactic(auto, using(crate::proofs::ClientLaws::extends_further))]
 fn signature(cx: &mut Interner, item: Ty) -> Result<(Vec<Ty>, Ty), Failure>
     requires { IsOwned ty_shape cx.old item }
     ensures extends { Extends cx.old cx.new }
@@ -116,21 +133,20 @@ fn signature(cx: &mut Interner, item: Ty) -> Result<(Vec<Ty>, Ty), Failure>
 }
 
 // Returns the types of a signature's inputs.
-#[tactic(auto, using(tt_interner::proofs::OwnedLaws::owned_laws, crate::proofs::ClientLaws::client_laws, crate::proofs::ScopeLaws::scope_laws))]
 fn inputs_of(cx: &Interner, sig: FnSig) -> Result<Vec<Ty>, Failure>
     requires { IsOwned fn_sig_shape cx.now sig }
     ensures { IfOk result (λ inputs. AreOwned ty_shape cx.now inputs.items) }
 {
     let types = sig.inputs_and_output.as_slice(cx);
     let mut inputs = Vec::new(cx.allocator());
-    if let [first @ .., _] = types {
-        inputs.extend_from_slice(first)?;
+    for index in 1..types.len() {
+        inputs.push(type_at(cx, types, index - 1)?)?;
     }
     Ok(inputs)
 }
 
 /// Infers the type of a data type expression, and the type arguments of the data type.
-#[tactic(auto, using(tt_interner::proofs::OwnedLaws::owned_laws, crate::proofs::ClientLaws::client_laws, crate::proofs::ScopeLaws::scope_laws))]
+#[tactic(auto, using(crate::proofs::ClientLaws::extends_further))]
 pub fn infer_data(
     cx: &mut Interner,
     scope: Scope<'_>,
@@ -159,19 +175,37 @@ pub fn infer_data(
 }
 
 // Returns the types of a data type's fields.
-#[tactic(auto, using(tt_interner::proofs::OwnedLaws::owned_laws, crate::proofs::ClientLaws::client_laws, crate::proofs::ScopeLaws::scope_laws))]
+#[tactic(auto, using(crate::proofs::ClientLaws::extends_further))]
 fn field_types(cx: &mut Interner, ty: Ty) -> Result<Vec<Ty>, Failure>
     requires { IsOwned ty_shape cx.old ty }
     ensures extends { Extends cx.old cx.new }
     ensures owned { IfOk result (λ types. AreOwned ty_shape cx.new types.items) }
 {
+    let fields = fields_of(cx, ty)?;
+    let mut types = Vec::new(cx.allocator());
+    for index in 0..fields.len() {
+        types.push(field_type(cx, fields.as_slice(), index)?)?;
+    }
+    Ok(types)
+}
+
+/// Returns the fields of a data type.
+pub fn fields_of(cx: &mut Interner, ty: Ty) -> Result<Vec<FieldInfo>, Failure>
+    requires { IsOwned ty_shape cx.old ty }
+    ensures extends { Extends cx.old cx.new }
+    ensures owned { IfOk result (λ fields. AreOwnedFields cx.new fields.items) }
+{
     if !cx.is_adt(ty) {
         return Err(Failure::Malformed);
     }
-    let fields = cx.fields_of(ty)?;
-    let mut types = Vec::new(cx.allocator());
-    for index in 0..fields.len() {
-        types.push(at(fields.as_slice(), index)?.ty)?;
-    }
-    Ok(types)
+    Ok(cx.fields_of(ty)?)
+}
+
+/// Returns the type of the field of this number.
+pub fn field_type(cx: &Interner, fields: &[FieldInfo], number: usize) -> Result<Ty, Failure>
+    requires { AreOwnedFields cx.now fields.now }
+    ensures { IfOk result (λ ty. IsOwned ty_shape cx.now ty) }
+{
+    let field = at(fields, number)?;
+    Ok(field.ty)
 }

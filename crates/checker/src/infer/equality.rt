@@ -15,7 +15,7 @@ use type_terms::prelude::*;
 use unify::{Bindings, Fault, unify};
 
 /// Returns a new variable.
-#[tactic(auto, using(tt_interner::proofs::OwnedLaws::owned_laws, crate::proofs::ClientLaws::client_laws, crate::proofs::ScopeLaws::scope_laws))]
+#[tactic(auto, using(crate::proofs::ClientLaws::extends_further))]
 pub fn fresh_variable(cx: &mut Interner, bindings: &mut Bindings) -> Result<Ty, Failure>
     requires { IsTable cx.old bindings.old }
     ensures extends { Extends cx.old cx.new }
@@ -30,7 +30,7 @@ pub fn fresh_variable(cx: &mut Interner, bindings: &mut Bindings) -> Result<Ty, 
 }
 
 /// Makes the type that was found at a place equal to the one that is expected there.
-#[tactic(auto, using(tt_interner::proofs::OwnedLaws::owned_laws, crate::proofs::ClientLaws::client_laws, crate::proofs::ScopeLaws::scope_laws))]
+#[tactic(auto, using(crate::proofs::ClientLaws::extends_further))]
 pub fn equate(
     cx: &mut Interner,
     bindings: &mut Bindings,
@@ -52,7 +52,7 @@ pub fn equate(
 }
 
 /// Makes this the type of the expression of this number.
-#[tactic(auto, using(tt_interner::proofs::OwnedLaws::owned_laws, crate::proofs::ClientLaws::client_laws, crate::proofs::ScopeLaws::scope_laws))]
+#[tactic(auto, using(crate::proofs::ClientLaws::extends_further))]
 pub fn is_of(
     cx: &mut Interner,
     scope: Scope<'_>,

@@ -7,7 +7,9 @@ ghost use Rattle.tt_interner.specs.Stored.{Extends};
 ghost use Rattle.unify.specs.Bindings.{IsTable};
 ghost use Rattle.checker.specs.Scope.{IsScope};
 
+use crate::declared::symbol_of;
 use crate::failure::Failure;
+use crate::infer::calls::{field_type, fields_of};
 use crate::infer::equality::is_of;
 use crate::lookup::{at, name_of, type_at};
 use crate::scope::{Scope, operand, place_of};
@@ -19,7 +21,7 @@ use unify::Bindings;
 const MOST_REFERENCES: u32 = u32::MAX;
 
 // Returns the type that a reference refers to, if need be through further ones, and otherwise the type itself.
-#[tactic(auto, using(tt_interner::proofs::OwnedLaws::owned_laws, crate::proofs::ClientLaws::client_laws, crate::proofs::ScopeLaws::scope_laws))]
+#[tactic(auto, using(crate::proofs::ClientLaws::extends_further))]
 fn without_references(cx: &Interner, ty: Ty) -> Ty
     requires { IsOwned ty_shape cx.now ty }
     ensures { IsOwned ty_shape cx.now result }
@@ -35,7 +37,7 @@ fn without_references(cx: &Interner, ty: Ty) -> Ty
 }
 
 // Returns the type of the operand as far as it is known, out of references.
-#[tactic(auto, using(tt_interner::proofs::OwnedLaws::owned_laws, crate::proofs::ClientLaws::client_laws, crate::proofs::ScopeLaws::scope_laws))]
+#[tactic(auto, using(crate::proofs::ClientLaws::extends_further))]
 fn known(
     cx: &mut Interner,
     scope: Scope<'_>,
@@ -55,8 +57,8 @@ fn known(
 }
 
 // Returns the type of the field of this name, if the type has one.
-#[tactic(auto, using(tt_interner::proofs::OwnedLaws::owned_laws, crate::proofs::ClientLaws::client_laws, crate::proofs::ScopeLaws::scope_laws))]
-fn field_type(cx: &mut Interner, ty: Ty, name: Symbol) -> Result<Option<Ty>, Failure>
+#[tactic(auto, using(crate::proofs::ClientLaws::extends_further))]
+fn field_named(cx: &mut Interner, ty: Ty, name: Symbol) -> Result<Option<Ty>, Failure>
     requires { IsOwned ty_shape cx.old ty }
     ensures extends { Extends cx.old cx.new }
     ensures owned { IfOk result (λ found. IfSome found (λ ty. IsOwned ty_shape cx.new ty)) }
@@ -64,11 +66,10 @@ fn field_type(cx: &mut Interner, ty: Ty, name: Symbol) -> Result<Option<Ty>, Fai
     if !cx.is_adt(ty) {
         return Ok(None);
     }
-    let fields = cx.fields_of(ty)?;
+    let fields = fields_of(cx, ty)?;
     for index in 0..fields.len() {
-        let field = at(fields.as_slice(), index)?;
-        if field.name == name {
-            return Ok(Some(field.ty));
+        if at(fields.as_slice(), index)?.name == name {
+            return Ok(Some(field_type(cx, fields.as_slice(), index)?));
         }
     }
     Ok(None)
@@ -82,7 +83,7 @@ fn is_unknown(cx: &Interner, ty: Ty) -> bool
 }
 
 /// Infers the type of a field of a value.
-#[tactic(auto, using(tt_interner::proofs::OwnedLaws::owned_laws, crate::proofs::ClientLaws::client_laws, crate::proofs::ScopeLaws::scope_laws))]
+#[tactic(auto, using(crate::proofs::ClientLaws::extends_further))]
 pub fn infer_field(
     cx: &mut Interner,
     scope: Scope<'_>,
@@ -103,15 +104,15 @@ pub fn infer_field(
         return Err(Failure::Wrong(message));
     }
     let text = name_of(scope.program, name)?;
-    let name = cx.symbol(text)?;
-    match field_type(cx, whole, name)? {
+    let name = symbol_of(cx, scope.program, name)?;
+    match field_named(cx, whole, name)? {
         Some(ty) => is_of(cx, scope, bindings, number, ty),
         None => Err(Failure::Wrong(no_field(cx, bindings, place, whole, text)?)),
     }
 }
 
 /// Infers the type of an item of a tuple.
-#[tactic(auto, using(tt_interner::proofs::OwnedLaws::owned_laws, crate::proofs::ClientLaws::client_laws, crate::proofs::ScopeLaws::scope_laws))]
+#[tactic(auto, using(crate::proofs::ClientLaws::extends_further))]
 pub fn infer_item(
     cx: &mut Interner,
     scope: Scope<'_>,

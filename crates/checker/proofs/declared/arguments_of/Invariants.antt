@@ -1,7 +1,7 @@
-use Rattle.std.proofs.Common.{◌≡◌, map, take}
-use Rattle.tt_kinds.specs.declared.generic_arg.GenericArgKind.TheVariants.{«Type» as type_argument}
+use Rattle.tt_kinds.specs.Kinds.{arg_shape}
+use Rattle.tt_interner.specs.Owned.{AreOwned}
 use Rattle.checker.proofs.declared.arguments_of.Given as goal
 
--- the first types, as arguments
-abbrev pub invariant-loop-ty : goal.invariant-loop-ty
-invariant-loop-ty l = l.args.items ≡ map type_argument (take l.ty-index l.types)
+-- the arguments are the interner's
+abbrev pub invariant-loop-index : goal.invariant-loop-index
+invariant-loop-index l = AreOwned arg_shape l.cx l.args.items

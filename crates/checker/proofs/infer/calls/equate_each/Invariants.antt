@@ -3,8 +3,8 @@ use Rattle.unify.specs.Bindings.{IsTable}
 use Rattle.checker.proofs.infer.calls.equate_each.Given as goal
 
 -- the bindings are a table
-abbrev pub invariant-loop-expected : goal.invariant-loop-expected
-invariant-loop-expected l = record {
+abbrev pub invariant-loop-index : goal.invariant-loop-index
+invariant-loop-index l = record {
   extends : Extends l.initial.cx l.cx;
   table : IsTable l.cx l.bindings;
 }
