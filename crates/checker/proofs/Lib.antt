@@ -1,4 +1,6 @@
+pub mod BuiltLaws
 pub mod ClientLaws
+pub mod InstanceLaws
 pub mod ListLaws
 pub mod LookupLaws
 pub mod ScopeLaws

@@ -1,6 +1,7 @@
 //! Types that are compared with instances of written ones.
 
 ghost use Rattle.std.specs.Prelude.{◌≡◌, IfOk, IsTrue, OnOk, Some, map, slice_get};
+ghost use Rattle.tt_binder.specs.Arguments.{AreArguments, args_at};
 ghost use Rattle.tt_binder.specs.Instance.{IsPlain};
 ghost use Rattle.tt_fold.specs.Steps.{tree_in};
 ghost use Rattle.tt_interner.specs.Owned.{IsOwned};
@@ -130,10 +131,15 @@ pub fn verify_call(
 // Returns the arguments of a data type.
 fn arguments_of(cx: &Interner, ty: Ty) -> Result<GenericArgs, Failure>
     requires { IsOwned ty_shape cx.now ty }
-    ensures { IfOk result (λ args. IsOwned args_shape cx.now args) }
+    ensures owned { IfOk result (λ args. IsOwned args_shape cx.now args) }
+    ensures are { IfOk result (λ args. AreArguments cx.now.rows (args_at cx.now.rows args)) }
 {
     match *ty.kind(cx) {
-        TyKind::Adt(_, args) => Ok(args),
+        TyKind::Adt(_, args) => {
+            // The arguments are the interner's, so their trees stay whatever is built.
+            let _count = args.len(cx);
+            Ok(args)
+        }
         _ => Err(Failure::Unverified),
     }
 }
