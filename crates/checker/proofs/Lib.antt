@@ -1,4 +1,6 @@
+pub mod BodyLaws
 pub mod BuiltLaws
+pub mod CallLaws
 pub mod ClientLaws
 pub mod InstanceLaws
 pub mod ListLaws

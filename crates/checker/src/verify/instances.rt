@@ -15,7 +15,7 @@ ghost use Rattle.checker.specs.Typing.{Fit, HasField, IsInstance, IsTyped, Write
 use crate::failure::Failure;
 use crate::lookup::{part_of, type_at};
 use crate::scope::{Scope, operand, written};
-use crate::verify::{same, without_references};
+use crate::verify::{is_same, same, without_references};
 use checker_syntax::program::{DataType, Span};
 use type_terms::SliceLike;
 use type_terms::prelude::*;
@@ -171,7 +171,7 @@ fn is_instance(
     }
     let own = type_at(cx, scope.declared.data_types.as_slice(), data)?;
     let instance = EarlyBinder::bind(own).instantiate(cx, args)?;
-    Ok(instance.skip_norm_wip() == ty)
+    Ok(is_same(instance.skip_norm_wip(), ty))
 }
 
 /// Compares the types of a data type expression with the rule.
