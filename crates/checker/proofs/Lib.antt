@@ -1,4 +1,8 @@
+pub mod BodyLaws
+pub mod BuiltLaws
+pub mod CallLaws
 pub mod ClientLaws
+pub mod InstanceLaws
 pub mod ListLaws
 pub mod LookupLaws
 pub mod ScopeLaws

@@ -2,7 +2,7 @@
 
 mod instances;
 
-ghost use Rattle.std.specs.Prelude.{◌≡◌, IfOk, OnOk, Some, slice_get};
+ghost use Rattle.std.specs.Prelude.{◌≡◌, IfOk, IsTrue, OnOk, Some, slice_get};
 ghost use Rattle.tt_fold.specs.Steps.{tree_in};
 ghost use Rattle.tt_interner.specs.Owned.{AreOwned, IsOwned};
 ghost use Rattle.tt_interner.specs.Stored.{Extends};
@@ -49,6 +49,17 @@ fn same(left: Ty, right: Ty) -> Result<(), Failure>
         Ok(())
     } else {
         Err(Failure::Unverified)
+    }
+}
+
+// Returns whether the two types are one.
+fn is_same(left: Ty, right: Ty) -> bool
+    ensures { IsTrue result → left ≡ right }
+{
+    if left == right {
+        true
+    } else {
+        false
     }
 }
 
@@ -162,7 +173,10 @@ fn without_references(cx: &Interner, ty: Ty) -> Ty
 {
     let mut inner = ty;
     for _ in 0..MOST_REFERENCES {
-        let TyKind::Ref(_, referent, Mutability::Not) = *inner.kind(cx) else {
+        let TyKind::Ref(_, referent, mutability) = *inner.kind(cx) else {
+            return inner;
+        };
+        let Mutability::Not = mutability else {
             return inner;
         };
         inner = referent;

@@ -1,6 +1,7 @@
 //! Types that are compared with instances of written ones.
 
 ghost use Rattle.std.specs.Prelude.{◌≡◌, IfOk, IsTrue, OnOk, Some, map, slice_get};
+ghost use Rattle.tt_binder.specs.Arguments.{AreArguments, args_at};
 ghost use Rattle.tt_binder.specs.Instance.{IsPlain};
 ghost use Rattle.tt_fold.specs.Steps.{tree_in};
 ghost use Rattle.tt_interner.specs.Owned.{IsOwned};
@@ -14,7 +15,7 @@ ghost use Rattle.checker.specs.Typing.{Fit, HasField, IsInstance, IsTyped, Write
 use crate::failure::Failure;
 use crate::lookup::{part_of, type_at};
 use crate::scope::{Scope, operand, written};
-use crate::verify::{same, without_references};
+use crate::verify::{is_same, same, without_references};
 use checker_syntax::program::{DataType, Span};
 use type_terms::SliceLike;
 use type_terms::prelude::*;
@@ -130,10 +131,15 @@ pub fn verify_call(
 // Returns the arguments of a data type.
 fn arguments_of(cx: &Interner, ty: Ty) -> Result<GenericArgs, Failure>
     requires { IsOwned ty_shape cx.now ty }
-    ensures { IfOk result (λ args. IsOwned args_shape cx.now args) }
+    ensures owned { IfOk result (λ args. IsOwned args_shape cx.now args) }
+    ensures are { IfOk result (λ args. AreArguments cx.now.rows (args_at cx.now.rows args)) }
 {
     match *ty.kind(cx) {
-        TyKind::Adt(_, args) => Ok(args),
+        TyKind::Adt(_, args) => {
+            // The arguments are the interner's, so their trees stay whatever is built.
+            let _count = args.len(cx);
+            Ok(args)
+        }
         _ => Err(Failure::Unverified),
     }
 }
@@ -165,7 +171,7 @@ fn is_instance(
     }
     let own = type_at(cx, scope.declared.data_types.as_slice(), data)?;
     let instance = EarlyBinder::bind(own).instantiate(cx, args)?;
-    Ok(instance.skip_norm_wip() == ty)
+    Ok(is_same(instance.skip_norm_wip(), ty))
 }
 
 /// Compares the types of a data type expression with the rule.
