@@ -55,7 +55,7 @@ reaches_read terms inner referent r m read reads is shared reaches =
     let as_ref = subst (λ k. Reads terms.rows Types inner.number (type_row k)) is reads in
     let as_shared = subst (λ x. Reads terms.rows Types inner.number (type_row (kind.Ref r referent x))) shared as_ref in
     reaches_further (tree_in terms.rows (ty_shape referent)) (tree_in terms.rows (region_shape r)) reaches
-      (reference_read terms inner referent r as_shared)
+    (reference_read terms inner referent r as_shared)
 
 -- an item of a tuple that was read
 pub item_read : (terms : Terms) (ty : Ty) (list : Tys) (items : List Ty) (k : ℕ) (found : Ty) (read : TyKind)
@@ -70,8 +70,8 @@ pub reference_built_by : (old new : Terms) (r : RegionKind) (referent ty : Ty) (
     → tree_in new.rows (ty_shape ty) ≡ reference_to (tree_in old.rows (ty_shape referent))
 reference_built_by old new r referent ty result erased is builds =
     subst (λ o. IfOk o (λ t. tree_in new.rows (ty_shape t) ≡ reference_to (tree_in old.rows (ty_shape referent)))) is
-      (reference_built old new referent result (subst (λ x. Builds result (λ t. t.number) old new (type_row (kind.Ref x referent Not)))
-        erased builds))
+    (reference_built old new referent result (subst (λ x. Builds result (λ t. t.number) old new (type_row (kind.Ref x referent Not)))
+    erased builds))
 
 -- a literal has the literal's type
 pub literal_typed : (A : Around) (number : ℕ) (l : Literal) (t : Tree Depth) → t ≡ literal_type l → IsTyped A number t (of.Literal l)
@@ -95,7 +95,7 @@ pub tuple_typed : (old new : Terms) (scope : Scope) (number : ℕ) (s : Span) (n
     → IsTyped (around old scope) number (tree_in new.rows (ty_shape ty)) (of.Tuple s)
 tuple_typed old new scope number s numbers items ty same are is =
     tuple (subst (λ ns. AllBefore (trees old.rows scope.types.now) number ns (trees old.rows items)) same
-      (found_before old scope.types.now number numbers items are)) is
+    (found_before old scope.types.now number numbers items are)) is
 
 -- a reference has the reference to its value's type
 pub reference_typed : (old new : Terms) (scope : Scope) (number n : ℕ) (found ty : Ty) → n < number

@@ -29,7 +29,7 @@ pub call_typed : (old new : Terms) (scope : Scope) (args : GenericArgs) → Exte
 call_typed old new scope args extends h owned are number f s item ty numbers there counted same fit mine is =
     let stays = instance_stays old new scope args extends h owned are item.output ty mine is in
     call there (count_arguments old.rows (args_at old.rows args) ∙ counted)
-      (subst (λ ns. Fit (around old scope) number (argument_trees old args) item.inputs.items ns) same fit) stays.1 stays.2
+    (subst (λ ns. Fit (around old scope) number (argument_trees old args) item.inputs.items ns) same fit) stays.1 stays.2
 
 -- a data type expression has the data type
 pub data_typed : (old new : Terms) (scope : Scope) (args : GenericArgs) → Extends old new → IsScope old scope
@@ -42,7 +42,7 @@ pub data_typed : (old new : Terms) (scope : Scope) (args : GenericArgs) → Exte
 data_typed old new scope args extends h owned are number k s item ty ws numbers is fields same fit =
     let stays = fit_stays old new scope args extends h owned are number ws numbers fit in
     data_type is (subst (λ xs. Fit (around old scope) number (argument_trees old args) xs (part scope.body.now.operands.items s)) fields
-      (subst (λ ns. Fit (around old scope) number (argument_trees old args) ws ns) same stays))
+    (subst (λ ns. Fit (around old scope) number (argument_trees old args) ws ns) same stays))
 
 -- a field of this name that has the type
 pub field_found : (old new : Terms) (scope : Scope) (args : GenericArgs) (item : DataType) (k name : ℕ) (found : Field) (ty : Ty)

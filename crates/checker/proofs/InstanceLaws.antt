@@ -39,16 +39,16 @@ module _ (old new : Terms) (scope : Scope) (args : GenericArgs) (extends : Exten
   -- the trees of arguments stay
   pub arguments_stay : argument_trees new args ≡ argument_trees old args
   arguments_stay = arguments-still old.rows new.rows (args_at old.rows args) (args_at new.rows args) extends.rows
-    (args_at-grows old.rows new.rows args extends.rows owned) are
+      (args_at-grows old.rows new.rows args extends.rows owned) are
 
   -- an instance of a written type stays one
   pub instance_stays : (number : ℕ) (ty : Ty) → IsOwned ty_shape old ty → IsInstanceOf new scope args number ty
-    → IsInstanceOf old scope args number ty
+      → IsInstanceOf old scope args number ty
   instance_stays number ty mine is = (
     is.0,
     subst (λ A. Writes A number is.0) (around_stays old new scope extends h) is.1,
     subst (λ a. IsPlain a is.0 (tree_in old.rows (ty_shape ty))) arguments_stay
-      (subst (λ t. IsPlain (argument_trees new args) is.0 t) (tree_stays old new ty extends mine) is.2),
+        (subst (λ t. IsPlain (argument_trees new args) is.0 t) (tree_stays old new ty extends mine) is.2),
   )
 
   -- so does one of a data type
@@ -71,14 +71,14 @@ module _ (old new : Terms) (scope : Scope) (args : GenericArgs) (extends : Exten
 
   -- operands that fit do so still
   pub fit_stays : (number : ℕ) (ws ns : List ℕ) → Fit (around new scope) number (argument_trees new args) ws ns
-    → Fit (around old scope) number (argument_trees old args) ws ns
+      → Fit (around old scope) number (argument_trees old args) ws ns
   fit_stays number ws ns fit =
       subst (λ A. Fit A number (argument_trees old args) ws ns) (around_stays old new scope extends h)
       (subst (λ a. Fit (around new scope) number a ws ns) arguments_stay fit)
 
   -- an operand of the instance's type fits
   pub operand_fits : (number w n : ℕ) (found : Ty) → n < number → slice_get scope.types.now n ≡ Some found
-    → IsInstanceOf new scope args w found
+      → IsInstanceOf new scope args w found
       → Fits (around old scope) number (argument_trees old args) w n
   operand_fits number w n found before there is =
       let mine = found_owned ty_shape old scope.types.now n found there h.types in
@@ -91,11 +91,11 @@ pub instance_made : (old new : Terms) (scope : Scope) (args : GenericArgs) (numb
     → IsPlain (argument_trees old args) (tree_in old.rows (ty_shape bound)) (tree_in new.rows (ty_shape value))
     → (x : Tree Depth) × Writes (around old scope) number x × IsPlain (argument_trees old args) x (tree_in new.rows (ty_shape result))
 instance_made old new scope args number declared bound value result there same is plain = (
-    tree_in old.rows (ty_shape declared),
-    tree_at old scope.declared.now.written.items number declared there,
-    subst (λ x. IsPlain (argument_trees old args) (tree_in old.rows (ty_shape declared)) (tree_in new.rows (ty_shape x))) (sym is)
+  tree_in old.rows (ty_shape declared),
+  tree_at old scope.declared.now.written.items number declared there,
+  subst (λ x. IsPlain (argument_trees old args) (tree_in old.rows (ty_shape declared)) (tree_in new.rows (ty_shape x))) (sym is)
       (subst (λ x. IsPlain (argument_trees old args) (tree_in old.rows (ty_shape x)) (tree_in new.rows (ty_shape value))) same plain),
-  )
+)
 
 -- a type that is the instance that was made
 pub instance_found : (old new : Terms) (scope : Scope) (args : GenericArgs) (number : ℕ) (made ty : Ty) → Extends old new
@@ -103,11 +103,11 @@ pub instance_found : (old new : Terms) (scope : Scope) (args : GenericArgs) (num
     → ((x : Tree Depth) × Writes (around old scope) number x × IsPlain (argument_trees old args) x (tree_in new.rows (ty_shape made)))
     → IsInstanceOf old scope args number ty
 instance_found old new scope args number made ty extends mine same is = (
-    is.0,
-    is.1,
-    subst (λ t. IsPlain (argument_trees old args) is.0 t)
+  is.0,
+  is.1,
+  subst (λ t. IsPlain (argument_trees old args) is.0 t)
       (ap (λ x. tree_in new.rows (ty_shape x)) same ∙ tree_stays old new ty extends mine) is.2,
-  )
+)
 
 -- and so of a data type
 pub data_found : (old new : Terms) (scope : Scope) (args : GenericArgs) (k : ℕ) (item : DataType) (own bound value made ty : Ty)
@@ -123,8 +123,8 @@ data_found old new scope args k item own bound value made ty lent extends mine t
   owned = tree_at old scope.declared.now.data_types.items k own (sym (ap (λ xs. slice_get xs k) of_lent) ∙ at);
   counted = count_arguments old.rows (args_at old.rows args) ∙ counted;
   plain = subst (λ t. IsPlain (argument_trees old args) (tree_in old.rows (ty_shape own)) t)
-    (ap (λ x. tree_in new.rows (ty_shape x)) (sym is ∙ one) ∙ tree_stays old new ty extends mine)
-    (subst (λ x. IsPlain (argument_trees old args) (tree_in old.rows (ty_shape x)) (tree_in new.rows (ty_shape value))) same plain);
+      (ap (λ x. tree_in new.rows (ty_shape x)) (sym is ∙ one) ∙ tree_stays old new ty extends mine)
+      (subst (λ x. IsPlain (argument_trees old args) (tree_in old.rows (ty_shape x)) (tree_in new.rows (ty_shape value))) same plain);
 }
 
 -- the operands below a number fit
@@ -135,7 +135,9 @@ AreFitBelow A i args ws ns count = (k w n : ℕ) → k < count → slice_get ws 
 pub fit_next : (A : Around) (i : ℕ) (args : List (Argument Depth)) (ws ns : List ℕ) (count w n : ℕ) → AreFitBelow A i args ws ns count
     → slice_get ws count ≡ Some w → slice_get ns count ≡ Some n → Fits A i args w n → AreFitBelow A i args ws ns (suc count)
 fit_next A i args ws ns count w n below written there fits k v m less at of_k =
-    elim (below_next k count less) [ inl older ↦ below k v m older at of_k
-    | inr same ↦ (let first : w ≡ v = let p = ap (slice_get ws) same in cc in
-      let second : n ≡ m = let p = ap (slice_get ns) same in cc in
-      subst (λ x. Fits A i args x m) first (subst (λ x. Fits A i args w x) second fits)) ]
+    elim (below_next k count less) [
+      | inl older ↦ below k v m older at of_k
+      | inr same ↦ (let first : w ≡ v = let p = ap (slice_get ws) same in cc in
+          let second : n ≡ m = let p = ap (slice_get ns) same in cc in
+          subst (λ x. Fits A i args x m) first (subst (λ x. Fits A i args w x) second fits))
+    ]

@@ -5,7 +5,7 @@ pub mod ClientLaws
 pub mod InstanceLaws
 pub mod ListLaws
 pub mod LookupLaws
+pub mod ProgramLaws
 pub mod ScopeLaws
 pub mod TreeLaws
 pub mod TypingLaws
-pub mod WrittenLaws

@@ -20,9 +20,11 @@ pub first_next : (types : List Ty) (limit : ℕ) (ns : List ℕ) (found : List T
     → slice_get ns count ≡ Some n → n < limit → slice_get types n ≡ Some ty → AreFirst types limit ns (found ++ ty ∷ []) (suc count)
 first_next types limit ns found count n ty h at below is = record {
   counted = length_pushed found ty ∙ ap suc h.counted;
-  each = λ k m less there. elim (below_next k count less) [ inl older ↦ (let one = h.each k m older there in (one.0, get_more found (ty ∷ []) k one.0 one.1, one.2, one.3))
+  each = λ k m less there. elim (below_next k count less) [
+    | inl older ↦ (let one = h.each k m older there in (one.0, get_more found (ty ∷ []) k one.0 one.1, one.2, one.3))
     | inr same ↦ (let this : m ≡ n = let p = ap (slice_get ns) same in cc in
-      (ty, get_pushed found ty k (same ∙ sym h.counted), subst (λ x. x < limit) (sym this) below, subst (λ x. slice_get types x ≡ Some ty) (sym this) is)) ];
+        (ty, get_pushed found ty k (same ∙ sym h.counted), subst (λ x. x < limit) (sym this) below, subst (λ x. slice_get types x ≡ Some ty) (sym this) is))
+  ];
 }
 
 -- all numbers

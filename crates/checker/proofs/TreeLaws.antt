@@ -19,9 +19,7 @@ use Rattle.tt_interner.specs.Owned.{AreOwned, IsOwned}
 use Rattle.tt_interner.specs.Rows.{meaning, type_row, tys_row, row_shape}
 use Rattle.tt_interner.specs.Stored.{Terms, Extends, Builds}
 use Rattle.tt_interner.proofs.Growth.{fill-grows}
-use Rattle.tt_binder.specs.Arguments.{arguments}
-use Rattle.tt_kinds.specs.declared.generic_arg.GenericArgKind.TheVariants.{«Type» as type_argument}
-use Rattle.checker.specs.Typing.{IsItemOf, simple, type_arguments, in_order, tuple_of, reference_by, reference_to}
+use Rattle.checker.specs.Typing.{IsItemOf, simple, in_order, tuple_of, reference_by, reference_to}
 use Rattle.checker.specs.Scope.{trees}
 
 -- the trees of types stay, whatever the interner builds
@@ -87,12 +85,6 @@ pub reference_read : (terms : Terms) (ty referent : Ty) (r : RegionKind) → Rea
     → fill (meaning terms.rows) (ty_shape ty) ≡ reference_by (fill (meaning terms.rows) (region_shape r)) (fill (meaning terms.rows) (ty_shape referent))
 unfolding fill
 reference_read terms ty referent r reads = reads.means
-
--- types as arguments have the trees of the types
-pub arguments_typed : (terms : Terms) (types : List Ty) → arguments terms.rows (map type_argument types) ≡ type_arguments (trees terms.rows types)
-unfolding fill
-arguments_typed terms [] = refl
-arguments_typed terms (ty ∷ types) = let rest = arguments_typed terms types in cc
 
 -- the type `i32` that is built, and each of integers
 pub int_built : (i : IntTy) (old new : Terms) (result : Result Ty Refusal) → Builds result (λ ty. ty.number) old new (type_row (kind.Int i))

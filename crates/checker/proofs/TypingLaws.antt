@@ -65,8 +65,10 @@ AreTypedBelow A es n = (i : ℕ) (e : Expression) → i < n → slice_get es i �
 -- and so have those below the next one
 pub typed_next : (A : Around) (es : List Expression) (n : ℕ) (e : Expression) → AreTypedBelow A es n → slice_get es n ≡ Some e → HasType A n e → AreTypedBelow A es (suc n)
 typed_next A es n e below at has i d less is =
-    elim (below_next i n less) [ inl older ↦ below i d older is
-    | inr same ↦ (let this : d ≡ e = let p = ap (slice_get es) same in cc in subst (λ k. HasType A k d) (sym same) (subst (HasType A n) (sym this) has)) ]
+    elim (below_next i n less) [
+      | inl older ↦ below i d older is
+      | inr same ↦ (let this : d ≡ e = let p = ap (slice_get es) same in cc in subst (λ k. HasType A k d) (sym same) (subst (HasType A n) (sym this) has))
+    ]
 
 -- what is around stays, as the type of an expression says it
 pub has_type_stays : (old new : Terms) (scope : Scope) (number : ℕ) (e : Expression) → Extends old new → IsScope old scope → HasType (around new scope) number e → HasType (around old scope) number e

@@ -74,32 +74,6 @@ pub record AllBefore (types : List (Tree Depth)) (i : ℕ) (ns : List ℕ) (ts :
   pub counted : length ns ≡ length ts
   pub each : (k n : ℕ) → slice_get ns k ≡ Some n → (t : Tree Depth) × (slice_get ts k ≡ Some t) × Before types i n t
 
--- types, as type arguments
-abbrev pub type_arguments : List (Tree Depth) → List (Argument Depth)
-type_arguments ts = map (λ t. record { sort = type_sort; value = t }) ts
-
--- where the data types are of these types, at their own parameters, and the written types of those
-module _ (P : Program) (own written : List (Tree Depth)) where
-  -- the written type of number i is the type t
-  pub data IsWritten (i : ℕ) (t : Tree Depth) : WrittenType → Type 0 where
-    int : t ≡ simple (int_type I32) → IsWritten i t written_as.Int
-    bool : t ≡ simple bool_type → IsWritten i t written_as.Bool
-    char : t ≡ simple char_type → IsWritten i t written_as.Char
-    str : t ≡ simple str_type → IsWritten i t written_as.Str
-    -- a parameter of the item around: its number, and its name's
-    parameter : {k n : ℕ} {name : String Global} → slice_get P.names.items n ≡ Some name → t ≡ param type_sort k (string_bytes name)
-        → IsWritten i t (written_as.Param k n)
-    -- a data type at arguments, one for each parameter
-    data_type : {k : ℕ} {s : Span} {item : DataType} {whole : Tree Depth} {ts : List (Tree Depth)}
-        → slice_get P.«data».items k ≡ Some item → slice_get own k ≡ Some whole → length ts ≡ length item.params.items
-        → AllBefore written i (part P.parts.items s) ts → IsPlain (type_arguments ts) whole t → IsWritten i t (written_as.Data k s)
-    tuple : {s : Span} {ts : List (Tree Depth)} → AllBefore written i (part P.parts.items s) ts → t ≡ tuple_of ts → IsWritten i t (written_as.Tuple s)
-    reference : {n : ℕ} {u : Tree Depth} → Before written i n u → t ≡ reference_to u → IsWritten i t (written_as.Reference n)
-
-  -- each written type is the type of its number
-  pub record AreWritten : Type 0 where
-    pub each : (i : ℕ) (w : WrittenType) → slice_get P.types.items i ≡ Some w → (t : Tree Depth) × (slice_get written i ≡ Some t) × IsWritten i t w
-
 -- What is known around the expressions of a body.
 pub record Around : Type 0 where
   pub program : Program
@@ -187,10 +161,3 @@ module _ (A : Around) where
     pub result : Tree Depth
     pub returned : slice_get A.types A.body.result ≡ Some result
     pub output : Writes A.function.output result
-
--- The program has these types: its data types at their own parameters, its written types, and the expressions of each function.
-pub record IsTypedProgram (P : Program) (own written : List (Tree Depth)) (bodies : List (List (Tree Depth))) : Type 0 where
-  pub are_written : AreWritten P own written
-  pub typed : (f : ℕ) (item : Function) (body : Body) → slice_get P.functions.items f ≡ Some item → item.body ≡ Some body
-      → (types : List (Tree Depth)) × (slice_get bodies f ≡ Some types)
-      × IsTypedBody (record { program = P; function = item; body = body; own = own; written = written; types = types })

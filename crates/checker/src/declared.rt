@@ -50,12 +50,7 @@ pub fn symbol_of(cx: &mut Interner, program: &Program, number: usize) -> Result<
 }
 
 // Returns the type parameter of this index and name.
-fn parameter(
-    cx: &mut Interner,
-    program: &Program,
-    index: usize,
-    name: usize,
-) -> Result<Ty, Failure>
+fn parameter(cx: &mut Interner, program: &Program, index: usize, name: usize) -> Result<Ty, Failure>
     ensures extends { Extends cx.old cx.new }
     ensures owned { IfOk result (λ ty. IsOwned ty_shape cx.new ty) }
 {
@@ -331,11 +326,7 @@ fn function(
 }
 
 // Returns the signature of a function.
-fn signature(
-    cx: &mut Interner,
-    item: &Function,
-    written: &[Ty],
-) -> Result<Binder<FnSig>, Failure>
+fn signature(cx: &mut Interner, item: &Function, written: &[Ty]) -> Result<Binder<FnSig>, Failure>
     requires { AreOwned ty_shape cx.old written.now }
     ensures { Extends cx.old cx.new }
 {
@@ -359,11 +350,7 @@ fn signature_types(cx: &Interner, item: &Function, written: &[Ty]) -> Result<Vec
 }
 
 // Declares a function of this name and signature.
-fn declared_fn(
-    cx: &mut Interner,
-    name: Symbol,
-    sig: Binder<FnSig>,
-) -> Result<FunctionId, Failure>
+fn declared_fn(cx: &mut Interner, name: Symbol, sig: Binder<FnSig>) -> Result<FunctionId, Failure>
     requires { name.number < size cx.old.rows Symbols }
     ensures { Extends cx.old cx.new }
 {

@@ -82,11 +82,7 @@ fn infer_within(
 
 // Makes the type of the result equal to the function's output.
 #[tactic(auto, using(crate::proofs::ClientLaws::extends_further))]
-fn infer_result(
-    cx: &mut Interner,
-    scope: Scope<'_>,
-    bindings: &mut Bindings,
-) -> Result<(), Failure>
+fn infer_result(cx: &mut Interner, scope: Scope<'_>, bindings: &mut Bindings) -> Result<(), Failure>
     requires scope { IsScope cx.old scope }
     requires table { IsTable cx.old bindings.old }
     ensures extends { Extends cx.old cx.new }

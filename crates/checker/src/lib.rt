@@ -4,19 +4,19 @@
 #![tactic(auto)]
 
 mod built;
-pub mod programs;
 pub mod declared;
 pub mod failure;
 mod infer;
 mod lookup;
-pub mod sources;
+pub mod programs;
 pub mod scope;
+pub mod sources;
 mod verify;
 mod wording;
 
-pub use programs::{Checked, check, variables};
 pub use declared::{Declared, declare};
 pub use failure::Failure;
+pub use programs::{Checked, check, variables};
 pub use sources::{Verdict, run, verdict_of};
 
 #[cfg(test)]

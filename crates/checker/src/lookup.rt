@@ -32,12 +32,7 @@ pub fn type_at(cx: &Interner, types: &[Ty], number: usize) -> Result<Ty, Failure
 }
 
 /// Returns the type of this number, which is below the limit.
-pub fn type_before(
-    cx: &Interner,
-    types: &[Ty],
-    limit: usize,
-    number: usize,
-) -> Result<Ty, Failure>
+pub fn type_before(cx: &Interner, types: &[Ty], limit: usize, number: usize) -> Result<Ty, Failure>
     requires { AreOwned ty_shape cx.now types.now }
     ensures before { IfOk result (λ _. number < limit) }
     ensures is { IfOk result (λ ty. slice_get types.now number ≡ Some ty) }

@@ -6,6 +6,7 @@ ghost use Rattle.tt_interner.specs.Owned.{AreOwned};
 ghost use Rattle.tt_interner.specs.Stored.{Extends};
 ghost use Rattle.checker.specs.Items.{IsDeclared};
 ghost use Rattle.checker.specs.Items.{AreTyped};
+ghost use Rattle.checker.specs.Scope.{AreTypedBodies, IsTypedFunction};
 
 use crate::declared::{Declared, declare};
 use crate::failure::Failure;
@@ -27,20 +28,46 @@ pub struct Checked {
 }
 
 /// Checks a program, and returns its types.
+///
+/// # Errors
+///
+/// The first thing that is wrong ends the check, function by function in the order of the program, and in a function
+/// expression by expression.
 #[tactic(auto, using(crate::proofs::ClientLaws::extends_further))]
 pub fn check(cx: &mut Interner, program: &Program) -> Result<Checked, Failure>
     ensures extends { Extends cx.old cx.new }
     ensures owned { IfOk result (λ checked. AreTyped cx.new checked.bodies.items) }
+    ensures typed { IfOk result (λ checked. AreTypedBodies cx.new program.now checked.declared checked.bodies.items) }
 {
     let declared = declare(cx, program)?;
-    let mut bodies = Vec::new(cx.allocator());
-    for function in program.functions.iter() {
-        bodies.push(types_of(cx, program, &declared, function)?)?;
-    }
+    let bodies = typed_bodies(cx, program, &declared)?;
     Ok(Checked { declared, bodies })
 }
 
-// Returns the types of the function's expressions.
+// Returns the types of each function's expressions.
+#[tactic(auto, using(crate::proofs::ClientLaws::extends_further))]
+fn typed_bodies(
+    cx: &mut Interner,
+    program: &Program,
+    declared: &Declared,
+) -> Result<Vec<Vec<Ty>>, Failure>
+    requires { IsDeclared cx.old declared.now }
+    ensures extends { Extends cx.old cx.new }
+    ensures owned { IfOk result (λ bodies. AreTyped cx.new bodies.items) }
+    ensures typed { IfOk result (λ bodies. AreTypedBodies cx.new program.now declared.now bodies.items) }
+{
+    let mut bodies = Vec::new(cx.allocator());
+    for number in 0..program.functions.len() {
+        let Some(function) = program.functions.get(number) else {
+            return Err(Failure::Malformed);
+        };
+        let types = types_of(cx, program, declared, function)?;
+        bodies.push(types)?;
+    }
+    Ok(bodies)
+}
+
+// Returns the types of the function's expressions, none without a body.
 #[tactic(auto, using(crate::proofs::ClientLaws::extends_further))]
 fn types_of(
     cx: &mut Interner,
@@ -51,6 +78,12 @@ fn types_of(
     requires { IsDeclared cx.old declared.now }
     ensures extends { Extends cx.old cx.new }
     ensures owned { IfOk result (λ types. AreOwned ty_shape cx.new types.items) }
+    ensures typed { IfOk result (λ types. IsTypedFunction
+        cx.new
+        program.now
+        declared.now
+        function.now
+        types.items) }
 {
     let Some(body) = &function.body else {
         return Ok(Vec::new(cx.allocator()));

@@ -1,7 +1,7 @@
 //! Programs from an input.
 
-use crate::programs::{check, variables};
 use crate::failure::Failure;
+use crate::programs::{check, variables};
 use checker_syntax::message::Message;
 use checker_syntax::program::Program;
 use checker_syntax::read;

@@ -1,7 +1,7 @@
 //! Programs are checked.
 
-use crate::programs::check;
 use crate::failure::Failure;
+use crate::programs::check;
 use checker_syntax::program::Program;
 use std::alloc::Global;
 use std::process::Abort;

@@ -56,11 +56,7 @@ fn same(left: Ty, right: Ty) -> Result<(), Failure>
 fn is_same(left: Ty, right: Ty) -> bool
     ensures { IsTrue result → left ≡ right }
 {
-    if left == right {
-        true
-    } else {
-        false
-    }
+    if left == right { true } else { false }
 }
 
 // Compares the type of the expression of this number with the rule.

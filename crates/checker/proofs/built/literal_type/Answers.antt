@@ -25,5 +25,5 @@ returns-in_ok-mk_ref-in-Str-clause-is c =
     let text = c.in_ok-text-in-Str.text in
     let inner = str_built c.args.cx.now c.mk_ty-in-Str.new.self (Ok text) c.in_ok-text-in-Str.ensures in
     let is = reference_built_by c.mk_ty-in-Str.new.self c.mk_ref.new.self c.new_erased.result text c.in_ok-mk_ref-in-Str.field-0
-      c.mk_ref.result c.new_erased.ensures c.in_ok-mk_ref-in-Str.was c.mk_ref.ensures in
+    c.mk_ref.result c.new_erased.ensures c.in_ok-mk_ref-in-Str.was c.mk_ref.ensures in
     is ∙ ap reference_to inner ∙ ap type_of_literal (sym c.in-Str.is)

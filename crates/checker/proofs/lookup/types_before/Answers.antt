@@ -14,13 +14,13 @@ loop-index-preserved c =
     let ty = c.in_ok-type_before.field-0 in
     let at = slice_get-get_or c.args.numbers.now c.loop-index.index 0 c.loop-index-test.true in
     let next = first_next c.args.types.now c.args.limit c.args.numbers.now found c.loop-index.index _ ty c.loop-index.invariant.first
-      at one.before one.is in
+    at one.before one.is in
     record {
       owned = subst (AreOwned ty_shape c.args.cx.now) (sym pushed)
-        (push_owned ty_shape c.args.cx.now found ty c.loop-index.invariant.owned one.owned);
+          (push_owned ty_shape c.args.cx.now found ty c.loop-index.invariant.owned one.owned);
       first = subst (λ n. AreFirst c.args.types.now c.args.limit c.args.numbers.now c.push.new.self.items n)
-        (sym (add-one c.loop-index.index))
-        (subst (λ items. AreFirst c.args.types.now c.args.limit c.args.numbers.now items (suc c.loop-index.index)) (sym pushed) next);
+          (sym (add-one c.loop-index.index))
+          (subst (λ items. AreFirst c.args.types.now c.args.limit c.args.numbers.now items (suc c.loop-index.index)) (sym pushed) next);
     }
 
 pub returns-clause-are : goal.returns-clause-are

@@ -43,8 +43,8 @@ pub returns-clause-typed : goal.returns-clause-typed
 returns-clause-typed c =
     let expressions = c.args.scope.body.now.expressions in
     let all : length expressions.items ≤ c.loop-number.number =
-      omega (arith, c.loop-number-test.false, c.len-number-end.ensures, expressions.ok.0) in
+    omega (arith, c.loop-number-test.false, c.len-number-end.ensures, expressions.ok.0) in
     on_ok c.same.result (λ same.
-      body_typed c.args.cx.now c.args.scope c.loop-number.number c.in_ok-output.output c.in_ok-result.result all
-        c.loop-number.invariant.typed
-        c.in_ok-output.ensures.is c.in_ok-result.ensures.is same) c.same.ensures
+    body_typed c.args.cx.now c.args.scope c.loop-number.number c.in_ok-output.output c.in_ok-result.result all
+    c.loop-number.invariant.typed
+    c.in_ok-output.ensures.is c.in_ok-result.ensures.is same) c.same.ensures

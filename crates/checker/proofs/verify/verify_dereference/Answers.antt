@@ -10,8 +10,8 @@ returns-clause-typed c =
     let expected = c.in_ok-expected.expected in
     let extends : Extends old new = record { rows = c.mk_ref.ensures.grows; limit = c.mk_ref.ensures.limit } in
     let built = reference_built_by old new c.new_erased.result c.args.ty expected c.mk_ref.result c.new_erased.ensures
-      c.in_ok-expected.was c.mk_ref.ensures in
+    c.in_ok-expected.was c.mk_ref.ensures in
     let value = c.in_ok-found.ensures in
     on_ok c.same.result (λ same.
-      dereference_typed old new c.args.scope c.args.number c.args.value c.in_ok-found.found expected c.args.ty value.before value.is
-        extends value.owned same built) c.same.ensures
+    dereference_typed old new c.args.scope c.args.number c.args.value c.in_ok-found.found expected c.args.ty value.before value.is
+    extends value.owned same built) c.same.ensures

@@ -7,6 +7,6 @@ returns c =
     let value = c.in_ok-found.ensures in
     let whole = c.without_references-whole in
     on_ok c.same.result (λ same.
-      item_typed c.args.cx.now c.args.scope c.args.number c.args.value c.args.item c.in_ok-found.found whole.result
-        c.in_ok-expected.expected c.args.ty value.before value.is
-        whole.ensures.reaches c.in_ok-expected.ensures same) c.same.ensures
+    item_typed c.args.cx.now c.args.scope c.args.number c.args.value c.args.item c.in_ok-found.found whole.result
+    c.in_ok-expected.expected c.args.ty value.before value.is
+    whole.ensures.reaches c.in_ok-expected.ensures same) c.same.ensures

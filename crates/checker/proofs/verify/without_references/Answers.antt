@@ -12,5 +12,5 @@ loop-preserved c =
     record {
       owned = search rules;
       reaches = reaches_read c.args.cx.now c.loop.inner arm.referent arm.field-0 arm.mutability _ c.kind.ensures arm.is c.in-Not.is
-        c.loop.invariant.reaches;
+          c.loop.invariant.reaches;
     }

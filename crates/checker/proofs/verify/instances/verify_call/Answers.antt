@@ -23,7 +23,7 @@ returns-clause-typed c =
     let counted = sym c.len.ensures.len ∙ c.if-len.false ∙ c.len-2.ensures ∙ item.params.ok.0 in
     let same = c.in_ok-operands.ensures ∙ ap (λ xs. part xs c.args.operands) c.as_slice.ensures.value in
     let fit = subst (λ ws. Fit (around old c.args.scope) c.args.number (argument_trees old args) ws numbers) c.as_slice-2.ensures.value
-      c.in_ok-verify_each.ensures.fit in
+    c.in_ok-verify_each.ensures.fit in
     on_ok c.verify_instance.result (λ is.
-      call_typed old c.verify_each.new.cx c.args.scope args c.in_ok-verify_each.ensures.extends c.requires.scope owned c.len.ensures.are
-        c.args.number f c.args.operands item c.args.ty numbers there counted same fit c.requires.ty is) c.verify_instance.ensures.plain
+    call_typed old c.verify_each.new.cx c.args.scope args c.in_ok-verify_each.ensures.extends c.requires.scope owned c.len.ensures.are
+    c.args.number f c.args.operands item c.args.ty numbers there counted same fit c.requires.ty is) c.verify_instance.ensures.plain

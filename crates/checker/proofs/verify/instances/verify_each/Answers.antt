@@ -25,10 +25,10 @@ loop-index-preserved c =
     let value = c.in_ok-found.ensures in
     let second : i < length ns = omega (arith, c.loop-index-test.true, c.if-declared-operands.false) in
     let fits = operand_fits old c.loop-index.cx c.args.scope c.args.args inv.extends c.requires.scope c.requires.args
-      c.len-count.ensures.are
-      c.args.number (get_or ws i 0) (get_or ns i 0) c.in_ok-found.found value.before value.is c.in_ok-verify_instance.ensures.plain in
+    c.len-count.ensures.are
+    c.args.number (get_or ws i 0) (get_or ns i 0) c.in_ok-found.found value.before value.is c.in_ok-verify_instance.ensures.plain in
     let next = fit_next A c.args.number args ws ns i (get_or ws i 0) (get_or ns i 0) inv.fit
-      (slice_get-get_or ws i 0 c.loop-index-test.true) (slice_get-get_or ns i 0 second) fits in
+    (slice_get-get_or ws i 0 c.loop-index-test.true) (slice_get-get_or ns i 0 second) fits in
     record {
       extends = extends_further inv.extends c.in_ok-verify_instance.ensures.extends;
       fit = subst (λ m. AreFitBelow A c.args.number args ws ns m) (sym (add-one i)) next;
@@ -38,5 +38,5 @@ pub returns-clause-fit : goal.returns-clause-fit
 returns-clause-fit c = record {
   counted = c.if-declared-operands.false;
   each = λ k w n written there. c.loop-index.invariant.fit k w n
-    (let within = slice_get_within c.args.declared.now k w written in omega (arith, within, c.loop-index-test.false)) written there;
+      (let within = slice_get_within c.args.declared.now k w written in omega (arith, within, c.loop-index-test.false)) written there;
 }
