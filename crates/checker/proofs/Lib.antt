@@ -1,0 +1,11 @@
+pub mod BodyLaws
+pub mod BuiltLaws
+pub mod CallLaws
+pub mod ClientLaws
+pub mod InstanceLaws
+pub mod ListLaws
+pub mod LookupLaws
+pub mod ProgramLaws
+pub mod ScopeLaws
+pub mod TreeLaws
+pub mod TypingLaws

@@ -1,0 +1,29 @@
+use Rattle.std.proofs.Common.{Ok, ap, sym, ◌∙◌}
+use Rattle.tt_index.specs.declared.numeric.IntTy.TheVariants.{I32}
+use Rattle.checker.specs.Typing.{literal_type as type_of_literal, reference_to}
+use Rattle.checker.proofs.BuiltLaws.{reference_built_by}
+use Rattle.checker.proofs.TreeLaws.{bool_built, char_built, int_built, str_built}
+use Rattle.checker.proofs.built.literal_type.Goals as goal
+
+pub returns-in_ok-mk_ty-in-Int-clause-is : goal.returns-in_ok-mk_ty-in-Int-clause-is
+returns-in_ok-mk_ty-in-Int-clause-is c =
+    let is = int_built I32 c.args.cx.now c.mk_ty.new.self (Ok c.in_ok-mk_ty-in-Int.field-0) c.in_ok-mk_ty-in-Int.ensures in
+    is ∙ ap type_of_literal (sym c.in-Int.is)
+
+pub returns-in_ok-mk_ty-in-Bool-clause-is : goal.returns-in_ok-mk_ty-in-Bool-clause-is
+returns-in_ok-mk_ty-in-Bool-clause-is c =
+    let is = bool_built c.args.cx.now c.mk_ty-in-Bool.new.self (Ok c.in_ok-mk_ty-in-Bool.field-0) c.in_ok-mk_ty-in-Bool.ensures in
+    is ∙ ap type_of_literal (sym c.in-Bool.is)
+
+pub returns-in_ok-mk_ty-in-Char-clause-is : goal.returns-in_ok-mk_ty-in-Char-clause-is
+returns-in_ok-mk_ty-in-Char-clause-is c =
+    let is = char_built c.args.cx.now c.mk_ty-in-Char.new.self (Ok c.in_ok-mk_ty-in-Char.field-0) c.in_ok-mk_ty-in-Char.ensures in
+    is ∙ ap type_of_literal (sym c.in-Char.is)
+
+pub returns-in_ok-mk_ref-in-Str-clause-is : goal.returns-in_ok-mk_ref-in-Str-clause-is
+returns-in_ok-mk_ref-in-Str-clause-is c =
+    let text = c.in_ok-text-in-Str.text in
+    let inner = str_built c.args.cx.now c.mk_ty-in-Str.new.self (Ok text) c.in_ok-text-in-Str.ensures in
+    let is = reference_built_by c.mk_ty-in-Str.new.self c.mk_ref.new.self c.new_erased.result text c.in_ok-mk_ref-in-Str.field-0
+    c.mk_ref.result c.new_erased.ensures c.in_ok-mk_ref-in-Str.was c.mk_ref.ensures in
+    is ∙ ap reference_to inner ∙ ap type_of_literal (sym c.in-Str.is)

@@ -1,0 +1,15 @@
+use Rattle.std.proofs.Common.{sym, subst}
+use Rattle.tt_kinds.specs.Kinds.{ty_shape}
+use Rattle.tt_interner.specs.Owned.{AreOwned}
+use Rattle.tt_interner.proofs.Growth.{Extends-trans}
+use Rattle.tt_interner.proofs.OwnedLaws.{list_still_owned, push_owned}
+use Rattle.checker.proofs.declared.functions.Goals as goal
+
+pub function-requires : goal.function-requires
+function-requires c = list_still_owned ty_shape c.args.cx.now c.loop-item.cx c.args.written.now c.loop-item.invariant.extends c.requires
+
+pub loop-item-preserved : goal.loop-item-preserved
+loop-item-preserved c = record {
+  extends = Extends-trans c.loop-item.invariant.extends c.function.ensures.extends;
+  types = subst (AreOwned ty_shape c.function.new.cx) (sym c.in_ok-push.ensures.items) (push_owned ty_shape c.function.new.cx c.loop-item.types.items c.in_ok-function.field-0 (list_still_owned ty_shape c.loop-item.cx c.function.new.cx c.loop-item.types.items c.function.ensures.extends c.loop-item.invariant.types) c.in_ok-function.ensures.owned);
+}

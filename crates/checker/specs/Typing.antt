@@ -1,0 +1,163 @@
+-- The typing rules of the language, on plain trees of types.
+use Rattle.std.specs.Prelude.{◌≡◌, ◌<◌, ◌-◌, ℕ, List, [], ◌∷◌, length, Option, Some, None, map, drop, slice_get, take, IfSome}
+use Rattle.std.specs.String.{string_bytes}
+use Rattle.std.specs.declared.alloc.Global.{Global}
+use Rattle.std.specs.declared.string.String.{String}
+use Rattle.tt_index.specs.declared.numeric.IntTy.TheVariants.{I32}
+use Rattle.tt_index.specs.declared.qualifier.Mutability.{Mutability}
+use Rattle.tt_index.specs.declared.qualifier.Mutability.TheVariants.{Not}
+use Rattle.tt_kinds.specs.Label.{type_sort, TypeLabel, type_label, list_label, bool_type, char_type, int_type, str_type, tuple_type, ref_type, erased_region}
+use Rattle.tt_kinds.specs.Tree.{Depth, Tree, Forest, param, term, node, region, none, also}
+use Rattle.tt_kinds.specs.Argument.{Argument}
+use Rattle.tt_kinds.specs.declared.table.Table.TheVariants.{TypeLists}
+use Rattle.tt_binder.specs.Instance.{IsPlain}
+use Rattle.checker_syntax.specs.declared.program.Program.{Program}
+use Rattle.checker_syntax.specs.declared.program.Function.{Function}
+use Rattle.checker_syntax.specs.declared.program.DataType.{DataType}
+use Rattle.checker_syntax.specs.declared.program.Field.{Field}
+use Rattle.checker_syntax.specs.declared.program.Body.{Body}
+use Rattle.checker_syntax.specs.declared.program.Span.{Span}
+use Rattle.checker_syntax.specs.declared.program.Literal.{Literal}
+use Rattle.checker_syntax.specs.declared.program.Literal.TheVariants as literal_of
+use Rattle.checker_syntax.specs.declared.program.WrittenType.{WrittenType}
+use Rattle.checker_syntax.specs.declared.program.WrittenType.TheVariants as written_as
+use Rattle.checker_syntax.specs.declared.program.Expression.{Expression}
+use Rattle.checker_syntax.specs.declared.program.Expression.TheVariants as of
+
+-- a type without parts
+abbrev pub simple : TypeLabel → Tree Depth
+simple l = term (type_label l) none
+
+-- trees, as children in order
+abbrev pub in_order : List (Tree Depth) → Forest Depth
+in_order [] = none
+in_order (t ∷ ts) = also t (in_order ts)
+
+-- the tuple of these types
+abbrev pub tuple_of : List (Tree Depth) → Tree Depth
+tuple_of ts = term (type_label tuple_type) (also (node (list_label TypeLists) (in_order ts)) none)
+
+-- the reference to this type, by a region
+abbrev pub reference_by : Tree Depth → Tree Depth → Tree Depth
+reference_by r t = term (type_label (ref_type Not)) (also r (also t none))
+
+-- the reference to this type, by the erased region
+abbrev pub reference_to : Tree Depth → Tree Depth
+reference_to t = reference_by (region erased_region) t
+
+-- the type of a literal
+abbrev pub literal_type : Literal → Tree Depth
+literal_type literal_of.Int = simple (int_type I32)
+literal_type literal_of.Bool = simple bool_type
+literal_type literal_of.Char = simple char_type
+literal_type literal_of.Str = reference_to (simple str_type)
+
+-- the second type is the first one, or what it refers to, if need be through further references
+pub data Reaches : Tree Depth → Tree Depth → Type 0 where
+  itself : {t : Tree Depth} → Reaches t t
+  through : {r t u : Tree Depth} → Reaches t u → Reaches (reference_by r t) u
+
+-- the type is a tuple, and t is its item of this number
+abbrev pub IsItemOf : ℕ → Tree Depth → Tree Depth → Type 0
+IsItemOf k whole t = (ts : List (Tree Depth)) × (whole ≡ tuple_of ts) × (slice_get ts k ≡ Some t)
+
+-- the numbers of this part of a list
+abbrev pub part : List ℕ → Span → List ℕ
+part numbers span = take (span.end - span.start) (drop span.start numbers)
+
+-- the thing of number n comes before the one of number i, and has this type among these
+abbrev pub Before : List (Tree Depth) → ℕ → ℕ → Tree Depth → Type 0
+Before types i n t = (n < i) × (slice_get types n ≡ Some t)
+
+-- there are as many numbers as types, and each is of a thing before the one of number i that has the type in its place
+pub record AllBefore (types : List (Tree Depth)) (i : ℕ) (ns : List ℕ) (ts : List (Tree Depth)) : Type 0 where
+  pub counted : length ns ≡ length ts
+  pub each : (k n : ℕ) → slice_get ns k ≡ Some n → (t : Tree Depth) × (slice_get ts k ≡ Some t) × Before types i n t
+
+-- What is known around the expressions of a body.
+pub record Around : Type 0 where
+  pub program : Program
+  pub function : Function
+  pub body : Body
+  -- each data type, at its own parameters
+  pub own : List (Tree Depth)
+  -- each written type
+  pub written : List (Tree Depth)
+  -- each expression's type
+  pub types : List (Tree Depth)
+
+module _ (A : Around) where
+  -- the written type of this number
+  abbrev pub Writes : ℕ → Tree Depth → Type 0
+  Writes w t = slice_get A.written w ≡ Some t
+
+  -- the operand comes before the expression, and has this type
+  abbrev pub Operand : ℕ → ℕ → Tree Depth → Type 0
+  Operand i n t = Before A.types i n t
+
+  -- so do operands, in order
+  abbrev pub Operands : ℕ → List ℕ → List (Tree Depth) → Type 0
+  Operands i ns ts = AllBefore A.types i ns ts
+
+  -- the operand's type is the instance of the written one
+  abbrev pub Fits : ℕ → List (Argument Depth) → ℕ → ℕ → Type 0
+  Fits i args w n = (d : Tree Depth) × (t : Tree Depth) × Writes w d × Operand i n t × IsPlain args d t
+
+  -- there are as many operands as written types, and each is of the instance of the one in its place
+  pub record Fit (i : ℕ) (args : List (Argument Depth)) (ws ns : List ℕ) : Type 0 where
+    pub counted : length ws ≡ length ns
+    pub each : (k w n : ℕ) → slice_get ws k ≡ Some w → slice_get ns k ≡ Some n → Fits i args w n
+
+  -- the type is the data type of this number and item at these arguments, one for each parameter
+  pub record IsInstance (k : ℕ) (item : DataType) (args : List (Argument Depth)) (t : Tree Depth) : Type 0 where
+    pub whole : Tree Depth
+    pub there : slice_get A.program.«data».items k ≡ Some item
+    pub owned : slice_get A.own k ≡ Some whole
+    pub counted : length args ≡ length item.params.items
+    pub plain : IsPlain args whole t
+
+  -- the data type has a field of this name, which is of the type t at these arguments
+  pub record HasField (item : DataType) (args : List (Argument Depth)) (name : ℕ) (t : Tree Depth) : Type 0 where
+    pub number : ℕ
+    pub field : Field
+    pub declared : Tree Depth
+    pub there : slice_get item.fields.items number ≡ Some field
+    pub named : field.name ≡ name
+    pub written : Writes field.ty declared
+    pub plain : IsPlain args declared t
+
+  -- the expression of number i may have the type t
+  pub data IsTyped (i : ℕ) (t : Tree Depth) : Expression → Type 0 where
+    literal : {l : Literal} → t ≡ literal_type l → IsTyped i t (of.Literal l)
+    argument : {k w : ℕ} → slice_get A.function.inputs.items k ≡ Some w → Writes w t → IsTyped i t (of.Argument k)
+    binding : {n : ℕ} {a : Option ℕ} → Operand i n t → IfSome a (λ w. Writes w t) → IsTyped i t (of.Let n a)
+    variable : {n : ℕ} → Operand i n t → IsTyped i t (of.Local n)
+    tuple : {s : Span} {ts : List (Tree Depth)} → Operands i (part A.body.operands.items s) ts → t ≡ tuple_of ts → IsTyped i t (of.Tuple s)
+    reference : {n : ℕ} {u : Tree Depth} → Operand i n u → t ≡ reference_to u → IsTyped i t (of.Reference n)
+    dereference : {n : ℕ} → Operand i n (reference_to t) → IsTyped i t (of.Dereference n)
+    -- a call: the arguments' types are instances of the written inputs, and the call's is the written output's
+    call : {f : ℕ} {s : Span} {item : Function} {args : List (Argument Depth)} {d : Tree Depth}
+        → slice_get A.program.functions.items f ≡ Some item → length args ≡ length item.params.items
+        → Fit i args item.inputs.items (part A.body.operands.items s)
+        → Writes item.output d → IsPlain args d t → IsTyped i t (of.Call f s)
+    -- a data type expression: the values' types are instances of the written fields
+    data_type : {k : ℕ} {s : Span} {item : DataType} {args : List (Argument Depth)}
+        → IsInstance k item args t → Fit i args (map (λ f. f.ty) item.fields.items) (part A.body.operands.items s) → IsTyped i t (of.Data k s)
+    -- a field of a value of a data type, or of a reference to one
+    field : {n name k : ℕ} {u whole : Tree Depth} {item : DataType} {args : List (Argument Depth)}
+        → Operand i n u → Reaches u whole → IsInstance k item args whole → HasField item args name t → IsTyped i t (of.Field n name)
+    -- an item of a tuple, or of a reference to one
+    item : {n k : ℕ} {u whole : Tree Depth} → Operand i n u → Reaches u whole → IsItemOf k whole t → IsTyped i t (of.Item n k)
+
+  -- the expression of number i has its type by a rule
+  pub record HasType (i : ℕ) (e : Expression) : Type 0 where
+    pub type : Tree Depth
+    pub there : slice_get A.types i ≡ Some type
+    pub typed : IsTyped i type e
+
+  -- the body has these types: each expression by a rule, and the result the written output's
+  pub record IsTypedBody : Type 0 where
+    pub each : (i : ℕ) (e : Expression) → slice_get A.body.expressions.items i ≡ Some e → HasType i e
+    pub result : Tree Depth
+    pub returned : slice_get A.types A.body.result ≡ Some result
+    pub output : Writes A.function.output result

@@ -1,0 +1,43 @@
+//! Why a program isn't accepted.
+
+use checker_syntax::message::Message;
+use std::alloc::{AllocError, AllocFailed};
+use thiserror::Error;
+use type_terms::Refusal;
+
+/// Why a program isn't accepted, or isn't checked to its end.
+#[derive(Debug, Drop, Error)]
+pub enum Failure {
+    /// The program is wrong.
+    #[error("{0}")]
+    Wrong(Message),
+    /// A number in the program is no place of the list that it belongs to, or an operand doesn't come before its
+    /// expression. No program that was read is so.
+    #[error("a number in the program points nowhere")]
+    Malformed,
+    /// The types that were found don't meet the rules. No program is known for which this is returned; the proof doesn't
+    /// exclude it.
+    #[error("the types that were found do not meet the rules")]
+    Unverified,
+    /// The library refused a call: memory is short ([`Refusal::Memory`]), or a table is full ([`Refusal::TableFull`]).
+    #[error("{0}")]
+    Refused(Refusal),
+}
+
+impl From<Refusal> for Failure {
+    fn from(refusal: Refusal) -> Failure {
+        Failure::Refused(refusal)
+    }
+}
+
+impl From<AllocError> for Failure {
+    fn from(error: AllocError) -> Failure {
+        Failure::Refused(Refusal::from(error))
+    }
+}
+
+impl<T: Drop> From<AllocFailed<T>> for Failure {
+    fn from(failed: AllocFailed<T>) -> Failure {
+        Failure::Refused(Refusal::from(failed))
+    }
+}

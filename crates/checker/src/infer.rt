@@ -1,0 +1,296 @@
+//! The types of a body's expressions, inferred.
+//!
+//! Each expression has an inference variable, and each rule makes types equal.
+
+mod calls;
+mod equality;
+mod projections;
+
+ghost use Rattle.std.specs.Prelude.{IfOk};
+ghost use Rattle.tt_interner.specs.Owned.{AreOwned, IsOwned};
+ghost use Rattle.tt_interner.specs.Stored.{Extends};
+ghost use Rattle.tt_kinds.specs.Kinds.{ty_shape};
+ghost use Rattle.unify.specs.Bindings.{IsTable};
+ghost use Rattle.checker.specs.Items.{IsDeclared};
+ghost use Rattle.checker.specs.Scope.{IsScope};
+
+use crate::built::built;
+use crate::declared::Declared;
+use crate::failure::Failure;
+use crate::lookup::{at, type_at};
+use crate::scope::{Scope, operand, place_of, type_of, written};
+use crate::wording::unknown_type;
+use checker_syntax::program::{Body, Expression, Function, Place, Program};
+use equality::{equate, fresh_variable, is_of};
+use type_terms::prelude::*;
+use unify::Bindings;
+
+/// The types of a body that were inferred.
+#[derive(Drop)]
+pub struct Inferred {
+    /// The type of each expression.
+    pub types: Vec<Ty>,
+    /// Of each call, the type of the function, at its type arguments. Of another expression, the expression's type.
+    pub subjects: Vec<Ty>,
+}
+
+/// Infers the types of a function's body.
+#[tactic(auto, using(crate::proofs::ClientLaws::extends_further))]
+pub fn infer_body(
+    cx: &mut Interner,
+    program: &Program,
+    declared: &Declared,
+    function: &Function,
+    body: &Body,
+) -> Result<Inferred, Failure>
+    requires { IsDeclared cx.old declared.now }
+    ensures extends { Extends cx.old cx.new }
+    ensures types { IfOk result (λ i. AreOwned ty_shape cx.new i.types.items) }
+    ensures subjects { IfOk result (λ i. AreOwned ty_shape cx.new i.subjects.items) }
+{
+    let mut bindings = Bindings::new(cx.allocator());
+    let variables = fresh_variables(cx, &mut bindings, body.expressions.len())?;
+    let scope = Scope {
+        program,
+        declared,
+        function,
+        body,
+        types: variables.as_slice(),
+    };
+    infer_within(cx, scope, &mut bindings)
+}
+
+// Infers the types of a body whose expressions have variables.
+#[tactic(auto, using(crate::proofs::ClientLaws::extends_further))]
+fn infer_within(
+    cx: &mut Interner,
+    scope: Scope<'_>,
+    bindings: &mut Bindings,
+) -> Result<Inferred, Failure>
+    requires scope { IsScope cx.old scope }
+    requires table { IsTable cx.old bindings.old }
+    ensures extends { Extends cx.old cx.new }
+    ensures types { IfOk result (λ i. AreOwned ty_shape cx.new i.types.items) }
+    ensures subjects { IfOk result (λ i. AreOwned ty_shape cx.new i.subjects.items) }
+{
+    let subjects = infer_all(cx, scope, bindings)?;
+    infer_result(cx, scope, bindings)?;
+    let types = resolved(cx, scope, bindings, scope.types)?;
+    let subjects = resolved(cx, scope, bindings, subjects.as_slice())?;
+    Ok(Inferred { types, subjects })
+}
+
+// Makes the type of the result equal to the function's output.
+#[tactic(auto, using(crate::proofs::ClientLaws::extends_further))]
+fn infer_result(cx: &mut Interner, scope: Scope<'_>, bindings: &mut Bindings) -> Result<(), Failure>
+    requires scope { IsScope cx.old scope }
+    requires table { IsTable cx.old bindings.old }
+    ensures extends { Extends cx.old cx.new }
+    ensures table { IsTable cx.new bindings.new }
+{
+    let output = written(cx, scope, scope.function.output)?;
+    let result = type_of(cx, scope, scope.body.result)?;
+    let place = place_of(scope, scope.body.result)?;
+    equate(cx, bindings, place, output, result)
+}
+
+// Returns so many new variables.
+#[tactic(auto, using(crate::proofs::ClientLaws::extends_further))]
+fn fresh_variables(
+    cx: &mut Interner,
+    bindings: &mut Bindings,
+    count: usize,
+) -> Result<Vec<Ty>, Failure>
+    requires { IsTable cx.old bindings.old }
+    ensures extends { Extends cx.old cx.new }
+    ensures table { IsTable cx.new bindings.new }
+    ensures owned { IfOk result (λ types. AreOwned ty_shape cx.new types.items) }
+{
+    let mut variables = Vec::new(cx.allocator());
+    for _ in 0..count {
+        variables.push(fresh_variable(cx, bindings)?)?;
+    }
+    Ok(variables)
+}
+
+// Infers the types of all expressions, and returns their subjects.
+#[tactic(auto, using(crate::proofs::ClientLaws::extends_further))]
+fn infer_all(
+    cx: &mut Interner,
+    scope: Scope<'_>,
+    bindings: &mut Bindings,
+) -> Result<Vec<Ty>, Failure>
+    requires scope { IsScope cx.old scope }
+    requires table { IsTable cx.old bindings.old }
+    ensures extends { Extends cx.old cx.new }
+    ensures table { IsTable cx.new bindings.new }
+    ensures owned { IfOk result (λ types. AreOwned ty_shape cx.new types.items) }
+{
+    let mut subjects = Vec::new(cx.allocator());
+    for number in 0..scope.body.expressions.len() {
+        let expression = at(scope.body.expressions.as_slice(), number)?;
+        subjects.push(infer(cx, scope, bindings, number, expression)?)?;
+    }
+    Ok(subjects)
+}
+
+// Returns the types with the variables replaced, which have to be known.
+#[tactic(auto, using(crate::proofs::ClientLaws::extends_further))]
+fn resolved(
+    cx: &mut Interner,
+    scope: Scope<'_>,
+    bindings: &Bindings,
+    types: &[Ty],
+) -> Result<Vec<Ty>, Failure>
+    requires table { IsTable cx.old bindings.now }
+    requires types { AreOwned ty_shape cx.old types.now }
+    ensures extends { Extends cx.old cx.new }
+    ensures table { IsTable cx.new bindings.now }
+    ensures owned { IfOk result (λ known. AreOwned ty_shape cx.new known.items) }
+{
+    let mut known = Vec::new(cx.allocator());
+    for number in 0..types.len() {
+        let ty = type_at(cx, types, number)?;
+        let ty = bindings.resolve(cx, ty)?;
+        if ty.has_infer(cx) {
+            let message = unknown_type(cx, bindings, place_of(scope, number)?, ty)?;
+            return Err(Failure::Wrong(message));
+        }
+        known.push(ty)?;
+    }
+    Ok(known)
+}
+
+// Infers the type of the expression of this number, and returns its subject.
+#[tactic(auto, using(crate::proofs::ClientLaws::extends_further))]
+fn infer(
+    cx: &mut Interner,
+    scope: Scope<'_>,
+    bindings: &mut Bindings,
+    number: usize,
+    expression: Expression,
+) -> Result<Ty, Failure>
+    requires scope { IsScope cx.old scope }
+    requires table { IsTable cx.old bindings.old }
+    ensures extends { Extends cx.old cx.new }
+    ensures table { IsTable cx.new bindings.new }
+    ensures owned { IfOk result (λ ty. IsOwned ty_shape cx.new ty) }
+{
+    let ty = type_of(cx, scope, number)?;
+    match expression {
+        Expression::Let(init, annotation) => {
+            infer_let(cx, scope, bindings, number, init, annotation)?;
+        }
+        Expression::Dereference(value) => {
+            infer_dereference(cx, scope, bindings, number, value)?;
+        }
+        Expression::Call(function, arguments) => {
+            return calls::infer_call(cx, scope, bindings, number, function, arguments);
+        }
+        Expression::Data(data, fields) => {
+            calls::infer_data(cx, scope, bindings, number, data, fields)?;
+        }
+        Expression::Field(value, name) => {
+            projections::infer_field(cx, scope, bindings, number, value, name)?;
+        }
+        Expression::Item(value, item) => {
+            projections::infer_item(cx, scope, bindings, number, value, item)?;
+        }
+        _ => infer_built(cx, scope, bindings, number, expression)?,
+    }
+    Ok(ty)
+}
+
+// Infers the type of an expression whose type is built of its operands' types.
+#[tactic(auto, using(crate::proofs::ClientLaws::extends_further))]
+fn infer_built(
+    cx: &mut Interner,
+    scope: Scope<'_>,
+    bindings: &mut Bindings,
+    number: usize,
+    expression: Expression,
+) -> Result<(), Failure>
+    requires scope { IsScope cx.old scope }
+    requires table { IsTable cx.old bindings.old }
+    ensures extends { Extends cx.old cx.new }
+    ensures table { IsTable cx.new bindings.new }
+{
+    let ty = built(cx, scope, number, expression)?;
+    is_of(cx, scope, bindings, number, ty)
+}
+
+// Infers the type of what a reference refers to.
+#[tactic(auto, using(crate::proofs::ClientLaws::extends_further))]
+fn infer_dereference(
+    cx: &mut Interner,
+    scope: Scope<'_>,
+    bindings: &mut Bindings,
+    number: usize,
+    value: usize,
+) -> Result<(), Failure>
+    requires scope { IsScope cx.old scope }
+    requires table { IsTable cx.old bindings.old }
+    ensures extends { Extends cx.old cx.new }
+    ensures table { IsTable cx.new bindings.new }
+{
+    let ty = type_of(cx, scope, number)?;
+    let found = operand(cx, scope, number, value)?;
+    let place = place_of(scope, value)?;
+    let expected = reference_to(cx, ty)?;
+    equate(cx, bindings, place, expected, found)
+}
+
+// Returns the reference to this type.
+fn reference_to(cx: &mut Interner, ty: Ty) -> Result<Ty, Failure>
+    requires { IsOwned ty_shape cx.old ty }
+    ensures extends { Extends cx.old cx.new }
+    ensures owned { IfOk result (λ ty. IsOwned ty_shape cx.new ty) }
+{
+    Ok(cx.mk_ref(Region::new_erased(), ty, Mutability::Not)?)
+}
+
+// Infers the type of a variable, which is the type that is written, if there is one, and its value's.
+#[tactic(auto, using(crate::proofs::ClientLaws::extends_further))]
+fn infer_let(
+    cx: &mut Interner,
+    scope: Scope<'_>,
+    bindings: &mut Bindings,
+    number: usize,
+    init: usize,
+    annotation: Option<usize>,
+) -> Result<(), Failure>
+    requires scope { IsScope cx.old scope }
+    requires table { IsTable cx.old bindings.old }
+    ensures extends { Extends cx.old cx.new }
+    ensures table { IsTable cx.new bindings.new }
+{
+    let found = operand(cx, scope, number, init)?;
+    let place = place_of(scope, init)?;
+    equate_written(cx, scope, bindings, place, annotation, found)?;
+    is_of(cx, scope, bindings, number, found)
+}
+
+// Makes the type equal to the written one, if there is one.
+#[tactic(auto, using(crate::proofs::ClientLaws::extends_further))]
+fn equate_written(
+    cx: &mut Interner,
+    scope: Scope<'_>,
+    bindings: &mut Bindings,
+    place: Place,
+    annotation: Option<usize>,
+    found: Ty,
+) -> Result<(), Failure>
+    requires scope { IsScope cx.old scope }
+    requires table { IsTable cx.old bindings.old }
+    requires found { IsOwned ty_shape cx.old found }
+    ensures extends { Extends cx.old cx.new }
+    ensures table { IsTable cx.new bindings.new }
+{
+    match annotation {
+        Some(annotation) => {
+            let expected = written(cx, scope, annotation)?;
+            equate(cx, bindings, place, expected, found)
+        }
+        None => Ok(()),
+    }
+}

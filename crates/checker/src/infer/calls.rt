@@ -1,0 +1,211 @@
+//! Calls and data type expressions, whose type arguments are inferred.
+
+ghost use Rattle.std.specs.Prelude.{IfOk};
+ghost use Rattle.tt_kinds.specs.Kinds.{arg_shape, ty_shape};
+ghost use Rattle.tt_interner.specs.Owned.{AreOwned, IsOwned};
+ghost use Rattle.tt_interner.specs.Stored.{Extends};
+ghost use Rattle.unify.specs.Bindings.{IsTable};
+ghost use Rattle.checker.specs.Items.{AreOwnedFields};
+ghost use Rattle.checker.specs.Scope.{IsScope};
+ghost use Rattle.tt_kinds.specs.Values.{fn_sig_shape};
+
+use crate::declared::{argument, instance_of, listed};
+use crate::failure::Failure;
+use crate::infer::equality::{equate, fresh_variable, is_of};
+use crate::lookup::{at, part_of, type_at};
+use crate::scope::{Scope, operand, place_of};
+use crate::wording::wrong_count;
+use checker_syntax::program::Span;
+use type_terms::FieldInfo;
+use type_terms::prelude::*;
+use unify::Bindings;
+
+// Returns the type with new variables for this many parameters.
+#[tactic(auto, using(crate::proofs::ClientLaws::extends_further))]
+fn fresh_instance(
+    cx: &mut Interner,
+    bindings: &mut Bindings,
+    ty: Ty,
+    params: usize,
+) -> Result<Ty, Failure>
+    requires table { IsTable cx.old bindings.old }
+    requires ty { IsOwned ty_shape cx.old ty }
+    ensures extends { Extends cx.old cx.new }
+    ensures table { IsTable cx.new bindings.new }
+    ensures owned { IfOk result (λ ty. IsOwned ty_shape cx.new ty) }
+{
+    let mut args = Vec::new(cx.allocator());
+    for _ in 0..params {
+        args.push(fresh_argument(cx, bindings)?)?;
+    }
+    let args = listed(cx, args.as_slice())?;
+    instance_of(cx, ty, args)
+}
+
+// Returns a new variable as an argument.
+fn fresh_argument(cx: &mut Interner, bindings: &mut Bindings) -> Result<GenericArg, Failure>
+    requires { IsTable cx.old bindings.old }
+    ensures extends { Extends cx.old cx.new }
+    ensures table { IsTable cx.new bindings.new }
+    ensures owned { IfOk result (λ arg. IsOwned arg_shape cx.new arg) }
+{
+    let ty = fresh_variable(cx, bindings)?;
+    Ok(argument(cx, ty))
+}
+
+// Makes the types of the operands equal to those that are expected, in order.
+#[tactic(auto, using(crate::proofs::ClientLaws::extends_further))]
+fn equate_each(
+    cx: &mut Interner,
+    scope: Scope<'_>,
+    bindings: &mut Bindings,
+    number: usize,
+    expected: &[Ty],
+    operands: &[usize],
+) -> Result<(), Failure>
+    requires scope { IsScope cx.old scope }
+    requires table { IsTable cx.old bindings.old }
+    requires expected { AreOwned ty_shape cx.old expected.now }
+    ensures extends { Extends cx.old cx.new }
+    ensures table { IsTable cx.new bindings.new }
+{
+    for index in 0..operands.len() {
+        let value = operands[index];
+        let found = operand(cx, scope, number, value)?;
+        let expected = type_at(cx, expected, index)?;
+        equate(cx, bindings, place_of(scope, value)?, expected, found)?;
+    }
+    Ok(())
+}
+
+/// Infers the type of a call, and the type arguments of the function, and returns the type of the function at these.
+#[tactic(auto, using(crate::proofs::ClientLaws::extends_further))]
+pub fn infer_call(
+    cx: &mut Interner,
+    scope: Scope<'_>,
+    bindings: &mut Bindings,
+    number: usize,
+    function: usize,
+    arguments: Span,
+) -> Result<Ty, Failure>
+    requires scope { IsScope cx.old scope }
+    requires table { IsTable cx.old bindings.old }
+    ensures extends { Extends cx.old cx.new }
+    ensures table { IsTable cx.new bindings.new }
+    ensures owned { IfOk result (λ ty. IsOwned ty_shape cx.new ty) }
+{
+    let Some(callee) = scope.program.functions.get(function) else {
+        return Err(Failure::Malformed);
+    };
+    let arguments = part_of(scope.body.operands.as_slice(), arguments)?;
+    let place = place_of(scope, number)?;
+    if arguments.len() != callee.inputs.len() {
+        let message = wrong_count(cx, scope.program, place, callee, arguments.len())?;
+        return Err(Failure::Wrong(message));
+    }
+    let ty = type_at(cx, scope.declared.functions.as_slice(), function)?;
+    let item = fresh_instance(cx, bindings, ty, callee.params.len())?;
+    let (inputs, output) = signature(cx, item)?;
+    equate_each(cx, scope, bindings, number, inputs.as_slice(), arguments)?;
+    is_of(cx, scope, bindings, number, output)?;
+    Ok(item)
+}
+
+// Returns the types of the inputs and of the output of a function's type.
+#[tactic(auto, using(crate::proofs::ClientLaws::extends_further))]
+fn signature(cx: &mut Interner, item: Ty) -> Result<(Vec<Ty>, Ty), Failure>
+    requires { IsOwned ty_shape cx.old item }
+    ensures extends { Extends cx.old cx.new }
+    ensures inputs { IfOk result (λ sig. AreOwned ty_shape cx.new sig.0.items) }
+    ensures output { IfOk result (λ sig. IsOwned ty_shape cx.new sig.1) }
+{
+    let kind = *item.kind(cx);
+    if !kind.has_fn_sig(cx) || !cx.owns_kind(&kind) {
+        return Err(Failure::Malformed);
+    }
+    let sig = kind.fn_sig(cx)?.skip_binder();
+    if !sig.has_output(cx) {
+        return Err(Failure::Malformed);
+    }
+    let output = sig.output(cx);
+    let inputs = inputs_of(cx, sig)?;
+    Ok((inputs, output))
+}
+
+// Returns the types of a signature's inputs.
+fn inputs_of(cx: &Interner, sig: FnSig) -> Result<Vec<Ty>, Failure>
+    requires { IsOwned fn_sig_shape cx.now sig }
+    ensures { IfOk result (λ inputs. AreOwned ty_shape cx.now inputs.items) }
+{
+    let types = sig.inputs_and_output.as_slice(cx);
+    let mut inputs = Vec::new(cx.allocator());
+    for index in 1..types.len() {
+        inputs.push(type_at(cx, types, index - 1)?)?;
+    }
+    Ok(inputs)
+}
+
+/// Infers the type of a data type expression, and the type arguments of the data type.
+#[tactic(auto, using(crate::proofs::ClientLaws::extends_further))]
+pub fn infer_data(
+    cx: &mut Interner,
+    scope: Scope<'_>,
+    bindings: &mut Bindings,
+    number: usize,
+    data: usize,
+    fields: Span,
+) -> Result<(), Failure>
+    requires scope { IsScope cx.old scope }
+    requires table { IsTable cx.old bindings.old }
+    ensures extends { Extends cx.old cx.new }
+    ensures table { IsTable cx.new bindings.new }
+{
+    let Some(item) = scope.program.data.get(data) else {
+        return Err(Failure::Malformed);
+    };
+    let values = part_of(scope.body.operands.as_slice(), fields)?;
+    let ty = type_at(cx, scope.declared.data_types.as_slice(), data)?;
+    let ty = fresh_instance(cx, bindings, ty, item.params.len())?;
+    let types = field_types(cx, ty)?;
+    if values.len() != types.len() {
+        return Err(Failure::Malformed);
+    }
+    equate_each(cx, scope, bindings, number, types.as_slice(), values)?;
+    is_of(cx, scope, bindings, number, ty)
+}
+
+// Returns the types of a data type's fields.
+#[tactic(auto, using(crate::proofs::ClientLaws::extends_further))]
+fn field_types(cx: &mut Interner, ty: Ty) -> Result<Vec<Ty>, Failure>
+    requires { IsOwned ty_shape cx.old ty }
+    ensures extends { Extends cx.old cx.new }
+    ensures owned { IfOk result (λ types. AreOwned ty_shape cx.new types.items) }
+{
+    let fields = fields_of(cx, ty)?;
+    let mut types = Vec::new(cx.allocator());
+    for index in 0..fields.len() {
+        types.push(field_type(cx, fields.as_slice(), index)?)?;
+    }
+    Ok(types)
+}
+
+/// Returns the fields of a data type.
+pub fn fields_of(cx: &mut Interner, ty: Ty) -> Result<Vec<FieldInfo>, Failure>
+    requires { IsOwned ty_shape cx.old ty }
+    ensures extends { Extends cx.old cx.new }
+    ensures owned { IfOk result (λ fields. AreOwnedFields cx.new fields.items) }
+{
+    if !cx.is_adt(ty) {
+        return Err(Failure::Malformed);
+    }
+    Ok(cx.fields_of(ty)?)
+}
+
+/// Returns the type of the field of this number.
+pub fn field_type(cx: &Interner, fields: &[FieldInfo], number: usize) -> Result<Ty, Failure>
+    requires { AreOwnedFields cx.now fields.now }
+    ensures { IfOk result (λ ty. IsOwned ty_shape cx.now ty) }
+{
+    let field = at(fields, number)?;
+    Ok(field.ty)
+}

@@ -1,0 +1,71 @@
+//! Types of expressions made equal.
+
+ghost use Rattle.std.specs.Prelude.{IfOk};
+ghost use Rattle.tt_kinds.specs.Kinds.{ty_shape};
+ghost use Rattle.tt_interner.specs.Owned.{IsOwned};
+ghost use Rattle.tt_interner.specs.Stored.{Extends};
+ghost use Rattle.unify.specs.Bindings.{IsTable};
+ghost use Rattle.checker.specs.Scope.{IsScope};
+
+use crate::failure::Failure;
+use crate::scope::{Scope, place_of, type_of};
+use crate::wording::mismatch;
+use checker_syntax::program::Place;
+use type_terms::prelude::*;
+use unify::{Bindings, Fault, unify};
+
+/// Returns a new variable.
+#[tactic(auto, using(crate::proofs::ClientLaws::extends_further))]
+pub fn fresh_variable(cx: &mut Interner, bindings: &mut Bindings) -> Result<Ty, Failure>
+    requires { IsTable cx.old bindings.old }
+    ensures extends { Extends cx.old cx.new }
+    ensures table { IsTable cx.new bindings.new }
+    ensures owned { IfOk result (λ ty. IsOwned ty_shape cx.new ty) }
+{
+    match bindings.new_variable(cx) {
+        Ok(ty) => Ok(ty),
+        Err(Fault::Refused(refusal)) => Err(Failure::Refused(refusal)),
+        Err(_) => Err(Failure::Malformed),
+    }
+}
+
+/// Makes the type that was found at a place equal to the one that is expected there.
+#[tactic(auto, using(crate::proofs::ClientLaws::extends_further))]
+pub fn equate(
+    cx: &mut Interner,
+    bindings: &mut Bindings,
+    place: Place,
+    expected: Ty,
+    found: Ty,
+) -> Result<(), Failure>
+    requires table { IsTable cx.old bindings.old }
+    requires expected { IsOwned ty_shape cx.old expected }
+    requires found { IsOwned ty_shape cx.old found }
+    ensures extends { Extends cx.old cx.new }
+    ensures table { IsTable cx.new bindings.new }
+{
+    match unify(cx, bindings, expected, found) {
+        Ok(()) => Ok(()),
+        Err(Fault::Refused(refusal)) => Err(Failure::Refused(refusal)),
+        Err(fault) => Err(Failure::Wrong(mismatch(cx, bindings, place, expected, found, fault)?)),
+    }
+}
+
+/// Makes this the type of the expression of this number.
+#[tactic(auto, using(crate::proofs::ClientLaws::extends_further))]
+pub fn is_of(
+    cx: &mut Interner,
+    scope: Scope<'_>,
+    bindings: &mut Bindings,
+    number: usize,
+    ty: Ty,
+) -> Result<(), Failure>
+    requires scope { IsScope cx.old scope }
+    requires table { IsTable cx.old bindings.old }
+    requires ty { IsOwned ty_shape cx.old ty }
+    ensures extends { Extends cx.old cx.new }
+    ensures table { IsTable cx.new bindings.new }
+{
+    let expected = type_of(cx, scope, number)?;
+    equate(cx, bindings, place_of(scope, number)?, expected, ty)
+}

@@ -1,0 +1,151 @@
+//! Fields and items of values, whose types have to be known.
+
+ghost use Rattle.std.specs.Prelude.{IfOk, IfSome};
+ghost use Rattle.tt_kinds.specs.Kinds.{ty_shape};
+ghost use Rattle.tt_interner.specs.Owned.{IsOwned};
+ghost use Rattle.tt_interner.specs.Stored.{Extends};
+ghost use Rattle.unify.specs.Bindings.{IsTable};
+ghost use Rattle.checker.specs.Scope.{IsScope};
+
+use crate::declared::symbol_of;
+use crate::failure::Failure;
+use crate::infer::calls::{field_type, fields_of};
+use crate::infer::equality::is_of;
+use crate::lookup::{at, name_of, type_at};
+use crate::scope::{Scope, operand, place_of};
+use crate::wording::{no_field, no_item, unknown_type};
+use type_terms::prelude::*;
+use unify::Bindings;
+
+// How many references a type is taken out of at most.
+const MOST_REFERENCES: u32 = u32::MAX;
+
+// Returns the type that a reference refers to, if need be through further ones, and otherwise the type itself.
+#[tactic(auto, using(crate::proofs::ClientLaws::extends_further))]
+fn without_references(cx: &Interner, ty: Ty) -> Ty
+    requires { IsOwned ty_shape cx.now ty }
+    ensures { IsOwned ty_shape cx.now result }
+{
+    let mut inner = ty;
+    for _ in 0..MOST_REFERENCES {
+        let TyKind::Ref(_, referent, _) = *inner.kind(cx) else {
+            return inner;
+        };
+        inner = referent;
+    }
+    inner
+}
+
+// Returns the type of the operand as far as it is known, out of references.
+#[tactic(auto, using(crate::proofs::ClientLaws::extends_further))]
+fn known(
+    cx: &mut Interner,
+    scope: Scope<'_>,
+    bindings: &Bindings,
+    number: usize,
+    value: usize,
+) -> Result<Ty, Failure>
+    requires scope { IsScope cx.old scope }
+    requires table { IsTable cx.old bindings.now }
+    ensures extends { Extends cx.old cx.new }
+    ensures table { IsTable cx.new bindings.now }
+    ensures owned { IfOk result (λ ty. IsOwned ty_shape cx.new ty) }
+{
+    let ty = operand(cx, scope, number, value)?;
+    let ty = bindings.resolve(cx, ty)?;
+    Ok(without_references(cx, ty))
+}
+
+// Returns the type of the field of this name, if the type has one.
+#[tactic(auto, using(crate::proofs::ClientLaws::extends_further))]
+fn field_named(cx: &mut Interner, ty: Ty, name: Symbol) -> Result<Option<Ty>, Failure>
+    requires { IsOwned ty_shape cx.old ty }
+    ensures extends { Extends cx.old cx.new }
+    ensures owned { IfOk result (λ found. IfSome found (λ ty. IsOwned ty_shape cx.new ty)) }
+{
+    if !cx.is_adt(ty) {
+        return Ok(None);
+    }
+    let fields = fields_of(cx, ty)?;
+    for index in 0..fields.len() {
+        if at(fields.as_slice(), index)?.name == name {
+            return Ok(Some(field_type(cx, fields.as_slice(), index)?));
+        }
+    }
+    Ok(None)
+}
+
+// Returns whether the type is a variable, so that nothing is known of it.
+fn is_unknown(cx: &Interner, ty: Ty) -> bool
+    requires { IsOwned ty_shape cx.now ty }
+{
+    matches!(ty.kind(cx), TyKind::Infer(_))
+}
+
+/// Infers the type of a field of a value.
+#[tactic(auto, using(crate::proofs::ClientLaws::extends_further))]
+pub fn infer_field(
+    cx: &mut Interner,
+    scope: Scope<'_>,
+    bindings: &mut Bindings,
+    number: usize,
+    value: usize,
+    name: usize,
+) -> Result<(), Failure>
+    requires scope { IsScope cx.old scope }
+    requires table { IsTable cx.old bindings.old }
+    ensures extends { Extends cx.old cx.new }
+    ensures table { IsTable cx.new bindings.new }
+{
+    let whole = known(cx, scope, bindings, number, value)?;
+    let place = place_of(scope, number)?;
+    if is_unknown(cx, whole) {
+        let message = unknown_type(cx, bindings, place_of(scope, value)?, whole)?;
+        return Err(Failure::Wrong(message));
+    }
+    let text = name_of(scope.program, name)?;
+    let name = symbol_of(cx, scope.program, name)?;
+    match field_named(cx, whole, name)? {
+        Some(ty) => is_of(cx, scope, bindings, number, ty),
+        None => Err(Failure::Wrong(no_field(cx, bindings, place, whole, text)?)),
+    }
+}
+
+/// Infers the type of an item of a tuple.
+#[tactic(auto, using(crate::proofs::ClientLaws::extends_further))]
+pub fn infer_item(
+    cx: &mut Interner,
+    scope: Scope<'_>,
+    bindings: &mut Bindings,
+    number: usize,
+    value: usize,
+    item: usize,
+) -> Result<(), Failure>
+    requires scope { IsScope cx.old scope }
+    requires table { IsTable cx.old bindings.old }
+    ensures extends { Extends cx.old cx.new }
+    ensures table { IsTable cx.new bindings.new }
+{
+    let whole = known(cx, scope, bindings, number, value)?;
+    let place = place_of(scope, number)?;
+    if is_unknown(cx, whole) {
+        let message = unknown_type(cx, bindings, place_of(scope, value)?, whole)?;
+        return Err(Failure::Wrong(message));
+    }
+    match item_type(cx, whole, item) {
+        Some(ty) => is_of(cx, scope, bindings, number, ty),
+        None => Err(Failure::Wrong(no_item(cx, bindings, place, whole, item)?)),
+    }
+}
+
+// Returns the type of the item of this number, if the type is a tuple that has it.
+#[tactic(auto, using(tt_interner::proofs::OwnedLaws::owned_laws))]
+fn item_type(cx: &Interner, ty: Ty, item: usize) -> Option<Ty>
+    requires { IsOwned ty_shape cx.now ty }
+    ensures { IfSome result (λ item. IsOwned ty_shape cx.now item) }
+{
+    let TyKind::Tuple(items) = *ty.kind(cx) else {
+        return None;
+    };
+    type_at(cx, items.as_slice(cx), item).ok()
+}

@@ -1,0 +1,23 @@
+//! A checker of a small language with generics, a client of `type_terms` and `unify`.
+//!
+//! [`check`] infers the types of a program's expressions.
+#![tactic(auto)]
+
+mod built;
+pub mod declared;
+pub mod failure;
+mod infer;
+mod lookup;
+pub mod programs;
+pub mod scope;
+pub mod sources;
+mod verify;
+mod wording;
+
+pub use declared::{Declared, declare};
+pub use failure::Failure;
+pub use programs::{Checked, check, variables};
+pub use sources::{Verdict, run, verdict_of};
+
+#[cfg(test)]
+mod tests;

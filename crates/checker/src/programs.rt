@@ -1,0 +1,122 @@
+//! Whole programs.
+
+ghost use Rattle.std.specs.Prelude.{IfOk};
+ghost use Rattle.tt_kinds.specs.Kinds.{ty_shape};
+ghost use Rattle.tt_interner.specs.Owned.{AreOwned};
+ghost use Rattle.tt_interner.specs.Stored.{Extends};
+ghost use Rattle.checker.specs.Items.{IsDeclared};
+ghost use Rattle.checker.specs.Items.{AreTyped};
+ghost use Rattle.checker.specs.Scope.{AreTypedBodies, IsTypedFunction};
+
+use crate::declared::{Declared, declare};
+use crate::failure::Failure;
+use crate::infer::infer_body;
+use crate::lookup::{at, type_at};
+use crate::scope::Scope;
+use crate::verify::verify;
+use crate::wording::text_of;
+use checker_syntax::program::{Expression, Function, Program};
+use std::alloc::AllocError;
+use type_terms::prelude::*;
+
+/// An accepted program: the types of its items, and of the expressions of each function. A function that is only declared
+/// has none.
+#[derive(Drop)]
+pub struct Checked {
+    pub declared: Declared,
+    pub bodies: Vec<Vec<Ty>>,
+}
+
+/// Checks a program, and returns its types.
+///
+/// # Errors
+///
+/// The first thing that is wrong ends the check, function by function in the order of the program, and in a function
+/// expression by expression.
+#[tactic(auto, using(crate::proofs::ClientLaws::extends_further))]
+pub fn check(cx: &mut Interner, program: &Program) -> Result<Checked, Failure>
+    ensures extends { Extends cx.old cx.new }
+    ensures owned { IfOk result (λ checked. AreTyped cx.new checked.bodies.items) }
+    ensures typed { IfOk result (λ checked. AreTypedBodies cx.new program.now checked.declared checked.bodies.items) }
+{
+    let declared = declare(cx, program)?;
+    let bodies = typed_bodies(cx, program, &declared)?;
+    Ok(Checked { declared, bodies })
+}
+
+// Returns the types of each function's expressions.
+#[tactic(auto, using(crate::proofs::ClientLaws::extends_further))]
+fn typed_bodies(
+    cx: &mut Interner,
+    program: &Program,
+    declared: &Declared,
+) -> Result<Vec<Vec<Ty>>, Failure>
+    requires { IsDeclared cx.old declared.now }
+    ensures extends { Extends cx.old cx.new }
+    ensures owned { IfOk result (λ bodies. AreTyped cx.new bodies.items) }
+    ensures typed { IfOk result (λ bodies. AreTypedBodies cx.new program.now declared.now bodies.items) }
+{
+    let mut bodies = Vec::new(cx.allocator());
+    for number in 0..program.functions.len() {
+        let Some(function) = program.functions.get(number) else {
+            return Err(Failure::Malformed);
+        };
+        let types = types_of(cx, program, declared, function)?;
+        bodies.push(types)?;
+    }
+    Ok(bodies)
+}
+
+// Returns the types of the function's expressions, none without a body.
+#[tactic(auto, using(crate::proofs::ClientLaws::extends_further))]
+fn types_of(
+    cx: &mut Interner,
+    program: &Program,
+    declared: &Declared,
+    function: &Function,
+) -> Result<Vec<Ty>, Failure>
+    requires { IsDeclared cx.old declared.now }
+    ensures extends { Extends cx.old cx.new }
+    ensures owned { IfOk result (λ types. AreOwned ty_shape cx.new types.items) }
+    ensures typed { IfOk result (λ types. IsTypedFunction
+        cx.new
+        program.now
+        declared.now
+        function.now
+        types.items) }
+{
+    let Some(body) = &function.body else {
+        return Ok(Vec::new(cx.allocator()));
+    };
+    let found = infer_body(cx, program, declared, function, body)?;
+    let scope = Scope {
+        program,
+        declared,
+        function,
+        body,
+        types: found.types.as_slice(),
+    };
+    verify(cx, scope, found.subjects.as_slice())?;
+    Ok(found.types)
+}
+
+/// Returns a line for each variable of the program: the place of its `let`, and its type.
+#[tactic(auto, using(crate::proofs::ClientLaws::extends_further))]
+pub fn variables(cx: &Interner, program: &Program, bodies: &[Vec<Ty>]) -> Result<String, Failure>
+    requires { AreTyped cx.now bodies.now }
+{
+    let mut lines = String::new(cx.allocator());
+    for (function, types) in program.functions.iter().zip(bodies.iter()) {
+        if let Some(body) = &function.body {
+            for (number, expression) in body.expressions.iter().enumerate() {
+                if let Expression::Let(_, _) = expression {
+                    let place = at(body.places.as_slice(), number)?;
+                    let ty = type_at(cx, types.as_slice(), number)?;
+                    let (line, column, text) = (place.line, place.column, text_of(cx, ty)?);
+                    writeln!(lines, "{line}:{column}: {text}")?;
+                }
+            }
+        }
+    }
+    Ok(lines)
+}

@@ -1,0 +1,196 @@
+//! Types of a body that are compared with the rules.
+
+mod instances;
+
+ghost use Rattle.std.specs.Prelude.{◌≡◌, IfOk, IsTrue, OnOk, Some, slice_get};
+ghost use Rattle.tt_fold.specs.Steps.{tree_in};
+ghost use Rattle.tt_interner.specs.Owned.{AreOwned, IsOwned};
+ghost use Rattle.tt_interner.specs.Stored.{Extends};
+ghost use Rattle.tt_kinds.specs.Kinds.{ty_shape};
+ghost use Rattle.checker_syntax.specs.declared.program.Expression.TheVariants as of;
+ghost use Rattle.checker.specs.Scope.{around, IsScope};
+ghost use Rattle.checker.specs.Typing.{HasType, IsItemOf, IsTyped, IsTypedBody, Reaches};
+
+use crate::built::built;
+use crate::failure::Failure;
+use crate::lookup::{at, type_at};
+use crate::scope::{Scope, operand, type_of, written};
+use checker_syntax::program::Expression;
+use instances::{verify_call, verify_data, verify_field};
+use type_terms::prelude::*;
+
+// How many references a type is taken out of at most.
+const MOST_REFERENCES: u32 = u32::MAX;
+
+/// Compares the type of each expression with the rule, and the result's with the written one. A call's type arguments are
+/// those of its subject.
+#[tactic(auto, using(tt_interner::proofs::OwnedLaws::owned_laws, crate::proofs::ClientLaws::client_laws, crate::proofs::ScopeLaws::scope_laws))]
+pub fn verify(cx: &mut Interner, scope: Scope<'_>, subjects: &[Ty]) -> Result<(), Failure>
+    requires scope { IsScope cx.old scope }
+    requires subjects { AreOwned ty_shape cx.old subjects.now }
+    ensures extends { Extends cx.old cx.new }
+    ensures typed { OnOk result (IsTypedBody (around cx.old scope.entry)) }
+{
+    for number in 0..scope.body.expressions.len() {
+        let expression = at(scope.body.expressions.as_slice(), number)?;
+        let subject = type_at(cx, subjects, number)?;
+        verify_expression(cx, scope, number, expression, subject)?;
+    }
+    let output = written(cx, scope, scope.function.output)?;
+    let result = type_of(cx, scope, scope.body.result)?;
+    same(output, result)
+}
+
+// Succeeds if the two types are one.
+fn same(left: Ty, right: Ty) -> Result<(), Failure>
+    ensures { OnOk result (left ≡ right) }
+{
+    if left == right {
+        Ok(())
+    } else {
+        Err(Failure::Unverified)
+    }
+}
+
+// Returns whether the two types are one.
+fn is_same(left: Ty, right: Ty) -> bool
+    ensures { IsTrue result → left ≡ right }
+{
+    if left == right { true } else { false }
+}
+
+// Compares the type of the expression of this number with the rule.
+#[tactic(auto, using(tt_interner::proofs::OwnedLaws::owned_laws, crate::proofs::ClientLaws::client_laws, crate::proofs::ScopeLaws::scope_laws))]
+fn verify_expression(
+    cx: &mut Interner,
+    scope: Scope<'_>,
+    number: usize,
+    expression: Expression,
+    subject: Ty,
+) -> Result<(), Failure>
+    requires scope { IsScope cx.old scope }
+    requires subject { IsOwned ty_shape cx.old subject }
+    ensures extends { Extends cx.old cx.new }
+    ensures typed { OnOk result (HasType (around cx.old scope.entry) number expression) }
+{
+    let ty = type_of(cx, scope, number)?;
+    match expression {
+        Expression::Let(init, annotation) => verify_let(cx, scope, number, ty, init, annotation),
+        Expression::Dereference(value) => verify_dereference(cx, scope, number, ty, value),
+        Expression::Call(function, arguments) => {
+            verify_call(cx, scope, number, ty, function, arguments, subject)
+        }
+        Expression::Data(data, fields) => verify_data(cx, scope, number, ty, data, fields),
+        Expression::Field(value, name) => verify_field(cx, scope, number, ty, value, name),
+        Expression::Item(value, item) => verify_item(cx, scope, number, ty, value, item),
+        _ => {
+            let expected = built(cx, scope, number, expression)?;
+            same(expected, ty)
+        }
+    }
+}
+
+// Compares the type of a `let` with the rule.
+fn verify_let(
+    cx: &Interner,
+    scope: Scope<'_>,
+    number: usize,
+    ty: Ty,
+    init: usize,
+    annotation: Option<usize>,
+) -> Result<(), Failure>
+    requires { IsScope cx.now scope }
+    ensures { OnOk result (IsTyped
+        (around cx.now scope.entry)
+        number
+        (tree_in cx.now.rows (ty_shape ty))
+        (of.Let init annotation)) }
+{
+    let found = operand(cx, scope, number, init)?;
+    same(found, ty)?;
+    match annotation {
+        Some(annotation) => same(written(cx, scope, annotation)?, ty),
+        None => Ok(()),
+    }
+}
+
+// Compares the type of what a reference refers to with the rule.
+#[tactic(auto, using(tt_interner::proofs::OwnedLaws::owned_laws, crate::proofs::ClientLaws::client_laws, crate::proofs::ScopeLaws::scope_laws))]
+fn verify_dereference(
+    cx: &mut Interner,
+    scope: Scope<'_>,
+    number: usize,
+    ty: Ty,
+    value: usize,
+) -> Result<(), Failure>
+    requires scope { IsScope cx.old scope }
+    requires ty { IsOwned ty_shape cx.old ty }
+    ensures extends { Extends cx.old cx.new }
+    ensures typed { OnOk result (IsTyped
+        (around cx.old scope.entry)
+        number
+        (tree_in cx.old.rows (ty_shape ty))
+        (of.Dereference value)) }
+{
+    let found = operand(cx, scope, number, value)?;
+    let expected = cx.mk_ref(Region::new_erased(), ty, Mutability::Not)?;
+    same(found, expected)
+}
+
+// Compares the type of an item with the rule.
+fn verify_item(
+    cx: &Interner,
+    scope: Scope<'_>,
+    number: usize,
+    ty: Ty,
+    value: usize,
+    item: usize,
+) -> Result<(), Failure>
+    requires { IsScope cx.now scope }
+    ensures { OnOk result (IsTyped
+        (around cx.now scope.entry)
+        number
+        (tree_in cx.now.rows (ty_shape ty))
+        (of.Item value item)) }
+{
+    let found = operand(cx, scope, number, value)?;
+    let whole = without_references(cx, found);
+    let expected = item_type(cx, whole, item)?;
+    same(expected, ty)
+}
+
+// Returns the type that a reference refers to, if need be through further ones, and otherwise the type itself.
+fn without_references(cx: &Interner, ty: Ty) -> Ty
+    requires { IsOwned ty_shape cx.now ty }
+    ensures owned { IsOwned ty_shape cx.now result }
+    ensures reaches { Reaches
+        (tree_in cx.now.rows (ty_shape ty))
+        (tree_in cx.now.rows (ty_shape result)) }
+{
+    let mut inner = ty;
+    for _ in 0..MOST_REFERENCES {
+        let TyKind::Ref(_, referent, mutability) = *inner.kind(cx) else {
+            return inner;
+        };
+        let Mutability::Not = mutability else {
+            return inner;
+        };
+        inner = referent;
+    }
+    inner
+}
+
+// Returns the type of the item of this number of a tuple.
+fn item_type(cx: &Interner, ty: Ty, item: usize) -> Result<Ty, Failure>
+    requires { IsOwned ty_shape cx.now ty }
+    ensures { IfOk result (λ found. IsItemOf
+        item
+        (tree_in cx.now.rows (ty_shape ty))
+        (tree_in cx.now.rows (ty_shape found))) }
+{
+    let TyKind::Tuple(items) = *ty.kind(cx) else {
+        return Err(Failure::Unverified);
+    };
+    let found = at(items.as_slice(cx), item)?;
+    Ok(found)
+}
