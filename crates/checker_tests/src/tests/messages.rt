@@ -51,7 +51,11 @@ fn an_unknown_field(rt: HostRuntime) -> Result<(), Fail> {
             fn main<T>(a: Pair<T, &i32>) { (&&a).third; }
         ",
         "3:50: `Pair<T, &i32>` has no field `third`",
-    )?;
+    )
+}
+
+#[test]
+fn a_field_of_what_has_none(rt: HostRuntime) -> Result<(), Fail> {
     is_refused(
         &rt,
         rt.alloc(),
@@ -197,7 +201,12 @@ fn errors_of_reading(rt: HostRuntime) -> Result<(), Fail> {
         rt.alloc(),
         "fn main() { let a = \"text; }",
         "1:21: a text literal isn't closed by `\"`",
-    )?;
+    )
+}
+
+// They are found as the program is read.
+#[test]
+fn errors_of_names(rt: HostRuntime) -> Result<(), Fail> {
     is_refused(
         &rt,
         rt.alloc(),
