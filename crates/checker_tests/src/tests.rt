@@ -7,7 +7,7 @@ mod limits;
 mod messages;
 mod mismatches;
 
-use checker::{Verdict, verdict};
+use checker::{Verdict, verdict_of};
 use std::alloc::Global;
 use std::process::Abort;
 use std::string::String;
@@ -15,7 +15,7 @@ use std::test::Fail;
 
 // Returns what is told of the program: a line for each variable and `accepted`, or what is wrong.
 fn told(alloc: Global, source: &str) -> Result<String, Fail> {
-    told_by(alloc, verdict(alloc, source))
+    told_by(alloc, verdict_of(alloc, source))
 }
 
 // Returns what the verdict tells.
