@@ -44,7 +44,7 @@ pub let_typed : (terms : Terms) (scope : Scope) (number init : ℕ) (annotation 
     → IsTyped (around terms scope) number (tree_in terms.rows (ty_shape ty)) (of.Let init annotation)
 let_typed terms scope number init (Some w) found ty before there same written =
     binding (before, tree_at terms scope.types.now init ty (there ∙ ap Some same))
-      (tree_at terms scope.declared.now.written.items w ty (written.1 ∙ ap Some written.2))
+    (tree_at terms scope.declared.now.written.items w ty (written.1 ∙ ap Some written.2))
 let_typed terms scope number init None found ty before there same written =
     binding (before, tree_at terms scope.types.now init ty (there ∙ ap Some same)) tt
 
@@ -66,7 +66,7 @@ pub item_typed : (terms : Terms) (scope : Scope) (number value k : ℕ) (found w
     → IsTyped (around terms scope) number (tree_in terms.rows (ty_shape ty)) (of.Item value k)
 item_typed terms scope number value k found whole expected ty before there reaches of_tuple same =
     item (before, tree_at terms scope.types.now value found there) reaches
-      (subst (λ x. IsItemOf k (tree_in terms.rows (ty_shape whole)) (tree_in terms.rows (ty_shape x))) same of_tuple)
+    (subst (λ x. IsItemOf k (tree_in terms.rows (ty_shape whole)) (tree_in terms.rows (ty_shape x))) same of_tuple)
 
 -- the expressions below a number have their types
 abbrev pub AreTypedBelow : Around → List Expression → ℕ → Type 0
@@ -76,9 +76,11 @@ AreTypedBelow A es n = (i : ℕ) (e : Expression) → i < n → slice_get es i �
 pub typed_next : (A : Around) (es : List Expression) (n : ℕ) (e : Expression) → AreTypedBelow A es n → slice_get es n ≡ Some e
     → HasType A n e → AreTypedBelow A es (suc n)
 typed_next A es n e below at has i d less is =
-    elim (below_next i n less) [ inl older ↦ below i d older is
-    | inr same ↦ (let this : d ≡ e = let p = ap (slice_get es) same in cc in
-      subst (λ k. HasType A k d) (sym same) (subst (HasType A n) (sym this) has)) ]
+    elim (below_next i n less) [
+      | inl older ↦ below i d older is
+      | inr same ↦ (let this : d ≡ e = let p = ap (slice_get es) same in cc in
+          subst (λ k. HasType A k d) (sym same) (subst (HasType A n) (sym this) has))
+    ]
 
 -- what is around stays, as the type of an expression says it
 pub has_type_stays : (old new : Terms) (scope : Scope) (number : ℕ) (e : Expression) → Extends old new → IsScope old scope

@@ -15,8 +15,8 @@ use crate::scope::{Scope, operand, operands, written};
 use checker_syntax::program::{Expression, Literal};
 use type_terms::prelude::*;
 
-/// Returns the type of an expression that is built of its operands' types: of a literal, an argument, a use of a variable, a
-/// tuple or a reference.
+/// Returns the type of an expression that is built of its operands' types: of a literal, an argument, a use of a
+/// variable, a tuple or a reference.
 #[tactic(auto, using(tt_interner::proofs::OwnedLaws::owned_laws, crate::proofs::ClientLaws::client_laws, crate::proofs::ScopeLaws::scope_laws))]
 pub fn built(
     cx: &mut Interner,
@@ -27,7 +27,11 @@ pub fn built(
     requires { IsScope cx.old scope }
     ensures extends { Extends cx.old cx.new }
     ensures owned { IfOk result (λ ty. IsOwned ty_shape cx.new ty) }
-    ensures typed { IfOk result (λ ty. IsTyped (around cx.old scope.entry) number (tree_in cx.new.rows (ty_shape ty)) expression) }
+    ensures typed { IfOk result (λ ty. IsTyped
+        (around cx.old scope.entry)
+        number
+        (tree_in cx.new.rows (ty_shape ty))
+        expression) }
 {
     match expression {
         Expression::Literal(literal) => literal_type(cx, literal),

@@ -15,8 +15,8 @@ pub enum Failure {
     /// expression. No program that was read is so.
     #[error("a number in the program points nowhere")]
     Malformed,
-    /// The types that were found don't meet the rules. No program is known for which this is returned; the proof doesn't
-    /// exclude it.
+    /// The types that were found don't meet the rules. No program is known for which this is returned; the proof
+    /// doesn't exclude it.
     #[error("the types that were found do not meet the rules")]
     Unverified,
     /// The library refused a call: memory is short ([`Refusal::Memory`]), or a table is full ([`Refusal::TableFull`]).

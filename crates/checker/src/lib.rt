@@ -1,6 +1,7 @@
 //! A checker of a small language with generics, a client of `type_terms` and `unify`.
 //!
-//! [`check`] infers the types of a program's expressions.
+//! [`check`] infers the types of a program's expressions, and compares them with the typing rules. [`run`] reads a
+//! source and tells what was found.
 #![tactic(auto)]
 
 mod built;
@@ -18,6 +19,3 @@ pub use declared::{Declared, declare};
 pub use failure::Failure;
 pub use programs::{Checked, check, variables};
 pub use sources::{Verdict, run, verdict_of};
-
-#[cfg(test)]
-mod tests;

@@ -19,8 +19,8 @@ use checker_syntax::program::{Expression, Function, Program};
 use std::alloc::AllocError;
 use type_terms::prelude::*;
 
-/// An accepted program: the types of its items, and of the expressions of each function. A function that is only declared
-/// has none.
+/// An accepted program: the types of its items, and of the expressions of each function. A function that is only
+/// declared has none.
 #[derive(Drop)]
 pub struct Checked {
     pub declared: Declared,

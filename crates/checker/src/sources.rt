@@ -58,8 +58,8 @@ fn types(cx: &mut Interner, program: &Program) -> Result<String, Failure> {
     variables(cx, program, checked.bodies.as_slice())
 }
 
-/// Reads a program from the input, writes what was found of it to the output, and returns whether it is accepted. The input
-/// has to be UTF-8.
+/// Reads a program from the input, writes what was found of it to the output, and returns whether it is accepted. The
+/// input has to be UTF-8.
 pub fn run<R: Read + Drop, W: Write + Drop>(
     alloc: Global,
     input: R,

@@ -22,8 +22,8 @@ use type_terms::prelude::*;
 // How many references a type is taken out of at most.
 const MOST_REFERENCES: u32 = u32::MAX;
 
-/// Compares the type of each expression with the rule, and the result's with the written one. A call's type arguments are
-/// those of its subject.
+/// Compares the type of each expression with the rule, and the result's with the written one. A call's type arguments
+/// are those of its subject.
 #[tactic(auto, using(tt_interner::proofs::OwnedLaws::owned_laws, crate::proofs::ClientLaws::client_laws, crate::proofs::ScopeLaws::scope_laws))]
 pub fn verify(cx: &mut Interner, scope: Scope<'_>, subjects: &[Ty]) -> Result<(), Failure>
     requires scope { IsScope cx.old scope }

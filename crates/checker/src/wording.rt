@@ -13,7 +13,8 @@ use std::alloc::AllocError;
 use type_terms::prelude::*;
 use unify::{Bindings, Fault};
 
-/// Returns the text of the type as a program's author writes it: without erased regions, and with `_` for what isn't known.
+/// Returns the text of the type as a program's author writes it: without erased regions, and with `_` for what isn't
+/// known.
 pub fn text_of(cx: &Interner, ty: Ty) -> Result<String, AllocError>
     requires { IsOwned ty_shape cx.now ty }
 {

@@ -68,8 +68,8 @@ pub enum Expression {
     Dereference(usize),
     /// `f(a, b)`: the function's number, and its arguments' numbers in [`Body::operands`].
     Call(usize, Span),
-    /// `S { x: a, y: b }`: the data type's number, and its fields' values in the order in which they are declared, numbers in
-    /// [`Body::operands`].
+    /// `S { x: a, y: b }`: the data type's number, and its fields' values in the order in which they are declared,
+    /// numbers in [`Body::operands`].
     Data(usize, Span),
     /// `e.x`, and the number of the field's name.
     Field(usize, usize),
@@ -104,8 +104,8 @@ pub struct Body {
     pub result: usize,
 }
 
-/// A function: its name, the names of its type parameters, the written types of its arguments and of its result, and its
-/// body. A function without a body is only declared.
+/// A function: its name, the names of its type parameters, the written types of its arguments and of its result, and
+/// its body. A function without a body is only declared.
 #[derive(Debug, Drop)]
 pub struct Function {
     pub name: usize,
