@@ -1,5 +1,5 @@
 -- What the functions of the checker need of the interner and of bindings.
-use Rattle.std.proofs.Common.{◌≡◌, ℕ, List, Result, Ok, Err, [], ◌∷◌, zero, suc, Some, None, sym, subst}
+use Rattle.std.proofs.Common.{◌≡◌, ℕ, List, Result, Ok, Err, [], ◌∷◌, zero, suc, sym, subst}
 use Rattle.std.specs.Prelude.{MatchResult}
 use Rattle.tt_index.specs.declared.refusal.Refusal.{Refusal}
 use Rattle.tt_kinds.specs.Handle.{Ty, Symbol}

@@ -1,5 +1,5 @@
 -- Items of lists to which one is pushed.
-use Rattle.std.proofs.Common.{◌≡◌, refl, ℕ, zero, suc, ◌<◌, List, [], ◌∷◌, ◌++◌, length, Option, Some, None, sym, ap, ◌∙◌, arith, pred, ◌⊎◌, inl, inr}
+use Rattle.std.proofs.Common.{◌≡◌, refl, ℕ, zero, suc, ◌<◌, List, [], ◌∷◌, ◌++◌, length, Some, ap, arith, pred, ◌⊎◌, inl, inr}
 use Rattle.std.specs.Prelude.{slice_get, take}
 
 -- an item stays where more items come after it

@@ -1,6 +1,5 @@
 -- What is around an expression, whatever the interner builds.
 use Rattle.std.proofs.Common.{◌≡◌, refl, ℕ, suc, List, [], ◌∷◌, length, sym, ap, ◌∙◌}
-use Rattle.std.specs.Prelude.{slice_get}
 use Rattle.tt_kinds.specs.Handle.{Ty}
 use Rattle.tt_kinds.specs.Kinds.{ty_shape}
 use Rattle.tt_kinds.specs.Shape.{fill}

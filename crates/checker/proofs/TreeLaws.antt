@@ -2,7 +2,7 @@
 use Rattle.std.proofs.lemmas.Option.{slice_get-map}
 use Rattle.tt_kinds.specs.declared.table.Table.TheVariants.{Types, TypeLists}
 use Rattle.tt_interner.specs.Reads.{Reads}
-use Rattle.std.proofs.Common.{◌≡◌, refl, ℕ, List, [], ◌∷◌, Result, Ok, Err, Option, Some, sym, ap, ◌∙◌}
+use Rattle.std.proofs.Common.{◌≡◌, refl, ℕ, List, [], ◌∷◌, Result, Ok, Err, Some, ap, ◌∙◌}
 use Rattle.std.specs.Prelude.{IfOk, MatchResult, map, option_map, slice_get}
 use Rattle.tt_index.specs.declared.refusal.Refusal.{Refusal}
 use Rattle.tt_index.specs.declared.numeric.IntTy.{IntTy}
@@ -15,8 +15,8 @@ use Rattle.tt_kinds.specs.declared.region_kind.RegionKind.{RegionKind}
 use Rattle.tt_kinds.specs.declared.region_kind.RegionKind.TheVariants.{ReErased}
 use Rattle.tt_kinds.specs.declared.ty_kind.TyKind.TheVariants as kind
 use Rattle.tt_interner.specs.Chained.{BuildsOf}
-use Rattle.tt_interner.specs.Owned.{AreOwned, IsOwned}
-use Rattle.tt_interner.specs.Rows.{meaning, type_row, tys_row, row_shape}
+use Rattle.tt_interner.specs.Owned.{AreOwned}
+use Rattle.tt_interner.specs.Rows.{meaning, type_row, tys_row}
 use Rattle.tt_interner.specs.Stored.{Terms, Extends, Builds}
 use Rattle.tt_interner.proofs.Growth.{fill-grows}
 use Rattle.checker.specs.Typing.{IsItemOf, simple, in_order, tuple_of, reference_by, reference_to}

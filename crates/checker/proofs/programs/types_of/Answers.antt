@@ -1,7 +1,6 @@
 use Rattle.std.proofs.Common.{sym, subst}
 use Rattle.tt_kinds.specs.Kinds.{ty_shape}
 use Rattle.tt_interner.specs.Owned.{AreOwned}
-use Rattle.tt_interner.proofs.Growth.{Extends-trans}
 use Rattle.tt_interner.proofs.OwnedLaws.{list_still_owned}
 use Rattle.checker.proofs.ClientLaws.{declared_stay}
 use Rattle.checker.proofs.ProgramLaws.{function_typed}

@@ -1,8 +1,5 @@
-use Rattle.std.proofs.Common.{sym, subst}
 use Rattle.tt_kinds.specs.Kinds.{ty_shape}
-use Rattle.tt_interner.specs.Owned.{AreOwned}
-use Rattle.tt_interner.proofs.Growth.{Extends-trans}
-use Rattle.tt_interner.proofs.OwnedLaws.{list_still_owned, push_owned}
+use Rattle.tt_interner.proofs.OwnedLaws.{list_still_owned}
 use Rattle.checker.proofs.ScopeLaws.{scope_stays}
 use Rattle.checker.proofs.infer.calls.equate_each.Goals as goal
 
