@@ -1,7 +1,6 @@
 -- Data types with few fields: the names and places of their variants and fields.
-use Rattle.std.proofs.Common.{◌≡◌, ℕ, List, [], ◌∷◌, Option, Some, None, refl}
+use Rattle.std.proofs.Common.{◌≡◌, ℕ, [], ◌∷◌, Option, Some, None, refl}
 use Rattle.tt_kinds.specs.Handle.{handle, Symbol, Ty}
-use Rattle.tt_kinds.specs.Variant.{Variant}
 use Rattle.tt_kinds.specs.declared.field.FieldInfo.{FieldInfo}
 use Rattle.tt_kinds.specs.declared.variant.FieldDef.{FieldDef}
 use Rattle.tt_binder.specs.Fields.{fields_among}

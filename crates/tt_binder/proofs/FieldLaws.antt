@@ -1,10 +1,13 @@
 -- The fields of data types: their places, and their instances in turn.
-use Rattle.std.proofs.Common.{◌≡◌, ℕ, zero, suc, ◌+◌, ◌<◌, ◌≤◌, List, [], ◌∷◌, ◌++◌, length, map, get_or, set, take, drop, All, Option, Result, Ok, Err, refl, sym, ap, subst, inl, inr, ◌∙◌, arith, append_assoc}
+use Rattle.std.proofs.Common.{◌≡◌, ℕ, zero, suc, ◌+◌, ◌<◌, ◌≤◌, List, [], ◌∷◌, ◌++◌, length, map, get_or, set, take}
+use Rattle.std.proofs.Common.{drop, All, Option, Result, Ok, Err, refl, sym, ap, subst, inl, inr, ◌∙◌, arith}
+use Rattle.std.proofs.Common.{append_assoc}
 use Rattle.std.specs.Prelude.{◌≢◌, IfOk, IsOkAnd}
 use Rattle.std.specs.declared.alloc.Global.{Global}
 use Rattle.std.specs.declared.vec.Vec.{Vec}
 use Rattle.std.specs.Vec.{with_items}
-use Rattle.std.proofs.lemmas.List.{take-append-drop, take_more, take_more_set, take_all, drop_more, drop-set-lt, with_items_is, length-take-le, length-map, map-append, append-nil}
+use Rattle.std.proofs.lemmas.List.{take-append-drop, take_more, take_more_set, take_all, drop_more, drop-set-lt}
+use Rattle.std.proofs.lemmas.List.{with_items_is, length-take-le, length-map, map-append, append-nil}
 use Rattle.std.proofs.lemmas.List.Elements.{All-nil, All-cons, All-head, All-tail, All-append}
 use Rattle.tt_index.specs.declared.refusal.Refusal.{Refusal}
 use Rattle.tt_kinds.specs.Argument.{Argument}
@@ -26,7 +29,8 @@ use Rattle.tt_binder.specs.Arguments.{arguments, args_at, AreArguments}
 use Rattle.tt_binder.specs.ArgumentLaws.{args_at-grows, arguments-still}
 use Rattle.tt_binder.specs.Instance.{IsPlain}
 use Rattle.tt_binder.proofs.RowArguments.{are_arguments_at}
-use Rattle.tt_binder.specs.Fields.{declared_field, fields_from, fields_among, InstantiatesTy, with_ty, AreInstances, StopsAtField, GivesInstances, ArePlain, IsAdtOf, declared_fields, GivesFields}
+use Rattle.tt_binder.specs.Fields.{declared_field, fields_from, fields_among, InstantiatesTy, with_ty, AreInstances}
+use Rattle.tt_binder.specs.Fields.{StopsAtField, GivesInstances, ArePlain, IsAdtOf, declared_fields, GivesFields}
 
 -- the types of the fields are in range
 abbrev pub OwnsTypes : List Row → List FieldInfo → Type 0

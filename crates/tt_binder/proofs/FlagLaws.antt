@@ -2,13 +2,19 @@
 use Rattle.std.proofs.Common.{◌≡◌, ℕ, zero, suc, ◌%◌, [], ◌∷◌, refl, sym, ap, ◌∙◌, arith, Bool, true, false}
 use Rattle.std.specs.Prelude.{IsTrue, ◌≢◌, bit_and}
 use Rattle.std.proofs.lemmas.Nat.{and_mask}
-use Rattle.tt_kinds.specs.Label.{Name, TypeLabel, placeholder_type, infer_type, error_type, coroutine_type, alias_type, ConstLabel, infer_const, placeholder_const, unevaluated_const, error_const, Label, type_label, const_label, pattern_label, predicate_label, existential_label, clause_list_label, list_label, var_list_label, text_label, declaration_label, definition_label, record_label, error_label, clause_label, infer_flags, alias_flags, flags_of_type, infer_const_flags, flags_of_const, flags_of_label}
+use Rattle.tt_kinds.specs.Label.{Name, TypeLabel, placeholder_type, infer_type, error_type, coroutine_type, alias_type}
+use Rattle.tt_kinds.specs.Label.{ConstLabel, infer_const, placeholder_const, unevaluated_const, error_const, Label}
+use Rattle.tt_kinds.specs.Label.{type_label, const_label, pattern_label, predicate_label, existential_label}
+use Rattle.tt_kinds.specs.Label.{clause_list_label, list_label, var_list_label, text_label, declaration_label}
+use Rattle.tt_kinds.specs.Label.{definition_label, record_label, error_label, clause_label, infer_flags, alias_flags}
+use Rattle.tt_kinds.specs.Label.{flags_of_type, infer_const_flags, flags_of_const, flags_of_label}
 use Rattle.tt_kinds.specs.Tree.{Depth, Tree, param, bound, region, term, node, binder}
 use Rattle.tt_kinds.specs.Scan.{scan}
 use Rattle.tt_kinds.specs.Param.{holds_param}
 use Rattle.tt_kinds.specs.Cause.{HidesRegionVars}
 use Rattle.tt_kinds.specs.declared.ty_kind.InferTy.{InferTy}
-use Rattle.tt_kinds.specs.declared.ty_kind.InferTy.TheVariants.{TyVar, IntVar, FloatVar, FreshTy, FreshIntTy, FreshFloatTy}
+use Rattle.tt_kinds.specs.declared.ty_kind.InferTy.TheVariants.{TyVar, IntVar, FloatVar, FreshTy, FreshIntTy}
+use Rattle.tt_kinds.specs.declared.ty_kind.InferTy.TheVariants.{FreshFloatTy}
 use Rattle.tt_kinds.specs.declared.const_kind.InferConst.{InferConst}
 use Rattle.tt_kinds.specs.declared.const_kind.InferConst.TheVariants.{Var, Fresh}
 use Rattle.tt_kinds.specs.declared.alias.AliasTyKind.{AliasTyKind}

@@ -1,11 +1,15 @@
 -- The steps of the argument folder's hooks.
-use Rattle.std.proofs.Common.{inl, inr, ◌≡◌, ℕ, zero, suc, ◌<◌, List, [], ◌∷◌, refl, sym, ap, subst, ◌∙◌, arith, true, false}
+use Rattle.std.proofs.Common.{inl, inr, ◌≡◌, ℕ, zero, suc, ◌<◌, List, [], ◌∷◌, refl, sym, ap, subst, ◌∙◌, arith, true}
+use Rattle.std.proofs.Common.{false}
 use Rattle.std.specs.Prelude.{◌≢◌, IsTrue, Option, Some, None, slice_get, option_map, Result, Ok, Err}
 use Rattle.std.proofs.lemmas.Option.{slice_get-map, slice_get_cases}
 use Rattle.std.proofs.lemmas.List.{length-map}
 use Rattle.tt_index.specs.declared.refusal.Refusal.{Refusal}
-use Rattle.tt_index.specs.declared.refusal.Refusal.TheVariants.{Memory, TableFull, GreatestIndex, NoArguments, ArgOutOfRange, ArgKind, RegionVariable, NotAClause, NoSuchAnswer}
-use Rattle.tt_kinds.specs.Label.{Name, Sort, region_sort, type_sort, const_sort, Label, const_label, is_type, is_type_or_clause}
+use Rattle.tt_index.specs.declared.refusal.Refusal.TheVariants.{Memory, TableFull, GreatestIndex, NoArguments}
+use Rattle.tt_index.specs.declared.refusal.Refusal.TheVariants.{ArgOutOfRange, ArgKind, RegionVariable, NotAClause}
+use Rattle.tt_index.specs.declared.refusal.Refusal.TheVariants.{NoSuchAnswer}
+use Rattle.tt_kinds.specs.Label.{Name, Sort, region_sort, type_sort, const_sort, Label, const_label, is_type}
+use Rattle.tt_kinds.specs.Label.{is_type_or_clause}
 use Rattle.tt_kinds.specs.Tree.{Depth, at, canonical, Tree, Forest, param, bound, region, term, node, binder}
 use Rattle.tt_kinds.specs.Reading.{place, read, moved, move, FitsAt, Fits}
 use Rattle.tt_kinds.specs.Argument.{Argument, same_sort, argument}
@@ -13,7 +17,8 @@ use Rattle.tt_kinds.specs.Plain.{shift_tree, inst_tree}
 use Rattle.tt_kinds.specs.Param.{holds_param, IsGeneric_among}
 use Rattle.tt_kinds.specs.Cause.{Cause}
 use Rattle.tt_kinds.specs.Shape.{IsPart, Meaning, fill, name_of}
-use Rattle.tt_kinds.specs.Kinds.{arg_shape, region_shape, relabelled, form_shape, value_form, ty_kind_shape, const_kind_shape}
+use Rattle.tt_kinds.specs.Kinds.{arg_shape, region_shape, relabelled, form_shape, value_form, ty_kind_shape}
+use Rattle.tt_kinds.specs.Kinds.{const_kind_shape}
 use Rattle.tt_kinds.specs.Handle.{Ty}
 use Rattle.tt_kinds.specs.declared.const_kind.ValTreeKind.{ValTreeKind}
 use Rattle.tt_kinds.specs.declared.const_kind.ValTreeKind.TheVariants as valtree
@@ -25,7 +30,8 @@ use Rattle.tt_kinds.proofs.FitsLaws.{FitsUnder-past}
 use Rattle.tt_kinds.proofs.ParamLaws.{IsGeneric_among-from_test}
 use Rattle.tt_kinds.specs.declared.region_kind.EarlyParamRegion.{EarlyParamRegion}
 use Rattle.tt_kinds.specs.declared.region_kind.RegionKind.{RegionKind}
-use Rattle.tt_kinds.specs.declared.region_kind.RegionKind.TheVariants.{ReEarlyParam, ReBound, ReLateParam, ReStatic, ReVar, RePlaceholder, ReErased, ReError}
+use Rattle.tt_kinds.specs.declared.region_kind.RegionKind.TheVariants.{ReEarlyParam, ReBound, ReLateParam, ReStatic}
+use Rattle.tt_kinds.specs.declared.region_kind.RegionKind.TheVariants.{ReVar, RePlaceholder, ReErased, ReError}
 use Rattle.tt_kinds.specs.declared.ty_kind.ParamTy.{ParamTy}
 use Rattle.tt_kinds.specs.declared.ty_kind.TyKind.{TyKind}
 use Rattle.tt_kinds.specs.declared.ty_kind.TyKind.TheVariants as ty
@@ -40,9 +46,11 @@ use Rattle.tt_fold.specs.Stands.{itself}
 use Rattle.tt_fold.specs.Counts.{Standing}
 use Rattle.tt_fold.specs.Walk.{replace, keep, descend, is_type_tree}
 use Rattle.tt_fold.specs.Places.{IsIn}
-use Rattle.tt_fold.specs.Remember.{here, places, IsTaken, OnTerm, given, left_alone, taken_apart, gone_into, AfterTerm, not_noted}
+use Rattle.tt_fold.specs.Remember.{here, places, IsTaken, OnTerm, given, left_alone, taken_apart, gone_into, AfterTerm}
+use Rattle.tt_fold.specs.Remember.{not_noted}
 use Rattle.tt_binder.specs.Arguments.{arg_sort, argument_of, arguments, AreArguments}
-use Rattle.tt_binder.specs.Instantiation.{Instantiation, Instantiates, PutsArgument, instantiation, LeafRefuses, shift_unbuilt, shift_too_far, IsParam, IsTypeOrClause, is_const, IsInnerConst}
+use Rattle.tt_binder.specs.Instantiation.{Instantiation, Instantiates, PutsArgument, instantiation, LeafRefuses}
+use Rattle.tt_binder.specs.Instantiation.{shift_unbuilt, shift_too_far, IsParam, IsTypeOrClause, is_const, IsInnerConst}
 use Rattle.tt_binder.specs.Untouched.{IsUntouched}
 use Rattle.tt_binder.proofs.FlagLaws.{hides_none}
 use Rattle.tt_binder.proofs.RowArguments.{IsTypeTree, IsConstTree, IsClauseTree}

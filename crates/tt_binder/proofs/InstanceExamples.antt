@@ -10,7 +10,8 @@ use Rattle.tt_fold.proofs.ShiftExamples.{i32}
 use Rattle.tt_binder.specs.Instance.{ComesBack}
 use Rattle.tt_binder.proofs.SharingExamples.{parameter, one, tuple}
 
--- a region variable in a type without parameters is hidden, so the type comes back, and without arguments it does so too
+-- a region variable in a type without parameters is hidden, so the type comes back, and without arguments it does so
+-- too
 abbrev hidden : Tree Depth
 hidden = term (type_label (ref_type mutability.«Not»)) (also (region (region_var 0)) (also i32 none))
 

@@ -1,8 +1,11 @@
 -- What the argument folder's walk from outside of each binder gives.
-use Rattle.std.proofs.Common.{◌≡◌, ℕ, ◌<◌, inl, inr, List, [], ◌++◌, refl, sym, ap, subst, ◌∙◌, arith, Bool, false, true}
+use Rattle.std.proofs.Common.{◌≡◌, ℕ, ◌<◌, inl, inr, List, [], ◌++◌, refl, sym, ap, subst, ◌∙◌, arith, Bool, false}
+use Rattle.std.proofs.Common.{true}
 use Rattle.std.specs.Prelude.{Result, Ok, Err, IfErr, MatchResult, ◌||◌}
 use Rattle.tt_index.specs.declared.refusal.Refusal.{Refusal}
-use Rattle.tt_index.specs.declared.refusal.Refusal.TheVariants.{Memory, TableFull, GreatestIndex, NoArguments, ArgOutOfRange, ArgKind, RegionVariable, NotAClause, NoSuchAnswer}
+use Rattle.tt_index.specs.declared.refusal.Refusal.TheVariants.{Memory, TableFull, GreatestIndex, NoArguments}
+use Rattle.tt_index.specs.declared.refusal.Refusal.TheVariants.{ArgOutOfRange, ArgKind, RegionVariable, NotAClause}
+use Rattle.tt_index.specs.declared.refusal.Refusal.TheVariants.{NoSuchAnswer}
 use Rattle.tt_kinds.specs.Label.{Name, Sort, clause_label}
 use Rattle.tt_kinds.specs.Tree as tree
 use Rattle.tt_kinds.specs.Tree.{Depth, Tree, param}
@@ -26,11 +29,13 @@ use Rattle.tt_fold.specs.Counts.{Standing}
 use Rattle.tt_fold.specs.Steps.{IsPartOf, IsRefused, tree_in, refusals_of}
 use Rattle.tt_fold.proofs.WantedLaws.{refusals-tell}
 use Rattle.tt_fold.specs.Stands.{StandsIn}
-use Rattle.tt_fold.specs.Walk.{Errors, Walks, Fails, region_failed, term_failed, descent_failed, passed_failed, enter_failed, under_failed, leave_failed, node_failed, node_not_built, clause_lost}
+use Rattle.tt_fold.specs.Walk.{Errors, Walks, Fails, region_failed, term_failed, descent_failed, passed_failed}
+use Rattle.tt_fold.specs.Walk.{enter_failed, under_failed, leave_failed, node_failed, node_not_built, clause_lost}
 use Rattle.tt_fold.specs.Remember.{taken_apart, gone_into}
 use Rattle.tt_fold.proofs.TaskLaws.{Refuses, without, too_far, caused}
 use Rattle.tt_fold.proofs.RememberLaws.{does, Refused, refused}
-use Rattle.tt_binder.specs.Instantiation.{Args, Instantiation, at_first, Instantiates, instantiation, LeafRefuses, for_cause, shift_unbuilt, shift_too_far, IsTypeOrClause, arg_hooks}
+use Rattle.tt_binder.specs.Instantiation.{Args, Instantiation, at_first, Instantiates, instantiation, LeafRefuses}
+use Rattle.tt_binder.specs.Instantiation.{for_cause, shift_unbuilt, shift_too_far, IsTypeOrClause, arg_hooks}
 use Rattle.tt_binder.specs.Arguments.{arguments}
 use Rattle.tt_kinds.specs.Handle.{Const}
 use Rattle.tt_kinds.specs.Handle.{Ty}
@@ -39,7 +44,8 @@ use Rattle.tt_binder.specs.declared.shifted.ParamAt.{ParamAt}
 use Rattle.tt_fold.specs.Memory.{memos}
 use Rattle.tt_fold.specs.declared.memory.Place.{Place}
 use Rattle.tt_kinds.specs.declared.generic_arg.GenericArgKind.{GenericArgKind}
-use Rattle.tt_binder.specs.Instance.{HasNoCause, Composes, Commutes, StaysMatched, LeavesNoParam, IsInstance, IsReason, ComesBack, IsOfClauses}
+use Rattle.tt_binder.specs.Instance.{HasNoCause, Composes, Commutes, StaysMatched, LeavesNoParam, IsInstance, IsReason}
+use Rattle.tt_binder.specs.Instance.{ComesBack, IsOfClauses}
 use Rattle.tt_binder.proofs.FlagLaws.{hides_none}
 use Rattle.tt_binder.proofs.RowArguments.{type_stays, clause_stays}
 use Rattle.tt_fold.proofs.ClauseLaws.{KeepsClauses, never_bad}

@@ -5,7 +5,8 @@ use Rattle.std.specs.Prelude.{⊤}
 use Rattle.tt_index.specs.declared.refusal.Refusal.{Refusal}
 use Rattle.tt_index.specs.declared.refusal.Refusal.TheVariants.{NoArguments, ArgOutOfRange, ArgKind}
 use Rattle.tt_kinds.specs.Label.{Name, Sort, VarKind, Entry, Label}
-use Rattle.tt_kinds.specs.Tree.{Depth, at, canonical, Tree, Forest, param, bound, region, term, node, binder, none, also, Each, Each_all}
+use Rattle.tt_kinds.specs.Tree.{Depth, at, canonical, Tree, Forest, param, bound, region, term, node, binder, none}
+use Rattle.tt_kinds.specs.Tree.{also, Each, Each_all}
 use Rattle.tt_kinds.specs.Reading.{place, read, read_all, keep, greatest_reach, outer_binder}
 use Rattle.tt_kinds.specs.Argument.{given, readings}
 use Rattle.tt_kinds.specs.Plain.{given_under}
@@ -19,7 +20,8 @@ use Rattle.tt_fold.specs.Shift.{IsVariable}
 use Rattle.tt_fold.proofs.ShiftLaws.{counted-one, counted-up, passed-other}
 use Rattle.tt_fold.proofs.TaskLaws.{AllowsAll, Refuses, without, too_far, caused, TaskLaws}
 use Rattle.tt_binder.specs.Instantiation.{Args}
-use Rattle.tt_binder.specs.Opening.{put_variable, put_own, open_variable, open_tree, HasVariable, HasVariable_among, EachVariable_among, IsGivenAt, IsGiven, OpeningCause}
+use Rattle.tt_binder.specs.Opening.{put_variable, put_own, open_variable, open_tree, HasVariable, HasVariable_among}
+use Rattle.tt_binder.specs.Opening.{EachVariable_among, IsGivenAt, IsGiven, OpeningCause}
 use Rattle.tt_binder.specs.BinderOpener.{OpeningRefuses, for_cause, not_built, too_great, opening}
 
 ap2 : {A B C : Type 0} (f : A → B → C) {a a' : A} {b b' : B} → a ≡ a' → b ≡ b' → f a b ≡ f a' b'

@@ -1,9 +1,12 @@
 -- The steps of the opening folder's hooks.
-use Rattle.std.proofs.Common.{inl, inr, ◌≡◌, ◌⊎◌, ℕ, ◌+◌, ◌-◌, ◌<◌, ◌≤◌, List, [], true, false, Result, Ok, Err, MatchResult, refl, sym, subst, ◌∙◌, arith}
+use Rattle.std.proofs.Common.{inl, inr, ◌≡◌, ◌⊎◌, ℕ, ◌+◌, ◌-◌, ◌<◌, ◌≤◌, List, [], true, false, Result, Ok, Err}
+use Rattle.std.proofs.Common.{MatchResult, refl, sym, subst, ◌∙◌, arith}
 use Rattle.std.proofs.lemmas.Bool.{cases_lt, le-ltb, lt-ltb}
 use Rattle.tt_index.specs.Greatest.{greatest}
 use Rattle.tt_index.specs.declared.refusal.Refusal.{Refusal}
-use Rattle.tt_index.specs.declared.refusal.Refusal.TheVariants.{Memory, TableFull, GreatestIndex, NoArguments, ArgOutOfRange, ArgKind, RegionVariable, NotAClause, NoSuchAnswer}
+use Rattle.tt_index.specs.declared.refusal.Refusal.TheVariants.{Memory, TableFull, GreatestIndex, NoArguments}
+use Rattle.tt_index.specs.declared.refusal.Refusal.TheVariants.{ArgOutOfRange, ArgKind, RegionVariable, NotAClause}
+use Rattle.tt_index.specs.declared.refusal.Refusal.TheVariants.{NoSuchAnswer}
 use Rattle.tt_kinds.specs.Label.{Name, Sort, Entry, region_sort}
 use Rattle.tt_kinds.specs.Tree.{Depth, at, canonical, Tree, param, bound, term}
 use Rattle.tt_kinds.specs.Reading.{read, outer_binder, FitsUnder}
@@ -18,7 +21,8 @@ use Rattle.tt_kinds.specs.declared.bound.BoundRegion.{BoundRegion}
 use Rattle.tt_kinds.specs.declared.bound.BoundVarIndexKind.{BoundVarIndexKind}
 use Rattle.tt_kinds.specs.declared.bound.BoundVarIndexKind.TheVariants.{Bound, Canonical}
 use Rattle.tt_kinds.specs.declared.region_kind.RegionKind.{RegionKind}
-use Rattle.tt_kinds.specs.declared.region_kind.RegionKind.TheVariants.{ReEarlyParam, ReBound, ReLateParam, ReStatic, ReVar, RePlaceholder, ReErased, ReError}
+use Rattle.tt_kinds.specs.declared.region_kind.RegionKind.TheVariants.{ReEarlyParam, ReBound, ReLateParam, ReStatic}
+use Rattle.tt_kinds.specs.declared.region_kind.RegionKind.TheVariants.{ReVar, RePlaceholder, ReErased, ReError}
 use Rattle.tt_kinds.specs.declared.generic_arg.GenericArgKind.{GenericArgKind}
 use Rattle.tt_kinds.specs.declared.table.Table.{Table}
 use Rattle.tt_kinds.proofs.ReadingLaws.{place-outer}
@@ -35,9 +39,11 @@ use Rattle.tt_fold.specs.Memory.{memos}
 use Rattle.tt_fold.specs.declared.memory.Place.{Place}
 use Rattle.tt_fold.proofs.BoundLaws.{bound_shape}
 use Rattle.tt_binder.specs.Arguments.{arguments}
-use Rattle.tt_binder.specs.Instantiation.{Args, Kept, Instantiates, PutsArgument, LeafRefuses, for_cause as leaf_for_cause, shift_unbuilt, shift_too_far}
+use Rattle.tt_binder.specs.Instantiation.{Args, Kept, Instantiates, PutsArgument, LeafRefuses}
+use Rattle.tt_binder.specs.Instantiation.{for_cause as leaf_for_cause, shift_unbuilt, shift_too_far}
 use Rattle.tt_binder.specs.Opening.{open_variable, open_tree, IsOwn, OpeningCause}
-use Rattle.tt_binder.specs.BinderOpener.{Opening, opening_state, index_outside, Opens, OpeningRefuses, for_cause, not_built, too_great, opening}
+use Rattle.tt_binder.specs.BinderOpener.{Opening, opening_state, index_outside, Opens, OpeningRefuses, for_cause}
+use Rattle.tt_binder.specs.BinderOpener.{not_built, too_great, opening}
 use Rattle.tt_binder.proofs.ShiftedLaws.{put_argument}
 use Rattle.tt_binder.proofs.OpeningLaws.{by_place, open-own, open-inner, open-outer, low_opens}
 

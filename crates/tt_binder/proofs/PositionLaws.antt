@@ -1,4 +1,5 @@
--- The argument folder's walk takes apart each type that holds a parameter and is none, at most once under as many binders.
+-- The argument folder's walk takes apart each type that holds a parameter and is none, at most once under as many
+-- binders.
 use Rattle.std.proofs.Common.{◌≡◌, ℕ, refl, ap, subst, Bool, true, false}
 use Rattle.tt_kinds.specs.Label.{Name, Label}
 use Rattle.tt_kinds.specs.Tree.{Depth, Tree, Forest, term, node}

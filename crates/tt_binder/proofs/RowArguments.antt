@@ -1,11 +1,13 @@
 -- What rows say of the terms and the arguments in them.
 use Rattle.std.proofs.Common.{inl, inr, ◌≡◌, ℕ, ◌<◌, List, [], ◌∷◌, refl, subst, arith, Bool, false}
 use Rattle.std.specs.Prelude.{Option, Some, None, slice_get, IsTrue, ⊤}
-use Rattle.tt_kinds.specs.Label.{Name, Sort, type_sort, const_sort, Label, type_label, const_label, is_type, is_type_or_clause}
+use Rattle.tt_kinds.specs.Label.{Name, Sort, type_sort, const_sort, Label, type_label, const_label, is_type}
+use Rattle.tt_kinds.specs.Label.{is_type_or_clause}
 use Rattle.tt_kinds.specs.Tree as tree
 use Rattle.tt_kinds.specs.Tree.{Depth, Tree}
 use Rattle.tt_kinds.specs.Shape.{Meaning, fill, name_of, rename_label}
-use Rattle.tt_kinds.specs.Kinds.{Form, param, bound, plain, under, relabelled, form_shape, ty_form, const_form, ty_kind_shape, const_kind_shape, ty_shape, const_shape, predicate_shape, clauses_shape}
+use Rattle.tt_kinds.specs.Kinds.{Form, param, bound, plain, under, relabelled, form_shape, ty_form, const_form}
+use Rattle.tt_kinds.specs.Kinds.{ty_kind_shape, const_kind_shape, ty_shape, const_shape, predicate_shape, clauses_shape}
 use Rattle.tt_kinds.specs.declared.table.Table.{Table}
 use Rattle.tt_kinds.specs.declared.table.Table.TheVariants.{Types, Consts, Predicates, ClauseLists, ArgLists}
 use Rattle.tt_kinds.specs.Handle.{Ty}
@@ -15,7 +17,10 @@ use Rattle.tt_kinds.specs.Handle.{Clauses}
 use Rattle.tt_kinds.specs.Handle.{GenericArgs}
 use Rattle.tt_kinds.specs.declared.ty_kind.TyKind.{TyKind}
 use Rattle.tt_kinds.specs.declared.const_kind.ConstKind.{ConstKind}
-use Rattle.tt_interner.specs.Rows.{Row, type_row, const_row, pat_row, predicate_row, existential_row, clauses_row, tys_row, consts_row, args_row, pats_row, vars_row, existentials_row, assumptions_row, text_row, declared_row, defined_row, row_table, row_shape, table, size, meaning, AreRows}
+use Rattle.tt_interner.specs.Rows.{Row, type_row, const_row, pat_row, predicate_row, existential_row, clauses_row}
+use Rattle.tt_interner.specs.Rows.{tys_row, consts_row, args_row, pats_row, vars_row, existentials_row, assumptions_row}
+use Rattle.tt_interner.specs.Rows.{text_row, declared_row, defined_row, row_table, row_shape, table, size, meaning}
+use Rattle.tt_interner.specs.Rows.{AreRows}
 use Rattle.tt_interner.proofs.RowLaws.{IsNewest, place_cases, meaning-old, meaning-new}
 use Rattle.tt_interner.proofs.Trees.{Means-row}
 use Rattle.tt_interner.specs.Stored.{IsAt}

@@ -2,7 +2,8 @@
 use Rattle.std.proofs.Common.{inl, inr, ◌≡◌, ◌<◌, ◌≤◌, ◌+◌, ℕ, List, [], ◌∷◌, map, refl, sym, ap, subst, ◌∙◌, arith}
 use Rattle.std.proofs.lemmas.List.{length-map}
 use Rattle.tt_kinds.specs.declared.table.Table.TheVariants.{TypeLists}
-use Rattle.tt_kinds.specs.Label.{type_sort, tuple_type, fn_ptr_type, fn_sig_tys_record, type_label, list_label, record_label}
+use Rattle.tt_kinds.specs.Label.{type_sort, tuple_type, fn_ptr_type, fn_sig_tys_record, type_label, list_label}
+use Rattle.tt_kinds.specs.Label.{record_label}
 use Rattle.tt_kinds.specs.Tree.{Depth, Tree, param, term, node, binder, Forest, none, also}
 use Rattle.tt_kinds.specs.Param.{holds_param}
 use Rattle.tt_kinds.specs.Argument.{Argument}
@@ -10,7 +11,8 @@ use Rattle.tt_kinds.specs.Plain.{given_under, inst_tree}
 use Rattle.tt_kinds.specs.Count.{TypeAt, positions, generic_types, moving_types}
 use Rattle.tt_fold.specs.Places.{IsIn, CountsPairs}
 use Rattle.tt_fold.proofs.PlaceLaws.{IsIn-map, length-distinct}
-use Rattle.tt_fold.proofs.ShiftExamples.{i32, reference_at, twice, paired, pairs, few-among, moving-pairs, length-pairs, rebuild-paired}
+use Rattle.tt_fold.proofs.ShiftExamples.{i32, reference_at, twice, paired, pairs, few-among, moving-pairs, length-pairs}
+use Rattle.tt_fold.proofs.ShiftExamples.{rebuild-paired}
 use Rattle.tt_binder.specs.Shifted.{param_at}
 use Rattle.tt_binder.specs.Sharing.{IsParamIn, IsParamAmong, moving_at, IsMovedFor, CountsShifts}
 use Rattle.tt_binder.specs.declared.shifted.ParamAt.{ParamAt}

@@ -1,5 +1,6 @@
 -- In one walk each argument is shifted once past as many binders.
-use Rattle.std.proofs.Common.{◌≡◌, ℕ, ◌+◌, ◌<◌, ◌≤◌, inl, inr, List, [], ◌∷◌, ◌++◌, length, length-append, refl, ap, subst, arith}
+use Rattle.std.proofs.Common.{◌≡◌, ℕ, ◌+◌, ◌<◌, ◌≤◌, inl, inr, List, [], ◌∷◌, ◌++◌, length, length-append, refl, ap}
+use Rattle.std.proofs.Common.{subst, arith}
 use Rattle.std.proofs.lemmas.List.{map-append}
 use Rattle.std.specs.Map.{keys_of}
 use Rattle.tt_kinds.specs.Tree.{Depth, Tree, Forest, param, bound, term, node, also}
@@ -7,15 +8,19 @@ use Rattle.tt_kinds.specs.Count.{TypeAt}
 use Rattle.tt_interner.specs.Stored.{Counters}
 use Rattle.tt_fold.specs.Counts.{Standing}
 use Rattle.tt_fold.specs.Places.{IsIn, AreDistinct}
-use Rattle.tt_fold.specs.Remember.{spent, one_more, given, remembered, left_alone, taken_apart, gone_into, AfterTerm, noted, noted_again, not_noted}
-use Rattle.tt_fold.specs.Walk.{Walks, Descends, WalksInside, WalksAll, at_region, replaced, kept, descended, passed, rebuilt, at_node, at_binder, in_term, in_param, in_bound, done, next}
+use Rattle.tt_fold.specs.Remember.{spent, one_more, given, remembered, left_alone, taken_apart, gone_into, AfterTerm}
+use Rattle.tt_fold.specs.Remember.{noted, noted_again, not_noted}
+use Rattle.tt_fold.specs.Walk.{Walks, Descends, WalksInside, WalksAll, at_region, replaced, kept, descended, passed}
+use Rattle.tt_fold.specs.Walk.{rebuilt, at_node, at_binder, in_term, in_param, in_bound, done, next}
 use Rattle.tt_fold.proofs.PlaceLaws.{IsIn-append, IsIn-only}
 use Rattle.tt_fold.proofs.RememberLaws.{Knows, does}
 use Rattle.tt_binder.specs.Shifted.{param_at}
 use Rattle.tt_binder.specs.Sharing.{IsParamIn, IsParamAmong, moving_at, CountsShifts}
-use Rattle.tt_binder.specs.Instantiation.{Args, Kept, Instantiation, at_first, PutsArgument, as_it_is, shifted_now, instantiation, arg_hooks}
+use Rattle.tt_binder.specs.Instantiation.{Args, Kept, Instantiation, at_first, PutsArgument, as_it_is, shifted_now}
+use Rattle.tt_binder.specs.Instantiation.{instantiation, arg_hooks}
 use Rattle.tt_binder.specs.declared.shifted.ParamAt.{ParamAt}
-use Rattle.tt_binder.proofs.TaggedLaws.{tagged, AreDistinct-append, AreDistinct-tagged, tagged-append, length-tagged, IsIn-tagged}
+use Rattle.tt_binder.proofs.TaggedLaws.{tagged, AreDistinct-append, AreDistinct-tagged, tagged-append, length-tagged}
+use Rattle.tt_binder.proofs.TaggedLaws.{IsIn-tagged}
 use Rattle.tt_binder.proofs.WalkLaws.{instantiation_laws, knows_first}
 
 -- a shift for a parameter that meets P takes apart distinct types, which have a variable to be shifted

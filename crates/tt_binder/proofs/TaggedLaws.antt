@@ -1,5 +1,6 @@
 -- Lists under distinct keys, as one list of pairs.
-use Rattle.std.proofs.Common.{◌≡◌, inl, inr, List, [], ◌∷◌, ◌++◌, map, length, length-append, append_assoc, arith, refl, sym, ap, ◌∙◌}
+use Rattle.std.proofs.Common.{◌≡◌, inl, inr, List, [], ◌∷◌, ◌++◌, map, length, length-append, append_assoc, arith, refl}
+use Rattle.std.proofs.Common.{sym, ap, ◌∙◌}
 use Rattle.std.specs.Map.{keys_of}
 use Rattle.tt_fold.specs.Places.{IsIn, AreDistinct}
 use Rattle.tt_fold.proofs.PlaceLaws.{IsIn-append}

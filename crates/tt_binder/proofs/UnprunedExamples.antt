@@ -3,10 +3,12 @@ use Rattle.std.proofs.Common.{ℕ, List, [], ◌∷◌, refl, subst, Bool, true,
 use Rattle.std.specs.Prelude.{IsTrue}
 use Rattle.tt_index.specs.declared.refusal.Refusal.{Refusal}
 use Rattle.tt_index.specs.declared.refusal.Refusal.TheVariants.{ArgOutOfRange, ArgKind, RegionVariable}
-use Rattle.tt_kinds.specs.Label.{region_sort, type_sort, const_variable, region_var, bool_type, tuple_type, unsafe_binder_type, dynamic_type, unsafe_binder_record, type_label, record_label}
+use Rattle.tt_kinds.specs.Label.{region_sort, type_sort, const_variable, region_var, bool_type, tuple_type}
+use Rattle.tt_kinds.specs.Label.{unsafe_binder_type, dynamic_type, unsafe_binder_record, type_label, record_label}
 use Rattle.tt_kinds.specs.Tree.{Depth, at, Tree, param, bound, region, term, node, binder, none, also}
 use Rattle.tt_kinds.specs.Argument.{Argument}
-use Rattle.tt_fold.specs.Walk.{replaced, descended, rebuilt, in_term, at_node, at_binder, done, next, descent_failed, inside_failed, in_term_failed, here, later, term_failed, region_failed}
+use Rattle.tt_fold.specs.Walk.{replaced, descended, rebuilt, in_term, at_node, at_binder, done, next, descent_failed}
+use Rattle.tt_fold.specs.Walk.{inside_failed, in_term_failed, here, later, term_failed, region_failed}
 use Rattle.tt_binder.specs.Unpruned.{outside, Gives, EndsAt, only}
 
 -- each refusal is heeded

@@ -1,20 +1,31 @@
 -- The walk that skips nothing: it gives the plain result, or it ends at a refusal that it heeds.
-use Rattle.std.proofs.Common.{inl, inr, ◌≡◌, ℕ, suc, ◌+◌, ◌-◌, ◌<◌, List, refl, sym, ap, subst, ◌∙◌, arith, Bool, true, false}
+use Rattle.std.proofs.Common.{inl, inr, ◌≡◌, ℕ, suc, ◌+◌, ◌-◌, ◌<◌, List, refl, sym, ap, subst, ◌∙◌, arith, Bool, true}
+use Rattle.std.proofs.Common.{false}
 use Rattle.std.specs.Prelude.{◌⊎◌, ⊤, IsTrue, Option, Some, None, Result, Ok, Err, slice_get, if◌then◌else◌}
 use Rattle.std.proofs.lemmas.Bool.{cases_lt}
 use Rattle.tt_index.specs.Greatest.{greatest}
 use Rattle.tt_index.specs.declared.refusal.Refusal.{Refusal}
 use Rattle.tt_index.specs.declared.refusal.Refusal.TheVariants.{GreatestIndex, ArgKind, RegionVariable}
-use Rattle.tt_kinds.specs.Label.{Name, Sort, region_sort, type_sort, const_sort, VarKind, Entry, Label, type_label, FreeRegion, static_region, region_var}
-use Rattle.tt_kinds.specs.Tree.{Depth, Place, own, outer, apart, Tree, Forest, param, bound, region, term, node, binder, none, also}
+use Rattle.tt_kinds.specs.Label.{Name, Sort, region_sort, type_sort, const_sort, VarKind, Entry, Label, type_label}
+use Rattle.tt_kinds.specs.Label.{FreeRegion, static_region, region_var}
+use Rattle.tt_kinds.specs.Tree.{Depth, Place, own, outer, apart, Tree, Forest, param, bound, region, term, node, binder}
+use Rattle.tt_kinds.specs.Tree.{none, also}
 use Rattle.tt_kinds.specs.Reading.{read, FitsAt, FitsUnder, FitsUnder_all}
 use Rattle.tt_kinds.specs.Argument.{Argument, same_sort, of_sort}
 use Rattle.tt_kinds.specs.Plain.{shift_tree, shifted_or, given_under, inst_tree, inst_forest}
 use Rattle.tt_visit.specs.Root.{a_region, hooked, unhooked, term_root}
-use Rattle.tt_fold.specs.Walk.{replace, keep, descend, IsRegion, IsTerm, IsPassed, Walks, Descends, WalksInside, WalksAll, at_region, replaced, kept, descended, passed, rebuilt, at_node, at_binder, in_term, in_param, in_bound, done, next, Fails, DescentFails, InsideFails, FailsAll, region_failed, term_failed, descent_failed, passed_failed, enter_failed, under_failed, leave_failed, node_failed, node_not_built, clause_lost, LosesClause, stopped, inside_failed, not_built, after_failed, in_term_failed, here, later, no_clause, Wanted, any_trees, wanted_in, HasUnwanted}
+use Rattle.tt_fold.specs.Walk.{replace, keep, descend, IsRegion, IsTerm, IsPassed, Walks, Descends, WalksInside}
+use Rattle.tt_fold.specs.Walk.{WalksAll, at_region, replaced, kept, descended, passed, rebuilt, at_node, at_binder}
+use Rattle.tt_fold.specs.Walk.{in_term, in_param, in_bound, done, next, Fails, DescentFails, InsideFails, FailsAll}
+use Rattle.tt_fold.specs.Walk.{region_failed, term_failed, descent_failed, passed_failed, enter_failed, under_failed}
+use Rattle.tt_fold.specs.Walk.{leave_failed, node_failed, node_not_built, clause_lost, LosesClause, stopped}
+use Rattle.tt_fold.specs.Walk.{inside_failed, not_built, after_failed, in_term_failed, here, later, no_clause, Wanted}
+use Rattle.tt_fold.specs.Walk.{any_trees, wanted_in, HasUnwanted}
 use Rattle.tt_fold.proofs.WantedLaws.{first-unwanted, later-unwanted, unwanted-list}
 use Rattle.tt_fold.proofs.ClauseLaws.{KeepsClauses, KeepsClauses_all, list_before, rebuild-keeps_clause}
-use Rattle.tt_binder.specs.Unpruned.{Replacing, further_in, further_out, value_of, value_for, value_or, become, IsValueRefusal, IsLeafRefusal, IsBinderRefusal, HeedsNone, answer, unpruned_hooks, all_built}
+use Rattle.tt_binder.specs.Unpruned.{Replacing, further_in, further_out, value_of, value_for, value_or, become}
+use Rattle.tt_binder.specs.Unpruned.{IsValueRefusal, IsLeafRefusal, IsBinderRefusal, HeedsNone, answer, unpruned_hooks}
+use Rattle.tt_binder.specs.Unpruned.{all_built}
 
 abbrev mutual
   -- the walk of the tree comes to a leaf or a binder that is refused

@@ -1,11 +1,15 @@
 -- What the walk that skips nothing meets are the reasons of plain replacement.
-use Rattle.std.proofs.Common.{inl, inr, ◌≡◌, ℕ, suc, ◌≤◌, List, [], length, refl, sym, ap, subst, ◌∙◌, arith, Bool, true, false}
-use Rattle.std.specs.Prelude.{◌≢◌, IsTrue, not, IsSomeAnd, Option, Some, None, Result, Ok, Err, slice_get, if◌then◌else◌}
+use Rattle.std.proofs.Common.{inl, inr, ◌≡◌, ℕ, suc, ◌≤◌, List, [], length, refl, sym, ap, subst, ◌∙◌, arith, Bool}
+use Rattle.std.proofs.Common.{true, false}
+use Rattle.std.specs.Prelude.{◌≢◌, IsTrue, not, IsSomeAnd, Option, Some, None, Result, Ok, Err, slice_get}
+use Rattle.std.specs.Prelude.{if◌then◌else◌}
 use Rattle.std.proofs.lemmas.Option.{slice_get_past}
 use Rattle.std.proofs.lemmas.Bool.{eq-eqb, eqb-true}
 use Rattle.std.proofs.lemmas.Option.{slice_get_cases}
 use Rattle.tt_index.specs.declared.refusal.Refusal.{Refusal}
-use Rattle.tt_index.specs.declared.refusal.Refusal.TheVariants.{Memory, TableFull, GreatestIndex, NoArguments, ArgOutOfRange, ArgKind, RegionVariable, NotAClause, NoSuchAnswer}
+use Rattle.tt_index.specs.declared.refusal.Refusal.TheVariants.{Memory, TableFull, GreatestIndex, NoArguments}
+use Rattle.tt_index.specs.declared.refusal.Refusal.TheVariants.{ArgOutOfRange, ArgKind, RegionVariable, NotAClause}
+use Rattle.tt_index.specs.declared.refusal.Refusal.TheVariants.{NoSuchAnswer}
 use Rattle.tt_kinds.specs.Label.{Name, Sort, FreeRegion, region_var}
 use Rattle.tt_kinds.specs.Tree.{Depth, Tree, Forest, param, bound, region, term, node, binder, none, also}
 use Rattle.tt_kinds.specs.Reading.{read, read_all, FitsUnder, FitsUnder_all, Fits}
@@ -20,8 +24,11 @@ use Rattle.tt_fold.specs.Stands.{StandsIn, StandsAmong, itself, in_term, in_node
 use Rattle.tt_fold.proofs.ClauseLaws.{KeepsClauses, value_keeps}
 use Rattle.tt_binder.specs.Instance.{IsPlain}
 use Rattle.tt_interner.proofs.FittingLaws.{value-fits}
-use Rattle.tt_binder.specs.Unpruned.{Replacing, outside, value_of, value_for, value_or, IsValueRefusal, IsLeafRefusal, HeedsNone, Gives, EndsAt, IsPlainReason, only, IsUnseen, HoldsNoRegionVar, PruningIsUnseen}
-use Rattle.tt_binder.proofs.UnprunedLaws.{Meets, Meets_all, IsRooted, param_placed, fits_or, does, met_at_end, Goes, goes, ends, either}
+use Rattle.tt_binder.specs.Unpruned.{Replacing, outside, value_of, value_for, value_or, IsValueRefusal, IsLeafRefusal}
+use Rattle.tt_binder.specs.Unpruned.{HeedsNone, Gives, EndsAt, IsPlainReason, only, IsUnseen, HoldsNoRegionVar}
+use Rattle.tt_binder.specs.Unpruned.{PruningIsUnseen}
+use Rattle.tt_binder.proofs.UnprunedLaws.{Meets, Meets_all, IsRooted, param_placed, fits_or, does, met_at_end, Goes}
+use Rattle.tt_binder.proofs.UnprunedLaws.{goes, ends, either}
 use Rattle.tt_binder.proofs.UnprunedTrees.{value_rooted}
 
 -- what a parameter's look-up may give

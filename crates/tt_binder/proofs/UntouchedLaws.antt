@@ -6,7 +6,12 @@ use Rattle.tt_kinds.specs.Tree.{Depth, Tree, Forest, term, binder}
 use Rattle.tt_kinds.specs.Param.{holds_param, holds_param_among}
 use Rattle.tt_kinds.proofs.ChildLaws.{HidesRegionVars_among, HidesRegionVars-also, HidesRegionVars-term}
 use Rattle.tt_visit.specs.Root.{error_of}
-use Rattle.tt_visit.specs.Visit.{TellingBreaks, GoesOver, GoesInside, GoesOverAll, region_seen, skipped, went_inside, unhooked_seen, token_seen, node_seen, binder_skipped, binder_seen, term_seen, param_seen, bound_seen, value_seen, all_seen, one_seen, Breaks, BreaksInside, BreaksAll, region_broke, term_broke, inside_broke, unhooked_broke, token_broke, node_broke, enter_broke, under_broke, error_broke, term_inside_broke, value_broke, first_broke, later_broke}
+use Rattle.tt_visit.specs.Visit.{TellingBreaks, GoesOver, GoesInside, GoesOverAll, region_seen, skipped, went_inside}
+use Rattle.tt_visit.specs.Visit.{unhooked_seen, token_seen, node_seen, binder_skipped, binder_seen, term_seen}
+use Rattle.tt_visit.specs.Visit.{param_seen, bound_seen, value_seen, all_seen, one_seen, Breaks, BreaksInside}
+use Rattle.tt_visit.specs.Visit.{BreaksAll, region_broke, term_broke, inside_broke, unhooked_broke, token_broke}
+use Rattle.tt_visit.specs.Visit.{node_broke, enter_broke, under_broke, error_broke, term_inside_broke, value_broke}
+use Rattle.tt_visit.specs.Visit.{first_broke, later_broke}
 use Rattle.tt_visit.specs.declared.visitor.Next.TheVariants.{Skip, Descend}
 use Rattle.tt_binder.specs.Instantiation.{IsInnerConst, IsGoneInto}
 use Rattle.tt_binder.specs.Untouched.{IsUntouched, passed_by, entered, untouched_visits}

@@ -1,6 +1,7 @@
 -- Small types under a binder, and whether their variables agree with its list.
 use Rattle.std.proofs.Common.{List, [], ◌∷◌, refl}
-use Rattle.tt_kinds.specs.Label.{Name, region_sort, type_sort, anonymous, named, VarKind, region_variable, type_variable}
+use Rattle.tt_kinds.specs.Label.{Name, region_sort, type_sort, anonymous, named, VarKind, region_variable}
+use Rattle.tt_kinds.specs.Label.{type_variable}
 use Rattle.tt_kinds.specs.Tree.{Depth, at, Tree, bound, binder}
 use Rattle.tt_kinds.specs.declared.bound.BoundTyKind.TheVariants as bound_ty
 use Rattle.tt_fold.proofs.ShiftExamples.{reference_at}

@@ -1,6 +1,8 @@
 -- What a validation finds.
-use Rattle.std.proofs.Common.{inl, inr, ◌≡◌, ℕ, zero, suc, ◌+◌, ◌-◌, ◌<◌, ◌≤◌, List, [], ◌∷◌, refl, ap, sym, ◌∙◌, subst, arith}
-use Rattle.std.specs.Prelude.{◌⊎◌, Result, Ok, Err, OnOk, OnErr, Option, Some, None, Bool, true, false, IsTrue, ◌↔◌, map, slice_get, option_map, nat_lt, if◌then◌else◌}
+use Rattle.std.proofs.Common.{inl, inr, ◌≡◌, ℕ, zero, suc, ◌+◌, ◌-◌, ◌<◌, ◌≤◌, List, [], ◌∷◌, refl, ap, sym, ◌∙◌, subst}
+use Rattle.std.proofs.Common.{arith}
+use Rattle.std.specs.Prelude.{◌⊎◌, Result, Ok, Err, OnOk, OnErr, Option, Some, None, Bool, true, false, IsTrue, ◌↔◌}
+use Rattle.std.specs.Prelude.{map, slice_get, option_map, nat_lt, if◌then◌else◌}
 use Rattle.std.proofs.lemmas.Bool.{cases_Bool, le-ltb}
 use Rattle.std.proofs.lemmas.Option.{slice_get-map, same_Some}
 use Rattle.indexmap.specs.IndexMap.{insert_entry}
@@ -8,14 +10,19 @@ use Rattle.tt_index.specs.Greatest.{greatest}
 use Rattle.tt_kinds.specs.Bound.{depth, region_name, var_kind, region_entry, ty_entry, const_entry}
 use Rattle.tt_kinds.specs.Count.{TypeAt}
 use Rattle.tt_kinds.specs.Handle.{handle, BoundVarKinds, Const, Ty}
-use Rattle.tt_kinds.specs.Kinds.{form_shape, relabelled, value_form, ty_kind_shape, ty_shape, const_kind_shape, const_shape, region_shape}
-use Rattle.tt_kinds.specs.Label.{Name, Sort, region_sort, type_sort, const_sort, error_label, const_label, RegionName, anonymous, printed, named, environment, VarKind, region_variable, type_variable, const_variable, Entry}
+use Rattle.tt_kinds.specs.Kinds.{form_shape, relabelled, value_form, ty_kind_shape, ty_shape, const_kind_shape}
+use Rattle.tt_kinds.specs.Kinds.{const_shape, region_shape}
+use Rattle.tt_kinds.specs.Label.{Name, Sort, region_sort, type_sort, const_sort, error_label, const_label, RegionName}
+use Rattle.tt_kinds.specs.Label.{anonymous, printed, named, environment, VarKind, region_variable, type_variable}
+use Rattle.tt_kinds.specs.Label.{const_variable, Entry}
 use Rattle.tt_kinds.specs.Matched.{IsEntryOf}
 use Rattle.tt_kinds.specs.Range.{IndicesFit, IndicesFit_all}
 use Rattle.tt_kinds.specs.Reading.{read, read_all, reach, greatest_reach, greatest_reach_all, outer_binder}
 use Rattle.tt_kinds.specs.Shape as shape
-use Rattle.tt_kinds.specs.Shape.{Meaning, vars_of, name_of, rename_region, rename_kind, rename_entry, fill, Sizes, IsPart, IsNamed, IsNamedKind, AreNamedKinds}
-use Rattle.tt_kinds.specs.Tree.{Depth, at, canonical, own, outer, Tree, Forest, param, bound, region, term, node, binder, none, also}
+use Rattle.tt_kinds.specs.Shape.{Meaning, vars_of, name_of, rename_region, rename_kind, rename_entry, fill, Sizes}
+use Rattle.tt_kinds.specs.Shape.{IsPart, IsNamed, IsNamedKind, AreNamedKinds}
+use Rattle.tt_kinds.specs.Tree.{Depth, at, canonical, own, outer, Tree, Forest, param, bound, region, term, node}
+use Rattle.tt_kinds.specs.Tree.{binder, none, also}
 use Rattle.tt_kinds.specs.declared.bound.BoundConst.{BoundConst}
 use Rattle.tt_kinds.specs.declared.bound.BoundRegion.{BoundRegion}
 use Rattle.tt_kinds.specs.declared.bound.BoundRegionKind.{BoundRegionKind}
@@ -29,7 +36,8 @@ use Rattle.tt_kinds.specs.declared.const_kind.ConstKind.TheVariants as const
 use Rattle.tt_kinds.specs.declared.const_kind.ValTreeKind.{ValTreeKind}
 use Rattle.tt_kinds.specs.declared.const_kind.ValTreeKind.TheVariants as valtree
 use Rattle.tt_kinds.specs.declared.region_kind.RegionKind.{RegionKind}
-use Rattle.tt_kinds.specs.declared.region_kind.RegionKind.TheVariants.{ReEarlyParam, ReBound, ReLateParam, ReStatic, ReVar, RePlaceholder, ReErased, ReError}
+use Rattle.tt_kinds.specs.declared.region_kind.RegionKind.TheVariants.{ReEarlyParam, ReBound, ReLateParam, ReStatic}
+use Rattle.tt_kinds.specs.declared.region_kind.RegionKind.TheVariants.{ReVar, RePlaceholder, ReErased, ReError}
 use Rattle.tt_kinds.specs.declared.table.Table.TheVariants.{VarLists}
 use Rattle.tt_kinds.specs.declared.ty_kind.TyKind.{TyKind}
 use Rattle.tt_kinds.specs.declared.ty_kind.TyKind.TheVariants as ty
@@ -40,14 +48,20 @@ use Rattle.tt_interner.specs.Stored.{IsAt}
 use Rattle.tt_interner.proofs.Fill.{name_one}
 use Rattle.tt_interner.proofs.Trees.{distinct}
 use Rattle.tt_visit.specs.Root.{error_of}
-use Rattle.tt_visit.specs.Visit.{Tells, TellingBreaks, GoesOver, GoesOverAll, region_seen, skipped, went_inside, token_seen, node_seen, unhooked_seen, binder_skipped, binder_seen, term_seen, param_seen, bound_seen, value_seen, all_seen, one_seen, Breaks, BreaksAll, region_broke, term_broke, inside_broke, unhooked_broke, token_broke, node_broke, enter_broke, under_broke, error_broke, term_inside_broke, value_broke, first_broke, later_broke}
+use Rattle.tt_visit.specs.Visit.{Tells, TellingBreaks, GoesOver, GoesOverAll, region_seen, skipped, went_inside}
+use Rattle.tt_visit.specs.Visit.{token_seen, node_seen, unhooked_seen, binder_skipped, binder_seen, term_seen}
+use Rattle.tt_visit.specs.Visit.{param_seen, bound_seen, value_seen, all_seen, one_seen, Breaks, BreaksAll}
+use Rattle.tt_visit.specs.Visit.{region_broke, term_broke, inside_broke, unhooked_broke, token_broke, node_broke}
+use Rattle.tt_visit.specs.Visit.{enter_broke, under_broke, error_broke, term_inside_broke, value_broke, first_broke}
+use Rattle.tt_visit.specs.Visit.{later_broke}
 use Rattle.tt_visit.specs.declared.visitor.Next.{Next}
 use Rattle.tt_visit.specs.declared.visitor.Next.TheVariants.{Skip, Descend}
 use Rattle.tt_fold.specs.Memory.{place_of, same_place, type_at, memo_at, memos}
 use Rattle.tt_fold.specs.Places.{IsIn}
 use Rattle.tt_fold.specs.Remember.{Memo, places}
 use Rattle.tt_fold.specs.declared.memory.Place.{Place}
-use Rattle.tt_binder.specs.Validate.{Agrees, Agrees_all, vars_at, Validation, here, SeenAgree, RootAgrees, AddsPlace, Looks, EntersOnce, validate_hooks, ValidationIsExact}
+use Rattle.tt_binder.specs.Validate.{Agrees, Agrees_all, vars_at, Validation, here, SeenAgree, RootAgrees, AddsPlace}
+use Rattle.tt_binder.specs.Validate.{Looks, EntersOnce, validate_hooks, ValidationIsExact}
 use Rattle.tt_binder.specs.declared.validate_bound_vars.WrongBoundVar.{WrongBoundVar}
 use Rattle.tt_binder.proofs.RowArguments.{IsClauseTree, kind_tree, const_kind_tree}
 
@@ -152,8 +166,8 @@ mutual
   goes_all_same s s' none all_seen = (refl, refl)
   goes_all_same s s' (also t ts) (one_seen {s1 = s1} h more) = same_twice s s1 s' (goes_same s s1 t h) (goes_all_same s1 s' ts more)
 
--- What a visit that goes to its end says. A term is remembered when it is entered, before it is known to agree. It doesn't
--- occur in itself, so within a term only what is smaller is skipped.
+-- What a visit that goes to its end says. A term is remembered when it is entered, before it is known to agree. It
+-- doesn't occur in itself, so within a term only what is smaller is skipped.
 
 abbrev mutual
   tree_size : Tree Depth → ℕ

@@ -3,8 +3,13 @@ use Rattle.std.proofs.Common.{◌≡◌, ℕ, inl, inr, List, refl, sym, subst, 
 use Rattle.std.specs.Prelude.{IsSome}
 use Rattle.std.specs.Bool.{OnTrue}
 use Rattle.tt_index.specs.declared.refusal.Refusal.{Refusal}
-use Rattle.tt_index.specs.declared.refusal.Refusal.TheVariants.{Memory, TableFull, GreatestIndex, NoArguments, ArgOutOfRange, ArgKind, RegionVariable, NotAClause, NoSuchAnswer}
-use Rattle.tt_kinds.specs.Label.{Name, region_sort, type_sort, const_sort, VarKind, type_label, const_label, pattern_label, predicate_label, existential_label, clause_list_label, list_label, var_list_label, text_label, declaration_label, definition_label, record_label, error_label, clause_label, Label, is_type_or_clause}
+use Rattle.tt_index.specs.declared.refusal.Refusal.TheVariants.{Memory, TableFull, GreatestIndex, NoArguments}
+use Rattle.tt_index.specs.declared.refusal.Refusal.TheVariants.{ArgOutOfRange, ArgKind, RegionVariable, NotAClause}
+use Rattle.tt_index.specs.declared.refusal.Refusal.TheVariants.{NoSuchAnswer}
+use Rattle.tt_kinds.specs.Label.{Name, region_sort, type_sort, const_sort, VarKind, type_label, const_label}
+use Rattle.tt_kinds.specs.Label.{pattern_label, predicate_label, existential_label, clause_list_label, list_label}
+use Rattle.tt_kinds.specs.Label.{var_list_label, text_label, declaration_label, definition_label, record_label}
+use Rattle.tt_kinds.specs.Label.{error_label, clause_label, Label, is_type_or_clause}
 use Rattle.tt_kinds.specs.Tree.{Depth, Tree, Forest, param, bound, region, term, node, binder, none, also}
 use Rattle.tt_kinds.specs.Reading.{read, FitsUnder}
 use Rattle.tt_kinds.specs.Argument.{argument}
@@ -22,7 +27,9 @@ use Rattle.tt_fold.proofs.LeafLaws.{with_leaves-rebuild}
 use Rattle.tt_fold.proofs.ShiftLaws.{counted-one, counted-up}
 use Rattle.tt_fold.proofs.RememberLaws.{Knows}
 use Rattle.tt_fold.proofs.TaskLaws.{AllowsAll, Refuses, without, too_far, caused, IsGiven, TaskLaws}
-use Rattle.tt_binder.specs.Instantiation.{Args, Kept, Instantiation, at_first, Instantiates, IsAllowed, LeafRefuses, for_cause, shift_unbuilt, shift_too_far, IsInnerConst, IsGoneInto, PutsArgument, as_it_is, shifted_now, instantiation}
+use Rattle.tt_binder.specs.Instantiation.{Args, Kept, Instantiation, at_first, Instantiates, IsAllowed, LeafRefuses}
+use Rattle.tt_binder.specs.Instantiation.{for_cause, shift_unbuilt, shift_too_far, IsInnerConst, IsGoneInto}
+use Rattle.tt_binder.specs.Instantiation.{PutsArgument, as_it_is, shifted_now, instantiation}
 
 -- the instantiated tree is what the task makes of a tree
 pub made-inst : (args : Args) (k : ℕ) (t : Tree Depth) → made instantiation args k t ≡ inst_tree k args t

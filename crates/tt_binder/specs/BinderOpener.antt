@@ -31,7 +31,8 @@ Opening = State Args ⊤
 
 -- the state with these arguments under k binders
 abbrev pub opening_state : List Row → List GenericArgKind → ℕ → List (Place × Ty) → Opening
-opening_state rows items k memory = record { rule = arguments rows items; under = k; kept = tt; memory = memos rows memory }
+opening_state rows items k memory = record { rule = arguments rows items; under = k; kept = tt;
+    memory = memos rows memory }
 
 -- the index of a variable that isn't the opened binder's own, under k binders in it, as it is outside of the opened one
 abbrev pub index_outside : ℕ → BoundVarIndexKind → BoundVarIndexKind
@@ -43,8 +44,10 @@ pub record Opens (args : Args) (k : ℕ) (t r : Tree Depth) : Type 0 where
   pub plain : r ≡ open_tree k args t
   pub given : IsGiven args k t
 
--- a tree under k binders isn't opened: for a cause, because a tree in what is made of it isn't built, or since that doesn't fit
-pub data OpeningRefuses (unbuilt : Tree Depth → Refusal → Type 0) (args : Args) (k : ℕ) (t : Tree Depth) (e : Refusal) : Type 0 where
+-- a tree under k binders isn't opened: for a cause, because a tree in what is made of it isn't built, or since that
+-- doesn't fit
+pub data OpeningRefuses (unbuilt : Tree Depth → Refusal → Type 0) (args : Args) (k : ℕ) (t : Tree Depth) (e : Refusal)
+    : Type 0 where
   for_cause : OpeningCause args k t e → OpeningRefuses unbuilt args k t e
   not_built : (u : Tree Depth) → StandsIn u (open_tree k args t) → unbuilt u e → OpeningRefuses unbuilt args k t e
   too_great : e ≡ GreatestIndex → (FitsUnder k (read k (open_tree k args t)) → ⊥) → OpeningRefuses unbuilt args k t e
@@ -57,9 +60,11 @@ opening = record {
   Allows = IsGiven;
   IsEntered = λ args k t. IsVariable t → ⊥;
   IsTodo = λ args k t. k < outer_binder t;
-  Gives = λ s t r kept c. IsVariable t × Opens s.state.rule s.state.under t r × (c.descents ≡ s.counters.descents) × (s.counters.shift_descents ≤ c.shift_descents);
+  Gives = λ s t r kept c. IsVariable t × Opens s.state.rule s.state.under t r × (c.descents ≡ s.counters.descents)
+      × (s.counters.shift_descents ≤ c.shift_descents);
   RegionFails = OpeningRefuses;
-  TermFails = λ unbuilt s t e s'. (s'.counters.descents ≡ s.counters.descents) × (s.counters.shift_descents ≤ s'.counters.shift_descents)
+  TermFails = λ unbuilt s t e s'. (s'.counters.descents ≡ s.counters.descents)
+      × (s.counters.shift_descents ≤ s'.counters.shift_descents)
       × OpeningRefuses unbuilt s.state.rule s.state.under t e;
   IsCause = OpeningCause;
   count = λ c. record { descents = counted c.descents; shift_descents = c.shift_descents };
@@ -72,7 +77,8 @@ abbrev pub opening_hooks : Hooks (Standing Opening) Refusal
 opening_hooks = remembering opening
 
 -- the folder's handles are among the rows: its arguments, its memory, and its shifts
-abbrev pub OwnsOpener : {S : Type 0} → (List Row → S → List GenericArgKind) → (List Row → S → Type 0) → List Row → S → List (Place × Ty) → List (ParamAt × Ty) → List (ParamAt × Const) → Type 0
+abbrev pub OwnsOpener : {S : Type 0} → (List Row → S → List GenericArgKind) → (List Row → S → Type 0) → List Row → S
+    → List (Place × Ty) → List (ParamAt × Ty) → List (ParamAt × Const) → Type 0
 OwnsOpener items owns rows x memory types consts = owns rows x
     × AreArguments rows (items rows x)
     × OwnsMemos rows memory

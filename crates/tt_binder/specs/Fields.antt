@@ -1,5 +1,6 @@
 -- The fields of data types, instantiated.
-use Rattle.std.specs.Prelude.{◌≡◌, ◌≢◌, ℕ, ◌+◌, ◌<◌, ◌⊎◌, List, [], ◌∷◌, ◌++◌, Option, Some, None, Result, Ok, Err, IfOk, IsOkAnd, ⊤}
+use Rattle.std.specs.Prelude.{◌≡◌, ◌≢◌, ℕ, ◌+◌, ◌<◌, ◌⊎◌, List, [], ◌∷◌, ◌++◌, Option, Some, None, Result, Ok, Err}
+use Rattle.std.specs.Prelude.{IfOk, IsOkAnd, ⊤}
 use Rattle.std.specs.declared.alloc.Global.{Global}
 use Rattle.std.specs.declared.vec.Vec.{Vec}
 use Rattle.tt_index.specs.declared.refusal.Refusal.{Refusal}
@@ -31,7 +32,8 @@ IsAdt rows t = (id : Id DataType) × (args : GenericArgs) × IsAdtOf rows t id a
 
 -- a field as it is declared, with its place
 abbrev pub declared_field : Ty → Option Symbol → ℕ → ℕ → FieldDef → FieldInfo
-declared_field base variant v i f = record { base = base; ty = f.ty; variant = variant; variant_idx = v; name = f.name; field_idx = i }
+declared_field base variant v i f = record { base = base; ty = f.ty; variant = variant; variant_idx = v; name = f.name;
+    field_idx = i }
 
 -- the fields of a variant, from the place i on
 abbrev pub fields_from : Ty → Option Symbol → ℕ → ℕ → List FieldDef → List FieldInfo
@@ -59,7 +61,8 @@ unnormalized (Err e) = Err e
 
 -- the type was instantiated with the arguments, with this result
 abbrev pub InstantiatesTy : GenericArgs → Ty → Terms → Result Ty Refusal → Terms → Type 0
-InstantiatesTy args t old result new = InstancePromise ty_shape (arguments old.rows (args_at old.rows args)) t old (unnormalized result) new
+InstantiatesTy args t old result new = InstancePromise ty_shape (arguments old.rows (args_at old.rows args)) t old
+    (unnormalized result) new
 
 -- the field with another type
 abbrev pub with_ty : FieldInfo → Ty → FieldInfo
@@ -69,7 +72,8 @@ with_ty f t = record f { ty = t }
 abbrev pub AreInstances : GenericArgs → List FieldInfo → List FieldInfo → Terms → Terms → Type 0
 AreInstances args [] [] old new = new ≡ old
 AreInstances args (f ∷ fs) (i ∷ is) old new =
-    (i ≡ with_ty f i.ty) × ((between : Terms) × InstantiatesTy args f.ty old (Ok i.ty) between × AreInstances args fs is between new)
+    (i ≡ with_ty f i.ty) × ((between : Terms) × InstantiatesTy args f.ty old (Ok i.ty) between
+    × AreInstances args fs is between new)
 AreInstances args _ _ old new = ⊥
 
 -- the types of the fields were instantiated in turn, until one was refused with e
@@ -79,8 +83,10 @@ StopsAtField args (f ∷ fs) e old new =
     InstantiatesTy args f.ty old (Err e) new
     ⊎ ((t : Ty) × (between : Terms) × InstantiatesTy args f.ty old (Ok t) between × StopsAtField args fs e between new)
 
--- all fields with their instances; or one of these was refused, or the memory for a list that is not empty, and nothing changed
-abbrev pub GivesInstances : GenericArgs → List FieldInfo → Terms → Result (Vec FieldInfo Global) Refusal → Terms → Type 0
+-- all fields with their instances; or one of these was refused, or the memory for a list that is not empty, and nothing
+-- changed
+abbrev pub GivesInstances : GenericArgs → List FieldInfo → Terms → Result (Vec FieldInfo Global) Refusal → Terms
+    → Type 0
 GivesInstances args fs old (Ok fields) new = AreInstances args fs fields.items old new
 GivesInstances args fs old (Err e) new = StopsAtField args fs e old new ⊎ ((e ≡ Memory) × (fs ≢ []) × (new ≡ old))
 
@@ -94,7 +100,8 @@ ArePlain args (f ∷ fs) (i ∷ is) old new =
 ArePlain args _ _ old new = ⊥
 
 -- the result is the data type's fields, instantiated with its arguments
-pub record GivesFields (base : Ty) (old : Terms) (result : Result (Vec FieldInfo Global) Refusal) (new : Terms) : Type 0 where
+pub record GivesFields (base : Ty) (old : Terms) (result : Result (Vec FieldInfo Global) Refusal) (new : Terms)
+    : Type 0 where
   pub id : Id DataType
   pub args : GenericArgs
   pub stored : IsAdtOf old.rows base id args

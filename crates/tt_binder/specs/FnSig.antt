@@ -29,7 +29,8 @@ HasFnSig rows _ = ⊥
 
 -- the signature of no types, of a safe function of Rust's convention, under a binder of no variables
 abbrev pub no_sig : Binder FnSig
-no_sig = record { value = record { inputs_and_output = handle 0; fn_sig_kind = plain_header.fn_sig_kind }; bound_vars = handle 0 }
+no_sig = record { value = record { inputs_and_output = handle 0; fn_sig_kind = plain_header.fn_sig_kind };
+    bound_vars = handle 0 }
 
 -- the value in a result of an instantiation
 abbrev pub instance : {T : Type 0} → Result (Unnormalized T) Refusal → Result T Refusal
@@ -37,14 +38,17 @@ instance (Ok u) = Ok u.value
 instance (Err e) = Err e
 
 -- the result is the function's signature as it is declared, instantiated with the arguments, or the refusal of that
-pub record InstantiatesSig (id : DefId) (args : GenericArgs) (old : Terms) (result : Result (Binder FnSig) Refusal) (new : Terms) : Type 0 where
+pub record InstantiatesSig (id : DefId) (args : GenericArgs) (old : Terms) (result : Result (Binder FnSig) Refusal)
+    (new : Terms) : Type 0 where
   pub sig : EarlyBinder (Binder FnSig)
   pub declared : (declared_at old.rows id).kind ≡ kind.Fn sig
   pub instantiated : Result (Unnormalized (Binder FnSig)) Refusal
-  pub promise : InstancePromise (binder_shape fn_sig_shape) (arguments old.rows (args_at old.rows args)) sig.value old instantiated new
+  pub promise : InstancePromise (binder_shape fn_sig_shape)
+      (arguments old.rows (args_at old.rows args)) sig.value old instantiated new
   pub is : result ≡ instance instantiated
 
--- the signature of a type: a pointer's parts joined, a function's as it is declared and instantiated, and none for an error
+-- the signature of a type: a pointer's parts joined, a function's as it is declared and instantiated, and none for an
+-- error
 abbrev pub GivesFnSig : TyKind → Terms → Result (Binder FnSig) Refusal → Terms → Type 0
 GivesFnSig (ty.FnPtr types header) old result new = (result ≡ Ok (joined types header)) × (new ≡ old)
 GivesFnSig (ty.FnDef id args) old result new = InstantiatesSig (record { number = id.number }) args old result new

@@ -24,7 +24,8 @@ HasNoCause args t = (e : Refusal) → Cause t args e → ⊥
 
 -- further arguments replace in the result as the first ones, with the further ones replaced in them, do in the value
 abbrev pub Composes : List (Argument Depth) → Tree Depth → Tree Depth → Type 0
-Composes args t r = (later : List (Argument Place)) → put later (read 0 r) ≡ put (change_values (put later) (readings args)) (read 0 t)
+Composes args t r = (later : List (Argument Place)) → put later (read 0 r)
+    ≡ put (change_values (put later) (readings args)) (read 0 t)
 
 -- the result, moved, is the moved value with moved arguments
 abbrev pub Commutes : List (Argument Depth) → Tree Depth → Tree Depth → Type 0
@@ -44,8 +45,8 @@ pub record IsInstance (args : List (Argument Depth)) (t r : Tree Depth) : Type 0
   pub answered : IsAnswered args t
   pub no_cause : HasNoCause args t
 
--- why an instantiation is refused, as its call ends: memory was refused, a term or a list of the plain result would be a new
--- row of a table that is full, the plain result doesn't fit, or a cause holds
+-- why an instantiation is refused, as its call ends: memory was refused, a term or a list of the plain result would be
+-- a new row of a table that is full, the plain result doesn't fit, or a cause holds
 abbrev pub IsReason : Terms → List (Argument Depth) → Tree Depth → Refusal → Type 0
 IsReason terms args t Memory = ⊤
 IsReason terms args t TableFull = IsPartUnbuilt terms (inst_tree 0 args t) TableFull
@@ -58,7 +59,8 @@ IsOfClauses Predicates = ⊤
 IsOfClauses ClauseLists = ⊤
 IsOfClauses _ = ⊥
 
--- there is nothing to replace and nothing to refuse: no parameter, and no exposed region variable unless there are no arguments
+-- there is nothing to replace and nothing to refuse: no parameter, and no exposed region variable unless there are no
+-- arguments
 pub record ComesBack (args : List (Argument Depth)) (t : Tree Depth) : Type 0 where
   pub no_param : holds_param t ≡ false
   pub hides : (args ≡ []) ⊎ HidesRegionVars t

@@ -44,10 +44,13 @@ pub record IsAllowed (args : Args) (t : Tree Depth) : Type 0 where
 
 -- a leaf under k binders is refused: for a cause, or, if it has to be shifted past some binders, because a tree
 -- in the shifted argument isn't built, or because that argument doesn't fit
-pub data LeafRefuses (unbuilt : Tree Depth → Refusal → Type 0) (args : Args) (k : ℕ) (t : Tree Depth) (e : Refusal) : Type 0 where
+pub data LeafRefuses (unbuilt : Tree Depth → Refusal → Type 0) (args : Args) (k : ℕ) (t : Tree Depth) (e : Refusal)
+    : Type 0 where
   for_cause : Cause t args e → LeafRefuses unbuilt args k t e
-  shift_unbuilt : 0 < k → (u : Tree Depth) → StandsIn u (inst_tree k args t) → unbuilt u e → LeafRefuses unbuilt args k t e
-  shift_too_far : 0 < k → e ≡ GreatestIndex → (FitsUnder k (read k (inst_tree k args t)) → ⊥) → LeafRefuses unbuilt args k t e
+  shift_unbuilt : 0 < k → (u : Tree Depth) → StandsIn u (inst_tree k args t) → unbuilt u e
+      → LeafRefuses unbuilt args k t e
+  shift_too_far : 0 < k → e ≡ GreatestIndex → (FitsUnder k (read k (inst_tree k args t)) → ⊥)
+      → LeafRefuses unbuilt args k t e
 
 -- the shifter's count may be n after an argument's shift: it stays if the argument is placed under no binder
 abbrev pub IsShiftCount : Standing Instantiation → ℕ → Type 0
@@ -107,8 +110,10 @@ pub record IsKeptNow (p : ParamAt) (kept kept' : Kept) : Type 0 where
 -- the argument replaces the parameter at once: unshifted, as remembered, or shifted now, which the shifter counts
 pub data PutsArgument (args : Args) (k : ℕ) (t r : Tree Depth) : Kept → Counters → Kept → Counters → Type 0 where
   as_it_is : {kept : Kept} {c : Counters} → IsArgument args k t r → PutsArgument args k t r kept c kept c
-  shifted_now : {kept kept' : Kept} {c : Counters} (i n : ℕ) → IsArgument args k t r → IsParamIn (param_at i k) k t → 0 < k → IsKeptNow (param_at i k) kept kept'
-      → c.shift_descents ≤ n → CountsPairs (moving_at args i) c.shift_descents n → PutsArgument args k t r kept c kept' (record { descents = c.descents; shift_descents = n })
+  shifted_now : {kept kept' : Kept} {c : Counters} (i n : ℕ) → IsArgument args k t r → IsParamIn (param_at i k) k t
+      → 0 < k → IsKeptNow (param_at i k) kept kept'
+      → c.shift_descents ≤ n → CountsPairs (moving_at args i) c.shift_descents n
+      → PutsArgument args k t r kept c kept' (record { descents = c.descents; shift_descents = n })
 
 -- the task of replacing parameters by arguments, which takes each type apart that holds a parameter
 abbrev pub instantiation : Task Args Kept
@@ -120,7 +125,8 @@ instantiation = record {
   IsTodo = λ args k t. IsGenericTerm t;
   Gives = λ s t r kept c. PutsArgument s.state.rule s.state.under t r s.state.kept s.counters kept c;
   RegionFails = LeafRefuses;
-  TermFails = λ unbuilt s t e s'. (s'.counters.descents ≡ s.counters.descents) × IsShiftCount s s'.counters.shift_descents
+  TermFails = λ unbuilt s t e s'. (s'.counters.descents ≡ s.counters.descents)
+      × IsShiftCount s s'.counters.shift_descents
       × LeafRefuses unbuilt s.state.rule s.state.under t e;
   IsCause = λ args k t e. Cause t args e;
   count = λ c. record { descents = counted c.descents; shift_descents = c.shift_descents };

@@ -16,7 +16,8 @@ module _ {I T : Type 0} (shape : T → Shape) (gives : I → Option T → I → 
   NextIsOwned rows it = (item : T) (left : I) → gives it (Some item) left → IsPartBy shape rows item
 
   -- the iterator had no item and nothing changed; or it gave one, and the result is this item's instance
-  abbrev pub GivesInstance : List (Argument Depth) → I → Terms → Option (Result (Unnormalized T) Refusal) → I → Terms → Type 0
+  abbrev pub GivesInstance : List (Argument Depth) → I → Terms → Option (Result (Unnormalized T) Refusal) → I → Terms
+      → Type 0
   GivesInstance args it old result left new =
       MatchOption result
       (gives it None left × (new ≡ old))

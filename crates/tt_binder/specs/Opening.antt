@@ -1,9 +1,13 @@
--- What opening a binder gives: its own variables are replaced by arguments, and the other indices are those outside of it.
-use Rattle.std.specs.Prelude.{ℕ, suc, ◌-◌, List, [], length, nat_eq, nat_lt, if◌then◌else◌, ◌≡◌, ◌≢◌, ◌≤◌, ◌⊎◌, ⊤, IsSome}
+-- What opening a binder gives: its own variables are replaced by arguments, and the other indices are those outside of
+-- it.
+use Rattle.std.specs.Prelude.{ℕ, suc, ◌-◌, List, [], length, nat_eq, nat_lt, if◌then◌else◌, ◌≡◌, ◌≢◌, ◌≤◌, ◌⊎◌, ⊤}
+use Rattle.std.specs.Prelude.{IsSome}
 use Rattle.tt_index.specs.declared.refusal.Refusal.{Refusal}
-use Rattle.tt_index.specs.declared.refusal.Refusal.TheVariants.{Memory, TableFull, GreatestIndex, NoArguments, ArgOutOfRange, ArgKind}
+use Rattle.tt_index.specs.declared.refusal.Refusal.TheVariants.{Memory, TableFull, GreatestIndex, NoArguments}
+use Rattle.tt_index.specs.declared.refusal.Refusal.TheVariants.{ArgOutOfRange, ArgKind}
 use Rattle.tt_kinds.specs.Label.{Name, Sort, Entry}
-use Rattle.tt_kinds.specs.Tree.{Depth, at, canonical, Place, own, outer, apart, Tree, param, bound, region, term, node, binder, Forest, none, also}
+use Rattle.tt_kinds.specs.Tree.{Depth, at, canonical, Place, own, outer, apart, Tree, param, bound, region, term, node}
+use Rattle.tt_kinds.specs.Tree.{binder, Forest, none, also}
 use Rattle.tt_kinds.specs.Reading.{read, keep, Fits}
 use Rattle.tt_kinds.specs.Argument.{Argument, argument, given, readings}
 use Rattle.tt_kinds.specs.Plain.{given_under}
@@ -12,8 +16,8 @@ use Rattle.tt_interner.specs.Stored.{Terms}
 use Rattle.tt_fold.specs.Leaves.{with_leaves}
 use Rattle.tt_fold.specs.Stands.{IsPartUnbuilt}
 
--- A variable that is read under k binders of a binder's contents: if it is the binder's own, its argument's reading takes its
--- place, as that of a parameter of its number would.
+-- A variable that is read under k binders of a binder's contents: if it is the binder's own, its argument's reading
+-- takes its place, as that of a parameter of its number would.
 abbrev pub put_variable : List (Argument Place) → ℕ → Sort → Place → Entry Name → Tree Place
 put_variable args k s (own d) e = if nat_eq d k then given args s e.var [] else bound s (own d) e
 put_variable args k s (outer j) e = bound s (outer j) e
@@ -24,10 +28,11 @@ put_variable args k s apart e = bound s apart e
 abbrev pub put_own : List (Argument Place) → ℕ → Tree Place → Tree Place
 put_own args k r = with_leaves (put_variable args) keep k r
 
--- The same of a variable as it is written: if it is the binder's own, it is replaced by its argument, shifted past the k
--- binders; one of these binders' stays, and one that is bound outside loses a binder.
+-- The same of a variable as it is written: if it is the binder's own, it is replaced by its argument, shifted past the
+-- k binders; one of these binders' stays, and one that is bound outside loses a binder.
 abbrev pub open_variable : List (Argument Depth) → ℕ → Sort → Depth → Entry Name → Tree Depth
-open_variable args k s (at d) e = if nat_lt d k then bound s (at d) e else if nat_eq d k then given_under args k s e.var [] else bound s (at (d - 1)) e
+open_variable args k s (at d) e = if nat_lt d k then bound s
+    (at d) e else if nat_eq d k then given_under args k s e.var [] else bound s (at (d - 1)) e
 open_variable args k s canonical e = bound s canonical e
 
 -- a binder's contents, under k binders in them, without the binder
@@ -85,12 +90,14 @@ IsGiven args k t = EachVariable (IsGivenAt args) k t
 -- variable, or one of another sort
 abbrev pub OpeningCause : List (Argument Depth) → ℕ → Tree Depth → Refusal → Type 0
 OpeningCause args k t NoArguments = (args ≡ []) × HasVariable (λ j s d e. IsOwn j d) k t
-OpeningCause args k t (ArgOutOfRange index) = (args ≢ []) × HasVariable (λ j s d e. IsOwn j d × (e.var ≡ index)) k t × (length args ≤ index)
-OpeningCause args k t (ArgKind index) = HasVariable (λ j s d e. IsOwn j d × (e.var ≡ index) × HasOtherSort args s e.var) k t
+OpeningCause args k t (ArgOutOfRange index) = (args ≢ []) × HasVariable (λ j s d e. IsOwn j d × (e.var ≡ index)) k t
+    × (length args ≤ index)
+OpeningCause args k t (ArgKind index) = HasVariable (λ j s d e. IsOwn j d × (e.var ≡ index) × HasOtherSort args s e.var)
+    k t
 OpeningCause args k t _ = ⊥
 
--- why a binder isn't opened, as the call ends: memory was refused, a term or a list of the plain result would be a new row of a
--- table that is full, the plain result doesn't fit, or a cause holds
+-- why a binder isn't opened, as the call ends: memory was refused, a term or a list of the plain result would be a new
+-- row of a table that is full, the plain result doesn't fit, or a cause holds
 abbrev pub IsOpeningReason : Terms → List (Argument Depth) → Tree Depth → Refusal → Type 0
 IsOpeningReason terms args t Memory = ⊤
 IsOpeningReason terms args t TableFull = IsPartUnbuilt terms (open_tree 0 args t) TableFull

@@ -12,14 +12,15 @@ use Rattle.tt_fold.specs.Steps.{IsPartBy, tree_by}
 use Rattle.tt_binder.specs.Opening.{IsOpened, IsGiven, IsOpeningReason}
 
 -- the promise of the call with these arguments for a binder's contents, between the interner before it and after it
-pub record OpeningPromise {T : Type 0} (shape : T → Shape) (args : List (Argument Depth)) (value : T) (old : Terms) (result : Result T Refusal) (new : Terms) : Type 0 where
+pub record OpeningPromise {T : Type 0} (shape : T → Shape) (args : List (Argument Depth)) (value : T) (old : Terms)
+    (result : Result T Refusal) (new : Terms) : Type 0 where
   -- every earlier handle keeps its meaning
   pub extends : Extends old new
   -- neither count falls
   pub descents : old.counters.descents ≤ new.counters.descents
   pub shift_descents : old.counters.shift_descents ≤ new.counters.shift_descents
-  -- at most one descent for each pair of a type with a variable that is bound by the binder or outside of it and a number of
-  -- binders above the type
+  -- at most one descent for each pair of a type with a variable that is bound by the binder or outside of it and a
+  -- number of binders above the type
   pub pairs : CountsPairs (moving_types 0 (tree_by shape old.rows value)) old.counters.descents new.counters.descents
   -- the handles of the result are the interner's
   pub in_range : IfOk result (λ r. IsPartBy shape new.rows r)

@@ -17,14 +17,16 @@ use Rattle.tt_interner.specs.Stored.{Terms, Extends}
 use Rattle.tt_fold.specs.Places.{CountsPairs}
 use Rattle.tt_fold.specs.Steps.{IsPartBy, tree_by}
 use Rattle.tt_binder.specs.Sharing.{CountsShifts}
-use Rattle.tt_binder.specs.Instance.{IsPlain, HasNoCause, Composes, Commutes, StaysMatched, LeavesNoParam, IsReason, ComesBack, IsOfClauses}
+use Rattle.tt_binder.specs.Instance.{IsPlain, HasNoCause, Composes, Commutes, StaysMatched, LeavesNoParam, IsReason}
+use Rattle.tt_binder.specs.Instance.{ComesBack, IsOfClauses}
 
 -- the value comes back as it is, and the interner stays as it was
 abbrev pub IsBack : {T : Type 0} → T → Terms → Result (Unnormalized T) Refusal → Terms → Type 0
 IsBack value old result new = (result ≡ Ok (record { value = value })) × (new ≡ old)
 
 -- the promise of the call with these arguments for a value, between the interner before it and after it
-pub record InstancePromise {T : Type 0} (shape : T → Shape) (args : List (Argument Depth)) (value : T) (old : Terms) (result : Result (Unnormalized T) Refusal) (new : Terms) : Type 0 where
+pub record InstancePromise {T : Type 0} (shape : T → Shape) (args : List (Argument Depth)) (value : T) (old : Terms)
+    (result : Result (Unnormalized T) Refusal) (new : Terms) : Type 0 where
   -- every earlier handle keeps its meaning
   pub extends : Extends old new
   -- neither count falls
@@ -33,10 +35,12 @@ pub record InstancePromise {T : Type 0} (shape : T → Shape) (args : List (Argu
   -- at most one descent for each place of a type that holds a parameter and is not one
   pub positions : OnOk result (new.counters.descents ≤ old.counters.descents + positions (tree_by shape old.rows value))
   -- at most one descent for each pair of such a type and a number of binders above it
-  pub pairs : OnOk result (CountsPairs (generic_types 0 (tree_by shape old.rows value)) old.counters.descents new.counters.descents)
-  -- each argument is shifted once past as many binders, and takes apart at most one type for each that has a variable to be
-  -- shifted and each number of binders above it
-  pub shifts : OnOk result (CountsShifts args (tree_by shape old.rows value) old.counters.shift_descents new.counters.shift_descents)
+  pub pairs : OnOk result (CountsPairs (generic_types 0 (tree_by shape old.rows value)) old.counters.descents
+      new.counters.descents)
+  -- each argument is shifted once past as many binders, and takes apart at most one type for each that has a variable
+  -- to be shifted and each number of binders above it
+  pub shifts : OnOk result (CountsShifts args (tree_by shape old.rows value) old.counters.shift_descents
+      new.counters.shift_descents)
   -- the handles of the result are the interner's
   pub in_range : IfOk result (λ u. IsPartBy shape new.rows u.value)
   -- the result is plain replacement
@@ -55,9 +59,13 @@ pub record InstancePromise {T : Type 0} (shape : T → Shape) (args : List (Argu
   -- a value with nothing to replace that hides its region variables is returned unchanged
   pub same : ComesBack args (tree_by shape old.rows value) → IsBack value old result new
   -- so does each type, predicate, clause and list of clauses without a parameter
-  pub same_type : (n : ℕ) → shape value ≡ stored Types n → holds_param (tree_by shape old.rows value) ≡ false → IsBack value old result new
-  pub same_clauses : (table : Table) (n : ℕ) → IsOfClauses table → shape value ≡ stored table n → holds_param (tree_by shape old.rows value) ≡ false → IsBack value old result new
-  pub same_clause : (clause : Clause) → shape value ≡ one_clause_shape clause → holds_param (tree_by shape old.rows value) ≡ false → IsBack value old result new
+  pub same_type : (n : ℕ) → shape value ≡ stored Types n → holds_param (tree_by shape old.rows value) ≡ false
+      → IsBack value old result new
+  pub same_clauses : (table : Table) (n : ℕ) → IsOfClauses table → shape value ≡ stored table n
+      → holds_param (tree_by shape old.rows value) ≡ false → IsBack value old result new
+  pub same_clause : (clause : Clause) → shape value ≡ one_clause_shape clause
+      → holds_param (tree_by shape old.rows value) ≡ false → IsBack value old result new
   -- a parameter is refused only for want of an argument that fits, and nothing is built for it
-  pub parameter : (s : Sort) (i : ℕ) (name : Name) → tree_by shape old.rows value ≡ param s i name → IfErr result (Cause (param s i name) args)
+  pub parameter : (s : Sort) (i : ℕ) (name : Name) → tree_by shape old.rows value ≡ param s i name
+      → IfErr result (Cause (param s i name) args)
   pub parameter_still : (s : Sort) (i : ℕ) (name : Name) → tree_by shape old.rows value ≡ param s i name → new ≡ old

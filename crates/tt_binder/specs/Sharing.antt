@@ -34,8 +34,8 @@ pub record IsMovedFor (args : List (Argument Depth)) (t : Tree Depth) (p : Param
   pub param : IsParamIn p 0 t
   pub moving : IsIn u (moving_at args p.index)
 
--- A count grew by no more than the distinct pairs of a parameter, by its index and the binders above it, and a type that a shift of
--- its argument takes apart: these are some of them, each once, and as many at least.
+-- A count grew by no more than the distinct pairs of a parameter, by its index and the binders above it, and a type
+-- that a shift of its argument takes apart: these are some of them, each once, and as many at least.
 pub record CountsShifts (args : List (Argument Depth)) (t : Tree Depth) (before after : ℕ) : Type 0 where
   pub moved : List (ParamAt × TypeAt)
   pub distinct : AreDistinct moved

@@ -34,11 +34,13 @@ module _ {T : Type 0} (shape : T → Shape) where
   -- an argument under the binders above a parameter: if there are any and it has a variable to shift, the remembered
   -- shift, or else a new one, which is remembered
   pub data Shifts (old : Terms) (x : T) (p : ParamAt) (es fs : List (ParamAt × T)) (new : Terms) (y : T) : Type 0 where
-    unshifted : (p.under ≡ 0) ⊎ (outer_binder (tree_by shape old.rows x) ≡ 0) → y ≡ x → fs ≡ es → new ≡ old → Shifts old x p es fs new y
+    unshifted : (p.under ≡ 0) ⊎ (outer_binder (tree_by shape old.rows x) ≡ 0) → y ≡ x → fs ≡ es → new ≡ old
+        → Shifts old x p es fs new y
     found : lookup (same_param p) es ≡ Some y → fs ≡ es → new ≡ old → Shifts old x p es fs new y
     made : 0 < p.under → lookup (same_param p) es ≡ None → IsPartBy shape new.rows y
         → tree_by shape new.rows y ≡ shift_tree 0 p.under (tree_by shape old.rows x)
-        → CountsPairs (moving_types 0 (tree_by shape old.rows x)) old.counters.shift_descents new.counters.shift_descents
+        → CountsPairs (moving_types 0 (tree_by shape old.rows x)) old.counters.shift_descents
+        new.counters.shift_descents
         → fs ≡ insert_entry same_param es p y → Shifts old x p es fs new y
 
   -- the shift for a parameter is among the rows, and is the parameter's argument shifted past the binders above it
@@ -54,7 +56,8 @@ module _ {T : Type 0} (shape : T → Shape) where
   OwnsShifts rows args sort (e ∷ es) = IsShift rows args sort e × OwnsShifts rows args sort es
 
 -- a folder's handles are among the rows: its arguments, of which there are some, its memory, and its shifts
-abbrev pub OwnsArguments : {S : Type 0} → (List Row → S → List GenericArgKind) → (List Row → S → Type 0) → List Row → S → List (Place × Ty) → List (ParamAt × Ty) → List (ParamAt × Const) → Type 0
+abbrev pub OwnsArguments : {S : Type 0} → (List Row → S → List GenericArgKind) → (List Row → S → Type 0) → List Row → S
+    → List (Place × Ty) → List (ParamAt × Ty) → List (ParamAt × Const) → Type 0
 OwnsArguments items owns rows x memory types consts = owns rows x
     × AreArguments rows (items rows x)
     × (items rows x ≢ [])

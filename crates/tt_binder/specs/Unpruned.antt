@@ -1,8 +1,11 @@
 -- The walk of an instantiation that skips nothing, and its result.
-use Rattle.std.specs.Prelude.{◌≡◌, ◌≢◌, ◌↔◌, ◌==◌, ℕ, suc, ◌-◌, ◌≤◌, List, [], Bool, true, false, IsTrue, if◌then◌else◌, Option, Some, None, Result, Ok, Err, slice_get}
+use Rattle.std.specs.Prelude.{◌≡◌, ◌≢◌, ◌↔◌, ◌==◌, ℕ, suc, ◌-◌, ◌≤◌, List, [], Bool, true, false, IsTrue, if◌then◌else◌}
+use Rattle.std.specs.Prelude.{Option, Some, None, Result, Ok, Err, slice_get}
 use Rattle.tt_index.specs.Greatest.{greatest}
 use Rattle.tt_index.specs.declared.refusal.Refusal.{Refusal}
-use Rattle.tt_index.specs.declared.refusal.Refusal.TheVariants.{Memory, TableFull, GreatestIndex, NoArguments, ArgOutOfRange, ArgKind, RegionVariable, NotAClause, NoSuchAnswer}
+use Rattle.tt_index.specs.declared.refusal.Refusal.TheVariants.{Memory, TableFull, GreatestIndex, NoArguments}
+use Rattle.tt_index.specs.declared.refusal.Refusal.TheVariants.{ArgOutOfRange, ArgKind, RegionVariable, NotAClause}
+use Rattle.tt_index.specs.declared.refusal.Refusal.TheVariants.{NoSuchAnswer}
 use Rattle.tt_kinds.specs.Label.{Sort, region_var}
 use Rattle.tt_kinds.specs.Tree.{Depth, Tree, param, region}
 use Rattle.tt_kinds.specs.Reading.{read, FitsUnder, Fits}
@@ -123,14 +126,18 @@ only NotAClause NotAClause = true
 only NoSuchAnswer NoSuchAnswer = true
 only _ _ = false
 
--- A walk that skips nothing has the same tree and the same refusals as plain replacement with its causes, whatever it heeds.
+-- A walk that skips nothing has the same tree and the same refusals as plain replacement with its causes, whatever it
+-- heeds.
 pub record IsUnseen (args : List (Argument Depth)) (t : Tree Depth) : Type 0 where
   -- it gives a tree exactly if that is the plain result and no heeded reason holds
-  pub gives : (heeded : Refusal → Bool) (r : Tree Depth) → Gives heeded args t r ↔ IsPlain args t r × HeedsNone heeded (IsPlainReason args t)
+  pub gives : (heeded : Refusal → Bool) (r : Tree Depth) → Gives heeded args t r ↔ IsPlain args t r
+      × HeedsNone heeded (IsPlainReason args t)
   -- a refusal at which it ends is a reason that holds, and is heeded
-  pub refused : (heeded : Refusal → Bool) (e : Refusal) → EndsAt heeded args t e → IsTrue (heeded e) × IsPlainReason args t e
+  pub refused : (heeded : Refusal → Bool) (e : Refusal) → EndsAt heeded args t e → IsTrue (heeded e)
+      × IsPlainReason args t e
   -- if a reason holds that it heeds, it ends at one
-  pub ends : (heeded : Refusal → Bool) (e : Refusal) → IsTrue (heeded e) → IsPlainReason args t e → (found : Refusal) × EndsAt heeded args t found
+  pub ends : (heeded : Refusal → Bool) (e : Refusal) → IsTrue (heeded e) → IsPlainReason args t e → (found : Refusal)
+      × EndsAt heeded args t found
   -- the walk that heeds one refusal alone ends at it exactly if it is a reason that holds
   pub meets : (e : Refusal) → EndsAt (only e) args t e ↔ IsPlainReason args t e
 
@@ -138,9 +145,11 @@ pub record IsUnseen (args : List (Argument Depth)) (t : Tree Depth) : Type 0 whe
 abbrev pub HoldsNoRegionVar : Tree Depth → Type 0
 HoldsNoRegionVar t = (x : ℕ) → StandsIn (region (region_var x)) t → ⊥
 
--- If an interner's value holds no region variable, its binders fit, and so do the indices that it has beside its handles, and
--- there is an argument, the walk over its tree that skips nothing gives the tree that plain replacement gives, and ends for
--- the same reasons.
+-- If an interner's value holds no region variable, its binders fit, and so do the indices that it has beside its
+-- handles, and there is an argument, the walk over its tree that skips nothing gives the tree that plain replacement
+-- gives, and ends for the same reasons.
 abbrev pub PruningIsUnseen : Type 0
-PruningIsUnseen = (rows : List Row) (args : List (Argument Depth)) (s : Shape) → AreRows rows → IsPartOf rows s → args ≢ []
-    → HoldsNoRegionVar (tree_in rows s) → IndicesFitIn s → BindersFit 0 (tree_in rows s) → IsUnseen args (tree_in rows s)
+PruningIsUnseen = (rows : List Row) (args : List (Argument Depth)) (s : Shape) → AreRows rows → IsPartOf rows s
+    → args ≢ []
+    → HoldsNoRegionVar (tree_in rows s) → IndicesFitIn s → BindersFit 0 (tree_in rows s)
+    → IsUnseen args (tree_in rows s)

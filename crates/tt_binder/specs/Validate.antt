@@ -94,8 +94,8 @@ validate_hooks = record {
   leave = λ s vs s'. s' ≡ record { vars = s.vars; depth = s.depth - 1; seen = s.seen };
 }
 
--- A visit that goes to its end found that all agree, and one that breaks that one disagrees. A visitor that is new remembers
--- nothing, and after a visit that goes to its end what it remembers agrees.
+-- A visit that goes to its end found that all agree, and one that breaks that one disagrees. A visitor that is new
+-- remembers nothing, and after a visit that goes to its end what it remembers agrees.
 abbrev pub ValidationIsExact : Type 0
 ValidationIsExact = (s s' : Validation) (t : Tree Depth)
     → (GoesOver validate_hooks s t s' → IndicesFit t → SeenAgree s → Agrees s.vars s.depth t × SeenAgree s')

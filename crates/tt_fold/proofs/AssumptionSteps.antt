@@ -17,7 +17,9 @@ use Rattle.tt_interner.proofs.Fill.{tree_table}
 use Rattle.tt_interner.proofs.Growth.{Extends-refl, Extends-trans}
 use Rattle.tt_interner.proofs.ShapeLaws.{root_of_row}
 use Rattle.tt_interner.proofs.Trees.{Means-row}
-use Rattle.tt_fold.specs.Walk.{Errors, Hooks, Walks, WalksAll, Fails, at_region, replaced, kept, descended, passed, at_node, region_failed, term_failed, descent_failed, passed_failed, node_failed, node_not_built, clause_lost, stopped}
+use Rattle.tt_fold.specs.Walk.{Errors, Hooks, Walks, WalksAll, Fails, at_region, replaced, kept, descended, passed}
+use Rattle.tt_fold.specs.Walk.{at_node, region_failed, term_failed, descent_failed, passed_failed, node_failed}
+use Rattle.tt_fold.specs.Walk.{node_not_built, clause_lost, stopped}
 use Rattle.tt_fold.specs.Counts.{Standing, stands}
 use Rattle.tt_fold.specs.Steps.{Folds, IsPartOf, IsPartBy, tree_in, tree_by, IsErrorOfUnbuilt}
 use Rattle.tt_fold.specs.Parts.{trees_in}

@@ -5,7 +5,8 @@ use Rattle.tt_kinds.specs.Tree as tree
 use Rattle.tt_kinds.specs.Tree.{Depth, Tree, Forest}
 use Rattle.tt_kinds.specs.Shape as shape
 use Rattle.tt_kinds.specs.Shape.{Shape, Shapes, fill}
-use Rattle.tt_kinds.specs.Kinds.{Form, param, bound, plain, under, form_parts, form_binder, refilled, parts_shapes, value_form}
+use Rattle.tt_kinds.specs.Kinds.{Form, param, bound, plain, under, form_parts, form_binder, refilled, parts_shapes}
+use Rattle.tt_kinds.specs.Kinds.{value_form}
 use Rattle.tt_kinds.specs.declared.const_kind.ValueConst.{ValueConst}
 use Rattle.tt_kinds.specs.declared.error_guaranteed.ErrorGuaranteed.{ErrorGuaranteed}
 use Rattle.tt_kinds.specs.declared.parts.Parts.{Parts}
@@ -13,7 +14,9 @@ use Rattle.tt_interner.specs.Rows.{Row, Grows}
 use Rattle.tt_interner.specs.Stored.{Terms}
 use Rattle.tt_interner.proofs.Growth.{Extends-refl, IsPart-grows}
 use Rattle.tt_kinds.specs.Bare.{token_shape, token_shapes, index_of, bare_shape}
-use Rattle.tt_fold.specs.Walk.{Errors, Hooks, Walks, WalksAll, at_node, at_binder, done, next, WalksUnder, in_open, in_binder, Fails, FailsUnder, enter_failed, under_failed, leave_failed, node_failed, here, in_open_failed, in_enter_failed, in_under_failed, in_leave_failed}
+use Rattle.tt_fold.specs.Walk.{Errors, Hooks, Walks, WalksAll, at_node, at_binder, done, next, WalksUnder, in_open}
+use Rattle.tt_fold.specs.Walk.{in_binder, Fails, FailsUnder, enter_failed, under_failed, leave_failed, node_failed}
+use Rattle.tt_fold.specs.Walk.{here, in_open_failed, in_enter_failed, in_under_failed, in_leave_failed}
 use Rattle.tt_fold.specs.Counts.{Standing}
 use Rattle.tt_fold.specs.Steps.{Folds, IsPartOf, IsPartBy, tree_in, tree_by}
 use Rattle.tt_fold.specs.Parts.{ArePartsOf, ArePartsFor, HasBinder, binder_in, parts_trees, trees_in}

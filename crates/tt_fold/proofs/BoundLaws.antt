@@ -1,5 +1,6 @@
 -- Bound variables of types and constants, moved, and the shifter's answers at stored terms.
-use Rattle.std.proofs.Common.{List, [], ◌∷◌, Result, Ok, Err, MatchResult, Some, None, ◌≡◌, ℕ, suc, ◌+◌, ◌-◌, ◌<◌, ◌≤◌, ◌⊎◌, inl, inr, true, false, refl, ap, sym, subst, ◌∙◌, arith}
+use Rattle.std.proofs.Common.{List, [], ◌∷◌, Result, Ok, Err, MatchResult, Some, None, ◌≡◌, ℕ, suc, ◌+◌, ◌-◌, ◌<◌, ◌≤◌}
+use Rattle.std.proofs.Common.{◌⊎◌, inl, inr, true, false, refl, ap, sym, subst, ◌∙◌, arith}
 use Rattle.std.proofs.lemmas.Bool.{cases_lt, le-ltb}
 use Rattle.std.proofs.lemmas.Option.{same_Some}
 use Rattle.std.specs.Prelude.{⊤}
@@ -16,7 +17,8 @@ use Rattle.tt_kinds.proofs.OuterLaws.{shift_tree-low}
 use Rattle.tt_kinds.specs.Bound.{depth, ty_entry, const_entry}
 use Rattle.tt_kinds.specs.Shape.{Shape, bound, stored, HasParts, IsGreatest, Meaning, fill}
 use Rattle.tt_kinds.specs.Kinds as forms
-use Rattle.tt_kinds.specs.Kinds.{Form, form_shape, relabelled, ty_form, value_form, const_form, kind_table, kind_shape, ty_kind_shape, const_kind_shape}
+use Rattle.tt_kinds.specs.Kinds.{Form, form_shape, relabelled, ty_form, value_form, const_form, kind_table, kind_shape}
+use Rattle.tt_kinds.specs.Kinds.{ty_kind_shape, const_kind_shape}
 use Rattle.tt_kinds.specs.Handle.{Ty}
 use Rattle.tt_kinds.specs.declared.bound.BoundTy.{BoundTy}
 use Rattle.tt_kinds.specs.declared.bound.BoundConst.{BoundConst}
@@ -32,7 +34,9 @@ use Rattle.tt_kinds.specs.declared.parts.Kind.{Kind}
 use Rattle.tt_kinds.specs.declared.parts.Kind.TheVariants as kind
 use Rattle.tt_kinds.specs.declared.table.Table.{Table}
 use Rattle.tt_kinds.specs.declared.table.Table.TheVariants.{Types, Consts, Predicates, ClauseLists}
-use Rattle.tt_interner.specs.Rows.{Row, type_row, const_row, pat_row, predicate_row, existential_row, clauses_row, tys_row, consts_row, args_row, pats_row, vars_row, existentials_row, assumptions_row, text_row, declared_row, defined_row, row_table, row_shape, table, size, meaning}
+use Rattle.tt_interner.specs.Rows.{Row, type_row, const_row, pat_row, predicate_row, existential_row, clauses_row}
+use Rattle.tt_interner.specs.Rows.{tys_row, consts_row, args_row, pats_row, vars_row, existentials_row, assumptions_row}
+use Rattle.tt_interner.specs.Rows.{text_row, declared_row, defined_row, row_table, row_shape, table, size, meaning}
 use Rattle.tt_interner.specs.Stored.{Terms, Builds, IsCause}
 use Rattle.tt_interner.proofs.RowLaws.{IsNewest, place_cases, meaning-old, meaning-new}
 use Rattle.tt_fold.proofs.PartLaws.{is_part, in_range, stored_tree}
@@ -40,7 +44,8 @@ use Rattle.tt_fold.proofs.ShiftLaws.{index-moved, shift_done}
 use Rattle.tt_fold.specs.Walk.{is_type_tree}
 use Rattle.tt_fold.specs.Remember.{Done, IsTaken}
 use Rattle.tt_fold.specs.Steps.{IsPartOf, tree_in, IsRefused}
-use Rattle.tt_fold.specs.Shift.{Shift, moved_tree, IsTooFar, IsVariable, shifting, IsTooGreat, IsPast, IsOuter, bound_ty_in, bound_ty_of, bound_const_in, bound_const_of, moved_index}
+use Rattle.tt_fold.specs.Shift.{Shift, moved_tree, IsTooFar, IsVariable, shifting, IsTooGreat, IsPast, IsOuter}
+use Rattle.tt_fold.specs.Shift.{bound_ty_in, bound_ty_of, bound_const_in, bound_const_of, moved_index}
 
 -- the tree of a bound variable
 abbrev pub bound_shape : Sort → BoundVarIndexKind → Entry ℕ → Shape

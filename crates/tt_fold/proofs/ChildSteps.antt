@@ -14,11 +14,13 @@ use Rattle.tt_interner.specs.Rows.{Row}
 use Rattle.tt_interner.specs.Stored.{Terms}
 use Rattle.tt_interner.proofs.Growth.{Extends-trans, IsPart-grows, fill-grows}
 use Rattle.tt_visit.specs.Root.{root, table_root, a_part}
-use Rattle.tt_fold.specs.Walk.{Hooks, Errors, Walks, WalksInside, WalksAll, done, next, Fails, InsideFails, ChildFails, child_failed}
+use Rattle.tt_fold.specs.Walk.{Hooks, Errors, Walks, WalksInside, WalksAll, done, next, Fails, InsideFails, ChildFails}
+use Rattle.tt_fold.specs.Walk.{child_failed}
 use Rattle.tt_fold.specs.Counts.{Standing, stands}
 use Rattle.tt_fold.specs.Steps.{Goes, Folds, IsPartOf}
 use Rattle.tt_fold.specs.Still.{IsAlone, EndsAt}
-use Rattle.tt_fold.specs.Parts.{ArePartsOf, child_trees, children_trees, node_tree, list_tree, IsNodeFor, IsListFor, IsChildFor}
+use Rattle.tt_fold.specs.Parts.{ArePartsOf, child_trees, children_trees, node_tree, list_tree, IsNodeFor, IsListFor}
+use Rattle.tt_fold.specs.Parts.{IsChildFor}
 use Rattle.tt_fold.specs.Stack.{whole, binder_of, TakesAny, Opens, Rests, RestFails, Finishes, FinishFails}
 use Rattle.tt_fold.specs.Items.{child_shape, child_tree, child_node, IsWhole, HasTerm, IsList}
 use Rattle.tt_fold.specs.Going.{outline_of, children_in, left_of, IsOpened, IsOpen, IsBegun}

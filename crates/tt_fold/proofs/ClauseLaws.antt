@@ -1,19 +1,25 @@
--- The lists of clauses in a tree: in stored terms they hold clauses alone, and so they do in a tree with other indices or other
--- trees for parameters.
+-- The lists of clauses in a tree: in stored terms they hold clauses alone, and so they do in a tree with other indices
+-- or other trees for parameters.
 use Rattle.std.proofs.Common.{inl, inr, ◌≡◌, ℕ, suc, ◌<◌, List, [], ◌∷◌, refl, sym, subst, arith, Bool, true, false}
 use Rattle.std.specs.Prelude.{IsTrue, not, ⊤}
-use Rattle.tt_kinds.specs.Label.{Name, Sort, Entry, type_sort, const_sort, Label, type_label, const_label, predicate_label, clause_list_label, clause_label, record_label}
+use Rattle.tt_kinds.specs.Label.{Name, Sort, Entry, type_sort, const_sort, Label, type_label, const_label}
+use Rattle.tt_kinds.specs.Label.{predicate_label, clause_list_label, clause_label, record_label}
 use Rattle.tt_kinds.specs.Tree as tree
 use Rattle.tt_kinds.specs.Tree.{Depth, Tree, Forest, none, also, rebuild, rebuild_all}
 use Rattle.tt_kinds.specs.Plain.{shifted, shift_tree, shift_forest}
 use Rattle.tt_kinds.specs.Shape as shape
-use Rattle.tt_kinds.specs.Shape.{Shape, Shapes, Meaning, Sizes, fill, fill_all, name_of, rename_label, item_shapes, IsPart, AreParts, HasParts}
-use Rattle.tt_kinds.specs.Kinds.{Form, param, bound, plain, under, relabelled, form_shape, ty_form, const_form, clause_shape}
+use Rattle.tt_kinds.specs.Shape.{Shape, Shapes, Meaning, Sizes, fill, fill_all, name_of, rename_label, item_shapes}
+use Rattle.tt_kinds.specs.Shape.{IsPart, AreParts, HasParts}
+use Rattle.tt_kinds.specs.Kinds.{Form, param, bound, plain, under, relabelled, form_shape, ty_form, const_form}
+use Rattle.tt_kinds.specs.Kinds.{clause_shape}
 use Rattle.tt_kinds.specs.declared.table.Table.{Table}
 use Rattle.tt_kinds.specs.Handle.{Clause}
 use Rattle.tt_interner.specs.Clauses.{is_clause_part, is_clause_inside, is_clause_tree, HasOther}
 use Rattle.tt_kinds.proofs.ForestLaws.{IsOfEach, list-each}
-use Rattle.tt_interner.specs.Rows.{Row, type_row, const_row, pat_row, predicate_row, existential_row, clauses_row, tys_row, consts_row, args_row, pats_row, vars_row, existentials_row, assumptions_row, text_row, declared_row, defined_row, row_shape, table, size, meaning, AreRows, AreClauses, IsWellFormed}
+use Rattle.tt_interner.specs.Rows.{Row, type_row, const_row, pat_row, predicate_row, existential_row, clauses_row}
+use Rattle.tt_interner.specs.Rows.{tys_row, consts_row, args_row, pats_row, vars_row, existentials_row, assumptions_row}
+use Rattle.tt_interner.specs.Rows.{text_row, declared_row, defined_row, row_shape, table, size, meaning, AreRows}
+use Rattle.tt_interner.specs.Rows.{AreClauses, IsWellFormed}
 use Rattle.tt_interner.specs.Stored.{IsNoClauseList}
 use Rattle.tt_interner.proofs.RowLaws.{IsNewest, place_cases, meaning-old, meaning-new}
 use Rattle.tt_fold.specs.Walk.{LosesClause}

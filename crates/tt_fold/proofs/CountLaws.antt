@@ -1,14 +1,23 @@
 -- How many types a folder that remembers takes apart: each at most once under as many binders.
-use Rattle.std.proofs.Common.{◌≡◌, ℕ, ◌+◌, ◌≤◌, inl, inr, List, [], ◌∷◌, ◌++◌, length, true, false, refl, sym, ap, subst, ◌∙◌, arith, length-append, append_assoc}
+use Rattle.std.proofs.Common.{◌≡◌, ℕ, ◌+◌, ◌≤◌, inl, inr, List, [], ◌∷◌, ◌++◌, length, true, false, refl, sym, ap}
+use Rattle.std.proofs.Common.{subst, ◌∙◌, arith, length-append, append_assoc}
 use Rattle.std.proofs.lemmas.List.{append-nil}
 use Rattle.tt_index.specs.declared.refusal.Refusal.{Refusal}
 use Rattle.tt_kinds.specs.Tree.{Depth, Tree, Forest, param, bound, region, term, node, binder}
 use Rattle.tt_kinds.specs.Count.{TypeAt}
-use Rattle.tt_fold.specs.Walk.{Errors, is_type_tree, Walks, Descends, WalksInside, WalksAll, at_region, replaced, kept, descended, passed, rebuilt, at_node, at_binder, in_term, in_param, in_bound, done, next, Fails, DescentFails, InsideFails, FailsAll, region_failed, term_failed, descent_failed, passed_failed, enter_failed, under_failed, leave_failed, node_failed, node_not_built, clause_lost, stopped, inside_failed, not_built, after_failed, in_term_failed, here as fails_here, later, no_clause, Wanted}
+use Rattle.tt_fold.specs.Walk.{Errors, is_type_tree, Walks, Descends, WalksInside, WalksAll, at_region, replaced, kept}
+use Rattle.tt_fold.specs.Walk.{descended, passed, rebuilt, at_node, at_binder, in_term, in_param, in_bound, done, next}
+use Rattle.tt_fold.specs.Walk.{Fails, DescentFails, InsideFails, FailsAll, region_failed, term_failed, descent_failed}
+use Rattle.tt_fold.specs.Walk.{passed_failed, enter_failed, under_failed, leave_failed, node_failed, node_not_built}
+use Rattle.tt_fold.specs.Walk.{clause_lost, stopped, inside_failed, not_built, after_failed, in_term_failed}
+use Rattle.tt_fold.specs.Walk.{here as fails_here, later, no_clause, Wanted}
 use Rattle.tt_fold.specs.Counts.{Standing}
 use Rattle.tt_fold.specs.Places.{IsIn, AreDistinct, CountsPairs, IsPlaceIn, IsPlaceAmong}
-use Rattle.tt_fold.specs.Remember.{Memo, State, Task, here, memo, places, one_more, IsTaken, given, remembered, left_alone, taken_apart, gone_into, AfterTerm, noted, noted_again, not_noted, remembering}
-use Rattle.tt_fold.proofs.PlaceLaws.{IsIn-append, IsIn-only, IsIn-left, IsIn-right, AreDistinct-last, IsPlaceInside, inside-smaller, place-inside}
+use Rattle.tt_fold.specs.Remember.{Memo, State, Task, here, memo, places, one_more, IsTaken, given, remembered}
+use Rattle.tt_fold.specs.Remember.{left_alone, taken_apart, gone_into, AfterTerm, noted, noted_again, not_noted}
+use Rattle.tt_fold.specs.Remember.{remembering}
+use Rattle.tt_fold.proofs.PlaceLaws.{IsIn-append, IsIn-only, IsIn-left, IsIn-right, AreDistinct-last, IsPlaceInside}
+use Rattle.tt_fold.proofs.PlaceLaws.{inside-smaller, place-inside}
 use Rattle.tt_fold.proofs.TaskLaws.{TaskLaws}
 use Rattle.tt_fold.proofs.RememberLaws.{Knows, does, does_inside}
 
@@ -36,8 +45,8 @@ both-types : {A : Type 0} (t : Tree Depth) → is_type_tree t ≡ true → is_ty
 both-types t is other = absurd (let never : true ≡ false = sym is ∙ other in cc)
 
 module _ {R K : Type 0} (T : Task R K) (laws : TaskLaws T) where
-  -- what the folder took apart from one state to another, and remembers: each is at a place that meets P, and has to be taken
-  -- apart, and none was remembered
+  -- what the folder took apart from one state to another, and remembers: each is at a place that meets P, and has to be
+  -- taken apart, and none was remembered
   pub record Counts (P : TypeAt → Type 0) (s s' : Standing (State R K)) : Type 0 where
     pub started : List TypeAt
     pub few : T.amount s'.counters ≤ T.amount s.counters + length started

@@ -4,7 +4,12 @@ use Rattle.std.proofs.lemmas.Result.{MatchResult-weaker}
 use Rattle.tt_kinds.specs.Tree.{Depth, Tree, Forest}
 use Rattle.tt_interner.specs.Rows.{Row}
 use Rattle.tt_interner.specs.Stored.{Terms}
-use Rattle.tt_fold.specs.Walk.{Hooks, Errors, Walks, Descends, WalksInside, WalksAll, at_region, replaced, kept, descended, passed, rebuilt, at_node, at_binder, in_term, in_param, in_bound, done, next, Fails, DescentFails, InsideFails, FailsAll, region_failed, term_failed, descent_failed, enter_failed, under_failed, leave_failed, node_failed, node_not_built, clause_lost, passed_failed, inside_failed, not_built, after_failed, in_term_failed, stopped, here, later, no_clause, Wanted}
+use Rattle.tt_fold.specs.Walk.{Hooks, Errors, Walks, Descends, WalksInside, WalksAll, at_region, replaced, kept}
+use Rattle.tt_fold.specs.Walk.{descended, passed, rebuilt, at_node, at_binder, in_term, in_param, in_bound, done, next}
+use Rattle.tt_fold.specs.Walk.{Fails, DescentFails, InsideFails, FailsAll, region_failed, term_failed, descent_failed}
+use Rattle.tt_fold.specs.Walk.{enter_failed, under_failed, leave_failed, node_failed, node_not_built, clause_lost}
+use Rattle.tt_fold.specs.Walk.{passed_failed, inside_failed, not_built, after_failed, in_term_failed, stopped, here}
+use Rattle.tt_fold.specs.Walk.{later, no_clause, Wanted}
 use Rattle.tt_fold.specs.Counts.{Standing, Quietly, keeps_counters}
 use Rattle.tt_fold.specs.Steps.{Folds}
 

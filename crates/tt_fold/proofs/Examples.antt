@@ -2,9 +2,13 @@
 use Rattle.std.proofs.Common.{inl, ◌≡◌, ◌∙◌, ℕ, suc, [], refl, ap}
 use Rattle.tt_index.specs.declared.refusal.Refusal.{Refusal}
 use Rattle.tt_index.specs.declared.refusal.Refusal.TheVariants.{NotAClause}
-use Rattle.tt_kinds.specs.Label.{Name, RecordLabel, region_outlives_record, ambiguous_record, predicate_label, clause_list_label, record_label}
+use Rattle.tt_kinds.specs.Label.{Name, RecordLabel, region_outlives_record, ambiguous_record, predicate_label}
+use Rattle.tt_kinds.specs.Label.{clause_list_label, record_label}
 use Rattle.tt_kinds.specs.Tree.{Depth, Tree, term, node, binder, none, also}
-use Rattle.tt_fold.specs.Walk.{Errors, Answer, replace, descend, Hooks, Walks, at_region, replaced, kept, descended, passed, rebuilt, next, in_term, Fails, region_failed, term_failed, descent_failed, passed_failed, inside_failed, not_built, after_failed, in_term_failed, stopped, here, no_clause, later}
+use Rattle.tt_fold.specs.Walk.{Errors, Answer, replace, descend, Hooks, Walks, at_region, replaced, kept, descended}
+use Rattle.tt_fold.specs.Walk.{passed, rebuilt, next, in_term, Fails, region_failed, term_failed, descent_failed}
+use Rattle.tt_fold.specs.Walk.{passed_failed, inside_failed, not_built, after_failed, in_term_failed, stopped, here}
+use Rattle.tt_fold.specs.Walk.{no_clause, later}
 
 -- a predicate without parts
 abbrev predicate : RecordLabel Name → Tree Depth

@@ -5,7 +5,8 @@ use Rattle.std.proofs.lemmas.Result.{MatchResult-weaker}
 use Rattle.tt_index.specs.declared.refusal.Refusal.{Refusal}
 use Rattle.tt_index.specs.declared.refusal.Refusal.TheVariants.{Memory, TableFull, GreatestIndex, NotAClause}
 use Rattle.tt_kinds.specs.Parts.{node_table, node_number, sort_list_table, list_sort, list_table, list_number}
-use Rattle.tt_kinds.specs.Kinds.{kind_shape, kind_table, node_shape, list_shape, region_shape, child_shapes, parts_shapes}
+use Rattle.tt_kinds.specs.Kinds.{kind_shape, kind_table, node_shape, list_shape, region_shape, child_shapes}
+use Rattle.tt_kinds.specs.Kinds.{parts_shapes}
 use Rattle.tt_kinds.specs.Shape.{fill, HasParts, IsTooDeep}
 use Rattle.tt_kinds.specs.Handle.{BoundVarKinds}
 use Rattle.tt_kinds.specs.declared.region_kind.RegionKind.{RegionKind}
@@ -20,10 +21,12 @@ use Rattle.tt_interner.specs.Rows.{Row, row_table, row_shape, kind_row, size, me
 use Rattle.tt_interner.specs.Stored.{Terms, Extends, IsCause, IsUnbuilt}
 use Rattle.tt_visit.specs.Root.{root, table_root}
 use Rattle.tt_visit.proofs.VisitSteps.{root-meaning, root-region}
-use Rattle.tt_fold.specs.Walk.{Errors, ChildFails, any_trees, IsRegion, Hooks, WalksAll, WalksUnder, in_open, in_binder, FailsAll, FailsUnder, in_open_failed, in_under_failed, in_leave_failed}
+use Rattle.tt_fold.specs.Walk.{Errors, ChildFails, any_trees, IsRegion, Hooks, WalksAll, WalksUnder, in_open, in_binder}
+use Rattle.tt_fold.specs.Walk.{FailsAll, FailsUnder, in_open_failed, in_under_failed, in_leave_failed}
 use Rattle.tt_fold.specs.Counts.{Standing, stands}
 use Rattle.tt_fold.specs.Steps.{Folds, IsPartOf, tree_in, HasVars, vars_in}
-use Rattle.tt_fold.specs.Parts.{ArePartsOf, node_tree, list_tree, child_trees, parts_trees, IsNodeFor, IsChildFor, ArePartsFor, binder_in}
+use Rattle.tt_fold.specs.Parts.{ArePartsOf, node_tree, list_tree, child_trees, parts_trees, IsNodeFor, IsChildFor}
+use Rattle.tt_fold.specs.Parts.{ArePartsFor, binder_in}
 use Rattle.tt_interner.proofs.Growth.{Extends-trans, AreParts-grows, fill_all-grows}
 use Rattle.tt_fold.proofs.PartLaws.{is_part, in_range, stored_tree, append_parts, right_parts, append_trees, vars-grow}
 use Rattle.tt_fold.proofs.WantedLaws.{child_fails}

@@ -1,12 +1,14 @@
 -- Kinds by their forms.
 use Rattle.std.proofs.Common.{true, false, All, [], slice_get, ◌≡◌, ℕ, List, Some, None, refl, ap, sym}
 use Rattle.std.proofs.lemmas.Option.{slice_get_within, get_or_from_slice_get}
-use Rattle.tt_kinds.specs.Label.{Name, Sort, type_sort, const_sort, TypeLabel, ConstLabel, Label, type_label, const_label, text_label, record_label}
+use Rattle.tt_kinds.specs.Label.{Name, Sort, type_sort, const_sort, TypeLabel, ConstLabel, Label, type_label}
+use Rattle.tt_kinds.specs.Label.{const_label, text_label, record_label}
 use Rattle.tt_kinds.specs.Tree as tree
 use Rattle.tt_kinds.specs.Tree.{Depth, Tree}
 use Rattle.tt_kinds.specs.Shape as shape
 use Rattle.tt_kinds.specs.Shape.{Meaning, Sizes, HasParts, IsTooDeep, fill, name_of, rename_label, IsNamedLabel}
-use Rattle.tt_kinds.specs.Kinds.{Form, param, bound, plain, under, form_parts, form_binder, refilled, relabelled, form_shape, kind_form, kind_shape, kind_table, ty_form, const_form, parts_shapes}
+use Rattle.tt_kinds.specs.Kinds.{Form, param, bound, plain, under, form_parts, form_binder, refilled, relabelled}
+use Rattle.tt_kinds.specs.Kinds.{form_shape, kind_form, kind_shape, kind_table, ty_form, const_form, parts_shapes}
 use Rattle.tt_kinds.specs.declared.table.Table.TheVariants.{Types, Consts}
 use Rattle.tt_kinds.specs.declared.parts.Child.{Child}
 use Rattle.tt_kinds.specs.declared.parts.Child.TheVariants as child

@@ -1,5 +1,6 @@
 -- Frames among more rows, and the children that are left in them.
-use Rattle.std.proofs.Common.{◌≡◌, ℕ, zero, suc, ◌+◌, ◌^◌, ◌<◌, ◌≤◌, [], ◌∷◌, ◌++◌, length, drop, slice_get, get_or, All, Option, Some, None, refl, ap, sym, ◌∙◌, arith}
+use Rattle.std.proofs.Common.{◌≡◌, ℕ, zero, suc, ◌+◌, ◌^◌, ◌<◌, ◌≤◌, [], ◌∷◌, ◌++◌, length, drop, slice_get, get_or}
+use Rattle.std.proofs.Common.{All, Option, Some, None, refl, ap, sym, ◌∙◌, arith}
 use Rattle.std.proofs.Common.{List as Listed}
 use Rattle.std.proofs.lemmas.List.{drop_more}
 use Rattle.std.proofs.Math.ListN.{drop_of_length-le}
@@ -8,7 +9,8 @@ use Rattle.tt_kinds.specs.Label.{Label}
 use Rattle.tt_kinds.specs.Tree.{also, none}
 use Rattle.tt_kinds.specs.Parts.{node_table, node_number, list_table, list_number, list_sort, child_sort, IsItem}
 use Rattle.tt_kinds.specs.Shape.{append}
-use Rattle.tt_kinds.specs.Kinds.{Form, param, bound, plain, under, form_binder, form_parts, kind_form, kind_sort, kind_shape, node_shape, list_shape, child_shapes, parts_shapes, children_shapes}
+use Rattle.tt_kinds.specs.Kinds.{Form, param, bound, plain, under, form_binder, form_parts, kind_form, kind_sort}
+use Rattle.tt_kinds.specs.Kinds.{kind_shape, node_shape, list_shape, child_shapes, parts_shapes, children_shapes}
 use Rattle.tt_kinds.specs.declared.parts.Child.{Child}
 use Rattle.tt_kinds.specs.declared.parts.Child.TheVariants as child
 use Rattle.tt_kinds.specs.declared.parts.List.{List}
@@ -19,15 +21,19 @@ use Rattle.tt_kinds.specs.declared.parts.Parts.{Parts}
 use Rattle.tt_interner.specs.Rows.{Row, Grows}
 use Rattle.tt_interner.specs.Children.{children_at}
 use Rattle.tt_interner.specs.Nodes.{stored_kind}
-use Rattle.tt_interner.proofs.Growth.{IsPart-grows, AreParts-grows, HasParts-grows, fill-grows, fill_all-grows, children_at-grows, stored_kind-grows}
+use Rattle.tt_interner.proofs.Growth.{IsPart-grows, AreParts-grows, HasParts-grows, fill-grows, fill_all-grows}
+use Rattle.tt_interner.proofs.Growth.{children_at-grows, stored_kind-grows}
 use Rattle.tt_fold.specs.Steps.{IsPartOf}
 use Rattle.tt_fold.specs.Parts.{ArePartsOf, HasBinder, child_trees, children_trees, trees_in}
 use Rattle.tt_fold.specs.Stack.{joined}
 use Rattle.tt_fold.specs.Stack as outline
 use Rattle.tt_fold.specs.Items.{child_shape, child_tree, child_list, child_node, IsWhole}
-use Rattle.tt_fold.specs.Going.{form_outline, outline_by, outline_of, children_by, children_in, absent_among, IsMadeOf, IsFrame, Fits, AreAlike, Holds, left_of, Part, frames_of, context_of, contexts, AreBelow, work_all, frame_work, frames_work}
+use Rattle.tt_fold.specs.Going.{form_outline, outline_by, outline_of, children_by, children_in, absent_among, IsMadeOf}
+use Rattle.tt_fold.specs.Going.{IsFrame, Fits, AreAlike, Holds, left_of, Part, frames_of, context_of, contexts}
+use Rattle.tt_fold.specs.Going.{AreBelow, work_all, frame_work, frames_work}
 use Rattle.tt_fold.specs.declared.stack.Frame.{Frame}
-use Rattle.tt_fold.proofs.PartLaws.{one_tree, no_trees, append_trees, append_parts, right_parts, left_parts, children-append, children-one, in_range, vars-grow}
+use Rattle.tt_fold.proofs.PartLaws.{one_tree, no_trees, append_trees, append_parts, right_parts, left_parts}
+use Rattle.tt_fold.proofs.PartLaws.{children-append, children-one, in_range, vars-grow}
 use Rattle.tt_fold.proofs.FormLaws.{KeepsLabels, form-labels, form-parts, form-binder, item-fits}
 
 -- a child that is there

@@ -3,14 +3,22 @@ use Rattle.std.proofs.Common.{◌≡◌, ◌⊎◌, inl, inr, refl, sym, ap, sub
 use Rattle.std.proofs.lemmas.Bool.{cases_Bool}
 use Rattle.std.specs.Prelude.{List}
 use Rattle.tt_index.specs.declared.refusal.Refusal.{Refusal}
-use Rattle.tt_index.specs.declared.refusal.Refusal.TheVariants.{Memory, TableFull, GreatestIndex, NoArguments, ArgOutOfRange, ArgKind, RegionVariable, NotAClause, NoSuchAnswer}
+use Rattle.tt_index.specs.declared.refusal.Refusal.TheVariants.{Memory, TableFull, GreatestIndex, NoArguments}
+use Rattle.tt_index.specs.declared.refusal.Refusal.TheVariants.{ArgOutOfRange, ArgKind, RegionVariable, NotAClause}
+use Rattle.tt_index.specs.declared.refusal.Refusal.TheVariants.{NoSuchAnswer}
 use Rattle.tt_kinds.specs.Label.{Name, VarKind, Label, list_label, record_label, clause_label, static_region}
 use Rattle.tt_kinds.specs.Tree.{Depth, Tree, Forest, region, term, node, binder}
 use Rattle.tt_interner.specs.Stored.{Terms, IsUnbuilt}
 use Rattle.tt_visit.specs.Root.{a_region, hooked, unhooked, node_root}
 use Rattle.tt_fold.specs.Steps.{refusals_of}
 use Rattle.tt_fold.specs.Types.{TypeHooks, only_types}
-use Rattle.tt_fold.specs.Walk.{Hooks, Answer, replace, keep, descend, is_type_tree, IsRegion, IsTerm, IsPassed, Errors, Wanted, Walks, Descends, WalksInside, WalksAll, at_region, replaced, kept, descended, passed, rebuilt, at_node, at_binder, in_term, in_param, in_bound, done, next, Fails, DescentFails, InsideFails, FailsAll, region_failed, term_failed, descent_failed, passed_failed, enter_failed, under_failed, leave_failed, node_failed, node_not_built, clause_lost, stopped, inside_failed, not_built, after_failed, in_term_failed, here, later, no_clause}
+use Rattle.tt_fold.specs.Walk.{Hooks, Answer, replace, keep, descend, is_type_tree, IsRegion, IsTerm, IsPassed, Errors}
+use Rattle.tt_fold.specs.Walk.{Wanted, Walks, Descends, WalksInside, WalksAll, at_region, replaced, kept, descended}
+use Rattle.tt_fold.specs.Walk.{passed, rebuilt, at_node, at_binder, in_term, in_param, in_bound, done, next, Fails}
+use Rattle.tt_fold.specs.Walk.{DescentFails, InsideFails, FailsAll, region_failed, term_failed, descent_failed}
+use Rattle.tt_fold.specs.Walk.{passed_failed, enter_failed, under_failed, leave_failed, node_failed, node_not_built}
+use Rattle.tt_fold.specs.Walk.{clause_lost, stopped, inside_failed, not_built, after_failed, in_term_failed, here}
+use Rattle.tt_fold.specs.Walk.{later, no_clause}
 
 -- a list or a record is no region and no stored term
 part-no_region : (l : Label Name) → node_root l ≡ a_region → ⊥
@@ -271,7 +279,8 @@ refusal-of terms u (ArgKind i) why = absurd why
 refusal-of terms u (RegionVariable i) why = absurd why
 refusal-of terms u NoSuchAnswer why = absurd why
 
--- a fold whose errors are refusals, and whose hooks never fail, is refused for want of memory or of room, or where a clause became none
+-- a fold whose errors are refusals, and whose hooks never fail, is refused for want of memory or of room, or where a
+-- clause became none
 pub building-refusals : {M : Type 0} (H : Hooks M Refusal) (terms : Terms) (s s' : M) (t : Tree Depth) (e : Refusal)
     → NeverFails H (refusals_of terms) → Fails H (refusals_of terms) s t e s' → BuildingRefusal e
 building-refusals H terms s s' t e never f = elim (only-building H (refusals_of terms) never f) [

@@ -1,5 +1,7 @@
 -- The turns of the walk over stored terms.
-use Rattle.std.proofs.Common.{◌≡◌, ℕ, zero, suc, ◌+◌, ◌-◌, ◌<◌, ◌≤◌, [], ◌∷◌, ◌++◌, length, take, drop, slice_get, Option, Some, None, Ok, Err, refl, ap, sym, subst, ◌∙◌, arith, append_assoc, length-append, inl, inr}
+use Rattle.std.proofs.Common.{◌≡◌, ℕ, zero, suc, ◌+◌, ◌-◌, ◌<◌, ◌≤◌, [], ◌∷◌, ◌++◌, length, take, drop, slice_get}
+use Rattle.std.proofs.Common.{Option, Some, None, Ok, Err, refl, ap, sym, subst, ◌∙◌, arith, append_assoc}
+use Rattle.std.proofs.Common.{length-append, inl, inr}
 use Rattle.std.proofs.Common.{List as Listed}
 use Rattle.std.specs.Prelude.{IsSome}
 use Rattle.std.proofs.lemmas.List.{append-nil}
@@ -17,15 +19,23 @@ use Rattle.tt_fold.specs.Walk.{Hooks, HasUnwanted, WalksAll, done, stopped, Chil
 use Rattle.tt_fold.specs.Counts.{Standing, stands}
 use Rattle.tt_fold.specs.Steps.{Goes, errors_of}
 use Rattle.tt_fold.specs.Parts.{ArePartsOf, child_trees, children_trees, IsChildFor}
-use Rattle.tt_fold.specs.Stack.{joined, Outline, plain, under, items, whole, wanted_by, Begins, Rebuilds, RebuildFails, Finishes, FinishFails, Rests, RestFails, in_left, in_rebuild, in_finish, not_wanted}
+use Rattle.tt_fold.specs.Stack.{joined, Outline, plain, under, items, whole, wanted_by, Begins, Rebuilds, RebuildFails}
+use Rattle.tt_fold.specs.Stack.{Finishes, FinishFails, Rests, RestFails, in_left, in_rebuild, in_finish, not_wanted}
 use Rattle.tt_fold.specs.Items.{child_tree, IsWhole}
-use Rattle.tt_fold.specs.Going.{outline_of, children_in, absent_among, IsFrame, Holds, IsNotKept, IsResult, last_of, left_of, Part, frames_of, values_of, work, work_all, frames_work, total_work, IsOpened, Going}
+use Rattle.tt_fold.specs.Going.{outline_of, children_in, absent_among, IsFrame, Holds, IsNotKept, IsResult, last_of}
+use Rattle.tt_fold.specs.Going.{left_of, Part, frames_of, values_of, work, work_all, frames_work, total_work, IsOpened}
+use Rattle.tt_fold.specs.Going.{Going}
 use Rattle.tt_fold.specs.declared.stack.Frame.{Frame}
 use Rattle.tt_fold.proofs.PartLaws.{joined-none, no_trees, no_parts, one_tree}
 use Rattle.tt_fold.proofs.WantedLaws.{none-wanted, joined-wanted, child_fails, child_unwanted, memory_unbuilt}
 use Rattle.tt_fold.proofs.WalkLaws.{FailsAll-before}
-use Rattle.tt_fold.proofs.StackLaws.{proceeds_past, proceeds_into, proceeds_up, proceeds_end, proceeds_rests, halts_past, halts_into, halts_up, halts_rests}
-use Rattle.tt_fold.proofs.FrameLaws.{whole-part, whole-tree, like-whole, last_trees, last_parts, get_part, drop_next, trees_next, trees_end, alike_more, alike_length, frame-parts, frame_fits, frame-count, frame-absent, item_tree-grows, outline-grows, children-grow, frame-grows, values-grow, left-grows, holds-grows, below-grows, contexts-grow, frame_work-grows, frames_work-append, frames_work-grows}
+use Rattle.tt_fold.proofs.StackLaws.{proceeds_past, proceeds_into, proceeds_up, proceeds_end, proceeds_rests}
+use Rattle.tt_fold.proofs.StackLaws.{halts_past, halts_into, halts_up, halts_rests}
+use Rattle.tt_fold.proofs.FrameLaws.{whole-part, whole-tree, like-whole, last_trees, last_parts, get_part, drop_next}
+use Rattle.tt_fold.proofs.FrameLaws.{trees_next, trees_end, alike_more, alike_length, frame-parts, frame_fits}
+use Rattle.tt_fold.proofs.FrameLaws.{frame-count, frame-absent, item_tree-grows, outline-grows, children-grow}
+use Rattle.tt_fold.proofs.FrameLaws.{frame-grows, values-grow, left-grows, holds-grows, below-grows, contexts-grow}
+use Rattle.tt_fold.proofs.FrameLaws.{frame_work-grows, frames_work-append, frames_work-grows}
 
 -- a frame with one more child begun
 abbrev pub stepped : Frame → Frame

@@ -1,14 +1,19 @@
--- What the walk asks of a term or a list, and what it builds of one: what the calls promise makes what the whole promises.
-use Rattle.std.proofs.Common.{◌≡◌, ℕ, ◌<◌, ◌^◌, [], ◌∷◌, length, drop, All, Result, Ok, Err, Option, Some, None, refl, ap, sym, subst, ◌∙◌, inl, inr}
+-- What the walk asks of a term or a list, and what it builds of one: what the calls promise makes what the whole
+-- promises.
+use Rattle.std.proofs.Common.{◌≡◌, ℕ, ◌<◌, ◌^◌, [], ◌∷◌, length, drop, All, Result, Ok, Err, Option, Some, None, refl}
+use Rattle.std.proofs.Common.{ap, sym, subst, ◌∙◌, inl, inr}
 use Rattle.std.proofs.Common.{List as Listed}
 use Rattle.std.proofs.lemmas.Result.{MatchResult-weaker}
 use Rattle.std.proofs.lemmas.Option.{same_Some, none-some}
 use Rattle.std.specs.Prelude.{MatchResult}
 use Rattle.tt_kinds.specs.Label.{Sort, Label}
 use Rattle.tt_kinds.specs.Tree.{Depth, Tree}
-use Rattle.tt_kinds.specs.Parts.{node_table, node_number, list_table, list_number, list_sort, child_sort, IsItem, AreLike}
+use Rattle.tt_kinds.specs.Parts.{node_table, node_number, list_table, list_number, list_sort, child_sort, IsItem}
+use Rattle.tt_kinds.specs.Parts.{AreLike}
 use Rattle.tt_kinds.specs.Shape.{fill, HasParts}
-use Rattle.tt_kinds.specs.Kinds.{Form, param, bound, plain, under, form_binder, form_parts, form_shape, refilled, kind_form, kind_sort, kind_shape, kind_table, node_shape, list_shape, region_shape, child_shapes, parts_shapes, children_shapes, items_tree}
+use Rattle.tt_kinds.specs.Kinds.{Form, param, bound, plain, under, form_binder, form_parts, form_shape, refilled}
+use Rattle.tt_kinds.specs.Kinds.{kind_form, kind_sort, kind_shape, kind_table, node_shape, list_shape, region_shape}
+use Rattle.tt_kinds.specs.Kinds.{child_shapes, parts_shapes, children_shapes, items_tree}
 use Rattle.tt_kinds.specs.Handle.{BoundVarKinds}
 use Rattle.tt_kinds.specs.declared.region_kind.RegionKind.{RegionKind}
 use Rattle.tt_kinds.specs.declared.table.Table.TheVariants.{ClauseLists}
@@ -27,21 +32,29 @@ use Rattle.tt_interner.specs.Nodes.{stored_kind}
 use Rattle.tt_interner.proofs.Growth.{Extends-refl, Extends-trans, AreParts-grows, fill-grows, fill_all-grows}
 use Rattle.tt_visit.specs.Root.{root, hooked, unhooked, a_part}
 use Rattle.tt_visit.proofs.VisitSteps.{root-meaning, root-region}
-use Rattle.tt_fold.specs.Walk.{Hooks, Errors, replace, keep, descend, IsTerm, replaced, kept, at_region, done, Fails, term_failed, region_failed, InsideFails, ChildFails, child_failed}
+use Rattle.tt_fold.specs.Walk.{Hooks, Errors, replace, keep, descend, IsTerm, replaced, kept, at_region, done, Fails}
+use Rattle.tt_fold.specs.Walk.{term_failed, region_failed, InsideFails, ChildFails, child_failed}
 use Rattle.tt_fold.specs.Counts.{Standing, stands}
 use Rattle.tt_fold.specs.Steps.{Goes, IsPartOf, tree_in, vars_in}
 use Rattle.tt_fold.specs.Still.{IsAlone, EndsAt}
-use Rattle.tt_fold.specs.Parts.{ArePartsOf, trees_in, child_trees, children_trees, node_tree, list_tree, binder_in, IsInner, IsLeaf, IsNodeFor, IsChildFor}
-use Rattle.tt_fold.specs.Stack.{whole, binder_of, TakesAny, Asks, asks, passes, at_list, Opens, opens_bare, opens_binder, Leaves, leaves_bare, leaves_binder, EnterFails, enter_fails, LeaveFails, leave_fails, rebuilds, RebuildFails, not_left, not_rebuilt, Finishes, finishes, unasked, FinishFails}
-use Rattle.tt_fold.specs.Items.{child_shape, child_tree, child_list, child_node, child_root, IsWhole, SameTerm, SameList, IsHooked, IsHookOf}
-use Rattle.tt_fold.specs.Going.{form_outline, outline_of, children_in, IsTermFrame, IsFrame, Holds, IsOpened, IsAsked, IsOpen, IsBegun, IsRebuilt, left_of}
+use Rattle.tt_fold.specs.Parts.{ArePartsOf, trees_in, child_trees, children_trees, node_tree, list_tree, binder_in}
+use Rattle.tt_fold.specs.Parts.{IsInner, IsLeaf, IsNodeFor, IsChildFor}
+use Rattle.tt_fold.specs.Stack.{whole, binder_of, TakesAny, Asks, asks, passes, at_list, Opens, opens_bare}
+use Rattle.tt_fold.specs.Stack.{opens_binder, Leaves, leaves_bare, leaves_binder, EnterFails, enter_fails, LeaveFails}
+use Rattle.tt_fold.specs.Stack.{leave_fails, rebuilds, RebuildFails, not_left, not_rebuilt, Finishes, finishes, unasked}
+use Rattle.tt_fold.specs.Stack.{FinishFails}
+use Rattle.tt_fold.specs.Items.{child_shape, child_tree, child_list, child_node, child_root, IsWhole, SameTerm}
+use Rattle.tt_fold.specs.Items.{SameList, IsHooked, IsHookOf}
+use Rattle.tt_fold.specs.Going.{form_outline, outline_of, children_in, IsTermFrame, IsFrame, Holds, IsOpened, IsAsked}
+use Rattle.tt_fold.specs.Going.{IsOpen, IsBegun, IsRebuilt, left_of}
 use Rattle.tt_fold.specs.declared.folder.Step.TheVariants as step
 use Rattle.tt_fold.specs.declared.stack.Begun.TheVariants as begun
 use Rattle.tt_fold.specs.declared.stack.Frame.{Frame}
 use Rattle.tt_fold.proofs.PartLaws.{stored_tree, in_range, no_trees, one_tree, no_parts, one_part}
 use Rattle.tt_fold.proofs.WalkLaws.{walks_leaf, WalksAll-one}
 use Rattle.tt_fold.proofs.StackLaws.{enter_fails_inside, asks_fails, leaf_fails, leaf_walks}
-use Rattle.tt_fold.proofs.FrameLaws.{whole-part, part-whole, whole-tree, like-whole, alike_all, two_shapes, form_outline-grows, outline-grows, frame-grows}
+use Rattle.tt_fold.proofs.FrameLaws.{whole-part, part-whole, whole-tree, like-whole, alike_all, two_shapes}
+use Rattle.tt_fold.proofs.FrameLaws.{form_outline-grows, outline-grows, frame-grows}
 use Rattle.tt_fold.proofs.FormLaws.{form-labels, form-binder}
 
 -- an error of a call that gives nothing else

@@ -1,5 +1,5 @@
--- From a test of flags to a fact: parts of a value have no flags that the value doesn't have, and a folder that leaves what
--- doesn't have certain flags keeps a value that has none of them.
+-- From a test of flags to a fact: parts of a value have no flags that the value doesn't have, and a folder that leaves
+-- what doesn't have certain flags keeps a value that has none of them.
 use Rattle.std.proofs.Common.{◌≡◌, inl, inr, ℕ, true, false, Bool, nat_eq, refl, sym, ap, ◌∙◌}
 use Rattle.std.proofs.lemmas.Bool.{cases_Bool, eqb-true, eq-eqb, true≢false}
 use Rattle.std.specs.Prelude.{◌↔◌, IsTrue, bit_and}
@@ -11,10 +11,13 @@ use Rattle.tt_kinds.specs.declared.ty_kind.InferTy.{InferTy}
 use Rattle.tt_visit.specs.HasTypeFlags.{Misses, Meets}
 use Rattle.tt_visit.proofs.HasTypeFlagsLaws.{bits-left, bits-right}
 use Rattle.tt_fold.specs.Counts.{Standing}
-use Rattle.tt_fold.specs.Stands.{StandsIn, StandsAmong, itself, in_term as stands_in_term, in_node as stands_in_node, in_binder as stands_in_binder, in_first, in_later}
+use Rattle.tt_fold.specs.Stands.{StandsIn, StandsAmong, itself, in_term as stands_in_term, in_node as stands_in_node}
+use Rattle.tt_fold.specs.Stands.{in_binder as stands_in_binder, in_first, in_later}
 use Rattle.tt_fold.specs.Types.{TypeHooks, only_types}
 use Rattle.tt_fold.specs.TypesOnce.{steady_types, steadily}
-use Rattle.tt_fold.specs.Walk.{Hooks, replace, descend, is_type_tree, Walks, WalksInside, WalksAll, at_region, replaced, kept, descended, passed, rebuilt, at_node, at_binder, in_term, in_param, in_bound, done, next}
+use Rattle.tt_fold.specs.Walk.{Hooks, replace, descend, is_type_tree, Walks, WalksInside, WalksAll, at_region, replaced}
+use Rattle.tt_fold.specs.Walk.{kept, descended, passed, rebuilt, at_node, at_binder, in_term, in_param, in_bound, done}
+use Rattle.tt_fold.specs.Walk.{next}
 
 -- a test of flags that answers no says that none of them is set
 pub misses : (mask flags : ℕ) (found : Bool) → IsTrue found ↔ Meets mask flags → found ≡ false → Misses mask flags

@@ -1,7 +1,8 @@
 -- Where a bound variable becomes one, trees for leaves are other indices.
 use Rattle.std.proofs.Common.{◌≡◌, ℕ, suc, refl, ap}
 use Rattle.tt_kinds.specs.Label.{Name, Sort}
-use Rattle.tt_kinds.specs.Tree.{Depth, Tree, Forest, param, bound, region, term, node, binder, none, also, rebuild, rebuild_all}
+use Rattle.tt_kinds.specs.Tree.{Depth, Tree, Forest, param, bound, region, term, node, binder, none, also, rebuild}
+use Rattle.tt_kinds.specs.Tree.{rebuild_all}
 use Rattle.tt_kinds.specs.Reading.{keep}
 use Rattle.tt_kinds.specs.Plain.{shifted, shift_tree}
 use Rattle.tt_fold.specs.Leaves.{with_leaves, with_leaves_all, reindexed}

@@ -8,7 +8,8 @@ use Rattle.tt_fold.specs.Steps.{tree_by}
 use Rattle.tt_fold.specs.RegionFolder.{RegionCall, names_in, AreMade, AnswersEach, AnswersRegions, Places, PlacesSome}
 use Rattle.tt_fold.proofs.RegionFolderSteps.{IsFolded}
 
--- what a fold with a closure shows of the one that it calls: some calls took that one to its end, behind the same reference
+-- what a fold with a closure shows of the one that it calls: some calls took that one to its end, behind the same
+-- reference
 pub record IsPassed {F G T : Type 0} (step : F → RegionKind → ℕ → RegionKind → F → Type 0) (inner : G → F) (name : G → ℕ) (shape : T → Shape) (p : G) (terms : Terms) (x : T) (result : Result T Refusal) (terms' : Terms) (q : G) : Type 0 where
   pub folded : IsFolded step shape (inner p) terms x result terms' (inner q)
   pub calls : List RegionCall

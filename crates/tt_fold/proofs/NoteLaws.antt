@@ -1,5 +1,7 @@
 -- What the notes of a folder's memory are as entries of a map.
-use Rattle.std.proofs.Common.{◌≡◌, ℕ, zero, suc, ◌<◌, ◌≤◌, inl, inr, List, [], ◌∷◌, ◌++◌, length, drop, slice_index_or, slice_set, position, Some, None, true, false, cond, nat_eq, nat_lt, refl, sym, ap, ◌∙◌, arith, append_assoc}
+use Rattle.std.proofs.Common.{◌≡◌, ℕ, zero, suc, ◌<◌, ◌≤◌, inl, inr, List, [], ◌∷◌, ◌++◌, length, drop, slice_index_or}
+use Rattle.std.proofs.Common.{slice_set, position, Some, None, true, false, cond, nat_eq, nat_lt, refl, sym, ap, ◌∙◌}
+use Rattle.std.proofs.Common.{arith, append_assoc}
 use Rattle.std.proofs.lemmas.Bool.{cases_Bool, eqb-true, ltb-false}
 use Rattle.std.proofs.lemmas.List.{append-nil, length-map, length-set, take_at}
 use Rattle.std.proofs.lemmas.List.Sums.{fails_before_first}

@@ -8,7 +8,8 @@ use Rattle.tt_kinds.specs.declared.bound.BoundVarIndexKind.{BoundVarIndexKind}
 use Rattle.tt_kinds.specs.declared.bound.BoundVarIndexKind.TheVariants.{Bound, Canonical}
 use Rattle.tt_kinds.specs.declared.region_kind.RegionKind.{RegionKind}
 use Rattle.tt_kinds.specs.declared.region_kind.RegionKind.TheVariants.{ReBound, ReStatic, ReVar}
-use Rattle.tt_kinds.specs.Label.{Name, VarKind, anonymous, region_variable, uint_type, ref_type, tuple_type, fn_ptr_type, fn_sig_tys_record, pair_record, type_label, list_label, record_label}
+use Rattle.tt_kinds.specs.Label.{Name, VarKind, anonymous, region_variable, uint_type, ref_type, tuple_type}
+use Rattle.tt_kinds.specs.Label.{fn_ptr_type, fn_sig_tys_record, pair_record, type_label, list_label, record_label}
 use Rattle.tt_kinds.specs.Tree.{Depth, Tree, term, node, binder, Forest, none, also}
 use Rattle.tt_kinds.specs.Reading.{outer_binder}
 use Rattle.tt_kinds.specs.Scan.{scan}

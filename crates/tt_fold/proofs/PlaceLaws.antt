@@ -1,5 +1,6 @@
 -- Distinct items of lists, and the places of types.
-use Rattle.std.proofs.Common.{◌≡◌, ℕ, zero, suc, ◌+◌, ◌≤◌, inl, inr, ◌⊎◌, List, [], ◌∷◌, ◌++◌, length, map, true, ◌&&◌, ltb, refl, sym, ap, arith}
+use Rattle.std.proofs.Common.{◌≡◌, ℕ, zero, suc, ◌+◌, ◌≤◌, inl, inr, ◌⊎◌, List, [], ◌∷◌, ◌++◌, length, map, true, ◌&&◌}
+use Rattle.std.proofs.Common.{ltb, refl, sym, ap, arith}
 use Rattle.tt_kinds.specs.Label.{is_type}
 use Rattle.tt_kinds.specs.Tree.{Depth, Tree, Forest, param, bound, region, term, node, binder, none, also}
 use Rattle.tt_kinds.specs.Reading.{outer_binder}

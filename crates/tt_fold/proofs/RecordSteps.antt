@@ -14,7 +14,8 @@ use Rattle.tt_interner.specs.Stored.{Terms}
 use Rattle.tt_interner.proofs.Growth.{Extends-refl, Extends-trans, IsPart-grows, fill-grows}
 use Rattle.tt_fold.specs.Parts.{ArePartsOf, ArePartsFor, parts_trees}
 use Rattle.tt_fold.proofs.FormLaws.{keeps_label}
-use Rattle.tt_fold.specs.Walk.{Errors, Hooks, any_trees, Walks, WalksAll, FailsAll, at_node, done, next, Fails, node_failed, here, later}
+use Rattle.tt_fold.specs.Walk.{Errors, Hooks, any_trees, Walks, WalksAll, FailsAll, at_node, done, next, Fails}
+use Rattle.tt_fold.specs.Walk.{node_failed, here, later}
 use Rattle.tt_fold.specs.Counts.{Standing}
 use Rattle.tt_fold.specs.Steps.{Folds, IsPartOf, IsPartBy, tree_by}
 

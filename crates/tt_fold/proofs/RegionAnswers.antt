@@ -26,7 +26,8 @@ module _ {F : Type 0} (step : F → RegionKind → ℕ → RegionKind → F → 
 -- what shows it of most closures: `#[tactic(auto, using(tt_fold::proofs::RegionAnswers::region_answers))]`
 pub ruleset region_answers = (answers_always, answers_unchanged)
 
--- What holds before the calls, and of the calls with one more wherever it holds of the ones before, holds of all that were made.
+-- What holds before the calls, and of the calls with one more wherever it holds of the ones before, holds of all that
+-- were made.
 module _ {F : Type 0} (step : F → RegionKind → ℕ → RegionKind → F → Type 0) (I : List RegionCall → F → Type 0)
     (next : (before : List RegionCall) (c : RegionCall) (p q : F) → I before p → step p c.region c.depth c.answer q → I (before ++ (c ∷ [])) q) where
   after_more : (before calls : List RegionCall) (p q : F) → I before p → AreMade step p calls q → I (before ++ calls) q

@@ -1,21 +1,33 @@
 -- A folder of regions asks about exactly the regions that are met, and places the answers.
-use Rattle.std.proofs.Common.{◌≡◌, ℕ, suc, ◌+◌, ◌-◌, inl, inr, Bool, true, false, List, [], ◌∷◌, ◌++◌, length, take, refl, sym, ap, subst, ◌∙◌, arith, append_assoc}
+use Rattle.std.proofs.Common.{◌≡◌, ℕ, suc, ◌+◌, ◌-◌, inl, inr, Bool, true, false, List, [], ◌∷◌, ◌++◌, length, take}
+use Rattle.std.proofs.Common.{refl, sym, ap, subst, ◌∙◌, arith, append_assoc}
 use Rattle.std.specs.Prelude.{nat_lt, if◌then◌else◌, IsTrue, not}
 use Rattle.std.proofs.lemmas.List.{map-append, append-nil, length-map, length-append}
 use Rattle.std.proofs.Math.Seq.{take-append-add}
 use Rattle.tt_index.specs.declared.refusal.Refusal.{Refusal}
 use Rattle.tt_index.specs.declared.refusal.Refusal.TheVariants.{GreatestIndex}
-use Rattle.tt_kinds.specs.Label.{Name, Sort, region_sort, type_sort, const_sort, Entry, Label, type_label, const_label, pattern_label, predicate_label, existential_label, clause_list_label, list_label, record_label, clause_label}
-use Rattle.tt_kinds.specs.Tree.{Depth, at, canonical, Tree, param, bound, region, term, node, binder, Forest, none, also}
+use Rattle.tt_kinds.specs.Label.{Name, Sort, region_sort, type_sort, const_sort, Entry, Label, type_label, const_label}
+use Rattle.tt_kinds.specs.Label.{pattern_label, predicate_label, existential_label, clause_list_label, list_label}
+use Rattle.tt_kinds.specs.Label.{record_label, clause_label}
+use Rattle.tt_kinds.specs.Tree.{Depth, at, canonical, Tree, param, bound, region, term, node, binder, Forest, none}
+use Rattle.tt_kinds.specs.Tree.{also}
 use Rattle.tt_kinds.specs.Met.{Met, met_leaf, met, met_all, placed_leaf, placed, placed_all}
 use Rattle.tt_kinds.specs.declared.region_kind.RegionKind.{RegionKind}
 use Rattle.tt_kinds.proofs.MetLaws.{placed_all-append}
 use Rattle.tt_interner.specs.Stored.{IsNoClauseList}
 use Rattle.tt_interner.specs.Clauses.{is_clause_part, is_clause_inside, is_clause_tree, HasOther}
 use Rattle.tt_visit.specs.Root.{a_region, hooked, unhooked}
-use Rattle.tt_fold.specs.Walk.{Errors, Hooks, IsRegion, IsTerm, IsPassed, Walks, Descends, WalksInside, WalksAll, at_region, replaced, kept, descended, passed, rebuilt, at_node, at_binder, in_term, in_param, in_bound, done, next, Fails, DescentFails, InsideFails, FailsAll, region_failed, term_failed, descent_failed, enter_failed, under_failed, leave_failed, node_failed, node_not_built, clause_lost, passed_failed, inside_failed, not_built, after_failed, in_term_failed, stopped, here, later, no_clause, Wanted, any_trees, clause_trees, wanted_in, HasUnwanted, LosesClause}
-use Rattle.tt_fold.specs.Stands.{StandsIn, StandsAmong, itself, in_term as stands_in_term, in_node as stands_in_node, in_binder as stands_in_binder, in_first, in_later}
-use Rattle.tt_fold.specs.RegionFolder.{RegionCall, asked, answered, region_tree, Asking, BindersFit, BindersFit_all, AreMade, region_hooks}
+use Rattle.tt_fold.specs.Walk.{Errors, Hooks, IsRegion, IsTerm, IsPassed, Walks, Descends, WalksInside, WalksAll}
+use Rattle.tt_fold.specs.Walk.{at_region, replaced, kept, descended, passed, rebuilt, at_node, at_binder, in_term}
+use Rattle.tt_fold.specs.Walk.{in_param, in_bound, done, next, Fails, DescentFails, InsideFails, FailsAll}
+use Rattle.tt_fold.specs.Walk.{region_failed, term_failed, descent_failed, enter_failed, under_failed, leave_failed}
+use Rattle.tt_fold.specs.Walk.{node_failed, node_not_built, clause_lost, passed_failed, inside_failed, not_built}
+use Rattle.tt_fold.specs.Walk.{after_failed, in_term_failed, stopped, here, later, no_clause, Wanted, any_trees}
+use Rattle.tt_fold.specs.Walk.{clause_trees, wanted_in, HasUnwanted, LosesClause}
+use Rattle.tt_fold.specs.Stands.{StandsIn, StandsAmong, itself, in_term as stands_in_term, in_node as stands_in_node}
+use Rattle.tt_fold.specs.Stands.{in_binder as stands_in_binder, in_first, in_later}
+use Rattle.tt_fold.specs.RegionFolder.{RegionCall, asked, answered, region_tree, Asking, BindersFit, BindersFit_all}
+use Rattle.tt_fold.specs.RegionFolder.{AreMade, region_hooks}
 use Rattle.tt_fold.proofs.ClauseLaws.{KeepsClauses, KeepsClauses_all}
 use Rattle.tt_fold.proofs.WantedLaws.{first-unwanted, later-unwanted, unwanted-list}
 
@@ -134,7 +146,8 @@ placed-keeps_clause : (k : ℕ) (l : Label Name) (ts : Forest Depth) (answers : 
 placed-keeps_clause k clause_label ts answers h = h.0 (others-before k ts answers h.1)
 placed-keeps_clause k _ ts answers h = h
 
--- why a walk ended after the answers, where `Stands` relates the walk to the tree with answers placed, and Fit says that its binders fit
+-- why a walk ended after the answers, where `Stands` relates the walk to the tree with answers placed, and Fit says
+-- that its binders fit
 pub data Why (unbuilt : Tree Depth → Refusal → Type 0) (Stands : Tree Depth → List (Tree Depth) → Type 0) (Fit : Type 0) (answers : List (Tree Depth)) (e : Refusal) : Type 0 where
   all_unbuilt : ((u : Tree Depth) → unbuilt u e) → Why unbuilt Stands Fit answers e
   one_unbuilt : (u : Tree Depth) → ((more : List (Tree Depth)) → Stands u (answers ++ more)) → (IsNoClauseList u → ⊥) → unbuilt u e → Why unbuilt Stands Fit answers e

@@ -1,5 +1,6 @@
 -- What the hooks of a folder of regions do, and what comes of a fold.
-use Rattle.std.proofs.Common.{◌≡◌, ℕ, zero, suc, arith, Bool, true, false, List, [], ◌∷◌, ◌++◌, Result, Ok, Err, IfOk, IfErr, refl, sym, ap, ◌∙◌, inl, inr, append-nil}
+use Rattle.std.proofs.Common.{◌≡◌, ℕ, zero, suc, arith, Bool, true, false, List, [], ◌∷◌, ◌++◌, Result, Ok, Err, IfOk}
+use Rattle.std.proofs.Common.{IfErr, refl, sym, ap, ◌∙◌, inl, inr, append-nil}
 use Rattle.std.specs.Prelude.{not, nat_lt, bit_and, ◌≢◌, IsTrue, if◌then◌else◌}
 use Rattle.std.proofs.lemmas.Nat.{and_comm}
 use Rattle.tt_index.specs.declared.refusal.Refusal.{Refusal}
@@ -13,7 +14,8 @@ use Rattle.tt_kinds.specs.Shape.{Shape, fill, HasParts}
 use Rattle.tt_kinds.specs.Kinds.{region_shape}
 use Rattle.tt_kinds.specs.declared.bound.BoundVarIndexKind.TheVariants.{Bound, Canonical}
 use Rattle.tt_kinds.specs.declared.region_kind.RegionKind.{RegionKind}
-use Rattle.tt_kinds.specs.declared.region_kind.RegionKind.TheVariants.{ReEarlyParam, ReBound, ReLateParam, ReStatic, ReVar, RePlaceholder, ReErased, ReError}
+use Rattle.tt_kinds.specs.declared.region_kind.RegionKind.TheVariants.{ReEarlyParam, ReBound, ReLateParam, ReStatic}
+use Rattle.tt_kinds.specs.declared.region_kind.RegionKind.TheVariants.{ReVar, RePlaceholder, ReErased, ReError}
 use Rattle.tt_kinds.specs.declared.table.Table.TheVariants.{Symbols}
 use Rattle.tt_interner.specs.Rows.{Row, row_shape, size, meaning}
 use Rattle.tt_interner.specs.Stored.{Counters, Terms, IsUnbuilt, IsNoClauseList}
@@ -21,7 +23,9 @@ use Rattle.tt_fold.specs.Walk.{Walks, Fails}
 use Rattle.tt_fold.specs.Stands.{StandsIn}
 use Rattle.tt_fold.specs.Counts.{Standing, keeps_counters}
 use Rattle.tt_fold.specs.Steps.{Folds, IsPartOf, tree_in, IsPartBy, tree_by, IsRefused, refusals_of}
-use Rattle.tt_fold.specs.RegionFolder.{is_met, names_in, HasName, region_tree, answered, Asking, BindersFit, IsPlacingRefusal, AnswersRegions, Places, PlacesSome, region_hooks, just_made, RegionFoldersPlace, RegionFoldersPlaceSome}
+use Rattle.tt_fold.specs.RegionFolder.{is_met, names_in, HasName, region_tree, answered, Asking, BindersFit}
+use Rattle.tt_fold.specs.RegionFolder.{IsPlacingRefusal, AnswersRegions, Places, PlacesSome, region_hooks, just_made}
+use Rattle.tt_fold.specs.RegionFolder.{RegionFoldersPlace, RegionFoldersPlaceSome}
 use Rattle.tt_visit.proofs.MeetsRegionsLaws.{met-none}
 use Rattle.tt_fold.proofs.ClauseLaws.{KeepsClauses, keeps-fine}
 use Rattle.tt_fold.proofs.CounterLaws.{walks-quietly, fails-quietly}

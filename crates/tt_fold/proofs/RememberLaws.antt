@@ -6,15 +6,25 @@ use Rattle.tt_index.specs.declared.refusal.Refusal.TheVariants.{GreatestIndex}
 use Rattle.tt_kinds.specs.Label.{Name, VarKind, Label}
 use Rattle.tt_kinds.specs.Tree.{Depth, Tree, Forest, term, node, binder, none, also}
 use Rattle.tt_kinds.proofs.ChildLaws.{here as among_here, later as among_later}
-use Rattle.tt_fold.specs.Walk.{Errors, Walks, Descends, WalksInside, WalksAll, at_region, replaced, kept, descended, passed, rebuilt, at_node, at_binder, in_term, in_param, in_bound, done, next, Fails, DescentFails, InsideFails, FailsAll, region_failed, term_failed, descent_failed, passed_failed, enter_failed, under_failed, leave_failed, node_failed, node_not_built, clause_lost, stopped, inside_failed, not_built, after_failed, in_term_failed, here as fails_here, later, no_clause, Wanted, any_trees, wanted_in, HasUnwanted, LosesClause}
+use Rattle.tt_fold.specs.Walk.{Errors, Walks, Descends, WalksInside, WalksAll, at_region, replaced, kept, descended}
+use Rattle.tt_fold.specs.Walk.{passed, rebuilt, at_node, at_binder, in_term, in_param, in_bound, done, next, Fails}
+use Rattle.tt_fold.specs.Walk.{DescentFails, InsideFails, FailsAll, region_failed, term_failed, descent_failed}
+use Rattle.tt_fold.specs.Walk.{passed_failed, enter_failed, under_failed, leave_failed, node_failed, node_not_built}
+use Rattle.tt_fold.specs.Walk.{clause_lost, stopped, inside_failed, not_built, after_failed, in_term_failed}
+use Rattle.tt_fold.specs.Walk.{here as fails_here, later, no_clause, Wanted, any_trees, wanted_in, HasUnwanted}
+use Rattle.tt_fold.specs.Walk.{LosesClause}
 use Rattle.tt_fold.specs.Counts.{Standing}
 use Rattle.tt_fold.specs.Places.{IsIn}
-use Rattle.tt_fold.specs.Stands.{itself, in_term as stands_in_term, in_node as stands_in_node, in_binder as stands_in_binder, in_first, in_later}
-use Rattle.tt_fold.specs.Remember.{Memo, State, Task, memo, deeper, shallower, one_more, made, made_all, Done, given, remembered, left_alone, taken_apart, gone_into, AfterTerm, noted, noted_again, not_noted, remembering}
+use Rattle.tt_fold.specs.Stands.{itself, in_term as stands_in_term, in_node as stands_in_node}
+use Rattle.tt_fold.specs.Stands.{in_binder as stands_in_binder, in_first, in_later}
+use Rattle.tt_fold.specs.Remember.{Memo, State, Task, memo, deeper, shallower, one_more, made, made_all, Done, given}
+use Rattle.tt_fold.specs.Remember.{remembered, left_alone, taken_apart, gone_into, AfterTerm, noted, noted_again}
+use Rattle.tt_fold.specs.Remember.{not_noted, remembering}
 use Rattle.tt_fold.proofs.ClauseLaws.{leaves-keep_clause}
 use Rattle.tt_fold.proofs.WantedLaws.{first-unwanted, later-unwanted, unwanted-list, TellsOfLists}
 use Rattle.tt_fold.proofs.PlaceLaws.{IsIn-append, IsIn-only}
-use Rattle.tt_fold.proofs.TaskLaws.{DoneAll, Refuses, without, too_far, caused, RefusesAll, without_any, without_one, without_lists, too_far_all, caused_among, TaskLaws}
+use Rattle.tt_fold.proofs.TaskLaws.{DoneAll, Refuses, without, too_far, caused, RefusesAll, without_any, without_one}
+use Rattle.tt_fold.proofs.TaskLaws.{without_lists, too_far_all, caused_among, TaskLaws}
 
 ap2 : {A B C : Type 0} (f : A → B → C) {a a' : A} {b b' : B} → a ≡ a' → b ≡ b' → f a b ≡ f a' b'
 ap2 f p q = cc

@@ -1,10 +1,12 @@
 -- Shifts of small types, and of types in which one type occurs at many places.
-use Rattle.std.proofs.Common.{inl, inr, ◌≡◌, ◌⊎◌, ◌≤◌, ◌+◌, ℕ, zero, suc, List, [], ◌∷◌, ◌++◌, length, Bool, true, false, nat_lt, refl, arith}
+use Rattle.std.proofs.Common.{inl, inr, ◌≡◌, ◌⊎◌, ◌≤◌, ◌+◌, ℕ, zero, suc, List, [], ◌∷◌, ◌++◌, length, Bool, true}
+use Rattle.std.proofs.Common.{false, nat_lt, refl, arith}
 use Rattle.tt_index.specs.declared.numeric.IntTy.TheVariants as int
 use Rattle.tt_index.specs.declared.qualifier.Mutability.TheVariants as mutability
 use Rattle.tt_index.specs.declared.refusal.Refusal.TheVariants.{GreatestIndex}
 use Rattle.tt_kinds.specs.declared.table.Table.TheVariants.{TypeLists}
-use Rattle.tt_kinds.specs.Label.{Name, Sort, region_sort, anonymous, region_variable, int_type, ref_type, tuple_type, type_label, list_label}
+use Rattle.tt_kinds.specs.Label.{Name, Sort, region_sort, anonymous, region_variable, int_type, ref_type, tuple_type}
+use Rattle.tt_kinds.specs.Label.{type_label, list_label}
 use Rattle.tt_kinds.specs.Tree.{Depth, at, Tree, bound, term, node, none, also, rebuild}
 use Rattle.tt_kinds.specs.Reading.{read, move, outer_binder, Fits, keep}
 use Rattle.tt_kinds.specs.Plain.{shifted, shift_tree}

@@ -1,5 +1,6 @@
 -- The shifter's task, its hooks at regions, and what it does to a whole value.
-use Rattle.std.proofs.Common.{zero, List, [], Result, Ok, Err, IfOk, IfErr, MatchResult, ◌≡◌, ℕ, suc, ◌+◌, ◌-◌, ◌<◌, ◌≤◌, ◌⊎◌, inl, inr, true, false, refl, ap, sym, subst, ◌∙◌, arith}
+use Rattle.std.proofs.Common.{zero, List, [], Result, Ok, Err, IfOk, IfErr, MatchResult, ◌≡◌, ℕ, suc, ◌+◌, ◌-◌, ◌<◌}
+use Rattle.std.proofs.Common.{◌≤◌, ◌⊎◌, inl, inr, true, false, refl, ap, sym, subst, ◌∙◌, arith}
 use Rattle.std.proofs.lemmas.Bool.{cases_lt, le-ltb, lt-ltb}
 use Rattle.tt_index.specs.Greatest.{greatest}
 use Rattle.tt_index.specs.declared.refusal.Refusal.{Refusal}
@@ -14,7 +15,8 @@ use Rattle.tt_kinds.proofs.OuterLaws.{shift_tree-low, shift_tree-zero}
 use Rattle.tt_kinds.proofs.PlainLaws.{shift_tree-shift_tree}
 use Rattle.tt_kinds.specs.Matched.{MatchedUnder}
 use Rattle.tt_kinds.proofs.MatchedLaws.{MatchedUnder-move}
-use Rattle.tt_kinds.proofs.ReadingLaws.{place-own, place-outer, shifted-outer, read-shift_tree, read-injective, move-injective}
+use Rattle.tt_kinds.proofs.ReadingLaws.{place-own, place-outer, shifted-outer, read-shift_tree, read-injective}
+use Rattle.tt_kinds.proofs.ReadingLaws.{move-injective}
 use Rattle.tt_kinds.specs.Bound.{depth, IsBelowGreatest}
 use Rattle.tt_kinds.specs.RegionKind.{IsShallow}
 use Rattle.tt_kinds.specs.Shape.{Shape, Meaning, Sizes, IsPart, fill}
@@ -22,7 +24,8 @@ use Rattle.tt_kinds.specs.Kinds.{region_shape}
 use Rattle.tt_kinds.specs.declared.bound.BoundVarIndexKind.{BoundVarIndexKind}
 use Rattle.tt_kinds.specs.declared.bound.BoundVarIndexKind.TheVariants.{Bound, Canonical}
 use Rattle.tt_kinds.specs.declared.region_kind.RegionKind.{RegionKind}
-use Rattle.tt_kinds.specs.declared.region_kind.RegionKind.TheVariants.{ReEarlyParam, ReBound, ReLateParam, ReStatic, ReVar, RePlaceholder, ReErased, ReError}
+use Rattle.tt_kinds.specs.declared.region_kind.RegionKind.TheVariants.{ReEarlyParam, ReBound, ReLateParam, ReStatic}
+use Rattle.tt_kinds.specs.declared.region_kind.RegionKind.TheVariants.{ReVar, RePlaceholder, ReErased, ReError}
 use Rattle.tt_interner.specs.Rows.{Row, size, meaning}
 use Rattle.tt_interner.specs.Stored.{Terms, Counters, counted, IsUnbuilt}
 use Rattle.tt_fold.specs.Walk.{IsPassed, Walks, Fails}
@@ -38,7 +41,9 @@ use Rattle.tt_fold.proofs.TaskLaws.{TaskLaws, Refuses, without, too_far, caused}
 use Rattle.tt_fold.proofs.LeafLaws.{moved-shift}
 use Rattle.tt_fold.proofs.RememberLaws.{does, refused}
 use Rattle.tt_fold.proofs.CountLaws.{knows-nothing, pairs_walked, pairs_failed}
-use Rattle.tt_fold.specs.Shift.{Shift, moved_tree, IsTooFar, IsVariable, shifting, shift_of, ShiftsCount, IsTooGreat, moved_index, moved_region, IsShiftedRegion, IsShiftRefusal, ShiftsOn, ComesOf, KeepsMatched}
+use Rattle.tt_fold.specs.Shift.{Shift, moved_tree, IsTooFar, IsVariable, shifting, shift_of, ShiftsCount, IsTooGreat}
+use Rattle.tt_fold.specs.Shift.{moved_index, moved_region, IsShiftedRegion, IsShiftRefusal, ShiftsOn, ComesOf}
+use Rattle.tt_fold.specs.Shift.{KeepsMatched}
 
 counts-still : (c : Counters) → ShiftsCount c c
 counts-still c = record { descents = refl; up = omega arith }

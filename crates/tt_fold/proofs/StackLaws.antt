@@ -1,11 +1,23 @@
 -- Each turn of the walk, seen from what is left to do.
 use Rattle.std.proofs.Common.{◌≡◌, List, [], ◌∷◌, refl, ap, sym, ◌∙◌}
-use Rattle.tt_kinds.specs.Label.{Name, Sort, region_sort, type_sort, const_sort, Label, type_label, const_label, pattern_label, predicate_label, existential_label, clause_list_label, list_label, var_list_label, text_label, declaration_label, definition_label, record_label, error_label, clause_label}
+use Rattle.tt_kinds.specs.Label.{Name, Sort, region_sort, type_sort, const_sort, Label, type_label, const_label}
+use Rattle.tt_kinds.specs.Label.{pattern_label, predicate_label, existential_label, clause_list_label, list_label}
+use Rattle.tt_kinds.specs.Label.{var_list_label, text_label, declaration_label, definition_label, record_label}
+use Rattle.tt_kinds.specs.Label.{error_label, clause_label}
 use Rattle.tt_kinds.specs.Tree.{Depth, Tree, Forest, none, also}
 use Rattle.tt_kinds.specs.declared.parts.ListSort.TheVariants as sort
 use Rattle.tt_visit.specs.Root.{root, sort_root, term_root, a_part}
-use Rattle.tt_fold.specs.Walk.{Hooks, Errors, HasUnwanted, Walks, descended, passed, rebuilt, at_node, at_binder, WalksInside, in_term, in_param, in_bound, WalksAll, done, Fails, descent_failed, passed_failed, inside_failed, after_failed, InsideFails, in_term_failed, not_built, FailsAll, here, no_clause, enter_failed, under_failed, leave_failed, node_failed, node_not_built}
-use Rattle.tt_fold.specs.Stack.{joined, Outline, plain, under, items, whole, wanted_by, TakesAny, binder_of, Asks, asks, passes, at_list, Opens, opens_bare, opens_binder, leaves_bare, leaves_binder, Begins, Rebuilds, rebuilds, Finishes, finishes, unasked, Rests, EnterFails, enter_fails, leave_fails, RebuildFails, not_left, not_rebuilt, FinishFails, RestFails, in_children, in_whole, Context, with_result, Proceeds, last, more, Halts, in_left, in_rebuild, in_finish, not_wanted, above}
+use Rattle.tt_fold.specs.Walk.{Hooks, Errors, HasUnwanted, Walks, descended, passed, rebuilt, at_node, at_binder}
+use Rattle.tt_fold.specs.Walk.{WalksInside, in_term, in_param, in_bound, WalksAll, done, Fails, descent_failed}
+use Rattle.tt_fold.specs.Walk.{passed_failed, inside_failed, after_failed, InsideFails, in_term_failed, not_built}
+use Rattle.tt_fold.specs.Walk.{FailsAll, here, no_clause, enter_failed, under_failed, leave_failed, node_failed}
+use Rattle.tt_fold.specs.Walk.{node_not_built}
+use Rattle.tt_fold.specs.Stack.{joined, Outline, plain, under, items, whole, wanted_by, TakesAny, binder_of, Asks, asks}
+use Rattle.tt_fold.specs.Stack.{passes, at_list, Opens, opens_bare, opens_binder, leaves_bare, leaves_binder, Begins}
+use Rattle.tt_fold.specs.Stack.{Rebuilds, rebuilds, Finishes, finishes, unasked, Rests, EnterFails, enter_fails}
+use Rattle.tt_fold.specs.Stack.{leave_fails, RebuildFails, not_left, not_rebuilt, FinishFails, RestFails, in_children}
+use Rattle.tt_fold.specs.Stack.{in_whole, Context, with_result, Proceeds, last, more, Halts, in_left, in_rebuild}
+use Rattle.tt_fold.specs.Stack.{in_finish, not_wanted, above}
 use Rattle.tt_fold.proofs.WantedLaws.{any-wanted}
 use Rattle.tt_fold.proofs.WalkLaws.{WalksAll-append, WalksAll-one, FailsAll-append}
 

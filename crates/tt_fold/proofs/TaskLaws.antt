@@ -24,14 +24,15 @@ module _ {R K : Type 0} (T : Task R K) where
     pub plain : us ≡ made_all T q k ts
     pub allow : AllowsAll q k ts
 
-  -- a tree under k binders is refused: since a tree that was to stand in what is made of it isn't built, since that doesn't
-  -- fit, or for a cause
+  -- a tree under k binders is refused: since a tree that was to stand in what is made of it isn't built, since that
+  -- doesn't fit, or for a cause
   pub data Refuses (unbuilt : Tree Depth → Refusal → Type 0) (q : R) (k : ℕ) (t : Tree Depth) (e : Refusal) : Type 0 where
     without : (u : Tree Depth) → StandsIn u (made T q k t) → unbuilt u e → Refuses unbuilt q k t e
     too_far : e ≡ GreatestIndex → (FitsUnder k (read k (made T q k t)) → ⊥) → Refuses unbuilt q k t e
     caused : T.IsCause q k t e → Refuses unbuilt q k t e
 
-  -- the same of trees of which this has to come: or no list with an item that is none of these is built, and one was to be
+  -- the same of trees of which this has to come: or no list with an item that is none of these is built, and one was to
+  -- be
   pub data RefusesAll (unbuilt : Tree Depth → Refusal → Type 0) (w : Wanted) (q : R) (k : ℕ) (ts : Forest Depth) (e : Refusal) : Type 0 where
     without_any : ((u : Tree Depth) → unbuilt u e) → RefusesAll unbuilt w q k ts e
     without_one : (u : Tree Depth) → StandsAmong u (made_all T q k ts) → unbuilt u e → RefusesAll unbuilt w q k ts e

@@ -5,13 +5,21 @@ use Rattle.std.specs.Prelude.{⊤}
 use Rattle.tt_kinds.specs.Tree.{Depth, Tree, Forest, param, bound, region, term, node, binder}
 use Rattle.tt_interner.specs.Rows.{Row}
 use Rattle.tt_interner.specs.Stored.{Counters}
-use Rattle.tt_fold.specs.Walk.{Errors, Wanted, is_type_tree, Answer, replace, keep, descend, Walks, Descends, WalksInside, WalksAll, at_region, replaced, kept, descended, passed, rebuilt, at_node, at_binder, in_term, in_param, in_bound, done, next, Fails, DescentFails, InsideFails, FailsAll, region_failed, term_failed, descent_failed, passed_failed, enter_failed, under_failed, leave_failed, node_failed, node_not_built, clause_lost, stopped, inside_failed, not_built, after_failed, in_term_failed, here as fails_here, later, no_clause}
+use Rattle.tt_fold.specs.Walk.{Errors, Wanted, is_type_tree, Answer, replace, keep, descend, Walks, Descends}
+use Rattle.tt_fold.specs.Walk.{WalksInside, WalksAll, at_region, replaced, kept, descended, passed, rebuilt, at_node}
+use Rattle.tt_fold.specs.Walk.{at_binder, in_term, in_param, in_bound, done, next, Fails, DescentFails, InsideFails}
+use Rattle.tt_fold.specs.Walk.{FailsAll, region_failed, term_failed, descent_failed, passed_failed, enter_failed}
+use Rattle.tt_fold.specs.Walk.{under_failed, leave_failed, node_failed, node_not_built, clause_lost, stopped}
+use Rattle.tt_fold.specs.Walk.{inside_failed, not_built, after_failed, in_term_failed, here as fails_here, later}
+use Rattle.tt_fold.specs.Walk.{no_clause}
 use Rattle.tt_fold.specs.Counts.{Standing}
 use Rattle.tt_fold.specs.Places.{IsIn, AreDistinct}
 use Rattle.tt_fold.specs.Remember.{State, places}
-use Rattle.tt_fold.specs.Stands.{StandsIn, StandsAmong, itself, in_term as stands_in_term, in_node as stands_in_node, in_binder as stands_in_binder, in_first, in_later}
+use Rattle.tt_fold.specs.Stands.{StandsIn, StandsAmong, itself, in_term as stands_in_term, in_node as stands_in_node}
+use Rattle.tt_fold.specs.Stands.{in_binder as stands_in_binder, in_first, in_later}
 use Rattle.tt_fold.specs.Types.{TypeHooks}
-use Rattle.tt_fold.specs.TypesOnce.{counted, IsMeaning, IsTypeOf, noted_at, Calls, no_more, takes_apart, goes_on, CallsOnce, FailsAt, FailsOnce, OnType, recalled, answered, Noted, recalling}
+use Rattle.tt_fold.specs.TypesOnce.{counted, IsMeaning, IsTypeOf, noted_at, Calls, no_more, takes_apart, goes_on}
+use Rattle.tt_fold.specs.TypesOnce.{CallsOnce, FailsAt, FailsOnce, OnType, recalled, answered, Noted, recalling}
 use Rattle.tt_fold.proofs.PlaceLaws.{IsIn-append, size, size_all}
 use Rattle.tt_fold.proofs.TypesOnceLaws.{Stays}
 
@@ -71,8 +79,8 @@ module _ {M E S : Type 0} (means : List Row → S → M) (H : TypeHooks (Standin
   abbrev IsKnown : Standing (State M ⊤) → Tree Depth → Type 0
   IsKnown s u = IsIn (noted_at u) (places s.state.memory)
 
-  -- What the hook had taken apart from one state to another: types that meet P, none of which was remembered, and all of
-  -- which are.
+  -- What the hook had taken apart from one state to another: types that meet P, none of which was remembered, and all
+  -- of which are.
   pub record Takes (P : Tree Depth → Type 0) (s s' : Standing (State M ⊤)) : Type 0 where
     pub rule : s'.state.rule ≡ m
     pub types : List (Tree Depth)

@@ -5,13 +5,20 @@ use Rattle.std.specs.Prelude.{⊤}
 use Rattle.tt_kinds.specs.Tree.{Depth, Tree, Forest}
 use Rattle.tt_kinds.specs.Shape.{Shape, fill}
 use Rattle.tt_interner.specs.Rows.{Row, meaning}
-use Rattle.tt_fold.specs.Walk.{Errors, Wanted, IsTerm, is_type_tree, Answer, replace, keep, descend, Walks, Descends, WalksInside, WalksAll, at_region, replaced, kept, descended, passed, rebuilt, at_node, at_binder, in_term, in_param, in_bound, done, next, Fails, DescentFails, InsideFails, FailsAll, region_failed, term_failed, descent_failed, passed_failed, enter_failed, under_failed, leave_failed, node_failed, node_not_built, clause_lost, stopped, inside_failed, not_built, after_failed, in_term_failed, here as fails_here, later, no_clause}
+use Rattle.tt_fold.specs.Walk.{Errors, Wanted, IsTerm, is_type_tree, Answer, replace, keep, descend, Walks, Descends}
+use Rattle.tt_fold.specs.Walk.{WalksInside, WalksAll, at_region, replaced, kept, descended, passed, rebuilt, at_node}
+use Rattle.tt_fold.specs.Walk.{at_binder, in_term, in_param, in_bound, done, next, Fails, DescentFails, InsideFails}
+use Rattle.tt_fold.specs.Walk.{FailsAll, region_failed, term_failed, descent_failed, passed_failed, enter_failed}
+use Rattle.tt_fold.specs.Walk.{under_failed, leave_failed, node_failed, node_not_built, clause_lost, stopped}
+use Rattle.tt_fold.specs.Walk.{inside_failed, not_built, after_failed, in_term_failed, here as fails_here, later}
+use Rattle.tt_fold.specs.Walk.{no_clause}
 use Rattle.tt_fold.specs.Counts.{Standing}
 use Rattle.tt_fold.specs.Steps.{tree_by}
 use Rattle.tt_fold.specs.Places.{IsIn}
 use Rattle.tt_fold.specs.Remember.{Memo, State}
 use Rattle.tt_fold.specs.Types.{TypeHooks}
-use Rattle.tt_fold.specs.TypesOnce.{counted, IsSteady, IsMeaning, noted_with, steadily, OnType, recalled, answered, Noted, recalling}
+use Rattle.tt_fold.specs.TypesOnce.{counted, IsSteady, IsMeaning, noted_with, steadily, OnType, recalled, answered}
+use Rattle.tt_fold.specs.TypesOnce.{Noted, recalling}
 
 -- the state of a folder means the same after each answer
 abbrev pub Stays : {M E S : Type 0} → (List Row → S → M) → TypeHooks (Standing M) E → Type 0

@@ -1,5 +1,6 @@
 -- What a folder of types that remembers answers, and what it notes.
-use Rattle.std.proofs.Common.{◌≡◌, ◌⊎◌, inl, inr, List, [], ◌∷◌, Result, Ok, Err, MatchResult, true, false, refl, sym, ap, ◌∙◌}
+use Rattle.std.proofs.Common.{◌≡◌, ◌⊎◌, inl, inr, List, [], ◌∷◌, Result, Ok, Err, MatchResult, true, refl, sym}
+use Rattle.std.proofs.Common.{ap, ◌∙◌}
 use Rattle.std.proofs.lemmas.Bool.{cases_Bool, true≢false}
 use Rattle.std.specs.Prelude.{⊤, IfErr, IfOk}
 use Rattle.tt_index.specs.declared.refusal.Refusal.{Refusal}

@@ -9,7 +9,9 @@ use Rattle.tt_kinds.specs.declared.region_kind.RegionKind.{RegionKind}
 use Rattle.tt_interner.specs.Rows.{Row}
 use Rattle.tt_interner.specs.Stored.{Terms, Extends}
 use Rattle.tt_interner.proofs.Growth.{Extends-trans, IsPart-grows, fill-grows}
-use Rattle.tt_fold.specs.Walk.{Errors, Hooks, Walks, at_region, at_binder, Fails, region_failed, enter_failed, under_failed, leave_failed, WalksInside, InsideFails, SuperWalks, super_term, super_binder, SuperFails, super_term_failed, super_binder_failed}
+use Rattle.tt_fold.specs.Walk.{Errors, Hooks, Walks, at_region, at_binder, Fails, region_failed, enter_failed}
+use Rattle.tt_fold.specs.Walk.{under_failed, leave_failed, WalksInside, InsideFails, SuperWalks, super_term}
+use Rattle.tt_fold.specs.Walk.{super_binder, SuperFails, super_term_failed, super_binder_failed}
 use Rattle.tt_fold.specs.Counts.{Standing, stands}
 use Rattle.tt_fold.specs.Steps.{Folds, IsPartOf, tree_in, IsPartBy, tree_by, HasVars, vars_in}
 use Rattle.tt_fold.specs.Parts.{node_tree, IsNodeFor}

@@ -4,11 +4,13 @@ use Rattle.tt_kinds.specs.Label.{Sort, Label}
 use Rattle.tt_kinds.specs.Tree as tree
 use Rattle.tt_kinds.specs.Tree.{Depth, Tree, Forest}
 use Rattle.tt_kinds.specs.Shape.{fill}
-use Rattle.tt_kinds.specs.Kinds.{Form, param, bound, plain, under, form_parts, form_binder, form_shape, kind_form, kind_sort, kind_shape}
+use Rattle.tt_kinds.specs.Kinds.{Form, param, bound, plain, under, form_parts, form_binder, form_shape, kind_form}
+use Rattle.tt_kinds.specs.Kinds.{kind_sort, kind_shape}
 use Rattle.tt_kinds.specs.declared.parts.Child.TheVariants as child
 use Rattle.tt_kinds.specs.declared.parts.Kind.{Kind}
 use Rattle.tt_interner.specs.Rows.{Row}
-use Rattle.tt_fold.specs.Walk.{Hooks, Errors, Wanted, HasUnwanted, Walks, WalksAll, done, next, FailsAll, here, later, stopped, no_clause, WalksInside, in_term, in_param, in_bound}
+use Rattle.tt_fold.specs.Walk.{Hooks, Errors, Wanted, HasUnwanted, Walks, WalksAll, done, next, FailsAll, here, later}
+use Rattle.tt_fold.specs.Walk.{stopped, no_clause, WalksInside, in_term, in_param, in_bound}
 use Rattle.tt_fold.specs.Steps.{tree_in}
 use Rattle.tt_fold.specs.Parts.{IsLeaf}
 use Rattle.tt_fold.specs.Stack.{joined}

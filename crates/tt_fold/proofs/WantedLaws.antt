@@ -9,7 +9,8 @@ use Rattle.tt_kinds.specs.declared.parts.Child.{Child}
 use Rattle.tt_kinds.specs.declared.parts.Child.TheVariants as child
 use Rattle.tt_interner.specs.Rows.{Row}
 use Rattle.tt_interner.specs.Stored.{Terms, IsNoClauseList, IsUnbuilt}
-use Rattle.tt_fold.specs.Walk.{Hooks, Errors, WalksAll, done, next, Wanted, any_trees, clause_trees, wanted_in, HasUnwanted, FailsAll, here, no_clause, ChildFails, child_failed}
+use Rattle.tt_fold.specs.Walk.{Hooks, Errors, WalksAll, done, next, Wanted, any_trees, clause_trees, wanted_in}
+use Rattle.tt_fold.specs.Walk.{HasUnwanted, FailsAll, here, no_clause, ChildFails, child_failed}
 use Rattle.tt_fold.specs.Steps.{refusals_of}
 use Rattle.tt_fold.specs.Parts.{child_trees}
 use Rattle.tt_fold.specs.Stack.{joined}

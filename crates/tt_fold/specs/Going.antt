@@ -1,5 +1,6 @@
 -- What holds at each turn of the walk over stored terms.
-use Rattle.std.specs.Prelude.{◌≡◌, ◌<◌, ◌⊎◌, ◌+◌, ◌-◌, ◌^◌, ℕ, suc, Option, Some, None, [], ◌∷◌, ◌++◌, length, drop, slice_get, All, ⊤}
+use Rattle.std.specs.Prelude.{◌≡◌, ◌<◌, ◌⊎◌, ◌+◌, ◌-◌, ◌^◌, ℕ, suc, Option, Some, None, [], ◌∷◌, ◌++◌, length, drop}
+use Rattle.std.specs.Prelude.{slice_get, All, ⊤}
 use Rattle.std.specs.Prelude.{List as Listed}
 use Rattle.tt_index.specs.declared.refusal.Refusal.{Refusal}
 use Rattle.tt_index.specs.declared.refusal.Refusal.TheVariants.{Memory, NotAClause}
@@ -24,7 +25,8 @@ use Rattle.tt_fold.specs.Counts.{Standing, stands}
 use Rattle.tt_fold.specs.Steps.{errors_of, vars_in}
 use Rattle.tt_fold.specs.Parts.{ArePartsOf, child_trees, children_trees, IsChildFor, IsInner}
 use Rattle.tt_fold.specs.Items.{child_tree, child_list, child_node, IsWhole}
-use Rattle.tt_fold.specs.Stack.{Outline, plain, under, items, whole, binder_of, wanted_by, TakesAny, Asks, Opens, Begins, Rebuilds, Rests, RestFails, Context, Proceeds, Halts}
+use Rattle.tt_fold.specs.Stack.{Outline, plain, under, items, whole, binder_of, wanted_by, TakesAny, Asks, Opens}
+use Rattle.tt_fold.specs.Stack.{Begins, Rebuilds, Rests, RestFails, Context, Proceeds, Halts}
 use Rattle.tt_fold.specs.declared.stack.Begun.{Begun}
 use Rattle.tt_fold.specs.declared.stack.Begun.TheVariants as begun
 use Rattle.tt_fold.specs.declared.stack.Frame.{Frame}
@@ -37,7 +39,8 @@ form_outline rows (kinds.param i name) = plain (text_label [])
 form_outline rows (kinds.bound d e) = plain (text_label [])
 form_outline rows (kinds.plain l p) = plain (rename_label (name_of (meaning rows)) l)
 form_outline rows (kinds.under l vars m p) =
-    under (rename_label (name_of (meaning rows)) l) (vars_in rows vars) (rename_label (name_of (meaning rows)) (record_label m))
+    under (rename_label (name_of (meaning rows)) l) (vars_in rows vars)
+        (rename_label (name_of (meaning rows)) (record_label m))
 
 -- the outline of a term or a list, by the list that it is or the term
 abbrev pub outline_by : Listed Row → Node → Option List → Outline
@@ -215,23 +218,29 @@ module _ {M E : Type 0} (H : Hooks M E) where
 
   -- the contents of the term were begun, or there are none
   abbrev pub IsOpen : Tree Depth → Child → Listed Row → Option Frame → M → M → Type 0
-  IsOpen t item rows (Some f) s s' = IsOpened rows item f × TakesAny (outline_of rows item) × Opens H (binder_of (outline_of rows item)) s s'
+  IsOpen t item rows (Some f) s s' = IsOpened rows item f × TakesAny (outline_of rows item)
+      × Opens H (binder_of (outline_of rows item)) s s'
   IsOpen t item rows None s s' = WalksInside H s t t s'
 
   -- the child came to another, or its children are next
   abbrev pub IsBegun : Forest Depth → Tree Depth → Child → Listed Row → Begun → M → M → Type 0
   IsBegun ts t item rows (begun.Done y) s s' = IsChildFor item rows y × WalksAll H s ts (child_trees rows y) s'
-  IsBegun ts t item rows (begun.Inside f) s s' = IsOpened rows item f × Begins H t (outline_of rows item) (left_of rows f) s s'
+  IsBegun ts t item rows (begun.Inside f) s s' = IsOpened rows item f
+      × Begins H t (outline_of rows item) (left_of rows f) s s'
 
   -- the frame's term or list is built of the results
   abbrev pub IsRebuilt : Listed Row → Frame → Listed Child → Listed Row → Child → M → M → Type 0
   IsRebuilt rows0 f results rows y s s' =
-      IsChildFor f.item rows y × Rebuilds H (outline_of rows0 f.item) (children_trees rows0 results) s (child_tree rows y) s'
+      IsChildFor f.item rows y × Rebuilds H (outline_of rows0 f.item) (children_trees rows0 results) s
+          (child_tree rows y) s'
 
--- The walk of the root's children, begun among the terms0 and in the state s0, has come to the terms and the state s, to the
--- innermost frame, the frames around it and the values of them all. Whatever is left to do makes the walk of the whole.
-pub record Going {M E S : Type 0} (owned : Listed Row → S → Type 0) (means : Listed Row → S → M) (H : Hooks (Standing M) E) (gives : Refusal → E → Type 0)
-    (terms0 : Terms) (s0 : S) (first : Frame) (terms : Terms) (s : S) (frame : Frame) (frames : Listed Frame) (values : Listed Child) : Type 0 where
+-- The walk of the root's children, begun among the terms0 and in the state s0, has come to the terms and the state s,
+-- to the innermost frame, the frames around it and the values of them all. Whatever is left to do makes the walk of the
+-- whole.
+pub record Going {M E S : Type 0} (owned : Listed Row → S → Type 0) (means : Listed Row → S → M)
+    (H : Hooks (Standing M) E) (gives : Refusal → E → Type 0)
+    (terms0 : Terms) (s0 : S) (first : Frame) (terms : Terms) (s : S) (frame : Frame) (frames : Listed Frame)
+    (values : Listed Child) : Type 0 where
   pub below : Listed Part
   pub results : Listed Child
   pub frames_are : frames ≡ frames_of below
@@ -242,9 +251,14 @@ pub record Going {M E S : Type 0} (owned : Listed Row → S → Type 0) (means :
   pub counted : length results ≡ frame.next
   pub below_are : AreBelow terms.rows first.item frame.item below
   pub ends : (u : Tree Depth) (s' : Standing M)
-      → Proceeds H (child_tree terms.rows frame.item) (outline_of terms.rows frame.item) (children_trees terms.rows results) (left_of terms.rows frame) (contexts terms.rows below) (stands means terms s) u s'
+      → Proceeds H (child_tree terms.rows frame.item) (outline_of terms.rows frame.item)
+      (children_trees terms.rows results) (left_of terms.rows frame) (contexts terms.rows below)
+      (stands means terms s) u s'
       → Rests H (outline_of terms0.rows first.item) (left_of terms0.rows first) (stands means terms0 s0) u s'
   -- the terms at the end say what an error tells
   pub fails : (final : Terms) (e : E) (s' : Standing M)
-      → Halts H (errors_of gives final) (child_tree terms.rows frame.item) (outline_of terms.rows frame.item) (children_trees terms.rows results) (left_of terms.rows frame) (contexts terms.rows below) (stands means terms s) e s'
-      → RestFails H (errors_of gives final) (outline_of terms0.rows first.item) (left_of terms0.rows first) (stands means terms0 s0) e s'
+      → Halts H (errors_of gives final) (child_tree terms.rows frame.item) (outline_of terms.rows frame.item)
+      (children_trees terms.rows results) (left_of terms.rows frame) (contexts terms.rows below)
+      (stands means terms s) e s'
+      → RestFails H (errors_of gives final) (outline_of terms0.rows first.item) (left_of terms0.rows first)
+      (stands means terms0 s0) e s'

@@ -16,10 +16,13 @@ use Rattle.tt_interner.proofs.Growth.{sizes-grow}
 use Rattle.tt_fold.specs.Growth.{HoldsNoSymbol, AddsTerms}
 
 -- a term or a list that was stored, or was there
-pub stored-adds : {old new : List Row} {r : Row} {n : ℕ} → is_in Symbols r ≡ false → Stores old new r n → AddsTerms old new
+pub stored-adds : {old new : List Row} {r : Row} {n : ℕ} → is_in Symbols r ≡ false → Stores old new r n
+    → AddsTerms old new
 stored-adds {old} {new} {r} other h = elim h.grown [
-  | inl same ↦ rw same (record { grows = record { more = []; kept = refl; in_range = sizes-grow [] old old refl }; no_symbol = tt })
-  | inr added ↦ record { grows = record { more = r ∷ []; kept = added.0; in_range = sizes-grow (r ∷ []) old new added.0 }; no_symbol = (other, tt) }
+  | inl same ↦ rw same (record { grows = record { more = []; kept = refl; in_range = sizes-grow [] old old refl };
+      no_symbol = tt })
+  | inr added ↦ record { grows = record { more = r ∷ []; kept = added.0;
+      in_range = sizes-grow (r ∷ []) old new added.0 }; no_symbol = (other, tt) }
 ]
 
 pub kind-no_symbol : (k : Kind) → is_in Symbols (kind_row k) ≡ false
@@ -38,11 +41,14 @@ items-no_symbol sort.Existentials items = refl
 items-no_symbol sort.Clauses items = refl
 
 -- a row of another table keeps the meaning of a number of this one
-meaning-other : (r : Row) (rows : List Row) (t : Table) (n : ℕ) → is_in t r ≡ false → meaning (r ∷ rows) t n ≡ meaning rows t n
+meaning-other : (r : Row) (rows : List Row) (t : Table) (n : ℕ) → is_in t r ≡ false
+    → meaning (r ∷ rows) t n ≡ meaning rows t n
 unfolding meaning
-meaning-other r rows t n e = ap (λ b. cond (b && eqb n (length (table t rows))) (fill (meaning rows) (row_shape r)) (meaning rows t n)) e
+meaning-other r rows t n e = ap (λ b. cond (b && eqb n (length (table t rows))) (fill (meaning rows) (row_shape r))
+    (meaning rows t n)) e
 
-symbols-more : (more old : List Row) → HoldsNoSymbol more → (n : ℕ) → meaning (more ++ old) Symbols n ≡ meaning old Symbols n
+symbols-more : (more old : List Row) → HoldsNoSymbol more → (n : ℕ)
+    → meaning (more ++ old) Symbols n ≡ meaning old Symbols n
 symbols-more [] old h n = refl
 symbols-more (r ∷ more) old h n = meaning-other r (more ++ old) Symbols n h.0 ∙ symbols-more more old h.1 n
 
@@ -52,7 +58,8 @@ count-more (r ∷ more) old h = ap length (table-other r (more ++ old) Symbols h
 
 -- each symbol keeps its text
 pub name-stays : (old new : List Row) → AddsTerms old new → (n : ℕ) → name_of (meaning new) n ≡ name_of (meaning old) n
-name-stays old new a n = ap (λ rows. name_of (meaning rows) n) a.grows.kept ∙ ap text_of (symbols-more a.grows.more old a.no_symbol n)
+name-stays old new a n = ap (λ rows. name_of (meaning rows) n) a.grows.kept ∙ ap text_of
+    (symbols-more a.grows.more old a.no_symbol n)
 
 -- the number of symbols stays
 pub symbols-stay : (old new : List Row) → AddsTerms old new → size new Symbols ≡ size old Symbols

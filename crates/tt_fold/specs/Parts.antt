@@ -118,12 +118,15 @@ IsInner (form.bound d e) = ⊥
 IsInner (form.plain l p) = HoldsAny l
 IsInner (form.under l vars m p) = HoldsAny l
 
--- some values of the list were folded, from the terms and the state s to terms' and s', and gave the others; the rest is left
-pub record FoldsValues {M E S T : Type 0} (shape : T → Shape) (owned : Listed Row → S → Type 0) (means : Listed Row → S → M) (H : Hooks (Standing M) E)
+-- some values of the list were folded, from the terms and the state s to terms' and s', and gave the others; the rest
+-- is left
+pub record FoldsValues {M E S T : Type 0} (shape : T → Shape) (owned : Listed Row → S → Type 0)
+    (means : Listed Row → S → M) (H : Hooks (Standing M) E)
     (terms : Terms) (s : S) (list values rest : Listed T) (terms' : Terms) (s' : S) : Type 0 where
   pub front : Listed T
   pub split : list ≡ front ++ rest
   pub extends : Extends terms terms'
   pub is_owned : owned terms'.rows s'
   pub are_values : ArePartsOf terms'.rows (item_shapes shape values)
-  pub walked : WalksAll H (stands means terms s) (trees_in terms.rows (item_shapes shape front)) (trees_in terms'.rows (item_shapes shape values)) (stands means terms' s')
+  pub walked : WalksAll H (stands means terms s) (trees_in terms.rows (item_shapes shape front))
+      (trees_in terms'.rows (item_shapes shape values)) (stands means terms' s')

@@ -13,7 +13,8 @@ abbrev pub AreDistinct : {A : Type 0} → List A → Type 0
 AreDistinct [] = ⊤
 AreDistinct (x ∷ xs) = (IsIn x xs → ⊥) × AreDistinct xs
 
--- a count grew by no more than the distinct ones among the places: these are some of them, each once, and as many at least
+-- a count grew by no more than the distinct ones among the places: these are some of them, each once, and as many at
+-- least
 pub record CountsPairs (among : List TypeAt) (before after : ℕ) : Type 0 where
   pub pairs : List TypeAt
   pub distinct : AreDistinct pairs

@@ -13,7 +13,8 @@ use Rattle.tt_kinds.specs.Kinds.{region_shape}
 use Rattle.tt_kinds.specs.declared.bound.BoundVarIndexKind.{BoundVarIndexKind}
 use Rattle.tt_kinds.specs.declared.bound.BoundVarIndexKind.TheVariants.{Bound, Canonical}
 use Rattle.tt_kinds.specs.declared.region_kind.RegionKind.{RegionKind}
-use Rattle.tt_kinds.specs.declared.region_kind.RegionKind.TheVariants.{ReEarlyParam, ReBound, ReLateParam, ReStatic, ReVar, RePlaceholder, ReErased, ReError}
+use Rattle.tt_kinds.specs.declared.region_kind.RegionKind.TheVariants.{ReEarlyParam, ReBound, ReLateParam, ReStatic}
+use Rattle.tt_kinds.specs.declared.region_kind.RegionKind.TheVariants.{ReVar, RePlaceholder, ReErased, ReError}
 use Rattle.tt_interner.specs.Rows.{Row, meaning}
 use Rattle.tt_interner.specs.Stored.{Counters, Terms, IsNoClauseList, IsUnbuilt}
 use Rattle.tt_fold.specs.Walk.{Hooks, keep, descend, Walks, Fails}
@@ -77,12 +78,14 @@ deeper s = record { closure = s.closure; under = suc s.under; names = s.names }
 abbrev pub higher : {F : Type 0} → Asking F → Asking F
 higher s = record { closure = s.closure; under = s.under - 1; names = s.names }
 
--- Why a fold of the regions in a tree ended after these answers: the memory for something new was refused, a term or a list
--- that has the answers in it, whatever the next ones are, is new and its table is full, or binders are nested too deep.
+-- Why a fold of the regions in a tree ended after these answers: the memory for something new was refused, a term or a
+-- list that has the answers in it, whatever the next ones are, is new and its table is full, or binders are nested too
+-- deep.
 abbrev pub IsPlacingRefusal : Terms → Tree Depth → List (Tree Depth) → Refusal → Type 0
 IsPlacingRefusal terms t answers Memory = ⊤
 IsPlacingRefusal terms t answers TableFull =
-    (u : Tree Depth) × ((more : List (Tree Depth)) → StandsIn u (placed 0 t (answers ++ more))) × IsUnbuilt terms u TableFull
+    (u : Tree Depth) × ((more : List (Tree Depth)) → StandsIn u (placed 0 t (answers ++ more)))
+    × IsUnbuilt terms u TableFull
 IsPlacingRefusal terms t answers GreatestIndex = BindersFit 0 t → ⊥
 IsPlacingRefusal terms t answers _ = ⊥
 
@@ -102,17 +105,18 @@ module _ {F : Type 0} (step : F → RegionKind → ℕ → RegionKind → F → 
   pub record AnswersRegions (symbols : ℕ) (f : F) : Type 0 where
     pub at : (calls : List (RegionKind × ℕ)) → AnswersEach symbols f calls
 
-  -- the closure f was called at exactly the regions met in t, in order, which left it as last, and the answers are in their
-  -- places in u
+  -- the closure f was called at exactly the regions met in t, in order, which left it as last, and the answers are in
+  -- their places in u
   pub record Places (names : ℕ → Name) (f : F) (t u : Tree Depth) (last : F) : Type 0 where
     pub calls : List RegionCall
     pub made : AreMade f calls last
     pub are_met : asked names calls ≡ met 0 t
     pub are_placed : u ≡ placed 0 t (answered names calls)
 
-  -- the closure f was called at exactly the first of the regions met in t, in order, which left it as last, and then the fold
-  -- was refused
-  pub record PlacesSome (names : ℕ → Name) (terms : Terms) (f : F) (t : Tree Depth) (e : Refusal) (last : F) : Type 0 where
+  -- the closure f was called at exactly the first of the regions met in t, in order, which left it as last, and then
+  -- the fold was refused
+  pub record PlacesSome (names : ℕ → Name) (terms : Terms) (f : F) (t : Tree Depth) (e : Refusal) (last : F)
+      : Type 0 where
     pub calls : List RegionCall
     pub rest : List Met
     pub made : AreMade f calls last
@@ -154,8 +158,11 @@ module _ {F : Type 0} (step : F → RegionKind → ℕ → RegionKind → F → 
   RegionFoldersPlace = (names : ℕ → Name) (f : F) (counters : Counters) (t u : Tree Depth) (s' : Standing (Asking F)) →
       Walks (keeps_counters region_hooks) (just_made names f counters) t u s' → Places names f t u s'.state.closure
 
-  -- if it ends early, in a tree whose lists of clauses hold clauses alone, it called its closure at exactly the first of them
+  -- if it ends early, in a tree whose lists of clauses hold clauses alone, it called its closure at exactly the first
+  -- of them
   abbrev pub RegionFoldersPlaceSome : Type 0
-  RegionFoldersPlaceSome = (names : ℕ → Name) (f : F) (counters : Counters) (terms : Terms) (t : Tree Depth) (e : Refusal) (s' : Standing (Asking F)) →
+  RegionFoldersPlaceSome = (names : ℕ → Name) (f : F) (counters : Counters) (terms : Terms) (t : Tree Depth)
+      (e : Refusal) (s' : Standing (Asking F)) →
       ((u : Tree Depth) → StandsIn u t → IsNoClauseList u → ⊥) →
-      Fails (keeps_counters region_hooks) (refusals_of terms) (just_made names f counters) t e s' → PlacesSome names terms f t e s'.state.closure
+      Fails (keeps_counters region_hooks) (refusals_of terms) (just_made names f counters) t e s'
+          → PlacesSome names terms f t e s'.state.closure

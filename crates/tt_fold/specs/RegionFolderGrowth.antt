@@ -17,6 +17,7 @@ names-stay old new f k a =
     let same : names_in new ≡ names_in old = fun_ext (name-stays old new a) in
     ap (λ names. record { closure = f; under = k; names = names }) same
 
-pub answers-stay : {F : Type 0} {step : F → RegionKind → ℕ → RegionKind → F → Type 0} {f : F} (old new : List Row) → AddsTerms old new
+pub answers-stay : {F : Type 0} {step : F → RegionKind → ℕ → RegionKind → F → Type 0} {f : F} (old new : List Row)
+    → AddsTerms old new
     → AnswersRegions step (size old Symbols) f → AnswersRegions step (size new Symbols) f
 answers-stay {step} {f} old new a h = subst (λ n. AnswersRegions step n f) (sym (symbols-stay old new a)) h

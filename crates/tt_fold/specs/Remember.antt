@@ -87,7 +87,8 @@ pub record Task (R K : Type 0) : Type 1 where
   -- why a region is refused
   pub RegionFails : (Tree Depth → Refusal → Type 0) → R → ℕ → Tree Depth → Refusal → Type 0
   -- why no answer is given at a term, and the state afterwards
-  pub TermFails : (Tree Depth → Refusal → Type 0) → Standing (State R K) → Tree Depth → Refusal → Standing (State R K) → Type 0
+  pub TermFails : (Tree Depth → Refusal → Type 0) → Standing (State R K) → Tree Depth → Refusal → Standing (State R K)
+      → Type 0
   -- why a tree under a number of binders is refused even if all can be built and all indices fit
   pub IsCause : R → ℕ → Tree Depth → Refusal → Type 0
   -- the counts after one descent into a type, the count of these, and how counts may change
@@ -124,23 +125,28 @@ module _ {R K : Type 0} (T : Task R K) where
   -- the answer of the hook before a term's children
   pub data OnTerm : Standing (State R K) → Tree Depth → Answer → Standing (State R K) → Type 0 where
     -- an answer is given at once
-    given : {s : Standing (State R K)} {t r : Tree Depth} {kept : K} {c : Counters} → T.Gives s t r kept c → OnTerm s t (replace r) (spent s kept c)
+    given : {s : Standing (State R K)} {t r : Tree Depth} {kept : K} {c : Counters} → T.Gives s t r kept c
+        → OnTerm s t (replace r) (spent s kept c)
     -- the result of the type under as many binders is remembered
-    remembered : {s : Standing (State R K)} {t r : Tree Depth} → IsIn (memo s.state t r) s.state.memory → OnTerm s t (replace r) s
+    remembered : {s : Standing (State R K)} {t r : Tree Depth} → IsIn (memo s.state t r) s.state.memory
+        → OnTerm s t (replace r) s
     -- the rule leaves the term as it is
     left_alone : {s : Standing (State R K)} {t : Tree Depth} → Done s.state.rule s.state.under t t → OnTerm s t keep s
     -- a type that isn't remembered is taken apart, and counted
-    taken_apart : {s : Standing (State R K)} {t : Tree Depth} → IsTaken s.state.rule s.state.under t → (IsIn (here s.state t) (places s.state.memory) → ⊥)
+    taken_apart : {s : Standing (State R K)} {t : Tree Depth} → IsTaken s.state.rule s.state.under t
+        → (IsIn (here s.state t) (places s.state.memory) → ⊥)
         → OnTerm s t descend (one_more s)
     -- another term is entered
-    gone_into : {s : Standing (State R K)} {t : Tree Depth} → is_type_tree t ≡ false → T.IsEntered s.state.rule s.state.under t → OnTerm s t descend s
+    gone_into : {s : Standing (State R K)} {t : Tree Depth} → is_type_tree t ≡ false
+        → T.IsEntered s.state.rule s.state.under t → OnTerm s t descend s
 
   -- the hook after a term's children: it returns the term's result
   pub data AfterTerm : Standing (State R K) → Tree Depth → Tree Depth → Tree Depth → Standing (State R K) → Type 0 where
     -- the result of a type is remembered
     noted : {s : Standing (State R K)} {t r : Tree Depth} → is_type_tree t ≡ true → AfterTerm s t r r (noting s t r)
     -- the type was remembered before: its earlier result may be replaced
-    noted_again : {s : Standing (State R K)} {t r : Tree Depth} {memory : List Memo} → is_type_tree t ≡ true → IsIn (here s.state t) (places s.state.memory)
+    noted_again : {s : Standing (State R K)} {t r : Tree Depth} {memory : List Memo} → is_type_tree t ≡ true
+        → IsIn (here s.state t) (places s.state.memory)
         → ((m : Memo) → IsIn m memory → (m ≡ memo s.state t r) ⊎ IsIn m s.state.memory)
         → AfterTerm s t r r (record { state = with_memory s.state memory; counters = s.counters })
     -- another term isn't remembered

@@ -1,5 +1,6 @@
 -- The shifter's task, and the promise of a shift.
-use Rattle.std.specs.Prelude.{◌≡◌, [], ℕ, ◌+◌, ◌≤◌, ◌<◌, ◌⊎◌, List, Option, Some, None, nat_lt, if◌then◌else◌, length, ⊤}
+use Rattle.std.specs.Prelude.{◌≡◌, [], ℕ, ◌+◌, ◌≤◌, ◌<◌, ◌⊎◌, List, Option, Some, None, nat_lt, if◌then◌else◌, length}
+use Rattle.std.specs.Prelude.{⊤}
 use Rattle.tt_index.specs.Greatest.{greatest}
 use Rattle.tt_index.specs.declared.refusal.Refusal.{Refusal}
 use Rattle.tt_index.specs.declared.refusal.Refusal.TheVariants.{Memory, TableFull, GreatestIndex}
@@ -19,7 +20,8 @@ use Rattle.tt_kinds.specs.declared.ty_kind.TyKind.TheVariants as ty
 use Rattle.tt_kinds.specs.declared.const_kind.ConstKind.{ConstKind}
 use Rattle.tt_kinds.specs.declared.const_kind.ConstKind.TheVariants as const
 use Rattle.tt_kinds.specs.declared.region_kind.RegionKind.{RegionKind}
-use Rattle.tt_kinds.specs.declared.region_kind.RegionKind.TheVariants.{ReEarlyParam, ReBound, ReLateParam, ReStatic, ReVar, RePlaceholder, ReErased, ReError}
+use Rattle.tt_kinds.specs.declared.region_kind.RegionKind.TheVariants.{ReEarlyParam, ReBound, ReLateParam, ReStatic}
+use Rattle.tt_kinds.specs.declared.region_kind.RegionKind.TheVariants.{ReVar, RePlaceholder, ReErased, ReError}
 use Rattle.tt_kinds.specs.Plain.{shifted, shift_tree}
 use Rattle.tt_kinds.specs.Count.{moving_types}
 use Rattle.tt_kinds.specs.Handle.{Ty}
@@ -133,7 +135,8 @@ shifting = record {
   IsTodo = λ n k t. k < outer_binder t;
   Gives = λ s t r kept c. IsVariable t × (r ≡ moved_tree (shift_of s.state) t) × (c ≡ s.counters);
   RegionFails = λ unbuilt n k t e. IsTooGreat e (IsTooFar (record { amount = n; under = k }) t);
-  TermFails = λ unbuilt s t e s'. (s' ≡ s) × (IsTooGreat e (IsTooFar (shift_of s.state) t) ⊎ unbuilt (moved_tree (shift_of s.state) t) e);
+  TermFails = λ unbuilt s t e s'. (s' ≡ s) × (IsTooGreat e (IsTooFar (shift_of s.state) t)
+      ⊎ unbuilt (moved_tree (shift_of s.state) t) e);
   IsCause = λ n k t e. ⊥;
   count = count_shift;
   amount = λ c. c.shift_descents;
@@ -144,8 +147,8 @@ shifting = record {
 abbrev pub moving_positions : Tree Depth → ℕ
 moving_positions t = length (moving_types 0 t)
 
--- Why a shift of the tree by n ends with a refusal: the memory for a new term was refused, a term or a list of the moved tree
--- would be a new row of a table that is full, or the moved reading does not fit.
+-- Why a shift of the tree by n ends with a refusal: the memory for a new term was refused, a term or a list of the
+-- moved tree would be a new row of a table that is full, or the moved reading does not fit.
 abbrev pub IsShiftRefusal : Terms → ℕ → Tree Depth → Refusal → Type 0
 IsShiftRefusal terms n t Memory = ⊤
 IsShiftRefusal terms n t TableFull = IsPartUnbuilt terms (shift_tree 0 n t) TableFull

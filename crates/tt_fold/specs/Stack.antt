@@ -5,7 +5,8 @@ use Rattle.tt_kinds.specs.Tree.{Depth, Tree, term, node, binder, Forest, none, a
 use Rattle.tt_kinds.specs.Kinds.{items_tree}
 use Rattle.tt_kinds.specs.declared.parts.ListSort.{ListSort}
 use Rattle.tt_visit.specs.Root.{root, a_part}
-use Rattle.tt_fold.specs.Walk.{IsTerm, IsPassed, Wanted, any_trees, wanted_in, wanted_of, HasUnwanted, LosesClause, Hooks, Errors, descend, WalksAll, FailsAll}
+use Rattle.tt_fold.specs.Walk.{IsTerm, IsPassed, Wanted, any_trees, wanted_in, wanted_of, HasUnwanted, LosesClause}
+use Rattle.tt_fold.specs.Walk.{Hooks, Errors, descend, WalksAll, FailsAll}
 
 -- the trees, one after another
 abbrev pub joined : Forest Depth → Forest Depth → Forest Depth
@@ -72,7 +73,8 @@ module _ {M E : Type 0} (H : Hooks M E) where
 
   -- the binder is left, and the tree is built of what came of its children
   pub data Rebuilds (o : Outline) : Forest Depth → M → Tree Depth → M → Type 0 where
-    rebuilds : {us : Forest Depth} {s s' : M} → (HasUnwanted (wanted_by o) us → ⊥) → Leaves (binder_of o) s s' → Rebuilds o us s (whole o us) s'
+    rebuilds : {us : Forest Depth} {s s' : M} → (HasUnwanted (wanted_by o) us → ⊥) → Leaves (binder_of o) s s'
+        → Rebuilds o us s (whole o us) s'
 
   -- a hook was asked after the tree's contents, if one is asked there
   pub data Finishes : Tree Depth → Tree Depth → M → Tree Depth → M → Type 0 where
@@ -90,17 +92,20 @@ module _ {M E : Type 0} (H : Hooks M E) where
 module _ {M E : Type 0} (H : Hooks M E) (errors : Errors E) where
   -- the hook before a binder's value failed
   pub data EnterFails : Option (List (VarKind Name)) → M → E → M → Type 0 where
-    enter_fails : {s s' : M} {vs : List (VarKind Name)} {e : E} → H.enter_fails errors.unbuilt s vs e s' → EnterFails (Some vs) s e s'
+    enter_fails : {s s' : M} {vs : List (VarKind Name)} {e : E} → H.enter_fails errors.unbuilt s vs e s'
+        → EnterFails (Some vs) s e s'
 
   -- the hook after it failed
   pub data LeaveFails : Option (List (VarKind Name)) → M → E → M → Type 0 where
-    leave_fails : {s s' : M} {vs : List (VarKind Name)} {e : E} → H.leave_fails errors.unbuilt s vs e s' → LeaveFails (Some vs) s e s'
+    leave_fails : {s s' : M} {vs : List (VarKind Name)} {e : E} → H.leave_fails errors.unbuilt s vs e s'
+        → LeaveFails (Some vs) s e s'
 
   -- the binder was not left, or the tree is not built
   pub data RebuildFails (o : Outline) : Forest Depth → M → E → M → Type 0 where
     not_left : {us : Forest Depth} {s s' : M} {e : E} → LeaveFails (binder_of o) s e s' → RebuildFails o us s e s'
     not_rebuilt : {us : Forest Depth} {s s' : M} {e : E}
-        → (HasUnwanted (wanted_by o) us → ⊥) → Leaves H (binder_of o) s s' → errors.unbuilt (whole o us) e → RebuildFails o us s e s'
+        → (HasUnwanted (wanted_by o) us → ⊥) → Leaves H (binder_of o) s s' → errors.unbuilt (whole o us) e
+        → RebuildFails o us s e s'
 
   -- the hook after the tree failed
   pub record FinishFails (t u : Tree Depth) (s : M) (e : E) (s' : M) : Type 0 where
@@ -109,8 +114,10 @@ module _ {M E : Type 0} (H : Hooks M E) (errors : Errors E) where
 
   -- a child was not walked, or the tree is not built
   pub data RestFails (o : Outline) : Forest Depth → M → E → M → Type 0 where
-    in_children : {ts : Forest Depth} {s s' : M} {e : E} → FailsAll H errors (wanted_by o) s ts e s' → RestFails o ts s e s'
-    in_whole : {ts us : Forest Depth} {s s1 s' : M} {e : E} → WalksAll H s ts us s1 → RebuildFails o us s1 e s' → RestFails o ts s e s'
+    in_children : {ts : Forest Depth} {s s' : M} {e : E} → FailsAll H errors (wanted_by o) s ts e s'
+        → RestFails o ts s e s'
+    in_whole : {ts us : Forest Depth} {s s1 s' : M} {e : E} → WalksAll H s ts us s1 → RebuildFails o us s1 e s'
+        → RestFails o ts s e s'
 
 -- a term or a list, the results of its first children, and the children that are left; one in between is being walked
 pub record Context : Type 0 where
@@ -124,12 +131,14 @@ abbrev pub with_result : Context → Tree Depth → Forest Depth
 with_result c u = joined c.done (also u none)
 
 module _ {M E : Type 0} (H : Hooks M E) where
-  -- From a state, with these results of a tree of the outline and these children left, and with these contexts around it, comes
-  -- a tree. At the outermost tree no hook is asked.
-  pub data Proceeds : Tree Depth → Outline → Forest Depth → Forest Depth → List Context → M → Tree Depth → M → Type 0 where
+  -- From a state, with these results of a tree of the outline and these children left, and with these contexts around
+  -- it, comes a tree. At the outermost tree no hook is asked.
+  pub data Proceeds : Tree Depth → Outline → Forest Depth → Forest Depth → List Context → M → Tree Depth → M
+      → Type 0 where
     last : {t r : Tree Depth} {o : Outline} {ds ts us : Forest Depth} {s s1 s' : M}
         → WalksAll H s ts us s1 → Rebuilds H o (joined ds us) s1 r s' → Proceeds t o ds ts [] s r s'
-    more : {t u v r : Tree Depth} {o : Outline} {ds ts us : Forest Depth} {c : Context} {cs : List Context} {s s1 s2 s3 s' : M}
+    more : {t u v r : Tree Depth} {o : Outline} {ds ts us : Forest Depth} {c : Context} {cs : List Context}
+        {s s1 s2 s3 s' : M}
         → WalksAll H s ts us s1 → Rebuilds H o (joined ds us) s1 u s2 → Finishes H t u s2 v s3
         → Proceeds c.before c.outline (with_result c v) c.left cs s3 r s' → Proceeds t o ds ts (c ∷ cs) s r s'
 
@@ -140,12 +149,16 @@ module _ {M E : Type 0} (H : Hooks M E) (errors : Errors E) where
         → FailsAll H errors (wanted_by o) s ts e s' → Halts t o ds ts cs s e s'
     in_rebuild : {t : Tree Depth} {o : Outline} {ds ts us : Forest Depth} {cs : List Context} {s s1 s' : M} {e : E}
         → WalksAll H s ts us s1 → RebuildFails H errors o (joined ds us) s1 e s' → Halts t o ds ts cs s e s'
-    in_finish : {t u : Tree Depth} {o : Outline} {ds ts us : Forest Depth} {c : Context} {cs : List Context} {s s1 s2 s' : M} {e : E}
-        → WalksAll H s ts us s1 → Rebuilds H o (joined ds us) s1 u s2 → FinishFails H errors t u s2 e s' → Halts t o ds ts (c ∷ cs) s e s'
-    not_wanted : {t u v : Tree Depth} {o : Outline} {ds ts us : Forest Depth} {c : Context} {cs : List Context} {s s1 s2 s' : M} {e : E}
+    in_finish : {t u : Tree Depth} {o : Outline} {ds ts us : Forest Depth} {c : Context} {cs : List Context}
+        {s s1 s2 s' : M} {e : E}
+        → WalksAll H s ts us s1 → Rebuilds H o (joined ds us) s1 u s2 → FinishFails H errors t u s2 e s'
+        → Halts t o ds ts (c ∷ cs) s e s'
+    not_wanted : {t u v : Tree Depth} {o : Outline} {ds ts us : Forest Depth} {c : Context} {cs : List Context}
+        {s s1 s2 s' : M} {e : E}
         → WalksAll H s ts us s1 → Rebuilds H o (joined ds us) s1 u s2 → Finishes H t u s2 v s'
         → HasUnwanted (wanted_by c.outline) (also v none) → errors.unwanted e → Halts t o ds ts (c ∷ cs) s e s'
-    above : {t u v : Tree Depth} {o : Outline} {ds ts us : Forest Depth} {c : Context} {cs : List Context} {s s1 s2 s3 s' : M} {e : E}
+    above : {t u v : Tree Depth} {o : Outline} {ds ts us : Forest Depth} {c : Context} {cs : List Context}
+        {s s1 s2 s3 s' : M} {e : E}
         → WalksAll H s ts us s1 → Rebuilds H o (joined ds us) s1 u s2 → Finishes H t u s2 v s3
         → (HasUnwanted (wanted_by c.outline) (also v none) → ⊥)
         → Halts c.before c.outline (with_result c v) c.left cs s3 e s' → Halts t o ds ts (c ∷ cs) s e s'

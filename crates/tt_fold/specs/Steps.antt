@@ -72,40 +72,49 @@ refusals_of terms = errors_of IsItself terms
 abbrev pub IsRefused : Terms → Tree Depth → Refusal → Type 0
 IsRefused terms = IsErrorOfUnbuilt IsItself terms
 
--- A hook took the terms to terms' and the folder's state s to s', and answered r. `gives` says which error a refusal gives.
+-- A hook took the terms to terms' and the folder's state s to s', and answered r. `gives` says which error a refusal
+-- gives.
 module _ {M E S : Type 0} (means : List Row → S → M) (H : Hooks (Standing M) E) (gives : Refusal → E → Type 0) where
   -- at a region
   abbrev pub AnswersRegion : Terms → S → RegionKind → Result RegionKind E → Terms → S → Type 0
   AnswersRegion terms s x r terms' s' = MatchResult r
       (λ y. IsPartOf terms'.rows (region_shape y)
-      × H.on_region (stands means terms s) (tree_in terms.rows (region_shape x)) (tree_in terms'.rows (region_shape y)) (stands means terms' s'))
-      (λ e. H.region_fails (IsErrorOfUnbuilt gives terms') (stands means terms s) (tree_in terms.rows (region_shape x)) e (stands means terms' s'))
+      × H.on_region (stands means terms s) (tree_in terms.rows (region_shape x)) (tree_in terms'.rows (region_shape y))
+      (stands means terms' s'))
+      (λ e. H.region_fails (IsErrorOfUnbuilt gives terms') (stands means terms s)
+      (tree_in terms.rows (region_shape x)) e (stands means terms' s'))
 
   -- at a term, before its contents
   abbrev pub AnswersTerm : {T : Type 0} → (T → Shape) → Terms → S → T → Result (Step T) E → Terms → S → Type 0
   AnswersTerm shape terms s x r terms' s' = MatchResult r
       (λ step. OwnsStep shape terms'.rows step
-      × H.on_term (stands means terms s) (tree_in terms.rows (shape x)) (answer_of shape terms'.rows step) (stands means terms' s'))
-      (λ e. H.term_fails (IsErrorOfUnbuilt gives terms') (stands means terms s) (tree_in terms.rows (shape x)) e (stands means terms' s'))
+      × H.on_term (stands means terms s) (tree_in terms.rows (shape x)) (answer_of shape terms'.rows step)
+      (stands means terms' s'))
+      (λ e. H.term_fails (IsErrorOfUnbuilt gives terms') (stands means terms s) (tree_in terms.rows (shape x)) e
+      (stands means terms' s'))
 
   -- at the term x, after its contents: z is x with its contents folded
   abbrev pub RebuildsTerm : {T : Type 0} → (T → Shape) → Terms → S → T → T → Result T E → Terms → S → Type 0
   RebuildsTerm shape terms s x z r terms' s' = MatchResult r
       (λ y. IsPartOf terms'.rows (shape y)
-      × H.after_term (stands means terms s) (tree_in terms.rows (shape x)) (tree_in terms.rows (shape z)) (tree_in terms'.rows (shape y)) (stands means terms' s'))
-      (λ e. H.after_fails (IsErrorOfUnbuilt gives terms') (stands means terms s) (tree_in terms.rows (shape x)) (tree_in terms.rows (shape z)) e (stands means terms' s'))
+      × H.after_term (stands means terms s) (tree_in terms.rows (shape x)) (tree_in terms.rows (shape z))
+      (tree_in terms'.rows (shape y)) (stands means terms' s'))
+      (λ e. H.after_fails (IsErrorOfUnbuilt gives terms') (stands means terms s) (tree_in terms.rows (shape x))
+      (tree_in terms.rows (shape z)) e (stands means terms' s'))
 
   -- before a binder's value
   abbrev pub EntersBinder : {U : Type 0} → Terms → S → BoundVarKinds → Result U E → Terms → S → Type 0
   EntersBinder terms s vars r terms' s' = MatchResult r
       (λ _. H.enter (stands means terms s) (vars_in terms.rows vars) (stands means terms' s'))
-      (λ e. H.enter_fails (IsErrorOfUnbuilt gives terms') (stands means terms s) (vars_in terms.rows vars) e (stands means terms' s'))
+      (λ e. H.enter_fails (IsErrorOfUnbuilt gives terms') (stands means terms s) (vars_in terms.rows vars) e
+      (stands means terms' s'))
 
   -- after a binder's value
   abbrev pub LeavesBinder : {U : Type 0} → Terms → S → BoundVarKinds → Result U E → Terms → S → Type 0
   LeavesBinder terms s vars r terms' s' = MatchResult r
       (λ _. H.leave (stands means terms s) (vars_in terms.rows vars) (stands means terms' s'))
-      (λ e. H.leave_fails (IsErrorOfUnbuilt gives terms') (stands means terms s) (vars_in terms.rows vars) e (stands means terms' s'))
+      (λ e. H.leave_fails (IsErrorOfUnbuilt gives terms') (stands means terms s) (vars_in terms.rows vars) e
+      (stands means terms' s'))
 
 -- A call took the terms to terms' and the folder's state s to s', and returned r: what it says of a
 -- result's value and of an error.
@@ -126,5 +135,6 @@ pub record Folds {M E S T X : Type 0} (owned : List Row → S → Type 0) (means
   pub extends : Extends terms terms'
   pub is_owned : owned terms'.rows s'
   pub outcome : MatchResult r
-      (λ y. owns terms'.rows y × walks (stands means terms s) (tree terms.rows x) (tree terms'.rows y) (stands means terms' s'))
+      (λ y. owns terms'.rows y × walks (stands means terms s) (tree terms.rows x) (tree terms'.rows y)
+      (stands means terms' s'))
       (λ e. fails (stands means terms s) (tree terms.rows x) e (stands means terms' s'))

@@ -18,11 +18,14 @@ IsAlone (stored t n) = table_root t ≡ hooked
 IsAlone _ = ⊥
 
 -- the walk ends at the tree: the hook there doesn't answer `descend`, and it touches nothing
-pub record EndsAt {M E : Type 0} (H : Hooks M E) (touches_nothing : Tree Depth → Type 0) (s : M) (t : Tree Depth) : Type 0 where
+pub record EndsAt {M E : Type 0} (H : Hooks M E) (touches_nothing : Tree Depth → Type 0) (s : M) (t : Tree Depth)
+    : Type 0 where
   pub ends : (s' : M) → H.on_term s t descend s' → ⊥
   pub still : touches_nothing t
 
 -- if the shape is one region or one term, and the walk ends at it, the terms stay as they are
-abbrev pub StaysStill : {M E S : Type 0} → Hooks (Standing M) E → (List Row → S → Tree Depth → Type 0) → (List Row → S → M) → Shape → Terms → S → Terms → Type 0
+abbrev pub StaysStill : {M E S : Type 0} → Hooks (Standing M) E → (List Row → S → Tree Depth → Type 0)
+    → (List Row → S → M) → Shape → Terms → S → Terms → Type 0
 StaysStill H touches_nothing means shape terms s terms' =
-    IsAlone shape → EndsAt H (touches_nothing terms.rows s) (stands means terms s) (tree_in terms.rows shape) → terms' ≡ terms
+    IsAlone shape → EndsAt H (touches_nothing terms.rows s) (stands means terms s) (tree_in terms.rows shape)
+        → terms' ≡ terms

@@ -38,7 +38,8 @@ abbrev pub only_types : {M E : Type 0} → TypeHooks M E → Hooks M E
 only_types H = record {
   on_region = λ s t r s'. (r ≡ t) × (s' ≡ s);
   region_fails = λ unbuilt s t e s'. ⊥;
-  on_term = λ s t a s'. (is_type_tree t ≡ true → H.on_type s t a s') × (is_type_tree t ≡ false → (a ≡ descend) × (s' ≡ s));
+  on_term = λ s t a s'. (is_type_tree t ≡ true → H.on_type s t a s')
+      × (is_type_tree t ≡ false → (a ≡ descend) × (s' ≡ s));
   term_fails = λ unbuilt s t e s'. (is_type_tree t ≡ true) × H.type_fails unbuilt s t e s';
   after_term = λ s t u r s'. (r ≡ u) × (s' ≡ s);
   after_fails = λ unbuilt s t u e s'. ⊥;
@@ -48,11 +49,13 @@ only_types H = record {
   leave_fails = λ unbuilt s vs e s'. ⊥;
 }
 
--- The hook took the terms to terms' and the folder's state s to s', and answered r at the type x. `gives` says which error a
--- refusal gives.
+-- The hook took the terms to terms' and the folder's state s to s', and answered r at the type x. `gives` says which
+-- error a refusal gives.
 abbrev pub AnswersType : {M E S : Type 0} → (List Row → S → M) → TypeHooks (Standing M) E → (Refusal → E → Type 0)
     → Terms → S → Ty → Result (Step Ty) E → Terms → S → Type 0
 AnswersType means H gives terms s x r terms' s' = MatchResult r
     (λ step. OwnsStep ty_shape terms'.rows step
-    × H.on_type (stands means terms s) (tree_in terms.rows (ty_shape x)) (answer_of ty_shape terms'.rows step) (stands means terms' s'))
-    (λ e. H.type_fails (IsErrorOfUnbuilt gives terms') (stands means terms s) (tree_in terms.rows (ty_shape x)) e (stands means terms' s'))
+    × H.on_type (stands means terms s) (tree_in terms.rows (ty_shape x)) (answer_of ty_shape terms'.rows step)
+    (stands means terms' s'))
+    (λ e. H.type_fails (IsErrorOfUnbuilt gives terms') (stands means terms s) (tree_in terms.rows (ty_shape x)) e
+    (stands means terms' s'))

@@ -19,7 +19,8 @@ counted m c = record { state = m; counters = c }
 
 -- the same state and memory are the same together
 pub recalls-same : {M : Type 0} {m m1 : M} {memory memory1 : List Memo} → m1 ≡ m → memory1 ≡ memory
-    → ◌≡◌ {A = State M ⊤} (record { rule = m1; under = 0; kept = tt; memory = memory1 }) (record { rule = m; under = 0; kept = tt; memory = memory })
+    → ◌≡◌ {A = State M ⊤} (record { rule = m1; under = 0; kept = tt; memory = memory1 })
+    (record { rule = m; under = 0; kept = tt; memory = memory })
 recalls-same same known = cc
 
 -- the folder's state means the same after each answer, so its result depends on the type alone
@@ -54,7 +55,8 @@ module _ {M E : Type 0} (H : TypeHooks (Standing M) E) (m : M) where
   abbrev pub steady_types : TypeHooks ⊤ E
   steady_types = record {
     on_type = λ s t a s'. (c : Counters) × (c' : Counters) × H.on_type (counted m c) t a (counted m c');
-    type_fails = λ unbuilt s t e s'. (c : Counters) × (s_end : Standing M) × H.type_fails unbuilt (counted m c) t e s_end;
+    type_fails = λ unbuilt s t e s'. (c : Counters) × (s_end : Standing M)
+        × H.type_fails unbuilt (counted m c) t e s_end;
   }
 
   abbrev pub steadily : Hooks ⊤ E
@@ -69,7 +71,8 @@ module _ {M E : Type 0} (H : TypeHooks (Standing M) E) (m : M) where
     goes_on : {c c1 c' : Counters} {t : Tree Depth} {a : Answer} {ts : List (Tree Depth)}
         → (a ≡ descend → ⊥) → H.on_type (counted m c) t a (counted m c1) → Calls c1 ts c' → Calls c ts c'
 
-  -- The hook's calls took the counts from c to c', and had no type taken apart twice: these are distinct types of the tree.
+  -- The hook's calls took the counts from c to c', and had no type taken apart twice: these are distinct types of the
+  -- tree.
   pub record CallsOnce (t : Tree Depth) (c c' : Counters) : Type 0 where
     pub types : List (Tree Depth)
     pub calls : Calls c types c'
@@ -77,7 +80,8 @@ module _ {M E : Type 0} (H : TypeHooks (Standing M) E) (m : M) where
     pub each : (u : Tree Depth) → IsIn u types → IsTypeOf t u
 
   -- the hook was called once more, at a type of the tree, and failed with the error
-  pub record FailsAt (unbuilt : Tree Depth → E → Type 0) (t : Tree Depth) (c : Counters) (e : E) (c' : Counters) : Type 0 where
+  pub record FailsAt (unbuilt : Tree Depth → E → Type 0) (t : Tree Depth) (c : Counters) (e : E) (c' : Counters)
+      : Type 0 where
     pub type : Tree Depth
     pub of_tree : IsTypeOf t type
     pub end : Standing M
@@ -85,7 +89,8 @@ module _ {M E : Type 0} (H : TypeHooks (Standing M) E) (m : M) where
     pub counters : c' ≡ end.counters
 
   -- the same as `CallsOnce` for a fold that ends with an error: one more call may have failed with it
-  pub record FailsOnce (unbuilt : Tree Depth → E → Type 0) (t : Tree Depth) (c : Counters) (e : E) (c' : Counters) : Type 0 where
+  pub record FailsOnce (unbuilt : Tree Depth → E → Type 0) (t : Tree Depth) (c : Counters) (e : E) (c' : Counters)
+      : Type 0 where
     pub before : Counters
     pub once : CallsOnce t c before
     pub last : (c' ≡ before) ⊎ FailsAt unbuilt t before e c'
@@ -93,10 +98,13 @@ module _ {M E : Type 0} (H : TypeHooks (Standing M) E) (m : M) where
 module _ {M E S : Type 0} (means : List Row → S → M) (H : TypeHooks (Standing M) E) where
   -- the answer at a type: its remembered result, or the folder's own if none is remembered
   pub data OnType : Standing (State M ⊤) → Tree Depth → Answer → Standing (State M ⊤) → Type 0 where
-    recalled : {s : Standing (State M ⊤)} {t r : Tree Depth} → IsIn (noted_with t r) s.state.memory → OnType s t (replace r) s
-    answered : {s : Standing (State M ⊤)} {t : Tree Depth} {a : Answer} {q : Standing M} → (IsIn (noted_at t) (places s.state.memory) → ⊥)
+    recalled : {s : Standing (State M ⊤)} {t r : Tree Depth} → IsIn (noted_with t r) s.state.memory
+        → OnType s t (replace r) s
+    answered : {s : Standing (State M ⊤)} {t : Tree Depth} {a : Answer} {q : Standing M}
+        → (IsIn (noted_at t) (places s.state.memory) → ⊥)
         → IsMeaning means q.state → H.on_type (counted s.state.rule s.counters) t a q
-        → OnType s t a (record { state = record { rule = q.state; under = s.state.under; kept = s.state.kept; memory = s.state.memory }; counters = q.counters })
+        → OnType s t a (record { state = record { rule = q.state; under = s.state.under; kept = s.state.kept;
+        memory = s.state.memory }; counters = q.counters })
 
   -- the result of a type is noted: nothing else is newly remembered, and no type is forgotten
   pub record Noted (s : Standing (State M ⊤)) (t r : Tree Depth) (s' : Standing (State M ⊤)) : Type 0 where
@@ -111,9 +119,11 @@ module _ {M E S : Type 0} (means : List Row → S → M) (H : TypeHooks (Standin
   recalling = record {
     on_region = λ s t r s'. (r ≡ t) × (s' ≡ s);
     region_fails = λ unbuilt s t e s'. ⊥;
-    on_term = λ s t a s'. (is_type_tree t ≡ true → OnType s t a s') × (is_type_tree t ≡ false → (a ≡ descend) × (s' ≡ s));
+    on_term = λ s t a s'. (is_type_tree t ≡ true → OnType s t a s')
+        × (is_type_tree t ≡ false → (a ≡ descend) × (s' ≡ s));
     term_fails = λ unbuilt s t e s'. (is_type_tree t ≡ true)
-        × ((s_end : Standing M) × H.type_fails unbuilt (counted s.state.rule s.counters) t e s_end × (s'.counters ≡ s_end.counters));
+        × ((s_end : Standing M) × H.type_fails unbuilt (counted s.state.rule s.counters) t e s_end
+        × (s'.counters ≡ s_end.counters));
     after_term = λ s t u r s'. (r ≡ u) × (is_type_tree t ≡ true → Noted s t r s') × (is_type_tree t ≡ false → s' ≡ s);
     after_fails = λ unbuilt s t u e s'. (s'.counters ≡ s.counters) × unbuilt u e;
     enter = λ s vs s'. s' ≡ s;

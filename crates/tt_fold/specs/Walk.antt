@@ -85,7 +85,8 @@ module _ {M E : Type 0} (H : Hooks M E) where
       at_region : {s s' : M} {t r : Tree Depth} → IsRegion t → H.on_region s t r s' → Walks s t r s'
       replaced : {s s' : M} {t r : Tree Depth} → IsTerm t → H.on_term s t (replace r) s' → Walks s t r s'
       kept : {s s' : M} {t : Tree Depth} → IsTerm t → H.on_term s t keep s' → Walks s t t s'
-      descended : {s s1 s' : M} {t r : Tree Depth} → IsTerm t → H.on_term s t descend s1 → Descends s1 t r s' → Walks s t r s'
+      descended : {s s1 s' : M} {t r : Tree Depth} → IsTerm t → H.on_term s t descend s1 → Descends s1 t r s'
+          → Walks s t r s'
       passed : {s s' : M} {t u : Tree Depth} → IsPassed t → WalksInside s t u s' → Walks s t u s'
       -- a clause by itself becomes a clause
       at_node : {s s' : M} {l : Label Name} {ts us : Forest Depth}
@@ -117,14 +118,16 @@ pub record Errors (E : Type 0) : Type 1 where
   -- the result of an item, or of a clause by itself, is not wanted
   pub unwanted : E → Type 0
 
--- The walk ends with an error and in a state. The error is a hook's, or says which tree was not built: the tree that was
--- to be stored, or every tree if the memory for a list's items was refused. Or it says that an item of a
+-- The walk ends with an error and in a state. The error is a hook's, or says which tree was not built: the tree that
+-- was to be stored, or every tree if the memory for a list's items was refused. Or it says that an item of a
 -- list of clauses, or a clause by itself, did not become a clause.
 module _ {M E : Type 0} (H : Hooks M E) (errors : Errors E) where
   mutual
     pub data Fails : M → Tree Depth → E → M → Type 0 where
-      region_failed : {s s_end : M} {t : Tree Depth} {e : E} → IsRegion t → H.region_fails errors.unbuilt s t e s_end → Fails s t e s_end
-      term_failed : {s s_end : M} {t : Tree Depth} {e : E} → IsTerm t → H.term_fails errors.unbuilt s t e s_end → Fails s t e s_end
+      region_failed : {s s_end : M} {t : Tree Depth} {e : E} → IsRegion t → H.region_fails errors.unbuilt s t e s_end
+          → Fails s t e s_end
+      term_failed : {s s_end : M} {t : Tree Depth} {e : E} → IsTerm t → H.term_fails errors.unbuilt s t e s_end
+          → Fails s t e s_end
       descent_failed : {s s1 s_end : M} {t : Tree Depth} {e : E}
           → IsTerm t → H.on_term s t descend s1 → DescentFails s1 t e s_end → Fails s t e s_end
       passed_failed : {s s_end : M} {t : Tree Depth} {e : E} → IsPassed t → InsideFails s t e s_end → Fails s t e s_end
@@ -133,8 +136,10 @@ module _ {M E : Type 0} (H : Hooks M E) (errors : Errors E) where
       under_failed : {s s1 s_end : M} {vs : List (VarKind Name)} {t : Tree Depth} {e : E}
           → H.enter s vs s1 → Fails s1 t e s_end → Fails s (binder vs t) e s_end
       leave_failed : {s s1 s2 s_end : M} {vs : List (VarKind Name)} {t u : Tree Depth} {e : E}
-          → H.enter s vs s1 → Walks H s1 t u s2 → H.leave_fails errors.unbuilt s2 vs e s_end → Fails s (binder vs t) e s_end
-      node_failed : {s s_end : M} {l : Label Name} {ts : Forest Depth} {e : E} → FailsAll any_trees s ts e s_end → Fails s (node l ts) e s_end
+          → H.enter s vs s1 → Walks H s1 t u s2 → H.leave_fails errors.unbuilt s2 vs e s_end
+          → Fails s (binder vs t) e s_end
+      node_failed : {s s_end : M} {l : Label Name} {ts : Forest Depth} {e : E} → FailsAll any_trees s ts e s_end
+          → Fails s (node l ts) e s_end
       node_not_built : {s s1 : M} {l : Label Name} {ts us : Forest Depth} {e : E}
           → WalksAll H s ts us s1 → errors.unbuilt (node l us) e → Fails s (node l ts) e s1
       clause_lost : {s s1 : M} {l : Label Name} {ts us : Forest Depth} {e : E}
@@ -148,22 +153,28 @@ module _ {M E : Type 0} (H : Hooks M E) (errors : Errors E) where
 
     -- the contents of a term were not folded, or the term was not rebuilt from them
     pub data InsideFails : M → Tree Depth → E → M → Type 0 where
-      in_term_failed : {s s_end : M} {l : Label Name} {ts : Forest Depth} {e : E} → FailsAll (wanted_in l) s ts e s_end → InsideFails s (term l ts) e s_end
-      not_built : {s s1 : M} {t u : Tree Depth} {e : E} → WalksInside H s t u s1 → errors.unbuilt u e → InsideFails s t e s1
+      in_term_failed : {s s_end : M} {l : Label Name} {ts : Forest Depth} {e : E} → FailsAll (wanted_in l) s ts e s_end
+          → InsideFails s (term l ts) e s_end
+      not_built : {s s1 : M} {t u : Tree Depth} {e : E} → WalksInside H s t u s1 → errors.unbuilt u e
+          → InsideFails s t e s1
 
     -- the same for trees in order: the walk goes on past a tree whose result is wanted, and no further
     pub data FailsAll : Wanted → M → Forest Depth → E → M → Type 0 where
-      stopped : {w : Wanted} {s : M} {ts : Forest Depth} {e : E} → ((u : Tree Depth) → errors.unbuilt u e) → FailsAll w s ts e s
-      here : {w : Wanted} {s s_end : M} {t : Tree Depth} {ts : Forest Depth} {e : E} → Fails s t e s_end → FailsAll w s (also t ts) e s_end
+      stopped : {w : Wanted} {s : M} {ts : Forest Depth} {e : E} → ((u : Tree Depth) → errors.unbuilt u e)
+          → FailsAll w s ts e s
+      here : {w : Wanted} {s s_end : M} {t : Tree Depth} {ts : Forest Depth} {e : E} → Fails s t e s_end
+          → FailsAll w s (also t ts) e s_end
       no_clause : {w : Wanted} {s s_end : M} {t u : Tree Depth} {ts : Forest Depth} {e : E}
           → Walks H s t u s_end → HasUnwanted w (also u none) → errors.unwanted e → FailsAll w s (also t ts) e s_end
       later : {w : Wanted} {s s1 s_end : M} {t u : Tree Depth} {ts : Forest Depth} {e : E}
-          → Walks H s t u s1 → (HasUnwanted w (also u none) → ⊥) → FailsAll w s1 ts e s_end → FailsAll w s (also t ts) e s_end
+          → Walks H s t u s1 → (HasUnwanted w (also u none) → ⊥) → FailsAll w s1 ts e s_end
+          → FailsAll w s (also t ts) e s_end
 
 -- the same for a child: it has at most one tree, and an absent child does not fail
 module _ {M E : Type 0} (H : Hooks M E) (errors : Errors E) where
   pub data ChildFails : M → Forest Depth → E → M → Type 0 where
-    child_failed : {s s_end : M} {t : Tree Depth} {e : E} → Fails H errors s t e s_end → ChildFails s (also t none) e s_end
+    child_failed : {s s_end : M} {t : Tree Depth} {e : E} → Fails H errors s t e s_end
+        → ChildFails s (also t none) e s_end
 
 -- the walk of trees under a binder of the variables, if there is one
 module _ {M E : Type 0} (H : Hooks M E) where
@@ -175,22 +186,27 @@ module _ {M E : Type 0} (H : Hooks M E) where
 -- the same for a walk that ends with an error
 module _ {M E : Type 0} (H : Hooks M E) (errors : Errors E) where
   pub data FailsUnder : Option (List (VarKind Name)) → M → Forest Depth → E → M → Type 0 where
-    in_open_failed : {s s_end : M} {ts : Forest Depth} {e : E} → FailsAll H errors any_trees s ts e s_end → FailsUnder None s ts e s_end
+    in_open_failed : {s s_end : M} {ts : Forest Depth} {e : E} → FailsAll H errors any_trees s ts e s_end
+        → FailsUnder None s ts e s_end
     in_enter_failed : {s s_end : M} {vs : List (VarKind Name)} {ts : Forest Depth} {e : E}
         → H.enter_fails errors.unbuilt s vs e s_end → FailsUnder (Some vs) s ts e s_end
     in_under_failed : {s s1 s_end : M} {vs : List (VarKind Name)} {ts : Forest Depth} {e : E}
         → H.enter s vs s1 → FailsAll H errors any_trees s1 ts e s_end → FailsUnder (Some vs) s ts e s_end
     in_leave_failed : {s s1 s2 s_end : M} {vs : List (VarKind Name)} {ts us : Forest Depth} {e : E}
-        → H.enter s vs s1 → WalksAll H s1 ts us s2 → H.leave_fails errors.unbuilt s2 vs e s_end → FailsUnder (Some vs) s ts e s_end
+        → H.enter s vs s1 → WalksAll H s1 ts us s2 → H.leave_fails errors.unbuilt s2 vs e s_end
+        → FailsUnder (Some vs) s ts e s_end
 
 -- the walk of a term, or of a value under a binder, without its own hooks
 module _ {M E : Type 0} (H : Hooks M E) where
   pub data SuperWalks : M → Tree Depth → Tree Depth → M → Type 0 where
     super_term : {s s' : M} {t u : Tree Depth} → WalksInside H s t u s' → SuperWalks s t u s'
-    super_binder : {s s' : M} {vs : List (VarKind Name)} {t u : Tree Depth} → Walks H s t u s' → SuperWalks s (binder vs t) (binder vs u) s'
+    super_binder : {s s' : M} {vs : List (VarKind Name)} {t u : Tree Depth} → Walks H s t u s'
+        → SuperWalks s (binder vs t) (binder vs u) s'
 
 -- the same for a walk that ends with an error
 module _ {M E : Type 0} (H : Hooks M E) (errors : Errors E) where
   pub data SuperFails : M → Tree Depth → E → M → Type 0 where
-    super_term_failed : {s s_end : M} {t : Tree Depth} {e : E} → InsideFails H errors s t e s_end → SuperFails s t e s_end
-    super_binder_failed : {s s_end : M} {vs : List (VarKind Name)} {t : Tree Depth} {e : E} → Fails H errors s t e s_end → SuperFails s (binder vs t) e s_end
+    super_term_failed : {s s_end : M} {t : Tree Depth} {e : E} → InsideFails H errors s t e s_end
+        → SuperFails s t e s_end
+    super_binder_failed : {s s_end : M} {vs : List (VarKind Name)} {t : Tree Depth} {e : E} → Fails H errors s t e s_end
+        → SuperFails s (binder vs t) e s_end

@@ -1,6 +1,6 @@
 -- Aliases with few arguments: other self types, and the arguments of a projection's trait and its own ones.
 use Rattle.std.proofs.Common.{◌≡◌, List, [], ◌∷◌, take, Some, None, refl}
-use Rattle.tt_kinds.specs.Handle.{handle, GenericArgs, Ty}
+use Rattle.tt_kinds.specs.Handle.{handle, Ty}
 use Rattle.tt_kinds.specs.declared.generic_arg.GenericArgKind.{GenericArgKind}
 use Rattle.tt_kinds.specs.declared.generic_arg.GenericArgKind.TheVariants as arg
 use Rattle.tt_kinds.specs.declared.region_kind.RegionKind.TheVariants.{ReStatic, ReEarlyParam}

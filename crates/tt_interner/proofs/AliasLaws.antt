@@ -1,5 +1,6 @@
 -- What is known of an alias by the row of its arguments.
-use Rattle.std.proofs.Common.{◌≡◌, ◌↔◌, ℕ, ◌-◌, ◌<◌, Bool, true, false, IsTrue, List, [], ◌∷◌, ◌++◌, length, take, drop, Option, Some, None, is_some, Result, Ok, Err, inl, inr, sym, ap, subst, ◌∙◌}
+use Rattle.std.proofs.Common.{◌≡◌, ◌↔◌, ℕ, ◌-◌, ◌<◌, Bool, true, false, IsTrue, List, [], ◌∷◌, ◌++◌, length, take, drop}
+use Rattle.std.proofs.Common.{Option, Some, None, is_some, Ok, Err, inl, inr, sym, ap, subst, ◌∙◌}
 use Rattle.std.proofs.Math.Seq.{take-length}
 use Rattle.std.proofs.lemmas.List.{length-drop, take-append-drop}
 use Rattle.std.proofs.lemmas.Option.{same_Some}
@@ -13,7 +14,8 @@ use Rattle.tt_kinds.specs.declared.id.Trait.{Trait}
 use Rattle.tt_kinds.specs.declared.predicate.TraitRef.{TraitRef}
 use Rattle.tt_kinds.specs.declared.table.Table.TheVariants.{ArgLists, Types}
 use Rattle.tt_kinds.specs.declared.view.GenericArgsSlice.{GenericArgsSlice}
-use Rattle.tt_interner.specs.Alias.{first_type, HasSelfTy, HasParams, TraitArgs, IsOwnArgs, viewed, AreJoined, JoinsTraitArgs}
+use Rattle.tt_interner.specs.Alias.{first_type, HasSelfTy, HasParams, TraitArgs, IsOwnArgs, viewed, AreJoined}
+use Rattle.tt_interner.specs.Alias.{JoinsTraitArgs}
 use Rattle.tt_interner.specs.Collect.{BuildsCollected}
 use Rattle.tt_interner.specs.Owned.{AreOwned}
 use Rattle.tt_interner.specs.Rows.{Row, args_row, size}

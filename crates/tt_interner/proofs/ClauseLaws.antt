@@ -1,5 +1,6 @@
 -- Clauses, and lists of them.
-use Rattle.std.proofs.Common.{◌≡◌, ℕ, ◌<◌, Bool, true, false, ⊎_elim, inl, inr, List, [], ◌∷◌, get_or, drop, length, ◌+◌, ◌≤◌, arith, refl, sym, ap, subst, ◌∙◌}
+use Rattle.std.proofs.Common.{◌≡◌, ℕ, ◌<◌, Bool, true, false, ⊎_elim, inl, inr, List, [], ◌∷◌, get_or, drop, length}
+use Rattle.std.proofs.Common.{◌+◌, ◌≤◌, arith, refl, sym, ap, subst, ◌∙◌}
 use Rattle.std.specs.Prelude.{map, not}
 use Rattle.std.proofs.lemmas.Bool.{false≢true}
 use Rattle.std.proofs.lemmas.Option.{none-some, same_Some, slice_get_within}
@@ -17,7 +18,8 @@ use Rattle.tt_kinds.specs.Label.{Name, is_clause_record}
 use Rattle.tt_kinds.specs.Predicate.{is_clause_kind}
 use Rattle.tt_kinds.specs.Shape.{item_shapes, name_of, rename_record, fill, fill_all, AreParts}
 use Rattle.tt_kinds.specs.Kinds.{clause_shape, children_shapes, clause_form, predicate_form}
-use Rattle.tt_interner.specs.Rows.{Row, predicate_row, clauses_row, table, size, meaning, AreRows, IsClause, AreClauses, IsWellFormed}
+use Rattle.tt_interner.specs.Rows.{Row, predicate_row, clauses_row, table, size, meaning, AreRows, IsClause, AreClauses}
+use Rattle.tt_interner.specs.Rows.{IsWellFormed}
 use Rattle.tt_interner.specs.Clauses.{is_clause_tree, HasOther}
 use Rattle.tt_interner.specs.Children.{clause_child}
 use Rattle.tt_interner.specs.Stored.{IsAt}

@@ -1,5 +1,7 @@
 -- The entries of definitions, and what the rows say of them.
-use Rattle.std.proofs.Common.{◌≡◌, ◌↔◌, IsTrue, take, Bor, ⊎_elim, ℕ, zero, suc, ◌<◌, ◌≤◌, ◌+◌, Bool, true, false, cond, if◌then◌else◌, eqb, List, [], ◌∷◌, ◌++◌, length, map, slice_get, All, Option, Some, None, is_some, Result, Ok, Err, refl, sym, ap, subst, ◌∙◌, arith}
+use Rattle.std.proofs.Common.{◌≡◌, ◌↔◌, IsTrue, take, Bor, ⊎_elim, ℕ, suc, ◌≤◌, ◌+◌, Bool, true, false, cond}
+use Rattle.std.proofs.Common.{if◌then◌else◌, eqb, List, [], ◌∷◌, ◌++◌, length, map, slice_get, All, Option, Some, None}
+use Rattle.std.proofs.Common.{is_some, Ok, refl, sym, ap, subst, ◌∙◌, arith}
 use Rattle.std.specs.Map.{lookup}
 use Rattle.std.specs.Option.{option_map, option_copied, option_or}
 use Rattle.std.specs.declared.alloc.Global.{Global}
@@ -12,15 +14,16 @@ use Rattle.std.proofs.lemmas.List.Elements.{All-nil, All-cons, All-head, All-tai
 use Rattle.std.proofs.lemmas.Option.{none-some, same_Some, slice_get_within}
 use Rattle.tt_index.specs.Greatest.{greatest}
 use Rattle.tt_kinds.specs.Variant.{Variant, variant_of, HasIndices}
-use Rattle.tt_kinds.specs.Shape.{Sizes, IsPart, AreParts, HasParts, item_shapes}
-use Rattle.tt_kinds.specs.Values.{symbol_shape, option_shape, sequence_shape, field_def_shape, variant_shape}
+use Rattle.tt_kinds.specs.Shape.{IsPart, AreParts, item_shapes}
+use Rattle.tt_kinds.specs.Values.{symbol_shape, option_shape, field_def_shape, variant_shape}
 use Rattle.tt_kinds.specs.Handle.{Symbol}
 use Rattle.tt_kinds.specs.declared.variant.FieldDef.{FieldDef}
 use Rattle.tt_kinds.specs.declared.variant.VariantDef.{VariantDef}
 use Rattle.tt_kinds.specs.declared.id.Id.{Id}
 use Rattle.tt_kinds.specs.declared.table.Table.TheVariants.{Definitions}
 use Rattle.tt_interner.specs.Rows.{Row, defined_row, is_in, table, size, IsNew, IsWellFormed, AreRows, Grows}
-use Rattle.tt_interner.specs.Definitions.{variants_in, variants_among, variants_of, IsDefined, HasOwnName, IsOwnField, IsOwnVariant, FitsDeclaration, Defines}
+use Rattle.tt_interner.specs.Definitions.{variants_in, variants_among, variants_of, IsDefined, HasOwnName, IsOwnField}
+use Rattle.tt_interner.specs.Definitions.{IsOwnVariant, FitsDeclaration, Defines}
 use Rattle.tt_interner.specs.Stored.{Terms, IsAt, Adds}
 use Rattle.tt_interner.specs.Tables.{Entry, Tables, AreTables, entries_of, defined_entries, no_info}
 use Rattle.tt_interner.proofs.RowLaws.{table-own, table-other, row-old, place_cases}

@@ -1,5 +1,5 @@
 -- The shape of a definition has no binder, and no index of its own.
-use Rattle.std.proofs.Common.{◌≡◌, ◌+◌, List, Option, Some, None, refl, arith}
+use Rattle.std.proofs.Common.{◌≡◌, List, Option, Some, None, refl, arith}
 use Rattle.tt_kinds.specs.Variant.{Variant}
 use Rattle.tt_kinds.specs.Handle.{Symbol}
 use Rattle.tt_kinds.specs.Range.{binders_in, binders_among, IndicesFitIn, IndicesFitAmong}

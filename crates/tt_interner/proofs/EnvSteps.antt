@@ -1,5 +1,6 @@
 -- The types that an environment gives a placeholder constant.
-use Rattle.std.proofs.Common.{◌≡◌, ℕ, ◌<◌, Bool, true, false, if◌then◌else◌, Option, Some, None, Result, Ok, Err, IfOk, All, List, [], ◌∷◌, get_or, drop, length, subst, arith}
+use Rattle.std.proofs.Common.{◌≡◌, ℕ, ◌<◌, Bool, true, false, if◌then◌else◌, Option, Some, None, Result, Ok, Err, IfOk}
+use Rattle.std.proofs.Common.{All, List, [], ◌∷◌, get_or, drop, length, subst, arith}
 use Rattle.std.specs.Prelude.{IfSome}
 use Rattle.std.proofs.lemmas.Option.{get_or_from_slice_get}
 use Rattle.std.proofs.lemmas.List.Elements.{All-nil, All-cons, All-append}
@@ -21,7 +22,8 @@ use Rattle.tt_kinds.specs.Reading.{outer_binder}
 use Rattle.tt_interner.specs.Rows.{Row, predicate_row, clauses_row, text_row, table, size, meaning, AreRows}
 use Rattle.tt_interner.specs.Stored.{IsAt}
 use Rattle.tt_interner.specs.declared.env.ConstTyFault.{ConstTyFault}
-use Rattle.tt_interner.specs.Env.{row_at, is_row_of, bound_of_clause, bound_of_predicate, bound_at, types_of_bound, types_of, IsOneType, IsClosedBound, AreClosed}
+use Rattle.tt_interner.specs.Env.{row_at, is_row_of, bound_of_clause, bound_of_predicate, bound_at, types_of_bound}
+use Rattle.tt_interner.specs.Env.{types_of, IsOneType, IsClosedBound, AreClosed}
 use Rattle.tt_interner.proofs.Trees.{Means-row}
 use Rattle.tt_interner.proofs.InfoLaws.{parts_at}
 

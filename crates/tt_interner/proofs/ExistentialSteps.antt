@@ -1,5 +1,6 @@
 -- What building the list of existential predicates owes, by how it ended.
-use Rattle.std.proofs.Common.{◌≡◌, ℕ, suc, ◌+◌, ◌<◌, ◌≤◌, ⊎_elim, List, [], ◌∷◌, ◌++◌, length, take, drop, get_or, set, Result, Ok, Err, ◌⊎◌, inl, inr, refl, sym, ap, subst, ◌∙◌, arith, add-one, append_assoc}
+use Rattle.std.proofs.Common.{◌≡◌, ℕ, suc, ◌+◌, ◌<◌, ◌≤◌, ⊎_elim, List, [], ◌∷◌, ◌++◌, length, take, drop, get_or, set}
+use Rattle.std.proofs.Common.{Result, Ok, Err, ◌⊎◌, inl, inr, refl, sym, ap, subst, ◌∙◌, arith, add-one, append_assoc}
 use Rattle.std.specs.Prelude.{IfOk, OnOk}
 use Rattle.std.proofs.lemmas.Bool.{cases_lt}
 use Rattle.std.proofs.lemmas.List.{append-nil, take-append-drop, length-append}
@@ -16,10 +17,13 @@ use Rattle.tt_kinds.specs.declared.existential.ExistentialPredicate.{Existential
 use Rattle.tt_kinds.specs.Handle.{PolyExistentialPredicate}
 use Rattle.tt_kinds.specs.Handle.{BoundExistentialPredicates}
 use Rattle.tt_kinds.specs.declared.table.Table.TheVariants.{Existentials, ExistentialLists}
-use Rattle.tt_interner.specs.Rows.{Row, existential_row, existentials_row, row_table, row_shape, size, meaning, IsNew, AreRows, Grows}
+use Rattle.tt_interner.specs.Rows.{Row, existential_row, existentials_row, row_table, row_shape, size, meaning, IsNew}
+use Rattle.tt_interner.specs.Rows.{AreRows, Grows}
 use Rattle.tt_interner.specs.Stored.{Terms, Extends, IsAt, IsCause, Builds, most_in_place}
-use Rattle.tt_interner.specs.Existentials.{HaveParts, predicates_tree, AreExistentials, AreStored, StoresWithin, StoresEach, next_row, NextLacksRoom, IsCauseOfEach, BuildsAll, PutsEach}
-use Rattle.tt_interner.proofs.Growth.{Grows-more, Grows-refl, Grows-trans, Extends-refl, HasParts-grows, row-grows, IsAt-grows}
+use Rattle.tt_interner.specs.Existentials.{HaveParts, predicates_tree, AreExistentials, AreStored, StoresWithin}
+use Rattle.tt_interner.specs.Existentials.{StoresEach, next_row, NextLacksRoom, IsCauseOfEach, BuildsAll, PutsEach}
+use Rattle.tt_interner.proofs.Growth.{Grows-more, Grows-refl, Grows-trans, Extends-refl, HasParts-grows, row-grows}
+use Rattle.tt_interner.proofs.Growth.{IsAt-grows}
 use Rattle.tt_interner.proofs.Trees.{Means-row}
 use Rattle.tt_interner.proofs.StoreSteps.{in_range, not_new, place_one, Builds-err_as}
 use Rattle.tt_kinds.specs.Handle.{handle}

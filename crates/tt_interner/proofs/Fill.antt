@@ -3,10 +3,29 @@ use Rattle.std.proofs.Common.{◌≡◌, ℕ, ◌<◌, List, [], ◌∷◌, Opti
 use Rattle.std.specs.Prelude.{map, ⊤}
 use Rattle.tt_kinds.specs.declared.table.Table.{Table}
 use Rattle.tt_kinds.specs.declared.table.Table.TheVariants.{VarLists, Symbols}
-use Rattle.tt_kinds.specs.Label.{Name, RegionName, anonymous, printed, named, environment, VarKind, region_variable, type_variable, const_variable, Entry, FreeRegion, static_region, erased_region, region_var, error_region, late_param_region, placeholder_region, RecordLabel, fn_sig_tys_record, pair_record, triple_record, absent_record, present_record, sequence_record, unsafe_binder_record, trait_record, host_effect_record, region_outlives_record, type_outlives_record, projection_record, const_has_type_record, well_formed_record, const_evaluatable_record, unstable_feature_record, dyn_compatible_record, subtype_record, coerce_record, const_equate_record, ambiguous_record, normalizes_to_record, alias_relate_record, existential_trait_record, existential_projection_record, auto_trait_record, trait_ref_record, alias_term_record, alias_ty_record, outlives_record, type_and_mut_record, fn_sig_record, param_env_record, witness_types_record, bare_param_record, bare_bound_record, bare_type_record, bare_const_record, bare_pattern_record, Label, type_label, const_label, pattern_label, predicate_label, existential_label, clause_list_label, list_label, var_list_label, text_label, declaration_label, definition_label, record_label, error_label, clause_label, label_table}
+use Rattle.tt_kinds.specs.Label.{Name, RegionName, anonymous, printed, named, environment, VarKind, region_variable}
+use Rattle.tt_kinds.specs.Label.{type_variable, const_variable, Entry, FreeRegion, static_region, erased_region}
+use Rattle.tt_kinds.specs.Label.{region_var, error_region, late_param_region, placeholder_region, RecordLabel}
+use Rattle.tt_kinds.specs.Label.{fn_sig_tys_record, pair_record, triple_record, absent_record, present_record}
+use Rattle.tt_kinds.specs.Label.{sequence_record, unsafe_binder_record, trait_record, host_effect_record}
+use Rattle.tt_kinds.specs.Label.{region_outlives_record, type_outlives_record, projection_record, const_has_type_record}
+use Rattle.tt_kinds.specs.Label.{well_formed_record, const_evaluatable_record, unstable_feature_record}
+use Rattle.tt_kinds.specs.Label.{dyn_compatible_record, subtype_record, coerce_record, const_equate_record}
+use Rattle.tt_kinds.specs.Label.{ambiguous_record, normalizes_to_record, alias_relate_record, existential_trait_record}
+use Rattle.tt_kinds.specs.Label.{existential_projection_record, auto_trait_record, trait_ref_record, alias_term_record}
+use Rattle.tt_kinds.specs.Label.{alias_ty_record, outlives_record, type_and_mut_record, fn_sig_record, param_env_record}
+use Rattle.tt_kinds.specs.Label.{witness_types_record, bare_param_record, bare_bound_record, bare_type_record}
+use Rattle.tt_kinds.specs.Label.{bare_const_record, bare_pattern_record, Label, type_label, const_label, pattern_label}
+use Rattle.tt_kinds.specs.Label.{predicate_label, existential_label, clause_list_label, list_label, var_list_label}
+use Rattle.tt_kinds.specs.Label.{text_label, declaration_label, definition_label, record_label, error_label}
+use Rattle.tt_kinds.specs.Label.{clause_label, label_table}
 use Rattle.tt_kinds.specs.Tree as tree
 use Rattle.tt_kinds.specs.Tree.{Tree, Depth}
-use Rattle.tt_kinds.specs.Shape.{Shape, Shapes, param, bound, region, term, node, binder, stored, part_of, none, also, Meaning, Sizes, text_of, vars_of, name_of, rename_region, rename_kind, rename_entry, rename_free, rename_record, rename_label, fill, fill_all, sort_table, IsNamed, IsNamedKind, AreNamedKinds, IsNamedFree, IsNamedRecord, IsNamedLabel, IsPart, AreParts, HasParts}
+use Rattle.tt_kinds.specs.Shape.{Shape, Shapes, param, bound, region, term, node, binder, stored, part_of, none, also}
+use Rattle.tt_kinds.specs.Shape.{Meaning, Sizes, text_of, vars_of, name_of, rename_region, rename_kind, rename_entry}
+use Rattle.tt_kinds.specs.Shape.{rename_free, rename_record, rename_label, fill, fill_all, sort_table, IsNamed}
+use Rattle.tt_kinds.specs.Shape.{IsNamedKind, AreNamedKinds, IsNamedFree, IsNamedRecord, IsNamedLabel, IsPart, AreParts}
+use Rattle.tt_kinds.specs.Shape.{HasParts}
 
 -- the table that a tree is stored in, as its root says
 abbrev pub tree_table : Tree Depth → Option Table

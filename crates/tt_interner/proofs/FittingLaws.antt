@@ -4,7 +4,9 @@ use Rattle.tt_index.specs.Greatest.{greatest}
 use Rattle.tt_kinds.specs.Label.{Sort, Label, type_label, const_label, type_sort, const_sort}
 use Rattle.tt_kinds.specs.Reading.{read, FitsUnder}
 use Rattle.tt_kinds.specs.Shape.{Shape, IsPart, fill}
-use Rattle.tt_kinds.specs.Kinds.{Form, param, bound, plain, under, relabelled, form_shape, ty_form, pattern_form, predicate_form, existential_form, value_form, const_kind_shape, ty_shape, const_shape, pat_shape, clause_shape, existential_shape}
+use Rattle.tt_kinds.specs.Kinds.{Form, param, bound, plain, under, relabelled, form_shape, ty_form, pattern_form}
+use Rattle.tt_kinds.specs.Kinds.{predicate_form, existential_form, value_form, const_kind_shape, ty_shape, const_shape}
+use Rattle.tt_kinds.specs.Kinds.{pat_shape, clause_shape, existential_shape}
 use Rattle.tt_kinds.specs.Range.{IndicesFit, IndicesFitIn, binders_in, binders_among}
 use Rattle.tt_kinds.specs.Fitting.{BindersFit}
 use Rattle.tt_kinds.specs.declared.const_kind.ValTreeKind.TheVariants as valtree
@@ -13,11 +15,15 @@ use Rattle.tt_kinds.specs.declared.const_kind.ConstKind.{ConstKind}
 use Rattle.tt_kinds.specs.declared.const_kind.ConstKind.TheVariants as const
 use Rattle.tt_kinds.specs.declared.table.Table.{Table}
 use Rattle.tt_kinds.specs.declared.table.Table.TheVariants.{Types, Predicates, Existentials}
-use Rattle.tt_kinds.proofs.RangeLaws.{parts-unbound, items-unbound, args-unbound, assumptions-unbound, part-fits, row-fits}
+use Rattle.tt_kinds.proofs.RangeLaws.{parts-unbound, items-unbound, args-unbound, assumptions-unbound, part-fits}
+use Rattle.tt_kinds.proofs.RangeLaws.{row-fits}
 use Rattle.tt_kinds.specs.Values.{declared_shapes}
 use Rattle.tt_kinds.proofs.ValueLaws.{declared_by}
 use Rattle.tt_kinds.proofs.FittingLaws.{tree-fits, part-binders, row-binders}
-use Rattle.tt_interner.specs.Rows.{Row, type_row, const_row, pat_row, predicate_row, existential_row, clauses_row, tys_row, consts_row, args_row, pats_row, vars_row, existentials_row, assumptions_row, text_row, declared_row, defined_row, row_table, row_shape, table, size, meaning, AreRows}
+use Rattle.tt_interner.specs.Rows.{Row, type_row, const_row, pat_row, predicate_row, existential_row, clauses_row}
+use Rattle.tt_interner.specs.Rows.{tys_row, consts_row, args_row, pats_row, vars_row, existentials_row, assumptions_row}
+use Rattle.tt_interner.specs.Rows.{text_row, declared_row, defined_row, row_table, row_shape, table, size, meaning}
+use Rattle.tt_interner.specs.Rows.{AreRows}
 use Rattle.tt_interner.proofs.DefinitionShapes.{definition-unbound}
 use Rattle.tt_interner.proofs.RowLaws.{IsNewest, place_cases, size-more, meaning-old, meaning-new}
 use Rattle.tt_interner.proofs.TableLaws.{size_own}

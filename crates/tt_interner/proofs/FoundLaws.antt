@@ -1,5 +1,6 @@
 -- What a look-up in a table says of the rows.
-use Rattle.std.proofs.Common.{◌≡◌, ℕ, zero, suc, Bool, true, false, cond, List, [], ◌∷◌, ◌++◌, slice_get, map, get_or, Option, Some, None, position, refl, sym, ap, subst, ◌∙◌, is_some, if◌then◌else◌}
+use Rattle.std.proofs.Common.{◌≡◌, ℕ, zero, suc, Bool, true, false, cond, List, [], ◌∷◌, ◌++◌, slice_get, map, get_or}
+use Rattle.std.proofs.Common.{Option, Some, None, position, refl, sym, ap, subst, ◌∙◌, is_some, if◌then◌else◌}
 use Rattle.std.proofs.lemmas.Bool.{false≢true}
 use Rattle.std.proofs.lemmas.Option.{slice_get-get_or, none-some, same_Some}
 use Rattle.std.proofs.lemmas.List.Quantifiers.{position-Some}

@@ -1,5 +1,6 @@
 -- What is kept beside a term, from what is kept beside its parts.
-use Rattle.std.proofs.Common.{◌≡◌, ℕ, zero, suc, ◌+◌, ◌-◌, ◌<◌, ◌≤◌, List, [], ◌∷◌, length, get_or, drop, max, bit_or, Some, None, refl, sym, ap, ◌∙◌, arith}
+use Rattle.std.proofs.Common.{◌≡◌, ℕ, zero, suc, ◌+◌, ◌-◌, ◌<◌, ◌≤◌, List, [], ◌∷◌, length, get_or, drop, max, bit_or}
+use Rattle.std.proofs.Common.{Some, None, refl, sym, ap, ◌∙◌, arith}
 use Rattle.std.specs.Prelude.{map}
 use Rattle.std.proofs.Math.Numerals.{add-one}
 use Rattle.std.proofs.Math.Seq.{drop-cons}
@@ -11,12 +12,17 @@ use Rattle.tt_flags.specs.declared.flag_computation.FlagComputation.{FlagComputa
 use Rattle.tt_kinds.specs.Handle.{BoundVarKinds}
 use Rattle.tt_kinds.specs.declared.table.Table.{Table}
 use Rattle.tt_kinds.specs.declared.table.Table.TheVariants.{VarLists}
-use Rattle.tt_kinds.specs.Label.{Name, Sort, VarKind, Label, type_label, const_label, pattern_label, predicate_label, existential_label, clause_list_label, list_label, var_list_label, text_label, declaration_label, definition_label, record_label, error_label, clause_label, list_flags, flags_of_label}
+use Rattle.tt_kinds.specs.Label.{Name, Sort, VarKind, Label, type_label, const_label, pattern_label, predicate_label}
+use Rattle.tt_kinds.specs.Label.{existential_label, clause_list_label, list_label, var_list_label, text_label}
+use Rattle.tt_kinds.specs.Label.{declaration_label, definition_label, record_label, error_label, clause_label}
+use Rattle.tt_kinds.specs.Label.{list_flags, flags_of_label}
 use Rattle.tt_kinds.specs.Tree as tree
 use Rattle.tt_kinds.specs.Tree.{Tree, Forest, Depth}
 use Rattle.tt_kinds.specs.Reading.{read_all, greatest_reach_all, outer_binder}
 use Rattle.tt_kinds.specs.Scan.{scan, scan_all}
-use Rattle.tt_kinds.specs.Shape.{Shape, Shapes, term, node, stored, none, also, append, item_shapes, Meaning, vars_of, name_of, rename_kind, rename_record, rename_label, fill, fill_all, Sizes, IsPart, AreParts, HasParts, IsTooDeep}
+use Rattle.tt_kinds.specs.Shape.{Shape, Shapes, term, node, stored, none, also, append, item_shapes, Meaning, vars_of}
+use Rattle.tt_kinds.specs.Shape.{name_of, rename_kind, rename_record, rename_label, fill, fill_all, Sizes, IsPart}
+use Rattle.tt_kinds.specs.Shape.{AreParts, HasParts, IsTooDeep}
 use Rattle.tt_kinds.specs.Kinds.{Form, param, bound, plain, under, form_parts, form_binder, form_shape, parts_shapes}
 use Rattle.tt_kinds.proofs.PlainLaws.{outer_binder-binder}
 use Rattle.tt_interner.specs.Stored.{IsInfo}

@@ -36,9 +36,13 @@ use Rattle.tt_kinds.specs.contracts.const_kind.ConstKindPartialEq.TheImpl as con
 use Rattle.tt_kinds.specs.contracts.const_kind.ConstKindEq.TheImpl.Laws as const_kind_laws
 use Rattle.tt_kinds.specs.contracts.pattern.PatternKindPartialEq.TheImpl as pattern_kinds
 use Rattle.tt_kinds.specs.contracts.pattern.PatternKindEq.TheImpl.Laws as pattern_kind_laws
-use Rattle.tt_interner.specs.Rows.{Row, type_row, const_row, pat_row, predicate_row, existential_row, clauses_row, tys_row, consts_row, args_row, pats_row, vars_row, existentials_row, assumptions_row, text_row}
-use Rattle.tt_kinds.proofs.EqualityLaws.{both, handle_eq, handle_exact, two_exact, arg_exact, region_exact, var_exact, kind_exact}
-use Rattle.tt_kinds.proofs.KindEqualityLaws.{const_kind_exact, pattern_kind_exact, predicate_kind_exact, existential_kind_exact}
+use Rattle.tt_interner.specs.Rows.{Row, type_row, const_row, pat_row, predicate_row, existential_row, clauses_row}
+use Rattle.tt_interner.specs.Rows.{tys_row, consts_row, args_row, pats_row, vars_row, existentials_row, assumptions_row}
+use Rattle.tt_interner.specs.Rows.{text_row}
+use Rattle.tt_kinds.proofs.EqualityLaws.{both, handle_eq, handle_exact, two_exact, arg_exact, region_exact, var_exact}
+use Rattle.tt_kinds.proofs.EqualityLaws.{kind_exact}
+use Rattle.tt_kinds.proofs.KindEqualityLaws.{const_kind_exact, pattern_kind_exact, predicate_kind_exact}
+use Rattle.tt_kinds.proofs.KindEqualityLaws.{existential_kind_exact}
 use Rattle.tt_interner.proofs.FoundLaws.{IsKey}
 use Rattle.tt_kinds.specs.Handle.{handle}
 

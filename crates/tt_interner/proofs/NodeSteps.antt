@@ -1,11 +1,14 @@
 -- What a walk reads of stored terms and lists: handles that came before, and children in order.
-use Rattle.std.proofs.Common.{◌≡◌, ℕ, ◌<◌, ⊎_elim, inl, inr, List, [], ◌∷◌, length, slice_get, zero, suc, get_or, Some, Ok, Err, refl, sym, ap, subst, ◌∙◌, arith}
+use Rattle.std.proofs.Common.{◌≡◌, ℕ, ◌<◌, ⊎_elim, inl, inr, List, [], ◌∷◌, length, slice_get, zero, suc, get_or, Some}
+use Rattle.std.proofs.Common.{Ok, Err, refl, sym, ap, subst, ◌∙◌, arith}
 use Rattle.std.specs.Prelude.{map, All, Result, IfOk}
 use Rattle.std.proofs.lemmas.List.{length-map}
 use Rattle.std.proofs.lemmas.List.Elements.{All-nil, All-cons}
 use Rattle.std.proofs.lemmas.Option.{slice_get_within, same_Some, none-some, slice_get-get_or}
 use Rattle.tt_index.specs.declared.refusal.Refusal.{Refusal}
-use Rattle.tt_index.specs.declared.refusal.Refusal.TheVariants.{Memory, TableFull, GreatestIndex, NoArguments, ArgOutOfRange, ArgKind, RegionVariable, NotAClause, NoSuchAnswer}
+use Rattle.tt_index.specs.declared.refusal.Refusal.TheVariants.{Memory, TableFull, GreatestIndex, NoArguments}
+use Rattle.tt_index.specs.declared.refusal.Refusal.TheVariants.{ArgOutOfRange, ArgKind, RegionVariable, NotAClause}
+use Rattle.tt_index.specs.declared.refusal.Refusal.TheVariants.{NoSuchAnswer}
 use Rattle.tt_kinds.specs.Handle.{Ty}
 use Rattle.tt_kinds.specs.Handle.{Const}
 use Rattle.tt_kinds.specs.Handle.{Pat}
@@ -25,14 +28,25 @@ use Rattle.tt_kinds.specs.declared.parts.Kind.TheVariants as kind
 use Rattle.tt_kinds.specs.declared.table.Table.{Table}
 use Rattle.tt_kinds.specs.declared.table.Table.TheVariants.{Types, ClauseLists}
 use Rattle.tt_kinds.specs.Label.{Sort, type_sort, const_sort, Label}
-use Rattle.tt_kinds.specs.Shape.{Shape, Shapes, param, bound, region, term, node, binder, stored, part_of, none, also, item_shapes, Meaning, Sizes, fill, fill_all, IsPart, AreParts, HasParts, IsTooDeep}
-use Rattle.tt_kinds.specs.Parts.{child_sort, IsItem, node_table, node_number, list_table, list_number, list_sort, sort_list_table}
+use Rattle.tt_kinds.specs.Shape.{Shape, Shapes, param, bound, region, term, node, binder, stored, part_of, none, also}
+use Rattle.tt_kinds.specs.Shape.{item_shapes, Meaning, Sizes, fill, fill_all, IsPart, AreParts, HasParts, IsTooDeep}
+use Rattle.tt_kinds.specs.Parts.{child_sort, IsItem, node_table, node_number, list_table, list_number, list_sort}
+use Rattle.tt_kinds.specs.Parts.{sort_list_table}
 use Rattle.tt_kinds.specs.Kinds
-use Rattle.tt_kinds.specs.Kinds.{Form, relabelled, refilled, form_binder, form_parts, form_shape, kind_form, kind_sort, ty_shape, const_shape, arg_shape, pat_shape, existential_shape, clause_shape, child_shapes, parts_shapes, children_shapes, items_shape, items_tree, kind_shape, kind_table}
-use Rattle.tt_interner.specs.Rows.{Row, type_row, const_row, pat_row, predicate_row, existential_row, clauses_row, tys_row, consts_row, args_row, pats_row, existentials_row, text_row, kind_row, row_table, row_shape, table, size, meaning, age, AreRows, IsOlder, AreOlder, AreClauses}
-use Rattle.tt_interner.specs.Stored.{Terms, IsAt, IsCause, IsUnbuilt, IsNoClauseList, children_tree, most_in_place, StoresList, Builds}
+use Rattle.tt_kinds.specs.Kinds.{Form, relabelled, refilled, form_binder, form_parts, form_shape, kind_form, kind_sort}
+use Rattle.tt_kinds.specs.Kinds.{ty_shape, const_shape, arg_shape, pat_shape, existential_shape, clause_shape}
+use Rattle.tt_kinds.specs.Kinds.{child_shapes, parts_shapes, children_shapes, items_shape, items_tree, kind_shape}
+use Rattle.tt_kinds.specs.Kinds.{kind_table}
+use Rattle.tt_interner.specs.Rows.{Row, type_row, const_row, pat_row, predicate_row, existential_row, clauses_row}
+use Rattle.tt_interner.specs.Rows.{tys_row, consts_row, args_row, pats_row, existentials_row, text_row, kind_row}
+use Rattle.tt_interner.specs.Rows.{row_table, row_shape, table, size, meaning, age, AreRows, IsOlder, AreOlder}
+use Rattle.tt_interner.specs.Rows.{AreClauses}
+use Rattle.tt_interner.specs.Stored.{Terms, IsAt, IsCause, IsUnbuilt, IsNoClauseList, children_tree, most_in_place}
+use Rattle.tt_interner.specs.Stored.{StoresList, Builds}
 use Rattle.tt_interner.specs.Nodes.{row_kind, stored_kind, BuildsLike}
-use Rattle.tt_interner.specs.Children.{ty_child, const_child, arg_child, pat_child, existential_child, clause_child, children_of, children_at, child_ty, child_const, child_arg, child_pat, child_existential, child_clause, items_row}
+use Rattle.tt_interner.specs.Children.{ty_child, const_child, arg_child, pat_child, existential_child, clause_child}
+use Rattle.tt_interner.specs.Children.{children_of, children_at, child_ty, child_const, child_arg, child_pat}
+use Rattle.tt_interner.specs.Children.{child_existential, child_clause, items_row}
 use Rattle.tt_interner.proofs.RowLaws.{IsNewest, place_cases, row-old, row-new, age-old, age-new}
 use Rattle.tt_interner.proofs.Growth.{Extends-refl}
 use Rattle.tt_interner.proofs.Trees.{Means-row, row_within}

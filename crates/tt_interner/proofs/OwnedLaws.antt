@@ -1,5 +1,6 @@
 -- Lists whose items are an interner's, for any shape of the items.
-use Rattle.std.proofs.Common.{◌≡◌, ℕ, zero, suc, ◌<◌, List, [], ◌∷◌, ◌++◌, length, get_or, slice_get, set, take, drop, replicate, All, Option, Some, refl, subst, sym, arith}
+use Rattle.std.proofs.Common.{◌≡◌, ℕ, zero, suc, ◌<◌, List, [], ◌∷◌, ◌++◌, length, get_or, slice_get, set, take, drop}
+use Rattle.std.proofs.Common.{replicate, All, Option, Some, refl, subst, sym, arith}
 use Rattle.std.proofs.lemmas.Option.{none-some, same_Some}
 use Rattle.tt_kinds.specs.Shape.{Shape, item_shapes}
 use Rattle.tt_kinds.specs.Values.{option_shape}

@@ -1,5 +1,6 @@
 -- What a call owes that finds or adds an entry by one look-up, by what its value was.
-use Rattle.std.proofs.Common.{◌≡◌, ℕ, ◌<◌, ◌≤◌, Bool, List, [], ◌∷◌, ◌++◌, length, position, Some, None, Result, Ok, Err, ◌⊎◌, inl, inr, refl, sym, ap, subst, ◌∙◌, arith}
+use Rattle.std.proofs.Common.{◌≡◌, ℕ, ◌<◌, ◌≤◌, Bool, List, [], ◌∷◌, ◌++◌, length, position, Some, None, Result, Ok}
+use Rattle.std.proofs.Common.{Err, ◌⊎◌, inl, inr, refl, sym, ap, subst, ◌∙◌, arith}
 use Rattle.std.specs.Map.{keys_of, lookup}
 use Rattle.tt_kinds.specs.declared.table.Table.{Table}
 use Rattle.tt_flags.specs.declared.flag_computation.FlagComputation.{FlagComputation}

@@ -10,7 +10,8 @@ use Rattle.tt_kinds.specs.declared.bound.BoundTyKind.TheVariants as ty_var_kind
 use Rattle.tt_kinds.specs.declared.bound.BoundVariableKind.{BoundVariableKind}
 use Rattle.tt_kinds.specs.declared.bound.BoundVariableKind.TheVariants as variable
 use Rattle.tt_kinds.specs.declared.region_kind.RegionKind.{RegionKind}
-use Rattle.tt_kinds.specs.declared.region_kind.RegionKind.TheVariants.{ReEarlyParam, ReBound, ReLateParam, ReStatic, ReVar, RePlaceholder, ReErased, ReError}
+use Rattle.tt_kinds.specs.declared.region_kind.RegionKind.TheVariants.{ReEarlyParam, ReBound, ReLateParam, ReStatic}
+use Rattle.tt_kinds.specs.declared.region_kind.RegionKind.TheVariants.{ReVar, RePlaceholder, ReErased, ReError}
 use Rattle.tt_kinds.specs.declared.generic_arg.GenericArgKind.{GenericArgKind}
 use Rattle.tt_kinds.specs.declared.generic_arg.GenericArgKind.TheVariants as arg
 use Rattle.tt_kinds.specs.declared.term.Term.{Term}
@@ -34,15 +35,37 @@ use Rattle.tt_kinds.specs.declared.predicate_kind.PredicateKind.TheVariants as p
 use Rattle.tt_kinds.specs.declared.existential.ExistentialPredicate.{ExistentialPredicate}
 use Rattle.tt_kinds.specs.declared.existential.ExistentialPredicate.TheVariants as existential
 use Rattle.tt_kinds.specs.declared.table.Table.{Table}
-use Rattle.tt_kinds.specs.declared.table.Table.TheVariants.{Types, Consts, TypeLists, ConstLists, PatternLists, ExistentialLists, AssumptionLists, VarLists, Symbols}
-use Rattle.tt_kinds.specs.Label.{Sort, type_sort, const_sort, RegionName, anonymous, printed, named, environment, VarKind, region_variable, type_variable, const_variable, FreeRegion, static_region, erased_region, region_var, error_region, late_param_region, placeholder_region, TypeLabel, bool_type, char_type, int_type, uint_type, float_type, str_type, never_type, placeholder_type, infer_type, error_type, ref_type, raw_ptr_type, slice_type, tuple_type, fn_ptr_type, foreign_type, adt_type, fn_def_type, array_type, pat_type, unsafe_binder_type, dynamic_type, closure_type, coroutine_closure_type, coroutine_type, coroutine_witness_type, alias_type, ConstLabel, infer_const, placeholder_const, unevaluated_const, leaf_const, branch_const, error_const, expr_const, PatternLabel, range_pattern, or_pattern, not_null_pattern, RecordLabel, trait_record, host_effect_record, region_outlives_record, type_outlives_record, projection_record, const_has_type_record, well_formed_record, const_evaluatable_record, unstable_feature_record, dyn_compatible_record, subtype_record, coerce_record, const_equate_record, ambiguous_record, normalizes_to_record, alias_relate_record, existential_trait_record, existential_projection_record, auto_trait_record, Label, type_label, const_label, pattern_label, predicate_label, existential_label, clause_list_label, list_label, var_list_label, text_label, declaration_label, definition_label, record_label, error_label, clause_label, label_table}
+use Rattle.tt_kinds.specs.declared.table.Table.TheVariants.{Types, Consts, TypeLists, ConstLists, PatternLists}
+use Rattle.tt_kinds.specs.declared.table.Table.TheVariants.{ExistentialLists, AssumptionLists, VarLists, Symbols}
+use Rattle.tt_kinds.specs.Label.{Sort, type_sort, const_sort, RegionName, anonymous, printed, named, environment}
+use Rattle.tt_kinds.specs.Label.{VarKind, region_variable, type_variable, const_variable, FreeRegion, static_region}
+use Rattle.tt_kinds.specs.Label.{erased_region, region_var, error_region, late_param_region, placeholder_region}
+use Rattle.tt_kinds.specs.Label.{TypeLabel, bool_type, char_type, int_type, uint_type, float_type, str_type, never_type}
+use Rattle.tt_kinds.specs.Label.{placeholder_type, infer_type, error_type, ref_type, raw_ptr_type, slice_type}
+use Rattle.tt_kinds.specs.Label.{tuple_type, fn_ptr_type, foreign_type, adt_type, fn_def_type, array_type, pat_type}
+use Rattle.tt_kinds.specs.Label.{unsafe_binder_type, dynamic_type, closure_type, coroutine_closure_type, coroutine_type}
+use Rattle.tt_kinds.specs.Label.{coroutine_witness_type, alias_type, ConstLabel, infer_const, placeholder_const}
+use Rattle.tt_kinds.specs.Label.{unevaluated_const, leaf_const, branch_const, error_const, expr_const, PatternLabel}
+use Rattle.tt_kinds.specs.Label.{range_pattern, or_pattern, not_null_pattern, RecordLabel, trait_record}
+use Rattle.tt_kinds.specs.Label.{host_effect_record, region_outlives_record, type_outlives_record, projection_record}
+use Rattle.tt_kinds.specs.Label.{const_has_type_record, well_formed_record, const_evaluatable_record}
+use Rattle.tt_kinds.specs.Label.{unstable_feature_record, dyn_compatible_record, subtype_record, coerce_record}
+use Rattle.tt_kinds.specs.Label.{const_equate_record, ambiguous_record, normalizes_to_record, alias_relate_record}
+use Rattle.tt_kinds.specs.Label.{existential_trait_record, existential_projection_record, auto_trait_record, Label}
+use Rattle.tt_kinds.specs.Label.{type_label, const_label, pattern_label, predicate_label, existential_label}
+use Rattle.tt_kinds.specs.Label.{clause_list_label, list_label, var_list_label, text_label, declaration_label}
+use Rattle.tt_kinds.specs.Label.{definition_label, record_label, error_label, clause_label, label_table}
 use Rattle.tt_kinds.specs.Tree as tree
 use Rattle.tt_kinds.specs.Tree.{Depth, at, canonical}
 use Rattle.tt_kinds.specs.Bound.{depth, region_name, var_kind}
 use Rattle.tt_kinds.specs.Parts.{term_child}
-use Rattle.tt_kinds.specs.Shape.{Shape, Shapes, param, bound, region, term, node, binder, stored, none, also, append, Meaning, fill, name_of, text_of, vars_of, item_shapes, sort_table}
+use Rattle.tt_kinds.specs.Shape.{Shape, Shapes, param, bound, region, term, node, binder, stored, none, also, append}
+use Rattle.tt_kinds.specs.Shape.{Meaning, fill, name_of, text_of, vars_of, item_shapes, sort_table}
 use Rattle.tt_kinds.specs.Kinds as form
-use Rattle.tt_kinds.specs.Kinds.{Form, ty_form, const_form, form_shape, relabelled, value_form, clause_form, predicate_form, existential_form, parts_shapes, child_shapes, ty_kind_shape, const_kind_shape, pattern_kind_shape, region_shape, ty_shape, const_shape, arg_shape, pat_shape, existential_shape, clause_shape}
+use Rattle.tt_kinds.specs.Kinds.{Form, ty_form, const_form, form_shape, relabelled, value_form, clause_form}
+use Rattle.tt_kinds.specs.Kinds.{predicate_form, existential_form, parts_shapes, child_shapes, ty_kind_shape}
+use Rattle.tt_kinds.specs.Kinds.{const_kind_shape, pattern_kind_shape, region_shape, ty_shape, const_shape, arg_shape}
+use Rattle.tt_kinds.specs.Kinds.{pat_shape, existential_shape, clause_shape}
 use Rattle.tt_kinds.specs.Values.{assumption_shape, item_label, declared_shapes}
 use Rattle.tt_kinds.specs.Label.{ItemLabel, trait_item, assoc_ty_item, inherent_item, fn_item, plain_item}
 use Rattle.tt_kinds.specs.declared.declaration.DeclarationKind.{DeclarationKind}
@@ -53,7 +76,9 @@ use Rattle.tt_kinds.specs.declared.fn_sig.FnSig.{FnSig}
 use Rattle.tt_kinds.specs.declared.fn_sig.FnSigKind.{FnSigKind}
 use Rattle.tt_kinds.specs.declared.binder.Binder.{Binder}
 use Rattle.tt_kinds.specs.declared.binder.EarlyBinder.{EarlyBinder}
-use Rattle.tt_interner.specs.Rows.{Row, type_row, const_row, pat_row, predicate_row, existential_row, clauses_row, tys_row, consts_row, args_row, pats_row, vars_row, existentials_row, assumptions_row, text_row, declared_row, defined_row, row_table, row_shape}
+use Rattle.tt_interner.specs.Rows.{Row, type_row, const_row, pat_row, predicate_row, existential_row, clauses_row}
+use Rattle.tt_interner.specs.Rows.{tys_row, consts_row, args_row, pats_row, vars_row, existentials_row, assumptions_row}
+use Rattle.tt_interner.specs.Rows.{text_row, declared_row, defined_row, row_table, row_shape}
 use Rattle.tt_interner.proofs.Fill.{tree_table, label_table-rename}
 use Rattle.tt_kinds.specs.Id.{id_of}
 use Rattle.tt_kinds.specs.Handle.{handle}

@@ -1,5 +1,7 @@
 -- What the tables hold, once an entry comes.
-use Rattle.std.proofs.Common.{◌≡◌, ℕ, zero, suc, ◌+◌, ◌<◌, ◌≤◌, ⊎_elim, Bool, true, false, List, [], ◌∷◌, ◌++◌, length, map, slice_get, reverse, position, Option, Some, None, Result, Ok, Err, ◌⊎◌, refl, sym, ap, subst, ◌∙◌, arith}
+use Rattle.std.proofs.Common.{◌≡◌, ℕ, zero, suc, ◌+◌, ◌<◌, ◌≤◌, ⊎_elim, Bool, true, false, List, [], ◌∷◌, ◌++◌, length}
+use Rattle.std.proofs.Common.{map, slice_get, reverse, position, Option, Some, None, Result, Ok, Err, ◌⊎◌, refl, sym}
+use Rattle.std.proofs.Common.{ap, subst, ◌∙◌, arith}
 use Rattle.std.proofs.lemmas.List.{length_push, reverse-append, length-map, map-append}
 use Rattle.std.proofs.lemmas.Bool.{cases_lt, false≢true}
 use Rattle.std.proofs.lemmas.Option.{slice_get_within, same_Some, none-some}
@@ -7,7 +9,10 @@ use Rattle.std.proofs.lemmas.Map.{none_passes_from_lookup}
 use Rattle.std.specs.Option.{option_map}
 use Rattle.std.specs.Map.{keys_of, values_of, lookup}
 use Rattle.tt_kinds.specs.declared.table.Table.{Table}
-use Rattle.tt_kinds.specs.declared.table.Table.TheVariants.{Types, Consts, Patterns, Predicates, Existentials, ClauseLists, TypeLists, ConstLists, ArgLists, PatternLists, VarLists, ExistentialLists, AssumptionLists, Symbols, Declarations, Definitions}
+use Rattle.tt_kinds.specs.declared.table.Table.TheVariants.{Types, Consts, Patterns, Predicates, Existentials}
+use Rattle.tt_kinds.specs.declared.table.Table.TheVariants.{ClauseLists, TypeLists, ConstLists, ArgLists, PatternLists}
+use Rattle.tt_kinds.specs.declared.table.Table.TheVariants.{VarLists, ExistentialLists, AssumptionLists, Symbols}
+use Rattle.tt_kinds.specs.declared.table.Table.TheVariants.{Declarations, Definitions}
 use Rattle.tt_flags.specs.FlagComputation.{computed}
 use Rattle.tt_flags.specs.declared.flag_computation.FlagComputation.{FlagComputation}
 use Rattle.tt_kinds.specs.Tree.{Tree, Depth}
@@ -16,16 +21,21 @@ use Rattle.tt_index.specs.declared.refusal.Refusal.TheVariants.{Memory, TableFul
 use Rattle.tt_kinds.specs.Label.{clause_list_label, list_label, var_list_label, text_label}
 use Rattle.tt_kinds.specs.Shape.{none, fill, HasParts}
 use Rattle.tt_kinds.specs.Range.{IndicesFitIn}
-use Rattle.tt_interner.specs.Rows.{Row, clauses_row, tys_row, consts_row, args_row, pats_row, vars_row, existentials_row, assumptions_row, text_row, row_table, row_shape, is_in, table, size, meaning, IsNew, IsWellFormed, AreRows}
+use Rattle.tt_interner.specs.Rows.{Row, clauses_row, tys_row, consts_row, args_row, pats_row, vars_row}
+use Rattle.tt_interner.specs.Rows.{existentials_row, assumptions_row, text_row, row_table, row_shape, is_in, table}
+use Rattle.tt_interner.specs.Rows.{size, meaning, IsNew, IsWellFormed, AreRows}
 use Rattle.tt_interner.specs.Stored.{Terms, Counters, Adds, IsInfo, HasFirst, IsAt, first_rows, anonymous_text}
 use Rattle.tt_interner.specs.Info.{keeps_info}
 use Rattle.std.specs.Prelude.{IsTrue}
-use Rattle.tt_interner.specs.Tables.{Entry, Tables, entries_of, with_entries, push, rows_of, infos_of, reversed, merged, rows_in_order, entries_by, listed_by, AreInfos, AreTables, Keeps, no_info}
-use Rattle.tt_interner.proofs.RowLaws.{in_table, is_in_own, table-other, table-new, meaning-old, meaning-new, slice_get-push_before, slice_get-push_last, row-old}
+use Rattle.tt_interner.specs.Tables.{Entry, Tables, entries_of, with_entries, push, rows_of, infos_of, reversed, merged}
+use Rattle.tt_interner.specs.Tables.{rows_in_order, entries_by, listed_by, AreInfos, AreTables, Keeps, no_info}
+use Rattle.tt_interner.proofs.RowLaws.{in_table, is_in_own, table-other, table-new, meaning-old, meaning-new}
+use Rattle.tt_interner.proofs.RowLaws.{slice_get-push_before, slice_get-push_last, row-old}
 use Rattle.tt_interner.proofs.InfoLaws.{info_node, info_term, infos_none}
 use Rattle.tt_interner.proofs.StoreSteps.{Adds-ok, Adds-err}
 use Rattle.tt_interner.proofs.Trees.{Means-row}
-use Rattle.tt_interner.proofs.FoundLaws.{no_value, value_place, slice_get-rows, IsKey, found_row, new_row, absent_row, IsNew-from_table, IsNew-table}
+use Rattle.tt_interner.proofs.FoundLaws.{no_value, value_place, slice_get-rows, IsKey, found_row, new_row, absent_row}
+use Rattle.tt_interner.proofs.FoundLaws.{IsNew-from_table, IsNew-table}
 use Rattle.tt_index.specs.Greatest.{greatest}
 
 -- The only lemmas with a line for each table.

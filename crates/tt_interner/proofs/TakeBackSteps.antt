@@ -1,22 +1,30 @@
 -- What the tables hold, once the newest existential predicates are taken back.
-use Rattle.std.proofs.Common.{◌≡◌, ℕ, zero, suc, ◌+◌, ◌≤◌, List, [], ◌∷◌, ◌++◌, length, map, slice_get, reverse, take, drop, Some, ◌⊎◌, inl, inr, refl, sym, ap, subst, ◌∙◌, arith}
-use Rattle.std.proofs.lemmas.List.{length_push, length-map, length-reverse, map-append, reverse-append, same_from_push, take-append-le, take-map}
+use Rattle.std.proofs.Common.{◌≡◌, ℕ, zero, suc, ◌+◌, ◌≤◌, List, [], ◌∷◌, ◌++◌, length, map, slice_get, reverse, take}
+use Rattle.std.proofs.Common.{drop, Some, ◌⊎◌, inl, inr, refl, sym, ap, subst, ◌∙◌, arith}
+use Rattle.std.proofs.lemmas.List.{length_push, length-map, length-reverse, map-append, reverse-append, same_from_push}
+use Rattle.std.proofs.lemmas.List.{take-append-le, take-map}
 use Rattle.std.proofs.lemmas.Option.{slice_get_within}
 use Rattle.std.proofs.Math.Seq.{take-length}
 use Rattle.tt_flags.specs.declared.flag_computation.FlagComputation.{FlagComputation}
 use Rattle.tt_kinds.specs.declared.binder.Binder.{Binder}
 use Rattle.tt_kinds.specs.declared.existential.ExistentialPredicate.{ExistentialPredicate}
 use Rattle.tt_kinds.specs.declared.table.Table.{Table}
-use Rattle.tt_kinds.specs.declared.table.Table.TheVariants.{Types, Consts, Patterns, Predicates, Existentials, ClauseLists, TypeLists, ConstLists, ArgLists, PatternLists, VarLists, ExistentialLists, AssumptionLists, Symbols, Declarations, Definitions}
+use Rattle.tt_kinds.specs.declared.table.Table.TheVariants.{Types, Consts, Patterns, Predicates, Existentials}
+use Rattle.tt_kinds.specs.declared.table.Table.TheVariants.{ClauseLists, TypeLists, ConstLists, ArgLists, PatternLists}
+use Rattle.tt_kinds.specs.declared.table.Table.TheVariants.{VarLists, ExistentialLists, AssumptionLists, Symbols}
+use Rattle.tt_kinds.specs.declared.table.Table.TheVariants.{Declarations, Definitions}
 use Rattle.tt_interner.specs.Rows.{Row, existential_row, text_row, row_table, table, size, AreRows}
 use Rattle.tt_interner.specs.Stored.{Terms, Counters, IsInfo, first_rows, anonymous_text}
 use Rattle.tt_interner.specs.Info.{keeps_info}
 use Rattle.std.specs.Prelude.{IsTrue}
-use Rattle.tt_interner.specs.Tables.{Entry, Tables, entries_of, with_entries, push, rows_of, infos_of, reversed, newest, older, merged, rows_in_order, entries_by, AreInfos, AreTables, Keeps}
+use Rattle.tt_interner.specs.Tables.{Entry, Tables, entries_of, with_entries, push, rows_of, infos_of, reversed, newest}
+use Rattle.tt_interner.specs.Tables.{older, merged, rows_in_order, entries_by, AreInfos, AreTables, Keeps}
 use Rattle.tt_interner.specs.Existentials.{AreExistentials}
-use Rattle.tt_interner.proofs.RowLaws.{table-other, table-new, meaning-old, slice_get-push_before, slice_get-push_last, size-more}
+use Rattle.tt_interner.proofs.RowLaws.{table-other, table-new, meaning-old, slice_get-push_before, slice_get-push_last}
+use Rattle.tt_interner.proofs.RowLaws.{size-more}
 use Rattle.tt_interner.proofs.Trees.{Means-row}
-use Rattle.tt_interner.proofs.TableLaws.{entries_of-other, rows_in_order-push, size_own, apart, by_table, rows_of-push, infos_of-push}
+use Rattle.tt_interner.proofs.TableLaws.{entries_of-other, rows_in_order-push, size_own, apart, by_table, rows_of-push}
+use Rattle.tt_interner.proofs.TableLaws.{infos_of-push}
 
 -- there are as many rows as tables in the order
 merged-length : (order : List Table) (ts : Tables) → length (merged order ts) ≡ length order

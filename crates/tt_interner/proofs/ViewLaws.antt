@@ -6,15 +6,20 @@ use Rattle.tt_kinds.specs.declared.parts.Child.{Child}
 use Rattle.tt_kinds.specs.declared.parts.Child.TheVariants as child
 use Rattle.tt_kinds.specs.declared.parts.Parts.{Parts}
 use Rattle.tt_kinds.specs.declared.region_kind.RegionKind.{RegionKind}
-use Rattle.tt_kinds.specs.declared.region_kind.RegionKind.TheVariants.{ReEarlyParam, ReBound, ReLateParam, ReStatic, ReVar, RePlaceholder, ReErased, ReError}
+use Rattle.tt_kinds.specs.declared.region_kind.RegionKind.TheVariants.{ReEarlyParam, ReBound, ReLateParam, ReStatic}
+use Rattle.tt_kinds.specs.declared.region_kind.RegionKind.TheVariants.{ReVar, RePlaceholder, ReErased, ReError}
 use Rattle.tt_kinds.specs.Label.{Sort, type_sort, const_sort, Label, type_label, const_label}
-use Rattle.tt_kinds.specs.Kinds.{Form, param, bound, plain, under, relabelled, form_shape, ty_form, const_form, pattern_form, predicate_form, existential_form, region_shape, ty_shape, const_shape, pat_shape, existential_shape, clause_shape, arg_shape, child_shapes, parts_shapes}
+use Rattle.tt_kinds.specs.Kinds.{Form, param, bound, plain, under, relabelled, form_shape, ty_form, const_form}
+use Rattle.tt_kinds.specs.Kinds.{pattern_form, predicate_form, existential_form, region_shape, ty_shape, const_shape}
+use Rattle.tt_kinds.specs.Kinds.{pat_shape, existential_shape, clause_shape, arg_shape, child_shapes, parts_shapes}
 use Rattle.tt_kinds.specs.Shape.{Shape, Shapes, none, also, append, item_shapes}
 use Rattle.tt_kinds.specs.Variant.{Variant}
 use Rattle.tt_kinds.specs.Handle.{Symbol}
 use Rattle.tt_kinds.specs.Values.{assumption_shape, symbol_shape, option_shape, field_def_shape, variant_shape}
 use Rattle.tt_kinds.proofs.ValueLaws.{declared_by}
-use Rattle.tt_interner.specs.Rows.{Row, type_row, const_row, pat_row, predicate_row, existential_row, clauses_row, tys_row, consts_row, args_row, pats_row, vars_row, existentials_row, assumptions_row, text_row, declared_row, defined_row, row_shape}
+use Rattle.tt_interner.specs.Rows.{Row, type_row, const_row, pat_row, predicate_row, existential_row, clauses_row}
+use Rattle.tt_interner.specs.Rows.{tys_row, consts_row, args_row, pats_row, vars_row, existentials_row, assumptions_row}
+use Rattle.tt_interner.specs.Rows.{text_row, declared_row, defined_row, row_shape}
 use Rattle.tt_interner.proofs.Fill.{HasNoView, HaveNoViews}
 
 region_no_view : (r : RegionKind) → HasNoView (region_shape r)

@@ -1,5 +1,6 @@
 -- Aliases of types: their self types, and the traits and own arguments of projections.
-use Rattle.std.specs.Prelude.{◌≡◌, ◌⊎◌, ℕ, ◌-◌, ◌<◌, ◌≤◌, List, [], ◌∷◌, ◌++◌, take, drop, length, Option, Some, None, Result, IfOk}
+use Rattle.std.specs.Prelude.{◌≡◌, ℕ, ◌-◌, ◌<◌, ◌≤◌, List, [], ◌∷◌, ◌++◌, take, drop, length, Option, Some, None}
+use Rattle.std.specs.Prelude.{Result, IfOk}
 use Rattle.tt_index.specs.declared.refusal.Refusal.{Refusal}
 use Rattle.tt_kinds.specs.Alias.{alias_sort, alias_number}
 use Rattle.tt_kinds.specs.GenericArg.{type_of}
@@ -40,7 +41,8 @@ abbrev pub with_self_ty : Ty → List GenericArgKind → List GenericArgKind
 with_self_ty ty items = arg.«Type» ty ∷ drop 1 items
 
 -- the result is the list of these arguments with the type in place of the first, or a refusal
-pub record ReplacesSelfTy {H : Type 0} (result : Result H Refusal) (number : H → ℕ) (old new : Terms) (args : GenericArgs) (ty : Ty) : Type 0 where
+pub record ReplacesSelfTy {H : Type 0} (result : Result H Refusal) (number : H → ℕ) (old new : Terms)
+    (args : GenericArgs) (ty : Ty) : Type 0 where
   pub items : List GenericArgKind
   pub stored : IsAt old.rows (args_row items) args.number
   pub builds : BuildsCollected result number old new (args_row (with_self_ty ty items))
@@ -51,15 +53,19 @@ HasTraitDefId rows kind = (alias_sort kind ≡ sort.AssocTy) × IsOfSort rows so
 
 -- the alias's declaration is an associated type of the trait
 abbrev pub IsInTrait : List Row → AliasTyKind → Id Trait → Type 0
-IsInTrait rows kind parent = (declared_at rows (record { number = alias_number kind })).kind ≡ declaration.AssocTy parent
+IsInTrait rows kind parent = (declared_at rows (record { number = alias_number kind })).kind
+    ≡ declaration.AssocTy parent
 
 -- the id is the one of a trait that is declared with so many parameters
 abbrev pub HasParams : List Row → Id Trait → ℕ → Type 0
 HasParams rows parent params =
-    (parent.number < size rows Declarations) × ((declared_at rows (record { number = parent.number })).kind ≡ declaration.Trait params)
+    (parent.number < size rows Declarations) × ((declared_at rows (record { number = parent.number })).kind
+    ≡ declaration.Trait params)
 
--- the alias is a projection of the trait, which is declared with so many parameters; the items are the alias's arguments, one for each parameter and no more than can be counted
-pub record TraitArgs (rows : List Row) (alias : AliasTy) (parent : Id Trait) (params : ℕ) (items : List GenericArgKind) : Type 0 where
+-- the alias is a projection of the trait, which is declared with so many parameters; the items are the alias's
+-- arguments, one for each parameter and no more than can be counted
+pub record TraitArgs (rows : List Row) (alias : AliasTy) (parent : Id Trait) (params : ℕ) (items : List GenericArgKind)
+    : Type 0 where
   pub projection : HasTraitDefId rows alias.kind
   pub in_trait : IsInTrait rows alias.kind parent
   pub declared : HasParams rows parent params
@@ -69,7 +75,8 @@ pub record TraitArgs (rows : List Row) (alias : AliasTy) (parent : Id Trait) (pa
 
 -- the alias is a projection of a declared trait, with an argument for each of its parameters
 abbrev pub HasTraitArgs : List Row → AliasTy → Type 0
-HasTraitArgs rows alias = (parent : Id Trait) × (params : ℕ) × (items : List GenericArgKind) × TraitArgs rows alias parent params items
+HasTraitArgs rows alias = (parent : Id Trait) × (params : ℕ) × (items : List GenericArgKind)
+    × TraitArgs rows alias parent params items
 
 -- the view is of the alias's arguments beyond those of its trait
 pub record IsOwnArgs (rows : List Row) (alias : AliasTy) (parent : Id Trait) (own : GenericArgsSlice) : Type 0 where
@@ -79,7 +86,8 @@ pub record IsOwnArgs (rows : List Row) (alias : AliasTy) (parent : Id Trait) (ow
   pub is : own ≡ record { args = alias.args; start = params; len = length items - params }
 
 -- the result is the alias's trait with as many of the alias's arguments as it has parameters, or a refusal
-pub record BuildsTraitRef {H : Type 0} (result : Result H Refusal) (trait_ref : H → TraitRef) (old new : Terms) (alias : AliasTy) : Type 0 where
+pub record BuildsTraitRef {H : Type 0} (result : Result H Refusal) (trait_ref : H → TraitRef) (old new : Terms)
+    (alias : AliasTy) : Type 0 where
   pub parent : Id Trait
   pub params : ℕ
   pub items : List GenericArgKind
@@ -91,13 +99,16 @@ pub record BuildsTraitRef {H : Type 0} (result : Result H Refusal) (trait_ref : 
 abbrev pub viewed : List GenericArgKind → GenericArgsSlice → List GenericArgKind
 viewed items view = take view.len (drop view.start items)
 
--- the lists of a trait reference and of the alias have these items, and those of the first and the view's are all of the second
+-- the lists of a trait reference and of the alias have these items, and those of the first and the view's are all of
+-- the second
 abbrev pub AreJoined : List Row → AliasTy → TraitRef → GenericArgsSlice → Type 0
 AreJoined rows alias trait_ref own =
-    (firsts items : List GenericArgKind) → IsAt rows (args_row firsts) trait_ref.args.number → IsAt rows (args_row items) alias.args.number → firsts ++ viewed items own ≡ items
+    (firsts items : List GenericArgKind) → IsAt rows (args_row firsts) trait_ref.args.number
+    → IsAt rows (args_row items) alias.args.number → firsts ++ viewed items own ≡ items
 
 -- the arguments of an alias's trait reference and then its own arguments are the alias's arguments
 abbrev pub JoinsTraitArgs : Type 0
 JoinsTraitArgs = (old new : Terms) (alias : AliasTy) (result : Result (TraitRef × GenericArgsSlice) Refusal)
-    → BuildsTraitRef result (λ both. both.0) old new alias → IfOk result (λ both. IsOwnArgs old.rows alias both.0.def_id both.1)
+    → BuildsTraitRef result (λ both. both.0) old new alias
+    → IfOk result (λ both. IsOwnArgs old.rows alias both.0.def_id both.1)
     → IfOk result (λ both. AreJoined new.rows alias both.0 both.1)

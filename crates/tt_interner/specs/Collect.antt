@@ -1,5 +1,6 @@
 -- The promises of calls that collect the items of an iterator.
-use Rattle.std.specs.Prelude.{◌≡◌, ◌⊎◌, ℕ, ◌*◌, ◌<◌, ◌^◌, List, Option, Some, Result, Ok, Err, MatchOption, length, map, take}
+use Rattle.std.specs.Prelude.{◌≡◌, ◌⊎◌, ℕ, ◌*◌, ◌<◌, ◌^◌, List, Option, Some, Result, Ok, Err, MatchOption, length, map}
+use Rattle.std.specs.Prelude.{take}
 use Rattle.std.specs.Iterator.{Drains, Yields, YieldsThen}
 use Rattle.std.specs.Mem.{type_size}
 use denote.RattleType.{RattleType}
@@ -14,7 +15,8 @@ FewFit T = most_in_place * type_size T < 2 ^ 63
 
 -- the iterator yields more items than are collected without memory
 abbrev pub YieldsMany : {I A : Type 0} → (I → Option A → I → Type 0) → I → Type 0
-YieldsMany {I} {A} gives it = (items : List A) × (rest : I) × Yields gives it items rest × (most_in_place < length items)
+YieldsMany {I} {A} gives it = (items : List A) × (rest : I) × Yields gives it items rest
+    × (most_in_place < length items)
 
 -- the iterator yields more values than are collected without memory, and no error before them
 abbrev pub YieldsManyOk : {I T E : Type 0} → (I → Option (Result T E) → I → Type 0) → I → Type 0
@@ -35,7 +37,8 @@ abbrev pub BuildsCollected : {H : Type 0} → Result H Refusal → (H → ℕ) �
 BuildsCollected result number old new row = Builds result number old new row ⊎ ((result ≡ Err Memory) × (new ≡ old))
 
 -- the result is the list of all items of the iterator, as a building call returns it, or there is no memory for many
-abbrev pub BuildsFrom : {H I A : Type 0} → Result H Refusal → (H → ℕ) → Terms → Terms → (List A → Row) → (I → Option A → I → Type 0) → I → Type 0
+abbrev pub BuildsFrom : {H I A : Type 0} → Result H Refusal → (H → ℕ) → Terms → Terms → (List A → Row)
+    → (I → Option A → I → Type 0) → I → Type 0
 BuildsFrom {A} result number old new row gives it =
     ((items : List A) × Drains gives it items × Builds result number old new (row items))
     ⊎ (YieldsMany gives it × (result ≡ Err Memory) × (new ≡ old))

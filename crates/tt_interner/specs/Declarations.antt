@@ -29,13 +29,17 @@ declared_at rows id = declaration_of (row_at rows Declarations id.number)
 
 -- a declaration has this number, and is of this sort
 abbrev pub IsOfSort : List Row → DeclarationSort → ℕ → Type 0
-IsOfSort rows sort number = (number < size rows Declarations) × (sort_of (declared_at rows (record { number = number })).kind ≡ sort)
+IsOfSort rows sort number = (number < size rows Declarations)
+    × (sort_of (declared_at rows (record { number = number })).kind ≡ sort)
 
 -- a declaration of this kind and name is added, or refused
-pub record Declares {H : Type 0} (result : Result H Refusal) (number : H → ℕ) (old new : Terms) (kind : DeclarationKind) (name : Symbol) : Type 0 where
+pub record Declares {H : Type 0} (result : Result H Refusal) (number : H → ℕ) (old new : Terms) (kind : DeclarationKind)
+    (name : Symbol) : Type 0 where
   -- its number is the number of declarations before it, so none of them has it
-  pub adds : Adds result number old new (declared_row (size old.rows Declarations) (record { kind = kind; name = name }))
-  pub declared : IfOk result (λ h. declared_at new.rows (record { number = number h }) ≡ record { kind = kind; name = name })
+  pub adds : Adds result number old new (declared_row (size old.rows Declarations)
+      (record { kind = kind; name = name }))
+  pub declared : IfOk result (λ h. declared_at new.rows (record { number = number h })
+      ≡ record { kind = kind; name = name })
 
 -- the name is `'_`
 unfoldable pub is_anonymous : List Row → Symbol → Bool
@@ -43,7 +47,8 @@ is_anonymous rows name = bytes_eq (name_of (meaning rows) name.number) anonymous
 
 -- the name of a bound region: its declaration's, unless that is `'_`, or the name that it is printed by
 abbrev pub title : List Row → BoundRegionKind → Option Symbol
-title rows (region.Named id) = if is_anonymous rows (declared_at rows id).name then None else Some (declared_at rows id).name
+title rows (region.Named id) = if is_anonymous rows (declared_at rows id).name then None else Some
+    (declared_at rows id).name
 title rows (region.NamedForPrinting name) = Some name
 title rows _ = None
 

@@ -1,5 +1,6 @@
 -- The definitions of data types, and the promise of a defining call.
-use Rattle.std.specs.Prelude.{◌≡◌, ℕ, ◌<◌, ◌≤◌, ◌==◌, List, [], ◌∷◌, length, Option, Some, None, is_some, IsTrue, Result, OnOk, OnErr, IfErr, if◌then◌else◌, ⊤}
+use Rattle.std.specs.Prelude.{◌≡◌, ℕ, ◌<◌, ◌≤◌, ◌==◌, List, [], ◌∷◌, length, Option, Some, None, is_some, IsTrue}
+use Rattle.std.specs.Prelude.{Result, OnOk, OnErr, IfErr, if◌then◌else◌, ⊤}
 use Rattle.std.specs.List.{All}
 use Rattle.std.specs.Option.{option_or}
 use Rattle.tt_index.specs.Greatest.{greatest}

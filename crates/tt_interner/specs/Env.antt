@@ -1,5 +1,6 @@
 -- The types that an environment gives a placeholder constant.
-use Rattle.std.specs.Prelude.{◌≡◌, ℕ, ◌==◌, ◌≤◌, Bool, false, ◌&&◌, Option, Some, None, List, [], ◌∷◌, ◌++◌, length, get_or, if◌then◌else◌, ⊤, Result, MatchResult}
+use Rattle.std.specs.Prelude.{◌≡◌, ℕ, ◌==◌, ◌≤◌, Bool, false, ◌&&◌, Option, Some, None, List, [], ◌∷◌, ◌++◌, length}
+use Rattle.std.specs.Prelude.{get_or, if◌then◌else◌, ⊤, Result, MatchResult}
 use Rattle.tt_kinds.specs.Reading.{outer_binder}
 use Rattle.tt_kinds.specs.Handle.{Ty}
 use Rattle.tt_kinds.specs.Handle.{Const}
@@ -85,7 +86,8 @@ IsOneType types result = MatchResult result (λ t. types ≡ t ∷ []) (IsFault 
 -- no variable escapes the constant or the type
 abbrev pub IsClosedBound : List Row → Option (Const × Ty) → Type 0
 IsClosedBound rows None = ⊤
-IsClosedBound rows (Some b) = (outer_binder (meaning rows Consts b.0.number) ≡ 0) × (outer_binder (meaning rows Types b.1.number) ≡ 0)
+IsClosedBound rows (Some b) = (outer_binder (meaning rows Consts b.0.number) ≡ 0)
+    × (outer_binder (meaning rows Types b.1.number) ≡ 0)
 
 -- no variable escapes the constant or the type of any of the clauses that give a constant its type
 abbrev pub AreClosed : List Row → List Clause → Type 0

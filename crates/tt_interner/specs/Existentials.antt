@@ -1,5 +1,6 @@
 -- The promise of a call that builds a list of existential predicates, each under its binder.
-use Rattle.std.specs.Prelude.{◌≡◌, ℕ, ◌<◌, ◌≤◌, List, [], ◌∷◌, ◌++◌, Result, Ok, Err, IfOk, OnOk, OnErr, IfErr, ◌⊎◌, ⊤, All}
+use Rattle.std.specs.Prelude.{◌≡◌, ℕ, ◌<◌, ◌≤◌, List, [], ◌∷◌, ◌++◌, Result, Ok, Err, IfOk, OnOk, OnErr, IfErr, ◌⊎◌, ⊤}
+use Rattle.std.specs.Prelude.{All}
 use Rattle.tt_index.specs.declared.refusal.Refusal.{Refusal}
 use Rattle.tt_index.specs.declared.refusal.Refusal.TheVariants.{Memory, TableFull}
 use Rattle.tt_kinds.specs.Tree.{Tree, Depth}
@@ -39,9 +40,11 @@ pub record StoresWithin (limit : ℕ) (old new : List Row) (r : Row) (n : ℕ) :
   pub room : IsNew r old → size old (row_table r) < limit
 
 -- the predicates were stored one after the other, each under its handle's number
-abbrev pub StoresEach : ℕ → List Row → List Row → List (Binder ExistentialPredicate) → List PolyExistentialPredicate → Type 0
+abbrev pub StoresEach : ℕ → List Row → List Row → List (Binder ExistentialPredicate) → List PolyExistentialPredicate
+    → Type 0
 StoresEach limit old new [] [] = new ≡ old
-StoresEach limit old new (p ∷ ps) (h ∷ hs) = (between : List Row) × StoresWithin limit old between (existential_row p) h.number × StoresEach limit between new ps hs
+StoresEach limit old new (p ∷ ps) (h ∷ hs) = (between : List Row)
+    × StoresWithin limit old between (existential_row p) h.number × StoresEach limit between new ps hs
 StoresEach limit old new _ _ = ⊥
 
 -- the row that is stored after the handles: the first of the predicates that are left, or the list
@@ -50,7 +53,8 @@ next_row hs [] = existentials_row hs
 next_row hs (p ∷ ps) = existential_row p
 
 -- after those that are done, the next row is new, and its table holds its limit
-pub record NextLacksRoom (limit : ℕ) (rows : List Row) (ps done : List (Binder ExistentialPredicate)) (hs : List PolyExistentialPredicate) : Type 0 where
+pub record NextLacksRoom (limit : ℕ) (rows : List Row) (ps done : List (Binder ExistentialPredicate))
+    (hs : List PolyExistentialPredicate) : Type 0 where
   pub left : List (Binder ExistentialPredicate)
   pub split : ps ≡ done ++ left
   pub new : IsNew (next_row hs left) rows
@@ -77,8 +81,10 @@ pub record StoresAll (limit : ℕ) (old new : List Row) (ps : List (Binder Exist
   pub each : StoresEach limit old between ps handles
   pub list : StoresWithin limit between new (existentials_row handles) n
 
--- the result is the list of the predicates, and each of them is added if it is new, as the list is; or it is refused, and nothing was added
-pub record BuildsAll (result : Result BoundExistentialPredicates Refusal) (old new : Terms) (ps : List (Binder ExistentialPredicate)) : Type 0 where
+-- the result is the list of the predicates, and each of them is added if it is new, as the list is; or it is refused,
+-- and nothing was added
+pub record BuildsAll (result : Result BoundExistentialPredicates Refusal) (old new : Terms)
+    (ps : List (Binder ExistentialPredicate)) : Type 0 where
   pub in_range : IfOk result (λ l. l.number < size new.rows ExistentialLists)
   pub means : IfOk result (λ l. meaning new.rows ExistentialLists l.number ≡ predicates_tree old.rows ps)
   pub extends : Extends old new
@@ -87,14 +93,17 @@ pub record BuildsAll (result : Result BoundExistentialPredicates Refusal) (old n
   pub err : OnErr result (new ≡ old)
   pub cause : IfErr result (IsCauseOfEach old ps)
   -- rows that are there are found, and nothing changes
-  pub found : (hs : List PolyExistentialPredicate) (n : ℕ) → AreStored old.rows ps hs → IsAt old.rows (existentials_row hs) n
+  pub found : (hs : List PolyExistentialPredicate) (n : ℕ) → AreStored old.rows ps hs
+      → IsAt old.rows (existentials_row hs) n
       → (((l : BoundExistentialPredicates) × (result ≡ Ok l) × (l.number ≡ n)) × (new ≡ old)) ⊎ LacksItems result ps
   -- if the first row that isn't there has no room, no memory is requested for it
-  pub full : (done : List (Binder ExistentialPredicate)) (hs : List PolyExistentialPredicate) → AreStored old.rows done hs → NextLacksRoom old.limit old.rows ps done hs
+  pub full : (done : List (Binder ExistentialPredicate)) (hs : List PolyExistentialPredicate)
+      → AreStored old.rows done hs → NextLacksRoom old.limit old.rows ps done hs
       → (result ≡ Err TableFull) ⊎ LacksItems result ps
 
 -- some of the predicates were stored, and the result is returned by the last call, which stores the next row
-pub record PutsEach (result : Result BoundExistentialPredicates Refusal) (old new : Terms) (ps : List (Binder ExistentialPredicate)) : Type 0 where
+pub record PutsEach (result : Result BoundExistentialPredicates Refusal) (old new : Terms)
+    (ps : List (Binder ExistentialPredicate)) : Type 0 where
   pub done : List (Binder ExistentialPredicate)
   pub left : List (Binder ExistentialPredicate)
   pub handles : List PolyExistentialPredicate

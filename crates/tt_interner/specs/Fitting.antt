@@ -10,14 +10,17 @@ use Rattle.tt_interner.specs.Rows.{Row, size, meaning, AreRows}
 
 -- each index in a value's tree is in range, if the indices in the value itself are; a handle has none
 abbrev pub StoredIndicesFit : Type 0
-StoredIndicesFit = (rows : List Row) (s : Shape) → AreRows rows → IsPart (size rows) s → IndicesFitIn s → IndicesFit (fill (meaning rows) s)
+StoredIndicesFit = (rows : List Row) (s : Shape) → AreRows rows → IsPart (size rows) s → IndicesFitIn s
+    → IndicesFit (fill (meaning rows) s)
 
 -- so the value fits, if its binders do
 abbrev pub StoredFit : Type 0
-StoredFit = (rows : List Row) (s : Shape) → AreRows rows → IsPart (size rows) s → IndicesFitIn s → BindersFit 0 (fill (meaning rows) s) → Fits (read 0 (fill (meaning rows) s))
+StoredFit = (rows : List Row) (s : Shape) → AreRows rows → IsPart (size rows) s → IndicesFitIn s
+    → BindersFit 0 (fill (meaning rows) s) → Fits (read 0 (fill (meaning rows) s))
 
--- Where no table has more rows than the limit, a value's binders fit under k more if there is room for k, for the value's own
--- and for three times the limit: only types, predicates and existential predicates have a binder.
+-- Where no table has more rows than the limit, a value's binders fit under k more if there is room for k, for the
+-- value's own and for three times the limit: only types, predicates and existential predicates have a binder.
 abbrev pub FewRowsFit : Type 0
-FewRowsFit = (rows : List Row) (limit k : ℕ) (s : Shape) → AreRows rows → ((t : Table) → size rows t ≤ limit) → IsPart (size rows) s
+FewRowsFit = (rows : List Row) (limit k : ℕ) (s : Shape) → AreRows rows → ((t : Table) → size rows t ≤ limit)
+    → IsPart (size rows) s
     → k + binders_in s + 3 * limit ≤ greatest → BindersFit k (fill (meaning rows) s)

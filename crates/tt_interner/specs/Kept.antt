@@ -1,9 +1,12 @@
 -- The contents of an interner's fields.
 use Rattle.std.specs.String.{string_bytes}
 use Rattle.tt_interner.specs.declared.interner.Interner.TheInside.{Inside}
-use Rattle.tt_interner.specs.Rows.{type_row, const_row, pat_row, predicate_row, existential_row, clauses_row, tys_row, consts_row, args_row, pats_row, vars_row, existentials_row, assumptions_row, text_row}
+use Rattle.tt_interner.specs.Rows.{type_row, const_row, pat_row, predicate_row, existential_row, clauses_row, tys_row}
+use Rattle.tt_interner.specs.Rows.{consts_row, args_row, pats_row, vars_row, existentials_row, assumptions_row}
+use Rattle.tt_interner.specs.Rows.{text_row}
 use Rattle.tt_interner.specs.Stored.{Terms}
-use Rattle.tt_interner.specs.Tables.{Tables, no_info, entries_by, declared_entries, defined_entries, rows_in_order, Keeps}
+use Rattle.tt_interner.specs.Tables.{Tables, no_info, entries_by, declared_entries, defined_entries, rows_in_order}
+use Rattle.tt_interner.specs.Tables.{Keeps}
 
 -- the tables
 abbrev pub tables : Inside → Tables

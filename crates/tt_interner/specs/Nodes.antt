@@ -8,7 +8,8 @@ use Rattle.tt_kinds.specs.declared.parts.Kind.{Kind}
 use Rattle.tt_kinds.specs.declared.parts.Kind.TheVariants as kind
 use Rattle.tt_kinds.specs.declared.parts.Node.{Node}
 use Rattle.tt_kinds.specs.declared.parts.Parts.{Parts}
-use Rattle.tt_interner.specs.Rows.{Row, type_row, const_row, pat_row, predicate_row, existential_row, text_row, kind_row, table}
+use Rattle.tt_interner.specs.Rows.{Row, type_row, const_row, pat_row, predicate_row, existential_row, text_row}
+use Rattle.tt_interner.specs.Rows.{kind_row, table}
 use Rattle.tt_interner.specs.Stored.{Terms, Builds}
 
 -- the kind of a row, which is never a list or a text

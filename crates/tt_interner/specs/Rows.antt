@@ -1,10 +1,14 @@
 -- The rows of an interner, newest first, and what its handles mean.
-use Rattle.std.specs.Prelude.{◌≢◌, ◌≡◌, ℕ, ◌==◌, ◌<◌, ◌≤◌, Bool, ◌&&◌, List, [], ◌∷◌, ◌++◌, length, ⊤, if◌then◌else◌, IsTrue}
+use Rattle.std.specs.Prelude.{◌≢◌, ◌≡◌, ℕ, ◌==◌, ◌<◌, ◌≤◌, Bool, ◌&&◌, List, [], ◌∷◌, ◌++◌, length, ⊤, if◌then◌else◌}
+use Rattle.std.specs.Prelude.{IsTrue}
 use Rattle.tt_kinds.specs.Tree as tree
 use Rattle.tt_kinds.specs.Label.{text_label}
-use Rattle.tt_kinds.specs.Shape.{Shape, Shapes, param, bound, region, term, node, binder, stored, part_of, none, also, Meaning, fill, Sizes, HasParts}
+use Rattle.tt_kinds.specs.Shape.{Shape, Shapes, param, bound, region, term, node, binder, stored, part_of, none, also}
+use Rattle.tt_kinds.specs.Shape.{Meaning, fill, Sizes, HasParts}
 use Rattle.tt_kinds.specs.Range.{IndicesFitIn}
-use Rattle.tt_kinds.specs.Kinds.{ty_kind_shape, const_kind_shape, pattern_kind_shape, predicate_kind_shape, existential_kind_shape, clauses_row_shape, tys_row_shape, consts_row_shape, args_row_shape, pats_row_shape, vars_row_shape, existentials_row_shape, text_row_shape}
+use Rattle.tt_kinds.specs.Kinds.{ty_kind_shape, const_kind_shape, pattern_kind_shape, predicate_kind_shape}
+use Rattle.tt_kinds.specs.Kinds.{existential_kind_shape, clauses_row_shape, tys_row_shape, consts_row_shape}
+use Rattle.tt_kinds.specs.Kinds.{args_row_shape, pats_row_shape, vars_row_shape, existentials_row_shape, text_row_shape}
 use Rattle.tt_kinds.specs.Variant.{Variant, HasIndices}
 use Rattle.tt_kinds.specs.Values.{assumptions_row_shape, declaration_row_shape, definition_row_shape}
 use Rattle.tt_kinds.specs.Handle.{Ty}
@@ -26,7 +30,10 @@ use Rattle.tt_kinds.specs.declared.parts.Kind.{Kind}
 use Rattle.tt_kinds.specs.declared.parts.Kind.TheVariants as kind
 use Rattle.tt_interner.specs.Clauses.{is_clause_tree}
 use Rattle.tt_kinds.specs.declared.table.Table.{Table}
-use Rattle.tt_kinds.specs.declared.table.Table.TheVariants.{Types, Consts, Patterns, Predicates, Existentials, ClauseLists, TypeLists, ConstLists, ArgLists, PatternLists, VarLists, ExistentialLists, AssumptionLists, Symbols, Declarations, Definitions}
+use Rattle.tt_kinds.specs.declared.table.Table.TheVariants.{Types, Consts, Patterns, Predicates, Existentials}
+use Rattle.tt_kinds.specs.declared.table.Table.TheVariants.{ClauseLists, TypeLists, ConstLists, ArgLists, PatternLists}
+use Rattle.tt_kinds.specs.declared.table.Table.TheVariants.{VarLists, ExistentialLists, AssumptionLists, Symbols}
+use Rattle.tt_kinds.specs.declared.table.Table.TheVariants.{Declarations, Definitions}
 
 -- a row: one stored term, list, text, declaration or definition
 pub data Row : Type 0 where
@@ -130,7 +137,8 @@ size rows t = length (table t rows)
 -- the tree of a handle: its row's shape filled, whose handles mean what they meant before the row came
 unfoldable pub meaning : List Row → Meaning
 meaning [] t n = tree.node (text_label []) tree.none
-meaning (r ∷ rows) t n = if is_in t r && (n == length (table t rows)) then fill (meaning rows) (row_shape r) else meaning rows t n
+meaning (r ∷ rows) t n = if is_in t r && (n == length (table t rows)) then fill (meaning rows)
+    (row_shape r) else meaning rows t n
 
 -- how many rows of all tables came before the row of a handle
 unfoldable pub age : List Row → Table → ℕ → ℕ
@@ -161,7 +169,8 @@ IsWellFormed rows _ = ⊤
 -- each row is stored once, names only rows before it, has no index of the greatest or above, and is well-formed
 unfoldable pub AreRows : List Row → Type 0
 AreRows [] = ⊤
-AreRows (r ∷ rows) = HasParts (size rows) (row_shape r) × IsNew r rows × IndicesFitIn (row_shape r) × IsWellFormed rows r × AreRows rows
+AreRows (r ∷ rows) = HasParts (size rows) (row_shape r) × IsNew r rows × IndicesFitIn (row_shape r)
+    × IsWellFormed rows r × AreRows rows
 
 -- the handles in a shape came before so many rows
 abbrev mutual

@@ -1,5 +1,6 @@
 -- An interner as contracts see it, and the promises of its calls.
-use Rattle.std.specs.Prelude.{◌≡◌, ℕ, ◌+◌, ◌<◌, ◌≤◌, List, [], ◌∷◌, Result, Ok, Err, IfOk, OnOk, OnErr, IfErr, Some, ◌⊎◌, ⊤, length, slice_get, nat_lt, cond, codes}
+use Rattle.std.specs.Prelude.{◌≡◌, ℕ, ◌+◌, ◌<◌, ◌≤◌, List, [], ◌∷◌, Result, Ok, Err, IfOk, OnOk, OnErr, IfErr, Some}
+use Rattle.std.specs.Prelude.{◌⊎◌, ⊤, length, slice_get, nat_lt, cond, codes}
 use Rattle.tt_flags.specs.declared.flag_computation.FlagComputation.{FlagComputation}
 use Rattle.tt_index.specs.declared.refusal.Refusal.{Refusal}
 use Rattle.tt_index.specs.declared.refusal.Refusal.TheVariants.{Memory, TableFull, GreatestIndex, NotAClause}
@@ -16,7 +17,9 @@ use Rattle.tt_kinds.specs.Reading.{outer_binder}
 use Rattle.tt_kinds.specs.Shape.{fill, fill_all, HasParts, IsTooDeep}
 use Rattle.tt_interner.specs.Clauses.{HasOther}
 use Rattle.tt_interner.specs.Children.{items_row}
-use Rattle.tt_interner.specs.Rows.{Row, clauses_row, tys_row, consts_row, args_row, pats_row, vars_row, existentials_row, assumptions_row, text_row, row_table, row_shape, table, size, meaning, IsNew, Grows}
+use Rattle.tt_interner.specs.Rows.{Row, clauses_row, tys_row, consts_row, args_row, pats_row, vars_row}
+use Rattle.tt_interner.specs.Rows.{existentials_row, assumptions_row, text_row, row_table, row_shape, table, size}
+use Rattle.tt_interner.specs.Rows.{meaning, IsNew, Grows}
 
 -- how often a folder took a type apart: the argument folder, and the shifter
 pub record Counters : Type 0 where
@@ -58,7 +61,8 @@ anonymous_text = codes "'_"
 -- the rows of a new interner, newest first: the empty lists, and the name `'_`
 abbrev pub first_rows : List Row
 first_rows =
-    text_row anonymous_text ∷ assumptions_row [] ∷ existentials_row [] ∷ clauses_row [] ∷ pats_row [] ∷ consts_row [] ∷ vars_row [] ∷ args_row [] ∷ tys_row [] ∷ []
+    text_row anonymous_text ∷ assumptions_row [] ∷ existentials_row [] ∷ clauses_row [] ∷ pats_row [] ∷ consts_row []
+        ∷ vars_row [] ∷ args_row [] ∷ tys_row [] ∷ []
 
 -- the rows that the defaults of the handles name
 pub record HasFirst (rows : List Row) : Type 0 where
@@ -96,7 +100,8 @@ pub record Adds {H : Type 0} (result : Result H Refusal) (number : H → ℕ) (o
 
 -- the row r was there, and nothing changed; or it was added or refused as a new one
 abbrev pub Puts : {H : Type 0} → Result H Refusal → (H → ℕ) → Terms → Terms → Row → Type 0
-Puts {H} result number old new r = ((h : H) × (result ≡ Ok h) × IsAt old.rows r (number h) × (new ≡ old)) ⊎ (IsNew r old.rows × Adds result number old new r)
+Puts {H} result number old new r = ((h : H) × (result ≡ Ok h) × IsAt old.rows r (number h) × (new ≡ old))
+    ⊎ (IsNew r old.rows × Adds result number old new r)
 
 -- the result is the handle of the row r, which is added if it is new
 pub record Builds {H : Type 0} (result : Result H Refusal) (number : H → ℕ) (old new : Terms) (r : Row) : Type 0 where
@@ -113,7 +118,8 @@ pub record Builds {H : Type 0} (result : Result H Refusal) (number : H → ℕ) 
   pub absent : OnErr result (IsNew r old.rows)
   pub cause : IfErr result (IsCause old r)
   pub deep : IsTooDeep (row_shape r) → result ≡ Err GreatestIndex
-  pub full : IsNew r old.rows → (IsTooDeep (row_shape r) → ⊥) → old.limit ≤ size old.rows (row_table r) → result ≡ Err TableFull
+  pub full : IsNew r old.rows → (IsTooDeep (row_shape r) → ⊥) → old.limit ≤ size old.rows (row_table r)
+      → result ≡ Err TableFull
 
 -- the tree is a list of clauses with an item that is no clause
 abbrev pub IsNoClauseList : Tree Depth → Type 0
@@ -148,9 +154,11 @@ abbrev pub LacksItems : {H A : Type 0} → Result H Refusal → List A → Type 
 LacksItems result items = (most_in_place < length items) × (result ≡ Err Memory)
 
 -- the result is the list of these children, which is added if it is new
-pub record StoresList (result : Result StoredList Refusal) (old new : Terms) (sort : ListSort) (items : List Child) : Type 0 where
+pub record StoresList (result : Result StoredList Refusal) (old new : Terms) (sort : ListSort) (items : List Child)
+    : Type 0 where
   pub in_range : IfOk result (λ l. list_number l < size new.rows (sort_list_table sort))
-  pub means : IfOk result (λ l. meaning new.rows (sort_list_table sort) (list_number l) ≡ items_tree sort (fill_all (meaning old.rows) (children_shapes items)))
+  pub means : IfOk result (λ l. meaning new.rows (sort_list_table sort) (list_number l)
+      ≡ items_tree sort (fill_all (meaning old.rows) (children_shapes items)))
   pub extends : Extends old new
   pub counters : new.counters ≡ old.counters
   pub err : OnErr result (new ≡ old)

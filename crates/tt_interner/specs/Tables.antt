@@ -1,7 +1,8 @@
 -- The contents of the tables, and the tables seen as one list of rows.
 use Rattle.std.specs.declared.alloc.Global.{Global}
 use Rattle.std.specs.declared.vec.Vec.{Vec}
-use Rattle.std.specs.Prelude.{◌≡◌, ℕ, ◌+◌, ◌≤◌, List, [], ◌∷◌, ◌++◌, length, map, reverse, slice_get, max, bit_or, Some, IsTrue}
+use Rattle.std.specs.Prelude.{◌≡◌, ℕ, ◌+◌, ◌≤◌, List, [], ◌∷◌, ◌++◌, length, map, reverse, slice_get, max, bit_or, Some}
+use Rattle.std.specs.Prelude.{IsTrue}
 use Rattle.tt_flags.specs.FlagComputation.{computed}
 use Rattle.tt_flags.specs.declared.flag_computation.FlagComputation.{FlagComputation}
 use Rattle.tt_kinds.specs.Tree.{Forest, Depth}
@@ -12,7 +13,10 @@ use Rattle.tt_kinds.specs.declared.declaration.Declaration.{Declaration}
 use Rattle.tt_kinds.specs.declared.variant.VariantDef.{VariantDef}
 use Rattle.tt_kinds.specs.declared.id.Id.{Id}
 use Rattle.tt_kinds.specs.declared.table.Table.{Table}
-use Rattle.tt_kinds.specs.declared.table.Table.TheVariants.{Types, Consts, Patterns, Predicates, Existentials, ClauseLists, TypeLists, ConstLists, ArgLists, PatternLists, VarLists, ExistentialLists, AssumptionLists, Symbols, Declarations, Definitions}
+use Rattle.tt_kinds.specs.declared.table.Table.TheVariants.{Types, Consts, Patterns, Predicates, Existentials}
+use Rattle.tt_kinds.specs.declared.table.Table.TheVariants.{ClauseLists, TypeLists, ConstLists, ArgLists, PatternLists}
+use Rattle.tt_kinds.specs.declared.table.Table.TheVariants.{VarLists, ExistentialLists, AssumptionLists, Symbols}
+use Rattle.tt_kinds.specs.declared.table.Table.TheVariants.{Declarations, Definitions}
 use Rattle.tt_interner.specs.Rows.{Row, text_row, declared_row, defined_row, table, size, meaning, AreRows}
 use Rattle.tt_interner.specs.Info.{keeps_info}
 use Rattle.tt_interner.specs.Stored.{IsInfo, first_rows}
@@ -26,7 +30,8 @@ pub record AreInfosOf (info : FlagComputation) (ts : Forest Depth) : Type 0 wher
 -- the information so far, joined with the rest of the children, is the information of all
 pub record AreJoined (info : FlagComputation) (rest whole : Forest Depth) : Type 0 where
   pub flags : bit_or info.flags.bits (scan_all rest) ≡ scan_all whole
-  pub outer : max info.outer_exclusive_binder (greatest_reach_all (read_all 0 rest)) ≡ greatest_reach_all (read_all 0 whole)
+  pub outer : max info.outer_exclusive_binder (greatest_reach_all (read_all 0 rest))
+      ≡ greatest_reach_all (read_all 0 whole)
 
 -- a row, and its cached information
 pub record Entry : Type 0 where

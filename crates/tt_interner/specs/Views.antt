@@ -14,7 +14,8 @@ AreInputs rows view = (items : List Ty) × IsAt rows (tys_row items) view.inputs
 
 -- the view's list is stored, and has a type at the index and one after it
 abbrev pub HasInput : List Row → FnInputTys → ℕ → Type 0
-HasInput rows view index = (items : List Ty) × IsAt rows (tys_row items) view.inputs_and_output.number × (index + 1 < length items)
+HasInput rows view index = (items : List Ty) × IsAt rows (tys_row items) view.inputs_and_output.number
+    × (index + 1 < length items)
 
 -- the type is the last of the view's list, and in range
 pub record IsOutput (rows : List Row) (view : FnInputTys) (output : Ty) : Type 0 where
@@ -33,4 +34,5 @@ pub record IsInput (rows : List Row) (view : FnInputTys) (index : ℕ) (input : 
 
 -- the view's list is stored, and all of the view's places are in it
 abbrev pub LiesInList : List Row → GenericArgsSlice → Type 0
-LiesInList rows view = (items : List GenericArgKind) × IsAt rows (args_row items) view.args.number × (view.start + view.len ≤ length items)
+LiesInList rows view = (items : List GenericArgKind) × IsAt rows (args_row items) view.args.number
+    × (view.start + view.len ≤ length items)

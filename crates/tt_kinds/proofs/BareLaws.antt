@@ -1,8 +1,10 @@
 -- The contents of a kind are in range exactly where they are in the kind as a value by itself.
 use Rattle.std.proofs.Common.{ℕ, Option, Some, None, refl}
-use Rattle.tt_kinds.specs.Label.{Sort, type_sort, const_sort, RecordLabel, Label, type_label, const_label, record_label, bare_type_record, bare_const_record, error_of_type, error_of_const}
+use Rattle.tt_kinds.specs.Label.{Sort, type_sort, const_sort, RecordLabel, Label, type_label, const_label, record_label}
+use Rattle.tt_kinds.specs.Label.{bare_type_record, bare_const_record, error_of_type, error_of_const}
 use Rattle.tt_kinds.specs.Shape.{Shapes, Sizes, IsPart, AreParts, HasParts, IsNamedLabel, append}
-use Rattle.tt_kinds.specs.Kinds.{Form, param, bound, plain, under, relabelled, form_shape, parts_shapes, ty_form, const_form, ty_kind_shape, const_kind_shape}
+use Rattle.tt_kinds.specs.Kinds.{Form, param, bound, plain, under, relabelled, form_shape, parts_shapes, ty_form}
+use Rattle.tt_kinds.specs.Kinds.{const_form, ty_kind_shape, const_kind_shape}
 use Rattle.tt_kinds.specs.Bare.{token_shapes, bare_shape, bare_ty_shape, bare_const_shape}
 use Rattle.tt_kinds.specs.declared.ty_kind.TyKind.{TyKind}
 use Rattle.tt_kinds.specs.declared.const_kind.ConstKind.{ConstKind}

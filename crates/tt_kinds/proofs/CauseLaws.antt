@@ -1,6 +1,7 @@
 -- What rules out the causes of a refusal.
 use Rattle.std.proofs.Common.{◌≡◌, ℕ, ◌≤◌, List, length, arith}
-use Rattle.std.specs.Prelude.{⊤, Option, Some, None, slice_get, IsSome, IsSomeAnd, IsTrue, not, Bool, true, false, if◌then◌else◌}
+use Rattle.std.specs.Prelude.{⊤, Option, Some, None, slice_get, IsSome, IsSomeAnd, IsTrue, not, Bool, true, false}
+use Rattle.std.specs.Prelude.{if◌then◌else◌}
 use Rattle.std.proofs.lemmas.Option.{slice_get_past}
 use Rattle.tt_kinds.specs.Label.{Sort}
 use Rattle.tt_kinds.specs.Tree.{Depth, Tree}
@@ -9,7 +10,9 @@ use Rattle.tt_kinds.specs.Param.{IsAnswered}
 use Rattle.tt_kinds.proofs.ParamLaws.{HasParam-never}
 use Rattle.tt_kinds.specs.Cause.{HasOtherSort, HidesRegionVars, Cause}
 use Rattle.tt_index.specs.declared.refusal.Refusal.{Refusal}
-use Rattle.tt_index.specs.declared.refusal.Refusal.TheVariants.{Memory, TableFull, GreatestIndex, NoArguments, ArgOutOfRange, ArgKind, RegionVariable, NotAClause, NoSuchAnswer}
+use Rattle.tt_index.specs.declared.refusal.Refusal.TheVariants.{Memory, TableFull, GreatestIndex, NoArguments}
+use Rattle.tt_index.specs.declared.refusal.Refusal.TheVariants.{ArgOutOfRange, ArgKind, RegionVariable, NotAClause}
+use Rattle.tt_index.specs.declared.refusal.Refusal.TheVariants.{NoSuchAnswer}
 
 -- an argument past the end of the list is none, and so is one of another sort
 argument-past : {J : Type 0} (args : List (Argument J)) (s : Sort) (i : ℕ) → length args ≤ i → IsSome (argument args s i) → ⊥

@@ -9,7 +9,9 @@ use Rattle.tt_kinds.specs.Argument.{Argument}
 use Rattle.tt_kinds.specs.Param.{HasParam, HasParam_among, IsGeneric_among}
 use Rattle.tt_kinds.specs.Cause.{HasExposed, HasExposed_among, HidesRegionVars, Cause}
 use Rattle.tt_index.specs.declared.refusal.Refusal.{Refusal}
-use Rattle.tt_index.specs.declared.refusal.Refusal.TheVariants.{Memory, TableFull, GreatestIndex, NoArguments, ArgOutOfRange, ArgKind, RegionVariable, NotAClause, NoSuchAnswer}
+use Rattle.tt_index.specs.declared.refusal.Refusal.TheVariants.{Memory, TableFull, GreatestIndex, NoArguments}
+use Rattle.tt_index.specs.declared.refusal.Refusal.TheVariants.{ArgOutOfRange, ArgKind, RegionVariable, NotAClause}
+use Rattle.tt_index.specs.declared.refusal.Refusal.TheVariants.{NoSuchAnswer}
 
 -- the tree is one of the children
 pub data Among {I : Type 0} (t : Tree I) : Forest I → Type 0 where

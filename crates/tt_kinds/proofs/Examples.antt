@@ -14,8 +14,18 @@ use Rattle.tt_kinds.specs.declared.bound.BoundTyKind.TheVariants as bound_ty
 use Rattle.tt_kinds.specs.declared.alias.AliasTyKind.TheVariants as alias
 use Rattle.tt_kinds.specs.declared.const_kind.InferConst.TheVariants.{Var}
 use Rattle.tt_kinds.specs.declared.table.Table.TheVariants.{TypeLists, ArgLists, ExistentialLists}
-use Rattle.tt_kinds.specs.Label.{Name, region_sort, type_sort, const_sort, anonymous, VarKind, region_variable, type_variable, Entry, static_region, erased_region, region_var, TypeLabel, char_type, int_type, uint_type, ref_type, tuple_type, fn_ptr_type, adt_type, array_type, pat_type, dynamic_type, coroutine_type, coroutine_witness_type, unsafe_binder_type, alias_type, ConstLabel, infer_const, unevaluated_const, leaf_const, range_pattern, not_null_pattern, RecordLabel, fn_sig_tys_record, unsafe_binder_record, trait_record, region_outlives_record, type_outlives_record, projection_record, well_formed_record, normalizes_to_record, existential_trait_record, existential_projection_record, auto_trait_record, Label, type_label, const_label, pattern_label, predicate_label, existential_label, clause_list_label, list_label, record_label}
-use Rattle.tt_kinds.specs.Tree.{Depth, at, canonical, own, outer, Tree, param, bound, region, term, node, binder, Forest, none, also}
+use Rattle.tt_kinds.specs.Label.{Name, region_sort, type_sort, const_sort, anonymous, VarKind, region_variable}
+use Rattle.tt_kinds.specs.Label.{type_variable, Entry, static_region, erased_region, region_var, TypeLabel, char_type}
+use Rattle.tt_kinds.specs.Label.{int_type, uint_type, ref_type, tuple_type, fn_ptr_type, adt_type, array_type, pat_type}
+use Rattle.tt_kinds.specs.Label.{dynamic_type, coroutine_type, coroutine_witness_type, unsafe_binder_type, alias_type}
+use Rattle.tt_kinds.specs.Label.{ConstLabel, infer_const, unevaluated_const, leaf_const, range_pattern}
+use Rattle.tt_kinds.specs.Label.{not_null_pattern, RecordLabel, fn_sig_tys_record, unsafe_binder_record, trait_record}
+use Rattle.tt_kinds.specs.Label.{region_outlives_record, type_outlives_record, projection_record, well_formed_record}
+use Rattle.tt_kinds.specs.Label.{normalizes_to_record, existential_trait_record, existential_projection_record}
+use Rattle.tt_kinds.specs.Label.{auto_trait_record, Label, type_label, const_label, pattern_label, predicate_label}
+use Rattle.tt_kinds.specs.Label.{existential_label, clause_list_label, list_label, record_label}
+use Rattle.tt_kinds.specs.Tree.{Depth, at, canonical, own, outer, Tree, param, bound, region, term, node, binder}
+use Rattle.tt_kinds.specs.Tree.{Forest, none, also}
 use Rattle.tt_kinds.specs.Reading.{read, move, outer_binder, Fits}
 use Rattle.tt_kinds.specs.Argument.{Argument, put, readings}
 use Rattle.tt_kinds.specs.Plain.{shift_tree, inst_tree}
@@ -380,7 +390,8 @@ projection_object_says = (refl, refl)
 object_met : met 0 (object (at 1)) ≡ record { standing = region_at (at 1); under = 1 } ∷ record { standing = region static_region; under = 0 } ∷ []
 object_met = refl
 
--- a region variable in a stored predicate without parameters is hidden, and in such a constant, or one that isn't stored, it isn't
+-- a region variable in a stored predicate without parameters is hidden, and in such a constant, or one that isn't
+-- stored, it isn't
 abbrev outlives_variable : Forest Depth
 outlives_variable = also u32 (also (region (region_var 0)) none)
 

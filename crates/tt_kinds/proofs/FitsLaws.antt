@@ -2,7 +2,8 @@
 use Rattle.std.proofs.Common.{inl, inr, ◌≡◌, ℕ, suc, ◌+◌, ◌-◌, ◌<◌, ◌≤◌, arith, add-suc}
 use Rattle.std.specs.Prelude.{⊤}
 use Rattle.std.proofs.lemmas.Bool.{cases_lt}
-use Rattle.tt_kinds.specs.Tree.{Depth, at, canonical, Place, own, outer, apart, Tree, param, bound, region, term, node, binder, Forest, none, also, Each, Each_all}
+use Rattle.tt_kinds.specs.Tree.{Depth, at, canonical, Place, own, outer, apart, Tree, param, bound, region, term, node}
+use Rattle.tt_kinds.specs.Tree.{binder, Forest, none, also, Each, Each_all}
 use Rattle.tt_index.specs.Greatest.{greatest}
 use Rattle.tt_kinds.specs.Reading.{place, read, read_all, moved, move, move_all, FitsAt, FitsUnder, FitsUnder_all}
 use Rattle.tt_kinds.specs.Plain.{shift_tree}

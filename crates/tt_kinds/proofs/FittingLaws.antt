@@ -6,11 +6,15 @@ use Rattle.std.proofs.lemmas.Option.{same_Some}
 use Rattle.tt_index.specs.Greatest.{greatest}
 use Rattle.tt_kinds.specs.Label.{Name, Sort}
 use Rattle.tt_kinds.specs.Tree as tree
-use Rattle.tt_kinds.specs.Tree.{Depth, at, canonical, Place, own, outer, apart, Tree, Forest, count_trees, take_trees, drop_trees}
-use Rattle.tt_kinds.specs.Reading.{place, reach, read, read_all, moved, move, move_all, outer_binder, greatest_reach, greatest_reach_all, FitsAt, FitsUnder, FitsUnder_all}
+use Rattle.tt_kinds.specs.Tree.{Depth, at, canonical, Place, own, outer, apart, Tree, Forest, count_trees, take_trees}
+use Rattle.tt_kinds.specs.Tree.{drop_trees}
+use Rattle.tt_kinds.specs.Reading.{place, reach, read, read_all, moved, move, move_all, outer_binder, greatest_reach}
+use Rattle.tt_kinds.specs.Reading.{greatest_reach_all, FitsAt, FitsUnder, FitsUnder_all}
 use Rattle.tt_kinds.specs.Argument.{Argument, same_sort, of_sort, given, put, put_all, readings}
 use Rattle.tt_kinds.specs.Bound.{IsBelowGreatest}
-use Rattle.tt_kinds.specs.Shape.{Shape, Shapes, param, bound, region, term, node, binder, stored, part_of, none, also, Meaning, fill, fill_all, items_of, items_in, Extent, item_count, first_item, Sizes, IsPart, AreParts, HasParts}
+use Rattle.tt_kinds.specs.Shape.{Shape, Shapes, param, bound, region, term, node, binder, stored, part_of, none, also}
+use Rattle.tt_kinds.specs.Shape.{Meaning, fill, fill_all, items_of, items_in, Extent, item_count, first_item, Sizes}
+use Rattle.tt_kinds.specs.Shape.{IsPart, AreParts, HasParts}
 use Rattle.tt_kinds.specs.declared.table.Table.{Table}
 use Rattle.tt_kinds.specs.Range.{IndicesFit, IndicesFit_all, binders_in, binders_among}
 use Rattle.tt_kinds.specs.Fitting.{BindersFit, BindersFit_all, HasRoom, HaveRoom}

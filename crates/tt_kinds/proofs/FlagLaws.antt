@@ -3,8 +3,11 @@ use Rattle.std.proofs.Common.{◌≡◌, ℕ, max, List, [], ◌∷◌, refl, ap
 use Rattle.std.specs.Prelude.{Bool, true, false, ◌||◌, bit_or}
 use Rattle.std.specs.Int.{bit_at}
 use Rattle.std.proofs.lemmas.Nat.Bits.{bit_at_or}
-use Rattle.tt_kinds.specs.Label.{Name, Sort, region_sort, type_sort, const_sort, VarKind, Label, FreeRegion, static_region, erased_region, region_var, error_region, late_param_region, placeholder_region, list_flags, flags_of_label}
-use Rattle.tt_kinds.specs.Tree.{Depth, at, canonical, Tree, param, bound, region, term, node, binder, Forest, none, also}
+use Rattle.tt_kinds.specs.Label.{Name, Sort, region_sort, type_sort, const_sort, VarKind, Label, FreeRegion}
+use Rattle.tt_kinds.specs.Label.{static_region, erased_region, region_var, error_region, late_param_region}
+use Rattle.tt_kinds.specs.Label.{placeholder_region, list_flags, flags_of_label}
+use Rattle.tt_kinds.specs.Tree.{Depth, at, canonical, Tree, param, bound, region, term, node, binder, Forest, none}
+use Rattle.tt_kinds.specs.Tree.{also}
 use Rattle.tt_kinds.specs.Param.{holds_param, holds_param_among}
 use Rattle.tt_kinds.specs.Scan.{param_flags, bound_flags, index_flags, region_flags, scan, scan_all}
 

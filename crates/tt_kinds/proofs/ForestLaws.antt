@@ -2,7 +2,8 @@
 use Rattle.std.proofs.Common.{◌≡◌, ℕ, zero, suc, List, [], ◌∷◌, length, take, drop, refl, ap}
 use Rattle.tt_kinds.specs.Label.{Name, Label}
 use Rattle.tt_kinds.specs.Tree.{Depth, Tree, node, Forest, none, also, count_trees, take_trees, drop_trees}
-use Rattle.tt_kinds.specs.Shape.{Shape, Meaning, Extent, first_item, item_count, items_of, items_in, item_shapes, fill, fill_all}
+use Rattle.tt_kinds.specs.Shape.{Shape, Meaning, Extent, first_item, item_count, items_of, items_in, item_shapes, fill}
+use Rattle.tt_kinds.specs.Shape.{fill_all}
 
 -- what holds of a forest where it holds of each tree
 pub record IsOfEach (All : Forest Depth → Type 0) (Of : Tree Depth → Type 0) : Type 0 where

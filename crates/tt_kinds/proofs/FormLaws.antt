@@ -1,11 +1,13 @@
 -- What forms and lists of all sorts have in common.
 use Rattle.std.proofs.Common.{inl, inr, ◌≡◌, refl}
 use Rattle.std.specs.Prelude.{true, Some}
-use Rattle.tt_kinds.specs.Label.{type_sort, const_sort, TypeLabel, ConstLabel, type_label, const_label, is_clause_record}
+use Rattle.tt_kinds.specs.Label.{type_sort, const_sort, TypeLabel, ConstLabel, type_label, const_label}
+use Rattle.tt_kinds.specs.Label.{is_clause_record}
 use Rattle.tt_kinds.specs.Shape.{Meaning, Shapes, fill, fill_all, shape_table}
 use Rattle.tt_kinds.specs.Parts.{child_sort, sort_list_table, IsTermSort, term_kind_child, term_child}
 use Rattle.tt_kinds.specs.declared.parts.Parts.{Parts}
-use Rattle.tt_kinds.specs.Kinds.{Form, param, bound, plain, under, refilled, relabelled, form_shape, ty_form, const_form, predicate_form, kind_table, kind_shape, items_shape, items_tree}
+use Rattle.tt_kinds.specs.Kinds.{Form, param, bound, plain, under, refilled, relabelled, form_shape, ty_form}
+use Rattle.tt_kinds.specs.Kinds.{const_form, predicate_form, kind_table, kind_shape, items_shape, items_tree}
 use Rattle.tt_kinds.specs.Predicate.{is_clause_kind}
 use Rattle.tt_kinds.specs.declared.table.Table.TheVariants.{Types, Consts}
 use Rattle.tt_kinds.specs.declared.term.Term.{Term}

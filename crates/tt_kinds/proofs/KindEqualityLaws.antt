@@ -43,7 +43,8 @@ use Rattle.tt_kinds.specs.contracts.predicate_kind.ClauseKindPartialEq.TheImpl a
 use Rattle.tt_kinds.specs.contracts.predicate_kind.AliasRelationDirectionPartialEq.TheImpl as directions
 use Rattle.tt_kinds.specs.contracts.predicate_kind.PredicateKindPartialEq.TheImpl as predicate_kinds
 use Rattle.tt_kinds.specs.contracts.existential.ExistentialPredicatePartialEq.TheImpl as existential_kinds
-use Rattle.tt_kinds.proofs.EqualityLaws.{both, two_exact, two_numbers, index_exact, placeholder_exact, region_exact, kind_exact}
+use Rattle.tt_kinds.proofs.EqualityLaws.{both, two_exact, two_numbers, index_exact, placeholder_exact, region_exact}
+use Rattle.tt_kinds.proofs.EqualityLaws.{kind_exact}
 use Rattle.tt_kinds.specs.Id.{id_of}
 use Rattle.tt_kinds.specs.Handle.{handle}
 

@@ -41,13 +41,15 @@ use Rattle.tt_kinds.specs.declared.term.TermKind.TheVariants as term
 use Rattle.tt_kinds.specs.declared.ty_kind.InferTy.TheVariants as infer
 use Rattle.tt_kinds.specs.declared.ty_kind.TyKind.{TyKind}
 use Rattle.tt_kinds.specs.declared.ty_kind.TyKind.TheVariants as ty
-use Rattle.tt_kinds.specs.Handle.{handle, Ty, Const, Pat, Tys, Consts, PatList, GenericArgs, BoundExistentialPredicates, BoundVarKinds}
+use Rattle.tt_kinds.specs.Handle.{handle, Ty, Const, Pat, Tys, Consts, PatList, GenericArgs, BoundExistentialPredicates}
+use Rattle.tt_kinds.specs.Handle.{BoundVarKinds}
 use Rattle.tt_kinds.specs.Id.{id_of}
 use Rattle.tt_kinds.specs.Kinds.{form_parts, form_binder, kind_form, kind_sort}
 use Rattle.tt_kinds.specs.OwnFlags.{own_flags, own_reach}
 use Rattle.tt_kinds.specs.Parts.{no_parts, one_part, two_parts}
 
--- what a table says of a kind: its own flags, how far it reaches by itself, the variables of the binder around its children, and its children
+-- what a table says of a kind: its own flags, how far it reaches by itself, the variables of the binder around its
+-- children, and its children
 abbrev Row : Type 0
 Row = ℕ × ℕ × Option BoundVarKinds × Parts
 

@@ -2,7 +2,8 @@
 use Rattle.std.proofs.Common.{◌≡◌, ℕ, zero, suc, List, [], ◌∷◌, ◌++◌, refl}
 use Rattle.std.specs.Prelude.{Option, Some, None, slice_get, IsSomeAnd, unwrap_or}
 use Rattle.tt_kinds.specs.Label.{Name, Sort, VarKind, Entry}
-use Rattle.tt_kinds.specs.Tree.{Place, own, outer, apart, Tree, param, bound, region, term, node, binder, Forest, none, also}
+use Rattle.tt_kinds.specs.Tree.{Place, own, outer, apart, Tree, param, bound, region, term, node, binder, Forest, none}
+use Rattle.tt_kinds.specs.Tree.{also}
 use Rattle.tt_kinds.specs.Reading.{moved, move, move_all}
 use Rattle.tt_kinds.specs.Argument.{Argument, argument, given, put, put_all}
 use Rattle.tt_kinds.specs.Matched.{IsEntryOf, MatchesAt, MatchedUnder, MatchedUnder_all, ArgumentsMatched}

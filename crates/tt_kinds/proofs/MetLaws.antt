@@ -4,7 +4,8 @@ use Rattle.std.specs.Prelude.{map, Bool, true, false, if◌then◌else◌, nat_l
 use Rattle.std.proofs.Math.Seq.{take-append_seam, drop-append_seam}
 use Rattle.std.proofs.lemmas.List.{length-map}
 use Rattle.tt_kinds.specs.Label.{Sort, region_sort, type_sort, const_sort}
-use Rattle.tt_kinds.specs.Tree.{Depth, at, canonical, Tree, param, bound, region, term, node, binder, Forest, none, also}
+use Rattle.tt_kinds.specs.Tree.{Depth, at, canonical, Tree, param, bound, region, term, node, binder, Forest, none}
+use Rattle.tt_kinds.specs.Tree.{also}
 use Rattle.tt_kinds.specs.Met.{Met, met_leaf, met_bound, met, met_all, placed_leaf, placed, placed_all}
 
 -- the answers for a tree and for those after it, one list after the other

@@ -2,11 +2,13 @@
 use Rattle.std.proofs.Common.{inl, inr, ◌≡◌, ℕ, suc, List, refl, ◌∙◌}
 use Rattle.std.specs.Prelude.{⊤, Bool, true, false, ◌||◌, ◌⊎◌, Option, Some, None, unwrap_or, IsSome}
 use Rattle.tt_kinds.specs.Label.{Name, Sort}
-use Rattle.tt_kinds.specs.Tree.{Depth, Place, Tree, param, bound, region, term, node, binder, Forest, none, also, Each, Each_all}
+use Rattle.tt_kinds.specs.Tree.{Depth, Place, Tree, param, bound, region, term, node, binder, Forest, none, also, Each}
+use Rattle.tt_kinds.specs.Tree.{Each_all}
 use Rattle.tt_kinds.specs.Reading.{keep}
 use Rattle.tt_kinds.specs.Argument.{Argument, argument, given, put}
 use Rattle.tt_kinds.specs.Plain.{given_under, inst_tree}
-use Rattle.tt_kinds.specs.Param.{holds_param, holds_param_among, HasParam, HasParam_among, EachParam, EachParam_among, IsGeneric, IsGeneric_among, IsAnswered, ArgumentsHoldNone}
+use Rattle.tt_kinds.specs.Param.{holds_param, holds_param_among, HasParam, HasParam_among, EachParam, EachParam_among}
+use Rattle.tt_kinds.specs.Param.{IsGeneric, IsGeneric_among, IsAnswered, ArgumentsHoldNone}
 use Rattle.tt_kinds.proofs.RebuildLaws.{rebuild-same, Each-then, rebuild-nothing, Each-replace}
 
 module _ {I : Type 0} (P : Sort → ℕ → Type 0) where

@@ -1,11 +1,13 @@
 -- Instantiation: the plain walk gives the plain replacement, and how replacements compose and commute with moves.
 use Rattle.std.proofs.Common.{◌≡◌, ℕ, suc, List, refl, ap, sym, ◌∙◌}
-use Rattle.std.specs.Prelude.{Option, Some, None, option_map, unwrap_or, slice_get, IsSome, if◌then◌else◌, Bool, true, false}
+use Rattle.std.specs.Prelude.{Option, Some, None, option_map, unwrap_or, slice_get, IsSome, if◌then◌else◌, Bool, true}
+use Rattle.std.specs.Prelude.{false}
 use Rattle.std.proofs.lemmas.Option.{slice_get-map}
 use Rattle.tt_kinds.specs.Label.{Name, Sort}
 use Rattle.tt_kinds.specs.Tree.{Depth, Place, Tree, param, bound, region, term, node, binder, Forest, none, also}
 use Rattle.tt_kinds.specs.Reading.{place, keep, read, read_all, moved, move}
-use Rattle.tt_kinds.specs.Argument.{Argument, same_sort, of_sort, argument, given, put, change_value, change_values, readings}
+use Rattle.tt_kinds.specs.Argument.{Argument, same_sort, of_sort, argument, given, put, change_value, change_values}
+use Rattle.tt_kinds.specs.Argument.{readings}
 use Rattle.tt_kinds.specs.Param.{IsAnswered, EachParam, EachParam_among}
 use Rattle.tt_kinds.specs.Plain.{shifted_or, given_under, inst_tree}
 use Rattle.tt_kinds.proofs.RebuildLaws.{Each-always, Each-then, rebuild-joined, replace-rebuild, replace-replace}
@@ -40,7 +42,8 @@ read-inst_tree k args t =
     rebuild-joined (λ j d. d) (given_under args) place keep place (λ j. given (readings args)) k t (Each-always _ _ (λ j d. refl) (read-given_under args) k t)
     ∙ sym (replace-rebuild place keep (λ p. p) (given (readings args)) place (λ j. given (readings args)) k t (Each-always _ _ (λ j d. refl) (λ j s i name. refl) k t))
 
--- a replacement and then another one, where the first leaves no parameter, replaces by what the other makes of the arguments
+-- a replacement and then another one, where the first leaves no parameter, replaces by what the other makes of the
+-- arguments
 pub put-put : (later args : List (Argument Place)) (r : Tree Place) → IsAnswered args r → put later (put args r) ≡ put (change_values (put later) args) r
 put-put later args r h = replace-replace (λ p. p) (given args) (λ p. p) (given later) (λ p. p) (given (change_values (put later) args)) r
     (Each-then _ _ _ _ (λ j d x. refl) (λ j. answered) 0 r (Each-from_params (λ s i. IsSome (argument args s i)) 0 r h))

@@ -7,14 +7,17 @@ use Rattle.tt_kinds.specs.Tree as tree
 use Rattle.tt_kinds.specs.Tree.{Depth, at, canonical, Tree, Forest, count_trees, take_trees, drop_trees}
 use Rattle.tt_kinds.specs.Reading.{place, reach, read_all, greatest_reach_all, outer_binder}
 use Rattle.tt_kinds.specs.Bound.{IsBelowGreatest}
-use Rattle.tt_kinds.specs.Shape.{Shape, Shapes, param, bound, region, term, node, binder, stored, part_of, none, also, append, item_shapes, Meaning, fill, fill_all, items_of, items_in, Extent, item_count, first_item, Sizes, IsPart, AreParts, HasParts, IsGreatest, IsTooDeep}
+use Rattle.tt_kinds.specs.Shape.{Shape, Shapes, param, bound, region, term, node, binder, stored, part_of, none, also}
+use Rattle.tt_kinds.specs.Shape.{append, item_shapes, Meaning, fill, fill_all, items_of, items_in, Extent, item_count}
+use Rattle.tt_kinds.specs.Shape.{first_item, Sizes, IsPart, AreParts, HasParts, IsGreatest, IsTooDeep}
 use Rattle.tt_kinds.specs.Kinds as kinds
 use Rattle.tt_kinds.specs.Kinds.{Form, region_shape, arg_shape, child_shapes, parts_shapes, form_parts, form_shape}
 use Rattle.tt_kinds.specs.Values.{assumption_shape}
 use Rattle.tt_kinds.specs.RegionKind.{IsShallow}
 use Rattle.tt_kinds.specs.declared.table.Table.{Table}
 use Rattle.tt_kinds.specs.declared.region_kind.RegionKind.{RegionKind}
-use Rattle.tt_kinds.specs.declared.region_kind.RegionKind.TheVariants.{ReEarlyParam, ReBound, ReLateParam, ReStatic, ReVar, RePlaceholder, ReErased, ReError}
+use Rattle.tt_kinds.specs.declared.region_kind.RegionKind.TheVariants.{ReEarlyParam, ReBound, ReLateParam, ReStatic}
+use Rattle.tt_kinds.specs.declared.region_kind.RegionKind.TheVariants.{ReVar, RePlaceholder, ReErased, ReError}
 use Rattle.tt_kinds.specs.declared.generic_arg.GenericArgKind.{GenericArgKind}
 use Rattle.tt_kinds.specs.declared.generic_arg.GenericArgKind.TheVariants as arg
 use Rattle.tt_kinds.specs.declared.predicate.OutlivesPredicate.{OutlivesPredicate}

@@ -4,7 +4,8 @@ use Rattle.std.proofs.lemmas.Bool.{cases_lt, lt-ltb, le-ltb}
 use Rattle.tt_kinds.specs.Tree.{Depth, at, canonical, Place, own, outer, apart, Tree, param, rebuild, replace}
 use Rattle.tt_kinds.specs.Reading.{place, keep, read, moved, move}
 use Rattle.tt_kinds.specs.Plain.{shifted, shift_tree}
-use Rattle.tt_kinds.proofs.RebuildLaws.{rebuild-anywhere, rebuild-same, Each-always, rebuild-deeper, rebuild-nothing, rebuild-joined, replace-rebuild, replace-replace}
+use Rattle.tt_kinds.proofs.RebuildLaws.{rebuild-anywhere, rebuild-same, Each-always, rebuild-deeper, rebuild-nothing}
+use Rattle.tt_kinds.proofs.RebuildLaws.{rebuild-joined, replace-rebuild, replace-replace}
 
 -- a variable whose binder is among the k, and one whose binder is not
 pub place-own : (k d : ℕ) → d < k → place k (at d) ≡ own d

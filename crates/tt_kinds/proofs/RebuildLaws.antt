@@ -1,7 +1,8 @@
 -- The laws of the walks, from which every law of readings follows at single leaves.
 use Rattle.std.proofs.Common.{◌≡◌, ℕ, suc, ◌+◌, refl, ap, sym, ◌∙◌, subst, add-suc}
 use Rattle.tt_kinds.specs.Label.{Name, Sort}
-use Rattle.tt_kinds.specs.Tree.{Tree, param, bound, region, term, node, binder, Forest, none, also, rebuild, rebuild_all, replace, replace_all, Each, Each_all}
+use Rattle.tt_kinds.specs.Tree.{Tree, param, bound, region, term, node, binder, Forest, none, also, rebuild}
+use Rattle.tt_kinds.specs.Tree.{rebuild_all, replace, replace_all, Each, Each_all}
 use Rattle.tt_kinds.specs.Reading.{keep}
 
 ap2 : {A B C : Type 0} (f : A → B → C) {a a' : A} {b b' : B} → a ≡ a' → b ≡ b' → f a b ≡ f a' b'

@@ -20,19 +20,28 @@ use Rattle.tt_kinds.specs.declared.predicate_kind.AliasRelationDirection.TheVari
 use Rattle.tt_kinds.specs.declared.predicate_kind.ClauseKind.TheVariants as clause
 use Rattle.tt_kinds.specs.declared.predicate_kind.PredicateKind.{PredicateKind}
 use Rattle.tt_kinds.specs.declared.predicate_kind.PredicateKind.TheVariants as predicate
-use Rattle.tt_kinds.specs.declared.region_kind.RegionKind.TheVariants.{ReEarlyParam, ReBound, ReLateParam, ReStatic, ReVar, RePlaceholder, ReErased, ReError}
-use Rattle.tt_kinds.specs.declared.table.Table.TheVariants.{Types, Consts, Patterns, Predicates, TypeLists, ConstLists, ArgLists, PatternLists, ExistentialLists, VarLists}
+use Rattle.tt_kinds.specs.declared.region_kind.RegionKind.TheVariants.{ReEarlyParam, ReBound, ReLateParam, ReStatic}
+use Rattle.tt_kinds.specs.declared.region_kind.RegionKind.TheVariants.{ReVar, RePlaceholder, ReErased, ReError}
+use Rattle.tt_kinds.specs.declared.table.Table.TheVariants.{Types, Consts, Patterns, Predicates, TypeLists, ConstLists}
+use Rattle.tt_kinds.specs.declared.table.Table.TheVariants.{ArgLists, PatternLists, ExistentialLists, VarLists}
 use Rattle.tt_kinds.specs.declared.ty_kind.InferTy.TheVariants.{TyVar}
 use Rattle.tt_kinds.specs.declared.ty_kind.TyKind.TheVariants as ty
 use Rattle.tt_kinds.specs.Handle.{handle, BoundExistentialPredicates, BoundVarKinds}
 use Rattle.tt_kinds.specs.Id.{id_of}
 use Rattle.tt_kinds.specs.Kinds.{kind_shape, region_shape, clauses_row_shape}
-use Rattle.tt_kinds.specs.Label.{Name, type_sort, const_sort, region_sort, RecordLabel, anonymous, VarKind, region_variable, type_variable, const_variable, infer_type, infer_const, range_pattern, not_null_pattern, well_formed_record, const_evaluatable_record, existential_trait_record, existential_projection_record, auto_trait_record, Label, type_label, const_label, pattern_label, predicate_label, existential_label, list_label, var_list_label, text_label, record_label}
+use Rattle.tt_kinds.specs.Label.{Name, type_sort, const_sort, region_sort, RecordLabel, anonymous, VarKind}
+use Rattle.tt_kinds.specs.Label.{region_variable, type_variable, const_variable, infer_type, infer_const, range_pattern}
+use Rattle.tt_kinds.specs.Label.{not_null_pattern, well_formed_record, const_evaluatable_record}
+use Rattle.tt_kinds.specs.Label.{existential_trait_record, existential_projection_record, auto_trait_record, Label}
+use Rattle.tt_kinds.specs.Label.{type_label, const_label, pattern_label, predicate_label, existential_label, list_label}
+use Rattle.tt_kinds.specs.Label.{var_list_label, text_label, record_label}
 use Rattle.tt_kinds.specs.Reading.{outer_binder}
 use Rattle.tt_kinds.specs.Scan.{scan}
 use Rattle.tt_kinds.specs.Shape.{Shape, Meaning, fill}
 use Rattle.tt_kinds.specs.Tree.{Depth, at, Tree, param, bound, term, node, binder, Forest, none, also}
-use Rattle.tt_kinds.proofs.KindExamples.{t, u, c, d, p, tys, args, consts, pats, existentials, type_term, const_term, bound as under_vars, a_type, a_const, placeholder, alias_of, value_of, of_predicate, of_clause, trait_ref, alias_term}
+use Rattle.tt_kinds.proofs.KindExamples.{t, u, c, d, p, tys, args, consts, pats, existentials, type_term, const_term}
+use Rattle.tt_kinds.proofs.KindExamples.{bound as under_vars, a_type, a_const, placeholder, alias_of, value_of}
+use Rattle.tt_kinds.proofs.KindExamples.{of_predicate, of_clause, trait_ref, alias_term}
 
 -- one tree, and two
 abbrev one : Tree Depth → Forest Depth
@@ -224,7 +233,8 @@ predicates : AreRows of_predicate (
 unfolding fill
 predicates = refl
 
--- a predicate under a binder of no variables, and a list of clauses: the flags of all, and the greatest of their outer binders
+-- a predicate under a binder of no variables, and a list of clauses: the flags of all, and the greatest of their outer
+-- binders
 abbrev unbound : PredicateKind → Kind
 unbound k = kind.Predicate (under_none k)
 

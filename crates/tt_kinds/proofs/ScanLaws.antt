@@ -3,7 +3,8 @@ use Rattle.std.proofs.Common.{inl, inr, ◌≡◌, ℕ, suc, refl, ap}
 use Rattle.std.specs.Prelude.{bit_or}
 use Rattle.std.proofs.lemmas.Bool.{cases_lt}
 use Rattle.tt_kinds.specs.Label.{Name, Sort, list_flags, flags_of_label}
-use Rattle.tt_kinds.specs.Tree.{Depth, at, canonical, Tree, param, bound, region, term, node, binder, Forest, none, also, rebuild, rebuild_all, Each, Each_all}
+use Rattle.tt_kinds.specs.Tree.{Depth, at, canonical, Tree, param, bound, region, term, node, binder, Forest, none}
+use Rattle.tt_kinds.specs.Tree.{also, rebuild, rebuild_all, Each, Each_all}
 use Rattle.tt_kinds.specs.Reading.{keep}
 use Rattle.tt_kinds.specs.Plain.{shifted, shift_tree}
 use Rattle.tt_kinds.specs.Scan.{param_flags, bound_flags, index_flags, scan, scan_all}

@@ -5,7 +5,8 @@ use Rattle.tt_index.specs.declared.numeric.UintTy.TheVariants as uint
 use Rattle.tt_index.specs.declared.qualifier.Safety.TheVariants.{Safe}
 use Rattle.tt_kinds.specs.FnSig.{FitsSplat, packed}
 use Rattle.tt_kinds.specs.declared.table.Table.TheVariants.{TypeLists}
-use Rattle.tt_kinds.specs.Label.{uint_type, tuple_type, fn_ptr_type, type_label, list_label, record_label, fn_sig_tys_record}
+use Rattle.tt_kinds.specs.Label.{uint_type, tuple_type, fn_ptr_type, type_label, list_label, record_label}
+use Rattle.tt_kinds.specs.Label.{fn_sig_tys_record}
 use Rattle.tt_kinds.specs.Tree.{Depth, Tree, term, node, binder, none, also}
 use Rattle.tt_kinds.specs.Scan.{scan}
 use Rattle.tt_kinds.specs.declared.fn_sig.FnHeader.{FnHeader}

@@ -4,7 +4,9 @@ use Rattle.tt_kinds.specs.Shape as shape
 use Rattle.tt_kinds.specs.Shape.{Shapes}
 use Rattle.tt_kinds.specs.Kinds.{child_shapes, term_kind_shape, term_shape}
 use Rattle.tt_kinds.specs.Parts.{term_kind_child, term_child}
-use Rattle.tt_kinds.specs.Values.{trait_predicate_shape, host_effect_shape, projection_shape, normalizes_to_shape, subtype_shape, coerce_shape, clause_record_shape, predicate_record_shape, declared_shapes}
+use Rattle.tt_kinds.specs.Values.{trait_predicate_shape, host_effect_shape, projection_shape, normalizes_to_shape}
+use Rattle.tt_kinds.specs.Values.{subtype_shape, coerce_shape, clause_record_shape, predicate_record_shape}
+use Rattle.tt_kinds.specs.Values.{declared_shapes}
 use Rattle.tt_kinds.specs.declared.declaration.DeclarationKind.{DeclarationKind}
 use Rattle.tt_kinds.specs.declared.declaration.DeclarationKind.TheVariants as kind
 use Rattle.tt_kinds.specs.declared.table.Table.TheVariants.{TypeLists, VarLists}

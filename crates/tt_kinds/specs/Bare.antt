@@ -1,10 +1,13 @@
 -- Kinds of types, constants and patterns that aren't stored, and tokens of errors by themselves.
 use Rattle.std.specs.Prelude.{ℕ, Option, Some, None}
-use Rattle.tt_kinds.specs.Label.{Sort, type_sort, const_sort, RecordLabel, bare_param_record, bare_bound_record, bare_type_record, bare_const_record, bare_pattern_record, record_label, error_label, error_of_type, error_of_const, leaf_const, branch_const}
+use Rattle.tt_kinds.specs.Label.{Sort, type_sort, const_sort, RecordLabel, bare_param_record, bare_bound_record}
+use Rattle.tt_kinds.specs.Label.{bare_type_record, bare_const_record, bare_pattern_record, record_label, error_label}
+use Rattle.tt_kinds.specs.Label.{error_of_type, error_of_const, leaf_const, branch_const}
 use Rattle.tt_kinds.specs.Tree.{Depth, at, canonical}
 use Rattle.tt_kinds.specs.Shape as shape
 use Rattle.tt_kinds.specs.Shape.{Shape, Shapes, append}
-use Rattle.tt_kinds.specs.Kinds.{Form, param, bound, plain, under, ty_form, const_form, pattern_form, RecordForm, labelled, record_shape, parts_shapes, consts_shape}
+use Rattle.tt_kinds.specs.Kinds.{Form, param, bound, plain, under, ty_form, const_form, pattern_form, RecordForm}
+use Rattle.tt_kinds.specs.Kinds.{labelled, record_shape, parts_shapes, consts_shape}
 use Rattle.tt_kinds.specs.Values.{one_record}
 use Rattle.tt_kinds.specs.declared.pattern.PatternKind.{PatternKind}
 use Rattle.tt_kinds.specs.declared.ty_kind.TyKind.{TyKind}
@@ -38,7 +41,8 @@ module _ {L : Type 0} (s : Sort) (record_of : L → RecordLabel ℕ) (token_of :
   bare_shape (bound d e) = shape.node (record_label (bare_bound_record s (index_of d) e)) shape.none
   bare_shape (plain l p) = shape.node (record_label (record_of l)) (append (token_shapes (token_of l)) (parts_shapes p))
   bare_shape (under l vars m p) = shape.node (record_label (record_of l))
-      (append (token_shapes (token_of l)) (shape.also (shape.binder vars.number (shape.node (record_label m) (parts_shapes p))) shape.none))
+      (append (token_shapes (token_of l)) (shape.also (shape.binder vars.number
+      (shape.node (record_label m) (parts_shapes p))) shape.none))
 
 -- a type's kind
 abbrev pub bare_ty_shape : TyKind → Shape
@@ -70,7 +74,8 @@ value_shape v = bare_const_shape (const.Value v)
 
 -- the kind of a value, without its type
 abbrev pub valtree_kind_shape : ValTreeKind → Shape
-valtree_kind_shape (valtree.Leaf s) = shape.node (record_label (bare_const_record (leaf_const s.bits s.size))) shape.none
+valtree_kind_shape (valtree.Leaf s) = shape.node (record_label (bare_const_record (leaf_const s.bits s.size)))
+    shape.none
 valtree_kind_shape (valtree.Branch cs) = one_record (bare_const_record branch_const) (consts_shape cs)
 
 -- a value without its type

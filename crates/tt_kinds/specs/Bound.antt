@@ -1,7 +1,8 @@
 -- Bound variables: the index as it is written, and the variable's entry.
 use Rattle.std.specs.Prelude.{ℕ, ◌<◌, ⊤}
 use Rattle.tt_index.specs.Greatest.{greatest}
-use Rattle.tt_kinds.specs.Label.{RegionName, anonymous, printed, named, environment, VarKind, region_variable, type_variable, const_variable, Entry}
+use Rattle.tt_kinds.specs.Label.{RegionName, anonymous, printed, named, environment, VarKind, region_variable}
+use Rattle.tt_kinds.specs.Label.{type_variable, const_variable, Entry}
 use Rattle.tt_kinds.specs.Tree.{Depth, at, canonical}
 use Rattle.tt_kinds.specs.declared.bound.BoundVarIndexKind.{BoundVarIndexKind}
 use Rattle.tt_kinds.specs.declared.bound.BoundVarIndexKind.TheVariants.{Bound, Canonical}

@@ -43,7 +43,8 @@ abbrev mutual
   moving_types k (param s i name) = []
   moving_types k (bound s d e) = type_if (is_type_sort s && nat_lt k (outer_binder (bound s d e))) (bound s d e) k
   moving_types k (region r) = []
-  moving_types k (term l ts) = type_if (is_type l && nat_lt k (outer_binder (term l ts))) (term l ts) k ++ moving_types_among k ts
+  moving_types k (term l ts) = type_if (is_type l && nat_lt k (outer_binder (term l ts))) (term l ts) k
+      ++ moving_types_among k ts
   moving_types k (node l ts) = moving_types_among k ts
   moving_types k (binder vs t) = moving_types (suc k) t
 

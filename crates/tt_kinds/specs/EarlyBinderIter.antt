@@ -30,13 +30,15 @@ module _ {S A : Type 0} (gives : S → Option A → S → Type 0) where
     -- a call gave what the inner iterator's item dereferences to, marked as not normalized
     abbrev pub GivesCopied : IterIdentityCopied S → Option (Unnormalized B) → IterIdentityCopied S → Type 0
     GivesCopied s r t =
-        MatchOption r (gives s.it None t.it) (λ copied. (item : A) × gives s.it (Some item) t.it × dereferences item copied.value)
+        MatchOption r (gives s.it None t.it) (λ copied. (item : A) × gives s.it (Some item) t.it
+            × dereferences item copied.value)
 
     -- p gave what each item of q dereferences to; f is the function that says what that is, where there is one
     abbrev pub CopiesRun : Run GivesCopied → Run gives → Type 0
     CopiesRun p q =
         (q.whole ≡ p.whole) × (p.len ≡ q.len) × RelatesRuns p q (λ item copied. dereferences item copied.value)
-        × ((f : A → B) → ((item : A) (b : B) → dereferences item b → b ≡ f item) → p.items ≡ map (λ item. record { value = f item }) q.items)
+        × ((f : A → B) → ((item : A) (b : B) → dereferences item b → b ≡ f item)
+        → p.items ≡ map (λ item. record { value = f item }) q.items)
 
     -- calls in a row give what the inner iterator's items dereference to, in its order, each marked as not normalized
     abbrev pub RunsCopied : IterIdentityCopied S → Type 0

@@ -26,7 +26,8 @@ TreesFit = (k : ℕ) (t : Tree Depth) → IndicesFit t → BindersFit k t → Fi
 
 -- A tree that reaches at most m fits when it is moved by n, if its binders fit under n + m more.
 abbrev pub MovedFit : Type 0
-MovedFit = (n m : ℕ) (t : Tree Depth) → outer_binder t ≤ m → n + m ≤ greatest → BindersFit (n + m) t → Fits (move n (read 0 t))
+MovedFit = (n m : ℕ) (t : Tree Depth) → outer_binder t ≤ m → n + m ≤ greatest → BindersFit (n + m) t
+    → Fits (move n (read 0 t))
 
 -- wherever there is room for b, there is room for the tree: for what it reaches and for its binders
 pub record HasRoom (b : ℕ) (t : Tree Depth) : Type 0 where
@@ -40,4 +41,5 @@ HaveRoom b (a ∷ args) = HasRoom b a.value × HaveRoom b args
 
 -- A tree fits when its parameters are replaced by arguments that have room in b, if its binders fit under b more.
 abbrev pub InstancesFit : Type 0
-InstancesFit = (b : ℕ) (args : List (Argument Depth)) (t : Tree Depth) → IndicesFit t → BindersFit b t → b ≤ greatest → HaveRoom b args → Fits (put (readings args) (read 0 t))
+InstancesFit = (b : ℕ) (args : List (Argument Depth)) (t : Tree Depth) → IndicesFit t → BindersFit b t → b ≤ greatest
+    → HaveRoom b args → Fits (put (readings args) (read 0 t))

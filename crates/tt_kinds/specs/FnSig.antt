@@ -1,5 +1,6 @@
 -- What a signature keeps beside its types: a byte, and the index of a splatted argument.
-use Rattle.std.specs.Prelude.{◌≡◌, ℕ, ◌+◌, ◌%◌, ◌<◌, ◌==◌, nat_le, Bool, true, false, Option, Some, None, unwrap_or, if◌then◌else◌, ⊤}
+use Rattle.std.specs.Prelude.{◌≡◌, ℕ, ◌+◌, ◌%◌, ◌<◌, ◌==◌, nat_le, Bool, true, false, Option, Some, None, unwrap_or}
+use Rattle.std.specs.Prelude.{if◌then◌else◌, ⊤}
 use Rattle.tt_index.specs.Abi.{abi_number, abi_of}
 use Rattle.tt_index.specs.declared.abi.ExternAbi.{ExternAbi}
 use Rattle.tt_index.specs.declared.abi.ExternAbi.TheVariants.{Rust}
@@ -21,9 +22,11 @@ abbrev pub variadic_bits : Bool → ℕ
 variadic_bits true = 128
 variadic_bits false = 0
 
--- these parts, packed: the convention, whether the function is safe and variadic, and the index of the splatted argument
+-- these parts, packed: the convention, whether the function is safe and variadic, and the index of the splatted
+-- argument
 abbrev pub packed : ExternAbi → Safety → Bool → Option ℕ → FnSigKind
-packed abi safety variadic splat = record { flags = abi_number abi + safety_bits safety + variadic_bits variadic; splat = unwrap_or splat 65535 }
+packed abi safety variadic splat = record { flags = abi_number abi + safety_bits safety + variadic_bits variadic;
+    splat = unwrap_or splat 65535 }
 
 -- the convention
 abbrev pub abi_in : FnSigKind → ExternAbi
@@ -67,7 +70,8 @@ plain_header = record { fn_sig_kind = packed Rust Safe false None }
 
 -- the types of a signature, under its binder
 abbrev pub types_in : Binder FnSig → Binder FnSigTys
-types_in sig = record { value = record { inputs_and_output = sig.value.inputs_and_output }; bound_vars = sig.bound_vars }
+types_in sig = record { value = record { inputs_and_output = sig.value.inputs_and_output };
+    bound_vars = sig.bound_vars }
 
 -- the other parts of a signature
 abbrev pub header_in : Binder FnSig → FnHeader
@@ -75,4 +79,5 @@ header_in sig = record { fn_sig_kind = sig.value.fn_sig_kind }
 
 -- the signature of these types and these other parts
 abbrev pub joined : Binder FnSigTys → FnHeader → Binder FnSig
-joined types header = record { value = record { inputs_and_output = types.value.inputs_and_output; fn_sig_kind = header.fn_sig_kind }; bound_vars = types.bound_vars }
+joined types header = record { value = record { inputs_and_output = types.value.inputs_and_output;
+    fn_sig_kind = header.fn_sig_kind }; bound_vars = types.bound_vars }

@@ -1,14 +1,33 @@
 -- The table of kinds: the label of each, and its children in order. The tree of a kind comes from this table alone.
 use Rattle.std.specs.Prelude.{ℕ, List, [], ◌∷◌, map, Option, Some, None}
-use Rattle.tt_kinds.specs.Label.{Sort, region_sort, type_sort, const_sort, Entry, static_region, erased_region, region_var, error_region, late_param_region, placeholder_region, TypeLabel, bool_type, char_type, int_type, uint_type, float_type, str_type, never_type, placeholder_type, infer_type, error_type, ref_type, raw_ptr_type, slice_type, tuple_type, fn_ptr_type, foreign_type, adt_type, fn_def_type, array_type, pat_type, unsafe_binder_type, dynamic_type, closure_type, coroutine_closure_type, coroutine_type, coroutine_witness_type, alias_type, ConstLabel, infer_const, placeholder_const, unevaluated_const, leaf_const, branch_const, error_const, expr_const, PatternLabel, range_pattern, or_pattern, not_null_pattern, RecordLabel, fn_sig_tys_record, unsafe_binder_record, trait_record, host_effect_record, region_outlives_record, type_outlives_record, projection_record, const_has_type_record, well_formed_record, const_evaluatable_record, unstable_feature_record, dyn_compatible_record, subtype_record, coerce_record, const_equate_record, ambiguous_record, normalizes_to_record, alias_relate_record, existential_trait_record, existential_projection_record, auto_trait_record, Label, type_label, const_label, pattern_label, predicate_label, existential_label, clause_list_label, list_label, var_list_label, text_label, record_label}
+use Rattle.tt_kinds.specs.Label.{Sort, region_sort, type_sort, const_sort, Entry, static_region, erased_region}
+use Rattle.tt_kinds.specs.Label.{region_var, error_region, late_param_region, placeholder_region, TypeLabel, bool_type}
+use Rattle.tt_kinds.specs.Label.{char_type, int_type, uint_type, float_type, str_type, never_type, placeholder_type}
+use Rattle.tt_kinds.specs.Label.{infer_type, error_type, ref_type, raw_ptr_type, slice_type, tuple_type, fn_ptr_type}
+use Rattle.tt_kinds.specs.Label.{foreign_type, adt_type, fn_def_type, array_type, pat_type, unsafe_binder_type}
+use Rattle.tt_kinds.specs.Label.{dynamic_type, closure_type, coroutine_closure_type, coroutine_type}
+use Rattle.tt_kinds.specs.Label.{coroutine_witness_type, alias_type, ConstLabel, infer_const, placeholder_const}
+use Rattle.tt_kinds.specs.Label.{unevaluated_const, leaf_const, branch_const, error_const, expr_const, PatternLabel}
+use Rattle.tt_kinds.specs.Label.{range_pattern, or_pattern, not_null_pattern, RecordLabel, fn_sig_tys_record}
+use Rattle.tt_kinds.specs.Label.{unsafe_binder_record, trait_record, host_effect_record, region_outlives_record}
+use Rattle.tt_kinds.specs.Label.{type_outlives_record, projection_record, const_has_type_record, well_formed_record}
+use Rattle.tt_kinds.specs.Label.{const_evaluatable_record, unstable_feature_record, dyn_compatible_record}
+use Rattle.tt_kinds.specs.Label.{subtype_record, coerce_record, const_equate_record, ambiguous_record}
+use Rattle.tt_kinds.specs.Label.{normalizes_to_record, alias_relate_record, existential_trait_record}
+use Rattle.tt_kinds.specs.Label.{existential_projection_record, auto_trait_record, Label, type_label, const_label}
+use Rattle.tt_kinds.specs.Label.{pattern_label, predicate_label, existential_label, clause_list_label, list_label}
+use Rattle.tt_kinds.specs.Label.{var_list_label, text_label, record_label}
 use Rattle.tt_kinds.specs.Tree as tree
 use Rattle.tt_kinds.specs.Tree.{Depth, Tree, Forest}
 use Rattle.tt_kinds.specs.Bound.{depth, region_name, region_entry, ty_entry, const_entry, var_kind}
 use Rattle.tt_kinds.specs.Shape as shape
 use Rattle.tt_kinds.specs.Shape.{Shape, Shapes, append, item_shapes}
-use Rattle.tt_kinds.specs.Parts.{node_table, node_number, list_table, list_number, no_parts, one_part, two_parts, term_child}
+use Rattle.tt_kinds.specs.Parts.{node_table, node_number, list_table, list_number, no_parts, one_part, two_parts}
+use Rattle.tt_kinds.specs.Parts.{term_child}
 use Rattle.tt_kinds.specs.declared.table.Table.{Table}
-use Rattle.tt_kinds.specs.declared.table.Table.TheVariants.{Types, Consts, Patterns, Predicates, Existentials, ClauseLists, TypeLists, ConstLists, ArgLists, PatternLists, ExistentialLists}
+use Rattle.tt_kinds.specs.declared.table.Table.TheVariants.{Types, Consts, Patterns, Predicates, Existentials}
+use Rattle.tt_kinds.specs.declared.table.Table.TheVariants.{ClauseLists, TypeLists, ConstLists, ArgLists, PatternLists}
+use Rattle.tt_kinds.specs.declared.table.Table.TheVariants.{ExistentialLists}
 use Rattle.tt_kinds.specs.Handle.{Ty}
 use Rattle.tt_kinds.specs.Handle.{Const}
 use Rattle.tt_kinds.specs.Handle.{Pat}
@@ -26,7 +45,8 @@ use Rattle.tt_kinds.specs.declared.binder.Binder.{Binder}
 use Rattle.tt_kinds.specs.declared.bound.BoundVariableKind.{BoundVariableKind}
 use Rattle.tt_kinds.specs.declared.fn_sig.FnSigTys.{FnSigTys}
 use Rattle.tt_kinds.specs.declared.region_kind.RegionKind.{RegionKind}
-use Rattle.tt_kinds.specs.declared.region_kind.RegionKind.TheVariants.{ReEarlyParam, ReBound, ReLateParam, ReStatic, ReVar, RePlaceholder, ReErased, ReError}
+use Rattle.tt_kinds.specs.declared.region_kind.RegionKind.TheVariants.{ReEarlyParam, ReBound, ReLateParam, ReStatic}
+use Rattle.tt_kinds.specs.declared.region_kind.RegionKind.TheVariants.{ReVar, RePlaceholder, ReErased, ReError}
 use Rattle.tt_kinds.specs.declared.generic_arg.GenericArgKind.{GenericArgKind}
 use Rattle.tt_kinds.specs.declared.generic_arg.GenericArgKind.TheVariants as arg
 use Rattle.tt_kinds.specs.declared.ty_kind.TyKind.{TyKind}
@@ -114,13 +134,15 @@ ty_form (ty.Ref r t m) = plain (ref_type m) (two_parts (child.Region r) (child.N
 ty_form (ty.RawPtr t m) = plain (raw_ptr_type m) (one_part (child.Node (node.Ty t)))
 ty_form (ty.Slice t) = plain slice_type (one_part (child.Node (node.Ty t)))
 ty_form (ty.Tuple ts) = plain tuple_type (one_part (child.List (list.Tys ts)))
-ty_form (ty.FnPtr b h) = under (fn_ptr_type h) b.bound_vars fn_sig_tys_record (one_part (child.List (list.Tys b.value.inputs_and_output)))
+ty_form (ty.FnPtr b h) = under (fn_ptr_type h) b.bound_vars fn_sig_tys_record
+    (one_part (child.List (list.Tys b.value.inputs_and_output)))
 ty_form (ty.Foreign d) = plain (foreign_type d.number) no_parts
 ty_form (ty.Adt d args) = plain (adt_type d.number) (one_part (child.List (list.Args args)))
 ty_form (ty.FnDef d args) = plain (fn_def_type d.number) (one_part (child.List (list.Args args)))
 ty_form (ty.Array t c) = plain array_type (two_parts (child.Node (node.Ty t)) (child.Node (node.Const c)))
 ty_form (ty.Pat t p) = plain pat_type (two_parts (child.Node (node.Ty t)) (child.Node (node.Pat p)))
-ty_form (ty.UnsafeBinder b) = under unsafe_binder_type b.0.bound_vars unsafe_binder_record (one_part (child.Node (node.Ty b.0.value)))
+ty_form (ty.UnsafeBinder b) = under unsafe_binder_type b.0.bound_vars unsafe_binder_record
+    (one_part (child.Node (node.Ty b.0.value)))
 ty_form (ty.Dynamic ps r) = plain dynamic_type (two_parts (child.List (list.Existentials ps)) (child.Region r))
 ty_form (ty.Closure d args) = plain (closure_type d.number) (one_part (child.List (list.Args args)))
 ty_form (ty.CoroutineClosure d args) = plain (coroutine_closure_type d.number) (one_part (child.List (list.Args args)))
@@ -159,7 +181,8 @@ replenished q f = record { label = f.label; parts = q }
 
 -- patterns: the label of each, and its children
 abbrev pub pattern_form : PatternKind → Labelled PatternLabel
-pattern_form (pattern.Range start end) = labelled range_pattern (two_parts (child.Node (node.Const start)) (child.Node (node.Const end)))
+pattern_form (pattern.Range start end) = labelled range_pattern
+    (two_parts (child.Node (node.Const start)) (child.Node (node.Const end)))
 pattern_form (pattern.Or ps) = labelled or_pattern (one_part (child.List (list.Pats ps)))
 pattern_form pattern.NotNull = labelled not_null_pattern no_parts
 
@@ -169,31 +192,44 @@ RecordForm = Labelled (RecordLabel ℕ)
 
 -- clauses, without their binder: the label of each, and its children
 abbrev pub clause_form : ClauseKind → RecordForm
-clause_form (clause.Trait p) = labelled (trait_record p.trait_ref.def_id.number) (one_part (child.List (list.Args p.trait_ref.args)))
-clause_form (clause.RegionOutlives p) = labelled region_outlives_record (two_parts (child.Region p.0) (child.Region p.1))
-clause_form (clause.TypeOutlives p) = labelled type_outlives_record (two_parts (child.Node (node.Ty p.0)) (child.Region p.1))
-clause_form (clause.Projection p) = labelled (projection_record p.projection_term.def_id.number) (two_parts (child.List (list.Args p.projection_term.args)) (term_child p.term))
-clause_form (clause.ConstArgHasType c t) = labelled const_has_type_record (two_parts (child.Node (node.Const c)) (child.Node (node.Ty t)))
+clause_form (clause.Trait p) = labelled (trait_record p.trait_ref.def_id.number)
+    (one_part (child.List (list.Args p.trait_ref.args)))
+clause_form (clause.RegionOutlives p) = labelled region_outlives_record
+    (two_parts (child.Region p.0) (child.Region p.1))
+clause_form (clause.TypeOutlives p) = labelled type_outlives_record
+    (two_parts (child.Node (node.Ty p.0)) (child.Region p.1))
+clause_form (clause.Projection p) = labelled (projection_record p.projection_term.def_id.number)
+    (two_parts (child.List (list.Args p.projection_term.args)) (term_child p.term))
+clause_form (clause.ConstArgHasType c t) = labelled const_has_type_record
+    (two_parts (child.Node (node.Const c)) (child.Node (node.Ty t)))
 clause_form (clause.WellFormed t) = labelled well_formed_record (one_part (term_child t))
 clause_form (clause.ConstEvaluatable c) = labelled const_evaluatable_record (one_part (child.Node (node.Const c)))
-clause_form (clause.HostEffect p) = labelled (host_effect_record p.trait_ref.def_id.number p.constness) (one_part (child.List (list.Args p.trait_ref.args)))
+clause_form (clause.HostEffect p) = labelled (host_effect_record p.trait_ref.def_id.number p.constness)
+    (one_part (child.List (list.Args p.trait_ref.args)))
 clause_form (clause.UnstableFeature s) = labelled (unstable_feature_record s.number) no_parts
 
 -- predicates, without their binder: the label of each, and its children
 abbrev pub predicate_form : PredicateKind → RecordForm
 predicate_form (predicate.Clause c) = clause_form c
 predicate_form (predicate.DynCompatible d) = labelled (dyn_compatible_record d.number) no_parts
-predicate_form (predicate.Subtype p) = labelled (subtype_record p.a_is_expected) (two_parts (child.Node (node.Ty p.a)) (child.Node (node.Ty p.b)))
-predicate_form (predicate.Coerce p) = labelled coerce_record (two_parts (child.Node (node.Ty p.a)) (child.Node (node.Ty p.b)))
-predicate_form (predicate.ConstEquate a b) = labelled const_equate_record (two_parts (child.Node (node.Const a)) (child.Node (node.Const b)))
+predicate_form (predicate.Subtype p) = labelled (subtype_record p.a_is_expected)
+    (two_parts (child.Node (node.Ty p.a)) (child.Node (node.Ty p.b)))
+predicate_form (predicate.Coerce p) = labelled coerce_record
+    (two_parts (child.Node (node.Ty p.a)) (child.Node (node.Ty p.b)))
+predicate_form (predicate.ConstEquate a b) = labelled const_equate_record
+    (two_parts (child.Node (node.Const a)) (child.Node (node.Const b)))
 predicate_form predicate.Ambiguous = labelled ambiguous_record no_parts
-predicate_form (predicate.NormalizesTo p) = labelled (normalizes_to_record p.alias.def_id.number) (two_parts (child.List (list.Args p.alias.args)) (term_child p.term))
-predicate_form (predicate.AliasRelate a b r) = labelled (alias_relate_record r) (two_parts (term_child a) (term_child b))
+predicate_form (predicate.NormalizesTo p) = labelled (normalizes_to_record p.alias.def_id.number)
+    (two_parts (child.List (list.Args p.alias.args)) (term_child p.term))
+predicate_form (predicate.AliasRelate a b r) = labelled (alias_relate_record r)
+    (two_parts (term_child a) (term_child b))
 
 -- existential predicates, without their binder: the label of each, and its children
 abbrev pub existential_form : ExistentialPredicate → RecordForm
-existential_form (existential.Trait t) = labelled (existential_trait_record t.def_id.number) (one_part (child.List (list.Args t.args)))
-existential_form (existential.Projection p) = labelled (existential_projection_record p.def_id.number) (two_parts (child.List (list.Args p.args)) (term_child p.term))
+existential_form (existential.Trait t) = labelled (existential_trait_record t.def_id.number)
+    (one_part (child.List (list.Args t.args)))
+existential_form (existential.Projection p) = labelled (existential_projection_record p.def_id.number)
+    (two_parts (child.List (list.Args p.args)) (term_child p.term))
 existential_form (existential.AutoTrait d) = labelled (auto_trait_record d.number) no_parts
 
 -- what is under a binder of these variables, as the form of a kind
@@ -327,7 +363,8 @@ abbrev pub form_shape : Sort → Form (Label ℕ) → Shape
 form_shape s (param i name) = shape.param s i name
 form_shape s (bound d e) = shape.bound s d e
 form_shape s (plain l p) = shape.term l (parts_shapes p)
-form_shape s (under l vars m p) = shape.term l (shape.also (shape.binder vars.number (shape.node (record_label m) (parts_shapes p))) shape.none)
+form_shape s (under l vars m p) = shape.term l (shape.also
+    (shape.binder vars.number (shape.node (record_label m) (parts_shapes p))) shape.none)
 
 -- what a kind's row is
 abbrev pub kind_shape : Kind → Shape
@@ -351,11 +388,13 @@ record_shape f = shape.node (record_label f.label) (parts_shapes f.parts)
 
 -- what a predicate's row is
 abbrev pub predicate_kind_shape : Binder PredicateKind → Shape
-predicate_kind_shape b = shape.term predicate_label (shape.also (shape.binder b.bound_vars.number (record_shape (predicate_form b.value))) shape.none)
+predicate_kind_shape b = shape.term predicate_label (shape.also
+    (shape.binder b.bound_vars.number (record_shape (predicate_form b.value))) shape.none)
 
 -- what an existential predicate's row is
 abbrev pub existential_kind_shape : Binder ExistentialPredicate → Shape
-existential_kind_shape b = shape.term existential_label (shape.also (shape.binder b.bound_vars.number (record_shape (existential_form b.value))) shape.none)
+existential_kind_shape b = shape.term existential_label
+    (shape.also (shape.binder b.bound_vars.number (record_shape (existential_form b.value))) shape.none)
 
 -- the types of a signature
 abbrev pub fn_sig_tys_shape : FnSigTys → Shape

@@ -1,7 +1,10 @@
 -- The data of nodes and leaves. No law on trees looks into a label: only the questions at the end do.
 -- N names a symbol: by its text in trees, and by its number in stored terms.
 use Rattle.std.specs.Prelude.{ℕ, List, [], ◌∷◌, Bool, true, false, Option, Some, None}
-use Rattle.tt_flags.specs.TypeFlags.{has_ty_infer, has_ct_infer, has_ty_placeholder, has_ct_placeholder, has_ty_projection, has_ty_free_alias, has_ty_opaque, has_ty_inherent, has_ct_projection, has_non_region_error, has_error, has_ty_fresh, has_ct_fresh, has_binder_vars, has_ty_coro}
+use Rattle.tt_flags.specs.TypeFlags.{has_ty_infer, has_ct_infer, has_ty_placeholder, has_ct_placeholder}
+use Rattle.tt_flags.specs.TypeFlags.{has_ty_projection, has_ty_free_alias, has_ty_opaque, has_ty_inherent}
+use Rattle.tt_flags.specs.TypeFlags.{has_ct_projection, has_non_region_error, has_error, has_ty_fresh, has_ct_fresh}
+use Rattle.tt_flags.specs.TypeFlags.{has_binder_vars, has_ty_coro}
 use Rattle.tt_index.specs.declared.numeric.IntTy.{IntTy}
 use Rattle.tt_index.specs.declared.numeric.UintTy.{UintTy}
 use Rattle.tt_index.specs.declared.numeric.FloatTy.{FloatTy}
@@ -15,7 +18,8 @@ use Rattle.tt_kinds.specs.declared.fn_sig.FnSigKind.{FnSigKind}
 use Rattle.tt_kinds.specs.declared.alias.AliasTyKind.{AliasTyKind}
 use Rattle.tt_kinds.specs.declared.alias.AliasTyKind.TheVariants as alias
 use Rattle.tt_kinds.specs.declared.ty_kind.InferTy.{InferTy}
-use Rattle.tt_kinds.specs.declared.ty_kind.InferTy.TheVariants.{TyVar, IntVar, FloatVar, FreshTy, FreshIntTy, FreshFloatTy}
+use Rattle.tt_kinds.specs.declared.ty_kind.InferTy.TheVariants.{TyVar, IntVar, FloatVar, FreshTy, FreshIntTy}
+use Rattle.tt_kinds.specs.declared.ty_kind.InferTy.TheVariants.{FreshFloatTy}
 use Rattle.tt_kinds.specs.declared.const_kind.InferConst.{InferConst}
 use Rattle.tt_kinds.specs.declared.const_kind.InferConst.TheVariants.{Var, Fresh}
 use Rattle.tt_kinds.specs.declared.declaration.DeclarationSort.{DeclarationSort}
@@ -23,7 +27,8 @@ use Rattle.tt_kinds.specs.declared.predicate.BoundConstness.{BoundConstness}
 use Rattle.tt_kinds.specs.declared.predicate_kind.AliasRelationDirection.{AliasRelationDirection}
 use Rattle.tt_kinds.specs.Variant.{Variant}
 use Rattle.tt_kinds.specs.declared.table.Table.{Table}
-use Rattle.tt_kinds.specs.declared.table.Table.TheVariants.{Types, Consts, Patterns, Predicates, Existentials, ClauseLists, VarLists, Symbols, Declarations, Definitions}
+use Rattle.tt_kinds.specs.declared.table.Table.TheVariants.{Types, Consts, Patterns, Predicates, Existentials}
+use Rattle.tt_kinds.specs.declared.table.Table.TheVariants.{ClauseLists, VarLists, Symbols, Declarations, Definitions}
 
 -- a name: the bytes of its text
 abbrev pub Name : Type 0
@@ -147,7 +152,8 @@ pub data RecordLabel (N : Type 0) : Type 0 where
   fn_sig_record : FnSigKind → RecordLabel N
   param_env_record : RecordLabel N
   witness_types_record : RecordLabel N
-  -- kinds of types and constants that aren't stored: a parameter's, a bound variable's, whose index is none where it is canonical, and others
+  -- kinds of types and constants that aren't stored: a parameter's, a bound variable's, whose index is none where it is
+  -- canonical, and others
   bare_param_record : Sort → ℕ → N → RecordLabel N
   bare_bound_record : Sort → Option ℕ → Entry N → RecordLabel N
   bare_type_record : TypeLabel → RecordLabel N

@@ -1,4 +1,5 @@
--- Laws of trees and their readings, for all trees, all numbers of binders above them and all lists of arguments, and of signatures.
+-- Laws of trees and their readings, for all trees, all numbers of binders above them and all lists of arguments, and of
+-- signatures.
 use Rattle.std.specs.Prelude.{◌≡◌, ℕ, ◌+◌, ◌≤◌, List, Option, Bool, map, false}
 use Rattle.tt_index.specs.declared.abi.ExternAbi.{ExternAbi}
 use Rattle.tt_index.specs.declared.qualifier.Safety.{Safety}
@@ -16,11 +17,13 @@ use Rattle.tt_kinds.specs.Met.{met, placed}
 
 -- if each parameter has an argument, two replacements are one, by the first arguments with the second made in them
 abbrev pub PutsCompose : Type 0
-PutsCompose = (later args : List (Argument Place)) (r : Tree Place) → IsAnswered args r → put later (put args r) ≡ put (change_values (put later) args) r
+PutsCompose = (later args : List (Argument Place)) (r : Tree Place) → IsAnswered args r
+    → put later (put args r) ≡ put (change_values (put later) args) r
 
 -- a replacement and then a move is the move and then the replacement by moved arguments
 abbrev pub MovesCommute : Type 0
-MovesCommute = (n : ℕ) (args : List (Argument Place)) (r : Tree Place) → move n (put args r) ≡ put (change_values (move n) args) (move n r)
+MovesCommute = (n : ℕ) (args : List (Argument Place)) (r : Tree Place)
+    → move n (put args r) ≡ put (change_values (move n) args) (move n r)
 
 -- moves in turn are one move by the sum
 abbrev pub MovesAddUp : Type 0
@@ -32,16 +35,19 @@ MovesTellReadings = (n : ℕ) (r q : Tree Place) → move n r ≡ move n q → r
 
 -- a reading whose own variables match their binders' lists does so after a replacement by arguments that do
 abbrev pub PutKeepsMatched : Type 0
-PutKeepsMatched = (args : List (Argument Place)) → ArgumentsMatched args → (lists : List (List (VarKind Name))) (r : Tree Place) →
+PutKeepsMatched = (args : List (Argument Place)) → ArgumentsMatched args
+    → (lists : List (List (VarKind Name))) (r : Tree Place) →
     MatchedUnder lists r → MatchedUnder lists (put args r)
 
 -- a reading whose own variables match their binders' lists does so after a move
 abbrev pub MoveKeepsMatched : Type 0
-MoveKeepsMatched = (n : ℕ) (lists : List (List (VarKind Name))) (r : Tree Place) → MatchedUnder lists r → MatchedUnder lists (move n r)
+MoveKeepsMatched = (n : ℕ) (lists : List (List (VarKind Name))) (r : Tree Place) → MatchedUnder lists r
+    → MatchedUnder lists (move n r)
 
 -- if each parameter has an argument and no argument holds a parameter, the replacement leaves no parameter
 abbrev pub PutLeavesNone : Type 0
-PutLeavesNone = (args : List (Argument Place)) (r : Tree Place) → IsAnswered args r → ArgumentsHoldNone args → holds_param (put args r) ≡ false
+PutLeavesNone = (args : List (Argument Place)) (r : Tree Place) → IsAnswered args r → ArgumentsHoldNone args
+    → holds_param (put args r) ≡ false
 
 -- trees of equal readings are equal
 abbrev pub ReadingsTellTrees : Type 0
@@ -53,7 +59,8 @@ MetPlacedAgain = (k : ℕ) (t : Tree Depth) → placed k t (map (λ m. m.standin
 
 -- an instantiated tree reads as the reading with its parameters replaced by the arguments' readings
 abbrev pub InstancesRead : Type 0
-InstancesRead = (k : ℕ) (args : List (Argument Depth)) (t : Tree Depth) → read k (inst_tree k args t) ≡ put (readings args) (read k t)
+InstancesRead = (k : ℕ) (args : List (Argument Depth)) (t : Tree Depth)
+    → read k (inst_tree k args t) ≡ put (readings args) (read k t)
 
 -- a shifted tree reads as the reading moved
 abbrev pub ShiftsRead : Type 0
@@ -69,7 +76,8 @@ ShiftByZero = (k : ℕ) (t : Tree Depth) → shift_tree k 0 t ≡ t
 
 -- each part that was packed is read back
 abbrev pub PackedPartsAreRead : Type 0
-PackedPartsAreRead = (abi : ExternAbi) (safety : Safety) (variadic : Bool) (splat : Option ℕ) → AreRead abi safety variadic splat
+PackedPartsAreRead = (abi : ExternAbi) (safety : Safety) (variadic : Bool) (splat : Option ℕ)
+    → AreRead abi safety variadic splat
 
 -- the types and the other parts of a signature, joined, are the signature
 abbrev pub SplitIsJoined : Type 0

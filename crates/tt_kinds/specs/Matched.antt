@@ -2,7 +2,8 @@
 use Rattle.std.specs.Prelude.{ℕ, List, [], ◌∷◌, ◌≡◌, ⊤, Some, slice_get, IsSomeAnd}
 use Rattle.tt_kinds.specs.Label.{Name, Sort, VarKind, Entry}
 use Rattle.tt_kinds.specs.Argument.{Argument, argument}
-use Rattle.tt_kinds.specs.Tree.{Place, own, outer, apart, Tree, param, bound, region, term, node, binder, Forest, none, also}
+use Rattle.tt_kinds.specs.Tree.{Place, own, outer, apart, Tree, param, bound, region, term, node, binder, Forest, none}
+use Rattle.tt_kinds.specs.Tree.{also}
 
 -- the entry is in the list, at its number
 abbrev pub IsEntryOf : List (VarKind Name) → Entry Name → Type 0

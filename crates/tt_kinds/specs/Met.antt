@@ -1,7 +1,8 @@
 -- The regions of a tree that are neither bound in it nor canonical, and the tree with others in their places.
 use Rattle.std.specs.Prelude.{ℕ, suc, List, [], ◌∷◌, ◌++◌, length, take, drop, nat_lt, if◌then◌else◌}
 use Rattle.tt_kinds.specs.Label.{Sort, region_sort}
-use Rattle.tt_kinds.specs.Tree.{Depth, at, canonical, Tree, param, bound, region, term, node, binder, Forest, none, also}
+use Rattle.tt_kinds.specs.Tree.{Depth, at, canonical, Tree, param, bound, region, term, node, binder, Forest, none}
+use Rattle.tt_kinds.specs.Tree.{also}
 
 -- a region as it is written, and the number of binders above it
 pub record Met : Type 0 where

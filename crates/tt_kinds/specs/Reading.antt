@@ -2,7 +2,8 @@
 use Rattle.std.specs.Prelude.{ℕ, suc, ◌+◌, ◌-◌, ◌<◌, max, nat_lt, if◌then◌else◌, ⊤}
 use Rattle.tt_index.specs.Greatest.{greatest}
 use Rattle.tt_kinds.specs.Label.{Name, Sort}
-use Rattle.tt_kinds.specs.Tree.{Depth, at, canonical, Place, own, outer, apart, Tree, param, bound, region, term, node, binder, Forest, none, also, rebuild, rebuild_all, replace, replace_all}
+use Rattle.tt_kinds.specs.Tree.{Depth, at, canonical, Place, own, outer, apart, Tree, param, bound, region, term, node}
+use Rattle.tt_kinds.specs.Tree.{binder, Forest, none, also, rebuild, rebuild_all, replace, replace_all}
 
 -- where the binder of a variable under k binders is
 abbrev pub place : ℕ → Depth → Place

@@ -1,8 +1,12 @@
 -- The flags of a tree: what a scan of all its nodes finds.
 use Rattle.std.specs.Prelude.{ℕ, bit_or}
-use Rattle.tt_flags.specs.TypeFlags.{has_free_regions, has_re_erased, has_ty_param, has_ct_param, has_re_bound, has_ty_bound, has_ct_bound, has_canonical_bound}
-use Rattle.tt_kinds.specs.Label.{Name, Sort, region_sort, type_sort, const_sort, FreeRegion, static_region, erased_region, region_var, error_region, late_param_region, placeholder_region, list_flags, flags_of_label}
-use Rattle.tt_kinds.specs.Tree.{Depth, at, canonical, Tree, param, bound, region, term, node, binder, Forest, none, also}
+use Rattle.tt_flags.specs.TypeFlags.{has_free_regions, has_re_erased, has_ty_param, has_ct_param, has_re_bound}
+use Rattle.tt_flags.specs.TypeFlags.{has_ty_bound, has_ct_bound, has_canonical_bound}
+use Rattle.tt_kinds.specs.Label.{Name, Sort, region_sort, type_sort, const_sort, FreeRegion, static_region}
+use Rattle.tt_kinds.specs.Label.{erased_region, region_var, error_region, late_param_region, placeholder_region}
+use Rattle.tt_kinds.specs.Label.{list_flags, flags_of_label}
+use Rattle.tt_kinds.specs.Tree.{Depth, at, canonical, Tree, param, bound, region, term, node, binder, Forest, none}
+use Rattle.tt_kinds.specs.Tree.{also}
 
 -- a parameter
 abbrev pub param_flags : Sort → ℕ

@@ -1,7 +1,23 @@
 -- Shapes: what a value holds, as a tree with handles in the places of stored terms and numbers in the places of names.
 use Rattle.std.specs.Prelude.{ℕ, ◌-◌, ◌<◌, ◌≤◌, ◌≡◌, List, [], ◌∷◌, map, Option, Some, None, ⊤}
 use Rattle.tt_index.specs.Greatest.{greatest}
-use Rattle.tt_kinds.specs.Label.{Name, Sort, region_sort, type_sort, const_sort, RegionName, anonymous, printed, named, environment, VarKind, region_variable, type_variable, const_variable, Entry, FreeRegion, static_region, erased_region, region_var, error_region, late_param_region, placeholder_region, RecordLabel, fn_sig_tys_record, pair_record, triple_record, absent_record, present_record, sequence_record, unsafe_binder_record, trait_record, host_effect_record, region_outlives_record, type_outlives_record, projection_record, const_has_type_record, well_formed_record, const_evaluatable_record, unstable_feature_record, dyn_compatible_record, subtype_record, coerce_record, const_equate_record, ambiguous_record, normalizes_to_record, alias_relate_record, existential_trait_record, existential_projection_record, auto_trait_record, trait_ref_record, alias_term_record, alias_ty_record, outlives_record, type_and_mut_record, fn_sig_record, param_env_record, witness_types_record, bare_param_record, bare_bound_record, bare_type_record, bare_const_record, bare_pattern_record, Label, type_label, const_label, pattern_label, predicate_label, existential_label, clause_list_label, list_label, var_list_label, text_label, declaration_label, definition_label, record_label, error_label, clause_label, label_table}
+use Rattle.tt_kinds.specs.Label.{Name, Sort, region_sort, type_sort, const_sort, RegionName, anonymous, printed, named}
+use Rattle.tt_kinds.specs.Label.{environment, VarKind, region_variable, type_variable, const_variable, Entry}
+use Rattle.tt_kinds.specs.Label.{FreeRegion, static_region, erased_region, region_var, error_region, late_param_region}
+use Rattle.tt_kinds.specs.Label.{placeholder_region, RecordLabel, fn_sig_tys_record, pair_record, triple_record}
+use Rattle.tt_kinds.specs.Label.{absent_record, present_record, sequence_record, unsafe_binder_record, trait_record}
+use Rattle.tt_kinds.specs.Label.{host_effect_record, region_outlives_record, type_outlives_record, projection_record}
+use Rattle.tt_kinds.specs.Label.{const_has_type_record, well_formed_record, const_evaluatable_record}
+use Rattle.tt_kinds.specs.Label.{unstable_feature_record, dyn_compatible_record, subtype_record, coerce_record}
+use Rattle.tt_kinds.specs.Label.{const_equate_record, ambiguous_record, normalizes_to_record, alias_relate_record}
+use Rattle.tt_kinds.specs.Label.{existential_trait_record, existential_projection_record, auto_trait_record}
+use Rattle.tt_kinds.specs.Label.{trait_ref_record, alias_term_record, alias_ty_record, outlives_record}
+use Rattle.tt_kinds.specs.Label.{type_and_mut_record, fn_sig_record, param_env_record, witness_types_record}
+use Rattle.tt_kinds.specs.Label.{bare_param_record, bare_bound_record, bare_type_record, bare_const_record}
+use Rattle.tt_kinds.specs.Label.{bare_pattern_record, Label, type_label, const_label, pattern_label, predicate_label}
+use Rattle.tt_kinds.specs.Label.{existential_label, clause_list_label, list_label, var_list_label, text_label}
+use Rattle.tt_kinds.specs.Label.{declaration_label, definition_label, record_label, error_label, clause_label}
+use Rattle.tt_kinds.specs.Label.{label_table}
 use Rattle.tt_kinds.specs.Tree as tree
 use Rattle.tt_kinds.specs.Tree.{Depth, at, canonical, Tree, Forest, count_trees, take_trees, drop_trees}
 use Rattle.tt_kinds.specs.declared.table.Table.{Table}

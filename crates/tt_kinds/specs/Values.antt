@@ -1,7 +1,13 @@
 -- Values that have no row of their own: records, and their contents.
 use Rattle.std.specs.Prelude.{ℕ, Option, Some, None, Result, Ok, Err, List}
-use Rattle.tt_kinds.specs.Label.{RecordLabel, trait_ref_record, alias_term_record, alias_ty_record, outlives_record, type_and_mut_record, fn_sig_record, param_env_record, witness_types_record, projection_record, normalizes_to_record, trait_record, host_effect_record, subtype_record, coerce_record, record_label, list_label, pair_record, triple_record, absent_record, present_record, sequence_record, existential_trait_record, existential_projection_record, unsafe_binder_record, clause_label}
-use Rattle.tt_kinds.specs.Label.{ItemLabel, trait_item, assoc_ty_item, inherent_item, fn_item, plain_item, declaration_label, definition_label}
+use Rattle.tt_kinds.specs.Label.{RecordLabel, trait_ref_record, alias_term_record, alias_ty_record, outlives_record}
+use Rattle.tt_kinds.specs.Label.{type_and_mut_record, fn_sig_record, param_env_record, witness_types_record}
+use Rattle.tt_kinds.specs.Label.{projection_record, normalizes_to_record, trait_record, host_effect_record}
+use Rattle.tt_kinds.specs.Label.{subtype_record, coerce_record, record_label, list_label, pair_record, triple_record}
+use Rattle.tt_kinds.specs.Label.{absent_record, present_record, sequence_record, existential_trait_record}
+use Rattle.tt_kinds.specs.Label.{existential_projection_record, unsafe_binder_record, clause_label}
+use Rattle.tt_kinds.specs.Label.{ItemLabel, trait_item, assoc_ty_item, inherent_item, fn_item, plain_item}
+use Rattle.tt_kinds.specs.Label.{declaration_label, definition_label}
 use Rattle.tt_kinds.specs.Declaration.{sort_of}
 use Rattle.tt_kinds.specs.Variant.{Variant}
 use Rattle.tt_kinds.specs.declared.variant.FieldDef.{FieldDef}
@@ -10,7 +16,8 @@ use Rattle.tt_kinds.specs.declared.declaration.DeclarationKind.{DeclarationKind}
 use Rattle.tt_kinds.specs.declared.declaration.DeclarationKind.TheVariants as kind
 use Rattle.tt_kinds.specs.Shape as shape
 use Rattle.tt_kinds.specs.Shape.{Shape, Shapes, all_but_last, span, item_shapes}
-use Rattle.tt_kinds.specs.Kinds.{region_shape, arg_shape, ty_shape, tys_shape, args_shape, clause_shape, clauses_shape, term_shape, clause_form, predicate_form, existential_form, record_shape}
+use Rattle.tt_kinds.specs.Kinds.{region_shape, arg_shape, ty_shape, tys_shape, args_shape, clause_shape, clauses_shape}
+use Rattle.tt_kinds.specs.Kinds.{term_shape, clause_form, predicate_form, existential_form, record_shape}
 use Rattle.tt_kinds.specs.declared.table.Table.TheVariants.{AssumptionLists, TypeLists, ArgLists, VarLists, Symbols}
 use Rattle.tt_kinds.specs.Handle.{Clause}
 use Rattle.tt_kinds.specs.Handle.{Symbol}
@@ -57,12 +64,14 @@ two_record l s u = shape.node (record_label l) (shape.also s (shape.also u shape
 
 -- two values
 abbrev pub pair_shape : {S T : Type 0} → (S → Shape) → (T → Shape) → S × T → Shape
-pair_shape of_first of_second p = shape.node (record_label pair_record) (shape.also (of_first p.0) (shape.also (of_second p.1) shape.none))
+pair_shape of_first of_second p = shape.node (record_label pair_record)
+    (shape.also (of_first p.0) (shape.also (of_second p.1) shape.none))
 
 -- three values
 abbrev pub triple_shape : {S T U : Type 0} → (S → Shape) → (T → Shape) → (U → Shape) → S × T × U → Shape
 triple_shape of_first of_second of_third p =
-    shape.node (record_label triple_record) (shape.also (of_first p.0) (shape.also (of_second p.1) (shape.also (of_third p.2) shape.none)))
+    shape.node (record_label triple_record) (shape.also (of_first p.0)
+        (shape.also (of_second p.1) (shape.also (of_third p.2) shape.none)))
 
 -- a value, if there is one
 abbrev pub option_shape : {T : Type 0} → (T → Shape) → Option T → Shape
@@ -132,7 +141,8 @@ fn_sig_shape s = one_record (fn_sig_record s.fn_sig_kind) (tys_shape s.inputs_an
 
 -- the terms of what is declared: the variables that a function's signature binds, and its types
 abbrev pub declared_shapes : DeclarationKind → Shapes
-declared_shapes (kind.Fn sig) = shape.also (shape.stored VarLists sig.value.bound_vars.number) (shape.also (tys_shape sig.value.value.inputs_and_output) shape.none)
+declared_shapes (kind.Fn sig) = shape.also (shape.stored VarLists sig.value.bound_vars.number)
+    (shape.also (tys_shape sig.value.value.inputs_and_output) shape.none)
 declared_shapes _ = shape.none
 
 -- what the row of a declaration is, with its place among the declarations
@@ -165,15 +175,18 @@ trait_predicate_shape p = one_record (trait_record p.trait_ref.def_id.number) (a
 
 -- a type implements a trait, in constants
 abbrev pub host_effect_shape : HostEffectPredicate → Shape
-host_effect_shape p = one_record (host_effect_record p.trait_ref.def_id.number p.constness) (args_shape p.trait_ref.args)
+host_effect_shape p = one_record (host_effect_record p.trait_ref.def_id.number p.constness)
+    (args_shape p.trait_ref.args)
 
 -- an alias is equal to a term
 abbrev pub projection_shape : ProjectionPredicate → Shape
-projection_shape p = two_record (projection_record p.projection_term.def_id.number) (args_shape p.projection_term.args) (term_shape p.term)
+projection_shape p = two_record (projection_record p.projection_term.def_id.number) (args_shape p.projection_term.args)
+    (term_shape p.term)
 
 -- an alias normalizes to a term
 abbrev pub normalizes_to_shape : NormalizesTo → Shape
-normalizes_to_shape p = two_record (normalizes_to_record p.alias.def_id.number) (args_shape p.alias.args) (term_shape p.term)
+normalizes_to_shape p = two_record (normalizes_to_record p.alias.def_id.number) (args_shape p.alias.args)
+    (term_shape p.term)
 
 -- a type is a subtype of another
 abbrev pub subtype_shape : SubtypePredicate → Shape
@@ -189,7 +202,8 @@ existential_trait_ref_shape t = one_record (existential_trait_record t.def_id.nu
 
 -- the value of an associated type or constant of the hidden type
 abbrev pub existential_projection_shape : ExistentialProjection → Shape
-existential_projection_shape p = two_record (existential_projection_record p.def_id.number) (args_shape p.args) (term_shape p.term)
+existential_projection_shape p = two_record (existential_projection_record p.def_id.number) (args_shape p.args)
+    (term_shape p.term)
 
 -- a type under a binder, as an unsafe binder has it
 abbrev pub unsafe_binder_shape : UnsafeBinderInner → Shape

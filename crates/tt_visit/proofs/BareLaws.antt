@@ -1,16 +1,20 @@
 -- The visit of kinds that aren't stored, from the visit of their contents.
 use Rattle.std.proofs.Common.{◌≡◌, ℕ, Option, Some, None, refl}
-use Rattle.tt_kinds.specs.Label.{Name, Sort, Entry, RecordLabel, Label, type_sort, const_sort, type_label, const_label, record_label, bare_type_record, bare_const_record, error_of_type, error_of_const}
+use Rattle.tt_kinds.specs.Label.{Name, Sort, Entry, RecordLabel, Label, type_sort, const_sort, type_label, const_label}
+use Rattle.tt_kinds.specs.Label.{record_label, bare_type_record, bare_const_record, error_of_type, error_of_const}
 use Rattle.tt_kinds.specs.Tree as tree
 use Rattle.tt_kinds.specs.Tree.{Depth, Tree}
 use Rattle.tt_kinds.specs.Shape as shape
 use Rattle.tt_kinds.specs.Shape.{Meaning, fill, fill_all, name_of}
-use Rattle.tt_kinds.specs.Kinds.{Form, param, bound, plain, under, relabelled, form_shape, parts_shapes, kind_shape, ty_form, const_form}
+use Rattle.tt_kinds.specs.Kinds.{Form, param, bound, plain, under, relabelled, form_shape, parts_shapes, kind_shape}
+use Rattle.tt_kinds.specs.Kinds.{ty_form, const_form}
 use Rattle.tt_kinds.specs.declared.parts.Kind.TheVariants as kind
 use Rattle.tt_kinds.specs.declared.ty_kind.TyKind.{TyKind}
 use Rattle.tt_kinds.specs.declared.const_kind.ConstKind.{ConstKind}
 use Rattle.tt_visit.specs.Root.{error_of}
-use Rattle.tt_visit.specs.Visit.{Visits, Tells, TellingBreaks, GoesOver, GoesInside, GoesOverAll, node_seen, token_seen, term_seen, param_seen, bound_seen, all_seen, one_seen, Breaks, BreaksInside, BreaksAll, node_broke, token_broke, error_broke, term_inside_broke, first_broke}
+use Rattle.tt_visit.specs.Visit.{Visits, Tells, TellingBreaks, GoesOver, GoesInside, GoesOverAll, node_seen, token_seen}
+use Rattle.tt_visit.specs.Visit.{term_seen, param_seen, bound_seen, all_seen, one_seen, Breaks, BreaksInside, BreaksAll}
+use Rattle.tt_visit.specs.Visit.{node_broke, token_broke, error_broke, term_inside_broke, first_broke}
 use Rattle.tt_kinds.specs.Bare.{token_shapes, bare_shape, bare_ty_shape, bare_const_shape}
 use Rattle.tt_visit.proofs.VisitSteps.{error_of-rename, seen-append, broke-before, broke-after}
 

@@ -1,10 +1,12 @@
 -- How visits begin, over plain variables.
-use Rattle.std.proofs.Common.{◌≡◌, ℕ, suc, ◌+◌, ◌<◌, ◌≤◌, List, [], ◌∷◌, Option, Some, None, ControlFlow, Continue, Break, refl, ap, arith, All, MatchOption}
+use Rattle.std.proofs.Common.{◌≡◌, ℕ, suc, ◌+◌, ◌<◌, ◌≤◌, List, [], ◌∷◌, Option, Some, None, ControlFlow, Continue}
+use Rattle.std.proofs.Common.{Break, refl, ap, arith, All, MatchOption}
 use Rattle.std.specs.ControlFlow.{MatchControlFlow}
 use Rattle.tt_kinds.specs.Label.{Sort, Label}
 use Rattle.tt_kinds.specs.Tree.{Depth, Forest}
 use Rattle.tt_kinds.specs.Shape.{Shapes, none, also, append, Meaning, AreParts, fill, fill_all, vars_of}
-use Rattle.tt_kinds.specs.Kinds.{Form, param, bound, plain, under, form_parts, form_shape, kind_form, kind_sort, kind_shape, child_shapes, children_shapes, parts_shapes, items_tree}
+use Rattle.tt_kinds.specs.Kinds.{Form, param, bound, plain, under, form_parts, form_shape, kind_form, kind_sort}
+use Rattle.tt_kinds.specs.Kinds.{kind_shape, child_shapes, children_shapes, parts_shapes, items_tree}
 use Rattle.tt_kinds.specs.Parts.{child_sort, absent, IsItem, list_sort, list_table, list_number}
 use Rattle.tt_kinds.specs.Handle.{BoundVarKinds}
 use Rattle.tt_kinds.specs.declared.parts.Child.{Child}
@@ -18,9 +20,12 @@ use Rattle.tt_kinds.specs.declared.table.Table.TheVariants.{VarLists}
 use Rattle.tt_interner.specs.Children.{children_at}
 use Rattle.tt_interner.specs.Rows.{Row, meaning, size}
 use Rattle.tt_visit.specs.Steps.{AreStored, GoesUnder, BreaksUnder}
-use Rattle.tt_visit.specs.Visit.{Visits, GoesOverAll, all_seen, node_seen, value_seen, binder_seen, BreaksAll, node_broke, value_broke, under_broke}
+use Rattle.tt_visit.specs.Visit.{Visits, GoesOverAll, all_seen, node_seen, value_seen, binder_seen, BreaksAll}
+use Rattle.tt_visit.specs.Visit.{node_broke, value_broke, under_broke}
 use Rattle.tt_visit.specs.declared.visitor.Next.TheVariants.{Descend}
-use Rattle.tt_visit.specs.Frames.{present, rest_binder, frame_children, children_height, children_work, child_height, child_work, parts_height, tree_work, forest_work, frame_todo, IsFrame, HoldsParts, Leaves, GoesOn, BreaksOn, Inside, Begun, HasFrame, Finishes}
+use Rattle.tt_visit.specs.Frames.{present, rest_binder, frame_children, children_height, children_work, child_height}
+use Rattle.tt_visit.specs.Frames.{child_work, parts_height, tree_work, forest_work, frame_todo, IsFrame, HoldsParts}
+use Rattle.tt_visit.specs.Frames.{Leaves, GoesOn, BreaksOn, Inside, Begun, HasFrame, Finishes}
 use Rattle.tt_visit.specs.declared.frame.Frame.{Frame}
 use Rattle.tt_visit.proofs.VisitSteps.{flow-weaker}
 

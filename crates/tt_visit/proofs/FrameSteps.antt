@@ -1,5 +1,6 @@
 -- The turns of a visit's loop over plain variables.
-use Rattle.std.proofs.Common.{◌≡◌, ℕ, suc, ◌+◌, ◌<◌, ◌≤◌, max, List, [], ◌∷◌, ◌++◌, length, Option, None, refl, ap, inl, inr, arith}
+use Rattle.std.proofs.Common.{◌≡◌, ℕ, suc, ◌+◌, ◌<◌, ◌≤◌, max, List, [], ◌∷◌, ◌++◌, length, Option, None, refl, ap, inl}
+use Rattle.std.proofs.Common.{inr, arith}
 use Rattle.tt_kinds.specs.Shape.{append, Sizes, AreParts, fill_all}
 use Rattle.tt_kinds.specs.Kinds.{child_shapes, children_shapes}
 use Rattle.tt_kinds.specs.declared.parts.Child.{Child}
@@ -8,7 +9,9 @@ use Rattle.tt_kinds.specs.Handle.{BoundVarKinds}
 use Rattle.tt_interner.specs.Rows.{Row, meaning, size}
 use Rattle.tt_visit.specs.Steps.{AreStored}
 use Rattle.tt_visit.specs.Visit.{Visits, GoesOverAll, all_seen, BreaksAll}
-use Rattle.tt_visit.specs.Frames.{rest_children, rest_binder, frame_children, IsRest, IsKept, inward, children_height, children_work, child_height, child_work, frame_todo, rest_todo, IsFrame, AreRests, AreBinders, Leaves, GoesOn, BreaksOn, StackGoes, StackLeaves, StackBreaks, Inside}
+use Rattle.tt_visit.specs.Frames.{rest_children, rest_binder, frame_children, IsRest, IsKept, inward, children_height}
+use Rattle.tt_visit.specs.Frames.{children_work, child_height, child_work, frame_todo, rest_todo, IsFrame, AreRests}
+use Rattle.tt_visit.specs.Frames.{AreBinders, Leaves, GoesOn, BreaksOn, StackGoes, StackLeaves, StackBreaks, Inside}
 use Rattle.tt_visit.specs.declared.frame.Frame.{Frame}
 use Rattle.tt_visit.specs.declared.frame.Rest.{Rest}
 use Rattle.tt_visit.specs.declared.frame.Rest.TheVariants as rest

@@ -5,18 +5,28 @@ use Rattle.std.specs.Prelude.{Option, Some, None, bit_and, ⊤}
 use Rattle.std.specs.Int.Bits.{and_zero_r}
 use Rattle.std.specs.Option.{option_or}
 use Rattle.tt_flags.specs.TypeFlags.{has_error, has_non_region_error}
-use Rattle.tt_kinds.specs.Label.{error_label, Name, Sort, region_sort, type_sort, const_sort, VarKind, FreeRegion, error_region, Label, type_label, const_label, var_list_label, TypeLabel, ConstLabel, infer_type, error_type, alias_type, infer_const, error_const, list_flags, flags_of_label, flags_of_type, flags_of_const, error_of_type, error_of_const}
-use Rattle.tt_kinds.specs.Tree.{Depth, at, canonical, Tree, Forest, param, bound, region, term, node, binder, none, also}
+use Rattle.tt_kinds.specs.Label.{error_label, Name, Sort, region_sort, type_sort, const_sort, VarKind, FreeRegion}
+use Rattle.tt_kinds.specs.Label.{error_region, Label, type_label, const_label, var_list_label, TypeLabel, ConstLabel}
+use Rattle.tt_kinds.specs.Label.{infer_type, error_type, alias_type, infer_const, error_const, list_flags}
+use Rattle.tt_kinds.specs.Label.{flags_of_label, flags_of_type, flags_of_const, error_of_type, error_of_const}
+use Rattle.tt_kinds.specs.Tree.{Depth, at, canonical, Tree, Forest, param, bound, region, term, node, binder, none}
+use Rattle.tt_kinds.specs.Tree.{also}
 use Rattle.tt_kinds.specs.Scan.{scan, scan_all, param_flags, bound_flags, index_flags, region_flags}
 use Rattle.tt_kinds.specs.declared.alias.AliasTyKind.{AliasTyKind}
 use Rattle.tt_kinds.specs.declared.alias.AliasTyKind.TheVariants.{Projection, Inherent, Opaque, Free}
 use Rattle.tt_kinds.specs.declared.const_kind.InferConst.{InferConst}
 use Rattle.tt_kinds.specs.declared.const_kind.InferConst.TheVariants.{Var, Fresh}
 use Rattle.tt_kinds.specs.declared.ty_kind.InferTy.{InferTy}
-use Rattle.tt_kinds.specs.declared.ty_kind.InferTy.TheVariants.{TyVar, IntVar, FloatVar, FreshTy, FreshIntTy, FreshFloatTy}
+use Rattle.tt_kinds.specs.declared.ty_kind.InferTy.TheVariants.{TyVar, IntVar, FloatVar, FreshTy, FreshIntTy}
+use Rattle.tt_kinds.specs.declared.ty_kind.InferTy.TheVariants.{FreshFloatTy}
 use Rattle.tt_kinds.specs.declared.error_guaranteed.ErrorGuaranteed.{ErrorGuaranteed}
 use Rattle.tt_visit.specs.Root.{a_part, node_root, error_of}
-use Rattle.tt_visit.specs.Visit.{Tells, TellingBreaks, GoesOver, GoesOverAll, region_seen, skipped, went_inside, unhooked_seen, token_seen, node_seen, binder_skipped, binder_seen, term_seen, param_seen, bound_seen, value_seen, all_seen, one_seen, Breaks, BreaksAll, region_broke, term_broke, inside_broke, unhooked_broke, token_broke, node_broke, enter_broke, under_broke, error_broke, term_inside_broke, value_broke, first_broke, later_broke}
+use Rattle.tt_visit.specs.Visit.{Tells, TellingBreaks, GoesOver, GoesOverAll, region_seen, skipped, went_inside}
+use Rattle.tt_visit.specs.Visit.{unhooked_seen, token_seen, node_seen, binder_skipped, binder_seen, term_seen}
+use Rattle.tt_visit.specs.Visit.{param_seen, bound_seen, value_seen, all_seen, one_seen, Breaks, BreaksAll}
+use Rattle.tt_visit.specs.Visit.{region_broke, term_broke, inside_broke, unhooked_broke, token_broke, node_broke}
+use Rattle.tt_visit.specs.Visit.{enter_broke, under_broke, error_broke, term_inside_broke, value_broke, first_broke}
+use Rattle.tt_visit.specs.Visit.{later_broke}
 use Rattle.tt_visit.specs.HasTypeFlags.{Misses, Meets}
 use Rattle.tt_visit.specs.HasError.{error_of_region, first_error, first_error_among, error_hooks}
 use Rattle.tt_visit.proofs.HasTypeFlagsLaws.{bits-left, bits-right, bits-both}

@@ -2,12 +2,17 @@
 use Rattle.std.proofs.Common.{inl, inr, ◌≡◌, ℕ, ◌+◌, ◌-◌, ◌<◌, ◌≤◌, refl, ap, sym, ◌∙◌, arith}
 use Rattle.std.specs.Prelude.{⊤, false, ◌⊎◌}
 use Rattle.tt_index.specs.Greatest.{greatest}
-use Rattle.tt_kinds.specs.Label.{Name, Label, type_label, const_label, pattern_label, predicate_label, existential_label, clause_list_label, list_label, var_list_label, text_label, declaration_label, definition_label, record_label, error_label, clause_label}
+use Rattle.tt_kinds.specs.Label.{Name, Label, type_label, const_label, pattern_label, predicate_label}
+use Rattle.tt_kinds.specs.Label.{existential_label, clause_list_label, list_label, var_list_label, text_label}
+use Rattle.tt_kinds.specs.Label.{declaration_label, definition_label, record_label, error_label, clause_label}
 use Rattle.tt_kinds.specs.Tree.{Depth, Tree, Forest, param, bound, region, term, node, binder, none, also}
 use Rattle.tt_kinds.specs.Reading.{read, read_all, greatest_reach, greatest_reach_all, outer_binder}
 use Rattle.tt_kinds.proofs.OuterLaws.{greatest_reach-deeper}
 use Rattle.tt_visit.specs.Root.{Root, a_region, hooked, unhooked, a_part, no_term, root, term_root, node_root}
-use Rattle.tt_visit.specs.Visit.{GoesOver, GoesOverAll, region_seen, skipped, went_inside, token_seen, node_seen, unhooked_seen, binder_skipped, binder_seen, value_seen, all_seen, one_seen, Breaks, BreaksAll, region_broke, term_broke, inside_broke, unhooked_broke, token_broke, node_broke, enter_broke, under_broke, value_broke, first_broke, later_broke}
+use Rattle.tt_visit.specs.Visit.{GoesOver, GoesOverAll, region_seen, skipped, went_inside, token_seen, node_seen}
+use Rattle.tt_visit.specs.Visit.{unhooked_seen, binder_skipped, binder_seen, value_seen, all_seen, one_seen, Breaks}
+use Rattle.tt_visit.specs.Visit.{BreaksAll, region_broke, term_broke, inside_broke, unhooked_broke, token_broke}
+use Rattle.tt_visit.specs.Visit.{node_broke, enter_broke, under_broke, value_broke, first_broke, later_broke}
 use Rattle.tt_visit.specs.HasEscapingVars.{Search, search_hooks, range_hooks, ByHook, InRange, InRange_all}
 use Rattle.tt_visit.specs.declared.has_escaping_vars.FoundEscapingVars.{FoundEscapingVars}
 

@@ -6,7 +6,16 @@ use Rattle.std.specs.Int.Bits.{and_zero_r}
 use Rattle.std.proofs.lemmas.Nat.Bits.{bit_at_and, bit_at_or, bit_at-zero, same_from_bits}
 use Rattle.std.proofs.lemmas.Bool.{eqb-true}
 use Rattle.std.proofs.lemmas.Grind.{numeral_and}
-use Rattle.tt_kinds.specs.Label.{Name, TypeLabel, ConstLabel, Label, type_label, const_label, pattern_label, predicate_label, existential_label, clause_list_label, list_label, var_list_label, text_label, declaration_label, definition_label, record_label, error_label, clause_label, list_flags, flags_of_label, flags_of_type, flags_of_const, bool_type, char_type, int_type, uint_type, float_type, str_type, never_type, placeholder_type, infer_type, error_type, ref_type, raw_ptr_type, slice_type, tuple_type, fn_ptr_type, foreign_type, adt_type, fn_def_type, array_type, pat_type, unsafe_binder_type, dynamic_type, closure_type, coroutine_closure_type, coroutine_type, coroutine_witness_type, alias_type, infer_const, placeholder_const, unevaluated_const, leaf_const, branch_const, error_const, expr_const}
+use Rattle.tt_kinds.specs.Label.{Name, TypeLabel, ConstLabel, Label, type_label, const_label, pattern_label}
+use Rattle.tt_kinds.specs.Label.{predicate_label, existential_label, clause_list_label, list_label, var_list_label}
+use Rattle.tt_kinds.specs.Label.{text_label, declaration_label, definition_label, record_label, error_label}
+use Rattle.tt_kinds.specs.Label.{clause_label, list_flags, flags_of_label, flags_of_type, flags_of_const, bool_type}
+use Rattle.tt_kinds.specs.Label.{char_type, int_type, uint_type, float_type, str_type, never_type, placeholder_type}
+use Rattle.tt_kinds.specs.Label.{infer_type, error_type, ref_type, raw_ptr_type, slice_type, tuple_type, fn_ptr_type}
+use Rattle.tt_kinds.specs.Label.{foreign_type, adt_type, fn_def_type, array_type, pat_type, unsafe_binder_type}
+use Rattle.tt_kinds.specs.Label.{dynamic_type, closure_type, coroutine_closure_type, coroutine_type}
+use Rattle.tt_kinds.specs.Label.{coroutine_witness_type, alias_type, infer_const, placeholder_const, unevaluated_const}
+use Rattle.tt_kinds.specs.Label.{leaf_const, branch_const, error_const, expr_const}
 use Rattle.tt_kinds.specs.Tree.{Depth, Tree, Forest, term, node, binder, none, also}
 use Rattle.tt_flags.specs.TypeFlags.{has_binder_vars, has_error}
 use Rattle.tt_kinds.specs.Shape.{Meaning, fill, vars_of}
@@ -20,10 +29,14 @@ use Rattle.tt_kinds.specs.declared.alias.AliasTyKind.TheVariants.{Projection, In
 use Rattle.tt_kinds.specs.declared.const_kind.InferConst.{InferConst}
 use Rattle.tt_kinds.specs.declared.const_kind.InferConst.TheVariants.{Var, Fresh}
 use Rattle.tt_kinds.specs.declared.ty_kind.InferTy.{InferTy}
-use Rattle.tt_kinds.specs.declared.ty_kind.InferTy.TheVariants.{TyVar, IntVar, FloatVar, FreshTy, FreshIntTy, FreshFloatTy}
+use Rattle.tt_kinds.specs.declared.ty_kind.InferTy.TheVariants.{TyVar, IntVar, FloatVar, FreshTy, FreshIntTy}
+use Rattle.tt_kinds.specs.declared.ty_kind.InferTy.TheVariants.{FreshFloatTy}
 use Rattle.tt_kinds.proofs.FlagLaws.{param_bit, as_number, param_bit-scan}
 use Rattle.tt_visit.specs.Root.{term_root, node_root, unhooked, a_part}
-use Rattle.tt_visit.specs.Visit.{GoesOver, GoesOverAll, region_seen, skipped, went_inside, unhooked_seen, token_seen, node_seen, binder_skipped, binder_seen, value_seen, all_seen, one_seen, Breaks, BreaksAll, region_broke, term_broke, inside_broke, unhooked_broke, token_broke, node_broke, enter_broke, under_broke, value_broke, first_broke, later_broke}
+use Rattle.tt_visit.specs.Visit.{GoesOver, GoesOverAll, region_seen, skipped, went_inside, unhooked_seen, token_seen}
+use Rattle.tt_visit.specs.Visit.{node_seen, binder_skipped, binder_seen, value_seen, all_seen, one_seen, Breaks}
+use Rattle.tt_visit.specs.Visit.{BreaksAll, region_broke, term_broke, inside_broke, unhooked_broke, token_broke}
+use Rattle.tt_visit.specs.Visit.{node_broke, enter_broke, under_broke, value_broke, first_broke, later_broke}
 use Rattle.tt_visit.specs.HasTypeFlags.{Misses, Meets, flag_hooks}
 use Rattle.tt_visit.specs.declared.has_type_flags.FoundFlags.{FoundFlags}
 

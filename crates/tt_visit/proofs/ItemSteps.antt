@@ -1,7 +1,9 @@
 -- The visit of values in order, one step over plain variables.
-use Rattle.std.proofs.Common.{◌≡◌, ℕ, ◌+◌, ◌<◌, ◌≤◌, List, [], ◌∷◌, ◌++◌, length, take, drop, get_or, refl, ap, ◌∙◌, arith}
+use Rattle.std.proofs.Common.{◌≡◌, ℕ, ◌+◌, ◌<◌, ◌≤◌, List, [], ◌∷◌, ◌++◌, length, take, drop, get_or, refl, ap, ◌∙◌}
+use Rattle.std.proofs.Common.{arith}
 use Rattle.std.proofs.lemmas.Grind.{common_steps}
-use Rattle.tt_kinds.specs.Shape.{Shape, none, also, append, Meaning, Sizes, AreParts, IsPart, fill, fill_all, item_shapes}
+use Rattle.tt_kinds.specs.Shape.{Shape, none, also, append, Meaning, Sizes, AreParts, IsPart, fill, fill_all}
+use Rattle.tt_kinds.specs.Shape.{item_shapes}
 use Rattle.tt_visit.specs.Visit.{Visits, GoesOver, GoesOverAll, all_seen, one_seen, Breaks, BreaksAll, first_broke}
 use Rattle.tt_visit.proofs.VisitSteps.{seen-append, broke-after, parts-after, take-more, take-rest}
 

@@ -1,11 +1,20 @@
 -- Where flags and outer binder tell that a region is met or that none is, and what the visitor finds.
-use Rattle.std.proofs.Common.{inl, inr, ◌≡◌, ℕ, zero, suc, ◌+◌, ◌-◌, ◌<◌, ◌≤◌, List, [], ◌∷◌, ◌++◌, refl, ap, sym, ◌∙◌, arith}
-use Rattle.std.specs.Prelude.{Option, Some, None, Bool, true, false, ⊤, IsTrue, ◌≢◌, ◌↔◌, bit_and, bit_or, nat_lt, if◌then◌else◌}
+use Rattle.std.proofs.Common.{inl, inr, ◌≡◌, ℕ, zero, suc, ◌+◌, ◌-◌, ◌<◌, ◌≤◌, List, [], ◌∷◌, ◌++◌, refl, ap, sym, ◌∙◌}
+use Rattle.std.proofs.Common.{arith}
+use Rattle.std.specs.Prelude.{Option, Some, None, Bool, true, false, ⊤, IsTrue, ◌≢◌, ◌↔◌, bit_and, bit_or, nat_lt}
+use Rattle.std.specs.Prelude.{if◌then◌else◌}
 use Rattle.std.proofs.lemmas.Nat.{and_comm}
 use Rattle.std.proofs.lemmas.Bool.{cases_lt, le-ltb}
 use Rattle.tt_index.specs.Greatest.{greatest}
-use Rattle.tt_kinds.specs.Label.{Name, Sort, region_sort, type_sort, const_sort, VarKind, Entry, FreeRegion, static_region, erased_region, region_var, error_region, late_param_region, placeholder_region, TypeLabel, ConstLabel, infer_type, alias_type, infer_const, Label, type_label, const_label, pattern_label, predicate_label, existential_label, clause_list_label, list_label, var_list_label, text_label, declaration_label, definition_label, record_label, error_label, clause_label, infer_flags, alias_flags, infer_const_flags, list_flags, flags_of_label, flags_of_type, flags_of_const}
-use Rattle.tt_kinds.specs.Tree.{Depth, at, canonical, own, outer, Tree, Forest, param, bound, region, term, node, binder, none, also}
+use Rattle.tt_kinds.specs.Label.{Name, Sort, region_sort, type_sort, const_sort, VarKind, Entry, FreeRegion}
+use Rattle.tt_kinds.specs.Label.{static_region, erased_region, region_var, error_region, late_param_region}
+use Rattle.tt_kinds.specs.Label.{placeholder_region, TypeLabel, ConstLabel, infer_type, alias_type, infer_const, Label}
+use Rattle.tt_kinds.specs.Label.{type_label, const_label, pattern_label, predicate_label, existential_label}
+use Rattle.tt_kinds.specs.Label.{clause_list_label, list_label, var_list_label, text_label, declaration_label}
+use Rattle.tt_kinds.specs.Label.{definition_label, record_label, error_label, clause_label, infer_flags, alias_flags}
+use Rattle.tt_kinds.specs.Label.{infer_const_flags, list_flags, flags_of_label, flags_of_type, flags_of_const}
+use Rattle.tt_kinds.specs.Tree.{Depth, at, canonical, own, outer, Tree, Forest, param, bound, region, term, node}
+use Rattle.tt_kinds.specs.Tree.{binder, none, also}
 use Rattle.tt_kinds.specs.Reading.{read, read_all, reach, greatest_reach, greatest_reach_all, outer_binder}
 use Rattle.tt_kinds.specs.Scan.{scan, scan_all, region_flags}
 use Rattle.tt_kinds.specs.Met.{Met, met_leaf, met, met_all}
@@ -14,11 +23,17 @@ use Rattle.tt_kinds.specs.declared.alias.AliasTyKind.TheVariants.{Projection, In
 use Rattle.tt_kinds.specs.declared.const_kind.InferConst.{InferConst}
 use Rattle.tt_kinds.specs.declared.const_kind.InferConst.TheVariants.{Var, Fresh}
 use Rattle.tt_kinds.specs.declared.ty_kind.InferTy.{InferTy}
-use Rattle.tt_kinds.specs.declared.ty_kind.InferTy.TheVariants.{TyVar, IntVar, FloatVar, FreshTy, FreshIntTy, FreshFloatTy}
+use Rattle.tt_kinds.specs.declared.ty_kind.InferTy.TheVariants.{TyVar, IntVar, FloatVar, FreshTy, FreshIntTy}
+use Rattle.tt_kinds.specs.declared.ty_kind.InferTy.TheVariants.{FreshFloatTy}
 use Rattle.tt_kinds.proofs.OuterLaws.{greatest_reach-deeper}
 use Rattle.tt_kinds.proofs.ReadingLaws.{place-outer}
 use Rattle.tt_visit.specs.Root.{a_region, hooked, root, error_of}
-use Rattle.tt_visit.specs.Visit.{Tells, TellingBreaks, GoesOver, GoesOverAll, region_seen, skipped, went_inside, token_seen, node_seen, unhooked_seen, binder_skipped, binder_seen, term_seen, param_seen, bound_seen, value_seen, all_seen, one_seen, Breaks, BreaksAll, region_broke, term_broke, inside_broke, unhooked_broke, token_broke, node_broke, enter_broke, under_broke, error_broke, term_inside_broke, value_broke, first_broke, later_broke}
+use Rattle.tt_visit.specs.Visit.{Tells, TellingBreaks, GoesOver, GoesOverAll, region_seen, skipped, went_inside}
+use Rattle.tt_visit.specs.Visit.{token_seen, node_seen, unhooked_seen, binder_skipped, binder_seen, term_seen}
+use Rattle.tt_visit.specs.Visit.{param_seen, bound_seen, value_seen, all_seen, one_seen, Breaks, BreaksAll}
+use Rattle.tt_visit.specs.Visit.{region_broke, term_broke, inside_broke, unhooked_broke, token_broke, node_broke}
+use Rattle.tt_visit.specs.Visit.{enter_broke, under_broke, error_broke, term_inside_broke, value_broke, first_broke}
+use Rattle.tt_visit.specs.Visit.{later_broke}
 use Rattle.tt_visit.specs.HasTypeFlags.{Misses, Meets}
 use Rattle.tt_visit.specs.MeetsRegions.{RegionSearch, meets_hooks, AreInRange, AreInRange_all, region_range_hooks}
 use Rattle.tt_visit.specs.declared.meets_regions.MetRegion.{MetRegion}

@@ -1,10 +1,16 @@
 -- The flags that each query asks for, and queries of small values.
 use Rattle.std.proofs.Common.{◌≡◌, ℕ, List, [], ◌∷◌, map, Some, None, refl}
 use Rattle.std.specs.Prelude.{bit_and, codes}
-use Rattle.tt_flags.specs.TypeFlags.{has_ty_param, has_ct_param, has_ty_infer, has_re_infer, has_ct_infer, has_ty_placeholder, has_re_placeholder, has_ct_placeholder, has_free_local_regions, has_ty_projection, has_ty_free_alias, has_ty_opaque, has_ty_inherent, has_ct_projection, has_non_region_error, has_re_error, has_free_regions, has_re_bound, has_ty_bound, has_ct_bound, has_re_erased, has_ty_fresh, has_ct_fresh, has_ty_coro, union_of}
+use Rattle.tt_flags.specs.TypeFlags.{has_ty_param, has_ct_param, has_ty_infer, has_re_infer, has_ct_infer}
+use Rattle.tt_flags.specs.TypeFlags.{has_ty_placeholder, has_re_placeholder, has_ct_placeholder, has_free_local_regions}
+use Rattle.tt_flags.specs.TypeFlags.{has_ty_projection, has_ty_free_alias, has_ty_opaque, has_ty_inherent}
+use Rattle.tt_flags.specs.TypeFlags.{has_ct_projection, has_non_region_error, has_re_error, has_free_regions}
+use Rattle.tt_flags.specs.TypeFlags.{has_re_bound, has_ty_bound, has_ct_bound, has_re_erased, has_ty_fresh}
+use Rattle.tt_flags.specs.TypeFlags.{has_ct_fresh, has_ty_coro, union_of}
 use Rattle.tt_index.specs.declared.numeric.UintTy.TheVariants.{U32}
 use Rattle.tt_index.specs.declared.qualifier.Mutability.TheVariants as mutability
-use Rattle.tt_kinds.specs.Label.{region_sort, anonymous, region_variable, error_region, error_type, uint_type, ref_type, type_label, pair_record, record_label, error_label}
+use Rattle.tt_kinds.specs.Label.{region_sort, anonymous, region_variable, error_region, error_type, uint_type, ref_type}
+use Rattle.tt_kinds.specs.Label.{type_label, pair_record, record_label, error_label}
 use Rattle.tt_kinds.specs.Reading.{outer_binder}
 use Rattle.tt_kinds.specs.Scan.{scan}
 use Rattle.tt_kinds.specs.Tree.{Depth, at, Tree, bound, region, term, node, binder, none, also}

@@ -1,5 +1,6 @@
 -- At which stored terms an inspector of types is asked.
-use Rattle.std.proofs.Common.{◌≡◌, ◌<◌, ℕ, List, [], ◌∷◌, ◌⊎◌, Bool, true, false, ControlFlow, Continue, Break, inl, inr, refl, sym, ◌∙◌, arith}
+use Rattle.std.proofs.Common.{◌≡◌, ◌<◌, ℕ, List, [], ◌∷◌, ◌⊎◌, Bool, true, false, ControlFlow, Continue, Break, inl}
+use Rattle.std.proofs.Common.{inr, refl, sym, ◌∙◌, arith}
 use Rattle.std.specs.ControlFlow.{MatchControlFlow}
 use Rattle.std.proofs.lemmas.Bool.{true≢false}
 use Rattle.tt_kinds.specs.Label.{TypeLabel, ConstLabel, type_sort, const_sort, type_label, const_label}
@@ -8,7 +9,9 @@ use Rattle.tt_kinds.specs.Shape.{Meaning, IsPart, fill, stored}
 use Rattle.tt_kinds.specs.Kinds.{Form, param, bound, plain, under, relabelled, form_shape, ty_form, const_form}
 use Rattle.tt_kinds.specs.declared.table.Table.{Table}
 use Rattle.tt_kinds.specs.declared.table.Table.TheVariants.{Types}
-use Rattle.tt_interner.specs.Rows.{Row, type_row, const_row, pat_row, predicate_row, existential_row, clauses_row, tys_row, consts_row, args_row, pats_row, vars_row, existentials_row, assumptions_row, text_row, declared_row, defined_row, row_table, row_shape, size, meaning, table}
+use Rattle.tt_interner.specs.Rows.{Row, type_row, const_row, pat_row, predicate_row, existential_row, clauses_row}
+use Rattle.tt_interner.specs.Rows.{tys_row, consts_row, args_row, pats_row, vars_row, existentials_row, assumptions_row}
+use Rattle.tt_interner.specs.Rows.{text_row, declared_row, defined_row, row_table, row_shape, size, meaning, table}
 use Rattle.tt_interner.proofs.RowLaws.{IsNewest, place_cases, meaning-old, meaning-new}
 use Rattle.tt_visit.specs.Types.{TypeVisits, is_type_tree}
 use Rattle.tt_visit.specs.declared.visitor.Next.{Next}

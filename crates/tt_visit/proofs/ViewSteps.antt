@@ -1,10 +1,12 @@
 -- The items of views among the items of their lists.
-use Rattle.std.proofs.Common.{◌≡◌, ℕ, zero, suc, ◌+◌, ◌-◌, ◌<◌, ◌≤◌, List, [], ◌∷◌, ◌++◌, length, take, drop, get_or, ap, sym, subst, ◌∙◌, arith}
+use Rattle.std.proofs.Common.{◌≡◌, ℕ, zero, suc, ◌+◌, ◌-◌, ◌<◌, ◌≤◌, List, [], ◌∷◌, ◌++◌, length, take, drop, get_or}
+use Rattle.std.proofs.Common.{ap, sym, subst, ◌∙◌, arith}
 use Rattle.std.proofs.lemmas.List.{take_all, take_more, take-append-drop, length-take-le, length-drop}
 use Rattle.tt_kinds.specs.Kinds.{arg_shape, ty_shape}
 use Rattle.tt_kinds.specs.Label.{Label, list_label, record_label, sequence_record}
 use Rattle.tt_kinds.specs.Tree as tree
-use Rattle.tt_kinds.specs.Shape.{Shape, node, part_of, Extent, all_but_last, span, first_item, item_count, Meaning, fill, fill_all, Sizes, AreParts, item_shapes}
+use Rattle.tt_kinds.specs.Shape.{Shape, node, part_of, Extent, all_but_last, span, first_item, item_count, Meaning}
+use Rattle.tt_kinds.specs.Shape.{fill, fill_all, Sizes, AreParts, item_shapes}
 use Rattle.tt_kinds.specs.declared.generic_arg.GenericArgKind.{GenericArgKind}
 use Rattle.tt_kinds.specs.Handle.{GenericArgs}
 use Rattle.tt_kinds.specs.Handle.{Ty}

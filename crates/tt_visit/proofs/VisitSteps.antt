@@ -1,17 +1,26 @@
 -- One step of a visit over plain variables.
-use Rattle.std.proofs.Common.{◌≡◌, ℕ, ◌+◌, ◌<◌, List, [], ◌∷◌, ◌++◌, length, take, drop, get_or, ControlFlow, Continue, Break, refl, ap, sym, ◌∙◌, ◌⊎◌, inl, inr, arith}
+use Rattle.std.proofs.Common.{◌≡◌, ℕ, ◌+◌, ◌<◌, List, [], ◌∷◌, ◌++◌, length, take, drop, get_or, ControlFlow, Continue}
+use Rattle.std.proofs.Common.{Break, refl, ap, sym, ◌∙◌, ◌⊎◌, inl, inr, arith}
 use Rattle.std.specs.Prelude.{Some, None, slice_get}
 use Rattle.std.specs.ControlFlow.{MatchControlFlow}
 use Rattle.std.proofs.lemmas.Grind.{common_steps}
 use Rattle.std.proofs.lemmas.Option.{slice_get_within, get_or_from_slice_get}
-use Rattle.tt_kinds.specs.Label.{Name, Sort, region_sort, type_sort, const_sort, TypeLabel, ConstLabel, Label, type_label, const_label, pattern_label, predicate_label, existential_label, clause_list_label, list_label, var_list_label, text_label, declaration_label, definition_label, record_label, error_label, clause_label}
+use Rattle.tt_kinds.specs.Label.{Name, Sort, region_sort, type_sort, const_sort, TypeLabel, ConstLabel, Label}
+use Rattle.tt_kinds.specs.Label.{type_label, const_label, pattern_label, predicate_label, existential_label}
+use Rattle.tt_kinds.specs.Label.{clause_list_label, list_label, var_list_label, text_label, declaration_label}
+use Rattle.tt_kinds.specs.Label.{definition_label, record_label, error_label, clause_label}
 use Rattle.tt_kinds.specs.Tree as tree
 use Rattle.tt_kinds.specs.Tree.{Depth, Tree, Forest}
-use Rattle.tt_kinds.specs.Shape.{Shapes, none, also, append, rename_label, rename_record, Meaning, Sizes, AreParts, HasParts, fill, fill_all, name_of}
-use Rattle.tt_kinds.specs.Kinds.{Form, param, bound, plain, under, ty_form, const_form, kind_form, relabelled, form_binder, form_parts, form_shape, kind_sort, kind_shape, region_shape, child_shapes, parts_shapes, children_shapes, items_tree}
+use Rattle.tt_kinds.specs.Shape.{Shapes, none, also, append, rename_label, rename_record, Meaning, Sizes, AreParts}
+use Rattle.tt_kinds.specs.Shape.{HasParts, fill, fill_all, name_of}
+use Rattle.tt_kinds.specs.Kinds.{Form, param, bound, plain, under, ty_form, const_form, kind_form, relabelled}
+use Rattle.tt_kinds.specs.Kinds.{form_binder, form_parts, form_shape, kind_sort, kind_shape, region_shape, child_shapes}
+use Rattle.tt_kinds.specs.Kinds.{parts_shapes, children_shapes, items_tree}
 use Rattle.tt_kinds.specs.declared.parts.Kind.{Kind}
 use Rattle.tt_kinds.specs.declared.table.Table.{Table}
-use Rattle.tt_interner.specs.Rows.{Row, type_row, const_row, pat_row, predicate_row, existential_row, clauses_row, tys_row, consts_row, args_row, pats_row, existentials_row, assumptions_row, vars_row, text_row, declared_row, defined_row, row_table, row_shape, table, size, meaning}
+use Rattle.tt_interner.specs.Rows.{Row, type_row, const_row, pat_row, predicate_row, existential_row, clauses_row}
+use Rattle.tt_interner.specs.Rows.{tys_row, consts_row, args_row, pats_row, existentials_row, assumptions_row, vars_row}
+use Rattle.tt_interner.specs.Rows.{text_row, declared_row, defined_row, row_table, row_shape, table, size, meaning}
 use Rattle.tt_interner.proofs.RowLaws.{place_cases, IsNewest, meaning-old, meaning-new}
 use Rattle.tt_kinds.specs.declared.parts.Child.{Child}
 use Rattle.tt_kinds.specs.declared.parts.Node.{Node}
@@ -22,10 +31,15 @@ use Rattle.tt_kinds.specs.Handle.{Clauses}
 use Rattle.tt_kinds.specs.declared.table.Table.TheVariants.{ClauseLists}
 use Rattle.tt_kinds.specs.Parts.{node_table, list_sort}
 use Rattle.tt_kinds.specs.declared.region_kind.RegionKind.{RegionKind}
-use Rattle.tt_kinds.specs.declared.region_kind.RegionKind.TheVariants.{ReEarlyParam, ReBound, ReLateParam, ReStatic, ReVar, RePlaceholder, ReErased, ReError}
-use Rattle.tt_visit.specs.Root.{Root, root, a_region, hooked, unhooked, a_part, no_term, sort_root, term_root, table_root, error_of}
+use Rattle.tt_kinds.specs.declared.region_kind.RegionKind.TheVariants.{ReEarlyParam, ReBound, ReLateParam, ReStatic}
+use Rattle.tt_kinds.specs.declared.region_kind.RegionKind.TheVariants.{ReVar, RePlaceholder, ReErased, ReError}
+use Rattle.tt_visit.specs.Root.{Root, root, a_region, hooked, unhooked, a_part, no_term, sort_root, term_root}
+use Rattle.tt_visit.specs.Root.{table_root, error_of}
 use Rattle.tt_visit.specs.declared.visitor.Next.TheVariants.{Skip, Descend}
-use Rattle.tt_visit.specs.Visit.{Visits, Tells, TellingBreaks, GoesOver, GoesInside, GoesOverAll, skipped, went_inside, unhooked_seen, node_seen, term_seen, param_seen, bound_seen, all_seen, one_seen, Breaks, BreaksInside, BreaksAll, term_broke, inside_broke, unhooked_broke, node_broke, error_broke, term_inside_broke, first_broke, later_broke}
+use Rattle.tt_visit.specs.Visit.{Visits, Tells, TellingBreaks, GoesOver, GoesInside, GoesOverAll, skipped, went_inside}
+use Rattle.tt_visit.specs.Visit.{unhooked_seen, node_seen, term_seen, param_seen, bound_seen, all_seen, one_seen}
+use Rattle.tt_visit.specs.Visit.{Breaks, BreaksInside, BreaksAll, term_broke, inside_broke, unhooked_broke, node_broke}
+use Rattle.tt_visit.specs.Visit.{error_broke, term_inside_broke, first_broke, later_broke}
 use Rattle.tt_visit.specs.Steps.{form_error, kind_error, AreStored, Asks, AskingBreaks, GoesUnder, BreaksUnder}
 
 pub flow-weaker : {B C : Type 0} (r : ControlFlow B C) {P P' : C → Type 0} {Q Q' : B → Type 0}

@@ -12,7 +12,8 @@ use Rattle.tt_index.specs.declared.qualifier.Safety.{Safety}
 use Rattle.tt_index.specs.declared.qualifier.Safety.TheVariants as safety
 use Rattle.tt_index.specs.declared.variance.Variance.{Variance}
 use Rattle.tt_index.specs.declared.variance.Variance.TheVariants as variance
-use Rattle.tt_kinds.specs.Label.{region_sort, RecordLabel, bare_bound_record, bare_const_record, leaf_const, record_label, absent_record}
+use Rattle.tt_kinds.specs.Label.{region_sort, RecordLabel, bare_bound_record, bare_const_record, leaf_const}
+use Rattle.tt_kinds.specs.Label.{record_label, absent_record}
 use Rattle.tt_kinds.specs.Shape as shape
 use Rattle.tt_kinds.specs.Shape.{Shape, Shapes}
 use Rattle.tt_kinds.specs.Bound.{depth, region_entry}

@@ -1,5 +1,6 @@
 -- The frames of a visit: what is left of terms and lists, and how much there is to visit.
-use Rattle.std.specs.Prelude.{◌≡◌, ℕ, suc, ◌+◌, ◌<◌, ◌≤◌, max, List, [], ◌∷◌, ◌++◌, length, drop, Option, Some, None, ◌⊎◌, ⊤}
+use Rattle.std.specs.Prelude.{◌≡◌, ℕ, suc, ◌+◌, ◌<◌, ◌≤◌, max, List, [], ◌∷◌, ◌++◌, length, drop, Option, Some, None}
+use Rattle.std.specs.Prelude.{◌⊎◌, ⊤}
 use Rattle.std.specs.Option.{option_to_list}
 use Rattle.std.specs.ControlFlow.{MatchControlFlow}
 use Rattle.std.specs.declared.ops.ControlFlow.{ControlFlow}
@@ -160,7 +161,8 @@ pub record IsFrame (rows : List Row) (f : Frame) : Type 0 where
 -- what is left of terms is stored, and no child is higher
 abbrev pub AreRests : List Row → ℕ → List Rest → Type 0
 AreRests rows h [] = ⊤
-AreRests rows h (r ∷ rs) = IsRest rows r × IsTodo rows (rest_todo rows r) × (children_height rows (rest_children rows r) ≤ h) × AreRests rows h rs
+AreRests rows h (r ∷ rs) = IsRest rows r × IsTodo rows (rest_todo rows r)
+    × (children_height rows (rest_children rows r) ≤ h) × AreRests rows h rs
 
 -- the binders that are to be left are stored
 abbrev pub AreBinders : Sizes → List Rest → Type 0
@@ -230,9 +232,10 @@ HasFrame rows (Continue None) = ⊤
 HasFrame rows (Break b) = ⊤
 
 module _ {M B S : Type 0} (means : List Row → S → M) (V : Visits M B) where
-  -- A call began the visit of x in the visitor's state s, and answered r: what it says of a visit that breaks, of one that is
-  -- done, and of one that leaves a frame.
-  abbrev pub Begins : {X : Type 0} → (M → X → M → Type 0) → (M → X → B → M → Type 0) → ℕ → ℕ → List Row → S → X → ControlFlow B (Option Frame) → S → Type 0
+  -- A call began the visit of x in the visitor's state s, and answered r: what it says of a visit that breaks, of one
+  -- that is done, and of one that leaves a frame.
+  abbrev pub Begins : {X : Type 0} → (M → X → M → Type 0) → (M → X → B → M → Type 0) → ℕ → ℕ → List Row → S → X
+      → ControlFlow B (Option Frame) → S → Type 0
   Begins goes breaks height work rows s x r s' = MatchControlFlow r
       (λ o. Begun V rows (goes (means rows s) x) (breaks (means rows s) x) height work o (means rows s'))
       (λ b. breaks (means rows s) x b (means rows s'))

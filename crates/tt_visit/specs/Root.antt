@@ -1,8 +1,11 @@
 -- How visitors and folders treat a tree, by its root.
 use Rattle.std.specs.Prelude.{ℕ, Option, Some, None}
-use Rattle.tt_kinds.specs.Label.{Sort, region_sort, type_sort, const_sort, Label, error_of_type, error_of_const, type_label, const_label, pattern_label, predicate_label, existential_label, clause_list_label, list_label, record_label, error_label, clause_label}
+use Rattle.tt_kinds.specs.Label.{Sort, region_sort, type_sort, const_sort, Label, error_of_type, error_of_const}
+use Rattle.tt_kinds.specs.Label.{type_label, const_label, pattern_label, predicate_label, existential_label}
+use Rattle.tt_kinds.specs.Label.{clause_list_label, list_label, record_label, error_label, clause_label}
 use Rattle.tt_kinds.specs.declared.table.Table.{Table}
-use Rattle.tt_kinds.specs.declared.table.Table.TheVariants.{Types, Consts, Patterns, Predicates, Existentials, ClauseLists, VarLists, Symbols, Declarations, Definitions}
+use Rattle.tt_kinds.specs.declared.table.Table.TheVariants.{Types, Consts, Patterns, Predicates, Existentials}
+use Rattle.tt_kinds.specs.declared.table.Table.TheVariants.{ClauseLists, VarLists, Symbols, Declarations, Definitions}
 use Rattle.tt_kinds.specs.Tree.{Tree, param, bound, region, term, node, binder}
 
 -- a region; a stored term with a hook of its own, or without one; a value with such parts; or none of these

@@ -47,12 +47,14 @@ module _ {M B : Type 0} (V : Visits M B) (f : Meaning) where
   -- the visitor visits trees, which are in a record under a binder if there is one
   abbrev pub GoesUnder : M → Option BoundVarKinds → Forest Depth → M → Type 0
   GoesUnder s None ts s' = GoesOverAll V s ts s'
-  GoesUnder s (Some vars) ts s' = (m : RecordLabel Name) → GoesOver V s (binder (vars_of (f VarLists vars.number)) (node (record_label m) ts)) s'
+  GoesUnder s (Some vars) ts s' = (m : RecordLabel Name)
+      → GoesOver V s (binder (vars_of (f VarLists vars.number)) (node (record_label m) ts)) s'
 
   -- the same for a visit that breaks
   abbrev pub BreaksUnder : M → Option BoundVarKinds → Forest Depth → B → M → Type 0
   BreaksUnder s None ts b s' = BreaksAll V s ts b s'
-  BreaksUnder s (Some vars) ts b s' = (m : RecordLabel Name) → Breaks V s (binder (vars_of (f VarLists vars.number)) (node (record_label m) ts)) b s'
+  BreaksUnder s (Some vars) ts b s' = (m : RecordLabel Name)
+      → Breaks V s (binder (vars_of (f VarLists vars.number)) (node (record_label m) ts)) b s'
 
 -- the break value of a visit is owned among the rows
 abbrev pub OwnsBreak : {B U : Type 0} → (List Row → B → Type 0) → List Row → ControlFlow B U → Type 0
@@ -60,13 +62,15 @@ OwnsBreak owned rows r = MatchControlFlow r (λ _. ⊤) (owned rows)
 
 module _ {M B S X : Type 0} (means : List Row → S → M) where
   -- A call at x took the visitor's state s to s' and returned r: one relation holds if it goes on, one if it breaks.
-  abbrev pub Ends : {U : Type 0} → (M → X → M → Type 0) → (M → X → B → M → Type 0) → List Row → S → X → ControlFlow B U → S → Type 0
+  abbrev pub Ends : {U : Type 0} → (M → X → M → Type 0) → (M → X → B → M → Type 0) → List Row → S → X → ControlFlow B U
+      → S → Type 0
   Ends goes breaks rows s x r s' = MatchControlFlow r
       (λ _. goes (means rows s) x (means rows s'))
       (λ b. breaks (means rows s) x b (means rows s'))
 
   -- the same for a call that also returns what comes next
-  abbrev pub Answers : (M → X → Next → M → Type 0) → (M → X → B → M → Type 0) → List Row → S → X → ControlFlow B Next → S → Type 0
+  abbrev pub Answers : (M → X → Next → M → Type 0) → (M → X → B → M → Type 0) → List Row → S → X → ControlFlow B Next
+      → S → Type 0
   Answers goes breaks rows s x r s' = MatchControlFlow r
       (λ next. goes (means rows s) x next (means rows s'))
       (λ b. breaks (means rows s) x b (means rows s'))

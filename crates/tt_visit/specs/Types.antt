@@ -44,7 +44,8 @@ only_types H = record {
   region_breaks = λ s t b s'. ⊥;
   on_error = λ s e s'. s' ≡ s;
   error_breaks = λ s e b s'. ⊥;
-  on_term = λ s t next s'. (is_type_tree t ≡ true → H.on_type s t next s') × (is_type_tree t ≡ false → (next ≡ Descend) × (s' ≡ s));
+  on_term = λ s t next s'. (is_type_tree t ≡ true → H.on_type s t next s')
+      × (is_type_tree t ≡ false → (next ≡ Descend) × (s' ≡ s));
   term_breaks = λ s t b s'. (is_type_tree t ≡ true) × H.type_breaks s t b s';
   enter = λ s vs next s'. (next ≡ Descend) × (s' ≡ s);
   enter_breaks = λ s vs b s'. ⊥;

@@ -2,7 +2,9 @@
 use Rattle.std.proofs.Common.{◌≡◌, ℕ, ◌<◌, List, [], ◌∷◌, Result, Ok, Err, refl, ap, sym, ◌∙◌, subst, arith, inl, inr}
 use Rattle.std.specs.Prelude.{IsErrAnd, ◌⊎◌}
 use Rattle.tt_index.specs.declared.refusal.Refusal.{Refusal}
-use Rattle.tt_index.specs.declared.refusal.Refusal.TheVariants.{Memory, TableFull, GreatestIndex, NoArguments, ArgOutOfRange, ArgKind, RegionVariable, NotAClause, NoSuchAnswer}
+use Rattle.tt_index.specs.declared.refusal.Refusal.TheVariants.{Memory, TableFull, GreatestIndex, NoArguments}
+use Rattle.tt_index.specs.declared.refusal.Refusal.TheVariants.{ArgOutOfRange, ArgKind, RegionVariable, NotAClause}
+use Rattle.tt_index.specs.declared.refusal.Refusal.TheVariants.{NoSuchAnswer}
 use Rattle.std.proofs.lemmas.Bool.{cases_lt}
 use Rattle.tt_index.specs.Greatest.{greatest}
 use Rattle.tt_kinds.specs.Label.{Name, region_sort, list_label}
@@ -19,7 +21,8 @@ use Rattle.tt_kinds.specs.declared.bound.BoundRegion.{BoundRegion}
 use Rattle.tt_kinds.specs.declared.region_kind.RegionKind.TheVariants.{ReBound}
 use Rattle.tt_kinds.specs.declared.region_kind.RegionKind.{RegionKind}
 use Rattle.tt_kinds.specs.declared.table.Table.{Table}
-use Rattle.tt_kinds.specs.declared.table.Table.TheVariants.{Types, Consts, Patterns, Predicates, ClauseLists, ArgLists, Symbols, Declarations}
+use Rattle.tt_kinds.specs.declared.table.Table.TheVariants.{Types, Consts, Patterns, Predicates, ClauseLists, ArgLists}
+use Rattle.tt_kinds.specs.declared.table.Table.TheVariants.{Symbols, Declarations}
 use Rattle.tt_interner.specs.Rows.{Row, row_table, row_shape, size, meaning, AreRows}
 use Rattle.tt_interner.proofs.Growth.{size-grows}
 use Rattle.tt_interner.specs.Stored.{Terms, Extends, Builds, IsCause}
@@ -29,11 +32,14 @@ use Rattle.type_terms.specs.declared.run.call.RegionNameCall.{RegionNameCall}
 use Rattle.type_terms.specs.declared.run.call.Call.{Call}
 use Rattle.type_terms.specs.CallForm as call_forms
 use Rattle.type_terms.specs.CallForm.{CallForm, Named, Item, a_list, items_positions, AreItemsTooDeep, form_positions}
-use Rattle.type_terms.specs.Told.{Told, term, refused, told, told_all, AreOwned, HasFullTable, IsStored, Setting, setting}
+use Rattle.type_terms.specs.Told.{Told, term, refused, told, told_all, AreOwned, HasFullTable, IsStored, Setting}
+use Rattle.type_terms.specs.Told.{setting}
 use Rattle.type_terms.specs.Means as means
-use Rattle.type_terms.specs.Means.{number_at, tree_at, AreTerms, NamesTerms, BuildsOrFolds, IsTold, IsKnown, IsThere, AddsNothing, IsAllowed, MayRefuse, want_of_memory, full_table, no_term, too_deep}
+use Rattle.type_terms.specs.Means.{number_at, tree_at, AreTerms, NamesTerms, BuildsOrFolds, IsTold, IsKnown, IsThere}
+use Rattle.type_terms.specs.Means.{AddsNothing, IsAllowed, MayRefuse, want_of_memory, full_table, no_term, too_deep}
 use Rattle.type_terms.specs.Build as build
-use Rattle.type_terms.specs.Build.{IsUnbuilt, no_memory, no_row, no_index, IsNameOf, GivesRegion, ArePlaced, AreItemsOf, GivesPart, GivesPlaced, IsKindOf, Answers}
+use Rattle.type_terms.specs.Build.{IsUnbuilt, no_memory, no_row, no_index, IsNameOf, GivesRegion, ArePlaced, AreItemsOf}
+use Rattle.type_terms.specs.Build.{GivesPart, GivesPlaced, IsKindOf, Answers}
 use Rattle.type_terms.specs.Room.{IsForRoom, HasValue, NeedsRoom, FormNeedsRoom}
 use Rattle.type_terms.proofs.ValueLaws.{new-lacks}
 use Rattle.type_terms.proofs.RoomLaws.{stored-value}

@@ -1,5 +1,6 @@
 -- The lists of clauses of calls, over plain variables.
-use Rattle.std.proofs.Common.{◌≡◌, ℕ, ◌<◌, length, List, [], ◌∷◌, ◌++◌, Option, Some, Result, Ok, Err, ap, ◌∙◌, inl, inr, arith}
+use Rattle.std.proofs.Common.{◌≡◌, ℕ, ◌<◌, length, List, [], ◌∷◌, ◌++◌, Option, Some, Result, Ok, Err, ap, ◌∙◌, inl}
+use Rattle.std.proofs.Common.{inr, arith}
 use Rattle.std.specs.Prelude.{IsSomeAnd, IfErr, IsTrue}
 use Rattle.tt_index.specs.declared.refusal.Refusal.{Refusal}
 use Rattle.tt_index.specs.declared.refusal.Refusal.TheVariants.{NoSuchAnswer}
@@ -13,7 +14,8 @@ use Rattle.tt_kinds.specs.declared.table.Table.TheVariants.{Predicates}
 use Rattle.tt_interner.specs.Clauses.{is_clause_tree}
 use Rattle.tt_interner.specs.Rows.{Row, clauses_row, IsClause, AreClauses}
 use Rattle.tt_interner.specs.Stored.{Terms, Builds, most_in_place}
-use Rattle.type_terms.specs.CallForm.{of_table, of_clause, one, a_term, a_clause, clause_items, clauses_tree, items_positions, AreItemsTooDeep}
+use Rattle.type_terms.specs.CallForm.{of_table, of_clause, one, a_term, a_clause, clause_items, clauses_tree}
+use Rattle.type_terms.specs.CallForm.{items_positions, AreItemsTooDeep}
 use Rattle.type_terms.specs.Told.{Told}
 use Rattle.type_terms.specs.Means.{Term, term_at, tree_of, Suits, number_at, tree_at}
 use Rattle.type_terms.specs.Build.{AreClausesAt, IsPartOf, GivesPlaced, IsUnbuilt, no_term}

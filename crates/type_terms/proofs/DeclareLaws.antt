@@ -14,7 +14,7 @@ use Rattle.tt_kinds.specs.declared.id.DefId.{DefId}
 use Rattle.tt_kinds.specs.declared.table.Table.TheVariants.{Types, TypeLists, Declarations}
 use Rattle.tt_interner.specs.Rows.{Row, declared_row, text_row, size, meaning}
 use Rattle.tt_interner.specs.Stored.{Terms, Extends, Builds}
-use Rattle.tt_interner.specs.Declarations.{Declares, IsOfSort, declared_at}
+use Rattle.tt_interner.specs.Declarations.{Declares, IsOfSort}
 use Rattle.tt_interner.proofs.Growth.{fill_all-grows}
 use Rattle.tt_interner.proofs.RowLaws.{row-new, meaning-new}
 use Rattle.tt_interner.proofs.StoreSteps.{in_range, Grows-add}
@@ -34,8 +34,10 @@ use Rattle.type_terms.specs.declared.run.call.DeclareCall.{DeclareCall}
 use Rattle.type_terms.specs.declared.run.call.DeclarationKindCall.{DeclarationKindCall}
 use Rattle.type_terms.specs.declared.run.call.DeclarationKindCall.TheVariants as declares
 use Rattle.type_terms.specs.declared.run.call.VariableCall.{VariableCall}
-use Rattle.type_terms.specs.CallForm.{a_list, terms_at, part_positions, IsPartTooDeep, AreItemsTooDeep, HasNoTerms, declared_sort, declared_item, declared_trees, declared_ids, declared_positions}
-use Rattle.type_terms.specs.Build.{IsUnbuilt, no_memory, no_row, no_term, no_index, IsDeclaredBy, GivesDeclared, IsSigOf, GivesSig}
+use Rattle.type_terms.specs.CallForm.{a_list, terms_at, part_positions, IsPartTooDeep, AreItemsTooDeep, HasNoTerms}
+use Rattle.type_terms.specs.CallForm.{declared_sort, declared_item, declared_trees, declared_ids, declared_positions}
+use Rattle.type_terms.specs.Build.{IsUnbuilt, no_memory, no_row, no_term, no_index, IsDeclaredBy, GivesDeclared}
+use Rattle.type_terms.specs.Build.{IsSigOf, GivesSig}
 use Rattle.type_terms.proofs.PartLaws.{IsUnbuilt-weaker, AreTerms-second}
 use Rattle.type_terms.specs.declared.run.answer.Answer.{Answer}
 use Rattle.type_terms.specs.declared.run.answer.Answer.TheVariants as answer

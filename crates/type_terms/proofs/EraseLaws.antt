@@ -2,7 +2,9 @@
 use Rattle.std.proofs.Common.{◌≡◌, inl, inr, Result, Ok, Err, ℕ, suc, List, [], ◌∷◌, Some, refl, ap, sym, ◌∙◌, subst}
 use Rattle.std.specs.Prelude.{IfOk, IsSomeAnd, map}
 use Rattle.tt_index.specs.declared.refusal.Refusal.{Refusal}
-use Rattle.tt_index.specs.declared.refusal.Refusal.TheVariants.{Memory, TableFull, GreatestIndex, NoArguments, ArgOutOfRange, ArgKind, RegionVariable, NotAClause, NoSuchAnswer}
+use Rattle.tt_index.specs.declared.refusal.Refusal.TheVariants.{Memory, TableFull, GreatestIndex, NoArguments}
+use Rattle.tt_index.specs.declared.refusal.Refusal.TheVariants.{ArgOutOfRange, ArgKind, RegionVariable, NotAClause}
+use Rattle.tt_index.specs.declared.refusal.Refusal.TheVariants.{NoSuchAnswer}
 use Rattle.tt_kinds.specs.Label.{Name, erased_region}
 use Rattle.tt_kinds.specs.Tree as tree
 use Rattle.tt_kinds.specs.Tree.{Depth, Tree, Forest}
@@ -16,7 +18,8 @@ use Rattle.tt_kinds.specs.declared.bound.BoundRegion.{BoundRegion}
 use Rattle.tt_kinds.specs.Bound.{depth, IsBelowGreatest}
 use Rattle.tt_kinds.specs.declared.table.Table.{Table}
 use Rattle.tt_interner.specs.Stored.{Terms}
-use Rattle.tt_fold.specs.RegionFolder.{HasName, AnswersEach, AnswersRegions, RegionCall, BindersFit, BindersFit_all, asked, answered, region_tree, AreMade, Places, PlacesSome, IsPlacingRefusal}
+use Rattle.tt_fold.specs.RegionFolder.{HasName, AnswersEach, AnswersRegions, RegionCall, BindersFit, BindersFit_all}
+use Rattle.tt_fold.specs.RegionFolder.{asked, answered, region_tree, AreMade, Places, PlacesSome, IsPlacingRefusal}
 use Rattle.type_terms.specs.declared.run.call.Call.TheVariants as call
 use Rattle.type_terms.specs.Told.{Told, term, Setting, setting}
 use Rattle.type_terms.specs.Means.{term_at, tree_at, erased, IsAllowed, MayRefuse, want_of_memory, full_table, unfit}

@@ -1,11 +1,14 @@
 -- The calls that fold terms, and the arguments of calls, over plain variables.
-use Rattle.std.proofs.Common.{◌≡◌, ◌<◌, ℕ, inl, inr, List, [], ◌∷◌, ◌++◌, Some, None, Option, Result, Ok, Err, refl, ap, sym, ◌∙◌, subst}
+use Rattle.std.proofs.Common.{◌≡◌, ◌<◌, ℕ, inl, inr, List, [], ◌∷◌, ◌++◌, Some, None, Option, Result, Ok, Err, refl, ap}
+use Rattle.std.proofs.Common.{sym, ◌∙◌, subst}
 use Rattle.std.specs.Prelude.{IsErrAnd, IsSomeAnd, ◌⊎◌}
 use Rattle.std.specs.declared.alloc.Global.{Global}
 use Rattle.std.specs.declared.vec.Vec.{Vec}
 use Rattle.std.proofs.lemmas.List.{map-append}
 use Rattle.tt_index.specs.declared.refusal.Refusal.{Refusal}
-use Rattle.tt_index.specs.declared.refusal.Refusal.TheVariants.{Memory, TableFull, GreatestIndex, NoArguments, ArgOutOfRange, ArgKind, RegionVariable, NotAClause, NoSuchAnswer}
+use Rattle.tt_index.specs.declared.refusal.Refusal.TheVariants.{Memory, TableFull, GreatestIndex, NoArguments}
+use Rattle.tt_index.specs.declared.refusal.Refusal.TheVariants.{ArgOutOfRange, ArgKind, RegionVariable, NotAClause}
+use Rattle.tt_index.specs.declared.refusal.Refusal.TheVariants.{NoSuchAnswer}
 use Rattle.tt_kinds.specs.Label.{Name, Sort, region_sort, type_sort, const_sort}
 use Rattle.tt_kinds.specs.Tree.{Tree, Depth, Place, param}
 use Rattle.tt_kinds.specs.Cause.{Cause}
@@ -37,14 +40,19 @@ use Rattle.type_terms.specs.declared.run.call.ArgCall.{ArgCall}
 use Rattle.type_terms.specs.declared.run.call.ArgCall.TheVariants as arg
 use Rattle.type_terms.specs.declared.run.call.Call.{Call}
 use Rattle.type_terms.specs.declared.run.call.Call.TheVariants as call
-use Rattle.type_terms.specs.CallForm.{Named, one, a_term, region_tree, IsRegionTooDeep, item_positions, items_positions, IsItemTooDeep, AreItemsTooDeep, arg_item, arg_items, args_ids}
+use Rattle.type_terms.specs.CallForm.{Named, one, a_term, region_tree, IsRegionTooDeep, item_positions, items_positions}
+use Rattle.type_terms.specs.CallForm.{IsItemTooDeep, AreItemsTooDeep, arg_item, arg_items, args_ids}
 use Rattle.type_terms.specs.Told.{Told, term, told, told_all, AreOwned, HasFullTable, Setting, setting}
 use Rattle.type_terms.specs.Means as means
-use Rattle.type_terms.specs.Means.{IsUnchanged, IsParameter, IsParameterOf, AddsNothing, NamesTerms, too_deep, Term, term_at, number_at, tree_at, positions, AreTerms, Suits, Tells, argument, arguments, IsAllowed, MayRefuse, want_of_memory, full_table, no_term, unfit, unsuited}
+use Rattle.type_terms.specs.Means.{IsUnchanged, IsParameter, IsParameterOf, AddsNothing, NamesTerms, too_deep, Term}
+use Rattle.type_terms.specs.Means.{term_at, number_at, tree_at, positions, AreTerms, Suits, Tells, argument, arguments}
+use Rattle.type_terms.specs.Means.{IsAllowed, MayRefuse, want_of_memory, full_table, no_term, unfit, unsuited}
 use Rattle.type_terms.specs.Room.{IsForRoom}
-use Rattle.type_terms.specs.Build.{IsUnusable, IsUsable, IsAnswerAt, IsHandle, IsUnchangedAt, IsUnbuilt, IsPartOf, IsRegionOf, IsArgumentOf, GivesArgument, AreArgumentsOf, GivesArguments}
+use Rattle.type_terms.specs.Build.{IsUnusable, IsUsable, IsAnswerAt, IsHandle, IsUnchangedAt, IsUnbuilt, IsPartOf}
+use Rattle.type_terms.specs.Build.{IsRegionOf, IsArgumentOf, GivesArgument, AreArgumentsOf, GivesArguments}
 use Rattle.type_terms.proofs.PartLaws.{AreTerms-append, all_placed-grow, items-none, items-more}
-use Rattle.type_terms.proofs.LookupLaws.{told-at, in_range-at, ty-handle, const-handle, pat-handle, predicate-handle, clauses-handle, args-handle}
+use Rattle.type_terms.proofs.LookupLaws.{told-at, in_range-at, ty-handle, const-handle, pat-handle, predicate-handle}
+use Rattle.type_terms.proofs.LookupLaws.{clauses-handle, args-handle}
 
 -- one argument
 pub type-argument : (terms : Terms) (e : List Told) (p : ℕ) (t : Ty) → IsPartOf terms e (one (a_term Types p)) (stored Types t.number)

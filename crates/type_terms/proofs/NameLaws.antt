@@ -18,7 +18,8 @@ use Rattle.type_terms.specs.declared.run.call.RegionNameCall.{RegionNameCall}
 use Rattle.type_terms.specs.declared.run.call.VariableCall.{VariableCall}
 use Rattle.type_terms.specs.CallForm.{variable_kind}
 use Rattle.type_terms.specs.Told.{HasFullTable}
-use Rattle.type_terms.specs.Build.{IsUnbuilt, GivesName, IsVariableOf, GivesVariable, AreVariablesOf, GivesVariables, PutsVariables}
+use Rattle.type_terms.specs.Build.{IsUnbuilt, GivesName, IsVariableOf, GivesVariable, AreVariablesOf, GivesVariables}
+use Rattle.type_terms.specs.Build.{PutsVariables}
 use Rattle.type_terms.proofs.BuildLaws.{unstored, Builds-extends}
 
 -- what a question mark passes on

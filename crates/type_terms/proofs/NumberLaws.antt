@@ -1,5 +1,6 @@
 -- A number that has passed its limit stays past it, whatever digits follow.
-use Rattle.std.proofs.Common.{◌≡◌, ℕ, ◌+◌, ◌-◌, ◌*◌, ◌<◌, true, false, List, [], ◌∷◌, None, drop, length, get_or, cond, suc, refl, arith, drop-cons}
+use Rattle.std.proofs.Common.{◌≡◌, ℕ, ◌+◌, ◌-◌, ◌*◌, ◌<◌, true, false, List, [], ◌∷◌, None, drop, length, get_or, cond}
+use Rattle.std.proofs.Common.{suc, refl, arith, drop-cons}
 use Rattle.std.proofs.lemmas.Grind.{common_steps}
 use Rattle.type_terms.specs.Number.{is_digit, number_after, at_most}
 

@@ -1,12 +1,14 @@
 -- Terms that are themselves parameters, and their arguments, over plain variables.
-use Rattle.std.proofs.Common.{◌≡◌, ℕ, List, [], ◌∷◌, Some, None, Option, false, true, refl, ap, sym, ◌∙◌, subst, inl, inr, arith}
+use Rattle.std.proofs.Common.{◌≡◌, ℕ, List, [], ◌∷◌, Some, None, Option, false, true, refl, ap, sym, ◌∙◌, subst, inl}
+use Rattle.std.proofs.Common.{inr, arith}
 use Rattle.std.specs.Prelude.{IsSomeAnd, MatchOption, Result, Ok, Err, IfOk, IfErr, slice_get, option_map}
 use Rattle.std.specs.declared.alloc.Global.{Global}
 use Rattle.std.specs.declared.vec.Vec.{Vec}
 use Rattle.std.proofs.lemmas.Option.{slice_get-map, slice_get_cases, slice_get_within}
 use Rattle.std.proofs.lemmas.List.{length-map}
 use Rattle.tt_index.specs.declared.refusal.Refusal.{Refusal}
-use Rattle.tt_index.specs.declared.refusal.Refusal.TheVariants.{NoArguments, ArgOutOfRange, ArgKind, RegionVariable, NoSuchAnswer}
+use Rattle.tt_index.specs.declared.refusal.Refusal.TheVariants.{NoArguments, ArgOutOfRange, ArgKind, RegionVariable}
+use Rattle.tt_index.specs.declared.refusal.Refusal.TheVariants.{NoSuchAnswer}
 use Rattle.tt_kinds.specs.Label.{Name, Sort, region_sort, type_sort, const_sort}
 use Rattle.tt_kinds.specs.Tree.{Tree, Depth, param}
 use Rattle.tt_kinds.specs.Reading.{read}
@@ -28,9 +30,11 @@ use Rattle.type_terms.specs.declared.run.call.ArgCall.{ArgCall}
 use Rattle.type_terms.specs.declared.run.call.Call.TheVariants as call
 use Rattle.type_terms.specs.CallForm.{arg_item, arg_items, args_ids, item_positions, items_positions, AreItemsTooDeep}
 use Rattle.type_terms.specs.Told.{Told, term, told, told_all, AreOwned, Setting, setting}
-use Rattle.type_terms.specs.Means.{Term, as_term, term_at, tree_of, tree_at, argument, arguments, AreTerms, IsAllowed, MayRefuse, no_term, unsuited, IsParameter, IsParameterOf}
+use Rattle.type_terms.specs.Means.{Term, as_term, term_at, tree_of, tree_at, argument, arguments, AreTerms, IsAllowed}
+use Rattle.type_terms.specs.Means.{MayRefuse, no_term, unsuited, IsParameter, IsParameterOf}
 use Rattle.type_terms.specs.Build.{Answers, IsAnswerAt, IsUsable}
-use Rattle.type_terms.specs.Parameters.{parameter_sort, parameter_index, term_arg, IsArgumentAt, LacksArgument, none_given, not_told}
+use Rattle.type_terms.specs.Parameters.{parameter_sort, parameter_index, term_arg, IsArgumentAt, LacksArgument}
+use Rattle.type_terms.specs.Parameters.{none_given, not_told}
 use Rattle.type_terms.proofs.PartLaws.{AreTerms-append, named-among}
 use Rattle.type_terms.proofs.FoldLaws.{parameter-tree, inst-allowed}
 

@@ -1,5 +1,6 @@
 -- What takes the places of items and children, over plain variables.
-use Rattle.std.proofs.Common.{◌≡◌, ℕ, zero, suc, List, [], ◌∷◌, ◌++◌, map, Result, Ok, Err, Some, refl, ap, subst, sym, ◌∙◌, inl, inr}
+use Rattle.std.proofs.Common.{◌≡◌, ℕ, zero, suc, List, [], ◌∷◌, ◌++◌, map, Result, Ok, Err, Some, refl, ap, subst, sym}
+use Rattle.std.proofs.Common.{◌∙◌, inl, inr}
 use Rattle.std.specs.Prelude.{IsErrAnd, slice_get}
 use Rattle.std.specs.Option.{option_map}
 use Rattle.std.proofs.lemmas.Option.{slice_get-map}
@@ -11,7 +12,8 @@ use Rattle.tt_index.specs.declared.refusal.Refusal.TheVariants.{GreatestIndex, N
 use Rattle.tt_kinds.specs.Tree.{Tree, Depth, Forest}
 use Rattle.tt_kinds.specs.Label.{Name, Label, RecordLabel, record_label, type_label, dynamic_type}
 use Rattle.tt_kinds.specs.Shape as shape
-use Rattle.tt_kinds.specs.Shape.{Shape, Shapes, Sizes, fill, fill_all, name_of, rename_label, rename_record, IsNamedLabel, IsNamedRecord, IsPart, AreParts, item_shapes}
+use Rattle.tt_kinds.specs.Shape.{Shape, Shapes, Sizes, fill, fill_all, name_of, rename_label, rename_record}
+use Rattle.tt_kinds.specs.Shape.{IsNamedLabel, IsNamedRecord, IsPart, AreParts, item_shapes}
 use Rattle.tt_kinds.specs.Kinds.{RecordForm, region_shape, child_shapes, term_kind_shape, term_shape}
 use Rattle.tt_kinds.specs.Parts.{term_kind_child, term_child}
 use Rattle.tt_kinds.specs.declared.term.Term.{Term}
@@ -24,11 +26,18 @@ use Rattle.tt_interner.specs.Stored.{Terms, Extends}
 use Rattle.tt_interner.proofs.Growth.{IsPart-grows, AreParts-grows, fill-grows, fill_all-grows}
 use Rattle.type_terms.specs.declared.run.call.RegionCall.{RegionCall}
 use Rattle.type_terms.specs.declared.run.call.VariableCall.{VariableCall}
-use Rattle.type_terms.specs.CallForm.{ExistentialForm, trait_object, existentials_tree, existential_positions, IsExistentialTooDeep, all_trees, all_positions, AnyIsDeep, Named, Item, Part, one, a_region, CallForm, plain, under, variable_kind, region_tree, IsRegionTooDeep, item_tree, items_trees, item_positions, items_positions, part_positions, parts_positions, IsItemTooDeep, AreItemsTooDeep, IsPartTooDeep, ArePartsTooDeep, form_positions, IsFormTooDeep, RecordCall, record_tree}
+use Rattle.type_terms.specs.CallForm.{ExistentialForm, trait_object, existentials_tree, existential_positions}
+use Rattle.type_terms.specs.CallForm.{IsExistentialTooDeep, all_trees, all_positions, AnyIsDeep, Named, Item, Part, one}
+use Rattle.type_terms.specs.CallForm.{a_region, CallForm, plain, under, variable_kind, region_tree, IsRegionTooDeep}
+use Rattle.type_terms.specs.CallForm.{item_tree, items_trees, item_positions, items_positions, part_positions}
+use Rattle.type_terms.specs.CallForm.{parts_positions, IsItemTooDeep, AreItemsTooDeep, IsPartTooDeep, ArePartsTooDeep}
+use Rattle.type_terms.specs.CallForm.{form_positions, IsFormTooDeep, RecordCall, record_tree}
 use Rattle.type_terms.specs.Told.{Told, HasFullTable}
 use Rattle.type_terms.specs.Means.{number_at, tree_at, AreTerms}
 use Rattle.type_terms.specs.Build as build
-use Rattle.type_terms.specs.Build.{IsUnbuilt, IsUnusable, IsUsable, IsPlaced, ArePlaced, IsItemOf, AreItemsOf, IsPartOf, ArePartsOf, GivesPart, GivesParts, GivesPlaced, GivesItems, PutsPlaced, PutsItems, IsRegionOf, IsVariableListOf, IsKindOf, GivesKind, GivesRecord}
+use Rattle.type_terms.specs.Build.{IsUnbuilt, IsUnusable, IsUsable, IsPlaced, ArePlaced, IsItemOf, AreItemsOf, IsPartOf}
+use Rattle.type_terms.specs.Build.{ArePartsOf, GivesPart, GivesParts, GivesPlaced, GivesItems, PutsPlaced, PutsItems}
+use Rattle.type_terms.specs.Build.{IsRegionOf, IsVariableListOf, IsKindOf, GivesKind, GivesRecord}
 
 -- positions of two lists
 pub AreTerms-append : (e : List Told) (ms ns : List Named) → AreTerms e ms → AreTerms e ns → AreTerms e (ms ++ ns)

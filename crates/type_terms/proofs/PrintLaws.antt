@@ -2,11 +2,22 @@
 use Rattle.std.proofs.Common.{◌≡◌, ℕ, List, [], ◌++◌, true, false, refl, ap, sym, ◌∙◌}
 use Rattle.std.specs.Prelude.{Option}
 use Rattle.std.proofs.lemmas.List.{append-nil}
-use Rattle.tt_kinds.specs.Label.{Name, Sort, region_sort, type_sort, const_sort, VarKind, region_variable, type_variable, const_variable, RegionName, anonymous, printed, named, environment, FreeRegion, static_region, late_param_region, TypeLabel, infer_type, raw_ptr_type, ConstLabel, infer_const, PatternLabel, range_pattern, RecordLabel, fn_sig_tys_record, pair_record, host_effect_record, subtype_record, unstable_feature_record, Label, type_label, const_label, pattern_label, predicate_label, existential_label, record_label}
+use Rattle.tt_kinds.specs.Label.{Name, Sort, region_sort, type_sort, const_sort, VarKind, region_variable}
+use Rattle.tt_kinds.specs.Label.{type_variable, const_variable, RegionName, anonymous, printed, named, environment}
+use Rattle.tt_kinds.specs.Label.{FreeRegion, static_region, late_param_region, TypeLabel, infer_type, raw_ptr_type}
+use Rattle.tt_kinds.specs.Label.{ConstLabel, infer_const, PatternLabel, range_pattern, RecordLabel, fn_sig_tys_record}
+use Rattle.tt_kinds.specs.Label.{pair_record, host_effect_record, subtype_record, unstable_feature_record, Label}
+use Rattle.tt_kinds.specs.Label.{type_label, const_label, pattern_label, predicate_label, existential_label}
+use Rattle.tt_kinds.specs.Label.{record_label}
 use Rattle.tt_kinds.specs.Tree as tree
 use Rattle.tt_kinds.specs.Tree.{Depth, at, canonical, Tree, Forest, none, also, count_trees}
-use Rattle.tt_kinds.specs.Shape.{Meaning, Sizes, fill, fill_all, name_of, rename_label, rename_record, rename_free, rename_region, rename_kind, vars_of, IsNamed, IsNamedKind, IsNamedLabel, IsNamedRecord, HasParts, IsPart}
-use Rattle.tt_kinds.specs.Kinds.{Form, param, bound, plain, under, form_parts, form_binder, form_shape, kind_form, kind_sort, kind_shape, relabelled, ty_form, const_form, value_form, pattern_form, predicate_form, existential_form, RecordForm, record_shape, parts_shapes, region_shape, items_label, items_tree}
+use Rattle.tt_kinds.specs.Shape.{Meaning, Sizes, fill, fill_all, name_of, rename_label, rename_record, rename_free}
+use Rattle.tt_kinds.specs.Shape.{rename_region, rename_kind, vars_of, IsNamed, IsNamedKind, IsNamedLabel, IsNamedRecord}
+use Rattle.tt_kinds.specs.Shape.{HasParts, IsPart}
+use Rattle.tt_kinds.specs.Kinds.{Form, param, bound, plain, under, form_parts, form_binder, form_shape, kind_form}
+use Rattle.tt_kinds.specs.Kinds.{kind_sort, kind_shape, relabelled, ty_form, const_form, value_form, pattern_form}
+use Rattle.tt_kinds.specs.Kinds.{predicate_form, existential_form, RecordForm, record_shape, parts_shapes, region_shape}
+use Rattle.tt_kinds.specs.Kinds.{items_label, items_tree}
 use Rattle.tt_kinds.specs.Bound.{depth, region_name}
 use Rattle.tt_kinds.specs.Handle.{Ty, BoundVarKinds}
 use Rattle.tt_kinds.specs.declared.table.Table.TheVariants.{VarLists}
@@ -23,7 +34,8 @@ use Rattle.tt_kinds.specs.declared.const_kind.ValTreeKind.TheVariants as valtree
 use Rattle.tt_kinds.specs.declared.predicate.BoundConstness.TheVariants as constness
 use Rattle.tt_index.specs.declared.qualifier.Mutability.TheVariants.{Not, Mut}
 use Rattle.tt_kinds.specs.declared.region_kind.RegionKind.{RegionKind}
-use Rattle.tt_kinds.specs.declared.region_kind.RegionKind.TheVariants.{ReEarlyParam, ReBound, ReLateParam, ReStatic, ReVar, RePlaceholder, ReErased, ReError}
+use Rattle.tt_kinds.specs.declared.region_kind.RegionKind.TheVariants.{ReEarlyParam, ReBound, ReLateParam, ReStatic}
+use Rattle.tt_kinds.specs.declared.region_kind.RegionKind.TheVariants.{ReVar, RePlaceholder, ReErased, ReError}
 use Rattle.tt_kinds.specs.declared.parts.Parts.{Parts}
 use Rattle.tt_kinds.specs.declared.parts.Kind.{Kind}
 use Rattle.tt_kinds.specs.declared.parts.Kind.TheVariants as kind
@@ -31,9 +43,13 @@ use Rattle.tt_kinds.specs.declared.parts.ListSort.{ListSort}
 use Rattle.tt_kinds.specs.declared.parts.ListSort.TheVariants as sort
 use Rattle.type_terms.specs.declared.ir_print.layout.Style.{Style}
 use Rattle.type_terms.specs.declared.ir_print.layout.Style.TheVariants as style
-use Rattle.type_terms.specs.Text.{opening, Head, no_head, head_in, fn_head, variable_head, variable_title, region_title, ty_title, type_head, const_head, pattern_head, record_head, bound_head, free_head, region_name_head, type_style, record_style, style_in, closing, head_text, variables_text, text_in, texts}
+use Rattle.type_terms.specs.Text.{opening, Head, no_head, head_in, fn_head, variable_head, variable_title, region_title}
+use Rattle.type_terms.specs.Text.{ty_title, type_head, const_head, pattern_head, record_head, bound_head, free_head}
+use Rattle.type_terms.specs.Text.{region_name_head, type_style, record_style, style_in, closing, head_text}
+use Rattle.type_terms.specs.Text.{variables_text, text_in, texts}
 use Rattle.type_terms.specs.declared.ir_print.spelling.Spelling.{Spelling}
-use Rattle.type_terms.specs.Spelling.{head_of, form_head, form_style, region_head, rename_head, IsNamedSubject, binder_text, spelled_text}
+use Rattle.type_terms.specs.Spelling.{head_of, form_head, form_style, region_head, rename_head, IsNamedSubject}
+use Rattle.type_terms.specs.Spelling.{binder_text, spelled_text}
 
 -- a label's head names what the label names
 module _ (f : ℕ → Name) where

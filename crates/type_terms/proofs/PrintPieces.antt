@@ -1,12 +1,14 @@
 -- Pieces of a text: what is added, and what is left.
-use Rattle.std.proofs.Common.{◌≡◌, ℕ, suc, ◌+◌, ◌<◌, ◌≤◌, ◌==◌, Bool, true, false, List, [], ◌∷◌, ◌++◌, Ok, Err, Result, OnOk, length, drop, refl, ap, sym, ◌∙◌, append_assoc, arith}
+use Rattle.std.proofs.Common.{◌≡◌, ℕ, suc, ◌+◌, ◌<◌, ◌≤◌, ◌==◌, Bool, true, false, List, [], ◌∷◌, ◌++◌, Ok, Err, Result}
+use Rattle.std.proofs.Common.{OnOk, length, drop, refl, ap, sym, ◌∙◌, append_assoc, arith}
 use Rattle.std.specs.Prelude.{Some, None, Option, IsSome, slice_get}
 use Rattle.std.proofs.lemmas.Grind.{common_steps}
 use Rattle.std.proofs.lemmas.List.{append-nil}
 use Rattle.tt_kinds.specs.Label.{Name, Sort, Label}
 use Rattle.tt_kinds.specs.Tree.{Depth, Tree, Forest, count_trees}
 use Rattle.tt_kinds.specs.Shape.{Shapes, Meaning, AreParts, fill, fill_all, append}
-use Rattle.tt_kinds.specs.Kinds.{items_label, Form, param, bound, plain, under, form_parts, form_shape, kind_form, kind_sort, kind_shape, child_shapes, children_shapes, parts_shapes, items_tree}
+use Rattle.tt_kinds.specs.Kinds.{items_label, Form, param, bound, plain, under, form_parts, form_shape, kind_form}
+use Rattle.tt_kinds.specs.Kinds.{kind_sort, kind_shape, child_shapes, children_shapes, parts_shapes, items_tree}
 use Rattle.tt_kinds.specs.declared.parts.Child.{Child}
 use Rattle.tt_kinds.specs.declared.parts.Child.TheVariants as child
 use Rattle.tt_kinds.specs.declared.parts.Parts.{Parts}
@@ -17,8 +19,10 @@ use Rattle.tt_interner.specs.Rows.{Row, size, meaning}
 use Rattle.type_terms.specs.declared.ir_print.layout.Style.{Style}
 use Rattle.type_terms.specs.declared.ir_print.layout.Place.TheVariants as place
 use Rattle.type_terms.specs.declared.ir_print.pieces.Piece.{Piece}
-use Rattle.type_terms.specs.Text.{style_in, are_none, before_child, closing, names, text_in, texts, child_text, Begins, Writes}
-use Rattle.type_terms.specs.Pieces.{inner_work, forest_work, child_work, piece_text, pieces_text, pieces_work, ArePieces, Adds, Opened, Opens, Left}
+use Rattle.type_terms.specs.Text.{style_in, are_none, before_child, closing, names, text_in, texts, child_text, Begins}
+use Rattle.type_terms.specs.Text.{Writes}
+use Rattle.type_terms.specs.Pieces.{inner_work, forest_work, child_work, piece_text, pieces_text, pieces_work}
+use Rattle.type_terms.specs.Pieces.{ArePieces, Adds, Opened, Opens, Left}
 use Rattle.type_terms.proofs.PrintSteps.{begins-same, begins-more, writes-end}
 use Rattle.type_terms.proofs.PrintLaws.{list-written}
 use Rattle.type_terms.proofs.PrintParts.{AreItems, parts-written, count-items, item-then, drop-from}

@@ -1,5 +1,6 @@
 -- The texts of a binder's variables: what is written, and what is left.
-use Rattle.std.proofs.Common.{◌≡◌, ℕ, suc, ◌+◌, ◌<◌, ◌≤◌, List, [], ◌∷◌, ◌++◌, Ok, Result, length, get_or, drop, map, zero, refl, ap, sym, ◌∙◌, append_assoc, drop-cons, arith}
+use Rattle.std.proofs.Common.{◌≡◌, ℕ, suc, ◌+◌, ◌<◌, ◌≤◌, List, [], ◌∷◌, ◌++◌, Ok, Result, length, get_or, drop, map}
+use Rattle.std.proofs.Common.{zero, refl, ap, sym, ◌∙◌, append_assoc, drop-cons, arith}
 use Rattle.std.proofs.lemmas.Grind.{common_steps}
 use Rattle.tt_kinds.specs.Label.{Name, VarKind}
 use Rattle.tt_kinds.specs.Shape.{Meaning, Sizes, fill, name_of, vars_of, rename_kind, AreNamedKinds, IsNamedKind}
@@ -9,7 +10,8 @@ use Rattle.tt_kinds.specs.declared.table.Table.TheVariants.{VarLists}
 use Rattle.tt_interner.specs.Rows.{Row, vars_row, size, meaning, AreRows}
 use Rattle.tt_interner.specs.Stored.{IsAt}
 use Rattle.tt_interner.proofs.Trees.{Means-row}
-use Rattle.type_terms.specs.Text.{Head, head_text, variable_head, variable_title, variable_text, variables_text, before_variable, after_variables, Begins, Writes}
+use Rattle.type_terms.specs.Text.{Head, head_text, variable_head, variable_title, variable_text, variables_text}
+use Rattle.type_terms.specs.Text.{before_variable, after_variables, Begins, Writes}
 use Rattle.type_terms.specs.Spelling.{rename_head}
 use Rattle.type_terms.proofs.PrintSteps.{begins-more, begins-same, writes-end}
 use Rattle.type_terms.proofs.PrintLaws.{variable-renamed, title-renamed}

@@ -20,8 +20,10 @@ use Rattle.type_terms.specs.declared.run.answer.Answer.TheVariants as answer
 use Rattle.type_terms.specs.declared.run.call.Call.{Call}
 use Rattle.type_terms.specs.declared.run.call.Call.TheVariants as call
 use Rattle.type_terms.specs.CallForm.{as_at}
-use Rattle.type_terms.specs.Told.{told, told_all, truth, term, handle_table, handle_number, IsOwned, AreOwned, Setting, setting}
-use Rattle.type_terms.specs.Means.{Term, as_term, term_at, tree_of, table_of, table_at, Suits, IsAllowed, MayRefuse, no_term}
+use Rattle.type_terms.specs.Told.{told, told_all, truth, term, handle_table, handle_number, IsOwned, AreOwned, Setting}
+use Rattle.type_terms.specs.Told.{setting}
+use Rattle.type_terms.specs.Means.{Term, as_term, term_at, tree_of, table_of, table_at, Suits, IsAllowed, MayRefuse}
+use Rattle.type_terms.specs.Means.{no_term}
 use Rattle.type_terms.specs.Build.{IsAnswerAt, AreAlike, IsInfoOf, Answers}
 
 -- what a handle of a table tells

@@ -1,12 +1,14 @@
 -- Why a building call is refused for want of room: something of what it builds isn't there.
-use Rattle.std.proofs.Common.{◌≡◌, ℕ, ◌<◌, List, [], ◌∷◌, length, map, Result, Ok, Err, Some, ap, sym, ◌∙◌, subst, arith}
+use Rattle.std.proofs.Common.{◌≡◌, ℕ, ◌<◌, List, [], ◌∷◌, length, map, Result, Ok, Err, Some, ap, sym, ◌∙◌, subst}
+use Rattle.std.proofs.Common.{arith}
 use Rattle.std.specs.Prelude.{IfErr, OnErr, slice_get}
 use Rattle.std.proofs.lemmas.List.{length-map}
 use Rattle.std.proofs.lemmas.List.Elements.{All-get_or}
 use Rattle.std.proofs.lemmas.Option.{slice_get_within, get_or_from_slice_get}
 use Rattle.tt_index.specs.declared.refusal.Refusal.{Refusal}
 use Rattle.tt_index.specs.declared.refusal.Refusal.TheVariants.{NoSuchAnswer}
-use Rattle.tt_kinds.specs.Label.{Name, Sort, VarKind, Label, RecordLabel, type_label, dynamic_type, list_label, record_label, unstable_feature_record, var_list_label}
+use Rattle.tt_kinds.specs.Label.{Name, Sort, VarKind, Label, RecordLabel, type_label, dynamic_type, list_label}
+use Rattle.tt_kinds.specs.Label.{record_label, unstable_feature_record, var_list_label}
 use Rattle.tt_kinds.specs.Tree as tree
 use Rattle.tt_kinds.specs.Tree.{Tree, Depth, node}
 use Rattle.tt_kinds.specs.Shape as shape
@@ -21,11 +23,15 @@ use Rattle.tt_interner.specs.Stored.{Terms, Builds, most_in_place}
 use Rattle.type_terms.specs.declared.run.answer.Answer.{Answer}
 use Rattle.type_terms.specs.declared.run.call.RegionCall.{RegionCall}
 use Rattle.type_terms.specs.declared.run.call.VariableCall.{VariableCall}
-use Rattle.type_terms.specs.CallForm.{Item, Part, one, a_region, a_list, CallForm, param, plain, under, trait_object, ExistentialForm, IsShortExistential, RecordCall, labelled, all_trees, existential_tree, existentials_tree, form_tree, Named, variable_kind, variable_text, region_text, item_tree, part_tree}
+use Rattle.type_terms.specs.CallForm.{Item, Part, one, a_region, a_list, CallForm, param, plain, under, trait_object}
+use Rattle.type_terms.specs.CallForm.{ExistentialForm, IsShortExistential, RecordCall, labelled, all_trees}
+use Rattle.type_terms.specs.CallForm.{existential_tree, existentials_tree, form_tree, Named, variable_kind}
+use Rattle.type_terms.specs.CallForm.{variable_text, region_text, item_tree, part_tree}
 use Rattle.type_terms.specs.Told.{Told, told_all, IsStored}
 use Rattle.type_terms.specs.Means.{number_at, tree_at}
 use Rattle.type_terms.specs.Build.{ArePlaced, AreItemsOf, AreVariablesOf, IsKindOf}
-use Rattle.type_terms.specs.Room.{IsForRoom, HasValue, LacksValue, LacksText, NeedsRoom, PartNeedsRoom, VarsNeedRoom, RecordNeedsRoom, ExistentialNeedsRoom, ExistentialsNeedRoom, FormNeedsRoom}
+use Rattle.type_terms.specs.Room.{IsForRoom, HasValue, LacksValue, LacksText, NeedsRoom, PartNeedsRoom, VarsNeedRoom}
+use Rattle.type_terms.specs.Room.{RecordNeedsRoom, ExistentialNeedsRoom, ExistentialsNeedRoom, FormNeedsRoom}
 use Rattle.type_terms.proofs.ValueLaws.{in-term, in-node, in-binder, new-lacks, first-value, later-values, value-at}
 use Rattle.type_terms.proofs.PartLaws.{get-mapped}
 use Rattle.type_terms.proofs.TextLaws.{region-lacks, param-lacks, variable-lacks, feature-lacks}

@@ -1,14 +1,16 @@
 -- What was told stays told while rows grow, and a run goes on by one call.
-use Rattle.std.proofs.Common.{◌≡◌, ℕ, ◌<◌, ◌≤◌, List, [], ◌∷◌, ◌++◌, refl, ap, sym, ◌∙◌, subst, arith, append_assoc, append-nil, inl, inr}
+use Rattle.std.proofs.Common.{◌≡◌, ℕ, ◌≤◌, List, [], ◌∷◌, ◌++◌, refl, ap, sym, ◌∙◌, subst, arith, append_assoc}
+use Rattle.std.proofs.Common.{append-nil, inl, inr}
 use Rattle.std.proofs.lemmas.List.{map-append}
 use Rattle.tt_index.specs.declared.refusal.Refusal.{Refusal}
 use Rattle.tt_kinds.specs.Tree.{Tree, Depth}
 use Rattle.tt_kinds.specs.declared.table.Table.{Table}
-use Rattle.tt_kinds.specs.declared.table.Table.TheVariants.{Types, Consts, Patterns, Predicates, ClauseLists, ArgLists, Declarations}
+use Rattle.tt_kinds.specs.declared.table.Table.TheVariants.{Types, Consts, Patterns, Predicates, ClauseLists, ArgLists}
+use Rattle.tt_kinds.specs.declared.table.Table.TheVariants.{Declarations}
 use Rattle.tt_kinds.specs.declared.declaration.Declaration.{Declaration}
 use Rattle.tt_kinds.specs.declared.declaration.DeclarationSort.{DeclarationSort}
 use Rattle.tt_kinds.specs.Declaration.{sort_of}
-use Rattle.tt_interner.specs.Rows.{Row, size, Grows}
+use Rattle.tt_interner.specs.Rows.{Row, Grows}
 use Rattle.tt_interner.specs.Stored.{Terms, Extends}
 use Rattle.tt_interner.proofs.Growth.{Extends-refl, Extends-trans, size-grows, in_range-grows, meaning-grows}
 use Rattle.tt_interner.proofs.DeclarationLaws.{declared_at-grows}
@@ -16,8 +18,10 @@ use Rattle.type_terms.specs.declared.run.call.Call.{Call}
 use Rattle.type_terms.specs.declared.run.call.Call.TheVariants as call
 use Rattle.type_terms.specs.declared.run.answer.Answer.{Answer}
 use Rattle.type_terms.specs.declared.run.answer.Answer.TheVariants as answer
-use Rattle.type_terms.specs.Told.{Told, term, declared, truth, info, refused, bad, told, told_all, IsOwned, AreOwned, HasFullTable, IsStored, Setting, setting}
-use Rattle.type_terms.specs.Means.{AddsNothing, Grows as GrowsIn, MayRefuse, want_of_memory, full_table, no_term, too_deep, unfit, unsuited, Declares, IsAllowed, Means}
+use Rattle.type_terms.specs.Told.{Told, term, declared, truth, info, refused, bad, told, told_all, IsOwned, AreOwned}
+use Rattle.type_terms.specs.Told.{HasFullTable, IsStored, Setting, setting}
+use Rattle.type_terms.specs.Means.{AddsNothing, Grows as GrowsIn, MayRefuse, want_of_memory, full_table, no_term}
+use Rattle.type_terms.specs.Means.{too_deep, unfit, unsuited, Declares, IsAllowed, Means}
 use Rattle.type_terms.specs.Runner.{AddsAnswer, IsAnswered, AnswersInTurn}
 
 module _ (old new : List Row) (g : Grows old new) where

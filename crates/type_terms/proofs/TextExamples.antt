@@ -21,10 +21,29 @@ use Rattle.tt_kinds.specs.declared.const_kind.InferConst.TheVariants as infer_co
 use Rattle.tt_kinds.specs.declared.fn_sig.FnSigKind.{FnSigKind}
 use Rattle.tt_kinds.specs.declared.predicate.BoundConstness.TheVariants as constness
 use Rattle.tt_kinds.specs.declared.predicate_kind.AliasRelationDirection.TheVariants as direction
-use Rattle.tt_kinds.specs.declared.table.Table.TheVariants.{TypeLists, ConstLists, ArgLists, PatternLists, ExistentialLists}
+use Rattle.tt_kinds.specs.declared.table.Table.TheVariants.{TypeLists, ConstLists, ArgLists, PatternLists}
+use Rattle.tt_kinds.specs.declared.table.Table.TheVariants.{ExistentialLists}
 use Rattle.tt_kinds.specs.declared.ty_kind.InferTy.TheVariants as infer
-use Rattle.tt_kinds.specs.Label.{Name, region_sort, type_sort, const_sort, anonymous, printed, named, environment, VarKind, region_variable, type_variable, const_variable, static_region, erased_region, region_var, error_region, late_param_region, placeholder_region, TypeLabel, bool_type, char_type, int_type, uint_type, float_type, str_type, never_type, placeholder_type, infer_type, error_type, ref_type, raw_ptr_type, slice_type, tuple_type, fn_ptr_type, foreign_type, adt_type, fn_def_type, array_type, pat_type, unsafe_binder_type, dynamic_type, closure_type, coroutine_closure_type, coroutine_type, coroutine_witness_type, alias_type, ConstLabel, infer_const, placeholder_const, unevaluated_const, leaf_const, branch_const, error_const, expr_const, range_pattern, or_pattern, not_null_pattern, RecordLabel, fn_sig_tys_record, unsafe_binder_record, trait_record, host_effect_record, region_outlives_record, type_outlives_record, projection_record, const_has_type_record, well_formed_record, const_evaluatable_record, unstable_feature_record, dyn_compatible_record, subtype_record, coerce_record, const_equate_record, ambiguous_record, normalizes_to_record, alias_relate_record, existential_trait_record, existential_projection_record, auto_trait_record, trait_ref_record, alias_term_record, alias_ty_record, fn_sig_record, param_env_record, type_label, const_label, pattern_label, predicate_label, existential_label, clause_list_label, list_label, record_label}
-use Rattle.tt_kinds.specs.Tree.{Depth, at, canonical, Tree, param, bound, region, term, node, binder, Forest, none, also}
+use Rattle.tt_kinds.specs.Label.{Name, region_sort, type_sort, const_sort, anonymous, printed, named, environment}
+use Rattle.tt_kinds.specs.Label.{VarKind, region_variable, type_variable, const_variable, static_region, erased_region}
+use Rattle.tt_kinds.specs.Label.{region_var, error_region, late_param_region, placeholder_region, TypeLabel, bool_type}
+use Rattle.tt_kinds.specs.Label.{char_type, int_type, uint_type, float_type, str_type, never_type, placeholder_type}
+use Rattle.tt_kinds.specs.Label.{infer_type, error_type, ref_type, raw_ptr_type, slice_type, tuple_type, fn_ptr_type}
+use Rattle.tt_kinds.specs.Label.{foreign_type, adt_type, fn_def_type, array_type, pat_type, unsafe_binder_type}
+use Rattle.tt_kinds.specs.Label.{dynamic_type, closure_type, coroutine_closure_type, coroutine_type}
+use Rattle.tt_kinds.specs.Label.{coroutine_witness_type, alias_type, ConstLabel, infer_const, placeholder_const}
+use Rattle.tt_kinds.specs.Label.{unevaluated_const, leaf_const, branch_const, error_const, expr_const, range_pattern}
+use Rattle.tt_kinds.specs.Label.{or_pattern, not_null_pattern, RecordLabel, fn_sig_tys_record, unsafe_binder_record}
+use Rattle.tt_kinds.specs.Label.{trait_record, host_effect_record, region_outlives_record, type_outlives_record}
+use Rattle.tt_kinds.specs.Label.{projection_record, const_has_type_record, well_formed_record, const_evaluatable_record}
+use Rattle.tt_kinds.specs.Label.{unstable_feature_record, dyn_compatible_record, subtype_record, coerce_record}
+use Rattle.tt_kinds.specs.Label.{const_equate_record, ambiguous_record, normalizes_to_record, alias_relate_record}
+use Rattle.tt_kinds.specs.Label.{existential_trait_record, existential_projection_record, auto_trait_record}
+use Rattle.tt_kinds.specs.Label.{trait_ref_record, alias_term_record, alias_ty_record, fn_sig_record, param_env_record}
+use Rattle.tt_kinds.specs.Label.{type_label, const_label, pattern_label, predicate_label, existential_label}
+use Rattle.tt_kinds.specs.Label.{clause_list_label, list_label, record_label}
+use Rattle.tt_kinds.specs.Tree.{Depth, at, canonical, Tree, param, bound, region, term, node, binder, Forest, none}
+use Rattle.tt_kinds.specs.Tree.{also}
 use Rattle.type_terms.specs.Text.{text}
 
 -- what the declarations of the numbers are called

@@ -3,11 +3,16 @@ use Rattle.std.proofs.Common.{◌≡◌, ℕ, zero, suc, ◌<◌, List, [], ◌�
 use Rattle.std.specs.Prelude.{slice_get}
 use Rattle.std.specs.Option.{option_map}
 use Rattle.std.proofs.lemmas.Option.{none-some, same_Some, slice_get-map}
-use Rattle.tt_kinds.specs.Label.{Name, Sort, RegionName, anonymous, printed, named, environment, VarKind, region_variable, type_variable, const_variable, FreeRegion, static_region, erased_region, region_var, error_region, late_param_region, placeholder_region, unstable_feature_record, Label, var_list_label, text_label, record_label}
+use Rattle.tt_kinds.specs.Label.{Name, Sort, RegionName, anonymous, printed, named, environment, VarKind}
+use Rattle.tt_kinds.specs.Label.{region_variable, type_variable, const_variable, FreeRegion, static_region}
+use Rattle.tt_kinds.specs.Label.{erased_region, region_var, error_region, late_param_region, placeholder_region}
+use Rattle.tt_kinds.specs.Label.{unstable_feature_record, Label, var_list_label, text_label, record_label}
 use Rattle.tt_kinds.specs.Tree as tree
 use Rattle.tt_kinds.specs.Tree.{Tree, Depth, node}
 use Rattle.tt_kinds.specs.Shape as shape
-use Rattle.tt_kinds.specs.Shape.{Shape, Sizes, Meaning, fill, name_of, text_of, rename_region, rename_kind, rename_free, rename_label, IsNamed, IsNamedKind, IsNamedFree, AreNamedKinds, IsNamedLabel, HasParts, IsPart}
+use Rattle.tt_kinds.specs.Shape.{Shape, Sizes, Meaning, fill, name_of, text_of, rename_region, rename_kind, rename_free}
+use Rattle.tt_kinds.specs.Shape.{rename_label, IsNamed, IsNamedKind, IsNamedFree, AreNamedKinds, IsNamedLabel, HasParts}
+use Rattle.tt_kinds.specs.Shape.{IsPart}
 use Rattle.tt_kinds.specs.declared.table.Table.TheVariants.{Symbols}
 use Rattle.tt_interner.specs.Rows.{Row, text_row, row_shape, size, meaning, IsNew, AreRows}
 use Rattle.tt_interner.proofs.Trees.{row_within, Means-row}
@@ -17,7 +22,8 @@ use Rattle.type_terms.specs.declared.run.call.RegionNameCall.TheVariants as regi
 use Rattle.type_terms.specs.declared.run.call.VariableCall.{VariableCall}
 use Rattle.type_terms.specs.declared.run.call.VariableCall.TheVariants as variable
 use Rattle.type_terms.specs.declared.run.call.RegionCall.{RegionCall}
-use Rattle.type_terms.specs.declared.run.call.RegionCall.TheVariants.{ReEarlyParam, ReBound, ReLateParam, ReStatic, ReVar, RePlaceholder, ReErased, ReError}
+use Rattle.type_terms.specs.declared.run.call.RegionCall.TheVariants.{ReEarlyParam, ReBound, ReLateParam, ReStatic}
+use Rattle.type_terms.specs.declared.run.call.RegionCall.TheVariants.{ReVar, RePlaceholder, ReErased, ReError}
 use Rattle.type_terms.specs.CallForm.{called, variable_kind, region_tree, name_text, region_text, variable_text}
 use Rattle.type_terms.specs.Room.{HasValue, LacksValue, LacksText}
 use Rattle.type_terms.proofs.ValueLaws.{IsNode, in-node, new-lacks}

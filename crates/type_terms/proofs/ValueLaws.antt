@@ -6,7 +6,8 @@ use Rattle.tt_kinds.specs.Label.{Name, VarKind, Label, var_list_label, record_la
 use Rattle.tt_kinds.specs.Tree as tree
 use Rattle.tt_kinds.specs.Tree.{Tree, Forest, Depth}
 use Rattle.tt_kinds.specs.Shape as shape
-use Rattle.tt_kinds.specs.Shape.{Shape, Shapes, Extent, items_of, items_in, fill, fill_all, name_of, vars_of, rename_label, IsNamedLabel, HasParts, IsPart, AreParts}
+use Rattle.tt_kinds.specs.Shape.{Shape, Shapes, Extent, items_of, items_in, fill, fill_all, name_of, vars_of}
+use Rattle.tt_kinds.specs.Shape.{rename_label, IsNamedLabel, HasParts, IsPart, AreParts}
 use Rattle.tt_kinds.specs.declared.table.Table.{Table}
 use Rattle.tt_kinds.specs.declared.table.Table.TheVariants.{VarLists}
 use Rattle.tt_kinds.proofs.ForestLaws.{IsOfEach, part-each}

@@ -7,7 +7,8 @@ use Rattle.tt_kinds.specs.Tree.{Tree, Forest, Depth, node, none}
 use Rattle.tt_kinds.specs.Scan.{scan}
 use Rattle.tt_kinds.specs.Reading.{outer_binder}
 use Rattle.tt_kinds.specs.Bound.{region_name, var_kind}
-use Rattle.tt_kinds.specs.Shape.{Shape, Shapes, name_of, rename_region, rename_kind, IsNamed, IsNamedKind, AreNamedKinds, fill, fill_all, item_shapes, IsPart, AreParts, HasParts}
+use Rattle.tt_kinds.specs.Shape.{Shape, Shapes, name_of, rename_region, rename_kind, IsNamed, IsNamedKind}
+use Rattle.tt_kinds.specs.Shape.{AreNamedKinds, fill, fill_all, item_shapes, IsPart, AreParts, HasParts}
 use Rattle.tt_kinds.specs.Shape as shape
 use Rattle.tt_kinds.specs.Kinds.{RecordForm, record_shape, region_shape, arg_shape, clause_shape, tys_shape}
 use Rattle.tt_kinds.specs.Declaration.{sort_of}
@@ -39,9 +40,15 @@ use Rattle.tt_binder.specs.Arguments.{arguments as built_arguments}
 use Rattle.tt_kinds.specs.declared.generic_arg.GenericArgKind.{GenericArgKind}
 use Rattle.std.specs.declared.alloc.Global.{Global}
 use Rattle.std.specs.declared.vec.Vec.{Vec}
-use Rattle.type_terms.specs.CallForm.{a_list, terms_at, declared_sort, declared_item, declared_trees, declared_positions, of_id, CallForm, Named, Item, Part, called, variable_kind, item_tree, items_trees, part_tree, parts_trees, item_positions, items_positions, part_positions, parts_positions, IsItemTooDeep, AreItemsTooDeep, IsPartTooDeep, ArePartsTooDeep, form_positions, form_tree, IsFormTooDeep, arg_item, arg_items, clause_items, RecordCall, record_tree}
+use Rattle.type_terms.specs.CallForm.{a_list, terms_at, declared_sort, declared_item, declared_trees}
+use Rattle.type_terms.specs.CallForm.{declared_positions, of_id, CallForm, Named, Item, Part, called, variable_kind}
+use Rattle.type_terms.specs.CallForm.{item_tree, items_trees, part_tree, parts_trees, item_positions, items_positions}
+use Rattle.type_terms.specs.CallForm.{part_positions, parts_positions, IsItemTooDeep, AreItemsTooDeep, IsPartTooDeep}
+use Rattle.type_terms.specs.CallForm.{ArePartsTooDeep, form_positions, form_tree, IsFormTooDeep, arg_item, arg_items}
+use Rattle.type_terms.specs.CallForm.{clause_items, RecordCall, record_tree}
 use Rattle.type_terms.specs.Told.{Told, term, told, told_all, handle_table, IsOwned, AreOwned, HasFullTable, setting}
-use Rattle.type_terms.specs.Means.{IsUnchanged, as_term, term_at, as_id, id_at, number_at, Tells, tree_at, argument, arguments, AreTerms, IsAllowed, MayRefuse}
+use Rattle.type_terms.specs.Means.{IsUnchanged, as_term, term_at, as_id, id_at, number_at, Tells, tree_at, argument}
+use Rattle.type_terms.specs.Means.{arguments, AreTerms, IsAllowed, MayRefuse}
 
 -- the answer is the handle of this number in the table
 pub record IsHandle (a : Answer) (table : Table) (number : ℕ) : Type 0 where
@@ -77,7 +84,8 @@ pub record IsAnswerAt (earlier : List Answer) (position : ℕ) (a : Answer) : Ty
   pub owned : (rows : List Row) → AreOwned rows earlier → IsOwned rows a
 
 -- why a part of a term was not built: it names the positions in named, and deep says that it needs the greatest index
-pub data IsUnbuilt (full : Type 0) (earlier : List Told) (named : List Named) (deep : Type 0) (e : Refusal) : Type 0 where
+pub data IsUnbuilt (full : Type 0) (earlier : List Told) (named : List Named) (deep : Type 0) (e : Refusal)
+    : Type 0 where
   no_memory : e ≡ Memory → IsUnbuilt full earlier named deep e
   no_row : full → e ≡ TableFull → IsUnbuilt full earlier named deep e
   no_term : (AreTerms earlier named → ⊥) → e ≡ NoSuchAnswer → IsUnbuilt full earlier named deep e
@@ -105,7 +113,8 @@ pub record IsNameOf (terms : Terms) (ids : ℕ → ℕ) (call : RegionNameCall) 
   pub means : rename_region (name_of (meaning terms.rows)) (region_name k) ≡ called ids call
 
 -- the result is that name, or a refusal with a reason
-pub record GivesName (terms : Terms) (ids : ℕ → ℕ) (call : RegionNameCall) (result : Result BoundRegionKind Refusal) : Type 0 where
+pub record GivesName (terms : Terms) (ids : ℕ → ℕ) (call : RegionNameCall) (result : Result BoundRegionKind Refusal)
+    : Type 0 where
   pub ok : IfOk result (IsNameOf terms ids call)
   pub err : IfErr result (IsUnbuilt (HasFullTable terms) [] [] ⊥)
 
@@ -115,27 +124,32 @@ pub record IsVariableOf (terms : Terms) (ids : ℕ → ℕ) (call : VariableCall
   pub means : rename_kind (name_of (meaning terms.rows)) (var_kind v) ≡ variable_kind ids call
 
 -- the result is that variable, or a refusal with a reason
-pub record GivesVariable (terms : Terms) (ids : ℕ → ℕ) (call : VariableCall) (result : Result BoundVariableKind Refusal) : Type 0 where
+pub record GivesVariable (terms : Terms) (ids : ℕ → ℕ) (call : VariableCall) (result : Result BoundVariableKind Refusal)
+    : Type 0 where
   pub ok : IfOk result (IsVariableOf terms ids call)
   pub err : IfErr result (IsUnbuilt (HasFullTable terms) [] [] ⊥)
 
 -- the variables are those that the calls name
-pub record AreVariablesOf (terms : Terms) (ids : ℕ → ℕ) (calls : List VariableCall) (vs : List BoundVariableKind) : Type 0 where
+pub record AreVariablesOf (terms : Terms) (ids : ℕ → ℕ) (calls : List VariableCall) (vs : List BoundVariableKind)
+    : Type 0 where
   pub parts : AreNamedKinds (size terms.rows) (map var_kind vs)
   pub means : map (rename_kind (name_of (meaning terms.rows))) (map var_kind vs) ≡ map (variable_kind ids) calls
 
 -- these are the variables, or there is a refusal with a reason
-pub record PutsVariables {R : Type 0} (terms : Terms) (ids : ℕ → ℕ) (calls : List VariableCall) (vs : List BoundVariableKind) (result : Result R Refusal) : Type 0 where
+pub record PutsVariables {R : Type 0} (terms : Terms) (ids : ℕ → ℕ) (calls : List VariableCall)
+    (vs : List BoundVariableKind) (result : Result R Refusal) : Type 0 where
   pub ok : OnOk result (AreVariablesOf terms ids calls vs)
   pub err : IfErr result (IsUnbuilt (HasFullTable terms) [] [] ⊥)
 
 -- the list holds the variables
-pub record IsVariableListOf (terms : Terms) (ids : ℕ → ℕ) (calls : List VariableCall) (list : BoundVarKinds) : Type 0 where
+pub record IsVariableListOf (terms : Terms) (ids : ℕ → ℕ) (calls : List VariableCall) (list : BoundVarKinds)
+    : Type 0 where
   pub in_range : list.number < size terms.rows VarLists
   pub means : meaning terms.rows VarLists list.number ≡ node (var_list_label (map (variable_kind ids) calls)) none
 
 -- the result is that list, or a refusal with a reason
-pub record GivesVariables (terms : Terms) (ids : ℕ → ℕ) (calls : List VariableCall) (result : Result BoundVarKinds Refusal) : Type 0 where
+pub record GivesVariables (terms : Terms) (ids : ℕ → ℕ) (calls : List VariableCall)
+    (result : Result BoundVarKinds Refusal) : Type 0 where
   pub ok : IfOk result (IsVariableListOf terms ids calls)
   pub err : IfErr result (IsUnbuilt (HasFullTable terms) [] [] ⊥)
 
@@ -146,19 +160,23 @@ pub record IsRegionOf (terms : Terms) (t : Tree Depth) (deep : Type 0) (r : Regi
   pub shallow : deep → ⊥
 
 -- the result is that region, or a refusal with a reason; deep says that the region needs the greatest index
-pub record GivesRegion (terms : Terms) (t : Tree Depth) (deep : Type 0) (result : Result RegionKind Refusal) : Type 0 where
+pub record GivesRegion (terms : Terms) (t : Tree Depth) (deep : Type 0) (result : Result RegionKind Refusal)
+    : Type 0 where
   pub ok : IfOk result (IsRegionOf terms t deep)
   pub err : IfErr result (IsUnbuilt (HasFullTable terms) [] [] deep)
 
--- the shape has this tree, these positions tell terms, and deep, which says that it needs the greatest index, doesn't hold
-pub record IsPlaced (terms : Terms) (earlier : List Told) (t : Tree Depth) (names : List Named) (deep : Type 0) (s : Shape) : Type 0 where
+-- the shape has this tree, these positions tell terms, and deep, which says that it needs the greatest index, doesn't
+-- hold
+pub record IsPlaced (terms : Terms) (earlier : List Told) (t : Tree Depth) (names : List Named) (deep : Type 0)
+    (s : Shape) : Type 0 where
   pub part : IsPart (size terms.rows) s
   pub means : fill (meaning terms.rows) s ≡ t
   pub named : AreTerms earlier names
   pub shallow : deep → ⊥
 
 -- the same for shapes in order
-pub record ArePlaced (terms : Terms) (earlier : List Told) (ts : Forest Depth) (names : List Named) (deep : Type 0) (ss : Shapes) : Type 0 where
+pub record ArePlaced (terms : Terms) (earlier : List Told) (ts : Forest Depth) (names : List Named) (deep : Type 0)
+    (ss : Shapes) : Type 0 where
   pub parts : AreParts (size terms.rows) ss
   pub means : fill_all (meaning terms.rows) ss ≡ ts
   pub named : AreTerms earlier names
@@ -166,47 +184,57 @@ pub record ArePlaced (terms : Terms) (earlier : List Told) (ts : Forest Depth) (
 
 -- the value is the one that the call puts in the item's place
 abbrev pub IsItemOf : Terms → List Told → Item → Shape → Type 0
-IsItemOf terms earlier i s = IsPlaced terms earlier (item_tree (number_at earlier) (tree_at earlier) i) (item_positions i) (IsItemTooDeep i) s
+IsItemOf terms earlier i s = IsPlaced terms earlier (item_tree (number_at earlier) (tree_at earlier) i)
+    (item_positions i) (IsItemTooDeep i) s
 
 -- the values are the ones that the call puts in the items' places
 abbrev pub AreItemsOf : Terms → List Told → List Item → Shapes → Type 0
-AreItemsOf terms earlier is ss = ArePlaced terms earlier (items_trees (number_at earlier) (tree_at earlier) is) (items_positions is) (AreItemsTooDeep is) ss
+AreItemsOf terms earlier is ss = ArePlaced terms earlier (items_trees (number_at earlier) (tree_at earlier) is)
+    (items_positions is) (AreItemsTooDeep is) ss
 
 -- the value is the one that the call puts in the child's place
 abbrev pub IsPartOf : Terms → List Told → Part → Shape → Type 0
-IsPartOf terms earlier p s = IsPlaced terms earlier (part_tree (number_at earlier) (tree_at earlier) p) (part_positions p) (IsPartTooDeep p) s
+IsPartOf terms earlier p s = IsPlaced terms earlier (part_tree (number_at earlier) (tree_at earlier) p)
+    (part_positions p) (IsPartTooDeep p) s
 
 -- the values are the ones that the call puts in the children's places
 abbrev pub ArePartsOf : Terms → List Told → List Part → Shapes → Type 0
-ArePartsOf terms earlier ps ss = ArePlaced terms earlier (parts_trees (number_at earlier) (tree_at earlier) ps) (parts_positions ps) (ArePartsTooDeep ps) ss
+ArePartsOf terms earlier ps ss = ArePlaced terms earlier (parts_trees (number_at earlier) (tree_at earlier) ps)
+    (parts_positions ps) (ArePartsTooDeep ps) ss
 
 -- the result has this tree, or is a refusal with a reason
-pub record GivesPlaced {H : Type 0} (terms : Terms) (earlier : List Told) (t : Tree Depth) (names : List Named) (deep : Type 0) (shape : H → Shape) (result : Result H Refusal) : Type 0 where
+pub record GivesPlaced {H : Type 0} (terms : Terms) (earlier : List Told) (t : Tree Depth) (names : List Named)
+    (deep : Type 0) (shape : H → Shape) (result : Result H Refusal) : Type 0 where
   pub ok : IfOk result (λ h. IsPlaced terms earlier t names deep (shape h))
   pub err : IfErr result (IsUnbuilt (HasFullTable terms) earlier names deep)
 
 -- the result is the value that the call puts in the child's place, or a refusal with a reason
-pub record GivesPart {H : Type 0} (terms : Terms) (earlier : List Told) (p : Part) (shape : H → Shape) (result : Result H Refusal) : Type 0 where
+pub record GivesPart {H : Type 0} (terms : Terms) (earlier : List Told) (p : Part) (shape : H → Shape)
+    (result : Result H Refusal) : Type 0 where
   pub ok : IfOk result (λ h. IsPartOf terms earlier p (shape h))
   pub err : IfErr result (IsUnbuilt (HasFullTable terms) earlier (part_positions p) (IsPartTooDeep p))
 
 -- the result is the value that the call puts in the items' places, or a refusal with a reason
-pub record GivesItems {H : Type 0} (terms : Terms) (earlier : List Told) (is : List Item) (shape : H → Shape) (result : Result (Vec H Global) Refusal) : Type 0 where
+pub record GivesItems {H : Type 0} (terms : Terms) (earlier : List Told) (is : List Item) (shape : H → Shape)
+    (result : Result (Vec H Global) Refusal) : Type 0 where
   pub ok : IfOk result (λ hs. AreItemsOf terms earlier is (item_shapes shape hs.items))
   pub err : IfErr result (IsUnbuilt (HasFullTable terms) earlier (items_positions is) (AreItemsTooDeep is))
 
 -- the shapes have these trees in order, or there is a refusal with a reason
-pub record PutsPlaced {R : Type 0} (terms : Terms) (earlier : List Told) (ts : Forest Depth) (names : List Named) (deep : Type 0) (ss : Shapes) (result : Result R Refusal) : Type 0 where
+pub record PutsPlaced {R : Type 0} (terms : Terms) (earlier : List Told) (ts : Forest Depth) (names : List Named)
+    (deep : Type 0) (ss : Shapes) (result : Result R Refusal) : Type 0 where
   pub ok : OnOk result (ArePlaced terms earlier ts names deep ss)
   pub err : IfErr result (IsUnbuilt (HasFullTable terms) earlier names deep)
 
 -- these are the values of the items, or there is a refusal with a reason
 abbrev pub PutsItems : {H R : Type 0} → Terms → List Told → List Item → (H → Shape) → List H → Result R Refusal → Type 0
 PutsItems terms earlier is shape values result =
-    PutsPlaced terms earlier (items_trees (number_at earlier) (tree_at earlier) is) (items_positions is) (AreItemsTooDeep is) (item_shapes shape values) result
+    PutsPlaced terms earlier (items_trees (number_at earlier) (tree_at earlier) is) (items_positions is)
+        (AreItemsTooDeep is) (item_shapes shape values) result
 
 -- the result is the value that the call puts in the children's places, or a refusal with a reason
-pub record GivesParts {H : Type 0} (terms : Terms) (earlier : List Told) (ps : List Part) (shapes : H → Shapes) (result : Result H Refusal) : Type 0 where
+pub record GivesParts {H : Type 0} (terms : Terms) (earlier : List Told) (ps : List Part) (shapes : H → Shapes)
+    (result : Result H Refusal) : Type 0 where
   pub ok : IfOk result (λ h. ArePartsOf terms earlier ps (shapes h))
   pub err : IfErr result (IsUnbuilt (HasFullTable terms) earlier (parts_positions ps) (ArePartsTooDeep ps))
 
@@ -218,13 +246,16 @@ pub record IsKindOf (terms : Terms) (earlier : List Told) (form : CallForm) (s :
   pub deep : shape.IsTooDeep s ↔ IsFormTooDeep form
 
 -- the result is such a kind, or a refusal with a reason
-pub record GivesKind {K : Type 0} (terms : Terms) (earlier : List Told) (form : CallForm) (shape : K → Shape) (result : Result K Refusal) : Type 0 where
+pub record GivesKind {K : Type 0} (terms : Terms) (earlier : List Told) (form : CallForm) (shape : K → Shape)
+    (result : Result K Refusal) : Type 0 where
   pub ok : IfOk result (λ k. IsKindOf terms earlier form (shape k))
   pub err : IfErr result (IsUnbuilt (HasFullTable terms) earlier (form_positions form) (IsFormTooDeep form))
 
 -- the result is the record under the predicate's binder, or a refusal with a reason
-pub record GivesRecord {K : Type 0} (terms : Terms) (earlier : List Told) (r : RecordCall) (form : K → RecordForm) (result : Result K Refusal) : Type 0 where
-  pub ok : IfOk result (λ k. IsPlaced terms earlier (record_tree (number_at earlier) (tree_at earlier) r) (parts_positions r.parts) (ArePartsTooDeep r.parts) (record_shape (form k)))
+pub record GivesRecord {K : Type 0} (terms : Terms) (earlier : List Told) (r : RecordCall) (form : K → RecordForm)
+    (result : Result K Refusal) : Type 0 where
+  pub ok : IfOk result (λ k. IsPlaced terms earlier (record_tree (number_at earlier) (tree_at earlier) r)
+      (parts_positions r.parts) (ArePartsTooDeep r.parts) (record_shape (form k)))
   pub err : IfErr result (IsUnbuilt (HasFullTable terms) earlier (parts_positions r.parts) (ArePartsTooDeep r.parts))
 
 -- the clauses are those at the positions
@@ -238,43 +269,55 @@ pub record IsArgumentOf (terms : Terms) (earlier : List Told) (call : ArgCall) (
   pub means : argument_of terms.rows a ≡ argument earlier call
 
 -- the result is that argument, or a refusal with a reason
-pub record GivesArgument (terms : Terms) (earlier : List Told) (call : ArgCall) (result : Result GenericArgKind Refusal) : Type 0 where
+pub record GivesArgument (terms : Terms) (earlier : List Told) (call : ArgCall) (result : Result GenericArgKind Refusal)
+    : Type 0 where
   pub ok : IfOk result (IsArgumentOf terms earlier call)
-  pub err : IfErr result (IsUnbuilt (HasFullTable terms) earlier (item_positions (arg_item call)) (IsItemTooDeep (arg_item call)))
+  pub err : IfErr result (IsUnbuilt (HasFullTable terms) earlier (item_positions (arg_item call))
+      (IsItemTooDeep (arg_item call)))
 
 -- the arguments are those that the call names
-pub record AreArgumentsOf (terms : Terms) (earlier : List Told) (calls : List ArgCall) (args : List GenericArgKind) : Type 0 where
+pub record AreArgumentsOf (terms : Terms) (earlier : List Told) (calls : List ArgCall) (args : List GenericArgKind)
+    : Type 0 where
   pub items : AreItemsOf terms earlier (arg_items calls) (item_shapes arg_shape args)
   pub means : built_arguments terms.rows args ≡ arguments earlier calls
 
 -- the result is those arguments, or a refusal with a reason
-pub record GivesArguments (terms : Terms) (earlier : List Told) (calls : List ArgCall) (result : Result (Vec GenericArgKind Global) Refusal) : Type 0 where
+pub record GivesArguments (terms : Terms) (earlier : List Told) (calls : List ArgCall)
+    (result : Result (Vec GenericArgKind Global) Refusal) : Type 0 where
   pub ok : IfOk result (λ args. AreArgumentsOf terms earlier calls args.items)
-  pub err : IfErr result (IsUnbuilt (HasFullTable terms) earlier (items_positions (arg_items calls)) (AreItemsTooDeep (arg_items calls)))
+  pub err : IfErr result (IsUnbuilt (HasFullTable terms) earlier (items_positions (arg_items calls))
+      (AreItemsTooDeep (arg_items calls)))
 
 -- what is declared is what the call says
-pub record IsDeclaredBy (terms : Terms) (earlier : List Told) (call : DeclarationKindCall) (kind : DeclarationKind) : Type 0 where
+pub record IsDeclaredBy (terms : Terms) (earlier : List Told) (call : DeclarationKindCall) (kind : DeclarationKind)
+    : Type 0 where
   pub sorted : sort_of kind ≡ declared_sort call
   pub item : item_label kind ≡ declared_item (number_at earlier) call
   pub parts : AreParts (size terms.rows) (declared_shapes kind)
-  pub means : fill_all (meaning terms.rows) (declared_shapes kind) ≡ declared_trees (number_at earlier) (tree_at earlier) call
+  pub means : fill_all (meaning terms.rows) (declared_shapes kind)
+      ≡ declared_trees (number_at earlier) (tree_at earlier) call
   pub named : AreTerms earlier (declared_positions call)
 
 -- the result is that, or a refusal with a reason
-pub record GivesDeclared (terms : Terms) (earlier : List Told) (call : DeclarationKindCall) (result : Result DeclarationKind Refusal) : Type 0 where
+pub record GivesDeclared (terms : Terms) (earlier : List Told) (call : DeclarationKindCall)
+    (result : Result DeclarationKind Refusal) : Type 0 where
   pub ok : IfOk result (IsDeclaredBy terms earlier call)
   pub err : IfErr result (IsUnbuilt (HasFullTable terms) earlier (declared_positions call) ⊥)
 
 -- the signature has these variables, the types at the positions, and these other parts
-pub record IsSigOf (terms : Terms) (earlier : List Told) (vars : List VariableCall) (positions : List ℕ) (kind : FnSigKind) (sig : EarlyBinder (Binder FnSig)) : Type 0 where
+pub record IsSigOf (terms : Terms) (earlier : List Told) (vars : List VariableCall) (positions : List ℕ)
+    (kind : FnSigKind) (sig : EarlyBinder (Binder FnSig)) : Type 0 where
   pub variables : IsVariableListOf terms (number_at earlier) vars sig.value.bound_vars
-  pub types : IsPartOf terms earlier (a_list TypeLists (terms_at Types positions)) (tys_shape sig.value.value.inputs_and_output)
+  pub types : IsPartOf terms earlier (a_list TypeLists (terms_at Types positions))
+      (tys_shape sig.value.value.inputs_and_output)
   pub other : sig.value.value.fn_sig_kind ≡ kind
 
 -- the result is that signature, or a refusal with a reason
-pub record GivesSig (terms : Terms) (earlier : List Told) (vars : List VariableCall) (positions : List ℕ) (kind : FnSigKind) (result : Result (EarlyBinder (Binder FnSig)) Refusal) : Type 0 where
+pub record GivesSig (terms : Terms) (earlier : List Told) (vars : List VariableCall) (positions : List ℕ)
+    (kind : FnSigKind) (result : Result (EarlyBinder (Binder FnSig)) Refusal) : Type 0 where
   pub ok : IfOk result (IsSigOf terms earlier vars positions kind)
-  pub err : IfErr result (IsUnbuilt (HasFullTable terms) earlier (part_positions (a_list TypeLists (terms_at Types positions))) ⊥)
+  pub err : IfErr result (IsUnbuilt (HasFullTable terms) earlier
+      (part_positions (a_list TypeLists (terms_at Types positions))) ⊥)
 
 -- the result may be the call's answer, if the terms grow from the old ones to the new ones
 pub record Answers (old new : Terms) (earlier : List Told) (call : Call) (result : Result Answer Refusal) : Type 0 where

@@ -1,14 +1,34 @@
--- What building calls build: the tree over the trees and the ids at the positions that they name, and what they ask of what is there.
+-- What building calls build: the tree over the trees and the ids at the positions that they name, and what they ask of
+-- what is there.
 use Rattle.std.specs.Prelude.{ℕ, ◌≤◌, List, [], ◌∷◌, ◌++◌, map, length, All, ◌⊎◌, ⊤, Option, Some, None}
 use Rattle.std.specs.String.{string_bytes}
-use Rattle.tt_kinds.specs.Label.{Name, Sort, region_sort, type_sort, const_sort, RegionName, anonymous, printed, named, environment, VarKind, region_variable, type_variable, const_variable, Entry, static_region, erased_region, region_var, error_region, late_param_region, placeholder_region, TypeLabel, bool_type, char_type, int_type, uint_type, float_type, str_type, never_type, placeholder_type, infer_type, error_type, ref_type, raw_ptr_type, slice_type, tuple_type, fn_ptr_type, foreign_type, adt_type, fn_def_type, array_type, closure_type, coroutine_closure_type, coroutine_type, coroutine_witness_type, alias_type, infer_const, placeholder_const, unevaluated_const, leaf_const, branch_const, error_const, expr_const, pat_type, unsafe_binder_type, range_pattern, or_pattern, not_null_pattern, unsafe_binder_record, trait_record, host_effect_record, region_outlives_record, type_outlives_record, projection_record, const_has_type_record, well_formed_record, const_evaluatable_record, unstable_feature_record, dyn_compatible_record, subtype_record, coerce_record, const_equate_record, ambiguous_record, normalizes_to_record, alias_relate_record, dynamic_type, existential_trait_record, existential_projection_record, auto_trait_record, RecordLabel, fn_sig_tys_record, Label, type_label, const_label, pattern_label, predicate_label, existential_label, clause_list_label, list_label, record_label, var_list_label, declaration_label, ItemLabel, trait_item, assoc_ty_item, inherent_item, fn_item, plain_item}
+use Rattle.tt_kinds.specs.Label.{Name, Sort, region_sort, type_sort, const_sort, RegionName, anonymous, printed, named}
+use Rattle.tt_kinds.specs.Label.{environment, VarKind, region_variable, type_variable, const_variable, Entry}
+use Rattle.tt_kinds.specs.Label.{static_region, erased_region, region_var, error_region, late_param_region}
+use Rattle.tt_kinds.specs.Label.{placeholder_region, TypeLabel, bool_type, char_type, int_type, uint_type, float_type}
+use Rattle.tt_kinds.specs.Label.{str_type, never_type, placeholder_type, infer_type, error_type, ref_type, raw_ptr_type}
+use Rattle.tt_kinds.specs.Label.{slice_type, tuple_type, fn_ptr_type, foreign_type, adt_type, fn_def_type, array_type}
+use Rattle.tt_kinds.specs.Label.{closure_type, coroutine_closure_type, coroutine_type, coroutine_witness_type}
+use Rattle.tt_kinds.specs.Label.{alias_type, infer_const, placeholder_const, unevaluated_const, leaf_const}
+use Rattle.tt_kinds.specs.Label.{branch_const, error_const, expr_const, pat_type, unsafe_binder_type, range_pattern}
+use Rattle.tt_kinds.specs.Label.{or_pattern, not_null_pattern, unsafe_binder_record, trait_record, host_effect_record}
+use Rattle.tt_kinds.specs.Label.{region_outlives_record, type_outlives_record, projection_record, const_has_type_record}
+use Rattle.tt_kinds.specs.Label.{well_formed_record, const_evaluatable_record, unstable_feature_record}
+use Rattle.tt_kinds.specs.Label.{dyn_compatible_record, subtype_record, coerce_record, const_equate_record}
+use Rattle.tt_kinds.specs.Label.{ambiguous_record, normalizes_to_record, alias_relate_record, dynamic_type}
+use Rattle.tt_kinds.specs.Label.{existential_trait_record, existential_projection_record, auto_trait_record}
+use Rattle.tt_kinds.specs.Label.{RecordLabel, fn_sig_tys_record, Label, type_label, const_label, pattern_label}
+use Rattle.tt_kinds.specs.Label.{predicate_label, existential_label, clause_list_label, list_label, record_label}
+use Rattle.tt_kinds.specs.Label.{var_list_label, declaration_label, ItemLabel, trait_item, assoc_ty_item, inherent_item}
+use Rattle.tt_kinds.specs.Label.{fn_item, plain_item}
 use Rattle.tt_kinds.specs.Tree as tree
 use Rattle.tt_kinds.specs.Tree.{Depth, Tree, Forest, none, also}
 use Rattle.tt_kinds.specs.Bound.{depth}
 use Rattle.tt_kinds.specs.Shape.{IsGreatest}
 use Rattle.tt_interner.specs.Stored.{most_in_place}
 use Rattle.tt_kinds.specs.declared.table.Table.{Table}
-use Rattle.tt_kinds.specs.declared.table.Table.TheVariants.{Types, Consts, Patterns, TypeLists, ConstLists, ArgLists, PatternLists, ExistentialLists}
+use Rattle.tt_kinds.specs.declared.table.Table.TheVariants.{Types, Consts, Patterns, TypeLists, ConstLists, ArgLists}
+use Rattle.tt_kinds.specs.declared.table.Table.TheVariants.{PatternLists, ExistentialLists}
 use Rattle.tt_kinds.specs.declared.bound.BoundTyKind.{BoundTyKind}
 use Rattle.tt_kinds.specs.declared.bound.BoundTyKind.TheVariants as bound_ty_kind
 use Rattle.tt_kinds.specs.declared.bound.BoundConst.{BoundConst}
@@ -19,7 +39,8 @@ use Rattle.type_terms.specs.declared.run.call.BoundTyKindCall.TheVariants as ty_
 use Rattle.type_terms.specs.declared.run.call.VariableCall.{VariableCall}
 use Rattle.type_terms.specs.declared.run.call.VariableCall.TheVariants as variable
 use Rattle.type_terms.specs.declared.run.call.RegionCall.{RegionCall}
-use Rattle.type_terms.specs.declared.run.call.RegionCall.TheVariants.{ReEarlyParam, ReBound, ReLateParam, ReStatic, ReVar, RePlaceholder, ReErased, ReError}
+use Rattle.type_terms.specs.declared.run.call.RegionCall.TheVariants.{ReEarlyParam, ReBound, ReLateParam, ReStatic}
+use Rattle.type_terms.specs.declared.run.call.RegionCall.TheVariants.{ReVar, RePlaceholder, ReErased, ReError}
 use Rattle.type_terms.specs.declared.run.call.ArgCall.{ArgCall}
 use Rattle.type_terms.specs.declared.run.call.ArgCall.TheVariants as arg
 use Rattle.tt_kinds.specs.declared.alias.AliasTyKind.{AliasTyKind}
@@ -143,11 +164,13 @@ term_part (term.Const p) = one (a_term Consts p)
 -- the values that can be built, of the type at the position
 abbrev pub value_form : ℕ → ValTreeCall → CallForm
 value_form t (valtree.Leaf s) = plain (const_label (leaf_const s.bits s.size)) (one (a_term Types t) ∷ [])
-value_form t (valtree.Branch cs) = plain (const_label branch_const) (one (a_term Types t) ∷ a_list ConstLists (terms_at Consts cs.items) ∷ [])
+value_form t (valtree.Branch cs) = plain (const_label branch_const)
+    (one (a_term Types t) ∷ a_list ConstLists (terms_at Consts cs.items) ∷ [])
 
 -- the patterns that can be built
 abbrev pub pat_form : PatCall → CallForm
-pat_form (pat.Range start end) = plain (pattern_label range_pattern) (one (a_term Consts start) ∷ one (a_term Consts end) ∷ [])
+pat_form (pat.Range start end) = plain (pattern_label range_pattern)
+    (one (a_term Consts start) ∷ one (a_term Consts end) ∷ [])
 pat_form (pat.Or ps) = plain (pattern_label or_pattern) (a_list PatternLists (terms_at Patterns ps.items) ∷ [])
 pat_form pat.NotNull = plain (pattern_label not_null_pattern) []
 
@@ -227,8 +250,10 @@ module _ (ids : ℕ → ℕ) where
 
   -- the existential predicates that can be built, without their binder
   abbrev pub existential_record : ExistentialKindCall → RecordCall
-  existential_record (existential.Trait p args) = labelled (existential_trait_record (ids p)) (args_part args.items ∷ [])
-  existential_record (existential.Projection p args t) = labelled (existential_projection_record (ids p)) (args_part args.items ∷ term_part t ∷ [])
+  existential_record (existential.Trait p args) = labelled (existential_trait_record (ids p))
+      (args_part args.items ∷ [])
+  existential_record (existential.Projection p args t) =
+      labelled (existential_projection_record (ids p)) (args_part args.items ∷ term_part t ∷ [])
   existential_record (existential.AutoTrait p) = labelled (auto_trait_record (ids p)) []
 
   -- the existential predicates that can be built
@@ -247,7 +272,8 @@ module _ (ids : ℕ → ℕ) where
   ty_form ty.Never = plain (type_label never_type) []
   ty_form (ty.Param index name) = param type_sort index (string_bytes name)
   ty_form (ty.Bound i var name) = bound type_sort (depth i) (ty_entry var name)
-  ty_form (ty.Placeholder u var name) = plain (type_label (placeholder_type (record { universe = u; bound = record { var = var; kind = ty_called name } }))) []
+  ty_form (ty.Placeholder u var name) = plain (type_label
+      (placeholder_type (record { universe = u; bound = record { var = var; kind = ty_called name } }))) []
   ty_form (ty.Infer i) = plain (type_label (infer_type i)) []
   ty_form (ty.Error e) = plain (type_label (error_type e.0)) []
   ty_form (ty.Ref r t m) = plain (type_label (ref_type m)) (one (a_region r) ∷ one (a_term Types t) ∷ [])
@@ -256,11 +282,13 @@ module _ (ids : ℕ → ℕ) where
   ty_form (ty.Array t c) = plain (type_label array_type) (one (a_term Types t) ∷ one (a_term Consts c) ∷ [])
   ty_form (ty.Tuple ts) = plain (type_label tuple_type) (a_list TypeLists (terms_at Types ts.items) ∷ [])
   ty_form (ty.FnPtr vars ts h) =
-      under (type_label (fn_ptr_type h)) (map variable_kind vars.items) fn_sig_tys_record (a_list TypeLists (terms_at Types ts.items) ∷ [])
+      under (type_label (fn_ptr_type h)) (map variable_kind vars.items) fn_sig_tys_record
+          (a_list TypeLists (terms_at Types ts.items) ∷ [])
   ty_form (ty.Item i args) = plain (type_label (item_type i)) (args_part args.items ∷ [])
   ty_form (ty.Dynamic xs r) = trait_object (map existential_form xs.items) r
   ty_form (ty.Pat t p) = plain (type_label pat_type) (one (a_term Types t) ∷ one (a_term Patterns p) ∷ [])
-  ty_form (ty.UnsafeBinder vars t) = under (type_label unsafe_binder_type) (map variable_kind vars.items) unsafe_binder_record (one (a_term Types t) ∷ [])
+  ty_form (ty.UnsafeBinder vars t) = under (type_label unsafe_binder_type)
+      (map variable_kind vars.items) unsafe_binder_record (one (a_term Types t) ∷ [])
 
   -- the constants that can be built
   abbrev pub const_form : ConstCall → CallForm
@@ -278,27 +306,34 @@ module _ (ids : ℕ → ℕ) where
   clause_record (clause.Trait p args) = labelled (trait_record (ids p)) (args_part args.items ∷ [])
   clause_record (clause.RegionOutlives r s) = labelled region_outlives_record (one (a_region r) ∷ one (a_region s) ∷ [])
   clause_record (clause.TypeOutlives t r) = labelled type_outlives_record (one (a_term Types t) ∷ one (a_region r) ∷ [])
-  clause_record (clause.Projection p args t) = labelled (projection_record (ids p)) (args_part args.items ∷ term_part t ∷ [])
-  clause_record (clause.ConstArgHasType c t) = labelled const_has_type_record (one (a_term Consts c) ∷ one (a_term Types t) ∷ [])
+  clause_record (clause.Projection p args t) = labelled (projection_record (ids p))
+      (args_part args.items ∷ term_part t ∷ [])
+  clause_record (clause.ConstArgHasType c t) = labelled const_has_type_record
+      (one (a_term Consts c) ∷ one (a_term Types t) ∷ [])
   clause_record (clause.WellFormed t) = labelled well_formed_record (term_part t ∷ [])
   clause_record (clause.ConstEvaluatable c) = labelled const_evaluatable_record (one (a_term Consts c) ∷ [])
-  clause_record (clause.HostEffect p args constness) = labelled (host_effect_record (ids p) constness) (args_part args.items ∷ [])
+  clause_record (clause.HostEffect p args constness) = labelled (host_effect_record (ids p) constness)
+      (args_part args.items ∷ [])
   clause_record (clause.UnstableFeature name) = labelled (unstable_feature_record (string_bytes name)) []
 
   -- the predicates that can be built, without their binder
   abbrev pub predicate_record : PredicateKindCall → RecordCall
   predicate_record (predicate.Clause c) = clause_record c
   predicate_record (predicate.DynCompatible p) = labelled (dyn_compatible_record (ids p)) []
-  predicate_record (predicate.Subtype expected a b) = labelled (subtype_record expected) (one (a_term Types a) ∷ one (a_term Types b) ∷ [])
+  predicate_record (predicate.Subtype expected a b) = labelled (subtype_record expected)
+      (one (a_term Types a) ∷ one (a_term Types b) ∷ [])
   predicate_record (predicate.Coerce a b) = labelled coerce_record (one (a_term Types a) ∷ one (a_term Types b) ∷ [])
-  predicate_record (predicate.ConstEquate a b) = labelled const_equate_record (one (a_term Consts a) ∷ one (a_term Consts b) ∷ [])
+  predicate_record (predicate.ConstEquate a b) = labelled const_equate_record
+      (one (a_term Consts a) ∷ one (a_term Consts b) ∷ [])
   predicate_record predicate.Ambiguous = labelled ambiguous_record []
-  predicate_record (predicate.NormalizesTo p args t) = labelled (normalizes_to_record (ids p)) (args_part args.items ∷ term_part t ∷ [])
+  predicate_record (predicate.NormalizesTo p args t) = labelled (normalizes_to_record (ids p))
+      (args_part args.items ∷ term_part t ∷ [])
   predicate_record (predicate.AliasRelate a b r) = labelled (alias_relate_record r) (term_part a ∷ term_part b ∷ [])
 
   -- the predicates that can be built
   abbrev pub predicate_form : PredicateCall → CallForm
-  predicate_form p = under predicate_label (map variable_kind p.vars.items) (predicate_record p.kind).label (predicate_record p.kind).parts
+  predicate_form p = under predicate_label (map variable_kind p.vars.items) (predicate_record p.kind).label
+      (predicate_record p.kind).parts
 
 -- clauses as items of a list
 abbrev pub clause_items : List ℕ → List Item
@@ -589,12 +624,14 @@ module _ (ids : ℕ → ℕ) (at : ℕ → Tree Depth) where
   -- the trees of the terms in what a call declares: a function's variables, and its types
   abbrev pub declared_trees : DeclarationKindCall → Forest Depth
   declared_trees (declares.Fn vars ts kind) =
-      also (tree.node (var_list_label (map (variable_kind ids) vars.items)) none) (also (part_tree (a_list TypeLists (terms_at Types ts.items))) none)
+      also (tree.node (var_list_label (map (variable_kind ids) vars.items)) none)
+          (also (part_tree (a_list TypeLists (terms_at Types ts.items))) none)
   declared_trees _ = none
 
   -- the tree of the declaration that a call makes, with its place among the declarations
   abbrev pub declaration_tree : ℕ → DeclareCall → Tree Depth
-  declaration_tree n d = tree.node (declaration_label n (declared_item ids d.kind) (string_bytes d.name)) (declared_trees d.kind)
+  declaration_tree n d = tree.node (declaration_label n (declared_item ids d.kind) (string_bytes d.name))
+      (declared_trees d.kind)
 
   -- the trees of children, in order
   abbrev pub parts_trees : List Part → Forest Depth
@@ -623,4 +660,5 @@ module _ (ids : ℕ → ℕ) (at : ℕ → Tree Depth) where
   form_tree (bound s d e) = tree.bound s d e
   form_tree (plain l ps) = tree.term l (parts_trees ps)
   form_tree (under l vs m ps) = tree.term l (also (tree.binder vs (tree.node (record_label m) (parts_trees ps))) none)
-  form_tree (trait_object xs r) = tree.term (type_label dynamic_type) (also (existentials_tree xs) (also (region_tree ids r) none))
+  form_tree (trait_object xs r) = tree.term (type_label dynamic_type)
+      (also (existentials_tree xs) (also (region_tree ids r) none))

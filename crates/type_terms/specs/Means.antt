@@ -1,5 +1,6 @@
 -- The answers that a list of calls may have. Nothing is looked up in a table: each handle is replaced by its tree.
-use Rattle.std.specs.Prelude.{◌≡◌, ◌≢◌, ◌↔◌, ◌⊎◌, ℕ, ◌<◌, ◌≤◌, suc, zero, Bool, false, IsTrue, List, [], ◌∷◌, ◌++◌, map, Option, Some, None, IsSomeAnd, slice_get, length, ⊤}
+use Rattle.std.specs.Prelude.{◌≡◌, ◌≢◌, ◌↔◌, ◌⊎◌, ℕ, ◌<◌, ◌≤◌, suc, zero, Bool, false, IsTrue, List, [], ◌∷◌, ◌++◌, map}
+use Rattle.std.specs.Prelude.{Option, Some, None, IsSomeAnd, slice_get, length, ⊤}
 use Rattle.tt_index.specs.declared.refusal.Refusal.{Refusal}
 use Rattle.tt_index.specs.declared.refusal.Refusal.TheVariants.{Memory, TableFull, GreatestIndex, NoSuchAnswer}
 use Rattle.tt_kinds.specs.Label.{Sort, region_sort, type_sort, const_sort, erased_region}
@@ -23,7 +24,12 @@ use Rattle.type_terms.specs.declared.run.call.ArgCall.TheVariants as arg
 use Rattle.type_terms.specs.declared.run.call.Call.{Call}
 use Rattle.type_terms.specs.declared.run.call.DeclareCall.{DeclareCall}
 use Rattle.type_terms.specs.declared.run.call.Call.TheVariants as call
-use Rattle.type_terms.specs.CallForm.{CallForm, IsShort, IsOfShortLists, form_tree, Want, of_table, of_clause, as_at, of_any, with_flags, of_id, of_any_id, Named, arg_items, args_part, args_ids, ty_ids, const_ids, predicate_ids, ty_form, const_form, pat_form, predicate_form, declared_sort, declared_ids, declared_positions, declaration_tree, clause_items, clauses_tree, form_positions, items_positions, part_positions, part_tree, region_tree, IsFormTooDeep, IsPartTooDeep, AreItemsTooDeep}
+use Rattle.type_terms.specs.CallForm.{CallForm, IsShort, IsOfShortLists, form_tree, Want, of_table, of_clause, as_at}
+use Rattle.type_terms.specs.CallForm.{of_any, with_flags, of_id, of_any_id, Named, arg_items, args_part, args_ids}
+use Rattle.type_terms.specs.CallForm.{ty_ids, const_ids, predicate_ids, ty_form, const_form, pat_form, predicate_form}
+use Rattle.type_terms.specs.CallForm.{declared_sort, declared_ids, declared_positions, declaration_tree, clause_items}
+use Rattle.type_terms.specs.CallForm.{clauses_tree, form_positions, items_positions, part_positions, part_tree}
+use Rattle.type_terms.specs.CallForm.{region_tree, IsFormTooDeep, IsPartTooDeep, AreItemsTooDeep}
 use Rattle.type_terms.specs.Told.{Setting, Told, term, declared, truth, info, refused, bad}
 
 -- a term with its table
@@ -180,7 +186,8 @@ erased t = placed 0 t (map (λ m. tree.region erased_region) (met 0 t))
 abbrev pub folded : List Told → Call → Option (Tree Place)
 folded earlier (call.Shift p n) = Some (move n (read 0 (tree_at earlier p)))
 folded earlier (call.EraseRegions p) = Some (read 0 (erased (tree_at earlier p)))
-folded earlier (call.Instantiate p args) = Some (put (readings (arguments earlier args.items)) (read 0 (tree_at earlier p)))
+folded earlier (call.Instantiate p args) = Some (put (readings (arguments earlier args.items))
+    (read 0 (tree_at earlier p)))
 folded earlier _ = None
 
 -- the table of the call's result
@@ -201,7 +208,8 @@ abbrev pub Gives : List Told → Call → Tree Depth → Type 0
 Gives earlier (call.Ty k) t = t ≡ form_tree (number_at earlier) (tree_at earlier) (ty_form (number_at earlier) k)
 Gives earlier (call.Const k) t = t ≡ form_tree (number_at earlier) (tree_at earlier) (const_form (number_at earlier) k)
 Gives earlier (call.Pat k) t = t ≡ form_tree (number_at earlier) (tree_at earlier) (pat_form k)
-Gives earlier (call.Predicate k) t = t ≡ form_tree (number_at earlier) (tree_at earlier) (predicate_form (number_at earlier) k)
+Gives earlier (call.Predicate k) t = t ≡ form_tree (number_at earlier) (tree_at earlier)
+    (predicate_form (number_at earlier) k)
 Gives earlier (call.Clauses ps) t = t ≡ clauses_tree (number_at earlier) (tree_at earlier) ps.items
 Gives earlier (call.Args args) t = t ≡ part_tree (number_at earlier) (tree_at earlier) (args_part args.items)
 Gives earlier (call.EraseRegions p) t = t ≡ erased (tree_at earlier p)
@@ -224,7 +232,8 @@ IsKnown s earlier table u = s.stored table u ⊎ IsTold earlier table u
 
 -- the term that is built has no long list, and it is there
 abbrev pub IsThere : Setting → List Told → Table → CallForm → Type 0
-IsThere s earlier table f = IsOfShortLists f × IsKnown s earlier table (form_tree (number_at earlier) (tree_at earlier) f)
+IsThere s earlier table f = IsOfShortLists f × IsKnown s earlier table
+    (form_tree (number_at earlier) (tree_at earlier) f)
 
 -- whatever the arguments are, the term stays: no parameter occurs in it, and no region variable is exposed
 abbrev pub IsUnchanged : Term → Type 0
@@ -240,20 +249,24 @@ IsParameterOf region_sort i u = ⊥
 abbrev pub IsParameter : Term → Type 0
 IsParameter u = (s : Sort) × (i : ℕ) × IsParameterOf s i u
 
--- the call adds nothing: the term that it builds is there, or the term that it folds stays as it is or is itself a parameter
+-- the call adds nothing: the term that it builds is there, or the term that it folds stays as it is or is itself a
+-- parameter
 abbrev pub AddsNothing : Setting → List Told → Call → Type 0
 AddsNothing s earlier (call.Ty k) = IsThere s earlier Types (ty_form (number_at earlier) k)
 AddsNothing s earlier (call.Const k) = IsThere s earlier Consts (const_form (number_at earlier) k)
 AddsNothing s earlier (call.Pat k) = IsThere s earlier Patterns (pat_form k)
 AddsNothing s earlier (call.Predicate k) = IsThere s earlier Predicates (predicate_form (number_at earlier) k)
 AddsNothing s earlier (call.Clauses ps) =
-    (length ps.items ≤ most_in_place) × IsKnown s earlier ClauseLists (clauses_tree (number_at earlier) (tree_at earlier) ps.items)
+    (length ps.items ≤ most_in_place) × IsKnown s earlier ClauseLists
+    (clauses_tree (number_at earlier) (tree_at earlier) ps.items)
 AddsNothing s earlier (call.Args args) =
-    IsShort (args_part args.items) × IsKnown s earlier ArgLists (part_tree (number_at earlier) (tree_at earlier) (args_part args.items))
+    IsShort (args_part args.items) × IsKnown s earlier ArgLists
+        (part_tree (number_at earlier) (tree_at earlier) (args_part args.items))
 AddsNothing s earlier (call.Shift p n) = (n ≡ 0) ⊎ (outer_binder (tree_at earlier p) ≡ 0)
 AddsNothing s earlier (call.EraseRegions p) = met 0 (tree_at earlier p) ≡ []
 AddsNothing s earlier (call.Instantiate p args) =
-    ((args.items ≡ []) × (holds_param (tree_at earlier p) ≡ false)) ⊎ IsSomeAnd (term_at earlier p) (λ u. IsUnchanged u ⊎ IsParameter u)
+    ((args.items ≡ []) × (holds_param (tree_at earlier p) ≡ false))
+    ⊎ IsSomeAnd (term_at earlier p) (λ u. IsUnchanged u ⊎ IsParameter u)
 AddsNothing s earlier _ = ⊥
 
 -- the call may need memory or a row
@@ -267,7 +280,8 @@ pub data MayRefuse (s : Setting) (earlier : List Told) (c : Call) (r : Refusal) 
   no_term : (NamesTerms earlier c → ⊥) → r ≡ NoSuchAnswer → MayRefuse s earlier c r
   too_deep : IsTooDeep earlier c → r ≡ GreatestIndex → MayRefuse s earlier c r
   -- the result of the fold doesn't fit
-  unfit : NamesTerms earlier c → IsSomeAnd (folded earlier c) (λ t. Fits t → ⊥) → r ≡ GreatestIndex → MayRefuse s earlier c r
+  unfit : NamesTerms earlier c → IsSomeAnd (folded earlier c) (λ t. Fits t → ⊥) → r ≡ GreatestIndex
+      → MayRefuse s earlier c r
   unsuited : NamesTerms earlier c → HasCause earlier c r → MayRefuse s earlier c r
 
 -- the truth value is whether the two terms are the same
@@ -277,7 +291,8 @@ GivesTruth earlier _ b = ⊥
 
 -- the flags and the outer exclusive binder are the term's
 abbrev pub GivesInfo : List Told → Call → ℕ → ℕ → Type 0
-GivesInfo earlier (call.Info p) flags outer = (flags ≡ scan (tree_at earlier p)) × (outer ≡ outer_binder (tree_at earlier p))
+GivesInfo earlier (call.Info p) flags outer = (flags ≡ scan (tree_at earlier p))
+    × (outer ≡ outer_binder (tree_at earlier p))
 GivesInfo earlier _ flags outer = ⊥
 
 -- the number is above each id that was told
@@ -287,7 +302,8 @@ IsAbove (declared s m t ∷ ts) n = (m < n) × IsAbove ts n
 IsAbove (t ∷ ts) n = IsAbove ts n
 
 -- the id is new, and names the declaration that the call makes: its sort and its tree
-pub record GivesId (s : Setting) (earlier : List Told) (call : DeclareCall) (sort : DeclarationSort) (n : ℕ) (t : Tree Depth) : Type 0 where
+pub record GivesId (s : Setting) (earlier : List Told) (call : DeclareCall) (sort : DeclarationSort) (n : ℕ)
+    (t : Tree Depth) : Type 0 where
   pub sorted : sort ≡ declared_sort call.kind
   pub declares : t ≡ declaration_tree (number_at earlier) (tree_at earlier) n call
   -- no declaration that was there before the calls has its number, and none that was told
@@ -302,7 +318,8 @@ Declares s earlier _ sort n t = ⊥
 -- the call may have this answer after what was told earlier
 abbrev pub IsAllowed : Setting → List Told → Call → Told → Type 0
 IsAllowed s earlier c (term table t) =
-    NamesTerms earlier c × (IsTooDeep earlier c → ⊥) × (given_table earlier c ≡ Some table) × Gives earlier c t × ((r : Refusal) → HasCause earlier c r → ⊥)
+    NamesTerms earlier c × (IsTooDeep earlier c → ⊥) × (given_table earlier c ≡ Some table) × Gives earlier c t
+        × ((r : Refusal) → HasCause earlier c r → ⊥)
 IsAllowed s earlier c (declared sort n t) = NamesTerms earlier c × Declares s earlier c sort n t
 IsAllowed s earlier c (truth b) = NamesTerms earlier c × GivesTruth earlier c b
 IsAllowed s earlier c (info flags outer) = NamesTerms earlier c × GivesInfo earlier c flags outer

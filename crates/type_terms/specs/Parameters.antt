@@ -38,6 +38,8 @@ pub record IsArgumentAt (earlier : List Answer) (args : List ArgCall) (p : Param
 
 -- the parameter has no such argument: none of its sort is there, or the argument names no term
 pub data LacksArgument (earlier : List Answer) (args : List ArgCall) (p : Parameter) (r : Refusal) : Type 0 where
-  none_given : ((e : List Told) (name : Name) → Cause (param (parameter_sort p) (parameter_index p) name) (arguments e args) r) → LacksArgument earlier args p r
+  none_given : ((e : List Told) (name : Name) → Cause (param (parameter_sort p) (parameter_index p) name)
+      (arguments e args) r) → LacksArgument earlier args p r
   not_told : (position : ℕ) → slice_get args (parameter_index p) ≡ Some (term_arg p position)
-      → ((rows : List Row) → term_at (told_all rows earlier) position ≡ None) → r ≡ NoSuchAnswer → LacksArgument earlier args p r
+      → ((rows : List Row) → term_at (told_all rows earlier) position ≡ None) → r ≡ NoSuchAnswer
+      → LacksArgument earlier args p r

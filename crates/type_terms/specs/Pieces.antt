@@ -38,7 +38,8 @@ child_work (also t ts) = inner_work t
 module _ (rows : List Row) where
   -- the text of a piece
   abbrev pub piece_text : Piece → List ℕ
-  piece_text p = place_text p.style p.place ++ child_text (names rows) [] p.style (fill_all (meaning rows) (child_shapes p.child))
+  piece_text p = place_text p.style p.place ++ child_text (names rows) [] p.style
+      (fill_all (meaning rows) (child_shapes p.child))
 
   -- the texts of pieces, the last of which comes first
   abbrev pub pieces_text : List Piece → List ℕ
@@ -68,7 +69,8 @@ module _ (rows : List Row) where
     pub parts : ArePieces old → ArePieces new
 
   -- the text was begun; if memory was refused, the old text is still in front
-  pub record Opens {T E : Type 0} (result : Result T E) (a b : List ℕ) (old new : List Piece) (whole : List ℕ) (work : ℕ) : Type 0 where
+  pub record Opens {T E : Type 0} (result : Result T E) (a b : List ℕ) (old new : List Piece) (whole : List ℕ)
+      (work : ℕ) : Type 0 where
     pub opened : OnOk result (Opened a b old new whole work)
     pub kept : Begins a b
 

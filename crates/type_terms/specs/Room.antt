@@ -7,7 +7,9 @@ use Rattle.tt_kinds.specs.Tree.{Tree, Depth, node, none}
 use Rattle.tt_kinds.specs.Shape.{Shape, fill, IsPart}
 use Rattle.tt_interner.specs.Rows.{Row, text_row, size, meaning, IsNew, AreRows}
 use Rattle.tt_interner.specs.Stored.{most_in_place}
-use Rattle.type_terms.specs.CallForm.{CallForm, Part, RecordCall, ExistentialForm, IsShort, AreShort, IsShortExistential, AreShortExistentials, IsOfShortLists, part_tree, record_tree, existential_tree, existentials_tree, clauses_tree, form_tree}
+use Rattle.type_terms.specs.CallForm.{CallForm, Part, RecordCall, ExistentialForm, IsShort, AreShort}
+use Rattle.type_terms.specs.CallForm.{IsShortExistential, AreShortExistentials, IsOfShortLists, part_tree, record_tree}
+use Rattle.type_terms.specs.CallForm.{existential_tree, existentials_tree, clauses_tree, form_tree}
 use Rattle.type_terms.specs.Told.{Told}
 use Rattle.type_terms.specs.Means.{number_at, tree_at}
 
@@ -45,19 +47,23 @@ VarsNeedRoom rows vs r = NeedsRoom rows (length vs ≤ most_in_place) (node (var
 
 -- the same for the record under a predicate's binder
 abbrev pub RecordNeedsRoom : List Row → List Told → RecordCall → Refusal → Type 0
-RecordNeedsRoom rows earlier c r = NeedsRoom rows (AreShort c.parts) (record_tree (number_at earlier) (tree_at earlier) c) r
+RecordNeedsRoom rows earlier c r = NeedsRoom rows (AreShort c.parts)
+    (record_tree (number_at earlier) (tree_at earlier) c) r
 
 -- the same for an existential predicate
 abbrev pub ExistentialNeedsRoom : List Row → List Told → ExistentialForm → Refusal → Type 0
-ExistentialNeedsRoom rows earlier x r = NeedsRoom rows (IsShortExistential x) (existential_tree (number_at earlier) (tree_at earlier) x) r
+ExistentialNeedsRoom rows earlier x r = NeedsRoom rows (IsShortExistential x)
+    (existential_tree (number_at earlier) (tree_at earlier) x) r
 
 -- the same for a list of existential predicates
 abbrev pub ExistentialsNeedRoom : List Row → List Told → List ExistentialForm → Refusal → Type 0
-ExistentialsNeedRoom rows earlier xs r = NeedsRoom rows (AreShortExistentials xs) (existentials_tree (number_at earlier) (tree_at earlier) xs) r
+ExistentialsNeedRoom rows earlier xs r = NeedsRoom rows (AreShortExistentials xs)
+    (existentials_tree (number_at earlier) (tree_at earlier) xs) r
 
 -- the same for the list of the clauses at the positions
 abbrev pub ClausesNeedRoom : List Row → List Told → List ℕ → Refusal → Type 0
-ClausesNeedRoom rows earlier ps r = NeedsRoom rows (length ps ≤ most_in_place) (clauses_tree (number_at earlier) (tree_at earlier) ps) r
+ClausesNeedRoom rows earlier ps r = NeedsRoom rows (length ps ≤ most_in_place)
+    (clauses_tree (number_at earlier) (tree_at earlier) ps) r
 
 -- the same for the term
 abbrev pub FormNeedsRoom : List Row → List Told → CallForm → Refusal → Type 0

@@ -7,7 +7,9 @@ use Rattle.tt_kinds.specs.Shape.{Shape, Sizes, Meaning, name_of, vars_of}
 use Rattle.tt_kinds.specs.Tree.{Depth, Forest, count_trees}
 use Rattle.tt_kinds.specs.declared.table.Table.TheVariants.{Symbols, VarLists}
 use Rattle.tt_kinds.specs.Handle.{BoundVarKinds}
-use Rattle.type_terms.specs.Text.{Subject, nothing, words, convention, numbered, paired, sized, item, called, Head, no_head, with_word, record_head, head_in, bound_head, free_head, record_style, style_in, closing, head_text, variables_text, texts}
+use Rattle.type_terms.specs.Text.{Subject, nothing, words, convention, numbered, paired, sized, item, called, Head}
+use Rattle.type_terms.specs.Text.{no_head, with_word, record_head, head_in, bound_head, free_head, record_style}
+use Rattle.type_terms.specs.Text.{style_in, closing, head_text, variables_text, texts}
 use Rattle.type_terms.specs.declared.ir_print.layout.Style.{Style}
 use Rattle.type_terms.specs.declared.ir_print.layout.Style.TheVariants as style
 use Rattle.type_terms.specs.declared.ir_print.spelling.Subject.{Subject as SpelledSubject}
@@ -79,4 +81,5 @@ binder_text item_name f (Some vars) = variables_text item_name 0 (vars_of (f Var
 
 -- the text of what is spelled so, around its children
 abbrev pub spelled_text : (ℕ → Name) → Meaning → Spelling → Forest Depth → List ℕ
-spelled_text item_name f s ts = head_text item_name (rename_head (name_of f) (head_of s)) ++ (texts item_name s.style true ts ++ closing s.style (count_trees ts))
+spelled_text item_name f s ts = head_text item_name (rename_head (name_of f) (head_of s))
+    ++ (texts item_name s.style true ts ++ closing s.style (count_trees ts))

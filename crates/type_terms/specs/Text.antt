@@ -1,5 +1,7 @@
--- The texts of terms. Each is made from the term's tree: the node's head, then its children in order with separators between them, then its end.
-use Rattle.std.specs.Prelude.{ℕ, zero, suc, Bool, true, false, nat_lt, if◌then◌else◌, Option, None, Some, List, [], ◌∷◌, ◌++◌, codes, decimal, ◌≡◌, Result, OnOk}
+-- The texts of terms. Each is made from the term's tree: the node's head, then its children in order with separators
+-- between them, then its end.
+use Rattle.std.specs.Prelude.{ℕ, zero, suc, Bool, true, false, nat_lt, if◌then◌else◌, Option, None, Some, List, [], ◌∷◌}
+use Rattle.std.specs.Prelude.{◌++◌, codes, decimal, ◌≡◌, Result, OnOk}
 use Rattle.tt_index.specs.declared.numeric.IntTy.{IntTy}
 use Rattle.tt_index.specs.declared.numeric.IntTy.TheVariants as int
 use Rattle.tt_index.specs.declared.numeric.UintTy.{UintTy}
@@ -13,12 +15,12 @@ use Rattle.tt_index.specs.declared.qualifier.Safety.TheVariants.{Safe, Unsafe}
 use Rattle.tt_index.specs.declared.qualifier.Mutability.{Mutability}
 use Rattle.tt_index.specs.declared.qualifier.Mutability.TheVariants.{Not, Mut}
 use Rattle.tt_kinds.specs.FnSig.{abi_in, safety_in, is_variadic_in, splat_in}
-use Rattle.tt_kinds.specs.declared.fn_sig.FnSigKind.{FnSigKind}
 use Rattle.tt_kinds.specs.declared.bound.BoundTyKind.{BoundTyKind}
 use Rattle.tt_kinds.specs.declared.bound.BoundTyKind.TheVariants as bound_ty
 use Rattle.tt_kinds.specs.Alias.{alias_number}
 use Rattle.tt_kinds.specs.declared.ty_kind.InferTy.{InferTy}
-use Rattle.tt_kinds.specs.declared.ty_kind.InferTy.TheVariants.{TyVar, IntVar, FloatVar, FreshTy, FreshIntTy, FreshFloatTy}
+use Rattle.tt_kinds.specs.declared.ty_kind.InferTy.TheVariants.{TyVar, IntVar, FloatVar, FreshTy, FreshIntTy}
+use Rattle.tt_kinds.specs.declared.ty_kind.InferTy.TheVariants.{FreshFloatTy}
 use Rattle.tt_kinds.specs.declared.const_kind.InferConst.{InferConst}
 use Rattle.tt_kinds.specs.declared.const_kind.InferConst.TheVariants.{Var, Fresh}
 use Rattle.tt_kinds.specs.declared.predicate.BoundConstness.{BoundConstness}
@@ -28,8 +30,26 @@ use Rattle.tt_kinds.specs.declared.predicate_kind.AliasRelationDirection.TheVari
 use Rattle.tt_kinds.specs.declared.table.Table.TheVariants.{Declarations}
 use Rattle.tt_kinds.specs.declared.declaration.DeclarationKind.{DeclarationKind}
 use Rattle.tt_kinds.specs.declared.declaration.DeclarationKind.TheVariants as declaration
-use Rattle.tt_kinds.specs.Label.{Name, Sort, region_sort, type_sort, const_sort, RegionName, anonymous, printed, named, environment, VarKind, region_variable, type_variable, const_variable, FreeRegion, static_region, erased_region, region_var, error_region, late_param_region, placeholder_region, TypeLabel, bool_type, char_type, int_type, uint_type, float_type, str_type, never_type, placeholder_type, infer_type, error_type, ref_type, raw_ptr_type, slice_type, tuple_type, fn_ptr_type, foreign_type, adt_type, fn_def_type, array_type, pat_type, unsafe_binder_type, dynamic_type, closure_type, coroutine_closure_type, coroutine_type, coroutine_witness_type, alias_type, ConstLabel, infer_const, placeholder_const, unevaluated_const, leaf_const, branch_const, error_const, expr_const, PatternLabel, range_pattern, or_pattern, not_null_pattern, RecordLabel, fn_sig_tys_record, unsafe_binder_record, trait_record, host_effect_record, region_outlives_record, type_outlives_record, projection_record, const_has_type_record, well_formed_record, const_evaluatable_record, unstable_feature_record, dyn_compatible_record, subtype_record, coerce_record, const_equate_record, ambiguous_record, normalizes_to_record, alias_relate_record, existential_trait_record, existential_projection_record, auto_trait_record, trait_ref_record, alias_term_record, alias_ty_record, fn_sig_record, param_env_record, Label, type_label, const_label, pattern_label, clause_list_label, list_label, record_label}
-use Rattle.tt_kinds.specs.Tree.{Depth, at, canonical, Tree, Forest, param, bound, region, term, node, binder, none, also, count_trees}
+use Rattle.tt_kinds.specs.Label.{Name, Sort, region_sort, type_sort, const_sort, RegionName, anonymous, printed, named}
+use Rattle.tt_kinds.specs.Label.{environment, VarKind, region_variable, type_variable, const_variable, FreeRegion}
+use Rattle.tt_kinds.specs.Label.{static_region, erased_region, region_var, error_region, late_param_region}
+use Rattle.tt_kinds.specs.Label.{placeholder_region, TypeLabel, bool_type, char_type, int_type, uint_type, float_type}
+use Rattle.tt_kinds.specs.Label.{str_type, never_type, placeholder_type, infer_type, error_type, ref_type, raw_ptr_type}
+use Rattle.tt_kinds.specs.Label.{slice_type, tuple_type, fn_ptr_type, foreign_type, adt_type, fn_def_type, array_type}
+use Rattle.tt_kinds.specs.Label.{pat_type, unsafe_binder_type, dynamic_type, closure_type, coroutine_closure_type}
+use Rattle.tt_kinds.specs.Label.{coroutine_type, coroutine_witness_type, alias_type, ConstLabel, infer_const}
+use Rattle.tt_kinds.specs.Label.{placeholder_const, unevaluated_const, leaf_const, branch_const, error_const}
+use Rattle.tt_kinds.specs.Label.{expr_const, PatternLabel, range_pattern, or_pattern, not_null_pattern, RecordLabel}
+use Rattle.tt_kinds.specs.Label.{fn_sig_tys_record, unsafe_binder_record, trait_record, host_effect_record}
+use Rattle.tt_kinds.specs.Label.{region_outlives_record, type_outlives_record, projection_record, const_has_type_record}
+use Rattle.tt_kinds.specs.Label.{well_formed_record, const_evaluatable_record, unstable_feature_record}
+use Rattle.tt_kinds.specs.Label.{dyn_compatible_record, subtype_record, coerce_record, const_equate_record}
+use Rattle.tt_kinds.specs.Label.{ambiguous_record, normalizes_to_record, alias_relate_record, existential_trait_record}
+use Rattle.tt_kinds.specs.Label.{existential_projection_record, auto_trait_record, trait_ref_record, alias_term_record}
+use Rattle.tt_kinds.specs.Label.{alias_ty_record, fn_sig_record, param_env_record, Label, type_label, const_label}
+use Rattle.tt_kinds.specs.Label.{pattern_label, clause_list_label, list_label, record_label}
+use Rattle.tt_kinds.specs.Tree.{Depth, at, canonical, Tree, Forest, param, bound, region, term, node, binder, none}
+use Rattle.tt_kinds.specs.Tree.{also, count_trees}
 use Rattle.tt_kinds.specs.Shape.{name_of}
 use Rattle.tt_interner.specs.Rows.{Row, size, meaning}
 use Rattle.tt_interner.specs.Declarations.{declared_at}
@@ -168,7 +188,8 @@ module _ {N : Type 0} where
   -- the heads of constants
   abbrev pub const_head : ConstLabel → Head N
   const_head (infer_const i) = infer_const_head i
-  const_head (placeholder_const p) = record { before = codes "!"; subject = paired p.universe p.bound.var; after = codes "c" }
+  const_head (placeholder_const p) = record { before = codes "!"; subject = paired p.universe p.bound.var;
+      after = codes "c" }
   const_head (unevaluated_const d) = with_word [] (item d)
   const_head (leaf_const bits bytes) = record { before = []; subject = sized bits bytes; after = codes "_" }
   const_head branch_const = no_head
@@ -193,7 +214,8 @@ module _ {N : Type 0} where
 
   -- the words of a function in front of its types, where the style has them
   abbrev pub fn_head : Style → Head N
-  fn_head (style.Signature k) = record { before = safety_word (safety_in k); subject = convention (abi_words (abi_in k)) (splat_in k); after = codes "fn" }
+  fn_head (style.Signature k) = record { before = safety_word (safety_in k);
+      subject = convention (abi_words (abi_in k)) (splat_in k); after = codes "fn" }
   fn_head _ = no_head
 
   -- the heads of records in a term of the style
@@ -477,8 +499,10 @@ module _ (item_name : ℕ → Name) where
     text_in s (param o i name) = name
     text_in s (bound o d e) = head_text (bound_head o d e.var)
     text_in s (region r) = head_text (free_head r)
-    text_in s (term l ts) = head_text (head_in s l) ++ (texts (style_in s l) true ts ++ closing (style_in s l) (count_trees ts))
-    text_in s (node l ts) = head_text (head_in s l) ++ (texts (style_in s l) true ts ++ closing (style_in s l) (count_trees ts))
+    text_in s (term l ts) = head_text (head_in s l) ++ (texts (style_in s l) true ts
+        ++ closing (style_in s l) (count_trees ts))
+    text_in s (node l ts) = head_text (head_in s l) ++ (texts (style_in s l) true ts
+        ++ closing (style_in s l) (count_trees ts))
     text_in s (binder vs t) = variables_text 0 vs ++ text_in s t
 
     -- the texts of children, each with the text in front of it; the first of them may be the first of all
@@ -497,7 +521,8 @@ module _ (item_name : ℕ → Name) where
 
 -- the own name of the declaration of a number, or the number if there is none
 abbrev pub own_name : List Row → ℕ → Name
-own_name rows d = if nat_lt d (size rows Declarations) then name_of (meaning rows) (declared_at rows (record { number = d })).name.number else 35 ∷ decimal d
+own_name rows d = if nat_lt d (size rows Declarations) then name_of (meaning rows)
+    (declared_at rows (record { number = d })).name.number else 35 ∷ decimal d
 
 -- what is in front of the name of what is declared: the trait or the implementation that it belongs to
 abbrev pub owner_of : List Row → DeclarationKind → Name
@@ -507,7 +532,8 @@ owner_of rows _ = []
 
 -- what is in front of the name of the declaration of a number
 abbrev pub owner_name : List Row → ℕ → Name
-owner_name rows d = if nat_lt d (size rows Declarations) then owner_of rows (declared_at rows (record { number = d })).kind else []
+owner_name rows d = if nat_lt d (size rows Declarations) then owner_of rows
+    (declared_at rows (record { number = d })).kind else []
 
 -- the name of the declaration of a number
 abbrev pub names : List Row → ℕ → Name

@@ -4,7 +4,8 @@ use Rattle.tt_index.specs.declared.refusal.Refusal.{Refusal}
 use Rattle.tt_kinds.specs.Tree.{Depth, Tree}
 use Rattle.tt_kinds.specs.declared.table.Table.{Table}
 use Rattle.tt_kinds.specs.declared.declaration.DeclarationSort.{DeclarationSort}
-use Rattle.tt_kinds.specs.declared.table.Table.TheVariants.{Types, Consts, Patterns, Predicates, ClauseLists, ArgLists, Declarations}
+use Rattle.tt_kinds.specs.declared.table.Table.TheVariants.{Types, Consts, Patterns, Predicates, ClauseLists, ArgLists}
+use Rattle.tt_kinds.specs.declared.table.Table.TheVariants.{Declarations}
 use Rattle.tt_interner.specs.Rows.{Row, size, meaning}
 use Rattle.tt_interner.specs.Stored.{Terms}
 use Rattle.tt_interner.specs.Declarations.{IsOfSort}
@@ -98,4 +99,5 @@ pub record Setting : Type 1 where
 
 -- an interner that has the old terms before the calls, and the new ones at the end
 abbrev pub setting : Terms → Terms → Setting
-setting old new = record { full = HasFullTable new; declarations = size old.rows Declarations; stored = IsStored old.rows }
+setting old new = record { full = HasFullTable new; declarations = size old.rows Declarations;
+    stored = IsStored old.rows }

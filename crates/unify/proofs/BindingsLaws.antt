@@ -1,5 +1,6 @@
 -- Tables of bindings: their entries, and the substitutions that they are.
-use Rattle.std.proofs.Common.{◌≡◌, refl, ℕ, zero, suc, ◌<◌, List, [], ◌∷◌, ◌++◌, length, get_or, set, Option, Some, None, sym, subst, ap, ◌∙◌, arith, pred, ◌⊎◌, inl, inr, ◌≢◌}
+use Rattle.std.proofs.Common.{◌≡◌, refl, ℕ, zero, suc, ◌<◌, List, [], ◌∷◌, ◌++◌, length, get_or, set, Option, Some}
+use Rattle.std.proofs.Common.{None, sym, subst, ap, ◌∙◌, arith, pred, ◌⊎◌, inl, inr, ◌≢◌}
 use Rattle.std.proofs.lemmas.List.{get_or-set_same, get_or-set_other}
 use Rattle.tt_kinds.specs.Tree as tree
 use Rattle.tt_kinds.specs.Tree.{Depth, Tree, Forest, count_trees}
@@ -13,9 +14,12 @@ use Rattle.tt_interner.specs.Owned.{IsOwned}
 use Rattle.tt_interner.specs.Stored.{Terms, Extends}
 use Rattle.tt_interner.proofs.Growth.{Extends-trans, IsPart-grows, fill-grows}
 use Rattle.tt_interner.proofs.OwnedLaws.{owned_some, push_owned, set_owned, still_owned}
-use Rattle.unify.specs.Substitution.{Substitution, apply, apply_all, IsWithout, IsResolved, IsIdempotent, Refines, BindsOnly, then, IsComposition}
-use Rattle.unify.proofs.SubstitutionLaws.{alike_refine, apply_resolves, binding_keeps, composition_refines, refines_further, refines_itself}
-use Rattle.unify.specs.Bindings.{table_shape, entry_binding, binding_at, entries_of, read, substitution, IsTable, IsRefined, single_table}
+use Rattle.unify.specs.Substitution.{Substitution, apply, apply_all, IsWithout, IsResolved, IsIdempotent, Refines}
+use Rattle.unify.specs.Substitution.{BindsOnly, then, IsComposition}
+use Rattle.unify.proofs.SubstitutionLaws.{alike_refine, apply_resolves, binding_keeps, composition_refines}
+use Rattle.unify.proofs.SubstitutionLaws.{refines_further, refines_itself}
+use Rattle.unify.specs.Bindings.{table_shape, entry_binding, binding_at, entries_of, read, substitution, IsTable}
+use Rattle.unify.specs.Bindings.{IsRefined, single_table}
 
 -- the trees of entries
 abbrev entry_trees : Meaning → List (Option Ty) → Forest Depth
@@ -242,7 +246,8 @@ refined_bound terms mid new xs ys v t table first second owned resolved without 
 pub extends_further : {a b c : Terms} → Extends a b → Extends b c → Extends a c
 extends_further = Extends-trans
 
--- The steps of binding a variable: the type is resolved, the variable doesn't occur in it, and it is replaced in the table.
+-- The steps of binding a variable: the type is resolved, the variable doesn't occur in it, and it is replaced in the
+-- table.
 pub bound_refines : (terms a b new : Terms) (xs ys : List (Option Ty)) (v place : ℕ) (given t : Ty)
     → IsTable terms xs → Extends terms a → Extends a b → Extends b new → IsOwned ty_shape a t
     → fill (meaning a.rows) (ty_shape t) ≡ apply (substitution terms xs) (fill (meaning terms.rows) (ty_shape given))

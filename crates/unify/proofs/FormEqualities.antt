@@ -1,5 +1,6 @@
 -- What an assignment that makes two terms equal makes of their parts.
-use Rattle.std.proofs.Common.{◌≡◌, refl, ℕ, zero, suc, List, [], ◌∷◌, slice_get, Option, Some, None, sym, subst, ap, ◌∙◌, All, arith, not, true, false}
+use Rattle.std.proofs.Common.{◌≡◌, refl, ℕ, zero, suc, List, [], ◌∷◌, slice_get, Option, Some, None, sym, subst, ap}
+use Rattle.std.proofs.Common.{◌∙◌, All, arith, not, true, false}
 use Rattle.std.proofs.lemmas.Bool.{true≢false, false≢true}
 use Rattle.std.specs.Prelude.{Bool, ⊤}
 use Rattle.std.proofs.lemmas.Option.{none-some, same_Some}
@@ -8,10 +9,12 @@ use Rattle.tt_kinds.specs.declared.ty_kind.InferTy.TheVariants.{TyVar}
 use Rattle.tt_kinds.specs.Tree as tree
 use Rattle.tt_kinds.specs.Tree.{Depth, Tree, Forest}
 use Rattle.tt_kinds.specs.Shape as shape
-use Rattle.tt_kinds.specs.Shape.{Shape, Shapes, append, Meaning, fill, fill_all, name_of, rename_label, rename_record, vars_of}
+use Rattle.tt_kinds.specs.Shape.{Shape, Shapes, append, Meaning, fill, fill_all, name_of, rename_label}
 use Rattle.tt_kinds.specs.declared.table.Table.TheVariants.{VarLists}
 use Rattle.tt_kinds.specs.Parts.{child_sort, absent, AreLike, IsItem}
-use Rattle.tt_kinds.specs.Kinds.{Form, param, bound, plain, under, form_parts, refilled, form_shape, kind_form, kind_sort, kind_shape, relabelled, value_form, parts_shapes, child_shapes, children_shapes, items_tree, node_shape, list_shape}
+use Rattle.tt_kinds.specs.Kinds.{Form, param, bound, plain, under, form_parts, refilled, form_shape, kind_form}
+use Rattle.tt_kinds.specs.Kinds.{kind_sort, kind_shape, relabelled, value_form, parts_shapes, child_shapes}
+use Rattle.tt_kinds.specs.Kinds.{children_shapes, items_tree, node_shape, list_shape}
 use Rattle.tt_kinds.specs.declared.parts.Child.{Child}
 use Rattle.tt_kinds.specs.declared.parts.Child.TheVariants as child
 use Rattle.tt_kinds.specs.declared.parts.Parts.{Parts}

@@ -11,7 +11,8 @@ use Rattle.tt_interner.specs.Owned.{IsOwned}
 use Rattle.tt_interner.specs.Stored.{Terms, Extends}
 use Rattle.tt_interner.proofs.Growth.{Extends-trans, fill-grows}
 use Rattle.tt_interner.proofs.OwnedLaws.{still_owned}
-use Rattle.unify.specs.Substitution.{Substitution, Assignment, variable_in, bound_to, apply, apply_all, every, assign, assign_all, Solves, Refines, BindsOnly, IsComposition}
+use Rattle.unify.specs.Substitution.{Substitution, Assignment, variable_in, bound_to, apply, apply_all, every, assign}
+use Rattle.unify.specs.Substitution.{assign_all, Solves, Refines, BindsOnly, IsComposition}
 use Rattle.unify.specs.Bindings.{table_shape, substitution, IsTable, single_table}
 use Rattle.unify.specs.Resolver.{binding}
 use Rattle.unify.proofs.SubstitutionLaws.{bound_variable, same_binding, variable_bound}
@@ -77,7 +78,8 @@ module _ (ρ : Assignment) where
   pub solves_composed : (σ τ σ' : Substitution) → IsComposition σ τ σ' → Solves ρ σ → Solves ρ τ → Solves ρ σ'
   solves_composed σ τ σ' composed first second w s has = composed_at σ τ σ' composed first second w (σ w) refl s has
 
-  -- what solves a table, and makes the variable and the type equal, solves the table in which the variable is bound to the type
+  -- what solves a table, and makes the variable and the type equal, solves the table in which the variable is bound to
+  -- the type
   pub bound_solves : (terms a b new : Terms) (xs ys : List (Option Ty)) (v place : ℕ) (given t : Ty)
       → IsTable terms xs → Extends terms a → Extends a b → Extends b new → IsOwned ty_shape a t
       → fill (meaning a.rows) (ty_shape t) ≡ apply (substitution terms xs) (fill (meaning terms.rows) (ty_shape given))

@@ -1,21 +1,28 @@
 -- A variable and a type that holds it never become one tree: trees are finite.
-use Rattle.std.proofs.Common.{◌≡◌, refl, ℕ, zero, suc, ◌+◌, ◌<◌, List, [], ◌∷◌, length, Bool, true, false, Option, Some, None, sym, subst, ap, ◌∙◌, arith}
+use Rattle.std.proofs.Common.{◌≡◌, refl, ℕ, zero, suc, ◌+◌, ◌<◌, List, [], ◌∷◌, length, Bool, true, false, Option, Some}
+use Rattle.std.proofs.Common.{None, sym, subst, ap, ◌∙◌, arith}
 use Rattle.std.specs.Prelude.{⊤, if◌then◌else◌, ◌&&◌, ◌==◌}
 use Rattle.tt_kinds.specs.Label.{Name, Label, Sort, type_sort, const_sort, type_label, const_label}
 use Rattle.tt_kinds.specs.Tree as tree
 use Rattle.tt_kinds.specs.Tree.{Depth, Tree, Forest, count_trees, take_trees, drop_trees}
 use Rattle.tt_kinds.specs.Shape as shape
-use Rattle.tt_kinds.specs.Shape.{Shape, Shapes, Meaning, Sizes, fill, fill_all, items_of, items_in, item_count, first_item, item_shapes, IsPart, AreParts, HasParts}
-use Rattle.tt_kinds.specs.Kinds.{Form, param, bound, plain, under, form_shape, kind_form, relabelled, ty_form, const_form, parts_shapes, ty_shape, clause_shape, const_shape, arg_shape, pat_shape, existential_shape}
+use Rattle.tt_kinds.specs.Shape.{Shape, Shapes, Meaning, Sizes, fill, fill_all, items_of, item_count}
+use Rattle.tt_kinds.specs.Shape.{first_item, item_shapes, IsPart, AreParts, HasParts}
+use Rattle.tt_kinds.specs.Kinds.{Form, param, bound, plain, under, form_shape, kind_form, relabelled, ty_form}
+use Rattle.tt_kinds.specs.Kinds.{const_form, parts_shapes, ty_shape, clause_shape, const_shape, arg_shape, pat_shape}
+use Rattle.tt_kinds.specs.Kinds.{existential_shape}
 use Rattle.tt_kinds.specs.Values.{assumption_shape, declared_shapes, variant_shape}
 use Rattle.tt_kinds.specs.Handle.{Ty}
 use Rattle.tt_kinds.specs.declared.table.Table.{Table}
 use Rattle.tt_kinds.specs.declared.table.Table.TheVariants.{Types}
 use Rattle.tt_kinds.specs.declared.parts.Kind.TheVariants as kind
-use Rattle.tt_interner.specs.Rows.{Row, type_row, const_row, pat_row, predicate_row, existential_row, clauses_row, tys_row, consts_row, args_row, pats_row, vars_row, existentials_row, assumptions_row, text_row, declared_row, defined_row, row_shape, is_in, table, size, meaning, AreRows}
+use Rattle.tt_interner.specs.Rows.{Row, type_row, const_row, pat_row, predicate_row, existential_row, clauses_row}
+use Rattle.tt_interner.specs.Rows.{tys_row, consts_row, args_row, pats_row, vars_row, existentials_row, assumptions_row}
+use Rattle.tt_interner.specs.Rows.{text_row, declared_row, defined_row, row_shape, is_in, table, size, meaning, AreRows}
 use Rattle.tt_interner.specs.Stored.{Terms}
 use Rattle.tt_fold.specs.Steps.{tree_in}
-use Rattle.unify.specs.Substitution.{Assignment, variable_of, variable_in, bound_to, apply, every, assign, assign_all, IsWithout, AreWithout, Solves}
+use Rattle.unify.specs.Substitution.{Assignment, variable_of, variable_in, bound_to, apply, every, assign, assign_all}
+use Rattle.unify.specs.Substitution.{IsWithout, AreWithout, Solves}
 use Rattle.unify.specs.Bindings.{substitution}
 use Rattle.unify.proofs.SubstitutionLaws.{no_variable}
 use Rattle.unify.proofs.FormEqualities.{contents, IsBare, kind_bare}

@@ -9,7 +9,8 @@ use Rattle.tt_kinds.specs.Handle.{Ty}
 use Rattle.tt_interner.specs.Rows.{meaning, AreRows}
 use Rattle.tt_interner.specs.Stored.{Terms}
 use Rattle.tt_fold.specs.Steps.{tree_in}
-use Rattle.unify.specs.Substitution.{Substitution, variable_of, apply, apply_all, or_else, assign, assign_all, as_assignment, variable_tree, Solves}
+use Rattle.unify.specs.Substitution.{Substitution, variable_of, apply, apply_all, or_else, assign, assign_all}
+use Rattle.unify.specs.Substitution.{as_assignment, variable_tree, Solves}
 use Rattle.unify.specs.Bindings.{IsTable, substitution}
 use Rattle.unify.proofs.SubstitutionLaws.{resolved_stays, same_binding}
 use Rattle.unify.proofs.BindingsLaws.{bound_tree, reads}

@@ -1,5 +1,6 @@
 -- Pairs whose children are the interner's.
-use Rattle.std.proofs.Common.{◌≡◌, refl, ℕ, zero, suc, List, [], ◌∷◌, ◌++◌, slice_get, Some, Result, Ok, Err, IfOk, sym, subst, ap, ◌∙◌}
+use Rattle.std.proofs.Common.{◌≡◌, refl, ℕ, zero, suc, List, [], ◌∷◌, ◌++◌, slice_get, Some, Result, Ok, Err, IfOk, sym}
+use Rattle.std.proofs.Common.{subst, ap, ◌∙◌}
 use Rattle.std.proofs.lemmas.Option.{none-some, same_Some}
 use Rattle.tt_kinds.specs.Shape.{AreParts, Sizes}
 use Rattle.tt_kinds.specs.Kinds.{child_shapes, children_shapes}

@@ -1,5 +1,7 @@
 -- What a resolver answers, from what it tests.
-use Rattle.std.proofs.Common.{◌≡◌, refl, ℕ, zero, suc, ◌<◌, List, [], ◌∷◌, length, get_or, Option, Some, None, Bool, false, true, ◌↔◌, IsTrue, sym, ap, ◌∙◌, subst, arith, MatchOption, IfSome, IsFalse, nat_eq, not}
+use Rattle.std.proofs.Common.{◌≡◌, refl, ℕ, zero, suc, ◌<◌, List, [], ◌∷◌, length, get_or, Option, Some, None, Bool}
+use Rattle.std.proofs.Common.{false, true, ◌↔◌, IsTrue, sym, ap, ◌∙◌, subst, arith, MatchOption, IfSome, IsFalse}
+use Rattle.std.proofs.Common.{nat_eq, not}
 use Rattle.std.proofs.lemmas.Bool.{eqb-true, eq-eqb, true≢false}
 use Rattle.tt_flags.specs.TypeFlags.{has_ty_infer}
 use Rattle.tt_kinds.specs.Scan.{scan}

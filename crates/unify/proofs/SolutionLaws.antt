@@ -1,7 +1,7 @@
 -- What the steps of the unifier do to the solutions of bindings and pairs.
 use Rattle.std.proofs.Common.{◌≡◌, ℕ, List, Option, Some, Result, Ok, Err, IfOk, IfErr, sym, subst, ap, ◌∙◌}
 use Rattle.tt_kinds.specs.Tree as tree
-use Rattle.tt_kinds.specs.Tree.{Depth, Tree, Forest}
+use Rattle.tt_kinds.specs.Tree.{Depth, Tree}
 use Rattle.tt_kinds.specs.Shape as shape
 use Rattle.tt_kinds.specs.Shape.{Meaning, fill, fill_all}
 use Rattle.tt_kinds.specs.Parts.{node_table, node_number, list_table, list_number}

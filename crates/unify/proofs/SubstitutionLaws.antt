@@ -4,7 +4,8 @@ use Rattle.tt_kinds.specs.Label.{Name, Label, type_label, infer_type}
 use Rattle.tt_kinds.specs.declared.ty_kind.InferTy.TheVariants.{TyVar}
 use Rattle.tt_kinds.specs.Tree as tree
 use Rattle.tt_kinds.specs.Tree.{Depth, Tree, Forest}
-use Rattle.unify.specs.Substitution.{Substitution, variable_of, variable_in, bound_to, apply, apply_all, IsWithout, AreWithout, IsResolved, IsIdempotent, Refines, BindsOnly, IsComposition}
+use Rattle.unify.specs.Substitution.{Substitution, variable_of, variable_in, bound_to, apply, apply_all, IsWithout}
+use Rattle.unify.specs.Substitution.{AreWithout, IsResolved, IsIdempotent, Refines, BindsOnly, IsComposition}
 
 -- a term that is bound is a variable
 pub record Bound (σ : Substitution) (l : Label Name) (b : Tree Depth) : Type 0 where
@@ -80,7 +81,8 @@ module _ (σ : Substitution) (v : ℕ) (each : (w : ℕ) (b : Tree Depth) → σ
       rw e (each found.variable b found.has)
 
   mutual
-    -- what is put in is without the variable, and so is the tree or the variable is replaced: then the result is without it
+    -- what is put in is without the variable, and so is the tree or the variable is replaced: then the result is
+    -- without it
     pub apply_without : (t : Tree Depth) → Covered σ v (IsWithout v t) → IsWithout v (apply σ t)
     apply_without (tree.param o i name) h = tt
     apply_without (tree.bound o d e) h = tt

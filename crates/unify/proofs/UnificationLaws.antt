@@ -8,7 +8,8 @@ use Rattle.tt_interner.specs.Owned.{IsOwned}
 use Rattle.tt_interner.specs.Stored.{Terms, Extends}
 use Rattle.tt_interner.proofs.Growth.{fill-grows}
 use Rattle.tt_fold.specs.Steps.{tree_in}
-use Rattle.unify.specs.Substitution.{Substitution, Assignment, apply, assign, IsWithout, IsResolved, Refines, Solves, IsMostGeneral}
+use Rattle.unify.specs.Substitution.{Substitution, Assignment, apply, assign, IsWithout, IsResolved, Refines, Solves}
+use Rattle.unify.specs.Substitution.{IsMostGeneral}
 use Rattle.unify.specs.Bindings.{IsTable, IsRefined, substitution}
 use Rattle.unify.proofs.SubstitutionLaws.{applied_once, resolved_stays, trees_refined}
 use Rattle.unify.proofs.BindingsLaws.{pushed_same, substitution_stays}
@@ -49,7 +50,8 @@ unifier_factors ρ σ σ' t u general solves same x = solution_factors ρ σ' (g
 pub solution_unifies : (ρ : Assignment) (σ : Substitution) (t u : Tree Depth) → Solves ρ σ → apply σ t ≡ apply σ u → assign ρ t ≡ assign ρ u
 solution_unifies ρ σ t u solves same = sym (solution_factors ρ σ solves t) ∙ ap (assign ρ) same ∙ solution_factors ρ σ solves u
 
--- from the promises of `unify`: the new bindings are solved exactly by what solves the old ones and makes the two types equal
+-- from the promises of `unify`: the new bindings are solved exactly by what solves the old ones and makes the two types
+-- equal
 pub solved_exactly : (ρ : Assignment) (old new : Terms) (entries later : List (Option Ty)) (left right : Ty) → Extends old new
     → IsOwned ty_shape old left → IsOwned ty_shape old right → IsRefined old entries new later
     → apply (substitution new later) (tree_in new.rows (ty_shape left)) ≡ apply (substitution new later) (tree_in new.rows (ty_shape right))

@@ -44,7 +44,8 @@ pub record IsTable (terms : Terms) (entries : List (Option Ty)) : Type 0 where
   pub idempotent : IsIdempotent (substitution terms entries)
 
 -- The later table has the bindings of the earlier one with further variables replaced, and perhaps more.
-pub record IsRefined (terms : Terms) (entries : List (Option Ty)) (later : Terms) (refined : List (Option Ty)) : Type 0 where
+pub record IsRefined (terms : Terms) (entries : List (Option Ty)) (later : Terms) (refined : List (Option Ty))
+    : Type 0 where
   pub table : IsTable later refined
   pub refines : Refines (substitution terms entries) (substitution later refined)
 

@@ -28,7 +28,8 @@ IsNoList c = (n : Node) → c ≡ child.Node n → node_table n ≢ ClauseLists
 
 -- the assignment makes the two types equal
 abbrev pub EquatesTypes : Assignment → Terms → Ty → Ty → Type 0
-EquatesTypes ρ terms left right = assign ρ (tree_in terms.rows (ty_shape left)) ≡ assign ρ (tree_in terms.rows (ty_shape right))
+EquatesTypes ρ terms left right = assign ρ (tree_in terms.rows (ty_shape left))
+    ≡ assign ρ (tree_in terms.rows (ty_shape right))
 
 -- the tree of a child, or none if there is no child
 abbrev pub child_trees : Terms → Child → Forest Depth
@@ -49,9 +50,11 @@ pub record IsSolution (ρ : Assignment) (terms : Terms) (entries : List (Option 
   pub equates : EquatesAll ρ terms pairs
 
 -- whatever solves the earlier bindings and pairs, and meets the condition, solves the later bindings and pairs
-pub record KeepsSolutions (Meets : Assignment → Type 0) (old : Terms) (entries : List (Option Ty)) (pairs : List Pair) (new : Terms) (later : List (Option Ty)) (others : List Pair) : Type 0 where
+pub record KeepsSolutions (Meets : Assignment → Type 0) (old : Terms) (entries : List (Option Ty)) (pairs : List Pair)
+    (new : Terms) (later : List (Option Ty)) (others : List Pair) : Type 0 where
   pub keep : (ρ : Assignment) → Meets ρ → IsSolution ρ old entries pairs → IsSolution ρ new later others
 
 -- nothing solves the bindings and pairs and meets the condition
-pub record HasNoSolution (Meets : Assignment → Type 0) (terms : Terms) (entries : List (Option Ty)) (pairs : List Pair) : Type 0 where
+pub record HasNoSolution (Meets : Assignment → Type 0) (terms : Terms) (entries : List (Option Ty)) (pairs : List Pair)
+    : Type 0 where
   pub never : (ρ : Assignment) → Meets ρ → IsSolution ρ terms entries pairs → ⊥

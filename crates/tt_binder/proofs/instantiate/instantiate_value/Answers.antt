@@ -11,7 +11,8 @@ use Rattle.tt_binder.proofs.WalkLaws.{instantiation_laws, knows_first}
 use Rattle.tt_fold.proofs.PlaceLaws.{pairs_few, pairs_none}
 use Rattle.tt_binder.proofs.PositionLaws.{pairs_counted}
 use Rattle.tt_binder.proofs.ClauseLaws.{instance_keeps}
-use Rattle.tt_binder.proofs.InstanceLaws.{empty_err, empty_outcome, instance_back, instance_walked, new_state, param_refused, reason_empty, reason_refused, walk_refused}
+use Rattle.tt_binder.proofs.InstanceLaws.{empty_err, empty_outcome, instance_back, instance_walked, new_state}
+use Rattle.tt_binder.proofs.InstanceLaws.{param_refused, reason_empty, reason_refused, walk_refused}
 use Rattle.tt_binder.proofs.SharingLaws.{shifts_counted, shifts_none}
 use Rattle.tt_binder.proofs.StillLaws.{param_alone, param_ends}
 use Rattle.tt_binder.proofs.instantiate.instantiate_value.Goals as goal

@@ -8,7 +8,8 @@ use Rattle.tt_fold.specs.Shift.{shift_state}
 use Rattle.tt_fold.proofs.ClauseLaws.{value_keeps}
 use Rattle.tt_fold.proofs.ShiftLaws.{shift_outcome, stays, closed, shifts_on, comes_of, keeps_matched}
 use Rattle.tt_fold.proofs.PlaceLaws.{pairs_few, pairs_none}
-use Rattle.tt_fold.proofs.shift.shift_vars.Goals.{then-amount-eq0-via-then-amount-eq0, then-amount-eq0-via-else-amount-eq0+then-not-has_escaping_bound_vars}
+use Rattle.tt_fold.proofs.shift.shift_vars.Goals.{then-amount-eq0-via-then-amount-eq0}
+use Rattle.tt_fold.proofs.shift.shift_vars.Goals.{then-amount-eq0-via-else-amount-eq0+then-not-has_escaping_bound_vars}
 use Rattle.tt_fold.proofs.shift.shift_vars.Goals as goal
 
 pub returns-then-amount-eq0-clause-tree : goal.returns-then-amount-eq0-clause-tree

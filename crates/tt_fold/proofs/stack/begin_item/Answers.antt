@@ -1,5 +1,6 @@
 use Rattle.std.proofs.lemmas.Result.{err_from_is_err_and}
-use Rattle.tt_fold.proofs.ItemSteps.{begun_replaced, begun_kept, begun_not_open, begun_inside, begun_finish_fails, begun_leaf, never_descends}
+use Rattle.tt_fold.proofs.ItemSteps.{begun_replaced, begun_kept, begun_not_open, begun_inside, begun_finish_fails}
+use Rattle.tt_fold.proofs.ItemSteps.{begun_leaf, never_descends}
 use Rattle.tt_fold.proofs.stack.begin_item.Goals as goal
 
 pub returns-in_err-step-clause-goes : goal.returns-in_err-step-clause-goes

@@ -3,7 +3,10 @@ use Rattle.std.proofs.lemmas.Result.{err_from_is_err_and}
 use Rattle.tt_interner.proofs.Growth.{Extends-trans}
 use Rattle.tt_fold.proofs.WantedLaws.{memory_unbuilt}
 use Rattle.tt_fold.proofs.FrameLaws.{frame-fits, frame-grows, frame_fits}
-use Rattle.tt_fold.proofs.GoingLaws.{stepped-frame, next_part, no_frames, going_starts, going_past, going_into, going_stops, going_child_fails, going_not_kept, going_rebuild_fails, going_ends, going_finish_fails, going_up, going_up_not_kept, rises, outer_frame, outer_result, last_held, enough_values, total_past, total_into, total_up}
+use Rattle.tt_fold.proofs.GoingLaws.{stepped-frame, next_part, no_frames, going_starts, going_past, going_into}
+use Rattle.tt_fold.proofs.GoingLaws.{going_stops, going_child_fails, going_not_kept, going_rebuild_fails, going_ends}
+use Rattle.tt_fold.proofs.GoingLaws.{going_finish_fails, going_up, going_up_not_kept, rises, outer_frame, outer_result}
+use Rattle.tt_fold.proofs.GoingLaws.{last_held, enough_values, total_past, total_into, total_up}
 use Rattle.tt_fold.proofs.stack.fold_frames.Goals as goal
 
 pub walk-init : goal.walk-init

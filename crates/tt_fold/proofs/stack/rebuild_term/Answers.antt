@@ -9,7 +9,8 @@ use Rattle.tt_interner.proofs.NodeSteps.{same-sort, refilled_parts}
 use Rattle.tt_fold.specs.GrowthLaws.{stored-adds, kind-no_symbol}
 use Rattle.tt_fold.proofs.FormLaws.{not-deep}
 use Rattle.tt_fold.proofs.FoldSteps.{stands-still, stored_node, stored_node_tree, not_stored}
-use Rattle.tt_fold.proofs.ItemSteps.{term_facts, term_like, term_parts, rebuild_not_left, rebuild_not_stored, rebuild_stored}
+use Rattle.tt_fold.proofs.ItemSteps.{term_facts, term_like, term_parts, rebuild_not_left, rebuild_not_stored}
+use Rattle.tt_fold.proofs.ItemSteps.{rebuild_stored}
 use Rattle.tt_fold.proofs.stack.rebuild_term.Goals as goal
 
 pub returns-in_err-leave-clause-goes : goal.returns-in_err-leave-clause-goes

@@ -1,7 +1,8 @@
 use Rattle.std.proofs.lemmas.Result.{err_from_is_err_and}
 use Rattle.tt_interner.proofs.Growth.{Extends-trans, AreParts-grows}
 use Rattle.tt_kinds.specs.Kinds.{child_shapes}
-use Rattle.tt_fold.proofs.ChildSteps.{opened_whole, child_not_begun, child_done, child_rest_fails, child_ends, never_inside, rest_is}
+use Rattle.tt_fold.proofs.ChildSteps.{opened_whole, child_not_begun, child_done, child_rest_fails, child_ends}
+use Rattle.tt_fold.proofs.ChildSteps.{never_inside, rest_is}
 use Rattle.tt_fold.proofs.walk.fold_child.Goals as goal
 
 pub returns-in_err-begun-clause-folds : goal.returns-in_err-begun-clause-folds

@@ -1,5 +1,7 @@
 use Rattle.std.proofs.Common.{◌≡◌, ◌∙◌, ◌<◌, length, arith}
-use Rattle.tt_visit.proofs.FrameSteps.{taken, taken-child, visiting-starts, visiting-past, visiting-breaks, visiting-into, visiting-ends, visiting-up, visiting-binders, total-past, total-into, total-up}
+use Rattle.tt_visit.proofs.FrameSteps.{taken, taken-child, visiting-starts, visiting-past, visiting-breaks}
+use Rattle.tt_visit.proofs.FrameSteps.{visiting-into, visiting-ends, visiting-up, visiting-binders, total-past}
+use Rattle.tt_visit.proofs.FrameSteps.{total-into, total-up}
 use Rattle.tt_visit.proofs.stored.+visit_frame.Goals as goal
 
 pub visit-init : goal.visit-init

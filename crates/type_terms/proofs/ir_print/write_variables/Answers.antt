@@ -2,7 +2,8 @@ use Rattle.std.proofs.Common.{refl, sym, ap}
 use Rattle.tt_interner.specs.Rows.{meaning}
 use Rattle.type_terms.specs.Text.{names, variables_text}
 use Rattle.type_terms.proofs.PrintSteps.{writes-same}
-use Rattle.type_terms.proofs.PrintVariables.{variables-start, variables-go-on, variables-end, stored-variables, variable-named-at}
+use Rattle.type_terms.proofs.PrintVariables.{variables-start, variables-go-on, variables-end, stored-variables}
+use Rattle.type_terms.proofs.PrintVariables.{variable-named-at}
 use Rattle.type_terms.proofs.ir_print.write_variables.Goals as goal
 
 pub variables-init : goal.variables-init

@@ -6,7 +6,8 @@ use Rattle.tt_index.specs.declared.refusal.Refusal.{Refusal}
 use Rattle.tt_interner.specs.Stored.{Terms}
 use Rattle.tt_binder.specs.Arguments.{arguments}
 use Rattle.tt_binder.specs.Promise.{IsBack}
-use Rattle.tt_binder.proofs.InstanceLaws.{composes, commutes, stays_matched, leaves_no_param, type_back, clauses_back, clause_back}
+use Rattle.tt_binder.proofs.InstanceLaws.{composes, commutes, stays_matched, leaves_no_param, type_back, clauses_back}
+use Rattle.tt_binder.proofs.InstanceLaws.{clause_back}
 use Rattle.tt_binder.proofs.instantiate.EarlyBinderInstantiate.instantiate.Goals as goal
 
 err_ok : {T E P : Type 0} (e : E) (x : T) → Err e ≡ Ok x → P

@@ -4,7 +4,8 @@ use Rattle.tt_interner.specs.Rows.{meaning}
 use Rattle.tt_fold.specs.Steps.{tree_in}
 use Rattle.tt_binder.specs.Validate.{vars_at}
 use Rattle.tt_binder.proofs.RowArguments.{const_kind_tree}
-use Rattle.tt_binder.proofs.ValidateLaws.{validation, looks_skip, looks_enter, same_valid, same_wrong, same_root, told_no, const_variable_tree, const_other}
+use Rattle.tt_binder.proofs.ValidateLaws.{validation, looks_skip, looks_enter, same_valid, same_wrong, same_root}
+use Rattle.tt_binder.proofs.ValidateLaws.{told_no, const_variable_tree, const_other}
 use Rattle.tt_binder.proofs.validate_bound_vars.ValidateBoundVarsTypeVisitor.visit_const.Goals as goal
 
 pub returns-then-is_below-clause-result : goal.returns-then-is_below-clause-result

@@ -6,7 +6,8 @@ use Rattle.tt_fold.specs.Remember.{places}
 use Rattle.tt_fold.specs.Steps.{tree_in}
 use Rattle.tt_binder.specs.Validate.{vars_at}
 use Rattle.tt_binder.proofs.RowArguments.{kind_tree}
-use Rattle.tt_binder.proofs.ValidateLaws.{validation, looks_skip, looks_once, same_valid, same_wrong, same_root, told_no, ty_variable, ty_other}
+use Rattle.tt_binder.proofs.ValidateLaws.{validation, looks_skip, looks_once, same_valid, same_wrong, same_root}
+use Rattle.tt_binder.proofs.ValidateLaws.{told_no, ty_variable, ty_other}
 use Rattle.tt_binder.proofs.validate_bound_vars.ValidateBoundVarsTypeVisitor.visit_ty.Goals as goal
 
 pub returns-then-is_below-clause-result : goal.returns-then-is_below-clause-result

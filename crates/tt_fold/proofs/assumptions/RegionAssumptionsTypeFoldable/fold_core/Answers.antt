@@ -3,7 +3,8 @@ use Rattle.std.proofs.Common.{refl}
 use Rattle.std.proofs.lemmas.Result.{err_from_is_err_and}
 use Rattle.tt_fold.proofs.WantedLaws.{memory_unbuilt}
 use Rattle.tt_fold.proofs.FoldSteps.{stands-still}
-use Rattle.tt_fold.proofs.AssumptionSteps.{sequence-part, sequence-parts, vector-error, not_stored, copy_stops, assumptions_fail, assumptions_not_stored, assumptions_stored}
+use Rattle.tt_fold.proofs.AssumptionSteps.{sequence-part, sequence-parts, vector-error, not_stored, copy_stops}
+use Rattle.tt_fold.proofs.AssumptionSteps.{assumptions_fail, assumptions_not_stored, assumptions_stored}
 use Rattle.tt_fold.specs.GrowthLaws.{stored-adds}
 use Rattle.tt_fold.proofs.assumptions.RegionAssumptionsTypeFoldable.fold_core.Goals as goal
 

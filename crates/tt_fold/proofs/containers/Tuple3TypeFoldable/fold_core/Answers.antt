@@ -3,7 +3,8 @@ use Rattle.std.proofs.lemmas.Result.{err_from_is_err_and}
 use Rattle.tt_kinds.specs.Label.{triple_record}
 use Rattle.tt_interner.proofs.Growth.{Extends-trans, IsPart-grows}
 use Rattle.tt_kinds.specs.Values.{triple_shape}
-use Rattle.tt_fold.proofs.RecordSteps.{three-first, three-second, three-third, three_first_fails, three_second_fails, three_third_fails, three_folds}
+use Rattle.tt_fold.proofs.RecordSteps.{three-first, three-second, three-third, three_first_fails, three_second_fails}
+use Rattle.tt_fold.proofs.RecordSteps.{three_third_fails, three_folds}
 use Rattle.tt_fold.proofs.containers.Tuple3TypeFoldable.fold_core.Goals as goal
 
 pub fold_core-requires-clause-value : goal.fold_core-requires-clause-value

@@ -2,7 +2,8 @@ use Rattle.std.proofs.Common.{arith, refl}
 use Rattle.std.proofs.lemmas.Result.{err_from_is_err_and}
 use Rattle.tt_interner.proofs.Growth.{IsPart-grows}
 use Rattle.tt_fold.proofs.WantedLaws.{memory_unbuilt}
-use Rattle.tt_fold.proofs.VecSteps.{nil-from_length, values_none, value_part, values_more, value_fails, values_stop, values_fold}
+use Rattle.tt_fold.proofs.VecSteps.{nil-from_length, values_none, value_part, values_more, value_fails, values_stop}
+use Rattle.tt_fold.proofs.VecSteps.{values_fold}
 use Rattle.tt_fold.proofs.containers.VecTypeFoldable.fold_core.Goals as goal
 
 pub loop-value-init : goal.loop-value-init

@@ -1,7 +1,8 @@
 use Rattle.std.proofs.lemmas.Result.{err_from_is_err_and}
 use Rattle.tt_interner.proofs.Growth.{Extends-trans, IsPart-grows}
 use Rattle.tt_fold.proofs.PartLaws.{vars-kept}
-use Rattle.tt_fold.proofs.ValueSteps.{binder-has, binder-value, binder_enter_fails, binder_value_fails, binder_leave_fails, binder_folds}
+use Rattle.tt_fold.proofs.ValueSteps.{binder-has, binder-value, binder_enter_fails, binder_value_fails}
+use Rattle.tt_fold.proofs.ValueSteps.{binder_leave_fails, binder_folds}
 use Rattle.tt_fold.proofs.foldable.BinderTypeFoldable.fold_core.Goals as goal
 
 pub core_enter-requires-clause-vars : goal.core_enter-requires-clause-vars

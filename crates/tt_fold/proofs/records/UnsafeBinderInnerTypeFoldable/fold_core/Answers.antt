@@ -2,8 +2,10 @@ use Rattle.std.proofs.lemmas.Result.{err_from_is_err_and}
 use Rattle.tt_kinds.specs.Kinds.{ty_shape}
 use Rattle.tt_interner.proofs.Growth.{Extends-trans, IsPart-grows}
 use Rattle.tt_fold.proofs.PartLaws.{vars-kept}
-use Rattle.tt_fold.proofs.ValueSteps.{binder-has, binder-value, binder_enter_fails, binder_value_fails, binder_leave_fails, binder_folds}
-use Rattle.tt_fold.proofs.RecordSteps.{unsafe_value, unsafe_is_part, unsafe_type, unsafe_value_fails, unsafe_value_folds, unsafe_fails, unsafe_folds}
+use Rattle.tt_fold.proofs.ValueSteps.{binder-has, binder-value, binder_enter_fails, binder_value_fails}
+use Rattle.tt_fold.proofs.ValueSteps.{binder_leave_fails, binder_folds}
+use Rattle.tt_fold.proofs.RecordSteps.{unsafe_value, unsafe_is_part, unsafe_type, unsafe_value_fails}
+use Rattle.tt_fold.proofs.RecordSteps.{unsafe_value_folds, unsafe_fails, unsafe_folds}
 use Rattle.tt_fold.proofs.records.UnsafeBinderInnerTypeFoldable.fold_core.Goals as goal
 
 pub core_enter-requires-clause-vars : goal.core_enter-requires-clause-vars

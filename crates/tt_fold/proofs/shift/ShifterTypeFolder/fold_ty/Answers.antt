@@ -12,7 +12,8 @@ use Rattle.tt_fold.specs.MemoryGrowth.{OwnsMemos-still}
 use Rattle.tt_fold.proofs.PartLaws.{in_range}
 use Rattle.tt_fold.proofs.TypeLaws.{part-type}
 use Rattle.tt_fold.proofs.FoldSteps.{node_is_kind}
-use Rattle.tt_fold.proofs.BoundLaws.{type_tree, type_other, term_kept, term_taken, term_given, term_refused, bound_outer}
+use Rattle.tt_fold.proofs.BoundLaws.{type_tree, type_other, term_kept, term_taken, term_given, term_refused}
+use Rattle.tt_fold.proofs.BoundLaws.{bound_outer}
 use Rattle.tt_fold.proofs.ShiftSteps.{moved_given, moved_refused, type_taken}
 use Rattle.tt_fold.proofs.shift.ShifterTypeFolder.fold_ty.Goals as goal
 

@@ -5,7 +5,8 @@ use Rattle.tt_kinds.specs.declared.parts.ListSort.TheVariants as sort
 use Rattle.tt_kinds.specs.Shape.{AreParts}
 use Rattle.tt_kinds.specs.Kinds.{children_shapes}
 use Rattle.tt_interner.specs.Rows.{existentials_row, size}
-use Rattle.tt_interner.proofs.NodeSteps.{IsRowOf, is_row_of_existentials, existentials_shapes, StoresList-ok, StoresList-err}
+use Rattle.tt_interner.proofs.NodeSteps.{IsRowOf, is_row_of_existentials, existentials_shapes, StoresList-ok}
+use Rattle.tt_interner.proofs.NodeSteps.{StoresList-err}
 use Rattle.tt_interner.proofs.children.PolyExistentialPredicateStoredItem.store_few.Goals as goal
 
 pub mk_existential_list-requires : goal.mk_existential_list-requires

@@ -4,7 +4,8 @@ use Rattle.std.specs.Option.{option_copied}
 use Rattle.tt_kinds.specs.Variant.{variant_of}
 use Rattle.tt_interner.specs.Rows.{AreRows}
 use Rattle.tt_interner.specs.Definitions.{IsDefined, variants_of}
-use Rattle.tt_interner.proofs.DefinitionLaws.{absent, there, fields-few, variants-few, parts-variants, variants-in_range}
+use Rattle.tt_interner.proofs.DefinitionLaws.{absent, there, fields-few, variants-few, parts-variants}
+use Rattle.tt_interner.proofs.DefinitionLaws.{variants-in_range}
 use Rattle.tt_interner.proofs.interner.Interner.adt_variants.Goals as goal
 
 pub unreachable-requires : goal.unreachable-requires

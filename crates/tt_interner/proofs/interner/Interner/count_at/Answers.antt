@@ -3,7 +3,8 @@ use Rattle.std.proofs.Common.{sym}
 use Rattle.tt_kinds.specs.declared.parts.List.TheVariants as stored_list
 use Rattle.tt_interner.specs.Rows.{clauses_row, tys_row, consts_row, args_row, pats_row, existentials_row}
 use Rattle.tt_interner.specs.Children.{ty_child, const_child, arg_child, pat_child, existential_child, clause_child}
-use Rattle.tt_interner.proofs.NodeSteps.{is_row_of_tys, is_row_of_consts, is_row_of_args, is_row_of_pats, is_row_of_existentials, is_row_of_clauses, len_here}
+use Rattle.tt_interner.proofs.NodeSteps.{is_row_of_tys, is_row_of_consts, is_row_of_args, is_row_of_pats}
+use Rattle.tt_interner.proofs.NodeSteps.{is_row_of_existentials, is_row_of_clauses, len_here}
 use Rattle.tt_interner.proofs.interner.Interner.count_at.Goals as goal
 
 pub returns-in-Tys : goal.returns-in-Tys

@@ -5,11 +5,12 @@ use Rattle.tt_kinds.specs.Variant.{variant_of}
 use Rattle.tt_kinds.specs.declared.table.Table.TheVariants.{Definitions}
 use Rattle.tt_interner.specs.Rows.{defined_row, IsNew}
 use Rattle.tt_interner.specs.Definitions.{IsDefined, variants_of}
-use Rattle.tt_interner.specs.Tables.{with_entries, defined_entries}
+use Rattle.tt_interner.specs.Tables.{with_entries}
 use Rattle.tt_interner.specs.Kept.{tables}
 use Rattle.tt_interner.proofs.TableLaws.{kept_by, added}
 use Rattle.tt_interner.proofs.DefinitionShapes.{definition-fits}
-use Rattle.tt_interner.proofs.DefinitionLaws.{defined_entries-push, defined_count, defined_new, undefined, not_there, variants-parts, few-fields, Defines-added}
+use Rattle.tt_interner.proofs.DefinitionLaws.{defined_entries-push, defined_count, defined_new, undefined, not_there}
+use Rattle.tt_interner.proofs.DefinitionLaws.{variants-parts, few-fields, Defines-added}
 use Rattle.tt_interner.proofs.interner.Interner.define_adt.Goals as goal
 
 pub add-requires : goal.add-requires

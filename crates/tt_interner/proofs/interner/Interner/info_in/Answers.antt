@@ -1,7 +1,10 @@
 -- what is kept beside an entry is what its tree has
 use Rattle.std.proofs.Common.{refl}
-use Rattle.tt_kinds.specs.declared.table.Table.TheVariants.{Types, Consts, Patterns, Predicates, Existentials, ClauseLists, TypeLists, ConstLists, ArgLists, PatternLists, VarLists, ExistentialLists, AssumptionLists}
-use Rattle.tt_interner.specs.Rows.{type_row, const_row, pat_row, predicate_row, existential_row, clauses_row, tys_row, consts_row, args_row, pats_row, vars_row, existentials_row, assumptions_row}
+use Rattle.tt_kinds.specs.declared.table.Table.TheVariants.{Types, Consts, Patterns, Predicates, Existentials}
+use Rattle.tt_kinds.specs.declared.table.Table.TheVariants.{ClauseLists, TypeLists, ConstLists, ArgLists, PatternLists}
+use Rattle.tt_kinds.specs.declared.table.Table.TheVariants.{VarLists, ExistentialLists, AssumptionLists}
+use Rattle.tt_interner.specs.Rows.{type_row, const_row, pat_row, predicate_row, existential_row, clauses_row, tys_row}
+use Rattle.tt_interner.specs.Rows.{consts_row, args_row, pats_row, vars_row, existentials_row, assumptions_row}
 use Rattle.tt_interner.proofs.TableLaws.{info_within}
 use Rattle.tt_interner.proofs.interner.Interner.info_in.Goals as goal
 

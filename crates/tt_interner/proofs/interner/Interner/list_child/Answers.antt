@@ -2,8 +2,10 @@
 use Rattle.std.proofs.Common.{◌<◌, length, subst}
 use Rattle.tt_kinds.specs.declared.parts.List.TheVariants as stored_list
 use Rattle.tt_interner.specs.Rows.{clauses_row, tys_row, consts_row, args_row, pats_row, existentials_row}
-use Rattle.tt_interner.specs.Children.{ty_child, const_child, arg_child, pat_child, existential_child, clause_child, children_at}
-use Rattle.tt_interner.proofs.NodeSteps.{is_row_of_tys, is_row_of_consts, is_row_of_args, is_row_of_pats, is_row_of_existentials, is_row_of_clauses, len_here, child_here}
+use Rattle.tt_interner.specs.Children.{ty_child, const_child, arg_child, pat_child, existential_child, clause_child}
+use Rattle.tt_interner.specs.Children.{children_at}
+use Rattle.tt_interner.proofs.NodeSteps.{is_row_of_tys, is_row_of_consts, is_row_of_args, is_row_of_pats}
+use Rattle.tt_interner.proofs.NodeSteps.{is_row_of_existentials, is_row_of_clauses, len_here, child_here}
 use Rattle.tt_interner.proofs.interner.Interner.list_child.Goals as goal
 
 pub item_at-requires : goal.item_at-requires

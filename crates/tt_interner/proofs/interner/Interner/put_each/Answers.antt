@@ -1,6 +1,7 @@
 -- by what is stored so far
 use Rattle.std.proofs.Common.{◌≡◌, ◌<◌, length, take, ◌∙◌, arith}
-use Rattle.tt_interner.proofs.ExistentialSteps.{next_parts, StoresEach-built, StoresEach-all, list_parts, PutsEach-stopped, PutsEach-listed}
+use Rattle.tt_interner.proofs.ExistentialSteps.{next_parts, StoresEach-built, StoresEach-all, list_parts}
+use Rattle.tt_interner.proofs.ExistentialSteps.{PutsEach-stopped, PutsEach-listed}
 use Rattle.tt_interner.proofs.interner.Interner.put_each.Goals as goal
 
 pub mk_existential-requires : goal.mk_existential-requires

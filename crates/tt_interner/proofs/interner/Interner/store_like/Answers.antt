@@ -7,7 +7,8 @@ use Rattle.tt_kinds.specs.declared.parts.Kind.{Kind}
 use Rattle.tt_kinds.specs.declared.parts.Kind.TheVariants as kind
 use Rattle.tt_interner.specs.Rows.{type_row}
 use Rattle.tt_interner.specs.Stored.{IsAt}
-use Rattle.tt_interner.proofs.NodeSteps.{kind_there, is_node, like_parts, builds_like, parts-relabelled, refilled-relabelled}
+use Rattle.tt_interner.proofs.NodeSteps.{kind_there, is_node, like_parts, builds_like, parts-relabelled}
+use Rattle.tt_interner.proofs.NodeSteps.{refilled-relabelled}
 use Rattle.tt_interner.proofs.interner.Interner.store_like.Goals as goal
 
 pub with_parts-kind-requires : goal.with_parts-kind-requires

@@ -1,9 +1,12 @@
 -- the tables have their first rows
 use Rattle.std.proofs.Common.{◌≡◌, List, [], ◌∷◌, ◌++◌, ap, arith, ◌∙◌}
 use Rattle.std.specs.String.{string_bytes}
-use Rattle.tt_interner.specs.Rows.{type_row, const_row, pat_row, predicate_row, existential_row, clauses_row, tys_row, consts_row, args_row, pats_row, vars_row, existentials_row, assumptions_row, text_row}
+use Rattle.tt_interner.specs.Rows.{type_row, const_row, pat_row, predicate_row, existential_row, clauses_row, tys_row}
+use Rattle.tt_interner.specs.Rows.{consts_row, args_row, pats_row, vars_row, existentials_row, assumptions_row}
+use Rattle.tt_interner.specs.Rows.{text_row}
 use Rattle.tt_kinds.specs.declared.table.Table.{Table}
-use Rattle.tt_kinds.specs.declared.table.Table.TheVariants.{TypeLists, ArgLists, VarLists, ConstLists, PatternLists, ClauseLists, ExistentialLists, AssumptionLists, Symbols}
+use Rattle.tt_kinds.specs.declared.table.Table.TheVariants.{TypeLists, ArgLists, VarLists, ConstLists, PatternLists}
+use Rattle.tt_kinds.specs.declared.table.Table.TheVariants.{ClauseLists, ExistentialLists, AssumptionLists, Symbols}
 use Rattle.tt_interner.specs.Tables.{no_info, entries_by, declared_entries, defined_entries}
 use Rattle.tt_interner.proofs.TableLaws.{Keeps-first, rows_are_first, are_first_tables, entries_by-first, first_order}
 use Rattle.tt_interner.proofs.interner.Interner.with_limit.Goals as goal

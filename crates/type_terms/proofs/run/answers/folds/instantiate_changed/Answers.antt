@@ -10,7 +10,8 @@ use Rattle.type_terms.specs.Means.{any}
 use Rattle.type_terms.specs.Build.{AreArgumentsOf, IsUnbuilt}
 use Rattle.type_terms.proofs.PartLaws.{AreTerms-second}
 use Rattle.type_terms.proofs.BuildLaws.{answer-passed, unbuilt-refused, Answers-earlier}
-use Rattle.type_terms.proofs.LookupLaws.{told-later, in_range-at, ty-handle, const-handle, pat-handle, predicate-handle, clauses-handle, args-handle, no-handle, nothing-told}
+use Rattle.type_terms.proofs.LookupLaws.{told-later, in_range-at, ty-handle, const-handle, pat-handle, predicate-handle}
+use Rattle.type_terms.proofs.LookupLaws.{clauses-handle, args-handle, no-handle, nothing-told}
 use Rattle.type_terms.proofs.FoldLaws.{absent-refused, inst-adds}
 use Rattle.type_terms.proofs.run.answers.folds.instantiate_changed.Goals as goal
 

@@ -4,7 +4,8 @@ use Rattle.type_terms.specs.declared.run.call.Call.TheVariants as call
 use Rattle.type_terms.specs.Told.{told_all, setting}
 use Rattle.type_terms.specs.Means.{any}
 use Rattle.type_terms.proofs.BuildLaws.{answer-passed}
-use Rattle.type_terms.proofs.LookupLaws.{told-at, in_range-at, ty-handle, const-handle, pat-handle, predicate-handle, clauses-handle, args-handle, no-handle, nothing-told}
+use Rattle.type_terms.proofs.LookupLaws.{told-at, in_range-at, ty-handle, const-handle, pat-handle, predicate-handle}
+use Rattle.type_terms.proofs.LookupLaws.{clauses-handle, args-handle, no-handle, nothing-told}
 use Rattle.type_terms.proofs.FoldLaws.{absent-refused}
 use Rattle.type_terms.proofs.run.answers.folds.shift_at.Goals as goal
 

@@ -5,7 +5,8 @@ use Rattle.tt_interner.specs.Rows.{meaning}
 use Rattle.type_terms.specs.declared.run.call.Call.TheVariants as call
 use Rattle.type_terms.specs.CallForm.{with_flags}
 use Rattle.type_terms.specs.Told.{setting}
-use Rattle.type_terms.proofs.LookupLaws.{told-at, in_range-at, ty-handle, const-handle, pat-handle, predicate-handle, clauses-handle}
+use Rattle.type_terms.proofs.LookupLaws.{told-at, in_range-at, ty-handle, const-handle, pat-handle, predicate-handle}
+use Rattle.type_terms.proofs.LookupLaws.{clauses-handle}
 use Rattle.type_terms.proofs.FoldLaws.{absent-refused}
 use Rattle.type_terms.proofs.QueryLaws.{info-allowed, args-refused, only-args}
 use Rattle.type_terms.proofs.run.answers.queries.info_at.Goals as goal

@@ -8,7 +8,8 @@ use Rattle.type_terms.specs.CallForm.{const_ids, const_form, form_positions, IsF
 use Rattle.type_terms.specs.Told.{told_all, setting}
 use Rattle.type_terms.specs.Means.{number_at}
 use Rattle.type_terms.proofs.PartLaws.{AreTerms-append, AreTerms-second}
-use Rattle.type_terms.proofs.BuildLaws.{answer-passed, unbuilt-refused, kind-allowed, kind-refused, there-built, there-refused}
+use Rattle.type_terms.proofs.BuildLaws.{answer-passed, unbuilt-refused, kind-allowed, kind-refused, there-built}
+use Rattle.type_terms.proofs.BuildLaws.{there-refused}
 use Rattle.type_terms.proofs.run.build.consts.build_const.Goals as goal
 
 pub returns-in_err-constant-in-Ok-clause-extends : goal.returns-in_err-constant-in-Ok-clause-extends

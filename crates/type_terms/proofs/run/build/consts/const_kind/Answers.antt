@@ -1,7 +1,8 @@
 use Rattle.std.proofs.Common.{[], ◌∷◌, refl}
 use Rattle.tt_kinds.specs.Bound as kinds
 use Rattle.tt_kinds.specs.Bound.{depth}
-use Rattle.tt_kinds.specs.Label.{const_sort, const_label, infer_const, placeholder_const, unevaluated_const, error_const, expr_const}
+use Rattle.tt_kinds.specs.Label.{const_sort, const_label, infer_const, placeholder_const, unevaluated_const}
+use Rattle.tt_kinds.specs.Label.{error_const, expr_const}
 use Rattle.tt_kinds.specs.Shape as shape
 use Rattle.tt_kinds.specs.Kinds.{const_kind_shape, args_shape}
 use Rattle.tt_kinds.specs.declared.const_kind.ConstKind.TheVariants as const

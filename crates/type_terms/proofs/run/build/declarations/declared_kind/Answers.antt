@@ -1,5 +1,4 @@
 -- a function has its signature, and nothing else has terms
-use Rattle.std.proofs.Common.{Ok}
 use Rattle.type_terms.specs.Told.{told_all}
 use Rattle.type_terms.specs.declared.run.call.DeclarationKindCall.TheVariants as declares
 use Rattle.type_terms.proofs.DeclareLaws.{declared-passed, sig-declared, no-function, item-declared}

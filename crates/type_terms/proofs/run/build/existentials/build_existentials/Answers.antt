@@ -8,7 +8,8 @@ use Rattle.tt_kinds.specs.declared.table.Table.TheVariants.{ExistentialLists}
 use Rattle.tt_interner.specs.Rows.{existentials_row}
 use Rattle.tt_interner.proofs.Growth.{Extends-refl, Extends-trans}
 use Rattle.type_terms.specs.declared.run.call.ExistentialCall.{ExistentialCall}
-use Rattle.type_terms.specs.CallForm.{existential_form, existential_tree, existentials_tree, existential_positions, IsExistentialTooDeep, all_trees, all_positions, AnyIsDeep}
+use Rattle.type_terms.specs.CallForm.{existential_form, existential_tree, existentials_tree, existential_positions}
+use Rattle.type_terms.specs.CallForm.{IsExistentialTooDeep, all_trees, all_positions, AnyIsDeep}
 use Rattle.type_terms.specs.Told.{told_all, HasFullTable}
 use Rattle.type_terms.specs.Means.{number_at, tree_at}
 use Rattle.type_terms.specs.Build.{ArePlaced}

@@ -1,7 +1,8 @@
 use Rattle.std.proofs.Common.{map, inl, inr}
 use Rattle.tt_kinds.specs.Kinds.{ty_kind_shape, existentials_shape}
 use Rattle.tt_interner.proofs.Growth.{Extends-trans}
-use Rattle.type_terms.specs.CallForm.{existential_form, existential_positions, IsExistentialTooDeep, all_positions, AnyIsDeep, trait_object, form_positions, IsFormTooDeep, IsRegionTooDeep}
+use Rattle.type_terms.specs.CallForm.{existential_form, existential_positions, IsExistentialTooDeep, all_positions}
+use Rattle.type_terms.specs.CallForm.{AnyIsDeep, trait_object, form_positions, IsFormTooDeep, IsRegionTooDeep}
 use Rattle.type_terms.specs.Told.{told_all, HasFullTable}
 use Rattle.type_terms.specs.Means.{number_at}
 use Rattle.type_terms.proofs.PartLaws.{kind-passed, dynamic-kind, placed-grows, IsUnbuilt-weaker}

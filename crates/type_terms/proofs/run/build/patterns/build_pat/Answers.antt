@@ -6,7 +6,8 @@ use Rattle.type_terms.specs.declared.run.answer.Answer.TheVariants as answer
 use Rattle.type_terms.specs.declared.run.call.Call.TheVariants as call
 use Rattle.type_terms.specs.CallForm.{pat_form, form_positions, IsFormTooDeep}
 use Rattle.type_terms.specs.Told.{told_all, setting}
-use Rattle.type_terms.proofs.BuildLaws.{answer-passed, unbuilt-refused, kind-allowed, kind-refused, there-built, there-refused}
+use Rattle.type_terms.proofs.BuildLaws.{answer-passed, unbuilt-refused, kind-allowed, kind-refused, there-built}
+use Rattle.type_terms.proofs.BuildLaws.{there-refused}
 use Rattle.type_terms.proofs.run.build.patterns.build_pat.Goals as goal
 
 pub returns-in_err-pat-in-Ok-clause-extends : goal.returns-in_err-pat-in-Ok-clause-extends

@@ -5,7 +5,8 @@ use Rattle.tt_kinds.specs.Kinds.{clause_form, ty_shape, region_shape}
 use Rattle.tt_kinds.specs.declared.table.Table.TheVariants.{Types}
 use Rattle.type_terms.specs.CallForm.{labelled, one, a_term, a_region}
 use Rattle.type_terms.specs.Told.{told_all, HasFullTable}
-use Rattle.type_terms.proofs.PartLaws.{record-passed, record-placed, parts-two, placed-grows, region-part, region-unbuilt, unbuilt-first, unbuilt-second}
+use Rattle.type_terms.proofs.PartLaws.{record-passed, record-placed, parts-two, placed-grows, region-part}
+use Rattle.type_terms.proofs.PartLaws.{region-unbuilt, unbuilt-first, unbuilt-second}
 use Rattle.type_terms.proofs.ResultLaws.{passed}
 use Rattle.type_terms.proofs.RoomLaws.{never-room, region-room, second-record-room}
 use Rattle.type_terms.proofs.run.build.predicates.type_outlives.Goals as goal

@@ -8,7 +8,8 @@ use Rattle.type_terms.specs.CallForm.{ty_ids, ty_form, form_positions, IsFormToo
 use Rattle.type_terms.specs.Told.{told_all, setting}
 use Rattle.type_terms.specs.Means.{number_at}
 use Rattle.type_terms.proofs.PartLaws.{AreTerms-append, AreTerms-second}
-use Rattle.type_terms.proofs.BuildLaws.{answer-passed, unbuilt-refused, kind-allowed, kind-refused, there-built, there-refused}
+use Rattle.type_terms.proofs.BuildLaws.{answer-passed, unbuilt-refused, kind-allowed, kind-refused, there-built}
+use Rattle.type_terms.proofs.BuildLaws.{there-refused}
 use Rattle.type_terms.proofs.run.build.types.build_ty.Goals as goal
 
 pub returns-in_err-ty-in-Ok-clause-extends : goal.returns-in_err-ty-in-Ok-clause-extends

@@ -5,7 +5,8 @@ use Rattle.tt_kinds.specs.Shape as shape
 use Rattle.tt_kinds.specs.declared.table.Table.TheVariants.{Types}
 use Rattle.type_terms.specs.CallForm.{plain, one, a_region, a_term}
 use Rattle.type_terms.specs.Told.{told_all, HasFullTable}
-use Rattle.type_terms.proofs.PartLaws.{kind-passed, plain-kind, parts-two, unbuilt-first, unbuilt-second, placed-grows, region-part, region-unbuilt}
+use Rattle.type_terms.proofs.PartLaws.{kind-passed, plain-kind, parts-two, unbuilt-first, unbuilt-second, placed-grows}
+use Rattle.type_terms.proofs.PartLaws.{region-part, region-unbuilt}
 use Rattle.type_terms.proofs.run.build.types.ref_kind.Goals as goal
 
 pub returns-in_err-ty-clause-kind : goal.returns-in_err-ty-clause-kind

@@ -1,6 +1,8 @@
 use Rattle.std.proofs.Common.{◌∷◌, [], refl}
 use Rattle.tt_kinds.specs.Bound.{depth}
-use Rattle.tt_kinds.specs.Label.{type_sort, type_variable, type_label, bool_type, char_type, int_type, uint_type, float_type, str_type, never_type, placeholder_type, infer_type, error_type, ref_type, raw_ptr_type, slice_type, tuple_type, foreign_type}
+use Rattle.tt_kinds.specs.Label.{type_sort, type_variable, type_label, bool_type, char_type, int_type, uint_type}
+use Rattle.tt_kinds.specs.Label.{float_type, str_type, never_type, placeholder_type, infer_type, error_type, ref_type}
+use Rattle.tt_kinds.specs.Label.{raw_ptr_type, slice_type, tuple_type, foreign_type}
 use Rattle.tt_kinds.specs.Kinds.{ty_kind_shape, ty_shape, tys_shape}
 use Rattle.tt_kinds.specs.Shape as shape
 use Rattle.tt_kinds.specs.declared.table.Table.TheVariants.{Types, TypeLists}
