@@ -35,7 +35,7 @@ pub args_at-grows : (old new : List Row) (args : GenericArgs) → Grows old new 
     → args_at new args ≡ args_at old args
 args_at-grows old new args g h =
     let same : slice_get (table ArgLists new) args.number ≡ slice_get (table ArgLists old) args.number =
-        rw g.kept (slice_get-more g.more old ArgLists args.number h).1 in
+    rw g.kept (slice_get-more g.more old ArgLists args.number h).1 in
     ap row_args same
 
 pub AreArguments-still : (old new : List Row) (xs ys : List GenericArgKind) → Grows old new → ys ≡ xs
@@ -77,7 +77,7 @@ pub state-still : (old new : List Row) (xs ys : List GenericArgKind) (k : ℕ) (
     ≡ record { rule = arguments old xs; under = k; kept = kept; memory = memos old es }
 state-still old new xs ys k kept es g same h all =
     ap (λ args. record { rule = args; under = k; kept = kept; memory = memos new es })
-        (arguments-still old new xs ys g same h)
+    (arguments-still old new xs ys g same h)
     ∙ ap (λ m. record { rule = arguments old xs; under = k; kept = kept; memory = m }) (memos-still old new es g all)
 
 -- a folder with arguments owns the same with more rows, and with the shifts that it remembers then

@@ -31,8 +31,12 @@ Opening = State Args ⊤
 
 -- the state with these arguments under k binders
 abbrev pub opening_state : List Row → List GenericArgKind → ℕ → List (Place × Ty) → Opening
-opening_state rows items k memory = record { rule = arguments rows items; under = k; kept = tt;
-    memory = memos rows memory }
+opening_state rows items k memory = record {
+  rule = arguments rows items;
+  under = k;
+  kept = tt;
+  memory = memos rows memory;
+}
 
 -- the index of a variable that isn't the opened binder's own, under k binders in it, as it is outside of the opened one
 abbrev pub index_outside : ℕ → BoundVarIndexKind → BoundVarIndexKind

@@ -32,8 +32,14 @@ IsAdt rows t = (id : Id DataType) × (args : GenericArgs) × IsAdtOf rows t id a
 
 -- a field as it is declared, with its place
 abbrev pub declared_field : Ty → Option Symbol → ℕ → ℕ → FieldDef → FieldInfo
-declared_field base variant v i f = record { base = base; ty = f.ty; variant = variant; variant_idx = v; name = f.name;
-    field_idx = i }
+declared_field base variant v i f = record {
+  base = base;
+  ty = f.ty;
+  variant = variant;
+  variant_idx = v;
+  name = f.name;
+  field_idx = i;
+}
 
 -- the fields of a variant, from the place i on
 abbrev pub fields_from : Ty → Option Symbol → ℕ → ℕ → List FieldDef → List FieldInfo

@@ -29,8 +29,10 @@ HasFnSig rows _ = ⊥
 
 -- the signature of no types, of a safe function of Rust's convention, under a binder of no variables
 abbrev pub no_sig : Binder FnSig
-no_sig = record { value = record { inputs_and_output = handle 0; fn_sig_kind = plain_header.fn_sig_kind };
-    bound_vars = handle 0 }
+no_sig = record {
+  value = record { inputs_and_output = handle 0; fn_sig_kind = plain_header.fn_sig_kind };
+  bound_vars = handle 0;
+}
 
 -- the value in a result of an instantiation
 abbrev pub instance : {T : Type 0} → Result (Unnormalized T) Refusal → Result T Refusal

@@ -20,7 +20,7 @@ pub opening-still : (old new : List Row) (xs ys : List GenericArgKind) (k : ℕ)
     → opening_state new ys k es ≡ opening_state old xs k es
 opening-still old new xs ys k es g same h all =
     ap (λ args. let state : Opening = record { rule = args; under = k; kept = tt; memory = memos new es } in state)
-        (arguments-still old new xs ys g same h)
+    (arguments-still old new xs ys g same h)
     ∙ ap (λ m. record { rule = arguments old xs; under = k; kept = tt; memory = m }) (memos-still old new es g all)
 
 -- it owns the same with more rows, and with the shifts that it remembers then

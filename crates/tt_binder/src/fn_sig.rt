@@ -3,13 +3,12 @@
 ghost use Rattle.std.specs.Prelude.{◌<◌, ◌↔◌, IsTrue, IfOk};
 ghost use Rattle.tt_kinds.specs.Bare.{bare_ty_shape};
 ghost use Rattle.tt_kinds.specs.Kinds.{binder_shape};
-ghost use Rattle.tt_kinds.specs.Shape.{IsPart};
 ghost use Rattle.tt_kinds.specs.Values.{fn_sig_shape};
 ghost use Rattle.tt_kinds.specs.declared.declaration.DeclarationSort.TheVariants as sort;
 ghost use Rattle.tt_kinds.specs.declared.table.Table.TheVariants.{ArgLists};
 ghost use Rattle.tt_kinds.specs.declared.ty_kind.TyKind.{TyKind};
 ghost use Rattle.tt_interner.specs.Declarations.{IsOfSort};
-ghost use Rattle.tt_interner.specs.Owned.{IsOwned};
+ghost use Rattle.tt_interner.specs.Owned.{IsOwned, IsPartBy};
 ghost use Rattle.tt_interner.specs.Rows.{size};
 ghost use Rattle.tt_interner.specs.Stored.{Extends};
 ghost use Rattle.tt_binder.specs.FnSig.{GivesFnSig, HasFnSig, InstantiatesSig};
@@ -38,7 +37,7 @@ pub trait TypeSignature: Sized {
     /// build nothing and are never refused. The signature's handles are this interner's.
     fn fn_sig(self, cx: &mut Interner) -> Result<Binder<FnSig>, Refusal>
         requires sig { HasFnSig cx.old.rows (kind_of self) }
-        requires parts { IsPart (size cx.old.rows) (bare_ty_shape (kind_of self)) }
+        requires parts { IsPartBy bare_ty_shape cx.old.rows (kind_of self) }
         ensures gives { GivesFnSig (kind_of self) cx.old result cx.new }
         ensures extends { Extends cx.old cx.new }
         ensures owned { IfOk result (λ sig. IsOwned (binder_shape fn_sig_shape) cx.new sig) };

@@ -40,7 +40,7 @@ form_outline rows (kinds.bound d e) = plain (text_label [])
 form_outline rows (kinds.plain l p) = plain (rename_label (name_of (meaning rows)) l)
 form_outline rows (kinds.under l vars m p) =
     under (rename_label (name_of (meaning rows)) l) (vars_in rows vars)
-        (rename_label (name_of (meaning rows)) (record_label m))
+    (rename_label (name_of (meaning rows)) (record_label m))
 
 -- the outline of a term or a list, by the list that it is or the term
 abbrev pub outline_by : Listed Row → Node → Option List → Outline
@@ -232,7 +232,7 @@ module _ {M E : Type 0} (H : Hooks M E) where
   abbrev pub IsRebuilt : Listed Row → Frame → Listed Child → Listed Row → Child → M → M → Type 0
   IsRebuilt rows0 f results rows y s s' =
       IsChildFor f.item rows y × Rebuilds H (outline_of rows0 f.item) (children_trees rows0 results) s
-          (child_tree rows y) s'
+      (child_tree rows y) s'
 
 -- The walk of the root's children, begun among the terms0 and in the state s0, has come to the terms and the state s,
 -- to the innermost frame, the frames around it and the values of them all. Whatever is left to do makes the walk of the

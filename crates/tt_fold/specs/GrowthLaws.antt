@@ -19,10 +19,18 @@ use Rattle.tt_fold.specs.Growth.{HoldsNoSymbol, AddsTerms}
 pub stored-adds : {old new : List Row} {r : Row} {n : ℕ} → is_in Symbols r ≡ false → Stores old new r n
     → AddsTerms old new
 stored-adds {old} {new} {r} other h = elim h.grown [
-  | inl same ↦ rw same (record { grows = record { more = []; kept = refl; in_range = sizes-grow [] old old refl };
-      no_symbol = tt })
-  | inr added ↦ record { grows = record { more = r ∷ []; kept = added.0;
-      in_range = sizes-grow (r ∷ []) old new added.0 }; no_symbol = (other, tt) }
+  | inl same ↦ rw same (record {
+    grows = record { more = []; kept = refl; in_range = sizes-grow [] old old refl };
+    no_symbol = tt;
+  })
+  | inr added ↦ record {
+    grows = record {
+      more = r ∷ [];
+      kept = added.0;
+      in_range = sizes-grow (r ∷ []) old new added.0;
+    };
+    no_symbol = (other, tt);
+  }
 ]
 
 pub kind-no_symbol : (k : Kind) → is_in Symbols (kind_row k) ≡ false

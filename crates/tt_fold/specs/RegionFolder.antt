@@ -165,4 +165,4 @@ module _ {F : Type 0} (step : F → RegionKind → ℕ → RegionKind → F → 
       (e : Refusal) (s' : Standing (Asking F)) →
       ((u : Tree Depth) → StandsIn u t → IsNoClauseList u → ⊥) →
       Fails (keeps_counters region_hooks) (refusals_of terms) (just_made names f counters) t e s'
-          → PlacesSome names terms f t e s'.state.closure
+      → PlacesSome names terms f t e s'.state.closure

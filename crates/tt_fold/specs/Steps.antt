@@ -4,33 +4,18 @@ use Rattle.tt_index.specs.declared.refusal.Refusal.{Refusal}
 use Rattle.tt_index.specs.declared.refusal.Refusal.TheVariants.{NotAClause}
 use Rattle.tt_kinds.specs.Label.{Name, VarKind}
 use Rattle.tt_kinds.specs.Tree.{Depth, Tree}
-use Rattle.tt_kinds.specs.Shape.{Shape, IsPart, fill, vars_of}
+use Rattle.tt_kinds.specs.Shape.{Shape, vars_of}
 use Rattle.tt_kinds.specs.Kinds.{region_shape}
 use Rattle.tt_kinds.specs.Handle.{BoundVarKinds}
 use Rattle.tt_kinds.specs.declared.region_kind.RegionKind.{RegionKind}
 use Rattle.tt_kinds.specs.declared.table.Table.TheVariants.{VarLists}
 use Rattle.tt_interner.specs.Rows.{Row, size, meaning}
+pub use Rattle.tt_interner.specs.Owned.{IsPartOf, IsPartBy, tree_in, tree_by}
 use Rattle.tt_interner.specs.Stored.{Terms, Extends, IsUnbuilt}
 use Rattle.tt_fold.specs.Walk.{Answer, replace, keep, descend, Hooks, Errors}
 use Rattle.tt_fold.specs.Counts.{Standing, stands}
 use Rattle.tt_fold.specs.declared.folder.Step.{Step}
 use Rattle.tt_fold.specs.declared.folder.Step.TheVariants as step
-
--- the handles in the shape name rows
-abbrev pub IsPartOf : List Row → Shape → Type 0
-IsPartOf rows s = IsPart (size rows) s
-
--- the tree of the shape among the rows
-abbrev pub tree_in : List Row → Shape → Tree Depth
-tree_in rows s = fill (meaning rows) s
-
--- the handles in the value's shape name rows
-abbrev pub IsPartBy : {T : Type 0} → (T → Shape) → List Row → T → Type 0
-IsPartBy shape rows x = IsPartOf rows (shape x)
-
--- the tree of a value's shape among the rows
-abbrev pub tree_by : {T : Type 0} → (T → Shape) → List Row → T → Tree Depth
-tree_by shape rows x = tree_in rows (shape x)
 
 -- the list of a binder's variables is one of the rows
 abbrev pub HasVars : List Row → BoundVarKinds → Type 0

@@ -28,4 +28,4 @@ abbrev pub StaysStill : {M E S : Type 0} → Hooks (Standing M) E → (List Row 
     → (List Row → S → M) → Shape → Terms → S → Terms → Type 0
 StaysStill H touches_nothing means shape terms s terms' =
     IsAlone shape → EndsAt H (touches_nothing terms.rows s) (stands means terms s) (tree_in terms.rows shape)
-        → terms' ≡ terms
+    → terms' ≡ terms

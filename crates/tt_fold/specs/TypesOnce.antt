@@ -103,8 +103,15 @@ module _ {M E S : Type 0} (means : List Row → S → M) (H : TypeHooks (Standin
     answered : {s : Standing (State M ⊤)} {t : Tree Depth} {a : Answer} {q : Standing M}
         → (IsIn (noted_at t) (places s.state.memory) → ⊥)
         → IsMeaning means q.state → H.on_type (counted s.state.rule s.counters) t a q
-        → OnType s t a (record { state = record { rule = q.state; under = s.state.under; kept = s.state.kept;
-        memory = s.state.memory }; counters = q.counters })
+        → OnType s t a (record {
+          state = record {
+            rule = q.state;
+            under = s.state.under;
+            kept = s.state.kept;
+            memory = s.state.memory;
+          };
+          counters = q.counters;
+        })
 
   -- the result of a type is noted: nothing else is newly remembered, and no type is forgotten
   pub record Noted (s : Standing (State M ⊤)) (t r : Tree Depth) (s' : Standing (State M ⊤)) : Type 0 where

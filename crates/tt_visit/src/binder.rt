@@ -4,8 +4,7 @@ ghost use Rattle.std.specs.Prelude.{None, Some, false, true, ◌<◌, ◌≡◌}
 ghost use Rattle.tt_kinds.specs.Handle.{handle};
 ghost use Rattle.tt_kinds.specs.Param.{holds_param};
 ghost use Rattle.tt_kinds.specs.Reading.{outer_binder};
-ghost use Rattle.tt_kinds.specs.Shape.{IsPart, fill};
-ghost use Rattle.tt_interner.specs.Rows.{meaning, size};
+ghost use Rattle.tt_interner.specs.Owned.{IsPartBy, tree_by};
 
 use crate::queries::TypeVisitableExt;
 use crate::visitable::TypeVisitable;
@@ -23,16 +22,16 @@ pub trait BinderExt<T: TypeVisitable>: Sized {
     /// Returns the value under a binder of no variables. No variable may escape the value, since the new binder would
     /// capture it; [`TypeVisitableExt::has_escaping_bound_vars`] tests it.
     fn dummy(cx: &Interner, value: T) -> Self
-        requires value { IsPart (size cx.now.rows) (T.shape value) }
-        requires closed { outer_binder (fill (meaning cx.now.rows) (T.shape value)) ≡ 0 }
+        requires value { IsPartBy T.shape cx.now.rows value }
+        requires closed { outer_binder (tree_by T.shape cx.now.rows value) ≡ 0 }
         ensures { result ≡ unbound value };
 
     /// Returns the value without its binder, if no variable escapes it: none of this binder's, and none of a binder
     /// further out. The value's handles have to be of this interner.
     fn no_bound_vars(self, cx: &Interner) -> Option<T>
-        requires { IsPart (size cx.now.rows) (T.shape (bound self)) }
-        ensures closed { outer_binder (fill (meaning cx.now.rows) (T.shape (bound self))) ≡ 0 → result ≡ Some (bound self) }
-        ensures open { 0 < outer_binder (fill (meaning cx.now.rows) (T.shape (bound self))) → result ≡ None };
+        requires { IsPartBy T.shape cx.now.rows (bound self) }
+        ensures closed { outer_binder (tree_by T.shape cx.now.rows (bound self)) ≡ 0 → result ≡ Some (bound self) }
+        ensures open { 0 < outer_binder (tree_by T.shape cx.now.rows (bound self)) → result ≡ None };
 }
 
 impl<T: TypeVisitable + Drop> BinderExt<T> for Binder<T> {
@@ -61,9 +60,9 @@ pub trait EarlyBinderExt<T: TypeVisitable>: Sized {
     /// Returns the value as it is declared, if no parameter occurs in it. The value's handles have to be of this
     /// interner.
     fn no_bound_vars(self, cx: &Interner) -> Option<T>
-        requires { IsPart (size cx.now.rows) (T.shape (declared self)) }
-        ensures none { holds_param (fill (meaning cx.now.rows) (T.shape (declared self))) ≡ false → result ≡ Some (declared self) }
-        ensures some { holds_param (fill (meaning cx.now.rows) (T.shape (declared self))) ≡ true → result ≡ None };
+        requires { IsPartBy T.shape cx.now.rows (declared self) }
+        ensures none { holds_param (tree_by T.shape cx.now.rows (declared self)) ≡ false → result ≡ Some (declared self) }
+        ensures some { holds_param (tree_by T.shape cx.now.rows (declared self)) ≡ true → result ≡ None };
 }
 
 impl<T: TypeVisitable + Drop> EarlyBinderExt<T> for EarlyBinder<T> {

@@ -3,8 +3,8 @@
 ghost use Rattle.std.specs.Prelude.{IsTrue, false, ◌<◌, ◌≤◌, ◌≡◌, ◌↔◌};
 ghost use Rattle.tt_index.specs.Greatest.{greatest};
 ghost use Rattle.tt_kinds.specs.Reading.{outer_binder};
-ghost use Rattle.tt_kinds.specs.Shape.{IsPart, fill};
-ghost use Rattle.tt_interner.specs.Rows.{meaning, size};
+ghost use Rattle.tt_interner.specs.Owned.{IsPartBy, tree_by};
+ghost use Rattle.tt_interner.specs.Rows.{meaning};
 ghost use Rattle.tt_visit.specs.HasEscapingVars.{InRange};
 
 use crate::visitable::TypeVisitable;
@@ -232,10 +232,10 @@ impl TypeVisitor for InRangeVisitor {
 /// Returns `true`: every variable of a value that is bound outside of it has an index below the greatest. The contract
 /// gives callers this fact.
 pub(crate) fn are_vars_in_range<T: TypeVisitable>(cx: &Interner, value: &T) -> bool
-    requires { IsPart (size cx.now.rows) (T.shape value.now) }
+    requires { IsPartBy T.shape cx.now.rows value.now }
     ensures holds { IsTrue result }
-    ensures each { InRange (fill (meaning cx.now.rows) (T.shape value.now)) }
-    ensures whole { outer_binder (fill (meaning cx.now.rows) (T.shape value.now)) ≤ greatest }
+    ensures each { InRange (tree_by T.shape cx.now.rows value.now) }
+    ensures whole { outer_binder (tree_by T.shape cx.now.rows value.now) ≤ greatest }
 {
     let mut visitor = InRangeVisitor;
     match value.visit_with(cx, &mut visitor) {

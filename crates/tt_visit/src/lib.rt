@@ -1,4 +1,9 @@
 //! Visitors, which walk a term without changing it, and the queries of terms that use them.
+//!
+//! A visit of the type `&'a [T]` calls `visit_ty` at the reference. If that returns `Descend`, it calls `visit_region` at
+//! `'a` and `visit_ty` at the slice; if it returns `Skip`, the visit is at its end. At the slice, `Descend` leads to
+//! `visit_ty` at `T`. The first call that returns `Break` ends the visit with its value, and no hook is called after it
+//! but `leave_binder`, once for each binder that the visit is in.
 #![tactic(auto)]
 
 mod bare;

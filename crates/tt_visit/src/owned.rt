@@ -1,8 +1,9 @@
 //! The test that a value's handles are of an interner, which the calls on values require.
 
 ghost use Rattle.std.specs.Prelude.{◌↔◌, IsTrue};
-ghost use Rattle.tt_kinds.specs.Shape.{AreParts, IsPart, item_shapes};
+ghost use Rattle.tt_kinds.specs.Shape.{AreParts, item_shapes};
 ghost use Rattle.tt_kinds.specs.Kinds.{parts_shapes};
+ghost use Rattle.tt_interner.specs.Owned.{IsPartBy};
 ghost use Rattle.tt_interner.specs.Rows.{size};
 
 use crate::visitable::TypeVisitable;
@@ -35,7 +36,7 @@ pub trait Owned: TypeVisitable {
     /// A handle is a number, so a handle of another interner passes the test if this one has a row of that number. A
     /// handle of this interner stays one, whatever is built later.
     fn is_owned(&self, cx: &Interner) -> bool
-        ensures { IsTrue result ↔ IsPart (size cx.now.rows) (Self.shape self.now) };
+        ensures { IsTrue result ↔ IsPartBy Self.shape cx.now.rows self.now };
 }
 
 /// Returns whether all of the values are this interner's.

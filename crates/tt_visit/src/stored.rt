@@ -5,7 +5,7 @@
 //! child needs room there only under a binder.
 
 ghost use Rattle.std.specs.Prelude.{None, Some, ◌<◌, ◌≡◌, ◌+◌};
-ghost use Rattle.tt_kinds.specs.Shape.{AreParts, HasParts, IsPart, fill, fill_all};
+ghost use Rattle.tt_kinds.specs.Shape.{AreParts, HasParts, fill_all};
 ghost use Rattle.tt_kinds.specs.Kinds.{
   child_shapes,
   children_shapes,
@@ -20,6 +20,7 @@ ghost use Rattle.tt_kinds.specs.Kinds.{
 ghost use Rattle.tt_kinds.specs.Parts.{list_sort, node_table};
 ghost use Rattle.tt_kinds.specs.declared.parts.Child.TheVariants as child;
 ghost use Rattle.tt_kinds.specs.declared.table.Table.TheVariants.{VarLists};
+ghost use Rattle.tt_interner.specs.Owned.{IsPartBy, tree_by};
 ghost use Rattle.tt_interner.specs.Rows.{meaning, size};
 ghost use Rattle.tt_visit.specs.Visit.{
   Breaks,
@@ -80,11 +81,11 @@ pub fn visit_node<V: TypeVisitor>(
     node: Node,
 ) -> ControlFlow<V::Break, ()>
     requires owned { V.owned cx.now.rows visitor.old }
-    requires node { IsPart (size cx.now.rows) (node_shape node) }
+    requires node { IsPartBy node_shape cx.now.rows node }
     ensures owned { V.owned cx.now.rows visitor.new }
     ensures broke { OwnsBreak V.break_owned cx.now.rows result }
     ensures result { Ends V.meaning (GoesOver V.hooks) (Breaks V.hooks)
-        cx.now.rows visitor.old (fill (meaning cx.now.rows) (node_shape node)) result visitor.new }
+        cx.now.rows visitor.old (tree_by node_shape cx.now.rows node) result visitor.new }
 {
     let begun = begin_node(cx, visitor, node);
     finish(cx, visitor, begun)
@@ -97,11 +98,11 @@ pub(crate) fn visit_inside<V: TypeVisitor>(
     node: Node,
 ) -> ControlFlow<V::Break, ()>
     requires owned { V.owned cx.now.rows visitor.old }
-    requires node { IsPart (size cx.now.rows) (node_shape node) }
+    requires node { IsPartBy node_shape cx.now.rows node }
     ensures owned { V.owned cx.now.rows visitor.new }
     ensures broke { OwnsBreak V.break_owned cx.now.rows result }
     ensures result { Ends V.meaning (GoesInside V.hooks) (BreaksInside V.hooks)
-        cx.now.rows visitor.old (fill (meaning cx.now.rows) (node_shape node)) result visitor.new }
+        cx.now.rows visitor.old (tree_by node_shape cx.now.rows node) result visitor.new }
 {
     let begun = begin_inside(cx, visitor, node);
     finish(cx, visitor, begun)
@@ -118,7 +119,7 @@ pub fn visit_kind<V: TypeVisitor>(
     ensures owned { V.owned cx.now.rows visitor.new }
     ensures broke { OwnsBreak V.break_owned cx.now.rows result }
     ensures result { Ends V.meaning (GoesInside V.hooks) (BreaksInside V.hooks)
-        cx.now.rows visitor.old (fill (meaning cx.now.rows) (kind_shape kind.now)) result visitor.new }
+        cx.now.rows visitor.old (tree_by kind_shape cx.now.rows kind.now) result visitor.new }
 {
     let begun = begin_kind(cx, visitor, kind);
     finish(cx, visitor, begun)
@@ -168,11 +169,11 @@ pub fn visit_list<V: TypeVisitor>(
     list: List,
 ) -> ControlFlow<V::Break, ()>
     requires owned { V.owned cx.now.rows visitor.old }
-    requires list { IsPart (size cx.now.rows) (list_shape list) }
+    requires list { IsPartBy list_shape cx.now.rows list }
     ensures owned { V.owned cx.now.rows visitor.new }
     ensures broke { OwnsBreak V.break_owned cx.now.rows result }
     ensures result { Ends V.meaning (GoesOver V.hooks) (Breaks V.hooks)
-        cx.now.rows visitor.old (fill (meaning cx.now.rows) (list_shape list)) result visitor.new }
+        cx.now.rows visitor.old (tree_by list_shape cx.now.rows list) result visitor.new }
 {
     let begun = begin_list(cx, visitor, list);
     finish(cx, visitor, begun)
@@ -313,12 +314,12 @@ fn begin_node<V: TypeVisitor>(
     node: Node,
 ) -> ControlFlow<V::Break, Option<Frame>>
     requires owned { V.owned cx.now.rows visitor.old }
-    requires node { IsPart (size cx.now.rows) (node_shape node) }
+    requires node { IsPartBy node_shape cx.now.rows node }
     ensures owned { V.owned cx.now.rows visitor.new }
     ensures broke { OwnsBreak V.break_owned cx.now.rows result }
     ensures begun { Begins V.meaning V.hooks (GoesOver V.hooks) (Breaks V.hooks)
         (child_height cx.now.rows (child.Node node)) (child_work cx.now.rows (child.Node node))
-        cx.now.rows visitor.old (fill (meaning cx.now.rows) (node_shape node)) result visitor.new }
+        cx.now.rows visitor.old (tree_by node_shape cx.now.rows node) result visitor.new }
 {
     match ask(cx, visitor, node) {
         ControlFlow::Break(b) => ControlFlow::Break(b),
@@ -334,12 +335,12 @@ fn begin_inside<V: TypeVisitor>(
     node: Node,
 ) -> ControlFlow<V::Break, Option<Frame>>
     requires owned { V.owned cx.now.rows visitor.old }
-    requires node { IsPart (size cx.now.rows) (node_shape node) }
+    requires node { IsPartBy node_shape cx.now.rows node }
     ensures owned { V.owned cx.now.rows visitor.new }
     ensures broke { OwnsBreak V.break_owned cx.now.rows result }
     ensures begun { Begins V.meaning V.hooks (GoesInside V.hooks) (BreaksInside V.hooks)
         (child_height cx.now.rows (child.Node node)) (child_work cx.now.rows (child.Node node))
-        cx.now.rows visitor.old (fill (meaning cx.now.rows) (node_shape node)) result visitor.new }
+        cx.now.rows visitor.old (tree_by node_shape cx.now.rows node) result visitor.new }
 {
     match node {
         Node::Clauses(clauses) => {
@@ -365,8 +366,8 @@ fn begin_kind<V: TypeVisitor>(
     ensures broke { OwnsBreak V.break_owned cx.now.rows result }
     ensures begun { Begins V.meaning V.hooks (GoesInside V.hooks) (BreaksInside V.hooks)
         (parts_height cx.now.rows (form_parts (kind_form kind.now)) + 1)
-        (tree_work (fill (meaning cx.now.rows) (kind_shape kind.now)) + 2)
-        cx.now.rows visitor.old (fill (meaning cx.now.rows) (kind_shape kind.now)) result visitor.new }
+        (tree_work (tree_by kind_shape cx.now.rows kind.now) + 2)
+        cx.now.rows visitor.old (tree_by kind_shape cx.now.rows kind.now) result visitor.new }
 {
     match tell_error(cx, visitor, kind) {
         ControlFlow::Break(b) => ControlFlow::Break(b),
@@ -435,12 +436,12 @@ fn begin_list<V: TypeVisitor>(
     list: List,
 ) -> ControlFlow<V::Break, Option<Frame>>
     requires owned { V.owned cx.now.rows visitor.old }
-    requires list { IsPart (size cx.now.rows) (list_shape list) }
+    requires list { IsPartBy list_shape cx.now.rows list }
     ensures owned { V.owned cx.now.rows visitor.new }
     ensures broke { OwnsBreak V.break_owned cx.now.rows result }
     ensures begun { Begins V.meaning V.hooks (GoesOver V.hooks) (Breaks V.hooks)
         (child_height cx.now.rows (child.List list)) (child_work cx.now.rows (child.List list))
-        cx.now.rows visitor.old (fill (meaning cx.now.rows) (list_shape list)) result visitor.new }
+        cx.now.rows visitor.old (tree_by list_shape cx.now.rows list) result visitor.new }
 {
     match list {
         List::Clauses(clauses) => begin_node(cx, visitor, Node::Clauses(clauses)),
@@ -450,10 +451,10 @@ fn begin_list<V: TypeVisitor>(
 
 // Returns the frame of a stored list, before its items.
 fn list_frame(cx: &Interner, list: List) -> Frame
-    requires { IsPart (size cx.now.rows) (list_shape list) }
+    requires { IsPartBy list_shape cx.now.rows list }
     ensures frame { IsFrame cx.now.rows result }
     ensures binder { rest_binder result.rest ≡ None }
-    ensures list { fill (meaning cx.now.rows) (list_shape list)
+    ensures list { tree_by list_shape cx.now.rows list
         ≡ items_tree (list_sort list)
         (fill_all (meaning cx.now.rows) (children_shapes (frame_children cx.now.rows result))) }
     ensures low { children_height cx.now.rows (frame_children cx.now.rows result)
@@ -467,12 +468,12 @@ fn list_frame(cx: &Interner, list: List) -> Frame
 // Calls the hook of a stored term. A term without a hook is entered.
 fn ask<V: TypeVisitor>(cx: &Interner, visitor: &mut V, node: Node) -> ControlFlow<V::Break, Next>
     requires owned { V.owned cx.now.rows visitor.old }
-    requires node { IsPart (size cx.now.rows) (node_shape node) }
+    requires node { IsPartBy node_shape cx.now.rows node }
     ensures owned { V.owned cx.now.rows visitor.new }
     ensures broke { OwnsBreak V.break_owned cx.now.rows result }
     ensures result { Answers V.meaning
         (Asks V.hooks (table_root (node_table node))) (AskingBreaks V.hooks (table_root (node_table node)))
-        cx.now.rows visitor.old (fill (meaning cx.now.rows) (node_shape node)) result visitor.new }
+        cx.now.rows visitor.old (tree_by node_shape cx.now.rows node) result visitor.new }
 {
     match node {
         Node::Ty(ty) => visitor.visit_ty(cx, ty),

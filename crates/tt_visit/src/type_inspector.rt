@@ -1,9 +1,10 @@
 //! Visitors that look at types alone.
 
 ghost use Rattle.tt_kinds.specs.Kinds.{ty_shape};
-ghost use Rattle.tt_kinds.specs.Shape.{IsPart, Shape, fill};
+ghost use Rattle.tt_kinds.specs.Shape.{IsPart, Shape};
 ghost use Rattle.tt_kinds.specs.Tree.{Depth, Tree};
-ghost use Rattle.tt_interner.specs.Rows.{meaning as meaning_of, size};
+ghost use Rattle.tt_interner.specs.Owned.{IsPartBy, tree_by};
+ghost use Rattle.tt_interner.specs.Rows.{size};
 ghost use Rattle.tt_visit.specs.Data.{no_handles};
 ghost use Rattle.tt_visit.specs.Steps.{Answers, Ends, OwnsBreak};
 ghost use Rattle.tt_visit.specs.Types.{TypeVisits, no_promise, only_types};
@@ -34,12 +35,12 @@ pub trait TypeInspector {
 
     /// Called at each type, before its contents.
     fn inspect_ty(&mut self, cx: &Interner, ty: Ty) -> ControlFlow<Self::Break, Next>
-        requires owned { IsPart (size cx.now.rows) (shape self.old) }
-        requires ty { IsPart (size cx.now.rows) (ty_shape ty) }
-        ensures owned { IsPart (size cx.now.rows) (shape self.new) }
+        requires owned { IsPartBy shape cx.now.rows self.old }
+        requires ty { IsPartBy ty_shape cx.now.rows ty }
+        ensures owned { IsPartBy shape cx.now.rows self.new }
         ensures broke { OwnsBreak (λ rows b. IsPart (size rows) (break_shape b)) cx.now.rows result }
-        ensures result { Answers (λ rows s. fill (meaning_of rows) (shape s)) hooks.on_type hooks.type_breaks
-            cx.now.rows self.old (fill (meaning_of cx.now.rows) (ty_shape ty)) result self.new };
+        ensures result { Answers (tree_by shape) hooks.on_type hooks.type_breaks
+            cx.now.rows self.old (tree_by ty_shape cx.now.rows ty) result self.new };
 }
 
 impl<F: TypeInspector> TypeVisitor for F {
@@ -47,7 +48,7 @@ impl<F: TypeInspector> TypeVisitor for F {
 
     ghost Meaning = { Tree Depth };
 
-    ghost meaning = { λ rows s. fill (meaning_of rows) (F.TypeInspector.shape s) };
+    ghost meaning = { tree_by F.TypeInspector.shape };
 
     ghost owned = { λ rows s. IsPart (size rows) (F.TypeInspector.shape s) };
 
@@ -105,13 +106,13 @@ pub fn inspect_types<T: TypeVisitable, F: TypeInspector>(
     value: &T,
     inspector: &mut F,
 ) -> ControlFlow<F::Break, ()>
-    requires owned { IsPart (size cx.now.rows) (F.shape inspector.old) }
-    requires value { IsPart (size cx.now.rows) (T.shape value.now) }
-    ensures owned { IsPart (size cx.now.rows) (F.shape inspector.new) }
+    requires owned { IsPartBy F.shape cx.now.rows inspector.old }
+    requires value { IsPartBy T.shape cx.now.rows value.now }
+    ensures owned { IsPartBy F.shape cx.now.rows inspector.new }
     ensures broke { OwnsBreak (λ rows b. IsPart (size rows) (F.break_shape b)) cx.now.rows result }
-    ensures result { Ends (λ rows s. fill (meaning_of rows) (F.shape s))
+    ensures result { Ends (tree_by F.shape)
         (GoesOver (only_types F.hooks)) (Breaks (only_types F.hooks))
-        cx.now.rows inspector.old (fill (meaning_of cx.now.rows) (T.shape value.now)) result inspector.new }
+        cx.now.rows inspector.old (tree_by T.shape cx.now.rows value.now) result inspector.new }
 {
     value.visit_with(cx, inspector)
 }

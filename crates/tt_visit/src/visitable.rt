@@ -1,6 +1,7 @@
 //! Values that a visitor can visit.
 
-ghost use Rattle.tt_kinds.specs.Shape.{AreParts, IsPart, Shape, fill, fill_all, item_shapes};
+ghost use Rattle.tt_kinds.specs.Shape.{AreParts, Shape, fill, fill_all, item_shapes};
+ghost use Rattle.tt_interner.specs.Owned.{IsPartBy, tree_by};
 ghost use Rattle.tt_interner.specs.Rows.{meaning, size};
 ghost use Rattle.tt_visit.specs.Steps.{Ends, OwnsBreak};
 ghost use Rattle.tt_visit.specs.Visit.{Breaks, BreaksAll, BreaksInside, GoesInside, GoesOver, GoesOverAll};
@@ -23,11 +24,11 @@ pub trait TypeVisitable {
         visitor: &mut V,
     ) -> ControlFlow<V::Break, ()>
         requires owned { V.owned cx.now.rows visitor.old }
-        requires value { IsPart (size cx.now.rows) (shape self.now) }
+        requires value { IsPartBy shape cx.now.rows self.now }
         ensures owned { V.owned cx.now.rows visitor.new }
         ensures broke { OwnsBreak V.break_owned cx.now.rows result }
         ensures result { Ends V.meaning (GoesOver V.hooks) (Breaks V.hooks)
-            cx.now.rows visitor.old (fill (meaning cx.now.rows) (shape self.now)) result visitor.new };
+            cx.now.rows visitor.old (tree_by shape cx.now.rows self.now) result visitor.new };
 }
 
 /// A value that has a hook of its own.
@@ -39,11 +40,11 @@ pub trait TypeSuperVisitable: TypeVisitable {
         visitor: &mut V,
     ) -> ControlFlow<V::Break, ()>
         requires owned { V.owned cx.now.rows visitor.old }
-        requires value { IsPart (size cx.now.rows) (Self.shape self.now) }
+        requires value { IsPartBy Self.shape cx.now.rows self.now }
         ensures owned { V.owned cx.now.rows visitor.new }
         ensures broke { OwnsBreak V.break_owned cx.now.rows result }
         ensures result { Ends V.meaning (GoesInside V.hooks) (BreaksInside V.hooks)
-            cx.now.rows visitor.old (fill (meaning cx.now.rows) (Self.shape self.now)) result visitor.new };
+            cx.now.rows visitor.old (tree_by Self.shape cx.now.rows self.now) result visitor.new };
 }
 
 impl<T: TypeVisitable> TypeVisitable for Binder<T> {

@@ -1,10 +1,11 @@
 //! The trait of visitors.
 
 ghost use Rattle.std.specs.Prelude.{◌<◌, List, ⊤};
-ghost use Rattle.tt_kinds.specs.Shape.{IsPart, fill, vars_of};
+ghost use Rattle.tt_kinds.specs.Shape.{vars_of};
 ghost use Rattle.tt_kinds.specs.Kinds.{clauses_shape, const_shape, predicate_shape, region_shape, ty_shape};
 ghost use Rattle.tt_kinds.specs.declared.table.Table.TheVariants.{VarLists};
-ghost use Rattle.tt_interner.specs.Rows.{Row, meaning as meaning_of, size};
+ghost use Rattle.tt_interner.specs.Owned.{IsPartBy, tree_by};
+ghost use Rattle.tt_interner.specs.Rows.{Row, size};
 ghost use Rattle.tt_visit.specs.Steps.{Answers, Ends, OwnsBreak};
 ghost use Rattle.tt_visit.specs.Visit.{Visits};
 
@@ -51,11 +52,11 @@ pub trait TypeVisitor {
     /// tests the region here.
     fn visit_region(&mut self, cx: &Interner, region: Region) -> ControlFlow<Self::Break, ()>
         requires owned { owned cx.now.rows self.old }
-        requires region { IsPart (size cx.now.rows) (region_shape region) }
+        requires region { IsPartBy region_shape cx.now.rows region }
         ensures owned { owned cx.now.rows self.new }
         ensures broke { OwnsBreak break_owned cx.now.rows result }
         ensures result { Ends meaning hooks.on_region hooks.region_breaks
-            cx.now.rows self.old (fill (meaning_of cx.now.rows) (region_shape region)) result self.new };
+            cx.now.rows self.old (tree_by region_shape cx.now.rows region) result self.new };
 
     /// Called at the error token of a type or a constant, after the hook of that term returned `Descend`, and at a
     /// token in a kind that isn't stored, or by itself.
@@ -68,20 +69,20 @@ pub trait TypeVisitor {
     /// Called at each type, before its contents.
     fn visit_ty(&mut self, cx: &Interner, ty: Ty) -> ControlFlow<Self::Break, Next>
         requires owned { owned cx.now.rows self.old }
-        requires ty { IsPart (size cx.now.rows) (ty_shape ty) }
+        requires ty { IsPartBy ty_shape cx.now.rows ty }
         ensures owned { owned cx.now.rows self.new }
         ensures broke { OwnsBreak break_owned cx.now.rows result }
         ensures result { Answers meaning hooks.on_term hooks.term_breaks
-            cx.now.rows self.old (fill (meaning_of cx.now.rows) (ty_shape ty)) result self.new };
+            cx.now.rows self.old (tree_by ty_shape cx.now.rows ty) result self.new };
 
     /// Called at each constant, before its contents.
     fn visit_const(&mut self, cx: &Interner, constant: Const) -> ControlFlow<Self::Break, Next>
         requires owned { owned cx.now.rows self.old }
-        requires constant { IsPart (size cx.now.rows) (const_shape constant) }
+        requires constant { IsPartBy const_shape cx.now.rows constant }
         ensures owned { owned cx.now.rows self.new }
         ensures broke { OwnsBreak break_owned cx.now.rows result }
         ensures result { Answers meaning hooks.on_term hooks.term_breaks
-            cx.now.rows self.old (fill (meaning_of cx.now.rows) (const_shape constant)) result self.new };
+            cx.now.rows self.old (tree_by const_shape cx.now.rows constant) result self.new };
 
     /// Called at each predicate, before its binder, and at each clause.
     fn visit_predicate(
@@ -90,20 +91,20 @@ pub trait TypeVisitor {
         predicate: Predicate,
     ) -> ControlFlow<Self::Break, Next>
         requires owned { owned cx.now.rows self.old }
-        requires predicate { IsPart (size cx.now.rows) (predicate_shape predicate) }
+        requires predicate { IsPartBy predicate_shape cx.now.rows predicate }
         ensures owned { owned cx.now.rows self.new }
         ensures broke { OwnsBreak break_owned cx.now.rows result }
         ensures result { Answers meaning hooks.on_term hooks.term_breaks
-            cx.now.rows self.old (fill (meaning_of cx.now.rows) (predicate_shape predicate)) result self.new };
+            cx.now.rows self.old (tree_by predicate_shape cx.now.rows predicate) result self.new };
 
     /// Called at each list of clauses, before the clauses.
     fn visit_clauses(&mut self, cx: &Interner, clauses: Clauses) -> ControlFlow<Self::Break, Next>
         requires owned { owned cx.now.rows self.old }
-        requires clauses { IsPart (size cx.now.rows) (clauses_shape clauses) }
+        requires clauses { IsPartBy clauses_shape cx.now.rows clauses }
         ensures owned { owned cx.now.rows self.new }
         ensures broke { OwnsBreak break_owned cx.now.rows result }
         ensures result { Answers meaning hooks.on_term hooks.term_breaks
-            cx.now.rows self.old (fill (meaning_of cx.now.rows) (clauses_shape clauses)) result self.new };
+            cx.now.rows self.old (tree_by clauses_shape cx.now.rows clauses) result self.new };
 
     /// Called at each binder, before its value.
     fn visit_binder(&mut self, cx: &Interner, vars: BoundVarKinds) -> ControlFlow<Self::Break, Next>

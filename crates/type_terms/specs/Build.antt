@@ -230,7 +230,7 @@ pub record PutsPlaced {R : Type 0} (terms : Terms) (earlier : List Told) (ts : F
 abbrev pub PutsItems : {H R : Type 0} → Terms → List Told → List Item → (H → Shape) → List H → Result R Refusal → Type 0
 PutsItems terms earlier is shape values result =
     PutsPlaced terms earlier (items_trees (number_at earlier) (tree_at earlier) is) (items_positions is)
-        (AreItemsTooDeep is) (item_shapes shape values) result
+    (AreItemsTooDeep is) (item_shapes shape values) result
 
 -- the result is the value that the call puts in the children's places, or a refusal with a reason
 pub record GivesParts {H : Type 0} (terms : Terms) (earlier : List Told) (ps : List Part) (shapes : H → Shapes)

@@ -283,7 +283,7 @@ module _ (ids : ℕ → ℕ) where
   ty_form (ty.Tuple ts) = plain (type_label tuple_type) (a_list TypeLists (terms_at Types ts.items) ∷ [])
   ty_form (ty.FnPtr vars ts h) =
       under (type_label (fn_ptr_type h)) (map variable_kind vars.items) fn_sig_tys_record
-          (a_list TypeLists (terms_at Types ts.items) ∷ [])
+      (a_list TypeLists (terms_at Types ts.items) ∷ [])
   ty_form (ty.Item i args) = plain (type_label (item_type i)) (args_part args.items ∷ [])
   ty_form (ty.Dynamic xs r) = trait_object (map existential_form xs.items) r
   ty_form (ty.Pat t p) = plain (type_label pat_type) (one (a_term Types t) ∷ one (a_term Patterns p) ∷ [])
@@ -625,7 +625,7 @@ module _ (ids : ℕ → ℕ) (at : ℕ → Tree Depth) where
   abbrev pub declared_trees : DeclarationKindCall → Forest Depth
   declared_trees (declares.Fn vars ts kind) =
       also (tree.node (var_list_label (map (variable_kind ids) vars.items)) none)
-          (also (part_tree (a_list TypeLists (terms_at Types ts.items))) none)
+      (also (part_tree (a_list TypeLists (terms_at Types ts.items))) none)
   declared_trees _ = none
 
   -- the tree of the declaration that a call makes, with its place among the declarations

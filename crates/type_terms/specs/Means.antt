@@ -261,7 +261,7 @@ AddsNothing s earlier (call.Clauses ps) =
     (clauses_tree (number_at earlier) (tree_at earlier) ps.items)
 AddsNothing s earlier (call.Args args) =
     IsShort (args_part args.items) × IsKnown s earlier ArgLists
-        (part_tree (number_at earlier) (tree_at earlier) (args_part args.items))
+    (part_tree (number_at earlier) (tree_at earlier) (args_part args.items))
 AddsNothing s earlier (call.Shift p n) = (n ≡ 0) ⊎ (outer_binder (tree_at earlier p) ≡ 0)
 AddsNothing s earlier (call.EraseRegions p) = met 0 (tree_at earlier p) ≡ []
 AddsNothing s earlier (call.Instantiate p args) =
@@ -319,7 +319,7 @@ Declares s earlier _ sort n t = ⊥
 abbrev pub IsAllowed : Setting → List Told → Call → Told → Type 0
 IsAllowed s earlier c (term table t) =
     NamesTerms earlier c × (IsTooDeep earlier c → ⊥) × (given_table earlier c ≡ Some table) × Gives earlier c t
-        × ((r : Refusal) → HasCause earlier c r → ⊥)
+    × ((r : Refusal) → HasCause earlier c r → ⊥)
 IsAllowed s earlier c (declared sort n t) = NamesTerms earlier c × Declares s earlier c sort n t
 IsAllowed s earlier c (truth b) = NamesTerms earlier c × GivesTruth earlier c b
 IsAllowed s earlier c (info flags outer) = NamesTerms earlier c × GivesInfo earlier c flags outer

@@ -188,8 +188,11 @@ module _ {N : Type 0} where
   -- the heads of constants
   abbrev pub const_head : ConstLabel → Head N
   const_head (infer_const i) = infer_const_head i
-  const_head (placeholder_const p) = record { before = codes "!"; subject = paired p.universe p.bound.var;
-      after = codes "c" }
+  const_head (placeholder_const p) = record {
+    before = codes "!";
+    subject = paired p.universe p.bound.var;
+    after = codes "c";
+  }
   const_head (unevaluated_const d) = with_word [] (item d)
   const_head (leaf_const bits bytes) = record { before = []; subject = sized bits bytes; after = codes "_" }
   const_head branch_const = no_head
@@ -214,8 +217,11 @@ module _ {N : Type 0} where
 
   -- the words of a function in front of its types, where the style has them
   abbrev pub fn_head : Style → Head N
-  fn_head (style.Signature k) = record { before = safety_word (safety_in k);
-      subject = convention (abi_words (abi_in k)) (splat_in k); after = codes "fn" }
+  fn_head (style.Signature k) = record {
+    before = safety_word (safety_in k);
+    subject = convention (abi_words (abi_in k)) (splat_in k);
+    after = codes "fn";
+  }
   fn_head _ = no_head
 
   -- the heads of records in a term of the style

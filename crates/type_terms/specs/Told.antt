@@ -99,5 +99,8 @@ pub record Setting : Type 1 where
 
 -- an interner that has the old terms before the calls, and the new ones at the end
 abbrev pub setting : Terms → Terms → Setting
-setting old new = record { full = HasFullTable new; declarations = size old.rows Declarations;
-    stored = IsStored old.rows }
+setting old new = record {
+  full = HasFullTable new;
+  declarations = size old.rows Declarations;
+  stored = IsStored old.rows;
+}

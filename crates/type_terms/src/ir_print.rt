@@ -16,19 +16,10 @@ ghost use Rattle.std.specs.Prelude.{
 };
 ghost use Rattle.tt_kinds.specs.Kinds.{child_shapes, kind_shape, node_shape, parts_shapes, region_shape};
 ghost use Rattle.tt_kinds.specs.Bound.{var_kind};
-ghost use Rattle.tt_kinds.specs.Shape.{
-  AreParts,
-  HasParts,
-  IsNamedKind,
-  IsPart,
-  fill,
-  fill_all,
-  name_of,
-  rename_kind,
-  vars_of,
-};
+ghost use Rattle.tt_kinds.specs.Shape.{AreParts, HasParts, IsNamedKind, fill, fill_all, name_of, rename_kind, vars_of};
 ghost use Rattle.tt_kinds.specs.declared.table.Table.TheVariants.{Symbols, VarLists};
 ghost use Rattle.tt_kinds.specs.Handle.{BoundVarKinds};
+ghost use Rattle.tt_interner.specs.Owned.{IsPartBy, tree_by};
 ghost use Rattle.tt_interner.specs.Rows.{meaning, size};
 ghost use Rattle.type_terms.specs.Pieces.{ArePieces, Opens, child_work, inner_work, piece_text, pieces_text};
 ghost use Rattle.type_terms.specs.Spelling.{
@@ -298,9 +289,9 @@ fn write_binder(
 
 // Appends a region.
 fn write_region(cx: &Interner, out: &mut String, region: Region) -> Result<(), AllocError>
-    requires { IsPart (size cx.now.rows) (region_shape region) }
+    requires { IsPartBy region_shape cx.now.rows region }
     ensures { (s : Styles) → Writes result (string_bytes out.old) (string_bytes out.new)
-        (text_in (names cx.now.rows) s (fill (meaning cx.now.rows) (region_shape region))) }
+        (text_in (names cx.now.rows) s (tree_by region_shape cx.now.rows region)) }
 {
     let spelling = region_spelling(&region.kind());
     write_head(cx, out, &spelling)
@@ -314,7 +305,7 @@ fn write_node(
     style: Style,
     node: Node,
 ) -> Result<(), AllocError>
-    requires { IsPart (size cx.now.rows) (node_shape node) }
+    requires { IsPartBy node_shape cx.now.rows node }
     ensures { Opens
         cx.now.rows
         result
@@ -322,8 +313,8 @@ fn write_node(
         (string_bytes out.new)
         pieces.old.items
         pieces.new.items
-        (text_in (names cx.now.rows) style (fill (meaning cx.now.rows) (node_shape node)))
-        (inner_work (fill (meaning cx.now.rows) (node_shape node))) }
+        (text_in (names cx.now.rows) style (tree_by node_shape cx.now.rows node))
+        (inner_work (tree_by node_shape cx.now.rows node)) }
 {
     match node {
         Node::Clauses(clauses) => push_list(cx, pieces, style, List::Clauses(clauses)),
@@ -349,8 +340,8 @@ fn write_kind(
         (string_bytes out.new)
         pieces.old.items
         pieces.new.items
-        (text_in (names cx.now.rows) s (fill (meaning cx.now.rows) (kind_shape kind.now)))
-        (inner_work (fill (meaning cx.now.rows) (kind_shape kind.now))) }
+        (text_in (names cx.now.rows) s (tree_by kind_shape cx.now.rows kind.now))
+        (inner_work (tree_by kind_shape cx.now.rows kind.now)) }
 {
     write_binder(cx, out, kind.bound_vars())?;
     let spelling = kind_spelling(kind);
@@ -484,17 +475,17 @@ pub trait IrPrint: TypeVisitable {
     ///
     /// A term may be as deep as memory allows. If memory is refused, `out` is unchanged.
     fn print(&self, cx: &Interner, out: &mut String) -> Result<(), AllocError>
-        requires { IsPart (size cx.now.rows) (Self.shape self.now) }
+        requires { IsPartBy Self.shape cx.now.rows self.now }
         ensures ok { OnOk result (string_bytes out.new
             ≡ string_bytes out.old
-            ++ text (names cx.now.rows) (fill (meaning cx.now.rows) (Self.shape self.now))) }
+            ++ text (names cx.now.rows) (tree_by Self.shape cx.now.rows self.now)) }
         ensures err { OnErr result (string_bytes out.new ≡ string_bytes out.old) };
 
     /// Returns the value's text, as [`print`](IrPrint::print) appends it.
     final fn to_text(&self, cx: &Interner) -> Result<String, AllocError>
-        requires { IsPart (size cx.now.rows) (Self.shape self.now) }
+        requires { IsPartBy Self.shape cx.now.rows self.now }
         ensures { IfOk result (λ written. string_bytes written
-            ≡ text (names cx.now.rows) (fill (meaning cx.now.rows) (Self.shape self.now))) }
+            ≡ text (names cx.now.rows) (tree_by Self.shape cx.now.rows self.now)) }
     {
         let mut written = String::new(cx.allocator());
         self.print(cx, &mut written)?;

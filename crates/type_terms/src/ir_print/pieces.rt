@@ -5,8 +5,9 @@ ghost use Rattle.std.specs.Prelude.{◌≡◌, ◌≤◌, suc, true, ◌++◌, L
 ghost use Rattle.tt_kinds.specs.Kinds.{child_shapes, items_label, list_shape, parts_shapes};
 ghost use Rattle.tt_kinds.specs.Label.{Name};
 ghost use Rattle.tt_kinds.specs.Parts.{list_sort};
-ghost use Rattle.tt_kinds.specs.Shape.{AreParts, IsPart, Meaning, fill, fill_all};
+ghost use Rattle.tt_kinds.specs.Shape.{AreParts, Meaning, fill_all};
 ghost use Rattle.tt_kinds.specs.Tree.{count_trees};
+ghost use Rattle.tt_interner.specs.Owned.{IsPartBy, tree_by};
 ghost use Rattle.tt_interner.specs.Rows.{Row, meaning, size};
 ghost use Rattle.type_terms.specs.Pieces.{Adds, forest_work, inner_work};
 ghost use Rattle.type_terms.specs.Text.{are_none, before_child, child_text, closing, names, style_in, text_in, texts};
@@ -118,13 +119,13 @@ pub(crate) fn push_list(
     style: Style,
     list: List,
 ) -> Result<(), AllocError>
-    requires { IsPart (size cx.now.rows) (list_shape list) }
+    requires { IsPartBy list_shape cx.now.rows list }
     ensures { OnOk result (Adds
         cx.now.rows
         pieces.old.items
         pieces.new.items
-        (text_in (names cx.now.rows) style (fill (meaning cx.now.rows) (list_shape list)))
-        (inner_work (fill (meaning cx.now.rows) (list_shape list)))) }
+        (text_in (names cx.now.rows) style (tree_by list_shape cx.now.rows list))
+        (inner_work (tree_by list_shape cx.now.rows list))) }
 {
     let items = items_style(style, list);
     let count = cx.list_len(list);
