@@ -194,6 +194,7 @@ fields_from-push : (base : Ty) (name : Option Symbol) (v k m : ℕ) (fs : List F
 fields_from-push base name v k m [] f is = let same : k ≡ m = omega arith in rw same refl
 fields_from-push base name v k m (x ∷ fs) f is = ap (λ ys. declared_field base name v k x ∷ ys) (fields_from-push base name v (k + 1) m fs f (omega arith))
 
+-- once the next field of a variant is pushed, the list ends with one more of the variant's fields
 pub fields_from-more : (base : Ty) (name : Option Symbol) (v : ℕ) (fs : List FieldDef) (i : ℕ) (d : FieldDef) (before now later : List FieldInfo) → i < length fs
     → now ≡ before ++ fields_from base name v 0 (take i fs) → later ≡ now ++ declared_field base name v i (get_or fs i d) ∷ [] → later ≡ before ++ fields_from base name v 0 (take (i + 1) fs)
 fields_from-more base name v fs i d before now later h is pushed =
@@ -210,6 +211,7 @@ fields_among-push base k m [] v is = let same : k ≡ m = omega arith in rw same
 fields_among-push base k m (x ∷ vs) v is =
     ap (λ ys. fields_from base x.name k 0 x.fields ++ ys) (fields_among-push base (k + 1) m vs v (omega arith)) ∙ sym (append_assoc (fields_from base x.name k 0 x.fields) _ _)
 
+-- once the fields of the next variant are added, the list has the fields of one variant more
 pub fields_among-more : (base : Ty) (vs : List VariantDef) (i : ℕ) (v : VariantDef) (now later : List FieldInfo) → i < length vs → v ≡ get_or vs i v
     → now ≡ fields_among base 0 (map variant_of (take i vs)) → later ≡ now ++ fields_from base v.name i 0 v.fields.items → later ≡ fields_among base 0 (map variant_of (take (i + 1) vs))
 fields_among-more base vs i v now later h at is added =
@@ -247,6 +249,7 @@ none-from : (base : Ty) (name : Option Symbol) (v i : ℕ) (fs : List FieldDef) 
 none-from base name v i [] e = refl
 none-from base name v i (f ∷ fs) e = cc
 
+-- if one of the variants has a field, the list of all their fields isn't empty
 pub some-among : (base : Ty) (k : ℕ) (vs : List VariantDef) (i : ℕ) (v : VariantDef) → i < length vs → v ≡ get_or vs i v → v.fields.items ≢ [] → fields_among base k (map variant_of vs) ≢ []
 some-among base k [] i v h at some = absurd (omega arith)
 some-among base k (x ∷ vs) zero v h at some = λ e.

@@ -98,6 +98,7 @@ is_zero : (n : ℕ) (b : Bool) → b ≡ false → (n ≢ 0 → IsTrue b) → n 
 is_zero zero b e h = refl
 is_zero (suc n) b e h = let never = h (λ z. omega (arith, z)) in cc
 
+-- a tree whose flags include none of the flags of parameters holds no parameter
 pub misses_param : (t : Tree Depth) (n : ℕ) (b : Bool) → n ≡ scan t → b ≡ false → (bit_and n 7 ≢ 0 → IsTrue b) → holds_param t ≡ false
 misses_param t n b e none h =
     as_number-zero (holds_param t) (sym (param_bit-scan label_sets_none t) ∙ ap param_bit (sym e) ∙ meets_none n (sym (and_mask n 3) ∙ is_zero (bit_and n 7) b none h))

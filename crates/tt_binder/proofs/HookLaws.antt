@@ -159,6 +159,7 @@ pub record InnerType (t : Tree Depth) : Type 0 where
   pub kind : IsTrue (is_type label)
   pub generic : IsGeneric_among children
 
+-- a type that holds a parameter and is none is a term, with a parameter among its children
 pub inner_type : (t : Tree Depth) → IsTypeTree t → holds_param t ≡ true → ((i : ℕ) → IsParam type_sort i t → ⊥) → InnerType t
 inner_type (param s i name) is h no_param = absurd (no_param i (is, refl))
 inner_type (bound s d e) is h no_param = cc
@@ -172,11 +173,13 @@ pub type_param_found : (f : Meaning) (p : ParamTy) → IsParam type_sort p.index
 unfolding fill
 type_param_found f p = (refl, refl)
 
+-- the tree of a type whose kind is no parameter is no parameter
 pub type_param_none : (f : Meaning) (k : TyKind) → ((p : ParamTy) → k ≡ ty.Param p → ⊥) → (i : ℕ) → IsParam type_sort i (fill f (ty_kind_shape k)) → ⊥
 unfolding fill
 type_param_none f (ty.Param p) other i h = other p refl
 type_param_none f _ other i h = h
 
+-- the tree of a constant whose kind is a parameter is a parameter of the same index
 pub const_param_found : (f : Meaning) (p : ParamConst) → IsParam const_sort p.index (fill f (const_kind_shape (const.Param p)))
 unfolding fill
 const_param_found f p = (refl, refl)
@@ -186,6 +189,7 @@ unfolding fill
 value_none f t (valtree.Leaf s) i h = h
 value_none f t (valtree.Branch cs) i h = h
 
+-- the tree of a constant whose kind is no parameter is no parameter
 pub const_param_none : (f : Meaning) (k : ConstKind) → ((p : ParamConst) → k ≡ const.Param p → ⊥) → (i : ℕ) → IsParam const_sort i (fill f (const_kind_shape k)) → ⊥
 unfolding fill
 const_param_none f (const.Param p) other i h = other p refl
@@ -209,6 +213,7 @@ pub param_touched : (f : Meaning) (r : RegionKind) (p : EarlyParamRegion) → r 
 unfolding fill
 param_touched f r p e h = let left = rw e at h in let both = left.0 in cc
 
+-- a region variable isn't left as it is
 pub var_touched : (f : Meaning) (r : RegionKind) (v : ℕ) → r ≡ ReVar v → IsUntouched (fill f (region_shape r)) → ⊥
 unfolding fill
 var_touched f r v e h = let left = rw e at h in left.1 v refl
@@ -227,6 +232,7 @@ param_region f r p e = rw e refl
 pub leaf_at : (unbuilt : Tree Depth → Refusal → Type 0) (args : List (Argument Depth)) (k : ℕ) (t u : Tree Depth) (e : Refusal) → t ≡ u → LeafRefuses unbuilt args k u e → LeafRefuses unbuilt args k t e
 leaf_at unbuilt args k t u e same h = subst (λ x. LeafRefuses unbuilt args k x e) (sym same) h
 
+-- an instance of a tree is an instance of an equal tree
 pub done_at : (args : List (Argument Depth)) (k : ℕ) (t u r : Tree Depth) → t ≡ u → Instantiates args k u r → Instantiates args k t r
 done_at args k t u r same h = subst (λ x. Instantiates args k x r) (sym same) h
 
@@ -238,6 +244,7 @@ same_standing : (s s' : Standing Instantiation) (d n : ℕ) → s'.state ≡ s.s
     → s' ≡ record { state = s.state; counters = record { descents = d; shift_descents = n } }
 same_standing s s' d n state descents shifts = ap3 (λ q x y. record { state = q; counters = record { descents = x; shift_descents = y } }) state descents shifts
 
+-- before a term's children: a parameter is replaced by the argument that is put for it
 pub given_step : (s s' : Standing Instantiation) (t r : Tree Depth) (o : Sort) (i : ℕ) (name : Name) → t ≡ param o i name
     → s'.state ≡ record { rule = s.state.rule; under = s.state.under; kept = s'.state.kept; memory = s.state.memory }
     → PutsArgument s.state.rule s.state.under (param o i name) r s.state.kept s.counters s'.state.kept s'.counters → OnTerm instantiation s t (replace r) s'
@@ -245,6 +252,7 @@ given_step s s' t r o i name is state puts =
     subst (λ q. OnTerm instantiation s t (replace r) (record { state = q; counters = s'.counters })) (sym state)
     (given (subst (λ u. PutsArgument s.state.rule s.state.under u r s.state.kept s.counters s'.state.kept s'.counters) (sym is) puts))
 
+-- a type that holds a parameter, is none and isn't remembered is taken apart, and counted
 pub taken_step : (s s' : Standing Instantiation) (t : Tree Depth) → InnerType t → (IsIn (here s.state t) (places s.state.memory) → ⊥) → s'.state ≡ s.state
     → s'.counters.descents ≡ counted s.counters.descents → s'.counters.shift_descents ≡ s.counters.shift_descents → OnTerm instantiation s t descend s'
 taken_step s s' t inner fresh state descents shifts =
@@ -252,6 +260,7 @@ taken_step s s' t inner fresh state descents shifts =
     subst (λ q. OnTerm instantiation s t descend q) (sym same)
     (taken_apart (subst (λ u. IsTaken instantiation s.state.rule s.state.under u) (sym inner.is) (inner.kind, inner.generic)) fresh)
 
+-- a predicate or a clause list that holds a parameter is entered
 pub gone_step : (s : Standing Instantiation) (t : Tree Depth) → IsClauseTree t → holds_param t ≡ true → OnTerm instantiation s t descend s
 gone_step s (term l ts) is h = gone_into is.0 (on_true (is_type_or_clause l) (IsGeneric_among-from_test ts h))
 gone_step s _ is h = absurd is
@@ -273,13 +282,16 @@ const_tree_other (bound s d e) is = rw is refl
 const_tree_other (term l ts) is = const_label_other l is
 const_tree_other _ is = absurd is
 
+-- the result of a constant isn't remembered
 pub const_unnoted : (s : Standing Instantiation) (t r : Tree Depth) → IsConstTree t → AfterTerm instantiation s t r r s
 const_unnoted s t r is = not_noted (const_tree_other t is)
 
+-- the result of a predicate or a clause list isn't remembered
 pub clause_unnoted : (s : Standing Instantiation) (t r : Tree Depth) → IsClauseTree t → AfterTerm instantiation s t r r s
 clause_unnoted s (term l ts) r is = not_noted is.0
 clause_unnoted s _ r is = absurd is
 
+-- before a term's children: a constant that is no parameter is entered
 pub const_step : (s : Standing Instantiation) (t : Tree Depth) → IsInnerConst t → OnTerm instantiation s t descend s
 const_step s t is = gone_into (const_other t is) (const-gone t is)
 

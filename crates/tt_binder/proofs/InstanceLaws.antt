@@ -80,6 +80,7 @@ pub new_state : {S : Type 0} (rows : List Row) (items : List Row → S → List 
     ≡ at_first (arguments rows (items rows b))
 new_state rows items a b k es types consts same outside empty no_types no_consts = rw (same, outside, empty, no_types, no_consts) refl
 
+-- what a new folder's walk of a tree gives is an instance of the tree
 pub instance_walked : (args : Args) (s s' : Standing Instantiation) (t r : Tree Depth) → s.state ≡ at_first args → Walks arg_hooks s t r s' → IsInstance args t r
 instance_walked args s s' t r is w =
     let n = does instantiation instantiation_laws w (knows_first args s.state is) in
@@ -144,6 +145,7 @@ pub walk_refused : (terms : Terms) (args : Args) (s s' : Standing Instantiation)
     → Refused instantiation instantiation_laws (refusals_of terms) (refusals-tell terms) s t e s'
 walk_refused terms args s s' t e is f = refused instantiation instantiation_laws (refusals_of terms) (refusals-tell terms) f (knows_first args s.state is)
 
+-- a new folder's refused walk has a reason, if each list of clauses in the plain result holds clauses alone
 pub reason_refused : (terms : Terms) (args : Args) (s s' : Standing Instantiation) (t : Tree Depth) (e : Refusal) → s.state ≡ at_first args
     → KeepsClauses (inst_tree 0 args t) → Fails arg_hooks (refusals_of terms) s t e s' → IsReason terms args t e
 reason_refused terms args s s' t e is keeps f = at_root (subst (λ q. Refuses instantiation (IsRefused terms) q.rule q.under t e) is (walk_refused terms args s s' t e is f).why)
@@ -181,6 +183,7 @@ pub empty_outcome : {T : Type 0} (result : Result T Refusal) (value : T) (b : Bo
 empty_outcome result value true P E some none refused given = rw (some refl) (refused refl)
 empty_outcome result value false P E some none refused given = rw (none refl) (given refl)
 
+-- a call without arguments is refused only with `NoArguments`, and then this refusal's condition holds
 pub empty_err : {T : Type 0} (result : Result T Refusal) (value : T) (b : Bool) (E : Refusal → Type 0)
     → (b ≡ true → result ≡ Err NoArguments) → (b ≡ false → result ≡ Ok value) → (b ≡ true → E NoArguments) → IfErr result E
 empty_err result value true E some none refused = rw (some refl) (refused refl)
@@ -190,6 +193,7 @@ empty_err result value false E some none refused = rw (none refl) tt
 kept_back : (rows : List Row) (args : List (Argument Depth)) (s : Shape) → IsTypeOrClause (tree_in rows s) → holds_param (tree_in rows s) ≡ false → ComesBack args (tree_in rows s)
 kept_back rows args s kind none = record { no_param = none; hides = inr (hides_none (tree_in rows s) kind none) }
 
+-- a stored type without parameters comes back
 pub type_back : (rows : List Row) (args : List (Argument Depth)) (s : Shape) (n : ℕ) → s ≡ stored Types n → IsPartOf rows s → holds_param (tree_in rows s) ≡ false → ComesBack args (tree_in rows s)
 unfolding fill
 type_back rows args s n is part none =
@@ -197,6 +201,7 @@ type_back rows args s n is part none =
     let kind : IsTypeOrClause (tree_in rows s) = rw is (type_stays rows n within) in
     kept_back rows args s kind none
 
+-- a stored predicate or a clause list without parameters comes back
 pub clauses_back : (rows : List Row) (args : List (Argument Depth)) (s : Shape) (t : Table) (n : ℕ) → IsOfClauses t → s ≡ stored t n → IsPartOf rows s → holds_param (tree_in rows s) ≡ false → ComesBack args (tree_in rows s)
 unfolding fill
 clauses_back rows args s t n of is part none =
@@ -212,6 +217,7 @@ first_none false b h = refl
 clause_hides : (t : Tree Depth) → IsTypeOrClause t → holds_param (tree.node clause_label (tree.also t tree.none)) ≡ false → HidesRegionVars (tree.node clause_label (tree.also t tree.none))
 clause_hides t kind h = λ x g. elim g [ inl a ↦ hides_none t kind (first_none (holds_param t) false h) x a | inr b ↦ b ]
 
+-- a lone clause without parameters comes back
 pub clause_back : (rows : List Row) (args : List (Argument Depth)) (s : Shape) (c : Clause) → s ≡ one_clause_shape c → IsPartOf rows s → holds_param (tree_in rows s) ≡ false → ComesBack args (tree_in rows s)
 unfolding fill fill_all
 clause_back rows args s c is part nothing =

@@ -109,6 +109,7 @@ mutual
       let m = all_stay_open args k ts h.1 in
       record { plain = ap2 also n.plain m.plain; given = (n.given, m.given) }
 
+-- a tree under k binders that reaches at most k is opened to itself
 pub low_opens : (args : Args) (k : ℕ) (t : Tree Depth) → outer_binder t ≤ k → Done opening args k t t
 low_opens args k t h =
     let deeper : greatest_reach (read (k + 0) t) ≡ greatest_reach (read 0 t) - k = greatest_reach-deeper k 0 t in

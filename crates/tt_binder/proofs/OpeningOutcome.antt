@@ -86,6 +86,7 @@ reason_refused terms args t e keeps why = by_reason why
 abbrev pub at_first : Args → Opening
 at_first args = record { rule = args; under = 0; kept = tt; memory = [] }
 
+-- a new folder's state: its arguments, no binder entered and nothing remembered
 pub new_opener : {S : Type 0} (rows : List Row) (items : List Row → S → List GenericArgKind) (a b : S) (k : ℕ) (es : List (Place × Ty)) → a ≡ b → k ≡ 0 → es ≡ []
     → opening_state rows (items rows a) k es ≡ at_first (arguments rows (items rows b))
 new_opener rows items a b k es same outside empty = rw (same, outside, empty) refl

@@ -237,8 +237,10 @@ pub variable_at : (f : Meaning) (o : Sort) (i : BoundVarIndexKind) (e : Entry �
 unfolding fill
 variable_at f o i e t same = rw same tt
 
+-- what a tree is opened to, an equal tree is opened to
 pub opens_at : (args : Args) (k : ℕ) (t u r : Tree Depth) → t ≡ u → Opens args k u r → Opens args k t r
 opens_at args k t u r same h = subst (λ x. Opens args k x r) (sym same) h
 
+-- why a tree isn't opened is why an equal tree isn't
 pub refuses_at : (unbuilt : Tree Depth → Refusal → Type 0) (args : Args) (k : ℕ) (t u : Tree Depth) (e : Refusal) → t ≡ u → OpeningRefuses unbuilt args k u e → OpeningRefuses unbuilt args k t e
 refuses_at unbuilt args k t u e same h = subst (λ x. OpeningRefuses unbuilt args k x e) (sym same) h

@@ -35,6 +35,7 @@ row_args_parts rows are n None e = tt
 row_args_parts rows are n (Some (args_row args)) e = (Means-row rows are ArgLists n (args_row args) e).parts.1
 row_args_parts rows are n (Some _) e = tt
 
+-- the handles in the arguments of a stored list name rows
 pub are_arguments_at : (rows : List Row) (args : GenericArgs) → AreRows rows → AreArguments rows (args_at rows args)
 are_arguments_at rows args are = row_args_parts rows are args.number (slice_get (table ArgLists rows) args.number) refl
 
@@ -109,19 +110,23 @@ type_label_stays : (l : Label Name) → IsTrue (is_type l) → IsTrue (is_type_o
 type_label_stays (type_label l) h = refl
 type_label_stays _ h = cc
 
+-- a type is one of the terms that stay where they hold no parameter
 pub type_kept : (t : Tree Depth) → IsTypeTree t → IsTypeOrClause t
 type_kept (tree.param s i name) is = rw is refl
 type_kept (tree.bound s d e) is = rw is refl
 type_kept (tree.term l ts) is = type_label_stays l is
 type_kept _ is = absurd is
 
+-- a predicate or a clause list is one of the terms that stay where they hold no parameter
 pub clause_kept : (t : Tree Depth) → IsClauseTree t → IsTypeOrClause t
 clause_kept (tree.term l ts) is = is.1
 clause_kept _ is = absurd is
 
+-- the tree of a stored type is one of the terms that stay where they hold no parameter
 pub type_stays : (rows : List Row) (n : ℕ) → n < size rows Types → IsTypeOrClause (meaning rows Types n)
 type_stays rows n h = type_kept (meaning rows Types n) (stored_is rows Types n h)
 
+-- the tree of a stored predicate or clause list is one of the terms that stay where they hold no parameter
 pub clause_stays : (rows : List Row) (t : Table) (n : ℕ) → IsOfClauses t → n < size rows t → IsTypeOrClause (meaning rows t n)
 clause_stays rows Predicates n of h = clause_kept (meaning rows Predicates n) (stored_is rows Predicates n h)
 clause_stays rows ClauseLists n of h = clause_kept (meaning rows ClauseLists n) (stored_is rows ClauseLists n h)
@@ -138,21 +143,26 @@ inner_const _ is other = absurd is
 pub type_within : (rows : List Row) (ty : Ty) → IsPartOf rows (ty_shape ty) → ty.number < size rows Types
 type_within rows ty h = h
 
+-- a constant's handle that is in range names a row of its table
 pub const_within : (rows : List Row) (c : Const) → IsPartOf rows (const_shape c) → c.number < size rows Consts
 const_within rows c h = h
 
+-- the tree of a type's handle is a type
 pub type_is : (rows : List Row) (ty : Ty) → IsPartOf rows (ty_shape ty) → IsTypeTree (tree_in rows (ty_shape ty))
 unfolding fill
 type_is rows ty h = stored_is rows Types ty.number (type_within rows ty h)
 
+-- the tree of a constant's handle is a constant
 pub const_is : (rows : List Row) (c : Const) → IsPartOf rows (const_shape c) → IsConstTree (tree_in rows (const_shape c))
 unfolding fill
 const_is rows c h = stored_is rows Consts c.number (const_within rows c h)
 
+-- the tree of a predicate's handle is a predicate or a clause list
 pub predicate_is : (rows : List Row) (p : Predicate) → IsPartOf rows (predicate_shape p) → IsClauseTree (tree_in rows (predicate_shape p))
 unfolding fill
 predicate_is rows p h = stored_is rows Predicates p.number h
 
+-- the tree of a clause list's handle is a predicate or a clause list
 pub clauses_is : (rows : List Row) (cs : Clauses) → IsPartOf rows (clauses_shape cs) → IsClauseTree (tree_in rows (clauses_shape cs))
 unfolding fill
 clauses_is rows cs h = stored_is rows ClauseLists cs.number h
@@ -162,6 +172,7 @@ pub kind_tree : (rows : List Row) (ty : Ty) (kind : TyKind) → AreRows rows →
 unfolding fill
 kind_tree rows ty kind are at = (Means-row rows are Types ty.number (type_row kind) at).tree
 
+-- a constant's tree is the tree of the kind in its row
 pub const_kind_tree : (rows : List Row) (c : Const) (kind : ConstKind) → AreRows rows → IsAt rows (const_row kind) c.number → tree_in rows (const_shape c) ≡ fill (meaning rows) (const_kind_shape kind)
 unfolding fill
 const_kind_tree rows c kind are at = (Means-row rows are Consts c.number (const_row kind) at).tree

@@ -183,6 +183,7 @@ some_value : (o : Option (Tree Depth)) → IsSome o → (v : Tree Depth) × (o �
 some_value None h = absurd (cc)
 some_value (Some v) h = (v, refl)
 
+-- what is put for a parameter is its argument, shifted past the binders above it
 pub put_argument : {args : Args} {k : ℕ} {t r : Tree Depth} {kept kept' : Kept} {c c' : Counters} → PutsArgument args k t r kept c kept' c' → IsArgument args k t r
 put_argument (as_it_is is) = is
 put_argument (shifted_now i n is place below now more pairs) = is

@@ -64,6 +64,7 @@ placed_in (Some a) s i name k = by (same_sort s a.sort)
     by true = refl
     by false = refl
 
+-- a parameter becomes what plain instantiation makes of it
 pub param_placed : (m : Replacing) (s : Sort) (i : ℕ) (name : Name) → become m (param s i name) ≡ inst_tree m.under m.args (param s i name)
 param_placed m s i name = placed_in (slice_get m.args i) s i name m.under
 

@@ -320,5 +320,6 @@ module _ (args : List (Argument Depth)) (t : Tree Depth) (some : args ≢ []) (l
       meets = λ e. (λ h. (is_refused (only e) e h).1, λ why. it_meets e why);
     }
 
+-- in a value that fits, without region variables, a walk that skips nothing ends as plain replacement does
 pub pruning_unseen : PruningIsUnseen
 pruning_unseen rows args s are part some lacks fit binders = is_unseen args (tree_in rows s) some lacks (value-fits rows s are part fit binders) (value_rooted rows are s part) (value_keeps rows are s part)

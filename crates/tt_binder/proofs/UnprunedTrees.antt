@@ -100,5 +100,6 @@ stored-rooted (r ∷ rows) are t n h = elim (place_cases r rows t n h) [
         let same : meaning (r ∷ rows) t n ≡ fill (meaning rows) (row_shape r) = rw (newest.last, ← newest.same_table) (meaning-new r rows) in
         rw same rooted
 
+-- each term in the tree of an interner's value is of a table of terms
 pub value_rooted : (rows : List Row) → AreRows rows → (s : Shape) → IsPartOf rows s → IsRooted (tree_in rows s)
 value_rooted rows are s part = part-rooted (size rows) (meaning rows) (stored-rooted rows are) s part

@@ -350,6 +350,7 @@ all_found s s' t went fits agree =
       ],
     )
 
+-- a visit that goes to its end found that all variables agree, and one that breaks found one that does not
 pub validation_is_exact : ValidationIsExact
 validation_is_exact s s' t = (all_found s s' t, λ b h. breaks_disagrees s s' t b h)
 
@@ -467,9 +468,11 @@ pub valid_elsewhere : (rows : List Row) (vars : BoundVarKinds) (k : ℕ) (s : So
 unfolding fill
 valid_elsewhere rows vars k s d e b is asked = (λ yes here. let never = asked.1 here in cc, λ agrees. refl)
 
+-- a test whether two kinds of variables are equal is a test whether entries with these kinds are
 pub same_entry : (x y : BoundVariableKind) (r : Bool) → (IsTrue r ↔ (y ≡ x)) → IsTrue r ↔ (Some y ≡ Some x)
 same_entry x y r asked = (λ yes. ap Some (asked.0 yes), λ e. asked.1 (same_Some y x e))
 
+-- where a list has no entry for a variable, the answer `false` is right
 pub no_entry : (x : BoundVariableKind) → IsTrue false ↔ (let o : Option BoundVariableKind = None in o ≡ Some x)
 no_entry x = (λ yes. let never = yes in cc, λ e. let never = e in cc)
 
@@ -479,6 +482,7 @@ told_no P r is asked p = let never = asked.1 p in cc
 
 -- What isn't a bound variable agrees by itself.
 
+-- a region that is no bound variable agrees
 pub region_other : (f : Meaning) (vs : List (VarKind Name)) (k : ℕ) (r : RegionKind) → ((i : BoundVarIndexKind) (b : BoundRegion) → r ≡ ReBound i b → ⊥) → Agrees vs k (fill f (region_shape r))
 unfolding fill
 region_other f vs k (ReEarlyParam p) other = tt
@@ -490,6 +494,7 @@ region_other f vs k (RePlaceholder p) other = tt
 region_other f vs k ReErased other = tt
 region_other f vs k (ReError e) other = tt
 
+-- a type that is no bound variable is itself no variable that disagrees
 pub ty_other : (f : Meaning) (vs : List (VarKind Name)) (k : ℕ) (kind : TyKind) → ((i : BoundVarIndexKind) (b : BoundTy) → kind ≡ ty.Bound i b → ⊥) → RootAgrees vs k (fill f (ty_kind_shape kind))
 unfolding fill
 ty_other f vs k (ty.Bound i b) other = absurd (other i b refl)
@@ -500,12 +505,14 @@ unfolding fill
 value_other f vs k t (valtree.Leaf s) = tt
 value_other f vs k t (valtree.Branch cs) = tt
 
+-- a constant that is no bound variable is itself no variable that disagrees
 pub const_other : (f : Meaning) (vs : List (VarKind Name)) (k : ℕ) (kind : ConstKind) → ((i : BoundVarIndexKind) (b : BoundConst) → kind ≡ const.Bound i b → ⊥) → RootAgrees vs k (fill f (const_kind_shape kind))
 unfolding fill
 const_other f vs k (const.Bound i b) other = absurd (other i b refl)
 const_other f vs k (const.Value v) other = value_other f vs k v.ty v.valtree.kind
 const_other f vs k _ other = tt
 
+-- a predicate or a clause list is itself no variable that disagrees
 pub clause_other : (vs : List (VarKind Name)) (k : ℕ) (t : Tree Depth) → IsClauseTree t → RootAgrees vs k t
 clause_other vs k (term l ts) is = tt
 clause_other vs k _ is = absurd is
@@ -528,16 +535,20 @@ pub ty_variable : (rows : List Row) (t : Ty) (kind : TyKind) (i : BoundVarIndexK
     → fill (meaning rows) (ty_shape t) ≡ fill (meaning rows) (shape.bound type_sort (depth i) (ty_entry b))
 ty_variable rows t kind i b are row e = kind_tree rows t kind are row ∙ ap (λ x. fill (meaning rows) (ty_kind_shape x)) e
 
+-- a constant's tree is the tree of its kind, which is the variable
 pub const_variable_tree : (rows : List Row) (c : Const) (kind : ConstKind) (i : BoundVarIndexKind) (b : BoundConst) → AreRows rows → IsAt rows (const_row kind) c.number → kind ≡ const.Bound i b
     → fill (meaning rows) (const_shape c) ≡ fill (meaning rows) (shape.bound const_sort (depth i) (const_entry b))
 const_variable_tree rows c kind i b are row e = const_kind_tree rows c kind are row ∙ ap (λ x. fill (meaning rows) (const_kind_shape x)) e
 
+-- a tree agrees if an equal tree does
 pub same_valid : (vs : List (VarKind Name)) (k : ℕ) (t u : Tree Depth) → t ≡ u → Agrees vs k u → Agrees vs k t
 same_valid vs k t u e h = subst (λ x. Agrees vs k x) (sym e) h
 
+-- a tree disagrees if an equal tree does
 pub same_wrong : (vs : List (VarKind Name)) (k : ℕ) (t u : Tree Depth) → t ≡ u → (Agrees vs k u → ⊥) → Agrees vs k t → ⊥
 same_wrong vs k t u e wrong h = wrong (subst (λ x. Agrees vs k x) e h)
 
+-- a term is itself no variable that disagrees if an equal term is none
 pub same_root : (vs : List (VarKind Name)) (k : ℕ) (t u : Tree Depth) → t ≡ u → RootAgrees vs k u → RootAgrees vs k t
 same_root vs k t u e h = subst (λ x. RootAgrees vs k x) (sym e) h
 
@@ -545,9 +556,11 @@ same_root vs k t u e h = subst (λ x. RootAgrees vs k x) (sym e) h
 pub looks_skip : (s : Validation) (t : Tree Depth) (o : ℕ) → o ≡ outer_binder t → o ≤ s.depth → Looks s t Skip s
 looks_skip s t o e low = (inl (low_agrees s.vars s.depth t (rw (← e) low)), refl)
 
+-- a term that is itself no variable that disagrees may be entered without being remembered
 pub looks_enter : (s : Validation) (t : Tree Depth) → RootAgrees s.vars s.depth t → Looks s t Descend s
 looks_enter s t agrees = record { agrees = agrees; vars = refl; depth = refl; seen = λ q m. inr m }
 
+-- a term that is itself no variable that disagrees is skipped if it is remembered, and else entered
 pub looks_once : (vs : List (VarKind Name)) (k : ℕ) (old new : List TypeAt) (t : Tree Depth) (next : Next) → RootAgrees vs k t → EntersOnce (record { standing = t; under = k }) old next new
     → Looks (record { vars = vs; depth = k; seen = old }) t next (record { vars = vs; depth = k; seen = new })
 looks_once vs k old new t Skip agrees once = (inr once.0, ap (λ x. record { vars = vs; depth = k; seen = x }) once.1)

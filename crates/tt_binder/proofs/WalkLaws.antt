@@ -47,6 +47,7 @@ pub on_true : (b : Bool) {P : Type 0} → P → OnTrue b P
 on_true true h = h
 on_true false h = tt
 
+-- a constant that is no parameter is among the trees that are entered
 pub const-gone : (t : Tree Depth) → IsInnerConst t → IsGoneInto t
 const-gone (bound s d e) is = tt
 const-gone (term (const_label l) ts) is = tt
@@ -56,6 +57,7 @@ const-gone (term clause_list_label ts) is = cc
 const-gone (term _ ts) is = tt
 const-gone _ is = absurd is
 
+-- a term without a hook is among the trees that are entered
 pub passed-gone : (t : Tree Depth) → IsPassed t → IsGoneInto t
 passed-gone (param region_sort i name) is = cc
 passed-gone (param type_sort i name) is = cc

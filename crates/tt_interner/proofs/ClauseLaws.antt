@@ -107,8 +107,10 @@ no-clause (predicate.AliasRelate a b r) other is = false≢true is
 pub clauses_step : (rows : List Row) (cs : List Clause) (i : ℕ) (d : Clause) → i < length cs → AreClauses rows (drop i cs) → IsClause rows (get_or cs i d).number × AreClauses rows (drop (i + 1) cs)
 clauses_step rows cs i d h all = rw add-one (subst (AreClauses rows) (drop-cons cs i d h) all)
 
+-- the items from a place on are clauses, if the item there is one and the items after it are
 pub clauses_unstep : (rows : List Row) (cs : List Clause) (i : ℕ) (d : Clause) → i < length cs → IsClause rows (get_or cs i d).number → AreClauses rows (drop (i + 1) cs) → AreClauses rows (drop i cs)
 clauses_unstep rows cs i d h first rest = subst (AreClauses rows) (sym (drop-cons cs i d h)) (first, (rw add-one at rest))
 
+-- past the end of a list, no item is left that isn't a clause
 pub clauses_past : (rows : List Row) (cs : List Clause) (i : ℕ) → length cs ≤ i → AreClauses rows (drop i cs)
 clauses_past rows cs i h = rw (drop_of_length-le cs {i = i} h) tt

@@ -27,6 +27,7 @@ declared_entries-push : (n : ℕ) (ds : List Declaration) (d : Declaration) (m :
 declared_entries-push n [] d m count = let same : n ≡ m = omega arith in ap (λ k. record { row = declared_row k d; info = no_info } ∷ []) same
 declared_entries-push n (e ∷ ds) d m count = ap (λ es. record { row = declared_row n e; info = no_info } ∷ es) (declared_entries-push (n + 1) ds d m (omega arith))
 
+-- a declaration more is one entry more, whose number is how many there were before
 pub declared_entries-added : (ds ds' : List Declaration) (d : Declaration) (n : ℕ) → ds' ≡ ds ++ d ∷ [] → length ds ≡ n
     → declared_entries 0 ds' ≡ declared_entries 0 ds ++ record { row = declared_row n d; info = no_info } ∷ []
 declared_entries-added ds ds' d n more count = ap (declared_entries 0) more ∙ declared_entries-push 0 ds d n (omega arith)
@@ -72,6 +73,7 @@ pub declared_at-row : (rows : List Row) (id : DefId) (d : Declaration) → IsAt 
 unfolding declared_at
 declared_at-row rows id d at = ap declaration_of (sym (get_or_from_slice_get (table Declarations rows) id.number (declared_row id.number d) (text_row []) at))
 
+-- an id in range keeps its declaration while the rows grow
 pub declared_at-grows : (old new : List Row) → Grows old new → (id : DefId) → id.number < size old Declarations → declared_at new id ≡ declared_at old id
 unfolding declared_at
 declared_at-grows old new g id h =
@@ -82,6 +84,7 @@ declared_at-grows old new g id h =
 pub declared_at-new : (old new : List Row) (n : ℕ) (d : Declaration) → new ≡ declared_row (size old Declarations) d ∷ old → n ≡ size old Declarations → declared_at new (record { number = n }) ≡ d
 declared_at-new old new n d is count = rw (is, count) (sym (declared_at-row (declared_row (size old Declarations) d ∷ old) (record { number = size old Declarations }) d (row-new (declared_row (size old Declarations) d) old)))
 
+-- a call that adds the row of a declaration, or is refused, keeps the promise of declaring
 pub Declares-added : {H : Type 0} (result : Result H Refusal) (number : H → ℕ) (old new : Terms) (kind : DeclarationKind) (name : Symbol)
     → Adds result number old new (declared_row (size old.rows Declarations) (record { kind = kind; name = name })) → Declares result number old new kind name
 Declares-added (Ok h) number old new kind name adds = record { adds = adds; declared = declared_at-new old.rows new.rows (number h) (record { kind = kind; name = name }) adds.rows adds.last }

@@ -160,6 +160,7 @@ module _ (rows : List Row) where
 pub few-fields : (vs : List VariantDef) → FitsDeclaration vs → HasIndices (map variant_of vs)
 few-fields vs fits = (let same = length-map vs variant_of in let few = fits.0 in omega arith, All-map (λ v. length v.fields ≤ greatest) variant_of vs fits.1)
 
+-- variants fit a declaration if, without their vectors, indices can number them and their fields
 pub fields-few : (vs : List VariantDef) → HasIndices (map variant_of vs) → FitsDeclaration vs
 fields-few vs fits = (let same = length-map vs variant_of in let few = fits.0 in omega arith, unmapped vs fits.1)
   where
@@ -207,6 +208,7 @@ stored-few (r ∷ rows) are n vs i at = ⊎_elim
     (λ newest. subst (IsWellFormed rows) (same_Some r (defined_row n vs) (sym (row_at_newest r rows Definitions i newest) ∙ at)) are.3)
     (place_cases r rows Definitions i (slice_get_within (table Definitions (r ∷ rows)) i (defined_row n vs) at))
 
+-- a defined data type has no more variants and fields than indices can number
 pub variants-few : (rows : List Row) → AreRows rows → (n : ℕ) (vs : List Variant) → variants_of rows n ≡ Some vs → HasIndices vs
 variants-few rows are n vs e = let at = variants-at rows n vs e in stored-few rows are n vs at.0 at.1
 

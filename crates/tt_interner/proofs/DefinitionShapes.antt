@@ -14,6 +14,7 @@ name-unbound (Some x) = refl
 variant-unbound : (v : Variant) → binders_in (variant_shape v) ≡ 0
 variant-unbound v = let name = name-unbound v.name in let fields = items-unbound field_def_shape (λ f. refl) v.fields in omega arith
 
+-- the variants of a definition have no binder of their own
 pub definition-unbound : (vs : List Variant) → binders_among (item_shapes variant_shape vs) ≡ 0
 definition-unbound vs = items-unbound variant_shape variant-unbound vs
 
@@ -24,5 +25,6 @@ name-fits (Some x) = (tt, tt)
 variant-fits : (v : Variant) → IndicesFitIn (variant_shape v)
 variant-fits v = (name-fits v.name, (items-fit field_def_shape (λ f. (tt, (tt, tt))) v.fields, tt))
 
+-- the variants of a definition have no index of their own that is out of range
 pub definition-fits : (vs : List Variant) → IndicesFitAmong (item_shapes variant_shape vs)
 definition-fits vs = items-fit variant_shape variant-fits vs

@@ -62,6 +62,7 @@ AreExistentials-push : (rows : List Row) (r : Row) → AreExistentials rows → 
 AreExistentials-push [] r only own = (own, tt)
 AreExistentials-push (q ∷ rows) r only own = (only.0, AreExistentials-push rows r only.1 own)
 
+-- storing existential predicates in turn adds rows of existential predicates, and no others
 pub adds : (limit : ℕ) (old new : List Row) (ps : List Predicate) (hs : List Handle) → StoresEach limit old new ps hs → AddsPredicates old new
 adds limit old new [] [] same = record { more = []; kept = same; only = tt }
 adds limit old new (p ∷ ps) (h ∷ hs) s =
@@ -77,6 +78,7 @@ adds limit old new (p ∷ ps) (h ∷ hs) s =
 adds limit old new [] (h ∷ hs) s = absurd s
 adds limit old new (p ∷ ps) [] s = absurd s
 
+-- storing existential predicates in turn keeps every row that was there
 pub grows : (limit : ℕ) (old new : List Row) (ps : List Predicate) (hs : List Handle) → StoresEach limit old new ps hs → Grows old new
 grows limit old new ps hs s = let a = adds limit old new ps hs s in Grows-more a.more a.kept
 

@@ -15,6 +15,7 @@ use Rattle.tt_flags.specs.declared.flag_computation.FlagComputation.{FlagComputa
 use Rattle.tt_interner.specs.Tables.{Entry, entries_by}
 use Rattle.tt_interner.proofs.RowLaws.{table-own, table-other, is_in_own}
 
+-- an option of which `is_some` is false is None
 pub none_from_not_some : {X : Type 0} (o : Option X) → is_some o ≡ false → o ≡ None
 none_from_not_some None e = refl
 none_from_not_some (Some x) e = cc
@@ -23,6 +24,7 @@ none_from_not_some (Some x) e = cc
 pub no_place : {K V : Type 0} (test : K → Bool) (es : List (K × V)) (n : ℕ) → lookup test es ≡ None → position test (keys_of es) ≡ Some n → ⊥
 no_place test es n none place = false≢true (sym (ap is_some none) ∙ sym (some_index test es) ∙ ap is_some place)
 
+-- a look-up finds nothing where no key passes the test
 pub no_value : {K V : Type 0} (test : K → Bool) (es : List (K × V)) → position test (keys_of es) ≡ None → lookup test es ≡ None
 no_value test es none = none_from_not_some (lookup test es) (sym (some_index test es) ∙ ap is_some none)
 

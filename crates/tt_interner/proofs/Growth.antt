@@ -260,18 +260,23 @@ sizes-grow more old new kept t = by (size old t) refl
     by zero e = omega arith
     by (suc n) e = let h : n < size new t = rw kept (keeps more old t n (omega (arith, e))).0 in omega (arith, h)
 
+-- rows have grown if others are added in front of them
 pub Grows-more : {old new : List Row} (more : List Row) → new ≡ more ++ old → Grows old new
 Grows-more {old} {new} more kept = record { more = more; kept = kept; in_range = sizes-grow more old new kept }
 
+-- rows that stay as they are have grown by none
 pub Grows-refl : (rows : List Row) → Grows rows rows
 Grows-refl rows = Grows-more [] refl
 
+-- growth after growth is growth
 pub Grows-trans : {a b c : List Row} → Grows a b → Grows b c → Grows a c
 Grows-trans {a} g h = Grows-more (h.more ++ g.more) (h.kept ∙ ap (λ x. h.more ++ x) g.kept ∙ sym (append_assoc h.more g.more a))
 
+-- terms that stay as they are extend themselves
 pub Extends-refl : (terms : Terms) → Extends terms terms
 Extends-refl terms = record { rows = Grows-refl terms.rows; limit = refl }
 
+-- terms that extend an extension of others extend these others
 pub Extends-trans : {a b c : Terms} → Extends a b → Extends b c → Extends a c
 Extends-trans g h = record { rows = Grows-trans g.rows h.rows; limit = h.limit ∙ g.limit }
 

@@ -112,10 +112,12 @@ infos_append f (also s ss) us a b is is' =
       outer = omega arith;
     }
 
+-- if two lists of shapes are in range as one list, each of them is in range
 pub AreParts-append : (size : Sizes) (ss us : Shapes) → AreParts size (append ss us) → AreParts size ss × AreParts size us
 AreParts-append size none us h = (tt, h)
 AreParts-append size (also s ss) us h = let rest = AreParts-append size ss us h.1 in ((h.0, rest.0), rest.1)
 
+-- two lists of shapes that are in range are in range as one list
 pub AreParts-join : (size : Sizes) (ss us : Shapes) → AreParts size ss → AreParts size us → AreParts size (append ss us)
 AreParts-join size none us h k = k
 AreParts-join size (also s ss) us h k = (h.0, AreParts-join size ss us h.1 k)
@@ -209,12 +211,14 @@ module _ (size : Sizes) (s : Sort) where
 
 -- A loop over a list.
 
+-- at the start, with the information of no tree, all trees are left to be joined
 pub joined_first : (ts : Forest Depth) (info : FlagComputation) → info ≡ computed 0 0 → AreJoined info ts ts
 joined_first ts info is = record {
   flags = ap (λ (x : FlagComputation). bit_or x.flags.bits (scan_all ts)) is ∙ or_zero_l (scan_all ts);
   outer = let o = ap (λ (x : FlagComputation). x.outer_exclusive_binder) is in omega arith;
 }
 
+-- a step: once the next tree's information is joined, only the trees after it are left
 pub joined_next : (info next : FlagComputation) (t : Tree Depth) (ts whole : Forest Depth) → AreJoined info (tree.also t ts) whole → IsInfo next t
     → AreJoined (computed (bit_or info.flags.bits next.flags.bits) (max info.outer_exclusive_binder next.outer_exclusive_binder)) ts whole
 joined_next info next t ts whole so_far is = let o = is.outer in let all = so_far.outer in record {
@@ -222,6 +226,7 @@ joined_next info next t ts whole so_far is = let o = is.outer in let all = so_fa
   outer = omega arith;
 }
 
+-- at the end, where no tree is left, the information so far is the information of all
 pub joined_all : (info : FlagComputation) (whole : Forest Depth) → AreJoined info tree.none whole → AreInfosOf info whole
 joined_all info whole is = let o = is.outer in record { flags = sym (or_zero_r info.flags.bits) ∙ is.flags; outer = omega arith }
 
@@ -231,11 +236,13 @@ parts_at shape size [] i d h parts = absurd (omega arith)
 parts_at shape size (x ∷ xs) zero d h parts = parts.0
 parts_at shape size (x ∷ xs) (suc i) d h parts = parts_at shape size xs i d (omega arith) parts.1
 
+-- the trees of the items from a place on are the tree of the item there and then the trees of the items after it
 pub fill_all-drop : {T : Type 0} (shape : T → Shape) (f : Meaning) (xs : List T) (i : ℕ) (d : T) → i < length xs
     → fill_all f (item_shapes shape (drop i xs)) ≡ tree.also (fill f (shape (get_or xs i d))) (fill_all f (item_shapes shape (drop (i + 1) xs)))
 unfolding fill
 fill_all-drop shape f xs i d h = rw (add-one, drop-cons xs i d) refl
 
+-- past the end of a list there are no trees
 pub fill_all-past : {T : Type 0} (shape : T → Shape) (f : Meaning) (xs : List T) (i : ℕ) → length xs ≤ i → fill_all f (item_shapes shape (drop i xs)) ≡ tree.none
 unfolding fill
 fill_all-past shape f xs i h = rw (drop_of_length-le xs {i = i} h) refl

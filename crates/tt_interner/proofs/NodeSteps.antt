@@ -186,39 +186,50 @@ arg_fits (arg.Lifetime r) = tt
 arg_fits (arg.«Type» t) = inl refl
 arg_fits (arg.Const c) = inr refl
 
+-- types as children have the shapes that they have as items
 pub tys_shapes : (xs : List Ty) → children_shapes (map ty_child xs) ≡ item_shapes ty_shape xs
 tys_shapes = shapes_of ty_child ty_shape (λ x. refl)
 
+-- constants as children have the shapes that they have as items
 pub consts_shapes : (xs : List Const) → children_shapes (map const_child xs) ≡ item_shapes const_shape xs
 consts_shapes = shapes_of const_child const_shape (λ x. refl)
 
+-- generic arguments as children have the shapes that they have as items
 pub args_shapes : (xs : List GenericArgKind) → children_shapes (map arg_child xs) ≡ item_shapes arg_shape xs
 args_shapes = shapes_of arg_child arg_shape arg_part
 
+-- patterns as children have the shapes that they have as items
 pub pats_shapes : (xs : List Pat) → children_shapes (map pat_child xs) ≡ item_shapes pat_shape xs
 pats_shapes = shapes_of pat_child pat_shape (λ x. refl)
 
+-- existential predicates as children have the shapes that they have as items
 pub existentials_shapes : (xs : List PolyExistentialPredicate) → children_shapes (map existential_child xs) ≡ item_shapes existential_shape xs
 existentials_shapes = shapes_of existential_child existential_shape (λ x. refl)
 
 pub clauses_shapes : (xs : List Clause) → children_shapes (map clause_child xs) ≡ item_shapes clause_shape xs
 clauses_shapes = shapes_of clause_child clause_shape (λ x. refl)
 
+-- the row of a list of types is the row of the list of these types as children
 pub is_row_of_tys : (xs : List Ty) → IsRowOf sort.Tys (tys_row xs) (map ty_child xs)
 is_row_of_tys xs = record { in_table = refl; shape = ap (items_shape sort.Tys) (sym (tys_shapes xs)); children = refl; row = ap tys_row (items_back ty_child child_ty (λ x. refl) xs); fit = items_fit ty_child sort.Tys (λ x. refl) xs }
 
+-- the row of a list of constants is the row of the list of these constants as children
 pub is_row_of_consts : (xs : List Const) → IsRowOf sort.Consts (consts_row xs) (map const_child xs)
 is_row_of_consts xs = record { in_table = refl; shape = ap (items_shape sort.Consts) (sym (consts_shapes xs)); children = refl; row = ap consts_row (items_back const_child child_const (λ x. refl) xs); fit = items_fit const_child sort.Consts (λ x. refl) xs }
 
+-- the row of a list of generic arguments is the row of the list of these arguments as children
 pub is_row_of_args : (xs : List GenericArgKind) → IsRowOf sort.Args (args_row xs) (map arg_child xs)
 is_row_of_args xs = record { in_table = refl; shape = ap (items_shape sort.Args) (sym (args_shapes xs)); children = refl; row = ap args_row (items_back arg_child child_arg arg_back xs); fit = items_fit arg_child sort.Args arg_fits xs }
 
+-- the row of a list of patterns is the row of the list of these patterns as children
 pub is_row_of_pats : (xs : List Pat) → IsRowOf sort.Pats (pats_row xs) (map pat_child xs)
 is_row_of_pats xs = record { in_table = refl; shape = ap (items_shape sort.Pats) (sym (pats_shapes xs)); children = refl; row = ap pats_row (items_back pat_child child_pat (λ x. refl) xs); fit = items_fit pat_child sort.Pats (λ x. refl) xs }
 
+-- the row of a list of existential predicates is the row of the list of these predicates as children
 pub is_row_of_existentials : (xs : List PolyExistentialPredicate) → IsRowOf sort.Existentials (existentials_row xs) (map existential_child xs)
 is_row_of_existentials xs = record { in_table = refl; shape = ap (items_shape sort.Existentials) (sym (existentials_shapes xs)); children = refl; row = ap existentials_row (items_back existential_child child_existential (λ x. refl) xs); fit = items_fit existential_child sort.Existentials (λ x. refl) xs }
 
+-- the row of a list of clauses is the row of the list of these clauses as children
 pub is_row_of_clauses : (xs : List Clause) → IsRowOf sort.Clauses (clauses_row xs) (map clause_child xs)
 is_row_of_clauses xs = record { in_table = refl; shape = ap (items_shape sort.Clauses) (sym (clauses_shapes xs)); children = refl; row = ap clauses_row (items_back clause_child child_clause (λ x. refl) xs); fit = items_fit clause_child sort.Clauses (λ x. refl) xs }
 
@@ -293,6 +304,7 @@ module _ (rows : List Row) (l : StoredList) (r : Row) {T : Type 0} (child : T �
   pub child_here : (i : ℕ) (x : T) → slice_get items i ≡ Some x → slice_get (children_at rows l) i ≡ Some (child x)
   child_here i x e = ap (λ cs. slice_get cs i) children_here ∙ slice_get-map child items i x e
 
+-- a stored list's tree is made of its children's trees; they are in range, of the list's sort and older than it
 pub is_listed : (rows : List Row) → AreRows rows → (l : StoredList) → list_number l < size rows (list_table l) → IsListed rows l (children_at rows l)
 is_listed rows are l h =
     let at = row_within rows (list_table l) (list_number l) h in
@@ -327,6 +339,7 @@ kind_row_shape (kind.Pat k) = refl
 kind_row_shape (kind.Predicate k) = refl
 kind_row_shape (kind.Existential k) = refl
 
+-- a stored term whose row holds a kind has the kind's tree; what the kind holds is in range and older than the term
 pub is_node : (rows : List Row) → AreRows rows → (n : Node) (k : Kind) → kind_table k ≡ node_table n → IsAt rows (kind_row k) (node_number n) → IsNode rows n k
 is_node rows are n k same at =
     let here = subst (λ t. slice_get (table t rows) (node_number n) ≡ Some (kind_row k)) (kind_in_table k ∙ same) at in
@@ -359,16 +372,19 @@ kind_of_row : (rows : List Row) (n : Node) (r : Row) → slice_get (table (node_
 unfolding stored_kind
 kind_of_row rows n r at = ap row_kind (get_or-some (table (node_table n) rows) (node_number n) (text_row []) r at)
 
+-- the kind of a stored term is the kind that its row holds
 pub kind_there : (rows : List Row) (n : Node) (k : Kind) → kind_table k ≡ node_table n → IsAt rows (kind_row k) (node_number n) → stored_kind rows n ≡ k
 kind_there rows n k same at =
     kind_of_row rows n (kind_row k) (subst (λ t. slice_get (table t rows) (node_number n) ≡ Some (kind_row k)) (kind_in_table k ∙ same) at) ∙ row_kind-back k
 
+-- the kind of a stored term other than a list of clauses is of the term's table
 pub stored_table : (rows : List Row) → AreRows rows → (n : Node) → node_number n < size rows (node_table n) → (node_table n ≡ ClauseLists → ⊥) → kind_table (stored_kind rows n) ≡ node_table n
 stored_table rows are n h other =
     let at = row_within rows (node_table n) (node_number n) h in
     let means = Means-row rows are (node_table n) (node_number n) at.0 at.1 in
     ap kind_table (kind_of_row rows n at.0 at.1) ∙ (row_of_kind n other at.0 means.same_table).1
 
+-- a stored term other than a list of clauses has its kind's tree; what the kind holds is in range and older
 pub stored_is_node : (rows : List Row) → AreRows rows → (n : Node) → node_number n < size rows (node_table n) → (node_table n ≡ ClauseLists → ⊥) → IsNode rows n (stored_kind rows n)
 stored_is_node rows are n h other =
     let at = row_within rows (node_table n) (node_number n) h in
@@ -384,12 +400,14 @@ binder-relabelled label (Kinds.bound d e) = refl
 binder-relabelled label (Kinds.plain l p) = refl
 binder-relabelled label (Kinds.under l vars m p) = refl
 
+-- a form with its label replaced has the same children
 pub parts-relabelled : {L K : Type 0} (label : L → K) (f : Form L) → form_parts (relabelled label f) ≡ form_parts f
 parts-relabelled label (Kinds.param i name) = refl
 parts-relabelled label (Kinds.bound d e) = refl
 parts-relabelled label (Kinds.plain l p) = refl
 parts-relabelled label (Kinds.under l vars m p) = refl
 
+-- whether first the label of a form is replaced or its children, the result is the same
 pub refilled-relabelled : {L K : Type 0} (label : L → K) (q : Parts) (f : Form L) → relabelled label (refilled q f) ≡ refilled q (relabelled label f)
 refilled-relabelled label q (Kinds.param i name) = refl
 refilled-relabelled label q (Kinds.bound d e) = refl
@@ -409,6 +427,7 @@ by_table (kind.Pat k) = refl
 by_table (kind.Predicate b) = refl
 by_table (kind.Existential b) = refl
 
+-- two kinds of one table have the same sort
 pub same-sort : (j k : Kind) → kind_table j ≡ kind_table k → kind_sort j ≡ kind_sort k
 same-sort j k h = by_table j ∙ ap sort_of_table h ∙ sym (by_table k)
 

@@ -85,6 +85,7 @@ is_in_self Symbols = refl
 is_in_self Declarations = refl
 is_in_self Definitions = refl
 
+-- a row is in its own table
 pub is_in_own : (r : Row) → is_in (row_table r) r ≡ true
 is_in_own r = is_in_self (row_table r)
 
@@ -195,6 +196,7 @@ pub slice_get-keeps : (added rows : List Row) (t : Table) (n : ℕ) → n < size
 slice_get-keeps [] rows t n h = refl
 slice_get-keeps (r ∷ added) rows t n h = row-old r (added ++ rows) t n (keeps added rows t n h).0 ∙ slice_get-keeps added rows t n h
 
+-- a number in range has the same row in its table after other rows are added
 pub get_or-keeps : (added rows : List Row) (t : Table) (n : ℕ) (d : Row) → n < size rows t → get_or (table t (added ++ rows)) n d ≡ get_or (table t rows) n d
 get_or-keeps added rows t n d h = same_Some _ _
     (sym (slice_get-get_or (table t (added ++ rows)) n d (keeps added rows t n h).0) ∙ slice_get-keeps added rows t n h ∙ slice_get-get_or (table t rows) n d h)

@@ -494,6 +494,7 @@ root_of_form label s t sorts labels f (form.bound d e) = sorts
 root_of_form label s t sorts labels f (form.plain l p) = label_table-rename (name_of f) (label l) ∙ labels l
 root_of_form label s t sorts labels f (form.under l vars m p) = label_table-rename (name_of f) (label l) ∙ labels l
 
+-- the root of a row's tree tells the row's table
 pub root_of_row : (f : Meaning) (r : Row) → tree_table (fill f (row_shape r)) ≡ Some (row_table r)
 unfolding fill
 root_of_row f (type_row k) = root_of_form type_label type_sort Types refl (λ l. refl) f (ty_form k)
@@ -513,11 +514,13 @@ root_of_row f (text_row bytes) = refl
 root_of_row f (declared_row n d) = refl
 root_of_row f (defined_row n vs) = refl
 
+-- the tree of a symbol's row is a node with the symbol's text as its label
 pub text_of_row : (f : Meaning) (r : Row) → row_table r ≡ Symbols → fill f (row_shape r) ≡ tree.node (text_label (text_of (fill f (row_shape r)))) tree.none
 unfolding fill
 text_of_row f (text_row bytes) e = refl
 text_of_row f _ e = cc
 
+-- the tree of a row of variables is a node with these variables as its label
 pub vars_of_row : (f : Meaning) (r : Row) → row_table r ≡ VarLists → fill f (row_shape r) ≡ tree.node (var_list_label (vars_of (fill f (row_shape r)))) tree.none
 unfolding fill
 vars_of_row f (vars_row vs) e = refl

@@ -97,6 +97,7 @@ entries_of-push Symbols e ts = refl
 entries_of-push Declarations e ts = refl
 entries_of-push Definitions e ts = refl
 
+-- a new entry of one table leaves the entries of every other table as they are
 pub entries_of-other : (t u : Table) (e : Entry) (ts : Tables) → (t ≡ u → ⊥) → entries_of (push t e ts) u ≡ entries_of ts u
 entries_of-other Types Types e ts apart = absurd (apart refl)
 entries_of-other Consts Consts e ts apart = absurd (apart refl)
@@ -151,6 +152,7 @@ AreInfos-own r rows infos info more is are = record {
 pub size_own : (r : Row) (rows : List Row) → size (r ∷ rows) (row_table r) ≡ size rows (row_table r) + 1
 size_own r rows = ap length (table-new r rows) ∙ length_push (table (row_table r) rows) r
 
+-- a row that isn't in a table has another table
 pub apart : (t : Table) (r : Row) → is_in t r ≡ false → row_table r ≡ t → ⊥
 apart t r is same = false≢true (sym is ∙ sym (ap (λ u. is_in u r) same) ∙ is_in_own r)
 
@@ -162,9 +164,11 @@ by_table r P own other t = by (is_in t r) refl
     by true is = subst P (in_table t r is) own
     by false is = other t is
 
+-- the row of a new entry is the last of its table's rows
 pub rows_of-push : (t : Table) (e : Entry) (ts : Tables) → rows_of (push t e ts) t ≡ rows_of ts t ++ e.row ∷ []
 rows_of-push t e ts = ap (map (λ (x : Entry). x.row)) (entries_of-push t e ts) ∙ map-append (λ (x : Entry). x.row) (entries_of ts t) (e ∷ [])
 
+-- the cached information of a new entry is the last of its table's
 pub infos_of-push : (t : Table) (e : Entry) (ts : Tables) → infos_of (push t e ts) t ≡ infos_of ts t ++ e.info ∷ []
 infos_of-push t e ts = ap (map (λ (x : Entry). x.info)) (entries_of-push t e ts) ∙ map-append (λ (x : Entry). x.info) (entries_of ts t) (e ∷ [])
 
@@ -232,6 +236,7 @@ slice_get-infos row [] i = refl
 slice_get-infos row (e ∷ es) zero = refl
 slice_get-infos row (e ∷ es) (suc i) = slice_get-infos row es i
 
+-- where a table keeps cached information, each entry has the information of its row's tree
 pub info_within : {K : Type 0} (rows : List Row) (ts : Tables) (limit : ℕ) → AreTables rows ts limit → (t : Table) (row : K → Row) (es : List (K × FlagComputation)) → entries_of ts t ≡ entries_by row (λ v. v) es
     → IsTrue (keeps_info t) → (n : ℕ) (i : FlagComputation) → slice_get (values_of es) n ≡ Some i → IsInfo i (meaning rows t n)
 info_within rows ts limit are t row es is keeps n i e =
@@ -431,12 +436,14 @@ AreTables-first limit some small =
     AreTables-push (assumptions_row [] ∷ existentials_row [] ∷ clauses_row [] ∷ pats_row [] ∷ consts_row [] ∷ vars_row [] ∷ args_row [] ∷ tys_row [] ∷ []) _ limit (first_of (text_row anonymous_text)) assumptions (tt, tt) tt tt ((λ e. cc), ((λ e. cc), ((λ e. cc), ((λ e. cc), ((λ e. cc), ((λ e. cc), ((λ e. cc), ((λ e. cc), tt)))))))) some
     (λ keeps. info_node (meaning (assumptions_row [] ∷ existentials_row [] ∷ clauses_row [] ∷ pats_row [] ∷ consts_row [] ∷ vars_row [] ∷ args_row [] ∷ tys_row [] ∷ [])) no_info (text_label anonymous_text) refl)
 
+-- the tables of a new interner are kept, under any limit from 1 to the greatest index
 pub Keeps-first : (order : List Table) (ts : Tables) (limit : ℕ) → order ≡ first_order → ts ≡ first_tables → 0 < limit → limit ≤ greatest → Keeps order ts limit
 Keeps-first order ts limit is_order is_ts some small = rw (is_order, is_ts) (record {
   tables = subst (λ rows. AreTables rows first_tables limit) (sym rows_first) (AreTables-first limit some small);
   first = ([], rows_first);
 })
 
+-- the tables of a new interner, in its order, make the rows of a new interner
 pub rows_are_first : (order : List Table) (ts : Tables) → order ≡ first_order → ts ≡ first_tables → rows_in_order order ts ≡ first_rows
 rows_are_first order ts is_order is_ts = rw (is_order, is_ts) rows_first
 
@@ -452,6 +459,7 @@ IsAt-added (q ∷ added) rows r n at =
     let before = IsAt-added added rows r n at in
     row-old q (added ++ rows) (row_table r) n (slice_get_within (table (row_table r) (added ++ rows)) n r before) ∙ before
 
+-- tables that are kept have the rows that the defaults of the handles name
 pub has_first : (order : List Table) (ts : Tables) (limit : ℕ) → Keeps order ts limit → HasFirst (rows_in_order order ts)
 unfolding table
 has_first order ts limit keeps = subst HasFirst (sym keeps.first.1) (record {
@@ -485,6 +493,7 @@ pub record HaveFirst (ts : Tables) : Type 0 where
   pub declarations : ts.declarations ≡ []
   pub definitions : ts.definitions ≡ []
 
+-- tables whose only entries are the first rows are the tables of a new interner
 pub are_first_tables : (ts : Tables) → HaveFirst ts → ts ≡ first_tables
 are_first_tables ts have = λ i. record {
   types = have.types i;

@@ -32,6 +32,7 @@ unfolding merged
 merged-length [] ts = refl
 merged-length (t ∷ order) ts = ap suc (merged-length order (with_entries ts t (older (entries_of ts t))))
 
+-- rows that are kept oldest first are as many as the tables in their order
 pub rows_length : (order : List Table) (ts : Tables) → length (rows_in_order order ts) ≡ length order
 unfolding rows_in_order
 rows_length order ts = merged-length (reverse order) (reversed ts) ∙ length-reverse order

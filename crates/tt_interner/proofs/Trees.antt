@@ -59,6 +59,7 @@ Means-at r rows t n q newest same means =
     (subst (λ u. Means (r ∷ rows) u n r) newest.same_table
     (subst (λ m. Means (r ∷ rows) (row_table r) m r) (ap (size rows) newest.same_table ∙ sym newest.last) means))
 
+-- the newest row is found in its table, at its handle's number
 pub row_at_newest : (r : Row) (rows : List Row) (t : Table) (n : ℕ) → IsNewest r rows t n → slice_get (table t (r ∷ rows)) n ≡ Some r
 row_at_newest r rows t n newest = subst (λ u. slice_get (table u (r ∷ rows)) n ≡ Some r) newest.same_table
     (subst (λ m. slice_get (table (row_table r) (r ∷ rows)) m ≡ Some r) (ap (size rows) newest.same_table ∙ sym newest.last) (row-new r rows))

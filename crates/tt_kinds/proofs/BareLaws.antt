@@ -37,6 +37,7 @@ module _ {L : Type 0} (sort : Sort) (label : L → Label ℕ) (record_of : L →
 pub ty-bare : (size : Sizes) (k : TyKind) → HasParts size (ty_kind_shape k) → IsPart size (bare_ty_shape k)
 ty-bare size k h = form-bare type_sort type_label bare_type_record error_of_type (λ size l. tt) (λ size l. tt) size (ty_form k) h
 
+-- what a type's kind holds is in range, if it is in range in the kind as a value by itself
 pub ty-parts : (size : Sizes) (k : TyKind) → IsPart size (bare_ty_shape k) → HasParts size (ty_kind_shape k)
 ty-parts size k h = form-parts type_sort type_label bare_type_record error_of_type (λ size l. tt) (λ size l. tt) size (ty_form k) h
 
@@ -44,5 +45,6 @@ ty-parts size k h = form-parts type_sort type_label bare_type_record error_of_ty
 pub const-bare : (size : Sizes) (k : ConstKind) → HasParts size (const_kind_shape k) → IsPart size (bare_const_shape k)
 const-bare size k h = form-bare const_sort const_label bare_const_record error_of_const (λ size l. tt) (λ size l. tt) size (const_form k) h
 
+-- what a constant's kind holds is in range, if it is in range in the kind as a value by itself
 pub const-parts : (size : Sizes) (k : ConstKind) → IsPart size (bare_const_shape k) → HasParts size (const_kind_shape k)
 const-parts size k h = form-parts const_sort const_label bare_const_record error_of_const (λ size l. tt) (λ size l. tt) size (const_form k) h

@@ -18,10 +18,12 @@ pub data Among {I : Type 0} (t : Tree I) : Forest I → Type 0 where
   here : {ts : Forest I} → Among t (also t ts)
   later : {u : Tree I} {ts : Forest I} → Among t ts → Among t (also u ts)
 
+-- if a parameter that meets P occurs in a child, one occurs among the children
 pub HasParam-among : {I : Type 0} (P : Sort → ℕ → Type 0) (t : Tree I) (ts : Forest I) → Among t ts → HasParam P t → HasParam_among P ts
 HasParam-among P t ts here h = inl h
 HasParam-among P t ts (later {ts = rest} m) h = inr (HasParam-among P t rest m h)
 
+-- a region variable that is exposed in a child is exposed among the children
 pub HasExposed-among : {I : Type 0} (x : ℕ) (t : Tree I) (ts : Forest I) → Among t ts → HasExposed x t → HasExposed_among x ts
 HasExposed-among x t ts here h = inl h
 HasExposed-among x t ts (later {ts = rest} m) h = inr (HasExposed-among x t rest m h)
@@ -51,6 +53,7 @@ Cause-child args l t ts m g (RegionVariable x) h = (h.0, (always_on (is_type_or_
 abbrev pub HidesRegionVars_among : {I : Type 0} → Forest I → Type 0
 HidesRegionVars_among ts = (x : ℕ) → HasExposed_among x ts → ⊥
 
+-- no region variable is exposed among trees, if none is in the first and none among the others
 pub HidesRegionVars-also : {I : Type 0} (t : Tree I) (ts : Forest I) → HidesRegionVars t → HidesRegionVars_among ts → HidesRegionVars_among (also t ts)
 HidesRegionVars-also t ts first rest x h = elim h [ inl a ↦ first x a | inr b ↦ rest x b ]
 

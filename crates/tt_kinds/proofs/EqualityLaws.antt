@@ -102,6 +102,7 @@ mutability_exact Not Not e = refl
 mutability_exact Mut Mut e = refl
 mutability_exact _ _ e = absurd (false≢true e)
 
+-- indices of bound variables are equal where `==` holds of them
 pub index_exact : (a b : BoundVarIndexKind) → (indices.ghosts).eq a b ≡ true → a ≡ b
 index_exact (BoundIndex d) (BoundIndex c) e = ap BoundIndex (eqb-true d c e)
 index_exact Canonical Canonical e = refl
@@ -125,6 +126,7 @@ bound_region_exact a b = two_exact (λ v k. record { var = v; kind = k }) (eqb a
 bound_ty_exact : (a b : BoundTy) → (bound_types.ghosts).eq a b ≡ true → a ≡ b
 bound_ty_exact a b = two_exact (λ v k. record { var = v; kind = k }) (eqb a.var b.var) ((ty_var_kinds.ghosts).eq a.kind b.kind) (eqb-true a.var b.var) (ty_var_kind_exact a.kind b.kind)
 
+-- placeholders are equal where their universes are and an exact test of what is bound holds
 pub placeholder_exact : {T : Type 0} (eq : T → T → Bool) → ((a b : T) → eq a b ≡ true → a ≡ b) → (a b : Placeholder T) → (eqb a.universe b.universe && eq a.bound b.bound) ≡ true → a ≡ b
 placeholder_exact eq exact a b = two_exact (λ u x. record { universe = u; bound = x }) (eqb a.universe b.universe) (eq a.bound b.bound) (eqb-true a.universe b.universe) (exact a.bound b.bound)
 
@@ -141,6 +143,7 @@ infer_exact _ _ e = absurd (false≢true e)
 abbrev pub handle_eq : {K : Type 0} → Handle K → Handle K → Bool
 handle_eq a b = eqb a.number b.number
 
+-- handles of one table are equal where their numbers are
 pub handle_exact : {K : Type 0} (a b : Handle K) → handle_eq a b ≡ true → a ≡ b
 handle_exact a b e = ap (λ n. handle n) (eqb-true a.number b.number e)
 
@@ -162,6 +165,7 @@ binder_exact a b e =
     let vars = eqb-true a.bound_vars.number b.bound_vars.number h.1 in
     λ i. record { value = record { inputs_and_output = handle (values i) }; bound_vars = handle (vars i) }
 
+-- regions are equal where `==` holds of them
 pub region_exact : (a b : RegionKind) → (regions.ghosts).eq a b ≡ true → a ≡ b
 region_exact (ReEarlyParam p) (ReEarlyParam q) e =
     let h = both (eqb p.index q.index) (eqb p.name.number q.name.number) e in
@@ -179,18 +183,21 @@ region_exact ReErased ReErased e = refl
 region_exact (ReError x) (ReError y) e = ap (λ n. ReError (record { 0 = n })) (eqb-true x.0 y.0 e)
 region_exact _ _ e = absurd (false≢true e)
 
+-- the kinds of two bound variables are equal where `==` holds of them
 pub var_exact : (a b : BoundVariableKind) → (variables.ghosts).eq a b ≡ true → a ≡ b
 var_exact (variable.Ty k) (variable.Ty l) e = ap variable.Ty (ty_var_kind_exact k l e)
 var_exact (variable.Region k) (variable.Region l) e = ap variable.Region (region_kind_exact k l e)
 var_exact variable.Const variable.Const e = refl
 var_exact _ _ e = absurd (false≢true e)
 
+-- generic arguments are equal where `==` holds of them
 pub arg_exact : (a b : GenericArgKind) → (args.ghosts).eq a b ≡ true → a ≡ b
 arg_exact (arg.Lifetime a) (arg.Lifetime b) e = ap arg.Lifetime (region_exact a b e)
 arg_exact (arg.«Type» a) (arg.«Type» b) e = ap arg.«Type» (handle_exact a b e)
 arg_exact (arg.Const a) (arg.Const b) e = ap arg.Const (handle_exact a b e)
 arg_exact _ _ e = absurd (false≢true e)
 
+-- kinds of types are equal where `==` holds of them
 pub kind_exact : (a b : TyKind) → (kinds.ghosts).eq a b ≡ true → a ≡ b
 kind_exact ty.Bool ty.Bool e = refl
 kind_exact ty.Char ty.Char e = refl

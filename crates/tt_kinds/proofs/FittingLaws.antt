@@ -60,6 +60,7 @@ mutual
   moved_all_under-fit n m a k (tree.also t ts) is h low b =
       (moved_under-fits n m a k t is (omega arith) low b.0, moved_all_under-fit n m a k ts is (omega arith) low b.1)
 
+-- a tree that reaches at most m fits when it is moved by n, if its binders fit under n + m more
 pub moved-fits : (n m : ℕ) (t : Tree Depth) → outer_binder t ≤ m → n + m ≤ greatest → BindersFit (n + m) t → FitsUnder 0 (move n (read 0 t))
 moved-fits n m t h low b = moved_under-fits n m (n + m) 0 t (omega arith) h low b
 
@@ -123,6 +124,7 @@ mutual
   instances_under-fit b args room a k (tree.also t ts) is low h f =
       (instance_under-fits b args room a k t is low h.0 f.0, instances_under-fit b args room a k ts is low h.1 f.1)
 
+-- a tree fits with its parameters replaced, if its binders fit under b more and its arguments have room in b
 pub instance-fits : (b : ℕ) (args : List (Argument Depth)) (t : Tree Depth) → IndicesFit t → BindersFit b t → b ≤ greatest → HaveRoom b args → FitsUnder 0 (put (readings args) (read 0 t))
 instance-fits b args t h f low room = instance_under-fits b args room b 0 t (omega arith) low h f
 

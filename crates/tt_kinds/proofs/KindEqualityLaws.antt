@@ -61,6 +61,7 @@ valtree_exact (valtree.Leaf s) (valtree.Leaf t) e = two_numbers (λ n m. valtree
 valtree_exact (valtree.Branch s) (valtree.Branch t) e = ap (λ n. valtree.Branch (handle n)) (eqb-true s.number t.number e)
 valtree_exact _ _ e = absurd (false≢true e)
 
+-- kinds of constants are equal where `==` holds of them
 pub const_kind_exact : (a b : ConstKind) → (const_kinds.ghosts).eq a b ≡ true → a ≡ b
 const_kind_exact (const.Param p) (const.Param q) e = two_numbers (λ n m. const.Param (record { index = n; name = handle m })) p.index p.name.number q.index q.name.number e
 const_kind_exact (const.Infer i) (const.Infer j) e = ap const.Infer (infer_const_exact i j e)
@@ -75,6 +76,7 @@ const_kind_exact (const.Error x) (const.Error y) e = ap (λ n. const.Error (reco
 const_kind_exact (const.Expr x) (const.Expr y) e = two_numbers (λ n m. const.Expr (record { tag = n; args = handle m })) x.tag x.args.number y.tag y.args.number e
 const_kind_exact _ _ e = absurd (false≢true e)
 
+-- kinds of patterns are equal where `==` holds of them
 pub pattern_kind_exact : (a b : PatternKind) → (pattern_kinds.ghosts).eq a b ≡ true → a ≡ b
 pattern_kind_exact (pattern.Range s t) (pattern.Range s' t') e = two_numbers (λ n m. pattern.Range (handle n) (handle m)) s.number t.number s'.number t'.number e
 pattern_kind_exact (pattern.Or ps) (pattern.Or qs) e = ap (λ n. pattern.Or (handle n)) (eqb-true ps.number qs.number e)
@@ -112,6 +114,7 @@ subtype_exact a b e =
     let expected = (booleans_Decides a.a_is_expected b.a_is_expected).0 h.0 in let firsts = eqb-true a.a.number b.a.number k.0 in let seconds = eqb-true a.b.number b.b.number k.1 in
     λ i. record { a_is_expected = expected i; a = handle (firsts i); b = handle (seconds i) }
 
+-- kinds of clauses are equal where `==` holds of them
 pub clause_kind_exact : (a b : ClauseKind) → (clause_kinds.ghosts).eq a b ≡ true → a ≡ b
 clause_kind_exact (clause.Trait p) (clause.Trait q) e = ap (λ t. clause.Trait (record { trait_ref = t })) (trait_ref_exact p.trait_ref q.trait_ref e)
 clause_kind_exact (clause.RegionOutlives p) (clause.RegionOutlives q) e =
@@ -130,6 +133,7 @@ clause_kind_exact (clause.HostEffect p) (clause.HostEffect q) e =
 clause_kind_exact (clause.UnstableFeature s) (clause.UnstableFeature t) e = ap (λ n. clause.UnstableFeature (handle n)) (eqb-true s.number t.number e)
 clause_kind_exact _ _ e = absurd (false≢true e)
 
+-- kinds of predicates are equal where `==` holds of them
 pub predicate_kind_exact : (a b : PredicateKind) → (predicate_kinds.ghosts).eq a b ≡ true → a ≡ b
 predicate_kind_exact (predicate.Clause c) (predicate.Clause d) e = ap predicate.Clause (clause_kind_exact c d e)
 predicate_kind_exact (predicate.DynCompatible c) (predicate.DynCompatible d) e = ap (λ n. predicate.DynCompatible (id_of n)) (eqb-true c.number d.number e)
@@ -147,6 +151,7 @@ predicate_kind_exact (predicate.AliasRelate a b r) (predicate.AliasRelate a' b' 
     λ i. predicate.AliasRelate (firsts i) (seconds i) (same i)
 predicate_kind_exact _ _ e = absurd (false≢true e)
 
+-- existential predicates are equal where `==` holds of them
 pub existential_kind_exact : (a b : ExistentialPredicate) → (existential_kinds.ghosts).eq a b ≡ true → a ≡ b
 existential_kind_exact (existential.Trait p) (existential.Trait q) e =
     two_numbers (λ n m. existential.Trait (record { def_id = id_of n; args = handle m })) p.def_id.number p.args.number q.def_id.number q.args.number e
@@ -158,6 +163,7 @@ existential_kind_exact (existential.Projection p) (existential.Projection q) e =
 existential_kind_exact (existential.AutoTrait c) (existential.AutoTrait d) e = ap (λ n. existential.AutoTrait (id_of n)) (eqb-true c.number d.number e)
 existential_kind_exact _ _ e = absurd (false≢true e)
 
+-- kinds of stored terms, of whatever table, are equal where `==` holds of them
 pub any_kind_exact : (a b : Kind) → (any_kinds.ghosts).eq a b ≡ true → a ≡ b
 any_kind_exact (kind.Ty k) (kind.Ty l) e = ap kind.Ty (kind_exact k l e)
 any_kind_exact (kind.Const k) (kind.Const l) e = ap kind.Const (const_kind_exact k l e)

@@ -95,6 +95,7 @@ mutual
   EachParam_among-then P Q f none h = tt
   EachParam_among-then P Q f (also t ts) h = (EachParam-then P Q f t h.0, EachParam_among-then P Q f ts h.1)
 
+-- if each parameter of a tree has its argument, each parameter of the reading has that argument's reading
 pub IsAnswered-read : (args : List (Argument Depth)) (k : ℕ) (t : Tree Depth) → IsAnswered args t → IsAnswered (readings args) (read k t)
 IsAnswered-read args k t h = EachParam-read _ k t (EachParam-then _ _ still_there t h)
   where

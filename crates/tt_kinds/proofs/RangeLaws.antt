@@ -88,6 +88,7 @@ append-unbound : (ss us : Shapes) → binders_among ss ≡ 0 → binders_among u
 append-unbound none us h k = k
 append-unbound (also s ss) us h k = let rest = append-unbound ss us (omega arith) k in omega arith
 
+-- the children of a kind have no binder of their own
 pub parts-unbound : (p : Parts) → binders_among (parts_shapes p) ≡ 0
 parts-unbound p = append-unbound (child_shapes p.first) (child_shapes p.second) (child-unbound p.first) (child-unbound p.second)
 
@@ -123,9 +124,11 @@ pub items-unbound : {T : Type 0} (shape : T → Shape) → ((x : T) → binders_
 items-unbound shape none_has [] = refl
 items-unbound shape none_has (x ∷ xs) = let first = none_has x in let rest = items-unbound shape none_has xs in omega arith
 
+-- the items of a list of arguments have no binder of their own
 pub args-unbound : (args : List GenericArgKind) → binders_among (item_shapes arg_shape args) ≡ 0
 args-unbound args = items-unbound arg_shape arg-unbound args
 
+-- the items of a list of assumptions have no binder of their own
 pub assumptions-unbound : (ps : List (OutlivesPredicate GenericArgKind)) → binders_among (item_shapes assumption_shape ps) ≡ 0
 assumptions-unbound ps = items-unbound assumption_shape (λ p. let item = arg-unbound p.0 in let region = region-unbound p.1 in omega arith) ps
 

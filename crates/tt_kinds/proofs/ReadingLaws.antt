@@ -11,12 +11,15 @@ use Rattle.tt_kinds.proofs.RebuildLaws.{rebuild-joined, replace-rebuild, replace
 pub place-own : (k d : ℕ) → d < k → place k (at d) ≡ own d
 place-own k d h = rw (lt-ltb d k h)
 
+-- under k binders, an index of k or more is read as the outer number that is k less
 pub place-outer : (k d : ℕ) → k ≤ d → place k (at d) ≡ outer (d - k)
 place-outer k d h = rw (le-ltb d k h)
 
+-- a shift keeps the index of a variable whose binder is among the k
 pub shifted-own : (n k d : ℕ) → d < k → shifted n k (at d) ≡ at d
 shifted-own n k d h = rw (lt-ltb d k h)
 
+-- a shift by n adds n to an index that points past the k binders
 pub shifted-outer : (n k d : ℕ) → k ≤ d → shifted n k (at d) ≡ at (n + d)
 shifted-outer n k d h = rw (le-ltb d k h)
 

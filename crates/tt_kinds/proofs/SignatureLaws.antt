@@ -33,6 +33,7 @@ index_read : (i : Option ℕ) → FitsSplat i → (if unwrap_or i 65535 == 65535
 index_read None fits = refl
 index_read (Some n) fits = grind (arith, nat_tests)
 
+-- a convention, a safety, a variadic mark and an index that can be kept are read back as they were packed
 pub packed_read : (a : ExternAbi) (s : Safety) (v : Bool) (i : Option ℕ) → AreRead a s v i
 packed_read a s v i = record {
   abi = (byte_parts a s v).0;

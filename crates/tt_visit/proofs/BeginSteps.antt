@@ -51,6 +51,7 @@ module _ {M B : Type 0} (V : Visits M B) (rows : List Row) (s : M) where
   has-frame P Q h w (Continue None) k = tt
   has-frame P Q h w (Continue (Some f)) k = k.is_frame
 
+-- a visit that was begun and then taken to its end has gone over the whole, or broken in it
 pub finished : {M B : Type 0} (V : Visits M B) (rows : List Row) (P : M → Type 0) (Q : B → M → Type 0) (h w : ℕ) (s1 s2 : M)
     (begun : ControlFlow B (Option Frame)) (r : ControlFlow B (Unit {0}))
     → MatchControlFlow begun (λ o. Begun V rows P Q h w o s1) (λ b. Q b s1) → Finishes V rows s1 begun r s2
@@ -112,6 +113,7 @@ module _ {rows : List Row} {p : Parts} {vars : Option BoundVarKinds} {f : Frame}
     fails = λ b s2 q. k b q.after s2 (rw (h.children rows, shapes-present p.second) at q.breaks) (rw h.binder at q.leaves);
   }
 
+-- to visit what a frame leaves of parts without a binder is to visit the trees of the parts
 pub parts-visited : {M B : Type 0} (V : Visits M B) (rows : List Row) (p : Parts) (f : Frame) (s s' : M) (r : ControlFlow B (Unit {0}))
     → HoldsParts p None f → MatchControlFlow r (λ _. GoesOn V rows s (frame_todo rows f) s') (λ b. BreaksOn V rows s (frame_todo rows f) b s')
     → MatchControlFlow r (λ _. GoesOverAll V s (fill_all (meaning rows) (parts_shapes p)) s') (λ b. BreaksAll V s (fill_all (meaning rows) (parts_shapes p)) b s')
@@ -149,6 +151,7 @@ form-work f s (bound d e) = omega arith
 form-work f s (plain l p) = omega arith
 form-work f s (under l vars m p) = omega arith
 
+-- there is less to visit in the parts of a kind than in the kind's tree
 pub kind-work : (f : Meaning) (k : Kind) → forest_work (fill_all f (parts_shapes (form_parts (kind_form k)))) + 1 ≤ tree_work (fill f (kind_shape k))
 kind-work f k = form-work f (kind_sort k) (kind_form k)
 
@@ -184,6 +187,7 @@ items-tree-work sort.Pats ts = refl
 items-tree-work sort.Existentials ts = refl
 items-tree-work sort.Clauses ts = refl
 
+-- there is less to visit in the items of a stored list than in the list as a child
 pub list-light : (rows : List Row) (l : StoredList) → All (λ c. IsItem (list_sort l) (child_sort c)) (children_at rows l)
     → meaning rows (list_table l) (list_number l) ≡ items_tree (list_sort l) (fill_all (meaning rows) (children_shapes (children_at rows l)))
     → children_work rows (children_at rows l) + 1 < child_work rows (child.List l)

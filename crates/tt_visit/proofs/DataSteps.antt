@@ -19,6 +19,7 @@ module _ {M B : Type 0} (V : Visits M B) (f : Meaning) (s : M) where
     all_data_seen none is = all_seen
     all_data_seen (also d ds) is = one_seen (data_seen d is.0) (all_data_seen ds is.1)
 
+-- the index of a bound variable is data alone
 pub index_data : (i : BoundVarIndexKind) → IsData (index_shape i)
 index_data (Bound d) = (tt, tt)
 index_data Canonical = tt

@@ -48,6 +48,7 @@ pub record Taken (rows : List Row) (f : Frame) (c : Child) (f' : Frame) : Type 0
   pub binder : rest_binder f'.rest ≡ rest_binder f.rest
   pub rest : IsRest rows f'.rest
 
+-- a child was taken if the other frame has the children after it, no first child, and the same binder
 pub taken : (rows : List Row) (f : Frame) (c : Child) (f' : Frame) → frame_children rows f ≡ c ∷ frame_children rows f' → f'.first ≡ None
     → rest_binder f'.rest ≡ rest_binder f.rest → IsRest rows f'.rest → Taken rows f c f'
 taken rows f c f' children first binder rest = record { children = children; first = first; binder = binder; rest = rest }
@@ -262,6 +263,7 @@ pub binders-next : (size : Sizes) (frames frames' : List Rest) (r : Rest) → Ar
     → AreStored size (rest_binder r) × AreBinders size (inward frames')
 binders-next size frames frames' r are popped = rw (popped, inward-more frames' r) at are
 
+-- the binders of a stack are left if the innermost one is, and then the binders around it
 pub leaves-next : {M B : Type 0} (V : Visits M B) (rows : List Row) (m m1 m2 : M) (frames frames' : List Rest) (r : Rest) → frames ≡ frames' ++ r ∷ []
     → Leaves V rows m (rest_binder r) m1 → StackLeaves V rows m1 (inward frames') m2 → StackLeaves V rows m (inward frames) m2
 leaves-next V rows m m1 m2 frames frames' r popped l ls = rw (popped, inward-more frames' r) (m1, l, ls)

@@ -53,6 +53,7 @@ bits-left m a b h = same_from_bits (bit_and m a) 0 one
         let left = bit_at_and m a i in
         omega arith
 
+-- a mask that misses two sets of flags together misses the second
 pub bits-right : (m a b : ℕ) → Misses m (bit_or a b) → Misses m b
 bits-right m a b h = same_from_bits (bit_and m b) 0 one
   where
@@ -65,6 +66,7 @@ bits-right m a b h = same_from_bits (bit_and m b) 0 one
         let right = bit_at_and m b i in
         omega arith
 
+-- a mask that misses each of two sets of flags misses them together
 pub bits-both : (m a b : ℕ) → Misses m a → Misses m b → Misses m (bit_or a b)
 bits-both m a b h g = same_from_bits (bit_and m (bit_or a b)) 0 one
   where
@@ -119,6 +121,7 @@ unfolding fill
 flags-of-none f n [] is h = rw is refl
 flags-of-none f n (v ∷ vs) is h = let none_left = eqb-true (length (v ∷ vs)) 0 h in absurd (omega arith)
 
+-- a list of variables that isn't empty has the flag of binders with variables, and no other
 pub flags-of-some : (f : Meaning) (n : ℕ) (vs : List BoundVariableKind) → f VarLists n ≡ fill f (vars_row_shape vs) → (length vs == 0) ≡ false → list_flags (vars_of (f VarLists n)) ≡ has_binder_vars
 unfolding fill
 flags-of-some f n [] is h = cc

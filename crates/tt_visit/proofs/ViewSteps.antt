@@ -47,6 +47,7 @@ before-last : {T : Type 0} (xs : List T) (n : ℕ) (d : T) → n + 1 ≡ length 
 before-last xs n d h =
     let more = take_more xs n d (omega (arith, h)) in let whole = take_all (n + 1) xs (omega (arith, h)) in sym more ∙ whole
 
+-- a view of the inputs in a stored list holds all its types but the last
 pub inputs_held : (rows : List Row) (view : FnInputTys) (list : Tys) (all : List Ty) → list ≡ view.inputs_and_output
     → AreInputs rows view → IsAt rows (tys_row all) list.number → HoldsInputs rows view (take (length all - 1) all)
 inputs_held rows view list all is lies at =
@@ -59,10 +60,12 @@ inputs_held rows view list all is lies at =
     let output : Ty = get_or all (length all - 1) (handle 0) in
     record { output = output; stored = subst (λ (xs : List Ty). IsAt rows (tys_row xs) view.inputs_and_output.number) (sym (before-last all (length all - 1) (handle 0) one)) there }
 
+-- the first n types of a stored list are in range
 pub inputs_owned : (rows : List Row) → AreRows rows → (list : Tys) (all : List Ty) → IsAt rows (tys_row all) list.number
     → (n : ℕ) → AreParts (size rows) (item_shapes ty_shape (take n all))
 inputs_owned rows are list all at n = parts-take ty_shape (size rows) n all (Means-row rows are TypeLists list.number (tys_row all) at).parts.1
 
+-- a view whose places are in its list holds the arguments at these places
 pub args_held : (rows : List Row) (view : GenericArgsSlice) (list : GenericArgs) (all : List GenericArgKind)
     → list ≡ view.args → LiesInList rows view → IsAt rows (args_row all) list.number → HoldsArgs rows view (take view.len (drop view.start all))
 args_held rows view list all is lies at =
@@ -83,6 +86,7 @@ args_held rows view list all is lies at =
       len = length-take-le view.len (drop view.start all) rest;
     }
 
+-- up to n arguments of a stored list, from the place s on, are in range
 pub args_owned : (rows : List Row) → AreRows rows → (list : GenericArgs) (all : List GenericArgKind) → IsAt rows (args_row all) list.number
     → (n s : ℕ) → AreParts (size rows) (item_shapes arg_shape (take n (drop s all)))
 args_owned rows are list all at n s =
@@ -97,6 +101,7 @@ inputs-tree rows are view list all inputs is at part =
     part-tree ty_shape (meaning rows) TypeLists view.inputs_and_output.number all_but_last (list_label TypeLists) all inputs
     (Means-row rows are TypeLists view.inputs_and_output.number (tys_row all) there).tree part
 
+-- the tree of a view of arguments is a sequence of the trees of the arguments at its places
 pub args-tree : (rows : List Row) → AreRows rows → (view : GenericArgsSlice) (list : GenericArgs) (all some : List GenericArgKind) → list ≡ view.args
     → IsAt rows (args_row all) list.number → some ≡ take view.len (drop view.start all)
     → fill (meaning rows) (args_slice_shape view) ≡ tree.node (record_label sequence_record) (fill_all (meaning rows) (item_shapes arg_shape some))

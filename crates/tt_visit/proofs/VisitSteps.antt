@@ -42,6 +42,7 @@ use Rattle.tt_visit.specs.Visit.{Breaks, BreaksInside, BreaksAll, term_broke, in
 use Rattle.tt_visit.specs.Visit.{error_broke, term_inside_broke, first_broke, later_broke}
 use Rattle.tt_visit.specs.Steps.{form_error, kind_error, AreStored, Asks, AskingBreaks, GoesUnder, BreaksUnder}
 
+-- a result that keeps a promise, whether it goes on or breaks, keeps every weaker promise
 pub flow-weaker : {B C : Type 0} (r : ControlFlow B C) {P P' : C → Type 0} {Q Q' : B → Type 0}
     → MatchControlFlow r P Q → ((c : C) → P c → P' c) → ((b : B) → Q b → Q' b) → MatchControlFlow r P' Q'
 flow-weaker (Continue c) h f g = f c h
@@ -90,6 +91,7 @@ older-or-newest r rows t n before (inr is) =
     let whole : root (meaning (r ∷ rows) (row_table r) (size rows (row_table r))) ≡ table_root (row_table r) = ap root (meaning-new r rows) ∙ root-row (meaning rows) r in
     rw (is.last, ← is.same_table) whole
 
+-- the table of a handle tells the root of the handle's tree
 pub root-meaning : (rows : List Row) (t : Table) (n : ℕ) → n < size rows t → root (meaning rows t n) ≡ table_root t
 unfolding table
 root-meaning [] t n h = absurd (omega arith)
@@ -101,6 +103,7 @@ sort-unhooked region_sort e = let never = e in cc
 sort-unhooked type_sort e = let never = e in cc
 sort-unhooked const_sort e = let never = e in cc
 
+-- the label of a term without a hook names no error
 pub no-error : (l : Label Name) → term_root l ≡ unhooked → error_of l ≡ None
 no-error (type_label l) is = cc
 no-error (const_label l) is = cc
@@ -172,6 +175,7 @@ parts-form size s (bound d e) h = (tt, tt)
 parts-form size s (plain l p) h = (tt, h.1)
 parts-form size s (under l vars m p) h = (h.1.0.0, h.1.0.1.2)
 
+-- if the contents of a kind are in range, so are its binder's variables and its parts
 pub parts-kind : (size : Sizes) (k : Kind) → HasParts size (kind_shape k) → AreStored size (form_binder (kind_form k)) × AreParts size (parts_shapes (form_parts (kind_form k)))
 parts-kind size k h = parts-form size (kind_sort k) (kind_form k) h
 
@@ -257,6 +261,7 @@ pub parts-before : (size : Sizes) (ss us : Shapes) → AreParts size (append ss 
 parts-before size none us h = tt
 parts-before size (also x ss) us h = (h.0, parts-before size ss us h.1)
 
+-- the second of two lists of shapes is in range if both together are
 pub parts-after : (size : Sizes) (ss us : Shapes) → AreParts size (append ss us) → AreParts size us
 parts-after size none us h = h
 parts-after size (also x ss) us h = parts-after size ss us h.1
@@ -270,20 +275,24 @@ children-append : (xs ys : List Child) → children_shapes (xs ++ ys) ≡ append
 children-append [] ys = refl
 children-append (x ∷ xs) ys = ap (append (child_shapes x)) (children-append xs ys) ∙ sym (append-assoc (child_shapes x) (children_shapes xs) (children_shapes ys))
 
+-- the first n + 1 items of a list are the first n and the item after them
 pub take-more : {A : Type 0} (list : List A) (n : ℕ) (x : A) → x ≡ get_or list n x → n < length list → take (n + 1) list ≡ take n list ++ x ∷ []
 take-more list n x is_x lt = grind (arith, common_steps)
 
+-- a list is its first n items, the item after them, and the others
 pub take-rest : {A : Type 0} (list : List A) (n : ℕ) (x : A) → x ≡ get_or list n x → n < length list → list ≡ take n list ++ (x ∷ drop (n + 1) list)
 take-rest list n x is_x lt = grind (arith, common_steps)
 
 is-read : {A : Type 0} (list : List A) (n : ℕ) (x : A) → slice_get list n ≡ Some x → x ≡ get_or list n x
 is-read list n x h = sym (get_or_from_slice_get list n x x h)
 
+-- the shapes of a list's children are the shapes before one of the children, its own, and the shapes after it
 pub children-from : (list : List Child) (n : ℕ) (x : Child) → slice_get list n ≡ Some x
     → children_shapes list ≡ append (children_shapes (take n list)) (append (child_shapes x) (children_shapes (drop (n + 1) list)))
 children-from list n x h =
     ap children_shapes (take-rest list n x (is-read list n x h) (slice_get_within list n x h)) ∙ children-append (take n list) (x ∷ drop (n + 1) list)
 
+-- a child of a list is in range if all the children are
 pub parts-child : (size : Sizes) (list : List Child) (n : ℕ) (x : Child) → slice_get list n ≡ Some x → AreParts size (children_shapes list) → AreParts size (child_shapes x)
 parts-child size list n x h are =
     parts-before size (child_shapes x) (children_shapes (drop (n + 1) list))

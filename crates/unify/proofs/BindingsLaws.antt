@@ -42,6 +42,7 @@ entry_at m [] v = refl
 entry_at m (x ∷ xs) zero = entry_is m x
 entry_at m (x ∷ xs) (suc v) = entry_at m xs v
 
+-- a table binds a variable to the tree of the type in the variable's entry, if there is one
 pub reads : (terms : Terms) (xs : List (Option Ty)) (v : ℕ) → substitution terms xs v ≡ bound_tree (meaning terms.rows) (get_or xs v None)
 unfolding fill
 reads terms xs v = entry_at (meaning terms.rows) xs v
@@ -94,12 +95,14 @@ pub single_at : (v : ℕ) (t : Ty) → get_or (single_table v t) v None ≡ Some
 single_at zero t = refl
 single_at (suc v) t = single_at v t
 
+-- in the table of one variable, no other variable has a type
 pub single_other : (v : ℕ) (t : Ty) (w : ℕ) → w ≢ v → get_or (single_table v t) w None ≡ None
 single_other zero t zero other = absurd (other refl)
 single_other zero t (suc w) other = refl
 single_other (suc v) t zero other = refl
 single_other (suc v) t (suc w) other = single_other v t w (λ e. other (ap suc e))
 
+-- the table of one variable is the substitution that binds this variable alone, to the type's tree
 pub binds_only : (terms : Terms) (v : ℕ) (t : Ty) → BindsOnly (substitution terms (single_table v t)) v (fill (meaning terms.rows) (ty_shape t))
 binds_only terms v t = record {
   own = reads terms (single_table v t) v ∙ rw (single_at v t) refl;

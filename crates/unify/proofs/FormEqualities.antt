@@ -104,6 +104,7 @@ sort_exact sort.Existentials sort.Existentials e = refl
 sort_exact sort.Clauses sort.Clauses e = refl
 sort_exact _ _ e = absurd (false≢true e)
 
+-- sorts of lists that `!=` doesn't tell apart are equal
 pub same_sort : (s s' : ListSort) → not ((sorts.ghosts).eq s s') ≡ false → s ≡ s'
 same_sort s s' h = sort_exact s s' (tested ((sorts.ghosts).eq s s') h)
 

@@ -98,6 +98,7 @@ enters_by terms v ty t (Some w) is differs =
     entered (binding_at_variable (substitution terms (single_table v ty)) t w is ∙ reads terms (single_table v ty) w
     ∙ ap (bound_tree (meaning terms.rows)) (single_other v ty w (λ e. differs (ap Some e))))
 
+-- where one variable is bound, a tree that is not this variable is entered
 pub enters_single : (terms : Terms) (v : ℕ) (ty : Ty) (t : Tree Depth) → (variable_in t ≡ Some v → ⊥) → Resolves (tree_in terms.rows (table_shape (single_table v ty))) t descend
 enters_single terms v ty t differs = enters_by terms v ty t (variable_in t) refl differs
 
@@ -158,5 +159,6 @@ unequal_not : (m n : ℕ) (e : Bool) → nat_eq m n ≡ e → not e ≡ false �
 unequal_not m n true e h = eqb-true m n e
 unequal_not m n false e h = absurd (true≢false h)
 
+-- numbers that `!=` doesn't tell apart are equal
 pub same_number : (m n : ℕ) → not (nat_eq m n) ≡ false → m ≡ n
 same_number m n h = unequal_not m n (nat_eq m n) refl h

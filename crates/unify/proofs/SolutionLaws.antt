@@ -96,6 +96,7 @@ pub node_tree : (m : Meaning) (n : Node) (t : Tree Depth) → m (node_table n) (
 unfolding fill
 node_tree m n t is = is
 
+-- the tree of a stored list is what its table and its number mean
 pub list_tree : (m : Meaning) (l : StoredList) (t : Tree Depth) → m (list_table l) (list_number l) ≡ t → fill m (list_shape l) ≡ t
 unfolding fill
 list_tree m l t is = is

@@ -13,10 +13,12 @@ pub record Bound (σ : Substitution) (l : Label Name) (b : Tree Depth) : Type 0 
   pub is : variable_of l ≡ Some variable
   pub has : σ variable ≡ Some b
 
+-- a label that is bound to a tree is a variable's, and the variable is bound to that tree
 pub bound_variable : (σ : Substitution) (l : Label Name) (b : Tree Depth) → bound_to σ l ≡ Some b → Bound σ l b
 bound_variable σ (type_label (infer_type (TyVar v))) b h = record { variable = v; is = refl; has = h }
 bound_variable σ l b h = absurd (cc)
 
+-- the label of a variable is bound to what the variable is bound to
 pub variable_bound : (σ : Substitution) (l : Label Name) (v : ℕ) → variable_of l ≡ Some v → bound_to σ l ≡ σ v
 variable_bound σ (type_label (infer_type (TyVar w))) v h = let same : w ≡ v = cc in rw same refl
 variable_bound σ l v h = absurd (cc)
