@@ -43,9 +43,11 @@ list-is : (rows : List Row) → AreRows rows → (l : RegionAssumptions) (ps : A
 unfolding fill
 list-is rows are l ps at = (Means-row rows are AssumptionLists l.number (assumptions_row ps) at).tree
 
+-- the vector of a stored list's assumptions has only handles that name rows
 pub sequence-part : (rows : List Row) → AreRows rows → (l : RegionAssumptions) (ps : Assumptions) → IsAt rows (assumptions_row ps) l.number → IsPartOf rows (sequence_shape assumption_shape ps)
 sequence-part rows are l ps at = (refl, tt, (Means-row rows are AssumptionLists l.number (assumptions_row ps) at).parts.1)
 
+-- if the handles in a vector of assumptions name rows, so do the handles in each assumption
 pub sequence-parts : (rows : List Row) (ps : Assumptions) → IsPartOf rows (sequence_shape assumption_shape ps) → AreParts (size rows) (item_shapes assumption_shape ps)
 sequence-parts rows ps h = h.2
 
@@ -75,6 +77,7 @@ vector-unbuilt terms us u TableFull h = let root = root_of_row (meaning terms.ro
 vector-unbuilt terms us u NotAClause h = absurd h
 vector-unbuilt terms us u _ h = absurd h
 
+-- an error that says that a vector of trees is not built says the same of the list of these trees
 pub vector-error : {E : Type 0} (gives : Refusal → E → Type 0) (terms : Terms) (e : E) (us : Forest Depth) → IsErrorOfUnbuilt gives terms (sequence us) e → IsErrorOfUnbuilt gives terms (listed us) e
 vector-error gives terms e us h = (h.0, (h.1.0, vector-unbuilt terms us (listed us) h.0 h.1.1))
 

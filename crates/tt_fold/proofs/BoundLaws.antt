@@ -218,6 +218,7 @@ free_ty : (k : TyKind) → bound_ty_in k ≡ None → IsFree (ty_form k)
 free_ty (ty.Bound j c) h = absurd (cc)
 free_ty _ h = tt
 
+-- the tree of a kind that is a bound type is the tree of the variable
 pub type_tree : (f : Meaning) (k : Kind) (i : BoundVarIndexKind) (b : BoundTy) → bound_ty_of k ≡ Some (i, b) → fill f (kind_shape k) ≡ fill f (bound_shape type_sort i (ty_entry b))
 type_tree f (kind.Ty k) i b h = is_bound_ty f k i b h
 type_tree f (kind.Const k) i b h = absurd (cc)
@@ -225,6 +226,7 @@ type_tree f (kind.Pat k) i b h = absurd (cc)
 type_tree f (kind.Predicate k) i b h = absurd (cc)
 type_tree f (kind.Existential k) i b h = absurd (cc)
 
+-- the tree of any other kind of type is no bound variable
 pub type_other : (f : Meaning) (k : Kind) → kind_table k ≡ Types → bound_ty_of k ≡ None → IsVariable (fill f (kind_shape k)) → ⊥
 type_other f (kind.Ty k) t h = unbound-other (fill f (ty_kind_shape k)) (free-unbound f type_sort (relabelled type_label (ty_form k)) (free-relabelled type_label (ty_form k) (free_ty k h)))
 type_other f (kind.Const k) t h = absurd (cc)
@@ -247,6 +249,7 @@ free_const (const.Bound j c) h = absurd (cc)
 free_const (const.Value v) h = free_value v.ty v.valtree.kind
 free_const _ h = tt
 
+-- the tree of a kind that is a bound constant is the tree of the variable
 pub const_tree : (f : Meaning) (k : Kind) (i : BoundVarIndexKind) (b : BoundConst) → bound_const_of k ≡ Some (i, b) → fill f (kind_shape k) ≡ fill f (bound_shape const_sort i (const_entry b))
 const_tree f (kind.Ty k) i b h = absurd (cc)
 const_tree f (kind.Const k) i b h = is_bound_const f k i b h
@@ -254,6 +257,7 @@ const_tree f (kind.Pat k) i b h = absurd (cc)
 const_tree f (kind.Predicate k) i b h = absurd (cc)
 const_tree f (kind.Existential k) i b h = absurd (cc)
 
+-- the tree of any other kind of constant is no bound variable
 pub const_other : (f : Meaning) (k : Kind) → kind_table k ≡ Consts → bound_const_of k ≡ None → IsVariable (fill f (kind_shape k)) → ⊥
 const_other f (kind.Ty k) t h = absurd (cc)
 const_other f (kind.Const k) t h = unbound-other (fill f (const_kind_shape k)) (free-unbound f const_sort (relabelled const_label (const_form k)) (free-relabelled const_label (const_form k) (free_const k h)))
@@ -303,6 +307,7 @@ unfolding table
 clauses-other [] t n of h = absurd (omega arith)
 clauses-other (r ∷ rows) t n of h = other-more r rows t n of (λ low. clauses-other rows t n of low) (place_cases r rows t n h)
 
+-- the tree of a stored predicate, or of a stored list of clauses, is no bound variable
 pub clauses_other : (rows : List Row) (t : Table) (n : ℕ) → IsOfClauses t → IsPartOf rows (stored t n) → IsVariable (tree_in rows (stored t n)) → ⊥
 clauses_other rows t n of h is = unbound-other (meaning rows t n) (clauses-other rows t n of (in_range rows t n h)).unbound (subst IsVariable (stored_tree rows t n) is)
 

@@ -58,6 +58,7 @@ no_bad_list : (u : Tree Depth) → KeepsClauses u → IsNoClauseList u → ⊥
 no_bad_list (tree.term l ts) h bad = h.0 bad
 no_bad_list _ h bad = bad
 
+-- if each list of clauses in a tree holds clauses alone, no part of the tree is a list with another item
 pub never_bad : {u t : Tree Depth} → StandsIn u t → KeepsClauses t → IsNoClauseList u → ⊥
 never_bad {u} m h bad = no_bad_list u (stands-keeps m h) bad
 
@@ -140,6 +141,7 @@ module _ (index : ℕ → Depth → Depth) (parameter : ℕ → Sort → ℕ →
 pub shift-keeps_clause : (k n : ℕ) (l : Label Name) (ts : Forest Depth) → LosesClause l ts (shift_forest k n ts) → ⊥
 shift-keeps_clause k n l ts h = rebuild-keeps_clause (shifted n) (λ k s i name. tree.param s i name) k l ts h
 
+-- if each list of clauses in a tree holds clauses alone, so does each in the shifted tree
 pub shift-keeps : (n : ℕ) (t : Tree Depth) → KeepsClauses t → KeepsClauses (shift_tree 0 n t)
 shift-keeps n t h = rebuild-keeps (shifted n) (λ k s i name. tree.param s i name) (λ k s i name. tt) 0 t h
 
@@ -227,5 +229,6 @@ stored_keeps (r ∷ rows) are t n h = elim (place_cases r rows t n h) [
         let same : meaning (r ∷ rows) t n ≡ fill (meaning rows) (row_shape r) = rw (newest.last, ← newest.same_table) (meaning-new r rows) in
         rw same keeps
 
+-- in the tree of a value whose handles name rows, each list of clauses holds clauses alone
 pub value_keeps : (rows : List Row) → AreRows rows → (s : Shape) → IsPartOf rows s → KeepsClauses (tree_in rows s)
 value_keeps rows are s part = part-keeps (size rows) (meaning rows) (stored_keeps rows are) s part

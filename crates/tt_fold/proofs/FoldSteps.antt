@@ -59,10 +59,12 @@ kind_row-shape (kind.Pat k) = refl
 kind_row-shape (kind.Predicate k) = refl
 kind_row-shape (kind.Existential k) = refl
 
+-- a handle that is in range for a kind may be the result of a term, if the kind and the term are of one table
 pub stored_node : (rows : Listed Row) (n u : Node) (k : Kind) → node_number u < size rows (row_table (kind_row k)) → node_table u ≡ kind_table k → kind_table k ≡ node_table n → IsNodeFor n rows u
 stored_node rows n u k h t like =
     record { owned = is_part rows (node_table u) (node_number u) (rw t (rw (kind_row-table k) at h)); like = t ∙ like }
 
+-- a handle that means the row of a kind has the kind's tree
 pub stored_node_tree : (rows rows1 : Listed Row) (u : Node) (k : Kind) → meaning rows1 (row_table (kind_row k)) (node_number u) ≡ fill (meaning rows) (row_shape (kind_row k)) → node_table u ≡ kind_table k
     → node_tree rows1 u ≡ tree_in rows (kind_shape k)
 stored_node_tree rows rows1 u k h t =
@@ -86,9 +88,11 @@ not_stored terms k _ parts shallow h = absurd h
 pub stored_list : (rows : Listed Row) (u : List) (sort : ListSort) → list_sort u ≡ sort → list_number u < size rows (sort_list_table sort) → IsPartOf rows (list_shape u)
 stored_list rows u sort same h = is_part rows (list_table u) (list_number u) (rw same h)
 
+-- the tree of a list is what its number means in the table of the lists of its sort
 pub stored_list_tree : (rows : Listed Row) (u : List) (sort : ListSort) → list_sort u ≡ sort → list_tree rows u ≡ meaning rows (sort_list_table sort) (list_number u)
 stored_list_tree rows u sort same = stored_tree rows (list_table u) (list_number u) ∙ ap (λ x. meaning rows (sort_list_table x) (list_number u)) same
 
+-- if a refusal is `NotAClause`, an error that it gives is an error that `NotAClause` gives
 pub gives_no_clause : {E : Type 0} (gives : Refusal → E → Type 0) (r : Refusal) (e : E) → r ≡ NotAClause → gives r e → gives NotAClause e
 gives_no_clause gives r e same h = subst (λ x. gives x e) same h
 

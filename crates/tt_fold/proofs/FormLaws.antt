@@ -39,6 +39,7 @@ root_label _ = text_label []
 label_alone : (size : Sizes) (l : Label ℕ) → IsNamedLabel size l → HasParts size (shape.term l shape.none)
 label_alone size l h = (h, tt)
 
+-- when rows are added, a label whose names are in range keeps its meaning, and the names are still in range
 pub keeps_label : (old new : List Row) → Grows old new → (l : Label ℕ) → IsNamedLabel (size old) l → KeepsLabel old new l
 unfolding fill root_label
 keeps_label old new g l h = record {
@@ -46,6 +47,7 @@ keeps_label old new g l h = record {
   named = (HasParts-grows old new g (shape.term l shape.none) (label_alone (size old) l h)).0;
 }
 
+-- when rows are added, the labels of a form in range keep their meaning, and their names are still in range
 pub form-labels : (old new : List Row) → Grows old new → (s : Sort) (f : Form (Label ℕ)) → HasParts (size old) (form_shape s f) → KeepsLabels old new f
 form-labels old new g s (param i name) h = tt
 form-labels old new g s (bound d e) h = tt
@@ -90,6 +92,7 @@ inner label any (bound d e) h = absurd (h refl refl refl)
 inner label any (plain l p) h = any l
 inner label any (under l vars m p) h = any l
 
+-- a kind with a child or a binder is no parameter and no variable, and any trees may come of its children
 pub is_inner : (k : Kind) → (IsLeaf (form_binder (kind_form k)) (form_parts (kind_form k)) → false ≡ true) → IsInner (kind_form k)
 is_inner (kind.Ty k) h =
     inner type_label (λ l name. refl) (ty_form k) (λ b p q. let no : false ≡ true = h (record { binder = b; first = p; second = q }) in absurd (cc))
@@ -113,6 +116,7 @@ form-parts rows s (bound d e) h = tt
 form-parts rows s (plain l p) h = h.1
 form-parts rows s (under l vars m p) h = h.1.0.1.2
 
+-- if the handles in a form name rows, so does the list of its binder's variables, if there is one
 pub form-binder : (rows : List Row) (s : Sort) (f : Form (Label ℕ)) → HasParts (size rows) (form_shape s f) → HasBinder rows (form_binder f)
 form-binder rows s (param i name) h = tt
 form-binder rows s (bound d e) h = tt

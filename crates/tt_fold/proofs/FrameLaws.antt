@@ -43,18 +43,21 @@ whole-part rows (child.Region r) is h = absurd is
 whole-part rows (child.Node n) is h = h.0
 whole-part rows (child.List l) is h = h.0
 
+-- a child that is a term or a list is in range if its handle is
 pub part-whole : (rows : Listed Row) (c : Child) → IsWhole c → IsPartOf rows (child_shape c) → ArePartsOf rows (child_shapes c)
 part-whole rows child.Absent is h = absurd is
 part-whole rows (child.Region r) is h = absurd is
 part-whole rows (child.Node n) is h = (h, tt)
 part-whole rows (child.List l) is h = (h, tt)
 
+-- a child that is a term or a list has exactly one tree
 pub whole-tree : (rows : Listed Row) (c : Child) → IsWhole c → child_trees rows c ≡ also (child_tree rows c) none
 whole-tree rows child.Absent is = absurd is
 whole-tree rows (child.Region r) is = absurd is
 whole-tree rows (child.Node n) is = one_tree rows (node_shape n)
 whole-tree rows (child.List l) is = one_tree rows (list_shape l)
 
+-- a child of the same sort as a term or a list is a term or a list itself
 pub like-whole : (y c : Child) → child_sort y ≡ child_sort c → IsWhole c → IsWhole y
 like-whole y child.Absent e is = absurd is
 like-whole y (child.Region r) e is = absurd is
@@ -72,9 +75,11 @@ pub last_trees : (rows : Listed Row) (cs : Listed Child) (c : Child) → childre
 last_trees rows cs c =
     ap (trees_in rows) (children-append cs (c ∷ []) ∙ ap (append (children_shapes cs)) (children-one c)) ∙ append_trees rows (children_shapes cs) (child_shapes c)
 
+-- if the handles in some children and in one more name rows, so do the handles in all of them together
 pub last_parts : (rows : Listed Row) (cs : Listed Child) (c : Child) → ArePartsOf rows (children_shapes cs) → ArePartsOf rows (child_shapes c) → ArePartsOf rows (children_shapes (cs ++ c ∷ []))
 last_parts rows cs c h k = rw (children-append cs (c ∷ []), children-one c) (append_parts rows (children_shapes cs) (child_shapes c) h k)
 
+-- the shapes of a term's first and second part, taken as a list of children, are the shapes of its parts
 pub two_shapes : (p : Parts) → children_shapes (p.first ∷ p.second ∷ []) ≡ parts_shapes p
 two_shapes p = ap (append (child_shapes p.first)) (children-one p.second)
 
@@ -83,18 +88,22 @@ drop_parts rows zero cs h = h
 drop_parts rows (suc n) [] h = h
 drop_parts rows (suc n) (c ∷ cs) h = drop_parts rows n cs (right_parts rows (child_shapes c) (children_shapes cs) h)
 
+-- if the handles in some children name rows, so do the handles in the child at each place
 pub get_part : (rows : Listed Row) (cs : Listed Child) (n : ℕ) (c : Child) → slice_get cs n ≡ Some c → ArePartsOf rows (children_shapes cs) → ArePartsOf rows (child_shapes c)
 get_part rows [] n c e h = absurd (none-some c e)
 get_part rows (x ∷ cs) zero c e h = let part = left_parts rows (child_shapes x) (children_shapes cs) h in rw (same_Some x c e) at part
 get_part rows (x ∷ cs) (suc n) c e h = get_part rows cs n c e (right_parts rows (child_shapes x) (children_shapes cs) h)
 
+-- the children from a place on are the child at that place and the children after it
 pub drop_next : (cs : Listed Child) (n : ℕ) (c : Child) → slice_get cs n ≡ Some c → drop n cs ≡ c ∷ drop (n + 1) cs
 drop_next cs n c e = drop_more cs n c (slice_get_within cs n c e) ∙ ap (λ k. k ∷ drop (n + 1) cs) (get_or_from_slice_get cs n c c e)
 
+-- the trees of the children from a place on are the tree of the child there, if any, and the trees after it
 pub trees_next : (rows : Listed Row) (cs : Listed Child) (n : ℕ) (c : Child) → slice_get cs n ≡ Some c
     → children_trees rows (drop n cs) ≡ joined (child_trees rows c) (children_trees rows (drop (n + 1) cs))
 trees_next rows cs n c e = ap (children_trees rows) (drop_next cs n c e) ∙ append_trees rows (child_shapes c) (children_shapes (drop (n + 1) cs))
 
+-- past the end of the children there are no more trees
 pub trees_end : (rows : Listed Row) (cs : Listed Child) (n : ℕ) → length cs ≤ n → children_trees rows (drop n cs) ≡ none
 trees_end rows cs n h = ap (children_trees rows) (drop_of_length-le cs h) ∙ no_trees rows
 
@@ -105,11 +114,13 @@ alike_more [] (k ∷ cs) v c h e s = (s ∙ ap child_sort (sym (same_Some k c e)
 alike_more (x ∷ vs) [] v c h e s = absurd h
 alike_more (x ∷ vs) (k ∷ cs) v c h e s = (h.0, alike_more vs cs v c h.1 e s)
 
+-- there are at most as many values as children that they came of
 pub alike_length : (vs cs : Listed Child) → AreAlike vs cs → length vs ≤ length cs
 alike_length [] cs h = omega arith
 alike_length (v ∷ vs) [] h = absurd h
 alike_length (v ∷ vs) (c ∷ cs) h = omega (arith, alike_length vs cs h.1)
 
+-- if a condition on sorts holds of all the children, it holds of the values that came of them
 pub alike_all : (P : Child → Type 0) (vs cs : Listed Child) → ((v c : Child) → child_sort v ≡ child_sort c → P c → P v) → AreAlike vs cs → All P cs → All P vs
 alike_all P [] cs f h a = λ k d lt. absurd (omega (arith, lt))
 alike_all P (v ∷ vs) [] f h a = absurd h
@@ -200,6 +211,7 @@ children_by-parts rows n count None h =
     let k = stored_kind rows n in
     rw (two_shapes (form_parts (kind_form k))) (form-parts rows (kind_sort k) (kind_form k) h.named)
 
+-- the handles in the children of a frame name rows
 pub frame-parts : {rows : Listed Row} {f : Frame} → IsFrame rows f → ArePartsOf rows (children_shapes (children_in rows f))
 frame-parts {f} h = children_by-parts _ (child_node f.item) f.count (child_list f.item) h.made
 
@@ -209,15 +221,19 @@ fits_by : (rows : Listed Row) (n : Node) (count : ℕ) (l : Option List) (i : �
 fits_by rows n count (Some l) i c y h e s = rw s (item-fits (λ x. IsItem (list_sort l) (child_sort x)) (children_at rows l) i c e h.fit)
 fits_by rows n count None i c y h e s = tt
 
+-- a value of the sort of a frame's child may be an item of the frame's list, if the frame is a list's
 pub frame_fits : {rows : Listed Row} {f : Frame} (i : ℕ) (c y : Child) → IsFrame rows f → slice_get (children_in rows f) i ≡ Some c → child_sort y ≡ child_sort c → Fits (child_list f.item) y
 frame_fits {f} i c y h e s = fits_by _ (child_node f.item) f.count (child_list f.item) i c y h.made e s
 
+-- the count of a frame is the number of its children
 pub frame-count : {rows : Listed Row} {f : Frame} → IsFrame rows f → f.count ≡ length (children_in rows f)
 frame-count {f} h = counted _ (child_node f.item) f.count (child_list f.item) h.made
 
+-- the count of a frame fits into 64 bits
 pub frame-fits : {rows : Listed Row} {f : Frame} → IsFrame rows f → f.count < 2 ^ 64
 frame-fits {f} h = counted-fits _ (child_node f.item) f.count (child_list f.item) h.made
 
+-- at most two children of a frame are absent
 pub frame-absent : {rows : Listed Row} {f : Frame} → IsFrame rows f → absent_among (children_in rows f) ≤ 2
 frame-absent {f} h = few_absent _ (child_node f.item) f.count (child_list f.item) h.made
 
@@ -279,6 +295,7 @@ pub frames_work-append : (rows : Listed Row) (fs : Listed Frame) (f : Frame) →
 frames_work-append rows [] f = omega arith
 frames_work-append rows (x ∷ fs) f = omega (arith, frames_work-append rows fs f)
 
+-- when rows are added, the work left in the frames around a term or a list stays the same
 pub frames_work-grows : {old new : Listed Row} → Grows old new → (root item : Child) (ps : Listed Part) → AreBelow old root item ps → frames_work new (frames_of ps) ≡ frames_work old (frames_of ps)
 frames_work-grows g root item [] h = refl
 frames_work-grows {old} {new} g root item (p ∷ ps) h =

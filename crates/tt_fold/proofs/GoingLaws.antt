@@ -41,6 +41,7 @@ use Rattle.tt_fold.proofs.FrameLaws.{frame_work-grows, frames_work-append, frame
 abbrev pub stepped : Frame → Frame
 stepped f = record { item = f.item; count = f.count; next = f.next + 1 }
 
+-- a frame with one more child begun is still the frame of its term or list
 pub stepped-frame : {rows : Listed Row} {f : Frame} → IsFrame rows f → IsFrame rows (stepped f)
 stepped-frame h = record { is = h.is; part = h.part; tree = h.tree; made = h.made }
 
@@ -52,6 +53,7 @@ next_part {rows} {f} c h is_c = get_part rows (children_in rows f) f.next c is_c
 abbrev pub no_frame : Option Frame
 no_frame = None
 
+-- where no frame could be taken off, there are 0 frames
 pub no_frames : (n : ℕ) → (0 < n → IsSome no_frame) → n ≡ 0
 no_frames zero f = refl
 no_frames (suc n) f = (let never = f (omega arith) in cc)

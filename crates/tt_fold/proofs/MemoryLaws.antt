@@ -38,6 +38,7 @@ memo_found rows (e ∷ es) t k after h = elim (found e.1 after (same_place (plac
   | inr rest ↦ inr (memo_found rows es t k after rest)
 ]
 
+-- if the handles in the memory name rows, a result that is found in it names one
 pub found_owned : (rows : List Row) (es : List (Place × Ty)) (t : Ty) (k : ℕ) (after : Ty) → OwnsMemos rows es → lookup (same_place (place_of t k)) es ≡ Some after
     → IsPartOf rows (ty_shape after)
 found_owned rows [] t k after owns h = absurd (cc)

@@ -64,6 +64,7 @@ all_noted P (e ∷ es) p after all new = elim (cases_Bool (same_place p e.0)) [
   | inr other ↦ rw other (all.0, all_noted P es p after all.1 new)
 ]
 
+-- if the places of entries are distinct, they are distinct after one more is noted
 pub distinct_noted : (es : List (Place × Ty)) (p : Place) (after : Ty) → IsDistinct same_place (keys_of es) → IsDistinct same_place (keys_of (insert_entry same_place es p after))
 unfolding IsDistinct
 distinct_noted [] p after distinct = (tt, tt)
@@ -153,13 +154,16 @@ pub found : (notes lent : List Note) (p : Place) (i : ℕ) (d : Note) → lent �
     → Some (slice_index_or lent i d).after ≡ lookup (same_place p) (entries_of notes)
 found notes lent p i d is h = rw is (found_after notes p i d (first_found notes p i d h))
 
+-- a place that has no note is not found among the entries
 pub missing : (notes : List Note) (p : Place) → position (λ n. same_place p n.place) notes ≡ None → None ≡ lookup (same_place p) (entries_of notes)
 missing notes p h = absent_after notes p (not_found notes p h)
 
+-- the places in an empty list of entries are distinct
 pub none_distinct : IsDistinct same_place (keys_of (entries_of []))
 unfolding IsDistinct
 none_distinct = tt
 
+-- adding a note of a new place at the end is putting its entry into the map
 pub noted_last : (notes : List Note) (p : Place) (after : Ty) → position (λ n. same_place p n.place) notes ≡ None
     → entries_of (notes ++ record { place = p; after = after } ∷ []) ≡ insert_entry same_place (entries_of notes) p after
 noted_last notes p after h = noted_new notes p after (not_found notes p h)

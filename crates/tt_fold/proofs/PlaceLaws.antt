@@ -68,6 +68,7 @@ module _ {A : Type 0} where
       let fewer = length-distinct xs (without x ys place) d.1 (λ z h. IsIn-without x z ys place (f z (inr h)) (λ e. d.0 (rw e at h))) in
       omega (arith, fewer, length-without x ys place)
 
+-- if an item is in a list, its image is in the list of images
 pub IsIn-map : {A B : Type 0} (f : A → B) (x : A) (xs : List A) → IsIn x xs → IsIn (f x) (map f xs)
 IsIn-map f x [] h = absurd h
 IsIn-map f x (y ∷ xs) (inl e) = inl (ap f e)
@@ -124,6 +125,7 @@ inside-smaller k j (region r) h = h
 inside-smaller k j (node l ts) h = h
 inside-smaller k j (binder vs t) h = h
 
+-- a place inside a term is one of the places in the term
 pub place-inside : (p : TypeAt) (k : ℕ) (t : Tree Depth) → IsPlaceInside p k t → IsPlaceIn p k t
 place-inside p k (term l ts) h = inr h
 place-inside p k (param s i name) h = absurd h

@@ -31,9 +31,11 @@ one-inner rows l s h = h.2.0
 one-part : (rows : List Row) (l : RecordLabel ℕ) (s : Shape) → IsNameless l → IsPartOf rows s → IsPartOf rows (one_record l s)
 one-part rows l s plain h = (refl, plain.named (size rows), (h, tt))
 
+-- if the handles in a record of two values name rows, so do the handles in the first value
 pub two-first : (rows : List Row) (l : RecordLabel ℕ) (s u : Shape) → IsPartOf rows (two_record l s u) → IsPartOf rows s
 two-first rows l s u h = h.2.0
 
+-- if the handles in a record of two values name rows, so do the handles in the second value
 pub two-second : (rows : List Row) (l : RecordLabel ℕ) (s u : Shape) → IsPartOf rows (two_record l s u) → IsPartOf rows u
 two-second rows l s u h = h.2.1.0
 
@@ -44,12 +46,15 @@ two-part rows l s u plain h k = (refl, plain.named (size rows), (h, (k, tt)))
 abbrev pub three_record : RecordLabel ℕ → Shape → Shape → Shape → Shape
 three_record l s u v = shape.node (record_label l) (shape.also s (shape.also u (shape.also v shape.none)))
 
+-- if the handles in a record of three values name rows, so do the handles in the first value
 pub three-first : (rows : List Row) (l : RecordLabel ℕ) (s u v : Shape) → IsPartOf rows (three_record l s u v) → IsPartOf rows s
 three-first rows l s u v h = h.2.0
 
+-- if the handles in a record of three values name rows, so do the handles in the second value
 pub three-second : (rows : List Row) (l : RecordLabel ℕ) (s u v : Shape) → IsPartOf rows (three_record l s u v) → IsPartOf rows u
 three-second rows l s u v h = h.2.1.0
 
+-- if the handles in a record of three values name rows, so do the handles in the third value
 pub three-third : (rows : List Row) (l : RecordLabel ℕ) (s u v : Shape) → IsPartOf rows (three_record l s u v) → IsPartOf rows v
 three-third rows l s u v h = h.2.1.1.0
 
@@ -60,6 +65,7 @@ three-part rows l s u v plain h k m = (refl, plain.named (size rows), (h, (k, (m
 record_named : (rows : List Row) (f : RecordForm) → IsPartOf rows (record_shape f) → IsNamedLabel (size rows) (record_label f.label)
 record_named rows f h = h.1
 
+-- if the handles in a record of parts name rows, so do the handles in its parts
 pub record-parts : (rows : List Row) (f : RecordForm) → IsPartOf rows (record_shape f) → ArePartsOf rows (parts_shapes f.parts)
 record-parts rows f h = h.2
 
@@ -218,9 +224,11 @@ module _ {M E S : Type 0} {owned : List Row → S → Type 0} {means : List Row 
 abbrev pub unsafe_value : Ty → Shape
 unsafe_value t = one_record unsafe_binder_record (ty_shape t)
 
+-- if the handles in an unsafe binder's contents name rows, so do the handles in the binder that they hold
 pub unsafe_is_part : (rows : List Row) (i : UnsafeBinderInner) → IsPartOf rows (unsafe_binder_shape i) → IsPartBy (binder_shape unsafe_value) rows i.0
 unsafe_is_part rows i h = h
 
+-- if the handles in an unsafe binder's contents name rows, so does the type under the binder
 pub unsafe_type : (rows : List Row) (i : UnsafeBinderInner) → IsPartOf rows (unsafe_binder_shape i) → IsPartOf rows (ty_shape i.0.value)
 unsafe_type rows i h = one-inner rows unsafe_binder_record (ty_shape i.0.value) h.1
 

@@ -54,6 +54,7 @@ part-named rows (RePlaceholder p) h = h
 part-named rows ReErased h = h
 part-named rows (ReError e) h = h
 
+-- a region whose name is one of the rows' symbols is in range
 pub named-part : (rows : List Row) (r : RegionKind) → HasName (size rows Symbols) r → IsPartOf rows (region_shape r)
 named-part rows (ReEarlyParam p) h = h
 named-part rows (ReBound i b) h = h
@@ -195,6 +196,7 @@ pub record IsFolded {F T : Type 0} (step : F → RegionKind → ℕ → RegionKi
   pub placed : IfOk result (λ y. Places step (names_in terms.rows) f (tree_by shape terms.rows x) (tree_by shape terms'.rows y) last)
   pub err : IfErr result (λ e. PlacesSome step (names_in terms.rows) terms' f (tree_by shape terms.rows x) e last)
 
+-- a fold by a new folder of regions puts its closure's answers in their places, or ends after some of the calls
 pub folded : {F S T : Type 0} {step : F → RegionKind → ℕ → RegionKind → F → Type 0} {owned : List Row → S → Type 0} {means : List Row → S → Asking F}
     {terms terms' : Terms} {s s' : S} {x : T} (shape : T → Shape) (f : F) (result : Result T Refusal)
     → Folds owned means (IsPartBy shape) (tree_by shape) (Walks (keeps_counters (region_hooks step))) (Fails (keeps_counters (region_hooks step)) (refusals_of terms')) terms s x result terms' s'
@@ -210,5 +212,6 @@ pub not-some : (ms : List Met) → (ms ≢ [] → false ≡ true) → ms ≡ []
 not-some [] h = refl
 not-some (m ∷ ms) h = let never : false ≡ true = h (λ none. cc) in cc
 
+-- where no region is met in a tree, a fold of its regions makes no call and gives the same tree
 pub nothing_placed : {F : Type 0} (step : F → RegionKind → ℕ → RegionKind → F → Type 0) (names : ℕ → Name) (f : F) (t : Tree Depth) → met 0 t ≡ [] → Places step names f t t f
 nothing_placed step names f t h = record { calls = []; made = refl; are_met = sym h; are_placed = sym (placed-none 0 t [] h) }

@@ -49,6 +49,7 @@ pub pairs : ℕ → ℕ → Tree Depth → List TypeAt → List TypeAt
 pairs zero k t rest = rest
 pairs (suc n) k t rest = record { standing = paired (suc n) t; under = k } ∷ pairs n k t rest
 
+-- n pairings make n pairs, before the other types
 pub length-pairs : (n k : ℕ) (t : Tree Depth) (rest : List TypeAt) → length (pairs n k t rest) ≡ n + length rest
 unfolding pairs
 length-pairs zero k t rest = omega arith

@@ -52,6 +52,7 @@ counts-still c = record { descents = refl; up = omega arith }
 pub counted-up : (n : ℕ) → n ≤ counted n
 counted-up n = grind arith
 
+-- a count grows by one at most
 pub counted-one : (n : ℕ) → counted n ≤ suc n
 counted-one n = grind arith
 
@@ -137,6 +138,7 @@ region-moved f n k (RePlaceholder p) = refl
 region-moved f n k ReErased = refl
 region-moved f n k (ReError e) = refl
 
+-- if the name of a region is in range, so is the name of the moved region
 pub region-named : (size : Sizes) (n k : ℕ) (r : RegionKind) → IsPart size (region_shape r) → IsPart size (region_shape (moved_region n k r))
 region-named size n k (ReEarlyParam p) h = h
 region-named size n k (ReBound i b) h = h
@@ -177,6 +179,7 @@ index-shallow n k (Bound d) low h = elim (cases_lt d k) [ inl g ↦ own g | inr 
         rw (le-ltb d k g) below
 index-shallow n k Canonical low h = tt
 
+-- a moved region's index stays below the greatest if the reading of the shifted region fits
 pub region-shallow : (f : Meaning) (n k : ℕ) (r : RegionKind) → IsShallow r → FitsUnder k (read k (shift_tree k n (fill f (region_shape r)))) → IsShallow (moved_region n k r)
 unfolding fill
 region-shallow f n k (ReEarlyParam p) low h = tt
@@ -202,14 +205,17 @@ region-unfit f n r low deep fits = deep (region-shallow f n 0 r low (rw (read-sh
 abbrev pub IsMoved : ℕ → ℕ → RegionKind → Result RegionKind Refusal → Type 0
 IsMoved n k r result = MatchResult result (λ q. (q ≡ moved_region n k r) × IsShallow q) (λ e. (e ≡ GreatestIndex) × (IsShallow (moved_region n k r) → ⊥))
 
+-- if moving a region under no binder answers a region, it is the shifted region
 pub moved_ok : (f : Meaning) (n : ℕ) (r : RegionKind) (result : Result RegionKind Refusal) → IsMoved n 0 r result → IfOk result (IsShiftedRegion f n r)
 moved_ok f n r (Ok q) h = is_shifted f n r q h.0 h.1
 moved_ok f n r (Err e) h = tt
 
+-- if moving a region whose name is in range answers a region, the answer's name is in range
 pub moved_named : (size : Sizes) (n k : ℕ) (r : RegionKind) (result : Result RegionKind Refusal) → IsMoved n k r result → IsPart size (region_shape r) → IfOk result (λ q. IsPart size (region_shape q))
 moved_named size n k r (Ok q) h part = rw h.0 (region-named size n k r part)
 moved_named size n k r (Err e) h part = tt
 
+-- if moving a region under no binder is refused, it is with `GreatestIndex`, and the shifted region doesn't fit
 pub moved_err : (f : Meaning) (n : ℕ) (r : RegionKind) (result : Result RegionKind Refusal) → IsShallow r → IsMoved n 0 r result
     → IfErr result (λ e. (e ≡ GreatestIndex) × (Fits (move n (read 0 (fill f (region_shape r)))) → ⊥))
 moved_err f n r (Ok q) low h = tt
@@ -237,6 +243,7 @@ pub stays : (n : ℕ) (t : Tree Depth) → (n ≡ 0) ⊎ (outer_binder t ≡ 0) 
 stays n t (inl none_added) = rw none_added (shift_tree-zero 0 t)
 stays n t (inr closed) = shift_tree-low 0 n t (omega (arith, closed))
 
+-- two trees with the same shifted tree are equal
 pub keep_apart : (n : ℕ) (t u : Tree Depth) → shift_tree 0 n t ≡ shift_tree 0 n u → t ≡ u
 keep_apart n t u e = read-injective 0 t u (move-injective n (read 0 t) (read 0 u) (sym (read-shift_tree n 0 t) ∙ ap (read 0) e ∙ read-shift_tree n 0 u))
 
@@ -244,9 +251,11 @@ keep_apart n t u e = read-injective 0 t u (move-injective n (read 0 t) (read 0 u
 pub shifts_on : (n : ℕ) (t r : Tree Depth) → r ≡ shift_tree 0 n t → ShiftsOn n t r
 shifts_on n t r h = λ m. ap (shift_tree 0 m) h ∙ shift_tree-shift_tree 0 m n t
 
+-- no other tree has the same shifted tree
 pub comes_of : (n : ℕ) (t r : Tree Depth) → r ≡ shift_tree 0 n t → ComesOf n t r
 comes_of n t r h = λ u e. keep_apart n u t (e ∙ h)
 
+-- if a tree's own variables match their binders' lists, so do the shifted tree's
 pub keeps_matched : (n : ℕ) (t r : Tree Depth) → r ≡ shift_tree 0 n t → KeepsMatched t r
 keeps_matched n t r h = λ m. subst (λ q. MatchedUnder [] q) (sym (ap (read 0) h ∙ read-shift_tree n 0 t)) (MatchedUnder-move n [] (read 0 t) m)
 
@@ -325,9 +334,11 @@ module _ {S T : Type 0} {owned : List Row → S → Type 0} {means : List Row �
         pairs = rw is at pairs;
       }
 
+-- two shifts in turn are one shift by the sum
 pub add_up : (m n : ℕ) (t : Tree Depth) → shift_tree 0 m (shift_tree 0 n t) ≡ shift_tree 0 (m + n) t
 add_up m n t = shift_tree-shift_tree 0 m n t
 
+-- an outer binder that isn't above 0 is 0: nothing is bound outside
 pub closed : (n t : ℕ) → (0 < t → false ≡ true) → (n ≡ 0) ⊎ (t ≡ 0)
 closed n zero h = inr refl
 closed n (suc t) h = absurd (let no : false ≡ true = h (omega arith) in cc)

@@ -60,6 +60,7 @@ unfolding table
 stored-type [] t n h = absurd (omega arith)
 stored-type (r ∷ rows) t n h = type-more r rows t n (λ low. stored-type rows t n low) (place_cases r rows t n h)
 
+-- the tree of a handle that names a row is a type's exactly if the handle is of the table of types
 pub part-type : (rows : List Row) (t : Table) (n : ℕ) → IsPartOf rows (stored t n) → is_type_tree (tree_in rows (stored t n)) ≡ is_types t
 part-type rows t n h = rw (stored_tree rows t n) (stored-type rows t n (in_range rows t n h))
 

@@ -22,6 +22,7 @@ use Rattle.tt_fold.proofs.FoldSteps.{region-is}
 pub binder-has : {T : Type 0} (of_value : T → Shape) (rows : List Row) (x : Binder T) → IsPartBy (binder_shape of_value) rows x → HasVars rows x.bound_vars
 binder-has of_value rows x h = h.0
 
+-- if the handles in a value with its binder name rows, so do the handles in the value
 pub binder-value : {T : Type 0} (of_value : T → Shape) (rows : List Row) (x : Binder T) → IsPartBy (binder_shape of_value) rows x → IsPartBy of_value rows x.value
 binder-value of_value rows x h = h.1
 

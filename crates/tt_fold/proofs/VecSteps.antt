@@ -18,6 +18,7 @@ use Rattle.tt_fold.specs.Stack.{joined}
 use Rattle.tt_fold.proofs.PartLaws.{one_part, right_parts, append_parts, append_trees, no_parts, no_trees, one_tree}
 use Rattle.tt_fold.proofs.WalkLaws.{WalksAll-append, FailsAll-append, WalksAll-one}
 
+-- a list of length 0 is empty
 pub nil-from_length : {A : Type 0} (xs : List A) → length xs ≡ 0 → xs ≡ []
 nil-from_length [] h = refl
 nil-from_length (x ∷ xs) h = absurd (omega (arith, h))

@@ -16,6 +16,7 @@ use Rattle.tt_fold.specs.Parts.{IsLeaf}
 use Rattle.tt_fold.specs.Stack.{joined}
 use Rattle.tt_fold.proofs.WantedLaws.{none-wanted, first-unwanted, later-unwanted}
 
+-- the walks of two lists of trees in turn are a walk of both lists, one after the other
 pub WalksAll-append : {M E : Type 0} {H : Hooks M E} {s s1 s2 : M} {ts us vs ws : Forest Depth}
     → WalksAll H s ts us s1 → WalksAll H s1 vs ws s2 → WalksAll H s (joined ts vs) (joined us ws) s2
 WalksAll-append done b = b
@@ -50,6 +51,7 @@ leaf_form H s rows o (bound d e) b p q = in_bound
 leaf_form H s rows o (plain l r) b p q = rw (p, q) (in_term done (none-wanted _))
 leaf_form H s rows o (under l vars m r) b p q = absurd (cc)
 
+-- inside a term without children or binder there is a walk that changes neither the term nor the state
 pub walks_leaf : {M E : Type 0} (H : Hooks M E) (s : M) (rows : List Row) (k : Kind) → IsLeaf (form_binder (kind_form k)) (form_parts (kind_form k))
     → WalksInside H s (tree_in rows (kind_shape k)) (tree_in rows (kind_shape k)) s
 walks_leaf H s rows k h = leaf_form H s rows (kind_sort k) (kind_form k) h.binder h.first h.second

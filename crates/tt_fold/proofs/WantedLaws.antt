@@ -15,18 +15,22 @@ use Rattle.tt_fold.specs.Steps.{refusals_of}
 use Rattle.tt_fold.specs.Parts.{child_trees}
 use Rattle.tt_fold.specs.Stack.{joined}
 
+-- among no trees none is unwanted
 pub none-wanted : (w : Wanted) → HasUnwanted w none → ⊥
 none-wanted any_trees h = h
 none-wanted clause_trees h = h
 
+-- if the first of some trees is unwanted, one of the trees is
 pub first-unwanted : (w : Wanted) (u : Tree Depth) (us : Forest Depth) → HasUnwanted w (also u none) → HasUnwanted w (also u us)
 first-unwanted any_trees u us h = h
 first-unwanted clause_trees u us h = elim h [ inl a ↦ inl a | inr b ↦ absurd b ]
 
+-- if one of the trees after the first is unwanted, one of all the trees is
 pub later-unwanted : (w : Wanted) (u : Tree Depth) (us : Forest Depth) → HasUnwanted w us → HasUnwanted w (also u us)
 later-unwanted any_trees u us h = h
 later-unwanted clause_trees u us h = inr h
 
+-- if neither of two lists of trees has an unwanted one, both together have none
 pub joined-wanted : (w : Wanted) (us vs : Forest Depth) → (HasUnwanted w us → ⊥) → (HasUnwanted w vs → ⊥) → HasUnwanted w (joined us vs) → ⊥
 joined-wanted any_trees us vs a b h = h
 joined-wanted clause_trees none vs a b h = b h
@@ -59,6 +63,7 @@ module _ {M E : Type 0} {H : Hooks M E} {errors : Errors E} where
 abbrev pub TellsOfLists : {E : Type 0} → Errors E → Type 0
 TellsOfLists {E} errors = (u : Tree Depth) (e : E) → IsNoClauseList u → errors.unwanted e → errors.unbuilt u e
 
+-- as a refusal, `NotAClause` says that a list with an item that is no clause is not built
 pub refusals-tell : (terms : Terms) → TellsOfLists (refusals_of terms)
 refusals-tell terms u e bad b = (NotAClause, (b, bad))
 

@@ -162,6 +162,7 @@ pub known-refused : (start old new : Terms) → Extends start old → (answers :
 known-refused start old new x answers o are t short u r needs known room =
     needs room known.0 are (stored-value old.rows t u (known-stored start old new x answers o t u known.1))
 
+-- a call isn't refused for want of room if its term has no long list and is there already
 pub there-refused : (start old new : Terms) → Extends start old → (answers : List Answer) → AreOwned start.rows answers → AreRows old.rows → (t : Table) (f : CallForm) (r : Refusal)
     → FormNeedsRoom old.rows (told_all start.rows answers) f r → IsThere (setting start new) (told_all start.rows answers) t f → IsForRoom r → ⊥
 there-refused start old new x answers o are t f r needs there room =
@@ -213,6 +214,7 @@ pub region-passed : (terms : Terms) (t : Tree Depth) (deep : Type 0) (result : R
 region-passed terms t deep (Ok k) r h u = absurd h
 region-passed terms t deep (Err x) r h u = record { ok = tt; err = rw h u }
 
+-- an error that is passed on may be the answer of the call, if the call may be refused with it
 pub answer-passed : (start terms : Terms) (e : List Told) (c : Call) (result : Result Answer Refusal) (r : Refusal) → IsErrAnd result (λ x. x ≡ r)
     → MayRefuse (setting start terms) e c r → Answers start terms e c result
 answer-passed start terms e c (Ok k) r h u = absurd h
@@ -230,6 +232,7 @@ pub region-shallow : (terms : Terms) (k : RegionKind) (t : Tree Depth) (deep : T
 region-shallow terms k t deep result ok s n p m =
     rw (ok s) (record { ok = record { part = p; means = m; shallow = n }; err = tt })
 
+-- no index is both below the greatest and the greatest
 pub not_both : (i : BoundVarIndexKind) → IsBelowGreatest (depth i) → IsGreatest (depth i) → ⊥
 not_both (index.Bound d) s g = omega arith
 not_both index.Canonical s g = g

@@ -55,6 +55,7 @@ pub no-predicate : (P : Type 0) (e : List Told) (p : ℕ) (r : Refusal) → IsUn
     → IsUnbuilt P e (record { want = of_clause; position = p } ∷ []) ⊥ r
 no-predicate P e p r h = IsUnbuilt-weaker P e e _ _ ⊥ ⊥ r (λ a. ((only_table e (term_at e p) a.0).0, tt)) (λ d. d) h
 
+-- the clauses at no positions are an empty list
 pub clauses-none : (terms : Terms) (e : List Told) → AreClausesAt terms e [] []
 clauses-none terms e = record { items = items-none a_clause clause_shape terms e; clauses = tt }
 
@@ -62,6 +63,7 @@ clauses-append : (rows : List Row) (cs : List Clause) (c : Clause) → AreClause
 clauses-append rows [] c h k = (k, tt)
 clauses-append rows (d ∷ cs) c h k = (h.0, clauses-append rows cs c h.1 k)
 
+-- the clauses at some positions, and the clause at one more, are the clauses at all of these positions
 pub clauses-more : (terms : Terms) (e : List Told) (ps : List ℕ) (cs : List Clause) (p : ℕ) (c : Clause) → AreClausesAt terms e ps cs
     → IsPartOf terms e (one (a_clause p)) (clause_shape c) → IsClause terms.rows c.number → AreClausesAt terms e (ps ++ p ∷ []) (cs ++ c ∷ [])
 clauses-more terms e ps cs p c h k i = record {

@@ -62,6 +62,7 @@ type-argument terms e p t h = record {
   means = ap (λ (x : Tree Depth). record { sort = type_sort; value = x }) h.means;
 }
 
+-- a constant that is the term at a position is the argument that a call names by this position
 pub const-argument : (terms : Terms) (e : List Told) (p : ℕ) (t : Const) → IsPartOf terms e (one (a_term Consts p)) (stored Consts t.number)
     → IsArgumentOf terms e (arg.Const p) (kind.Const t)
 const-argument terms e p t h = record {
@@ -69,6 +70,7 @@ const-argument terms e p t h = record {
   means = ap (λ (x : Tree Depth). record { sort = const_sort; value = x }) h.means;
 }
 
+-- the region that a call describes is the argument that it names as a lifetime
 pub region-argument : (terms : Terms) (e : List Told) (c : RegionCall) (r : RegionKind) → IsRegionOf terms (region_tree (number_at e) c) (IsRegionTooDeep c) r
     → IsArgumentOf terms e (arg.Lifetime c) (kind.Lifetime r)
 region-argument terms e c r h = record {
@@ -76,11 +78,13 @@ region-argument terms e c r h = record {
   means = ap (λ (x : Tree Depth). record { sort = region_sort; value = x }) h.means;
 }
 
+-- an error that is passed on is an argument's refusal, if it is a reason why the argument was not built
 pub argument-passed : (terms : Terms) (e : List Told) (c : ArgCall) (result : Result GenericArgKind Refusal) (r : Refusal) → IsErrAnd result (λ x. x ≡ r)
     → IsUnbuilt (HasFullTable terms) e (item_positions (arg_item c)) (IsItemTooDeep (arg_item c)) r → GivesArgument terms e c result
 argument-passed terms e c (Ok k) r h u = absurd h
 argument-passed terms e c (Err x) r h u = record { ok = tt; err = rw h u }
 
+-- an error that is passed on is the refusal of arguments, if it is a reason why they were not built
 pub arguments-passed : (terms : Terms) (e : List Told) (cs : List ArgCall) (result : Result (Vec GenericArgKind Global) Refusal) (r : Refusal) → IsErrAnd result (λ x. x ≡ r)
     → IsUnbuilt (HasFullTable terms) e (items_positions (arg_items cs)) (AreItemsTooDeep (arg_items cs)) r → GivesArguments terms e cs result
 arguments-passed terms e cs (Ok k) r h u = absurd h
@@ -90,6 +94,7 @@ arguments-passed terms e cs (Err x) r h u = record { ok = tt; err = rw h u }
 pub arguments-nothing : (terms : Terms) (e : List Told) → AreArgumentsOf terms e [] []
 arguments-nothing terms e = record { items = items-none arg_item arg_shape terms e; means = refl }
 
+-- the arguments built so far, and the next one, built among more rows, are the arguments that a call names so far
 pub arguments-more : (old new : Terms) (e : List Told) (cs : List ArgCall) (xs : List GenericArgKind) (c : ArgCall) (a : GenericArgKind)
     → Extends old new → AreArgumentsOf old e cs xs → IsArgumentOf new e c a
     → AreArgumentsOf new e (cs ++ c ∷ []) (xs ++ a ∷ [])

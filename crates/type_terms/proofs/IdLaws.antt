@@ -20,6 +20,7 @@ no-id : (a : Answer) → ((s : DeclarationSort) (d : DefId) → a ≡ answer.Id 
 no-id (answer.Id s d) f rows = absurd (f s d refl)
 no-id _ f rows = refl
 
+-- there is no id at a position whose answer is no id
 pub no-id-at : (earlier : List Answer) (p : ℕ) (a : Answer) → IsAnswerAt earlier p a → ((s : DeclarationSort) (d : DefId) → a ≡ answer.Id s d → ⊥)
     → (rows : List Row) → id_at (told_all rows earlier) p ≡ None
 no-id-at earlier p a at f rows = at.is_id rows ∙ no-id a f rows

@@ -44,6 +44,7 @@ owned-at rows [] n a h e = absurd (cc)
 owned-at rows (b ∷ answers) zero a h e = let same : b ≡ a = cc in subst (λ (x : Answer). IsOwned rows x) same h.0
 owned-at rows (b ∷ answers) (suc n) a h e = owned-at rows answers n a h.1 e
 
+-- the answer at a position, which is counted from 1, is the earlier answer with an index one lower
 pub found : (earlier : List Answer) (p : ℕ) (a : Answer) → (p ≡ 0 → ⊥) → slice_get earlier (p - 1) ≡ Some a → IsAnswerAt earlier p a
 found earlier p a h e = record {
   means = λ rows. rw (term_at-told rows earlier p h, e) refl;
@@ -51,9 +52,11 @@ found earlier p a h e = record {
   owned = λ rows o. owned-at rows earlier (p - 1) a o e;
 }
 
+-- where there is no earlier answer at a position, no term is told there
 pub absent : (earlier : List Answer) (p : ℕ) → (p ≡ 0 → ⊥) → slice_get earlier (p - 1) ≡ None → (rows : List Row) → term_at (told_all rows earlier) p ≡ None
 absent earlier p h e rows = rw (term_at-told rows earlier p h, e) refl
 
+-- where there is no earlier answer at a position, no id is told there
 pub absent-id : (earlier : List Answer) (p : ℕ) → (p ≡ 0 → ⊥) → slice_get earlier (p - 1) ≡ None → (rows : List Row) → id_at (told_all rows earlier) p ≡ None
 absent-id earlier p h e rows = rw (id_at-told rows earlier p h, e) refl
 
@@ -70,6 +73,7 @@ other-id : (rows : List Row) (a : Answer) (s : DeclarationSort) → ((id : DefId
 other-id rows (answer.Id r id) s not same = not id (ap (λ (t : DeclarationSort). answer.Id t id) same)
 other-id rows _ s not h = absurd h
 
+-- where the answer at a position is no id of a sort, there is no id of that sort
 pub no-id-other : (earlier : List Answer) (p : ℕ) (a : Answer) (s : DeclarationSort) → IsAnswerAt earlier p a → ((id : DefId) → a ≡ answer.Id s id → ⊥) → HasNoId earlier p s
 no-id-other earlier p a s at not rows h = other-id rows a s not (subst (λ (o : Option Id). IsSomeAnd o (λ i. i.sort ≡ s)) (at.is_id rows) h)
 
@@ -107,18 +111,23 @@ other-at P rows earlier p a table r i at other =
 pub ty-handle : (a : Answer) (h : Ty) → a ≡ answer.Ty h → IsHandle a Types h.number
 ty-handle a h e = rw e (record { told = λ rows. refl; owned = λ rows k. k; owns = λ rows k. k })
 
+-- an answer that is a constant is a handle of the table of constants
 pub const-handle : (a : Answer) (h : Const) → a ≡ answer.Const h → IsHandle a Consts h.number
 const-handle a h e = rw e (record { told = λ rows. refl; owned = λ rows k. k; owns = λ rows k. k })
 
+-- an answer that is a pattern is a handle of the table of patterns
 pub pat-handle : (a : Answer) (h : Pat) → a ≡ answer.Pat h → IsHandle a Patterns h.number
 pat-handle a h e = rw e (record { told = λ rows. refl; owned = λ rows k. k; owns = λ rows k. k })
 
+-- an answer that is a predicate is a handle of the table of predicates
 pub predicate-handle : (a : Answer) (h : Predicate) → a ≡ answer.Predicate h → IsHandle a Predicates h.number
 predicate-handle a h e = rw e (record { told = λ rows. refl; owned = λ rows k. k; owns = λ rows k. k })
 
+-- an answer that is a list of clauses is a handle of the table of these lists
 pub clauses-handle : (a : Answer) (h : Clauses) → a ≡ answer.Clauses h → IsHandle a ClauseLists h.number
 clauses-handle a h e = rw e (record { told = λ rows. refl; owned = λ rows k. k; owns = λ rows k. k })
 
+-- an answer that is a list of arguments is a handle of the table of these lists
 pub args-handle : (a : Answer) (h : GenericArgs) → a ≡ answer.Args h → IsHandle a ArgLists h.number
 args-handle a h e = rw e (record { told = λ rows. refl; owned = λ rows k. k; owns = λ rows k. k })
 

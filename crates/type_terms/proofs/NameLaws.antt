@@ -28,16 +28,19 @@ pub name-passed : (terms : Terms) (ids : ℕ → ℕ) (c : RegionNameCall) (resu
 name-passed terms ids c (Ok k) r h u = absurd h
 name-passed terms ids c (Err x) r h u = record { ok = tt; err = rw h u }
 
+-- an error that is passed on is a variable's refusal, if it is a reason why the variable was not built
 pub variable-passed : (terms : Terms) (ids : ℕ → ℕ) (c : VariableCall) (result : Result BoundVariableKind Refusal) (r : Refusal) → IsErrAnd result (λ x. x ≡ r)
     → IsUnbuilt (HasFullTable terms) [] [] ⊥ r → GivesVariable terms ids c result
 variable-passed terms ids c (Ok k) r h u = absurd h
 variable-passed terms ids c (Err x) r h u = record { ok = tt; err = rw h u }
 
+-- an error that is passed on is the refusal of a list of variables, if it is a reason why the list was not built
 pub variables-passed : (terms : Terms) (ids : ℕ → ℕ) (cs : List VariableCall) (result : Result BoundVarKinds Refusal) (r : Refusal) → IsErrAnd result (λ x. x ≡ r)
     → IsUnbuilt (HasFullTable terms) [] [] ⊥ r → GivesVariables terms ids cs result
 variables-passed terms ids cs (Ok k) r h u = absurd h
 variables-passed terms ids cs (Err x) r h u = record { ok = tt; err = rw h u }
 
+-- an error that is passed on is the refusal of variables in order, if it is a reason why they were not built
 pub vars-passed : {R : Type 0} (terms : Terms) (ids : ℕ → ℕ) (cs : List VariableCall) (vs : List BoundVariableKind) (result : Result R Refusal) (r : Refusal) → IsErrAnd result (λ x. x ≡ r)
     → IsUnbuilt (HasFullTable terms) [] [] ⊥ r → PutsVariables terms ids cs vs result
 vars-passed terms ids cs vs (Ok k) r h u = absurd h
@@ -58,9 +61,11 @@ kinds-still : (old new : Terms) (vs : List BoundVariableKind) → Extends old ne
 unfolding fill
 kinds-still old new vs x h = ap vars_of (row-grows old.rows new.rows x.rows (vars_row_shape vs) (h, tt))
 
+-- the variables of no calls are an empty list
 pub variables-nothing : (terms : Terms) (ids : ℕ → ℕ) → AreVariablesOf terms ids [] []
 variables-nothing terms ids = record { parts = tt; means = refl }
 
+-- the variables built so far, and the next one, built among more rows, are the variables that calls name so far
 pub variables-more : (old new : Terms) (ids : ℕ → ℕ) (cs : List VariableCall) (vs : List BoundVariableKind) (c : VariableCall) (v : BoundVariableKind)
     → Extends old new → AreVariablesOf old ids cs vs → IsVariableOf new ids c v → AreVariablesOf new ids (cs ++ c ∷ []) (vs ++ v ∷ [])
 variables-more old new ids cs vs c v x h k = record {

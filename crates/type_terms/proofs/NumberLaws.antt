@@ -4,6 +4,7 @@ use Rattle.std.proofs.Common.{suc, refl, arith, drop-cons}
 use Rattle.std.proofs.lemmas.Grind.{common_steps}
 use Rattle.type_terms.specs.Number.{is_digit, number_after, at_most}
 
+-- after a number past the limit, no bytes make a number within it
 pub past : (limit n : ℕ) (bs : List ℕ) → limit < n → at_most limit (number_after n bs) ≡ None
 past limit n [] h = grind (arith, common_steps)
 past limit n (b ∷ bs) h =
@@ -19,6 +20,7 @@ past_digit limit n b bs h =
       | false ↦ refl
     ]
 
+-- if the next byte of a word takes a number past the limit, the rest of the word makes no number within it
 pub past_word : (limit n i : ℕ) (word : List ℕ) → i < length word → limit < n * 10 + (get_or word i 0 - 48)
     → at_most limit (number_after n (drop i word)) ≡ None
 past_word limit n i word inside h = rw (drop-cons word i 0) (past_digit limit n (get_or word i 0) (drop (suc i) word) h)

@@ -180,6 +180,7 @@ type-told u None h = λ k. no-type k.0 k.1 k.2
     no-type region_sort i k = k
 type-told u (Some p) h = rw h.0 (refl, h.1)
 
+-- the parameter found in a constant's tree is the one that the constant is; if none is found, the constant is none
 pub const-told : (u : Tree Depth) (r : Option Parameter) → MatchOption r ((i : ℕ) → IsParam const_sort i u → ⊥) (λ p. (parameter_sort p ≡ const_sort) × IsParam const_sort (parameter_index p) u)
     → MatchOption r (IsParameter (record { table = Consts; tree = u }) → ⊥) (λ p. IsParameterOf (parameter_sort p) (parameter_index p) (record { table = Consts; tree = u }))
 const-told u None h = λ k. no-const k.0 k.1 k.2
@@ -199,6 +200,7 @@ other-table t u no_type no_const k = by k.0 k.1 k.2
     by const_sort i k = no_const k.0
     by region_sort i k = k
 
+-- an answer that is neither a type nor a constant tells no parameter
 pub other-told : (rows : List Row) (a : Answer) → ((h : Ty) → a ≡ answer.Ty h → ⊥) → ((h : Const) → a ≡ answer.Const h → ⊥)
     → IsSomeAnd (as_term (Some (told rows a))) IsParameter → ⊥
 other-told rows (answer.Ty x) f g h = f x refl

@@ -44,10 +44,12 @@ pub AreTerms-append : (e : List Told) (ms ns : List Named) → AreTerms e ms →
 AreTerms-append e [] ns h k = k
 AreTerms-append e (m ∷ ms) ns h k = (h.0, AreTerms-append e ms ns h.1 k)
 
+-- if the positions of two lists tell what is wanted there, so do the positions of the first
 pub AreTerms-first : (e : List Told) (ms ns : List Named) → AreTerms e (ms ++ ns) → AreTerms e ms
 AreTerms-first e [] ns h = tt
 AreTerms-first e (m ∷ ms) ns h = (h.0, AreTerms-first e ms ns h.1)
 
+-- if the positions of two lists tell what is wanted there, so do the positions of the second
 pub AreTerms-second : (e : List Told) (ms ns : List Named) → AreTerms e (ms ++ ns) → AreTerms e ns
 AreTerms-second e [] ns h = h
 AreTerms-second e (m ∷ ms) ns h = AreTerms-second e ms ns h.1
@@ -73,6 +75,7 @@ unbuilt-later P e p ps r h =
     IsUnbuilt-weaker P e e (parts_positions ps) (parts_positions (p ∷ ps)) (ArePartsTooDeep ps) (ArePartsTooDeep (p ∷ ps)) r
     (AreTerms-second e (part_positions p) (parts_positions ps)) inr h
 
+-- a reason why the second child was not built is a reason why the children were not
 pub unbuilt-second : (P : Type 0) (e : List Told) (p q : Part) (ps : List Part) (r : Refusal)
     → IsUnbuilt P e (part_positions q) (IsPartTooDeep q) r → IsUnbuilt P e (parts_positions (p ∷ q ∷ ps)) (ArePartsTooDeep (p ∷ q ∷ ps)) r
 unbuilt-second P e p q ps r h = unbuilt-later P e p (q ∷ ps) r (unbuilt-first P e q ps r h)
@@ -92,6 +95,7 @@ placed-grows {e} {t} {ns} {deep} {s} old new x h = record {
   shallow = h.shallow;
 }
 
+-- when rows are added, values that are placed in order are still so
 pub all_placed-grow : {e : List Told} {ts : Forest Depth} {ns : List Named} {deep : Type 0} {ss : Shapes} (old new : Terms) → Extends old new
     → ArePlaced old e ts ns deep ss → ArePlaced new e ts ns deep ss
 all_placed-grow {e} {ts} {ns} {deep} {ss} old new x h = record {
@@ -116,9 +120,11 @@ parts-also terms e p ps s ss h k = record {
   shallow = λ d. elim d [ inl x ↦ h.shallow x | inr x ↦ k.shallow x ];
 }
 
+-- the value in the place of an only child is all that a call puts in the children's places
 pub parts-one : (terms : Terms) (e : List Told) (p : Part) (s : Shape) → IsPartOf terms e p s → ArePartsOf terms e (p ∷ []) (shape.also s shape.none)
 parts-one terms e p s h = parts-also terms e p [] s shape.none h (parts-none terms e)
 
+-- the values in the places of two children are all that a call puts in the children's places
 pub parts-two : (terms : Terms) (e : List Told) (p q : Part) (s u : Shape) → IsPartOf terms e p s → IsPartOf terms e q u
     → ArePartsOf terms e (p ∷ q ∷ []) (shape.also s (shape.also u shape.none))
 parts-two terms e p q s u h k = parts-also terms e p (q ∷ []) s (shape.also u shape.none) h (parts-one terms e q u k)
@@ -251,6 +257,7 @@ pub region-part : (terms : Terms) (e : List Told) (c : RegionCall) (r : RegionKi
     → IsPartOf terms e (one (a_region c)) (region_shape r)
 region-part terms e c r h = record { part = h.part; means = h.means; named = tt; shallow = h.shallow }
 
+-- a reason why a region was not built is such a reason whatever was told earlier
 pub region-unbuilt : (P : Type 0) (e : List Told) (c : RegionCall) (r : Refusal) → IsUnbuilt P [] [] (IsRegionTooDeep c) r
     → IsUnbuilt P e [] (IsRegionTooDeep c) r
 region-unbuilt P e c r h = IsUnbuilt-weaker P [] e [] [] (IsRegionTooDeep c) (IsRegionTooDeep c) r (λ a. tt) (λ d. d) h
@@ -295,6 +302,7 @@ record-placed terms e r n ss h k q = record {
   shallow = h.shallow;
 }
 
+-- a placed record under a binder of a call's variables, with the call's label, is the kind that the call names
 pub bound-record : (terms : Terms) (e : List Told) (l : Label Name) (vs : List VariableCall) (r : RecordCall) (m : Label ℕ) (vars : BoundVarKinds) (s : Shape)
     → IsPlaced terms e (record_tree (number_at e) (tree_at e) r) (parts_positions r.parts) (ArePartsTooDeep r.parts) s → IsVariableListOf terms (number_at e) vs vars
     → IsNamedLabel (size terms.rows) m → rename_label (name_of (meaning terms.rows)) m ≡ l
@@ -312,9 +320,11 @@ term_kind-child : (k : TermKind) → child_shapes (term_kind_child k) ≡ shape.
 term_kind-child (term.Ty t) = refl
 term_kind-child (term.Const c) = refl
 
+-- a type or a constant, taken as a child, has its own shape alone
 pub term-child : (t : Term) → child_shapes (term_child t) ≡ shape.also (term_shape t) shape.none
 term-child t = term_kind-child t.kind
 
+-- an error that is passed on is the refusal of a record, if it is a reason why the record was not built
 pub record-passed : {K : Type 0} (terms : Terms) (e : List Told) (r : RecordCall) (form : K → RecordForm) (result : Result K Refusal) (x : Refusal) → IsErrAnd result (λ y. y ≡ x)
     → IsUnbuilt (HasFullTable terms) e (parts_positions r.parts) (ArePartsTooDeep r.parts) x → GivesRecord terms e r form result
 record-passed terms e r form (Ok k) x h u = absurd h
@@ -326,6 +336,7 @@ pub part-passed : {H : Type 0} (terms : Terms) (e : List Told) (p : Part) (of_va
 part-passed terms e p of_value (Ok l) r h k = absurd h
 part-passed terms e p of_value (Err x) r h k = record { ok = tt; err = rw h k }
 
+-- an error that is passed on is the refusal of a value, if it is a reason why the value was not built
 pub placed-passed : {H : Type 0} (terms : Terms) (e : List Told) (t : Tree Depth) (ns : List Named) (deep : Type 0) (of_value : H → Shape) (result : Result H Refusal) (r : Refusal) → IsErrAnd result (λ x. x ≡ r)
     → IsUnbuilt (HasFullTable terms) e ns deep r → GivesPlaced terms e t ns deep of_value result
 placed-passed terms e t ns deep of_value (Ok l) r h k = absurd h
@@ -344,26 +355,31 @@ dynamic-kind terms e xs c s r h k = record {
   deep = (λ d. absurd d, λ d. elim d [ inl x ↦ h.shallow x | inr x ↦ k.shallow x ]);
 }
 
+-- an error that is passed on is the refusal of children, if it is a reason why they were not built
 pub parts-passed : {H : Type 0} (terms : Terms) (e : List Told) (ps : List Part) (of_value : H → Shapes) (result : Result H Refusal) (r : Refusal) → IsErrAnd result (λ x. x ≡ r)
     → IsUnbuilt (HasFullTable terms) e (parts_positions ps) (ArePartsTooDeep ps) r → GivesParts terms e ps of_value result
 parts-passed terms e ps of_value (Ok l) r h k = absurd h
 parts-passed terms e ps of_value (Err x) r h k = record { ok = tt; err = rw h k }
 
+-- an error that is passed on is the refusal of a vector of items, if it is a reason why they were not built
 pub items-passed : {H : Type 0} (terms : Terms) (e : List Told) (is : List Item) (of_value : H → Shape) (result : Result (Vec H Global) Refusal) (r : Refusal) → IsErrAnd result (λ x. x ≡ r)
     → IsUnbuilt (HasFullTable terms) e (items_positions is) (AreItemsTooDeep is) r → GivesItems terms e is of_value result
 items-passed terms e is of_value (Ok l) r h k = absurd h
 items-passed terms e is of_value (Err x) r h k = record { ok = tt; err = rw h k }
 
+-- an error that is passed on is the refusal of values in order, if it is a reason why they were not built
 pub all_placed-passed : {R : Type 0} (terms : Terms) (e : List Told) (ts : Forest Depth) (ns : List Named) (deep : Type 0) (ss : Shapes) (result : Result R Refusal) (r : Refusal) → IsErrAnd result (λ x. x ≡ r)
     → IsUnbuilt (HasFullTable terms) e ns deep r → PutsPlaced terms e ts ns deep ss result
 all_placed-passed terms e ts ns deep ss (Ok l) r h k = absurd h
 all_placed-passed terms e ts ns deep ss (Err x) r h k = record { ok = tt; err = rw h k }
 
+-- an error that is passed on is the refusal of the values of items, if it is a reason why they were not built
 pub puts-passed : {H R : Type 0} (terms : Terms) (e : List Told) (is : List Item) (of_value : H → Shape) (values : List H) (result : Result R Refusal) (r : Refusal) → IsErrAnd result (λ x. x ≡ r)
     → IsUnbuilt (HasFullTable terms) e (items_positions is) (AreItemsTooDeep is) r → PutsItems terms e is of_value values result
 puts-passed terms e is of_value values result r h k =
     all_placed-passed terms e (items_trees (number_at e) (tree_at e) is) (items_positions is) (AreItemsTooDeep is) (item_shapes of_value values) result r h k
 
+-- an error that is passed on is the refusal of a kind, if it is a reason why the kind was not built
 pub kind-passed : {K : Type 0} (terms : Terms) (e : List Told) (f : CallForm) (of_kind : K → Shape) (result : Result K Refusal) (r : Refusal) → IsErrAnd result (λ x. x ≡ r)
     → IsUnbuilt (HasFullTable terms) e (form_positions f) (IsFormTooDeep f) r → GivesKind terms e f of_kind result
 kind-passed terms e f of_kind (Ok k) r h u = absurd h

@@ -98,6 +98,7 @@ item-there sort.Pats child.Absent h e = h
 item-there sort.Existentials child.Absent h e = h
 item-there sort.Clauses child.Absent h e = h
 
+-- the children from a place on are the child at that place and the children after it
 pub drop-from : (list : List Child) (n : ℕ) (x : Child) → slice_get list n ≡ Some x → drop n list ≡ x ∷ drop (n + 1) list
 drop-from list n x here =
     let is : get_or list n x ≡ x = get_or_from_slice_get list n x x here in

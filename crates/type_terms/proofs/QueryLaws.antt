@@ -163,6 +163,7 @@ pub answered-allowed : (start terms : Terms) (earlier : List Answer) (rows : Lis
 answered-allowed start terms earlier rows c (Ok b) a h e = rw e h.ok
 answered-allowed start terms earlier rows c (Err r) a h e = rw e h.err
 
+-- the handle or the id in an answer that is made of a call's result is the interner's
 pub answered-owned : (start terms : Terms) (earlier : List Answer) (rows : List Row) (c : Call) (result : Result Answer Refusal) (a : Answer) → Answers start terms (told_all rows earlier) c result
     → MatchResult result (λ b. a ≡ b) (λ e. a ≡ answer.Refused e) → IsOwned terms.rows a
 answered-owned start terms earlier rows c (Ok b) a h e = rw e h.owned

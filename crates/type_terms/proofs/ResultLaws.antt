@@ -12,6 +12,7 @@ pub ok-then : {T E A B : Type 0} (result : Result T E) → OnOk result A → (A 
 ok-then (Ok x) h f = f h
 ok-then (Err e) h f = tt
 
+-- what holds of an error, by what holds of it already
 pub err-then : {T E : Type 0} (result : Result T E) (P Q : E → Type 0) → IfErr result P → ((e : E) → P e → Q e) → IfErr result Q
 err-then (Ok x) P Q h f = tt
 err-then (Err e) P Q h f = f e h

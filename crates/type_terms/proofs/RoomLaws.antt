@@ -85,6 +85,7 @@ pub long-room : {H C : Type 0} (item : C → Item) (rows : List Row) (e : List T
 long-room item rows e t cs (Ok l) long = tt
 long-room item rows e t cs (Err r) long = λ room short. let same = length-map cs item in absurd (omega (arith, same, long, short))
 
+-- a long list of variables may be refused though it is there
 pub long-vars-room : {H : Type 0} (rows : List Row) (ids : ℕ → ℕ) (cs : List VariableCall) (result : Result H Refusal)
     → most_in_place < length cs → IfErr result (VarsNeedRoom rows (map (variable_kind ids) cs))
 long-vars-room rows ids cs (Ok l) long = tt
@@ -98,6 +99,7 @@ region-room rows e c r lacks room short = region-lacks rows (number_at e) c (lac
 pub param-room : (rows : List Row) (e : List Told) (s : Sort) (i : ℕ) (name : Name) (r : Refusal) → IsNew (text_row name) rows → FormNeedsRoom rows e (param s i name) r
 param-room rows e s i name r new room short = param-lacks rows s i name new
 
+-- where the name of a refused parameter is new, the parameter is not there
 pub named-room : {K : Type 0} (rows : List Row) (e : List Told) (s : Sort) (i : ℕ) (name : Name) (result : Result K Refusal) → OnErr result (IsNew (text_row name) rows)
     → IfErr result (FormNeedsRoom rows e (param s i name))
 named-room rows e s i name (Ok k) new = tt

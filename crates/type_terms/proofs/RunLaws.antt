@@ -68,6 +68,7 @@ module _ (old new : List Row) (g : Grows old new) where
     means = meaning-grows old new g t h.number h.within ∙ h.means;
   }
 
+-- if the handles and ids in some answers, and in one more, are the interner's, they are in all of these
 pub AreOwned-append : (rows : List Row) (answers : List Answer) (a : Answer) → AreOwned rows answers → IsOwned rows a
     → AreOwned rows (answers ++ a ∷ [])
 AreOwned-append rows [] a h k = (k, tt)

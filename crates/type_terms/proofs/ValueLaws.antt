@@ -31,6 +31,7 @@ unfolding fill
 first-shape rows shape.none t ts h e = absurd (cc)
 first-shape rows (shape.also s ss) t ts h e = record { shape = s; part = h.0; means = (let same = e in cc) }
 
+-- if values have some trees in order, a value has the first of the trees
 pub first-value : (rows : List Row) (t : Tree Depth) (ts : Forest Depth) → HasValues rows (tree.also t ts) → HasValue rows t
 first-value rows t ts v = first-shape rows v.shapes t ts v.parts v.means
 
@@ -40,6 +41,7 @@ unfolding fill
 later-shapes rows shape.none t ts h e = absurd (cc)
 later-shapes rows (shape.also s ss) t ts h e = record { shapes = ss; parts = h.1; means = (let same = e in cc) }
 
+-- if values have some trees in order, values have the trees after the first
 pub later-values : (rows : List Row) (t : Tree Depth) (ts : Forest Depth) → HasValues rows (tree.also t ts) → HasValues rows ts
 later-values rows t ts v = later-shapes rows v.shapes t ts v.parts v.means
 
