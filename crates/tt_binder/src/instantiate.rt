@@ -88,9 +88,11 @@ fn instantiate_value<T: TypeFoldable, S: SliceLike>(
 ) -> Result<T, Refusal>
     requires args { S.owned cx.old.rows args }
     requires value { IsPartBy T.shape cx.old.rows value }
+    // In each case:
     ensures extends { Extends cx.old cx.new }
     ensures descents { cx.old.counters.descents ≤ cx.new.counters.descents }
     ensures shift_descents { cx.old.counters.shift_descents ≤ cx.new.counters.shift_descents }
+    // On success:
     ensures positions { OnOk result
         (cx.new.counters.descents ≤ cx.old.counters.descents + positions (tree_by T.shape cx.old.rows value)) }
     ensures pairs { OnOk result (CountsPairs (generic_types 0 (tree_by T.shape cx.old.rows value))
@@ -101,6 +103,7 @@ fn instantiate_value<T: TypeFoldable, S: SliceLike>(
         (tree_by T.shape cx.old.rows value)
         cx.old.counters.shift_descents
         cx.new.counters.shift_descents) }
+    // The instance, or a reason:
     ensures result { MatchResult
         result
         (λ r. IsPartBy T.shape cx.new.rows r
@@ -112,8 +115,10 @@ fn instantiate_value<T: TypeFoldable, S: SliceLike>(
         (arguments cx.old.rows (S.items cx.old.rows args))
         (tree_by T.shape cx.old.rows value)
         e) }
+    // Where there is nothing to replace:
     ensures same { ComesBack (arguments cx.old.rows (S.items cx.old.rows args)) (tree_by T.shape cx.old.rows value)
         → (result ≡ Ok value) × (cx.new ≡ cx.old) }
+    // At a parameter by itself:
     ensures parameter { (s : Sort) (i : ℕ) (name : Name) → tree_by T.shape cx.old.rows value ≡ param s i name
         → IfErr result (Cause (param s i name) (arguments cx.old.rows (S.items cx.old.rows args))) }
     ensures parameter_still { (s : Sort) (i : ℕ) (name : Name)

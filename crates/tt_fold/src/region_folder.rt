@@ -204,15 +204,19 @@ pub fn fold_regions<T: TypeFoldable, F: FnMut(Region, DebruijnIndex) -> Region +
         (λ p region depth answer q. F.step p region depth answer q)
         (size cx.old.rows Symbols)
         f }
+    // In each case:
     ensures extends { Extends cx.old cx.new }
     ensures counters { cx.new.counters ≡ cx.old.counters }
+    // On success:
     ensures in_range { IfOk result (λ folded. IsPartBy T.shape cx.new.rows folded) }
     ensures placed { IfOk result (λ folded. (last : F)
         × Places (λ p region depth answer q. F.step p region depth answer q) (names_in cx.old.rows) f
         (tree_by T.shape cx.old.rows value) (tree_by T.shape cx.new.rows folded) last) }
+    // On a refusal:
     ensures err { IfErr result (λ refusal. (last : F)
         × PlacesSome (λ p region depth answer q. F.step p region depth answer q) (names_in cx.old.rows) cx.new f
         (tree_by T.shape cx.old.rows value) refusal last) }
+    // Where there is no region to replace:
     ensures same { met 0 (tree_by T.shape cx.old.rows value) ≡ [] → (result ≡ Ok value) × (cx.new ≡ cx.old) }
 {
     fold_regions_with(cx, value, &mut f)
@@ -232,17 +236,22 @@ pub fn fold_regions_with<T: TypeFoldable, F: FnMut(Region, DebruijnIndex) -> Reg
         (λ p region depth answer q. F.step p region depth answer q)
         (size cx.old.rows Symbols)
         f.old }
+    // In each case:
     ensures extends { Extends cx.old cx.new }
     ensures counters { cx.new.counters ≡ cx.old.counters }
+    // On success:
     ensures in_range { IfOk result (λ folded. IsPartBy T.shape cx.new.rows folded) }
     ensures placed { IfOk result (λ folded.
         Places (λ p region depth answer q. F.step p region depth answer q) (names_in cx.old.rows) f.old
         (tree_by T.shape cx.old.rows value) (tree_by T.shape cx.new.rows folded) f.new) }
+    // On a refusal:
     ensures err { IfErr result (λ refusal.
         PlacesSome (λ p region depth answer q. F.step p region depth answer q) (names_in cx.old.rows) cx.new f.old
         (tree_by T.shape cx.old.rows value) refusal f.new) }
+    // Where there is no region to replace:
     ensures same { met 0 (tree_by T.shape cx.old.rows value) ≡ [] →
         (result ≡ Ok value) × (cx.new ≡ cx.old) × (f.new ≡ f.old) }
+    // The closure afterwards:
     ensures callable { F.IsAlwaysCallable f.new }
 {
     if !value.meets_regions(cx) {
@@ -263,15 +272,19 @@ fn fold_met_regions<T: TypeFoldable, F: FnMut(Region, DebruijnIndex) -> Region>(
         (λ p region depth answer q. F.step p region depth answer q)
         (size cx.old.rows Symbols)
         f.old }
+    // In each case:
     ensures extends { Extends cx.old cx.new }
     ensures counters { cx.new.counters ≡ cx.old.counters }
+    // On success:
     ensures in_range { IfOk result (λ folded. IsPartBy T.shape cx.new.rows folded) }
     ensures placed { IfOk result (λ folded.
         Places (λ p region depth answer q. F.step p region depth answer q) (names_in cx.old.rows) f.old
         (tree_by T.shape cx.old.rows value) (tree_by T.shape cx.new.rows folded) f.new) }
+    // On a refusal:
     ensures err { IfErr result (λ refusal.
         PlacesSome (λ p region depth answer q. F.step p region depth answer q) (names_in cx.old.rows) cx.new f.old
         (tree_by T.shape cx.old.rows value) refusal f.new) }
+    // The closure afterwards:
     ensures callable { F.IsAlwaysCallable f.new }
 {
     // Each stored list of clauses holds clauses alone, so none with regions replaced is refused for an item.

@@ -337,7 +337,9 @@ impl TypeFolder for Shifter {
 /// the interner's count of the shifter's descents; the count saturates at its greatest number. The other count stays.
 pub fn shift_vars<T: TypeFoldable>(cx: &mut Interner, value: T, amount: u32) -> Result<T, Refusal>
     requires { IsPartBy T.shape cx.old.rows value }
+    // In each case:
     ensures extends { Extends cx.old cx.new }
+    // On success:
     ensures in_range { IfOk result (λ shifted. IsPartBy T.shape cx.new.rows shifted) }
     ensures plain { IfOk result (λ shifted. read 0 (tree_by T.shape cx.new.rows shifted)
         ≡ move amount (read 0 (tree_by T.shape cx.old.rows value))) }
@@ -352,9 +354,12 @@ pub fn shift_vars<T: TypeFoldable>(cx: &mut Interner, value: T, amount: u32) -> 
     ensures matched { IfOk result (λ shifted. KeepsMatched
         (tree_by T.shape cx.old.rows value)
         (tree_by T.shape cx.new.rows shifted)) }
+    // On a refusal:
     ensures err { IfErr result (IsShiftRefusal cx.new amount (tree_by T.shape cx.old.rows value)) }
+    // Where there is nothing to shift:
     ensures same { (amount ≡ 0) ⊎ (outer_binder (tree_by T.shape cx.old.rows value) ≡ 0)
         → (result ≡ Ok value) × (cx.new ≡ cx.old) }
+    // What it counts:
     ensures descents { cx.new.counters.descents ≡ cx.old.counters.descents }
     ensures shift_descents { cx.old.counters.shift_descents ≤ cx.new.counters.shift_descents }
     ensures positions { cx.new.counters.shift_descents

@@ -118,7 +118,9 @@ pub fn replace_types_once<T: TypeFoldable, F: TypeReplacer + Drop>(
     requires state { IsPartBy F.shape cx.old.rows folder }
     requires value { IsPartBy T.shape cx.old.rows value }
     requires steady { IsSteady F.shape F.hooks }
+    // In each case:
     ensures extends { Extends cx.old cx.new }
+    // On success:
     ensures in_range { IfOk result (λ replaced. IsPartBy T.shape cx.new.rows replaced) }
     ensures plain { IfOk result (λ replaced. Walks
         (steadily F.hooks (tree_by F.shape cx.old.rows folder))
@@ -126,6 +128,7 @@ pub fn replace_types_once<T: TypeFoldable, F: TypeReplacer + Drop>(
         (tree_by T.shape cx.old.rows value)
         (tree_by T.shape cx.new.rows replaced)
         tt) }
+    // On a refusal:
     ensures err { IfErr result (λ e. Fails
         (steadily F.hooks (tree_by F.shape cx.old.rows folder))
         (errors_of F.Error.from_gives cx.new)
@@ -133,6 +136,7 @@ pub fn replace_types_once<T: TypeFoldable, F: TypeReplacer + Drop>(
         (tree_by T.shape cx.old.rows value)
         e
         tt) }
+    // How often the replacer is called:
     ensures once { IfOk result (λ replaced. CallsOnce
         F.hooks
         (tree_by F.shape cx.old.rows folder)

@@ -302,23 +302,28 @@ impl Interner {
     pub fn store_list(&mut self, sort: ListSort, items: &[Child]) -> Result<List, Refusal>
         requires parts { AreParts (size self.old.rows) (children_shapes items.now) }
         requires fit { All (λ c. IsItem sort (child_sort c)) items.now }
+        // In each case:
+        ensures extends { Extends self.old self.new }
+        ensures counters { self.new.counters ≡ self.old.counters }
+        // On success:
         ensures in_range { IfOk result (λ l. list_number l < size self.new.rows (sort_list_table sort)) }
         ensures means { IfOk result (λ l. meaning self.new.rows (sort_list_table sort) (list_number l)
             ≡ items_tree sort (fill_all (meaning self.old.rows) (children_shapes items.now))) }
-        ensures extends { Extends self.old self.new }
-        ensures counters { self.new.counters ≡ self.old.counters }
-        ensures err { OnErr result (self.new ≡ self.old) }
-        ensures cause { IfErr result
-            (IsUnbuilt self.old (items_tree sort (fill_all (meaning self.old.rows) (children_shapes items.now)))) }
-        ensures refused { OnOk result
-            (IsNoClauseList (items_tree sort (fill_all (meaning self.old.rows) (children_shapes items.now))) → ⊥) }
         ensures sort { IfOk result (λ l. list_sort l ≡ sort) }
         ensures stored { IfOk result (λ l. Stores self.old.rows self.new.rows
             (items_row sort items.now)
             (list_number l)) }
+        ensures refused { OnOk result
+            (IsNoClauseList (items_tree sort (fill_all (meaning self.old.rows) (children_shapes items.now))) → ⊥) }
+        // On a refusal:
+        ensures err { OnErr result (self.new ≡ self.old) }
+        ensures cause { IfErr result
+            (IsUnbuilt self.old (items_tree sort (fill_all (meaning self.old.rows) (children_shapes items.now)))) }
+        // If there is such a list:
         ensures found { (n : ℕ) → IsAt self.old.rows (items_row sort items.now) n
             → (((l : _) × (result ≡ Ok l) × (list_number l ≡ n)) × (self.new ≡ self.old))
             ⊎ LacksItems result items.now }
+        // If there is none:
         ensures full { IsNew (items_row sort items.now) self.old.rows
             → (IsNoClauseList (children_tree self.old.rows sort items.now) → ⊥)
             → self.old.limit ≤ size self.old.rows (sort_list_table sort)

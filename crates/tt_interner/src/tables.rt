@@ -43,13 +43,16 @@ pub(crate) fn add<K: Eq + Hash + Drop, V: Drop>(
     value: V,
 ) -> Result<u32, Refusal>
     requires { get K.eq entries.old key ≡ None }
+    // On success:
     ensures order { OnOk result (order.new.items ≡ order.old.items ++ table ∷ []) }
     ensures entries { OnOk result (entries.new.entries ≡ entries.old.entries ++ (key, value) ∷ []) }
     ensures number { IfOk result (λ n. (n ≡ length entries.old.entries) × (n < limit)) }
+    // On a refusal:
     ensures order_stays { OnErr result (order.new.items ≡ order.old.items) }
     ensures entries_stay { OnErr result (entries.new.entries ≡ entries.old.entries) }
     ensures cause { IfErr result (λ e. (e ≡ Refusal.Memory)
         ⊎ ((e ≡ Refusal.TableFull) × (limit ≤ length entries.old.entries))) }
+    // In a full table:
     ensures full { limit ≤ length entries.old.entries → result ≡ Err Refusal.TableFull }
 {
     let number = entries.len();
@@ -82,18 +85,22 @@ pub(crate) fn find_or_insert<K: Eq + Hash + Drop>(
 ) -> Result<u32, Refusal>
     requires few { length entries.old.entries ≤ limit }
     requires same { (there : FlagComputation) → get K.eq entries.old key ≡ Some there → there ≡ info }
+    // If there is such a row:
     ensures found { (n : ℕ) → index_of K.eq entries.old key ≡ Some n
         → (result ≡ Ok n) × (order.new.items ≡ order.old.items) × (entries.new.entries ≡ entries.old.entries) }
+    // On success, if there is none:
     ensures order { index_of K.eq entries.old key ≡ None
         → OnOk result (order.new.items ≡ order.old.items ++ table ∷ []) }
     ensures entries { index_of K.eq entries.old key ≡ None
         → OnOk result (entries.new.entries ≡ entries.old.entries ++ (key, info) ∷ []) }
     ensures number { index_of K.eq entries.old key ≡ None
         → IfOk result (λ n. (n ≡ length entries.old.entries) × (n < limit)) }
+    // On a refusal:
     ensures order_stays { OnErr result (order.new.items ≡ order.old.items) }
     ensures entries_stay { OnErr result (entries.new.entries ≡ entries.old.entries) }
     ensures cause { IfErr result (λ e. (e ≡ Refusal.Memory)
         ⊎ ((e ≡ Refusal.TableFull) × (limit ≤ length entries.old.entries))) }
+    // In a full table:
     ensures full { index_of K.eq entries.old key ≡ None
         → limit ≤ length entries.old.entries
         → result ≡ Err Refusal.TableFull }
@@ -137,18 +144,22 @@ pub(crate) fn find_or_add<K: Copy + Eq + Hash + Drop>(
 ) -> Result<u32, Refusal>
     requires few { length entries.old.entries ≤ limit }
     requires same { (there : FlagComputation) → get K.eq entries.old kind.now ≡ Some there → there ≡ info }
+    // If there is such a row:
     ensures found { (n : ℕ) → index_of K.eq entries.old kind.now ≡ Some n
         → (result ≡ Ok n) × (order.new.items ≡ order.old.items) × (entries.new.entries ≡ entries.old.entries) }
+    // On success, if there is none:
     ensures order { index_of K.eq entries.old kind.now ≡ None
         → OnOk result (order.new.items ≡ order.old.items ++ table ∷ []) }
     ensures entries { index_of K.eq entries.old kind.now ≡ None
         → OnOk result (entries.new.entries ≡ entries.old.entries ++ (kind.now, info) ∷ []) }
     ensures number { index_of K.eq entries.old kind.now ≡ None
         → IfOk result (λ n. (n ≡ length entries.old.entries) × (n < limit)) }
+    // On a refusal:
     ensures order_stays { OnErr result (order.new.items ≡ order.old.items) }
     ensures entries_stay { OnErr result (entries.new.entries ≡ entries.old.entries) }
     ensures cause { IfErr result (λ e. (e ≡ Refusal.Memory)
         ⊎ ((e ≡ Refusal.TableFull) × (limit ≤ length entries.old.entries))) }
+    // In a full table:
     ensures full { index_of K.eq entries.old kind.now ≡ None
         → limit ≤ length entries.old.entries
         → result ≡ Err Refusal.TableFull }
@@ -184,14 +195,17 @@ pub(crate) fn add_list<T: Copy + Eq + Hash + Drop>(
     info: FlagComputation,
 ) -> Result<u32, Refusal>
     requires { lookup (λ k. pointwise T.eq items.now k.items) entries.old.entries ≡ None }
+    // On success:
     ensures order { OnOk result (order.new.items ≡ order.old.items ++ table ∷ []) }
     ensures entries { OnOk result (listed_by (λ k. k.items) entries.new.entries
         ≡ listed_by (λ k. k.items) entries.old.entries ++ (items.now, info) ∷ []) }
     ensures number { IfOk result (λ n. (n ≡ length entries.old.entries) × (n < limit)) }
+    // On a refusal:
     ensures order_stays { OnErr result (order.new.items ≡ order.old.items) }
     ensures entries_stay { OnErr result (entries.new.entries ≡ entries.old.entries) }
     ensures cause { IfErr result (λ e. (e ≡ Refusal.Memory)
         ⊎ ((e ≡ Refusal.TableFull) × (limit ≤ length entries.old.entries))) }
+    // In a full table:
     ensures full { limit ≤ length entries.old.entries → result ≡ Err Refusal.TableFull }
 {
     if entries.len() >= limit as usize {
@@ -213,8 +227,10 @@ pub(crate) fn find_or_add_list<T: Copy + Eq + Hash + Drop>(
     info: FlagComputation,
 ) -> Result<u32, Refusal>
     requires { length entries.old.entries ≤ limit }
+    // If there is such a row:
     ensures found { (n : ℕ) → index_of_by (λ k. pointwise T.eq items.now k.items) entries.old ≡ Some n
         → (result ≡ Ok n) × (order.new.items ≡ order.old.items) × (entries.new.entries ≡ entries.old.entries) }
+    // On success, if there is none:
     ensures order { index_of_by (λ k. pointwise T.eq items.now k.items) entries.old ≡ None
         → OnOk result (order.new.items ≡ order.old.items ++ table ∷ []) }
     ensures entries { index_of_by (λ k. pointwise T.eq items.now k.items) entries.old ≡ None
@@ -222,10 +238,12 @@ pub(crate) fn find_or_add_list<T: Copy + Eq + Hash + Drop>(
         ≡ listed_by (λ k. k.items) entries.old.entries ++ (items.now, info) ∷ []) }
     ensures number { index_of_by (λ k. pointwise T.eq items.now k.items) entries.old ≡ None
         → IfOk result (λ n. (n ≡ length entries.old.entries) × (n < limit)) }
+    // On a refusal:
     ensures order_stays { OnErr result (order.new.items ≡ order.old.items) }
     ensures entries_stay { OnErr result (entries.new.entries ≡ entries.old.entries) }
     ensures cause { IfErr result (λ e. (e ≡ Refusal.Memory)
         ⊎ ((e ≡ Refusal.TableFull) × (limit ≤ length entries.old.entries))) }
+    // In a full table:
     ensures full { index_of_by (λ k. pointwise T.eq items.now k.items) entries.old ≡ None
         → limit ≤ length entries.old.entries
         → result ≡ Err Refusal.TableFull }
@@ -245,14 +263,17 @@ pub(crate) fn add_text(
     text: &str,
 ) -> Result<u32, Refusal>
     requires { lookup (λ k. bytes_eq text.now (string_bytes k)) entries.old.entries ≡ None }
+    // On success:
     ensures order { OnOk result (order.new.items ≡ order.old.items ++ table ∷ []) }
     ensures entries { OnOk result (listed_by (λ k. string_bytes k) entries.new.entries
         ≡ listed_by (λ k. string_bytes k) entries.old.entries ++ (text.now, tt) ∷ []) }
     ensures number { IfOk result (λ n. (n ≡ length entries.old.entries) × (n < limit)) }
+    // On a refusal:
     ensures order_stays { OnErr result (order.new.items ≡ order.old.items) }
     ensures entries_stay { OnErr result (entries.new.entries ≡ entries.old.entries) }
     ensures cause { IfErr result (λ e. (e ≡ Refusal.Memory)
         ⊎ ((e ≡ Refusal.TableFull) × (limit ≤ length entries.old.entries))) }
+    // In a full table:
     ensures full { limit ≤ length entries.old.entries → result ≡ Err Refusal.TableFull }
 {
     if entries.len() >= limit as usize {

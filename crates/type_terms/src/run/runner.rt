@@ -62,14 +62,18 @@ pub fn run_calls(cx: &mut Interner, calls: &[Call]) -> Result<Vec<Answer>, Refus
 /// unchanged. The appended answer is a refusal for want of memory only if it may be one in [`run_calls`].
 pub fn answer_next(cx: &mut Interner, answers: &mut Vec<Answer>, call: &Call) -> Result<(), Refusal>
     requires { AreOwned cx.old.rows answers.old.items }
+    // In each case:
     ensures extends { Extends cx.old cx.new }
     ensures owned { AreOwned cx.new.rows answers.new.items }
+    // On success:
     ensures allowed { OnOk result (AddsAnswer cx.old cx.new answers.old.items call.now answers.new.items) }
     ensures means { OnOk result ((first : Terms) (before : List Call) → Extends first cx.old →
         Means (setting first cx.old) [] before (told_all cx.old.rows answers.old.items) →
         Means (setting first cx.new) [] (before ++ call.now ∷ []) (told_all cx.new.rows answers.new.items)) }
+    // On a refusal:
     ensures cause { IfErr result (λ e. e ≡ Refusal.Memory) }
     ensures stay { OnErr result (answers.new.items ≡ answers.old.items) }
+    // Where there is room for the answer:
     ensures room { vec_len answers.old < vec_capacity answers.old → IsOk result }
 {
     let answer = answer_call(cx, answers.as_slice(), call);
