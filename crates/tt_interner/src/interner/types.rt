@@ -7,7 +7,7 @@ ghost use Rattle.tt_kinds.specs.Kinds.{ty_kind_shape, ty_shape};
 ghost use Rattle.tt_interner.specs.Chained.{BuildsOf};
 ghost use Rattle.tt_interner.specs.Collect.{BuildsFrom};
 ghost use Rattle.tt_interner.specs.Rows.{type_row, tys_row, text_row, size};
-ghost use Rattle.tt_interner.specs.Stored.{Puts, Builds};
+ghost use Rattle.tt_interner.specs.Stored.{Extends, Puts, Builds};
 
 use super::Interner;
 use crate::children::MOST_IN_PLACE;
@@ -77,35 +77,33 @@ impl Interner {
     /// stay as a row that no result names; what was there keeps its meaning.
     pub fn mk_tuple(&mut self, items: &[Ty]) -> Result<Ty, Refusal>
         requires { AreParts (size self.old.rows) (item_shapes ty_shape items.now) }
-        ensures { BuildsOf
+        ensures builds { BuildsOf
             (λ list. list.number)
             (tys_row items.now)
             (λ list. type_row (TyKind.Tuple list))
             result
             self.old
             self.new }
+        ensures extends { Extends self.old self.new }
     {
-        match self.mk_tys(items) {
-            Ok(list) => self.mk_ty(TyKind::Tuple(list)),
-            Err(e) => Err(e),
-        }
+        let list = self.mk_tys(items)?;
+        self.mk_ty(TyKind::Tuple(list))
     }
 
     /// Returns the type parameter of this index and name, as [`Interner::symbol`] and then [`Interner::mk_ty`] do. If
     /// the parameter is refused, the name may stay as a row that no result names; what was there keeps its meaning.
     pub fn mk_param(&mut self, index: u32, name: &str) -> Result<Ty, Refusal>
-        ensures { BuildsOf
+        ensures builds { BuildsOf
             (λ symbol. symbol.number)
             (text_row name.now)
             (λ symbol. type_row (TyKind.Param (record { index = index; name = symbol })))
             result
             self.old
             self.new }
+        ensures extends { Extends self.old self.new }
     {
-        match self.symbol(name) {
-            Ok(name) => self.mk_ty(TyKind::Param(ParamTy { index, name })),
-            Err(e) => Err(e),
-        }
+        let name = self.symbol(name)?;
+        self.mk_ty(TyKind::Param(ParamTy { index, name }))
     }
 }
 
