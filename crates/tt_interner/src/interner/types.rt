@@ -27,17 +27,14 @@ impl Interner {
         ensures { Puts result (λ ty. ty.number) self.old self.new (type_row kind.now) }
     {
         let info = ty_kind_info(self, kind);
-        let number = match find_or_add(
+        let number = find_or_add(
             &mut self.order,
             self.limit,
             Table::Types,
             &mut self.types,
             kind,
             info,
-        ) {
-            Ok(number) => number,
-            Err(e) => return Err(e),
-        };
+        )?;
         Ok(Ty::from_number(number))
     }
 
@@ -117,17 +114,14 @@ impl Interner {
         ensures { Builds result (λ list. list.number) self.old self.new (tys_row items.now) }
     {
         let info = items_info(self, items);
-        let number = match find_or_add_list(
+        let number = find_or_add_list(
             &mut self.order,
             self.limit,
             Table::TypeLists,
             &mut self.type_lists,
             items,
             info,
-        ) {
-            Ok(number) => number,
-            Err(e) => return Err(e),
-        };
+        )?;
         Ok(Tys::from_number(number))
     }
 
@@ -164,17 +158,14 @@ impl Interner {
         ensures { Builds result (λ list. list.number) self.old self.new (tys_row items.items) }
     {
         let info = items_info(self, items.as_slice());
-        let number = match find_or_insert(
+        let number = find_or_insert(
             &mut self.order,
             self.limit,
             Table::TypeLists,
             &mut self.type_lists,
             items,
             info,
-        ) {
-            Ok(number) => number,
-            Err(e) => return Err(e),
-        };
+        )?;
         Ok(Tys::from_number(number))
     }
 }
