@@ -18,6 +18,7 @@ use Rattle.tt_interner.specs.Stored.{Terms, IsAt, HasFirst, Adds, anonymous_text
 use Rattle.tt_interner.specs.Tables.{Entry, Tables, AreTables, entries_of, declared_entries, no_info}
 use Rattle.tt_interner.proofs.RowLaws.{row-new, get_or-keeps}
 use Rattle.tt_interner.proofs.FoundLaws.{IsNew-from_table}
+use Rattle.tt_interner.proofs.StoreSteps.{Adds-extends}
 use Rattle.tt_interner.proofs.Fill.{name_one}
 use Rattle.tt_interner.proofs.Trees.{Means-row, distinct}
 
@@ -87,8 +88,8 @@ declared_at-new old new n d is count = rw (is, count) (sym (declared_at-row (dec
 -- a call that adds the row of a declaration, or is refused, keeps the promise of declaring
 pub Declares-added : {H : Type 0} (result : Result H Refusal) (number : H → ℕ) (old new : Terms) (kind : DeclarationKind) (name : Symbol)
     → Adds result number old new (declared_row (size old.rows Declarations) (record { kind = kind; name = name })) → Declares result number old new kind name
-Declares-added (Ok h) number old new kind name adds = record { adds = adds; declared = declared_at-new old.rows new.rows (number h) (record { kind = kind; name = name }) adds.rows adds.last }
-Declares-added (Err e) number old new kind name adds = record { adds = adds; declared = tt }
+Declares-added (Ok h) number old new kind name adds = record { adds = adds; extends = Adds-extends adds; declared = declared_at-new old.rows new.rows (number h) (record { kind = kind; name = name }) adds.rows adds.last }
+Declares-added (Err e) number old new kind name adds = record { adds = adds; extends = Adds-extends adds; declared = tt }
 
 same_tests : (a b : Bool) → (a ≡ true → b ≡ true) → (b ≡ true → a ≡ true) → a ≡ b
 same_tests true b f g = sym (f refl)

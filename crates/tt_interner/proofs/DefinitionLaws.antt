@@ -29,6 +29,7 @@ use Rattle.tt_interner.specs.Tables.{Entry, Tables, AreTables, entries_of, defin
 use Rattle.tt_interner.proofs.RowLaws.{table-own, table-other, row-old, place_cases}
 use Rattle.tt_interner.proofs.Trees.{Means-row, row_at_newest}
 use Rattle.tt_interner.proofs.FoundLaws.{IsNew-from_table}
+use Rattle.tt_interner.proofs.StoreSteps.{Adds-extends}
 
 -- the rows that are kept
 abbrev kept_rows : {S : Type 0} → List (Id S × Vec VariantDef Global) → List Row
@@ -241,6 +242,7 @@ pub Defines-added : {H : Type 0} (number : H → ℕ) (h : H) (old new : Terms) 
 Defines-added number h old new n {us} vs same none adds = let rows : new.rows ≡ defined_row n vs ∷ old.rows = adds.rows ∙ ap (λ l. defined_row n l ∷ old.rows) same in record {
   rows = rows;
   defined = variants-new old.rows new.rows n vs rows none;
+  extends = Adds-extends adds;
   limit = adds.limit;
   counters = adds.counters;
   err = tt;

@@ -7,7 +7,7 @@ use Rattle.tt_index.specs.declared.refusal.Refusal.TheVariants.{Memory, TableFul
 use Rattle.tt_kinds.specs.Shape.{fill, IsTooDeep}
 use Rattle.tt_kinds.proofs.RangeLaws.{fits-not_deep}
 use Rattle.tt_interner.specs.Rows.{Row, row_table, row_shape, table, size, meaning, IsNew, AreRows, Grows}
-use Rattle.tt_interner.specs.Stored.{Terms, IsAt, IsCause, Stores, Adds, Puts, Builds}
+use Rattle.tt_interner.specs.Stored.{Terms, Extends, IsAt, IsCause, Stores, Adds, Puts, Builds}
 use Rattle.tt_interner.proofs.RowLaws.{row-new, meaning-new}
 use Rattle.tt_interner.proofs.Growth.{Grows-more, Grows-refl}
 use Rattle.tt_interner.proofs.Trees.{Means-row, IsNew-row, distinct}
@@ -46,6 +46,14 @@ Grows-row r rows = Grows-more (r ∷ []) refl
 pub Grows-add : {H : Type 0} (result : Result H Refusal) (r : Row) (old new : Terms) → IfOk result (λ h. new.rows ≡ r ∷ old.rows) → OnErr result (new ≡ old) → Grows old.rows new.rows
 Grows-add (Ok h) r old new is same = subst (Grows old.rows) (sym is) (Grows-row r old.rows)
 Grows-add (Err e) r old new is same = subst (λ (t : Terms). Grows old.rows t.rows) (sym same) (Grows-refl old.rows)
+
+-- what is added, or refused, leaves the rest as it is
+pub Adds-extends : {H : Type 0} {result : Result H Refusal} {number : H → ℕ} {old new : Terms} {r : Row} → Adds result number old new r → Extends old new
+Adds-extends {result = result} {old = old} {new = new} {r = r} adds = record { rows = Grows-add result r old new adds.rows adds.err; limit = adds.limit }
+
+-- and so does what is built
+pub Builds-extends : {H : Type 0} {result : Result H Refusal} {number : H → ℕ} {old new : Terms} {r : Row} → Builds result number old new r → Extends old new
+Builds-extends b = record { rows = b.grows; limit = b.limit }
 
 -- where an index is too great, the row is new
 pub deep_new : (r : Row) → IsTooDeep (row_shape r) → (rows : List Row) → AreRows rows → IsNew r rows

@@ -14,7 +14,7 @@ use Rattle.tt_kinds.specs.declared.bound.BoundRegionKind.TheVariants as region
 use Rattle.tt_kinds.specs.declared.table.Table.TheVariants.{Declarations}
 use Rattle.tt_kinds.specs.Shape.{name_of}
 use Rattle.tt_interner.specs.Rows.{Row, declared_row, size, meaning}
-use Rattle.tt_interner.specs.Stored.{Terms, Adds, anonymous_text}
+use Rattle.tt_interner.specs.Stored.{Terms, Extends, Adds, anonymous_text}
 use Rattle.tt_interner.specs.Env.{row_at}
 use Rattle.tt_kinds.specs.Handle.{handle}
 
@@ -38,6 +38,8 @@ pub record Declares {H : Type 0} (result : Result H Refusal) (number : H → ℕ
   -- its number is the number of declarations before it, so none of them has it
   pub adds : Adds result number old new (declared_row (size old.rows Declarations)
       (record { kind = kind; name = name }))
+  -- what was there stays
+  pub extends : Extends old new
   pub declared : IfOk result (λ h. declared_at new.rows (record { number = number h })
       ≡ record { kind = kind; name = name })
 

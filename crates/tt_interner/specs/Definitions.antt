@@ -12,7 +12,7 @@ use Rattle.tt_kinds.specs.declared.variant.FieldDef.{FieldDef}
 use Rattle.tt_kinds.specs.declared.variant.VariantDef.{VariantDef}
 use Rattle.tt_kinds.specs.declared.table.Table.TheVariants.{Definitions, Symbols, Types}
 use Rattle.tt_interner.specs.Rows.{Row, defined_row, table, size}
-use Rattle.tt_interner.specs.Stored.{Terms}
+use Rattle.tt_interner.specs.Stored.{Terms, Extends}
 
 -- the variants, if the row defines the data type of the number
 abbrev pub variants_in : ℕ → Row → Option (List Variant)
@@ -53,6 +53,8 @@ FitsDeclaration vs = (length vs ≤ greatest) × All (λ v. length v.fields.item
 pub record Defines {T : Type 0} (result : Result T Refusal) (old new : Terms) (n : ℕ) (vs : List Variant) : Type 0 where
   pub rows : OnOk result (new.rows ≡ defined_row n vs ∷ old.rows)
   pub defined : OnOk result (variants_of new.rows n ≡ Some vs)
+  -- what was there stays
+  pub extends : Extends old new
   pub limit : new.limit ≡ old.limit
   pub counters : new.counters ≡ old.counters
   pub err : OnErr result (new ≡ old)

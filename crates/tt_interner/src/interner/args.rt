@@ -29,17 +29,14 @@ impl Interner {
         let info = items_info(self, items);
         // A region's index is below the greatest, since the number that the items reach is an index too.
         let _fits = info.outer_exclusive_binder.as_u32();
-        let number = match find_or_add_list(
+        let number = find_or_add_list(
             &mut self.order,
             self.limit,
             Table::ArgLists,
             &mut self.arg_lists,
             items,
             info,
-        ) {
-            Ok(number) => number,
-            Err(e) => return Err(e),
-        };
+        )?;
         Ok(GenericArgs::from_number(number))
     }
 
@@ -77,17 +74,14 @@ impl Interner {
     {
         let info = items_info(self, items.as_slice());
         let _fits = info.outer_exclusive_binder.as_u32();
-        let number = match find_or_insert(
+        let number = find_or_insert(
             &mut self.order,
             self.limit,
             Table::ArgLists,
             &mut self.arg_lists,
             items,
             info,
-        ) {
-            Ok(number) => number,
-            Err(e) => return Err(e),
-        };
+        )?;
         Ok(GenericArgs::from_number(number))
     }
 }

@@ -28,17 +28,14 @@ impl Interner {
         let info = items_info(self, items);
         // A region's index is below the greatest, since the number that the items reach is an index too.
         let _fits = info.outer_exclusive_binder.as_u32();
-        let number = match find_or_add_list(
+        let number = find_or_add_list(
             &mut self.order,
             self.limit,
             Table::AssumptionLists,
             &mut self.assumption_lists,
             items,
             info,
-        ) {
-            Ok(number) => number,
-            Err(e) => return Err(e),
-        };
+        )?;
         Ok(RegionAssumptions::from_number(number))
     }
 }

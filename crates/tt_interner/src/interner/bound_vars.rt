@@ -23,17 +23,14 @@ impl Interner {
         ensures { Builds result (λ list. list.number) self.old self.new (vars_row items.now) }
     {
         let info = vars_info(items);
-        let number = match find_or_add_list(
+        let number = find_or_add_list(
             &mut self.order,
             self.limit,
             Table::VarLists,
             &mut self.var_lists,
             items,
             info,
-        ) {
-            Ok(number) => number,
-            Err(e) => return Err(e),
-        };
+        )?;
         Ok(BoundVarKinds::from_number(number))
     }
 }

@@ -28,17 +28,14 @@ impl Interner {
             return Err(Refusal::GreatestIndex);
         }
         let info = kind_info(self, &Kind::Const(kind));
-        let number = match find_or_add(
+        let number = find_or_add(
             &mut self.order,
             self.limit,
             Table::Consts,
             &mut self.consts,
             &kind,
             info,
-        ) {
-            Ok(number) => number,
-            Err(e) => return Err(e),
-        };
+        )?;
         Ok(Const::from_number(number))
     }
 }
@@ -53,17 +50,14 @@ impl Interner {
         ensures { Builds result (λ list. list.number) self.old self.new (consts_row items.now) }
     {
         let info = items_info(self, items);
-        let number = match find_or_add_list(
+        let number = find_or_add_list(
             &mut self.order,
             self.limit,
             Table::ConstLists,
             &mut self.const_lists,
             items,
             info,
-        ) {
-            Ok(number) => number,
-            Err(e) => return Err(e),
-        };
+        )?;
         Ok(Consts::from_number(number))
     }
 
@@ -73,17 +67,14 @@ impl Interner {
         ensures { Builds result (λ list. list.number) self.old self.new (consts_row items.items) }
     {
         let info = items_info(self, items.as_slice());
-        let number = match find_or_insert(
+        let number = find_or_insert(
             &mut self.order,
             self.limit,
             Table::ConstLists,
             &mut self.const_lists,
             items,
             info,
-        ) {
-            Ok(number) => number,
-            Err(e) => return Err(e),
-        };
+        )?;
         Ok(Consts::from_number(number))
     }
 }

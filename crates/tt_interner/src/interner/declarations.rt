@@ -67,14 +67,8 @@ fn add_declaration(
     if number >= limit as usize {
         return Err(Refusal::TableFull);
     }
-    match order.reserve(1) {
-        Ok(()) => {}
-        Err(_) => return Err(Refusal::Memory),
-    }
-    match declarations.push(declaration) {
-        Ok(()) => {}
-        Err(_) => return Err(Refusal::Memory),
-    }
+    order.reserve(1)?;
+    declarations.push(declaration)?;
     match order.push(Table::Declarations) {
         Ok(()) => Ok(number as u32),
         Err(_) => unreachable!(),
@@ -90,15 +84,12 @@ impl Interner {
         requires terms { AreParts (size self.old.rows) (declared_shapes kind) }
         ensures { Declares result (λ id. id.number) self.old self.new kind name }
     {
-        let number = match add_declaration(
+        let number = add_declaration(
             &mut self.order,
             self.limit,
             &mut self.declarations,
             Declaration { kind, name },
-        ) {
-            Ok(number) => number,
-            Err(e) => return Err(e),
-        };
+        )?;
         Ok(DefId::from_number(number))
     }
 

@@ -23,17 +23,14 @@ impl Interner {
         ensures { Builds result (λ handle. handle.number) self.old self.new (pat_row kind) }
     {
         let info = kind_info(self, &Kind::Pat(kind));
-        let number = match find_or_add(
+        let number = find_or_add(
             &mut self.order,
             self.limit,
             Table::Patterns,
             &mut self.patterns,
             &kind,
             info,
-        ) {
-            Ok(number) => number,
-            Err(e) => return Err(e),
-        };
+        )?;
         Ok(Pat::from_number(number))
     }
 }
@@ -47,17 +44,14 @@ impl Interner {
         ensures { Builds result (λ list. list.number) self.old self.new (pats_row items.now) }
     {
         let info = items_info(self, items);
-        let number = match find_or_add_list(
+        let number = find_or_add_list(
             &mut self.order,
             self.limit,
             Table::PatternLists,
             &mut self.pattern_lists,
             items,
             info,
-        ) {
-            Ok(number) => number,
-            Err(e) => return Err(e),
-        };
+        )?;
         Ok(PatList::from_number(number))
     }
 
@@ -67,17 +61,14 @@ impl Interner {
         ensures { Builds result (λ list. list.number) self.old self.new (pats_row items.items) }
     {
         let info = items_info(self, items.as_slice());
-        let number = match find_or_insert(
+        let number = find_or_insert(
             &mut self.order,
             self.limit,
             Table::PatternLists,
             &mut self.pattern_lists,
             items,
             info,
-        ) {
-            Ok(number) => number,
-            Err(e) => return Err(e),
-        };
+        )?;
         Ok(PatList::from_number(number))
     }
 }

@@ -24,17 +24,14 @@ impl Interner {
         ensures { Builds result (λ handle. handle.number) self.old self.new (predicate_row kind) }
     {
         let info = kind_info(self, &Kind::Predicate(kind));
-        let number = match find_or_add(
+        let number = find_or_add(
             &mut self.order,
             self.limit,
             Table::Predicates,
             &mut self.predicates,
             &kind,
             info,
-        ) {
-            Ok(number) => number,
-            Err(e) => return Err(e),
-        };
+        )?;
         Ok(Predicate::from_number(number))
     }
 }
@@ -49,17 +46,14 @@ impl Interner {
         ensures { Builds result (λ list. list.number) self.old self.new (clauses_row items.now) }
     {
         let info = items_info(self, items);
-        let number = match find_or_add_list(
+        let number = find_or_add_list(
             &mut self.order,
             self.limit,
             Table::ClauseLists,
             &mut self.clause_lists,
             items,
             info,
-        ) {
-            Ok(number) => number,
-            Err(e) => return Err(e),
-        };
+        )?;
         Ok(Clauses::from_number(number))
     }
 
@@ -69,17 +63,14 @@ impl Interner {
         ensures { Builds result (λ list. list.number) self.old self.new (clauses_row items.items) }
     {
         let info = items_info(self, items.as_slice());
-        let number = match find_or_insert(
+        let number = find_or_insert(
             &mut self.order,
             self.limit,
             Table::ClauseLists,
             &mut self.clause_lists,
             items,
             info,
-        ) {
-            Ok(number) => number,
-            Err(e) => return Err(e),
-        };
+        )?;
         Ok(Clauses::from_number(number))
     }
 

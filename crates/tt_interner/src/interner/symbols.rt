@@ -28,16 +28,13 @@ impl Interner {
         requires { IsNew (text_row text.now) self.old.rows }
         ensures { Adds result (λ symbol. symbol.number) self.old self.new (text_row text.now) }
     {
-        let number = match add_text(
+        let number = add_text(
             &mut self.order,
             self.limit,
             Table::Symbols,
             &mut self.symbols,
             text,
-        ) {
-            Ok(number) => number,
-            Err(e) => return Err(e),
-        };
+        )?;
         Ok(Symbol::from_number(number))
     }
 

@@ -7,7 +7,7 @@ ghost use Rattle.tt_kinds.specs.Kinds.{ty_kind_shape, ty_shape};
 ghost use Rattle.tt_interner.specs.Chained.{BuildsOf};
 ghost use Rattle.tt_interner.specs.Collect.{BuildsFrom};
 ghost use Rattle.tt_interner.specs.Rows.{type_row, tys_row, text_row, size};
-ghost use Rattle.tt_interner.specs.Stored.{Puts, Builds};
+ghost use Rattle.tt_interner.specs.Stored.{Extends, Puts, Builds};
 
 use super::Interner;
 use crate::children::MOST_IN_PLACE;
@@ -27,17 +27,14 @@ impl Interner {
         ensures { Puts result (λ ty. ty.number) self.old self.new (type_row kind.now) }
     {
         let info = ty_kind_info(self, kind);
-        let number = match find_or_add(
+        let number = find_or_add(
             &mut self.order,
             self.limit,
             Table::Types,
             &mut self.types,
             kind,
             info,
-        ) {
-            Ok(number) => number,
-            Err(e) => return Err(e),
-        };
+        )?;
         Ok(Ty::from_number(number))
     }
 
@@ -77,35 +74,33 @@ impl Interner {
     /// stay as a row that no result names; what was there keeps its meaning.
     pub fn mk_tuple(&mut self, items: &[Ty]) -> Result<Ty, Refusal>
         requires { AreParts (size self.old.rows) (item_shapes ty_shape items.now) }
-        ensures { BuildsOf
+        ensures builds { BuildsOf
             (λ list. list.number)
             (tys_row items.now)
             (λ list. type_row (TyKind.Tuple list))
             result
             self.old
             self.new }
+        ensures extends { Extends self.old self.new }
     {
-        match self.mk_tys(items) {
-            Ok(list) => self.mk_ty(TyKind::Tuple(list)),
-            Err(e) => Err(e),
-        }
+        let list = self.mk_tys(items)?;
+        self.mk_ty(TyKind::Tuple(list))
     }
 
     /// Returns the type parameter of this index and name, as [`Interner::symbol`] and then [`Interner::mk_ty`] do. If
     /// the parameter is refused, the name may stay as a row that no result names; what was there keeps its meaning.
     pub fn mk_param(&mut self, index: u32, name: &str) -> Result<Ty, Refusal>
-        ensures { BuildsOf
+        ensures builds { BuildsOf
             (λ symbol. symbol.number)
             (text_row name.now)
             (λ symbol. type_row (TyKind.Param (record { index = index; name = symbol })))
             result
             self.old
             self.new }
+        ensures extends { Extends self.old self.new }
     {
-        match self.symbol(name) {
-            Ok(name) => self.mk_ty(TyKind::Param(ParamTy { index, name })),
-            Err(e) => Err(e),
-        }
+        let name = self.symbol(name)?;
+        self.mk_ty(TyKind::Param(ParamTy { index, name }))
     }
 }
 
@@ -119,17 +114,14 @@ impl Interner {
         ensures { Builds result (λ list. list.number) self.old self.new (tys_row items.now) }
     {
         let info = items_info(self, items);
-        let number = match find_or_add_list(
+        let number = find_or_add_list(
             &mut self.order,
             self.limit,
             Table::TypeLists,
             &mut self.type_lists,
             items,
             info,
-        ) {
-            Ok(number) => number,
-            Err(e) => return Err(e),
-        };
+        )?;
         Ok(Tys::from_number(number))
     }
 
@@ -166,17 +158,14 @@ impl Interner {
         ensures { Builds result (λ list. list.number) self.old self.new (tys_row items.items) }
     {
         let info = items_info(self, items.as_slice());
-        let number = match find_or_insert(
+        let number = find_or_insert(
             &mut self.order,
             self.limit,
             Table::TypeLists,
             &mut self.type_lists,
             items,
             info,
-        ) {
-            Ok(number) => number,
-            Err(e) => return Err(e),
-        };
+        )?;
         Ok(Tys::from_number(number))
     }
 }

@@ -1,0 +1,7 @@
+-- both steps leave what was there
+use Rattle.tt_interner.proofs.Growth.{Extends-trans}
+use Rattle.tt_interner.proofs.StoreSteps.{Builds-extends}
+use Rattle.tt_interner.proofs.interner.Interner.mk_tuple.Goals as goal
+
+pub returns-clause-extends : goal.returns-clause-extends
+returns-clause-extends c = Extends-trans (Builds-extends c.mk_tys.ensures) (Builds-extends c.mk_ty.ensures)
