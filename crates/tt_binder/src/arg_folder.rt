@@ -245,7 +245,7 @@ fn type_parameter(cx: &Interner, ty: Ty) -> Option<u32>
     }
 }
 
-// Returns the index of the parameter, if the constant is one.
+/// Returns the index of the parameter, if the constant is one.
 pub fn const_parameter(cx: &Interner, constant: Const) -> Option<u32>
     requires { IsPartOf cx.now.rows (const_shape constant) }
     ensures { MatchOption

@@ -75,7 +75,7 @@ impl<T: TypeFoldable + Copy> Shifted<T> {
             Some(known) => Ok(known),
             None => {
                 let shifted = shift_vars(cx, argument, under)?;
-                self.keep(param, shifted)?;
+                self.note_shifted(param, shifted)?;
                 Ok(shifted)
             }
         }
@@ -89,7 +89,7 @@ impl<T: TypeFoldable + Copy> Shifted<T> {
     }
 
     // Remembers the parameter's shifted argument. If that is refused, nothing changes.
-    fn keep(&mut self, param: ParamAt, shifted: T) -> Result<(), Refusal>
+    fn note_shifted(&mut self, param: ParamAt, shifted: T) -> Result<(), Refusal>
         ensures ok { OnOk result (self.new ≡ insert_entry same_param self.old param shifted) }
         ensures err { IfErr result (λ e. e ≡ Refusal.Memory) }
         ensures stays { OnErr result (self.new ≡ self.old) }

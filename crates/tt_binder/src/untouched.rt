@@ -73,7 +73,8 @@ impl TypeVisitor for TouchedVisitor {
     fn leave_binder(&mut self, _cx: &Interner, _vars: BoundVarKinds) {}
 }
 
-// Returns whether no parameter occurs in the value, and no region variable is exposed.
+/// Returns whether every instantiation leaves the value untouched: no parameter occurs in it, and no region variable is
+/// exposed.
 pub fn is_untouched<T: TypeVisitable>(cx: &Interner, value: &T) -> bool
     requires { IsPartBy T.shape cx.now.rows value.now }
     ensures { IsTrue result ↔ IsUntouched (tree_by T.shape cx.now.rows value.now) }

@@ -13,25 +13,25 @@ use Rattle.tt_visit.specs.Frames.{rest_children, rest_binder, frame_children, Is
 use Rattle.tt_visit.specs.Frames.{children_work, child_height, child_work, frame_todo, rest_todo, IsFrame, AreRests}
 use Rattle.tt_visit.specs.Frames.{AreBinders, Leaves, GoesOn, BreaksOn, StackGoes, StackLeaves, StackBreaks, Inside}
 use Rattle.tt_visit.specs.declared.frame.Frame.{Frame}
-use Rattle.tt_visit.specs.declared.frame.Rest.{Rest}
-use Rattle.tt_visit.specs.declared.frame.Rest.TheVariants as rest
+use Rattle.tt_visit.specs.declared.frame.Remaining.{Remaining}
+use Rattle.tt_visit.specs.declared.frame.Remaining.TheVariants as rest
 use Rattle.tt_visit.proofs.VisitSteps.{seen-append, broke-before, broke-after, parts-before, parts-after}
 
 -- what is left of terms, from the inside and from the outside
-pub inward-more : (rs : List Rest) (r : Rest) → inward (rs ++ r ∷ []) ≡ r ∷ inward rs
+pub inward-more : (rs : List Remaining) (r : Remaining) → inward (rs ++ r ∷ []) ≡ r ∷ inward rs
 inward-more [] r = refl
 inward-more (x ∷ rs) r = ap (λ l. l ++ x ∷ []) (inward-more rs r)
 
-pub inward-none : (rs : List Rest) → length rs ≡ 0 → inward rs ≡ []
+pub inward-none : (rs : List Remaining) → length rs ≡ 0 → inward rs ≡ []
 inward-none [] e = refl
 inward-none (r ∷ rs) e = absurd (omega (arith, e))
 
-pub rests-binders : (rows : List Row) (h : ℕ) (rs : List Rest) → AreRests rows h rs → AreBinders (size rows) rs
+pub rests-binders : (rows : List Row) (h : ℕ) (rs : List Remaining) → AreRests rows h rs → AreBinders (size rows) rs
 rests-binders rows h [] are = tt
 rests-binders rows h (r ∷ rs) are = (are.1.binder, rests-binders rows h rs are.3)
 
 -- the work that is left around a term
-abbrev pub rests_work : List Row → List Rest → ℕ
+abbrev pub rests_work : List Row → List Remaining → ℕ
 rests_work rows [] = 0
 rests_work rows (r ∷ rs) = suc (children_work rows (rest_children rows r)) + rests_work rows rs
 
@@ -122,7 +122,7 @@ goes-up V rows m m1 f vars done same l = record { after = m; goes = goes-none V 
 
 -- The visit of a frame, begun in the state s0, has come to the state s. Whatever comes of what is left makes the whole.
 pub record Visiting {M B S : Type 0} (owned : List Row → S → Type 0) (means : List Row → S → M) (V : Visits M B) (rows : List Row) (s0 : S) (whole : Frame)
-    (s : S) (f : Frame) (rs : List Rest) : Type 0 where
+    (s : S) (f : Frame) (rs : List Remaining) : Type 0 where
   pub is_owned : owned rows s
   pub is_frame : IsFrame rows f
   pub low : children_height rows (frame_children rows f) ≤ children_height rows (frame_children rows whole)
@@ -132,7 +132,7 @@ pub record Visiting {M B S : Type 0} (owned : List Row → S → Type 0) (means 
   pub fails_around : (b : B) (s1 s' : M) → GoesOn V rows (means rows s) (frame_todo rows f) s1 → StackBreaks V rows s1 rs b s' → BreaksOn V rows (means rows s0) (frame_todo rows whole) b s'
 
 module _ {M B S : Type 0} {owned : List Row → S → Type 0} {means : List Row → S → M} {V : Visits M B} {rows : List Row} {s0 : S} {whole : Frame} where
-  pub visiting-starts : (frames : List Rest) → frames ≡ [] → owned rows s0 → IsFrame rows whole → Visiting owned means V rows s0 whole s0 whole (inward frames)
+  pub visiting-starts : (frames : List Remaining) → frames ≡ [] → owned rows s0 → IsFrame rows whole → Visiting owned means V rows s0 whole s0 whole (inward frames)
   visiting-starts frames empty o is = rw empty (record {
     is_owned = o;
     is_frame = is;
@@ -144,7 +144,7 @@ module _ {M B S : Type 0} {owned : List Row → S → Type 0} {means : List Row 
   })
 
   -- a child was visited
-  pub visiting-past : {s s1 : S} {f f' : Frame} {c : Child} {rs : List Rest} → Visiting owned means V rows s0 whole s f rs → Taken rows f c f'
+  pub visiting-past : {s s1 : S} {f f' : Frame} {c : Child} {rs : List Remaining} → Visiting owned means V rows s0 whole s f rs → Taken rows f c f'
       → owned rows s1 → GoesOverAll V (means rows s) (fill_all (meaning rows) (child_shapes c)) (means rows s1)
       → Visiting owned means V rows s0 whole s1 f' rs
   visiting-past h t o w = record {
@@ -158,13 +158,13 @@ module _ {M B S : Type 0} {owned : List Row → S → Type 0} {means : List Row 
   }
 
   -- the visit of a child broke
-  pub visiting-breaks : {s : S} {f f' : Frame} {c : Child} {rs : List Rest} {b : B} {m : M} (m1 m2 : M) → Visiting owned means V rows s0 whole s f rs → Taken rows f c f'
+  pub visiting-breaks : {s : S} {f f' : Frame} {c : Child} {rs : List Remaining} {b : B} {m : M} (m1 m2 : M) → Visiting owned means V rows s0 whole s f rs → Taken rows f c f'
       → BreaksAll V (means rows s) (fill_all (meaning rows) (child_shapes c)) b m → Leaves V rows m (rest_binder f'.rest) m1 → StackLeaves V rows m1 rs m2
       → BreaksOn V rows (means rows s0) (frame_todo rows whole) b m2
   visiting-breaks {b} m1 m2 h t w l ls = h.fails b m1 m2 (child-breaks m1 t w l) ls
 
   -- a child is gone into
-  module _ {s s1 : S} {f f' : Frame} {c : Child} {rs : List Rest} {k w : ℕ} {inner : Frame} (h : Visiting owned means V rows s0 whole s f rs) (t : Taken rows f c f')
+  module _ {s s1 : S} {f f' : Frame} {c : Child} {rs : List Remaining} {k w : ℕ} {inner : Frame} (h : Visiting owned means V rows s0 whole s f rs) (t : Taken rows f c f')
       (o : owned rows s1)
       (i : Inside V rows (GoesOverAll V (means rows s) (fill_all (meaning rows) (child_shapes c))) (BreaksAll V (means rows s) (fill_all (meaning rows) (child_shapes c))) k w inner (means rows s1)) where
     around : {m : M} (b : B) (s' : M) → GoesOverAll V (means rows s) (fill_all (meaning rows) (child_shapes c)) m → StackBreaks V rows m (f'.rest ∷ rs) b s'
@@ -184,7 +184,7 @@ module _ {M B S : Type 0} {owned : List Row → S → Type 0} {means : List Row 
     }
 
   -- what is left needs no room where it is nothing
-  visiting-drops : {s : S} {f : Frame} {r : Rest} {rs : List Rest} → r ≡ rest.Nothing None → Visiting owned means V rows s0 whole s f (r ∷ rs) → Visiting owned means V rows s0 whole s f rs
+  visiting-drops : {s : S} {f : Frame} {r : Remaining} {rs : List Remaining} → r ≡ rest.Nothing None → Visiting owned means V rows s0 whole s f (r ∷ rs) → Visiting owned means V rows s0 whole s f rs
   visiting-drops {rs} is h =
       let v = rw is at h in
       record {
@@ -197,24 +197,24 @@ module _ {M B S : Type 0} {owned : List Row → S → Type 0} {means : List Row 
         fails_around = λ b s2 s' p q. v.fails_around b s2 s' p (inr (s2, record { after = s2; goes = goes-none V rows s2 [] refl; leaves = refl }, q));
       }
 
-  kept-cases : {s : S} {f : Frame} {r : Rest} (frames frames' : List Rest) → IsKept frames r frames'
+  kept-cases : {s : S} {f : Frame} {r : Remaining} (frames frames' : List Remaining) → IsKept frames r frames'
       → Visiting owned means V rows s0 whole s f (r ∷ inward frames) → Visiting owned means V rows s0 whole s f (inward frames')
   kept-cases {r} frames frames' (inl added) h = rw (added, inward-more frames r) h
   kept-cases frames frames' (inr same) h = rw same.1 (visiting-drops same.0 h)
 
-  pub visiting-into : {s s1 : S} {f f' : Frame} {c : Child} {k w : ℕ} {inner : Frame} (frames frames' : List Rest)
+  pub visiting-into : {s s1 : S} {f f' : Frame} {c : Child} {k w : ℕ} {inner : Frame} (frames frames' : List Remaining)
       → Visiting owned means V rows s0 whole s f (inward frames) → Taken rows f c f' → owned rows s1
       → Inside V rows (GoesOverAll V (means rows s) (fill_all (meaning rows) (child_shapes c))) (BreaksAll V (means rows s) (fill_all (meaning rows) (child_shapes c))) k w inner (means rows s1)
       → k ≤ child_height rows c → IsKept frames f'.rest frames' → Visiting owned means V rows s0 whole s1 inner (inward frames')
   visiting-into frames frames' h t o i below kept = kept-cases frames frames' kept (visiting-inside h t o i below)
 
-  pub visiting-ends : {s s1 : S} {f : Frame} {vars : Option BoundVarKinds} (frames : List Rest)
+  pub visiting-ends : {s s1 : S} {f : Frame} {vars : Option BoundVarKinds} (frames : List Remaining)
       → Visiting owned means V rows s0 whole s f (inward frames) → frame_children rows f ≡ [] → vars ≡ rest_binder f.rest → Leaves V rows (means rows s) vars (means rows s1)
       → length frames ≡ 0 → GoesOn V rows (means rows s0) (frame_todo rows whole) (means rows s1)
   visiting-ends {s} {s1} {f} {vars} frames h done same l empty =
       h.ends (means rows s1) (means rows s1) (goes-up V rows (means rows s) (means rows s1) f vars done same l) (rw (inward-none frames empty) refl)
 
-  pub visiting-up : {s s1 : S} {f f1 : Frame} {vars : Option BoundVarKinds} (frames frames' : List Rest) (r : Rest)
+  pub visiting-up : {s s1 : S} {f f1 : Frame} {vars : Option BoundVarKinds} (frames frames' : List Remaining) (r : Remaining)
       → Visiting owned means V rows s0 whole s f (inward frames) → frame_children rows f ≡ [] → vars ≡ rest_binder f.rest → Leaves V rows (means rows s) vars (means rows s1)
       → owned rows s1 → frames ≡ frames' ++ r ∷ [] → f1 ≡ record { first = None; rest = r } → Visiting owned means V rows s0 whole s1 f1 (inward frames')
   visiting-up {s} {s1} {f} {vars} frames frames' r h0 done same l o popped is =
@@ -231,39 +231,39 @@ module _ {M B S : Type 0} {owned : List Row → S → Type 0} {means : List Row 
       })
 
   -- the binders around a term whose visit broke
-  pub visiting-binders : {s : S} {f : Frame} (frames : List Rest) → Visiting owned means V rows s0 whole s f (inward frames) → AreBinders (size rows) (inward frames)
+  pub visiting-binders : {s : S} {f : Frame} (frames : List Remaining) → Visiting owned means V rows s0 whole s f (inward frames) → AreBinders (size rows) (inward frames)
   visiting-binders frames h = rests-binders rows (children_height rows (frame_children rows whole)) (inward frames) h.are_rests
 
 -- each turn is less work
-unfoldable pub total : List Row → Frame → List Rest → ℕ
+unfoldable pub total : List Row → Frame → List Remaining → ℕ
 total rows f frames = suc (children_work rows (frame_children rows f)) + rests_work rows (inward frames)
 
 module _ (rows : List Row) where
-  pub total-past : (f f' : Frame) (c : Child) (frames : List Rest) → Taken rows f c f' → total rows f' frames < total rows f frames
+  pub total-past : (f f' : Frame) (c : Child) (frames : List Remaining) → Taken rows f c f' → total rows f' frames < total rows f frames
   unfolding total
   total-past f f' c frames t = omega (arith, taken-work t, some-work rows c)
 
-  kept-work : (frames frames' : List Rest) (r : Rest) → IsKept frames r frames' → rests_work rows (inward frames') ≤ suc (children_work rows (rest_children rows r)) + rests_work rows (inward frames)
+  kept-work : (frames frames' : List Remaining) (r : Remaining) → IsKept frames r frames' → rests_work rows (inward frames') ≤ suc (children_work rows (rest_children rows r)) + rests_work rows (inward frames)
   kept-work frames frames' r (inl added) = omega (arith, ap (λ rs. rests_work rows (inward rs)) added, ap (rests_work rows) (inward-more frames r))
   kept-work frames frames' r (inr same) = omega (arith, ap (λ rs. rests_work rows (inward rs)) same.1)
 
-  pub total-into : (f f' inner : Frame) (c : Child) (frames frames' : List Rest) → Taken rows f c f' → children_work rows (frame_children rows inner) + 1 < child_work rows c
+  pub total-into : (f f' inner : Frame) (c : Child) (frames frames' : List Remaining) → Taken rows f c f' → children_work rows (frame_children rows inner) + 1 < child_work rows c
       → IsKept frames f'.rest frames' → total rows inner frames' < total rows f frames
   unfolding total
   total-into f f' inner c frames frames' t light kept = omega (arith, taken-work t, ap (children_work rows) (taken-rest t), light, kept-work frames frames' f'.rest kept)
 
-  pub total-up : (f f1 : Frame) (frames frames' : List Rest) (r : Rest) → frame_children rows f ≡ [] → frames ≡ frames' ++ r ∷ [] → f1 ≡ record { first = None; rest = r }
+  pub total-up : (f f1 : Frame) (frames frames' : List Remaining) (r : Remaining) → frame_children rows f ≡ [] → frames ≡ frames' ++ r ∷ [] → f1 ≡ record { first = None; rest = r }
       → total rows f1 frames' < total rows f frames
   unfolding total
   total-up f f1 frames frames' r done popped is =
       omega (arith, ap (children_work rows) done, ap (λ rs. rests_work rows (inward rs)) popped, ap (rests_work rows) (inward-more frames' r), ap (λ x. children_work rows (frame_children rows x)) is)
 
 -- the binders around a break, one by one
-pub binders-next : (size : Sizes) (frames frames' : List Rest) (r : Rest) → AreBinders size (inward frames) → frames ≡ frames' ++ r ∷ []
+pub binders-next : (size : Sizes) (frames frames' : List Remaining) (r : Remaining) → AreBinders size (inward frames) → frames ≡ frames' ++ r ∷ []
     → AreStored size (rest_binder r) × AreBinders size (inward frames')
 binders-next size frames frames' r are popped = rw (popped, inward-more frames' r) at are
 
 -- the binders of a stack are left if the innermost one is, and then the binders around it
-pub leaves-next : {M B : Type 0} (V : Visits M B) (rows : List Row) (m m1 m2 : M) (frames frames' : List Rest) (r : Rest) → frames ≡ frames' ++ r ∷ []
+pub leaves-next : {M B : Type 0} (V : Visits M B) (rows : List Row) (m m1 m2 : M) (frames frames' : List Remaining) (r : Remaining) → frames ≡ frames' ++ r ∷ []
     → Leaves V rows m (rest_binder r) m1 → StackLeaves V rows m1 (inward frames') m2 → StackLeaves V rows m (inward frames) m2
 leaves-next V rows m m1 m2 frames frames' r popped l ls = rw (popped, inward-more frames' r) (m1, l, ls)

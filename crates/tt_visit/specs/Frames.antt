@@ -21,8 +21,8 @@ use Rattle.tt_interner.specs.Rows.{Row, age, meaning, size}
 use Rattle.tt_visit.specs.Steps.{AreStored}
 use Rattle.tt_visit.specs.Visit.{Visits, GoesOverAll, BreaksAll}
 use Rattle.tt_visit.specs.declared.frame.Frame.{Frame}
-use Rattle.tt_visit.specs.declared.frame.Rest.{Rest}
-use Rattle.tt_visit.specs.declared.frame.Rest.TheVariants as rest
+use Rattle.tt_visit.specs.declared.frame.Remaining.{Remaining}
+use Rattle.tt_visit.specs.declared.frame.Remaining.TheVariants as rest
 
 -- the child, if there is one
 abbrev pub present : Child → List Child
@@ -32,7 +32,7 @@ present (child.Node n) = child.Node n ∷ []
 present (child.List l) = child.List l ∷ []
 
 -- the children that are left after the first
-abbrev pub rest_children : List Row → Rest → List Child
+abbrev pub rest_children : List Row → Remaining → List Child
 rest_children rows (rest.Nothing vars) = []
 rest_children rows (rest.Region r vars) = child.Region r ∷ []
 rest_children rows (rest.Node n vars) = child.Node n ∷ []
@@ -40,7 +40,7 @@ rest_children rows (rest.List l vars) = child.List l ∷ []
 rest_children rows (rest.Items l index len) = drop index (children_at rows l)
 
 -- the binder that is to be left after them
-abbrev pub rest_binder : Rest → Option BoundVarKinds
+abbrev pub rest_binder : Remaining → Option BoundVarKinds
 rest_binder (rest.Nothing vars) = vars
 rest_binder (rest.Region r vars) = vars
 rest_binder (rest.Node n vars) = vars
@@ -56,7 +56,7 @@ abbrev pub HasItems : List Row → StoredList → ℕ → Type 0
 HasItems rows l len = IsPart (size rows) (list_shape l) × (len ≡ length (children_at rows l))
 
 -- the index of an item that is left is one of the list's
-abbrev pub IsWithin : Rest → Type 0
+abbrev pub IsWithin : Remaining → Type 0
 IsWithin (rest.Nothing vars) = ⊤
 IsWithin (rest.Region r vars) = ⊤
 IsWithin (rest.Node n vars) = ⊤
@@ -64,7 +64,7 @@ IsWithin (rest.List l vars) = ⊤
 IsWithin (rest.Items l index len) = index < len
 
 -- a list of which items are left is stored, and has those items
-abbrev pub IsRest : List Row → Rest → Type 0
+abbrev pub IsRest : List Row → Remaining → Type 0
 IsRest rows (rest.Nothing vars) = ⊤
 IsRest rows (rest.Region r vars) = ⊤
 IsRest rows (rest.Node n vars) = ⊤
@@ -72,7 +72,7 @@ IsRest rows (rest.List l vars) = ⊤
 IsRest rows (rest.Items l index len) = HasItems rows l len × (index < len)
 
 -- what is left was added to the others, or it is nothing
-abbrev pub IsKept : List Rest → Rest → List Rest → Type 0
+abbrev pub IsKept : List Remaining → Remaining → List Remaining → Type 0
 IsKept before r after = (after ≡ before ++ r ∷ []) ⊎ ((r ≡ rest.Nothing None) × (after ≡ before))
 
 -- how many rows came before a stored term
@@ -136,11 +136,11 @@ abbrev pub frame_todo : List Row → Frame → Todo
 frame_todo rows f = record { children = frame_children rows f; binder = rest_binder f.rest }
 
 -- the same after the first child
-abbrev pub rest_todo : List Row → Rest → Todo
+abbrev pub rest_todo : List Row → Remaining → Todo
 rest_todo rows r = record { children = rest_children rows r; binder = rest_binder r }
 
 -- what is left of terms in the other order, the innermost first
-abbrev pub inward : List Rest → List Rest
+abbrev pub inward : List Remaining → List Remaining
 inward [] = []
 inward (r ∷ rs) = inward rs ++ r ∷ []
 
@@ -159,13 +159,13 @@ pub record IsFrame (rows : List Row) (f : Frame) : Type 0 where
   pub todo : IsTodo rows (frame_todo rows f)
 
 -- what is left of terms is stored, and no child is higher
-abbrev pub AreRests : List Row → ℕ → List Rest → Type 0
+abbrev pub AreRests : List Row → ℕ → List Remaining → Type 0
 AreRests rows h [] = ⊤
 AreRests rows h (r ∷ rs) = IsRest rows r × IsTodo rows (rest_todo rows r)
     × (children_height rows (rest_children rows r) ≤ h) × AreRests rows h rs
 
 -- the binders that are to be left are stored
-abbrev pub AreBinders : Sizes → List Rest → Type 0
+abbrev pub AreBinders : Sizes → List Remaining → Type 0
 AreBinders size [] = ⊤
 AreBinders size (r ∷ rs) = AreStored size (rest_binder r) × AreBinders size rs
 
@@ -194,17 +194,17 @@ module _ {M B : Type 0} (V : Visits M B) (rows : List Row) where
     pub leaves : Leaves after t.binder s'
 
   -- the visitor goes over what is left of terms, the innermost first
-  abbrev pub StackGoes : M → List Rest → M → Type 0
+  abbrev pub StackGoes : M → List Remaining → M → Type 0
   StackGoes s [] s' = s' ≡ s
   StackGoes s (r ∷ rs) s' = (s1 : M) × GoesOn s (rest_todo rows r) s1 × StackGoes s1 rs s'
 
   -- the binders of the terms are left, the innermost first
-  abbrev pub StackLeaves : M → List Rest → M → Type 0
+  abbrev pub StackLeaves : M → List Remaining → M → Type 0
   StackLeaves s [] s' = s' ≡ s
   StackLeaves s (r ∷ rs) s' = (s1 : M) × Leaves s (rest_binder r) s1 × StackLeaves s1 rs s'
 
   -- the visit of what is left of the terms breaks, and leaves the binders around
-  abbrev pub StackBreaks : M → List Rest → B → M → Type 0
+  abbrev pub StackBreaks : M → List Remaining → B → M → Type 0
   StackBreaks s [] b s' = ⊥
   StackBreaks s (r ∷ rs) b s' =
       ((s1 : M) × BreaksOn s (rest_todo rows r) b s1 × StackLeaves s1 rs s')

@@ -24,7 +24,7 @@ use tt_kinds::{BoundVarKinds, Child, List, Node, Parts, Region};
 /// What is left of a term or a list after its first child: one more child, or items. The binder that the children are
 /// under is left after them.
 #[derive(Clone, Copy)]
-pub(crate) enum Rest {
+pub(crate) enum Remaining {
     /// No child.
     Nothing(Option<BoundVarKinds>),
     /// A region.
@@ -43,45 +43,46 @@ pub(crate) struct Frame {
     /// The first child, until it is taken.
     pub first: Option<Child>,
     /// What is left after it.
-    pub rest: Rest,
+    pub rest: Remaining,
 }
 
-/// What is left of the terms and lists around one that is visited, the innermost last. Few need no allocation.
-pub(crate) type Frames = SmallVec<Rest, 8>;
+/// What is left of the terms and lists around one that is visited, the innermost last. Up to eight are kept without an
+/// allocation.
+pub(crate) type Frames = SmallVec<Remaining, 8>;
 
 // A small vector keeps the default in its unused places.
-impl Default for Rest {
-    fn default() -> Rest {
-        Rest::Nothing(None)
+impl Default for Remaining {
+    fn default() -> Remaining {
+        Remaining::Nothing(None)
     }
 }
 
-impl Rest {
+impl Remaining {
     // Returns the last child of a term, if there is one, under its binder.
-    fn of_last(child: Child, binder: Option<BoundVarKinds>) -> Rest
+    fn of_last(child: Child, binder: Option<BoundVarKinds>) -> Remaining
         ensures rest { (rows : Items Row) → IsRest rows result }
         ensures children { (rows : Items Row) → rest_children rows result ≡ present child }
         ensures binder { rest_binder result ≡ binder }
     {
         match child {
-            Child::Absent => Rest::Nothing(binder),
-            Child::Region(region) => Rest::Region(region, binder),
-            Child::Node(node) => Rest::Node(node, binder),
-            Child::List(list) => Rest::List(list, binder),
+            Child::Absent => Remaining::Nothing(binder),
+            Child::Region(region) => Remaining::Region(region, binder),
+            Child::Node(node) => Remaining::Node(node, binder),
+            Child::List(list) => Remaining::List(list, binder),
         }
     }
 
     // Returns the items of a list of this length from an index on.
-    fn of_items(list: List, index: usize, len: usize) -> Rest
+    fn of_items(list: List, index: usize, len: usize) -> Remaining
         ensures rest { (rows : Items Row) → HasItems rows list len → IsRest rows result }
         ensures children { (rows : Items Row) → HasItems rows list len
             → rest_children rows result ≡ drop index (children_at rows list) }
         ensures binder { rest_binder result ≡ None }
     {
         if index < len {
-            Rest::Items(list, index, len)
+            Remaining::Items(list, index, len)
         } else {
-            Rest::Nothing(None)
+            Remaining::Nothing(None)
         }
     }
 
@@ -90,11 +91,11 @@ impl Rest {
         ensures { result ≡ rest_binder self.now }
     {
         match self {
-            Rest::Nothing(binder)
-            | Rest::Region(_, binder)
-            | Rest::Node(_, binder)
-            | Rest::List(_, binder) => *binder,
-            Rest::Items(_, _, _) => None,
+            Remaining::Nothing(binder)
+            | Remaining::Region(_, binder)
+            | Remaining::Node(_, binder)
+            | Remaining::List(_, binder) => *binder,
+            Remaining::Items(_, _, _) => None,
         }
     }
 
@@ -106,16 +107,16 @@ impl Rest {
             (λ child. rest_children cx.now.rows self.now ≡ child ∷ drop 1 (rest_children cx.now.rows self.now)) }
     {
         match self {
-            Rest::Nothing(_) => None,
-            Rest::Region(region, _) => Some(Child::Region(*region)),
-            Rest::Node(node, _) => Some(Child::Node(*node)),
-            Rest::List(list, _) => Some(Child::List(*list)),
-            Rest::Items(list, index, _) => Some(cx.list_child(*list, *index)),
+            Remaining::Nothing(_) => None,
+            Remaining::Region(region, _) => Some(Child::Region(*region)),
+            Remaining::Node(node, _) => Some(Child::Node(*node)),
+            Remaining::List(list, _) => Some(Child::List(*list)),
+            Remaining::Items(list, index, _) => Some(cx.list_child(*list, *index)),
         }
     }
 
     // Returns what is left after the next child.
-    fn after_child(&self) -> Rest
+    fn after_child(&self) -> Remaining
         requires { IsWithin self.now }
         ensures rest { (rows : Items Row) → IsRest rows self.now → IsRest rows result }
         ensures children { (rows : Items Row) → IsRest rows self.now
@@ -123,8 +124,8 @@ impl Rest {
         ensures binder { rest_binder result ≡ rest_binder self.now }
     {
         match *self {
-            Rest::Items(list, index, len) => Rest::of_items(list, index + 1, len),
-            _ => Rest::Nothing(self.binder()),
+            Remaining::Items(list, index, len) => Remaining::of_items(list, index + 1, len),
+            _ => Remaining::Nothing(self.binder()),
         }
     }
 }
@@ -136,7 +137,7 @@ impl Frame {
     {
         Frame {
             first: Some(parts.first),
-            rest: Rest::of_last(parts.second, binder),
+            rest: Remaining::of_last(parts.second, binder),
         }
     }
 
@@ -157,11 +158,11 @@ impl Frame {
             → frame_children rows result ≡ children_at rows list }
         ensures binder { rest_binder result.rest ≡ None }
     {
-        Frame::of_rest(Rest::of_items(list, 0, len))
+        Frame::resumed(Remaining::of_items(list, 0, len))
     }
 
     /// Returns what is left of a term whose first child was taken.
-    pub(crate) fn of_rest(rest: Rest) -> Frame
+    pub(crate) fn resumed(rest: Remaining) -> Frame
         ensures { result ≡ record { first = None; rest = rest } }
     {
         Frame { first: None, rest }
@@ -191,13 +192,13 @@ impl Frame {
     }
 }
 
-/// Keeps what is left of a term, and returns whether there was room for it. If nothing is left, none is needed.
-pub(crate) fn keep(frames: &mut Frames, rest: &Rest) -> bool
+/// Pushes what is left of a term, and returns whether there was room for it. If nothing is left, none is needed.
+pub(crate) fn push_rest(frames: &mut Frames, rest: &Remaining) -> bool
     ensures kept { IsTrue result → IsKept frames.old.items rest.now frames.new.items }
     ensures refused { IsFalse result → frames.new.items ≡ frames.old.items }
 {
     match rest {
-        Rest::Nothing(None) => true,
+        Remaining::Nothing(None) => true,
         _ => frames.push(*rest).is_ok(),
     }
 }

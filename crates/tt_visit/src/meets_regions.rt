@@ -65,7 +65,7 @@ impl MeetsRegionsVisitor {
     }
 
     // Decides by these flags and this outer exclusive binder whether a term holds such a region.
-    fn look(
+    fn meets_by_info(
         self,
         flags: TypeFlags,
         outer_exclusive_binder: DebruijnIndex,
@@ -103,7 +103,7 @@ impl TypeVisitor for MeetsRegionsVisitor {
     ghost hooks = { meets_hooks };
 
     fn visit_region(&mut self, _cx: &Interner, region: Region) -> ControlFlow<MetRegion, ()> {
-        match self.look(region.flags(), region.outer_exclusive_binder()) {
+        match self.meets_by_info(region.flags(), region.outer_exclusive_binder()) {
             ControlFlow::Continue(Next::Skip) => ControlFlow::Continue(()),
             // the region itself is the variable that is bound outside
             ControlFlow::Continue(Next::Descend) => ControlFlow::Break(MetRegion),
@@ -120,11 +120,11 @@ impl TypeVisitor for MeetsRegionsVisitor {
     }
 
     fn visit_ty(&mut self, cx: &Interner, ty: Ty) -> ControlFlow<MetRegion, Next> {
-        self.look(ty.flags(cx), ty.outer_exclusive_binder(cx))
+        self.meets_by_info(ty.flags(cx), ty.outer_exclusive_binder(cx))
     }
 
     fn visit_const(&mut self, cx: &Interner, constant: Const) -> ControlFlow<MetRegion, Next> {
-        self.look(constant.flags(cx), constant.outer_exclusive_binder(cx))
+        self.meets_by_info(constant.flags(cx), constant.outer_exclusive_binder(cx))
     }
 
     fn visit_predicate(
@@ -132,11 +132,11 @@ impl TypeVisitor for MeetsRegionsVisitor {
         cx: &Interner,
         predicate: Predicate,
     ) -> ControlFlow<MetRegion, Next> {
-        self.look(predicate.flags(cx), predicate.outer_exclusive_binder(cx))
+        self.meets_by_info(predicate.flags(cx), predicate.outer_exclusive_binder(cx))
     }
 
     fn visit_clauses(&mut self, cx: &Interner, clauses: Clauses) -> ControlFlow<MetRegion, Next> {
-        self.look(clauses.flags(cx), clauses.outer_exclusive_binder(cx))
+        self.meets_by_info(clauses.flags(cx), clauses.outer_exclusive_binder(cx))
     }
 
     fn visit_binder(

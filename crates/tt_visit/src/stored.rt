@@ -67,14 +67,15 @@ ghost use Rattle.tt_visit.specs.Frames.{
   tree_work,
 };
 
-use crate::frame::{Frame, Frames, keep};
+use crate::frame::{Frame, Frames, push_rest};
 use crate::visitor::{Next, TypeVisitor};
 use smallvec::SmallVec;
 use std::ops::ControlFlow;
 use tt_interner::Interner;
 use tt_kinds::{BoundVarKinds, Child, ConstKind, Kind, List, Node, Parts, TyKind};
 
-/// Returns the visit of a stored term.
+/// Visits a stored term. Its hook, if it has one, is called first, and its children are then visited in order, unless
+/// the hook skips them or breaks.
 pub fn visit_node<V: TypeVisitor>(
     cx: &Interner,
     visitor: &mut V,
@@ -91,7 +92,7 @@ pub fn visit_node<V: TypeVisitor>(
     finish(cx, visitor, begun)
 }
 
-// Visits the contents of a stored term, without its own hook.
+/// Visits the contents of a stored term, without its own hook.
 pub(crate) fn visit_inside<V: TypeVisitor>(
     cx: &Interner,
     visitor: &mut V,
@@ -108,7 +109,7 @@ pub(crate) fn visit_inside<V: TypeVisitor>(
     finish(cx, visitor, begun)
 }
 
-/// Returns the visit of the contents of a kind.
+/// Visits the children of a kind, in order. The error hook is called first, if the kind holds an error.
 pub fn visit_kind<V: TypeVisitor>(
     cx: &Interner,
     visitor: &mut V,
@@ -125,7 +126,7 @@ pub fn visit_kind<V: TypeVisitor>(
     finish(cx, visitor, begun)
 }
 
-// Visits parts under a binder.
+/// Visits parts under a binder.
 pub(crate) fn visit_under<V: TypeVisitor>(
     cx: &Interner,
     visitor: &mut V,
@@ -146,7 +147,7 @@ pub(crate) fn visit_under<V: TypeVisitor>(
     finish(cx, visitor, begun)
 }
 
-// Visits parts in order.
+/// Visits parts in order.
 pub(crate) fn visit_parts<V: TypeVisitor>(
     cx: &Interner,
     visitor: &mut V,
@@ -162,7 +163,7 @@ pub(crate) fn visit_parts<V: TypeVisitor>(
     visit_frame(cx, visitor, Frame::of_parts(parts, None))
 }
 
-/// Returns the visit of a stored list. A list of clauses has a hook of its own.
+/// Visits the items of a stored list, in order. A list of clauses has a hook of its own.
 pub fn visit_list<V: TypeVisitor>(
     cx: &Interner,
     visitor: &mut V,
@@ -222,7 +223,7 @@ fn visit_frame<V: TypeVisitor>(
                 leave(cx, visitor, frame.rest.binder());
                 match frames.pop() {
                     None => return ControlFlow::Continue(()),
-                    Some(rest) => frame = Frame::of_rest(rest),
+                    Some(rest) => frame = Frame::resumed(rest),
                 }
             }
             Some(child) => match begin_child(cx, visitor, &child) {
@@ -233,7 +234,7 @@ fn visit_frame<V: TypeVisitor>(
                 }
                 ControlFlow::Continue(None) => {}
                 ControlFlow::Continue(Some(inner)) => {
-                    if keep(&mut frames, &frame.rest) {
+                    if push_rest(&mut frames, &frame.rest) {
                         frame = inner;
                     } else {
                         match visit_frame(cx, visitor, inner) {
@@ -369,7 +370,7 @@ fn begin_kind<V: TypeVisitor>(
         (tree_work (tree_by kind_shape cx.now.rows kind.now) + 2)
         cx.now.rows visitor.old (tree_by kind_shape cx.now.rows kind.now) result visitor.new }
 {
-    match tell_error(cx, visitor, kind) {
+    match visit_kind_error(cx, visitor, kind) {
         ControlFlow::Break(b) => ControlFlow::Break(b),
         ControlFlow::Continue(_) => begin_contents(cx, visitor, kind.bound_vars(), kind.parts()),
     }
@@ -484,8 +485,8 @@ fn ask<V: TypeVisitor>(cx: &Interner, visitor: &mut V, node: Node) -> ControlFlo
     }
 }
 
-// Tells the visitor of the error of a kind, if it has one.
-fn tell_error<V: TypeVisitor>(
+// Calls the error hook, if the kind holds an error.
+fn visit_kind_error<V: TypeVisitor>(
     cx: &Interner,
     visitor: &mut V,
     kind: &Kind,

@@ -187,7 +187,7 @@ impl<T: TypeVisitable> TypeVisitable for &[T] {
     }
 }
 
-// Visits values in order.
+/// Visits values in order.
 pub(crate) fn visit_values<T: TypeVisitable, V: TypeVisitor>(
     cx: &Interner,
     visitor: &mut V,

@@ -1,6 +1,6 @@
 use Rattle.tt_interner.specs.Children.{children_at}
 use Rattle.tt_visit.proofs.RestLaws.{item-next}
-use Rattle.tt_visit.proofs.frame.Rest.child.Goals as goal
+use Rattle.tt_visit.proofs.frame.Remaining.child.Goals as goal
 
 pub returns-in-Items : goal.returns-in-Items
 returns-in-Items c =

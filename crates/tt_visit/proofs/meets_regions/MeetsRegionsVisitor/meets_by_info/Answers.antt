@@ -1,7 +1,7 @@
 use Rattle.std.proofs.Common.{◌≤◌}
 use Rattle.tt_visit.specs.HasTypeFlags.{Misses}
 use Rattle.tt_visit.proofs.MeetsRegionsLaws.{told-some, told-none, told-low, missed, low-enough}
-use Rattle.tt_visit.proofs.meets_regions.MeetsRegionsVisitor.look.Goals as goal
+use Rattle.tt_visit.proofs.meets_regions.MeetsRegionsVisitor.meets_by_info.Goals as goal
 
 pub returns-then-intersects : goal.returns-then-intersects
 returns-then-intersects c t is reaches = told-some _ _ t is (rw c.union-unbound.ensures at (c.intersects.ensures.0 c.if-intersects.true))

@@ -1,7 +1,7 @@
 use Rattle.std.proofs.Common.{arith, ◌∙◌}
 use Rattle.tt_interner.specs.Children.{children_at}
 use Rattle.tt_visit.proofs.RestLaws.{items-rest}
-use Rattle.tt_visit.proofs.frame.Rest.after_child.Goals as goal
+use Rattle.tt_visit.proofs.frame.Remaining.after_child.Goals as goal
 
 pub overflow_add-index : goal.overflow_add-index
 overflow_add-index c = let within = rw c.in-Items.is at c.requires in omega arith
