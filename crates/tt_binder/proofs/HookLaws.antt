@@ -40,11 +40,12 @@ use Rattle.tt_kinds.specs.declared.const_kind.ConstKind.{ConstKind}
 use Rattle.tt_kinds.specs.declared.const_kind.ConstKind.TheVariants as const
 use Rattle.tt_interner.specs.Rows.{Row, size}
 use Rattle.tt_interner.specs.Stored.{counted, Terms}
+use Rattle.tt_visit.specs.Types.{is_type_tree}
 use Rattle.tt_fold.specs.Shift.{IsShiftRefusal}
 use Rattle.tt_fold.specs.Steps.{IsRefused}
 use Rattle.tt_fold.specs.Stands.{itself}
 use Rattle.tt_fold.specs.Counts.{Standing}
-use Rattle.tt_fold.specs.Walk.{replace, keep, descend, is_type_tree}
+use Rattle.tt_fold.specs.Walk.{replace, keep, descend}
 use Rattle.tt_fold.specs.Places.{IsIn}
 use Rattle.tt_fold.specs.Remember.{here, places, IsTaken, OnTerm, given, left_alone, taken_apart, gone_into, AfterTerm}
 use Rattle.tt_fold.specs.Remember.{not_noted}

@@ -61,7 +61,7 @@ use Rattle.tt_fold.specs.Places.{IsIn}
 use Rattle.tt_fold.specs.Remember.{Memo, places}
 use Rattle.tt_fold.specs.declared.memory.Place.{Place}
 use Rattle.tt_binder.specs.Validate.{Agrees, Agrees_all, vars_at, Validation, here, SeenAgree, RootAgrees, AddsPlace}
-use Rattle.tt_binder.specs.Validate.{Looks, EntersOnce, validate_hooks, ValidationIsExact}
+use Rattle.tt_binder.specs.Validate.{ValidationLooks, EntersOnce, validate_hooks, ValidationIsExact}
 use Rattle.tt_binder.specs.declared.validate_bound_vars.WrongBoundVar.{WrongBoundVar}
 use Rattle.tt_binder.proofs.RowArguments.{IsClauseTree, kind_tree, const_kind_tree}
 
@@ -553,16 +553,16 @@ pub same_root : (vs : List (VarKind Name)) (k : ℕ) (t u : Tree Depth) → t �
 same_root vs k t u e h = subst (λ x. RootAgrees vs k x) (sym e) h
 
 -- the answers at terms
-pub looks_skip : (s : Validation) (t : Tree Depth) (o : ℕ) → o ≡ outer_binder t → o ≤ s.depth → Looks s t Skip s
+pub looks_skip : (s : Validation) (t : Tree Depth) (o : ℕ) → o ≡ outer_binder t → o ≤ s.depth → ValidationLooks s t Skip s
 looks_skip s t o e low = (inl (low_agrees s.vars s.depth t (rw (← e) low)), refl)
 
 -- a term that is itself no variable that disagrees may be entered without being remembered
-pub looks_enter : (s : Validation) (t : Tree Depth) → RootAgrees s.vars s.depth t → Looks s t Descend s
+pub looks_enter : (s : Validation) (t : Tree Depth) → RootAgrees s.vars s.depth t → ValidationLooks s t Descend s
 looks_enter s t agrees = record { agrees = agrees; vars = refl; depth = refl; seen = λ q m. inr m }
 
 -- a term that is itself no variable that disagrees is skipped if it is remembered, and else entered
 pub looks_once : (vs : List (VarKind Name)) (k : ℕ) (old new : List TypeAt) (t : Tree Depth) (next : Next) → RootAgrees vs k t → EntersOnce (record { standing = t; under = k }) old next new
-    → Looks (record { vars = vs; depth = k; seen = old }) t next (record { vars = vs; depth = k; seen = new })
+    → ValidationLooks (record { vars = vs; depth = k; seen = old }) t next (record { vars = vs; depth = k; seen = new })
 looks_once vs k old new t Skip agrees once = (inr once.0, ap (λ x. record { vars = vs; depth = k; seen = x }) once.1)
 looks_once vs k old new t Descend agrees once = record { agrees = agrees; vars = refl; depth = refl; seen = once }
 

@@ -39,9 +39,9 @@ use Rattle.tt_interner.specs.Rows.{tys_row, consts_row, args_row, pats_row, vars
 use Rattle.tt_interner.specs.Rows.{text_row, declared_row, defined_row, row_table, row_shape, table, size, meaning}
 use Rattle.tt_interner.specs.Stored.{Terms, Builds, IsCause}
 use Rattle.tt_interner.proofs.RowLaws.{IsNewest, place_cases, meaning-old, meaning-new}
+use Rattle.tt_visit.specs.Types.{is_type_tree}
 use Rattle.tt_fold.proofs.PartLaws.{is_part, in_range, stored_tree}
 use Rattle.tt_fold.proofs.ShiftLaws.{index-moved, shift_done}
-use Rattle.tt_fold.specs.Walk.{is_type_tree}
 use Rattle.tt_fold.specs.Remember.{Done, IsTaken}
 use Rattle.tt_fold.specs.Steps.{IsPartOf, tree_in, IsRefused}
 use Rattle.tt_fold.specs.Shift.{Shift, moved_tree, IsTooFar, IsVariable, shifting, IsTooGreat, IsPast, IsOuter}

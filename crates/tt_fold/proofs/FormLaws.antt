@@ -17,8 +17,8 @@ use Rattle.tt_kinds.specs.declared.parts.Kind.TheVariants as kind
 use Rattle.tt_kinds.specs.declared.parts.Parts.{Parts}
 use Rattle.tt_interner.specs.Rows.{Row, size, meaning, Grows}
 use Rattle.tt_interner.proofs.Growth.{HasParts-grows, row-grows}
-use Rattle.tt_fold.specs.Walk.{is_type_tree}
-use Rattle.tt_fold.specs.Parts.{HoldsAny, IsInner, IsLeaf, ArePartsOf, HasBinder}
+use Rattle.tt_visit.specs.Types.{is_type_tree}
+use Rattle.tt_fold.specs.Parts.{HoldsAny, IsInner, IsChildless, ArePartsOf, HasBinder}
 
 -- the label means the same among more rows, and its names are theirs
 pub record KeepsLabel (old new : List Row) (l : Label ℕ) : Type 0 where
@@ -93,7 +93,7 @@ inner label any (plain l p) h = any l
 inner label any (under l vars m p) h = any l
 
 -- a kind with a child or a binder is no parameter and no variable, and any trees may come of its children
-pub is_inner : (k : Kind) → (IsLeaf (form_binder (kind_form k)) (form_parts (kind_form k)) → false ≡ true) → IsInner (kind_form k)
+pub is_inner : (k : Kind) → (IsChildless (form_binder (kind_form k)) (form_parts (kind_form k)) → false ≡ true) → IsInner (kind_form k)
 is_inner (kind.Ty k) h =
     inner type_label (λ l name. refl) (ty_form k) (λ b p q. let no : false ≡ true = h (record { binder = b; first = p; second = q }) in absurd (cc))
 is_inner (kind.Const k) h =

@@ -62,7 +62,7 @@ anonymous_text = codes "'_"
 abbrev pub first_rows : List Row
 first_rows =
     text_row anonymous_text ∷ assumptions_row [] ∷ existentials_row [] ∷ clauses_row [] ∷ pats_row [] ∷ consts_row []
-        ∷ vars_row [] ∷ args_row [] ∷ tys_row [] ∷ []
+    ∷ vars_row [] ∷ args_row [] ∷ tys_row [] ∷ []
 
 -- the rows that the defaults of the handles name
 pub record HasFirst (rows : List Row) : Type 0 where
