@@ -1,7 +1,7 @@
 -- The steps of the argument folder's hooks.
 use Rattle.std.proofs.Common.{inl, inr, ◌≡◌, ℕ, zero, suc, ◌<◌, List, [], ◌∷◌, refl, sym, ap, subst, ◌∙◌, arith, true}
 use Rattle.std.proofs.Common.{false}
-use Rattle.std.specs.Prelude.{◌≢◌, IsTrue, Option, Some, None, slice_get, option_map, Result, Ok, Err}
+use Rattle.std.specs.Prelude.{◌≢◌, IsTrue, Option, Some, None, slice_get, option_map}
 use Rattle.std.proofs.lemmas.Option.{slice_get-map, slice_get_cases}
 use Rattle.std.proofs.lemmas.List.{length-map}
 use Rattle.tt_index.specs.declared.refusal.Refusal.{Refusal}
@@ -299,10 +299,3 @@ const_step s t is = gone_into (const_other t is) (const-gone t is)
 -- what holds no parameter stays
 pub left_step : (s : Standing Instantiation) (t : Tree Depth) → IsTypeOrClause t → holds_param t ≡ false → OnTerm instantiation s t keep s
 left_step s t kind none = left_alone (left_done s.state.rule s.state.under t none (hides_none t kind none))
-
--- a refused shift is past some binders
-pub past_some : {T E : Type 0} (k : ℕ) (r : Result T E) (x : T) (e : E) → r ≡ Err e → (k ≡ 0 → r ≡ Ok x) → 0 < k
-past_some k r x e refused still = omega (arith, zero_never)
-  where
-    zero_never : k ≡ 0 → ⊥
-    zero_never z = let ok = still z in cc

@@ -7,20 +7,20 @@ use Rattle.std.proofs.lemmas.Bool.{cases_Bool, le-ltb}
 use Rattle.std.proofs.lemmas.Option.{slice_get-map, same_Some}
 use Rattle.indexmap.specs.IndexMap.{insert_entry}
 use Rattle.tt_index.specs.Greatest.{greatest}
-use Rattle.tt_kinds.specs.Bound.{depth, region_name, var_kind, region_entry, ty_entry, const_entry}
+use Rattle.tt_kinds.specs.Bound.{depth, region_name, var_kind, ty_entry, const_entry}
 use Rattle.tt_kinds.specs.Count.{TypeAt}
 use Rattle.tt_kinds.specs.Handle.{handle, BoundVarKinds, Const, Ty}
 use Rattle.tt_kinds.specs.Kinds.{form_shape, relabelled, value_form, ty_kind_shape, ty_shape, const_kind_shape}
 use Rattle.tt_kinds.specs.Kinds.{const_shape, region_shape}
-use Rattle.tt_kinds.specs.Label.{Name, Sort, region_sort, type_sort, const_sort, error_label, const_label, RegionName}
+use Rattle.tt_kinds.specs.Label.{Name, Sort, type_sort, const_sort, error_label, const_label, RegionName}
 use Rattle.tt_kinds.specs.Label.{anonymous, printed, named, environment, VarKind, region_variable, type_variable}
 use Rattle.tt_kinds.specs.Label.{const_variable, Entry}
 use Rattle.tt_kinds.specs.Matched.{IsEntryOf}
 use Rattle.tt_kinds.specs.Range.{IndicesFit, IndicesFit_all}
 use Rattle.tt_kinds.specs.Reading.{read, read_all, reach, greatest_reach, greatest_reach_all, outer_binder}
 use Rattle.tt_kinds.specs.Shape as shape
-use Rattle.tt_kinds.specs.Shape.{Meaning, vars_of, name_of, rename_region, rename_kind, rename_entry, fill, Sizes}
-use Rattle.tt_kinds.specs.Shape.{IsPart, IsNamed, IsNamedKind, AreNamedKinds}
+use Rattle.tt_kinds.specs.Shape.{Meaning, vars_of, name_of, rename_region, rename_kind, rename_entry, fill}
+use Rattle.tt_kinds.specs.Shape.{IsNamed, IsNamedKind, AreNamedKinds}
 use Rattle.tt_kinds.specs.Tree.{Depth, at, canonical, own, outer, Tree, Forest, param, bound, region, term, node}
 use Rattle.tt_kinds.specs.Tree.{binder, none, also}
 use Rattle.tt_kinds.specs.declared.bound.BoundConst.{BoundConst}
@@ -518,17 +518,6 @@ clause_other vs k (term l ts) is = tt
 clause_other vs k _ is = absurd is
 
 -- What the tests of variables say of the terms that are these variables.
-
-pub region_named : (f : Sizes) (r : RegionKind) (i : BoundVarIndexKind) (b : BoundRegion) → r ≡ ReBound i b → IsPart f (region_shape r) → IsNamedKind f (region_entry b).kind
-region_named f r i b e part = let named = rw e at part in named.1
-
-pub region_valid : (f : Meaning) (vs : List (VarKind Name)) (k : ℕ) (r : RegionKind) (i : BoundVarIndexKind) (b : BoundRegion) → r ≡ ReBound i b
-    → Agrees vs k (fill f (shape.bound region_sort (depth i) (region_entry b))) → Agrees vs k (fill f (region_shape r))
-region_valid f vs k r i b e h = rw e h
-
-pub region_wrong : (f : Meaning) (vs : List (VarKind Name)) (k : ℕ) (r : RegionKind) (i : BoundVarIndexKind) (b : BoundRegion) → r ≡ ReBound i b
-    → (Agrees vs k (fill f (shape.bound region_sort (depth i) (region_entry b))) → ⊥) → Agrees vs k (fill f (region_shape r)) → ⊥
-region_wrong f vs k r i b e wrong h = wrong (rw e at h)
 
 -- a type's tree is the tree of its kind, which is the variable
 pub ty_variable : (rows : List Row) (t : Ty) (kind : TyKind) (i : BoundVarIndexKind) (b : BoundTy) → AreRows rows → IsAt rows (type_row kind) t.number → kind ≡ ty.Bound i b

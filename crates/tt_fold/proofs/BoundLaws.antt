@@ -310,6 +310,3 @@ clauses-other (r ∷ rows) t n of h = other-more r rows t n of (λ low. clauses-
 -- the tree of a stored predicate, or of a stored list of clauses, is no bound variable
 pub clauses_other : (rows : List Row) (t : Table) (n : ℕ) → IsOfClauses t → IsPartOf rows (stored t n) → IsVariable (tree_in rows (stored t n)) → ⊥
 clauses_other rows t n of h is = unbound-other (meaning rows t n) (clauses-other rows t n of (in_range rows t n h)).unbound (subst IsVariable (stored_tree rows t n) is)
-
-pub clauses_no_type : (rows : List Row) (t : Table) (n : ℕ) → IsOfClauses t → IsPartOf rows (stored t n) → is_type_tree (tree_in rows (stored t n)) ≡ false
-clauses_no_type rows t n of h = rw (stored_tree rows t n) (clauses-other rows t n of (in_range rows t n h)).no_type

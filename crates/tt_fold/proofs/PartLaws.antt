@@ -1,5 +1,5 @@
 -- Shapes of handles, of children and of parts.
-use Rattle.std.proofs.Common.{◌≡◌, ℕ, ◌<◌, List, [], ◌∷◌, ◌++◌, Option, Some, None, refl, ap, sym, ◌∙◌, arith}
+use Rattle.std.proofs.Common.{◌≡◌, ℕ, ◌<◌, List, [], ◌∷◌, ◌++◌, refl, ap, sym, ◌∙◌, arith}
 use Rattle.tt_kinds.specs.Tree as tree
 use Rattle.tt_kinds.specs.Tree.{Depth, Forest}
 use Rattle.tt_kinds.specs.Shape.{Shape, Shapes, stored, none, also, append, fill, fill_all}
@@ -12,7 +12,7 @@ use Rattle.tt_kinds.specs.Shape.{vars_of}
 use Rattle.tt_interner.specs.Rows.{Row, size, meaning, Grows}
 use Rattle.tt_fold.specs.Steps.{IsPartOf, tree_in, HasVars, vars_in}
 use Rattle.tt_fold.specs.Stack.{joined_trees}
-use Rattle.tt_fold.specs.Parts.{ArePartsOf, trees_in, HasBinder}
+use Rattle.tt_fold.specs.Parts.{ArePartsOf, trees_in}
 use Rattle.tt_interner.proofs.Growth.{size-grows, meaning-grows}
 
 -- a handle in range, its tree
@@ -99,7 +99,3 @@ module _ {old new : List Row} (g : Grows old new) where
 
   pub vars-grow : (vars : BoundVarKinds) → HasVars old vars → vars_in new vars ≡ vars_in old vars
   vars-grow vars h = ap vars_of (meaning-grows _ _ g VarLists vars.number h)
-
-  pub binder-kept : (b : Option BoundVarKinds) → HasBinder old b → HasBinder new b
-  binder-kept None h = tt
-  binder-kept (Some vars) h = vars-kept vars h

@@ -201,9 +201,6 @@ module _ {K V : Type 0} (rows : List Row) (ts : Tables) (limit : ℕ) (are : Are
   pub count : length es ≡ size rows t
   count = sym (ap length has_rows ∙ length-map (entries_by row info es) (λ (x : TableEntry). x.row) ∙ length-map es (λ e. record { row = row e.0; info = info e.1 }))
 
-  pub in_map : (n : ℕ) → n < size rows t → n < length es
-  in_map n h = let many = count in omega arith
-
   -- an entry's number is a handle's
   pub fits : (n : ℕ) → n < length es → n < 4294967296
   fits n h = let many = count in let few = are.within t in let small = are.small in omega arith

@@ -42,10 +42,6 @@ use Rattle.type_terms.proofs.FoldLaws.{parameter-tree, inst-allowed}
 given-at : (e : List Told) (cs : List ArgCall) (i : ℕ) (c : ArgCall) → slice_get cs i ≡ Some c → slice_get (told_arguments e cs) i ≡ Some (told_argument e c)
 given-at e cs i c h = slice_get-map (told_argument e) cs i ∙ ap (option_map (told_argument e)) h
 
--- no arguments
-pub no-arguments : (e : List Told) (cs : List ArgCall) (s : Sort) (i : ℕ) (name : Name) → cs ≡ [] → Cause (param s i name) (told_arguments e cs) NoArguments
-no-arguments e cs s i name h = (rw h refl, tt)
-
 -- some arguments, but none at the parameter's index
 pub argument-past : (e : List Told) (cs : List ArgCall) (s : Sort) (i : ℕ) (name : Name) → (cs ≡ [] → ⊥) → slice_get cs i ≡ None
     → Cause (param s i name) (told_arguments e cs) (ArgOutOfRange i)

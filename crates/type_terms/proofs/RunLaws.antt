@@ -12,7 +12,7 @@ use Rattle.tt_kinds.specs.declared.declaration.DeclarationSort.{DeclarationSort}
 use Rattle.tt_kinds.specs.Declaration.{sort_of}
 use Rattle.tt_interner.specs.Rows.{Row, Grows}
 use Rattle.tt_interner.specs.Stored.{Terms, Extends}
-use Rattle.tt_interner.proofs.Growth.{Extends-refl, Extends-trans, size-grows, in_range-grows, meaning-grows}
+use Rattle.tt_interner.proofs.Growth.{Extends-trans, size-grows, in_range-grows, meaning-grows}
 use Rattle.tt_interner.proofs.DeclarationLaws.{declared_at-grows}
 use Rattle.type_terms.specs.declared.run.call.Call.{Call}
 use Rattle.type_terms.specs.declared.run.call.Call.TheVariants as call
@@ -163,9 +163,6 @@ pub record Ran (start now : Terms) (calls : List Call) (answers : List Answer) :
   pub owned : AreOwnedAnswers now.rows answers
   pub means : Means (setting start now) [] calls (told_all now.rows answers)
   pub in_turn : AnswersInTurn start now [] calls answers
-
-pub ran-nothing : (terms : Terms) → Ran terms terms [] []
-ran-nothing terms = record { extends = Extends-refl terms; owned = tt; means = tt; in_turn = refl }
 
 -- a call after those that were answered, whatever they were
 pub ran-more : (start old new : Terms) (calls : List Call) (answers : List Answer) (c : Call) (a : Answer)
