@@ -1,7 +1,7 @@
 //! Answers: whether they are an interner's, and how they are printed.
 
 ghost use Rattle.std.specs.Prelude.{IsTrue};
-ghost use Rattle.type_terms.specs.Told.{AreOwned, IsOwned};
+ghost use Rattle.type_terms.specs.Told.{AreOwnedAnswers, IsOwnedAnswer};
 
 use crate::tolerance::Tolerance;
 use test_terms::{Flagged, NOT_OWNED, info};
@@ -12,7 +12,7 @@ use type_terms::{
 
 /// Returns whether each handle and id of the answers is of this interner.
 pub fn owns_answers(cx: &Interner, answers: &[Answer]) -> bool
-    ensures { IsTrue result → AreOwned cx.now.rows answers.now }
+    ensures { IsTrue result → AreOwnedAnswers cx.now.rows answers.now }
 {
     match answers {
         [] => true,
@@ -22,7 +22,7 @@ pub fn owns_answers(cx: &Interner, answers: &[Answer]) -> bool
 
 // Returns whether the handle or the id of the answer, if there is one, is of this interner.
 fn owns_answer(cx: &Interner, answer: &Answer) -> bool
-    ensures { IsTrue result → IsOwned cx.now.rows answer.now }
+    ensures { IsTrue result → IsOwnedAnswer cx.now.rows answer.now }
 {
     match answer {
         Answer::Ty(ty) => cx.owns(*ty),

@@ -1,12 +1,12 @@
 -- The fields of data types: their places, and their instances in turn.
-use Rattle.std.proofs.Common.{◌≡◌, ℕ, zero, suc, ◌+◌, ◌<◌, ◌≤◌, List, [], ◌∷◌, ◌++◌, length, map, get_or, set, take}
+use Rattle.std.proofs.Common.{◌≡◌, ℕ, zero, suc, ◌+◌, ◌<◌, List, [], ◌∷◌, ◌++◌, length, map, get_or, set, take}
 use Rattle.std.proofs.Common.{drop, All, Option, Result, Ok, Err, refl, sym, ap, subst, inl, inr, ◌∙◌, arith}
 use Rattle.std.proofs.Common.{append_assoc}
 use Rattle.std.specs.Prelude.{◌≢◌, IfOk, IsOkAnd}
 use Rattle.std.specs.declared.alloc.Global.{Global}
 use Rattle.std.specs.declared.vec.Vec.{Vec}
 use Rattle.std.specs.Vec.{with_items}
-use Rattle.std.proofs.lemmas.List.{take-append-drop, take_more, take_more_set, take_all, drop_more, drop-set-lt}
+use Rattle.std.proofs.lemmas.List.{take-append-drop, take_more, take_more_set, drop_more, drop-set-lt}
 use Rattle.std.proofs.lemmas.List.{with_items_is, length-take-le, length-map, map-append, append-nil}
 use Rattle.std.proofs.lemmas.List.Elements.{All-nil, All-cons, All-head, All-tail, All-append}
 use Rattle.tt_index.specs.declared.refusal.Refusal.{Refusal}
@@ -132,9 +132,6 @@ pub record AreInstancesTo (args : GenericArgs) (fs : List FieldInfo) (i : ℕ) (
   pub done : AreInstances args (take i fs) (take i now) old new
   pub rest : drop i now ≡ drop i fs
 
-pub to-none : (args : GenericArgs) (fs : List FieldInfo) (terms : Terms) → AreInstancesTo args fs 0 fs terms terms
-to-none args fs terms = record { done = refl; rest = refl }
-
 -- the next field is as it was
 next-field : (fs now : List FieldInfo) (i : ℕ) (d : FieldInfo) → length now ≡ length fs → i < length fs → drop i now ≡ drop i fs → get_or now i d ≡ get_or fs i d
 next-field [] now i d same h rest = absurd (omega arith)
@@ -173,12 +170,6 @@ module _ (args : GenericArgs) (fs now : List FieldInfo) (i : ℕ) (old between :
             (instances-more args (take i fs) (take i now) f j old between new to.done is_f (subst (λ (x : FieldInfo). InstantiatesTy args x.ty between (Ok t) new) here step));
         rest = drop-set-lt (i + 1) now i j (omega arith) ∙ later-fields _ _ _ _ left;
       }
-
-  -- all of them
-  pub to-all : length fs ≤ i → AreInstances args fs now old between
-  to-all h =
-      let all : length now ≤ i = omega arith in
-      subst (λ xs. AreInstances args xs now old between) (take_all i fs h) (subst (λ xs. AreInstances args (take i fs) xs old between) (take_all i now all) to.done)
 
   -- the next one is refused
   pub to-stops : (d : FieldInfo) (e : Refusal) (new : Terms) → i < length fs → InstantiatesTy args (get_or now i d).ty between (Err e) new → StopsAtField args fs e old new
@@ -256,8 +247,3 @@ some-among base k (x ∷ vs) zero v h at some = λ e.
     some (ap (λ (w : VariantDef). w.fields.items) at ∙ none-from base x.name k 0 x.fields.items (nil-left (fields_from base x.name k 0 x.fields.items) (fields_among base (k + 1) (map variant_of vs)) e))
 some-among base k (x ∷ vs) (suc i) v h at some = λ e.
     some-among base (k + 1) vs i v (omega arith) at some (nil-right (fields_from base x.name k 0 x.fields.items) (fields_among base (k + 1) (map variant_of vs)) e)
-
--- of a list with an item at a place
-pub not-empty : {X : Type 0} (xs : List X) (i : ℕ) → i < length xs → xs ≢ []
-not-empty [] i h = absurd (omega arith)
-not-empty (x ∷ xs) i h = λ e. cc

@@ -1,7 +1,7 @@
 -- The steps of the argument folder's hooks.
 use Rattle.std.proofs.Common.{inl, inr, ◌≡◌, ℕ, zero, suc, ◌<◌, List, [], ◌∷◌, refl, sym, ap, subst, ◌∙◌, arith, true}
 use Rattle.std.proofs.Common.{false}
-use Rattle.std.specs.Prelude.{◌≢◌, IsTrue, Option, Some, None, slice_get, option_map, Result, Ok, Err}
+use Rattle.std.specs.Prelude.{◌≢◌, IsTrue, Option, Some, None, slice_get, option_map}
 use Rattle.std.proofs.lemmas.Option.{slice_get-map, slice_get_cases}
 use Rattle.std.proofs.lemmas.List.{length-map}
 use Rattle.tt_index.specs.declared.refusal.Refusal.{Refusal}
@@ -40,11 +40,12 @@ use Rattle.tt_kinds.specs.declared.const_kind.ConstKind.{ConstKind}
 use Rattle.tt_kinds.specs.declared.const_kind.ConstKind.TheVariants as const
 use Rattle.tt_interner.specs.Rows.{Row, size}
 use Rattle.tt_interner.specs.Stored.{counted, Terms}
+use Rattle.tt_visit.specs.Types.{is_type_tree}
 use Rattle.tt_fold.specs.Shift.{IsShiftRefusal}
 use Rattle.tt_fold.specs.Steps.{IsRefused}
 use Rattle.tt_fold.specs.Stands.{itself}
 use Rattle.tt_fold.specs.Counts.{Standing}
-use Rattle.tt_fold.specs.Walk.{replace, keep, descend, is_type_tree}
+use Rattle.tt_fold.specs.Walk.{replace, keep, descend}
 use Rattle.tt_fold.specs.Places.{IsIn}
 use Rattle.tt_fold.specs.Remember.{here, places, IsTaken, OnTerm, given, left_alone, taken_apart, gone_into, AfterTerm}
 use Rattle.tt_fold.specs.Remember.{not_noted}
@@ -298,10 +299,3 @@ const_step s t is = gone_into (const_other t is) (const-gone t is)
 -- what holds no parameter stays
 pub left_step : (s : Standing Instantiation) (t : Tree Depth) → IsTypeOrClause t → holds_param t ≡ false → OnTerm instantiation s t keep s
 left_step s t kind none = left_alone (left_done s.state.rule s.state.under t none (hides_none t kind none))
-
--- a refused shift is past some binders
-pub past_some : {T E : Type 0} (k : ℕ) (r : Result T E) (x : T) (e : E) → r ≡ Err e → (k ≡ 0 → r ≡ Ok x) → 0 < k
-past_some k r x e refused still = omega (arith, zero_never)
-  where
-    zero_never : k ≡ 0 → ⊥
-    zero_never z = let ok = still z in cc

@@ -8,7 +8,7 @@ use Rattle.tt_kinds.specs.Tree.{Depth, Tree, param, term, node, binder, Forest, 
 use Rattle.tt_kinds.specs.Param.{holds_param}
 use Rattle.tt_kinds.specs.Argument.{Argument}
 use Rattle.tt_kinds.specs.Plain.{given_under, inst_tree}
-use Rattle.tt_kinds.specs.Count.{TypeAt, positions, generic_types, moving_types}
+use Rattle.tt_kinds.specs.Count.{TypeAt, place_count, generic_types, moving_types}
 use Rattle.tt_fold.specs.Places.{IsIn, CountsPairs}
 use Rattle.tt_fold.proofs.PlaceLaws.{IsIn-map, length-distinct}
 use Rattle.tt_fold.proofs.ShiftExamples.{i32, reference_at, twice, paired, pairs, few-among, moving-pairs, length-pairs}
@@ -44,7 +44,7 @@ twice_and_under_put : inst_tree 0 (one (reference_at 0)) (twice_and_under parame
 twice_and_under_put = refl
 
 -- five types are taken apart, of which two are the same under as many binders
-five_positions : positions (twice_and_under parameter parameter) ≡ 5
+five_positions : place_count (twice_and_under parameter parameter) ≡ 5
 five_positions = refl
 
 -- a type, and the binders above it

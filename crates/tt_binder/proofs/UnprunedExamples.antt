@@ -9,7 +9,7 @@ use Rattle.tt_kinds.specs.Tree.{Depth, at, Tree, param, bound, region, term, nod
 use Rattle.tt_kinds.specs.Argument.{Argument}
 use Rattle.tt_fold.specs.Walk.{replaced, descended, rebuilt, in_term, at_node, at_binder, done, next, descent_failed}
 use Rattle.tt_fold.specs.Walk.{inside_failed, in_term_failed, here, later, term_failed, region_failed}
-use Rattle.tt_binder.specs.Unpruned.{outside, Gives, EndsAt, only}
+use Rattle.tt_binder.specs.Unpruned.{outside, GivesUnpruned, FailsUnpruned, only}
 
 -- each refusal is heeded
 abbrev each : Refusal → Bool
@@ -34,7 +34,7 @@ abbrev one : Tree Depth → List (Argument Depth)
 one t = record { sort = type_sort; value = t } ∷ []
 
 -- (T, for<> T) where T is a variable bound just outside: under the binder it is shifted past it
-both_places : Gives each (one (variable 0)) (pair (param type_sort 0 []) (under_binder (param type_sort 0 []))) (pair (variable 0) (under_binder (variable 1)))
+both_places : GivesUnpruned each (one (variable 0)) (pair (param type_sort 0 []) (under_binder (param type_sort 0 []))) (pair (variable 0) (under_binder (variable 1)))
 both_places = (
   outside (one (variable 0)),
   descended refl (refl, refl, λ e heeds h. h) (rebuilt (in_term (next
@@ -45,7 +45,7 @@ both_places = (
 )
 
 -- a parameter past the end of the list
-past_the_end : EndsAt each (one truth) (pair truth (param type_sort 1 [])) (ArgOutOfRange 1)
+past_the_end : FailsUnpruned each (one truth) (pair truth (param type_sort 1 [])) (ArgOutOfRange 1)
 past_the_end = (
   outside (one truth),
   descent_failed refl (refl, refl, λ e heeds h. h) (inside_failed (in_term_failed (later
@@ -55,7 +55,7 @@ past_the_end = (
 )
 
 -- of two refusals, the walk that heeds the second alone ends at it
-second_alone : EndsAt (only (ArgKind 0)) (one truth) (pair (param type_sort 1 []) (param region_sort 0 [])) (ArgKind 0)
+second_alone : FailsUnpruned (only (ArgKind 0)) (one truth) (pair (param type_sort 1 []) (param region_sort 0 [])) (ArgKind 0)
 second_alone = (
   outside (one truth),
   descent_failed refl (refl, refl, λ e heeds h. h) (inside_failed (in_term_failed (later
@@ -65,5 +65,5 @@ second_alone = (
 )
 
 -- a region variable is met also where nothing around it holds a parameter
-hidden_variable : EndsAt each (one truth) (term (type_label dynamic_type) (also (region (region_var 3)) none)) (RegionVariable 3)
+hidden_variable : FailsUnpruned each (one truth) (term (type_label dynamic_type) (also (region (region_var 3)) none)) (RegionVariable 3)
 hidden_variable = (outside (one truth), descent_failed refl (refl, refl, λ e heeds h. h) (inside_failed (in_term_failed (here (region_failed refl (refl, refl, refl))))))

@@ -25,7 +25,7 @@ use Rattle.tt_fold.proofs.ClauseLaws.{KeepsClauses, value_keeps}
 use Rattle.tt_binder.specs.Instance.{IsPlain}
 use Rattle.tt_interner.proofs.FittingLaws.{value-fits}
 use Rattle.tt_binder.specs.Unpruned.{Replacing, outside, value_of, value_for, value_or, IsValueRefusal, IsLeafRefusal}
-use Rattle.tt_binder.specs.Unpruned.{HeedsNone, Gives, EndsAt, IsPlainReason, only, IsUnseen, HoldsNoRegionVar}
+use Rattle.tt_binder.specs.Unpruned.{HeedsNone, GivesUnpruned, FailsUnpruned, IsPlainReason, only, IsUnseen, HoldsNoRegionVar}
 use Rattle.tt_binder.specs.Unpruned.{PruningIsUnseen}
 use Rattle.tt_binder.proofs.UnprunedLaws.{Meets, Meets_all, IsRooted, param_placed, fits_or, does, met_at_end, Goes}
 use Rattle.tt_binder.proofs.UnprunedLaws.{goes, ends, either}
@@ -263,29 +263,29 @@ module _ (args : List (Argument Depth)) (t : Tree Depth) (some : args ≢ []) (l
   reason_met NoSuchAnswer h = absurd h
 
   module _ (rooted : IsRooted t) (keeps : KeepsClauses t) where
-    is_refused : (heeded : Refusal → Bool) (e : Refusal) → EndsAt heeded args t e → IsTrue (heeded e) × IsPlainReason args t e
+    is_refused : (heeded : Refusal → Bool) (e : Refusal) → FailsUnpruned heeded args t e → IsTrue (heeded e) × IsPlainReason args t e
     is_refused heeded e h = let found = met_at_end heeded h.1 keeps in (found.0, met_reason e found.1)
 
-    it_ends : (heeded : Refusal → Bool) (e : Refusal) → IsTrue (heeded e) → IsPlainReason args t e → (found : Refusal) × EndsAt heeded args t found
+    it_ends : (heeded : Refusal → Bool) (e : Refusal) → IsTrue (heeded e) → IsPlainReason args t e → (found : Refusal) × FailsUnpruned heeded args t found
     it_ends heeded e heeds why = by (either heeded (outside args) t rooted keeps)
       where
-        by : Goes heeded (outside args) t → (found : Refusal) × EndsAt heeded args t found
+        by : Goes heeded (outside args) t → (found : Refusal) × FailsUnpruned heeded args t found
         by (goes w) = absurd ((does heeded w).clean e heeds (reason_met e why))
         by (ends found m d) = (found, (m, d))
 
-    it_gives : (heeded : Refusal → Bool) (r : Tree Depth) → Gives heeded args t r → IsPlain args t r × HeedsNone heeded (IsPlainReason args t)
+    it_gives : (heeded : Refusal → Bool) (r : Tree Depth) → GivesUnpruned heeded args t r → IsPlain args t r × HeedsNone heeded (IsPlainReason args t)
     it_gives heeded r h =
         let n = does heeded h.1 in
         (ap (read 0) n.plain ∙ read-inst_tree 0 args t, λ e heeds why. n.clean e heeds (reason_met e why))
 
-    is_given : (heeded : Refusal → Bool) (r : Tree Depth) → IsPlain args t r → HeedsNone heeded (IsPlainReason args t) → Gives heeded args t r
+    is_given : (heeded : Refusal → Bool) (r : Tree Depth) → IsPlain args t r → HeedsNone heeded (IsPlainReason args t) → GivesUnpruned heeded args t r
     is_given heeded r plain clean = by (either heeded (outside args) t rooted keeps)
       where
         same : inst_tree 0 args t ≡ r
         same = read-injective 0 (inst_tree 0 args t) r (read-inst_tree 0 args t ∙ sym plain)
 
-        by : Goes heeded (outside args) t → Gives heeded args t r
-        by (goes w) = subst (λ u. Gives heeded args t u) same (outside args, w)
+        by : Goes heeded (outside args) t → GivesUnpruned heeded args t r
+        by (goes w) = subst (λ u. GivesUnpruned heeded args t u) same (outside args, w)
         by (ends e m d) = let found = is_refused heeded e (m, d) in absurd (clean e found.0 found.1)
 
     only_itself : (e : Refusal) → only e e ≡ true
@@ -306,11 +306,11 @@ module _ (args : List (Argument Depth)) (t : Tree Depth) (some : args ≢ []) (l
     only_one NoSuchAnswer NoSuchAnswer h = refl
     only_one _ _ h = cc
 
-    it_meets : (e : Refusal) → IsPlainReason args t e → EndsAt (only e) args t e
+    it_meets : (e : Refusal) → IsPlainReason args t e → FailsUnpruned (only e) args t e
     it_meets e why =
         let found = it_ends (only e) e (only_itself e) why in
         let heeds = (is_refused (only e) found.0 found.1).0 in
-        subst (λ f. EndsAt (only e) args t f) (only_one e found.0 heeds) found.1
+        subst (λ f. FailsUnpruned (only e) args t f) (only_one e found.0 heeds) found.1
 
     is_unseen : IsUnseen args t
     is_unseen = record {

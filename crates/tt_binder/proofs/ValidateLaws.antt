@@ -7,20 +7,20 @@ use Rattle.std.proofs.lemmas.Bool.{cases_Bool, le-ltb}
 use Rattle.std.proofs.lemmas.Option.{slice_get-map, same_Some}
 use Rattle.indexmap.specs.IndexMap.{insert_entry}
 use Rattle.tt_index.specs.Greatest.{greatest}
-use Rattle.tt_kinds.specs.Bound.{depth, region_name, var_kind, region_entry, ty_entry, const_entry}
+use Rattle.tt_kinds.specs.Bound.{depth, region_name, var_kind, ty_entry, const_entry}
 use Rattle.tt_kinds.specs.Count.{TypeAt}
 use Rattle.tt_kinds.specs.Handle.{handle, BoundVarKinds, Const, Ty}
 use Rattle.tt_kinds.specs.Kinds.{form_shape, relabelled, value_form, ty_kind_shape, ty_shape, const_kind_shape}
 use Rattle.tt_kinds.specs.Kinds.{const_shape, region_shape}
-use Rattle.tt_kinds.specs.Label.{Name, Sort, region_sort, type_sort, const_sort, error_label, const_label, RegionName}
+use Rattle.tt_kinds.specs.Label.{Name, Sort, type_sort, const_sort, error_label, const_label, RegionName}
 use Rattle.tt_kinds.specs.Label.{anonymous, printed, named, environment, VarKind, region_variable, type_variable}
 use Rattle.tt_kinds.specs.Label.{const_variable, Entry}
 use Rattle.tt_kinds.specs.Matched.{IsEntryOf}
 use Rattle.tt_kinds.specs.Range.{IndicesFit, IndicesFit_all}
 use Rattle.tt_kinds.specs.Reading.{read, read_all, reach, greatest_reach, greatest_reach_all, outer_binder}
 use Rattle.tt_kinds.specs.Shape as shape
-use Rattle.tt_kinds.specs.Shape.{Meaning, vars_of, name_of, rename_region, rename_kind, rename_entry, fill, Sizes}
-use Rattle.tt_kinds.specs.Shape.{IsPart, IsNamed, IsNamedKind, AreNamedKinds}
+use Rattle.tt_kinds.specs.Shape.{Meaning, vars_of, name_of, rename_region, rename_kind, rename_entry, fill}
+use Rattle.tt_kinds.specs.Shape.{IsNamed, IsNamedKind, AreNamedKinds}
 use Rattle.tt_kinds.specs.Tree.{Depth, at, canonical, own, outer, Tree, Forest, param, bound, region, term, node}
 use Rattle.tt_kinds.specs.Tree.{binder, none, also}
 use Rattle.tt_kinds.specs.declared.bound.BoundConst.{BoundConst}
@@ -61,7 +61,7 @@ use Rattle.tt_fold.specs.Places.{IsIn}
 use Rattle.tt_fold.specs.Remember.{Memo, places}
 use Rattle.tt_fold.specs.declared.memory.Place.{Place}
 use Rattle.tt_binder.specs.Validate.{Agrees, Agrees_all, vars_at, Validation, here, SeenAgree, RootAgrees, AddsPlace}
-use Rattle.tt_binder.specs.Validate.{Looks, EntersOnce, validate_hooks, ValidationIsExact}
+use Rattle.tt_binder.specs.Validate.{ValidationLooks, EntersOnce, validate_hooks, ValidationIsExact}
 use Rattle.tt_binder.specs.declared.validate_bound_vars.WrongBoundVar.{WrongBoundVar}
 use Rattle.tt_binder.proofs.RowArguments.{IsClauseTree, kind_tree, const_kind_tree}
 
@@ -519,17 +519,6 @@ clause_other vs k _ is = absurd is
 
 -- What the tests of variables say of the terms that are these variables.
 
-pub region_named : (f : Sizes) (r : RegionKind) (i : BoundVarIndexKind) (b : BoundRegion) → r ≡ ReBound i b → IsPart f (region_shape r) → IsNamedKind f (region_entry b).kind
-region_named f r i b e part = let named = rw e at part in named.1
-
-pub region_valid : (f : Meaning) (vs : List (VarKind Name)) (k : ℕ) (r : RegionKind) (i : BoundVarIndexKind) (b : BoundRegion) → r ≡ ReBound i b
-    → Agrees vs k (fill f (shape.bound region_sort (depth i) (region_entry b))) → Agrees vs k (fill f (region_shape r))
-region_valid f vs k r i b e h = rw e h
-
-pub region_wrong : (f : Meaning) (vs : List (VarKind Name)) (k : ℕ) (r : RegionKind) (i : BoundVarIndexKind) (b : BoundRegion) → r ≡ ReBound i b
-    → (Agrees vs k (fill f (shape.bound region_sort (depth i) (region_entry b))) → ⊥) → Agrees vs k (fill f (region_shape r)) → ⊥
-region_wrong f vs k r i b e wrong h = wrong (rw e at h)
-
 -- a type's tree is the tree of its kind, which is the variable
 pub ty_variable : (rows : List Row) (t : Ty) (kind : TyKind) (i : BoundVarIndexKind) (b : BoundTy) → AreRows rows → IsAt rows (type_row kind) t.number → kind ≡ ty.Bound i b
     → fill (meaning rows) (ty_shape t) ≡ fill (meaning rows) (shape.bound type_sort (depth i) (ty_entry b))
@@ -553,16 +542,16 @@ pub same_root : (vs : List (VarKind Name)) (k : ℕ) (t u : Tree Depth) → t �
 same_root vs k t u e h = subst (λ x. RootAgrees vs k x) (sym e) h
 
 -- the answers at terms
-pub looks_skip : (s : Validation) (t : Tree Depth) (o : ℕ) → o ≡ outer_binder t → o ≤ s.depth → Looks s t Skip s
+pub looks_skip : (s : Validation) (t : Tree Depth) (o : ℕ) → o ≡ outer_binder t → o ≤ s.depth → ValidationLooks s t Skip s
 looks_skip s t o e low = (inl (low_agrees s.vars s.depth t (rw (← e) low)), refl)
 
 -- a term that is itself no variable that disagrees may be entered without being remembered
-pub looks_enter : (s : Validation) (t : Tree Depth) → RootAgrees s.vars s.depth t → Looks s t Descend s
+pub looks_enter : (s : Validation) (t : Tree Depth) → RootAgrees s.vars s.depth t → ValidationLooks s t Descend s
 looks_enter s t agrees = record { agrees = agrees; vars = refl; depth = refl; seen = λ q m. inr m }
 
 -- a term that is itself no variable that disagrees is skipped if it is remembered, and else entered
 pub looks_once : (vs : List (VarKind Name)) (k : ℕ) (old new : List TypeAt) (t : Tree Depth) (next : Next) → RootAgrees vs k t → EntersOnce (record { standing = t; under = k }) old next new
-    → Looks (record { vars = vs; depth = k; seen = old }) t next (record { vars = vs; depth = k; seen = new })
+    → ValidationLooks (record { vars = vs; depth = k; seen = old }) t next (record { vars = vs; depth = k; seen = new })
 looks_once vs k old new t Skip agrees once = (inr once.0, ap (λ x. record { vars = vs; depth = k; seen = x }) once.1)
 looks_once vs k old new t Descend agrees once = record { agrees = agrees; vars = refl; depth = refl; seen = once }
 

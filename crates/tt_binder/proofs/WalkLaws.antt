@@ -27,7 +27,7 @@ use Rattle.tt_fold.proofs.LeafLaws.{with_leaves-rebuild}
 use Rattle.tt_fold.proofs.ShiftLaws.{counted-one, counted-up}
 use Rattle.tt_fold.proofs.RememberLaws.{Knows}
 use Rattle.tt_fold.proofs.TaskLaws.{AllowsAll, Refuses, without, too_far, caused, IsGiven, TaskLaws}
-use Rattle.tt_binder.specs.Instantiation.{Args, Kept, Instantiation, at_first, Instantiates, IsAllowed, LeafRefuses}
+use Rattle.tt_binder.specs.Instantiation.{Args, Kept, Instantiation, at_first, Instantiates, IsInstantiable, LeafRefuses}
 use Rattle.tt_binder.specs.Instantiation.{for_cause, shift_unbuilt, shift_too_far, IsInnerConst, IsGoneInto}
 use Rattle.tt_binder.specs.Instantiation.{PutsArgument, as_it_is, shifted_now, instantiation}
 
@@ -35,7 +35,7 @@ use Rattle.tt_binder.specs.Instantiation.{PutsArgument, as_it_is, shifted_now, i
 pub made-inst : (args : Args) (k : ℕ) (t : Tree Depth) → made instantiation args k t ≡ inst_tree k args t
 made-inst args k t = with_leaves-rebuild (λ j d. d) (given_under args) k t
 
-inst_done : (args : Args) (k : ℕ) (t r : Tree Depth) → r ≡ inst_tree k args t → IsAllowed args t → Instantiates args k t r
+inst_done : (args : Args) (k : ℕ) (t r : Tree Depth) → r ≡ inst_tree k args t → IsInstantiable args t → Instantiates args k t r
 inst_done args k t r is allows = record { plain = is ∙ sym (made-inst args k t); allows = allows }
 
 -- what holds no parameter is instantiated to itself

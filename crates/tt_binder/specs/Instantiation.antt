@@ -38,7 +38,7 @@ abbrev pub at_first : Args → Instantiation
 at_first args = record { rule = args; under = 0; kept = []; memory = [] }
 
 -- each parameter has an argument, and no region variable is exposed
-pub record IsAllowed (args : Args) (t : Tree Depth) : Type 0 where
+pub record IsInstantiable (args : Args) (t : Tree Depth) : Type 0 where
   pub answered : IsAnswered args t
   pub hides : HidesRegionVars t
 
@@ -99,7 +99,7 @@ IsAnyParam _ = ⊥
 pub record IsArgument (args : Args) (k : ℕ) (t r : Tree Depth) : Type 0 where
   pub param : IsAnyParam t
   pub plain : r ≡ inst_tree k args t
-  pub allows : IsAllowed args t
+  pub allows : IsInstantiable args t
 
 -- a shift is remembered for the parameter from now on, and was not before
 pub record IsKeptNow (p : ParamAt) (kept kept' : Kept) : Type 0 where
@@ -120,7 +120,7 @@ abbrev pub instantiation : Task Args Kept
 instantiation = record {
   variable = λ args. reindexed (λ j d. d);
   parameter = given_under;
-  Allows = λ args k t. IsAllowed args t;
+  Allows = λ args k t. IsInstantiable args t;
   IsEntered = λ args k t. IsGoneInto t;
   IsTodo = λ args k t. IsGenericTerm t;
   Gives = λ s t r kept c. PutsArgument s.state.rule s.state.under t r s.state.kept s.counters kept c;

@@ -6,7 +6,7 @@ use Rattle.tt_kinds.specs.Tree.{Depth, param}
 use Rattle.tt_kinds.specs.Param.{holds_param}
 use Rattle.tt_kinds.specs.Argument.{Argument}
 use Rattle.tt_kinds.specs.Cause.{Cause}
-use Rattle.tt_kinds.specs.Count.{generic_types, positions}
+use Rattle.tt_kinds.specs.Count.{generic_types, place_count}
 use Rattle.tt_kinds.specs.Shape.{Shape, stored}
 use Rattle.tt_kinds.specs.Values.{one_clause_shape}
 use Rattle.tt_kinds.specs.declared.binder.Unnormalized.{Unnormalized}
@@ -33,7 +33,7 @@ pub record InstancePromise {T : Type 0} (shape : T → Shape) (args : List (Argu
   pub descents : old.counters.descents ≤ new.counters.descents
   pub shift_descents : old.counters.shift_descents ≤ new.counters.shift_descents
   -- at most one descent for each place of a type that holds a parameter and is not one
-  pub positions : OnOk result (new.counters.descents ≤ old.counters.descents + positions (tree_by shape old.rows value))
+  pub positions : OnOk result (new.counters.descents ≤ old.counters.descents + place_count (tree_by shape old.rows value))
   -- at most one descent for each pair of such a type and a number of binders above it
   pub pairs : OnOk result (CountsPairs (generic_types 0 (tree_by shape old.rows value)) old.counters.descents
       new.counters.descents)

@@ -101,12 +101,12 @@ abbrev pub all_built : Errors Refusal
 all_built = record { unbuilt = λ u e. ⊥; unwanted = λ e. e ≡ NotAClause }
 
 -- the walk of a tree, from outside of each binder, gives the other tree
-abbrev pub Gives : (Refusal → Bool) → List (Argument Depth) → Tree Depth → Tree Depth → Type 0
-Gives heeded args t r = (m : Replacing) × Walks (unpruned_hooks heeded) (outside args) t r m
+abbrev pub GivesUnpruned : (Refusal → Bool) → List (Argument Depth) → Tree Depth → Tree Depth → Type 0
+GivesUnpruned heeded args t r = (m : Replacing) × Walks (unpruned_hooks heeded) (outside args) t r m
 
 -- it ends at the refusal
-abbrev pub EndsAt : (Refusal → Bool) → List (Argument Depth) → Tree Depth → Refusal → Type 0
-EndsAt heeded args t e = (m : Replacing) × Fails (unpruned_hooks heeded) all_built (outside args) t e m
+abbrev pub FailsUnpruned : (Refusal → Bool) → List (Argument Depth) → Tree Depth → Refusal → Type 0
+FailsUnpruned heeded args t e = (m : Replacing) × Fails (unpruned_hooks heeded) all_built (outside args) t e m
 
 -- why plain replacement is refused, if all can be built: a cause holds, or the plain result doesn't fit
 abbrev pub IsPlainReason : List (Argument Depth) → Tree Depth → Refusal → Type 0
@@ -130,16 +130,16 @@ only _ _ = false
 -- heeds.
 pub record IsUnseen (args : List (Argument Depth)) (t : Tree Depth) : Type 0 where
   -- it gives a tree exactly if that is the plain result and no heeded reason holds
-  pub gives : (heeded : Refusal → Bool) (r : Tree Depth) → Gives heeded args t r ↔ IsPlain args t r
+  pub gives : (heeded : Refusal → Bool) (r : Tree Depth) → GivesUnpruned heeded args t r ↔ IsPlain args t r
       × HeedsNone heeded (IsPlainReason args t)
   -- a refusal at which it ends is a reason that holds, and is heeded
-  pub refused : (heeded : Refusal → Bool) (e : Refusal) → EndsAt heeded args t e → IsTrue (heeded e)
+  pub refused : (heeded : Refusal → Bool) (e : Refusal) → FailsUnpruned heeded args t e → IsTrue (heeded e)
       × IsPlainReason args t e
   -- if a reason holds that it heeds, it ends at one
   pub ends : (heeded : Refusal → Bool) (e : Refusal) → IsTrue (heeded e) → IsPlainReason args t e → (found : Refusal)
-      × EndsAt heeded args t found
+      × FailsUnpruned heeded args t found
   -- the walk that heeds one refusal alone ends at it exactly if it is a reason that holds
-  pub meets : (e : Refusal) → EndsAt (only e) args t e ↔ IsPlainReason args t e
+  pub meets : (e : Refusal) → FailsUnpruned (only e) args t e ↔ IsPlainReason args t e
 
 -- no region inference variable occurs in the tree, exposed or hidden
 abbrev pub HoldsNoRegionVar : Tree Depth → Type 0

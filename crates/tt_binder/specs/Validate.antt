@@ -66,9 +66,9 @@ pub record Descends (s : Validation) (t : Tree Depth) (s' : Validation) : Type 0
   pub seen : AddsPlace (here s t) s.seen s'.seen
 
 -- a term that agrees is skipped, and one that was entered before; one that is entered is no variable that disagrees
-abbrev pub Looks : Validation → Tree Depth → Next → Validation → Type 0
-Looks s t Skip s' = (Agrees s.vars s.depth t ⊎ IsIn (here s t) s.seen) × (s' ≡ s)
-Looks s t Descend s' = Descends s t s'
+abbrev pub ValidationLooks : Validation → Tree Depth → Next → Validation → Type 0
+ValidationLooks s t Skip s' = (Agrees s.vars s.depth t ⊎ IsIn (here s t) s.seen) × (s' ≡ s)
+ValidationLooks s t Descend s' = Descends s t s'
 
 -- a place is skipped if it is remembered, and else entered
 abbrev pub EntersOnce : TypeAt → List TypeAt → Next → List TypeAt → Type 0
@@ -76,9 +76,9 @@ EntersOnce p old Skip new = IsIn p old × (new ≡ old)
 EntersOnce p old Descend new = AddsPlace p old new
 
 -- a binder is entered with one more binder to count, and skipped if there is no index for it
-abbrev pub Enters : Validation → Next → Validation → Type 0
-Enters s Descend s' = s' ≡ record { vars = s.vars; depth = s.depth + 1; seen = s.seen }
-Enters s Skip s' = (greatest ≤ s.depth) × (s' ≡ s)
+abbrev pub ValidationEnters : Validation → Next → Validation → Type 0
+ValidationEnters s Descend s' = s' ≡ record { vars = s.vars; depth = s.depth + 1; seen = s.seen }
+ValidationEnters s Skip s' = (greatest ≤ s.depth) × (s' ≡ s)
 
 -- what disagrees breaks
 abbrev pub validate_hooks : Visits Validation WrongBoundVar
@@ -87,9 +87,9 @@ validate_hooks = record {
   region_breaks = λ s t b s'. Agrees s.vars s.depth t → ⊥;
   on_error = λ s e s'. s' ≡ s;
   error_breaks = λ s e b s'. ⊥;
-  on_term = Looks;
+  on_term = ValidationLooks;
   term_breaks = λ s t b s'. Agrees s.vars s.depth t → ⊥;
-  enter = λ s vs next s'. Enters s next s';
+  enter = λ s vs next s'. ValidationEnters s next s';
   enter_breaks = λ s vs b s'. ⊥;
   leave = λ s vs s'. s' ≡ record { vars = s.vars; depth = s.depth - 1; seen = s.seen };
 }

@@ -6,7 +6,7 @@ ghost use Rattle.tt_kinds.specs.Label.{Name, Sort};
 ghost use Rattle.tt_kinds.specs.Tree.{param};
 ghost use Rattle.tt_kinds.specs.Param.{holds_param};
 ghost use Rattle.tt_kinds.specs.Cause.{Cause};
-ghost use Rattle.tt_kinds.specs.Count.{generic_types, positions};
+ghost use Rattle.tt_kinds.specs.Count.{generic_types, place_count};
 ghost use Rattle.tt_interner.specs.Stored.{Extends};
 ghost use Rattle.tt_fold.specs.Places.{CountsPairs};
 ghost use Rattle.tt_fold.specs.Steps.{IsPartBy, tree_by};
@@ -94,7 +94,7 @@ fn instantiate_value<T: TypeFoldable, S: SliceLike>(
     ensures shift_descents { cx.old.counters.shift_descents ≤ cx.new.counters.shift_descents }
     // On success:
     ensures positions { OnOk result
-        (cx.new.counters.descents ≤ cx.old.counters.descents + positions (tree_by T.shape cx.old.rows value)) }
+        (cx.new.counters.descents ≤ cx.old.counters.descents + place_count (tree_by T.shape cx.old.rows value)) }
     ensures pairs { OnOk result (CountsPairs (generic_types 0 (tree_by T.shape cx.old.rows value))
         cx.old.counters.descents
         cx.new.counters.descents) }

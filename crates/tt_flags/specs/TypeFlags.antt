@@ -185,14 +185,20 @@ flag_table =
     (codes "HAS_CANONICAL_BOUND", has_canonical_bound) ∷
     (codes "HAS_PARAM", union_of (has_ty_param ∷ has_re_param ∷ has_ct_param ∷ [])) ∷
     (codes "HAS_INFER", union_of (has_ty_infer ∷ has_re_infer ∷ has_ct_infer ∷ [])) ∷
-    (codes "HAS_PLACEHOLDER", union_of (has_ty_placeholder ∷ has_re_placeholder ∷ has_ct_placeholder ∷ [])) ∷
-    (codes "HAS_ALIAS", union_of (has_ty_projection ∷ has_ty_free_alias ∷ has_ty_opaque ∷ has_ty_inherent
-    ∷ has_ct_projection ∷ [])) ∷
+    (codes "HAS_PLACEHOLDER", union_of (has_ty_placeholder ∷ has_re_placeholder ∷ has_ct_placeholder ∷ [])) ∷ (
+      codes "HAS_ALIAS",
+      union_of (has_ty_projection ∷ has_ty_free_alias ∷ has_ty_opaque ∷ has_ty_inherent
+          ∷ has_ct_projection ∷ []),
+    ) ∷
     (codes "HAS_ERROR", union_of (has_non_region_error ∷ has_re_error ∷ [])) ∷
     (codes "HAS_BOUND_VARS", union_of (has_re_bound ∷ has_ty_bound ∷ has_ct_bound ∷ [])) ∷
-    (codes "HAS_REGIONS", union_of (has_free_regions ∷ has_re_bound ∷ has_re_erased ∷ [])) ∷
-    (codes "HAS_FREE_LOCAL_NAMES", union_of (has_ty_param ∷ has_ct_param ∷ has_ty_infer ∷ has_ct_infer
-    ∷ has_ty_placeholder ∷ has_ct_placeholder ∷ has_ty_fresh ∷ has_ct_fresh ∷ has_free_local_regions ∷ has_re_erased
-    ∷ [])) ∷
-    (codes "STILL_FURTHER_SPECIALIZABLE", union_of (has_ty_param ∷ has_ct_param ∷ has_ty_infer ∷ has_ct_infer
-    ∷ has_ty_placeholder ∷ has_ct_placeholder ∷ [])) ∷ []
+    (codes "HAS_REGIONS", union_of (has_free_regions ∷ has_re_bound ∷ has_re_erased ∷ [])) ∷ (
+      codes "HAS_FREE_LOCAL_NAMES",
+      union_of (has_ty_param ∷ has_ct_param ∷ has_ty_infer ∷ has_ct_infer
+          ∷ has_ty_placeholder ∷ has_ct_placeholder ∷ has_ty_fresh ∷ has_ct_fresh ∷ has_free_local_regions ∷ has_re_erased
+          ∷ []),
+    ) ∷ (
+      codes "STILL_FURTHER_SPECIALIZABLE",
+      union_of (has_ty_param ∷ has_ct_param ∷ has_ty_infer ∷ has_ct_infer
+          ∷ has_ty_placeholder ∷ has_ct_placeholder ∷ []),
+    ) ∷ []

@@ -39,9 +39,9 @@ use Rattle.tt_interner.specs.Rows.{tys_row, consts_row, args_row, pats_row, vars
 use Rattle.tt_interner.specs.Rows.{text_row, declared_row, defined_row, row_table, row_shape, table, size, meaning}
 use Rattle.tt_interner.specs.Stored.{Terms, Builds, IsCause}
 use Rattle.tt_interner.proofs.RowLaws.{IsNewest, place_cases, meaning-old, meaning-new}
+use Rattle.tt_visit.specs.Types.{is_type_tree}
 use Rattle.tt_fold.proofs.PartLaws.{is_part, in_range, stored_tree}
 use Rattle.tt_fold.proofs.ShiftLaws.{index-moved, shift_done}
-use Rattle.tt_fold.specs.Walk.{is_type_tree}
 use Rattle.tt_fold.specs.Remember.{Done, IsTaken}
 use Rattle.tt_fold.specs.Steps.{IsPartOf, tree_in, IsRefused}
 use Rattle.tt_fold.specs.Shift.{Shift, moved_tree, IsTooFar, IsVariable, shifting, IsTooGreat, IsPast, IsOuter}
@@ -310,6 +310,3 @@ clauses-other (r ∷ rows) t n of h = other-more r rows t n of (λ low. clauses-
 -- the tree of a stored predicate, or of a stored list of clauses, is no bound variable
 pub clauses_other : (rows : List Row) (t : Table) (n : ℕ) → IsOfClauses t → IsPartOf rows (stored t n) → IsVariable (tree_in rows (stored t n)) → ⊥
 clauses_other rows t n of h is = unbound-other (meaning rows t n) (clauses-other rows t n of (in_range rows t n h)).unbound (subst IsVariable (stored_tree rows t n) is)
-
-pub clauses_no_type : (rows : List Row) (t : Table) (n : ℕ) → IsOfClauses t → IsPartOf rows (stored t n) → is_type_tree (tree_in rows (stored t n)) ≡ false
-clauses_no_type rows t n of h = rw (stored_tree rows t n) (clauses-other rows t n of (in_range rows t n h)).no_type

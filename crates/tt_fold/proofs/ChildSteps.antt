@@ -23,7 +23,7 @@ use Rattle.tt_fold.specs.Parts.{ArePartsOf, child_trees, children_trees, node_tr
 use Rattle.tt_fold.specs.Parts.{IsChildFor}
 use Rattle.tt_fold.specs.Stack.{whole, binder_of, TakesAny, Opens, Rests, RestFails, Finishes, FinishFails}
 use Rattle.tt_fold.specs.Items.{child_shape, child_tree, child_node, IsWhole, HasTerm, IsList}
-use Rattle.tt_fold.specs.Going.{outline_of, children_in, left_of, IsOpened, IsOpen, IsBegun}
+use Rattle.tt_fold.specs.Going.{outline_of, children_in, left_of, IsNewFrame, IsOpen, IsBegun}
 use Rattle.tt_fold.specs.declared.stack.Begun.TheVariants as begun
 use Rattle.tt_fold.specs.declared.stack.Frame.{Frame}
 use Rattle.tt_fold.proofs.PartLaws.{one_tree}
@@ -34,7 +34,7 @@ use Rattle.tt_fold.proofs.ItemSteps.{never_descends}
 use Rattle.tt_fold.proofs.StackLaws.{walks_contents, walks_whole, inside_rest_fails, fails_whole, finish_fails}
 
 -- a child that is opened is there
-pub opened_whole : {rows : Listed Row} {c : Child} {f : Frame} → IsOpened rows c f → IsWhole c
+pub opened_whole : {rows : Listed Row} {c : Child} {f : Frame} → IsNewFrame rows c f → IsWhole c
 opened_whole h = subst IsWhole h.same h.is.is
 
 -- one tree's walk
@@ -88,7 +88,7 @@ node_no_part : (rows : Listed Row) (n : Node) → IsPartOf rows (node_shape n) �
 node_no_part rows n part e = table_no_part n (sym (node_root rows n part) ∙ e)
 
 -- the children of a frame that is opened
-opened_tree : (old : Listed Row) {rows : Listed Row} {n : Node} {f : Frame} → node_tree rows n ≡ node_tree old n → IsOpened rows (child.Node n) f
+opened_tree : (old : Listed Row) {rows : Listed Row} {n : Node} {f : Frame} → node_tree rows n ≡ node_tree old n → IsNewFrame rows (child.Node n) f
     → node_tree old n ≡ whole (outline_of rows f.item) (left_of rows f)
 opened_tree old {rows} {n} {f} same h =
     let left : left_of rows f ≡ children_trees rows (children_in rows f) = ap (λ k. children_trees rows (drop k (children_in rows f))) h.start in
@@ -96,7 +96,7 @@ opened_tree old {rows} {n} {f} same h =
 
 module _ {M E S : Type 0} {owned : Listed Row → S → Type 0} {means : Listed Row → S → M} {H : Hooks (Standing M) E} where
   -- the result of what is inside a child is of its sort
-  pub rest_is : {terms1 terms2 : Terms} {s1 s2 : S} {c y : Child} {f : Frame} {another : Errors E} → IsOpened terms1.rows c f
+  pub rest_is : {terms1 terms2 : Terms} {s1 s2 : S} {c y : Child} {f : Frame} {another : Errors E} → IsNewFrame terms1.rows c f
       → Goes owned means
       (λ rows z m m'. IsChildFor f.item rows z × Rests H (outline_of terms1.rows f.item) (left_of terms1.rows f) m (child_tree rows z) m')
       (RestFails H another (outline_of terms1.rows f.item) (left_of terms1.rows f)) terms1 s1 (Ok y) terms2 s2

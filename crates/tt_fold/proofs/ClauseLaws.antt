@@ -6,7 +6,7 @@ use Rattle.tt_kinds.specs.Label.{Name, Sort, Entry, type_sort, const_sort, Label
 use Rattle.tt_kinds.specs.Label.{predicate_label, clause_list_label, clause_label, record_label}
 use Rattle.tt_kinds.specs.Tree as tree
 use Rattle.tt_kinds.specs.Tree.{Depth, Tree, Forest, none, also, rebuild, rebuild_all}
-use Rattle.tt_kinds.specs.Plain.{shifted, shift_tree, shift_forest}
+use Rattle.tt_kinds.specs.Plain.{shifted, shift_tree}
 use Rattle.tt_kinds.specs.Shape as shape
 use Rattle.tt_kinds.specs.Shape.{Shape, Shapes, Meaning, Sizes, fill, fill_all, name_of, rename_label, item_shapes}
 use Rattle.tt_kinds.specs.Shape.{IsPart, AreParts, HasParts}
@@ -137,9 +137,6 @@ module _ (index : ℕ → Depth → Depth) (parameter : ℕ → Sort → ℕ →
   pub rebuild-keeps : ((k : ℕ) (s : Sort) (i : ℕ) (name : Name) → KeepsClauses (parameter k s i name)) → (k : ℕ) (t : Tree Depth) → KeepsClauses t → KeepsClauses (rebuild index parameter k t)
   rebuild-keeps given k t h =
       subst KeepsClauses (with_leaves-rebuild index parameter k t) (leaves-keep (reindexed index) parameter (λ j s d e. tt) given k t h)
-
-pub shift-keeps_clause : (k n : ℕ) (l : Label Name) (ts : Forest Depth) → LosesClause l ts (shift_forest k n ts) → ⊥
-shift-keeps_clause k n l ts h = rebuild-keeps_clause (shifted n) (λ k s i name. tree.param s i name) k l ts h
 
 -- if each list of clauses in a tree holds clauses alone, so does each in the shifted tree
 pub shift-keeps : (n : ℕ) (t : Tree Depth) → KeepsClauses t → KeepsClauses (shift_tree 0 n t)

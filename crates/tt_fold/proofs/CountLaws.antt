@@ -5,7 +5,8 @@ use Rattle.std.proofs.lemmas.List.{append-nil}
 use Rattle.tt_index.specs.declared.refusal.Refusal.{Refusal}
 use Rattle.tt_kinds.specs.Tree.{Depth, Tree, Forest, param, bound, region, term, node, binder}
 use Rattle.tt_kinds.specs.Count.{TypeAt}
-use Rattle.tt_fold.specs.Walk.{Errors, is_type_tree, Walks, Descends, WalksInside, WalksAll, at_region, replaced, kept}
+use Rattle.tt_visit.specs.Types.{is_type_tree}
+use Rattle.tt_fold.specs.Walk.{Errors, Walks, Descends, WalksInside, WalksAll, at_region, replaced, kept}
 use Rattle.tt_fold.specs.Walk.{descended, passed, rebuilt, at_node, at_binder, in_term, in_param, in_bound, done, next}
 use Rattle.tt_fold.specs.Walk.{Fails, DescentFails, InsideFails, FailsAll, region_failed, term_failed, descent_failed}
 use Rattle.tt_fold.specs.Walk.{passed_failed, enter_failed, under_failed, leave_failed, node_failed, node_not_built}

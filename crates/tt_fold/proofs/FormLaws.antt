@@ -8,8 +8,7 @@ use Rattle.tt_kinds.specs.Tree.{Depth, Tree}
 use Rattle.tt_kinds.specs.Shape as shape
 use Rattle.tt_kinds.specs.Shape.{Meaning, Sizes, HasParts, IsTooDeep, fill, name_of, rename_label, IsNamedLabel}
 use Rattle.tt_kinds.specs.Kinds.{Form, param, bound, plain, under, form_parts, form_binder, refilled, relabelled}
-use Rattle.tt_kinds.specs.Kinds.{form_shape, kind_form, kind_shape, kind_table, ty_form, const_form, parts_shapes}
-use Rattle.tt_kinds.specs.declared.table.Table.TheVariants.{Types, Consts}
+use Rattle.tt_kinds.specs.Kinds.{form_shape, kind_form, ty_form, const_form, parts_shapes}
 use Rattle.tt_kinds.specs.declared.parts.Child.{Child}
 use Rattle.tt_kinds.specs.declared.parts.Child.TheVariants as child
 use Rattle.tt_kinds.specs.declared.parts.Kind.{Kind}
@@ -17,8 +16,8 @@ use Rattle.tt_kinds.specs.declared.parts.Kind.TheVariants as kind
 use Rattle.tt_kinds.specs.declared.parts.Parts.{Parts}
 use Rattle.tt_interner.specs.Rows.{Row, size, meaning, Grows}
 use Rattle.tt_interner.proofs.Growth.{HasParts-grows, row-grows}
-use Rattle.tt_fold.specs.Walk.{is_type_tree}
-use Rattle.tt_fold.specs.Parts.{HoldsAny, IsInner, IsLeaf, ArePartsOf, HasBinder}
+use Rattle.tt_visit.specs.Types.{is_type_tree}
+use Rattle.tt_fold.specs.Parts.{HoldsAny, IsInner, IsChildless, ArePartsOf, HasBinder}
 
 -- the label means the same among more rows, and its names are theirs
 pub record KeepsLabel (old new : List Row) (l : Label ℕ) : Type 0 where
@@ -62,13 +61,6 @@ type-type m (bound d e) = refl
 type-type m (plain l p) = refl
 type-type m (under l vars r p) = refl
 
-pub kind-type : (m : Meaning) (k : Kind) → kind_table k ≡ Types → is_type_tree (fill m (kind_shape k)) ≡ true
-kind-type m (kind.Ty k) h = type-type m (ty_form k)
-kind-type m (kind.Const k) h = absurd (cc)
-kind-type m (kind.Pat k) h = absurd (cc)
-kind-type m (kind.Predicate b) h = absurd (cc)
-kind-type m (kind.Existential b) h = absurd (cc)
-
 -- and of constants
 pub const-type : (m : Meaning) (f : Form ConstLabel) → is_type_tree (fill m (form_shape const_sort (relabelled const_label f))) ≡ false
 unfolding fill
@@ -76,13 +68,6 @@ const-type m (param i name) = refl
 const-type m (bound d e) = refl
 const-type m (plain l p) = refl
 const-type m (under l vars r p) = refl
-
-pub kind-const : (m : Meaning) (k : Kind) → kind_table k ≡ Consts → is_type_tree (fill m (kind_shape k)) ≡ false
-kind-const m (kind.Ty k) h = absurd (cc)
-kind-const m (kind.Const k) h = const-type m (const_form k)
-kind-const m (kind.Pat k) h = absurd (cc)
-kind-const m (kind.Predicate b) h = absurd (cc)
-kind-const m (kind.Existential b) h = absurd (cc)
 
 inner : {L : Type 0} (label : L → Label ℕ) → ((l : L) → HoldsAny (label l)) → (f : Form L)
     → ((form_binder (relabelled label f) ≡ None) → ((form_parts (relabelled label f)).first ≡ child.Absent) → ((form_parts (relabelled label f)).second ≡ child.Absent) → ⊥)
@@ -93,7 +78,7 @@ inner label any (plain l p) h = any l
 inner label any (under l vars m p) h = any l
 
 -- a kind with a child or a binder is no parameter and no variable, and any trees may come of its children
-pub is_inner : (k : Kind) → (IsLeaf (form_binder (kind_form k)) (form_parts (kind_form k)) → false ≡ true) → IsInner (kind_form k)
+pub is_inner : (k : Kind) → (IsChildless (form_binder (kind_form k)) (form_parts (kind_form k)) → false ≡ true) → IsInner (kind_form k)
 is_inner (kind.Ty k) h =
     inner type_label (λ l name. refl) (ty_form k) (λ b p q. let no : false ≡ true = h (record { binder = b; first = p; second = q }) in absurd (cc))
 is_inner (kind.Const k) h =
@@ -122,14 +107,6 @@ form-binder rows s (param i name) h = tt
 form-binder rows s (bound d e) h = tt
 form-binder rows s (plain l p) h = tt
 form-binder rows s (under l vars m p) h = h.1.0.0
-
--- and the kind with other parts
-pub refilled-parts : (old rows : List Row) (s : Sort) (q : Parts) (f : Form (Label ℕ)) → KeepsLabels old rows f → IsInner f → HasBinder rows (form_binder f)
-    → ArePartsOf rows (parts_shapes q) → HasParts (size rows) (form_shape s (refilled q f))
-refilled-parts old rows s q (param i name) n is b h = absurd is
-refilled-parts old rows s q (bound d e) n is b h = absurd is
-refilled-parts old rows s q (plain l p) n is b h = (n.named, h)
-refilled-parts old rows s q (under l vars m p) n is b h = (n.0.named, ((b, (refl, n.1.named, h)), tt))
 
 -- the items of a list
 pub item-fits : (P : Child → Type 0) (list : List Child) (n : ℕ) (x : Child) → slice_get list n ≡ Some x → All P list → P x

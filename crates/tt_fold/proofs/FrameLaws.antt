@@ -25,11 +25,11 @@ use Rattle.tt_interner.proofs.Growth.{IsPart-grows, AreParts-grows, HasParts-gro
 use Rattle.tt_interner.proofs.Growth.{children_at-grows, stored_kind-grows}
 use Rattle.tt_fold.specs.Steps.{IsPartOf}
 use Rattle.tt_fold.specs.Parts.{ArePartsOf, HasBinder, child_trees, children_trees, trees_in}
-use Rattle.tt_fold.specs.Stack.{joined}
+use Rattle.tt_fold.specs.Stack.{joined_trees}
 use Rattle.tt_fold.specs.Stack as outline
 use Rattle.tt_fold.specs.Items.{child_shape, child_tree, child_list, child_node, IsWhole}
 use Rattle.tt_fold.specs.Going.{form_outline, outline_by, outline_of, children_by, children_in, absent_among, IsMadeOf}
-use Rattle.tt_fold.specs.Going.{IsFrame, Fits, AreAlike, Holds, left_of, Part, frames_of, context_of, contexts}
+use Rattle.tt_fold.specs.Going.{IsFoldFrame, FitsList, AreAlike, Holds, left_of, BegunFrame, frames_of, context_of, contexts}
 use Rattle.tt_fold.specs.Going.{AreBelow, work_all, frame_work, frames_work}
 use Rattle.tt_fold.specs.declared.stack.Frame.{Frame}
 use Rattle.tt_fold.proofs.PartLaws.{one_tree, no_trees, append_trees, append_parts, right_parts, left_parts}
@@ -71,7 +71,7 @@ like-whole (child.Node n) (child.List m) e is = tt
 like-whole (child.List l) (child.List m) e is = tt
 
 -- lists of children
-pub last_trees : (rows : Listed Row) (cs : Listed Child) (c : Child) → children_trees rows (cs ++ c ∷ []) ≡ joined (children_trees rows cs) (child_trees rows c)
+pub last_trees : (rows : Listed Row) (cs : Listed Child) (c : Child) → children_trees rows (cs ++ c ∷ []) ≡ joined_trees (children_trees rows cs) (child_trees rows c)
 last_trees rows cs c =
     ap (trees_in rows) (children-append cs (c ∷ []) ∙ ap (append (children_shapes cs)) (children-one c)) ∙ append_trees rows (children_shapes cs) (child_shapes c)
 
@@ -100,7 +100,7 @@ drop_next cs n c e = drop_more cs n c (slice_get_within cs n c e) ∙ ap (λ k. 
 
 -- the trees of the children from a place on are the tree of the child there, if any, and the trees after it
 pub trees_next : (rows : Listed Row) (cs : Listed Child) (n : ℕ) (c : Child) → slice_get cs n ≡ Some c
-    → children_trees rows (drop n cs) ≡ joined (child_trees rows c) (children_trees rows (drop (n + 1) cs))
+    → children_trees rows (drop n cs) ≡ joined_trees (child_trees rows c) (children_trees rows (drop (n + 1) cs))
 trees_next rows cs n c e = ap (children_trees rows) (drop_next cs n c e) ∙ append_trees rows (child_shapes c) (children_shapes (drop (n + 1) cs))
 
 -- past the end of the children there are no more trees
@@ -212,42 +212,42 @@ children_by-parts rows n count None h =
     rw (two_shapes (form_parts (kind_form k))) (form-parts rows (kind_sort k) (kind_form k) h.named)
 
 -- the handles in the children of a frame name rows
-pub frame-parts : {rows : Listed Row} {f : Frame} → IsFrame rows f → ArePartsOf rows (children_shapes (children_in rows f))
+pub frame-parts : {rows : Listed Row} {f : Frame} → IsFoldFrame rows f → ArePartsOf rows (children_shapes (children_in rows f))
 frame-parts {f} h = children_by-parts _ (child_node f.item) f.count (child_list f.item) h.made
 
 -- a value of the sort of a frame's child
 fits_by : (rows : Listed Row) (n : Node) (count : ℕ) (l : Option List) (i : ℕ) (c y : Child)
-    → IsMadeOf rows n count l → slice_get (children_by rows n l) i ≡ Some c → child_sort y ≡ child_sort c → Fits l y
+    → IsMadeOf rows n count l → slice_get (children_by rows n l) i ≡ Some c → child_sort y ≡ child_sort c → FitsList l y
 fits_by rows n count (Some l) i c y h e s = rw s (item-fits (λ x. IsItem (list_sort l) (child_sort x)) (children_at rows l) i c e h.fit)
 fits_by rows n count None i c y h e s = tt
 
 -- a value of the sort of a frame's child may be an item of the frame's list, if the frame is a list's
-pub frame_fits : {rows : Listed Row} {f : Frame} (i : ℕ) (c y : Child) → IsFrame rows f → slice_get (children_in rows f) i ≡ Some c → child_sort y ≡ child_sort c → Fits (child_list f.item) y
+pub frame_fits : {rows : Listed Row} {f : Frame} (i : ℕ) (c y : Child) → IsFoldFrame rows f → slice_get (children_in rows f) i ≡ Some c → child_sort y ≡ child_sort c → FitsList (child_list f.item) y
 frame_fits {f} i c y h e s = fits_by _ (child_node f.item) f.count (child_list f.item) i c y h.made e s
 
 -- the count of a frame is the number of its children
-pub frame-count : {rows : Listed Row} {f : Frame} → IsFrame rows f → f.count ≡ length (children_in rows f)
+pub frame-count : {rows : Listed Row} {f : Frame} → IsFoldFrame rows f → f.count ≡ length (children_in rows f)
 frame-count {f} h = counted _ (child_node f.item) f.count (child_list f.item) h.made
 
 -- the count of a frame fits into 64 bits
-pub frame-fits : {rows : Listed Row} {f : Frame} → IsFrame rows f → f.count < 2 ^ 64
+pub frame-fits : {rows : Listed Row} {f : Frame} → IsFoldFrame rows f → f.count < 2 ^ 64
 frame-fits {f} h = counted-fits _ (child_node f.item) f.count (child_list f.item) h.made
 
 -- at most two children of a frame are absent
-pub frame-absent : {rows : Listed Row} {f : Frame} → IsFrame rows f → absent_among (children_in rows f) ≤ 2
+pub frame-absent : {rows : Listed Row} {f : Frame} → IsFoldFrame rows f → absent_among (children_in rows f) ≤ 2
 frame-absent {f} h = few_absent _ (child_node f.item) f.count (child_list f.item) h.made
 
 module _ {old new : Listed Row} (g : Grows old new) where
-  pub item_tree-grows : {f : Frame} → IsFrame old f → child_tree new f.item ≡ child_tree old f.item
+  pub item_tree-grows : {f : Frame} → IsFoldFrame old f → child_tree new f.item ≡ child_tree old f.item
   item_tree-grows {f} h = fill-grows old new g (child_shape f.item) (whole-part _ f.item h.is h.part)
 
-  pub outline-grows : {f : Frame} → IsFrame old f → outline_of new f.item ≡ outline_of old f.item
+  pub outline-grows : {f : Frame} → IsFoldFrame old f → outline_of new f.item ≡ outline_of old f.item
   outline-grows {f} h = outline_by-grows g (child_node f.item) f.count (child_list f.item) h.made
 
-  pub children-grow : {f : Frame} → IsFrame old f → children_in new f ≡ children_in old f
+  pub children-grow : {f : Frame} → IsFoldFrame old f → children_in new f ≡ children_in old f
   children-grow {f} h = children_by-grows g (child_node f.item) f.count (child_list f.item) h.made
 
-  pub frame-grows : {f : Frame} → IsFrame old f → IsFrame new f
+  pub frame-grows : {f : Frame} → IsFoldFrame old f → IsFoldFrame new f
   frame-grows {f} h = record {
     is = h.is;
     part = AreParts-grows old new g (child_shapes f.item) h.part;
@@ -258,7 +258,7 @@ module _ {old new : Listed Row} (g : Grows old new) where
   pub values-grow : (vs : Listed Child) → ArePartsOf old (children_shapes vs) → children_trees new vs ≡ children_trees old vs
   values-grow vs h = fill_all-grows old new g (children_shapes vs) h
 
-  pub left-grows : {f : Frame} → IsFrame old f → left_of new f ≡ left_of old f
+  pub left-grows : {f : Frame} → IsFoldFrame old f → left_of new f ≡ left_of old f
   left-grows {f} h =
       ap (λ cs. children_trees new (drop f.next cs)) (children-grow h)
       ∙ values-grow (drop f.next (children_in old f)) (drop_parts old f.next (children_in old f) (frame-parts h))
@@ -271,21 +271,21 @@ module _ {old new : Listed Row} (g : Grows old new) where
     wanted = rw (outline-grows h.frame, values-grow vs h.owned) h.wanted;
   }
 
-  pub below-grows : (root item : Child) (ps : Listed Part) → AreBelow old root item ps → AreBelow new root item ps
+  pub below-grows : (root item : Child) (ps : Listed BegunFrame) → AreBelow old root item ps → AreBelow new root item ps
   below-grows root item [] h = h
   below-grows root item (p ∷ ps) h = (
     record { holds = holds-grows h.0.holds; counted = h.0.counted; walked = rw (children-grow h.0.holds.frame) h.0.walked },
     below-grows root p.frame.item ps h.1,
   )
 
-  context-grows : (p : Part) → Holds old p.frame p.values → context_of new p ≡ context_of old p
+  context-grows : (p : BegunFrame) → Holds old p.frame p.values → context_of new p ≡ context_of old p
   context-grows p h = rw (item_tree-grows h.frame, outline-grows h.frame, values-grow p.values h.owned, left-grows h.frame) refl
 
-  pub contexts-grow : (root item : Child) (ps : Listed Part) → AreBelow old root item ps → contexts new ps ≡ contexts old ps
+  pub contexts-grow : (root item : Child) (ps : Listed BegunFrame) → AreBelow old root item ps → contexts new ps ≡ contexts old ps
   contexts-grow root item [] h = refl
   contexts-grow root item (p ∷ ps) h = rw (context-grows p h.0.holds, contexts-grow root p.frame.item ps h.1) refl
 
-  pub frame_work-grows : {f : Frame} → IsFrame old f → frame_work new f ≡ frame_work old f
+  pub frame_work-grows : {f : Frame} → IsFoldFrame old f → frame_work new f ≡ frame_work old f
   frame_work-grows {f} h =
       ap (λ cs. suc (absent_among (drop f.next cs) + work_all (left_of new f))) (children-grow h)
       ∙ ap (λ ts. suc (absent_among (drop f.next (children_in old f)) + work_all ts)) (left-grows h)
@@ -296,7 +296,7 @@ frames_work-append rows [] f = omega arith
 frames_work-append rows (x ∷ fs) f = omega (arith, frames_work-append rows fs f)
 
 -- when rows are added, the work left in the frames around a term or a list stays the same
-pub frames_work-grows : {old new : Listed Row} → Grows old new → (root item : Child) (ps : Listed Part) → AreBelow old root item ps → frames_work new (frames_of ps) ≡ frames_work old (frames_of ps)
+pub frames_work-grows : {old new : Listed Row} → Grows old new → (root item : Child) (ps : Listed BegunFrame) → AreBelow old root item ps → frames_work new (frames_of ps) ≡ frames_work old (frames_of ps)
 frames_work-grows g root item [] h = refl
 frames_work-grows {old} {new} g root item (p ∷ ps) h =
     let a = frames_work-append new (frames_of ps) p.frame in

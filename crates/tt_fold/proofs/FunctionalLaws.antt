@@ -10,9 +10,10 @@ use Rattle.tt_kinds.specs.Label.{Name, VarKind, Label, list_label, record_label,
 use Rattle.tt_kinds.specs.Tree.{Depth, Tree, Forest, region, term, node, binder}
 use Rattle.tt_interner.specs.Stored.{Terms, IsUnbuilt}
 use Rattle.tt_visit.specs.Root.{a_region, hooked, unhooked, node_root}
+use Rattle.tt_visit.specs.Types.{is_type_tree}
 use Rattle.tt_fold.specs.Steps.{refusals_of}
 use Rattle.tt_fold.specs.Types.{TypeHooks, only_types}
-use Rattle.tt_fold.specs.Walk.{Hooks, Answer, replace, keep, descend, is_type_tree, IsRegion, IsTerm, IsPassed, Errors}
+use Rattle.tt_fold.specs.Walk.{Hooks, Answer, replace, keep, descend, IsRegion, IsTerm, IsPassed, Errors}
 use Rattle.tt_fold.specs.Walk.{Wanted, Walks, Descends, WalksInside, WalksAll, at_region, replaced, kept, descended}
 use Rattle.tt_fold.specs.Walk.{passed, rebuilt, at_node, at_binder, in_term, in_param, in_bound, done, next, Fails}
 use Rattle.tt_fold.specs.Walk.{DescentFails, InsideFails, FailsAll, region_failed, term_failed, descent_failed}

@@ -19,15 +19,15 @@ use Rattle.tt_fold.specs.Walk.{Hooks, HasUnwanted, WalksAll, done, stopped, Chil
 use Rattle.tt_fold.specs.Counts.{Standing, stands}
 use Rattle.tt_fold.specs.Steps.{Goes, errors_of}
 use Rattle.tt_fold.specs.Parts.{ArePartsOf, child_trees, children_trees, IsChildFor}
-use Rattle.tt_fold.specs.Stack.{joined, Outline, plain, under, items, whole, wanted_by, Begins, Rebuilds, RebuildFails}
+use Rattle.tt_fold.specs.Stack.{joined_trees, Outline, plain, under, items, whole, wanted_by, Begins, Rebuilds, RebuildFails}
 use Rattle.tt_fold.specs.Stack.{Finishes, FinishFails, Rests, RestFails, in_left, in_rebuild, in_finish, not_wanted}
 use Rattle.tt_fold.specs.Items.{child_tree, IsWhole}
-use Rattle.tt_fold.specs.Going.{outline_of, children_in, absent_among, IsFrame, Holds, IsNotKept, IsResult, last_of}
-use Rattle.tt_fold.specs.Going.{left_of, Part, frames_of, values_of, work, work_all, frames_work, total_work, IsOpened}
+use Rattle.tt_fold.specs.Going.{outline_of, children_in, absent_among, IsFoldFrame, Holds, IsNotKept, IsResult, last_of}
+use Rattle.tt_fold.specs.Going.{left_of, BegunFrame, frames_of, values_of, work, work_all, frames_work, total_work, IsNewFrame}
 use Rattle.tt_fold.specs.Going.{Going}
 use Rattle.tt_fold.specs.declared.stack.Frame.{Frame}
-use Rattle.tt_fold.proofs.PartLaws.{joined-none, no_trees, no_parts, one_tree}
-use Rattle.tt_fold.proofs.WantedLaws.{none-wanted, joined-wanted, child_fails, child_unwanted, memory_unbuilt}
+use Rattle.tt_fold.proofs.PartLaws.{joined_trees-none, no_trees, no_parts, one_tree}
+use Rattle.tt_fold.proofs.WantedLaws.{none-wanted, joined_trees-wanted, child_fails, child_unwanted, memory_unbuilt}
 use Rattle.tt_fold.proofs.WalkLaws.{FailsAll-before}
 use Rattle.tt_fold.proofs.StackLaws.{proceeds_past, proceeds_into, proceeds_up, proceeds_end, proceeds_rests}
 use Rattle.tt_fold.proofs.StackLaws.{halts_past, halts_into, halts_up, halts_rests}
@@ -42,11 +42,11 @@ abbrev pub stepped : Frame → Frame
 stepped f = record { item = f.item; count = f.count; next = f.next + 1 }
 
 -- a frame with one more child begun is still the frame of its term or list
-pub stepped-frame : {rows : Listed Row} {f : Frame} → IsFrame rows f → IsFrame rows (stepped f)
+pub stepped-frame : {rows : Listed Row} {f : Frame} → IsFoldFrame rows f → IsFoldFrame rows (stepped f)
 stepped-frame h = record { is = h.is; part = h.part; tree = h.tree; made = h.made }
 
 -- the child that is next
-pub next_part : {rows : Listed Row} {f : Frame} (c : Child) → IsFrame rows f → slice_get (children_in rows f) f.next ≡ Some c → ArePartsOf rows (child_shapes c)
+pub next_part : {rows : Listed Row} {f : Frame} (c : Child) → IsFoldFrame rows f → slice_get (children_in rows f) f.next ≡ Some c → ArePartsOf rows (child_shapes c)
 next_part {rows} {f} c h is_c = get_part rows (children_in rows f) f.next c is_c (frame-parts h)
 
 -- no frame is there to be taken
@@ -59,9 +59,9 @@ no_frames zero f = refl
 no_frames (suc n) f = (let never = f (omega arith) in cc)
 
 -- the last frame is the first part's
-record Top (below : Listed Part) (fs : Listed Frame) (f : Frame) : Type 0 where
-  part : Part
-  rest : Listed Part
+record Top (below : Listed BegunFrame) (fs : Listed Frame) (f : Frame) : Type 0 where
+  part : BegunFrame
+  rest : Listed BegunFrame
   below_is : below ≡ part ∷ rest
   frame_is : part.frame ≡ f
   rest_is : frames_of rest ≡ fs
@@ -76,18 +76,18 @@ last_same (z ∷ xs) (w ∷ ys) x y e =
     let h = last_same xs ys x y tails in
     (rw (heads, h.0) refl, h.1)
 
-top_part : (below : Listed Part) (fs : Listed Frame) (f : Frame) → frames_of below ≡ fs ++ f ∷ [] → Top below fs f
+top_part : (below : Listed BegunFrame) (fs : Listed Frame) (f : Frame) → frames_of below ≡ fs ++ f ∷ [] → Top below fs f
 top_part [] fs f e = absurd (omega (arith, ap length e, length-append fs (f ∷ [])))
 top_part (p ∷ ps) fs f e =
     let h = last_same (frames_of ps) fs p.frame f e in
     record { part = p; rest = ps; below_is = refl; frame_is = h.1; rest_is = h.0 }
 
-no_below : (below : Listed Part) → length (frames_of below) ≡ 0 → below ≡ []
+no_below : (below : Listed BegunFrame) → length (frames_of below) ≡ 0 → below ≡ []
 no_below [] e = refl
 no_below (p ∷ ps) e = absurd (omega (arith, e, length-append (frames_of ps) (p.frame ∷ [])))
 
 -- the work of a child
-work_joined : (ts us : Forest Depth) → work_all (joined ts us) ≡ work_all ts + work_all us
+work_joined : (ts us : Forest Depth) → work_all (joined_trees ts us) ≡ work_all ts + work_all us
 work_joined none us = omega arith
 work_joined (also t ts) us = omega (arith, work_joined ts us)
 
@@ -136,7 +136,7 @@ pub record Risen {M E S : Type 0} (owned : Listed Row → S → Type 0) (means :
 
 module _ {M E S : Type 0} {owned : Listed Row → S → Type 0} {means : Listed Row → S → M} {H : Hooks (Standing M) E} {gives : Refusal → E → Type 0}
     {terms0 : Terms} {s0 : S} {first : Frame} where
-  pub going_starts : {fs : Listed Frame} {vs : Listed Child} → owned terms0.rows s0 → IsFrame terms0.rows first → first.next ≡ 0 → fs ≡ [] → vs ≡ []
+  pub going_starts : {fs : Listed Frame} {vs : Listed Child} → owned terms0.rows s0 → IsFoldFrame terms0.rows first → first.next ≡ 0 → fs ≡ [] → vs ≡ []
       → Going owned means H gives terms0 s0 first terms0 s0 first fs vs
   going_starts o is start no_frames no_values = rw (no_frames, no_values) (record {
     below = [];
@@ -188,7 +188,7 @@ module _ {M E S : Type 0} {owned : Listed Row → S → Type 0} {means : Listed 
           frame = stepped-frame held.frame;
           owned = last_parts terms1.rows h.results y held.owned is_y.owned;
           alike = alike_more h.results (children_in terms1.rows f) y c held.alike is_c1 is_y.like;
-          wanted = rw more (joined-wanted _ _ _ held.wanted fit);
+          wanted = rw more (joined_trees-wanted _ _ _ held.wanted fit);
         };
         counted = omega (arith, length-append h.results (y ∷ []), h.counted);
         below_are = below-grows g first.item f.item h.below h.below_are;
@@ -199,7 +199,7 @@ module _ {M E S : Type 0} {owned : Listed Row → S → Type 0} {means : Listed 
   -- a child is begun
   pub going_into : {terms terms1 : Terms} {s s1 : S} {f n : Frame} {fs fs' : Listed Frame} {vs : Listed Child} (c : Child)
       → Going owned means H gives terms0 s0 first terms s f fs vs → slice_get (children_in terms.rows f) f.next ≡ Some c
-      → Extends terms terms1 → owned terms1.rows s1 → IsOpened terms1.rows c n
+      → Extends terms terms1 → owned terms1.rows s1 → IsNewFrame terms1.rows c n
       → Begins H (child_tree terms.rows c) (outline_of terms1.rows c) (left_of terms1.rows n) (stands means terms s) (stands means terms1 s1)
       → fs' ≡ fs ++ stepped f ∷ [] → Going owned means H gives terms0 s0 first terms1 s1 n fs' vs
   going_into {terms} {terms1} {f} {n} c h is_c extends o opened b pushed =
@@ -208,7 +208,7 @@ module _ {M E S : Type 0} {owned : Listed Row → S → Type 0} {means : Listed 
       let held = holds-grows g h.holds in
       let is : IsWhole c = subst IsWhole opened.same opened.is.is in
       let part = whole-part _ c is (get_part terms.rows (children_in terms.rows f) f.next c is_c (frame-parts fr)) in
-      let left = trees_next terms.rows (children_in terms.rows f) f.next c is_c ∙ ap (λ ts. joined ts (left_of terms.rows (stepped f))) (whole-tree terms.rows c is) in
+      let left = trees_next terms.rows (children_in terms.rows f) f.next c is_c ∙ ap (λ ts. joined_trees ts (left_of terms.rows (stepped f))) (whole-tree terms.rows c is) in
       let t_same = item_tree-grows g fr in
       let o_same = outline-grows g fr in
       let r_same = values-grow g h.results h.holds.owned in
@@ -217,7 +217,7 @@ module _ {M E S : Type 0} {owned : Listed Row → S → Type 0} {means : Listed 
       let v_same : child_tree terms1.rows n.item ≡ child_tree terms.rows c = ap (child_tree terms1.rows) opened.same ∙ fill-grows terms.rows terms1.rows g _ part in
       let n_same : outline_of terms1.rows n.item ≡ outline_of terms1.rows c = ap (outline_of terms1.rows) opened.same in
       let is_c1 = rw (← children-grow g fr, ← h.counted) at is_c in
-      let p : Part = record { frame = stepped f; values = h.results } in
+      let p : BegunFrame = record { frame = stepped f; values = h.results } in
       record {
         below = p ∷ h.below;
         results = [];
@@ -308,7 +308,7 @@ module _ {M E S : Type 0} {owned : Listed Row → S → Type 0} {means : Listed 
       → RebuildFails H (errors_of gives terms1) (outline_of terms.rows f.item) (children_trees terms.rows (last_of f.count vs)) (stands means terms s) e (stands means terms1 s1)
       → Failed owned means H gives terms0 s0 first e terms1 s1
   going_rebuild_fails {terms} {f} {vs} h all extends o fails =
-      let k = rw (last_results h all, ← joined-none (children_trees terms.rows h.results)) at fails in
+      let k = rw (last_results h all, ← joined_trees-none (children_trees terms.rows h.results)) at fails in
       record { extends = Extends-trans h.extends extends; is_owned = o; outcome = h.fails _ _ _ (rw (none_left h all) (in_rebuild done k)) }
 
   -- it is the outermost
@@ -321,7 +321,7 @@ module _ {M E S : Type 0} {owned : Listed Row → S → Type 0} {means : Listed 
       (RestFails H (errors_of gives terms1) (outline_of terms0.rows first.item) (left_of terms0.rows first))
       terms0 s0 (Ok y) terms1 s1
   going_ends {terms} {terms1} {f} {vs} y h all empty extends o is_y built =
-      let k = rw (last_results h all, ← joined-none (children_trees terms.rows h.results)) at built in
+      let k = rw (last_results h all, ← joined_trees-none (children_trees terms.rows h.results)) at built in
       let bottom = no_below h.below (ap length (sym h.frames_are) ∙ empty) in
       let root : f.item ≡ first.item = rw bottom at h.below_are in
       record {
@@ -338,7 +338,7 @@ module _ {M E S : Type 0} {owned : Listed Row → S → Type 0} {means : Listed 
       → FinishFails H (errors_of gives terms2) (child_tree terms1.rows f.item) (child_tree terms1.rows z) (stands means terms1 s1) e (stands means terms2 s2)
       → Failed owned means H gives terms0 s0 first e terms2 s2
   going_finish_fails {terms} {terms1} {f} {vs} fs' f' z h all popped extends more o built fails =
-      let k = rw (last_results h all, ← joined-none (children_trees terms.rows h.results)) at built in
+      let k = rw (last_results h all, ← joined_trees-none (children_trees terms.rows h.results)) at built in
       let fails1 = rw (item_tree-grows extends.rows h.holds.frame) at fails in
       let top = top_part h.below fs' f' (sym h.frames_are ∙ popped) in
       record {
@@ -357,11 +357,11 @@ module _ {M E S : Type 0} {owned : Listed Row → S → Type 0} {means : Listed 
 
   -- the frame around the innermost, among more rows
   pub outer_frame : {terms terms2 : Terms} {s : S} {f : Frame} {fs : Listed Frame} {vs : Listed Child} (fs' : Listed Frame) (f' : Frame)
-      → Going owned means H gives terms0 s0 first terms s f fs vs → fs ≡ fs' ++ f' ∷ [] → Extends terms terms2 → IsFrame terms2.rows f'
+      → Going owned means H gives terms0 s0 first terms s f fs vs → fs ≡ fs' ++ f' ∷ [] → Extends terms terms2 → IsFoldFrame terms2.rows f'
   outer_frame {terms} {terms2} fs' f' h popped extends =
       let top = top_part h.below fs' f' (sym h.frames_are ∙ popped) in
       let are = rw top.below_is at h.below_are in
-      subst (λ x. IsFrame terms2.rows x) top.frame_is (frame-grows extends.rows are.0.holds.frame)
+      subst (λ x. IsFoldFrame terms2.rows x) top.frame_is (frame-grows extends.rows are.0.holds.frame)
 
   -- what came of the innermost may be one of its results
   pub outer_result : {terms : Terms} {rows : Listed Row} {s : S} {f : Frame} {fs : Listed Frame} {vs : Listed Child} (fs' : Listed Frame) (f' : Frame) (y : Child)
@@ -380,7 +380,7 @@ module _ {M E S : Type 0} {owned : Listed Row → S → Type 0} {means : Listed 
       let grows = Extends-trans r.extends r.more in
       let g = grows.rows in
       let fr = h.holds.frame in
-      let k = rw (last_results h r.all, ← joined-none (children_trees terms.rows h.results)) at r.built in
+      let k = rw (last_results h r.all, ← joined_trees-none (children_trees terms.rows h.results)) at r.built in
       let finished = rw (item_tree-grows r.extends.rows fr) at r.finished in
       let top = top_part h.below fs' f' (sym h.frames_are ∙ r.popped) in
       let p = top.part in
@@ -412,7 +412,7 @@ module _ {M E S : Type 0} {owned : Listed Row → S → Type 0} {means : Listed 
           frame = held.frame;
           owned = last_parts terms2.rows p.values y held.owned r.is_y.owned;
           alike = alike_more p.values (children_in terms2.rows p.frame) y f.item held.alike walked r.is_y.like;
-          wanted = rw last_is (joined-wanted _ _ _ held.wanted fit0);
+          wanted = rw last_is (joined_trees-wanted _ _ _ held.wanted fit0);
         };
         counted = omega (arith, length-append p.values (y ∷ []), are.0.counted);
         below_are = below-grows g first.item p.frame.item ps are.1;
@@ -431,7 +431,7 @@ module _ {M E S : Type 0} {owned : Listed Row → S → Type 0} {means : Listed 
   going_up_not_kept {terms} {terms1} {terms2} {f} {f'} {fs'} {y} {e} h u taken (inr k) gave =
       let grows = Extends-trans u.extends u.more in
       let fr = h.holds.frame in
-      let b = rw (last_results h u.all, ← joined-none (children_trees terms.rows h.results)) at u.built in
+      let b = rw (last_results h u.all, ← joined_trees-none (children_trees terms.rows h.results)) at u.built in
       let finished = rw (item_tree-grows u.extends.rows fr) at u.finished in
       let top = top_part h.below fs' f' (sym h.frames_are ∙ u.popped) in
       let are = rw top.below_is at h.below_are in
@@ -462,7 +462,7 @@ module _ {M E S : Type 0} {owned : Listed Row → S → Type 0} {means : Listed 
 
   pub total_into : {terms terms1 : Terms} {s s1 : S} {f n : Frame} {fs fs' : Listed Frame} {vs : Listed Child} (c : Child)
       → Going owned means H gives terms0 s0 first terms s f fs vs → slice_get (children_in terms.rows f) f.next ≡ Some c
-      → Extends terms terms1 → IsOpened terms1.rows c n
+      → Extends terms terms1 → IsNewFrame terms1.rows c n
       → Begins H (child_tree terms.rows c) (outline_of terms1.rows c) (left_of terms1.rows n) (stands means terms s) (stands means terms1 s1)
       → fs' ≡ fs ++ stepped f ∷ [] → total_work terms1.rows n fs' < total_work terms.rows f fs
   total_into {terms} {terms1} {f} {n} {fs} {fs'} c h is_c extends opened begins pushed =

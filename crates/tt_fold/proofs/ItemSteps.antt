@@ -38,14 +38,14 @@ use Rattle.tt_fold.specs.Counts.{Standing, stands}
 use Rattle.tt_fold.specs.Steps.{Goes, IsPartOf, tree_in, vars_in}
 use Rattle.tt_fold.specs.Still.{IsAlone, EndsAt}
 use Rattle.tt_fold.specs.Parts.{ArePartsOf, trees_in, child_trees, children_trees, node_tree, list_tree, binder_in}
-use Rattle.tt_fold.specs.Parts.{IsInner, IsLeaf, IsNodeFor, IsChildFor}
+use Rattle.tt_fold.specs.Parts.{IsInner, IsChildless, IsNodeFor, IsChildFor}
 use Rattle.tt_fold.specs.Stack.{whole, binder_of, TakesAny, Asks, asks, passes, at_list, Opens, opens_bare}
 use Rattle.tt_fold.specs.Stack.{opens_binder, Leaves, leaves_bare, leaves_binder, EnterFails, enter_fails, LeaveFails}
 use Rattle.tt_fold.specs.Stack.{leave_fails, rebuilds, RebuildFails, not_left, not_rebuilt, Finishes, finishes, unasked}
 use Rattle.tt_fold.specs.Stack.{FinishFails}
 use Rattle.tt_fold.specs.Items.{child_shape, child_tree, child_list, child_node, child_root, IsWhole, SameTerm}
 use Rattle.tt_fold.specs.Items.{SameList, IsHooked, IsHookOf}
-use Rattle.tt_fold.specs.Going.{form_outline, outline_of, children_in, IsTermFrame, IsFrame, Holds, IsOpened, IsAsked}
+use Rattle.tt_fold.specs.Going.{form_outline, outline_of, children_in, IsTermFrame, IsFoldFrame, Holds, IsNewFrame, IsAsked}
 use Rattle.tt_fold.specs.Going.{IsOpen, IsBegun, IsRebuilt, left_of}
 use Rattle.tt_fold.specs.declared.folder.Step.TheVariants as step
 use Rattle.tt_fold.specs.declared.stack.Begun.TheVariants as begun
@@ -160,7 +160,7 @@ pub list_opened : {rows : Listed Row} {count : ℕ} (c : Child) (l : List) → I
     → count ≡ length (children_at rows l)
     → meaning rows (list_table l) (list_number l) ≡ items_tree (list_sort l) (children_trees rows (children_at rows l))
     → ArePartsOf rows (children_shapes (children_at rows l)) → All (λ x. IsItem (list_sort l) (child_sort x)) (children_at rows l) → count < 2 ^ 64
-    → IsOpened rows c (record { item = c; count = count; next = 0 })
+    → IsNewFrame rows c (record { item = c; count = count; next = 0 })
 list_opened {rows} c l is part e counted means parts fit fits =
     let shape = list_shape_of c l (sym e) in
     let at = subst (λ x. IsPartOf rows x) shape (whole-part rows c is part) in
@@ -179,7 +179,7 @@ list_opened {rows} c l is part e counted means parts fit fits =
 term_frame : {rows : Listed Row} (c : Child) (n : Node) → IsWhole c → ArePartsOf rows (child_shapes c) → None ≡ child_list c
     → n ≡ child_node c → SameTerm c n → IsTermFrame rows n 2
     → meaning rows (node_table n) (node_number n) ≡ fill (meaning rows) (kind_shape (stored_kind rows n))
-    → IsFrame rows (record { item = c; count = 2; next = 0 })
+    → IsFoldFrame rows (record { item = c; count = 2; next = 0 })
 term_frame {rows} c n is part e node same t means =
     let k = stored_kind rows n in
     let p = form_parts (kind_form k) in
@@ -228,14 +228,14 @@ module _ {M E S : Type 0} {owned : Listed Row → S → Type 0} {means : Listed 
       rw same (record { extends = extends; is_owned = o; outcome = MatchResult-weaker r h (λ y k. leaves_binder k) (λ e k. leave_fails k) })
 
   -- the items of a list
-  pub open_list : {terms : Terms} {s : S} (c : Child) (l : List) (f : Frame) → Some l ≡ child_list c → owned terms.rows s → IsOpened terms.rows c f
+  pub open_list : {terms : Terms} {s : S} (c : Child) (l : List) (f : Frame) → Some l ≡ child_list c → owned terms.rows s → IsNewFrame terms.rows c f
       → Goes owned means (IsOpen H (child_tree terms.rows c) c) (λ m e m'. InsideFails H errors m (child_tree terms.rows c) e m') terms s (Ok (Some f)) terms s
   open_list {terms} c l f e o is = record { extends = Extends-refl terms; is_owned = o; outcome = (is, rw (← e) tt, rw (← e) opens_bare) }
 
   -- the contents of a term
   pub open_leaf : {terms : Terms} {s : S} (c : Child) (n : Node) → owned terms.rows s → SameTerm c n
       → meaning terms.rows (node_table n) (node_number n) ≡ fill (meaning terms.rows) (kind_shape (stored_kind terms.rows n))
-      → IsLeaf (form_binder (kind_form (stored_kind terms.rows n))) (form_parts (kind_form (stored_kind terms.rows n)))
+      → IsChildless (form_binder (kind_form (stored_kind terms.rows n))) (form_parts (kind_form (stored_kind terms.rows n)))
       → Goes owned means (IsOpen H (child_tree terms.rows c) c) (λ m e m'. InsideFails H errors m (child_tree terms.rows c) e m') terms s (Ok None) terms s
   open_leaf {terms} c n o same is leaf =
       let tree = ap (tree_in terms.rows) same.shape ∙ stored_tree terms.rows (node_table n) (node_number n) ∙ is in

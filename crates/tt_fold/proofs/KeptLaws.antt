@@ -10,12 +10,13 @@ use Rattle.tt_kinds.specs.Tree.{Depth, Tree, Forest, region, term, node, binder}
 use Rattle.tt_kinds.specs.declared.ty_kind.InferTy.{InferTy}
 use Rattle.tt_visit.specs.HasTypeFlags.{Misses, Meets}
 use Rattle.tt_visit.proofs.HasTypeFlagsLaws.{bits-left, bits-right}
+use Rattle.tt_visit.specs.Types.{is_type_tree}
 use Rattle.tt_fold.specs.Counts.{Standing}
 use Rattle.tt_fold.specs.Stands.{StandsIn, StandsAmong, itself, in_term as stands_in_term, in_node as stands_in_node}
 use Rattle.tt_fold.specs.Stands.{in_binder as stands_in_binder, in_first, in_later}
 use Rattle.tt_fold.specs.Types.{TypeHooks, only_types}
 use Rattle.tt_fold.specs.TypesOnce.{steady_types, steadily}
-use Rattle.tt_fold.specs.Walk.{Hooks, replace, descend, is_type_tree, Walks, WalksInside, WalksAll, at_region, replaced}
+use Rattle.tt_fold.specs.Walk.{Hooks, replace, descend, Walks, WalksInside, WalksAll, at_region, replaced}
 use Rattle.tt_fold.specs.Walk.{kept, descended, passed, rebuilt, at_node, at_binder, in_term, in_param, in_bound, done}
 use Rattle.tt_fold.specs.Walk.{next}
 

@@ -10,7 +10,7 @@ use Rattle.std.specs.List.{AllByRecursion, IsDistinct, position_or_len, refill}
 use Rattle.std.specs.Map.{lookup, keys_of}
 use Rattle.indexmap.specs.IndexMap.{insert_all, insert_entry}
 use Rattle.tt_fold.specs.Memory.{same_place}
-use Rattle.tt_fold.specs.Notes.{entries_of}
+use Rattle.tt_fold.specs.Notes.{note_entries}
 use Rattle.tt_kinds.specs.Handle.{Ty}
 use Rattle.tt_fold.specs.declared.memory.Place.{Place}
 use Rattle.tt_fold.specs.declared.memory.Note.{Note}
@@ -97,13 +97,13 @@ IsFirst-rest n notes p i d first = record {
 first_found : (notes : List Note) (p : Place) (i : ℕ) (d : Note) → position (λ n. same_place p n.place) notes ≡ Some i → IsFirst notes p i d
 first_found notes p i d h = let at = position-Some (λ n. same_place p n.place) notes i d h in record { within = at.0; here = at.1; before = at.2 }
 
-found_after : (notes : List Note) (p : Place) (i : ℕ) (d : Note) → IsFirst notes p i d → Some (slice_index_or notes i d).after ≡ lookup (same_place p) (entries_of notes)
+found_after : (notes : List Note) (p : Place) (i : ℕ) (d : Note) → IsFirst notes p i d → Some (slice_index_or notes i d).after ≡ lookup (same_place p) (note_entries notes)
 found_after [] p i d first = absurd (omega (arith, first.within))
 found_after (n ∷ notes) p zero d first = rw first.here refl
 found_after (n ∷ notes) p (suc i) d first = rw (first.before 0 (omega arith)) (found_after notes p i d (IsFirst-rest n notes p i d first))
 
 set_after : (notes : List Note) (p : Place) (i : ℕ) (d : Note) (after : Ty) → IsFirst notes p i d
-    → entries_of (slice_set notes i (record { place = (slice_index_or notes i d).place; after = after })) ≡ insert_entry same_place (entries_of notes) p after
+    → note_entries (slice_set notes i (record { place = (slice_index_or notes i d).place; after = after })) ≡ insert_entry same_place (note_entries notes) p after
 set_after [] p i d after first = absurd (omega (arith, first.within))
 set_after (n ∷ notes) p zero d after first = rw first.here refl
 set_after (n ∷ notes) p (suc i) d after first =
@@ -115,11 +115,11 @@ written_back xs ws same = take_at ws (drop (length ws) xs) (length xs) (sym same
 
 -- the note of a place that is there
 pub written_again : (notes lent : List Note) (p : Place) (i : ℕ) (d : Note) (after : Ty) → lent ≡ notes → position (λ n. same_place p n.place) notes ≡ Some i
-    → entries_of (refill (length notes) notes (slice_set lent i (record { place = (slice_index_or lent i d).place; after = after }))) ≡ insert_entry same_place (entries_of notes) p after
+    → note_entries (refill (length notes) notes (slice_set lent i (record { place = (slice_index_or lent i d).place; after = after }))) ≡ insert_entry same_place (note_entries notes) p after
 written_again notes lent p i d after is h =
     let n : Note = record { place = (slice_index_or notes i d).place; after = after } in
     let same : length notes ≡ length (slice_set notes i n) = sym (length-set notes i n) in
-    rw is (ap entries_of (written_back notes (slice_set notes i n) same) ∙ set_after notes p i d after (first_found notes p i d h))
+    rw is (ap note_entries (written_back notes (slice_set notes i n) same) ∙ set_after notes p i d after (first_found notes p i d h))
 
 -- where it isn't found
 abbrev IsAbsent : List Note → Place → Type 0
@@ -140,42 +140,42 @@ not_found notes p h =
     let beyond = none_found (length notes) (position_or_len (λ n. same_place p n.place) notes) h in
     absent_each notes p (λ k d within. fails_before_first (λ n. same_place p n.place) notes k d (omega (arith, beyond, within)))
 
-absent_after : (notes : List Note) (p : Place) → IsAbsent notes p → None ≡ lookup (same_place p) (entries_of notes)
+absent_after : (notes : List Note) (p : Place) → IsAbsent notes p → None ≡ lookup (same_place p) (note_entries notes)
 absent_after [] p absent = refl
 absent_after (n ∷ notes) p absent = rw absent.0 (absent_after notes p absent.1)
 
 noted_new : (notes : List Note) (p : Place) (after : Ty) → IsAbsent notes p
-    → entries_of (notes ++ record { place = p; after = after } ∷ []) ≡ insert_entry same_place (entries_of notes) p after
+    → note_entries (notes ++ record { place = p; after = after } ∷ []) ≡ insert_entry same_place (note_entries notes) p after
 noted_new [] p after absent = refl
 noted_new (n ∷ notes) p after absent = rw absent.0 (ap (λ es. (n.place, n.after) ∷ es) (noted_new notes p after absent.1))
 
 -- what a look-up in the notes gives
 pub found : (notes lent : List Note) (p : Place) (i : ℕ) (d : Note) → lent ≡ notes → position (λ n. same_place p n.place) notes ≡ Some i
-    → Some (slice_index_or lent i d).after ≡ lookup (same_place p) (entries_of notes)
+    → Some (slice_index_or lent i d).after ≡ lookup (same_place p) (note_entries notes)
 found notes lent p i d is h = rw is (found_after notes p i d (first_found notes p i d h))
 
 -- a place that has no note is not found among the entries
-pub missing : (notes : List Note) (p : Place) → position (λ n. same_place p n.place) notes ≡ None → None ≡ lookup (same_place p) (entries_of notes)
+pub missing : (notes : List Note) (p : Place) → position (λ n. same_place p n.place) notes ≡ None → None ≡ lookup (same_place p) (note_entries notes)
 missing notes p h = absent_after notes p (not_found notes p h)
 
 -- the places in an empty list of entries are distinct
-pub none_distinct : IsDistinct same_place (keys_of (entries_of []))
+pub none_distinct : IsDistinct same_place (keys_of (note_entries []))
 unfolding IsDistinct
 none_distinct = tt
 
 -- adding a note of a new place at the end is putting its entry into the map
 pub noted_last : (notes : List Note) (p : Place) (after : Ty) → position (λ n. same_place p n.place) notes ≡ None
-    → entries_of (notes ++ record { place = p; after = after } ∷ []) ≡ insert_entry same_place (entries_of notes) p after
+    → note_entries (notes ++ record { place = p; after = after } ∷ []) ≡ insert_entry same_place (note_entries notes) p after
 noted_last notes p after h = noted_new notes p after (not_found notes p h)
 
 -- a note beside those that were put into a map
-module _ (notes : List Note) (p : Place) (after : Ty) (m new : List (Place × Ty)) (distinct : IsDistinct same_place (keys_of (entries_of notes)))
-    (put : m ≡ insert_all same_place [] (entries_of notes)) (one_more : new ≡ insert_entry same_place m p after) where
-  pub noted_in_map : new ≡ insert_entry same_place (entries_of notes) p after
-  noted_in_map = one_more ∙ ap (λ es. insert_entry same_place es p after) (put ∙ all_put (entries_of notes) distinct)
+module _ (notes : List Note) (p : Place) (after : Ty) (m new : List (Place × Ty)) (distinct : IsDistinct same_place (keys_of (note_entries notes)))
+    (put : m ≡ insert_all same_place [] (note_entries notes)) (one_more : new ≡ insert_entry same_place m p after) where
+  pub noted_in_map : new ≡ insert_entry same_place (note_entries notes) p after
+  noted_in_map = one_more ∙ ap (λ es. insert_entry same_place es p after) (put ∙ all_put (note_entries notes) distinct)
 
   pub as_many_in_map : length notes ≤ length new
   as_many_in_map =
-      let rise : length (entries_of notes) ≤ length (insert_entry same_place (entries_of notes) p after) = length_noted (entries_of notes) p after in
-      let many : length (entries_of notes) ≡ length notes = length-map notes (λ n. (n.place, n.after)) in
+      let rise : length (note_entries notes) ≤ length (insert_entry same_place (note_entries notes) p after) = length_noted (note_entries notes) p after in
+      let many : length (note_entries notes) ≡ length notes = length-map notes (λ n. (n.place, n.after)) in
       rw noted_in_map (omega (arith, rise, many))

@@ -1,5 +1,5 @@
 -- Shapes of handles, of children and of parts.
-use Rattle.std.proofs.Common.{◌≡◌, ℕ, ◌<◌, List, [], ◌∷◌, ◌++◌, Option, Some, None, refl, ap, sym, ◌∙◌, arith}
+use Rattle.std.proofs.Common.{◌≡◌, ℕ, ◌<◌, List, [], ◌∷◌, ◌++◌, refl, ap, sym, ◌∙◌, arith}
 use Rattle.tt_kinds.specs.Tree as tree
 use Rattle.tt_kinds.specs.Tree.{Depth, Forest}
 use Rattle.tt_kinds.specs.Shape.{Shape, Shapes, stored, none, also, append, fill, fill_all}
@@ -11,8 +11,8 @@ use Rattle.tt_kinds.specs.declared.parts.Child.{Child}
 use Rattle.tt_kinds.specs.Shape.{vars_of}
 use Rattle.tt_interner.specs.Rows.{Row, size, meaning, Grows}
 use Rattle.tt_fold.specs.Steps.{IsPartOf, tree_in, HasVars, vars_in}
-use Rattle.tt_fold.specs.Stack.{joined}
-use Rattle.tt_fold.specs.Parts.{ArePartsOf, trees_in, HasBinder}
+use Rattle.tt_fold.specs.Stack.{joined_trees}
+use Rattle.tt_fold.specs.Parts.{ArePartsOf, trees_in}
 use Rattle.tt_interner.proofs.Growth.{size-grows, meaning-grows}
 
 -- a handle in range, its tree
@@ -66,12 +66,12 @@ right_parts rows none us h = h
 right_parts rows (also s ss) us h = right_parts rows ss us h.1
 
 -- trees with no trees after them are the same trees
-pub joined-none : (ts : Forest Depth) → joined ts tree.none ≡ ts
-joined-none tree.none = refl
-joined-none (tree.also t ts) = ap (tree.also t) (joined-none ts)
+pub joined_trees-none : (ts : Forest Depth) → joined_trees ts tree.none ≡ ts
+joined_trees-none tree.none = refl
+joined_trees-none (tree.also t ts) = ap (tree.also t) (joined_trees-none ts)
 
 -- the trees of two lists of shapes, one after the other, are the trees of the first and then of the second
-pub append_trees : (rows : List Row) (ss us : Shapes) → trees_in rows (append ss us) ≡ joined (trees_in rows ss) (trees_in rows us)
+pub append_trees : (rows : List Row) (ss us : Shapes) → trees_in rows (append ss us) ≡ joined_trees (trees_in rows ss) (trees_in rows us)
 unfolding fill_all
 append_trees rows none us = refl
 append_trees rows (also s ss) us = ap (tree.also (tree_in rows s)) (append_trees rows ss us)
@@ -99,7 +99,3 @@ module _ {old new : List Row} (g : Grows old new) where
 
   pub vars-grow : (vars : BoundVarKinds) → HasVars old vars → vars_in new vars ≡ vars_in old vars
   vars-grow vars h = ap vars_of (meaning-grows _ _ g VarLists vars.number h)
-
-  pub binder-kept : (b : Option BoundVarKinds) → HasBinder old b → HasBinder new b
-  binder-kept None h = tt
-  binder-kept (Some vars) h = vars-kept vars h

@@ -35,11 +35,6 @@ module _ {A : Type 0} where
     AreDistinct-last xs x d.1 (λ h. new (inr h)),
   )
 
-  -- a list's later part is distinct where the whole is
-  pub AreDistinct-later : (xs ys : List A) → AreDistinct (xs ++ ys) → AreDistinct ys
-  AreDistinct-later [] ys d = d
-  AreDistinct-later (x ∷ xs) ys d = AreDistinct-later xs ys d.1
-
   -- the list without one of its items
   without : (x : A) (ys : List A) → IsIn x ys → List A
   without x [] h = []

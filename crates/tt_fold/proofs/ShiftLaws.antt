@@ -44,6 +44,7 @@ use Rattle.tt_fold.proofs.CountLaws.{knows-nothing, pairs_walked, pairs_failed}
 use Rattle.tt_fold.specs.Shift.{Shift, moved_tree, IsTooFar, IsVariable, shifting, shift_of, ShiftsCount, IsTooGreat}
 use Rattle.tt_fold.specs.Shift.{moved_index, moved_region, IsShiftedRegion, IsShiftRefusal, ShiftsOn, ComesOf}
 use Rattle.tt_fold.specs.Shift.{KeepsMatched}
+use Rattle.tt_fold.specs.TypesOnce.{with_counters}
 
 counts-still : (c : Counters) → ShiftsCount c c
 counts-still c = record { descents = refl; up = omega arith }
@@ -233,10 +234,6 @@ region_hook rows s r (Ok q) low part h = (
 )
 region_hook rows s r (Err e) low part h =
     (refl, (h.0, λ fits. h.1 (region-shallow (meaning rows) s.state.rule s.state.under r low fits)))
-
--- the shifter's state beside counts
-abbrev pub with_counters : State ℕ ⊤ → Counters → Standing (State ℕ ⊤)
-with_counters s c = record { state = s; counters = c }
 
 -- what is not bound outside stays
 pub stays : (n : ℕ) (t : Tree Depth) → (n ≡ 0) ⊎ (outer_binder t ≡ 0) → shift_tree 0 n t ≡ t

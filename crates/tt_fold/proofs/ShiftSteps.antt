@@ -12,7 +12,7 @@ use Rattle.tt_fold.specs.Memory.{memos, OwnsMemos}
 use Rattle.tt_fold.specs.MemoryGrowth.{shift_state-still}
 use Rattle.tt_fold.specs.Shift.{count_shift, moved_tree, IsTooFar, IsTooGreat, IsVariable, shifting, shift_state}
 use Rattle.tt_fold.specs.declared.memory.Place.{Place}
-use Rattle.tt_fold.proofs.ShiftLaws.{with_counters}
+use Rattle.tt_fold.specs.TypesOnce.{with_counters}
 
 -- terms that grew and whose counts are the same
 module _ (n k : ℕ) (old new : Terms) (es : List (Place × Ty)) (more : Extends old new) (owns : OwnsMemos old.rows es) (same : new.counters ≡ old.counters) where

@@ -12,7 +12,7 @@ use Rattle.tt_fold.specs.Walk.{WalksInside, in_term, in_param, in_bound, WalksAl
 use Rattle.tt_fold.specs.Walk.{passed_failed, inside_failed, after_failed, InsideFails, in_term_failed, not_built}
 use Rattle.tt_fold.specs.Walk.{FailsAll, here, no_clause, enter_failed, under_failed, leave_failed, node_failed}
 use Rattle.tt_fold.specs.Walk.{node_not_built}
-use Rattle.tt_fold.specs.Stack.{joined, Outline, plain, under, items, whole, wanted_by, TakesAny, binder_of, Asks, asks}
+use Rattle.tt_fold.specs.Stack.{joined_trees, Outline, plain, under, items, whole, wanted_by, TakesAny, binder_of, Asks, asks}
 use Rattle.tt_fold.specs.Stack.{passes, at_list, Opens, opens_bare, opens_binder, leaves_bare, leaves_binder, Begins}
 use Rattle.tt_fold.specs.Stack.{Rebuilds, rebuilds, Finishes, finishes, unasked, Rests, EnterFails, enter_fails}
 use Rattle.tt_fold.specs.Stack.{leave_fails, RebuildFails, not_left, not_rebuilt, FinishFails, RestFails, in_children}
@@ -21,9 +21,9 @@ use Rattle.tt_fold.specs.Stack.{in_finish, not_wanted, above}
 use Rattle.tt_fold.proofs.WantedLaws.{any-wanted}
 use Rattle.tt_fold.proofs.WalkLaws.{WalksAll-append, WalksAll-one, FailsAll-append}
 
-joined-assoc : (ts us vs : Forest Depth) → joined (joined ts us) vs ≡ joined ts (joined us vs)
-joined-assoc none us vs = refl
-joined-assoc (also t ts) us vs = ap (also t) (joined-assoc ts us vs)
+joined_trees-assoc : (ts us vs : Forest Depth) → joined_trees (joined_trees ts us) vs ≡ joined_trees ts (joined_trees us vs)
+joined_trees-assoc none us vs = refl
+joined_trees-assoc (also t ts) us vs = ap (also t) (joined_trees-assoc ts us vs)
 
 -- no stored term is a list
 no_part : (l : Label Name) → term_root l ≡ a_part → ⊥
@@ -95,9 +95,9 @@ module _ {M E : Type 0} {H : Hooks M E} where
 
   -- some children came to others
   pub proceeds_past : {t r : Tree Depth} {o : Outline} {vs us ds ts : Forest Depth} {cs : List Context} {s s1 s' : M}
-      → WalksAll H s vs us s1 → Proceeds H t o (joined ds us) ts cs s1 r s' → Proceeds H t o ds (joined vs ts) cs s r s'
-  proceeds_past {us} {ds} w (last {us = xs} ws c) = last (WalksAll-append w ws) (rw (joined-assoc ds us xs) at c)
-  proceeds_past {us} {ds} w (more {us = xs} ws c f p) = more (WalksAll-append w ws) (rw (joined-assoc ds us xs) at c) f p
+      → WalksAll H s vs us s1 → Proceeds H t o (joined_trees ds us) ts cs s1 r s' → Proceeds H t o ds (joined_trees vs ts) cs s r s'
+  proceeds_past {us} {ds} w (last {us = xs} ws c) = last (WalksAll-append w ws) (rw (joined_trees-assoc ds us xs) at c)
+  proceeds_past {us} {ds} w (more {us = xs} ws c f p) = more (WalksAll-append w ws) (rw (joined_trees-assoc ds us xs) at c) f p
 
   -- a child is begun
   pub proceeds_into : {t v r : Tree Depth} {o n : Outline} {ds ts vs : Forest Depth} {cs : List Context} {s s1 s' : M}
@@ -107,12 +107,12 @@ module _ {M E : Type 0} {H : Hooks M E} where
 
   -- a term or a list is done
   pub proceeds_up : {t u v r : Tree Depth} {o : Outline} {ds : Forest Depth} {c : Context} {cs : List Context} {s s1 s2 s' : M}
-      → Rebuilds H o (joined ds none) s u s1 → Finishes H t u s1 v s2
+      → Rebuilds H o (joined_trees ds none) s u s1 → Finishes H t u s1 v s2
       → Proceeds H c.before c.outline (with_result c v) c.left cs s2 r s' → Proceeds H t o ds none (c ∷ cs) s r s'
   proceeds_up b f p = more done b f p
 
   pub proceeds_end : {t u : Tree Depth} {o : Outline} {ds : Forest Depth} {s s' : M}
-      → Rebuilds H o (joined ds none) s u s' → Proceeds H t o ds none [] s u s'
+      → Rebuilds H o (joined_trees ds none) s u s' → Proceeds H t o ds none [] s u s'
   proceeds_end b = last done b
 
   -- what comes of the outermost tree
@@ -209,12 +209,12 @@ module _ {M E : Type 0} {H : Hooks M E} {errors : Errors E} where
 
   -- some children came to others
   pub halts_past : {t : Tree Depth} {e : E} {o : Outline} {vs us ds ts : Forest Depth} {cs : List Context} {s s1 s' : M}
-      → WalksAll H s vs us s1 → (HasUnwanted (wanted_by o) us → ⊥) → Halts H errors t o (joined ds us) ts cs s1 e s' → Halts H errors t o ds (joined vs ts) cs s e s'
+      → WalksAll H s vs us s1 → (HasUnwanted (wanted_by o) us → ⊥) → Halts H errors t o (joined_trees ds us) ts cs s1 e s' → Halts H errors t o ds (joined_trees vs ts) cs s e s'
   halts_past w fit (in_left f) = in_left (FailsAll-append w fit f)
-  halts_past {us} {ds} w fit (in_rebuild {us = xs} ws f) = in_rebuild (WalksAll-append w ws) (rw (joined-assoc ds us xs) at f)
-  halts_past {us} {ds} w fit (in_finish {us = xs} ws b f) = in_finish (WalksAll-append w ws) (rw (joined-assoc ds us xs) at b) f
-  halts_past {us} {ds} w fit (not_wanted {us = xs} ws b f bad u) = not_wanted (WalksAll-append w ws) (rw (joined-assoc ds us xs) at b) f bad u
-  halts_past {us} {ds} w fit (above {us = xs} ws b f good p) = above (WalksAll-append w ws) (rw (joined-assoc ds us xs) at b) f good p
+  halts_past {us} {ds} w fit (in_rebuild {us = xs} ws f) = in_rebuild (WalksAll-append w ws) (rw (joined_trees-assoc ds us xs) at f)
+  halts_past {us} {ds} w fit (in_finish {us = xs} ws b f) = in_finish (WalksAll-append w ws) (rw (joined_trees-assoc ds us xs) at b) f
+  halts_past {us} {ds} w fit (not_wanted {us = xs} ws b f bad u) = not_wanted (WalksAll-append w ws) (rw (joined_trees-assoc ds us xs) at b) f bad u
+  halts_past {us} {ds} w fit (above {us = xs} ws b f good p) = above (WalksAll-append w ws) (rw (joined_trees-assoc ds us xs) at b) f good p
 
   -- a child is begun
   pub halts_into : {t v : Tree Depth} {e : E} {o n : Outline} {ds ts vs : Forest Depth} {cs : List Context} {s s1 s' : M}
@@ -228,7 +228,7 @@ module _ {M E : Type 0} {H : Hooks M E} {errors : Errors E} where
 
   -- a term or a list is done
   pub halts_up : {t u v : Tree Depth} {e : E} {o : Outline} {ds : Forest Depth} {c : Context} {cs : List Context} {s s1 s2 s' : M}
-      → Rebuilds H o (joined ds none) s u s1 → Finishes H t u s1 v s2 → (HasUnwanted (wanted_by c.outline) (also v none) → ⊥)
+      → Rebuilds H o (joined_trees ds none) s u s1 → Finishes H t u s1 v s2 → (HasUnwanted (wanted_by c.outline) (also v none) → ⊥)
       → Halts H errors c.before c.outline (with_result c v) c.left cs s2 e s' → Halts H errors t o ds none (c ∷ cs) s e s'
   halts_up b f good p = above done b f good p
 

@@ -15,7 +15,8 @@ use Rattle.tt_interner.specs.Rows.{Row, type_row, const_row, pat_row, predicate_
 use Rattle.tt_interner.specs.Rows.{tys_row, consts_row, args_row, pats_row, vars_row, existentials_row, assumptions_row}
 use Rattle.tt_interner.specs.Rows.{text_row, declared_row, defined_row, row_table, row_shape, size, meaning, table}
 use Rattle.tt_interner.proofs.RowLaws.{IsNewest, place_cases, meaning-old, meaning-new}
-use Rattle.tt_fold.specs.Walk.{is_type_tree, descend}
+use Rattle.tt_visit.specs.Types.{is_type_tree}
+use Rattle.tt_fold.specs.Walk.{descend}
 use Rattle.tt_fold.specs.Parts.{node_tree}
 use Rattle.tt_fold.specs.Steps.{IsPartOf, OwnsStep, answer_of, tree_in}
 use Rattle.tt_fold.specs.Types.{TypeHooks}

@@ -5,7 +5,8 @@ use Rattle.std.specs.Prelude.{⊤}
 use Rattle.tt_kinds.specs.Tree.{Depth, Tree, Forest, param, bound, region, term, node, binder}
 use Rattle.tt_interner.specs.Rows.{Row}
 use Rattle.tt_interner.specs.Stored.{Counters}
-use Rattle.tt_fold.specs.Walk.{Errors, Wanted, is_type_tree, Answer, replace, keep, descend, Walks, Descends}
+use Rattle.tt_visit.specs.Types.{is_type_tree}
+use Rattle.tt_fold.specs.Walk.{Errors, Wanted, Answer, replace, keep, descend, Walks, Descends}
 use Rattle.tt_fold.specs.Walk.{WalksInside, WalksAll, at_region, replaced, kept, descended, passed, rebuilt, at_node}
 use Rattle.tt_fold.specs.Walk.{at_binder, in_term, in_param, in_bound, done, next, Fails, DescentFails, InsideFails}
 use Rattle.tt_fold.specs.Walk.{FailsAll, region_failed, term_failed, descent_failed, passed_failed, enter_failed}
@@ -18,7 +19,7 @@ use Rattle.tt_fold.specs.Remember.{State, places}
 use Rattle.tt_fold.specs.Stands.{StandsIn, StandsAmong, itself, in_term as stands_in_term, in_node as stands_in_node}
 use Rattle.tt_fold.specs.Stands.{in_binder as stands_in_binder, in_first, in_later}
 use Rattle.tt_fold.specs.Types.{TypeHooks}
-use Rattle.tt_fold.specs.TypesOnce.{counted, IsMeaning, IsTypeOf, noted_at, Calls, no_more, takes_apart, goes_on}
+use Rattle.tt_fold.specs.TypesOnce.{with_counters, IsMeaning, IsTypeOf, noted_at, Calls, no_more, takes_apart, goes_on}
 use Rattle.tt_fold.specs.TypesOnce.{CallsOnce, FailsAt, FailsOnce, OnType, recalled, answered, Noted, recalling}
 use Rattle.tt_fold.proofs.PlaceLaws.{IsIn-append, size, size_all}
 use Rattle.tt_fold.proofs.TypesOnceLaws.{Stays}
@@ -97,7 +98,7 @@ module _ {M E S : Type 0} (means : List Row → S → M) (H : TypeHooks (Standin
     pub is_type : is_type_tree type ≡ true
     pub place : P type
     pub end : Standing M
-    pub fails : H.type_fails unbuilt (counted m c) type e end
+    pub fails : H.type_fails unbuilt (with_counters m c) type e end
     pub counters : c' ≡ end.counters
 
   -- the same up to an error
@@ -147,13 +148,13 @@ module _ {M E S : Type 0} (means : List Row → S → M) (H : TypeHooks (Standin
     rule : s1.state.rule ≡ m
     memory : s1.state.memory ≡ s.state.memory
     new : IsKnown s t → ⊥
-    call : H.on_type (counted m s.counters) t descend (counted m s1.counters)
+    call : H.on_type (with_counters m s.counters) t descend (with_counters m s1.counters)
 
   own-call : (s : Standing (State M ⊤)) (t : Tree Depth) (a : Answer) (q : Standing M) → s.state.rule ≡ m → IsMeaning means q.state
-      → H.on_type (counted s.state.rule s.counters) t a q → (q.state ≡ m) × H.on_type (counted m s.counters) t a (counted m q.counters)
+      → H.on_type (with_counters s.state.rule s.counters) t a q → (q.state ≡ m) × H.on_type (with_counters m s.counters) t a (with_counters m q.counters)
   own-call s t a q rule meaning h =
-      let at_m : H.on_type (counted m s.counters) t a q = rw rule at h in
-      let same : q.state ≡ m = steady (counted m s.counters) q t a is_meaning meaning at_m in
+      let at_m : H.on_type (with_counters m s.counters) t a q = rw rule at h in
+      let same : q.state ≡ m = steady (with_counters m s.counters) q t a is_meaning meaning at_m in
       (same, rw same at at_m)
 
   begins : {s s1 : Standing (State M ⊤)} {t : Tree Depth} {a : Answer} → OnType means H s t a s1 → a ≡ descend → s.state.rule ≡ m → Begins s t s1
@@ -303,7 +304,7 @@ module _ {M E S : Type 0} (means : List Row → S → M) (H : TypeHooks (Standin
       pub takes_some : {s s' : Standing (State M ⊤)} {t : Tree Depth} {e : E} → Fails (recalling means H) errors s t e s' → s.state.rule ≡ m → Some (λ u. StandsIn u t) s e s'.counters
       takes_some (region_failed is h) rule = absurd h
       takes_some {s} {s'} (term_failed {t} {e} is h) rule =
-          let own : H.type_fails errors.unbuilt (counted m s.counters) t e h.1.0 = rw rule at h.1.1 in
+          let own : H.type_fails errors.unbuilt (with_counters m s.counters) t e h.1.0 = rw rule at h.1.1 in
           record {
             before = s.counters;
             types = [];

@@ -5,7 +5,8 @@ use Rattle.std.specs.Prelude.{⊤}
 use Rattle.tt_kinds.specs.Tree.{Depth, Tree, Forest}
 use Rattle.tt_kinds.specs.Shape.{Shape, fill}
 use Rattle.tt_interner.specs.Rows.{Row, meaning}
-use Rattle.tt_fold.specs.Walk.{Errors, Wanted, IsTerm, is_type_tree, Answer, replace, keep, descend, Walks, Descends}
+use Rattle.tt_visit.specs.Types.{is_type_tree}
+use Rattle.tt_fold.specs.Walk.{Errors, Wanted, IsTerm, Answer, replace, keep, descend, Walks, Descends}
 use Rattle.tt_fold.specs.Walk.{WalksInside, WalksAll, at_region, replaced, kept, descended, passed, rebuilt, at_node}
 use Rattle.tt_fold.specs.Walk.{at_binder, in_term, in_param, in_bound, done, next, Fails, DescentFails, InsideFails}
 use Rattle.tt_fold.specs.Walk.{FailsAll, region_failed, term_failed, descent_failed, passed_failed, enter_failed}
@@ -17,7 +18,7 @@ use Rattle.tt_fold.specs.Steps.{tree_by}
 use Rattle.tt_fold.specs.Places.{IsIn}
 use Rattle.tt_fold.specs.Remember.{Memo, State}
 use Rattle.tt_fold.specs.Types.{TypeHooks}
-use Rattle.tt_fold.specs.TypesOnce.{counted, IsSteady, IsMeaning, noted_with, steadily, OnType, recalled, answered}
+use Rattle.tt_fold.specs.TypesOnce.{with_counters, IsSteady, IsMeaning, noted_with, steadily, OnType, recalled, answered}
 use Rattle.tt_fold.specs.TypesOnce.{Noted, recalling}
 
 -- the state of a folder means the same after each answer
@@ -48,9 +49,9 @@ module _ {M E S : Type 0} (means : List Row → S → M) (H : TypeHooks (Standin
   at_type : {s s' : Standing (State M ⊤)} {t : Tree Depth} {a : Answer} → OnType means H s t a s' → is_type_tree t ≡ true → Recalls s → Answers t a s'
   at_type {s} (recalled {t} {r} h) is_ty known = record { stays = known; gives = inr (r, refl, known.knows (noted_with t r) h) }
   at_type {s} (answered {t} {a} {q} new meaning h) is_ty known =
-      let at_m : H.on_type (counted m s.counters) t a q = rw known.rule at h in
-      let same : q.state ≡ m = steady (counted m s.counters) q t a is_meaning meaning at_m in
-      let own : H.on_type (counted m s.counters) t a (counted m q.counters) = rw same at at_m in
+      let at_m : H.on_type (with_counters m s.counters) t a q = rw known.rule at h in
+      let same : q.state ≡ m = steady (with_counters m s.counters) q t a is_meaning meaning at_m in
+      let own : H.on_type (with_counters m s.counters) t a (with_counters m q.counters) = rw same at at_m in
       record {
         stays = record { rule = same; knows = known.knows };
         gives = inl (λ _. (s.counters, q.counters, own), λ other. absurd (true≢false (sym is_ty ∙ other)));
@@ -136,7 +137,7 @@ module _ {M E S : Type 0} (means : List Row → S → M) (H : TypeHooks (Standin
       pub fails : {s s' : Standing (State M ⊤)} {t : Tree Depth} {e : E} → Fails (recalling means H) errors s t e s' → Recalls s → Fails (steadily H m) errors tt t e tt
       fails (region_failed is h) known = absurd h
       fails {s} (term_failed {t} {e} is h) known =
-          let own : H.type_fails errors.unbuilt (counted m s.counters) t e h.1.0 = rw known.rule at h.1.1 in
+          let own : H.type_fails errors.unbuilt (with_counters m s.counters) t e h.1.0 = rw known.rule at h.1.1 in
           term_failed is (h.0, (s.counters, h.1.0, own))
       fails {s} {s'} (descent_failed is h d) known =
           let n = at_term h known in

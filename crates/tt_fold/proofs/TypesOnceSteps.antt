@@ -13,7 +13,8 @@ use Rattle.tt_kinds.specs.declared.parts.Node.TheVariants as node
 use Rattle.indexmap.specs.IndexMap.{insert_entry}
 use Rattle.tt_interner.specs.Rows.{Row}
 use Rattle.tt_interner.specs.Stored.{Counters, Terms, Extends}
-use Rattle.tt_fold.specs.Walk.{Errors, Fails, Walks, is_type_tree}
+use Rattle.tt_visit.specs.Types.{is_type_tree}
+use Rattle.tt_fold.specs.Walk.{Errors, Fails, Walks}
 use Rattle.tt_fold.specs.Counts.{Standing, stands}
 use Rattle.tt_fold.specs.Steps.{IsErrorOfUnbuilt, OwnsStep, answer_of, tree_in}
 use Rattle.tt_fold.specs.Memory.{memo_at, memos, place_of, same_place, type_at, OwnsMemos}

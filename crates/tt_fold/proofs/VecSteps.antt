@@ -14,7 +14,7 @@ use Rattle.tt_fold.specs.Walk.{Errors, Hooks, Walks, WalksAll, Fails, at_node, d
 use Rattle.tt_fold.specs.Counts.{Standing}
 use Rattle.tt_fold.specs.Steps.{Folds, IsPartOf, tree_in, IsPartBy, tree_by}
 use Rattle.tt_fold.specs.Parts.{ArePartsOf, trees_in, FoldsValues}
-use Rattle.tt_fold.specs.Stack.{joined}
+use Rattle.tt_fold.specs.Stack.{joined_trees}
 use Rattle.tt_fold.proofs.PartLaws.{one_part, right_parts, append_parts, append_trees, no_parts, no_trees, one_tree}
 use Rattle.tt_fold.proofs.WalkLaws.{WalksAll-append, FailsAll-append, WalksAll-one}
 
@@ -28,7 +28,7 @@ module _ {T : Type 0} (of : T → Shape) where
   shapes-append [] ys = refl
   shapes-append (x ∷ xs) ys = ap (shape.also (of x)) (shapes-append xs ys)
 
-  trees-append : (rows : List Row) (xs ys : List T) → trees_in rows (item_shapes of (xs ++ ys)) ≡ joined (trees_in rows (item_shapes of xs)) (trees_in rows (item_shapes of ys))
+  trees-append : (rows : List Row) (xs ys : List T) → trees_in rows (item_shapes of (xs ++ ys)) ≡ joined_trees (trees_in rows (item_shapes of xs)) (trees_in rows (item_shapes of ys))
   trees-append rows xs ys = ap (trees_in rows) (shapes-append xs ys) ∙ append_trees rows (item_shapes of xs) (item_shapes of ys)
 
   -- the value after the front
@@ -88,7 +88,7 @@ module _ {T : Type 0} (of : T → Shape) where
       value_fails {terms} {v} {left} {x} parts p taken d =
           let split : items v ≡ p.front ++ x ∷ left = p.split ∙ ap (λ r. p.front ++ r) taken in
           let o = rw (fill-grows _ _ p.extends.rows (of x) (value_part parts p taken)) at d.outcome in
-          let is : trees_in terms.rows (item_shapes of (items v)) ≡ joined (trees_in terms.rows (item_shapes of p.front)) (trees_in terms.rows (item_shapes of (x ∷ left))) =
+          let is : trees_in terms.rows (item_shapes of (items v)) ≡ joined_trees (trees_in terms.rows (item_shapes of p.front)) (trees_in terms.rows (item_shapes of (x ∷ left))) =
           ap (λ xs. trees_in terms.rows (item_shapes of xs)) split ∙ trees-append terms.rows p.front (x ∷ left) in
           record { extends = Extends-trans p.extends d.extends; is_owned = d.is_owned; outcome = rw (sequence-tree terms.rows (items v), is) (node_failed (FailsAll-append p.walked (λ h. h) (here o))) }
 
@@ -96,7 +96,7 @@ module _ {T : Type 0} (of : T → Shape) where
           → FoldsValues of owned means H terms s (items v) values rest terms1 s1 → ((u : Tree Depth) → errors.unbuilt u e)
           → Folds owned means (IsPartBy (λ v. sequence_shape of (items v))) (tree_by (λ v. sequence_shape of (items v))) (Walks H) (Fails H errors) terms s v (Err e) terms1 s1
       values_stop {terms} {v} {rest} p b =
-          let is : trees_in terms.rows (item_shapes of (items v)) ≡ joined (trees_in terms.rows (item_shapes of p.front)) (trees_in terms.rows (item_shapes of rest)) =
+          let is : trees_in terms.rows (item_shapes of (items v)) ≡ joined_trees (trees_in terms.rows (item_shapes of p.front)) (trees_in terms.rows (item_shapes of rest)) =
           ap (λ xs. trees_in terms.rows (item_shapes of xs)) p.split ∙ trees-append terms.rows p.front rest in
           record { extends = p.extends; is_owned = p.is_owned; outcome = rw (sequence-tree terms.rows (items v), is) (node_failed (FailsAll-append p.walked (λ h. h) (stopped b))) }
 

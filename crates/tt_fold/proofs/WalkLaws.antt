@@ -12,26 +12,26 @@ use Rattle.tt_interner.specs.Rows.{Row}
 use Rattle.tt_fold.specs.Walk.{Hooks, Errors, Wanted, HasUnwanted, Walks, WalksAll, done, next, FailsAll, here, later}
 use Rattle.tt_fold.specs.Walk.{stopped, no_clause, WalksInside, in_term, in_param, in_bound}
 use Rattle.tt_fold.specs.Steps.{tree_in}
-use Rattle.tt_fold.specs.Parts.{IsLeaf}
-use Rattle.tt_fold.specs.Stack.{joined}
+use Rattle.tt_fold.specs.Parts.{IsChildless}
+use Rattle.tt_fold.specs.Stack.{joined_trees}
 use Rattle.tt_fold.proofs.WantedLaws.{none-wanted, first-unwanted, later-unwanted}
 
 -- the walks of two lists of trees in turn are a walk of both lists, one after the other
 pub WalksAll-append : {M E : Type 0} {H : Hooks M E} {s s1 s2 : M} {ts us vs ws : Forest Depth}
-    → WalksAll H s ts us s1 → WalksAll H s1 vs ws s2 → WalksAll H s (joined ts vs) (joined us ws) s2
+    → WalksAll H s ts us s1 → WalksAll H s1 vs ws s2 → WalksAll H s (joined_trees ts vs) (joined_trees us ws) s2
 WalksAll-append done b = b
 WalksAll-append (next a more) b = next a (WalksAll-append more b)
 
 module _ {M E : Type 0} {H : Hooks M E} {errors : Errors E} where
   pub FailsAll-append : {w : Wanted} {s s1 s2 : M} {ts us vs : Forest Depth} {e : E}
-      → WalksAll H s ts us s1 → (HasUnwanted w us → ⊥) → FailsAll H errors w s1 vs e s2 → FailsAll H errors w s (joined ts vs) e s2
+      → WalksAll H s ts us s1 → (HasUnwanted w us → ⊥) → FailsAll H errors w s1 vs e s2 → FailsAll H errors w s (joined_trees ts vs) e s2
   FailsAll-append done fit b = b
   FailsAll-append {w} (next {u} {us} a more) fit b =
       later a (λ h. fit (first-unwanted w u us h)) (FailsAll-append more (λ h. fit (later-unwanted w u us h)) b)
 
   -- a failure in a list is one of a longer list
   pub FailsAll-before : {w : Wanted} {s s1 : M} {ts : Forest Depth} {e : E} (us : Forest Depth)
-      → FailsAll H errors w s ts e s1 → FailsAll H errors w s (joined ts us) e s1
+      → FailsAll H errors w s ts e s1 → FailsAll H errors w s (joined_trees ts us) e s1
   FailsAll-before us (stopped b) = stopped b
   FailsAll-before us (here f) = here f
   FailsAll-before us (no_clause w bad b) = no_clause w bad b
@@ -52,6 +52,6 @@ leaf_form H s rows o (plain l r) b p q = rw (p, q) (in_term done (none-wanted _)
 leaf_form H s rows o (under l vars m r) b p q = absurd (cc)
 
 -- inside a term without children or binder there is a walk that changes neither the term nor the state
-pub walks_leaf : {M E : Type 0} (H : Hooks M E) (s : M) (rows : List Row) (k : Kind) → IsLeaf (form_binder (kind_form k)) (form_parts (kind_form k))
+pub walks_leaf : {M E : Type 0} (H : Hooks M E) (s : M) (rows : List Row) (k : Kind) → IsChildless (form_binder (kind_form k)) (form_parts (kind_form k))
     → WalksInside H s (tree_in rows (kind_shape k)) (tree_in rows (kind_shape k)) s
 walks_leaf H s rows k h = leaf_form H s rows (kind_sort k) (kind_form k) h.binder h.first h.second

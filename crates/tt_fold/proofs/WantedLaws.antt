@@ -13,7 +13,7 @@ use Rattle.tt_fold.specs.Walk.{Hooks, Errors, WalksAll, done, next, Wanted, any_
 use Rattle.tt_fold.specs.Walk.{HasUnwanted, FailsAll, here, no_clause, ChildFails, child_failed}
 use Rattle.tt_fold.specs.Steps.{refusals_of}
 use Rattle.tt_fold.specs.Parts.{child_trees}
-use Rattle.tt_fold.specs.Stack.{joined}
+use Rattle.tt_fold.specs.Stack.{joined_trees}
 
 -- among no trees none is unwanted
 pub none-wanted : (w : Wanted) → HasUnwanted w none → ⊥
@@ -31,10 +31,10 @@ later-unwanted any_trees u us h = h
 later-unwanted clause_trees u us h = inr h
 
 -- if neither of two lists of trees has an unwanted one, both together have none
-pub joined-wanted : (w : Wanted) (us vs : Forest Depth) → (HasUnwanted w us → ⊥) → (HasUnwanted w vs → ⊥) → HasUnwanted w (joined us vs) → ⊥
-joined-wanted any_trees us vs a b h = h
-joined-wanted clause_trees none vs a b h = b h
-joined-wanted clause_trees (also u us) vs a b h = elim h [ inl c ↦ a (inl c) | inr d ↦ joined-wanted clause_trees us vs (λ x. a (inr x)) b d ]
+pub joined_trees-wanted : (w : Wanted) (us vs : Forest Depth) → (HasUnwanted w us → ⊥) → (HasUnwanted w vs → ⊥) → HasUnwanted w (joined_trees us vs) → ⊥
+joined_trees-wanted any_trees us vs a b h = h
+joined_trees-wanted clause_trees none vs a b h = b h
+joined_trees-wanted clause_trees (also u us) vs a b h = elim h [ inl c ↦ a (inl c) | inr d ↦ joined_trees-wanted clause_trees us vs (λ x. a (inr x)) b d ]
 
 -- where any trees may come, none is unwanted
 pub any-wanted : (l : Label Name) (us : Forest Depth) → wanted_in l ≡ any_trees → HasUnwanted (wanted_in l) us → ⊥

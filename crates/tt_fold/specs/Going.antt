@@ -95,7 +95,7 @@ IsMadeOf rows n count (Some l) = IsListFrame rows l count
 IsMadeOf rows n count None = IsTermFrame rows n count
 
 -- the frame's term or list is the rows', and is made of its children
-pub record IsFrame (rows : Listed Row) (f : Frame) : Type 0 where
+pub record IsFoldFrame (rows : Listed Row) (f : Frame) : Type 0 where
   pub is : IsWhole f.item
   pub part : ArePartsOf rows (child_shapes f.item)
   pub tree : child_tree rows f.item ≡ whole (outline_of rows f.item) (children_trees rows (children_in rows f))
@@ -109,7 +109,7 @@ AreAlike (v ∷ vs) (c ∷ cs) = (child_sort v ≡ child_sort c) × AreAlike vs 
 
 -- the values came of the frame's first children
 pub record Holds (rows : Listed Row) (f : Frame) (values : Listed Child) : Type 0 where
-  pub frame : IsFrame rows f
+  pub frame : IsFoldFrame rows f
   pub owned : ArePartsOf rows (children_shapes values)
   pub alike : AreAlike values (children_in rows f)
   pub wanted : HasUnwanted (wanted_by (outline_of rows f.item)) (children_trees rows values) → ⊥
@@ -119,14 +119,14 @@ abbrev pub left_of : Listed Row → Frame → Forest Depth
 left_of rows f = children_trees rows (drop f.next (children_in rows f))
 
 -- the value may be one of the list's items
-abbrev pub Fits : Option List → Child → Type 0
-Fits (Some l) value = IsItem (list_sort l) (child_sort value)
-Fits None value = ⊤
+abbrev pub FitsList : Option List → Child → Type 0
+FitsList (Some l) value = IsItem (list_sort l) (child_sort value)
+FitsList None value = ⊤
 
 -- the value may be one of the frame's results, if it is what has to come
 pub record IsResult (rows : Listed Row) (f : Frame) (value : Child) : Type 0 where
   pub owned : ArePartsOf rows (child_shapes value)
-  pub fit : Fits (child_list f.item) value
+  pub fit : FitsList (child_list f.item) value
 
 -- the memory for a value is refused, or it is not what has to come
 abbrev pub IsNotKept : Wanted → Forest Depth → Refusal → Type 0
@@ -137,22 +137,22 @@ abbrev pub last_of : ℕ → Listed Child → Listed Child
 last_of n values = drop (length values - n) values
 
 -- a frame and the results of its first children
-pub record Part : Type 0 where
+pub record BegunFrame : Type 0 where
   pub frame : Frame
   pub values : Listed Child
 
 -- the frames of parts, the innermost first, in the order in which they came
-abbrev pub frames_of : Listed Part → Listed Frame
+abbrev pub frames_of : Listed BegunFrame → Listed Frame
 frames_of [] = []
 frames_of (p ∷ ps) = frames_of ps ++ p.frame ∷ []
 
 -- their results in the order in which they came
-abbrev pub values_of : Listed Part → Listed Child
+abbrev pub values_of : Listed BegunFrame → Listed Child
 values_of [] = []
 values_of (p ∷ ps) = values_of ps ++ p.values
 
 -- a part among the rows: its tree, its results and the children that are left
-abbrev pub context_of : Listed Row → Part → Context
+abbrev pub context_of : Listed Row → BegunFrame → Context
 context_of rows p = record {
   before = child_tree rows p.frame.item;
   outline = outline_of rows p.frame.item;
@@ -161,18 +161,18 @@ context_of rows p = record {
 }
 
 -- the contexts of parts, in the same order
-abbrev pub contexts : Listed Row → Listed Part → Listed Context
+abbrev pub contexts : Listed Row → Listed BegunFrame → Listed Context
 contexts rows [] = []
 contexts rows (p ∷ ps) = context_of rows p ∷ contexts rows ps
 
 -- the values came of the children before this one, which is being walked
-pub record IsBelow (rows : Listed Row) (item : Child) (p : Part) : Type 0 where
+pub record IsBelow (rows : Listed Row) (item : Child) (p : BegunFrame) : Type 0 where
   pub holds : Holds rows p.frame p.values
   pub counted : length p.values + 1 ≡ p.frame.next
   pub walked : slice_get (children_in rows p.frame) (length p.values) ≡ Some item
 
 -- each part's child is the term or the list of the part before it, the outermost is the root
-abbrev pub AreBelow : Listed Row → Child → Child → Listed Part → Type 0
+abbrev pub AreBelow : Listed Row → Child → Child → Listed BegunFrame → Type 0
 AreBelow rows root item [] = item ≡ root
 AreBelow rows root item (p ∷ ps) = IsBelow rows item p × AreBelow rows root p.frame.item ps
 
@@ -204,8 +204,8 @@ abbrev pub total_work : Listed Row → Frame → Listed Frame → ℕ
 total_work rows f fs = frame_work rows f + frames_work rows fs
 
 -- the frame of the term or the list with all of its children left
-pub record IsOpened (rows : Listed Row) (item : Child) (f : Frame) : Type 0 where
-  pub is : IsFrame rows f
+pub record IsNewFrame (rows : Listed Row) (item : Child) (f : Frame) : Type 0 where
+  pub is : IsFoldFrame rows f
   pub same : f.item ≡ item
   pub start : f.next ≡ 0
 
@@ -218,14 +218,14 @@ module _ {M E : Type 0} (H : Hooks M E) where
 
   -- the contents of the term were begun, or there are none
   abbrev pub IsOpen : Tree Depth → Child → Listed Row → Option Frame → M → M → Type 0
-  IsOpen t item rows (Some f) s s' = IsOpened rows item f × TakesAny (outline_of rows item)
+  IsOpen t item rows (Some f) s s' = IsNewFrame rows item f × TakesAny (outline_of rows item)
       × Opens H (binder_of (outline_of rows item)) s s'
   IsOpen t item rows None s s' = WalksInside H s t t s'
 
   -- the child came to another, or its children are next
   abbrev pub IsBegun : Forest Depth → Tree Depth → Child → Listed Row → Begun → M → M → Type 0
   IsBegun ts t item rows (begun.Done y) s s' = IsChildFor item rows y × WalksAll H s ts (child_trees rows y) s'
-  IsBegun ts t item rows (begun.Inside f) s s' = IsOpened rows item f
+  IsBegun ts t item rows (begun.Inside f) s s' = IsNewFrame rows item f
       × Begins H t (outline_of rows item) (left_of rows f) s s'
 
   -- the frame's term or list is built of the results
@@ -241,7 +241,7 @@ pub record Going {M E S : Type 0} (owned : Listed Row → S → Type 0) (means :
     (H : Hooks (Standing M) E) (gives : Refusal → E → Type 0)
     (terms0 : Terms) (s0 : S) (first : Frame) (terms : Terms) (s : S) (frame : Frame) (frames : Listed Frame)
     (values : Listed Child) : Type 0 where
-  pub below : Listed Part
+  pub below : Listed BegunFrame
   pub results : Listed Child
   pub frames_are : frames ≡ frames_of below
   pub values_are : values ≡ values_of below ++ results

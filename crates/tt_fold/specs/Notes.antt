@@ -10,15 +10,15 @@ use Rattle.tt_fold.specs.declared.memory.Notes.{Notes}
 use Rattle.tt_fold.specs.declared.memory.Notes.TheVariants.{Few, Many}
 
 -- a list of notes, seen as the entries of a map
-abbrev pub entries_of : List Note → List (Place × Ty)
-entries_of notes = map (λ n. (n.place, n.after)) notes
+abbrev pub note_entries : List Note → List (Place × Ty)
+note_entries notes = map (λ n. (n.place, n.after)) notes
 
 -- the notes, wherever they are kept
 abbrev pub noted_entries : Notes → List (Place × Ty)
-noted_entries (Few few) = entries_of few.items
+noted_entries (Few few) = note_entries few.items
 noted_entries (Many many) = many.entries
 
 -- notes kept in place have distinct places, and a map has at least eight entries
 abbrev pub AreNotes : Notes → Type 0
-AreNotes (Few few) = IsDistinct same_place (keys_of (entries_of few.items))
+AreNotes (Few few) = IsDistinct same_place (keys_of (note_entries few.items))
 AreNotes (Many many) = 8 ≤ length many.entries

@@ -102,7 +102,7 @@ binder_in rows None = None
 binder_in rows (Some vars) = Some (vars_in rows vars)
 
 -- there are no children and no binder
-pub record IsLeaf (bound_vars : Option BoundVarKinds) (parts : Parts) : Type 0 where
+pub record IsChildless (bound_vars : Option BoundVarKinds) (parts : Parts) : Type 0 where
   pub binder : bound_vars ≡ None
   pub first : parts.first ≡ child.Absent
   pub second : parts.second ≡ child.Absent

@@ -11,8 +11,8 @@ pub record RegionHooks (M E : Type 0) : Type 1 where
   pub region_fails : (Tree Depth → E → Type 0) → M → Tree Depth → E → M → Type 0
 
 -- the hook without a promise
-abbrev pub no_promise : {M E : Type 0} → RegionHooks M E
-no_promise = record {
+abbrev pub no_region_promise : {M E : Type 0} → RegionHooks M E
+no_region_promise = record {
   on_region = λ s t r s'. ⊤;
   region_fails = λ unbuilt s t e s'. ⊤;
 }

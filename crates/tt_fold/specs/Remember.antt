@@ -7,7 +7,8 @@ use Rattle.tt_kinds.specs.Label.{Name, Sort, Entry, is_type}
 use Rattle.tt_kinds.specs.Tree.{Depth, Tree, Forest, param, bound, region, term, node, binder}
 use Rattle.tt_kinds.specs.Count.{TypeAt}
 use Rattle.tt_interner.specs.Stored.{Counters}
-use Rattle.tt_fold.specs.Walk.{Hooks, Answer, replace, keep, descend, is_type_tree}
+use Rattle.tt_visit.specs.Types.{is_type_tree}
+use Rattle.tt_fold.specs.Walk.{Hooks, Answer, replace, keep, descend}
 use Rattle.tt_fold.specs.Counts.{Standing}
 use Rattle.tt_fold.specs.Places.{IsIn}
 use Rattle.tt_fold.specs.Leaves.{with_leaves, with_leaves_all}

@@ -9,9 +9,9 @@ use Rattle.tt_fold.specs.Walk.{IsTerm, IsPassed, Wanted, any_trees, wanted_in, w
 use Rattle.tt_fold.specs.Walk.{Hooks, Errors, descend, WalksAll, FailsAll}
 
 -- the trees, one after another
-abbrev pub joined : Forest Depth → Forest Depth → Forest Depth
-joined none us = us
-joined (also t ts) us = also t (joined ts us)
+abbrev pub joined_trees : Forest Depth → Forest Depth → Forest Depth
+joined_trees none us = us
+joined_trees (also t ts) us = also t (joined_trees ts us)
 
 -- what a term or a list is but for its children
 pub data Outline : Type 0 where
@@ -128,7 +128,7 @@ pub record Context : Type 0 where
 
 -- what is around a tree, after the tree came to the other one
 abbrev pub with_result : Context → Tree Depth → Forest Depth
-with_result c u = joined c.done (also u none)
+with_result c u = joined_trees c.done (also u none)
 
 module _ {M E : Type 0} (H : Hooks M E) where
   -- From a state, with these results of a tree of the outline and these children left, and with these contexts around
@@ -136,10 +136,10 @@ module _ {M E : Type 0} (H : Hooks M E) where
   pub data Proceeds : Tree Depth → Outline → Forest Depth → Forest Depth → List Context → M → Tree Depth → M
       → Type 0 where
     last : {t r : Tree Depth} {o : Outline} {ds ts us : Forest Depth} {s s1 s' : M}
-        → WalksAll H s ts us s1 → Rebuilds H o (joined ds us) s1 r s' → Proceeds t o ds ts [] s r s'
+        → WalksAll H s ts us s1 → Rebuilds H o (joined_trees ds us) s1 r s' → Proceeds t o ds ts [] s r s'
     more : {t u v r : Tree Depth} {o : Outline} {ds ts us : Forest Depth} {c : Context} {cs : List Context}
         {s s1 s2 s3 s' : M}
-        → WalksAll H s ts us s1 → Rebuilds H o (joined ds us) s1 u s2 → Finishes H t u s2 v s3
+        → WalksAll H s ts us s1 → Rebuilds H o (joined_trees ds us) s1 u s2 → Finishes H t u s2 v s3
         → Proceeds c.before c.outline (with_result c v) c.left cs s3 r s' → Proceeds t o ds ts (c ∷ cs) s r s'
 
 -- the same where an error comes
@@ -148,17 +148,17 @@ module _ {M E : Type 0} (H : Hooks M E) (errors : Errors E) where
     in_left : {t : Tree Depth} {o : Outline} {ds ts : Forest Depth} {cs : List Context} {s s' : M} {e : E}
         → FailsAll H errors (wanted_by o) s ts e s' → Halts t o ds ts cs s e s'
     in_rebuild : {t : Tree Depth} {o : Outline} {ds ts us : Forest Depth} {cs : List Context} {s s1 s' : M} {e : E}
-        → WalksAll H s ts us s1 → RebuildFails H errors o (joined ds us) s1 e s' → Halts t o ds ts cs s e s'
+        → WalksAll H s ts us s1 → RebuildFails H errors o (joined_trees ds us) s1 e s' → Halts t o ds ts cs s e s'
     in_finish : {t u : Tree Depth} {o : Outline} {ds ts us : Forest Depth} {c : Context} {cs : List Context}
         {s s1 s2 s' : M} {e : E}
-        → WalksAll H s ts us s1 → Rebuilds H o (joined ds us) s1 u s2 → FinishFails H errors t u s2 e s'
+        → WalksAll H s ts us s1 → Rebuilds H o (joined_trees ds us) s1 u s2 → FinishFails H errors t u s2 e s'
         → Halts t o ds ts (c ∷ cs) s e s'
     not_wanted : {t u v : Tree Depth} {o : Outline} {ds ts us : Forest Depth} {c : Context} {cs : List Context}
         {s s1 s2 s' : M} {e : E}
-        → WalksAll H s ts us s1 → Rebuilds H o (joined ds us) s1 u s2 → Finishes H t u s2 v s'
+        → WalksAll H s ts us s1 → Rebuilds H o (joined_trees ds us) s1 u s2 → Finishes H t u s2 v s'
         → HasUnwanted (wanted_by c.outline) (also v none) → errors.unwanted e → Halts t o ds ts (c ∷ cs) s e s'
     above : {t u v : Tree Depth} {o : Outline} {ds ts us : Forest Depth} {c : Context} {cs : List Context}
         {s s1 s2 s3 s' : M} {e : E}
-        → WalksAll H s ts us s1 → Rebuilds H o (joined ds us) s1 u s2 → Finishes H t u s2 v s3
+        → WalksAll H s ts us s1 → Rebuilds H o (joined_trees ds us) s1 u s2 → Finishes H t u s2 v s3
         → (HasUnwanted (wanted_by c.outline) (also v none) → ⊥)
         → Halts c.before c.outline (with_result c v) c.left cs s3 e s' → Halts t o ds ts (c ∷ cs) s e s'

@@ -6,7 +6,8 @@ use Rattle.tt_kinds.specs.Kinds.{ty_shape}
 use Rattle.tt_kinds.specs.Handle.{Ty}
 use Rattle.tt_interner.specs.Rows.{Row}
 use Rattle.tt_interner.specs.Stored.{Terms}
-use Rattle.tt_fold.specs.Walk.{Hooks, Answer, descend, is_type_tree}
+use Rattle.tt_visit.specs.Types.{is_type_tree}
+use Rattle.tt_fold.specs.Walk.{Hooks, Answer, descend}
 use Rattle.tt_fold.specs.Counts.{Standing, stands}
 use Rattle.tt_fold.specs.Steps.{IsErrorOfUnbuilt, OwnsStep, answer_of, tree_in}
 use Rattle.tt_fold.specs.declared.folder.Step.{Step}
@@ -19,8 +20,8 @@ pub record TypeHooks (M E : Type 0) : Type 1 where
   pub type_fails : (Tree Depth → E → Type 0) → M → Tree Depth → E → M → Type 0
 
 -- the hook without a promise
-abbrev pub no_promise : {M E : Type 0} → TypeHooks M E
-no_promise = record {
+abbrev pub no_type_promise : {M E : Type 0} → TypeHooks M E
+no_type_promise = record {
   on_type = λ s t a s'. ⊤;
   type_fails = λ unbuilt s t e s'. ⊤;
 }

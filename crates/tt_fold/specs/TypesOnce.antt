@@ -6,7 +6,8 @@ use Rattle.tt_kinds.specs.Shape.{Shape}
 use Rattle.tt_interner.specs.Rows.{Row}
 use Rattle.tt_interner.specs.Stored.{Counters}
 use Rattle.tt_visit.specs.Data.{no_handles}
-use Rattle.tt_fold.specs.Walk.{Hooks, Answer, replace, descend, is_type_tree}
+use Rattle.tt_visit.specs.Types.{is_type_tree}
+use Rattle.tt_fold.specs.Walk.{Hooks, Answer, replace, descend}
 use Rattle.tt_fold.specs.Counts.{Standing}
 use Rattle.tt_fold.specs.Places.{IsIn, AreDistinct}
 use Rattle.tt_fold.specs.Remember.{Memo, State, places}
@@ -14,8 +15,8 @@ use Rattle.tt_fold.specs.Stands.{StandsIn}
 use Rattle.tt_fold.specs.Types.{TypeHooks, only_types}
 
 -- the meaning of a folder's state with the interner's counts
-abbrev pub counted : {M : Type 0} → M → Counters → Standing M
-counted m c = record { state = m; counters = c }
+abbrev pub with_counters : {M : Type 0} → M → Counters → Standing M
+with_counters m c = record { state = m; counters = c }
 
 -- the same state and memory are the same together
 pub recalls-same : {M : Type 0} {m m1 : M} {memory memory1 : List Memo} → m1 ≡ m → memory1 ≡ memory
@@ -54,9 +55,9 @@ module _ {M E : Type 0} (H : TypeHooks (Standing M) E) (m : M) where
   -- the hooks of a folder that answers as this one does in one state, whatever the counts are
   abbrev pub steady_types : TypeHooks ⊤ E
   steady_types = record {
-    on_type = λ s t a s'. (c : Counters) × (c' : Counters) × H.on_type (counted m c) t a (counted m c');
+    on_type = λ s t a s'. (c : Counters) × (c' : Counters) × H.on_type (with_counters m c) t a (with_counters m c');
     type_fails = λ unbuilt s t e s'. (c : Counters) × (s_end : Standing M)
-        × H.type_fails unbuilt (counted m c) t e s_end;
+        × H.type_fails unbuilt (with_counters m c) t e s_end;
   }
 
   abbrev pub steadily : Hooks ⊤ E
@@ -67,9 +68,9 @@ module _ {M E : Type 0} (H : TypeHooks (Standing M) E) (m : M) where
   pub data Calls : Counters → List (Tree Depth) → Counters → Type 0 where
     no_more : {c : Counters} → Calls c [] c
     takes_apart : {c c1 c' : Counters} {t : Tree Depth} {ts : List (Tree Depth)}
-        → H.on_type (counted m c) t descend (counted m c1) → Calls c1 ts c' → Calls c (t ∷ ts) c'
+        → H.on_type (with_counters m c) t descend (with_counters m c1) → Calls c1 ts c' → Calls c (t ∷ ts) c'
     goes_on : {c c1 c' : Counters} {t : Tree Depth} {a : Answer} {ts : List (Tree Depth)}
-        → (a ≡ descend → ⊥) → H.on_type (counted m c) t a (counted m c1) → Calls c1 ts c' → Calls c ts c'
+        → (a ≡ descend → ⊥) → H.on_type (with_counters m c) t a (with_counters m c1) → Calls c1 ts c' → Calls c ts c'
 
   -- The hook's calls took the counts from c to c', and had no type taken apart twice: these are distinct types of the
   -- tree.
@@ -85,7 +86,7 @@ module _ {M E : Type 0} (H : TypeHooks (Standing M) E) (m : M) where
     pub type : Tree Depth
     pub of_tree : IsTypeOf t type
     pub end : Standing M
-    pub fails : H.type_fails unbuilt (counted m c) type e end
+    pub fails : H.type_fails unbuilt (with_counters m c) type e end
     pub counters : c' ≡ end.counters
 
   -- the same as `CallsOnce` for a fold that ends with an error: one more call may have failed with it
@@ -102,7 +103,7 @@ module _ {M E S : Type 0} (means : List Row → S → M) (H : TypeHooks (Standin
         → OnType s t (replace r) s
     answered : {s : Standing (State M ⊤)} {t : Tree Depth} {a : Answer} {q : Standing M}
         → (IsIn (noted_at t) (places s.state.memory) → ⊥)
-        → IsMeaning means q.state → H.on_type (counted s.state.rule s.counters) t a q
+        → IsMeaning means q.state → H.on_type (with_counters s.state.rule s.counters) t a q
         → OnType s t a (record {
           state = record {
             rule = q.state;
@@ -129,7 +130,7 @@ module _ {M E S : Type 0} (means : List Row → S → M) (H : TypeHooks (Standin
     on_term = λ s t a s'. (is_type_tree t ≡ true → OnType s t a s')
         × (is_type_tree t ≡ false → (a ≡ descend) × (s' ≡ s));
     term_fails = λ unbuilt s t e s'. (is_type_tree t ≡ true)
-        × ((s_end : Standing M) × H.type_fails unbuilt (counted s.state.rule s.counters) t e s_end
+        × ((s_end : Standing M) × H.type_fails unbuilt (with_counters s.state.rule s.counters) t e s_end
         × (s'.counters ≡ s_end.counters));
     after_term = λ s t u r s'. (r ≡ u) × (is_type_tree t ≡ true → Noted s t r s') × (is_type_tree t ≡ false → s' ≡ s);
     after_fails = λ unbuilt s t u e s'. (s'.counters ≡ s.counters) × unbuilt u e;

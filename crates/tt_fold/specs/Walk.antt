@@ -1,8 +1,7 @@
 -- The fold of a tree.
-use Rattle.std.specs.Prelude.{◌≡◌, ℕ, List, Option, Some, None, Bool, false}
-use Rattle.tt_kinds.specs.Label.{Name, Sort, VarKind, Entry, Label, clause_list_label, clause_label, is_type}
-use Rattle.tt_kinds.specs.Count.{is_type_sort}
-use Rattle.tt_kinds.specs.Tree.{Depth, Tree, param, bound, region, term, node, binder, Forest, none, also}
+use Rattle.std.specs.Prelude.{◌≡◌, ℕ, List, Option, Some, None}
+use Rattle.tt_kinds.specs.Label.{Name, Sort, VarKind, Entry, Label, clause_list_label, clause_label}
+use Rattle.tt_kinds.specs.Tree.{Depth, Tree, param, bound, term, node, binder, Forest, none, also}
 use Rattle.tt_kinds.specs.declared.parts.ListSort.{ListSort}
 use Rattle.tt_kinds.specs.declared.parts.ListSort.TheVariants.{Clauses}
 use Rattle.tt_interner.specs.Clauses.{HasOther}
@@ -13,15 +12,6 @@ pub data Answer : Type 0 where
   replace : Tree Depth → Answer
   keep : Answer
   descend : Answer
-
--- the tree is a type's
-abbrev pub is_type_tree : Tree Depth → Bool
-is_type_tree (param s i name) = is_type_sort s
-is_type_tree (bound s d e) = is_type_sort s
-is_type_tree (region r) = false
-is_type_tree (term l ts) = is_type l
-is_type_tree (node l ts) = false
-is_type_tree (binder vs t) = false
 
 -- the tree is a region's
 abbrev pub IsRegion : Tree Depth → Type 0

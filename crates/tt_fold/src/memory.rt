@@ -8,7 +8,7 @@ ghost use Rattle.tt_fold.specs.Steps.{IsPartOf};
 ghost use Rattle.tt_fold.specs.Places.{IsIn};
 ghost use Rattle.tt_fold.specs.Remember.{places};
 ghost use Rattle.tt_fold.specs.Memory.{place_of, same_place, type_at, memo_at, memos, OwnsMemos};
-ghost use Rattle.tt_fold.specs.Notes.{entries_of};
+ghost use Rattle.tt_fold.specs.Notes.{note_entries};
 
 use indexmap::IndexMap;
 use smallvec::SmallVec;
@@ -79,7 +79,7 @@ fn position_of(notes: &[Note], place: Place) -> Option<usize>
 
 // Returns a map of the notes.
 fn map_of(alloc: Global, notes: &[Note]) -> Result<IndexMap<Place, Ty>, Refusal>
-    ensures ok { IfOk result (λ m. m.entries ≡ insert_all same_place [] (entries_of notes.now)) }
+    ensures ok { IfOk result (λ m. m.entries ≡ insert_all same_place [] (note_entries notes.now)) }
     ensures err { IfErr result (λ e. e ≡ Refusal.Memory) }
 {
     let mut entries = IndexMap::with_capacity(alloc, 2 * notes.len())?;

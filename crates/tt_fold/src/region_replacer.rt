@@ -6,7 +6,7 @@ ghost use Rattle.tt_kinds.specs.Tree.{Depth, Tree};
 ghost use Rattle.tt_interner.specs.Stored.{Extends};
 ghost use Rattle.tt_visit.specs.Data.{no_handles};
 ghost use Rattle.tt_fold.specs.Counts.{Standing};
-ghost use Rattle.tt_fold.specs.Regions.{no_promise, only_regions, RegionHooks};
+ghost use Rattle.tt_fold.specs.Regions.{no_region_promise, only_regions, RegionHooks};
 ghost use Rattle.tt_fold.specs.Steps.{Folds, IsPartBy, IsPartOf, tree_by, AnswersRegion, errors_of};
 ghost use Rattle.tt_fold.specs.Walk.{Fails, Walks};
 
@@ -29,7 +29,7 @@ pub trait RegionReplacer {
     ghost shape: { Self → Shape } = { λ s. no_handles };
 
     // The relation that the hook keeps to, on the trees of the handles; the default promises nothing.
-    ghost hooks: { RegionHooks (Standing (Tree Depth)) Self.Error } = { no_promise };
+    ghost hooks: { RegionHooks (Standing (Tree Depth)) Self.Error } = { no_region_promise };
 
     /// Called at each region: returns its replacement.
     fn replace_region(&mut self, cx: &mut Interner, region: Region) -> Result<Region, Self::Error>

@@ -29,7 +29,7 @@ ghost use Rattle.tt_fold.specs.Parts.{
   children_trees,
   HasBinder,
   IsChildFor,
-  IsLeaf,
+  IsChildless,
 };
 ghost use Rattle.tt_fold.specs.Items.{child_list, child_shape, child_tree, IsWhole};
 ghost use Rattle.tt_index.specs.declared.refusal.Refusal.TheVariants.{Memory};
@@ -50,10 +50,10 @@ ghost use Rattle.tt_fold.specs.Going.{
   Holds,
   IsAsked,
   IsBegun,
-  IsFrame,
+  IsFoldFrame,
   IsNotKept,
   IsOpen,
-  IsOpened,
+  IsNewFrame,
   IsRebuilt,
   IsResult,
   last_of,
@@ -222,7 +222,7 @@ fn list_frame(cx: &Interner, item: &Child, list: List) -> Frame
     requires item { ArePartsOf cx.now.rows (child_shapes item.now) }
     requires whole { IsWhole item.now }
     requires list { Some list ≡ child_list item.now }
-    ensures { IsOpened cx.now.rows item.now result }
+    ensures { IsNewFrame cx.now.rows item.now result }
 {
     Frame {
         item: *item,
@@ -262,7 +262,7 @@ fn open_term<M, F: Core<M>>(
 // Returns whether there are neither children nor a binder, so that the term need not be built again.
 #[inline(always)]
 fn is_leaf(contents: &Contents) -> bool
-    ensures { IsTrue result ↔ IsLeaf contents.now.bound_vars contents.now.parts }
+    ensures { IsTrue result ↔ IsChildless contents.now.bound_vars contents.now.parts }
 {
     let parts = &contents.parts;
     contents.bound_vars.is_none() && is_absent(&parts.first) && is_absent(&parts.second)
@@ -351,7 +351,7 @@ pub(crate) fn fold_frames<M, F: Core<M>>(
     first: Frame,
 ) -> Result<Child, F::Error>
     requires owned { F.owned cx.old.rows folder.old }
-    requires frame { IsFrame cx.old.rows first }
+    requires frame { IsFoldFrame cx.old.rows first }
     requires start { first.next ≡ 0 }
     ensures { Goes F.owned F.meaning
         (λ rows y s s'. IsChildFor first.item rows y
@@ -394,7 +394,7 @@ pub(crate) fn fold_frames<M, F: Core<M>>(
 // Returns the child that is begun next.
 #[inline(always)]
 fn next_child(cx: &Interner, frame: &Frame) -> Child
-    requires frame { IsFrame cx.now.rows frame.now }
+    requires frame { IsFoldFrame cx.now.rows frame.now }
     requires more { frame.now.next < frame.now.count }
     ensures { slice_get (children_in cx.now.rows frame.now) frame.now.next ≡ Some result }
 {
@@ -414,7 +414,7 @@ fn next_child(cx: &Interner, frame: &Frame) -> Child
 // Keeps the result of a child of the frame. The result of an item of a list of clauses has to be a clause.
 #[inline(always)]
 fn keep(cx: &Interner, frame: &Frame, values: &mut Values, value: Child) -> Result<(), Refusal>
-    requires frame { IsFrame cx.now.rows frame.now }
+    requires frame { IsFoldFrame cx.now.rows frame.now }
     requires child { IsResult cx.now.rows frame.now value }
     ensures kept { OnOk result (values.new.items ≡ values.old.items ++ value ∷ []) }
     ensures wanted { OnOk result

@@ -6,7 +6,7 @@ ghost use Rattle.tt_kinds.specs.Tree.{Depth, Tree};
 ghost use Rattle.tt_interner.specs.Stored.{Extends};
 ghost use Rattle.tt_visit.specs.Data.{no_handles};
 ghost use Rattle.tt_fold.specs.Counts.{Standing};
-ghost use Rattle.tt_fold.specs.Types.{no_promise, only_types, AnswersType, TypeHooks};
+ghost use Rattle.tt_fold.specs.Types.{no_type_promise, only_types, AnswersType, TypeHooks};
 ghost use Rattle.tt_fold.specs.Steps.{Folds, IsPartBy, IsPartOf, tree_by, errors_of};
 ghost use Rattle.tt_fold.specs.Walk.{Fails, Walks};
 
@@ -31,7 +31,7 @@ pub trait TypeReplacer {
     ghost shape: { Self → Shape } = { λ s. no_handles };
 
     // The relation that the hook keeps to, on the trees of the handles; the default promises nothing.
-    ghost hooks: { TypeHooks (Standing (Tree Depth)) Self.Error } = { no_promise };
+    ghost hooks: { TypeHooks (Standing (Tree Depth)) Self.Error } = { no_type_promise };
 
     /// Called at each type, before its contents: returns what to do there.
     fn replace_ty(&mut self, cx: &mut Interner, ty: Ty) -> Result<Step<Ty>, Self::Error>

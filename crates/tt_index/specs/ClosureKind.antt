@@ -10,7 +10,7 @@ demand FnMut = 1
 demand FnOnce = 2
 
 -- the trait's name, in bytes
-abbrev pub name_of : ClosureKind → List ℕ
-name_of Fn = codes "Fn"
-name_of FnMut = codes "FnMut"
-name_of FnOnce = codes "FnOnce"
+abbrev pub trait_name : ClosureKind → List ℕ
+trait_name Fn = codes "Fn"
+trait_name FnMut = codes "FnMut"
+trait_name FnOnce = codes "FnOnce"

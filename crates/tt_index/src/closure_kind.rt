@@ -1,7 +1,7 @@
 //! The closure traits.
 
 ghost use Rattle.std.specs.Prelude.{◌≡◌, ◌≤◌, ◌↔◌, IsTrue};
-ghost use Rattle.tt_index.specs.ClosureKind.{demand, name_of};
+ghost use Rattle.tt_index.specs.ClosureKind.{demand, trait_name};
 
 /// A closure trait: how the trait's call takes the closure's environment.
 #[derive(Clone, Copy, Debug, PartialEq, Eq, Hash)]
@@ -20,7 +20,7 @@ impl ClosureKind {
 
     /// Returns the trait's name.
     pub fn as_str(self) -> &'static str
-        ensures { result.now ≡ name_of self }
+        ensures { result.now ≡ trait_name self }
     {
         match self {
             ClosureKind::Fn => "Fn",

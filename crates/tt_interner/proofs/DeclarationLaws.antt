@@ -15,7 +15,7 @@ use Rattle.tt_kinds.specs.Shape.{fill, text_of, name_of}
 use Rattle.tt_interner.specs.Rows.{Row, text_row, declared_row, table, size, meaning, IsNew, AreRows, Grows}
 use Rattle.tt_interner.specs.Declarations.{declaration_of, declared_at, Declares, is_anonymous}
 use Rattle.tt_interner.specs.Stored.{Terms, IsAt, HasFirst, Adds, anonymous_text}
-use Rattle.tt_interner.specs.Tables.{Entry, Tables, AreTables, entries_of, declared_entries, no_info}
+use Rattle.tt_interner.specs.Tables.{TableEntry, Tables, AreTables, table_entries, declared_entries, no_info}
 use Rattle.tt_interner.proofs.RowLaws.{row-new, get_or-keeps}
 use Rattle.tt_interner.proofs.FoundLaws.{IsNew-from_table}
 use Rattle.tt_interner.proofs.StoreSteps.{Adds-extends}
@@ -39,7 +39,7 @@ length-declared_entries n (d ∷ ds) = let rest = length-declared_entries (n + 1
 
 -- the row of a declaration
 slice_get-declared : (n : ℕ) (ds : List Declaration) (i m : ℕ) (d : Declaration) → n + i ≡ m → slice_get ds i ≡ Some d
-    → slice_get (map (λ (e : Entry). e.row) (declared_entries n ds)) i ≡ Some (declared_row m d)
+    → slice_get (map (λ (e : TableEntry). e.row) (declared_entries n ds)) i ≡ Some (declared_row m d)
 slice_get-declared n [] i m d count at = absurd (none-some d at)
 slice_get-declared n (e ∷ ds) zero m d count at =
     let same : n ≡ m = omega arith in let first = same_Some e d at in λ j. Some (declared_row (same j) (first j))
@@ -50,18 +50,18 @@ place (declared_row n d) = n
 place _ = 0
 
 -- a number that no declaration has is new
-IsNew-declared : (n : ℕ) (ds : List Declaration) (m : ℕ) (d : Declaration) → n + length ds ≤ m → IsNew (declared_row m d) (map (λ (e : Entry). e.row) (declared_entries n ds))
+IsNew-declared : (n : ℕ) (ds : List Declaration) (m : ℕ) (d : Declaration) → n + length ds ≤ m → IsNew (declared_row m d) (map (λ (e : TableEntry). e.row) (declared_entries n ds))
 unfolding IsNew
 IsNew-declared n [] m d h = tt
 IsNew-declared n (e ∷ ds) m d h = ((λ same. let places : n ≡ m = ap place same in absurd (omega arith)), IsNew-declared (n + 1) ds m d (omega arith))
 
 -- what the rows say of the declarations that are kept
-module _ (rows : List Row) (ts : Tables) (limit : ℕ) (are : AreTables rows ts limit) (ds : List Declaration) (is : entries_of ts Declarations ≡ declared_entries 0 ds) where
-  has_rows : table Declarations rows ≡ map (λ (e : Entry). e.row) (declared_entries 0 ds)
-  has_rows = are.has Declarations ∙ ap (map (λ (e : Entry). e.row)) is
+module _ (rows : List Row) (ts : Tables) (limit : ℕ) (are : AreTables rows ts limit) (ds : List Declaration) (is : table_entries ts Declarations ≡ declared_entries 0 ds) where
+  has_rows : table Declarations rows ≡ map (λ (e : TableEntry). e.row) (declared_entries 0 ds)
+  has_rows = are.has Declarations ∙ ap (map (λ (e : TableEntry). e.row)) is
 
   pub declared_count : length ds ≡ size rows Declarations
-  declared_count = sym (ap length has_rows ∙ length-map (declared_entries 0 ds) (λ (e : Entry). e.row) ∙ length-declared_entries 0 ds)
+  declared_count = sym (ap length has_rows ∙ length-map (declared_entries 0 ds) (λ (e : TableEntry). e.row) ∙ length-declared_entries 0 ds)
 
   pub declared_new : (n : ℕ) (d : Declaration) → length ds ≡ n → IsNew (declared_row n d) rows
   declared_new n d count = IsNew-from_table (declared_row n d) rows (subst (IsNew (declared_row n d)) (sym has_rows) (IsNew-declared 0 ds n d (omega arith)))

@@ -25,7 +25,7 @@ use Rattle.tt_interner.specs.Rows.{Row, defined_row, is_in, table, size, IsNew, 
 use Rattle.tt_interner.specs.Definitions.{variants_in, variants_among, variants_of, IsDefined, HasOwnName, IsOwnField}
 use Rattle.tt_interner.specs.Definitions.{IsOwnVariant, FitsDeclaration, Defines}
 use Rattle.tt_interner.specs.Stored.{Terms, IsAt, Adds}
-use Rattle.tt_interner.specs.Tables.{Entry, Tables, AreTables, entries_of, defined_entries, no_info}
+use Rattle.tt_interner.specs.Tables.{TableEntry, Tables, AreTables, table_entries, defined_entries, no_info}
 use Rattle.tt_interner.proofs.RowLaws.{table-own, table-other, row-old, place_cases}
 use Rattle.tt_interner.proofs.Trees.{Means-row, row_at_newest}
 use Rattle.tt_interner.proofs.FoundLaws.{IsNew-from_table}
@@ -33,7 +33,7 @@ use Rattle.tt_interner.proofs.StoreSteps.{Adds-extends}
 
 -- the rows that are kept
 abbrev kept_rows : {S : Type 0} → List (Id S × Vec VariantDef Global) → List Row
-kept_rows es = map (λ (e : Entry). e.row) (defined_entries es)
+kept_rows es = map (λ (e : TableEntry). e.row) (defined_entries es)
 
 -- a definition's variants, without their vectors
 abbrev variants : Vec VariantDef Global → List Variant
@@ -72,12 +72,12 @@ IsNew-defined n us (r ∷ rs) none = by (variants_in n r) refl (IsNew-defined n 
     by (Some vs) e rest none = absurd (none-some vs (sym none))
 
 -- what the rows say of the definitions that are kept
-module _ {S : Type 0} (rows : List Row) (ts : Tables) (limit : ℕ) (are : AreTables rows ts limit) (es : List (Id S × Vec VariantDef Global)) (is : entries_of ts Definitions ≡ defined_entries es) where
+module _ {S : Type 0} (rows : List Row) (ts : Tables) (limit : ℕ) (are : AreTables rows ts limit) (es : List (Id S × Vec VariantDef Global)) (is : table_entries ts Definitions ≡ defined_entries es) where
   has_rows : table Definitions rows ≡ kept_rows es
-  has_rows = are.has Definitions ∙ ap (map (λ (e : Entry). e.row)) is
+  has_rows = are.has Definitions ∙ ap (map (λ (e : TableEntry). e.row)) is
 
   pub defined_count : length es ≡ size rows Definitions
-  defined_count = sym (ap length has_rows ∙ length-map (defined_entries es) (λ (e : Entry). e.row) ∙ length-map es (λ e. record { row = defined_row e.0.number (map variant_of e.1.items); info = no_info }))
+  defined_count = sym (ap length has_rows ∙ length-map (defined_entries es) (λ (e : TableEntry). e.row) ∙ length-map es (λ e. record { row = defined_row e.0.number (map variant_of e.1.items); info = no_info }))
 
   pub variants-found : (n : ℕ) → variants_of rows n ≡ option_map variants (lookup (λ (k : Id S). eqb n k.number) es)
   unfolding variants_of
@@ -222,7 +222,7 @@ undefined rows n h = by (variants_of rows n) refl
     by (Some vs) e = absurd (h (ap is_some e))
 
 -- what a look-up in the map says
-module _ {S : Type 0} (rows : List Row) (ts : Tables) (limit : ℕ) (are : AreTables rows ts limit) (es : List (Id S × Vec VariantDef Global)) (is : entries_of ts Definitions ≡ defined_entries es) where
+module _ {S : Type 0} (rows : List Row) (ts : Tables) (limit : ℕ) (are : AreTables rows ts limit) (es : List (Id S × Vec VariantDef Global)) (is : table_entries ts Definitions ≡ defined_entries es) where
   pub not_there : (n : ℕ) → (IsDefined rows n → ⊥) → lookup (λ (k : Id S). eqb n k.number) es ≡ None
   not_there n h = by (lookup (λ (k : Id S). eqb n k.number) es) refl
     where
@@ -259,7 +259,7 @@ mapped-some f None = refl
 mapped-some f (Some x) = refl
 
 -- the map has what is defined
-pub defined_test : {S : Type 0} (rows : List Row) (ts : Tables) (limit : ℕ) (are : AreTables rows ts limit) (es : List (Id S × Vec VariantDef Global)) (is : entries_of ts Definitions ≡ defined_entries es)
+pub defined_test : {S : Type 0} (rows : List Row) (ts : Tables) (limit : ℕ) (are : AreTables rows ts limit) (es : List (Id S × Vec VariantDef Global)) (is : table_entries ts Definitions ≡ defined_entries es)
     → (n : ℕ) → is_some (lookup (λ (k : Id S). eqb n k.number) es) ≡ is_some (variants_of rows n)
 defined_test rows ts limit are es is n =
     mapped-some variants (lookup (λ k. eqb n k.number) es) ∙ sym (ap is_some (variants-found rows ts limit are es is n))

@@ -12,7 +12,7 @@ use Rattle.indexmap.proofs.MapLemmas.{some_index, value_index}
 use Rattle.tt_kinds.specs.declared.table.Table.{Table}
 use Rattle.tt_interner.specs.Rows.{Row, row_table, is_in, table, IsNew}
 use Rattle.tt_flags.specs.declared.flag_computation.FlagComputation.{FlagComputation}
-use Rattle.tt_interner.specs.Tables.{Entry, entries_by}
+use Rattle.tt_interner.specs.Tables.{TableEntry, entries_by}
 use Rattle.tt_interner.proofs.RowLaws.{table-own, table-other, is_in_own}
 
 -- an option of which `is_some` is false is None
@@ -49,7 +49,7 @@ insert_entry-same eq k v (e ∷ es) h = by (eq k e.0) refl (insert_entry-same eq
         ap (λ b. if b then (e.0, v) ∷ es else (e ∷ insert_entry eq es k v)) p ∙ ap (λ l. e ∷ l) (rest (sym (ap (λ b. cond b (Some e.1) (lookup (eq k) es)) p) ∙ h))
 
 -- the row of the entry at an index is its key's row
-pub slice_get-rows : {K V : Type 0} (row : K → Row) (info : V → FlagComputation) (es : List (K × V)) (i : ℕ) → slice_get (map (λ (e : Entry). e.row) (entries_by row info es)) i ≡ option_map row (slice_get (keys_of es) i)
+pub slice_get-rows : {K V : Type 0} (row : K → Row) (info : V → FlagComputation) (es : List (K × V)) (i : ℕ) → slice_get (map (λ (e : TableEntry). e.row) (entries_by row info es)) i ≡ option_map row (slice_get (keys_of es) i)
 slice_get-rows row info [] i = refl
 slice_get-rows row info (e ∷ es) zero = refl
 slice_get-rows row info (e ∷ es) (suc i) = slice_get-rows row info es i
@@ -61,7 +61,7 @@ pub record IsKey {K : Type 0} (test : K → Bool) (row : K → Row) (r : Row) : 
 
 module _ {K V : Type 0} (test : K → Bool) (row : K → Row) (info : V → FlagComputation) (r : Row) (key : IsKey test row r) where
   -- the entry that passes is the entry of the row r
-  pub found_row : (es : List (K × V)) (i : ℕ) → position test (keys_of es) ≡ Some i → slice_get (map (λ (e : Entry). e.row) (entries_by row info es)) i ≡ Some r
+  pub found_row : (es : List (K × V)) (i : ℕ) → position test (keys_of es) ≡ Some i → slice_get (map (λ (e : TableEntry). e.row) (entries_by row info es)) i ≡ Some r
   found_row [] i e = absurd (none-some i e)
   found_row (first ∷ es) i e =
       let at = position-Some test (keys_of (first ∷ es)) i first.0 e in
@@ -70,13 +70,13 @@ module _ {K V : Type 0} (test : K → Bool) (row : K → Row) (info : V → Flag
       ∙ ap Some (key.exact (get_or (keys_of (first ∷ es)) i first.0) at.1)
 
   -- where no entry passes, none is the entry of the row r
-  pub new_row : (es : List (K × V)) → NonePasses test es → IsNew r (map (λ (e : Entry). e.row) (entries_by row info es))
+  pub new_row : (es : List (K × V)) → NonePasses test es → IsNew r (map (λ (e : TableEntry). e.row) (entries_by row info es))
   unfolding IsNew
   new_row [] none = tt
   new_row (e ∷ es) none = (λ is. false≢true (sym none.0 ∙ key.same e.0 is), new_row es none.1)
 
   -- where the row r is none of the entries', no entry passes
-  pub absent_row : (es : List (K × V)) → IsNew r (map (λ (e : Entry). e.row) (entries_by row info es)) → lookup test es ≡ None
+  pub absent_row : (es : List (K × V)) → IsNew r (map (λ (e : TableEntry). e.row) (entries_by row info es)) → lookup test es ≡ None
   unfolding IsNew
   absent_row [] new = refl
   absent_row (e ∷ es) new = by (test e.0) refl (absent_row es new.1)

@@ -21,7 +21,6 @@ use Rattle.tt_kinds.specs.Label.{predicate_label, existential_label, clause_list
 use Rattle.tt_kinds.specs.Label.{text_label, declaration_label, definition_label, record_label, error_label}
 use Rattle.tt_kinds.specs.Label.{clause_label}
 use Rattle.tt_kinds.specs.Tree as tree
-use Rattle.tt_kinds.specs.Tree.{Tree}
 use Rattle.tt_kinds.specs.Shape.{Shape, Shapes, param, bound, region, term, node, binder, stored, part_of, none, also}
 use Rattle.tt_kinds.specs.Shape.{Meaning, Sizes, text_of, items_of, items_in, name_of, rename_region, rename_kind}
 use Rattle.tt_kinds.specs.Shape.{rename_free, rename_record, rename_label, fill, fill_all, IsNamed, IsNamedKind}
@@ -29,11 +28,11 @@ use Rattle.tt_kinds.specs.Shape.{AreNamedKinds, IsNamedFree, IsNamedRecord, IsNa
 use Rattle.tt_kinds.specs.Parts.{node_table, node_number, list_table, list_number}
 use Rattle.tt_kinds.specs.declared.parts.Node.{Node}
 use Rattle.tt_kinds.specs.declared.parts.List.{List as StoredList}
-use Rattle.tt_interner.specs.Rows.{Row, text_row, row_table, table, size, meaning, age, Grows}
+use Rattle.tt_interner.specs.Rows.{Row, text_row, row_table, table, size, meaning, Grows}
 use Rattle.tt_interner.specs.Children.{children_of, children_at}
 use Rattle.tt_interner.specs.Nodes.{row_kind, stored_kind}
 use Rattle.tt_interner.specs.Stored.{Terms, Extends, IsAt}
-use Rattle.tt_interner.proofs.RowLaws.{keeps, keeps_age, slice_get-keeps, get_or-keeps}
+use Rattle.tt_interner.proofs.RowLaws.{keeps, slice_get-keeps, get_or-keeps}
 
 -- parts in range stay in range where tables grow
 module _ (small large : Sizes) (more : (t : Table) → small t ≤ large t) where
@@ -290,9 +289,6 @@ module _ (old new : List Row) (g : Grows old new) where
 
   pub meaning-grows : (t : Table) (n : ℕ) → n < size old t → meaning new t n ≡ meaning old t n
   meaning-grows t n h = rw g.kept (keeps g.more old t n h).1
-
-  pub age-grows : (t : Table) (n : ℕ) → n < size old t → age new t n ≡ age old t n
-  age-grows t n h = rw g.kept (keeps_age g.more old t n h)
 
   pub IsPart-grows : (s : Shape) → IsPart (size old) s → IsPart (size new) s
   IsPart-grows s h = IsPart-more (size old) (size new) size-grows s h

@@ -12,7 +12,7 @@ use Rattle.tt_interner.specs.Rows.{Row, row_table, row_shape, size, meaning, IsN
 use Rattle.tt_interner.specs.Stored.{Terms, Counters, IsInfo, IsAt, Puts, Builds}
 use Rattle.tt_interner.specs.Info.{keeps_info}
 use Rattle.std.specs.Prelude.{IsTrue}
-use Rattle.tt_interner.specs.Tables.{Tables, entries_of, with_entries, rows_in_order, entries_by, Keeps}
+use Rattle.tt_interner.specs.Tables.{Tables, table_entries, with_entries, rows_in_order, entries_by, Keeps}
 use Rattle.tt_interner.proofs.FoundLaws.{IsKey}
 use Rattle.tt_interner.proofs.StoreSteps.{Builds-put}
 use Rattle.tt_interner.proofs.TableLaws.{count, same_info, found_or_absent, kept, added, unchanged, still_kept, refused}
@@ -25,7 +25,7 @@ ok_err n e result p q = cc
 
 -- the row r has the key of an entry of its table, or of none
 module _ {K : Type 0} (order : List Table) (ts : Tables) (limit : ℕ) (counters : Counters) (old : Terms) (view_is : record { rows = rows_in_order order ts; limit = limit; counters = counters } ≡ old) (keeps : Keeps order ts limit)
-    (row : K → Row) (test : K → Bool) (r : Row) (key : IsKey test row r) (es : List (K × FlagComputation)) (is : entries_of ts (row_table r) ≡ entries_by row (λ v. v) es) where
+    (row : K → Row) (test : K → Bool) (r : Row) (key : IsKey test row r) (es : List (K × FlagComputation)) (is : table_entries ts (row_table r) ≡ entries_by row (λ v. v) es) where
   pub few : length es ≤ limit
   few = let many = count _ _ _ keeps.tables (row_table r) row (λ v. v) es is in let within = keeps.tables.within (row_table r) in omega arith
 
@@ -47,7 +47,7 @@ module _ {K : Type 0} (order : List Table) (ts : Tables) (limit : ℕ) (counters
       module _ (n' : ℕ) (ok : result ≡ Ok n') (noted : position test (keys_of es) ≡ None → order' ≡ order ++ row_table r ∷ [])
           (more : position test (keys_of es) ≡ None → entries_by row (λ v. v) es' ≡ entries_by row (λ v. v) es ++ (record { row = r; info = info }) ∷ [])
           (last : position test (keys_of es) ≡ None → (n' ≡ length es) × (n' < limit)) where
-        pushed : position test (keys_of es) ≡ None → with_entries ts (row_table r) (entries_by row (λ v. v) es') ≡ with_entries ts (row_table r) (entries_of ts (row_table r) ++ (record { row = r; info = info }) ∷ [])
+        pushed : position test (keys_of es) ≡ None → with_entries ts (row_table r) (entries_by row (λ v. v) es') ≡ with_entries ts (row_table r) (table_entries ts (row_table r) ++ (record { row = r; info = info }) ∷ [])
         pushed none = ap (with_entries ts (row_table r)) (more none ∙ ap (λ l. l ++ (record { row = r; info = info }) ∷ []) (sym is))
 
         pub put_kept : HasParts (size old.rows) (row_shape r) → IndicesFitIn (row_shape r) → IsWellFormed old.rows r → Keeps order' (with_entries ts (row_table r) (entries_by row (λ v. v) es')) limit

@@ -186,11 +186,6 @@ keeps (r ∷ added) rows t n h =
     let more = size-more r (added ++ rows) t in
     (omega (arith, before.0), meaning-old r (added ++ rows) t n before.0 ∙ before.1)
 
--- and keeps its age
-pub keeps_age : (added rows : List Row) (t : Table) (n : ℕ) → n < size rows t → age (added ++ rows) t n ≡ age rows t n
-keeps_age [] rows t n h = refl
-keeps_age (r ∷ added) rows t n h = age-old r (added ++ rows) t n (keeps added rows t n h).0 ∙ keeps_age added rows t n h
-
 -- and its row
 pub slice_get-keeps : (added rows : List Row) (t : Table) (n : ℕ) → n < size rows t → slice_get (table t (added ++ rows)) n ≡ slice_get (table t rows) n
 slice_get-keeps [] rows t n h = refl

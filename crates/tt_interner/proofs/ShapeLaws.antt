@@ -318,10 +318,6 @@ region_from-region_shape (RePlaceholder p) = ap (λ k. RePlaceholder (record { u
 region_from-region_shape ReErased = refl
 region_from-region_shape (ReError e) = refl
 
--- a region is one part, whichever it is
-first_region : (r : RegionKind) (ss : Shapes) → part_at 0 (append (also (region_shape r) none) ss) ≡ region_shape r
-first_region r ss = refl
-
 arg_from-region_shape : (r : RegionKind) → arg_from (region_shape r) ≡ arg.Lifetime (region_from (region_shape r))
 arg_from-region_shape (ReEarlyParam p) = refl
 arg_from-region_shape (ReBound i b) = refl

@@ -27,7 +27,7 @@ use Rattle.tt_interner.specs.Rows.{size, meaning, IsNew, IsWellFormed, AreRows}
 use Rattle.tt_interner.specs.Stored.{Terms, Counters, Adds, IsInfo, HasFirst, IsAt, first_rows, anonymous_text}
 use Rattle.tt_interner.specs.Info.{keeps_info}
 use Rattle.std.specs.Prelude.{IsTrue}
-use Rattle.tt_interner.specs.Tables.{Entry, Tables, entries_of, with_entries, push, rows_of, infos_of, reversed, merged}
+use Rattle.tt_interner.specs.Tables.{TableEntry, Tables, table_entries, with_entries, push, rows_of, infos_of, reversed_tables, merged}
 use Rattle.tt_interner.specs.Tables.{rows_in_order, entries_by, listed_by, AreInfos, AreTables, Keeps, no_info}
 use Rattle.tt_interner.proofs.RowLaws.{in_table, is_in_own, table-other, table-new, meaning-old, meaning-new}
 use Rattle.tt_interner.proofs.RowLaws.{slice_get-push_before, slice_get-push_last, row-old}
@@ -41,26 +41,26 @@ use Rattle.tt_index.specs.Greatest.{greatest}
 -- The only lemmas with a line for each table.
 
 -- the last entry of the tables that are reversed is the first
-reversed-push : (t : Table) (e : Entry) (ts : Tables) → reversed (push t e ts) ≡ with_entries (reversed ts) t (e ∷ entries_of (reversed ts) t)
-reversed-push Types e ts = rw (reverse-append ts.types (e ∷ [])) refl
-reversed-push Consts e ts = rw (reverse-append ts.consts (e ∷ [])) refl
-reversed-push Patterns e ts = rw (reverse-append ts.patterns (e ∷ [])) refl
-reversed-push Predicates e ts = rw (reverse-append ts.predicates (e ∷ [])) refl
-reversed-push Existentials e ts = rw (reverse-append ts.existentials (e ∷ [])) refl
-reversed-push ClauseLists e ts = rw (reverse-append ts.clause_lists (e ∷ [])) refl
-reversed-push TypeLists e ts = rw (reverse-append ts.type_lists (e ∷ [])) refl
-reversed-push ConstLists e ts = rw (reverse-append ts.const_lists (e ∷ [])) refl
-reversed-push ArgLists e ts = rw (reverse-append ts.arg_lists (e ∷ [])) refl
-reversed-push PatternLists e ts = rw (reverse-append ts.pattern_lists (e ∷ [])) refl
-reversed-push VarLists e ts = rw (reverse-append ts.var_lists (e ∷ [])) refl
-reversed-push ExistentialLists e ts = rw (reverse-append ts.existential_lists (e ∷ [])) refl
-reversed-push AssumptionLists e ts = rw (reverse-append ts.assumption_lists (e ∷ [])) refl
-reversed-push Symbols e ts = rw (reverse-append ts.symbols (e ∷ [])) refl
-reversed-push Declarations e ts = rw (reverse-append ts.declarations (e ∷ [])) refl
-reversed-push Definitions e ts = rw (reverse-append ts.definitions (e ∷ [])) refl
+reversed_tables-push : (t : Table) (e : TableEntry) (ts : Tables) → reversed_tables (push t e ts) ≡ with_entries (reversed_tables ts) t (e ∷ table_entries (reversed_tables ts) t)
+reversed_tables-push Types e ts = rw (reverse-append ts.types (e ∷ [])) refl
+reversed_tables-push Consts e ts = rw (reverse-append ts.consts (e ∷ [])) refl
+reversed_tables-push Patterns e ts = rw (reverse-append ts.patterns (e ∷ [])) refl
+reversed_tables-push Predicates e ts = rw (reverse-append ts.predicates (e ∷ [])) refl
+reversed_tables-push Existentials e ts = rw (reverse-append ts.existentials (e ∷ [])) refl
+reversed_tables-push ClauseLists e ts = rw (reverse-append ts.clause_lists (e ∷ [])) refl
+reversed_tables-push TypeLists e ts = rw (reverse-append ts.type_lists (e ∷ [])) refl
+reversed_tables-push ConstLists e ts = rw (reverse-append ts.const_lists (e ∷ [])) refl
+reversed_tables-push ArgLists e ts = rw (reverse-append ts.arg_lists (e ∷ [])) refl
+reversed_tables-push PatternLists e ts = rw (reverse-append ts.pattern_lists (e ∷ [])) refl
+reversed_tables-push VarLists e ts = rw (reverse-append ts.var_lists (e ∷ [])) refl
+reversed_tables-push ExistentialLists e ts = rw (reverse-append ts.existential_lists (e ∷ [])) refl
+reversed_tables-push AssumptionLists e ts = rw (reverse-append ts.assumption_lists (e ∷ [])) refl
+reversed_tables-push Symbols e ts = rw (reverse-append ts.symbols (e ∷ [])) refl
+reversed_tables-push Declarations e ts = rw (reverse-append ts.declarations (e ∷ [])) refl
+reversed_tables-push Definitions e ts = rw (reverse-append ts.definitions (e ∷ [])) refl
 
 -- and the other tables are those before it
-merged-push : (t : Table) (e : Entry) (order : List Table) (ts : Tables) → merged (t ∷ order) (with_entries ts t (e ∷ entries_of ts t)) ≡ e.row ∷ merged order ts
+merged-push : (t : Table) (e : TableEntry) (order : List Table) (ts : Tables) → merged (t ∷ order) (with_entries ts t (e ∷ table_entries ts t)) ≡ e.row ∷ merged order ts
 unfolding merged
 merged-push Types e order ts = refl
 merged-push Consts e order ts = refl
@@ -79,50 +79,50 @@ merged-push Symbols e order ts = refl
 merged-push Declarations e order ts = refl
 merged-push Definitions e order ts = refl
 
-entries_of-push : (t : Table) (e : Entry) (ts : Tables) → entries_of (push t e ts) t ≡ entries_of ts t ++ e ∷ []
-entries_of-push Types e ts = refl
-entries_of-push Consts e ts = refl
-entries_of-push Patterns e ts = refl
-entries_of-push Predicates e ts = refl
-entries_of-push Existentials e ts = refl
-entries_of-push ClauseLists e ts = refl
-entries_of-push TypeLists e ts = refl
-entries_of-push ConstLists e ts = refl
-entries_of-push ArgLists e ts = refl
-entries_of-push PatternLists e ts = refl
-entries_of-push VarLists e ts = refl
-entries_of-push ExistentialLists e ts = refl
-entries_of-push AssumptionLists e ts = refl
-entries_of-push Symbols e ts = refl
-entries_of-push Declarations e ts = refl
-entries_of-push Definitions e ts = refl
+table_entries-push : (t : Table) (e : TableEntry) (ts : Tables) → table_entries (push t e ts) t ≡ table_entries ts t ++ e ∷ []
+table_entries-push Types e ts = refl
+table_entries-push Consts e ts = refl
+table_entries-push Patterns e ts = refl
+table_entries-push Predicates e ts = refl
+table_entries-push Existentials e ts = refl
+table_entries-push ClauseLists e ts = refl
+table_entries-push TypeLists e ts = refl
+table_entries-push ConstLists e ts = refl
+table_entries-push ArgLists e ts = refl
+table_entries-push PatternLists e ts = refl
+table_entries-push VarLists e ts = refl
+table_entries-push ExistentialLists e ts = refl
+table_entries-push AssumptionLists e ts = refl
+table_entries-push Symbols e ts = refl
+table_entries-push Declarations e ts = refl
+table_entries-push Definitions e ts = refl
 
 -- a new entry of one table leaves the entries of every other table as they are
-pub entries_of-other : (t u : Table) (e : Entry) (ts : Tables) → (t ≡ u → ⊥) → entries_of (push t e ts) u ≡ entries_of ts u
-entries_of-other Types Types e ts apart = absurd (apart refl)
-entries_of-other Consts Consts e ts apart = absurd (apart refl)
-entries_of-other Patterns Patterns e ts apart = absurd (apart refl)
-entries_of-other Predicates Predicates e ts apart = absurd (apart refl)
-entries_of-other Existentials Existentials e ts apart = absurd (apart refl)
-entries_of-other ClauseLists ClauseLists e ts apart = absurd (apart refl)
-entries_of-other TypeLists TypeLists e ts apart = absurd (apart refl)
-entries_of-other ConstLists ConstLists e ts apart = absurd (apart refl)
-entries_of-other ArgLists ArgLists e ts apart = absurd (apart refl)
-entries_of-other PatternLists PatternLists e ts apart = absurd (apart refl)
-entries_of-other VarLists VarLists e ts apart = absurd (apart refl)
-entries_of-other ExistentialLists ExistentialLists e ts apart = absurd (apart refl)
-entries_of-other AssumptionLists AssumptionLists e ts apart = absurd (apart refl)
-entries_of-other Symbols Symbols e ts apart = absurd (apart refl)
-entries_of-other Declarations Declarations e ts apart = absurd (apart refl)
-entries_of-other Definitions Definitions e ts apart = absurd (apart refl)
-entries_of-other _ _ e ts apart = refl
+pub table_entries-other : (t u : Table) (e : TableEntry) (ts : Tables) → (t ≡ u → ⊥) → table_entries (push t e ts) u ≡ table_entries ts u
+table_entries-other Types Types e ts apart = absurd (apart refl)
+table_entries-other Consts Consts e ts apart = absurd (apart refl)
+table_entries-other Patterns Patterns e ts apart = absurd (apart refl)
+table_entries-other Predicates Predicates e ts apart = absurd (apart refl)
+table_entries-other Existentials Existentials e ts apart = absurd (apart refl)
+table_entries-other ClauseLists ClauseLists e ts apart = absurd (apart refl)
+table_entries-other TypeLists TypeLists e ts apart = absurd (apart refl)
+table_entries-other ConstLists ConstLists e ts apart = absurd (apart refl)
+table_entries-other ArgLists ArgLists e ts apart = absurd (apart refl)
+table_entries-other PatternLists PatternLists e ts apart = absurd (apart refl)
+table_entries-other VarLists VarLists e ts apart = absurd (apart refl)
+table_entries-other ExistentialLists ExistentialLists e ts apart = absurd (apart refl)
+table_entries-other AssumptionLists AssumptionLists e ts apart = absurd (apart refl)
+table_entries-other Symbols Symbols e ts apart = absurd (apart refl)
+table_entries-other Declarations Declarations e ts apart = absurd (apart refl)
+table_entries-other Definitions Definitions e ts apart = absurd (apart refl)
+table_entries-other _ _ e ts apart = refl
 
 -- From here on no lemma names a table.
 
 -- the new entry's row is the newest
-pub rows_in_order-push : (order : List Table) (t : Table) (e : Entry) (ts : Tables) → rows_in_order (order ++ t ∷ []) (push t e ts) ≡ e.row ∷ rows_in_order order ts
+pub rows_in_order-push : (order : List Table) (t : Table) (e : TableEntry) (ts : Tables) → rows_in_order (order ++ t ∷ []) (push t e ts) ≡ e.row ∷ rows_in_order order ts
 unfolding rows_in_order
-rows_in_order-push order t e ts = rw (reverse-append order (t ∷ []), reversed-push t e ts) (merged-push t e (reverse order) (reversed ts))
+rows_in_order-push order t e ts = rw (reverse-append order (t ∷ []), reversed_tables-push t e ts) (merged-push t e (reverse order) (reversed_tables ts))
 
 -- the infos of a table without the new row
 AreInfos-other : (r : Row) (rows : List Row) (t : Table) (infos : List FlagComputation) → size (r ∷ rows) t ≡ size rows t → AreInfos rows t infos → AreInfos (r ∷ rows) t infos
@@ -165,15 +165,15 @@ by_table r P own other t = by (is_in t r) refl
     by false is = other t is
 
 -- the row of a new entry is the last of its table's rows
-pub rows_of-push : (t : Table) (e : Entry) (ts : Tables) → rows_of (push t e ts) t ≡ rows_of ts t ++ e.row ∷ []
-rows_of-push t e ts = ap (map (λ (x : Entry). x.row)) (entries_of-push t e ts) ∙ map-append (λ (x : Entry). x.row) (entries_of ts t) (e ∷ [])
+pub rows_of-push : (t : Table) (e : TableEntry) (ts : Tables) → rows_of (push t e ts) t ≡ rows_of ts t ++ e.row ∷ []
+rows_of-push t e ts = ap (map (λ (x : TableEntry). x.row)) (table_entries-push t e ts) ∙ map-append (λ (x : TableEntry). x.row) (table_entries ts t) (e ∷ [])
 
 -- the cached information of a new entry is the last of its table's
-pub infos_of-push : (t : Table) (e : Entry) (ts : Tables) → infos_of (push t e ts) t ≡ infos_of ts t ++ e.info ∷ []
-infos_of-push t e ts = ap (map (λ (x : Entry). x.info)) (entries_of-push t e ts) ∙ map-append (λ (x : Entry). x.info) (entries_of ts t) (e ∷ [])
+pub infos_of-push : (t : Table) (e : TableEntry) (ts : Tables) → infos_of (push t e ts) t ≡ infos_of ts t ++ e.info ∷ []
+infos_of-push t e ts = ap (map (λ (x : TableEntry). x.info)) (table_entries-push t e ts) ∙ map-append (λ (x : TableEntry). x.info) (table_entries ts t) (e ∷ [])
 
 -- the tables with a new entry
-pub AreTables-push : (rows : List Row) (ts : Tables) (limit : ℕ) (e : Entry) → AreTables rows ts limit
+pub AreTables-push : (rows : List Row) (ts : Tables) (limit : ℕ) (e : TableEntry) → AreTables rows ts limit
     → HasParts (size rows) (row_shape e.row) → IndicesFitIn (row_shape e.row) → IsWellFormed rows e.row → IsNew e.row rows → size rows (row_table e.row) < limit → (IsTrue (keeps_info (row_table e.row)) → IsInfo e.info (fill (meaning rows) (row_shape e.row)))
     → AreTables (e.row ∷ rows) (push (row_table e.row) e ts) limit
 unfolding AreRows
@@ -181,10 +181,10 @@ AreTables-push rows ts limit e are parts fit holds new room is = let r = e.row i
   are = (parts, new, fit, holds, are.are);
   has = by_table r (λ t. table t (r ∷ rows) ≡ rows_of (push own e ts) t)
       (table-new r rows ∙ ap (λ l. l ++ r ∷ []) (are.has own) ∙ sym (rows_of-push own e ts))
-      (λ t other. table-other r rows t other ∙ are.has t ∙ ap (map (λ (x : Entry). x.row)) (sym (entries_of-other own t e ts (apart t r other))));
+      (λ t other. table-other r rows t other ∙ are.has t ∙ ap (map (λ (x : TableEntry). x.row)) (sym (table_entries-other own t e ts (apart t r other))));
   infos = by_table r (λ t. IsTrue (keeps_info t) → AreInfos (r ∷ rows) t (infos_of (push own e ts) t))
       (λ keeps. subst (AreInfos (r ∷ rows) own) (sym (infos_of-push own e ts)) (AreInfos-own r rows (infos_of ts own) e.info (size_own r rows) (is keeps) (are.infos own keeps)))
-      (λ t other keeps. subst (λ es. AreInfos (r ∷ rows) t (map (λ (x : Entry). x.info) es)) (sym (entries_of-other own t e ts (apart t r other)))
+      (λ t other keeps. subst (λ es. AreInfos (r ∷ rows) t (map (λ (x : TableEntry). x.info) es)) (sym (table_entries-other own t e ts (apart t r other)))
       (AreInfos-other r rows t (infos_of ts t) (ap length (table-other r rows t other)) (are.infos t keeps)));
   within = by_table r (λ t. size (r ∷ rows) t ≤ limit)
       (let more = size_own r rows in omega arith)
@@ -194,15 +194,12 @@ AreTables-push rows ts limit e are parts fit holds new room is = let r = e.row i
 
 -- a table that a map keeps: the entries' rows are the keys' rows
 module _ {K V : Type 0} (rows : List Row) (ts : Tables) (limit : ℕ) (are : AreTables rows ts limit)
-    (t : Table) (row : K → Row) (info : V → FlagComputation) (es : List (K × V)) (is : entries_of ts t ≡ entries_by row info es) where
-  has_rows : table t rows ≡ map (λ (x : Entry). x.row) (entries_by row info es)
-  has_rows = are.has t ∙ ap (map (λ (x : Entry). x.row)) is
+    (t : Table) (row : K → Row) (info : V → FlagComputation) (es : List (K × V)) (is : table_entries ts t ≡ entries_by row info es) where
+  has_rows : table t rows ≡ map (λ (x : TableEntry). x.row) (entries_by row info es)
+  has_rows = are.has t ∙ ap (map (λ (x : TableEntry). x.row)) is
 
   pub count : length es ≡ size rows t
-  count = sym (ap length has_rows ∙ length-map (entries_by row info es) (λ (x : Entry). x.row) ∙ length-map es (λ e. record { row = row e.0; info = info e.1 }))
-
-  pub in_map : (n : ℕ) → n < size rows t → n < length es
-  in_map n h = let many = count in omega arith
+  count = sym (ap length has_rows ∙ length-map (entries_by row info es) (λ (x : TableEntry). x.row) ∙ length-map es (λ e. record { row = row e.0; info = info e.1 }))
 
   -- an entry's number is a handle's
   pub fits : (n : ℕ) → n < length es → n < 4294967296
@@ -231,23 +228,23 @@ module _ {K V : Type 0} (rows : List Row) (ts : Tables) (limit : ℕ) (are : Are
   key_row n k own e = subst (λ u. slice_get (table u rows) n ≡ Some (row k)) (sym own) (ap (λ l. slice_get l n) has_rows ∙ slice_get-rows row info es n ∙ ap (option_map row) e)
 
 -- the info of an entry
-slice_get-infos : {K : Type 0} (row : K → Row) (es : List (K × FlagComputation)) (i : ℕ) → slice_get (map (λ (x : Entry). x.info) (entries_by row (λ v. v) es)) i ≡ slice_get (values_of es) i
+slice_get-infos : {K : Type 0} (row : K → Row) (es : List (K × FlagComputation)) (i : ℕ) → slice_get (map (λ (x : TableEntry). x.info) (entries_by row (λ v. v) es)) i ≡ slice_get (values_of es) i
 slice_get-infos row [] i = refl
 slice_get-infos row (e ∷ es) zero = refl
 slice_get-infos row (e ∷ es) (suc i) = slice_get-infos row es i
 
 -- where a table keeps cached information, each entry has the information of its row's tree
-pub info_within : {K : Type 0} (rows : List Row) (ts : Tables) (limit : ℕ) → AreTables rows ts limit → (t : Table) (row : K → Row) (es : List (K × FlagComputation)) → entries_of ts t ≡ entries_by row (λ v. v) es
+pub info_within : {K : Type 0} (rows : List Row) (ts : Tables) (limit : ℕ) → AreTables rows ts limit → (t : Table) (row : K → Row) (es : List (K × FlagComputation)) → table_entries ts t ≡ entries_by row (λ v. v) es
     → IsTrue (keeps_info t) → (n : ℕ) (i : FlagComputation) → slice_get (values_of es) n ≡ Some i → IsInfo i (meaning rows t n)
 info_within rows ts limit are t row es is keeps n i e =
-    (are.infos t keeps).each n i (ap (λ l. slice_get (map (λ (x : Entry). x.info) l) n) is ∙ slice_get-infos row es n ∙ e)
+    (are.infos t keeps).each n i (ap (λ l. slice_get (map (λ (x : TableEntry). x.info) l) n) is ∙ slice_get-infos row es n ∙ e)
 
 -- there is one info of a tree
 info_same : (a b : FlagComputation) (t : Tree Depth) → IsInfo a t → IsInfo b t → a ≡ b
 info_same a b t x y = ap (λ n. computed n a.outer_exclusive_binder) (x.flags ∙ sym y.flags) ∙ ap (computed b.flags.bits) (x.outer ∙ sym y.outer)
 
 -- what is kept beside a kind that is there is its info
-pub same_info : {K : Type 0} (rows : List Row) (ts : Tables) (limit : ℕ) → AreTables rows ts limit → (t : Table) (row : K → Row) (es : List (K × FlagComputation)) → entries_of ts t ≡ entries_by row (λ v. v) es → IsTrue (keeps_info t)
+pub same_info : {K : Type 0} (rows : List Row) (ts : Tables) (limit : ℕ) → AreTables rows ts limit → (t : Table) (row : K → Row) (es : List (K × FlagComputation)) → table_entries ts t ≡ entries_by row (λ v. v) es → IsTrue (keeps_info t)
     → (test : K → Bool) (r : Row) → row_table r ≡ t → IsKey test row r → (v i : FlagComputation) → lookup test es ≡ Some v → IsInfo i (fill (meaning rows) (row_shape r)) → v ≡ i
 same_info rows ts limit are t row es is keeps test r own key v i h info =
     let place = value_place test es v h in
@@ -272,7 +269,7 @@ entries_by-added hold row info es es' x v e =
     ∙ ap (λ l. l ++ (record { row = row x; info = info v }) ∷ []) (sym (entries_by-listed hold row info es))
 
 -- What a model owes and tells once an entry was added.
-module _ (order : List Table) (ts ts' : Tables) (e : Entry) (is : ts' ≡ push (row_table e.row) e ts) where
+module _ (order : List Table) (ts ts' : Tables) (e : TableEntry) (is : ts' ≡ push (row_table e.row) e ts) where
   pub rows_added : rows_in_order (order ++ row_table e.row ∷ []) ts' ≡ e.row ∷ rows_in_order order ts
   rows_added = ap (rows_in_order (order ++ row_table e.row ∷ [])) is ∙ rows_in_order-push order (row_table e.row) e ts
 
@@ -283,7 +280,7 @@ module _ (order : List Table) (ts ts' : Tables) (e : Entry) (is : ts' ≡ push (
 
 -- What a building call owes, by what its value was.
 module _ (order order' : List Table) (ts ts' : Tables) (limit : ℕ) (counters : Counters) (old : Terms) (view_is : record { rows = rows_in_order order ts; limit = limit; counters = counters } ≡ old) (keeps : Keeps order ts limit) where
-  module _ (e : Entry) (is : ts' ≡ push (row_table e.row) e ts) (noted : order' ≡ order ++ row_table e.row ∷ []) (n : ℕ) (last : n ≡ size (rows_in_order order ts) (row_table e.row)) (room : n < limit) where
+  module _ (e : TableEntry) (is : ts' ≡ push (row_table e.row) e ts) (noted : order' ≡ order ++ row_table e.row ∷ []) (n : ℕ) (last : n ≡ size (rows_in_order order ts) (row_table e.row)) (room : n < limit) where
     -- the information is right where the table keeps any
     pub kept_by : HasParts (size old.rows) (row_shape e.row) → IndicesFitIn (row_shape e.row) → IsWellFormed old.rows e.row → IsNew e.row old.rows → (IsTrue (keeps_info (row_table e.row)) → IsInfo e.info (fill (meaning old.rows) (row_shape e.row))) → Keeps order' ts' limit
     kept_by parts fit holds new info = record {
@@ -383,7 +380,7 @@ AreTables-none limit small = record {
     infos_of_none Declarations = refl
     infos_of_none Definitions = refl
 
-abbrev pub first_of : Row → Entry
+abbrev pub first_of : Row → TableEntry
 first_of r = record { row = r; info = no_info }
 
 abbrev pub first_tables : Tables

@@ -17,25 +17,25 @@ use Rattle.tt_interner.specs.Rows.{Row, existential_row, text_row, row_table, ta
 use Rattle.tt_interner.specs.Stored.{Terms, Counters, IsInfo, first_rows, anonymous_text}
 use Rattle.tt_interner.specs.Info.{keeps_info}
 use Rattle.std.specs.Prelude.{IsTrue}
-use Rattle.tt_interner.specs.Tables.{Entry, Tables, entries_of, with_entries, push, rows_of, infos_of, reversed, newest}
+use Rattle.tt_interner.specs.Tables.{TableEntry, Tables, table_entries, with_entries, push, rows_of, infos_of, reversed_tables, newest}
 use Rattle.tt_interner.specs.Tables.{older, merged, rows_in_order, entries_by, AreInfos, AreTables, Keeps}
 use Rattle.tt_interner.specs.Existentials.{AreExistentials}
 use Rattle.tt_interner.proofs.RowLaws.{table-other, table-new, meaning-old, slice_get-push_before, slice_get-push_last}
 use Rattle.tt_interner.proofs.RowLaws.{size-more}
 use Rattle.tt_interner.proofs.Trees.{Means-row}
-use Rattle.tt_interner.proofs.TableLaws.{entries_of-other, rows_in_order-push, size_own, apart, by_table, rows_of-push}
+use Rattle.tt_interner.proofs.TableLaws.{table_entries-other, rows_in_order-push, size_own, apart, by_table, rows_of-push}
 use Rattle.tt_interner.proofs.TableLaws.{infos_of-push}
 
 -- there are as many rows as tables in the order
 merged-length : (order : List Table) (ts : Tables) → length (merged order ts) ≡ length order
 unfolding merged
 merged-length [] ts = refl
-merged-length (t ∷ order) ts = ap suc (merged-length order (with_entries ts t (older (entries_of ts t))))
+merged-length (t ∷ order) ts = ap suc (merged-length order (with_entries ts t (older (table_entries ts t))))
 
 -- rows that are kept oldest first are as many as the tables in their order
 pub rows_length : (order : List Table) (ts : Tables) → length (rows_in_order order ts) ≡ length order
 unfolding rows_in_order
-rows_length order ts = merged-length (reverse order) (reversed ts) ∙ length-reverse order
+rows_length order ts = merged-length (reverse order) (reversed_tables ts) ∙ length-reverse order
 
 -- a list is empty, or it has a last item
 last_cases : {X : Type 0} (l : List X) → (l ≡ []) ⊎ ((xs : List X) × (x : X) × (l ≡ xs ++ x ∷ []))
@@ -46,52 +46,52 @@ last_cases {X} (y ∷ ys) = by (last_cases ys)
     by (inl none) = inr ([], y, ap (λ l. y ∷ l) none)
     by (inr more) = inr (y ∷ more.0, more.1, ap (λ l. y ∷ l) more.2)
 
-entries_of-reversed : (t : Table) (ts : Tables) → entries_of (reversed ts) t ≡ reverse (entries_of ts t)
-entries_of-reversed Types ts = refl
-entries_of-reversed Consts ts = refl
-entries_of-reversed Patterns ts = refl
-entries_of-reversed Predicates ts = refl
-entries_of-reversed Existentials ts = refl
-entries_of-reversed ClauseLists ts = refl
-entries_of-reversed TypeLists ts = refl
-entries_of-reversed ConstLists ts = refl
-entries_of-reversed ArgLists ts = refl
-entries_of-reversed PatternLists ts = refl
-entries_of-reversed VarLists ts = refl
-entries_of-reversed ExistentialLists ts = refl
-entries_of-reversed AssumptionLists ts = refl
-entries_of-reversed Symbols ts = refl
-entries_of-reversed Declarations ts = refl
-entries_of-reversed Definitions ts = refl
+table_entries-reversed : (t : Table) (ts : Tables) → table_entries (reversed_tables ts) t ≡ reverse (table_entries ts t)
+table_entries-reversed Types ts = refl
+table_entries-reversed Consts ts = refl
+table_entries-reversed Patterns ts = refl
+table_entries-reversed Predicates ts = refl
+table_entries-reversed Existentials ts = refl
+table_entries-reversed ClauseLists ts = refl
+table_entries-reversed TypeLists ts = refl
+table_entries-reversed ConstLists ts = refl
+table_entries-reversed ArgLists ts = refl
+table_entries-reversed PatternLists ts = refl
+table_entries-reversed VarLists ts = refl
+table_entries-reversed ExistentialLists ts = refl
+table_entries-reversed AssumptionLists ts = refl
+table_entries-reversed Symbols ts = refl
+table_entries-reversed Declarations ts = refl
+table_entries-reversed Definitions ts = refl
 
 -- the newest row is the row of the last table's last entry
-newest_row : (order : List Table) (t : Table) (ts : Tables) (r : Row) (rest : List Row) → rows_in_order (order ++ t ∷ []) ts ≡ r ∷ rest → newest (reverse (entries_of ts t)) ≡ r
+newest_row : (order : List Table) (t : Table) (ts : Tables) (r : Row) (rest : List Row) → rows_in_order (order ++ t ∷ []) ts ≡ r ∷ rest → newest (reverse (table_entries ts t)) ≡ r
 unfolding rows_in_order merged
 newest_row order t ts r rest is =
-    let e : newest (entries_of (reversed ts) t) ∷ merged (reverse order) (with_entries (reversed ts) t (older (entries_of (reversed ts) t))) ≡ r ∷ rest =
-    sym (ap (λ o. merged o (reversed ts)) (reverse-append order (t ∷ []))) ∙ is in
-    let first : newest (entries_of (reversed ts) t) ≡ r = cc in
-    sym (ap newest (entries_of-reversed t ts)) ∙ first
+    let e : newest (table_entries (reversed_tables ts) t) ∷ merged (reverse order) (with_entries (reversed_tables ts) t (older (table_entries (reversed_tables ts) t))) ≡ r ∷ rest =
+    sym (ap (λ o. merged o (reversed_tables ts)) (reverse-append order (t ∷ []))) ∙ is in
+    let first : newest (table_entries (reversed_tables ts) t) ≡ r = cc in
+    sym (ap newest (table_entries-reversed t ts)) ∙ first
 
-newest-push : (es : List Entry) (e : Entry) → newest (reverse (es ++ e ∷ [])) ≡ e.row
+newest-push : (es : List TableEntry) (e : TableEntry) → newest (reverse (es ++ e ∷ [])) ≡ e.row
 newest-push es e = ap newest (reverse-append es (e ∷ []))
 
 no_text : (r : Row) → text_row [] ≡ r → row_table r ≡ Existentials → ⊥
 no_text r is own = let e : Symbols ≡ Existentials = ap row_table is ∙ own in cc
 
 -- the last table is the newest row's table
-last_table : (rows : List Row) (ts : Tables) (limit : ℕ) → AreTables rows ts limit → (t : Table) (r : Row) → newest (reverse (entries_of ts t)) ≡ r → row_table r ≡ Existentials → t ≡ Existentials
-last_table rows ts limit are t r is own = by (last_cases (entries_of ts t))
+last_table : (rows : List Row) (ts : Tables) (limit : ℕ) → AreTables rows ts limit → (t : Table) (r : Row) → newest (reverse (table_entries ts t)) ≡ r → row_table r ≡ Existentials → t ≡ Existentials
+last_table rows ts limit are t r is own = by (last_cases (table_entries ts t))
   where
-    by : (entries_of ts t ≡ []) ⊎ ((es : List Entry) × (e : Entry) × (entries_of ts t ≡ es ++ e ∷ [])) → t ≡ Existentials
+    by : (table_entries ts t ≡ []) ⊎ ((es : List TableEntry) × (e : TableEntry) × (table_entries ts t ≡ es ++ e ∷ [])) → t ≡ Existentials
     by (inl none) = absurd (no_text r (sym (ap (λ es. newest (reverse es)) none) ∙ is) own)
     by (inr more) =
         let e = more.1 in
         let same : e.row ≡ r = sym (newest-push more.0 e) ∙ sym (ap (λ es. newest (reverse es)) more.2) ∙ is in
-        let has : table t rows ≡ map (λ (x : Entry). x.row) more.0 ++ e.row ∷ [] =
-        are.has t ∙ ap (map (λ (x : Entry). x.row)) more.2 ∙ map-append (λ (x : Entry). x.row) more.0 (e ∷ []) in
-        let at : slice_get (table t rows) (length (map (λ (x : Entry). x.row) more.0)) ≡ Some e.row =
-        ap (λ l. slice_get l (length (map (λ (x : Entry). x.row) more.0))) has ∙ slice_get-push_last (map (λ (x : Entry). x.row) more.0) e.row in
+        let has : table t rows ≡ map (λ (x : TableEntry). x.row) more.0 ++ e.row ∷ [] =
+        are.has t ∙ ap (map (λ (x : TableEntry). x.row)) more.2 ∙ map-append (λ (x : TableEntry). x.row) more.0 (e ∷ []) in
+        let at : slice_get (table t rows) (length (map (λ (x : TableEntry). x.row) more.0)) ≡ Some e.row =
+        ap (λ l. slice_get l (length (map (λ (x : TableEntry). x.row) more.0))) has ∙ slice_get-push_last (map (λ (x : TableEntry). x.row) more.0) e.row in
         sym (Means-row rows are.are t _ e.row at).same_table ∙ ap row_table same ∙ own
 
 -- what is kept beside the rows before
@@ -103,13 +103,13 @@ AreInfos-older r rows t infos before many there are = record {
 }
 
 -- the tables without the newest entry
-AreTables-pop : (rows : List Row) (ts : Tables) (limit : ℕ) (e : Entry) → AreTables (e.row ∷ rows) (push (row_table e.row) e ts) limit → AreTables rows ts limit
+AreTables-pop : (rows : List Row) (ts : Tables) (limit : ℕ) (e : TableEntry) → AreTables (e.row ∷ rows) (push (row_table e.row) e ts) limit → AreTables rows ts limit
 unfolding AreRows
 AreTables-pop rows ts limit e are = let r = e.row in let own = row_table e.row in record {
   are = are.are.4;
   has = by_table r (λ t. table t rows ≡ rows_of ts t)
       (same_from_push _ _ r r (sym (table-new r rows) ∙ are.has own ∙ rows_of-push own e ts)).0
-      (λ t other. sym (table-other r rows t other) ∙ are.has t ∙ ap (map (λ (x : Entry). x.row)) (entries_of-other own t e ts (apart t r other)));
+      (λ t other. sym (table-other r rows t other) ∙ are.has t ∙ ap (map (λ (x : TableEntry). x.row)) (table_entries-other own t e ts (apart t r other)));
   infos = by_table r (λ t. IsTrue (keeps_info t) → AreInfos rows t (infos_of ts t))
       (λ keeps. let all = subst (AreInfos (r ∷ rows) own) (infos_of-push own e ts) (are.infos own keeps) in
       let as_many = all.as_many in
@@ -118,7 +118,7 @@ AreTables-pop rows ts limit e are = let r = e.row in let own = row_table e.row i
       AreInfos-older r rows own (infos_of ts own ++ e.info ∷ []) (infos_of ts own) (omega arith)
       (λ n i at. slice_get-push_before (infos_of ts own) e.info n (slice_get_within (infos_of ts own) n i at) ∙ at) all)
       (λ t other keeps.
-      let all = subst (λ es. AreInfos (r ∷ rows) t (map (λ (x : Entry). x.info) es)) (entries_of-other own t e ts (apart t r other)) (are.infos t keeps) in
+      let all = subst (λ es. AreInfos (r ∷ rows) t (map (λ (x : TableEntry). x.info) es)) (table_entries-other own t e ts (apart t r other)) (are.infos t keeps) in
       AreInfos-older r rows t (infos_of ts t) (infos_of ts t) (all.as_many ∙ ap length (table-other r rows t other)) (λ n i at. at) all);
   within = λ t. let more = size-more r rows t in let few = are.within t in omega arith;
   small = are.small;
@@ -135,8 +135,8 @@ first_pop (a ∷ added) r rest is own = let e : rest ≡ added ++ first_rows = c
 -- what was there before the newest row, which is an existential predicate's
 record Before (order : List Table) (ts : Tables) (limit : ℕ) (rest : List Row) : Type 0 where
   front : List Table
-  entries : List Entry
-  entry : Entry
+  entries : List TableEntry
+  entry : TableEntry
   last_table_is : order ≡ front ++ Existentials ∷ []
   last_entry_is : ts.existentials ≡ entries ++ entry ∷ []
   rows : rows_in_order front (record ts { existentials = entries }) ≡ rest
@@ -149,7 +149,7 @@ no_rows ts r rest e = cc
 before : (order : List Table) (ts : Tables) (limit : ℕ) → Keeps order ts limit → (r : Row) (rest : List Row) → rows_in_order order ts ≡ r ∷ rest → row_table r ≡ Existentials → Before order ts limit rest
 before order ts limit keeps r rest is own = by (last_cases order)
   where
-    with_entry : (front : List Table) → order ≡ front ++ Existentials ∷ [] → (es : List Entry) (e : Entry) → ts.existentials ≡ es ++ e ∷ [] → Before order ts limit rest
+    with_entry : (front : List Table) → order ≡ front ++ Existentials ∷ [] → (es : List TableEntry) (e : TableEntry) → ts.existentials ≡ es ++ e ∷ [] → Before order ts limit rest
     with_entry front last_is es e entry_is =
         let ts' : Tables = record ts { existentials = es } in
         let pushed : ts ≡ push Existentials e ts' = ap (λ x. record ts { existentials = x }) entry_is in
@@ -175,7 +175,7 @@ before order ts limit keeps r rest is own = by (last_cases order)
           };
         }
 
-    with_table : (front : List Table) → order ≡ front ++ Existentials ∷ [] → newest (reverse ts.existentials) ≡ r → (ts.existentials ≡ []) ⊎ ((es : List Entry) × (e : Entry) × (ts.existentials ≡ es ++ e ∷ [])) → Before order ts limit rest
+    with_table : (front : List Table) → order ≡ front ++ Existentials ∷ [] → newest (reverse ts.existentials) ≡ r → (ts.existentials ≡ []) ⊎ ((es : List TableEntry) × (e : TableEntry) × (ts.existentials ≡ es ++ e ∷ [])) → Before order ts limit rest
     with_table front last_is first (inl none) = absurd (no_text r (sym (ap (λ es. newest (reverse es)) none) ∙ first) own)
     with_table front last_is first (inr more) = with_entry front last_is more.0 more.1 more.2
 
@@ -184,9 +184,9 @@ before order ts limit keeps r rest is own = by (last_cases order)
     by (inr more) =
         let t = more.1 in
         let at_end : rows_in_order (more.0 ++ t ∷ []) ts ≡ r ∷ rest = sym (ap (λ o. rows_in_order o ts) more.2) ∙ is in
-        let first : newest (reverse (entries_of ts t)) ≡ r = newest_row more.0 t ts r rest at_end in
+        let first : newest (reverse (table_entries ts t)) ≡ r = newest_row more.0 t ts r rest at_end in
         let named : t ≡ Existentials = last_table (rows_in_order order ts) ts limit keeps.tables t r first own in
-        with_table more.0 (more.2 ∙ ap (λ u. more.0 ++ u ∷ []) named) (subst (λ u. newest (reverse (entries_of ts u)) ≡ r) named first) (last_cases ts.existentials)
+        with_table more.0 (more.2 ∙ ap (λ u. more.0 ++ u ∷ []) named) (subst (λ u. newest (reverse (table_entries ts u)) ≡ r) named first) (last_cases ts.existentials)
 
 -- there are rows
 some_row : (order : List Table) (ts : Tables) (limit : ℕ) → Keeps order ts limit → rows_in_order order ts ≡ [] → ⊥

@@ -55,6 +55,6 @@ title rows (region.NamedForPrinting name) = Some name
 title rows _ = None
 
 -- if the bound region is declared, its declaration is there
-abbrev pub IsDeclared : List Row → BoundRegionKind → Type 0
-IsDeclared rows (region.Named id) = id.number < size rows Declarations
-IsDeclared rows _ = ⊤
+abbrev pub IsDeclaredRegion : List Row → BoundRegionKind → Type 0
+IsDeclaredRegion rows (region.Named id) = id.number < size rows Declarations
+IsDeclaredRegion rows _ = ⊤

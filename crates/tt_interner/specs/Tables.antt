@@ -34,7 +34,7 @@ pub record AreJoined (info : FlagComputation) (rest whole : Forest Depth) : Type
       ≡ greatest_reach_all (read_all 0 whole)
 
 -- a row, and its cached information
-pub record Entry : Type 0 where
+pub record TableEntry : Type 0 where
   pub row : Row
   pub info : FlagComputation
 
@@ -44,44 +44,44 @@ no_info = computed 0 0
 
 -- the entries of each table
 pub record Tables : Type 0 where
-  pub types : List Entry
-  pub consts : List Entry
-  pub patterns : List Entry
-  pub predicates : List Entry
-  pub existentials : List Entry
-  pub clause_lists : List Entry
-  pub type_lists : List Entry
-  pub const_lists : List Entry
-  pub arg_lists : List Entry
-  pub pattern_lists : List Entry
-  pub var_lists : List Entry
-  pub existential_lists : List Entry
-  pub assumption_lists : List Entry
-  pub symbols : List Entry
-  pub declarations : List Entry
-  pub definitions : List Entry
+  pub types : List TableEntry
+  pub consts : List TableEntry
+  pub patterns : List TableEntry
+  pub predicates : List TableEntry
+  pub existentials : List TableEntry
+  pub clause_lists : List TableEntry
+  pub type_lists : List TableEntry
+  pub const_lists : List TableEntry
+  pub arg_lists : List TableEntry
+  pub pattern_lists : List TableEntry
+  pub var_lists : List TableEntry
+  pub existential_lists : List TableEntry
+  pub assumption_lists : List TableEntry
+  pub symbols : List TableEntry
+  pub declarations : List TableEntry
+  pub definitions : List TableEntry
 
 -- the entries of one table
-abbrev pub entries_of : Tables → Table → List Entry
-entries_of ts Types = ts.types
-entries_of ts Consts = ts.consts
-entries_of ts Patterns = ts.patterns
-entries_of ts Predicates = ts.predicates
-entries_of ts Existentials = ts.existentials
-entries_of ts ClauseLists = ts.clause_lists
-entries_of ts TypeLists = ts.type_lists
-entries_of ts ConstLists = ts.const_lists
-entries_of ts ArgLists = ts.arg_lists
-entries_of ts PatternLists = ts.pattern_lists
-entries_of ts VarLists = ts.var_lists
-entries_of ts ExistentialLists = ts.existential_lists
-entries_of ts AssumptionLists = ts.assumption_lists
-entries_of ts Symbols = ts.symbols
-entries_of ts Declarations = ts.declarations
-entries_of ts Definitions = ts.definitions
+abbrev pub table_entries : Tables → Table → List TableEntry
+table_entries ts Types = ts.types
+table_entries ts Consts = ts.consts
+table_entries ts Patterns = ts.patterns
+table_entries ts Predicates = ts.predicates
+table_entries ts Existentials = ts.existentials
+table_entries ts ClauseLists = ts.clause_lists
+table_entries ts TypeLists = ts.type_lists
+table_entries ts ConstLists = ts.const_lists
+table_entries ts ArgLists = ts.arg_lists
+table_entries ts PatternLists = ts.pattern_lists
+table_entries ts VarLists = ts.var_lists
+table_entries ts ExistentialLists = ts.existential_lists
+table_entries ts AssumptionLists = ts.assumption_lists
+table_entries ts Symbols = ts.symbols
+table_entries ts Declarations = ts.declarations
+table_entries ts Definitions = ts.definitions
 
 -- the tables with other entries in one
-abbrev pub with_entries : Tables → Table → List Entry → Tables
+abbrev pub with_entries : Tables → Table → List TableEntry → Tables
 with_entries ts Types es = record ts { types = es }
 with_entries ts Consts es = record ts { consts = es }
 with_entries ts Patterns es = record ts { patterns = es }
@@ -100,20 +100,20 @@ with_entries ts Declarations es = record ts { declarations = es }
 with_entries ts Definitions es = record ts { definitions = es }
 
 -- the tables with one entry more
-abbrev pub push : Table → Entry → Tables → Tables
-push t e ts = with_entries ts t (entries_of ts t ++ e ∷ [])
+abbrev pub push : Table → TableEntry → Tables → Tables
+push t e ts = with_entries ts t (table_entries ts t ++ e ∷ [])
 
 -- the rows of one table
 abbrev pub rows_of : Tables → Table → List Row
-rows_of ts t = map (λ e. e.row) (entries_of ts t)
+rows_of ts t = map (λ e. e.row) (table_entries ts t)
 
 -- the cached information of the rows of one table
 abbrev pub infos_of : Tables → Table → List FlagComputation
-infos_of ts t = map (λ e. e.info) (entries_of ts t)
+infos_of ts t = map (λ e. e.info) (table_entries ts t)
 
 -- each table newest first
-abbrev pub reversed : Tables → Tables
-reversed ts = record {
+abbrev pub reversed_tables : Tables → Tables
+reversed_tables ts = record {
   types = reverse ts.types;
   consts = reverse ts.consts;
   patterns = reverse ts.patterns;
@@ -133,35 +133,35 @@ reversed ts = record {
 }
 
 -- the row of the newest entry
-abbrev pub newest : List Entry → Row
+abbrev pub newest : List TableEntry → Row
 newest [] = text_row []
 newest (e ∷ es) = e.row
 
 -- the entries before the newest
-abbrev pub older : List Entry → List Entry
+abbrev pub older : List TableEntry → List TableEntry
 older [] = []
 older (e ∷ es) = es
 
 -- the rows of all tables in the order that is given, newest first
 unfoldable pub merged : List Table → Tables → List Row
 merged [] ts = []
-merged (t ∷ order) ts = newest (entries_of ts t) ∷ merged order (with_entries ts t (older (entries_of ts t)))
+merged (t ∷ order) ts = newest (table_entries ts t) ∷ merged order (with_entries ts t (older (table_entries ts t)))
 
 -- the rows of tables and of an order that are kept oldest first
 unfoldable pub rows_in_order : List Table → Tables → List Row
-rows_in_order order ts = merged (reverse order) (reversed ts)
+rows_in_order order ts = merged (reverse order) (reversed_tables ts)
 
 -- the entries of a map
-abbrev pub entries_by : {K V : Type 0} → (K → Row) → (V → FlagComputation) → List (K × V) → List Entry
+abbrev pub entries_by : {K V : Type 0} → (K → Row) → (V → FlagComputation) → List (K × V) → List TableEntry
 entries_by row info es = map (λ e. record { row = row e.0; info = info e.1 }) es
 
 -- the entries of declarations, numbered from n
-abbrev pub declared_entries : ℕ → List Declaration → List Entry
+abbrev pub declared_entries : ℕ → List Declaration → List TableEntry
 declared_entries n [] = []
 declared_entries n (d ∷ ds) = record { row = declared_row n d; info = no_info } ∷ declared_entries (n + 1) ds
 
 -- the entries of definitions
-abbrev pub defined_entries : {S : Type 0} → List (Id S × Vec VariantDef Global) → List Entry
+abbrev pub defined_entries : {S : Type 0} → List (Id S × Vec VariantDef Global) → List TableEntry
 defined_entries es = map (λ e. record { row = defined_row e.0.number (map variant_of e.1.items); info = no_info }) es
 
 -- the entries of a map whose keys own memory, by what the keys hold

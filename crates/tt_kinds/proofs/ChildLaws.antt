@@ -1,17 +1,11 @@
 -- From the children of a node to the node.
-use Rattle.std.proofs.Common.{inl, inr, ◌≡◌, ℕ, List}
-use Rattle.std.specs.Prelude.{⊤, Bool, true, false}
+use Rattle.std.proofs.Common.{inl, inr, ◌≡◌, ℕ}
+use Rattle.std.specs.Prelude.{Bool, true, false}
 use Rattle.std.specs.Bool.{OnTrue}
 use Rattle.tt_kinds.specs.Label.{Name, Sort, Label, is_type_or_clause}
-use Rattle.tt_kinds.specs.Tree.{Depth, Tree, term, Forest, also}
-use Rattle.tt_kinds.specs.Reading.{read, read_all, FitsUnder, FitsUnder_all}
-use Rattle.tt_kinds.specs.Argument.{Argument}
+use Rattle.tt_kinds.specs.Tree.{Tree, term, Forest, also}
 use Rattle.tt_kinds.specs.Param.{HasParam, HasParam_among, IsGeneric_among}
-use Rattle.tt_kinds.specs.Cause.{HasExposed, HasExposed_among, HidesRegionVars, Cause}
-use Rattle.tt_index.specs.declared.refusal.Refusal.{Refusal}
-use Rattle.tt_index.specs.declared.refusal.Refusal.TheVariants.{Memory, TableFull, GreatestIndex, NoArguments}
-use Rattle.tt_index.specs.declared.refusal.Refusal.TheVariants.{ArgOutOfRange, ArgKind, RegionVariable, NotAClause}
-use Rattle.tt_index.specs.declared.refusal.Refusal.TheVariants.{NoSuchAnswer}
+use Rattle.tt_kinds.specs.Cause.{HasExposed, HasExposed_among, HidesRegionVars}
 
 -- the tree is one of the children
 pub data Among {I : Type 0} (t : Tree I) : Forest I → Type 0 where
@@ -27,27 +21,6 @@ HasParam-among P t ts (later {ts = rest} m) h = inr (HasParam-among P t rest m h
 pub HasExposed-among : {I : Type 0} (x : ℕ) (t : Tree I) (ts : Forest I) → Among t ts → HasExposed x t → HasExposed_among x ts
 HasExposed-among x t ts here h = inl h
 HasExposed-among x t ts (later {ts = rest} m) h = inr (HasExposed-among x t rest m h)
-
-pub FitsUnder-among : (k : ℕ) (t : Tree Depth) (ts : Forest Depth) → Among t ts → FitsUnder_all k (read_all k ts) → FitsUnder k (read k t)
-FitsUnder-among k t ts here h = h.0
-FitsUnder-among k t ts (later {ts = rest} m) h = FitsUnder-among k t rest m h.1
-
-always_on : (b : Bool) {P : Type 0} → P → OnTrue b P
-always_on true h = h
-always_on false h = tt
-
--- a cause in a child of a node with parameters is a cause in the node
-pub Cause-child : (args : List (Argument Depth)) (l : Label Name) (t : Tree Depth) (ts : Forest Depth) → Among t ts → IsGeneric_among ts →
-    (e : Refusal) → Cause t args e → Cause (term l ts) args e
-Cause-child args l t ts m g Memory h = h
-Cause-child args l t ts m g TableFull h = h
-Cause-child args l t ts m g GreatestIndex h = h
-Cause-child args l t ts m g NotAClause h = h
-Cause-child args l t ts m g NoSuchAnswer h = h
-Cause-child args l t ts m g NoArguments h = (h.0, HasParam-among (λ s i. ⊤) t ts m h.1)
-Cause-child args l t ts m g (ArgOutOfRange index) h = (h.0, HasParam-among _ t ts m h.1, h.2)
-Cause-child args l t ts m g (ArgKind index) h = HasParam-among _ t ts m h
-Cause-child args l t ts m g (RegionVariable x) h = (h.0, (always_on (is_type_or_clause l) g, HasExposed-among x t ts m h.1))
 
 -- no region variable is exposed among the trees
 abbrev pub HidesRegionVars_among : {I : Type 0} → Forest I → Type 0

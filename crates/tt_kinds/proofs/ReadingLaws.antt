@@ -4,7 +4,7 @@ use Rattle.std.proofs.lemmas.Bool.{cases_lt, lt-ltb, le-ltb}
 use Rattle.tt_kinds.specs.Tree.{Depth, at, canonical, Place, own, outer, apart, Tree, param, rebuild, replace}
 use Rattle.tt_kinds.specs.Reading.{place, keep, read, moved, move}
 use Rattle.tt_kinds.specs.Plain.{shifted, shift_tree}
-use Rattle.tt_kinds.proofs.RebuildLaws.{rebuild-anywhere, rebuild-same, Each-always, rebuild-deeper, rebuild-nothing}
+use Rattle.tt_kinds.proofs.RebuildLaws.{rebuild-anywhere, Each-always, rebuild-deeper, rebuild-nothing}
 use Rattle.tt_kinds.proofs.RebuildLaws.{rebuild-joined, replace-rebuild, replace-replace}
 
 -- a variable whose binder is among the k, and one whose binder is not
@@ -96,18 +96,6 @@ move-move m n r = replace-replace (moved n) param (moved m) param (moved (m + n)
     further (own d) = refl
     further (outer j) = ap outer (omega arith)
     further apart = refl
-
--- a move by nothing
-pub move-zero : (r : Tree Place) → move 0 r ≡ r
-move-zero r =
-    sym (rebuild-anywhere (moved 0) param 0 r)
-    ∙ rebuild-same (λ j. moved 0) (λ j d. d) keep keep 0 r (Each-always _ _ (λ j. still) (λ j s i name. refl) 0 r)
-    ∙ rebuild-nothing 0 r
-  where
-    still : (p : Place) → moved 0 p ≡ p
-    still (own d) = refl
-    still (outer j) = ap outer (omega arith)
-    still apart = refl
 
 -- the place n binders further in, if it is outside
 abbrev moved_back : ℕ → Place → Place

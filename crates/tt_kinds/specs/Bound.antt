@@ -46,5 +46,5 @@ abbrev pub ty_entry : BoundTy → Entry ℕ
 ty_entry b = record { var = b.var; kind = type_variable b.kind }
 
 -- a bound constant: its place in the binder's list
-abbrev pub const_entry : BoundConst → Entry ℕ
+abbrev pub const_entry : {N : Type 0} → BoundConst → Entry N
 const_entry b = record { var = b.var; kind = const_variable }

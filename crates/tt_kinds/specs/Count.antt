@@ -29,8 +29,8 @@ abbrev mutual
   generic_types_among k (also t ts) = generic_types k t ++ generic_types_among k ts
 
 -- how many places there are
-abbrev pub positions : Tree Depth → ℕ
-positions t = length (generic_types 0 t)
+abbrev pub place_count : Tree Depth → ℕ
+place_count t = length (generic_types 0 t)
 
 -- a leaf of the sort is a type
 abbrev pub is_type_sort : Sort → Bool

@@ -31,7 +31,7 @@ module _ {S A : Type 0} (gives : S → Option A → S → Type 0) where
     abbrev pub GivesCopied : IterIdentityCopied S → Option (Unnormalized B) → IterIdentityCopied S → Type 0
     GivesCopied s r t =
         MatchOption r (gives s.it None t.it) (λ copied. (item : A) × gives s.it (Some item) t.it
-            × dereferences item copied.value)
+        × dereferences item copied.value)
 
     -- p gave what each item of q dereferences to; f is the function that says what that is, where there is one
     abbrev pub CopiesRun : Run GivesCopied → Run gives → Type 0

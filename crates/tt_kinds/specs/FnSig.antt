@@ -25,8 +25,10 @@ variadic_bits false = 0
 -- these parts, packed: the convention, whether the function is safe and variadic, and the index of the splatted
 -- argument
 abbrev pub packed : ExternAbi → Safety → Bool → Option ℕ → FnSigKind
-packed abi safety variadic splat = record { flags = abi_number abi + safety_bits safety + variadic_bits variadic;
-    splat = unwrap_or splat 65535 }
+packed abi safety variadic splat = record {
+  flags = abi_number abi + safety_bits safety + variadic_bits variadic;
+  splat = unwrap_or splat 65535;
+}
 
 -- the convention
 abbrev pub abi_in : FnSigKind → ExternAbi
@@ -70,8 +72,10 @@ plain_header = record { fn_sig_kind = packed Rust Safe false None }
 
 -- the types of a signature, under its binder
 abbrev pub types_in : Binder FnSig → Binder FnSigTys
-types_in sig = record { value = record { inputs_and_output = sig.value.inputs_and_output };
-    bound_vars = sig.bound_vars }
+types_in sig = record {
+  value = record { inputs_and_output = sig.value.inputs_and_output };
+  bound_vars = sig.bound_vars;
+}
 
 -- the other parts of a signature
 abbrev pub header_in : Binder FnSig → FnHeader
@@ -79,5 +83,10 @@ header_in sig = record { fn_sig_kind = sig.value.fn_sig_kind }
 
 -- the signature of these types and these other parts
 abbrev pub joined : Binder FnSigTys → FnHeader → Binder FnSig
-joined types header = record { value = record { inputs_and_output = types.value.inputs_and_output;
-    fn_sig_kind = header.fn_sig_kind }; bound_vars = types.bound_vars }
+joined types header = record {
+  value = record {
+    inputs_and_output = types.value.inputs_and_output;
+    fn_sig_kind = header.fn_sig_kind;
+  };
+  bound_vars = types.bound_vars;
+}

@@ -14,9 +14,6 @@ shifted n k canonical = canonical
 abbrev pub shift_tree : ℕ → ℕ → Tree Depth → Tree Depth
 shift_tree k n t = rebuild (shifted n) keep k t
 
-abbrev pub shift_forest : ℕ → ℕ → Forest Depth → Forest Depth
-shift_forest k n ts = rebuild_all (shifted n) keep k ts
-
 -- the argument as it is under k binders, or the parameter
 abbrev pub shifted_or : Option (Tree Depth) → ℕ → Sort → ℕ → Name → Tree Depth
 shifted_or None k s i name = param s i name

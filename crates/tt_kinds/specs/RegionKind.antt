@@ -19,5 +19,5 @@ IsShallow ReErased = ⊤
 IsShallow (ReError e) = ⊤
 
 -- the region bound by the binder of this index
-abbrev pub bound_at : ℕ → BoundRegion → RegionKind
-bound_at d b = ReBound (Bound d) b
+abbrev pub region_bound_at : ℕ → BoundRegion → RegionKind
+region_bound_at d b = ReBound (Bound d) b

@@ -252,17 +252,6 @@ sort_table region_sort = None
 sort_table type_sort = Some Types
 sort_table const_sort = Some Consts
 
--- the table that a row of this shape is in
-abbrev pub shape_table : Shape → Option Table
-shape_table (param s i name) = sort_table s
-shape_table (bound s d e) = sort_table s
-shape_table (region r) = None
-shape_table (term l ss) = label_table l
-shape_table (node l ss) = label_table l
-shape_table (binder n s) = None
-shape_table (stored t n) = None
-shape_table (part_of t n e) = None
-
 -- a shape that is no row: what is stored is in it as handles in range
 abbrev mutual
   pub IsPart : Sizes → Shape → Type 0

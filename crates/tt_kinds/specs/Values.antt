@@ -63,15 +63,15 @@ abbrev pub two_record : RecordLabel ℕ → Shape → Shape → Shape
 two_record l s u = shape.node (record_label l) (shape.also s (shape.also u shape.none))
 
 -- two values
-abbrev pub pair_shape : {S T : Type 0} → (S → Shape) → (T → Shape) → S × T → Shape
-pair_shape of_first of_second p = shape.node (record_label pair_record)
+abbrev pub tuple_shape : {S T : Type 0} → (S → Shape) → (T → Shape) → S × T → Shape
+tuple_shape of_first of_second p = shape.node (record_label pair_record)
     (shape.also (of_first p.0) (shape.also (of_second p.1) shape.none))
 
 -- three values
 abbrev pub triple_shape : {S T U : Type 0} → (S → Shape) → (T → Shape) → (U → Shape) → S × T × U → Shape
 triple_shape of_first of_second of_third p =
     shape.node (record_label triple_record) (shape.also (of_first p.0)
-        (shape.also (of_second p.1) (shape.also (of_third p.2) shape.none)))
+    (shape.also (of_second p.1) (shape.also (of_third p.2) shape.none)))
 
 -- a value, if there is one
 abbrev pub option_shape : {T : Type 0} → (T → Shape) → Option T → Shape

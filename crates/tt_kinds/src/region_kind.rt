@@ -88,7 +88,7 @@ impl Model for Region {
 }
 
 impl Region {
-    ghost use Rattle.tt_kinds.specs.RegionKind.{IsShallow, bound_at};
+    ghost use Rattle.tt_kinds.specs.RegionKind.{IsShallow, region_bound_at};
     ghost use Rattle.tt_kinds.specs.Shape.{Meaning, fill};
     ghost use Rattle.tt_kinds.specs.Kinds.{region_shape};
     ghost use Rattle.tt_kinds.specs.Scan.{scan};
@@ -138,7 +138,7 @@ impl Region {
     /// Returns the bound region of this index. Refused with `GreatestIndex` if the index is the greatest, and never
     /// otherwise.
     pub fn new_bound(index: DebruijnIndex, bound_region: BoundRegion) -> Result<Region, Refusal>
-        ensures ok { index < greatest → result ≡ Ok (bound_at index bound_region) }
+        ensures ok { index < greatest → result ≡ Ok (region_bound_at index bound_region) }
         ensures deep { greatest ≤ index → result ≡ Err Refusal.GreatestIndex }
     {
         Region::new(RegionKind::ReBound(BoundVarIndexKind::Bound(index), bound_region))

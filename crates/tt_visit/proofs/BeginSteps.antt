@@ -19,7 +19,7 @@ use Rattle.tt_kinds.specs.declared.parts.Parts.{Parts}
 use Rattle.tt_kinds.specs.declared.table.Table.TheVariants.{VarLists}
 use Rattle.tt_interner.specs.Children.{children_at}
 use Rattle.tt_interner.specs.Rows.{Row, meaning, size}
-use Rattle.tt_visit.specs.Steps.{AreStored, GoesUnder, BreaksUnder}
+use Rattle.tt_visit.specs.Steps.{AreVarsStored, GoesUnder, BreaksUnder}
 use Rattle.tt_visit.specs.Visit.{Visits, GoesOverAll, all_seen, node_seen, value_seen, binder_seen, BreaksAll}
 use Rattle.tt_visit.specs.Visit.{node_broke, value_broke, under_broke}
 use Rattle.tt_visit.specs.declared.visitor.Next.TheVariants.{Descend}
@@ -94,14 +94,14 @@ work-append f (also x ss) us = omega (arith, work-append f ss us)
 
 -- the parts of a term
 module _ {rows : List Row} {p : Parts} {vars : Option BoundVarKinds} {f : Frame} where
-  pub holds-frame : HoldsParts p vars f → AreStored (size rows) vars → AreParts (size rows) (parts_shapes p) → IsFrame rows f
+  pub holds-frame : HoldsParts p vars f → AreVarsStored (size rows) vars → AreParts (size rows) (parts_shapes p) → IsFrame rows f
   holds-frame h stored are = record {
     rest = h.rest rows;
     todo = record { parts = rw (h.children rows, shapes-present p.second) are; binder = rw h.binder stored };
   }
 
   pub holds-inside : {M B : Type 0} {V : Visits M B} {P : M → Type 0} {Q : B → M → Type 0} {s : M}
-      → HoldsParts p vars f → AreStored (size rows) vars → AreParts (size rows) (parts_shapes p)
+      → HoldsParts p vars f → AreVarsStored (size rows) vars → AreParts (size rows) (parts_shapes p)
       → ((m s2 : M) → GoesOverAll V s (fill_all (meaning rows) (parts_shapes p)) m → Leaves V rows m vars s2 → P s2)
       → ((b : B) (m s2 : M) → BreaksAll V s (fill_all (meaning rows) (parts_shapes p)) b m → Leaves V rows m vars s2 → Q b s2)
       → Inside V rows P Q (parts_height rows p + 1) (forest_work (fill_all (meaning rows) (parts_shapes p)) + 3) f s

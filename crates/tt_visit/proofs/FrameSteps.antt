@@ -7,7 +7,7 @@ use Rattle.tt_kinds.specs.declared.parts.Child.{Child}
 use Rattle.tt_kinds.specs.declared.parts.Child.TheVariants as child
 use Rattle.tt_kinds.specs.Handle.{BoundVarKinds}
 use Rattle.tt_interner.specs.Rows.{Row, meaning, size}
-use Rattle.tt_visit.specs.Steps.{AreStored}
+use Rattle.tt_visit.specs.Steps.{AreVarsStored}
 use Rattle.tt_visit.specs.Visit.{Visits, GoesOverAll, all_seen, BreaksAll}
 use Rattle.tt_visit.specs.Frames.{rest_children, rest_binder, frame_children, IsRest, IsKept, inward, children_height}
 use Rattle.tt_visit.specs.Frames.{children_work, child_height, child_work, frame_todo, rest_todo, IsFrame, AreRests}
@@ -260,7 +260,7 @@ module _ (rows : List Row) where
 
 -- the binders around a break, one by one
 pub binders-next : (size : Sizes) (frames frames' : List Remaining) (r : Remaining) → AreBinders size (inward frames) → frames ≡ frames' ++ r ∷ []
-    → AreStored size (rest_binder r) × AreBinders size (inward frames')
+    → AreVarsStored size (rest_binder r) × AreBinders size (inward frames')
 binders-next size frames frames' r are popped = rw (popped, inward-more frames' r) at are
 
 -- the binders of a stack are left if the innermost one is, and then the binders around it

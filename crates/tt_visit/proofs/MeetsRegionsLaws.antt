@@ -65,9 +65,6 @@ free-meets (placeholder_region u v r) h = let never = h in cc
 misses-left : (a b n : ℕ) → Misses (bit_or a b) n → Misses a n
 misses-left a b n h = and_comm a n ∙ bits-left n a b (and_comm n (bit_or a b) ∙ h)
 
-misses-right : (a b n : ℕ) → Misses (bit_or a b) n → Misses b n
-misses-right a b n h = and_comm b n ∙ bits-right n a b (and_comm n (bit_or a b) ∙ h)
-
 misses-both : (a b n : ℕ) → Misses a n → Misses b n → Misses (bit_or a b) n
 misses-both a b n h g = and_comm (bit_or a b) n ∙ bits-both n a b (and_comm n a ∙ h) (and_comm n b ∙ g)
 
@@ -226,11 +223,6 @@ missed m n b is asked = absent (bit_and m n) asked
     absent : (x : ℕ) → (IsTrue b ↔ (x ≢ 0)) → x ≡ 0
     absent zero h = refl
     absent (suc x) h = let never = h.1 (λ z. omega (arith, z)) in cc
-
--- an answer that none is met
-pub none-met : (ms : List Met) (b : Bool) → b ≡ false → (IsTrue b ↔ (ms ≢ [])) → ms ≡ []
-none-met [] b is asked = refl
-none-met (m ∷ ms) b is asked = let never = asked.1 (λ e. cc) in cc
 
 -- a test of indices that fails
 pub low-enough : (k n : ℕ) (b : Bool) → b ≡ false → (IsTrue b ↔ (k < n)) → n ≤ k

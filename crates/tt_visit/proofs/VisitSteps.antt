@@ -40,7 +40,7 @@ use Rattle.tt_visit.specs.Visit.{Visits, Tells, TellingBreaks, GoesOver, GoesIns
 use Rattle.tt_visit.specs.Visit.{unhooked_seen, node_seen, term_seen, param_seen, bound_seen, all_seen, one_seen}
 use Rattle.tt_visit.specs.Visit.{Breaks, BreaksInside, BreaksAll, term_broke, inside_broke, unhooked_broke, node_broke}
 use Rattle.tt_visit.specs.Visit.{error_broke, term_inside_broke, first_broke, later_broke}
-use Rattle.tt_visit.specs.Steps.{form_error, kind_error, AreStored, Asks, AskingBreaks, GoesUnder, BreaksUnder}
+use Rattle.tt_visit.specs.Steps.{form_error, kind_error, AreVarsStored, Asks, AskingBreaks, GoesUnder, BreaksUnder}
 
 -- a result that keeps a promise, whether it goes on or breaks, keeps every weaker promise
 pub flow-weaker : {B C : Type 0} (r : ControlFlow B C) {P P' : C → Type 0} {Q Q' : B → Type 0}
@@ -169,14 +169,14 @@ module _ {M B : Type 0} (V : Visits M B) where
   asking-broke no_term s s' t b is h = absurd h
 
 -- the contents of a kind
-parts-form : (size : Sizes) (s : Sort) (x : Form (Label ℕ)) → HasParts size (form_shape s x) → AreStored size (form_binder x) × AreParts size (parts_shapes (form_parts x))
+parts-form : (size : Sizes) (s : Sort) (x : Form (Label ℕ)) → HasParts size (form_shape s x) → AreVarsStored size (form_binder x) × AreParts size (parts_shapes (form_parts x))
 parts-form size s (param i name) h = (tt, tt)
 parts-form size s (bound d e) h = (tt, tt)
 parts-form size s (plain l p) h = (tt, h.1)
 parts-form size s (under l vars m p) h = (h.1.0.0, h.1.0.1.2)
 
 -- if the contents of a kind are in range, so are its binder's variables and its parts
-pub parts-kind : (size : Sizes) (k : Kind) → HasParts size (kind_shape k) → AreStored size (form_binder (kind_form k)) × AreParts size (parts_shapes (form_parts (kind_form k)))
+pub parts-kind : (size : Sizes) (k : Kind) → HasParts size (kind_shape k) → AreVarsStored size (form_binder (kind_form k)) × AreParts size (parts_shapes (form_parts (kind_form k)))
 parts-kind size k h = parts-form size (kind_sort k) (kind_form k) h
 
 -- a name does not hide an error

@@ -1,6 +1,5 @@
 -- How deep a visit may go: the ages of the contents of a kind or a list.
-use Rattle.std.proofs.Common.{ℕ, ◌+◌, ◌<◌, ◌≤◌, List, [], ◌∷◌, take, drop, arith}
-use Rattle.std.specs.Prelude.{slice_get, Some, ◌≡◌}
+use Rattle.std.proofs.Common.{ℕ, ◌<◌, ◌≤◌, List, [], ◌∷◌, arith}
 use Rattle.tt_kinds.specs.Label.{Sort, Label}
 use Rattle.tt_kinds.specs.Shape.{Shapes, append, none, also}
 use Rattle.tt_kinds.specs.Kinds.{Form, param, bound, plain, under, form_parts, form_shape, kind_form, kind_sort}
@@ -12,7 +11,6 @@ use Rattle.tt_kinds.specs.declared.parts.Kind.{Kind}
 use Rattle.tt_interner.specs.Rows.{Row, IsOlder, AreOlder}
 use Rattle.tt_visit.specs.Frames.{children_height}
 pub use Rattle.tt_visit.specs.Frames.{node_age, list_age, child_height, parts_height}
-use Rattle.tt_visit.proofs.VisitSteps.{children-from}
 
 older-before : (rows : List Row) (a : ℕ) (ss us : Shapes) → AreOlder rows a (append ss us) → AreOlder rows a ss
 older-before rows a none us h = tt
@@ -52,9 +50,3 @@ low-children rows a (c ∷ cs) h =
     let first = low-child rows a c (older-before rows a (child_shapes c) (children_shapes cs) h) in
     let more = low-children rows a cs (older-after rows a (child_shapes c) (children_shapes cs) h) in
     omega arith
-
--- the same for one of them
-pub low-item : (rows : List Row) (a : ℕ) (list : List Child) (n : ℕ) (x : Child) → slice_get list n ≡ Some x → AreOlder rows a (children_shapes list) → child_height rows x ≤ a
-low-item rows a list n x h older =
-    low-child rows a x (older-before rows a (child_shapes x) (children_shapes (drop (n + 1) list))
-    (older-after rows a (children_shapes (take n list)) (append (child_shapes x) (children_shapes (drop (n + 1) list))) (rw (children-from list n x h) at older)))

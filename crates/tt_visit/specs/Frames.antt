@@ -18,7 +18,7 @@ use Rattle.tt_kinds.specs.declared.parts.Parts.{Parts}
 use Rattle.tt_kinds.specs.declared.table.Table.TheVariants.{VarLists}
 use Rattle.tt_interner.specs.Children.{children_at}
 use Rattle.tt_interner.specs.Rows.{Row, age, meaning, size}
-use Rattle.tt_visit.specs.Steps.{AreStored}
+use Rattle.tt_visit.specs.Steps.{AreVarsStored}
 use Rattle.tt_visit.specs.Visit.{Visits, GoesOverAll, BreaksAll}
 use Rattle.tt_visit.specs.declared.frame.Frame.{Frame}
 use Rattle.tt_visit.specs.declared.frame.Remaining.{Remaining}
@@ -151,7 +151,7 @@ todo_trees rows t = fill_all (meaning rows) (children_shapes t.children)
 -- what is left is stored
 pub record IsTodo (rows : List Row) (t : Todo) : Type 0 where
   pub parts : AreParts (size rows) (children_shapes t.children)
-  pub binder : AreStored (size rows) t.binder
+  pub binder : AreVarsStored (size rows) t.binder
 
 -- the same of a frame
 pub record IsFrame (rows : List Row) (f : Frame) : Type 0 where
@@ -167,7 +167,7 @@ AreRests rows h (r ∷ rs) = IsRest rows r × IsTodo rows (rest_todo rows r)
 -- the binders that are to be left are stored
 abbrev pub AreBinders : Sizes → List Remaining → Type 0
 AreBinders size [] = ⊤
-AreBinders size (r ∷ rs) = AreStored size (rest_binder r) × AreBinders size rs
+AreBinders size (r ∷ rs) = AreVarsStored size (rest_binder r) × AreBinders size rs
 
 -- the frame holds the parts of a term, under its binder
 pub record HoldsParts (parts : Parts) (vars : Option BoundVarKinds) (f : Frame) : Type 0 where

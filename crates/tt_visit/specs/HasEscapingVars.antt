@@ -15,9 +15,9 @@ pub record Search : Type 0 where
   pub skipped : Bool
 
 -- a binder is entered with one more binder to count, and skipped if there is no index for it
-abbrev pub Enters : Search → Next → Search → Type 0
-Enters s Descend s' = s' ≡ record { outer_index = s.outer_index + 1; skipped = s.skipped }
-Enters s Skip s' = (greatest ≤ s.outer_index) × (s' ≡ record { outer_index = s.outer_index; skipped = true })
+abbrev pub SearchEnters : Search → Next → Search → Type 0
+SearchEnters s Descend s' = s' ≡ record { outer_index = s.outer_index + 1; skipped = s.skipped }
+SearchEnters s Skip s' = (greatest ≤ s.outer_index) × (s' ≡ record { outer_index = s.outer_index; skipped = true })
 
 -- a value that reaches far enough out breaks, and no term with a hook is entered
 abbrev pub search_hooks : Visits Search FoundEscapingVars
@@ -28,7 +28,7 @@ search_hooks = record {
   error_breaks = λ s e b s'. ⊥;
   on_term = λ s t next s'. (s' ≡ s) × (next ≡ Skip) × (outer_binder t ≤ s.outer_index);
   term_breaks = λ s t b s'. (s' ≡ s) × (s.outer_index < outer_binder t);
-  enter = λ s vs next s'. Enters s next s';
+  enter = λ s vs next s'. SearchEnters s next s';
   enter_breaks = λ s vs b s'. ⊥;
   leave = λ s vs s'. s' ≡ record { outer_index = s.outer_index - 1; skipped = s.skipped };
 }

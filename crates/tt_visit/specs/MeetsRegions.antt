@@ -26,14 +26,14 @@ pub record RegionSearch : Type 0 where
   pub skipped : Bool
 
 -- a term that meets no region is skipped; it is entered if its regions are all bound and it reaches past k binders
-abbrev pub Looks : ℕ → Tree Depth → Next → Type 0
-Looks k t Skip = MeetsNone k t
-Looks k t Descend = Misses 0x220000 (scan t) × Meets 0x40000 (scan t) × (k < outer_binder t)
+abbrev pub RegionSearchLooks : ℕ → Tree Depth → Next → Type 0
+RegionSearchLooks k t Skip = MeetsNone k t
+RegionSearchLooks k t Descend = Misses 0x220000 (scan t) × Meets 0x40000 (scan t) × (k < outer_binder t)
 
 -- a binder is entered with one more binder to count, and skipped if there is no index for it
-abbrev pub Enters : RegionSearch → Next → RegionSearch → Type 0
-Enters s Descend s' = s' ≡ record { depth = s.depth + 1; skipped = s.skipped }
-Enters s Skip s' = (greatest ≤ s.depth) × (s' ≡ record { depth = s.depth; skipped = true })
+abbrev pub RegionSearchEnters : RegionSearch → Next → RegionSearch → Type 0
+RegionSearchEnters s Descend s' = s' ≡ record { depth = s.depth + 1; skipped = s.skipped }
+RegionSearchEnters s Skip s' = (greatest ≤ s.depth) × (s' ≡ record { depth = s.depth; skipped = true })
 
 -- a term in which a region is met breaks, unless only the walk of its bound regions decides that
 abbrev pub meets_hooks : Visits RegionSearch MetRegion
@@ -42,9 +42,9 @@ meets_hooks = record {
   region_breaks = λ s t b s'. (s' ≡ s) × MeetsSome s.depth t;
   on_error = λ s e s'. s' ≡ s;
   error_breaks = λ s e b s'. ⊥;
-  on_term = λ s t next s'. (s' ≡ s) × Looks s.depth t next;
+  on_term = λ s t next s'. (s' ≡ s) × RegionSearchLooks s.depth t next;
   term_breaks = λ s t b s'. (s' ≡ s) × MeetsSome s.depth t;
-  enter = λ s vs next s'. Enters s next s';
+  enter = λ s vs next s'. RegionSearchEnters s next s';
   enter_breaks = λ s vs b s'. ⊥;
   leave = λ s vs s'. s' ≡ record { depth = s.depth - 1; skipped = s.skipped };
 }

@@ -27,9 +27,9 @@ abbrev pub kind_error : Kind → Option ℕ
 kind_error k = form_error (kind_form k)
 
 -- the variables of a binder, if there is one, are stored
-abbrev pub AreStored : Sizes → Option BoundVarKinds → Type 0
-AreStored size None = ⊤
-AreStored size (Some vars) = vars.number < size VarLists
+abbrev pub AreVarsStored : Sizes → Option BoundVarKinds → Type 0
+AreVarsStored size None = ⊤
+AreVarsStored size (Some vars) = vars.number < size VarLists
 
 module _ {M B : Type 0} (V : Visits M B) where
   -- the answer of a term's hook; a term without a hook is entered

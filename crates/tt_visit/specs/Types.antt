@@ -14,8 +14,8 @@ pub record TypeVisits (M B : Type 0) : Type 1 where
   pub type_breaks : M → Tree Depth → B → M → Type 0
 
 -- the hook without a promise
-abbrev pub no_promise : {M B : Type 0} → TypeVisits M B
-no_promise = record {
+abbrev pub no_visit_promise : {M B : Type 0} → TypeVisits M B
+no_visit_promise = record {
   on_type = λ s t next s'. ⊤;
   type_breaks = λ s t b s'. ⊤;
 }
@@ -38,8 +38,8 @@ is_type_tree (binder vs t) = false
 
 -- the hooks of a visitor that looks at types, keeps its state at regions and tokens of errors, and enters
 -- other terms and binders
-abbrev pub only_types : {M B : Type 0} → TypeVisits M B → Visits M B
-only_types H = record {
+abbrev pub only_type_visits : {M B : Type 0} → TypeVisits M B → Visits M B
+only_type_visits H = record {
   on_region = λ s t s'. s' ≡ s;
   region_breaks = λ s t b s'. ⊥;
   on_error = λ s e s'. s' ≡ s;

@@ -9,7 +9,7 @@ ghost use Rattle.tt_kinds.specs.Tree.{Depth, Tree};
 ghost use Rattle.tt_interner.specs.Rows.{meaning, size};
 ghost use Rattle.tt_visit.specs.HasTypeFlags.{Misses};
 ghost use Rattle.tt_visit.specs.declared.visitor.Next.TheVariants.{Skip};
-ghost use Rattle.tt_visit.specs.MeetsRegions.{AreInRange, Looks, MeetsSome};
+ghost use Rattle.tt_visit.specs.MeetsRegions.{AreInRange, RegionSearchLooks, MeetsSome};
 
 use crate::visitable::TypeVisitable;
 use crate::visitor::{Next, TypeVisitor};
@@ -75,7 +75,7 @@ impl MeetsRegionsVisitor {
             → outer_exclusive_binder ≡ outer_binder t
             → MatchControlFlow
             result
-            (λ next. Looks self.outer_index t next)
+            (λ next. RegionSearchLooks self.outer_index t next)
             (λ b. MeetsSome self.outer_index t) }
     {
         let unbound = TypeFlags::HAS_FREE_REGIONS.union(TypeFlags::HAS_RE_ERASED);

@@ -35,7 +35,7 @@ ghost use Rattle.tt_visit.specs.Visit.{
 ghost use Rattle.tt_visit.specs.Root.{table_root};
 ghost use Rattle.tt_visit.specs.Steps.{
   Answers,
-  AreStored,
+  AreVarsStored,
   Asks,
   AskingBreaks,
   BreaksUnder,
@@ -255,7 +255,7 @@ fn visit_frame<V: TypeVisitor>(
 // Leaves the binder of a term, if it has one.
 fn leave<V: TypeVisitor>(cx: &Interner, visitor: &mut V, binder: Option<BoundVarKinds>)
     requires owned { V.owned cx.now.rows visitor.old }
-    requires binder { AreStored (size cx.now.rows) binder }
+    requires binder { AreVarsStored (size cx.now.rows) binder }
     ensures owned { V.owned cx.now.rows visitor.new }
     ensures result { Leaves V.hooks cx.now.rows
         (V.meaning cx.now.rows visitor.old) binder (V.meaning cx.now.rows visitor.new) }
@@ -384,7 +384,7 @@ fn begin_contents<V: TypeVisitor>(
     parts: Parts,
 ) -> ControlFlow<V::Break, Option<Frame>>
     requires owned { V.owned cx.now.rows visitor.old }
-    requires vars { AreStored (size cx.now.rows) bound_vars }
+    requires vars { AreVarsStored (size cx.now.rows) bound_vars }
     requires parts { AreParts (size cx.now.rows) (parts_shapes parts) }
     ensures owned { V.owned cx.now.rows visitor.new }
     ensures broke { OwnsBreak V.break_owned cx.now.rows result }

@@ -7,7 +7,7 @@ ghost use Rattle.tt_interner.specs.Owned.{IsPartBy, tree_by};
 ghost use Rattle.tt_interner.specs.Rows.{size};
 ghost use Rattle.tt_visit.specs.Data.{no_handles};
 ghost use Rattle.tt_visit.specs.Steps.{Answers, Ends, OwnsBreak};
-ghost use Rattle.tt_visit.specs.Types.{TypeVisits, no_promise, only_types};
+ghost use Rattle.tt_visit.specs.Types.{TypeVisits, no_visit_promise, only_type_visits};
 ghost use Rattle.tt_visit.specs.Visit.{Breaks, GoesOver};
 
 use crate::visitable::TypeVisitable;
@@ -31,7 +31,7 @@ pub trait TypeInspector {
     ghost break_shape: { Self.Break → Shape } = { λ b. no_handles };
 
     // The relation that the hook keeps to, on the trees of the handles; the default promises nothing.
-    ghost hooks: { TypeVisits (Tree Depth) Self.Break } = { no_promise };
+    ghost hooks: { TypeVisits (Tree Depth) Self.Break } = { no_visit_promise };
 
     /// Called at each type, before its contents.
     fn inspect_ty(&mut self, cx: &Interner, ty: Ty) -> ControlFlow<Self::Break, Next>
@@ -54,7 +54,7 @@ impl<F: TypeInspector> TypeVisitor for F {
 
     ghost break_owned = { λ rows b. IsPart (size rows) (F.TypeInspector.break_shape b) };
 
-    ghost hooks = { only_types F.TypeInspector.hooks };
+    ghost hooks = { only_type_visits F.TypeInspector.hooks };
 
     fn visit_region(&mut self, _cx: &Interner, _region: Region) -> ControlFlow<F::Break, ()> {
         ControlFlow::Continue(())
@@ -111,7 +111,7 @@ pub fn inspect_types<T: TypeVisitable, F: TypeInspector>(
     ensures owned { IsPartBy F.shape cx.now.rows inspector.new }
     ensures broke { OwnsBreak (λ rows b. IsPart (size rows) (F.break_shape b)) cx.now.rows result }
     ensures result { Ends (tree_by F.shape)
-        (GoesOver (only_types F.hooks)) (Breaks (only_types F.hooks))
+        (GoesOver (only_type_visits F.hooks)) (Breaks (only_type_visits F.hooks))
         cx.now.rows inspector.old (tree_by T.shape cx.now.rows value.now) result inspector.new }
 {
     value.visit_with(cx, inspector)

@@ -82,9 +82,9 @@ impl<T: TypeVisitable> TypeSuperVisitable for Binder<T> {
 }
 
 impl<A: TypeVisitable, B: TypeVisitable> TypeVisitable for (A, B) {
-    ghost use Rattle.tt_kinds.specs.Values.{pair_shape};
+    ghost use Rattle.tt_kinds.specs.Values.{tuple_shape};
 
-    ghost shape = { pair_shape A.shape B.shape };
+    ghost shape = { tuple_shape A.shape B.shape };
 
     #[tactic(auto, unfolding(tt_kinds::specs::Shape::fill))]
     fn visit_with<V: TypeVisitor>(

@@ -32,22 +32,22 @@ use Rattle.type_terms.specs.declared.run.call.RegionNameCall.{RegionNameCall}
 use Rattle.type_terms.specs.declared.run.call.Call.{Call}
 use Rattle.type_terms.specs.CallForm as call_forms
 use Rattle.type_terms.specs.CallForm.{CallForm, Named, Item, a_list, items_positions, AreItemsTooDeep, form_positions}
-use Rattle.type_terms.specs.Told.{Told, term, refused, told, told_all, AreOwned, HasFullTable, IsStored, Setting}
+use Rattle.type_terms.specs.Told.{Told, term, refused, told, told_all, AreOwnedAnswers, HasFullTable, IsStored, Setting}
 use Rattle.type_terms.specs.Told.{setting}
 use Rattle.type_terms.specs.Means as means
 use Rattle.type_terms.specs.Means.{number_at, tree_at, AreTerms, NamesTerms, BuildsOrFolds, IsTold, IsKnown, IsThere}
 use Rattle.type_terms.specs.Means.{AddsNothing, IsAllowed, MayRefuse, want_of_memory, full_table, no_term, too_deep}
 use Rattle.type_terms.specs.Build as build
-use Rattle.type_terms.specs.Build.{IsUnbuilt, no_memory, no_row, no_index, IsNameOf, GivesRegion, ArePlaced, AreItemsOf}
+use Rattle.type_terms.specs.Build.{IsUnbuiltPart, no_memory, no_row, no_index, IsNameOf, GivesRegion, ArePlaced, AreItemsOf}
 use Rattle.type_terms.specs.Build.{GivesPart, GivesPlaced, IsKindOf, Answers}
-use Rattle.type_terms.specs.Room.{IsForRoom, HasValue, NeedsRoom, FormNeedsRoom}
+use Rattle.type_terms.specs.Room.{IsRefusalForRoom, HasValue, NeedsRoom, FormNeedsRoom}
 use Rattle.type_terms.proofs.ValueLaws.{new-lacks}
 use Rattle.type_terms.proofs.RoomLaws.{stored-value}
 use Rattle.type_terms.proofs.RunLaws.{HasFullTable-extends, IsStored-grows, IsAllowed-wider}
 
 -- why a row was not stored is such a reason
 pub unstored : (old new : Terms) → Extends old new → (row : Row) (e : List Told) (ps : List Named) (deep : Type 0) → (IsTooDeep (row_shape row) → deep)
-    → (r : Refusal) → IsCause old row r → IsUnbuilt (HasFullTable new) e ps deep r
+    → (r : Refusal) → IsCause old row r → IsUnbuiltPart (HasFullTable new) e ps deep r
 unstored old new x row e ps deep d Memory h = build.no_memory refl
 unstored old new x row e ps deep d TableFull h =
     build.no_row (HasFullTable-extends old new x (record { table = row_table row; full = h.1 })) refl
@@ -129,15 +129,15 @@ stored-as rows table t n u within h = subst (λ (x : Table). IsStored rows x u) 
 
 -- a reason why a part was not built is one why the call is refused
 pub unbuilt-refused : (s : Setting) (e : List Told) (c : Call) (ns : List Named) (deep : Type 0) (r : Refusal)
-    → BuildsOrFolds c → (AddsNothing s e c → IsForRoom r → ⊥) → (NamesTerms e c → AreTerms e ns) → (deep → means.IsTooDeep e c)
-    → IsUnbuilt s.full e ns deep r → MayRefuse s e c r
-unbuilt-refused s e c ns deep r b g n d (build.no_memory i) = want_of_memory (b, λ a. g a (subst IsForRoom (sym i) tt)) i
-unbuilt-refused s e c ns deep r b g n d (build.no_row p i) = full_table (b, λ a. g a (subst IsForRoom (sym i) tt)) p i
+    → BuildsOrFolds c → (AddsNothing s e c → IsRefusalForRoom r → ⊥) → (NamesTerms e c → AreTerms e ns) → (deep → means.IsCallTooDeep e c)
+    → IsUnbuiltPart s.full e ns deep r → MayRefuse s e c r
+unbuilt-refused s e c ns deep r b g n d (build.no_memory i) = want_of_memory (b, λ a. g a (subst IsRefusalForRoom (sym i) tt)) i
+unbuilt-refused s e c ns deep r b g n d (build.no_row p i) = full_table (b, λ a. g a (subst IsRefusalForRoom (sym i) tt)) p i
 unbuilt-refused s e c ns deep r b g n d (build.no_term h i) = no_term (λ a. h (n a)) i
 unbuilt-refused s e c ns deep r b g n d (build.no_index h i) = too_deep (d h) i
 
 -- a term that was told is stored
-told-stored : (rows : List Row) (answers : List Answer) (t : Table) (u : Tree Depth) → AreOwned rows answers → IsTold (told_all rows answers) t u → IsStored rows t u
+told-stored : (rows : List Row) (answers : List Answer) (t : Table) (u : Tree Depth) → AreOwnedAnswers rows answers → IsTold (told_all rows answers) t u → IsStored rows t u
 told-stored rows [] t u o h = absurd h
 told-stored rows (answer.Ty x ∷ answers) t u o h = elim h [ inl k ↦ stored-as rows Types t x.number u o.0 k | inr k ↦ told-stored rows answers t u o.1 k ]
 told-stored rows (answer.Const x ∷ answers) t u o h = elim h [ inl k ↦ stored-as rows Consts t x.number u o.0 k | inr k ↦ told-stored rows answers t u o.1 k ]
@@ -152,19 +152,19 @@ told-stored rows (answer.Refused x ∷ answers) t u o h = told-stored rows answe
 told-stored rows (answer.Bad ∷ answers) t u o h = told-stored rows answers t u o.1 h
 
 -- what is there is stored
-known-stored : (start old new : Terms) → Extends start old → (answers : List Answer) → AreOwned start.rows answers → (t : Table) (u : Tree Depth)
+known-stored : (start old new : Terms) → Extends start old → (answers : List Answer) → AreOwnedAnswers start.rows answers → (t : Table) (u : Tree Depth)
     → IsKnown (setting start new) (told_all start.rows answers) t u → IsStored old.rows t u
 known-stored start old new x answers o t u h = IsStored-grows start.rows old.rows x.rows t u (elim h [ inl k ↦ k | inr k ↦ told-stored start.rows answers t u o k ])
 
 -- what is there isn't refused for want of room
-pub known-refused : (start old new : Terms) → Extends start old → (answers : List Answer) → AreOwned start.rows answers → AreRows old.rows → (t : Table) (short : Type 0) (u : Tree Depth) (r : Refusal)
-    → NeedsRoom old.rows short u r → short × IsKnown (setting start new) (told_all start.rows answers) t u → IsForRoom r → ⊥
+pub known-refused : (start old new : Terms) → Extends start old → (answers : List Answer) → AreOwnedAnswers start.rows answers → AreRows old.rows → (t : Table) (short : Type 0) (u : Tree Depth) (r : Refusal)
+    → NeedsRoom old.rows short u r → short × IsKnown (setting start new) (told_all start.rows answers) t u → IsRefusalForRoom r → ⊥
 known-refused start old new x answers o are t short u r needs known room =
     needs room known.0 are (stored-value old.rows t u (known-stored start old new x answers o t u known.1))
 
 -- a call isn't refused for want of room if its term has no long list and is there already
-pub there-refused : (start old new : Terms) → Extends start old → (answers : List Answer) → AreOwned start.rows answers → AreRows old.rows → (t : Table) (f : CallForm) (r : Refusal)
-    → FormNeedsRoom old.rows (told_all start.rows answers) f r → IsThere (setting start new) (told_all start.rows answers) t f → IsForRoom r → ⊥
+pub there-refused : (start old new : Terms) → Extends start old → (answers : List Answer) → AreOwnedAnswers start.rows answers → AreRows old.rows → (t : Table) (f : CallForm) (r : Refusal)
+    → FormNeedsRoom old.rows (told_all start.rows answers) f r → IsThere (setting start new) (told_all start.rows answers) t f → IsRefusalForRoom r → ⊥
 there-refused start old new x answers o are t f r needs there room =
     let e = told_all start.rows answers in
     known-refused start old new x answers o are t (call_forms.IsOfShortLists f) (call_forms.form_tree (number_at e) (tree_at e) f) r needs there room
@@ -180,7 +180,7 @@ module _ (start old new : Terms) (e : List Told) (c : Call) (form : CallForm) (r
 
   pub kind-refused : {H : Type 0} (number : H → ℕ) (r : Refusal) → Builds {H = H} (Err r) number old new row
       → BuildsOrFolds c → (AddsNothing (setting start new) e c → ⊥)
-      → (NamesTerms e c → AreTerms e (form_positions form)) → (call_forms.IsFormTooDeep form → means.IsTooDeep e c)
+      → (NamesTerms e c → AreTerms e (form_positions form)) → (call_forms.IsFormTooDeep form → means.IsCallTooDeep e c)
       → MayRefuse (setting start new) e c r
   kind-refused number r b builds g n d =
       unbuilt-refused (setting start new) e c (form_positions form) (call_forms.IsFormTooDeep form) r builds (λ a. absurd (g a)) n d
@@ -188,7 +188,7 @@ module _ (start old new : Terms) (e : List Told) (c : Call) (form : CallForm) (r
 
 -- what is there isn't refused
 pub there-built : {H : Type 0} (number : H → ℕ) (start old new : Terms) (answers : List Answer) (form : CallForm) (row : Row) (r : Refusal)
-    → IsKindOf old (told_all start.rows answers) form (row_shape row) → Builds {H = H} (Err r) number old new row → AreRows old.rows → Extends start old → AreOwned start.rows answers
+    → IsKindOf old (told_all start.rows answers) form (row_shape row) → Builds {H = H} (Err r) number old new row → AreRows old.rows → Extends start old → AreOwnedAnswers start.rows answers
     → IsThere (setting start new) (told_all start.rows answers) (row_table row) form → ⊥
 there-built number start old new answers form row r h b are x o there =
     let e = told_all start.rows answers in
@@ -210,7 +210,7 @@ Answers-earlier start old new e c (Err r) x h = record {
 
 -- what a question mark passes on
 pub region-passed : (terms : Terms) (t : Tree Depth) (deep : Type 0) (result : Result RegionKind Refusal) (r : Refusal) → IsErrAnd result (λ x. x ≡ r)
-    → IsUnbuilt (HasFullTable terms) [] [] deep r → GivesRegion terms t deep result
+    → IsUnbuiltPart (HasFullTable terms) [] [] deep r → GivesRegion terms t deep result
 region-passed terms t deep (Ok k) r h u = absurd h
 region-passed terms t deep (Err x) r h u = record { ok = tt; err = rw h u }
 

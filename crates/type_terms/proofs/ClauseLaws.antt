@@ -18,9 +18,9 @@ use Rattle.type_terms.specs.CallForm.{of_table, of_clause, one, a_term, a_clause
 use Rattle.type_terms.specs.CallForm.{items_positions, AreItemsTooDeep}
 use Rattle.type_terms.specs.Told.{Told}
 use Rattle.type_terms.specs.Means.{Term, term_at, tree_of, Suits, number_at, tree_at}
-use Rattle.type_terms.specs.Build.{AreClausesAt, IsPartOf, GivesPlaced, IsUnbuilt, no_term}
+use Rattle.type_terms.specs.Build.{AreClausesAt, IsPartOfCall, GivesPlaced, IsUnbuiltPart, no_term}
 use Rattle.type_terms.specs.Room.{ClausesNeedRoom}
-use Rattle.type_terms.proofs.PartLaws.{items-none, items-more, IsUnbuilt-weaker}
+use Rattle.type_terms.proofs.PartLaws.{items-none, items-more, IsUnbuiltPart-weaker}
 use Rattle.type_terms.proofs.BuildLaws.{unstored, Builds-extends}
 use Rattle.type_terms.proofs.RoomLaws.{refused-lacks}
 
@@ -33,8 +33,8 @@ only_table e (Some u) h = (h.0, h.1)
 only_table e _ h = absurd h
 
 -- the predicate at the position is a clause
-pub clause-part : (terms : Terms) (e : List Told) (p n : ℕ) → IsPartOf terms e (one (a_term Predicates p)) (stored Predicates n) → IsClause terms.rows n
-    → IsPartOf terms e (one (a_clause p)) (stored Predicates n)
+pub clause-part : (terms : Terms) (e : List Told) (p n : ℕ) → IsPartOfCall terms e (one (a_term Predicates p)) (stored Predicates n) → IsClause terms.rows n
+    → IsPartOfCall terms e (one (a_clause p)) (stored Predicates n)
 unfolding fill
 clause-part terms e p n h k = record {
   part = h.part;
@@ -44,16 +44,16 @@ clause-part terms e p n h k = record {
 }
 
 -- it is none
-pub no-clause : (P : Type 0) (terms : Terms) (e : List Told) (p n : ℕ) (r : Refusal) → IsPartOf terms e (one (a_term Predicates p)) (stored Predicates n) → (IsClause terms.rows n → ⊥)
-    → r ≡ NoSuchAnswer → IsUnbuilt P e (record { want = of_clause; position = p } ∷ []) ⊥ r
+pub no-clause : (P : Type 0) (terms : Terms) (e : List Told) (p n : ℕ) (r : Refusal) → IsPartOfCall terms e (one (a_term Predicates p)) (stored Predicates n) → (IsClause terms.rows n → ⊥)
+    → r ≡ NoSuchAnswer → IsUnbuiltPart P e (record { want = of_clause; position = p } ∷ []) ⊥ r
 unfolding fill
 no-clause P terms e p n r h k i =
     no_term (λ a. k (record { within = h.part; clause = rw (h.means) (only_table e (term_at e p) a.0).1 })) i
 
 -- no predicate is there
-pub no-predicate : (P : Type 0) (e : List Told) (p : ℕ) (r : Refusal) → IsUnbuilt P e (record { want = of_table Predicates; position = p } ∷ []) ⊥ r
-    → IsUnbuilt P e (record { want = of_clause; position = p } ∷ []) ⊥ r
-no-predicate P e p r h = IsUnbuilt-weaker P e e _ _ ⊥ ⊥ r (λ a. ((only_table e (term_at e p) a.0).0, tt)) (λ d. d) h
+pub no-predicate : (P : Type 0) (e : List Told) (p : ℕ) (r : Refusal) → IsUnbuiltPart P e (record { want = of_table Predicates; position = p } ∷ []) ⊥ r
+    → IsUnbuiltPart P e (record { want = of_clause; position = p } ∷ []) ⊥ r
+no-predicate P e p r h = IsUnbuiltPart-weaker P e e _ _ ⊥ ⊥ r (λ a. ((only_table e (term_at e p) a.0).0, tt)) (λ d. d) h
 
 -- the clauses at no positions are an empty list
 pub clauses-none : (terms : Terms) (e : List Told) → AreClausesAt terms e [] []
@@ -65,7 +65,7 @@ clauses-append rows (d ∷ cs) c h k = (h.0, clauses-append rows cs c h.1 k)
 
 -- the clauses at some positions, and the clause at one more, are the clauses at all of these positions
 pub clauses-more : (terms : Terms) (e : List Told) (ps : List ℕ) (cs : List Clause) (p : ℕ) (c : Clause) → AreClausesAt terms e ps cs
-    → IsPartOf terms e (one (a_clause p)) (clause_shape c) → IsClause terms.rows c.number → AreClausesAt terms e (ps ++ p ∷ []) (cs ++ c ∷ [])
+    → IsPartOfCall terms e (one (a_clause p)) (clause_shape c) → IsClause terms.rows c.number → AreClausesAt terms e (ps ++ p ∷ []) (cs ++ c ∷ [])
 clauses-more terms e ps cs p c h k i = record {
   items = items-more a_clause clause_shape terms e ps cs p c h.items k;
   clauses = clauses-append terms.rows cs c h.clauses i;

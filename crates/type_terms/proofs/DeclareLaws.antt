@@ -36,18 +36,18 @@ use Rattle.type_terms.specs.declared.run.call.DeclarationKindCall.TheVariants as
 use Rattle.type_terms.specs.declared.run.call.VariableCall.{VariableCall}
 use Rattle.type_terms.specs.CallForm.{a_list, terms_at, part_positions, IsPartTooDeep, AreItemsTooDeep, HasNoTerms}
 use Rattle.type_terms.specs.CallForm.{declared_sort, declared_item, declared_trees, declared_ids, declared_positions}
-use Rattle.type_terms.specs.Build.{IsUnbuilt, no_memory, no_row, no_term, no_index, IsDeclaredBy, GivesDeclared}
+use Rattle.type_terms.specs.Build.{IsUnbuiltPart, no_memory, no_row, no_term, no_index, IsDeclaredBy, GivesDeclared}
 use Rattle.type_terms.specs.Build.{IsSigOf, GivesSig}
-use Rattle.type_terms.proofs.PartLaws.{IsUnbuilt-weaker, AreTerms-second}
+use Rattle.type_terms.proofs.PartLaws.{IsUnbuiltPart-weaker, AreTerms-second}
 use Rattle.type_terms.specs.declared.run.answer.Answer.{Answer}
 use Rattle.type_terms.specs.declared.run.answer.Answer.TheVariants as answer
-use Rattle.type_terms.specs.Told.{Told, told_all, AreOwned, HasFullTable, setting}
+use Rattle.type_terms.specs.Told.{Told, told_all, AreOwnedAnswers, HasFullTable, setting}
 use Rattle.type_terms.specs.Means as means
 use Rattle.type_terms.specs.Means.{IsAbove, AreTerms, MayRefuse, number_at, tree_at, want_of_memory, full_table}
 use Rattle.type_terms.proofs.BuildLaws.{symbol-named}
 
 -- a number that no declaration has is above each that was told
-pub new-id : (rows : List Row) (answers : List Answer) (n : ℕ) → AreOwned rows answers → size rows Declarations ≤ n → IsAbove (told_all rows answers) n
+pub new-id : (rows : List Row) (answers : List Answer) (n : ℕ) → AreOwnedAnswers rows answers → size rows Declarations ≤ n → IsAbove (told_all rows answers) n
 new-id rows [] n o h = tt
 new-id rows (answer.Id s d ∷ answers) n o h = let within : d.number < size rows Declarations = o.0.0 in (omega arith, new-id rows answers n o.1 h)
 new-id rows (_ ∷ answers) n o h = new-id rows answers n o.1 h
@@ -89,21 +89,21 @@ terms-shallow t (p ∷ ps) d = elim d [ inl a ↦ a | inr b ↦ terms-shallow t 
 
 -- a list of types is refused without a reason of indices
 pub types-unbuilt : (full : Type 0) (e : List Told) (ps : List ℕ) (r : Refusal)
-    → IsUnbuilt full e (part_positions (a_list TypeLists (terms_at Types ps))) (IsPartTooDeep (a_list TypeLists (terms_at Types ps))) r
-    → IsUnbuilt full e (part_positions (a_list TypeLists (terms_at Types ps))) ⊥ r
+    → IsUnbuiltPart full e (part_positions (a_list TypeLists (terms_at Types ps))) (IsPartTooDeep (a_list TypeLists (terms_at Types ps))) r
+    → IsUnbuiltPart full e (part_positions (a_list TypeLists (terms_at Types ps))) ⊥ r
 types-unbuilt full e ps r h =
     let part = a_list TypeLists (terms_at Types ps) in
-    IsUnbuilt-weaker full e e (part_positions part) (part_positions part) (IsPartTooDeep part) ⊥ r (λ a. a) (terms-shallow Types ps) h
+    IsUnbuiltPart-weaker full e e (part_positions part) (part_positions part) (IsPartTooDeep part) ⊥ r (λ a. a) (terms-shallow Types ps) h
 
 -- a refusal of a part of a signature is the signature's
 pub sig-passed : (terms : Terms) (e : List Told) (vars : List VariableCall) (ps : List ℕ) (kind : FnSigKind) (result : Result (EarlyBinder (Binder FnSig)) Refusal) (r : Refusal)
-    → IsErrAnd result (λ x. x ≡ r) → IsUnbuilt (HasFullTable terms) e (part_positions (a_list TypeLists (terms_at Types ps))) ⊥ r → GivesSig terms e vars ps kind result
+    → IsErrAnd result (λ x. x ≡ r) → IsUnbuiltPart (HasFullTable terms) e (part_positions (a_list TypeLists (terms_at Types ps))) ⊥ r → GivesSig terms e vars ps kind result
 sig-passed terms e vars ps kind (Ok s) r h u = absurd h
 sig-passed terms e vars ps kind (Err x) r h u = record { ok = tt; err = rw h u }
 
 -- a refusal of the signature is the declaration's
 pub declared-passed : (terms : Terms) (e : List Told) (call : DeclarationKindCall) (result : Result DeclarationKind Refusal) (r : Refusal)
-    → IsErrAnd result (λ x. x ≡ r) → IsUnbuilt (HasFullTable terms) e (declared_positions call) ⊥ r → GivesDeclared terms e call result
+    → IsErrAnd result (λ x. x ≡ r) → IsUnbuiltPart (HasFullTable terms) e (declared_positions call) ⊥ r → GivesDeclared terms e call result
 declared-passed terms e call (Ok s) r h u = absurd h
 declared-passed terms e call (Err x) r h u = record { ok = tt; err = rw h u }
 
@@ -148,7 +148,7 @@ item-declared terms rows earlier call (Ok kind) no_terms sorted item none_has na
 item-declared terms rows earlier call (Err r) no_terms sorted item none_has named cause absent = record { ok = tt; err = no_term (absent rows) cause }
 
 -- why a call that declares is refused
-pub declare-refused : (start terms : Terms) (e : List Told) (call : DeclareCall) (r : Refusal) → IsUnbuilt (HasFullTable terms) e (declared_positions call.kind) ⊥ r
+pub declare-refused : (start terms : Terms) (e : List Told) (call : DeclareCall) (r : Refusal) → IsUnbuiltPart (HasFullTable terms) e (declared_positions call.kind) ⊥ r
     → MayRefuse (setting start terms) e (calls.Declare call) r
 declare-refused start terms e call r (no_memory is) = want_of_memory (tt, λ a. a) is
 declare-refused start terms e call r (no_row full is) = full_table (tt, λ a. a) full is

@@ -42,20 +42,20 @@ use Rattle.type_terms.specs.declared.run.call.Call.{Call}
 use Rattle.type_terms.specs.declared.run.call.Call.TheVariants as call
 use Rattle.type_terms.specs.CallForm.{Named, one, a_term, region_tree, IsRegionTooDeep, item_positions, items_positions}
 use Rattle.type_terms.specs.CallForm.{IsItemTooDeep, AreItemsTooDeep, arg_item, arg_items, args_ids}
-use Rattle.type_terms.specs.Told.{Told, term, told, told_all, AreOwned, HasFullTable, Setting, setting}
+use Rattle.type_terms.specs.Told.{Told, term, told, told_all, AreOwnedAnswers, HasFullTable, Setting, setting}
 use Rattle.type_terms.specs.Means as means
 use Rattle.type_terms.specs.Means.{IsUnchanged, IsParameter, IsParameterOf, AddsNothing, NamesTerms, too_deep, Term}
-use Rattle.type_terms.specs.Means.{term_at, number_at, tree_at, positions, AreTerms, Suits, Tells, argument, arguments}
+use Rattle.type_terms.specs.Means.{term_at, number_at, tree_at, positions, AreTerms, Suits, Tells, told_argument, told_arguments}
 use Rattle.type_terms.specs.Means.{IsAllowed, MayRefuse, want_of_memory, full_table, no_term, unfit, unsuited}
-use Rattle.type_terms.specs.Room.{IsForRoom}
-use Rattle.type_terms.specs.Build.{IsUnusable, IsUsable, IsAnswerAt, IsHandle, IsUnchangedAt, IsUnbuilt, IsPartOf}
+use Rattle.type_terms.specs.Room.{IsRefusalForRoom}
+use Rattle.type_terms.specs.Build.{IsUnusable, IsUsable, IsAnswerAt, IsHandle, IsUnchangedAt, IsUnbuiltPart, IsPartOfCall}
 use Rattle.type_terms.specs.Build.{IsRegionOf, IsArgumentOf, GivesArgument, AreArgumentsOf, GivesArguments}
 use Rattle.type_terms.proofs.PartLaws.{AreTerms-append, all_placed-grow, items-none, items-more}
 use Rattle.type_terms.proofs.LookupLaws.{told-at, in_range-at, ty-handle, const-handle, pat-handle, predicate-handle}
 use Rattle.type_terms.proofs.LookupLaws.{clauses-handle, args-handle}
 
 -- one argument
-pub type-argument : (terms : Terms) (e : List Told) (p : ℕ) (t : Ty) → IsPartOf terms e (one (a_term Types p)) (stored Types t.number)
+pub type-argument : (terms : Terms) (e : List Told) (p : ℕ) (t : Ty) → IsPartOfCall terms e (one (a_term Types p)) (stored Types t.number)
     → IsArgumentOf terms e (arg.«Type» p) (kind.«Type» t)
 type-argument terms e p t h = record {
   item = record { part = h.part; means = h.means; named = h.named; shallow = h.shallow };
@@ -63,7 +63,7 @@ type-argument terms e p t h = record {
 }
 
 -- a constant that is the term at a position is the argument that a call names by this position
-pub const-argument : (terms : Terms) (e : List Told) (p : ℕ) (t : Const) → IsPartOf terms e (one (a_term Consts p)) (stored Consts t.number)
+pub const-argument : (terms : Terms) (e : List Told) (p : ℕ) (t : Const) → IsPartOfCall terms e (one (a_term Consts p)) (stored Consts t.number)
     → IsArgumentOf terms e (arg.Const p) (kind.Const t)
 const-argument terms e p t h = record {
   item = record { part = h.part; means = h.means; named = h.named; shallow = h.shallow };
@@ -80,13 +80,13 @@ region-argument terms e c r h = record {
 
 -- an error that is passed on is an argument's refusal, if it is a reason why the argument was not built
 pub argument-passed : (terms : Terms) (e : List Told) (c : ArgCall) (result : Result GenericArgKind Refusal) (r : Refusal) → IsErrAnd result (λ x. x ≡ r)
-    → IsUnbuilt (HasFullTable terms) e (item_positions (arg_item c)) (IsItemTooDeep (arg_item c)) r → GivesArgument terms e c result
+    → IsUnbuiltPart (HasFullTable terms) e (item_positions (arg_item c)) (IsItemTooDeep (arg_item c)) r → GivesArgument terms e c result
 argument-passed terms e c (Ok k) r h u = absurd h
 argument-passed terms e c (Err x) r h u = record { ok = tt; err = rw h u }
 
 -- an error that is passed on is the refusal of arguments, if it is a reason why they were not built
 pub arguments-passed : (terms : Terms) (e : List Told) (cs : List ArgCall) (result : Result (Vec GenericArgKind Global) Refusal) (r : Refusal) → IsErrAnd result (λ x. x ≡ r)
-    → IsUnbuilt (HasFullTable terms) e (items_positions (arg_items cs)) (AreItemsTooDeep (arg_items cs)) r → GivesArguments terms e cs result
+    → IsUnbuiltPart (HasFullTable terms) e (items_positions (arg_items cs)) (AreItemsTooDeep (arg_items cs)) r → GivesArguments terms e cs result
 arguments-passed terms e cs (Ok k) r h u = absurd h
 arguments-passed terms e cs (Err x) r h u = record { ok = tt; err = rw h u }
 
@@ -100,7 +100,7 @@ pub arguments-more : (old new : Terms) (e : List Told) (cs : List ArgCall) (xs :
     → AreArgumentsOf new e (cs ++ c ∷ []) (xs ++ a ∷ [])
 arguments-more old new e cs xs c a x h k = record {
   items = items-more arg_item arg_shape new e cs xs c a (all_placed-grow old new x h.items) k.item;
-  means = rw (map-append (argument_of new.rows) xs (a ∷ []), map-append (argument e) cs (c ∷ []), arguments-still old.rows new.rows xs xs x.rows refl h.items.parts, h.means, k.means) refl;
+  means = rw (map-append (argument_of new.rows) xs (a ∷ []), map-append (told_argument e) cs (c ∷ []), arguments-still old.rows new.rows xs xs x.rows refl h.items.parts, h.means, k.means) refl;
 }
 
 -- a position without a term
@@ -123,7 +123,7 @@ parameter-tree const_sort i v h = param_by_index const_sort i v.tree h.1
 parameter-tree region_sort i v h = absurd h
 
 -- want of room is no cause
-cause-no-room : (t : Tree Depth) (args : List (Argument Depth)) (r : Refusal) → Cause t args r → IsForRoom r → ⊥
+cause-no-room : (t : Tree Depth) (args : List (Argument Depth)) (r : Refusal) → Cause t args r → IsRefusalForRoom r → ⊥
 cause-no-room t args Memory h room = h
 cause-no-room t args TableFull h room = h
 cause-no-room t args _ h room = room
@@ -168,8 +168,8 @@ module _ (e : List Told) (p : ℕ) (table : Table) (u : Tree Depth) (at : term_a
     named = AreTerms-append e (args_ids list.items) (items_positions (arg_items list.items)) ids items
 
     -- why an instantiation that builds is refused
-    inst-reason : (old new : Terms) (r : Refusal) → (AddsNothing (setting old new) e (call.Instantiate p list) → IsForRoom r → ⊥)
-        → IsReason new (arguments e list.items) (tree_at e p) r → MayRefuse (setting old new) e (call.Instantiate p list) r
+    inst-reason : (old new : Terms) (r : Refusal) → (AddsNothing (setting old new) e (call.Instantiate p list) → IsRefusalForRoom r → ⊥)
+        → IsReason new (told_arguments e list.items) (tree_at e p) r → MayRefuse (setting old new) e (call.Instantiate p list) r
     inst-reason old new Memory g h = want_of_memory (tt, λ a. g a tt) refl
     inst-reason old new TableFull g h = full_table (tt, λ a. g a tt) (full-table new h.0 h.2) refl
     inst-reason old new GreatestIndex g h = unfit (is_term, named) h refl
@@ -180,13 +180,13 @@ module _ (e : List Told) (p : ℕ) (table : Table) (u : Tree Depth) (at : term_a
     inst-reason old new NotAClause g h = unsuited (is_term, named) h
     inst-reason old new NoSuchAnswer g h = unsuited (is_term, named) h
 
-    pub inst-refused : (old new : Terms) (args : List (Argument Depth)) (r : Refusal) → args ≡ arguments e list.items → (ComesBack args u → ⊥)
+    pub inst-refused : (old new : Terms) (args : List (Argument Depth)) (r : Refusal) → args ≡ told_arguments e list.items → (ComesBack args u → ⊥)
         → (IsUnchanged (record { table = table; tree = u }) → ComesBack args u)
         → ((s : Sort) (i : ℕ) (name : Name) → u ≡ param s i name → Cause (param s i name) args r)
         → IsReason new args u r → MayRefuse (setting old new) e (call.Instantiate p list) r
     inst-refused old new args r same g back caused h =
         inst-reason old new r (λ a room. elim a [
-          | inl b ↦ g (record { no_param = ap holds_param (sym tree-is) ∙ b.1; hides = inl (same ∙ ap (λ (cs : List ArgCall). arguments e cs) b.0) })
+          | inl b ↦ g (record { no_param = ap holds_param (sym tree-is) ∙ b.1; hides = inl (same ∙ ap (λ (cs : List ArgCall). told_arguments e cs) b.0) })
           | inr b ↦ elim (subst (λ (o : Option Term). IsSomeAnd o (λ v. IsUnchanged v ⊎ IsParameter v)) at b) [
             | inl kept ↦ g (back kept)
             | inr whole ↦
@@ -194,16 +194,16 @@ module _ (e : List Told) (p : ℕ) (table : Table) (u : Tree Depth) (at : term_a
                 cause-no-room (param whole.0 whole.1 found.0) args r (caused whole.0 whole.1 found.0 found.1) room
           ]
         ])
-        (subst (λ (t : Tree Depth). IsReason new (arguments e list.items) t r) (sym tree-is)
+        (subst (λ (t : Tree Depth). IsReason new (told_arguments e list.items) t r) (sym tree-is)
         (subst (λ (ys : List (Argument Depth)). IsReason new ys u r) same h))
 
-    pub inst-allowed : (P : Setting) (args : List (Argument Depth)) (v : Tree Depth) → args ≡ arguments e list.items → (AreItemsTooDeep (arg_items list.items) → ⊥)
+    pub inst-allowed : (P : Setting) (args : List (Argument Depth)) (v : Tree Depth) → args ≡ told_arguments e list.items → (AreItemsTooDeep (arg_items list.items) → ⊥)
         → IsPlain args u v → HasNoCause args u → IsAllowed P e (call.Instantiate p list) (term table v)
     inst-allowed P args v same shallow plain none = (
       (is_term, named),
       shallow,
       rw at refl,
-      ap (λ (r : Tree Place). Some r) (ap (λ (t : Tree Depth). put (readings (arguments e list.items)) (read 0 t)) tree-is
+      ap (λ (r : Tree Place). Some r) (ap (λ (t : Tree Depth). put (readings (told_arguments e list.items)) (read 0 t)) tree-is
           ∙ ap (λ (ys : List (Argument Depth)). put (readings ys) (read 0 u)) (sym same) ∙ sym plain),
       λ r c. none r (rw (tree-is, ← same) at c),
     )
@@ -223,19 +223,19 @@ inst-adds s e p list {P = P} a f g h = elim a [ inl b ↦ f b.0 | inr b ↦ eith
     either (Some u) b g h = elim b [ inl x ↦ g x | inr x ↦ h x ]
 
 -- arguments that can't be used are a reason
-pub unusable-refused : (s : Setting) (e : List Told) (c : Call) (ns : List Named) (deep : Type 0) (r : Refusal) → (NamesTerms e c → AreTerms e ns) → (deep → means.IsTooDeep e c)
+pub unusable-refused : (s : Setting) (e : List Told) (c : Call) (ns : List Named) (deep : Type 0) (r : Refusal) → (NamesTerms e c → AreTerms e ns) → (deep → means.IsCallTooDeep e c)
     → IsUnusable e ns deep r → MayRefuse s e c r
 unusable-refused s e c ns deep NoSuchAnswer n d h = no_term (λ a. h (n a)) refl
 unusable-refused s e c ns deep GreatestIndex n d h = too_deep (d h) refl
 unusable-refused s e c ns deep _ n d h = absurd h
 
 -- the answer that is given back where no argument changes it
-module _ (terms : Terms) (earlier : List Answer) (p : ℕ) (list : Vec ArgCall Global) (o : AreOwned terms.rows earlier) (ids : AreTerms (told_all terms.rows earlier) (args_ids list.items))
+module _ (terms : Terms) (earlier : List Answer) (p : ℕ) (list : Vec ArgCall Global) (o : AreOwnedAnswers terms.rows earlier) (ids : AreTerms (told_all terms.rows earlier) (args_ids list.items))
     (usable : IsUsable (told_all terms.rows earlier) (items_positions (arg_items list.items)) (AreItemsTooDeep (arg_items list.items))) where
   unchanged-term : (a : Answer) (table : Table) (n : ℕ) → IsAnswerAt earlier p a → IsHandle a table n → IsUnchanged (record { table = table; tree = meaning terms.rows table n })
       → IsAllowed (setting terms terms) (told_all terms.rows earlier) (call.Instantiate p list) (term table (meaning terms.rows table n))
   unchanged-term a table n found is u =
-      let args = arguments (told_all terms.rows earlier) list.items in
+      let args = told_arguments (told_all terms.rows earlier) list.items in
       let same = instance_back args (meaning terms.rows table n) (unchanged-back terms.rows args table n (in_range-at terms earlier p a table n found is o) u) in
       inst-allowed (told_all terms.rows earlier) p table (meaning terms.rows table n) (told-at terms earlier p a table n found is terms.rows) list ids usable.named
       (setting terms terms) args (meaning terms.rows table n) refl usable.shallow same.plain same.no_cause

@@ -25,9 +25,9 @@ use Rattle.tt_interner.proofs.Growth.{meaning-grows}
 use Rattle.type_terms.specs.declared.run.answer.Answer.{Answer}
 use Rattle.type_terms.specs.declared.run.answer.Answer.TheVariants as answer
 use Rattle.type_terms.specs.CallForm.{of_table, one, a_term}
-use Rattle.type_terms.specs.Told.{told, told_all, IsOwned, AreOwned}
+use Rattle.type_terms.specs.Told.{told, told_all, IsOwnedAnswer, AreOwnedAnswers}
 use Rattle.type_terms.specs.Means.{Term, as_term, term_at, Suits, Id, as_id, id_at}
-use Rattle.type_terms.specs.Build.{IsAnswerAt, IsIdAt, HasNoId, IsHandle, IsOther, IsUnbuilt, no_term, IsPartOf}
+use Rattle.type_terms.specs.Build.{IsAnswerAt, IsIdAt, HasNoId, IsHandle, IsOther, IsUnbuiltPart, no_term, IsPartOfCall}
 
 pub term_at-told : (rows : List Row) (earlier : List Answer) (p : ℕ) → (p ≡ 0 → ⊥)
     → term_at (told_all rows earlier) p ≡ as_term (option_map (told rows) (slice_get earlier (p - 1)))
@@ -39,9 +39,9 @@ pub id_at-told : (rows : List Row) (earlier : List Answer) (p : ℕ) → (p ≡ 
 id_at-told rows earlier zero h = absurd (h refl)
 id_at-told rows earlier (suc n) h = let e : suc n - 1 ≡ n = omega arith in rw (e, slice_get-map (told rows) earlier n) refl
 
-owned-at : (rows : List Row) (answers : List Answer) (n : ℕ) (a : Answer) → AreOwned rows answers → slice_get answers n ≡ Some a → IsOwned rows a
+owned-at : (rows : List Row) (answers : List Answer) (n : ℕ) (a : Answer) → AreOwnedAnswers rows answers → slice_get answers n ≡ Some a → IsOwnedAnswer rows a
 owned-at rows [] n a h e = absurd (cc)
-owned-at rows (b ∷ answers) zero a h e = let same : b ≡ a = cc in subst (λ (x : Answer). IsOwned rows x) same h.0
+owned-at rows (b ∷ answers) zero a h e = let same : b ≡ a = cc in subst (λ (x : Answer). IsOwnedAnswer rows x) same h.0
 owned-at rows (b ∷ answers) (suc n) a h e = owned-at rows answers n a h.1 e
 
 -- the answer at a position, which is counted from 1, is the earlier answer with an index one lower
@@ -83,10 +83,10 @@ module _ (terms : Terms) (earlier : List Answer) (p : ℕ) (a : Answer) (table :
   pub told-at : (rows : List Row) → term_at (told_all rows earlier) p ≡ Some (record { table = table; tree = meaning rows table n })
   told-at rows = rw (at.means rows, is.told rows) refl
 
-  pub in_range-at : AreOwned terms.rows earlier → n < size terms.rows table
+  pub in_range-at : AreOwnedAnswers terms.rows earlier → n < size terms.rows table
   in_range-at o = is.owned terms.rows (at.owned terms.rows o)
 
-  pub part-at : AreOwned terms.rows earlier → IsPartOf terms (told_all terms.rows earlier) (one (a_term table p)) (stored table n)
+  pub part-at : AreOwnedAnswers terms.rows earlier → IsPartOfCall terms (told_all terms.rows earlier) (one (a_term table p)) (stored table n)
   unfolding fill
   part-at o = record {
     part = in_range-at o;
@@ -97,13 +97,13 @@ module _ (terms : Terms) (earlier : List Answer) (p : ℕ) (a : Answer) (table :
 
 -- no answer at the position
 pub nothing-at : (P : Type 0) (rows : List Row) (earlier : List Answer) (p : ℕ) (table : Table) (r : Refusal) → r ≡ NoSuchAnswer
-    → ((rows : List Row) → term_at (told_all rows earlier) p ≡ None) → IsUnbuilt P (told_all rows earlier) (record { want = of_table table; position = p } ∷ []) ⊥ r
+    → ((rows : List Row) → term_at (told_all rows earlier) p ≡ None) → IsUnbuiltPart P (told_all rows earlier) (record { want = of_table table; position = p } ∷ []) ⊥ r
 nothing-at P rows earlier p table r i h =
     no_term (λ a. subst (λ (o : Option Term). IsSomeAnd o (Suits (told_all rows earlier) (of_table table))) (h rows) a.0) i
 
 -- the answer at the position is no handle of the table
 pub other-at : (P : Type 0) (rows : List Row) (earlier : List Answer) (p : ℕ) (a : Answer) (table : Table) (r : Refusal) → r ≡ NoSuchAnswer
-    → IsAnswerAt earlier p a → IsOther a table → IsUnbuilt P (told_all rows earlier) (record { want = of_table table; position = p } ∷ []) ⊥ r
+    → IsAnswerAt earlier p a → IsOther a table → IsUnbuiltPart P (told_all rows earlier) (record { want = of_table table; position = p } ∷ []) ⊥ r
 other-at P rows earlier p a table r i at other =
     no_term (λ k. other rows (subst (λ (o : Option Term). IsSomeAnd o (λ u. u.table ≡ table)) (at.means rows) k.0)) i
 
@@ -154,7 +154,7 @@ no-handle answer.Bad f g h i j k rows = refl
 
 -- what is told at a position, of the rows as they are later
 pub told-later : (old new : Terms) (earlier : List Answer) (p : ℕ) (a : Answer) (table : Table) (n : ℕ) → IsAnswerAt earlier p a → IsHandle a table n
-    → Extends old new → AreOwned old.rows earlier
+    → Extends old new → AreOwnedAnswers old.rows earlier
     → term_at (told_all old.rows earlier) p ≡ Some (record { table = table; tree = meaning new.rows table n })
 told-later old new earlier p a table n at is x o =
     told-at old earlier p a table n at is old.rows

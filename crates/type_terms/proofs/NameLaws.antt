@@ -8,41 +8,33 @@ use Rattle.tt_kinds.specs.Tree.{node, none}
 use Rattle.tt_kinds.specs.Bound.{var_kind}
 use Rattle.tt_kinds.specs.Shape.{Sizes, fill, name_of, vars_of, rename_kind, AreNamedKinds, IsNamedKind}
 use Rattle.tt_kinds.specs.Kinds.{vars_row_shape}
-use Rattle.tt_kinds.specs.declared.bound.BoundRegionKind.{BoundRegionKind}
 use Rattle.tt_kinds.specs.declared.bound.BoundVariableKind.{BoundVariableKind}
 use Rattle.tt_kinds.specs.Handle.{BoundVarKinds}
 use Rattle.tt_interner.specs.Rows.{vars_row, size, meaning}
 use Rattle.tt_interner.specs.Stored.{Terms, Extends, Builds}
 use Rattle.tt_interner.proofs.Growth.{HasParts-grows, row-grows}
-use Rattle.type_terms.specs.declared.run.call.RegionNameCall.{RegionNameCall}
 use Rattle.type_terms.specs.declared.run.call.VariableCall.{VariableCall}
 use Rattle.type_terms.specs.CallForm.{variable_kind}
 use Rattle.type_terms.specs.Told.{HasFullTable}
-use Rattle.type_terms.specs.Build.{IsUnbuilt, GivesName, IsVariableOf, GivesVariable, AreVariablesOf, GivesVariables}
+use Rattle.type_terms.specs.Build.{IsUnbuiltPart, IsVariableOf, GivesVariable, AreVariablesOf, GivesVariables}
 use Rattle.type_terms.specs.Build.{PutsVariables}
 use Rattle.type_terms.proofs.BuildLaws.{unstored, Builds-extends}
 
--- what a question mark passes on
-pub name-passed : (terms : Terms) (ids : ℕ → ℕ) (c : RegionNameCall) (result : Result BoundRegionKind Refusal) (r : Refusal) → IsErrAnd result (λ x. x ≡ r)
-    → IsUnbuilt (HasFullTable terms) [] [] ⊥ r → GivesName terms ids c result
-name-passed terms ids c (Ok k) r h u = absurd h
-name-passed terms ids c (Err x) r h u = record { ok = tt; err = rw h u }
-
 -- an error that is passed on is a variable's refusal, if it is a reason why the variable was not built
 pub variable-passed : (terms : Terms) (ids : ℕ → ℕ) (c : VariableCall) (result : Result BoundVariableKind Refusal) (r : Refusal) → IsErrAnd result (λ x. x ≡ r)
-    → IsUnbuilt (HasFullTable terms) [] [] ⊥ r → GivesVariable terms ids c result
+    → IsUnbuiltPart (HasFullTable terms) [] [] ⊥ r → GivesVariable terms ids c result
 variable-passed terms ids c (Ok k) r h u = absurd h
 variable-passed terms ids c (Err x) r h u = record { ok = tt; err = rw h u }
 
 -- an error that is passed on is the refusal of a list of variables, if it is a reason why the list was not built
 pub variables-passed : (terms : Terms) (ids : ℕ → ℕ) (cs : List VariableCall) (result : Result BoundVarKinds Refusal) (r : Refusal) → IsErrAnd result (λ x. x ≡ r)
-    → IsUnbuilt (HasFullTable terms) [] [] ⊥ r → GivesVariables terms ids cs result
+    → IsUnbuiltPart (HasFullTable terms) [] [] ⊥ r → GivesVariables terms ids cs result
 variables-passed terms ids cs (Ok k) r h u = absurd h
 variables-passed terms ids cs (Err x) r h u = record { ok = tt; err = rw h u }
 
 -- an error that is passed on is the refusal of variables in order, if it is a reason why they were not built
 pub vars-passed : {R : Type 0} (terms : Terms) (ids : ℕ → ℕ) (cs : List VariableCall) (vs : List BoundVariableKind) (result : Result R Refusal) (r : Refusal) → IsErrAnd result (λ x. x ≡ r)
-    → IsUnbuilt (HasFullTable terms) [] [] ⊥ r → PutsVariables terms ids cs vs result
+    → IsUnbuiltPart (HasFullTable terms) [] [] ⊥ r → PutsVariables terms ids cs vs result
 vars-passed terms ids cs vs (Ok k) r h u = absurd h
 vars-passed terms ids cs vs (Err x) r h u = record { ok = tt; err = rw h u }
 

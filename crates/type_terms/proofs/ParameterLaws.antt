@@ -29,8 +29,8 @@ use Rattle.type_terms.specs.declared.run.answers.parameters.Parameter.TheVariant
 use Rattle.type_terms.specs.declared.run.call.ArgCall.{ArgCall}
 use Rattle.type_terms.specs.declared.run.call.Call.TheVariants as call
 use Rattle.type_terms.specs.CallForm.{arg_item, arg_items, args_ids, item_positions, items_positions, AreItemsTooDeep}
-use Rattle.type_terms.specs.Told.{Told, term, told, told_all, AreOwned, Setting, setting}
-use Rattle.type_terms.specs.Means.{Term, as_term, term_at, tree_of, tree_at, argument, arguments, AreTerms, IsAllowed}
+use Rattle.type_terms.specs.Told.{Told, term, told, told_all, AreOwnedAnswers, Setting, setting}
+use Rattle.type_terms.specs.Means.{Term, as_term, term_at, tree_of, tree_at, told_argument, told_arguments, AreTerms, IsAllowed}
 use Rattle.type_terms.specs.Means.{MayRefuse, no_term, unsuited, IsParameter, IsParameterOf}
 use Rattle.type_terms.specs.Build.{Answers, IsAnswerAt, IsUsable}
 use Rattle.type_terms.specs.Parameters.{parameter_sort, parameter_index, term_arg, IsArgumentAt, LacksArgument}
@@ -39,35 +39,31 @@ use Rattle.type_terms.proofs.PartLaws.{AreTerms-append, named-among}
 use Rattle.type_terms.proofs.FoldLaws.{parameter-tree, inst-allowed}
 
 -- the arguments have one at an index where the call names one
-given-at : (e : List Told) (cs : List ArgCall) (i : ℕ) (c : ArgCall) → slice_get cs i ≡ Some c → slice_get (arguments e cs) i ≡ Some (argument e c)
-given-at e cs i c h = slice_get-map (argument e) cs i ∙ ap (option_map (argument e)) h
-
--- no arguments
-pub no-arguments : (e : List Told) (cs : List ArgCall) (s : Sort) (i : ℕ) (name : Name) → cs ≡ [] → Cause (param s i name) (arguments e cs) NoArguments
-no-arguments e cs s i name h = (rw h refl, tt)
+given-at : (e : List Told) (cs : List ArgCall) (i : ℕ) (c : ArgCall) → slice_get cs i ≡ Some c → slice_get (told_arguments e cs) i ≡ Some (told_argument e c)
+given-at e cs i c h = slice_get-map (told_argument e) cs i ∙ ap (option_map (told_argument e)) h
 
 -- some arguments, but none at the parameter's index
 pub argument-past : (e : List Told) (cs : List ArgCall) (s : Sort) (i : ℕ) (name : Name) → (cs ≡ [] → ⊥) → slice_get cs i ≡ None
-    → Cause (param s i name) (arguments e cs) (ArgOutOfRange i)
+    → Cause (param s i name) (told_arguments e cs) (ArgOutOfRange i)
 argument-past e cs s i name some h = (
   some-arguments cs some,
   refl,
   elim (slice_get_cases cs i).1 [
     | inl within ↦ absurd (none-some _ (sym h ∙ within.2))
-    | inr past ↦ omega (arith, past.0, length-map cs (argument e))
+    | inr past ↦ omega (arith, past.0, length-map cs (told_argument e))
   ],
 )
   where
     none-some : (x : ArgCall) → None ≡ Some x → ⊥
     none-some x h = cc
 
-    some-arguments : (cs : List ArgCall) → (cs ≡ [] → ⊥) → arguments e cs ≡ [] → ⊥
+    some-arguments : (cs : List ArgCall) → (cs ≡ [] → ⊥) → told_arguments e cs ≡ [] → ⊥
     some-arguments [] some h = some refl
     some-arguments (c ∷ cs) some h = cc
 
 -- the argument at the parameter's index has another sort
 pub argument-other : (e : List Told) (cs : List ArgCall) (s : Sort) (i : ℕ) (name : Name) (c : ArgCall) → slice_get cs i ≡ Some c
-    → same_sort s (argument e c).sort ≡ false → Cause (param s i name) (arguments e cs) (ArgKind i)
+    → same_sort s (told_argument e c).sort ≡ false → Cause (param s i name) (told_arguments e cs) (ArgKind i)
 argument-other e cs s i name c h other = (refl, rw (given-at e cs i c h, other) refl)
 
 -- the answer that the argument at an index names, if the index is the parameter's
@@ -82,13 +78,13 @@ module _ (earlier : List Answer) (cs : List ArgCall) (p : Parameter) (index : �
       → LacksArgument earlier cs p r
   argument-untold q is none r cause = not_told q (named-at q is) none cause
 
-  pub argument-unsuited : ((e : List Told) → same_sort (parameter_sort p) (argument e c).sort ≡ false) → LacksArgument earlier cs p (ArgKind index)
+  pub argument-unsuited : ((e : List Told) → same_sort (parameter_sort p) (told_argument e c).sort ≡ false) → LacksArgument earlier cs p (ArgKind index)
   argument-unsuited other =
-      none_given (λ e name. subst (λ (i : ℕ). Cause (param (parameter_sort p) i name) (arguments e cs) (ArgKind index)) same
+      none_given (λ e name. subst (λ (i : ℕ). Cause (param (parameter_sort p) i name) (told_arguments e cs) (ArgKind index)) same
       (argument-other e cs (parameter_sort p) index name c at (other e)))
 
 -- what an argument of the parameter's sort is
-argument-is : (e : List Told) (p : Parameter) (q : ℕ) → argument e (term_arg p q) ≡ record { sort = parameter_sort p; value = tree_at e q }
+argument-is : (e : List Told) (p : Parameter) (q : ℕ) → told_argument e (term_arg p q) ≡ record { sort = parameter_sort p; value = tree_at e q }
 argument-is e (parameter.«Type» i) q = refl
 argument-is e (parameter.Const i) q = refl
 
@@ -145,7 +141,7 @@ module _ (rows : List Row) (earlier : List Answer) (at : ℕ) (p : Parameter) (l
   pub argument-allowed : (a : Answer) → IsArgumentAt earlier list.items p a → IsAllowed s (told_all rows earlier) (call.Instantiate at list) (told rows a)
   argument-allowed a h =
       let e = told_all rows earlier in
-      let args = arguments e list.items in
+      let args = told_arguments e list.items in
       let t = some-term (term_at e at) (IsParameterOf (parameter_sort p) (parameter_index p)) found in
       let tree = parameter-tree (parameter_sort p) (parameter_index p) t.0 t.2 in
       let v = tree_at e h.position in
@@ -216,7 +212,7 @@ pub argument-answers : (terms : Terms) (earlier : List Answer) (at : ℕ) (p : P
     → IsSomeAnd (term_at (told_all terms.rows earlier) at) (IsParameterOf (parameter_sort p) (parameter_index p))
     → AreTerms (told_all terms.rows earlier) (args_ids list.items)
     → IsUsable (told_all terms.rows earlier) (items_positions (arg_items list.items)) (AreItemsTooDeep (arg_items list.items))
-    → AreOwned terms.rows earlier → IfOk result (IsArgumentAt earlier list.items p) → IfErr result (LacksArgument earlier list.items p)
+    → AreOwnedAnswers terms.rows earlier → IfOk result (IsArgumentAt earlier list.items p) → IfErr result (LacksArgument earlier list.items p)
     → Answers terms terms (told_all terms.rows earlier) (call.Instantiate at list) result
 argument-answers terms earlier at p list (Ok a) found ids usable o given lacks = record {
   owned = given.at.owned terms.rows o;

@@ -35,8 +35,8 @@ use Rattle.type_terms.specs.CallForm.{form_positions, IsFormTooDeep, RecordCall,
 use Rattle.type_terms.specs.Told.{Told, HasFullTable}
 use Rattle.type_terms.specs.Means.{number_at, tree_at, AreTerms}
 use Rattle.type_terms.specs.Build as build
-use Rattle.type_terms.specs.Build.{IsUnbuilt, IsUnusable, IsUsable, IsPlaced, ArePlaced, IsItemOf, AreItemsOf, IsPartOf}
-use Rattle.type_terms.specs.Build.{ArePartsOf, GivesPart, GivesParts, GivesPlaced, GivesItems, PutsPlaced, PutsItems}
+use Rattle.type_terms.specs.Build.{IsUnbuiltPart, IsUnusable, IsUsable, IsPlaced, ArePlaced, IsItemOfCall, AreItemsOf, IsPartOfCall}
+use Rattle.type_terms.specs.Build.{ArePartsOfCall, GivesPart, GivesParts, GivesPlaced, GivesItems, PutsPlaced, PutsItems}
 use Rattle.type_terms.specs.Build.{IsRegionOf, IsVariableListOf, IsKindOf, GivesKind, GivesRecord}
 
 -- positions of two lists
@@ -55,35 +55,35 @@ AreTerms-second e [] ns h = h
 AreTerms-second e (m ∷ ms) ns h = AreTerms-second e ms ns h.1
 
 -- a reason of a part is one of the whole
-pub IsUnbuilt-weaker : (P : Type 0) (e d : List Told) (ps qs : List Named) (deep deeper : Type 0) (r : Refusal)
-    → (AreTerms d qs → AreTerms e ps) → (deep → deeper) → IsUnbuilt P e ps deep r → IsUnbuilt P d qs deeper r
-IsUnbuilt-weaker P e d ps qs deep deeper r n f (build.no_memory i) = build.no_memory i
-IsUnbuilt-weaker P e d ps qs deep deeper r n f (build.no_row p i) = build.no_row p i
-IsUnbuilt-weaker P e d ps qs deep deeper r n f (build.no_term h i) = build.no_term (λ a. h (n a)) i
-IsUnbuilt-weaker P e d ps qs deep deeper r n f (build.no_index h i) = build.no_index (f h) i
+pub IsUnbuiltPart-weaker : (P : Type 0) (e d : List Told) (ps qs : List Named) (deep deeper : Type 0) (r : Refusal)
+    → (AreTerms d qs → AreTerms e ps) → (deep → deeper) → IsUnbuiltPart P e ps deep r → IsUnbuiltPart P d qs deeper r
+IsUnbuiltPart-weaker P e d ps qs deep deeper r n f (build.no_memory i) = build.no_memory i
+IsUnbuiltPart-weaker P e d ps qs deep deeper r n f (build.no_row p i) = build.no_row p i
+IsUnbuiltPart-weaker P e d ps qs deep deeper r n f (build.no_term h i) = build.no_term (λ a. h (n a)) i
+IsUnbuiltPart-weaker P e d ps qs deep deeper r n f (build.no_index h i) = build.no_index (f h) i
 
 -- the same of a child and the children
 pub unbuilt-first : (P : Type 0) (e : List Told) (p : Part) (ps : List Part) (r : Refusal)
-    → IsUnbuilt P e (part_positions p) (IsPartTooDeep p) r → IsUnbuilt P e (parts_positions (p ∷ ps)) (ArePartsTooDeep (p ∷ ps)) r
+    → IsUnbuiltPart P e (part_positions p) (IsPartTooDeep p) r → IsUnbuiltPart P e (parts_positions (p ∷ ps)) (ArePartsTooDeep (p ∷ ps)) r
 unbuilt-first P e p ps r h =
-    IsUnbuilt-weaker P e e (part_positions p) (parts_positions (p ∷ ps)) (IsPartTooDeep p) (ArePartsTooDeep (p ∷ ps)) r
+    IsUnbuiltPart-weaker P e e (part_positions p) (parts_positions (p ∷ ps)) (IsPartTooDeep p) (ArePartsTooDeep (p ∷ ps)) r
     (AreTerms-first e (part_positions p) (parts_positions ps)) inl h
 
 pub unbuilt-later : (P : Type 0) (e : List Told) (p : Part) (ps : List Part) (r : Refusal)
-    → IsUnbuilt P e (parts_positions ps) (ArePartsTooDeep ps) r → IsUnbuilt P e (parts_positions (p ∷ ps)) (ArePartsTooDeep (p ∷ ps)) r
+    → IsUnbuiltPart P e (parts_positions ps) (ArePartsTooDeep ps) r → IsUnbuiltPart P e (parts_positions (p ∷ ps)) (ArePartsTooDeep (p ∷ ps)) r
 unbuilt-later P e p ps r h =
-    IsUnbuilt-weaker P e e (parts_positions ps) (parts_positions (p ∷ ps)) (ArePartsTooDeep ps) (ArePartsTooDeep (p ∷ ps)) r
+    IsUnbuiltPart-weaker P e e (parts_positions ps) (parts_positions (p ∷ ps)) (ArePartsTooDeep ps) (ArePartsTooDeep (p ∷ ps)) r
     (AreTerms-second e (part_positions p) (parts_positions ps)) inr h
 
 -- a reason why the second child was not built is a reason why the children were not
 pub unbuilt-second : (P : Type 0) (e : List Told) (p q : Part) (ps : List Part) (r : Refusal)
-    → IsUnbuilt P e (part_positions q) (IsPartTooDeep q) r → IsUnbuilt P e (parts_positions (p ∷ q ∷ ps)) (ArePartsTooDeep (p ∷ q ∷ ps)) r
+    → IsUnbuiltPart P e (part_positions q) (IsPartTooDeep q) r → IsUnbuiltPart P e (parts_positions (p ∷ q ∷ ps)) (ArePartsTooDeep (p ∷ q ∷ ps)) r
 unbuilt-second P e p q ps r h = unbuilt-later P e p (q ∷ ps) r (unbuilt-first P e q ps r h)
 
 -- where nothing is named and nothing is deep
 pub unbuilt-always : (P : Type 0) (e : List Told) (ns : List Named) (deep : Type 0) (r : Refusal)
-    → IsUnbuilt P [] [] ⊥ r → IsUnbuilt P e ns deep r
-unbuilt-always P e ns deep r h = IsUnbuilt-weaker P [] e [] ns ⊥ deep r (λ a. tt) (λ d. absurd d) h
+    → IsUnbuiltPart P [] [] ⊥ r → IsUnbuiltPart P e ns deep r
+unbuilt-always P e ns deep r h = IsUnbuiltPart-weaker P [] e [] ns ⊥ deep r (λ a. tt) (λ d. absurd d) h
 
 -- what more rows leave as it is
 pub placed-grows : {e : List Told} {t : Tree Depth} {ns : List Named} {deep : Type 0} {s : Shape} (old new : Terms) → Extends old new
@@ -106,12 +106,12 @@ all_placed-grow {e} {ts} {ns} {deep} {ss} old new x h = record {
 }
 
 -- children in order
-pub parts-none : (terms : Terms) (e : List Told) → ArePartsOf terms e [] shape.none
+pub parts-none : (terms : Terms) (e : List Told) → ArePartsOfCall terms e [] shape.none
 unfolding fill
 parts-none terms e = record { parts = tt; means = refl; named = tt; shallow = λ d. d }
 
-pub parts-also : (terms : Terms) (e : List Told) (p : Part) (ps : List Part) (s : Shape) (ss : Shapes) → IsPartOf terms e p s → ArePartsOf terms e ps ss
-    → ArePartsOf terms e (p ∷ ps) (shape.also s ss)
+pub parts-also : (terms : Terms) (e : List Told) (p : Part) (ps : List Part) (s : Shape) (ss : Shapes) → IsPartOfCall terms e p s → ArePartsOfCall terms e ps ss
+    → ArePartsOfCall terms e (p ∷ ps) (shape.also s ss)
 unfolding fill
 parts-also terms e p ps s ss h k = record {
   parts = (h.part, k.parts);
@@ -121,12 +121,12 @@ parts-also terms e p ps s ss h k = record {
 }
 
 -- the value in the place of an only child is all that a call puts in the children's places
-pub parts-one : (terms : Terms) (e : List Told) (p : Part) (s : Shape) → IsPartOf terms e p s → ArePartsOf terms e (p ∷ []) (shape.also s shape.none)
+pub parts-one : (terms : Terms) (e : List Told) (p : Part) (s : Shape) → IsPartOfCall terms e p s → ArePartsOfCall terms e (p ∷ []) (shape.also s shape.none)
 parts-one terms e p s h = parts-also terms e p [] s shape.none h (parts-none terms e)
 
 -- the values in the places of two children are all that a call puts in the children's places
-pub parts-two : (terms : Terms) (e : List Told) (p q : Part) (s u : Shape) → IsPartOf terms e p s → IsPartOf terms e q u
-    → ArePartsOf terms e (p ∷ q ∷ []) (shape.also s (shape.also u shape.none))
+pub parts-two : (terms : Terms) (e : List Told) (p q : Part) (s u : Shape) → IsPartOfCall terms e p s → IsPartOfCall terms e q u
+    → ArePartsOfCall terms e (p ∷ q ∷ []) (shape.also s (shape.also u shape.none))
 parts-two terms e p q s u h k = parts-also terms e p (q ∷ []) s (shape.also u shape.none) h (parts-one terms e q u k)
 
 -- the positions that the items of a list name
@@ -191,9 +191,9 @@ module _ {X T : Type 0} (tree_of : (ℕ → ℕ) → (ℕ → Tree Depth) → X 
 
   -- a reason of one of them is one of them all
   pub unbuilt-one : (P : Type 0) (e : List Told) (xs : List X) (i : ℕ) (x : X) (r : Refusal) → slice_get xs i ≡ Some x
-      → IsUnbuilt P e (names_of x) (deep_of x) r → IsUnbuilt P e (all_positions names_of xs) (AnyIsDeep deep_of xs) r
+      → IsUnbuiltPart P e (names_of x) (deep_of x) r → IsUnbuiltPart P e (all_positions names_of xs) (AnyIsDeep deep_of xs) r
   unbuilt-one P e xs i x r h u =
-      IsUnbuilt-weaker P e e (names_of x) (all_positions names_of xs) (deep_of x) (AnyIsDeep deep_of xs) r (named-among names_of e xs i x h) (deep-among deep_of xs i x h) u
+      IsUnbuiltPart-weaker P e e (names_of x) (all_positions names_of xs) (deep_of x) (AnyIsDeep deep_of xs) r (named-among names_of e xs i x h) (deep-among deep_of xs i x h) u
 
 -- where one is in a list, its image is in the list of images
 pub get-mapped : {A B : Type 0} (f : A → B) (xs : List A) (i : ℕ) (x : A) → slice_get xs i ≡ Some x → slice_get (map f xs) i ≡ Some (f x)
@@ -205,7 +205,7 @@ module _ {C T : Type 0} (item : C → Item) (of_value : T → Shape) where
   items-none terms e = all-none item_tree item_positions IsItemTooDeep of_value terms e
 
   pub items-more : (terms : Terms) (e : List Told) (cs : List C) (xs : List T) (c : C) (x : T)
-      → AreItemsOf terms e (map item cs) (item_shapes of_value xs) → IsItemOf terms e (item c) (of_value x)
+      → AreItemsOf terms e (map item cs) (item_shapes of_value xs) → IsItemOfCall terms e (item c) (of_value x)
       → AreItemsOf terms e (map item (cs ++ c ∷ [])) (item_shapes of_value (xs ++ x ∷ []))
   items-more terms e cs xs c x h k =
       subst (λ (is : List Item). AreItemsOf terms e is (item_shapes of_value (xs ++ x ∷ []))) (sym (map-append item cs (c ∷ [])))
@@ -213,8 +213,8 @@ module _ {C T : Type 0} (item : C → Item) (of_value : T → Shape) where
 
   -- a reason of one of the items is one of them all
   pub unbuilt-among : (P : Type 0) (e : List Told) (cs : List C) (i : ℕ) (c : C) (r : Refusal) → slice_get cs i ≡ Some c
-      → IsUnbuilt P e (item_positions (item c)) (IsItemTooDeep (item c)) r
-      → IsUnbuilt P e (items_positions (map item cs)) (AreItemsTooDeep (map item cs)) r
+      → IsUnbuiltPart P e (item_positions (item c)) (IsItemTooDeep (item c)) r
+      → IsUnbuiltPart P e (items_positions (map item cs)) (AreItemsTooDeep (map item cs)) r
   unbuilt-among P e cs i c r h u = unbuilt-one item_tree item_positions IsItemTooDeep of_value P e (map item cs) i (item c) r (get-mapped item cs i c h) u
 
 -- what is named can't be used, where a part of it can't
@@ -225,7 +225,7 @@ unusable-weaker e ps qs deep deeper GreatestIndex n f h = f h
 unusable-weaker e ps qs deep deeper _ n f h = absurd h
 
 -- a handle that isn't there
-pub unbuilt-unusable : (P : Type 0) (e : List Told) (ns : List Named) (deep : Type 0) (r : Refusal) → r ≡ NoSuchAnswer → IsUnbuilt P e ns deep r → IsUnusable e ns deep r
+pub unbuilt-unusable : (P : Type 0) (e : List Told) (ns : List Named) (deep : Type 0) (r : Refusal) → r ≡ NoSuchAnswer → IsUnbuiltPart P e ns deep r → IsUnusable e ns deep r
 unbuilt-unusable P e ns deep r is (build.no_memory i) = absurd (cc)
 unbuilt-unusable P e ns deep r is (build.no_row p i) = absurd (cc)
 unbuilt-unusable P e ns deep r is (build.no_term h i) = subst (λ (x : Refusal). IsUnusable e ns deep x) (sym i) h
@@ -254,16 +254,16 @@ module _ {C : Type 0} (item : C → Item) where
 
 -- a region
 pub region-part : (terms : Terms) (e : List Told) (c : RegionCall) (r : RegionKind) → IsRegionOf terms (region_tree (number_at e) c) (IsRegionTooDeep c) r
-    → IsPartOf terms e (one (a_region c)) (region_shape r)
+    → IsPartOfCall terms e (one (a_region c)) (region_shape r)
 region-part terms e c r h = record { part = h.part; means = h.means; named = tt; shallow = h.shallow }
 
 -- a reason why a region was not built is such a reason whatever was told earlier
-pub region-unbuilt : (P : Type 0) (e : List Told) (c : RegionCall) (r : Refusal) → IsUnbuilt P [] [] (IsRegionTooDeep c) r
-    → IsUnbuilt P e [] (IsRegionTooDeep c) r
-region-unbuilt P e c r h = IsUnbuilt-weaker P [] e [] [] (IsRegionTooDeep c) (IsRegionTooDeep c) r (λ a. tt) (λ d. d) h
+pub region-unbuilt : (P : Type 0) (e : List Told) (c : RegionCall) (r : Refusal) → IsUnbuiltPart P [] [] (IsRegionTooDeep c) r
+    → IsUnbuiltPart P e [] (IsRegionTooDeep c) r
+region-unbuilt P e c r h = IsUnbuiltPart-weaker P [] e [] [] (IsRegionTooDeep c) (IsRegionTooDeep c) r (λ a. tt) (λ d. d) h
 
 -- the kind of a label and its children
-pub plain-kind : (terms : Terms) (e : List Told) (l : Label Name) (ps : List Part) (m : Label ℕ) (ss : Shapes) → ArePartsOf terms e ps ss
+pub plain-kind : (terms : Terms) (e : List Told) (l : Label Name) (ps : List Part) (m : Label ℕ) (ss : Shapes) → ArePartsOfCall terms e ps ss
     → IsNamedLabel (size terms.rows) m → rename_label (name_of (meaning terms.rows)) m ≡ l
     → IsKindOf terms e (plain l ps) (shape.term m ss)
 unfolding fill
@@ -277,7 +277,7 @@ plain-kind terms e l ps m ss h n q = record {
 -- the same where the children are in a record under a binder
 pub under-kind : (terms : Terms) (e : List Told) (l : Label Name) (vs : List VariableCall) (k : RecordLabel Name) (ps : List Part)
     (m : Label ℕ) (vars : BoundVarKinds) (n : RecordLabel ℕ) (ss : Shapes)
-    → ArePartsOf terms e ps ss → IsVariableListOf terms (number_at e) vs vars
+    → ArePartsOfCall terms e ps ss → IsVariableListOf terms (number_at e) vs vars
     → IsNamedLabel (size terms.rows) m → rename_label (name_of (meaning terms.rows)) m ≡ l
     → IsNamedRecord (size terms.rows) n → rename_record (name_of (meaning terms.rows)) n ≡ k
     → IsKindOf terms e (under l (map (variable_kind (number_at e)) vs) k ps)
@@ -291,7 +291,7 @@ under-kind terms e l vs k ps m vars n ss h v nl ql nr qr = record {
 }
 
 -- what is under a predicate's binder
-pub record-placed : (terms : Terms) (e : List Told) (r : RecordCall) (n : RecordLabel ℕ) (ss : Shapes) → ArePartsOf terms e r.parts ss
+pub record-placed : (terms : Terms) (e : List Told) (r : RecordCall) (n : RecordLabel ℕ) (ss : Shapes) → ArePartsOfCall terms e r.parts ss
     → IsNamedRecord (size terms.rows) n → rename_record (name_of (meaning terms.rows)) n ≡ r.label
     → IsPlaced terms e (record_tree (number_at e) (tree_at e) r) (parts_positions r.parts) (ArePartsTooDeep r.parts) (shape.node (record_label n) ss)
 unfolding fill
@@ -326,19 +326,19 @@ term-child t = term_kind-child t.kind
 
 -- an error that is passed on is the refusal of a record, if it is a reason why the record was not built
 pub record-passed : {K : Type 0} (terms : Terms) (e : List Told) (r : RecordCall) (form : K → RecordForm) (result : Result K Refusal) (x : Refusal) → IsErrAnd result (λ y. y ≡ x)
-    → IsUnbuilt (HasFullTable terms) e (parts_positions r.parts) (ArePartsTooDeep r.parts) x → GivesRecord terms e r form result
+    → IsUnbuiltPart (HasFullTable terms) e (parts_positions r.parts) (ArePartsTooDeep r.parts) x → GivesRecord terms e r form result
 record-passed terms e r form (Ok k) x h u = absurd h
 record-passed terms e r form (Err y) x h u = record { ok = tt; err = rw h u }
 
 -- what a question mark passes on
 pub part-passed : {H : Type 0} (terms : Terms) (e : List Told) (p : Part) (of_value : H → Shape) (result : Result H Refusal) (r : Refusal) → IsErrAnd result (λ x. x ≡ r)
-    → IsUnbuilt (HasFullTable terms) e (part_positions p) (IsPartTooDeep p) r → GivesPart terms e p of_value result
+    → IsUnbuiltPart (HasFullTable terms) e (part_positions p) (IsPartTooDeep p) r → GivesPart terms e p of_value result
 part-passed terms e p of_value (Ok l) r h k = absurd h
 part-passed terms e p of_value (Err x) r h k = record { ok = tt; err = rw h k }
 
 -- an error that is passed on is the refusal of a value, if it is a reason why the value was not built
 pub placed-passed : {H : Type 0} (terms : Terms) (e : List Told) (t : Tree Depth) (ns : List Named) (deep : Type 0) (of_value : H → Shape) (result : Result H Refusal) (r : Refusal) → IsErrAnd result (λ x. x ≡ r)
-    → IsUnbuilt (HasFullTable terms) e ns deep r → GivesPlaced terms e t ns deep of_value result
+    → IsUnbuiltPart (HasFullTable terms) e ns deep r → GivesPlaced terms e t ns deep of_value result
 placed-passed terms e t ns deep of_value (Ok l) r h k = absurd h
 placed-passed terms e t ns deep of_value (Err x) r h k = record { ok = tt; err = rw h k }
 
@@ -357,30 +357,30 @@ dynamic-kind terms e xs c s r h k = record {
 
 -- an error that is passed on is the refusal of children, if it is a reason why they were not built
 pub parts-passed : {H : Type 0} (terms : Terms) (e : List Told) (ps : List Part) (of_value : H → Shapes) (result : Result H Refusal) (r : Refusal) → IsErrAnd result (λ x. x ≡ r)
-    → IsUnbuilt (HasFullTable terms) e (parts_positions ps) (ArePartsTooDeep ps) r → GivesParts terms e ps of_value result
+    → IsUnbuiltPart (HasFullTable terms) e (parts_positions ps) (ArePartsTooDeep ps) r → GivesParts terms e ps of_value result
 parts-passed terms e ps of_value (Ok l) r h k = absurd h
 parts-passed terms e ps of_value (Err x) r h k = record { ok = tt; err = rw h k }
 
 -- an error that is passed on is the refusal of a vector of items, if it is a reason why they were not built
 pub items-passed : {H : Type 0} (terms : Terms) (e : List Told) (is : List Item) (of_value : H → Shape) (result : Result (Vec H Global) Refusal) (r : Refusal) → IsErrAnd result (λ x. x ≡ r)
-    → IsUnbuilt (HasFullTable terms) e (items_positions is) (AreItemsTooDeep is) r → GivesItems terms e is of_value result
+    → IsUnbuiltPart (HasFullTable terms) e (items_positions is) (AreItemsTooDeep is) r → GivesItems terms e is of_value result
 items-passed terms e is of_value (Ok l) r h k = absurd h
 items-passed terms e is of_value (Err x) r h k = record { ok = tt; err = rw h k }
 
 -- an error that is passed on is the refusal of values in order, if it is a reason why they were not built
 pub all_placed-passed : {R : Type 0} (terms : Terms) (e : List Told) (ts : Forest Depth) (ns : List Named) (deep : Type 0) (ss : Shapes) (result : Result R Refusal) (r : Refusal) → IsErrAnd result (λ x. x ≡ r)
-    → IsUnbuilt (HasFullTable terms) e ns deep r → PutsPlaced terms e ts ns deep ss result
+    → IsUnbuiltPart (HasFullTable terms) e ns deep r → PutsPlaced terms e ts ns deep ss result
 all_placed-passed terms e ts ns deep ss (Ok l) r h k = absurd h
 all_placed-passed terms e ts ns deep ss (Err x) r h k = record { ok = tt; err = rw h k }
 
 -- an error that is passed on is the refusal of the values of items, if it is a reason why they were not built
 pub puts-passed : {H R : Type 0} (terms : Terms) (e : List Told) (is : List Item) (of_value : H → Shape) (values : List H) (result : Result R Refusal) (r : Refusal) → IsErrAnd result (λ x. x ≡ r)
-    → IsUnbuilt (HasFullTable terms) e (items_positions is) (AreItemsTooDeep is) r → PutsItems terms e is of_value values result
+    → IsUnbuiltPart (HasFullTable terms) e (items_positions is) (AreItemsTooDeep is) r → PutsItems terms e is of_value values result
 puts-passed terms e is of_value values result r h k =
     all_placed-passed terms e (items_trees (number_at e) (tree_at e) is) (items_positions is) (AreItemsTooDeep is) (item_shapes of_value values) result r h k
 
 -- an error that is passed on is the refusal of a kind, if it is a reason why the kind was not built
 pub kind-passed : {K : Type 0} (terms : Terms) (e : List Told) (f : CallForm) (of_kind : K → Shape) (result : Result K Refusal) (r : Refusal) → IsErrAnd result (λ x. x ≡ r)
-    → IsUnbuilt (HasFullTable terms) e (form_positions f) (IsFormTooDeep f) r → GivesKind terms e f of_kind result
+    → IsUnbuiltPart (HasFullTable terms) e (form_positions f) (IsFormTooDeep f) r → GivesKind terms e f of_kind result
 kind-passed terms e f of_kind (Ok k) r h u = absurd h
 kind-passed terms e f of_kind (Err x) r h u = record { ok = tt; err = rw h u }

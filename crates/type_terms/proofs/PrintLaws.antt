@@ -4,15 +4,15 @@ use Rattle.std.specs.Prelude.{Option}
 use Rattle.std.proofs.lemmas.List.{append-nil}
 use Rattle.tt_kinds.specs.Label.{Name, Sort, region_sort, type_sort, const_sort, VarKind, region_variable}
 use Rattle.tt_kinds.specs.Label.{type_variable, const_variable, RegionName, anonymous, printed, named, environment}
-use Rattle.tt_kinds.specs.Label.{FreeRegion, static_region, late_param_region, TypeLabel, infer_type, raw_ptr_type}
+use Rattle.tt_kinds.specs.Label.{TypeLabel, infer_type, raw_ptr_type}
 use Rattle.tt_kinds.specs.Label.{ConstLabel, infer_const, PatternLabel, range_pattern, RecordLabel, fn_sig_tys_record}
 use Rattle.tt_kinds.specs.Label.{pair_record, host_effect_record, subtype_record, unstable_feature_record, Label}
 use Rattle.tt_kinds.specs.Label.{type_label, const_label, pattern_label, predicate_label, existential_label}
 use Rattle.tt_kinds.specs.Label.{record_label}
 use Rattle.tt_kinds.specs.Tree as tree
 use Rattle.tt_kinds.specs.Tree.{Depth, at, canonical, Tree, Forest, none, also, count_trees}
-use Rattle.tt_kinds.specs.Shape.{Meaning, Sizes, fill, fill_all, name_of, rename_label, rename_record, rename_free}
-use Rattle.tt_kinds.specs.Shape.{rename_region, rename_kind, vars_of, IsNamed, IsNamedKind, IsNamedLabel, IsNamedRecord}
+use Rattle.tt_kinds.specs.Shape.{Meaning, Sizes, fill, fill_all, name_of, rename_label, rename_record}
+use Rattle.tt_kinds.specs.Shape.{rename_region, rename_kind, vars_of, IsNamed, IsNamedLabel, IsNamedRecord}
 use Rattle.tt_kinds.specs.Shape.{HasParts, IsPart}
 use Rattle.tt_kinds.specs.Kinds.{Form, param, bound, plain, under, form_parts, form_binder, form_shape, kind_form}
 use Rattle.tt_kinds.specs.Kinds.{kind_sort, kind_shape, relabelled, ty_form, const_form, value_form, pattern_form}
@@ -43,8 +43,8 @@ use Rattle.tt_kinds.specs.declared.parts.ListSort.{ListSort}
 use Rattle.tt_kinds.specs.declared.parts.ListSort.TheVariants as sort
 use Rattle.type_terms.specs.declared.ir_print.layout.Style.{Style}
 use Rattle.type_terms.specs.declared.ir_print.layout.Style.TheVariants as style
-use Rattle.type_terms.specs.Text.{opening, Head, no_head, head_in, fn_head, variable_head, variable_title, region_title}
-use Rattle.type_terms.specs.Text.{ty_title, type_head, const_head, pattern_head, record_head, bound_head, free_head}
+use Rattle.type_terms.specs.Text.{opening_text, Head, no_head, head_in, fn_head, variable_head, variable_title, region_title}
+use Rattle.type_terms.specs.Text.{ty_title, type_head, const_head, pattern_head, record_head, bound_head}
 use Rattle.type_terms.specs.Text.{region_name_head, type_style, record_style, style_in, closing, head_text}
 use Rattle.type_terms.specs.Text.{variables_text, text_in, texts}
 use Rattle.type_terms.specs.declared.ir_print.spelling.Spelling.{Spelling}
@@ -122,11 +122,6 @@ module _ (f : ℕ → Name) where
   called-renamed (named d) = refl
   called-renamed environment = refl
 
-  free-renamed : (r : FreeRegion ℕ) → rename_head f (free_head r) ≡ free_head (rename_free f r)
-  free-renamed (late_param_region d r) = called-renamed r
-  free-renamed static_region = refl
-  free-renamed _ = refl
-
   record-style-renamed : (s : Style) (l : RecordLabel ℕ) → record_style s (rename_record f l) ≡ record_style s l
   record-style-renamed s pair_record = refl
   record-style-renamed s _ = refl
@@ -137,7 +132,7 @@ module _ (f : ℕ → Name) where
 
 -- nothing is around one child of this style
 record IsBareAround (s : Style) : Type 0 where
-  before : opening s true ≡ []
+  before : opening_text s true ≡ []
   after : closing s 1 ≡ []
 
 -- a type under a binder: nothing is around its record, and nothing in front of the binder
@@ -348,23 +343,3 @@ module _ (size : Sizes) where
   region-named (ReBound i b) h = bound-named region_sort (depth i) b.var
   region-named (ReLateParam p) h = called-named (region_name p.kind) h
   region-named _ h = tt
-
-  pub variable-named : (n : ℕ) (v : VarKind ℕ) → IsNamedSubject size (variable_head n v).subject
-  variable-named n (region_variable r) = tt
-  variable-named n (type_variable k) = tt
-  variable-named n const_variable = tt
-
-  region_title-named : (r : RegionName ℕ) → IsNamed size r → IsNamedSubject size (region_title r).subject
-  region_title-named anonymous h = tt
-  region_title-named (printed n) h = h
-  region_title-named (named d) h = tt
-  region_title-named environment h = tt
-
-  ty_title-named : (k : BoundTyKind) → IsNamedSubject size (ty_title k).subject
-  ty_title-named bound_ty.Anon = tt
-  ty_title-named (bound_ty.Param d) = tt
-
-  pub title-named : (v : VarKind ℕ) → IsNamedKind size v → IsNamedSubject size (variable_title v).subject
-  title-named (region_variable r) h = region_title-named r h
-  title-named (type_variable k) h = ty_title-named k
-  title-named const_variable h = tt

@@ -21,7 +21,7 @@ use Rattle.type_terms.specs.declared.ir_print.layout.Place.TheVariants as place
 use Rattle.type_terms.specs.declared.ir_print.pieces.Piece.{Piece}
 use Rattle.type_terms.specs.Text.{style_in, are_none, before_child, closing, names, text_in, texts, child_text, Begins}
 use Rattle.type_terms.specs.Text.{Writes}
-use Rattle.type_terms.specs.Pieces.{inner_work, forest_work, child_work, piece_text, pieces_text, pieces_work}
+use Rattle.type_terms.specs.Pieces.{inner_work, forest_work, inner_child_work, piece_text, pieces_text, pieces_work}
 use Rattle.type_terms.specs.Pieces.{ArePieces, Adds, Opened, Opens, Left}
 use Rattle.type_terms.proofs.PrintSteps.{begins-same, begins-more, writes-end}
 use Rattle.type_terms.proofs.PrintLaws.{list-written}
@@ -33,7 +33,7 @@ no_piece = None
 
 module _ (rows : List Row) where
   abbrev work_of : Piece → ℕ
-  work_of p = suc (child_work (fill_all (meaning rows) (child_shapes p.child)))
+  work_of p = suc (inner_child_work (fill_all (meaning rows) (child_shapes p.child)))
 
   text-pushed : (ps : List Piece) (p : Piece) → pieces_text rows (ps ++ p ∷ []) ≡ piece_text rows p ++ pieces_text rows ps
   text-pushed [] p = sym (append-nil (piece_text rows p))
@@ -172,9 +172,9 @@ module _ (rows : List Row) where
 
   -- less is left after a piece was begun
   pub left-smaller : (b c : List ℕ) (ps rest new : List Piece) (p : Piece) (whole : List ℕ) → ps ≡ rest ++ p ∷ []
-      → Opened rows b c rest new whole (child_work (fill_all (meaning rows) (child_shapes p.child))) → pieces_work rows new < pieces_work rows ps
+      → Opened rows b c rest new whole (inner_child_work (fill_all (meaning rows) (child_shapes p.child))) → pieces_work rows new < pieces_work rows ps
   left-smaller b c ps rest new p whole is k =
-      let before : pieces_work rows ps ≡ suc (child_work (fill_all (meaning rows) (child_shapes p.child))) + pieces_work rows rest = ap (pieces_work rows) is ∙ work-pushed rest p in
+      let before : pieces_work rows ps ≡ suc (inner_child_work (fill_all (meaning rows) (child_shapes p.child))) + pieces_work rows rest = ap (pieces_work rows) is ∙ work-pushed rest p in
       let low = k.low in
       omega arith
 

@@ -20,11 +20,11 @@ use Rattle.type_terms.specs.declared.run.answer.Answer.TheVariants as answer
 use Rattle.type_terms.specs.declared.run.call.Call.{Call}
 use Rattle.type_terms.specs.declared.run.call.Call.TheVariants as call
 use Rattle.type_terms.specs.CallForm.{as_at}
-use Rattle.type_terms.specs.Told.{told, told_all, truth, term, handle_table, handle_number, IsOwned, AreOwned, Setting}
+use Rattle.type_terms.specs.Told.{told, told_all, truth, term, handle_table, handle_number, IsOwnedAnswer, AreOwnedAnswers, Setting}
 use Rattle.type_terms.specs.Told.{setting}
 use Rattle.type_terms.specs.Means.{Term, as_term, term_at, tree_of, table_of, table_at, Suits, IsAllowed, MayRefuse}
 use Rattle.type_terms.specs.Means.{no_term}
-use Rattle.type_terms.specs.Build.{IsAnswerAt, AreAlike, IsInfoOf, Answers}
+use Rattle.type_terms.specs.Build.{IsAnswerAt, AreOfOneTable, IsInfoOf, Answers}
 
 -- what a handle of a table tells
 told-handle : (rows : List Row) (a : Answer) (t : Table) → handle_table a ≡ Some t → told rows a ≡ term t (meaning rows t (handle_number a))
@@ -36,7 +36,7 @@ told-handle rows (answer.Clauses x) t e = let same : ClauseLists ≡ t = cc in s
 told-handle rows (answer.Args x) t e = let same : ArgLists ≡ t = cc in subst (λ (u : Table). told rows (answer.Args x) ≡ term u (meaning rows u x.number)) same refl
 told-handle rows _ t e = absurd (cc)
 
-owned-handle : (rows : List Row) (a : Answer) (t : Table) → handle_table a ≡ Some t → IsOwned rows a → handle_number a < size rows t
+owned-handle : (rows : List Row) (a : Answer) (t : Table) → handle_table a ≡ Some t → IsOwnedAnswer rows a → handle_number a < size rows t
 owned-handle rows (answer.Ty x) t e o = let same : Types ≡ t = cc in subst (λ (u : Table). x.number < size rows u) same o
 owned-handle rows (answer.Const x) t e o = let same : Consts ≡ t = cc in subst (λ (u : Table). x.number < size rows u) same o
 owned-handle rows (answer.Pat x) t e o = let same : Patterns ≡ t = cc in subst (λ (u : Table). x.number < size rows u) same o
@@ -51,7 +51,7 @@ some-of (Some t) h = (t, refl)
 
 -- two answers of one table have one number exactly where they tell one tree
 module _ (rows : List Row) (i : (t : Table) (n m : ℕ) → n < size rows t → m < size rows t → (meaning rows t n ≡ meaning rows t m) ↔ (n ≡ m)) where
-  pub same-answer : (a b : Answer) → IsOwned rows a → IsOwned rows b → AreAlike a b
+  pub same-answer : (a b : Answer) → IsOwnedAnswer rows a → IsOwnedAnswer rows b → AreOfOneTable a b
       → (handle_number a ≡ handle_number b) ↔ (tree_of (as_term (Some (told rows a))) ≡ tree_of (as_term (Some (told rows b))))
   same-answer a b h k l =
       let t = some-of (handle_table a) l.0 in
@@ -89,7 +89,7 @@ module _ (rows : List Row) (earlier : List Answer) (p q : ℕ) (a b : Answer) (h
   table-second : table_at (told_all rows earlier) q ≡ handle_table b
   table-second = ap table_of (k.means rows) ∙ told-table rows b
 
-  pub equal-allowed : (P : Setting) (r : Bool) → AreOwned rows earlier → AreAlike a b
+  pub equal-allowed : (P : Setting) (r : Bool) → AreOwnedAnswers rows earlier → AreOfOneTable a b
       → ((t : Table) (n m : ℕ) → n < size rows t → m < size rows t → (meaning rows t n ≡ meaning rows t m) ↔ (n ≡ m))
       → r ≡ eqb (handle_number a) (handle_number b) → IsAllowed P (told_all rows earlier) (call.Equal p q) (truth r)
   equal-allowed P r o l i e =
@@ -111,7 +111,7 @@ module _ (rows : List Row) (earlier : List Answer) (p q : ℕ) (a b : Answer) (h
       )
 
   -- the answers are of two tables, or one of them is no term
-  pub unlike-refused : (P : Setting) → (AreAlike a b → ⊥) → MayRefuse P (told_all rows earlier) (call.Equal p q) NoSuchAnswer
+  pub unlike-refused : (P : Setting) → (AreOfOneTable a b → ⊥) → MayRefuse P (told_all rows earlier) (call.Equal p q) NoSuchAnswer
   unlike-refused P n =
       no_term (λ m. let s = table-of-suited (term_at (told_all rows earlier) q) (table_at (told_all rows earlier) p) m.1.0 in
       n (subst (λ (t : Option Table). IsSome t) table-first s.0, sym table-first ∙ s.1 ∙ table-second)) refl
@@ -165,6 +165,6 @@ answered-allowed start terms earlier rows c (Err r) a h e = rw e h.err
 
 -- the handle or the id in an answer that is made of a call's result is the interner's
 pub answered-owned : (start terms : Terms) (earlier : List Answer) (rows : List Row) (c : Call) (result : Result Answer Refusal) (a : Answer) → Answers start terms (told_all rows earlier) c result
-    → MatchResult result (λ b. a ≡ b) (λ e. a ≡ answer.Refused e) → IsOwned terms.rows a
+    → MatchResult result (λ b. a ≡ b) (λ e. a ≡ answer.Refused e) → IsOwnedAnswer terms.rows a
 answered-owned start terms earlier rows c (Ok b) a h e = rw e h.owned
 answered-owned start terms earlier rows c (Err r) a h e = rw e tt

@@ -24,13 +24,13 @@ use Rattle.type_terms.specs.declared.run.answer.Answer.{Answer}
 use Rattle.type_terms.specs.declared.run.call.RegionCall.{RegionCall}
 use Rattle.type_terms.specs.declared.run.call.VariableCall.{VariableCall}
 use Rattle.type_terms.specs.CallForm.{Item, Part, one, a_region, a_list, CallForm, param, plain, under, trait_object}
-use Rattle.type_terms.specs.CallForm.{ExistentialForm, IsShortExistential, RecordCall, labelled, all_trees}
+use Rattle.type_terms.specs.CallForm.{ExistentialForm, IsShortExistential, RecordCall, labelled_parts, all_trees}
 use Rattle.type_terms.specs.CallForm.{existential_tree, existentials_tree, form_tree, Named, variable_kind}
 use Rattle.type_terms.specs.CallForm.{variable_text, region_text, item_tree, part_tree}
 use Rattle.type_terms.specs.Told.{Told, told_all, IsStored}
 use Rattle.type_terms.specs.Means.{number_at, tree_at}
 use Rattle.type_terms.specs.Build.{ArePlaced, AreItemsOf, AreVariablesOf, IsKindOf}
-use Rattle.type_terms.specs.Room.{IsForRoom, HasValue, LacksValue, LacksText, NeedsRoom, PartNeedsRoom, VarsNeedRoom}
+use Rattle.type_terms.specs.Room.{IsRefusalForRoom, HasValue, LacksValue, LacksText, NeedsRoom, PartNeedsRoom, VarsNeedRoom}
 use Rattle.type_terms.specs.Room.{RecordNeedsRoom, ExistentialNeedsRoom, ExistentialsNeedRoom, FormNeedsRoom}
 use Rattle.type_terms.proofs.ValueLaws.{in-term, in-node, in-binder, new-lacks, first-value, later-values, value-at}
 use Rattle.type_terms.proofs.PartLaws.{get-mapped}
@@ -43,7 +43,7 @@ stored-value rows t u h = record { shape = shape.stored t h.number; part = h.wit
 
 -- a refusal for another reason is none for want of room
 pub never-room : (rows : List Row) (short : Type 0) (t : Tree Depth) (r : Refusal) → r ≡ NoSuchAnswer → NeedsRoom rows short t r
-never-room rows short t r is room = absurd (subst IsForRoom is room)
+never-room rows short t r is room = absurd (subst IsRefusalForRoom is room)
 
 -- what a refusal says of variables whatever the rows at the start are
 pub every-vars-room : {T : Type 0} (now : List Row) (earlier : List Answer) (cs : List VariableCall) (result : Result T Refusal)
@@ -92,7 +92,7 @@ long-vars-room rows ids cs (Ok l) long = tt
 long-vars-room rows ids cs (Err r) long = λ room short. let same = length-map cs (variable_kind ids) in absurd (omega (arith, same, long, short))
 
 -- a region's text is new
-pub region-room : (rows : List Row) (e : List Told) (c : RegionCall) (r : Refusal) → (IsForRoom r → LacksText rows (region_text c)) → PartNeedsRoom rows e (one (a_region c)) r
+pub region-room : (rows : List Row) (e : List Told) (c : RegionCall) (r : Refusal) → (IsRefusalForRoom r → LacksText rows (region_text c)) → PartNeedsRoom rows e (one (a_region c)) r
 region-room rows e c r lacks room short = region-lacks rows (number_at e) c (lacks room)
 
 -- a parameter's name is new
@@ -141,7 +141,7 @@ module _ (rows : List Row) (e : List Told) (m : RecordLabel Name) where
   second-record-room p q ps r h room short are v = h room short.1.0 are (first-value rows _ _ (later-values rows _ _ (in-node rows are (record_label m) _ v).children))
 
 -- the name of a feature is new
-pub feature-room : (rows : List Row) (e : List Told) (name : Name) (r : Refusal) → IsNew (text_row name) rows → RecordNeedsRoom rows e (labelled (unstable_feature_record name) []) r
+pub feature-room : (rows : List Row) (e : List Told) (name : Name) (r : Refusal) → IsNew (text_row name) rows → RecordNeedsRoom rows e (labelled_parts (unstable_feature_record name) []) r
 feature-room rows e name r new room short = feature-lacks rows name new
 
 -- an existential predicate of a list
@@ -178,6 +178,6 @@ module _ (rows : List Row) (e : List Told) (xs : List ExistentialForm) (c : Regi
   pub object-room : ExistentialsNeedRoom rows e xs r → FormNeedsRoom rows e (trait_object xs c) r
   object-room h room short are v = h room short are (first-value rows _ _ (in-term rows are (type_label dynamic_type) _ v))
 
-  pub object-region-room : (IsForRoom r → LacksText rows (region_text c)) → FormNeedsRoom rows e (trait_object xs c) r
+  pub object-region-room : (IsRefusalForRoom r → LacksText rows (region_text c)) → FormNeedsRoom rows e (trait_object xs c) r
   object-region-room lacks room short are v =
       region-lacks rows (number_at e) c (lacks room) are (first-value rows _ _ (later-values rows _ _ (in-term rows are (type_label dynamic_type) _ v)))

@@ -12,20 +12,20 @@ use Rattle.tt_kinds.specs.declared.declaration.DeclarationSort.{DeclarationSort}
 use Rattle.tt_kinds.specs.Declaration.{sort_of}
 use Rattle.tt_interner.specs.Rows.{Row, Grows}
 use Rattle.tt_interner.specs.Stored.{Terms, Extends}
-use Rattle.tt_interner.proofs.Growth.{Extends-refl, Extends-trans, size-grows, in_range-grows, meaning-grows}
+use Rattle.tt_interner.proofs.Growth.{Extends-trans, size-grows, in_range-grows, meaning-grows}
 use Rattle.tt_interner.proofs.DeclarationLaws.{declared_at-grows}
 use Rattle.type_terms.specs.declared.run.call.Call.{Call}
 use Rattle.type_terms.specs.declared.run.call.Call.TheVariants as call
 use Rattle.type_terms.specs.declared.run.answer.Answer.{Answer}
 use Rattle.type_terms.specs.declared.run.answer.Answer.TheVariants as answer
-use Rattle.type_terms.specs.Told.{Told, term, declared, truth, info, refused, bad, told, told_all, IsOwned, AreOwned}
+use Rattle.type_terms.specs.Told.{Told, term, declared, truth, info, refused, bad, told, told_all, IsOwnedAnswer, AreOwnedAnswers}
 use Rattle.type_terms.specs.Told.{HasFullTable, IsStored, Setting, setting}
-use Rattle.type_terms.specs.Means.{AddsNothing, Grows as GrowsIn, MayRefuse, want_of_memory, full_table, no_term}
-use Rattle.type_terms.specs.Means.{too_deep, unfit, unsuited, Declares, IsAllowed, Means}
-use Rattle.type_terms.specs.Runner.{AddsAnswer, IsAnswered, AnswersInTurn}
+use Rattle.type_terms.specs.Means.{AddsNothing, MayGrow, MayRefuse, want_of_memory, full_table, no_term}
+use Rattle.type_terms.specs.Means.{too_deep, unfit, unsuited, NamesDeclaration, IsAllowed, Means}
+use Rattle.type_terms.specs.Runner.{AddsAnswer, AnswersCall, AnswersInTurn}
 
 module _ (old new : List Row) (g : Grows old new) where
-  pub told-grows : (a : Answer) → IsOwned old a → told new a ≡ told old a
+  pub told-grows : (a : Answer) → IsOwnedAnswer old a → told new a ≡ told old a
   told-grows (answer.Ty t) h = ap (term Types) (meaning-grows old new g Types t.number h)
   told-grows (answer.Const t) h = ap (term Consts) (meaning-grows old new g Consts t.number h)
   told-grows (answer.Pat t) h = ap (term Patterns) (meaning-grows old new g Patterns t.number h)
@@ -38,28 +38,28 @@ module _ (old new : List Row) (g : Grows old new) where
   told-grows (answer.Refused r) h = refl
   told-grows answer.Bad h = refl
 
-  pub told_all-grows : (answers : List Answer) → AreOwned old answers → told_all new answers ≡ told_all old answers
+  pub told_all-grows : (answers : List Answer) → AreOwnedAnswers old answers → told_all new answers ≡ told_all old answers
   told_all-grows [] h = refl
   told_all-grows (a ∷ answers) h = rw (told-grows a h.0, told_all-grows answers h.1) refl
 
 module _ (old new : List Row) (g : Grows old new) where
-  pub IsOwned-grows : (a : Answer) → IsOwned old a → IsOwned new a
-  IsOwned-grows (answer.Ty t) h = in_range-grows old new g Types t.number h
-  IsOwned-grows (answer.Const t) h = in_range-grows old new g Consts t.number h
-  IsOwned-grows (answer.Pat t) h = in_range-grows old new g Patterns t.number h
-  IsOwned-grows (answer.Predicate t) h = in_range-grows old new g Predicates t.number h
-  IsOwned-grows (answer.Clauses t) h = in_range-grows old new g ClauseLists t.number h
-  IsOwned-grows (answer.Args t) h = in_range-grows old new g ArgLists t.number h
-  IsOwned-grows (answer.Id s d) h =
+  pub IsOwnedAnswer-grows : (a : Answer) → IsOwnedAnswer old a → IsOwnedAnswer new a
+  IsOwnedAnswer-grows (answer.Ty t) h = in_range-grows old new g Types t.number h
+  IsOwnedAnswer-grows (answer.Const t) h = in_range-grows old new g Consts t.number h
+  IsOwnedAnswer-grows (answer.Pat t) h = in_range-grows old new g Patterns t.number h
+  IsOwnedAnswer-grows (answer.Predicate t) h = in_range-grows old new g Predicates t.number h
+  IsOwnedAnswer-grows (answer.Clauses t) h = in_range-grows old new g ClauseLists t.number h
+  IsOwnedAnswer-grows (answer.Args t) h = in_range-grows old new g ArgLists t.number h
+  IsOwnedAnswer-grows (answer.Id s d) h =
       (in_range-grows old new g Declarations d.number h.0, ap (λ (x : Declaration). sort_of x.kind) (declared_at-grows old new g (record { number = d.number }) h.0) ∙ h.1)
-  IsOwned-grows (answer.Truth b) h = tt
-  IsOwned-grows (answer.Info flags outer) h = tt
-  IsOwned-grows (answer.Refused r) h = tt
-  IsOwned-grows answer.Bad h = tt
+  IsOwnedAnswer-grows (answer.Truth b) h = tt
+  IsOwnedAnswer-grows (answer.Info flags outer) h = tt
+  IsOwnedAnswer-grows (answer.Refused r) h = tt
+  IsOwnedAnswer-grows answer.Bad h = tt
 
-  pub AreOwned-grows : (answers : List Answer) → AreOwned old answers → AreOwned new answers
-  AreOwned-grows [] h = tt
-  AreOwned-grows (a ∷ answers) h = (IsOwned-grows a h.0, AreOwned-grows answers h.1)
+  pub AreOwnedAnswers-grows : (answers : List Answer) → AreOwnedAnswers old answers → AreOwnedAnswers new answers
+  AreOwnedAnswers-grows [] h = tt
+  AreOwnedAnswers-grows (a ∷ answers) h = (IsOwnedAnswer-grows a h.0, AreOwnedAnswers-grows answers h.1)
 
   pub IsStored-grows : (t : Table) (u : Tree Depth) → IsStored old t u → IsStored new t u
   IsStored-grows t u h = record {
@@ -69,14 +69,14 @@ module _ (old new : List Row) (g : Grows old new) where
   }
 
 -- if the handles and ids in some answers, and in one more, are the interner's, they are in all of these
-pub AreOwned-append : (rows : List Row) (answers : List Answer) (a : Answer) → AreOwned rows answers → IsOwned rows a
-    → AreOwned rows (answers ++ a ∷ [])
-AreOwned-append rows [] a h k = (k, tt)
-AreOwned-append rows (b ∷ answers) a h k = (h.0, AreOwned-append rows answers a h.1 k)
+pub AreOwnedAnswers-append : (rows : List Row) (answers : List Answer) (a : Answer) → AreOwnedAnswers rows answers → IsOwnedAnswer rows a
+    → AreOwnedAnswers rows (answers ++ a ∷ [])
+AreOwnedAnswers-append rows [] a h k = (k, tt)
+AreOwnedAnswers-append rows (b ∷ answers) a h k = (h.0, AreOwnedAnswers-append rows answers a h.1 k)
 
-pub AreOwned-last : (rows : List Row) (answers : List Answer) (a : Answer) → AreOwned rows (answers ++ a ∷ []) → IsOwned rows a
-AreOwned-last rows [] a h = h.0
-AreOwned-last rows (b ∷ answers) a h = AreOwned-last rows answers a h.1
+pub AreOwnedAnswers-last : (rows : List Row) (answers : List Answer) (a : Answer) → AreOwnedAnswers rows (answers ++ a ∷ []) → IsOwnedAnswer rows a
+AreOwnedAnswers-last rows [] a h = h.0
+AreOwnedAnswers-last rows (b ∷ answers) a h = AreOwnedAnswers-last rows answers a h.1
 
 -- a full table stays full
 pub HasFullTable-extends : (old new : Terms) → Extends old new → HasFullTable old → HasFullTable new
@@ -101,7 +101,7 @@ module _ (s t : Setting) (full : s.full → t.full) (fewer : t.declarations ≤ 
   AddsNothing-fewer e (call.Info p) h = absurd h
   AddsNothing-fewer e call.Bad h = absurd h
 
-  grows-more : (e : List Told) (c : Call) → GrowsIn s e c → GrowsIn t e c
+  grows-more : (e : List Told) (c : Call) → MayGrow s e c → MayGrow t e c
   grows-more e c h = (h.0, λ a. h.1 (AddsNothing-fewer e c a))
 
   MayRefuse-wider : (e : List Told) (c : Call) (r : Refusal) → MayRefuse s e c r → MayRefuse t e c r
@@ -112,18 +112,18 @@ module _ (s t : Setting) (full : s.full → t.full) (fewer : t.declarations ≤ 
   MayRefuse-wider e c r (unfit n u i) = unfit n u i
   MayRefuse-wider e c r (unsuited n h) = unsuited n h
 
-  Declares-wider : (e : List Told) (c : Call) (sort : DeclarationSort) (n : ℕ) (u : Tree Depth) → Declares s e c sort n u → Declares t e c sort n u
-  Declares-wider e (call.Declare d) sort n u h = record {
+  NamesDeclaration-wider : (e : List Told) (c : Call) (sort : DeclarationSort) (n : ℕ) (u : Tree Depth) → NamesDeclaration s e c sort n u → NamesDeclaration t e c sort n u
+  NamesDeclaration-wider e (call.Declare d) sort n u h = record {
     sorted = h.sorted;
     declares = h.declares;
     new = let above = h.new in omega (arith, fewer);
     later = h.later;
   }
-  Declares-wider e _ sort n u h = absurd h
+  NamesDeclaration-wider e _ sort n u h = absurd h
 
   pub IsAllowed-wider : (e : List Told) (c : Call) (u : Told) → IsAllowed s e c u → IsAllowed t e c u
   IsAllowed-wider e c (term table v) h = h
-  IsAllowed-wider e c (declared sort n v) h = (h.0, Declares-wider e c sort n v h.1)
+  IsAllowed-wider e c (declared sort n v) h = (h.0, NamesDeclaration-wider e c sort n v h.1)
   IsAllowed-wider e c (truth b) h = h
   IsAllowed-wider e c (info flags outer) h = h
   IsAllowed-wider e c (refused r) h = MayRefuse-wider e c r h
@@ -146,7 +146,7 @@ Means-append s e (d ∷ cs) (u ∷ ts) c t h k =
 
 -- one call more, in turn
 pub AnswersInTurn-append : (old mid new : Terms) (e : List Answer) (cs : List Call) (bs : List Answer) (c : Call) (a : Answer)
-    → AnswersInTurn old mid e cs bs → IsAnswered mid new (e ++ bs) c a → AnswersInTurn old new e (cs ++ c ∷ []) (bs ++ a ∷ [])
+    → AnswersInTurn old mid e cs bs → AnswersCall mid new (e ++ bs) c a → AnswersInTurn old new e (cs ++ c ∷ []) (bs ++ a ∷ [])
 AnswersInTurn-append old mid new e [] [] c a h k = (new, rw append-nil at (rw h at k), refl)
 AnswersInTurn-append old mid new e [] (b ∷ bs) c a h k = absurd h
 AnswersInTurn-append old mid new e (d ∷ cs) [] c a h k = absurd h
@@ -154,22 +154,19 @@ AnswersInTurn-append old mid new e (d ∷ cs) (b ∷ bs) c a h k = (
   h.0,
   h.1,
   AnswersInTurn-append h.0 mid new (e ++ b ∷ []) cs bs c a h.2
-      (subst (λ (x : List Answer). IsAnswered mid new x c a) (sym (append_assoc e (b ∷ []) bs)) k),
+      (subst (λ (x : List Answer). AnswersCall mid new x c a) (sym (append_assoc e (b ∷ []) bs)) k),
 )
 
 -- the answers belong to the calls, from the terms at the start
 pub record Ran (start now : Terms) (calls : List Call) (answers : List Answer) : Type 0 where
   pub extends : Extends start now
-  pub owned : AreOwned now.rows answers
+  pub owned : AreOwnedAnswers now.rows answers
   pub means : Means (setting start now) [] calls (told_all now.rows answers)
   pub in_turn : AnswersInTurn start now [] calls answers
 
-pub ran-nothing : (terms : Terms) → Ran terms terms [] []
-ran-nothing terms = record { extends = Extends-refl terms; owned = tt; means = tt; in_turn = refl }
-
 -- a call after those that were answered, whatever they were
 pub ran-more : (start old new : Terms) (calls : List Call) (answers : List Answer) (c : Call) (a : Answer)
-    → Extends start old → AreOwned old.rows answers → Extends old new
+    → Extends start old → AreOwnedAnswers old.rows answers → Extends old new
     → IsAllowed (setting old new) (told_all old.rows answers) c (told new.rows a)
     → Means (setting start old) [] calls (told_all old.rows answers)
     → Means (setting start new) [] (calls ++ c ∷ []) (told_all new.rows (answers ++ a ∷ []))
@@ -182,13 +179,13 @@ ran-more start old new calls answers c a x h e k m =
     (IsAllowed-wider (setting old new) (setting start new) (λ f. f) more (IsStored-grows start.rows old.rows x.rows) (told_all old.rows answers) c (told new.rows a) k))
 
 -- a run goes on by the call that is answered next
-pub ran-next : (start old new : Terms) (calls : List Call) (answers after : List Answer) (c : Call) → Ran start old calls answers → Extends old new → AreOwned new.rows after
+pub ran-next : (start old new : Terms) (calls : List Call) (answers after : List Answer) (c : Call) → Ran start old calls answers → Extends old new → AreOwnedAnswers new.rows after
     → AddsAnswer old new answers c after
     → ((first : Terms) (before : List Call) → Extends first old → Means (setting first old) [] before (told_all old.rows answers)
     → Means (setting first new) [] (before ++ c ∷ []) (told_all new.rows after))
     → Ran start new (calls ++ c ∷ []) after
 ran-next start old new calls answers after c ran e owned adds means =
-    let last = AreOwned-last new.rows answers adds.answer (rw adds.added at owned) in
+    let last = AreOwnedAnswers-last new.rows answers adds.answer (rw adds.added at owned) in
     record {
       extends = Extends-trans ran.extends e;
       owned = owned;

@@ -36,7 +36,7 @@ use Rattle.type_terms.specs.declared.run.call.ArgCall.{ArgCall}
 use Rattle.type_terms.specs.declared.run.call.DeclarationKindCall.{DeclarationKindCall}
 use Rattle.type_terms.specs.declared.run.call.Call.{Call}
 use Rattle.tt_binder.specs.Arguments.{argument_of}
-use Rattle.tt_binder.specs.Arguments.{arguments as built_arguments}
+use Rattle.tt_binder.specs.Arguments.{arguments}
 use Rattle.tt_kinds.specs.declared.generic_arg.GenericArgKind.{GenericArgKind}
 use Rattle.std.specs.declared.alloc.Global.{Global}
 use Rattle.std.specs.declared.vec.Vec.{Vec}
@@ -46,15 +46,15 @@ use Rattle.type_terms.specs.CallForm.{item_tree, items_trees, part_tree, parts_t
 use Rattle.type_terms.specs.CallForm.{part_positions, parts_positions, IsItemTooDeep, AreItemsTooDeep, IsPartTooDeep}
 use Rattle.type_terms.specs.CallForm.{ArePartsTooDeep, form_positions, form_tree, IsFormTooDeep, arg_item, arg_items}
 use Rattle.type_terms.specs.CallForm.{clause_items, RecordCall, record_tree}
-use Rattle.type_terms.specs.Told.{Told, term, told, told_all, handle_table, IsOwned, AreOwned, HasFullTable, setting}
-use Rattle.type_terms.specs.Means.{IsUnchanged, as_term, term_at, as_id, id_at, number_at, Tells, tree_at, argument}
-use Rattle.type_terms.specs.Means.{arguments, AreTerms, IsAllowed, MayRefuse}
+use Rattle.type_terms.specs.Told.{Told, term, told, told_all, handle_table, IsOwnedAnswer, AreOwnedAnswers, HasFullTable, setting}
+use Rattle.type_terms.specs.Means.{IsUnchanged, as_term, term_at, as_id, id_at, number_at, Tells, tree_at, told_argument}
+use Rattle.type_terms.specs.Means.{told_arguments, AreTerms, IsAllowed, MayRefuse}
 
 -- the answer is the handle of this number in the table
 pub record IsHandle (a : Answer) (table : Table) (number : ℕ) : Type 0 where
   pub told : (rows : List Row) → told rows a ≡ term table (meaning rows table number)
-  pub owned : (rows : List Row) → IsOwned rows a → number < size rows table
-  pub owns : (rows : List Row) → number < size rows table → IsOwned rows a
+  pub owned : (rows : List Row) → IsOwnedAnswer rows a → number < size rows table
+  pub owns : (rows : List Row) → number < size rows table → IsOwnedAnswer rows a
 
 -- the answer is not a handle of the table
 abbrev pub IsOther : Answer → Table → Type 0
@@ -69,8 +69,8 @@ abbrev pub HasNoId : List Answer → ℕ → DeclarationSort → Type 0
 HasNoId earlier p s = (rows : List Row) → Tells (told_all rows earlier) (of_id s) p → ⊥
 
 -- both answers are handles of the same table
-abbrev pub AreAlike : Answer → Answer → Type 0
-AreAlike a b = IsSome (handle_table a) × (handle_table a ≡ handle_table b)
+abbrev pub AreOfOneTable : Answer → Answer → Type 0
+AreOfOneTable a b = IsSome (handle_table a) × (handle_table a ≡ handle_table b)
 
 -- the answer is the information of the tree's term
 abbrev pub IsInfoOf : Tree Depth → Answer → Type 0
@@ -81,15 +81,15 @@ IsInfoOf t _ = ⊥
 pub record IsAnswerAt (earlier : List Answer) (position : ℕ) (a : Answer) : Type 0 where
   pub means : (rows : List Row) → term_at (told_all rows earlier) position ≡ as_term (Some (told rows a))
   pub is_id : (rows : List Row) → id_at (told_all rows earlier) position ≡ as_id (Some (told rows a))
-  pub owned : (rows : List Row) → AreOwned rows earlier → IsOwned rows a
+  pub owned : (rows : List Row) → AreOwnedAnswers rows earlier → IsOwnedAnswer rows a
 
 -- why a part of a term was not built: it names the positions in named, and deep says that it needs the greatest index
-pub data IsUnbuilt (full : Type 0) (earlier : List Told) (named : List Named) (deep : Type 0) (e : Refusal)
+pub data IsUnbuiltPart (full : Type 0) (earlier : List Told) (named : List Named) (deep : Type 0) (e : Refusal)
     : Type 0 where
-  no_memory : e ≡ Memory → IsUnbuilt full earlier named deep e
-  no_row : full → e ≡ TableFull → IsUnbuilt full earlier named deep e
-  no_term : (AreTerms earlier named → ⊥) → e ≡ NoSuchAnswer → IsUnbuilt full earlier named deep e
-  no_index : deep → e ≡ GreatestIndex → IsUnbuilt full earlier named deep e
+  no_memory : e ≡ Memory → IsUnbuiltPart full earlier named deep e
+  no_row : full → e ≡ TableFull → IsUnbuiltPart full earlier named deep e
+  no_term : (AreTerms earlier named → ⊥) → e ≡ NoSuchAnswer → IsUnbuiltPart full earlier named deep e
+  no_index : deep → e ≡ GreatestIndex → IsUnbuiltPart full earlier named deep e
 
 -- the positions can't be used: one of them doesn't tell what is wanted there, or the greatest index is needed
 abbrev pub IsUnusable : List Told → List Named → Type 0 → Refusal → Type 0
@@ -116,7 +116,7 @@ pub record IsNameOf (terms : Terms) (ids : ℕ → ℕ) (call : RegionNameCall) 
 pub record GivesName (terms : Terms) (ids : ℕ → ℕ) (call : RegionNameCall) (result : Result BoundRegionKind Refusal)
     : Type 0 where
   pub ok : IfOk result (IsNameOf terms ids call)
-  pub err : IfErr result (IsUnbuilt (HasFullTable terms) [] [] ⊥)
+  pub err : IfErr result (IsUnbuiltPart (HasFullTable terms) [] [] ⊥)
 
 -- the variable is the one that the call names
 pub record IsVariableOf (terms : Terms) (ids : ℕ → ℕ) (call : VariableCall) (v : BoundVariableKind) : Type 0 where
@@ -127,7 +127,7 @@ pub record IsVariableOf (terms : Terms) (ids : ℕ → ℕ) (call : VariableCall
 pub record GivesVariable (terms : Terms) (ids : ℕ → ℕ) (call : VariableCall) (result : Result BoundVariableKind Refusal)
     : Type 0 where
   pub ok : IfOk result (IsVariableOf terms ids call)
-  pub err : IfErr result (IsUnbuilt (HasFullTable terms) [] [] ⊥)
+  pub err : IfErr result (IsUnbuiltPart (HasFullTable terms) [] [] ⊥)
 
 -- the variables are those that the calls name
 pub record AreVariablesOf (terms : Terms) (ids : ℕ → ℕ) (calls : List VariableCall) (vs : List BoundVariableKind)
@@ -139,7 +139,7 @@ pub record AreVariablesOf (terms : Terms) (ids : ℕ → ℕ) (calls : List Vari
 pub record PutsVariables {R : Type 0} (terms : Terms) (ids : ℕ → ℕ) (calls : List VariableCall)
     (vs : List BoundVariableKind) (result : Result R Refusal) : Type 0 where
   pub ok : OnOk result (AreVariablesOf terms ids calls vs)
-  pub err : IfErr result (IsUnbuilt (HasFullTable terms) [] [] ⊥)
+  pub err : IfErr result (IsUnbuiltPart (HasFullTable terms) [] [] ⊥)
 
 -- the list holds the variables
 pub record IsVariableListOf (terms : Terms) (ids : ℕ → ℕ) (calls : List VariableCall) (list : BoundVarKinds)
@@ -151,7 +151,7 @@ pub record IsVariableListOf (terms : Terms) (ids : ℕ → ℕ) (calls : List Va
 pub record GivesVariables (terms : Terms) (ids : ℕ → ℕ) (calls : List VariableCall)
     (result : Result BoundVarKinds Refusal) : Type 0 where
   pub ok : IfOk result (IsVariableListOf terms ids calls)
-  pub err : IfErr result (IsUnbuilt (HasFullTable terms) [] [] ⊥)
+  pub err : IfErr result (IsUnbuiltPart (HasFullTable terms) [] [] ⊥)
 
 -- the region has this tree
 pub record IsRegionOf (terms : Terms) (t : Tree Depth) (deep : Type 0) (r : RegionKind) : Type 0 where
@@ -163,7 +163,7 @@ pub record IsRegionOf (terms : Terms) (t : Tree Depth) (deep : Type 0) (r : Regi
 pub record GivesRegion (terms : Terms) (t : Tree Depth) (deep : Type 0) (result : Result RegionKind Refusal)
     : Type 0 where
   pub ok : IfOk result (IsRegionOf terms t deep)
-  pub err : IfErr result (IsUnbuilt (HasFullTable terms) [] [] deep)
+  pub err : IfErr result (IsUnbuiltPart (HasFullTable terms) [] [] deep)
 
 -- the shape has this tree, these positions tell terms, and deep, which says that it needs the greatest index, doesn't
 -- hold
@@ -183,8 +183,8 @@ pub record ArePlaced (terms : Terms) (earlier : List Told) (ts : Forest Depth) (
   pub shallow : deep → ⊥
 
 -- the value is the one that the call puts in the item's place
-abbrev pub IsItemOf : Terms → List Told → Item → Shape → Type 0
-IsItemOf terms earlier i s = IsPlaced terms earlier (item_tree (number_at earlier) (tree_at earlier) i)
+abbrev pub IsItemOfCall : Terms → List Told → Item → Shape → Type 0
+IsItemOfCall terms earlier i s = IsPlaced terms earlier (item_tree (number_at earlier) (tree_at earlier) i)
     (item_positions i) (IsItemTooDeep i) s
 
 -- the values are the ones that the call puts in the items' places
@@ -193,38 +193,38 @@ AreItemsOf terms earlier is ss = ArePlaced terms earlier (items_trees (number_at
     (items_positions is) (AreItemsTooDeep is) ss
 
 -- the value is the one that the call puts in the child's place
-abbrev pub IsPartOf : Terms → List Told → Part → Shape → Type 0
-IsPartOf terms earlier p s = IsPlaced terms earlier (part_tree (number_at earlier) (tree_at earlier) p)
+abbrev pub IsPartOfCall : Terms → List Told → Part → Shape → Type 0
+IsPartOfCall terms earlier p s = IsPlaced terms earlier (part_tree (number_at earlier) (tree_at earlier) p)
     (part_positions p) (IsPartTooDeep p) s
 
 -- the values are the ones that the call puts in the children's places
-abbrev pub ArePartsOf : Terms → List Told → List Part → Shapes → Type 0
-ArePartsOf terms earlier ps ss = ArePlaced terms earlier (parts_trees (number_at earlier) (tree_at earlier) ps)
+abbrev pub ArePartsOfCall : Terms → List Told → List Part → Shapes → Type 0
+ArePartsOfCall terms earlier ps ss = ArePlaced terms earlier (parts_trees (number_at earlier) (tree_at earlier) ps)
     (parts_positions ps) (ArePartsTooDeep ps) ss
 
 -- the result has this tree, or is a refusal with a reason
 pub record GivesPlaced {H : Type 0} (terms : Terms) (earlier : List Told) (t : Tree Depth) (names : List Named)
     (deep : Type 0) (shape : H → Shape) (result : Result H Refusal) : Type 0 where
   pub ok : IfOk result (λ h. IsPlaced terms earlier t names deep (shape h))
-  pub err : IfErr result (IsUnbuilt (HasFullTable terms) earlier names deep)
+  pub err : IfErr result (IsUnbuiltPart (HasFullTable terms) earlier names deep)
 
 -- the result is the value that the call puts in the child's place, or a refusal with a reason
 pub record GivesPart {H : Type 0} (terms : Terms) (earlier : List Told) (p : Part) (shape : H → Shape)
     (result : Result H Refusal) : Type 0 where
-  pub ok : IfOk result (λ h. IsPartOf terms earlier p (shape h))
-  pub err : IfErr result (IsUnbuilt (HasFullTable terms) earlier (part_positions p) (IsPartTooDeep p))
+  pub ok : IfOk result (λ h. IsPartOfCall terms earlier p (shape h))
+  pub err : IfErr result (IsUnbuiltPart (HasFullTable terms) earlier (part_positions p) (IsPartTooDeep p))
 
 -- the result is the value that the call puts in the items' places, or a refusal with a reason
 pub record GivesItems {H : Type 0} (terms : Terms) (earlier : List Told) (is : List Item) (shape : H → Shape)
     (result : Result (Vec H Global) Refusal) : Type 0 where
   pub ok : IfOk result (λ hs. AreItemsOf terms earlier is (item_shapes shape hs.items))
-  pub err : IfErr result (IsUnbuilt (HasFullTable terms) earlier (items_positions is) (AreItemsTooDeep is))
+  pub err : IfErr result (IsUnbuiltPart (HasFullTable terms) earlier (items_positions is) (AreItemsTooDeep is))
 
 -- the shapes have these trees in order, or there is a refusal with a reason
 pub record PutsPlaced {R : Type 0} (terms : Terms) (earlier : List Told) (ts : Forest Depth) (names : List Named)
     (deep : Type 0) (ss : Shapes) (result : Result R Refusal) : Type 0 where
   pub ok : OnOk result (ArePlaced terms earlier ts names deep ss)
-  pub err : IfErr result (IsUnbuilt (HasFullTable terms) earlier names deep)
+  pub err : IfErr result (IsUnbuiltPart (HasFullTable terms) earlier names deep)
 
 -- these are the values of the items, or there is a refusal with a reason
 abbrev pub PutsItems : {H R : Type 0} → Terms → List Told → List Item → (H → Shape) → List H → Result R Refusal → Type 0
@@ -235,8 +235,8 @@ PutsItems terms earlier is shape values result =
 -- the result is the value that the call puts in the children's places, or a refusal with a reason
 pub record GivesParts {H : Type 0} (terms : Terms) (earlier : List Told) (ps : List Part) (shapes : H → Shapes)
     (result : Result H Refusal) : Type 0 where
-  pub ok : IfOk result (λ h. ArePartsOf terms earlier ps (shapes h))
-  pub err : IfErr result (IsUnbuilt (HasFullTable terms) earlier (parts_positions ps) (ArePartsTooDeep ps))
+  pub ok : IfOk result (λ h. ArePartsOfCall terms earlier ps (shapes h))
+  pub err : IfErr result (IsUnbuiltPart (HasFullTable terms) earlier (parts_positions ps) (ArePartsTooDeep ps))
 
 -- the shape of a kind is the one that the call names
 pub record IsKindOf (terms : Terms) (earlier : List Told) (form : CallForm) (s : Shape) : Type 0 where
@@ -249,14 +249,14 @@ pub record IsKindOf (terms : Terms) (earlier : List Told) (form : CallForm) (s :
 pub record GivesKind {K : Type 0} (terms : Terms) (earlier : List Told) (form : CallForm) (shape : K → Shape)
     (result : Result K Refusal) : Type 0 where
   pub ok : IfOk result (λ k. IsKindOf terms earlier form (shape k))
-  pub err : IfErr result (IsUnbuilt (HasFullTable terms) earlier (form_positions form) (IsFormTooDeep form))
+  pub err : IfErr result (IsUnbuiltPart (HasFullTable terms) earlier (form_positions form) (IsFormTooDeep form))
 
 -- the result is the record under the predicate's binder, or a refusal with a reason
 pub record GivesRecord {K : Type 0} (terms : Terms) (earlier : List Told) (r : RecordCall) (form : K → RecordForm)
     (result : Result K Refusal) : Type 0 where
   pub ok : IfOk result (λ k. IsPlaced terms earlier (record_tree (number_at earlier) (tree_at earlier) r)
       (parts_positions r.parts) (ArePartsTooDeep r.parts) (record_shape (form k)))
-  pub err : IfErr result (IsUnbuilt (HasFullTable terms) earlier (parts_positions r.parts) (ArePartsTooDeep r.parts))
+  pub err : IfErr result (IsUnbuiltPart (HasFullTable terms) earlier (parts_positions r.parts) (ArePartsTooDeep r.parts))
 
 -- the clauses are those at the positions
 pub record AreClausesAt (terms : Terms) (earlier : List Told) (positions : List ℕ) (list : List Clause) : Type 0 where
@@ -265,27 +265,27 @@ pub record AreClausesAt (terms : Terms) (earlier : List Told) (positions : List 
 
 -- the argument is the one that the call names
 pub record IsArgumentOf (terms : Terms) (earlier : List Told) (call : ArgCall) (a : GenericArgKind) : Type 0 where
-  pub item : IsItemOf terms earlier (arg_item call) (arg_shape a)
-  pub means : argument_of terms.rows a ≡ argument earlier call
+  pub item : IsItemOfCall terms earlier (arg_item call) (arg_shape a)
+  pub means : argument_of terms.rows a ≡ told_argument earlier call
 
 -- the result is that argument, or a refusal with a reason
 pub record GivesArgument (terms : Terms) (earlier : List Told) (call : ArgCall) (result : Result GenericArgKind Refusal)
     : Type 0 where
   pub ok : IfOk result (IsArgumentOf terms earlier call)
-  pub err : IfErr result (IsUnbuilt (HasFullTable terms) earlier (item_positions (arg_item call))
+  pub err : IfErr result (IsUnbuiltPart (HasFullTable terms) earlier (item_positions (arg_item call))
       (IsItemTooDeep (arg_item call)))
 
 -- the arguments are those that the call names
 pub record AreArgumentsOf (terms : Terms) (earlier : List Told) (calls : List ArgCall) (args : List GenericArgKind)
     : Type 0 where
   pub items : AreItemsOf terms earlier (arg_items calls) (item_shapes arg_shape args)
-  pub means : built_arguments terms.rows args ≡ arguments earlier calls
+  pub means : arguments terms.rows args ≡ told_arguments earlier calls
 
 -- the result is those arguments, or a refusal with a reason
 pub record GivesArguments (terms : Terms) (earlier : List Told) (calls : List ArgCall)
     (result : Result (Vec GenericArgKind Global) Refusal) : Type 0 where
   pub ok : IfOk result (λ args. AreArgumentsOf terms earlier calls args.items)
-  pub err : IfErr result (IsUnbuilt (HasFullTable terms) earlier (items_positions (arg_items calls))
+  pub err : IfErr result (IsUnbuiltPart (HasFullTable terms) earlier (items_positions (arg_items calls))
       (AreItemsTooDeep (arg_items calls)))
 
 -- what is declared is what the call says
@@ -302,13 +302,13 @@ pub record IsDeclaredBy (terms : Terms) (earlier : List Told) (call : Declaratio
 pub record GivesDeclared (terms : Terms) (earlier : List Told) (call : DeclarationKindCall)
     (result : Result DeclarationKind Refusal) : Type 0 where
   pub ok : IfOk result (IsDeclaredBy terms earlier call)
-  pub err : IfErr result (IsUnbuilt (HasFullTable terms) earlier (declared_positions call) ⊥)
+  pub err : IfErr result (IsUnbuiltPart (HasFullTable terms) earlier (declared_positions call) ⊥)
 
 -- the signature has these variables, the types at the positions, and these other parts
 pub record IsSigOf (terms : Terms) (earlier : List Told) (vars : List VariableCall) (positions : List ℕ)
     (kind : FnSigKind) (sig : EarlyBinder (Binder FnSig)) : Type 0 where
   pub variables : IsVariableListOf terms (number_at earlier) vars sig.value.bound_vars
-  pub types : IsPartOf terms earlier (a_list TypeLists (terms_at Types positions))
+  pub types : IsPartOfCall terms earlier (a_list TypeLists (terms_at Types positions))
       (tys_shape sig.value.value.inputs_and_output)
   pub other : sig.value.value.fn_sig_kind ≡ kind
 
@@ -316,11 +316,11 @@ pub record IsSigOf (terms : Terms) (earlier : List Told) (vars : List VariableCa
 pub record GivesSig (terms : Terms) (earlier : List Told) (vars : List VariableCall) (positions : List ℕ)
     (kind : FnSigKind) (result : Result (EarlyBinder (Binder FnSig)) Refusal) : Type 0 where
   pub ok : IfOk result (IsSigOf terms earlier vars positions kind)
-  pub err : IfErr result (IsUnbuilt (HasFullTable terms) earlier
+  pub err : IfErr result (IsUnbuiltPart (HasFullTable terms) earlier
       (part_positions (a_list TypeLists (terms_at Types positions))) ⊥)
 
 -- the result may be the call's answer, if the terms grow from the old ones to the new ones
 pub record Answers (old new : Terms) (earlier : List Told) (call : Call) (result : Result Answer Refusal) : Type 0 where
-  pub owned : IfOk result (IsOwned new.rows)
+  pub owned : IfOk result (IsOwnedAnswer new.rows)
   pub ok : IfOk result (λ a. IsAllowed (setting old new) earlier call (told new.rows a))
   pub err : IfErr result (MayRefuse (setting old new) earlier call)

@@ -23,7 +23,7 @@ use Rattle.tt_kinds.specs.Label.{var_list_label, declaration_label, ItemLabel, t
 use Rattle.tt_kinds.specs.Label.{fn_item, plain_item}
 use Rattle.tt_kinds.specs.Tree as tree
 use Rattle.tt_kinds.specs.Tree.{Depth, Tree, Forest, none, also}
-use Rattle.tt_kinds.specs.Bound.{depth}
+use Rattle.tt_kinds.specs.Bound.{depth, const_entry}
 use Rattle.tt_kinds.specs.Shape.{IsGreatest}
 use Rattle.tt_interner.specs.Stored.{most_in_place}
 use Rattle.tt_kinds.specs.declared.table.Table.{Table}
@@ -31,7 +31,6 @@ use Rattle.tt_kinds.specs.declared.table.Table.TheVariants.{Types, Consts, Patte
 use Rattle.tt_kinds.specs.declared.table.Table.TheVariants.{PatternLists, ExistentialLists}
 use Rattle.tt_kinds.specs.declared.bound.BoundTyKind.{BoundTyKind}
 use Rattle.tt_kinds.specs.declared.bound.BoundTyKind.TheVariants as bound_ty_kind
-use Rattle.tt_kinds.specs.declared.bound.BoundConst.{BoundConst}
 use Rattle.type_terms.specs.declared.run.call.RegionNameCall.{RegionNameCall}
 use Rattle.type_terms.specs.declared.run.call.RegionNameCall.TheVariants as region_name
 use Rattle.type_terms.specs.declared.run.call.BoundTyKindCall.{BoundTyKindCall}
@@ -116,8 +115,8 @@ pub record RecordCall : Type 0 where
   pub parts : List Part
 
 -- a label with these children
-abbrev pub labelled : RecordLabel Name → List Part → RecordCall
-labelled l ps = record { label = l; parts = ps }
+abbrev pub labelled_parts : RecordLabel Name → List Part → RecordCall
+labelled_parts l ps = record { label = l; parts = ps }
 
 -- an existential predicate: the variables of its binder, and the record under it
 pub record ExistentialForm : Type 0 where
@@ -152,19 +151,15 @@ pub data CallForm : Type 0 where
   -- a trait object: its existential predicates, and its region
   trait_object : List ExistentialForm → RegionCall → CallForm
 
--- a bound constant's entry
-abbrev pub const_entry : BoundConst → Entry Name
-const_entry b = record { var = b.var; kind = const_variable }
-
 -- a type or a constant
 abbrev pub term_part : TermCall → Part
 term_part (term.Ty p) = one (a_term Types p)
 term_part (term.Const p) = one (a_term Consts p)
 
 -- the values that can be built, of the type at the position
-abbrev pub value_form : ℕ → ValTreeCall → CallForm
-value_form t (valtree.Leaf s) = plain (const_label (leaf_const s.bits s.size)) (one (a_term Types t) ∷ [])
-value_form t (valtree.Branch cs) = plain (const_label branch_const)
+abbrev pub value_call_form : ℕ → ValTreeCall → CallForm
+value_call_form t (valtree.Leaf s) = plain (const_label (leaf_const s.bits s.size)) (one (a_term Types t) ∷ [])
+value_call_form t (valtree.Branch cs) = plain (const_label branch_const)
     (one (a_term Types t) ∷ a_list ConstLists (terms_at Consts cs.items) ∷ [])
 
 -- the patterns that can be built
@@ -250,11 +245,11 @@ module _ (ids : ℕ → ℕ) where
 
   -- the existential predicates that can be built, without their binder
   abbrev pub existential_record : ExistentialKindCall → RecordCall
-  existential_record (existential.Trait p args) = labelled (existential_trait_record (ids p))
+  existential_record (existential.Trait p args) = labelled_parts (existential_trait_record (ids p))
       (args_part args.items ∷ [])
   existential_record (existential.Projection p args t) =
-      labelled (existential_projection_record (ids p)) (args_part args.items ∷ term_part t ∷ [])
-  existential_record (existential.AutoTrait p) = labelled (auto_trait_record (ids p)) []
+      labelled_parts (existential_projection_record (ids p)) (args_part args.items ∷ term_part t ∷ [])
+  existential_record (existential.AutoTrait p) = labelled_parts (auto_trait_record (ids p)) []
 
   -- the existential predicates that can be built
   abbrev pub existential_form : ExistentialCall → ExistentialForm
@@ -297,38 +292,38 @@ module _ (ids : ℕ → ℕ) where
   const_form (const.Bound i b) = bound const_sort (depth i) (const_entry b)
   const_form (const.Placeholder p) = plain (const_label (placeholder_const p)) []
   const_form (const.Unevaluated p args) = plain (const_label (unevaluated_const (ids p))) (args_part args.items ∷ [])
-  const_form (const.Value t v) = value_form t v
+  const_form (const.Value t v) = value_call_form t v
   const_form (const.Error e) = plain (const_label (error_const e.0)) []
   const_form (const.Expr tag args) = plain (const_label (expr_const tag)) (args_part args.items ∷ [])
 
   -- the clauses that can be built, without their binder
   abbrev pub clause_record : ClauseCall → RecordCall
-  clause_record (clause.Trait p args) = labelled (trait_record (ids p)) (args_part args.items ∷ [])
-  clause_record (clause.RegionOutlives r s) = labelled region_outlives_record (one (a_region r) ∷ one (a_region s) ∷ [])
-  clause_record (clause.TypeOutlives t r) = labelled type_outlives_record (one (a_term Types t) ∷ one (a_region r) ∷ [])
-  clause_record (clause.Projection p args t) = labelled (projection_record (ids p))
+  clause_record (clause.Trait p args) = labelled_parts (trait_record (ids p)) (args_part args.items ∷ [])
+  clause_record (clause.RegionOutlives r s) = labelled_parts region_outlives_record (one (a_region r) ∷ one (a_region s) ∷ [])
+  clause_record (clause.TypeOutlives t r) = labelled_parts type_outlives_record (one (a_term Types t) ∷ one (a_region r) ∷ [])
+  clause_record (clause.Projection p args t) = labelled_parts (projection_record (ids p))
       (args_part args.items ∷ term_part t ∷ [])
-  clause_record (clause.ConstArgHasType c t) = labelled const_has_type_record
+  clause_record (clause.ConstArgHasType c t) = labelled_parts const_has_type_record
       (one (a_term Consts c) ∷ one (a_term Types t) ∷ [])
-  clause_record (clause.WellFormed t) = labelled well_formed_record (term_part t ∷ [])
-  clause_record (clause.ConstEvaluatable c) = labelled const_evaluatable_record (one (a_term Consts c) ∷ [])
-  clause_record (clause.HostEffect p args constness) = labelled (host_effect_record (ids p) constness)
+  clause_record (clause.WellFormed t) = labelled_parts well_formed_record (term_part t ∷ [])
+  clause_record (clause.ConstEvaluatable c) = labelled_parts const_evaluatable_record (one (a_term Consts c) ∷ [])
+  clause_record (clause.HostEffect p args constness) = labelled_parts (host_effect_record (ids p) constness)
       (args_part args.items ∷ [])
-  clause_record (clause.UnstableFeature name) = labelled (unstable_feature_record (string_bytes name)) []
+  clause_record (clause.UnstableFeature name) = labelled_parts (unstable_feature_record (string_bytes name)) []
 
   -- the predicates that can be built, without their binder
   abbrev pub predicate_record : PredicateKindCall → RecordCall
   predicate_record (predicate.Clause c) = clause_record c
-  predicate_record (predicate.DynCompatible p) = labelled (dyn_compatible_record (ids p)) []
-  predicate_record (predicate.Subtype expected a b) = labelled (subtype_record expected)
+  predicate_record (predicate.DynCompatible p) = labelled_parts (dyn_compatible_record (ids p)) []
+  predicate_record (predicate.Subtype expected a b) = labelled_parts (subtype_record expected)
       (one (a_term Types a) ∷ one (a_term Types b) ∷ [])
-  predicate_record (predicate.Coerce a b) = labelled coerce_record (one (a_term Types a) ∷ one (a_term Types b) ∷ [])
-  predicate_record (predicate.ConstEquate a b) = labelled const_equate_record
+  predicate_record (predicate.Coerce a b) = labelled_parts coerce_record (one (a_term Types a) ∷ one (a_term Types b) ∷ [])
+  predicate_record (predicate.ConstEquate a b) = labelled_parts const_equate_record
       (one (a_term Consts a) ∷ one (a_term Consts b) ∷ [])
-  predicate_record predicate.Ambiguous = labelled ambiguous_record []
-  predicate_record (predicate.NormalizesTo p args t) = labelled (normalizes_to_record (ids p))
+  predicate_record predicate.Ambiguous = labelled_parts ambiguous_record []
+  predicate_record (predicate.NormalizesTo p args t) = labelled_parts (normalizes_to_record (ids p))
       (args_part args.items ∷ term_part t ∷ [])
-  predicate_record (predicate.AliasRelate a b r) = labelled (alias_relate_record r) (term_part a ∷ term_part b ∷ [])
+  predicate_record (predicate.AliasRelate a b r) = labelled_parts (alias_relate_record r) (term_part a ∷ term_part b ∷ [])
 
   -- the predicates that can be built
   abbrev pub predicate_form : PredicateCall → CallForm

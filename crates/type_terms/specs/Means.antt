@@ -145,24 +145,24 @@ abbrev pub NamesTerms : List Told → Call → Type 0
 NamesTerms earlier c = AreTerms earlier (positions earlier c)
 
 -- a bound index of the call's kind or regions is the greatest
-abbrev pub IsTooDeep : List Told → Call → Type 0
-IsTooDeep earlier (call.Ty k) = IsFormTooDeep (ty_form (number_at earlier) k)
-IsTooDeep earlier (call.Const k) = IsFormTooDeep (const_form (number_at earlier) k)
-IsTooDeep earlier (call.Pat k) = IsFormTooDeep (pat_form k)
-IsTooDeep earlier (call.Predicate k) = IsFormTooDeep (predicate_form (number_at earlier) k)
-IsTooDeep earlier (call.Args args) = IsPartTooDeep (args_part args.items)
-IsTooDeep earlier (call.Instantiate p args) = AreItemsTooDeep (arg_items args.items)
-IsTooDeep earlier _ = ⊥
+abbrev pub IsCallTooDeep : List Told → Call → Type 0
+IsCallTooDeep earlier (call.Ty k) = IsFormTooDeep (ty_form (number_at earlier) k)
+IsCallTooDeep earlier (call.Const k) = IsFormTooDeep (const_form (number_at earlier) k)
+IsCallTooDeep earlier (call.Pat k) = IsFormTooDeep (pat_form k)
+IsCallTooDeep earlier (call.Predicate k) = IsFormTooDeep (predicate_form (number_at earlier) k)
+IsCallTooDeep earlier (call.Args args) = IsPartTooDeep (args_part args.items)
+IsCallTooDeep earlier (call.Instantiate p args) = AreItemsTooDeep (arg_items args.items)
+IsCallTooDeep earlier _ = ⊥
 
 -- an argument with its tree
-abbrev pub argument : List Told → ArgCall → Argument Depth
-argument earlier (arg.Lifetime r) = record { sort = region_sort; value = region_tree (number_at earlier) r }
-argument earlier (arg.«Type» p) = record { sort = type_sort; value = tree_at earlier p }
-argument earlier (arg.Const p) = record { sort = const_sort; value = tree_at earlier p }
+abbrev pub told_argument : List Told → ArgCall → Argument Depth
+told_argument earlier (arg.Lifetime r) = record { sort = region_sort; value = region_tree (number_at earlier) r }
+told_argument earlier (arg.«Type» p) = record { sort = type_sort; value = tree_at earlier p }
+told_argument earlier (arg.Const p) = record { sort = const_sort; value = tree_at earlier p }
 
 -- the arguments with their trees
-abbrev pub arguments : List Told → List ArgCall → List (Argument Depth)
-arguments earlier args = map (argument earlier) args
+abbrev pub told_arguments : List Told → List ArgCall → List (Argument Depth)
+told_arguments earlier args = map (told_argument earlier) args
 
 -- the call may need memory or a row
 abbrev pub BuildsOrFolds : Call → Type 0
@@ -186,7 +186,7 @@ erased t = placed 0 t (map (λ m. tree.region erased_region) (met 0 t))
 abbrev pub folded : List Told → Call → Option (Tree Place)
 folded earlier (call.Shift p n) = Some (move n (read 0 (tree_at earlier p)))
 folded earlier (call.EraseRegions p) = Some (read 0 (erased (tree_at earlier p)))
-folded earlier (call.Instantiate p args) = Some (put (readings (arguments earlier args.items))
+folded earlier (call.Instantiate p args) = Some (put (readings (told_arguments earlier args.items))
     (read 0 (tree_at earlier p)))
 folded earlier _ = None
 
@@ -217,7 +217,7 @@ Gives earlier c t = folded earlier c ≡ Some (read 0 t)
 
 -- the arguments don't suit the term
 abbrev pub HasCause : List Told → Call → Refusal → Type 0
-HasCause earlier (call.Instantiate p args) r = Cause (tree_at earlier p) (arguments earlier args.items) r
+HasCause earlier (call.Instantiate p args) r = Cause (tree_at earlier p) (told_arguments earlier args.items) r
 HasCause earlier _ r = ⊥
 
 -- the term was told
@@ -270,15 +270,15 @@ AddsNothing s earlier (call.Instantiate p args) =
 AddsNothing s earlier _ = ⊥
 
 -- the call may need memory or a row
-abbrev pub Grows : Setting → List Told → Call → Type 0
-Grows s earlier c = BuildsOrFolds c × (AddsNothing s earlier c → ⊥)
+abbrev pub MayGrow : Setting → List Told → Call → Type 0
+MayGrow s earlier c = BuildsOrFolds c × (AddsNothing s earlier c → ⊥)
 
 -- why a call may be refused
 pub data MayRefuse (s : Setting) (earlier : List Told) (c : Call) (r : Refusal) : Type 0 where
-  want_of_memory : Grows s earlier c → r ≡ Memory → MayRefuse s earlier c r
-  full_table : Grows s earlier c → s.full → r ≡ TableFull → MayRefuse s earlier c r
+  want_of_memory : MayGrow s earlier c → r ≡ Memory → MayRefuse s earlier c r
+  full_table : MayGrow s earlier c → s.full → r ≡ TableFull → MayRefuse s earlier c r
   no_term : (NamesTerms earlier c → ⊥) → r ≡ NoSuchAnswer → MayRefuse s earlier c r
-  too_deep : IsTooDeep earlier c → r ≡ GreatestIndex → MayRefuse s earlier c r
+  too_deep : IsCallTooDeep earlier c → r ≡ GreatestIndex → MayRefuse s earlier c r
   -- the result of the fold doesn't fit
   unfit : NamesTerms earlier c → IsSomeAnd (folded earlier c) (λ t. Fits t → ⊥) → r ≡ GreatestIndex
       → MayRefuse s earlier c r
@@ -311,16 +311,16 @@ pub record GivesId (s : Setting) (earlier : List Told) (call : DeclareCall) (sor
   pub later : IsAbove earlier n
 
 -- the call declares, and the id names its declaration
-abbrev pub Declares : Setting → List Told → Call → DeclarationSort → ℕ → Tree Depth → Type 0
-Declares s earlier (call.Declare d) sort n t = GivesId s earlier d sort n t
-Declares s earlier _ sort n t = ⊥
+abbrev pub NamesDeclaration : Setting → List Told → Call → DeclarationSort → ℕ → Tree Depth → Type 0
+NamesDeclaration s earlier (call.Declare d) sort n t = GivesId s earlier d sort n t
+NamesDeclaration s earlier _ sort n t = ⊥
 
 -- the call may have this answer after what was told earlier
 abbrev pub IsAllowed : Setting → List Told → Call → Told → Type 0
 IsAllowed s earlier c (term table t) =
-    NamesTerms earlier c × (IsTooDeep earlier c → ⊥) × (given_table earlier c ≡ Some table) × Gives earlier c t
+    NamesTerms earlier c × (IsCallTooDeep earlier c → ⊥) × (given_table earlier c ≡ Some table) × Gives earlier c t
     × ((r : Refusal) → HasCause earlier c r → ⊥)
-IsAllowed s earlier c (declared sort n t) = NamesTerms earlier c × Declares s earlier c sort n t
+IsAllowed s earlier c (declared sort n t) = NamesTerms earlier c × NamesDeclaration s earlier c sort n t
 IsAllowed s earlier c (truth b) = NamesTerms earlier c × GivesTruth earlier c b
 IsAllowed s earlier c (info flags outer) = NamesTerms earlier c × GivesInfo earlier c flags outer
 IsAllowed s earlier c (refused r) = MayRefuse s earlier c r

@@ -12,7 +12,7 @@ use Rattle.type_terms.specs.declared.run.answers.parameters.Parameter.TheVariant
 use Rattle.type_terms.specs.declared.run.call.ArgCall.{ArgCall}
 use Rattle.type_terms.specs.declared.run.call.ArgCall.TheVariants as arg
 use Rattle.type_terms.specs.Told.{Told, told_all}
-use Rattle.type_terms.specs.Means.{arguments, term_at}
+use Rattle.type_terms.specs.Means.{told_arguments, term_at}
 use Rattle.type_terms.specs.Build.{IsAnswerAt}
 
 -- the sort of a parameter
@@ -39,7 +39,7 @@ pub record IsArgumentAt (earlier : List Answer) (args : List ArgCall) (p : Param
 -- the parameter has no such argument: none of its sort is there, or the argument names no term
 pub data LacksArgument (earlier : List Answer) (args : List ArgCall) (p : Parameter) (r : Refusal) : Type 0 where
   none_given : ((e : List Told) (name : Name) → Cause (param (parameter_sort p) (parameter_index p) name)
-      (arguments e args) r) → LacksArgument earlier args p r
+      (told_arguments e args) r) → LacksArgument earlier args p r
   not_told : (position : ℕ) → slice_get args (parameter_index p) ≡ Some (term_arg p position)
       → ((rows : List Row) → term_at (told_all rows earlier) position ≡ None) → r ≡ NoSuchAnswer
       → LacksArgument earlier args p r

@@ -31,9 +31,9 @@ abbrev mutual
   forest_work (also t ts) = suc (inner_work t) + forest_work ts
 
 -- how many pieces a child's text is made of, without the piece that is the child
-abbrev pub child_work : Forest Depth → ℕ
-child_work none = 0
-child_work (also t ts) = inner_work t
+abbrev pub inner_child_work : Forest Depth → ℕ
+inner_child_work none = 0
+inner_child_work (also t ts) = inner_work t
 
 module _ (rows : List Row) where
   -- the text of a piece
@@ -49,7 +49,7 @@ module _ (rows : List Row) where
   -- how many pieces are still to come
   abbrev pub pieces_work : List Piece → ℕ
   pieces_work [] = 0
-  pieces_work (p ∷ ps) = pieces_work ps + suc (child_work (fill_all (meaning rows) (child_shapes p.child)))
+  pieces_work (p ∷ ps) = pieces_work ps + suc (inner_child_work (fill_all (meaning rows) (child_shapes p.child)))
 
   -- the handles in pieces are in range
   abbrev pub ArePieces : List Piece → Type 0

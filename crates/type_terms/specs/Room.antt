@@ -14,10 +14,10 @@ use Rattle.type_terms.specs.Told.{Told}
 use Rattle.type_terms.specs.Means.{number_at, tree_at}
 
 -- the refusal is for want of memory or of a row
-abbrev pub IsForRoom : Refusal → Type 0
-IsForRoom Memory = ⊤
-IsForRoom TableFull = ⊤
-IsForRoom _ = ⊥
+abbrev pub IsRefusalForRoom : Refusal → Type 0
+IsRefusalForRoom Memory = ⊤
+IsRefusalForRoom TableFull = ⊤
+IsRefusalForRoom _ = ⊥
 
 -- a value whose handles are in range has this tree
 pub record HasValue (rows : List Row) (t : Tree Depth) : Type 0 where
@@ -35,7 +35,7 @@ LacksText rows text = IsSomeAnd text (λ name. IsNew (text_row name) rows)
 
 -- a refusal for want of room says that no value has the tree, if no list to be built is long
 abbrev pub NeedsRoom : List Row → Type 0 → Tree Depth → Refusal → Type 0
-NeedsRoom rows short t r = IsForRoom r → short → LacksValue rows t
+NeedsRoom rows short t r = IsRefusalForRoom r → short → LacksValue rows t
 
 -- the same for a child
 abbrev pub PartNeedsRoom : List Row → List Told → Part → Refusal → Type 0

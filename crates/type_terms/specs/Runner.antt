@@ -3,7 +3,7 @@ use Rattle.std.specs.Prelude.{◌≡◌, List, [], ◌∷◌, ◌++◌}
 use Rattle.tt_interner.specs.Stored.{Terms, Extends}
 use Rattle.type_terms.specs.declared.run.answer.Answer.{Answer}
 use Rattle.type_terms.specs.declared.run.call.Call.{Call}
-use Rattle.type_terms.specs.Told.{told, told_all, setting, IsOwned}
+use Rattle.type_terms.specs.Told.{told, told_all, setting, IsOwnedAnswer}
 use Rattle.type_terms.specs.Means.{IsAllowed}
 
 -- the answers have one more, which may be the call's answer
@@ -13,9 +13,9 @@ pub record AddsAnswer (old new : Terms) (before : List Answer) (call : Call) (af
   pub allowed : IsAllowed (setting old new) (told_all old.rows before) call (told new.rows answer)
 
 -- the interner grows from the old terms to the new ones, and this is an answer that the call may have there
-pub record IsAnswered (old new : Terms) (earlier : List Answer) (call : Call) (answer : Answer) : Type 0 where
+pub record AnswersCall (old new : Terms) (earlier : List Answer) (call : Call) (answer : Answer) : Type 0 where
   pub extends : Extends old new
-  pub owned : IsOwned new.rows answer
+  pub owned : IsOwnedAnswer new.rows answer
   pub allowed : IsAllowed (setting old new) (told_all old.rows earlier) call (told new.rows answer)
 
 -- each call has an answer that it may have in the interner as the calls before it left it
@@ -24,4 +24,4 @@ AnswersInTurn old new earlier [] [] = new ≡ old
 AnswersInTurn old new earlier [] (a ∷ answers) = ⊥
 AnswersInTurn old new earlier (c ∷ calls) [] = ⊥
 AnswersInTurn old new earlier (c ∷ calls) (a ∷ answers) =
-    (between : Terms) × IsAnswered old between earlier c a × AnswersInTurn between new (earlier ++ a ∷ []) calls answers
+    (between : Terms) × AnswersCall old between earlier c a × AnswersInTurn between new (earlier ++ a ∷ []) calls answers

@@ -398,16 +398,16 @@ style_in s (list_label t) = list_style s
 style_in s _ = style.Joined
 
 -- the text in front of a first child, which may also be the last
-abbrev pub opening : Style → Bool → List ℕ
-opening style.Listed last = codes "["
-opening style.Arguments last = codes "<"
-opening style.Elements last = codes "("
-opening style.Values last = codes "("
-opening style.Inputs true = codes "() -> "
-opening style.Inputs false = codes "("
-opening style.VariadicInputs true = codes "(...) -> "
-opening style.VariadicInputs false = codes "("
-opening _ last = []
+abbrev pub opening_text : Style → Bool → List ℕ
+opening_text style.Listed last = codes "["
+opening_text style.Arguments last = codes "<"
+opening_text style.Elements last = codes "("
+opening_text style.Values last = codes "("
+opening_text style.Inputs true = codes "() -> "
+opening_text style.Inputs false = codes "("
+opening_text style.VariadicInputs true = codes "(...) -> "
+opening_text style.VariadicInputs false = codes "("
+opening_text _ last = []
 
 -- the text in front of a later child, which may be the last
 abbrev pub separator : Style → Bool → List ℕ
@@ -434,7 +434,7 @@ separator _ last = []
 
 -- the text in front of a child
 abbrev pub before_child : Style → Bool → Bool → List ℕ
-before_child s true last = opening s last
+before_child s true last = opening_text s last
 before_child s false last = separator s last
 
 -- the text after so many children

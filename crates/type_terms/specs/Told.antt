@@ -62,20 +62,20 @@ abbrev pub told_all : List Row → List Answer → List Told
 told_all rows answers = map (told rows) answers
 
 -- the handle, if there is one, is in range; the id, if there is one, names a declaration of its sort
-abbrev pub IsOwned : List Row → Answer → Type 0
-IsOwned rows (answer.Ty t) = t.number < size rows Types
-IsOwned rows (answer.Const c) = c.number < size rows Consts
-IsOwned rows (answer.Pat p) = p.number < size rows Patterns
-IsOwned rows (answer.Predicate p) = p.number < size rows Predicates
-IsOwned rows (answer.Clauses l) = l.number < size rows ClauseLists
-IsOwned rows (answer.Args l) = l.number < size rows ArgLists
-IsOwned rows (answer.Id sort id) = IsOfSort rows sort id.number
-IsOwned rows _ = ⊤
+abbrev pub IsOwnedAnswer : List Row → Answer → Type 0
+IsOwnedAnswer rows (answer.Ty t) = t.number < size rows Types
+IsOwnedAnswer rows (answer.Const c) = c.number < size rows Consts
+IsOwnedAnswer rows (answer.Pat p) = p.number < size rows Patterns
+IsOwnedAnswer rows (answer.Predicate p) = p.number < size rows Predicates
+IsOwnedAnswer rows (answer.Clauses l) = l.number < size rows ClauseLists
+IsOwnedAnswer rows (answer.Args l) = l.number < size rows ArgLists
+IsOwnedAnswer rows (answer.Id sort id) = IsOfSort rows sort id.number
+IsOwnedAnswer rows _ = ⊤
 
 -- the same for all answers
-abbrev pub AreOwned : List Row → List Answer → Type 0
-AreOwned rows [] = ⊤
-AreOwned rows (a ∷ answers) = IsOwned rows a × AreOwned rows answers
+abbrev pub AreOwnedAnswers : List Row → List Answer → Type 0
+AreOwnedAnswers rows [] = ⊤
+AreOwnedAnswers rows (a ∷ answers) = IsOwnedAnswer rows a × AreOwnedAnswers rows answers
 
 -- some table holds its limit
 pub record HasFullTable (terms : Terms) : Type 0 where

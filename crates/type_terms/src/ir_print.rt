@@ -21,7 +21,7 @@ ghost use Rattle.tt_kinds.specs.declared.table.Table.TheVariants.{Symbols, VarLi
 ghost use Rattle.tt_kinds.specs.Handle.{BoundVarKinds};
 ghost use Rattle.tt_interner.specs.Owned.{IsPartBy, tree_by};
 ghost use Rattle.tt_interner.specs.Rows.{meaning, size};
-ghost use Rattle.type_terms.specs.Pieces.{ArePieces, Opens, child_work, inner_work, piece_text, pieces_text};
+ghost use Rattle.type_terms.specs.Pieces.{ArePieces, Opens, inner_child_work, inner_work, piece_text, pieces_text};
 ghost use Rattle.type_terms.specs.Spelling.{
   IsNamedSubject,
   binder_text,
@@ -366,7 +366,7 @@ fn write_piece(
         pieces.old.items
         pieces.new.items
         (piece_text cx.now.rows piece.now)
-        (child_work (fill_all (meaning cx.now.rows) (child_shapes piece.now.child))) }
+        (inner_child_work (fill_all (meaning cx.now.rows) (child_shapes piece.now.child))) }
 {
     write_text(out, piece.style.text_at(piece.place))?;
     match piece.child {

@@ -4,7 +4,8 @@ use Rattle.tt_kinds.specs.Label.{Name, Label, type_label}
 use Rattle.tt_kinds.specs.Tree as tree
 use Rattle.tt_kinds.specs.Tree.{Depth, Tree, Forest}
 use Rattle.tt_visit.specs.Root.{unhooked, a_region, root, term_root, node_root}
-use Rattle.tt_fold.specs.Walk.{Answer, replace, keep, descend, is_type_tree, Walks, at_region, replaced, kept}
+use Rattle.tt_visit.specs.Types.{is_type_tree}
+use Rattle.tt_fold.specs.Walk.{Answer, replace, keep, descend, Walks, at_region, replaced, kept}
 use Rattle.tt_fold.specs.Walk.{descended, passed, at_node, at_binder, Descends, rebuilt, WalksInside, in_term, in_param}
 use Rattle.tt_fold.specs.Walk.{in_bound, WalksAll, done, next}
 use Rattle.tt_fold.specs.Types.{TypeHooks, never_fails}

@@ -7,7 +7,7 @@ ghost use Rattle.tt_kinds.specs.Label.{type_sort};
 ghost use Rattle.tt_kinds.specs.Reading.{outer_binder};
 ghost use Rattle.tt_interner.specs.Owned.{IsOwned};
 ghost use Rattle.tt_fold.specs.Steps.{tree_in};
-ghost use Rattle.tt_binder.specs.Unpruned.{Gives, HoldsNoRegionVar};
+ghost use Rattle.tt_binder.specs.Unpruned.{GivesUnpruned, HoldsNoRegionVar};
 
 use super::holds_within;
 use super::sharing::bound_ref;
@@ -63,7 +63,7 @@ fn walked(cx: &mut Interner, ty: Ty, argument: Ty) -> Result<Ty, Refusal>
     requires few { cx.old.limit ≤ 100000000 }
     requires low { outer_binder (tree_in cx.old.rows (ty_shape argument)) ≤ 1000000 }
     requires lacks { HoldsNoRegionVar (tree_in cx.old.rows (ty_shape ty)) }
-    ensures whole { IfOk result (λ instance. Gives (λ e. false)
+    ensures whole { IfOk result (λ instance. GivesUnpruned (λ e. false)
         (record { sort = type_sort; value = tree_in cx.old.rows (ty_shape argument) } ∷ [])
         (tree_in cx.old.rows (ty_shape ty))
         (tree_in cx.new.rows (ty_shape instance))) }

@@ -3,7 +3,7 @@
 ghost use Rattle.std.specs.Prelude.{◌≡◌, ◌⊎◌, ℕ, ⊤, refl};
 ghost use Rattle.tt_kinds.specs.Kinds.{predicate_shape, region_shape, ty_shape};
 ghost use Rattle.tt_kinds.specs.Tree.{Depth, Tree};
-ghost use Rattle.tt_kinds.specs.Values.{pair_shape};
+ghost use Rattle.tt_kinds.specs.Values.{tuple_shape};
 ghost use Rattle.tt_visit.specs.declared.visitor.Next.TheVariants.{Descend as GoesOn};
 ghost use Rattle.tt_fold.specs.Walk.{replace, descend};
 ghost use Rattle.tt_fold.specs.Steps.{IsPartOf, tree_in};
@@ -576,7 +576,7 @@ struct Loan {
 }
 
 impl TypeVisitable for Loan {
-    ghost shape = { λ loan. pair_shape region_shape ty_shape (loan.region, loan.ty) };
+    ghost shape = { λ loan. tuple_shape region_shape ty_shape (loan.region, loan.ty) };
 
     fn visit_with<V: TypeVisitor>(
         &self,

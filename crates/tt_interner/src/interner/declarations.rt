@@ -26,7 +26,7 @@ ghost use Rattle.tt_interner.specs.Declarations.{
   declared_at,
   Declares,
   is_anonymous,
-  IsDeclared,
+  IsDeclaredRegion,
   IsOfSort,
   title,
 };
@@ -249,7 +249,7 @@ impl Interner {
 
     /// Returns whether the declaration of a bound region is of this interner, if the region is declared.
     pub fn owns_region_item(&self, kind: &BoundRegionKind) -> bool
-        ensures { IsTrue result ↔ IsDeclared self.now.rows kind.now }
+        ensures { IsTrue result ↔ IsDeclaredRegion self.now.rows kind.now }
     {
         match kind {
             BoundRegionKind::Named(id) => self.owns_def_id(*id),
@@ -349,12 +349,12 @@ pub trait RegionName: Sized {
     /// Returns the name of the region's declaration, unless that is `'_`; the name that the region is printed by, if it
     /// has no declaration; and `None` if it has neither.
     fn get_name(self, cx: &Interner) -> Option<Symbol>
-        requires { IsDeclared cx.now.rows (region_kind self) }
+        requires { IsDeclaredRegion cx.now.rows (region_kind self) }
         ensures { result ≡ title cx.now.rows (region_kind self) };
 
     /// Returns whether [`RegionName::get_name`] returns a name.
     fn is_named(self, cx: &Interner) -> bool
-        requires { IsDeclared cx.now.rows (region_kind self) }
+        requires { IsDeclaredRegion cx.now.rows (region_kind self) }
         ensures { result ≡ is_some (title cx.now.rows (region_kind self)) };
 }
 

@@ -8,7 +8,7 @@ ghost use Rattle.type_terms.specs.Text.{
   before_variable,
   closing,
   list_style,
-  opening,
+  opening_text,
   separator,
 };
 
@@ -100,7 +100,7 @@ impl Style {
 
     // Returns the text in front of a first child.
     fn opening(self, last: bool) -> &'static str
-        ensures { result.now ≡ opening self last }
+        ensures { result.now ≡ opening_text self last }
     {
         match (self, last) {
             (Style::Listed, _) => "[",

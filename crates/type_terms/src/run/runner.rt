@@ -4,7 +4,7 @@ ghost use Rattle.std.specs.Prelude.{◌≡◌, ◌<◌, ◌∷◌, ◌++◌, IsO
 ghost use Rattle.std.specs.Vec.{vec_len, vec_capacity};
 ghost use Rattle.type_terms.specs.declared.run.call.Call.{Call};
 ghost use Rattle.tt_interner.specs.Stored.{Terms, Extends};
-ghost use Rattle.type_terms.specs.Told.{told, told_all, setting, IsOwned, AreOwned};
+ghost use Rattle.type_terms.specs.Told.{told, told_all, setting, IsOwnedAnswer, AreOwnedAnswers};
 ghost use Rattle.type_terms.specs.Means.{id_positions, AreTerms, IsAllowed, Means};
 ghost use Rattle.type_terms.specs.Runner.{AddsAnswer, AnswersInTurn};
 
@@ -39,7 +39,7 @@ use tt_interner::Interner;
 /// - `Equal`, `Info` and `Bad`.
 pub fn run_calls(cx: &mut Interner, calls: &[Call]) -> Result<Vec<Answer>, Refusal>
     ensures extends { Extends cx.old cx.new }
-    ensures owned { IfOk result (λ answers. AreOwned cx.new.rows answers.items) }
+    ensures owned { IfOk result (λ answers. AreOwnedAnswers cx.new.rows answers.items) }
     ensures means { IfOk result (λ answers. Means
         (setting cx.old cx.new)
         []
@@ -61,10 +61,10 @@ pub fn run_calls(cx: &mut Interner, calls: &[Call]) -> Result<Vec<Answer>, Refus
 /// Refused with `Memory` if the list of answers is full and cannot grow, and never otherwise. Then the answers are
 /// unchanged. The appended answer is a refusal for want of memory only if it may be one in [`run_calls`].
 pub fn answer_next(cx: &mut Interner, answers: &mut Vec<Answer>, call: &Call) -> Result<(), Refusal>
-    requires { AreOwned cx.old.rows answers.old.items }
+    requires { AreOwnedAnswers cx.old.rows answers.old.items }
     // In each case:
     ensures extends { Extends cx.old cx.new }
-    ensures owned { AreOwned cx.new.rows answers.new.items }
+    ensures owned { AreOwnedAnswers cx.new.rows answers.new.items }
     // On success:
     ensures allowed { OnOk result (AddsAnswer cx.old cx.new answers.old.items call.now answers.new.items) }
     ensures means { OnOk result ((first : Terms) (before : List Call) → Extends first cx.old →
@@ -83,9 +83,9 @@ pub fn answer_next(cx: &mut Interner, answers: &mut Vec<Answer>, call: &Call) ->
 
 // Returns the answer to a call after these answers.
 fn answer_call(cx: &mut Interner, earlier: &[Answer], call: &Call) -> Answer
-    requires { AreOwned cx.old.rows earlier.now }
+    requires { AreOwnedAnswers cx.old.rows earlier.now }
     ensures extends { Extends cx.old cx.new }
-    ensures owned { IsOwned cx.new.rows result }
+    ensures owned { IsOwnedAnswer cx.new.rows result }
     ensures allowed { IsAllowed
         (setting cx.old cx.new)
         (told_all cx.old.rows earlier.now)
@@ -101,10 +101,10 @@ fn answer_call(cx: &mut Interner, earlier: &[Answer], call: &Call) -> Answer
 
 // Returns the answer to a call whose ids are there.
 fn answer_named(cx: &mut Interner, earlier: &[Answer], call: &Call) -> Answer
-    requires owned { AreOwned cx.old.rows earlier.now }
+    requires owned { AreOwnedAnswers cx.old.rows earlier.now }
     requires named { AreTerms (told_all cx.old.rows earlier.now) (id_positions call.now) }
     ensures extends { Extends cx.old cx.new }
-    ensures owned { IsOwned cx.new.rows result }
+    ensures owned { IsOwnedAnswer cx.new.rows result }
     ensures allowed { IsAllowed
         (setting cx.old cx.new)
         (told_all cx.old.rows earlier.now)

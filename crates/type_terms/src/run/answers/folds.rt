@@ -14,7 +14,7 @@ ghost use Rattle.type_terms.specs.declared.run.call.Call.TheVariants.{
   Instantiate as Instantiates,
 };
 ghost use Rattle.type_terms.specs.CallForm.{args_ids};
-ghost use Rattle.type_terms.specs.Told.{Told, told, told_all, IsOwned, AreOwned};
+ghost use Rattle.type_terms.specs.Told.{Told, told, told_all, IsOwnedAnswer, AreOwnedAnswers};
 ghost use Rattle.type_terms.specs.Means.{as_term, term_at, AreTerms, IsParameter, IsUnchanged};
 ghost use Rattle.type_terms.specs.Build.{Answers, AreArgumentsOf, IsUnchangedAt};
 
@@ -37,7 +37,7 @@ pub fn shift_at(
     position: u32,
     amount: u32,
 ) -> Result<Answer, Refusal>
-    requires { AreOwned cx.old.rows earlier.now }
+    requires { AreOwnedAnswers cx.old.rows earlier.now }
     ensures extends { Extends cx.old cx.new }
     ensures answers { Answers cx.old cx.new (told_all cx.old.rows earlier.now) (Shifts position amount) result }
 {
@@ -67,7 +67,7 @@ fn shifted<T: TermHandle>(cx: &mut Interner, term: T, amount: u32) -> Result<Ans
 
 /// Returns the term at the position, with its regions erased.
 pub fn erase_at(cx: &mut Interner, earlier: &[Answer], position: u32) -> Result<Answer, Refusal>
-    requires { AreOwned cx.old.rows earlier.now }
+    requires { AreOwnedAnswers cx.old.rows earlier.now }
     ensures extends { Extends cx.old cx.new }
     ensures answers { Answers cx.old cx.new (told_all cx.old.rows earlier.now) (Erases position) result }
 {
@@ -105,7 +105,7 @@ pub fn instantiate_at(
     position: u32,
     args: &[ArgCall],
 ) -> Result<Answer, Refusal>
-    requires { AreOwned cx.old.rows earlier.now }
+    requires { AreOwnedAnswers cx.old.rows earlier.now }
     ensures extends { Extends cx.old cx.new }
     ensures answers { (list : Vec ArgCall Global) →
         list.items ≡ args.now →
@@ -128,7 +128,7 @@ fn instantiate_whole(
     position: u32,
     args: &[ArgCall],
 ) -> Result<Answer, Refusal>
-    requires owned { AreOwned cx.old.rows earlier.now }
+    requires owned { AreOwnedAnswers cx.old.rows earlier.now }
     requires whole { IsSomeAnd (term_at (told_all cx.old.rows earlier.now) position) IsParameter → ⊥ }
     ensures extends { Extends cx.old cx.new }
     ensures answers { (list : Vec ArgCall Global) →
@@ -147,7 +147,7 @@ fn instantiate_whole(
 
 // Returns the answer at the position, if it is a term that stays whatever the arguments are.
 fn unchanged_at(cx: &Interner, earlier: &[Answer], position: u32) -> Option<Answer>
-    requires { AreOwned cx.now.rows earlier.now }
+    requires { AreOwnedAnswers cx.now.rows earlier.now }
     ensures { MatchOption
         result
         (IsSomeAnd (term_at (told_all cx.now.rows earlier.now) position) IsUnchanged → ⊥)
@@ -165,7 +165,7 @@ fn unchanged_at(cx: &Interner, earlier: &[Answer], position: u32) -> Option<Answ
 
 // Returns whether the answer is a term that stays whatever the arguments are.
 fn is_unchanged(cx: &Interner, answer: &Answer) -> bool
-    requires { IsOwned cx.now.rows answer.now }
+    requires { IsOwnedAnswer cx.now.rows answer.now }
     ensures { IsTrue result ↔ IsSomeAnd (as_term (Some (told cx.now.rows answer.now))) IsUnchanged }
 {
     match answer {
@@ -194,7 +194,7 @@ fn instantiate_changed(
     position: u32,
     args: &[ArgCall],
 ) -> Result<Answer, Refusal>
-    requires owned { AreOwned cx.old.rows earlier.now }
+    requires owned { AreOwnedAnswers cx.old.rows earlier.now }
     requires changes { IsSomeAnd (term_at (told_all cx.old.rows earlier.now) position) IsUnchanged → ⊥ }
     requires whole { IsSomeAnd (term_at (told_all cx.old.rows earlier.now) position) IsParameter → ⊥ }
     ensures extends { Extends cx.old cx.new }

@@ -6,7 +6,7 @@ ghost use Rattle.tt_kinds.specs.Shape.{stored, also, none};
 ghost use Rattle.tt_interner.specs.Rows.{Row};
 ghost use Rattle.tt_interner.specs.Stored.{Terms};
 ghost use Rattle.type_terms.specs.CallForm.{one, a_term, terms_at};
-ghost use Rattle.type_terms.specs.Told.{told_all, AreOwned};
+ghost use Rattle.type_terms.specs.Told.{told_all, AreOwnedAnswers};
 ghost use Rattle.type_terms.specs.Means.{term_at, id_at};
 ghost use Rattle.type_terms.specs.Build.{IsAnswerAt, IsIdAt, HasNoId, GivesPart, GivesParts, GivesItems, PutsItems};
 
@@ -64,7 +64,7 @@ fn id_of_sort(answer: &Answer, sort: DeclarationSort) -> Option<DefId>
 /// table.
 pub fn handle_at<T: TermHandle>(earlier: &[Answer], position: u32) -> Result<T, Refusal>
     ensures cause { IfErr result (λ e. e ≡ NoSuchAnswer) }
-    ensures part { (terms : Terms) → AreOwned terms.rows earlier.now
+    ensures part { (terms : Terms) → AreOwnedAnswers terms.rows earlier.now
         → GivesPart terms
         (told_all terms.rows earlier.now)
         (one (a_term T.table position))
@@ -85,7 +85,7 @@ pub fn handle_pair<A: TermHandle, B: TermHandle>(
     second: u32,
 ) -> Result<(A, B), Refusal>
     ensures cause { IfErr result (λ e. e ≡ NoSuchAnswer) }
-    ensures parts { (terms : Terms) → AreOwned terms.rows earlier.now
+    ensures parts { (terms : Terms) → AreOwnedAnswers terms.rows earlier.now
         → GivesParts terms
         (told_all terms.rows earlier.now)
         (one (a_term A.table first) ∷ one (a_term B.table second) ∷ [])
@@ -105,7 +105,7 @@ pub fn put_handles<T: TermHandle>(
 ) -> Result<(), Refusal>
     requires { length positions.now ≤ length places.old }
     ensures cause { IfErr result (λ e. e ≡ NoSuchAnswer) }
-    ensures items { (terms : Terms) → AreOwned terms.rows earlier.now
+    ensures items { (terms : Terms) → AreOwnedAnswers terms.rows earlier.now
         → PutsItems terms
         (told_all terms.rows earlier.now)
         (terms_at T.table positions.now)
@@ -125,7 +125,7 @@ pub fn handles_at<T: TermHandle>(
     earlier: &[Answer],
     positions: &[u32],
 ) -> Result<Vec<T>, Refusal>
-    ensures { (terms : Terms) → AreOwned terms.rows earlier.now
+    ensures { (terms : Terms) → AreOwnedAnswers terms.rows earlier.now
         → GivesItems terms
         (told_all terms.rows earlier.now)
         (terms_at T.table positions.now)

@@ -6,8 +6,8 @@ ghost use Rattle.tt_kinds.specs.Argument.{same_sort};
 ghost use Rattle.tt_kinds.specs.declared.table.Table.TheVariants.{Types, Consts};
 ghost use Rattle.tt_interner.specs.Rows.{size, meaning};
 ghost use Rattle.tt_binder.specs.Instantiation.{IsParam};
-ghost use Rattle.type_terms.specs.Told.{Told, told, told_all, IsOwned, AreOwned};
-ghost use Rattle.type_terms.specs.Means.{as_term, term_at, argument, IsParameter, IsParameterOf};
+ghost use Rattle.type_terms.specs.Told.{Told, told, told_all, IsOwnedAnswer, AreOwnedAnswers};
+ghost use Rattle.type_terms.specs.Means.{as_term, term_at, told_argument, IsParameter, IsParameterOf};
 ghost use Rattle.type_terms.specs.Parameters.{parameter_index, parameter_sort, term_arg, IsArgumentAt, LacksArgument};
 
 use crate::run::answer::Answer;
@@ -26,7 +26,7 @@ pub enum Parameter {
 
 /// Returns the parameter at the position, if the term there is one.
 pub fn parameter_at(cx: &Interner, earlier: &[Answer], position: u32) -> Option<Parameter>
-    requires { AreOwned cx.now.rows earlier.now }
+    requires { AreOwnedAnswers cx.now.rows earlier.now }
     ensures { MatchOption
         result
         (IsSomeAnd (term_at (told_all cx.now.rows earlier.now) position) IsParameter → ⊥)
@@ -42,7 +42,7 @@ pub fn parameter_at(cx: &Interner, earlier: &[Answer], position: u32) -> Option<
 
 // Returns the parameter that the answer is, if it is one.
 fn parameter_of(cx: &Interner, answer: &Answer) -> Option<Parameter>
-    requires { IsOwned cx.now.rows answer.now }
+    requires { IsOwnedAnswer cx.now.rows answer.now }
     ensures { MatchOption
         result
         (IsSomeAnd (as_term (Some (told cx.now.rows answer.now))) IsParameter → ⊥)
@@ -127,7 +127,7 @@ fn index_of(parameter: Parameter) -> u32
 fn position_in(arg: &ArgCall, parameter: Parameter) -> Option<u32>
     ensures { MatchOption
         result
-        ((earlier : List Told) → same_sort (parameter_sort parameter) (argument earlier arg.now).sort ≡ false)
+        ((earlier : List Told) → same_sort (parameter_sort parameter) (told_argument earlier arg.now).sort ≡ false)
         (λ position. arg.now ≡ term_arg parameter position) }
 {
     match parameter {

@@ -3,9 +3,9 @@
 ghost use Rattle.std.specs.Prelude.{◌<◌, ◌↔◌, IsTrue};
 ghost use Rattle.tt_interner.specs.Rows.{size, meaning};
 ghost use Rattle.type_terms.specs.declared.run.call.Call.TheVariants.{Equal as AsksEqual, Info as AsksInfo};
-ghost use Rattle.type_terms.specs.Told.{told, told_all, AreOwned, setting};
+ghost use Rattle.type_terms.specs.Told.{told, told_all, AreOwnedAnswers, setting};
 ghost use Rattle.type_terms.specs.Means.{IsAllowed};
-ghost use Rattle.type_terms.specs.Build.{AreAlike, IsInfoOf};
+ghost use Rattle.type_terms.specs.Build.{AreOfOneTable, IsInfoOf};
 
 use crate::run::answer::Answer;
 use crate::run::answers::lookup::answer_at;
@@ -16,7 +16,7 @@ use tt_interner::Interner;
 /// Returns whether the terms at two positions are the same. Refused with `NoSuchAnswer` if there are no terms of one
 /// table there.
 pub fn equal_at(cx: &Interner, earlier: &[Answer], first: u32, second: u32) -> Answer
-    requires { AreOwned cx.now.rows earlier.now }
+    requires { AreOwnedAnswers cx.now.rows earlier.now }
     ensures { IsAllowed
         (setting cx.now cx.now)
         (told_all cx.now.rows earlier.now)
@@ -38,7 +38,7 @@ pub fn equal_at(cx: &Interner, earlier: &[Answer], first: u32, second: u32) -> A
 
 // Returns whether both are handles of the same table.
 fn are_alike(first: &Answer, second: &Answer) -> bool
-    ensures { IsTrue result ↔ AreAlike first.now second.now }
+    ensures { IsTrue result ↔ AreOfOneTable first.now second.now }
 {
     match (table_of(first), table_of(second)) {
         (Some(first), Some(second)) => first == second,
@@ -49,7 +49,7 @@ fn are_alike(first: &Answer, second: &Answer) -> bool
 /// Returns the flags and the outer exclusive binder of the term at the position. Refused with `NoSuchAnswer` if there
 /// is none; a list of generic arguments is not a term here.
 pub fn info_at(cx: &Interner, earlier: &[Answer], position: u32) -> Answer
-    requires { AreOwned cx.now.rows earlier.now }
+    requires { AreOwnedAnswers cx.now.rows earlier.now }
     ensures { IsAllowed
         (setting cx.now cx.now)
         (told_all cx.now.rows earlier.now)

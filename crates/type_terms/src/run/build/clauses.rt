@@ -9,9 +9,9 @@ ghost use Rattle.tt_interner.specs.Rows.{IsClause};
 ghost use Rattle.tt_interner.specs.Stored.{Extends};
 ghost use Rattle.type_terms.specs.declared.run.call.Call.TheVariants.{Clauses as BuildsClauses};
 ghost use Rattle.type_terms.specs.CallForm.{clause_items, one, a_clause, items_positions, AreItemsTooDeep, clauses_tree};
-ghost use Rattle.type_terms.specs.Told.{told_all, AreOwned, HasFullTable};
+ghost use Rattle.type_terms.specs.Told.{told_all, AreOwnedAnswers, HasFullTable};
 ghost use Rattle.type_terms.specs.Means.{number_at, tree_at};
-ghost use Rattle.type_terms.specs.Build.{IsUnbuilt, AreClausesAt, GivesPart, GivesPlaced, Answers};
+ghost use Rattle.type_terms.specs.Build.{IsUnbuiltPart, AreClausesAt, GivesPart, GivesPlaced, Answers};
 ghost use Rattle.type_terms.specs.Room.{ClausesNeedRoom};
 
 use crate::run::answer::Answer;
@@ -28,7 +28,7 @@ pub fn build_clauses(
     earlier: &[Answer],
     positions: &[u32],
 ) -> Result<Answer, Refusal>
-    requires { AreOwned cx.old.rows earlier.now }
+    requires { AreOwnedAnswers cx.old.rows earlier.now }
     ensures extends { Extends cx.old cx.new }
     ensures answers { (list : Vec ℕ Global) → list.items ≡ positions.now
         → Answers cx.old cx.new (told_all cx.old.rows earlier.now) (BuildsClauses list) result }
@@ -45,7 +45,7 @@ pub fn build_clauses(
 
 // Returns the list of the clauses at the positions.
 fn clause_list(cx: &mut Interner, earlier: &[Answer], positions: &[u32]) -> Result<Clauses, Refusal>
-    requires { AreOwned cx.old.rows earlier.now }
+    requires { AreOwnedAnswers cx.old.rows earlier.now }
     ensures extends { Extends cx.old cx.new }
     ensures list { let e = told_all cx.old.rows earlier.now in
         GivesPlaced cx.new e
@@ -72,13 +72,13 @@ fn put_clauses(
     positions: &[u32],
     places: &mut [Clause],
 ) -> Result<(), Refusal>
-    requires owned { AreOwned cx.now.rows earlier.now }
+    requires owned { AreOwnedAnswers cx.now.rows earlier.now }
     requires few { length positions.now ≤ length places.old }
     ensures ok { OnOk result (AreClausesAt cx.now
         (told_all cx.now.rows earlier.now)
         positions.now
         (take (length positions.now) places.new)) }
-    ensures err { IfErr result (IsUnbuilt
+    ensures err { IfErr result (IsUnbuiltPart
         (HasFullTable cx.now)
         (told_all cx.now.rows earlier.now)
         (items_positions (clause_items positions.now))
@@ -93,12 +93,12 @@ fn put_clauses(
 
 // Returns the clauses at the positions.
 fn clauses_at(cx: &Interner, earlier: &[Answer], positions: &[u32]) -> Result<Vec<Clause>, Refusal>
-    requires { AreOwned cx.now.rows earlier.now }
+    requires { AreOwnedAnswers cx.now.rows earlier.now }
     ensures ok { IfOk result (λ clauses. AreClausesAt cx.now
         (told_all cx.now.rows earlier.now)
         positions.now
         clauses.items) }
-    ensures err { IfErr result (IsUnbuilt
+    ensures err { IfErr result (IsUnbuiltPart
         (HasFullTable cx.now)
         (told_all cx.now.rows earlier.now)
         (items_positions (clause_items positions.now))
@@ -114,7 +114,7 @@ fn clauses_at(cx: &Interner, earlier: &[Answer], positions: &[u32]) -> Result<Ve
 
 // Returns the clause at the position.
 fn clause_at(cx: &Interner, earlier: &[Answer], position: u32) -> Result<Clause, Refusal>
-    requires { AreOwned cx.now.rows earlier.now }
+    requires { AreOwnedAnswers cx.now.rows earlier.now }
     ensures part { GivesPart cx.now (told_all cx.now.rows earlier.now) (one (a_clause position)) clause_shape result }
     ensures clause { IfOk result (λ clause. IsClause cx.now.rows clause.number) }
     ensures cause { IfErr result (λ e. e ≡ NoSuchAnswer) }

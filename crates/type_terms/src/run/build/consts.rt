@@ -14,7 +14,7 @@ ghost use Rattle.type_terms.specs.CallForm.{
   args_ids,
   const_ids,
   const_form,
-  value_form,
+  value_call_form,
   param,
   plain,
   one,
@@ -22,7 +22,7 @@ ghost use Rattle.type_terms.specs.CallForm.{
   a_list,
   terms_at,
 };
-ghost use Rattle.type_terms.specs.Told.{Told, told_all, AreOwned};
+ghost use Rattle.type_terms.specs.Told.{Told, told_all, AreOwnedAnswers};
 ghost use Rattle.type_terms.specs.Means.{number_at, AreTerms};
 ghost use Rattle.type_terms.specs.Build.{GivesKind, Answers};
 ghost use Rattle.type_terms.specs.Room.{FormNeedsRoom};
@@ -45,7 +45,7 @@ pub fn build_const(
     earlier: &[Answer],
     call: &ConstCall,
 ) -> Result<Answer, Refusal>
-    requires { AreOwned cx.old.rows earlier.now }
+    requires { AreOwnedAnswers cx.old.rows earlier.now }
     ensures extends { Extends cx.old cx.new }
     ensures answers { AreTerms (told_all cx.old.rows earlier.now) (const_ids call.now)
         → Answers cx.old cx.new (told_all cx.old.rows earlier.now) (BuildsConst call.now) result }
@@ -71,7 +71,7 @@ pub fn build_args_answer(
     earlier: &[Answer],
     args: &[ArgCall],
 ) -> Result<Answer, Refusal>
-    requires { AreOwned cx.old.rows earlier.now }
+    requires { AreOwnedAnswers cx.old.rows earlier.now }
     ensures extends { Extends cx.old cx.new }
     ensures answers { (list : Vec ArgCall Global) → list.items ≡ args.now
         → AreTerms (told_all cx.old.rows earlier.now) (args_ids list.items)
@@ -89,7 +89,7 @@ pub fn build_args_answer(
 
 // Returns the kind of the constant.
 fn const_kind(cx: &mut Interner, earlier: &[Answer], call: &ConstCall) -> Result<ConstKind, Refusal>
-    requires { AreOwned cx.old.rows earlier.now }
+    requires { AreOwnedAnswers cx.old.rows earlier.now }
     ensures extends { Extends cx.old cx.new }
     ensures kind { GivesKind cx.new
         (told_all cx.old.rows earlier.now)
@@ -140,15 +140,15 @@ fn value_kind(
     ty: u32,
     valtree: &ValTreeCall,
 ) -> Result<ConstKind, Refusal>
-    requires { AreOwned cx.old.rows earlier.now }
+    requires { AreOwnedAnswers cx.old.rows earlier.now }
     ensures extends { Extends cx.old cx.new }
     ensures kind { GivesKind cx.new
         (told_all cx.old.rows earlier.now)
-        (value_form ty valtree.now)
+        (value_call_form ty valtree.now)
         const_kind_shape
         result }
     ensures room { IfErr result
-        (FormNeedsRoom cx.new.rows (told_all cx.old.rows earlier.now) (value_form ty valtree.now)) }
+        (FormNeedsRoom cx.new.rows (told_all cx.old.rows earlier.now) (value_call_form ty valtree.now)) }
 {
     match valtree {
         ValTreeCall::Leaf(leaf) => leaf_kind(cx, earlier, ty, *leaf),
@@ -163,7 +163,7 @@ fn leaf_kind(
     ty: u32,
     leaf: ScalarInt,
 ) -> Result<ConstKind, Refusal>
-    requires { AreOwned cx.now.rows earlier.now }
+    requires { AreOwnedAnswers cx.now.rows earlier.now }
     ensures cause { IfErr result (λ e. e ≡ NoSuchAnswer) }
     ensures kind { GivesKind cx.now
         (told_all cx.now.rows earlier.now)
@@ -183,7 +183,7 @@ fn branch_kind(
     ty: u32,
     branch: &[u32],
 ) -> Result<ConstKind, Refusal>
-    requires { AreOwned cx.old.rows earlier.now }
+    requires { AreOwnedAnswers cx.old.rows earlier.now }
     ensures extends { Extends cx.old cx.new }
     ensures kind { GivesKind cx.new
         (told_all cx.old.rows earlier.now)

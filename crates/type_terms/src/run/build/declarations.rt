@@ -15,7 +15,7 @@ ghost use Rattle.type_terms.specs.CallForm.{
   declared_sort,
   HasNoTerms,
 };
-ghost use Rattle.type_terms.specs.Told.{told_all, AreOwned};
+ghost use Rattle.type_terms.specs.Told.{told_all, AreOwnedAnswers};
 ghost use Rattle.type_terms.specs.Means.{number_at, AreTerms};
 ghost use Rattle.type_terms.specs.Build.{Answers, GivesDeclared, GivesSig};
 
@@ -36,7 +36,7 @@ pub fn declare_at(
     earlier: &[Answer],
     call: &DeclareCall,
 ) -> Result<Answer, Refusal>
-    requires owned { AreOwned cx.old.rows earlier.now }
+    requires owned { AreOwnedAnswers cx.old.rows earlier.now }
     requires ids { AreTerms (told_all cx.old.rows earlier.now) (declared_ids call.now.kind) }
     ensures extends { Extends cx.old cx.new }
     ensures answers { Answers cx.old cx.new (told_all cx.old.rows earlier.now) (Declares call.now) result }
@@ -53,7 +53,7 @@ fn declared_kind(
     earlier: &[Answer],
     call: &DeclarationKindCall,
 ) -> Result<DeclarationKind, Refusal>
-    requires { AreOwned cx.old.rows earlier.now }
+    requires { AreOwnedAnswers cx.old.rows earlier.now }
     ensures extends { Extends cx.old cx.new }
     ensures kind { GivesDeclared cx.new (told_all cx.old.rows earlier.now) call.now result }
 {
@@ -85,7 +85,7 @@ fn declared_sig(
     inputs_and_output: &[u32],
     fn_sig_kind: FnSigKind,
 ) -> Result<EarlyBinder<Binder<FnSig>>, Refusal>
-    requires { AreOwned cx.old.rows earlier.now }
+    requires { AreOwnedAnswers cx.old.rows earlier.now }
     ensures extends { Extends cx.old cx.new }
     ensures sig { GivesSig
         cx.new

@@ -17,7 +17,7 @@ ghost use Rattle.type_terms.specs.CallForm.{
   AnyIsDeep,
   trait_object,
 };
-ghost use Rattle.type_terms.specs.Told.{told_all, AreOwned};
+ghost use Rattle.type_terms.specs.Told.{told_all, AreOwnedAnswers};
 ghost use Rattle.type_terms.specs.Means.{number_at, tree_at};
 ghost use Rattle.type_terms.specs.Build.{GivesPlaced, PutsPlaced, GivesRecord, GivesKind};
 ghost use Rattle.type_terms.specs.Room.{RecordNeedsRoom, ExistentialNeedsRoom, ExistentialsNeedRoom, FormNeedsRoom};
@@ -42,7 +42,7 @@ pub fn dynamic_kind(
     existentials: &[ExistentialCall],
     region: &RegionCall,
 ) -> Result<TyKind, Refusal>
-    requires { AreOwned cx.old.rows earlier.now }
+    requires { AreOwnedAnswers cx.old.rows earlier.now }
     ensures extends { Extends cx.old cx.new }
     ensures kind { GivesKind cx.new
         (told_all cx.old.rows earlier.now)
@@ -69,7 +69,7 @@ fn build_existentials(
     earlier: &[Answer],
     calls: &[ExistentialCall],
 ) -> Result<BoundExistentialPredicates, Refusal>
-    requires { AreOwned cx.old.rows earlier.now }
+    requires { AreOwnedAnswers cx.old.rows earlier.now }
     ensures extends { Extends cx.old cx.new }
     ensures list { let e = told_all cx.old.rows earlier.now in let forms = map
         (existential_form (number_at e))
@@ -106,7 +106,7 @@ fn put_existentials(
     calls: &[ExistentialCall],
     places: &mut [PolyExistentialPredicate],
 ) -> Result<(), Refusal>
-    requires owned { AreOwned cx.old.rows earlier.now }
+    requires owned { AreOwnedAnswers cx.old.rows earlier.now }
     requires few { length calls.now ≤ length places.old }
     ensures extends { Extends cx.old cx.new }
     ensures existentials { let e = told_all cx.old.rows earlier.now in let forms = map
@@ -136,7 +136,7 @@ fn build_existential(
     earlier: &[Answer],
     call: &ExistentialCall,
 ) -> Result<PolyExistentialPredicate, Refusal>
-    requires { AreOwned cx.old.rows earlier.now }
+    requires { AreOwnedAnswers cx.old.rows earlier.now }
     ensures extends { Extends cx.old cx.new }
     ensures existential { let e = told_all cx.old.rows earlier.now in let form = existential_form
         (number_at e)
@@ -164,7 +164,7 @@ fn existential_kind(
     earlier: &[Answer],
     call: &ExistentialKindCall,
 ) -> Result<ExistentialPredicate, Refusal>
-    requires { AreOwned cx.old.rows earlier.now }
+    requires { AreOwnedAnswers cx.old.rows earlier.now }
     ensures extends { Extends cx.old cx.new }
     ensures kind { GivesRecord cx.new
         (told_all cx.old.rows earlier.now)

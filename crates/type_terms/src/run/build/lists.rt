@@ -20,7 +20,7 @@ ghost use Rattle.type_terms.specs.CallForm.{
   IsItemTooDeep,
   IsRegionTooDeep,
 };
-ghost use Rattle.type_terms.specs.Told.{told_all, AreOwned};
+ghost use Rattle.type_terms.specs.Told.{told_all, AreOwnedAnswers};
 ghost use Rattle.type_terms.specs.Build.{GivesPart, GivesArgument, GivesArguments, IsUnusable, IsUsable, PutsItems};
 ghost use Rattle.type_terms.specs.Room.{PartNeedsRoom};
 
@@ -41,7 +41,7 @@ pub const MOST_IN_PLACE: usize = 8;
 
 /// Returns the list of the types at the positions.
 pub fn build_tys(cx: &mut Interner, earlier: &[Answer], positions: &[u32]) -> Result<Tys, Refusal>
-    requires { AreOwned cx.old.rows earlier.now }
+    requires { AreOwnedAnswers cx.old.rows earlier.now }
     ensures extends { Extends cx.old cx.new }
     ensures list { GivesPart cx.new
         (told_all cx.old.rows earlier.now)
@@ -68,7 +68,7 @@ pub fn build_consts(
     earlier: &[Answer],
     positions: &[u32],
 ) -> Result<Consts, Refusal>
-    requires { AreOwned cx.old.rows earlier.now }
+    requires { AreOwnedAnswers cx.old.rows earlier.now }
     ensures extends { Extends cx.old cx.new }
     ensures list { GivesPart cx.new
         (told_all cx.old.rows earlier.now)
@@ -95,7 +95,7 @@ pub fn build_pats(
     earlier: &[Answer],
     positions: &[u32],
 ) -> Result<PatList, Refusal>
-    requires { AreOwned cx.old.rows earlier.now }
+    requires { AreOwnedAnswers cx.old.rows earlier.now }
     ensures extends { Extends cx.old cx.new }
     ensures list { GivesPart cx.new
         (told_all cx.old.rows earlier.now)
@@ -122,7 +122,7 @@ pub fn build_arg_list(
     earlier: &[Answer],
     args: &[ArgCall],
 ) -> Result<GenericArgs, Refusal>
-    requires { AreOwned cx.old.rows earlier.now }
+    requires { AreOwnedAnswers cx.old.rows earlier.now }
     ensures extends { Extends cx.old cx.new }
     ensures list { GivesPart cx.new (told_all cx.old.rows earlier.now) (args_part args.now) args_shape result }
     ensures room { IfErr result
@@ -144,7 +144,7 @@ fn put_args(
     args: &[ArgCall],
     places: &mut [GenericArg],
 ) -> Result<(), Refusal>
-    requires owned { AreOwned cx.old.rows earlier.now }
+    requires owned { AreOwnedAnswers cx.old.rows earlier.now }
     requires few { length args.now ≤ length places.old }
     ensures extends { Extends cx.old cx.new }
     ensures args { PutsItems cx.new
@@ -168,7 +168,7 @@ pub fn build_args(
     earlier: &[Answer],
     args: &[ArgCall],
 ) -> Result<Vec<GenericArg>, Refusal>
-    requires { AreOwned cx.old.rows earlier.now }
+    requires { AreOwnedAnswers cx.old.rows earlier.now }
     ensures extends { Extends cx.old cx.new }
     ensures args { GivesArguments cx.new (told_all cx.old.rows earlier.now) args.now result }
     ensures none { args.now ≡ [] → IsOk result }
@@ -183,7 +183,7 @@ pub fn build_args(
 
 // Returns the argument that a call names.
 fn build_arg(cx: &mut Interner, earlier: &[Answer], arg: &ArgCall) -> Result<GenericArg, Refusal>
-    requires { AreOwned cx.old.rows earlier.now }
+    requires { AreOwnedAnswers cx.old.rows earlier.now }
     ensures extends { Extends cx.old cx.new }
     ensures arg { GivesArgument cx.new (told_all cx.old.rows earlier.now) arg.now result }
     ensures room { IfErr result
@@ -199,7 +199,7 @@ fn build_arg(cx: &mut Interner, earlier: &[Answer], arg: &ArgCall) -> Result<Gen
 /// Checks that the arguments that a call names can be built, without building them. Refused with `NoSuchAnswer` if a
 /// position names no term of the argument's table, and with `GreatestIndex` if a bound region has that index.
 pub fn check_args(cx: &Interner, earlier: &[Answer], args: &[ArgCall]) -> Result<(), Refusal>
-    requires { AreOwned cx.now.rows earlier.now }
+    requires { AreOwnedAnswers cx.now.rows earlier.now }
     ensures ok { OnOk
         result
         (IsUsable
@@ -221,7 +221,7 @@ pub fn check_args(cx: &Interner, earlier: &[Answer], args: &[ArgCall]) -> Result
 
 // Checks that the argument can be built.
 fn check_arg(cx: &Interner, earlier: &[Answer], arg: &ArgCall) -> Result<(), Refusal>
-    requires { AreOwned cx.now.rows earlier.now }
+    requires { AreOwnedAnswers cx.now.rows earlier.now }
     ensures ok { OnOk
         result
         (IsUsable
@@ -248,7 +248,7 @@ fn check_handle<T: TermHandle>(
     earlier: &[Answer],
     position: u32,
 ) -> Result<(), Refusal>
-    requires { AreOwned cx.now.rows earlier.now }
+    requires { AreOwnedAnswers cx.now.rows earlier.now }
     ensures ok { OnOk
         result
         (IsUsable

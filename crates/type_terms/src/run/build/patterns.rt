@@ -5,7 +5,7 @@ ghost use Rattle.tt_kinds.specs.Kinds.{pattern_kind_shape};
 ghost use Rattle.tt_interner.specs.Stored.{Extends};
 ghost use Rattle.type_terms.specs.declared.run.call.Call.TheVariants.{Pat as BuildsPat};
 ghost use Rattle.type_terms.specs.CallForm.{pat_form};
-ghost use Rattle.type_terms.specs.Told.{told_all, AreOwned};
+ghost use Rattle.type_terms.specs.Told.{told_all, AreOwnedAnswers};
 ghost use Rattle.type_terms.specs.Build.{GivesKind, Answers};
 ghost use Rattle.type_terms.specs.Room.{FormNeedsRoom};
 
@@ -19,7 +19,7 @@ use tt_kinds::{Const, PatternKind};
 
 /// Returns the pattern that the call names, over the earlier answers.
 pub fn build_pat(cx: &mut Interner, earlier: &[Answer], call: &PatCall) -> Result<Answer, Refusal>
-    requires { AreOwned cx.old.rows earlier.now }
+    requires { AreOwnedAnswers cx.old.rows earlier.now }
     ensures extends { Extends cx.old cx.new }
     ensures answers { Answers cx.old cx.new (told_all cx.old.rows earlier.now) (BuildsPat call.now) result }
 {
@@ -43,7 +43,7 @@ fn pattern_kind(
     earlier: &[Answer],
     call: &PatCall,
 ) -> Result<PatternKind, Refusal>
-    requires { AreOwned cx.old.rows earlier.now }
+    requires { AreOwnedAnswers cx.old.rows earlier.now }
     ensures extends { Extends cx.old cx.new }
     ensures kind { GivesKind cx.new (told_all cx.old.rows earlier.now) (pat_form call.now) pattern_kind_shape result }
     ensures room { IfErr result (FormNeedsRoom cx.new.rows (told_all cx.old.rows earlier.now) (pat_form call.now)) }

@@ -24,14 +24,14 @@ ghost use Rattle.type_terms.specs.CallForm.{
   predicate_form,
   predicate_record,
   clause_record,
-  labelled,
+  labelled_parts,
   one,
   a_region,
   a_term,
   args_part,
   term_part,
 };
-ghost use Rattle.type_terms.specs.Told.{Told, told_all, AreOwned};
+ghost use Rattle.type_terms.specs.Told.{Told, told_all, AreOwnedAnswers};
 ghost use Rattle.type_terms.specs.Means.{number_at, AreTerms};
 ghost use Rattle.type_terms.specs.Build.{GivesPart, GivesParts, GivesRecord, GivesKind, Answers};
 ghost use Rattle.type_terms.specs.Room.{PartNeedsRoom, RecordNeedsRoom, FormNeedsRoom};
@@ -58,7 +58,7 @@ pub fn build_predicate(
     earlier: &[Answer],
     call: &PredicateCall,
 ) -> Result<Answer, Refusal>
-    requires { AreOwned cx.old.rows earlier.now }
+    requires { AreOwnedAnswers cx.old.rows earlier.now }
     ensures extends { Extends cx.old cx.new }
     ensures answers { AreTerms (told_all cx.old.rows earlier.now) (predicate_ids call.now)
         → Answers cx.old cx.new (told_all cx.old.rows earlier.now) (BuildsPredicate call.now) result }
@@ -83,7 +83,7 @@ fn bound_kind(
     earlier: &[Answer],
     call: &PredicateCall,
 ) -> Result<Binder<PredicateKind>, Refusal>
-    requires { AreOwned cx.old.rows earlier.now }
+    requires { AreOwnedAnswers cx.old.rows earlier.now }
     ensures extends { Extends cx.old cx.new }
     ensures kind { GivesKind cx.new
         (told_all cx.old.rows earlier.now)
@@ -110,7 +110,7 @@ fn predicate_kind(
     earlier: &[Answer],
     call: &PredicateKindCall,
 ) -> Result<PredicateKind, Refusal>
-    requires { AreOwned cx.old.rows earlier.now }
+    requires { AreOwnedAnswers cx.old.rows earlier.now }
     ensures extends { Extends cx.old cx.new }
     ensures kind { GivesRecord cx.new
         (told_all cx.old.rows earlier.now)
@@ -159,10 +159,10 @@ fn subtype(
     b: u32,
 ) -> Result<PredicateKind, Refusal>
     ensures cause { IfErr result (λ e. e ≡ NoSuchAnswer) }
-    ensures kind { (terms : Terms) → AreOwned terms.rows earlier.now
+    ensures kind { (terms : Terms) → AreOwnedAnswers terms.rows earlier.now
         → GivesRecord terms
         (told_all terms.rows earlier.now)
-        (labelled (subtype_record a_is_expected) (one (a_term Table.Types a) ∷ one (a_term Table.Types b) ∷ []))
+        (labelled_parts (subtype_record a_is_expected) (one (a_term Table.Types a) ∷ one (a_term Table.Types b) ∷ []))
         form_of_predicate
         result }
 {
@@ -177,10 +177,10 @@ fn subtype(
 // Returns the predicate that a type can be coerced to another.
 fn coerce(earlier: &[Answer], a: u32, b: u32) -> Result<PredicateKind, Refusal>
     ensures cause { IfErr result (λ e. e ≡ NoSuchAnswer) }
-    ensures kind { (terms : Terms) → AreOwned terms.rows earlier.now
+    ensures kind { (terms : Terms) → AreOwnedAnswers terms.rows earlier.now
         → GivesRecord terms
         (told_all terms.rows earlier.now)
-        (labelled coerce_record (one (a_term Table.Types a) ∷ one (a_term Table.Types b) ∷ []))
+        (labelled_parts coerce_record (one (a_term Table.Types a) ∷ one (a_term Table.Types b) ∷ []))
         form_of_predicate
         result }
 {
@@ -199,11 +199,11 @@ fn normalizes_to(
     args: &[ArgCall],
     term: TermCall,
 ) -> Result<PredicateKind, Refusal>
-    requires { AreOwned cx.old.rows earlier.now }
+    requires { AreOwnedAnswers cx.old.rows earlier.now }
     ensures extends { Extends cx.old cx.new }
     ensures kind { GivesRecord cx.new
         (told_all cx.old.rows earlier.now)
-        (labelled
+        (labelled_parts
         (normalizes_to_record (number_at (told_all cx.old.rows earlier.now) position))
         (args_part args.now ∷ term_part term ∷ []))
         form_of_predicate
@@ -211,7 +211,7 @@ fn normalizes_to(
     ensures room { IfErr result
         (RecordNeedsRoom cx.new.rows
         (told_all cx.old.rows earlier.now)
-        (labelled
+        (labelled_parts
         (normalizes_to_record (number_at (told_all cx.old.rows earlier.now) position))
         (args_part args.now ∷ term_part term ∷ []))) }
 {
@@ -230,7 +230,7 @@ fn clause_kind(
     earlier: &[Answer],
     call: &ClauseCall,
 ) -> Result<ClauseKind, Refusal>
-    requires { AreOwned cx.old.rows earlier.now }
+    requires { AreOwnedAnswers cx.old.rows earlier.now }
     ensures extends { Extends cx.old cx.new }
     ensures kind { GivesRecord cx.new
         (told_all cx.old.rows earlier.now)
@@ -282,11 +282,11 @@ fn host_effect(
     args: &[ArgCall],
     constness: BoundConstness,
 ) -> Result<ClauseKind, Refusal>
-    requires { AreOwned cx.old.rows earlier.now }
+    requires { AreOwnedAnswers cx.old.rows earlier.now }
     ensures extends { Extends cx.old cx.new }
     ensures kind { GivesRecord cx.new
         (told_all cx.old.rows earlier.now)
-        (labelled
+        (labelled_parts
         (host_effect_record (number_at (told_all cx.old.rows earlier.now) position) constness)
         (args_part args.now ∷ []))
         clause_form
@@ -294,7 +294,7 @@ fn host_effect(
     ensures room { IfErr result
         (RecordNeedsRoom cx.new.rows
         (told_all cx.old.rows earlier.now)
-        (labelled
+        (labelled_parts
         (host_effect_record (number_at (told_all cx.old.rows earlier.now) position) constness)
         (args_part args.now ∷ []))) }
 {
@@ -311,11 +311,11 @@ fn host_effect(
 fn unstable_feature(cx: &mut Interner, name: &str) -> Result<ClauseKind, Refusal>
     ensures extends { Extends cx.old cx.new }
     ensures kind { (e : List Told) → GivesRecord cx.new e
-        (labelled (unstable_feature_record name.now) [])
+        (labelled_parts (unstable_feature_record name.now) [])
         clause_form
         result }
     ensures room { (e : List Told) → IfErr result
-        (RecordNeedsRoom cx.new.rows e (labelled (unstable_feature_record name.now) [])) }
+        (RecordNeedsRoom cx.new.rows e (labelled_parts (unstable_feature_record name.now) [])) }
 {
     let symbol = cx.symbol(name)?;
     Ok(ClauseKind::UnstableFeature(symbol))
@@ -329,11 +329,11 @@ fn projection(
     args: &[ArgCall],
     term: TermCall,
 ) -> Result<ClauseKind, Refusal>
-    requires { AreOwned cx.old.rows earlier.now }
+    requires { AreOwnedAnswers cx.old.rows earlier.now }
     ensures extends { Extends cx.old cx.new }
     ensures kind { GivesRecord cx.new
         (told_all cx.old.rows earlier.now)
-        (labelled
+        (labelled_parts
         (projection_record (number_at (told_all cx.old.rows earlier.now) position))
         (args_part args.now ∷ term_part term ∷ []))
         clause_form
@@ -341,7 +341,7 @@ fn projection(
     ensures room { IfErr result
         (RecordNeedsRoom cx.new.rows
         (told_all cx.old.rows earlier.now)
-        (labelled
+        (labelled_parts
         (projection_record (number_at (told_all cx.old.rows earlier.now) position))
         (args_part args.now ∷ term_part term ∷ []))) }
 {
@@ -366,13 +366,13 @@ fn region_outlives(
     ensures extends { Extends cx.old cx.new }
     ensures kind { (rows : List Row) → GivesRecord cx.new
         (told_all rows earlier.now)
-        (labelled region_outlives_record (one (a_region longer.now) ∷ one (a_region shorter.now) ∷ []))
+        (labelled_parts region_outlives_record (one (a_region longer.now) ∷ one (a_region shorter.now) ∷ []))
         clause_form
         result }
     ensures room { (rows : List Row) → IfErr result
         (RecordNeedsRoom cx.new.rows
         (told_all rows earlier.now)
-        (labelled region_outlives_record (one (a_region longer.now) ∷ one (a_region shorter.now) ∷ []))) }
+        (labelled_parts region_outlives_record (one (a_region longer.now) ∷ one (a_region shorter.now) ∷ []))) }
 {
     let longer = build_region(cx, earlier, longer)?;
     let shorter = build_region(cx, earlier, shorter)?;
@@ -386,17 +386,17 @@ fn type_outlives(
     ty: u32,
     region: &RegionCall,
 ) -> Result<ClauseKind, Refusal>
-    requires { AreOwned cx.old.rows earlier.now }
+    requires { AreOwnedAnswers cx.old.rows earlier.now }
     ensures extends { Extends cx.old cx.new }
     ensures kind { GivesRecord cx.new
         (told_all cx.old.rows earlier.now)
-        (labelled type_outlives_record (one (a_term Table.Types ty) ∷ one (a_region region.now) ∷ []))
+        (labelled_parts type_outlives_record (one (a_term Table.Types ty) ∷ one (a_region region.now) ∷ []))
         clause_form
         result }
     ensures room { IfErr result
         (RecordNeedsRoom cx.new.rows
         (told_all cx.old.rows earlier.now)
-        (labelled type_outlives_record (one (a_term Table.Types ty) ∷ one (a_region region.now) ∷ []))) }
+        (labelled_parts type_outlives_record (one (a_term Table.Types ty) ∷ one (a_region region.now) ∷ []))) }
 {
     let ty = handle_at::<Ty>(earlier, ty)?;
     let region = build_region(cx, earlier, region)?;
@@ -406,7 +406,7 @@ fn type_outlives(
 // Returns the type or the constant that a call names.
 fn term_at(earlier: &[Answer], call: TermCall) -> Result<Term, Refusal>
     ensures cause { IfErr result (λ e. e ≡ NoSuchAnswer) }
-    ensures part { (terms : Terms) → AreOwned terms.rows earlier.now
+    ensures part { (terms : Terms) → AreOwnedAnswers terms.rows earlier.now
         → GivesPart terms (told_all terms.rows earlier.now) (term_part call) term_shape result }
 {
     match call {
@@ -418,7 +418,7 @@ fn term_at(earlier: &[Answer], call: TermCall) -> Result<Term, Refusal>
 // Returns the types or the constants that a call names.
 fn term_pair(earlier: &[Answer], a: TermCall, b: TermCall) -> Result<(Term, Term), Refusal>
     ensures cause { IfErr result (λ e. e ≡ NoSuchAnswer) }
-    ensures parts { (terms : Terms) → AreOwned terms.rows earlier.now
+    ensures parts { (terms : Terms) → AreOwnedAnswers terms.rows earlier.now
         → GivesParts terms
         (told_all terms.rows earlier.now)
         (term_part a ∷ term_part b ∷ [])
@@ -437,7 +437,7 @@ pub fn args_and_term(
     args: &[ArgCall],
     term: TermCall,
 ) -> Result<(GenericArgs, Term), Refusal>
-    requires { AreOwned cx.old.rows earlier.now }
+    requires { AreOwnedAnswers cx.old.rows earlier.now }
     ensures extends { Extends cx.old cx.new }
     ensures parts { GivesParts cx.new
         (told_all cx.old.rows earlier.now)

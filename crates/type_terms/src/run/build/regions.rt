@@ -33,7 +33,7 @@ ghost use Rattle.type_terms.specs.Build.{
   GivesRegion,
   PutsVariables,
 };
-ghost use Rattle.type_terms.specs.Room.{IsForRoom, LacksText, VarsNeedRoom};
+ghost use Rattle.type_terms.specs.Room.{IsRefusalForRoom, LacksText, VarsNeedRoom};
 
 use crate::run::answer::Answer;
 use crate::run::answers::ids::{def_at, number_at};
@@ -161,7 +161,7 @@ pub fn build_region(
         (region_tree (number_at (told_all rows earlier.now)) call.now)
         (IsRegionTooDeep call.now)
         result }
-    ensures room { IfErr result (λ e. IsForRoom e → LacksText cx.new.rows (region_text call.now)) }
+    ensures room { IfErr result (λ e. IsRefusalForRoom e → LacksText cx.new.rows (region_text call.now)) }
 {
     match call {
         RegionCall::ReEarlyParam { index, name } => build_early_param(cx, *index, name.as_str()),
@@ -241,7 +241,7 @@ fn build_bound(
         (tree.bound region_sort (depth index) (region_entry (number_at (told_all rows earlier.now)) var name.now))
         (IsGreatest (depth index))
         result }
-    ensures room { IfErr result (λ e. IsForRoom e → LacksText cx.new.rows (name_text name.now)) }
+    ensures room { IfErr result (λ e. IsRefusalForRoom e → LacksText cx.new.rows (name_text name.now)) }
 {
     let kind = build_name(cx, earlier, name)?;
     Region::new(RegionKind::ReBound(index, BoundRegion { var, kind }))

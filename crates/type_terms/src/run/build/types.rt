@@ -41,13 +41,13 @@ ghost use Rattle.type_terms.specs.CallForm.{
   ty_called,
   variable_kind,
 };
-ghost use Rattle.type_terms.specs.Told.{Told, told_all, AreOwned};
+ghost use Rattle.type_terms.specs.Told.{Told, told_all, AreOwnedAnswers};
 ghost use Rattle.type_terms.specs.Means.{number_at, AreTerms};
 ghost use Rattle.type_terms.specs.Build.{
   GivesKind,
   Answers,
 };
-ghost use Rattle.type_terms.specs.Room.{IsForRoom, LacksText, FormNeedsRoom};
+ghost use Rattle.type_terms.specs.Room.{IsRefusalForRoom, LacksText, FormNeedsRoom};
 
 use crate::run::answer::Answer;
 use crate::run::answers::ids::{def_at, number_at};
@@ -70,7 +70,7 @@ use tt_kinds::{
 
 /// Returns the type that the call names, over the earlier answers. The ids that it names have to be there.
 pub fn build_ty(cx: &mut Interner, earlier: &[Answer], call: &TyCall) -> Result<Answer, Refusal>
-    requires { AreOwned cx.old.rows earlier.now }
+    requires { AreOwnedAnswers cx.old.rows earlier.now }
     ensures extends { Extends cx.old cx.new }
     ensures answers { AreTerms (told_all cx.old.rows earlier.now) (ty_ids call.now)
         → Answers cx.old cx.new (told_all cx.old.rows earlier.now) (BuildsTy call.now) result }
@@ -91,7 +91,7 @@ pub fn build_ty(cx: &mut Interner, earlier: &[Answer], call: &TyCall) -> Result<
 
 // Returns the kind of the type.
 fn ty_kind(cx: &mut Interner, earlier: &[Answer], call: &TyCall) -> Result<TyKind, Refusal>
-    requires { AreOwned cx.old.rows earlier.now }
+    requires { AreOwnedAnswers cx.old.rows earlier.now }
     ensures extends { Extends cx.old cx.new }
     ensures kind { GivesKind cx.new
         (told_all cx.old.rows earlier.now)
@@ -203,7 +203,7 @@ fn ref_kind(
     position: u32,
     mutability: Mutability,
 ) -> Result<TyKind, Refusal>
-    requires { AreOwned cx.old.rows earlier.now }
+    requires { AreOwnedAnswers cx.old.rows earlier.now }
     ensures extends { Extends cx.old cx.new }
     ensures kind { GivesKind cx.new
         (told_all cx.old.rows earlier.now)
@@ -212,7 +212,7 @@ fn ref_kind(
         (one (a_region region.now) ∷ one (a_term Table.Types position) ∷ []))
         ty_kind_shape
         result }
-    ensures room { IfErr result (λ e. IsForRoom e → LacksText cx.new.rows (region_text region.now)) }
+    ensures room { IfErr result (λ e. IsRefusalForRoom e → LacksText cx.new.rows (region_text region.now)) }
 {
     let ty = handle_at(earlier, position)?;
     let region = build_region(cx, earlier, region)?;
@@ -222,7 +222,7 @@ fn ref_kind(
 // Returns the kind of an array.
 fn array_kind(earlier: &[Answer], ty: u32, length: u32) -> Result<TyKind, Refusal>
     ensures cause { IfErr result (λ e. e ≡ NoSuchAnswer) }
-    ensures kind { (terms : Terms) → AreOwned terms.rows earlier.now
+    ensures kind { (terms : Terms) → AreOwnedAnswers terms.rows earlier.now
         → GivesKind terms
         (told_all terms.rows earlier.now)
         (plain (type_label array_type) (one (a_term Table.Types ty) ∷ one (a_term Table.Consts length) ∷ []))
@@ -236,7 +236,7 @@ fn array_kind(earlier: &[Answer], ty: u32, length: u32) -> Result<TyKind, Refusa
 // Returns the kind of a type that a pattern restricts.
 fn pat_kind(earlier: &[Answer], ty: u32, pat: u32) -> Result<TyKind, Refusal>
     ensures cause { IfErr result (λ e. e ≡ NoSuchAnswer) }
-    ensures kind { (terms : Terms) → AreOwned terms.rows earlier.now
+    ensures kind { (terms : Terms) → AreOwnedAnswers terms.rows earlier.now
         → GivesKind terms
         (told_all terms.rows earlier.now)
         (plain (type_label pat_type) (one (a_term Table.Types ty) ∷ one (a_term Table.Patterns pat) ∷ []))
@@ -254,7 +254,7 @@ fn unsafe_binder_kind(
     vars: &[VariableCall],
     ty: u32,
 ) -> Result<TyKind, Refusal>
-    requires { AreOwned cx.old.rows earlier.now }
+    requires { AreOwnedAnswers cx.old.rows earlier.now }
     ensures extends { Extends cx.old cx.new }
     ensures kind { GivesKind cx.new
         (told_all cx.old.rows earlier.now)
@@ -287,7 +287,7 @@ fn item_kind(
     item: ItemCall,
     args: &[ArgCall],
 ) -> Result<TyKind, Refusal>
-    requires { AreOwned cx.old.rows earlier.now }
+    requires { AreOwnedAnswers cx.old.rows earlier.now }
     ensures extends { Extends cx.old cx.new }
     ensures kind { GivesKind cx.new
         (told_all cx.old.rows earlier.now)
@@ -367,7 +367,7 @@ fn fn_ptr_kind(
     inputs_and_output: &[u32],
     header: FnHeader,
 ) -> Result<TyKind, Refusal>
-    requires { AreOwned cx.old.rows earlier.now }
+    requires { AreOwnedAnswers cx.old.rows earlier.now }
     ensures extends { Extends cx.old cx.new }
     ensures kind { GivesKind cx.new
         (told_all cx.old.rows earlier.now)

@@ -1,6 +1,7 @@
 use Rattle.tt_fold.specs.Shift.{shift_state}
-use Rattle.tt_fold.proofs.ShiftLaws.{region_hook, with_counters}
+use Rattle.tt_fold.proofs.ShiftLaws.{region_hook}
 use Rattle.tt_fold.proofs.shift.ShifterTypeFolder.fold_region.Goals as goal
+use Rattle.tt_fold.specs.TypesOnce.{with_counters}
 
 pub returns-clause-result : goal.returns-clause-result
 returns-clause-result c =

@@ -1,14 +1,14 @@
-use Rattle.type_terms.proofs.RunLaws.{AreOwned-grows, AreOwned-append, ran-more}
+use Rattle.type_terms.proofs.RunLaws.{AreOwnedAnswers-grows, AreOwnedAnswers-append, ran-more}
 use Rattle.type_terms.proofs.run.runner.answer_next.Goals as goal
 
 pub returns-in_err-push-clause-owned : goal.returns-in_err-push-clause-owned
 returns-in_err-push-clause-owned c =
-    rw c.in_err-push.ensures.items (AreOwned-grows _ _ c.answer_call-answer.ensures.extends.rows _ c.requires)
+    rw c.in_err-push.ensures.items (AreOwnedAnswers-grows _ _ c.answer_call-answer.ensures.extends.rows _ c.requires)
 
 pub returns-clause-owned : goal.returns-clause-owned
 returns-clause-owned c =
     rw c.in_ok-push.ensures.items
-    (AreOwned-append _ _ _ (AreOwned-grows _ _ c.answer_call-answer.ensures.extends.rows _ c.requires) c.answer_call-answer.ensures.owned)
+    (AreOwnedAnswers-append _ _ _ (AreOwnedAnswers-grows _ _ c.answer_call-answer.ensures.extends.rows _ c.requires) c.answer_call-answer.ensures.owned)
 
 pub returns-clause-allowed : goal.returns-clause-allowed
 returns-clause-allowed c = record {

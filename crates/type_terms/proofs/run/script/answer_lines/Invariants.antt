@@ -1,5 +1,5 @@
-use Rattle.type_terms.specs.Told.{AreOwned}
+use Rattle.type_terms.specs.Told.{AreOwnedAnswers}
 use Rattle.type_terms.proofs.run.script.answer_lines.Given as goal
 
 abbrev pub invariant-loop-line : goal.invariant-loop-line
-invariant-loop-line l = AreOwned l.cx.rows l.answers.items
+invariant-loop-line l = AreOwnedAnswers l.cx.rows l.answers.items

@@ -7,7 +7,7 @@ use Rattle.type_terms.specs.declared.run.call.Call.TheVariants as call
 use Rattle.type_terms.specs.CallForm.{items_positions, AreItemsTooDeep, arg_items, args_ids}
 use Rattle.type_terms.specs.Told.{told_all, HasFullTable, setting}
 use Rattle.type_terms.specs.Means.{any}
-use Rattle.type_terms.specs.Build.{AreArgumentsOf, IsUnbuilt}
+use Rattle.type_terms.specs.Build.{AreArgumentsOf, IsUnbuiltPart}
 use Rattle.type_terms.proofs.PartLaws.{AreTerms-second}
 use Rattle.type_terms.proofs.BuildLaws.{answer-passed, unbuilt-refused, Answers-earlier}
 use Rattle.type_terms.proofs.LookupLaws.{told-later, in_range-at, ty-handle, const-handle, pat-handle, predicate-handle}
@@ -23,7 +23,7 @@ returns-in_err-answer-clause-answers c = λ list same ids.
 
 pub returns-in_err-args-clause-answers : goal.returns-in_err-args-clause-answers
 returns-in_err-args-clause-answers c = λ list same ids.
-    let u = subst (λ (cs : List ArgCall). IsUnbuilt (HasFullTable c.build_args.new.cx) (told_all c.args.cx.now.rows c.args.earlier.now) (items_positions (arg_items cs)) (AreItemsTooDeep (arg_items cs)) c.in_err-args.field-0.0)
+    let u = subst (λ (cs : List ArgCall). IsUnbuiltPart (HasFullTable c.build_args.new.cx) (told_all c.args.cx.now.rows c.args.earlier.now) (items_positions (arg_items cs)) (AreItemsTooDeep (arg_items cs)) c.in_err-args.field-0.0)
     (sym same) c.in_err-args.ensures.args.err in
     answer-passed c.args.cx.now c.build_args.new.cx (told_all c.args.cx.now.rows c.args.earlier.now) (call.Instantiate c.args.position list) c.from_residual-in_err-args.result c.in_err-args.field-0.0 c.from_residual-in_err-args.ensures.1
     (unbuilt-refused (setting c.args.cx.now c.build_args.new.cx) (told_all c.args.cx.now.rows c.args.earlier.now) (call.Instantiate c.args.position list) (items_positions (arg_items list.items)) (AreItemsTooDeep (arg_items list.items))

@@ -2,10 +2,10 @@ use Rattle.std.proofs.Common.{take}
 use Rattle.tt_kinds.specs.Shape.{stored, item_shapes}
 use Rattle.tt_interner.specs.Stored.{Terms}
 use Rattle.type_terms.specs.CallForm.{terms_at}
-use Rattle.type_terms.specs.Told.{told_all, AreOwned}
+use Rattle.type_terms.specs.Told.{told_all, AreOwnedAnswers}
 use Rattle.type_terms.specs.Build.{AreItemsOf}
 use Rattle.type_terms.proofs.run.answers.lookup.handles_at.Given as goal
 
 abbrev pub invariant-loop-position : goal.invariant-loop-position
-invariant-loop-position g l = (terms : Terms) → AreOwned terms.rows l.earlier
+invariant-loop-position g l = (terms : Terms) → AreOwnedAnswers terms.rows l.earlier
     → AreItemsOf terms (told_all terms.rows l.earlier) (terms_at g.T.TermHandle.table (take l.position-index l.positions)) (item_shapes (λ handle. stored g.T.TermHandle.table (g.T.TermHandle.number handle)) l.handles.items)

@@ -8,7 +8,7 @@ use Rattle.type_terms.specs.declared.run.call.Call.TheVariants as call
 use Rattle.type_terms.specs.CallForm.{clause_items, clauses_tree, items_positions, AreItemsTooDeep}
 use Rattle.type_terms.specs.Told.{told_all, HasFullTable, setting}
 use Rattle.type_terms.specs.Means.{number_at, tree_at}
-use Rattle.type_terms.specs.Build.{IsPlaced, IsUnbuilt}
+use Rattle.type_terms.specs.Build.{IsPlaced, IsUnbuiltPart}
 use Rattle.type_terms.specs.Room.{ClausesNeedRoom}
 use Rattle.type_terms.proofs.BuildLaws.{unbuilt-refused, known-refused}
 use Rattle.type_terms.proofs.ClauseLaws.{clauses-shallow}
@@ -30,7 +30,7 @@ returns-in-Err-clause-answers c = λ list same.
     let e = told_all c.args.cx.now.rows c.args.earlier.now in
     let terms = c.clause_list.new.cx in
     let r = c.in-Err.refusal in
-    let why = subst (λ (ps : List ℕ). IsUnbuilt (HasFullTable terms) e (items_positions (clause_items ps)) (AreItemsTooDeep (clause_items ps)) r) (sym same) c.in-Err.ensures.list.err in
+    let why = subst (λ (ps : List ℕ). IsUnbuiltPart (HasFullTable terms) e (items_positions (clause_items ps)) (AreItemsTooDeep (clause_items ps)) r) (sym same) c.in-Err.ensures.list.err in
     let needs = subst (λ (ps : List ℕ). ClausesNeedRoom terms.rows e ps r) (sym same) c.in-Err.ensures.room in
     record {
       owned = tt;

@@ -8,7 +8,7 @@ use Rattle.type_terms.specs.declared.run.call.Call.TheVariants as call
 use Rattle.type_terms.specs.CallForm.{args_ids, args_part, part_positions, part_tree, IsPartTooDeep, IsShort}
 use Rattle.type_terms.specs.Told.{told_all, HasFullTable, setting}
 use Rattle.type_terms.specs.Means.{number_at, tree_at}
-use Rattle.type_terms.specs.Build.{IsPartOf, IsUnbuilt}
+use Rattle.type_terms.specs.Build.{IsPartOfCall, IsUnbuiltPart}
 use Rattle.type_terms.specs.Room.{PartNeedsRoom}
 use Rattle.type_terms.proofs.PartLaws.{AreTerms-append, AreTerms-second}
 use Rattle.type_terms.proofs.BuildLaws.{unbuilt-refused, known-refused}
@@ -18,7 +18,7 @@ pub returns-in-Ok-clause-answers : goal.returns-in-Ok-clause-answers
 unfolding fill
 returns-in-Ok-clause-answers c = λ list same ids.
     let e = told_all c.args.cx.now.rows c.args.earlier.now in
-    let k = subst (λ (cs : List ArgCall). IsPartOf c.build_arg_list.new.cx e (args_part cs) (args_shape c.in-Ok.args)) (sym same) c.in-Ok.ensures.list.ok in
+    let k = subst (λ (cs : List ArgCall). IsPartOfCall c.build_arg_list.new.cx e (args_part cs) (args_shape c.in-Ok.args)) (sym same) c.in-Ok.ensures.list.ok in
     record {
       owned = k.part;
       ok = (AreTerms-append e (args_ids list.items) (part_positions (args_part list.items)) ids k.named, k.shallow, refl, k.means, λ r x. x);
@@ -30,7 +30,7 @@ returns-in-Err-clause-answers c = λ list same ids.
     let e = told_all c.args.cx.now.rows c.args.earlier.now in
     let terms = c.build_arg_list.new.cx in
     let r = c.in-Err.refusal in
-    let why = subst (λ (cs : List ArgCall). IsUnbuilt (HasFullTable terms) e (part_positions (args_part cs)) (IsPartTooDeep (args_part cs)) r) (sym same) c.in-Err.ensures.list.err in
+    let why = subst (λ (cs : List ArgCall). IsUnbuiltPart (HasFullTable terms) e (part_positions (args_part cs)) (IsPartTooDeep (args_part cs)) r) (sym same) c.in-Err.ensures.list.err in
     let needs = subst (λ (cs : List ArgCall). PartNeedsRoom terms.rows e (args_part cs) r) (sym same) c.in-Err.ensures.room in
     record {
       owned = tt;

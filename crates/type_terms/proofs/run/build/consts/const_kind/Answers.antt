@@ -1,13 +1,13 @@
 use Rattle.std.proofs.Common.{[], ◌∷◌, refl}
 use Rattle.tt_kinds.specs.Bound as kinds
-use Rattle.tt_kinds.specs.Bound.{depth}
+use Rattle.tt_kinds.specs.Bound.{depth, const_entry}
 use Rattle.tt_kinds.specs.Label.{const_sort, const_label, infer_const, placeholder_const, unevaluated_const}
 use Rattle.tt_kinds.specs.Label.{error_const, expr_const}
 use Rattle.tt_kinds.specs.Shape as shape
 use Rattle.tt_kinds.specs.Kinds.{const_kind_shape, args_shape}
 use Rattle.tt_kinds.specs.declared.const_kind.ConstKind.TheVariants as const
 use Rattle.std.specs.String.{string_bytes}
-use Rattle.type_terms.specs.CallForm.{plain, args_part, const_entry}
+use Rattle.type_terms.specs.CallForm.{plain, args_part}
 use Rattle.type_terms.specs.Told.{told_all, HasFullTable}
 use Rattle.type_terms.specs.Means.{number_at}
 use Rattle.type_terms.proofs.PartLaws.{kind-passed, plain-kind, parts-one, unbuilt-first}

@@ -13,7 +13,7 @@ use Rattle.type_terms.specs.CallForm.{IsExistentialTooDeep, all_trees, all_posit
 use Rattle.type_terms.specs.Told.{told_all, HasFullTable}
 use Rattle.type_terms.specs.Means.{number_at, tree_at}
 use Rattle.type_terms.specs.Build.{ArePlaced}
-use Rattle.type_terms.proofs.RunLaws.{told_all-grows, AreOwned-grows}
+use Rattle.type_terms.proofs.RunLaws.{told_all-grows, AreOwnedAnswers-grows}
 use Rattle.type_terms.proofs.PartLaws.{placed-passed, all_placed-grow, all-none, all-more, unbuilt-one, get-mapped}
 use Rattle.type_terms.proofs.BuildLaws.{list-placed}
 use Rattle.type_terms.proofs.ResultLaws.{passed}
@@ -25,7 +25,7 @@ loop-call-init c =
     (Extends-refl c.args.cx.now, rw (c.in_ok-built.ensures.items) (all-none existential_tree existential_positions IsExistentialTooDeep existential_shape c.args.cx.now (told_all c.args.cx.now.rows c.args.earlier.now)))
 
 pub build_existential-requires : goal.build_existential-requires
-build_existential-requires c = AreOwned-grows c.args.cx.now.rows c.loop-call.cx.rows c.loop-call.invariant.0.rows c.args.earlier.now c.requires
+build_existential-requires c = AreOwnedAnswers-grows c.args.cx.now.rows c.loop-call.cx.rows c.loop-call.invariant.0.rows c.args.earlier.now c.requires
 
 pub returns-in_err-existential-clause-extends : goal.returns-in_err-existential-clause-extends
 returns-in_err-existential-clause-extends c = Extends-trans c.loop-call.invariant.0 c.build_existential.ensures.extends

@@ -5,7 +5,7 @@ use Rattle.type_terms.specs.CallForm.{existential_form, existential_positions, I
 use Rattle.type_terms.specs.CallForm.{AnyIsDeep, trait_object, form_positions, IsFormTooDeep, IsRegionTooDeep}
 use Rattle.type_terms.specs.Told.{told_all, HasFullTable}
 use Rattle.type_terms.specs.Means.{number_at}
-use Rattle.type_terms.proofs.PartLaws.{kind-passed, dynamic-kind, placed-grows, IsUnbuilt-weaker}
+use Rattle.type_terms.proofs.PartLaws.{kind-passed, dynamic-kind, placed-grows, IsUnbuiltPart-weaker}
 use Rattle.type_terms.proofs.ResultLaws.{passed}
 use Rattle.type_terms.proofs.RoomLaws.{object-room, object-region-room}
 use Rattle.type_terms.proofs.run.build.existentials.dynamic_kind.Goals as goal
@@ -16,7 +16,7 @@ returns-in_err-existentials-clause-kind c =
     let forms = map (existential_form (number_at e)) c.args.existentials.now in
     let form = trait_object forms c.args.region.now in
     kind-passed c.build_existentials.new.cx e form ty_kind_shape c.from_residual.result c.in_err-existentials.field-0.0 c.from_residual.ensures.1
-    (IsUnbuilt-weaker (HasFullTable c.build_existentials.new.cx) e e (all_positions existential_positions forms) (form_positions form) (AnyIsDeep IsExistentialTooDeep forms) (IsFormTooDeep form) c.in_err-existentials.field-0.0
+    (IsUnbuiltPart-weaker (HasFullTable c.build_existentials.new.cx) e e (all_positions existential_positions forms) (form_positions form) (AnyIsDeep IsExistentialTooDeep forms) (IsFormTooDeep form) c.in_err-existentials.field-0.0
     (λ n. n) inl c.in_err-existentials.ensures.list.err)
 
 pub returns-in_err-region-clause-extends : goal.returns-in_err-region-clause-extends
@@ -27,7 +27,7 @@ returns-in_err-region-clause-kind c =
     let e = told_all c.args.cx.now.rows c.args.earlier.now in
     let form = trait_object (map (existential_form (number_at (told_all c.args.cx.now.rows c.args.earlier.now))) c.args.existentials.now) c.args.region.now in
     kind-passed c.build_region.new.cx e form ty_kind_shape c.from_residual-in_err-region.result c.in_err-region.field-0.0 c.from_residual-in_err-region.ensures.1
-    (IsUnbuilt-weaker (HasFullTable c.build_region.new.cx) _ e _ (form_positions form) (IsRegionTooDeep c.args.region.now) (IsFormTooDeep form) c.in_err-region.field-0.0 (λ n. tt) inr (c.in_err-region.ensures.region c.args.cx.now.rows).err)
+    (IsUnbuiltPart-weaker (HasFullTable c.build_region.new.cx) _ e _ (form_positions form) (IsRegionTooDeep c.args.region.now) (IsFormTooDeep form) c.in_err-region.field-0.0 (λ n. tt) inr (c.in_err-region.ensures.region c.args.cx.now.rows).err)
 
 pub returns-clause-extends : goal.returns-clause-extends
 returns-clause-extends c = Extends-trans c.build_existentials.ensures.extends c.build_region.ensures.extends

@@ -11,7 +11,7 @@ use Rattle.type_terms.specs.CallForm.{all_trees, all_positions, AnyIsDeep}
 use Rattle.type_terms.specs.Told.{told_all, HasFullTable}
 use Rattle.type_terms.specs.Means.{number_at, tree_at}
 use Rattle.type_terms.specs.Build.{ArePlaced}
-use Rattle.type_terms.proofs.RunLaws.{told_all-grows, AreOwned-grows}
+use Rattle.type_terms.proofs.RunLaws.{told_all-grows, AreOwnedAnswers-grows}
 use Rattle.type_terms.proofs.PartLaws.{all_placed-passed, all_placed-grow, all-none, all-more, unbuilt-one, get-mapped}
 use Rattle.type_terms.proofs.ResultLaws.{passed}
 use Rattle.type_terms.proofs.RoomLaws.{existential-room}
@@ -21,7 +21,7 @@ pub loop-i-init : goal.loop-i-init
 loop-i-init c = (Extends-refl c.args.cx.now, all-none existential_tree existential_positions IsExistentialTooDeep existential_shape c.args.cx.now (told_all c.args.cx.now.rows c.args.earlier.now))
 
 pub build_existential-requires : goal.build_existential-requires
-build_existential-requires c = AreOwned-grows c.args.cx.now.rows c.loop-i.cx.rows c.loop-i.invariant.0.rows c.args.earlier.now c.requires.owned
+build_existential-requires c = AreOwnedAnswers-grows c.args.cx.now.rows c.loop-i.cx.rows c.loop-i.invariant.0.rows c.args.earlier.now c.requires.owned
 
 pub returns-in_err-places-clause-extends : goal.returns-in_err-places-clause-extends
 returns-in_err-places-clause-extends c = Extends-trans c.loop-i.invariant.0 c.build_existential.ensures.extends

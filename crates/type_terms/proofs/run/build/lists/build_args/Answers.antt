@@ -5,7 +5,7 @@ use Rattle.tt_kinds.specs.Kinds.{arg_shape}
 use Rattle.tt_interner.proofs.Growth.{Extends-refl, Extends-trans}
 use Rattle.type_terms.specs.Told.{told_all, HasFullTable}
 use Rattle.type_terms.specs.CallForm.{arg_item}
-use Rattle.type_terms.proofs.RunLaws.{told_all-grows, AreOwned-grows}
+use Rattle.type_terms.proofs.RunLaws.{told_all-grows, AreOwnedAnswers-grows}
 use Rattle.type_terms.proofs.PartLaws.{unbuilt-among}
 use Rattle.type_terms.proofs.FoldLaws.{arguments-passed, arguments-nothing, arguments-more}
 use Rattle.type_terms.proofs.run.build.lists.build_args.Goals as goal
@@ -14,7 +14,7 @@ pub loop-arg-init : goal.loop-arg-init
 loop-arg-init c = (Extends-refl c.args.cx.now, rw (c.in_ok-built.ensures.items) (arguments-nothing c.args.cx.now (told_all c.args.cx.now.rows c.args.earlier.now)))
 
 pub build_arg-requires : goal.build_arg-requires
-build_arg-requires c = AreOwned-grows c.args.cx.now.rows c.loop-arg.cx.rows c.loop-arg.invariant.0.rows c.args.earlier.now c.requires
+build_arg-requires c = AreOwnedAnswers-grows c.args.cx.now.rows c.loop-arg.cx.rows c.loop-arg.invariant.0.rows c.args.earlier.now c.requires
 
 pub returns-in_err-arg-clause-extends : goal.returns-in_err-arg-clause-extends
 returns-in_err-arg-clause-extends c = Extends-trans c.loop-arg.invariant.0 c.build_arg.ensures.extends

@@ -6,7 +6,7 @@ use Rattle.tt_kinds.specs.declared.table.Table.TheVariants.{ArgLists}
 use Rattle.tt_interner.proofs.Growth.{Extends-refl, Extends-trans}
 use Rattle.type_terms.specs.CallForm.{arg_item, arg_items}
 use Rattle.type_terms.specs.Told.{told_all, HasFullTable}
-use Rattle.type_terms.proofs.RunLaws.{told_all-grows, AreOwned-grows}
+use Rattle.type_terms.proofs.RunLaws.{told_all-grows, AreOwnedAnswers-grows}
 use Rattle.type_terms.proofs.PartLaws.{items-none, items-more, all_placed-grow, puts-passed, unbuilt-among}
 use Rattle.type_terms.proofs.ResultLaws.{passed}
 use Rattle.type_terms.proofs.RoomLaws.{item-room}
@@ -16,7 +16,7 @@ pub loop-i-init : goal.loop-i-init
 loop-i-init c = (Extends-refl c.args.cx.now, items-none arg_item arg_shape c.args.cx.now (told_all c.args.cx.now.rows c.args.earlier.now))
 
 pub build_arg-requires : goal.build_arg-requires
-build_arg-requires c = AreOwned-grows c.args.cx.now.rows c.loop-i.cx.rows c.loop-i.invariant.0.rows c.args.earlier.now c.requires.owned
+build_arg-requires c = AreOwnedAnswers-grows c.args.cx.now.rows c.loop-i.cx.rows c.loop-i.invariant.0.rows c.args.earlier.now c.requires.owned
 
 pub returns-in_err-places-clause-extends : goal.returns-in_err-places-clause-extends
 returns-in_err-places-clause-extends c = Extends-trans c.loop-i.invariant.0 c.build_arg.ensures.extends

@@ -2,7 +2,7 @@ use Rattle.std.proofs.Common.{ℕ, [], ◌∷◌, ap}
 use Rattle.tt_kinds.specs.Label.{host_effect_record}
 use Rattle.tt_kinds.specs.Shape as shape
 use Rattle.tt_kinds.specs.Kinds.{clause_form, args_shape}
-use Rattle.type_terms.specs.CallForm.{labelled, args_part}
+use Rattle.type_terms.specs.CallForm.{labelled_parts, args_part}
 use Rattle.type_terms.specs.Told.{told_all, HasFullTable}
 use Rattle.type_terms.specs.Means.{number_at}
 use Rattle.type_terms.proofs.PartLaws.{record-passed, record-placed, parts-one, unbuilt-first}
@@ -14,7 +14,7 @@ pub returns-in_err-args-clause-kind : goal.returns-in_err-args-clause-kind
 returns-in_err-args-clause-kind c =
     let e = told_all c.args.cx.now.rows c.args.earlier.now in
     let part = args_part c.args.args.now in
-    record-passed c.build_arg_list.new.cx e (labelled (host_effect_record (number_at e c.args.position) c.args.constness) (part ∷ [])) clause_form c.from_residual.result c.in_err-args.field-0.0 c.from_residual.ensures.1
+    record-passed c.build_arg_list.new.cx e (labelled_parts (host_effect_record (number_at e c.args.position) c.args.constness) (part ∷ [])) clause_form c.from_residual.result c.in_err-args.field-0.0 c.from_residual.ensures.1
     (unbuilt-first (HasFullTable c.build_arg_list.new.cx) e part [] c.in_err-args.field-0.0 c.in_err-args.ensures.list.err)
 
 pub returns-clause-kind : goal.returns-clause-kind
@@ -22,7 +22,7 @@ returns-clause-kind c =
     let e = told_all c.args.cx.now.rows c.args.earlier.now in
     let part = args_part c.args.args.now in
     record {
-      ok = record-placed c.build_arg_list.new.cx e (labelled (host_effect_record (number_at e c.args.position) c.args.constness) (part ∷ [])) (host_effect_record c.trait_at-def_id.result.number c.args.constness) (shape.also (args_shape c.in_ok-args.args) shape.none)
+      ok = record-placed c.build_arg_list.new.cx e (labelled_parts (host_effect_record (number_at e c.args.position) c.args.constness) (part ∷ [])) (host_effect_record c.trait_at-def_id.result.number c.args.constness) (shape.also (args_shape c.in_ok-args.args) shape.none)
           (parts-one c.build_arg_list.new.cx e part (args_shape c.in_ok-args.args) c.in_ok-args.ensures.list.ok) tt
           (ap (λ (n : ℕ). host_effect_record n c.args.constness) (c.trait_at-def_id.ensures c.args.cx.now.rows));
       err = tt;

@@ -3,7 +3,7 @@ use Rattle.tt_kinds.specs.Label.{region_outlives_record}
 use Rattle.tt_kinds.specs.Shape as shape
 use Rattle.tt_kinds.specs.Kinds.{clause_form, region_shape}
 use Rattle.tt_interner.proofs.Growth.{Extends-trans}
-use Rattle.type_terms.specs.CallForm.{labelled, one, a_region}
+use Rattle.type_terms.specs.CallForm.{labelled_parts, one, a_region}
 use Rattle.type_terms.specs.Told.{told_all, HasFullTable}
 use Rattle.type_terms.proofs.PartLaws.{record-passed, record-placed, parts-two, placed-grows, region-part}
 use Rattle.type_terms.proofs.PartLaws.{region-unbuilt, unbuilt-first, unbuilt-second}
@@ -16,7 +16,7 @@ returns-in_err-longer-clause-kind c = λ rows.
     let e = told_all rows c.args.earlier.now in
     let p = one (a_region c.args.longer.now) in
     let q = one (a_region c.args.shorter.now) in
-    record-passed c.build_region.new.cx e (labelled region_outlives_record (p ∷ q ∷ [])) clause_form c.from_residual.result c.in_err-longer.field-0.0 c.from_residual.ensures.1
+    record-passed c.build_region.new.cx e (labelled_parts region_outlives_record (p ∷ q ∷ [])) clause_form c.from_residual.result c.in_err-longer.field-0.0 c.from_residual.ensures.1
     (unbuilt-first (HasFullTable c.build_region.new.cx) e p (q ∷ []) c.in_err-longer.field-0.0
     (region-unbuilt (HasFullTable c.build_region.new.cx) e c.args.longer.now c.in_err-longer.field-0.0 (c.in_err-longer.ensures.region rows).err))
 
@@ -29,7 +29,7 @@ returns-in_err-shorter-clause-kind c = λ rows.
     let p = one (a_region c.args.longer.now) in
     let q = one (a_region c.args.shorter.now) in
     let terms = c.build_region-2.new.cx in
-    record-passed terms e (labelled region_outlives_record (p ∷ q ∷ [])) clause_form c.from_residual-in_err-shorter.result c.in_err-shorter.field-0.0 c.from_residual-in_err-shorter.ensures.1
+    record-passed terms e (labelled_parts region_outlives_record (p ∷ q ∷ [])) clause_form c.from_residual-in_err-shorter.result c.in_err-shorter.field-0.0 c.from_residual-in_err-shorter.ensures.1
     (unbuilt-second (HasFullTable terms) e p q [] c.in_err-shorter.field-0.0
     (region-unbuilt (HasFullTable terms) e c.args.shorter.now c.in_err-shorter.field-0.0 (c.in_err-shorter.ensures.region rows).err))
 
@@ -43,7 +43,7 @@ returns-clause-kind c = λ rows.
     let q = one (a_region c.args.shorter.now) in
     let terms = c.build_region-2.new.cx in
     record {
-      ok = record-placed terms e (labelled region_outlives_record (p ∷ q ∷ [])) region_outlives_record
+      ok = record-placed terms e (labelled_parts region_outlives_record (p ∷ q ∷ [])) region_outlives_record
           (shape.also (region_shape c.in_ok-longer.longer) (shape.also (region_shape c.in_ok-shorter.shorter) shape.none))
           (parts-two terms e p q (region_shape c.in_ok-longer.longer) (region_shape c.in_ok-shorter.shorter)
           (placed-grows c.build_region.new.cx terms c.build_region-2.ensures.extends (region-part c.build_region.new.cx e c.args.longer.now c.in_ok-longer.longer (c.in_ok-longer.ensures.region rows).ok))

@@ -3,7 +3,7 @@ use Rattle.tt_kinds.specs.Label.{type_outlives_record}
 use Rattle.tt_kinds.specs.Shape as shape
 use Rattle.tt_kinds.specs.Kinds.{clause_form, ty_shape, region_shape}
 use Rattle.tt_kinds.specs.declared.table.Table.TheVariants.{Types}
-use Rattle.type_terms.specs.CallForm.{labelled, one, a_term, a_region}
+use Rattle.type_terms.specs.CallForm.{labelled_parts, one, a_term, a_region}
 use Rattle.type_terms.specs.Told.{told_all, HasFullTable}
 use Rattle.type_terms.proofs.PartLaws.{record-passed, record-placed, parts-two, placed-grows, region-part}
 use Rattle.type_terms.proofs.PartLaws.{region-unbuilt, unbuilt-first, unbuilt-second}
@@ -16,7 +16,7 @@ returns-in_err-ty-clause-kind c =
     let e = told_all c.args.cx.now.rows c.args.earlier.now in
     let p = one (a_term Types c.args.ty) in
     let q = one (a_region c.args.region.now) in
-    record-passed c.args.cx.now e (labelled type_outlives_record (p ∷ q ∷ [])) clause_form c.from_residual.result c.in_err-ty.field-0.0 c.from_residual.ensures.1
+    record-passed c.args.cx.now e (labelled_parts type_outlives_record (p ∷ q ∷ [])) clause_form c.from_residual.result c.in_err-ty.field-0.0 c.from_residual.ensures.1
     (unbuilt-first (HasFullTable c.args.cx.now) e p (q ∷ []) c.in_err-ty.field-0.0 (c.in_err-ty.ensures.part c.args.cx.now c.requires).err)
 
 pub returns-in_err-region-clause-kind : goal.returns-in_err-region-clause-kind
@@ -25,7 +25,7 @@ returns-in_err-region-clause-kind c =
     let p = one (a_term Types c.args.ty) in
     let q = one (a_region c.args.region.now) in
     let terms = c.build_region.new.cx in
-    record-passed terms e (labelled type_outlives_record (p ∷ q ∷ [])) clause_form c.from_residual-in_err-region.result c.in_err-region.field-0.0 c.from_residual-in_err-region.ensures.1
+    record-passed terms e (labelled_parts type_outlives_record (p ∷ q ∷ [])) clause_form c.from_residual-in_err-region.result c.in_err-region.field-0.0 c.from_residual-in_err-region.ensures.1
     (unbuilt-second (HasFullTable terms) e p q [] c.in_err-region.field-0.0 (region-unbuilt (HasFullTable terms) e c.args.region.now c.in_err-region.field-0.0 (c.in_err-region.ensures.region c.args.cx.now.rows).err))
 
 pub returns-clause-kind : goal.returns-clause-kind
@@ -35,7 +35,7 @@ returns-clause-kind c =
     let q = one (a_region c.args.region.now) in
     let terms = c.build_region.new.cx in
     record {
-      ok = record-placed terms e (labelled type_outlives_record (p ∷ q ∷ [])) type_outlives_record
+      ok = record-placed terms e (labelled_parts type_outlives_record (p ∷ q ∷ [])) type_outlives_record
           (shape.also (ty_shape c.in_ok-ty.ty) (shape.also (region_shape c.in_ok-region.region) shape.none))
           (parts-two terms e p q (ty_shape c.in_ok-ty.ty) (region_shape c.in_ok-region.region)
           (placed-grows c.args.cx.now terms c.build_region.ensures.extends (c.in_ok-ty.ensures.part c.args.cx.now c.requires).ok)

@@ -4,7 +4,7 @@ use Rattle.tt_kinds.specs.Kinds.{ty_kind_shape, tys_shape}
 use Rattle.tt_kinds.specs.Shape as shape
 use Rattle.tt_kinds.specs.declared.table.Table.TheVariants.{Types, TypeLists}
 use Rattle.tt_interner.proofs.Growth.{Extends-trans}
-use Rattle.type_terms.specs.CallForm.{under, labelled, a_list, terms_at, variable_kind, form_positions, IsFormTooDeep}
+use Rattle.type_terms.specs.CallForm.{under, labelled_parts, a_list, terms_at, variable_kind, form_positions, IsFormTooDeep}
 use Rattle.type_terms.specs.Told.{told_all, HasFullTable}
 use Rattle.type_terms.specs.Means.{number_at}
 use Rattle.type_terms.proofs.PartLaws.{kind-passed, under-kind, parts-one, placed-grows, unbuilt-first, unbuilt-always}
@@ -55,7 +55,7 @@ returns-in_err-inputs_and_output-clause-room c =
     let part = a_list TypeLists (terms_at Types c.args.inputs_and_output.now) in
     let rows = c.build_tys.new.cx.rows in
     passed c.from_residual.result c.in_err-inputs_and_output.field-0.0 _ c.from_residual.ensures.1
-    (record-room rows e (type_label (fn_ptr_type c.args.header)) (map (variable_kind (number_at e)) c.args.vars.now) (labelled fn_sig_tys_record (part ∷ [])) c.in_err-inputs_and_output.field-0.0
+    (record-room rows e (type_label (fn_ptr_type c.args.header)) (map (variable_kind (number_at e)) c.args.vars.now) (labelled_parts fn_sig_tys_record (part ∷ [])) c.in_err-inputs_and_output.field-0.0
     (first-record-room rows e fn_sig_tys_record part [] c.in_err-inputs_and_output.field-0.0 c.in_err-inputs_and_output.ensures.room))
 
 pub returns-in_err-vars-clause-room : goal.returns-in_err-vars-clause-room
