@@ -396,9 +396,6 @@ pub(crate) fn store_items<T: StoredItem>(
     if children.len() <= MOST_IN_PLACE {
         return T::store_few(cx, children);
     }
-    let items: Vec<T> = match collect(cx.allocator(), children) {
-        Ok(items) => items,
-        Err(_) => return Err(Refusal::Memory),
-    };
+    let items: Vec<T> = collect(cx.allocator(), children)?;
     T::store(cx, items)
 }

@@ -41,22 +41,10 @@ pub(crate) fn empty_lists(alloc: Global, order: &mut Vec<Table>) -> Result<Empty
     ensures consts { IfOk result (λ lists. listed_by (λ k. k.items) lists.const_lists.entries ≡ ([], no_info) ∷ []) }
     ensures cause { IfErr result (λ e. e ≡ Refusal.Memory) }
 {
-    let type_lists = match first_list(alloc, order, Table::TypeLists) {
-        Ok(lists) => lists,
-        Err(e) => return Err(e),
-    };
-    let arg_lists = match first_list(alloc, order, Table::ArgLists) {
-        Ok(lists) => lists,
-        Err(e) => return Err(e),
-    };
-    let var_lists = match first_list(alloc, order, Table::VarLists) {
-        Ok(lists) => lists,
-        Err(e) => return Err(e),
-    };
-    let const_lists = match first_list(alloc, order, Table::ConstLists) {
-        Ok(lists) => lists,
-        Err(e) => return Err(e),
-    };
+    let type_lists = first_list(alloc, order, Table::TypeLists)?;
+    let arg_lists = first_list(alloc, order, Table::ArgLists)?;
+    let var_lists = first_list(alloc, order, Table::VarLists)?;
+    let const_lists = first_list(alloc, order, Table::ConstLists)?;
     Ok(EmptyLists {
         type_lists,
         arg_lists,
@@ -82,22 +70,10 @@ pub(crate) fn more_empty_lists(
         ≡ ([], no_info) ∷ []) }
     ensures cause { IfErr result (λ e. e ≡ Refusal.Memory) }
 {
-    let pattern_lists = match first_list(alloc, order, Table::PatternLists) {
-        Ok(lists) => lists,
-        Err(e) => return Err(e),
-    };
-    let clause_lists = match first_list(alloc, order, Table::ClauseLists) {
-        Ok(lists) => lists,
-        Err(e) => return Err(e),
-    };
-    let existential_lists = match first_list(alloc, order, Table::ExistentialLists) {
-        Ok(lists) => lists,
-        Err(e) => return Err(e),
-    };
-    let assumption_lists = match first_list(alloc, order, Table::AssumptionLists) {
-        Ok(lists) => lists,
-        Err(e) => return Err(e),
-    };
+    let pattern_lists = first_list(alloc, order, Table::PatternLists)?;
+    let clause_lists = first_list(alloc, order, Table::ClauseLists)?;
+    let existential_lists = first_list(alloc, order, Table::ExistentialLists)?;
+    let assumption_lists = first_list(alloc, order, Table::AssumptionLists)?;
     Ok(MoreEmptyLists {
         pattern_lists,
         clause_lists,

@@ -31,17 +31,14 @@ impl Interner {
         ensures { Builds result (λ handle. handle.number) self.old self.new (existential_row kind) }
     {
         let info = kind_info(self, &Kind::Existential(kind));
-        let number = match find_or_add(
+        let number = find_or_add(
             &mut self.order,
             self.limit,
             Table::Existentials,
             &mut self.existentials,
             &kind,
             info,
-        ) {
-            Ok(number) => number,
-            Err(e) => return Err(e),
-        };
+        )?;
         Ok(PolyExistentialPredicate::from_number(number))
     }
 }
@@ -59,17 +56,14 @@ impl Interner {
         ensures { Builds result (λ list. list.number) self.old self.new (existentials_row items.now) }
     {
         let info = items_info(self, items);
-        let number = match find_or_add_list(
+        let number = find_or_add_list(
             &mut self.order,
             self.limit,
             Table::ExistentialLists,
             &mut self.existential_lists,
             items,
             info,
-        ) {
-            Ok(number) => number,
-            Err(e) => return Err(e),
-        };
+        )?;
         Ok(BoundExistentialPredicates::from_number(number))
     }
 
@@ -82,17 +76,14 @@ impl Interner {
         ensures { Builds result (λ list. list.number) self.old self.new (existentials_row items.items) }
     {
         let info = items_info(self, items.as_slice());
-        let number = match find_or_insert(
+        let number = find_or_insert(
             &mut self.order,
             self.limit,
             Table::ExistentialLists,
             &mut self.existential_lists,
             items,
             info,
-        ) {
-            Ok(number) => number,
-            Err(e) => return Err(e),
-        };
+        )?;
         Ok(BoundExistentialPredicates::from_number(number))
     }
 }
@@ -119,10 +110,7 @@ impl Interner {
         if predicates.len() <= MOST_IN_PLACE {
             return self.put_all(predicates, &mut [anything; MOST_IN_PLACE]);
         }
-        let mut places = match Vec::from_elem(self.allocator(), anything, predicates.len()) {
-            Ok(places) => places,
-            Err(_) => return Err(Refusal::Memory),
-        };
+        let mut places = Vec::from_elem(self.allocator(), anything, predicates.len())?;
         self.put_all(predicates, places.as_mut_slice())
     }
 

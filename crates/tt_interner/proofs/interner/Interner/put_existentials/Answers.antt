@@ -1,5 +1,6 @@
 -- the list is found or added
 use Rattle.std.proofs.Common.{refl, ap, ◌∙◌}
+use Rattle.std.proofs.lemmas.Result.{err_from_is_err_and}
 use Rattle.tt_interner.specs.Tables.{entries_by}
 use Rattle.tt_interner.specs.Rows.{existentials_row}
 use Rattle.tt_interner.specs.Kept.{tables}
@@ -20,15 +21,17 @@ find_or_insert-requires-clause-same c = same c.self.inside.order.items (tables c
 
 pub invariant_of-self-2 : goal.invariant_of-self-2
 invariant_of-self-2 c = put_kept c.self.inside.order.items (tables c.self.inside) _ _ _ c.self.view_is c.self.invariant (λ k. existentials_row k.items) _ (existentials_row c.args.items.items) (existentials_key (λ k. k.items) c.args.items.items) c.self.inside.existential_lists.entries refl c.items_info-info.result (info_list _ _ ExistentialLists _ (rw c.as_slice.ensures.value at c.items_info-info.ensures))
-    _ _ refl _ c.in-Ok.ensures.found _ refl c.in-Ok.ensures.order (λ none. ap (entries_by (λ k. existentials_row k.items) (λ v. v)) (c.in-Ok.ensures.entries none) ∙ entries_by-push (λ k. existentials_row k.items) (λ v. v) c.self.inside.existential_lists.entries c.args.items c.items_info-info.result) c.in-Ok.ensures.number
+    _ _ refl _ c.in_ok-number.ensures.found _ refl c.in_ok-number.ensures.order (λ none. ap (entries_by (λ k. existentials_row k.items) (λ v. v)) (c.in_ok-number.ensures.entries none) ∙ entries_by-push (λ k. existentials_row k.items) (λ v. v) c.self.inside.existential_lists.entries c.args.items c.items_info-info.result) c.in_ok-number.ensures.number
     (tt, c.requires) (items-fit existential_shape (λ x. tt) c.args.items.items) tt
 
 pub returns : goal.returns
 returns c = built c.self.inside.order.items (tables c.self.inside) _ _ _ c.self.view_is c.self.invariant (λ k. existentials_row k.items) _ (existentials_row c.args.items.items) (existentials_key (λ k. k.items) c.args.items.items) c.self.inside.existential_lists.entries refl c.items_info-info.result (info_list _ _ ExistentialLists _ (rw c.as_slice.ensures.value at c.items_info-info.ensures))
-    _ _ refl _ c.in-Ok.ensures.found _ refl c.in-Ok.ensures.order (λ none. ap (entries_by (λ k. existentials_row k.items) (λ v. v)) (c.in-Ok.ensures.entries none) ∙ entries_by-push (λ k. existentials_row k.items) (λ v. v) c.self.inside.existential_lists.entries c.args.items c.items_info-info.result) c.in-Ok.ensures.number
+    _ _ refl _ c.in_ok-number.ensures.found _ refl c.in_ok-number.ensures.order (λ none. ap (entries_by (λ k. existentials_row k.items) (λ v. v)) (c.in_ok-number.ensures.entries none) ∙ entries_by-push (λ k. existentials_row k.items) (λ v. v) c.self.inside.existential_lists.entries c.args.items c.items_info-info.result) c.in_ok-number.ensures.number
     (λ list. list.number) c.from_number.result (ap (λ list. list.number) c.from_number.ensures) (λ deep. deep)
 
-pub returns-in-Err : goal.returns-in-Err
-returns-in-Err c = built_refused c.self.inside.order.items (tables c.self.inside) _ _ _ c.self.view_is c.self.invariant (λ k. existentials_row k.items) _ (existentials_row c.args.items.items) (existentials_key (λ k. k.items) c.args.items.items) c.self.inside.existential_lists.entries refl c.items_info-info.result (info_list _ _ ExistentialLists _ (rw c.as_slice.ensures.value at c.items_info-info.ensures))
-    _ _ refl _ c.in-Err.ensures.found _ refl c.in-Err.ensures.order_stays c.in-Err.ensures.entries_stay c.in-Err.ensures.cause c.in-Err.ensures.full
-    (λ list. list.number) (λ deep. deep)
+pub returns-in_err-number : goal.returns-in_err-number
+returns-in_err-number c =
+    let p = err_from_is_err_and c.from_residual.result c.from_residual.ensures.1 in
+    rw (p.1, p.2) (built_refused c.self.inside.order.items (tables c.self.inside) _ _ _ c.self.view_is c.self.invariant (λ k. existentials_row k.items) _ (existentials_row c.args.items.items) (existentials_key (λ k. k.items) c.args.items.items) c.self.inside.existential_lists.entries refl c.items_info-info.result (info_list _ _ ExistentialLists _ (rw c.as_slice.ensures.value at c.items_info-info.ensures))
+    _ _ refl _ c.in_err-number.ensures.found _ refl c.in_err-number.ensures.order_stays c.in_err-number.ensures.entries_stay c.in_err-number.ensures.cause c.in_err-number.ensures.full
+    (λ list. list.number) (λ deep. deep))
