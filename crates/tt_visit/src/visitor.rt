@@ -5,7 +5,7 @@ ghost use Rattle.tt_kinds.specs.Shape.{vars_of};
 ghost use Rattle.tt_kinds.specs.Kinds.{clauses_shape, const_shape, predicate_shape, region_shape, ty_shape};
 ghost use Rattle.tt_kinds.specs.declared.table.Table.TheVariants.{VarLists};
 ghost use Rattle.tt_interner.specs.Owned.{IsPartBy, tree_by};
-ghost use Rattle.tt_interner.specs.Rows.{Row, size};
+ghost use Rattle.tt_interner.specs.Rows.{Row, meaning as meaning_of, size};
 ghost use Rattle.tt_visit.specs.Steps.{Answers, Ends, OwnsBreak};
 ghost use Rattle.tt_visit.specs.Visit.{Visits};
 
