@@ -6,11 +6,10 @@ use Rattle.tt_index.specs.declared.refusal.Refusal.{Refusal}
 use Rattle.tt_index.specs.declared.refusal.Refusal.TheVariants.{Memory, TableFull, GreatestIndex, NoArguments}
 use Rattle.tt_index.specs.declared.refusal.Refusal.TheVariants.{ArgOutOfRange, ArgKind, RegionVariable, NotAClause}
 use Rattle.tt_index.specs.declared.refusal.Refusal.TheVariants.{NoSuchAnswer}
-use Rattle.tt_kinds.specs.Label.{Name, region_sort, type_sort, const_sort, VarKind, type_label, const_label}
-use Rattle.tt_kinds.specs.Label.{pattern_label, predicate_label, existential_label, clause_list_label, list_label}
-use Rattle.tt_kinds.specs.Label.{var_list_label, text_label, declaration_label, definition_label, record_label}
-use Rattle.tt_kinds.specs.Label.{error_label, clause_label, Label, is_type_or_clause}
-use Rattle.tt_kinds.specs.Tree.{Depth, Tree, Forest, param, bound, region, term, node, binder, none, also}
+use Rattle.tt_kinds.specs.Label.{Name, region_sort, VarKind, type_label, const_label}
+use Rattle.tt_kinds.specs.Label.{pattern_label, predicate_label, existential_label, clause_list_label}
+use Rattle.tt_kinds.specs.Label.{clause_label, Label, is_type_or_clause}
+use Rattle.tt_kinds.specs.Tree.{Depth, Tree, Forest, param, bound, term, node, binder, none, also}
 use Rattle.tt_kinds.specs.Reading.{read, FitsUnder}
 use Rattle.tt_kinds.specs.Argument.{argument}
 use Rattle.tt_kinds.specs.Plain.{given_under, inst_tree}
@@ -59,40 +58,12 @@ const-gone _ is = absurd is
 
 -- a term without a hook is among the trees that are entered
 pub passed-gone : (t : Tree Depth) → IsPassed t → IsGoneInto t
-passed-gone (param region_sort i name) is = cc
-passed-gone (param type_sort i name) is = cc
-passed-gone (param const_sort i name) is = cc
 passed-gone (bound s d e) is = tt
-passed-gone (region r) is = cc
-passed-gone (term (type_label l) ts) is = cc
-passed-gone (term (const_label l) ts) is = cc
 passed-gone (term (pattern_label l) ts) is = tt
-passed-gone (term predicate_label ts) is = cc
 passed-gone (term existential_label ts) is = tt
-passed-gone (term clause_list_label ts) is = cc
-passed-gone (term (list_label t) ts) is = tt
-passed-gone (term (var_list_label vs) ts) is = tt
-passed-gone (term (text_label bytes) ts) is = tt
-passed-gone (term (declaration_label n k name) ts) is = tt
-passed-gone (term (definition_label n vs) ts) is = tt
-passed-gone (term (record_label l) ts) is = tt
-passed-gone (term (error_label e) ts) is = tt
-passed-gone (term clause_label ts) is = tt
-passed-gone (node (type_label l) ts) is = cc
-passed-gone (node (const_label l) ts) is = cc
-passed-gone (node (pattern_label l) ts) is = cc
-passed-gone (node predicate_label ts) is = cc
-passed-gone (node existential_label ts) is = cc
-passed-gone (node clause_list_label ts) is = cc
-passed-gone (node (list_label t) ts) is = cc
-passed-gone (node (var_list_label vs) ts) is = cc
-passed-gone (node (text_label bytes) ts) is = cc
-passed-gone (node (declaration_label n k name) ts) is = cc
-passed-gone (node (definition_label n vs) ts) is = cc
-passed-gone (node (record_label l) ts) is = cc
-passed-gone (node (error_label e) ts) is = cc
+passed-gone (param region_sort i name) is = cc
 passed-gone (node clause_label ts) is = cc
-passed-gone (binder vs t) is = cc
+passed-gone _ is = cc
 
 taken-gone : (args : Args) (k : ℕ) (t : Tree Depth) → IsTaken instantiation args k t → IsGoneInto t
 taken-gone args k (term l ts) taken = on_true (is_type_or_clause l) taken.1

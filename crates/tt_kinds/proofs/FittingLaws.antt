@@ -6,20 +6,20 @@ use Rattle.std.proofs.lemmas.Option.{same_Some}
 use Rattle.tt_index.specs.Greatest.{greatest}
 use Rattle.tt_kinds.specs.Label.{Name, Sort}
 use Rattle.tt_kinds.specs.Tree as tree
-use Rattle.tt_kinds.specs.Tree.{Depth, at, canonical, Place, own, outer, apart, Tree, Forest, count_trees, take_trees}
-use Rattle.tt_kinds.specs.Tree.{drop_trees}
+use Rattle.tt_kinds.specs.Tree.{Depth, at, canonical, Place, own, outer, apart, Tree, Forest}
 use Rattle.tt_kinds.specs.Reading.{place, reach, read, read_all, moved, move, move_all, outer_binder, greatest_reach}
 use Rattle.tt_kinds.specs.Reading.{greatest_reach_all, FitsAt, FitsUnder, FitsUnder_all}
 use Rattle.tt_kinds.specs.Argument.{Argument, same_sort, of_sort, given, put, put_all, readings}
 use Rattle.tt_kinds.specs.Bound.{IsBelowGreatest}
 use Rattle.tt_kinds.specs.Shape.{Shape, Shapes, param, bound, region, term, node, binder, stored, part_of, none, also}
-use Rattle.tt_kinds.specs.Shape.{Meaning, fill, fill_all, items_of, items_in, Extent, item_count, first_item, Sizes}
+use Rattle.tt_kinds.specs.Shape.{Meaning, fill, fill_all, Sizes}
 use Rattle.tt_kinds.specs.Shape.{IsPart, AreParts, HasParts}
 use Rattle.tt_kinds.specs.declared.table.Table.{Table}
 use Rattle.tt_kinds.specs.Range.{IndicesFit, IndicesFit_all, binders_in, binders_among}
 use Rattle.tt_kinds.specs.Fitting.{BindersFit, BindersFit_all, HasRoom, HaveRoom}
 use Rattle.tt_kinds.proofs.ReadingLaws.{place-own, place-outer}
 use Rattle.tt_kinds.proofs.PutLaws.{argument-change_values}
+use Rattle.tt_kinds.proofs.ForestLaws.{IsOfEach, list-each}
 
 index-fits : (k : ℕ) (d : Depth) → IsBelowGreatest d → FitsAt k (place k d)
 index-fits k (at d) h = elim (cases_lt d k) [ inl g ↦ rw (place-own k d g) tt | inr g ↦ let low : d - k + k < greatest = omega arith in rw (place-outer k d g) low ]
@@ -130,26 +130,14 @@ instance-fits b args t h f low room = instance_under-fits b args room b 0 t (ome
 
 -- Few binders are nested, if each handle's tree nests few.
 
-drop-binders : (k n : ℕ) (ts : Forest Depth) → BindersFit_all k ts → BindersFit_all k (drop_trees n ts)
-drop-binders k zero ts h = h
-drop-binders k (suc n) tree.none h = tt
-drop-binders k (suc n) (tree.also t ts) h = drop-binders k n ts h.1
-
-take-binders : (k n : ℕ) (ts : Forest Depth) → BindersFit_all k ts → BindersFit_all k (take_trees n ts)
-take-binders k zero ts h = tt
-take-binders k (suc n) tree.none h = tt
-take-binders k (suc n) (tree.also t ts) h = (h.0, take-binders k n ts h.1)
-
-items_in-binders : (k : ℕ) (e : Extent) (t : Tree Depth) → BindersFit k t → BindersFit_all k (items_in e (items_of t))
-items_in-binders k e t h = take-binders k (item_count e (count_trees (items_of t))) (drop_trees (first_item e) (items_of t)) (drop-binders k (first_item e) (items_of t) (among t h))
-  where
-    among : (u : Tree Depth) → BindersFit k u → BindersFit_all k (items_of u)
-    among (tree.param s i name) b = tt
-    among (tree.bound s d en) b = tt
-    among (tree.region r) b = tt
-    among (tree.term l ts) b = tt
-    among (tree.node l ts) b = b
-    among (tree.binder vs u) b = tt
+-- the binders of a forest fit exactly where those of each tree do
+each-binders : (k : ℕ) → IsOfEach (BindersFit_all k) (BindersFit k)
+each-binders k = record {
+  nothing = tt;
+  first = λ t ts h. h.0;
+  others = λ t ts h. h.1;
+  more = λ t ts h hs. (h, hs);
+}
 
 module _ (size : Sizes) (f : Meaning) (most : ℕ) (fit : (k : ℕ) (t : Table) (n : ℕ) → n < size t → k + most ≤ greatest → BindersFit k (f t n)) where
   mutual
@@ -164,7 +152,7 @@ module _ (size : Sizes) (f : Meaning) (most : ℕ) (fit : (k : ℕ) (t : Table) 
     part-binders k (node l ss) part h = parts-binders k ss part.2 h
     part-binders k (binder n s) part h = (omega arith, part-binders (suc k) s part.1 (omega arith))
     part-binders k (stored t n) part h = fit k t n part (omega arith)
-    part-binders k (part_of t n e) part h = items_in-binders k e (f t n) (fit k t n part (omega arith))
+    part-binders k (part_of t n e) part h = list-each (BindersFit_all k) (BindersFit k) (each-binders k) (λ l ts h. h) e (f t n) (fit k t n part (omega arith))
 
     parts-binders : (k : ℕ) (ss : Shapes) → AreParts size ss → k + binders_among ss + most ≤ greatest → BindersFit_all k (fill_all f ss)
     parts-binders k none part h = tt

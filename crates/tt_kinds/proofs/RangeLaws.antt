@@ -1,15 +1,14 @@
 -- Indices that are in range: in a shape and in its tree, and in what reaches no further than the greatest index.
-use Rattle.std.proofs.Common.{inl, inr, ◌≡◌, ℕ, zero, suc, ◌+◌, ◌<◌, ◌≤◌, List, [], ◌∷◌, refl, arith}
+use Rattle.std.proofs.Common.{inl, inr, ◌≡◌, ℕ, ◌+◌, ◌<◌, ◌≤◌, List, [], ◌∷◌, refl, arith}
 use Rattle.std.proofs.lemmas.Bool.{cases_lt}
 use Rattle.tt_index.specs.Greatest.{greatest}
 use Rattle.tt_kinds.specs.Label.{Sort, Label}
-use Rattle.tt_kinds.specs.Tree as tree
-use Rattle.tt_kinds.specs.Tree.{Depth, at, canonical, Tree, Forest, count_trees, take_trees, drop_trees}
+use Rattle.tt_kinds.specs.Tree.{Depth, at, canonical}
 use Rattle.tt_kinds.specs.Reading.{place, reach, read_all, greatest_reach_all, outer_binder}
 use Rattle.tt_kinds.specs.Bound.{IsBelowGreatest}
 use Rattle.tt_kinds.specs.Shape.{Shape, Shapes, param, bound, region, term, node, binder, stored, part_of, none, also}
-use Rattle.tt_kinds.specs.Shape.{append, item_shapes, Meaning, fill, fill_all, items_of, items_in, Extent, item_count}
-use Rattle.tt_kinds.specs.Shape.{first_item, Sizes, IsPart, AreParts, HasParts, IsGreatest, IsTooDeep}
+use Rattle.tt_kinds.specs.Shape.{append, item_shapes, Meaning, fill, fill_all}
+use Rattle.tt_kinds.specs.Shape.{Sizes, IsPart, AreParts, HasParts, IsGreatest, IsTooDeep}
 use Rattle.tt_kinds.specs.Kinds as kinds
 use Rattle.tt_kinds.specs.Kinds.{Form, region_shape, arg_shape, child_shapes, parts_shapes, form_parts, form_shape}
 use Rattle.tt_kinds.specs.Values.{assumption_shape}
@@ -26,6 +25,7 @@ use Rattle.tt_kinds.specs.declared.parts.Child.TheVariants as child
 use Rattle.tt_kinds.specs.declared.parts.Parts.{Parts}
 use Rattle.tt_kinds.specs.Range.{IndicesFit, IndicesFit_all, IndicesFitIn, IndicesFitAmong, binders_in, binders_among}
 use Rattle.tt_kinds.proofs.OuterLaws.{index-below}
+use Rattle.tt_kinds.proofs.ForestLaws.{IsOfEach, list-each}
 
 -- an index that reaches no further than the greatest is below it
 reach-fits : (d : Depth) → reach (place 0 d) ≤ greatest → IsBelowGreatest d
@@ -148,26 +148,14 @@ items-fit shape fits (x ∷ xs) = (fits x, items-fit shape fits xs)
 
 -- Trees.
 
-drop-fits : (n : ℕ) (ts : Forest Depth) → IndicesFit_all ts → IndicesFit_all (drop_trees n ts)
-drop-fits zero ts h = h
-drop-fits (suc n) tree.none h = tt
-drop-fits (suc n) (tree.also t ts) h = drop-fits n ts h.1
-
-take-fits : (n : ℕ) (ts : Forest Depth) → IndicesFit_all ts → IndicesFit_all (take_trees n ts)
-take-fits zero ts h = tt
-take-fits (suc n) tree.none h = tt
-take-fits (suc n) (tree.also t ts) h = (h.0, take-fits n ts h.1)
-
-items_in-fits : (e : Extent) (t : Tree Depth) → IndicesFit t → IndicesFit_all (items_in e (items_of t))
-items_in-fits e t h = take-fits (item_count e (count_trees (items_of t))) (drop_trees (first_item e) (items_of t)) (drop-fits (first_item e) (items_of t) (among t h))
-  where
-    among : (u : Tree Depth) → IndicesFit u → IndicesFit_all (items_of u)
-    among (tree.param s i name) k = tt
-    among (tree.bound s d en) k = tt
-    among (tree.region r) k = tt
-    among (tree.term l ts) k = tt
-    among (tree.node l ts) k = k
-    among (tree.binder vs u) k = tt
+-- the indices of a forest fit exactly where those of each tree do
+each-fits : IsOfEach IndicesFit_all IndicesFit
+each-fits = record {
+  nothing = tt;
+  first = λ t ts h. h.0;
+  others = λ t ts h. h.1;
+  more = λ t ts h hs. (h, hs);
+}
 
 module _ (size : Sizes) (f : Meaning) (fits : (t : Table) (n : ℕ) → n < size t → IndicesFit (f t n)) where
   mutual
@@ -182,7 +170,7 @@ module _ (size : Sizes) (f : Meaning) (fits : (t : Table) (n : ℕ) → n < size
     part-fits (node l ss) part h = parts_fit ss part.2 h
     part-fits (binder n s) part h = part-fits s part.1 h
     part-fits (stored t n) part h = fits t n part
-    part-fits (part_of t n e) part h = items_in-fits e (f t n) (fits t n part)
+    part-fits (part_of t n e) part h = list-each IndicesFit_all IndicesFit each-fits (λ l ts h. h) e (f t n) (fits t n part)
 
     parts_fit : (ss : Shapes) → AreParts size ss → IndicesFitAmong ss → IndicesFit_all (fill_all f ss)
     parts_fit none part h = tt
