@@ -15,7 +15,6 @@ mod RecordSteps
 mod VecSteps
 mod BoxSteps
 mod DataSteps
-mod CloneSteps
 mod AssumptionSteps
 mod ClauseSteps
 pub mod LeafLaws

@@ -14,6 +14,7 @@ pub mod Shift
 pub mod MemoryGrowth
 pub mod Parts
 pub mod Stack
+pub mod Copies
 pub mod Items
 pub mod Going
 pub mod RegionFolder

@@ -1,378 +1,240 @@
-//! Copies of kinds, records and values without terms, which are all `Copy`.
+//! Copies of values that own no memory: handles, indices, kinds, records and values without terms.
+
+ghost use Rattle.std.proofs.Common.{ap, sym, ◌∙◌};
+ghost use Rattle.tt_kinds.specs.Handle.{handle};
+ghost use Rattle.tt_fold.specs.Copies.{copies};
 
 use crate::shared::ClonesTree;
-use std::alloc::Global;
 use tt_index::{
-    BoundVar, ClosureKind, ConstVid, DebruijnIndex, ExternAbi, FieldIdx, FloatTy, FloatVid, IntTy,
-    IntVid, Mutability, Refusal, RegionVid, Safety, TyVid, UintTy, UniverseIndex, Variance,
-    VariantIdx,
+    ClosureKind, ExternAbi, FloatTy, Index, IntTy, Mutability, Safety, UintTy, Variance,
 };
 use tt_kinds::{
-    AliasRelationDirection, AliasTerm, AliasTy, BoundVarIndexKind, Clause, ClauseKind,
-    CoercePredicate, ConstKind, CoroutineWitnessTypes, ErrorGuaranteed, ExistentialPredicate,
-    ExistentialProjection, ExistentialTraitRef, ExprConst, FnSig, FnSigTys, GenericArgKind,
+    AliasRelationDirection, AliasTerm, AliasTy, BoundVarIndexKind, ClauseKind, CoercePredicate,
+    ConstKind, CoroutineWitnessTypes, ErrorGuaranteed, ExistentialPredicate, ExistentialProjection,
+    ExistentialTraitRef, ExprConst, FnSig, FnSigTys, GenericArg, GenericArgKind, Handle,
     HostEffectPredicate, NormalizesTo, ParamEnv, PatternKind, PlaceholderConst, PlaceholderRegion,
-    PlaceholderType, PredicateKind, ProjectionPredicate, SubtypePredicate, TermKind,
+    PlaceholderType, PredicateKind, ProjectionPredicate, Region, SubtypePredicate, Term, TermKind,
     TraitPredicate, TraitRef, TyKind, TypeAndMut, UnevaluatedConst, UnsafeBinderInner, ValTree,
     ValueConst,
 };
+use tt_visit::TypeVisitable;
+
+impl<K> ClonesTree for Handle<K>
+where
+    Handle<K>: TypeVisitable,
+{
+    ghost keeps = { λ value copy same. ap (λ number. Self.shape (handle number)) same.0 };
+}
+
+// An index's copy is known by the structs behind the two, whose numbers are equal.
+impl<S> ClonesTree for Index<S> {
+    ghost keeps = { λ value copy same. ap Self.shape (sym same.3 ∙ same.4.0 ∙ same.2) };
+}
+
+impl ClonesTree for Region {
+    ghost keeps = { Prim.search copies };
+}
+
+impl ClonesTree for GenericArg {
+    ghost keeps = { Prim.search copies };
+}
+
+impl ClonesTree for Term {
+    ghost keeps = { Prim.search copies };
+}
 
 impl ClonesTree for TyKind {
-    fn clone_tree(&self, _alloc: Global) -> Result<TyKind, Refusal> {
-        Ok(*self)
-    }
+    ghost keeps = { Prim.search copies };
 }
 
 impl ClonesTree for ConstKind {
-    fn clone_tree(&self, _alloc: Global) -> Result<ConstKind, Refusal> {
-        Ok(*self)
-    }
+    ghost keeps = { Prim.search copies };
 }
 
 impl ClonesTree for PatternKind {
-    fn clone_tree(&self, _alloc: Global) -> Result<PatternKind, Refusal> {
-        Ok(*self)
-    }
+    ghost keeps = { Prim.search copies };
 }
 
 impl ClonesTree for PredicateKind {
-    fn clone_tree(&self, _alloc: Global) -> Result<PredicateKind, Refusal> {
-        Ok(*self)
-    }
+    ghost keeps = { Prim.search copies };
 }
 
 impl ClonesTree for ClauseKind {
-    fn clone_tree(&self, _alloc: Global) -> Result<ClauseKind, Refusal> {
-        Ok(*self)
-    }
+    ghost keeps = { Prim.search copies };
 }
 
 impl ClonesTree for ExistentialPredicate {
-    fn clone_tree(&self, _alloc: Global) -> Result<ExistentialPredicate, Refusal> {
-        Ok(*self)
-    }
+    ghost keeps = { Prim.search copies };
 }
 
 impl ClonesTree for GenericArgKind {
-    fn clone_tree(&self, _alloc: Global) -> Result<GenericArgKind, Refusal> {
-        Ok(*self)
-    }
+    ghost keeps = { Prim.search copies };
 }
 
 impl ClonesTree for TermKind {
-    fn clone_tree(&self, _alloc: Global) -> Result<TermKind, Refusal> {
-        Ok(*self)
-    }
-}
-
-impl ClonesTree for Clause {
-    fn clone_tree(&self, _alloc: Global) -> Result<Clause, Refusal> {
-        Ok(*self)
-    }
+    ghost keeps = { Prim.search copies };
 }
 
 impl ClonesTree for ErrorGuaranteed {
-    fn clone_tree(&self, _alloc: Global) -> Result<ErrorGuaranteed, Refusal> {
-        Ok(*self)
-    }
+    ghost keeps = { Prim.search copies };
 }
 
 impl ClonesTree for UnevaluatedConst {
-    fn clone_tree(&self, _alloc: Global) -> Result<UnevaluatedConst, Refusal> {
-        Ok(*self)
-    }
+    ghost keeps = { Prim.search copies };
 }
 
 impl ClonesTree for ExprConst {
-    fn clone_tree(&self, _alloc: Global) -> Result<ExprConst, Refusal> {
-        Ok(*self)
-    }
+    ghost keeps = { Prim.search copies };
 }
 
 impl ClonesTree for ValueConst {
-    fn clone_tree(&self, _alloc: Global) -> Result<ValueConst, Refusal> {
-        Ok(*self)
-    }
+    ghost keeps = { Prim.search copies };
 }
 
 impl ClonesTree for ValTree {
-    fn clone_tree(&self, _alloc: Global) -> Result<ValTree, Refusal> {
-        Ok(*self)
-    }
+    ghost keeps = { Prim.search copies };
 }
 
 impl ClonesTree for AliasTerm {
-    fn clone_tree(&self, _alloc: Global) -> Result<AliasTerm, Refusal> {
-        Ok(*self)
-    }
+    ghost keeps = { Prim.search copies };
 }
 
 impl ClonesTree for AliasTy {
-    fn clone_tree(&self, _alloc: Global) -> Result<AliasTy, Refusal> {
-        Ok(*self)
-    }
+    ghost keeps = { Prim.search copies };
 }
 
 impl ClonesTree for CoercePredicate {
-    fn clone_tree(&self, _alloc: Global) -> Result<CoercePredicate, Refusal> {
-        Ok(*self)
-    }
+    ghost keeps = { Prim.search copies };
 }
 
 impl ClonesTree for CoroutineWitnessTypes {
-    fn clone_tree(&self, _alloc: Global) -> Result<CoroutineWitnessTypes, Refusal> {
-        Ok(*self)
-    }
+    ghost keeps = { Prim.search copies };
 }
 
 impl ClonesTree for ExistentialProjection {
-    fn clone_tree(&self, _alloc: Global) -> Result<ExistentialProjection, Refusal> {
-        Ok(*self)
-    }
+    ghost keeps = { Prim.search copies };
 }
 
 impl ClonesTree for ExistentialTraitRef {
-    fn clone_tree(&self, _alloc: Global) -> Result<ExistentialTraitRef, Refusal> {
-        Ok(*self)
-    }
+    ghost keeps = { Prim.search copies };
 }
 
 impl ClonesTree for FnSig {
-    fn clone_tree(&self, _alloc: Global) -> Result<FnSig, Refusal> {
-        Ok(*self)
-    }
+    ghost keeps = { Prim.search copies };
 }
 
 impl ClonesTree for FnSigTys {
-    fn clone_tree(&self, _alloc: Global) -> Result<FnSigTys, Refusal> {
-        Ok(*self)
-    }
+    ghost keeps = { Prim.search copies };
 }
 
 impl ClonesTree for HostEffectPredicate {
-    fn clone_tree(&self, _alloc: Global) -> Result<HostEffectPredicate, Refusal> {
-        Ok(*self)
-    }
+    ghost keeps = { Prim.search copies };
 }
 
 impl ClonesTree for NormalizesTo {
-    fn clone_tree(&self, _alloc: Global) -> Result<NormalizesTo, Refusal> {
-        Ok(*self)
-    }
+    ghost keeps = { Prim.search copies };
 }
 
 impl ClonesTree for ParamEnv {
-    fn clone_tree(&self, _alloc: Global) -> Result<ParamEnv, Refusal> {
-        Ok(*self)
-    }
+    ghost keeps = { Prim.search copies };
 }
 
 impl ClonesTree for ProjectionPredicate {
-    fn clone_tree(&self, _alloc: Global) -> Result<ProjectionPredicate, Refusal> {
-        Ok(*self)
-    }
+    ghost keeps = { Prim.search copies };
 }
 
 impl ClonesTree for SubtypePredicate {
-    fn clone_tree(&self, _alloc: Global) -> Result<SubtypePredicate, Refusal> {
-        Ok(*self)
-    }
+    ghost keeps = { Prim.search copies };
 }
 
 impl ClonesTree for TraitPredicate {
-    fn clone_tree(&self, _alloc: Global) -> Result<TraitPredicate, Refusal> {
-        Ok(*self)
-    }
+    ghost keeps = { Prim.search copies };
 }
 
 impl ClonesTree for TraitRef {
-    fn clone_tree(&self, _alloc: Global) -> Result<TraitRef, Refusal> {
-        Ok(*self)
-    }
+    ghost keeps = { Prim.search copies };
 }
 
 impl ClonesTree for TypeAndMut {
-    fn clone_tree(&self, _alloc: Global) -> Result<TypeAndMut, Refusal> {
-        Ok(*self)
-    }
+    ghost keeps = { Prim.search copies };
 }
 
 impl ClonesTree for UnsafeBinderInner {
-    fn clone_tree(&self, _alloc: Global) -> Result<UnsafeBinderInner, Refusal> {
-        Ok(*self)
-    }
+    ghost keeps = { Prim.search copies };
 }
 
 impl ClonesTree for () {
-    fn clone_tree(&self, _alloc: Global) -> Result<(), Refusal> {
-        Ok(*self)
-    }
+    ghost keeps = { Prim.search copies };
 }
 
 impl ClonesTree for bool {
-    fn clone_tree(&self, _alloc: Global) -> Result<bool, Refusal> {
-        Ok(*self)
-    }
+    ghost keeps = { Prim.search copies };
 }
 
 impl ClonesTree for u16 {
-    fn clone_tree(&self, _alloc: Global) -> Result<u16, Refusal> {
-        Ok(*self)
-    }
+    ghost keeps = { Prim.search copies };
 }
 
 impl ClonesTree for u32 {
-    fn clone_tree(&self, _alloc: Global) -> Result<u32, Refusal> {
-        Ok(*self)
-    }
+    ghost keeps = { Prim.search copies };
 }
 
 impl ClonesTree for u64 {
-    fn clone_tree(&self, _alloc: Global) -> Result<u64, Refusal> {
-        Ok(*self)
-    }
+    ghost keeps = { Prim.search copies };
 }
 
 impl ClonesTree for usize {
-    fn clone_tree(&self, _alloc: Global) -> Result<usize, Refusal> {
-        Ok(*self)
-    }
-}
-
-impl ClonesTree for DebruijnIndex {
-    fn clone_tree(&self, _alloc: Global) -> Result<DebruijnIndex, Refusal> {
-        Ok(*self)
-    }
-}
-
-impl ClonesTree for UniverseIndex {
-    fn clone_tree(&self, _alloc: Global) -> Result<UniverseIndex, Refusal> {
-        Ok(*self)
-    }
-}
-
-impl ClonesTree for BoundVar {
-    fn clone_tree(&self, _alloc: Global) -> Result<BoundVar, Refusal> {
-        Ok(*self)
-    }
-}
-
-impl ClonesTree for RegionVid {
-    fn clone_tree(&self, _alloc: Global) -> Result<RegionVid, Refusal> {
-        Ok(*self)
-    }
-}
-
-impl ClonesTree for TyVid {
-    fn clone_tree(&self, _alloc: Global) -> Result<TyVid, Refusal> {
-        Ok(*self)
-    }
-}
-
-impl ClonesTree for IntVid {
-    fn clone_tree(&self, _alloc: Global) -> Result<IntVid, Refusal> {
-        Ok(*self)
-    }
-}
-
-impl ClonesTree for FloatVid {
-    fn clone_tree(&self, _alloc: Global) -> Result<FloatVid, Refusal> {
-        Ok(*self)
-    }
-}
-
-impl ClonesTree for ConstVid {
-    fn clone_tree(&self, _alloc: Global) -> Result<ConstVid, Refusal> {
-        Ok(*self)
-    }
-}
-
-impl ClonesTree for FieldIdx {
-    fn clone_tree(&self, _alloc: Global) -> Result<FieldIdx, Refusal> {
-        Ok(*self)
-    }
-}
-
-impl ClonesTree for VariantIdx {
-    fn clone_tree(&self, _alloc: Global) -> Result<VariantIdx, Refusal> {
-        Ok(*self)
-    }
+    ghost keeps = { Prim.search copies };
 }
 
 impl ClonesTree for BoundVarIndexKind {
-    fn clone_tree(&self, _alloc: Global) -> Result<BoundVarIndexKind, Refusal> {
-        Ok(*self)
-    }
+    ghost keeps = { Prim.search copies };
 }
 
 impl ClonesTree for Mutability {
-    fn clone_tree(&self, _alloc: Global) -> Result<Mutability, Refusal> {
-        Ok(*self)
-    }
+    ghost keeps = { Prim.search copies };
 }
 
 impl ClonesTree for Safety {
-    fn clone_tree(&self, _alloc: Global) -> Result<Safety, Refusal> {
-        Ok(*self)
-    }
+    ghost keeps = { Prim.search copies };
 }
 
 impl ClonesTree for Variance {
-    fn clone_tree(&self, _alloc: Global) -> Result<Variance, Refusal> {
-        Ok(*self)
-    }
+    ghost keeps = { Prim.search copies };
 }
 
 impl ClonesTree for ClosureKind {
-    fn clone_tree(&self, _alloc: Global) -> Result<ClosureKind, Refusal> {
-        Ok(*self)
-    }
+    ghost keeps = { Prim.search copies };
 }
 
 impl ClonesTree for ExternAbi {
-    fn clone_tree(&self, _alloc: Global) -> Result<ExternAbi, Refusal> {
-        Ok(*self)
-    }
+    ghost keeps = { Prim.search copies };
 }
 
 impl ClonesTree for IntTy {
-    fn clone_tree(&self, _alloc: Global) -> Result<IntTy, Refusal> {
-        Ok(*self)
-    }
+    ghost keeps = { Prim.search copies };
 }
 
 impl ClonesTree for UintTy {
-    fn clone_tree(&self, _alloc: Global) -> Result<UintTy, Refusal> {
-        Ok(*self)
-    }
+    ghost keeps = { Prim.search copies };
 }
 
 impl ClonesTree for FloatTy {
-    fn clone_tree(&self, _alloc: Global) -> Result<FloatTy, Refusal> {
-        Ok(*self)
-    }
+    ghost keeps = { Prim.search copies };
 }
 
 impl ClonesTree for AliasRelationDirection {
-    fn clone_tree(&self, _alloc: Global) -> Result<AliasRelationDirection, Refusal> {
-        Ok(*self)
-    }
+    ghost keeps = { Prim.search copies };
 }
 
 impl ClonesTree for PlaceholderRegion {
-    fn clone_tree(&self, _alloc: Global) -> Result<PlaceholderRegion, Refusal> {
-        Ok(*self)
-    }
+    ghost keeps = { Prim.search copies };
 }
 
 impl ClonesTree for PlaceholderType {
-    fn clone_tree(&self, _alloc: Global) -> Result<PlaceholderType, Refusal> {
-        Ok(*self)
-    }
+    ghost keeps = { Prim.search copies };
 }
 
 impl ClonesTree for PlaceholderConst {
-    fn clone_tree(&self, _alloc: Global) -> Result<PlaceholderConst, Refusal> {
-        Ok(*self)
-    }
+    ghost keeps = { Prim.search copies };
 }

@@ -21,6 +21,7 @@ ghost use Rattle.std.specs.Prelude.{
   option_copied,
 };
 ghost use Rattle.std.specs.Iterator.Adapters.{IterYieldsInOrder};
+ghost use Rattle.std.specs.List.{AllZip};
 ghost use Rattle.std.specs.Slice.Iter.{iter_rest};
 ghost use Rattle.tt_index.specs.Greatest.{greatest};
 ghost use Rattle.tt_index.specs.declared.refusal.Refusal.TheVariants.{Memory};
@@ -28,7 +29,7 @@ ghost use Rattle.tt_index.specs.declared.refusal.Refusal.TheVariants.{Memory};
 use crate::GREATEST_INDEX;
 use crate::idx::Idx;
 use crate::refusal::Refusal;
-use std::alloc::Global;
+use std::alloc::{AllocError, Global};
 use std::marker::{Model, PhantomData};
 use std::slice::Iter;
 
@@ -142,5 +143,14 @@ impl<Ix: Idx, T: Drop> IndexVec<Ix, T> {
         ensures { self.new ≡ slice_set self.old (Ix.number index) item }
     {
         self.raw[index.as_usize()] = item;
+    }
+}
+
+impl<Ix: Idx + Drop, T: Clone> Clone for IndexVec<Ix, T> {
+    ghost is_clone = { AllZip T.is_clone };
+
+    fn clone(&self) -> Result<IndexVec<Ix, T>, AllocError> {
+        let copies = self.raw.clone()?;
+        Ok(IndexVec::from_raw(copies))
     }
 }

@@ -9,8 +9,8 @@ use type_terms::{
 };
 
 // Returns whether a copy of the value is equal to it.
-fn is_copied<T: ClonesTree + PartialEq + Drop>(cx: &Interner, value: &T) -> Result<bool, Refusal> {
-    let copy = value.clone_tree(cx.allocator())?;
+fn is_copied<T: ClonesTree + PartialEq>(value: &T) -> Result<bool, Refusal> {
+    let copy = value.clone()?;
     Ok(copy == *value)
 }
 
@@ -18,10 +18,10 @@ fn is_copied<T: ClonesTree + PartialEq + Drop>(cx: &Interner, value: &T) -> Resu
 fn lists_are_copied(cx: &Interner, first: Ty, second: Ty) -> Result<bool, Refusal> {
     let list = vec![in cx.allocator(); first, second]?;
     let slice = vec![in cx.allocator(); first, second]?.into_boxed_slice();
-    let same_list = is_copied(cx, &list)?;
-    let same_slice = is_copied(cx, &slice)?;
+    let same_list = is_copied(&list)?;
+    let same_slice = is_copied(&slice)?;
     let fields: IndexVec<FieldIdx, Ty> = IndexVec::from_raw(list);
-    let copy = fields.clone_tree(cx.allocator())?;
+    let copy = fields.clone()?;
     Ok(same_list && same_slice && copy.raw() == [first, second].as_slice())
 }
 
@@ -33,14 +33,14 @@ pub fn values_are_copied(cx: &mut Interner) -> Result<bool, Refusal> {
     let good: Result<Ty, Region> = Ok(own);
     let bad: Result<Ty, Region> = Err(region);
     let boxed = Box::new(cx.allocator(), own)?;
-    let same_box = is_copied(cx, &boxed)?;
+    let same_box = is_copied(&boxed)?;
     Ok(
         same_box
             && lists_are_copied(cx, own, outer)?
-            && is_copied(cx, &good)?
-            && is_copied(cx, &bad)?
-            && is_copied(cx, &(own, region, Some(7u32)))?
-            && is_copied(cx, &OutlivesPredicate(own, region))?,
+            && is_copied(&good)?
+            && is_copied(&bad)?
+            && is_copied(&(own, region, Some(7u32)))?
+            && is_copied(&OutlivesPredicate(own, region))?,
     )
 }
 

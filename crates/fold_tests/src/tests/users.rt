@@ -5,21 +5,23 @@ ghost use Rattle.tt_kinds.specs.Kinds.{predicate_shape, region_shape, ty_shape};
 ghost use Rattle.tt_kinds.specs.Tree.{Depth, Tree};
 ghost use Rattle.tt_kinds.specs.Values.{tuple_shape};
 ghost use Rattle.tt_visit.specs.declared.visitor.Next.TheVariants.{Descend as GoesOn};
+ghost use Rattle.tt_fold.specs.Copies.{copies};
 ghost use Rattle.tt_fold.specs.Walk.{replace, descend};
 ghost use Rattle.tt_fold.specs.Steps.{IsPartOf, tree_in};
 
 use super::{holds_anew, holds_within};
 use std::ops::ControlFlow;
+use std::rc::Rc;
 use test_terms::{
     NOT_OWNED, bound_region, bound_ty, clause, clauses, is_instance, is_shifted, one_region,
     param_region, param_ty, predicate, ref_ty, region_variable, ty, tys, u32_ty,
 };
 use type_terms::{
-    AsPredicate, Binder, BoundVarKinds, Clause, ClauseKind, Clauses, Const, Core, ErrorGuaranteed,
-    FallibleTypeFolder, GenericArg, InternedKind, Interner, Kind, List, Next, Node, Owned,
-    Predicate, PredicateKind, Refusal, Region, RegionKind, Step, Term, Ty, TyKind, TypeFoldable,
-    TypeFolder, TypeSuperFoldable, TypeSuperVisitable, TypeVisitable, TypeVisitor, Tys, visit_kind,
-    visit_list, visit_node,
+    AsPredicate, Binder, BoundVarKinds, Clause, ClauseKind, Clauses, ClonesTree, Const, Core,
+    ErrorGuaranteed, FallibleTypeFolder, GenericArg, InternedKind, Interner, Kind, List, Next,
+    Node, Owned, Predicate, PredicateKind, Refusal, Region, RegionKind, Step, Term, Ty, TyKind,
+    TypeFoldable, TypeFolder, TypeSuperFoldable, TypeSuperVisitable, TypeVisitable, TypeVisitor,
+    Tys, visit_kind, visit_list, visit_node,
 };
 
 // Counts the regions outside of errors, and breaks at an error.
@@ -602,6 +604,10 @@ impl Owned for Loan {
     }
 }
 
+impl ClonesTree for Loan {
+    ghost keeps = { Prim.search copies };
+}
+
 fn a_loan_is_shifted_and_instantiated_holds(cx: &mut Interner) -> Result<bool, Refusal> {
     let inner = Loan {
         region: bound_region(0)?,
@@ -630,4 +636,24 @@ fn a_loan_is_shifted_and_instantiated_holds(cx: &mut Interner) -> Result<bool, R
 #[test]
 fn a_loan_is_shifted_and_instantiated(rt: HostRuntime) {
     holds_anew(&rt, rt.alloc(), a_loan_is_shifted_and_instantiated_holds);
+}
+
+// A shared loan is folded in a copy, and its other owner keeps the loan as it was.
+fn a_shared_loan_is_copied_holds(cx: &mut Interner) -> Result<bool, Refusal> {
+    let from = u32_ty(cx)?;
+    let to = ty(cx, TyKind::Bool)?;
+    let before = Loan {
+        region: bound_region(0)?,
+        ty: from,
+    };
+    let loan = Rc::new(cx.allocator(), before)?;
+    let other = loan.clone()?;
+    let mut folder = stand_in(cx, from, to)?;
+    let after = folded(cx, loan, &mut folder)?;
+    Ok(Rc::as_ref(&after).ty == to && *Rc::as_ref(&other) == before)
+}
+
+#[test]
+fn a_shared_loan_is_copied(rt: HostRuntime) {
+    holds_anew(&rt, rt.alloc(), a_shared_loan_is_copied_holds);
 }

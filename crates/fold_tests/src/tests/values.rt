@@ -60,12 +60,12 @@ fn leaves_at(cx: &mut Interner, binder: u32) -> Result<Leaves, Refusal> {
 }
 
 // Returns whether a copy of the value, moved into one more binder, is the other value.
-fn is_moved<T: Owned + TypeFoldable + ClonesTree + PartialEq + Drop>(
+fn is_moved<T: Owned + TypeFoldable + ClonesTree + PartialEq>(
     cx: &mut Interner,
     value: T,
     moved: T,
 ) -> bool {
-    match value.clone_tree(cx.allocator()) {
+    match value.clone() {
         Ok(copy) => is_shifted(cx, copy, 1, moved),
         Err(_) => false,
     }
