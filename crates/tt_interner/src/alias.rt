@@ -35,7 +35,7 @@ ghost use Rattle.tt_interner.specs.Alias.{
 };
 ghost use Rattle.tt_interner.specs.Collect.{BuildsFrom};
 ghost use Rattle.tt_interner.specs.Rows.{args_row, size, type_row};
-ghost use Rattle.tt_interner.specs.Stored.{Builds};
+ghost use Rattle.tt_interner.specs.Stored.{Builds, Extends};
 
 use crate::handle::InternedList;
 use crate::interner::Interner;
@@ -65,6 +65,7 @@ pub trait InternedAlias: Sized {
         requires items { (items : List _) → Drains I.next_gives args items
             → AreParts (size cx.old.rows) (item_shapes arg_shape items) }
         ensures args { BuildsFrom result (λ made. (alias made).args.number) cx.old cx.new args_row I.next_gives args }
+        ensures extends { Extends cx.old cx.new }
         ensures kind { IfOk result (λ made. (alias made).kind ≡ kind) };
 
     /// Returns the type that is the alias, as [`Interner::mk_ty`] does for its kind. The arguments have to be of this
@@ -99,6 +100,7 @@ pub trait InternedAlias: Sized {
             cx.new
             (alias self).args
             self_ty }
+        ensures extends { Extends cx.old cx.new }
         ensures kind { IfOk result (λ made. (alias made).kind ≡ (alias self).kind) };
 
     /// Returns whether the alias is a projection, and its associated type is declared in this interner.
@@ -128,13 +130,15 @@ pub trait InternedAlias: Sized {
     ) -> Result<(TraitRef, GenericArgsSlice), Refusal>
         requires { HasTraitArgs cx.old.rows (alias self) }
         ensures trait_ref { BuildsTraitRef result (λ both. both.0) cx.old cx.new (alias self) }
+        ensures extends { Extends cx.old cx.new }
         ensures own { IfOk result (λ both. IsOwnArgs cx.old.rows (alias self) both.0.def_id both.1) };
 
     /// Returns the trait of a projection with the arguments for its parameters, as
     /// [`InternedAlias::trait_ref_and_own_args`] does.
     fn trait_ref(self, cx: &mut Interner) -> Result<TraitRef, Refusal>
         requires { HasTraitArgs cx.old.rows (alias self) }
-        ensures { BuildsTraitRef result (λ made. made) cx.old cx.new (alias self) };
+        ensures builds { BuildsTraitRef result (λ made. made) cx.old cx.new (alias self) }
+        ensures extends { Extends cx.old cx.new };
 }
 
 // Returns the first of the arguments, if there is one and it is a type.

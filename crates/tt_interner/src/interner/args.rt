@@ -6,7 +6,7 @@ ghost use Rattle.tt_kinds.specs.Shape.{item_shapes, AreParts};
 ghost use Rattle.tt_kinds.specs.Kinds.{arg_shape};
 ghost use Rattle.tt_interner.specs.Collect.{BuildsFrom};
 ghost use Rattle.tt_interner.specs.Rows.{args_row, size};
-ghost use Rattle.tt_interner.specs.Stored.{Builds};
+ghost use Rattle.tt_interner.specs.Stored.{Builds, Extends};
 
 use super::Interner;
 use crate::children::MOST_IN_PLACE;
@@ -54,7 +54,8 @@ impl Interner {
         requires ends { IsFinite (I.remaining iter) }
         requires items { (items : List _) → Drains I.next_gives iter items
             → AreParts (size self.old.rows) (item_shapes arg_shape items) }
-        ensures { BuildsFrom result (λ list. list.number) self.old self.new args_row I.next_gives iter }
+        ensures builds { BuildsFrom result (λ list. list.number) self.old self.new args_row I.next_gives iter }
+        ensures extends { Extends self.old self.new }
     {
         let mut places = [GenericArg::from(Ty::from_number(0)); MOST_IN_PLACE];
         let (count, next) = fill(&mut places, &mut iter);

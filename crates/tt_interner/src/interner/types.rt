@@ -139,7 +139,8 @@ impl Interner {
         requires ends { IsFinite (I.remaining iter) }
         requires items { (items : List _) → Drains I.next_gives iter items
             → AreParts (size self.old.rows) (item_shapes ty_shape items) }
-        ensures { BuildsFrom result (λ list. list.number) self.old self.new tys_row I.next_gives iter }
+        ensures builds { BuildsFrom result (λ list. list.number) self.old self.new tys_row I.next_gives iter }
+        ensures extends { Extends self.old self.new }
     {
         let mut places = [Ty::from_number(0); MOST_IN_PLACE];
         let (count, next) = fill(&mut places, &mut iter);
