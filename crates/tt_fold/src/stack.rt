@@ -500,26 +500,24 @@ fn rebuild_term<M, F: Core<M>>(
     let node = term_in(&frame.item);
     let contents = cx.node_parts(node);
     leave::<M, F>(cx, folder, contents.bound_vars)?;
-    let parts = take_parts(values);
+    // The values are read where they are, and dropped once the term is stored.
+    let parts = last_parts(values);
     let new_node = cx.store_like(node, parts)?;
+    values.truncate(values.len() - 2);
     Ok(as_item(&frame.item, new_node))
 }
 
-// Takes the last two values, the results of a term's children.
+// Returns the last two values, the results of a term's children.
 #[inline(always)]
-fn take_parts(values: &mut Values) -> Parts
-    requires { 2 ≤ length values.old.items }
-    ensures parts { last_of 2 values.old.items ≡ result.first ∷ result.second ∷ [] }
-    ensures values { values.new.items ≡ take (length values.old.items - 2) values.old.items }
+fn last_parts(values: &Values) -> Parts
+    requires { 2 ≤ length values.now.items }
+    ensures { last_of 2 values.now.items ≡ result.first ∷ result.second ∷ [] }
 {
-    let start = values.len() - 2;
-    let last = &values.as_slice()[start..];
-    let parts = Parts {
+    let last = last_values(values, 2);
+    Parts {
         first: last[0],
         second: last[1],
-    };
-    values.truncate(start);
-    parts
+    }
 }
 
 // Returns the last `count` values.
