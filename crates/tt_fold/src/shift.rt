@@ -211,6 +211,7 @@ impl TypeFolder for Shifter {
         shift_region_under(region, self.current_index, self.amount)
     }
 
+    #[inline(always)]
     fn fold_ty(&mut self, cx: &mut Interner, ty: Ty) -> Result<Step<Ty>, Refusal> {
         if !self.moves(ty.outer_exclusive_binder(cx)) {
             return Ok(Step::Keep);

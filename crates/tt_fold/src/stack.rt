@@ -31,7 +31,7 @@ ghost use Rattle.tt_fold.specs.Parts.{
   IsChildFor,
   IsChildless,
 };
-ghost use Rattle.tt_fold.specs.Items.{child_list, child_shape, child_tree, IsWhole};
+ghost use Rattle.tt_fold.specs.Items.{child_list, child_node, child_shape, child_tree, IsWhole};
 ghost use Rattle.tt_index.specs.declared.refusal.Refusal.TheVariants.{Memory};
 ghost use Rattle.tt_fold.specs.Stack.{
   EnterFails,
@@ -68,7 +68,7 @@ use smallvec::SmallVec;
 use tt_index::Refusal;
 use tt_interner::Interner;
 use tt_interner::nodes::Contents;
-use tt_kinds::{BoundVarKinds, Child, List, Parts};
+use tt_kinds::{BoundVarKinds, Child, List, Node, Parts};
 
 // A term or a list whose children are walked.
 #[derive(Clone, Copy)]
@@ -129,7 +129,31 @@ pub(crate) fn begin<M, F: Core<M>>(
             let new_region = folder.core_region(cx, *region)?;
             Ok(Begun::Done(Child::Region(new_region)))
         }
-        _ => begin_item::<M, F>(cx, folder, child),
+        _ => begin_whole::<M, F>(cx, folder, child),
+    }
+}
+
+// Begins a term or a list. Types and lists of types, which most are, have copies of the code of their own, where what
+// the item is isn't asked again.
+#[inline(always)]
+fn begin_whole<M, F: Core<M>>(
+    cx: &mut Interner,
+    folder: &mut F,
+    item: &Child,
+) -> Result<Begun, F::Error>
+    requires owned { F.owned cx.old.rows folder.old }
+    requires item { ArePartsOf cx.old.rows (child_shapes item.now) }
+    requires whole { IsWhole item.now }
+    ensures still { StaysStill F.hooks F.touches_nothing F.meaning (child_shape item.now) cx.old folder.old cx.new }
+    ensures goes { Goes F.owned F.meaning
+        (IsBegun F.hooks (child_trees cx.old.rows item.now) (child_tree cx.old.rows item.now) item.now)
+        (λ s e s'. Fails F.hooks (errors_of F.Error.from_gives cx.new) s (child_tree cx.old.rows item.now) e s')
+        cx.old folder.old result cx.new folder.new }
+{
+    match item {
+        Child::Node(Node::Ty(_)) => begin_item::<M, F>(cx, folder, item),
+        Child::List(List::Tys(_)) => begin_item::<M, F>(cx, folder, item),
+        _ => begin_item::<M, F>(cx, folder, item),
     }
 }
 
@@ -334,6 +358,39 @@ pub(crate) fn finish<M, F: Core<M>>(
         (child_tree cx.old.rows rebuilt))
         cx.old folder.old result cx.new folder.new }
 {
+    match before {
+        Child::Node(Node::Ty(_)) => finish_item::<M, F>(cx, folder, before, rebuilt),
+        Child::List(List::Tys(_)) => finish_item::<M, F>(cx, folder, before, rebuilt),
+        _ => finish_item::<M, F>(cx, folder, before, rebuilt),
+    }
+}
+
+// Calls the hook of any term or list after its contents.
+#[inline(always)]
+fn finish_item<M, F: Core<M>>(
+    cx: &mut Interner,
+    folder: &mut F,
+    before: &Child,
+    rebuilt: Child,
+) -> Result<Child, F::Error>
+    requires owned { F.owned cx.old.rows folder.old }
+    requires before { ArePartsOf cx.old.rows (child_shapes before.now) }
+    requires whole { IsWhole before.now }
+    requires rebuilt { IsChildFor before.now cx.old.rows rebuilt }
+    ensures { Goes F.owned F.meaning
+        (λ rows y s s'. IsChildFor before.now rows y
+        × Finishes F.hooks
+        (child_tree cx.old.rows before.now)
+        (child_tree cx.old.rows rebuilt)
+        s
+        (child_tree rows y)
+        s')
+        (FinishFails F.hooks
+        (errors_of F.Error.from_gives cx.new)
+        (child_tree cx.old.rows before.now)
+        (child_tree cx.old.rows rebuilt))
+        cx.old folder.old result cx.new folder.new }
+{
     match hooked_in(before) {
         None => Ok(rebuilt),
         Some(node) => {
@@ -398,16 +455,45 @@ fn next_child(cx: &Interner, frame: &Frame) -> Child
     requires more { frame.now.next < frame.now.count }
     ensures { slice_get (children_in cx.now.rows frame.now) frame.now.next ≡ Some result }
 {
+    match &frame.item {
+        Child::Node(Node::Ty(ty)) => term_child(cx, frame, Node::Ty(*ty)),
+        Child::List(List::Tys(tys)) => cx.list_child(List::Tys(*tys), frame.next),
+        _ => {
+            // Copied, so that the call's place in memory isn't the one of the other arms' results too.
+            let child = other_child(cx, frame);
+            child
+        }
+    }
+}
+
+// Returns the child of a term that is begun next.
+#[inline(always)]
+fn term_child(cx: &Interner, frame: &Frame, node: Node) -> Child
+    requires frame { IsFrame cx.now.rows frame.now }
+    requires more { frame.now.next < frame.now.count }
+    requires term { None ≡ child_list frame.now.item }
+    requires node { node ≡ child_node frame.now.item }
+    ensures { slice_get (children_in cx.now.rows frame.now) frame.now.next ≡ Some result }
+{
+    let contents = cx.node_parts(node);
+    if frame.next == 0 {
+        contents.parts.first
+    } else {
+        contents.parts.second
+    }
+}
+
+// Returns the child that is begun next, of any term or list. It is no part of the loop, which would otherwise find the
+// rows of each table at each child.
+#[inline(never)]
+fn other_child(cx: &Interner, frame: &Frame) -> Child
+    requires frame { IsFrame cx.now.rows frame.now }
+    requires more { frame.now.next < frame.now.count }
+    ensures { slice_get (children_in cx.now.rows frame.now) frame.now.next ≡ Some result }
+{
     match list_in(&frame.item) {
         Some(list) => cx.list_child(list, frame.next),
-        None => {
-            let contents = cx.node_parts(term_in(&frame.item));
-            if frame.next == 0 {
-                contents.parts.first
-            } else {
-                contents.parts.second
-            }
-        }
+        None => term_child(cx, frame, term_in(&frame.item)),
     }
 }
 
@@ -465,15 +551,73 @@ fn rebuild<M, F: Core<M>>(
         (children_trees cx.old.rows (last_of frame.now.count values.old.items)))
         cx.old folder.old result cx.new folder.new }
 {
+    match &frame.item {
+        Child::Node(Node::Ty(_)) => rebuild_term::<M, F>(cx, folder, frame, values),
+        Child::List(List::Tys(tys)) => rebuild_list::<M, F>(
+            cx,
+            folder,
+            frame,
+            List::Tys(*tys),
+            values,
+        ),
+        _ => rebuild_other::<M, F>(cx, folder, frame, values),
+    }
+}
+
+// Builds any term or list from the results of its children.
+#[inline(always)]
+fn rebuild_other<M, F: Core<M>>(
+    cx: &mut Interner,
+    folder: &mut F,
+    frame: &Frame,
+    values: &mut Values,
+) -> Result<Child, F::Error>
+    requires owned { F.owned cx.old.rows folder.old }
+    requires holds { Holds cx.old.rows frame.now (last_of frame.now.count values.old.items) }
+    requires full { frame.now.count ≤ length values.old.items }
+    ensures values { OnOk result
+        (values.new.items ≡ take (length values.old.items - frame.now.count) values.old.items) }
+    ensures goes { Goes F.owned F.meaning
+        (IsRebuilt F.hooks cx.old.rows frame.now (last_of frame.now.count values.old.items))
+        (RebuildFails F.hooks
+        (errors_of F.Error.from_gives cx.new)
+        (outline_of cx.old.rows frame.now.item)
+        (children_trees cx.old.rows (last_of frame.now.count values.old.items)))
+        cx.old folder.old result cx.new folder.new }
+{
     match list_in(&frame.item) {
-        Some(list) => {
-            let results = last_values(values, frame.count);
-            let new_list = cx.store_list(list.sort(), results)?;
-            values.truncate(values.len() - frame.count);
-            Ok(as_list_item(&frame.item, new_list))
-        }
+        Some(list) => rebuild_list::<M, F>(cx, folder, frame, list, values),
         None => rebuild_term::<M, F>(cx, folder, frame, values),
     }
+}
+
+// Builds a list from the results of its items.
+#[inline(always)]
+fn rebuild_list<M, F: Core<M>>(
+    cx: &mut Interner,
+    folder: &F,
+    frame: &Frame,
+    list: List,
+    values: &mut Values,
+) -> Result<Child, F::Error>
+    requires owned { F.owned cx.old.rows folder.now }
+    requires holds { Holds cx.old.rows frame.now (last_of frame.now.count values.old.items) }
+    requires list { Some list ≡ child_list frame.now.item }
+    requires full { frame.now.count ≤ length values.old.items }
+    ensures values { OnOk result
+        (values.new.items ≡ take (length values.old.items - frame.now.count) values.old.items) }
+    ensures goes { Goes F.owned F.meaning
+        (IsRebuilt F.hooks cx.old.rows frame.now (last_of frame.now.count values.old.items))
+        (RebuildFails F.hooks
+        (errors_of F.Error.from_gives cx.new)
+        (outline_of cx.old.rows frame.now.item)
+        (children_trees cx.old.rows (last_of frame.now.count values.old.items)))
+        cx.old folder.now result cx.new folder.now }
+{
+    let results = last_values(values, frame.count);
+    let new_list = cx.store_list(list.sort(), results)?;
+    values.truncate(values.len() - frame.count);
+    Ok(as_list_item(&frame.item, new_list))
 }
 
 // Builds a term from the results of its children.
@@ -500,26 +644,24 @@ fn rebuild_term<M, F: Core<M>>(
     let node = term_in(&frame.item);
     let contents = cx.node_parts(node);
     leave::<M, F>(cx, folder, contents.bound_vars)?;
-    let parts = take_parts(values);
+    // The values are read where they are, and dropped once the term is stored.
+    let parts = last_parts(values);
     let new_node = cx.store_like(node, parts)?;
+    values.truncate(values.len() - 2);
     Ok(as_item(&frame.item, new_node))
 }
 
-// Takes the last two values, the results of a term's children.
+// Returns the last two values, the results of a term's children.
 #[inline(always)]
-fn take_parts(values: &mut Values) -> Parts
-    requires { 2 ≤ length values.old.items }
-    ensures parts { last_of 2 values.old.items ≡ result.first ∷ result.second ∷ [] }
-    ensures values { values.new.items ≡ take (length values.old.items - 2) values.old.items }
+fn last_parts(values: &Values) -> Parts
+    requires { 2 ≤ length values.now.items }
+    ensures { last_of 2 values.now.items ≡ result.first ∷ result.second ∷ [] }
 {
-    let start = values.len() - 2;
-    let last = &values.as_slice()[start..];
-    let parts = Parts {
+    let last = last_values(values, 2);
+    Parts {
         first: last[0],
         second: last[1],
-    };
-    values.truncate(start);
-    parts
+    }
 }
 
 // Returns the last `count` values.

@@ -21,11 +21,11 @@ returns-in_err-leave-clause-goes g c =
 pub store_like-requires-clause-like : goal.store_like-requires-clause-like
 store_like-requires-clause-like g c =
     let t = term_facts c.requires.holds _ c.requires.term c.term_in-node.ensures.node in
-    rw (stored_kind-grows _ _ c.in_ok-leave.ensures.extends.rows c.term_in-node.result t.in_range) (term_like c.requires.holds _ c.requires.term c.term_in-node.ensures.node _ c.take_parts-parts.ensures.parts)
+    rw (stored_kind-grows _ _ c.in_ok-leave.ensures.extends.rows c.term_in-node.result t.in_range) (term_like c.requires.holds _ c.requires.term c.term_in-node.ensures.node _ c.last_parts-parts.ensures)
 
 pub store_like-requires-clause-parts : goal.store_like-requires-clause-parts
 store_like-requires-clause-parts g c =
-    AreParts-grows _ _ c.in_ok-leave.ensures.extends.rows _ (term_parts c.requires.holds _ c.requires.term c.term_in-node.ensures.node _ c.take_parts-parts.ensures.parts)
+    AreParts-grows _ _ c.in_ok-leave.ensures.extends.rows _ (term_parts c.requires.holds _ c.requires.term c.term_in-node.ensures.node _ c.last_parts-parts.ensures)
 
 pub returns-in_err-new_node-clause-goes : goal.returns-in_err-new_node-clause-goes
 returns-in_err-new_node-clause-goes g c =
@@ -36,12 +36,12 @@ returns-in_err-new_node-clause-goes g c =
     let h = c.in_err-new_node.ensures in
     let form = rw (stored_kind-grows _ _ d.extends.rows c.term_in-node.result t.in_range) at h.form in
     let sort = same-sort h.kind k (h.table ∙ sym t.table) in
-    let shallow : IsTooDeep (kind_shape h.kind) → ⊥ = rw (sort, form) (not-deep (kind_sort k) c.take_parts-parts.result (kind_form k) t.inner) in
-    let owned = AreParts-grows _ _ d.extends.rows _ (term_parts c.requires.holds _ c.requires.term c.term_in-node.ensures.node _ c.take_parts-parts.ensures.parts) in
+    let shallow : IsTooDeep (kind_shape h.kind) → ⊥ = rw (sort, form) (not-deep (kind_sort k) c.last_parts-parts.result (kind_form k) t.inner) in
+    let owned = AreParts-grows _ _ d.extends.rows _ (term_parts c.requires.holds _ c.requires.term c.term_in-node.ensures.node _ c.last_parts-parts.ensures) in
     let parts : HasParts (size c.leave.new.cx.rows) (kind_shape h.kind) =
-    rw (sort, form) (refilled_parts (size c.leave.new.cx.rows) (kind_sort k) c.take_parts-parts.result (kind_form k) (HasParts-grows _ _ d.extends.rows (kind_shape k) t.named) owned) in
+    rw (sort, form) (refilled_parts (size c.leave.new.cx.rows) (kind_sort k) c.last_parts-parts.result (kind_form k) (HasParts-grows _ _ d.extends.rows (kind_shape k) t.named) owned) in
     let cause = not_stored c.leave.new.cx h.kind _ parts shallow h.builds.cause in
-    rw p.1 (rebuild_not_stored _ c.take_parts-parts.result h.kind c.requires.holds c.requires.term c.term_in-node.ensures.node c.node_parts-contents.ensures.bound_vars d c.take_parts-parts.ensures.parts form sort h.builds.err
+    rw p.1 (rebuild_not_stored _ c.last_parts-parts.result h.kind c.requires.holds c.requires.term c.term_in-node.ensures.node c.node_parts-contents.ensures.bound_vars d c.last_parts-parts.ensures form sort h.builds.err
     (c.in_err-new_node.field-0.0, (p.2, rw h.builds.err cause)))
 
 pub returns-clause-goes : goal.returns-clause-goes
@@ -55,7 +55,7 @@ returns-clause-goes g c =
     let o = d.is_owned in
     let adds = stored-adds (kind-no_symbol h.kind) h.builds.stored in
     let of_kind = h.of_table ∙ sym h.table in
-    rebuild_stored _ _ c.take_parts-parts.result h.kind c.requires.holds c.requires.term c.term_in-node.ensures.node c.node_parts-contents.ensures.bound_vars d c.take_parts-parts.ensures.parts form sort
+    rebuild_stored _ _ c.last_parts-parts.result h.kind c.requires.holds c.requires.term c.term_in-node.ensures.node c.node_parts-contents.ensures.bound_vars d c.last_parts-parts.ensures form sort
     (record { rows = h.builds.grows; limit = h.builds.limit }) (g.met.F.Core.still_owned _ _ _ adds o)
     (stands-still g.F.Core.meaning c.leave.new.cx c.store_like.new.self c.leave.new.folder (g.met.F.Core.still_means _ _ _ adds o) h.builds.counters)
     c.as_item.ensures.same c.as_item.ensures.like (stored_node _ _ _ h.kind h.builds.in_range of_kind h.table) (stored_node_tree _ _ _ h.kind h.builds.means of_kind)

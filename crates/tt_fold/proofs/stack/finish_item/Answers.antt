@@ -1,6 +1,6 @@
 use Rattle.std.proofs.lemmas.Result.{err_from_is_err_and}
 use Rattle.tt_fold.proofs.ItemSteps.{finish_none, finish_fails_step, finish_ok}
-use Rattle.tt_fold.proofs.stack.finish.Goals as goal
+use Rattle.tt_fold.proofs.stack.finish_item.Goals as goal
 
 pub returns-in-None : goal.returns-in-None
 returns-in-None g c = finish_none _ c.requires.whole c.requires.before c.in-None.ensures c.requires.owned c.requires.rebuilt
