@@ -469,7 +469,7 @@ fn next_child(cx: &Interner, frame: &Frame) -> Child
 // Returns the child of a term that is begun next.
 #[inline(always)]
 fn term_child(cx: &Interner, frame: &Frame, node: Node) -> Child
-    requires frame { IsFrame cx.now.rows frame.now }
+    requires frame { IsFoldFrame cx.now.rows frame.now }
     requires more { frame.now.next < frame.now.count }
     requires term { None ≡ child_list frame.now.item }
     requires node { node ≡ child_node frame.now.item }
@@ -487,7 +487,7 @@ fn term_child(cx: &Interner, frame: &Frame, node: Node) -> Child
 // rows of each table at each child.
 #[inline(never)]
 fn other_child(cx: &Interner, frame: &Frame) -> Child
-    requires frame { IsFrame cx.now.rows frame.now }
+    requires frame { IsFoldFrame cx.now.rows frame.now }
     requires more { frame.now.next < frame.now.count }
     ensures { slice_get (children_in cx.now.rows frame.now) frame.now.next ≡ Some result }
 {
