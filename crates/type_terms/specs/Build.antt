@@ -41,7 +41,7 @@ use Rattle.std.specs.declared.alloc.Global.{Global}
 use Rattle.std.specs.declared.vec.Vec.{Vec}
 use Rattle.type_terms.specs.CallForm.{a_list, terms_at, declared_sort, declared_item, declared_trees, declared_positions, of_id, CallForm, Named, Item, Part, called, variable_kind, item_tree, items_trees, part_tree, parts_trees, item_positions, items_positions, part_positions, parts_positions, IsItemTooDeep, AreItemsTooDeep, IsPartTooDeep, ArePartsTooDeep, form_positions, form_tree, IsFormTooDeep, arg_item, arg_items, clause_items, RecordCall, record_tree}
 use Rattle.type_terms.specs.Told.{Told, term, told, told_all, handle_table, IsOwned, AreOwned, HasFullTable, setting}
-use Rattle.type_terms.specs.Means.{IsUnchanged, as_term, term_at, as_id, id_at, number_at, Tells, tree_at, argument, arguments, AreTerms, IsAllowed, MayRefuse}
+use Rattle.type_terms.specs.Means.{as_term, term_at, as_id, id_at, number_at, Tells, tree_at, argument, arguments, AreTerms, IsAllowed, MayRefuse}
 
 -- the answer is the handle of this number in the table
 pub record IsHandle (a : Answer) (table : Table) (number : ℕ) : Type 0 where
@@ -93,11 +93,6 @@ IsUnusable earlier names deep _ = ⊥
 pub record IsUsable (earlier : List Told) (names : List Named) (deep : Type 0) : Type 0 where
   pub named : AreTerms earlier names
   pub shallow : deep → ⊥
-
--- this is the answer at the position, and it is a term that stays whatever the arguments are
-pub record IsUnchangedAt (rows : List Row) (earlier : List Answer) (position : ℕ) (a : Answer) : Type 0 where
-  pub at : IsAnswerAt earlier position a
-  pub unchanged : IsSomeAnd (as_term (Some (told rows a))) IsUnchanged
 
 -- k is the name that the call gives a bound region, if these are the numbers of the ids at positions
 pub record IsNameOf (terms : Terms) (ids : ℕ → ℕ) (call : RegionNameCall) (k : BoundRegionKind) : Type 0 where
