@@ -22,4 +22,5 @@ AreTyped terms bodies = All (λ types. AreOwned ty_shape terms types.items) bodi
 
 -- the types of the fields are the interner's
 abbrev pub AreOwnedFields : Terms → List FieldInfo → Type 0
-AreOwnedFields terms fields = (i : ℕ) (field : FieldInfo) → slice_get fields i ≡ Some field → IsOwned ty_shape terms field.ty
+AreOwnedFields terms fields = (i : ℕ) (field : FieldInfo) → slice_get fields i ≡ Some field
+    → IsOwned ty_shape terms field.ty

@@ -27,7 +27,8 @@ pub record IsScope (terms : Terms) (scope : Scope) : Type 0 where
 -- there are as many types as numbers, and each is the type of the number in its place, which is below the limit
 pub record AreTypesBefore (types : List Ty) (limit : ℕ) (ns : List ℕ) (found : List Ty) : Type 0 where
   pub counted : length ns ≡ length found
-  pub each : (k n : ℕ) → slice_get ns k ≡ Some n → (ty : Ty) × (slice_get found k ≡ Some ty) × (n < limit) × (slice_get types n ≡ Some ty)
+  pub each : (k n : ℕ) → slice_get ns k ≡ Some n → (ty : Ty) × (slice_get found k ≡ Some ty) × (n < limit)
+      × (slice_get types n ≡ Some ty)
 
 -- the trees of the types
 abbrev pub trees : List Row → List Ty → List (Tree Depth)
@@ -46,21 +47,26 @@ body_around terms program declared function body types = record {
 
 -- what is around the expressions of a scope
 abbrev pub around : Terms → Scope → Around
-around terms scope = body_around terms scope.program.now scope.declared.now scope.function.now scope.body.now scope.types.now
+around terms scope = body_around terms scope.program.now scope.declared.now scope.function.now scope.body.now
+    scope.types.now
 
 -- if the function has a body, the expressions have these types by the rules
 abbrev pub IsTypedFunction : Terms → Program → Declared → Function → List Ty → Type 0
-IsTypedFunction terms program declared function types = IfSome function.body (λ body. IsTypedBody (body_around terms program declared function body types))
+IsTypedFunction terms program declared function types =
+    IfSome function.body (λ body. IsTypedBody (body_around terms program declared function body types))
 
 -- so has each of the first functions, of the types in its place
-pub record AreTypedFirst (terms : Terms) (program : Program) (declared : Declared) (bodies : List (Vec Ty Global)) (count : ℕ) : Type 0 where
+pub record AreTypedFirst (terms : Terms) (program : Program) (declared : Declared) (bodies : List (Vec Ty Global))
+    (count : ℕ) : Type 0 where
   pub counted : length bodies ≡ count
   pub each : (f : ℕ) (function : Function) → f < count → slice_get program.functions.items f ≡ Some function
-      → (types : Vec Ty Global) × (slice_get bodies f ≡ Some types) × IsTypedFunction terms program declared function types.items
+      → (types : Vec Ty Global) × (slice_get bodies f ≡ Some types)
+      × IsTypedFunction terms program declared function types.items
 
 -- so has each function
 abbrev pub AreTypedBodies : Terms → Program → Declared → List (Vec Ty Global) → Type 0
-AreTypedBodies terms program declared bodies = AreTypedFirst terms program declared bodies (length program.functions.items)
+AreTypedBodies terms program declared bodies = AreTypedFirst terms program declared bodies
+    (length program.functions.items)
 
 -- the arguments in a stored list, by trees
 abbrev pub argument_trees : Terms → GenericArgs → List (Argument Depth)

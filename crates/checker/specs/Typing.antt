@@ -1,12 +1,14 @@
 -- The typing rules of the language, on plain trees of types.
-use Rattle.std.specs.Prelude.{◌≡◌, ◌<◌, ◌-◌, ℕ, List, [], ◌∷◌, length, Option, Some, None, map, drop, slice_get, take, IfSome}
+use Rattle.std.specs.Prelude.{◌≡◌, ◌<◌, ◌-◌, ℕ, List, [], ◌∷◌, length, Option, Some, None, map, drop, slice_get, take}
+use Rattle.std.specs.Prelude.{IfSome}
 use Rattle.std.specs.String.{string_bytes}
 use Rattle.std.specs.declared.alloc.Global.{Global}
 use Rattle.std.specs.declared.string.String.{String}
 use Rattle.tt_index.specs.declared.numeric.IntTy.TheVariants.{I32}
 use Rattle.tt_index.specs.declared.qualifier.Mutability.{Mutability}
 use Rattle.tt_index.specs.declared.qualifier.Mutability.TheVariants.{Not}
-use Rattle.tt_kinds.specs.Label.{type_sort, TypeLabel, type_label, list_label, bool_type, char_type, int_type, str_type, tuple_type, ref_type, erased_region}
+use Rattle.tt_kinds.specs.Label.{type_sort, TypeLabel, type_label, list_label, bool_type, char_type, int_type, str_type}
+use Rattle.tt_kinds.specs.Label.{tuple_type, ref_type, erased_region}
 use Rattle.tt_kinds.specs.Tree.{Depth, Tree, Forest, param, term, node, region, none, also}
 use Rattle.tt_kinds.specs.Argument.{Argument}
 use Rattle.tt_kinds.specs.declared.table.Table.TheVariants.{TypeLists}
@@ -132,7 +134,8 @@ module _ (A : Around) where
     argument : {k w : ℕ} → slice_get A.function.inputs.items k ≡ Some w → Writes w t → IsTyped i t (of.Argument k)
     binding : {n : ℕ} {a : Option ℕ} → Operand i n t → IfSome a (λ w. Writes w t) → IsTyped i t (of.Let n a)
     variable : {n : ℕ} → Operand i n t → IsTyped i t (of.Local n)
-    tuple : {s : Span} {ts : List (Tree Depth)} → Operands i (part A.body.operands.items s) ts → t ≡ tuple_of ts → IsTyped i t (of.Tuple s)
+    tuple : {s : Span} {ts : List (Tree Depth)} → Operands i (part A.body.operands.items s) ts → t ≡ tuple_of ts
+        → IsTyped i t (of.Tuple s)
     reference : {n : ℕ} {u : Tree Depth} → Operand i n u → t ≡ reference_to u → IsTyped i t (of.Reference n)
     dereference : {n : ℕ} → Operand i n (reference_to t) → IsTyped i t (of.Dereference n)
     -- a call: the arguments' types are instances of the written inputs, and the call's is the written output's
@@ -142,12 +145,15 @@ module _ (A : Around) where
         → Writes item.output d → IsPlain args d t → IsTyped i t (of.Call f s)
     -- a data type expression: the values' types are instances of the written fields
     data_type : {k : ℕ} {s : Span} {item : DataType} {args : List (Argument Depth)}
-        → IsInstance k item args t → Fit i args (map (λ f. f.ty) item.fields.items) (part A.body.operands.items s) → IsTyped i t (of.Data k s)
+        → IsInstance k item args t → Fit i args (map (λ f. f.ty) item.fields.items) (part A.body.operands.items s)
+        → IsTyped i t (of.Data k s)
     -- a field of a value of a data type, or of a reference to one
     field : {n name k : ℕ} {u whole : Tree Depth} {item : DataType} {args : List (Argument Depth)}
-        → Operand i n u → Reaches u whole → IsInstance k item args whole → HasField item args name t → IsTyped i t (of.Field n name)
+        → Operand i n u → Reaches u whole → IsInstance k item args whole → HasField item args name t
+        → IsTyped i t (of.Field n name)
     -- an item of a tuple, or of a reference to one
-    item : {n k : ℕ} {u whole : Tree Depth} → Operand i n u → Reaches u whole → IsItemOf k whole t → IsTyped i t (of.Item n k)
+    item : {n k : ℕ} {u whole : Tree Depth} → Operand i n u → Reaches u whole → IsItemOf k whole t
+        → IsTyped i t (of.Item n k)
 
   -- the expression of number i has its type by a rule
   pub record HasType (i : ℕ) (e : Expression) : Type 0 where

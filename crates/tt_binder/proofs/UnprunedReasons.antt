@@ -25,7 +25,8 @@ use Rattle.tt_fold.proofs.ClauseLaws.{KeepsClauses, value_keeps}
 use Rattle.tt_binder.specs.Instance.{IsPlain}
 use Rattle.tt_interner.proofs.FittingLaws.{value-fits}
 use Rattle.tt_binder.specs.Unpruned.{Replacing, outside, value_of, value_for, value_or, IsValueRefusal, IsLeafRefusal}
-use Rattle.tt_binder.specs.Unpruned.{HeedsNone, GivesUnpruned, FailsUnpruned, IsPlainReason, only, IsUnseen, HoldsNoRegionVar}
+use Rattle.tt_binder.specs.Unpruned.{HeedsNone, GivesUnpruned, FailsUnpruned, IsPlainReason, only, IsUnseen}
+use Rattle.tt_binder.specs.Unpruned.{HoldsNoRegionVar}
 use Rattle.tt_binder.specs.Unpruned.{PruningIsUnseen}
 use Rattle.tt_binder.proofs.UnprunedLaws.{Meets, Meets_all, IsRooted, param_placed, fits_or, does, met_at_end, Goes}
 use Rattle.tt_binder.proofs.UnprunedLaws.{goes, ends, either}

@@ -26,7 +26,8 @@ use Rattle.tt_fold.proofs.LeafLaws.{with_leaves-rebuild}
 use Rattle.tt_fold.proofs.ShiftLaws.{counted-one, counted-up}
 use Rattle.tt_fold.proofs.RememberLaws.{Knows}
 use Rattle.tt_fold.proofs.TaskLaws.{AllowsAll, Refuses, without, too_far, caused, IsGiven, TaskLaws}
-use Rattle.tt_binder.specs.Instantiation.{Args, Kept, Instantiation, at_first, Instantiates, IsInstantiable, LeafRefuses}
+use Rattle.tt_binder.specs.Instantiation.{Args, Kept, Instantiation, at_first, Instantiates, IsInstantiable}
+use Rattle.tt_binder.specs.Instantiation.{LeafRefuses}
 use Rattle.tt_binder.specs.Instantiation.{for_cause, shift_unbuilt, shift_too_far, IsInnerConst, IsGoneInto}
 use Rattle.tt_binder.specs.Instantiation.{PutsArgument, as_it_is, shifted_now, instantiation}
 

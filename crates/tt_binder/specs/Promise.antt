@@ -33,7 +33,8 @@ pub record InstancePromise {T : Type 0} (shape : T → Shape) (args : List (Argu
   pub descents : old.counters.descents ≤ new.counters.descents
   pub shift_descents : old.counters.shift_descents ≤ new.counters.shift_descents
   -- at most one descent for each place of a type that holds a parameter and is not one
-  pub positions : OnOk result (new.counters.descents ≤ old.counters.descents + place_count (tree_by shape old.rows value))
+  pub positions : OnOk result (new.counters.descents ≤ old.counters.descents + place_count
+      (tree_by shape old.rows value))
   -- at most one descent for each pair of such a type and a number of binders above it
   pub pairs : OnOk result (CountsPairs (generic_types 0 (tree_by shape old.rows value)) old.counters.descents
       new.counters.descents)

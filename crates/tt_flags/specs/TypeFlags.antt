@@ -195,7 +195,8 @@ flag_table =
     (codes "HAS_REGIONS", union_of (has_free_regions ∷ has_re_bound ∷ has_re_erased ∷ [])) ∷ (
       codes "HAS_FREE_LOCAL_NAMES",
       union_of (has_ty_param ∷ has_ct_param ∷ has_ty_infer ∷ has_ct_infer
-          ∷ has_ty_placeholder ∷ has_ct_placeholder ∷ has_ty_fresh ∷ has_ct_fresh ∷ has_free_local_regions ∷ has_re_erased
+          ∷ has_ty_placeholder ∷ has_ct_placeholder ∷ has_ty_fresh ∷ has_ct_fresh ∷ has_free_local_regions
+          ∷ has_re_erased
           ∷ []),
     ) ∷ (
       codes "STILL_FURTHER_SPECIALIZABLE",

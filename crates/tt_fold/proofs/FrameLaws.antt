@@ -29,7 +29,8 @@ use Rattle.tt_fold.specs.Stack.{joined_trees}
 use Rattle.tt_fold.specs.Stack as outline
 use Rattle.tt_fold.specs.Items.{child_shape, child_tree, child_list, child_node, IsWhole}
 use Rattle.tt_fold.specs.Going.{form_outline, outline_by, outline_of, children_by, children_in, absent_among, IsMadeOf}
-use Rattle.tt_fold.specs.Going.{IsFoldFrame, FitsList, AreAlike, Holds, left_of, BegunFrame, frames_of, context_of, contexts}
+use Rattle.tt_fold.specs.Going.{IsFoldFrame, FitsList, AreAlike, Holds, left_of, BegunFrame, frames_of, context_of}
+use Rattle.tt_fold.specs.Going.{contexts}
 use Rattle.tt_fold.specs.Going.{AreBelow, work_all, frame_work, frames_work}
 use Rattle.tt_fold.specs.declared.stack.Frame.{Frame}
 use Rattle.tt_fold.proofs.PartLaws.{one_tree, no_trees, append_trees, append_parts, right_parts, left_parts}

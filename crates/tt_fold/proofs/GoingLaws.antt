@@ -19,11 +19,13 @@ use Rattle.tt_fold.specs.Walk.{Hooks, HasUnwanted, WalksAll, done, stopped, Chil
 use Rattle.tt_fold.specs.Counts.{Standing, stands}
 use Rattle.tt_fold.specs.Steps.{Goes, errors_of}
 use Rattle.tt_fold.specs.Parts.{ArePartsOf, child_trees, children_trees, IsChildFor}
-use Rattle.tt_fold.specs.Stack.{joined_trees, Outline, plain, under, items, whole, wanted_by, Begins, Rebuilds, RebuildFails}
+use Rattle.tt_fold.specs.Stack.{joined_trees, Outline, plain, under, items, whole, wanted_by, Begins, Rebuilds}
+use Rattle.tt_fold.specs.Stack.{RebuildFails}
 use Rattle.tt_fold.specs.Stack.{Finishes, FinishFails, Rests, RestFails, in_left, in_rebuild, in_finish, not_wanted}
 use Rattle.tt_fold.specs.Items.{child_tree, IsWhole}
 use Rattle.tt_fold.specs.Going.{outline_of, children_in, absent_among, IsFoldFrame, Holds, IsNotKept, IsResult, last_of}
-use Rattle.tt_fold.specs.Going.{left_of, BegunFrame, frames_of, values_of, work, work_all, frames_work, total_work, IsNewFrame}
+use Rattle.tt_fold.specs.Going.{left_of, BegunFrame, frames_of, values_of, work, work_all, frames_work, total_work}
+use Rattle.tt_fold.specs.Going.{IsNewFrame}
 use Rattle.tt_fold.specs.Going.{Going}
 use Rattle.tt_fold.specs.declared.stack.Frame.{Frame}
 use Rattle.tt_fold.proofs.PartLaws.{joined_trees-none, no_trees, no_parts, one_tree}

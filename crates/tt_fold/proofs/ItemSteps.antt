@@ -45,7 +45,8 @@ use Rattle.tt_fold.specs.Stack.{leave_fails, rebuilds, RebuildFails, not_left, n
 use Rattle.tt_fold.specs.Stack.{FinishFails}
 use Rattle.tt_fold.specs.Items.{child_shape, child_tree, child_list, child_node, child_root, IsWhole, SameTerm}
 use Rattle.tt_fold.specs.Items.{SameList, IsHooked, IsHookOf}
-use Rattle.tt_fold.specs.Going.{form_outline, outline_of, children_in, IsTermFrame, IsFoldFrame, Holds, IsNewFrame, IsAsked}
+use Rattle.tt_fold.specs.Going.{form_outline, outline_of, children_in, IsTermFrame, IsFoldFrame, Holds, IsNewFrame}
+use Rattle.tt_fold.specs.Going.{IsAsked}
 use Rattle.tt_fold.specs.Going.{IsOpen, IsBegun, IsRebuilt, left_of}
 use Rattle.tt_fold.specs.declared.folder.Step.TheVariants as step
 use Rattle.tt_fold.specs.declared.stack.Begun.TheVariants as begun

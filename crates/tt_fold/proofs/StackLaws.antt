@@ -12,7 +12,8 @@ use Rattle.tt_fold.specs.Walk.{WalksInside, in_term, in_param, in_bound, WalksAl
 use Rattle.tt_fold.specs.Walk.{passed_failed, inside_failed, after_failed, InsideFails, in_term_failed, not_built}
 use Rattle.tt_fold.specs.Walk.{FailsAll, here, no_clause, enter_failed, under_failed, leave_failed, node_failed}
 use Rattle.tt_fold.specs.Walk.{node_not_built}
-use Rattle.tt_fold.specs.Stack.{joined_trees, Outline, plain, under, items, whole, wanted_by, TakesAny, binder_of, Asks, asks}
+use Rattle.tt_fold.specs.Stack.{joined_trees, Outline, plain, under, items, whole, wanted_by, TakesAny, binder_of, Asks}
+use Rattle.tt_fold.specs.Stack.{asks}
 use Rattle.tt_fold.specs.Stack.{passes, at_list, Opens, opens_bare, opens_binder, leaves_bare, leaves_binder, Begins}
 use Rattle.tt_fold.specs.Stack.{Rebuilds, rebuilds, Finishes, finishes, unasked, Rests, EnterFails, enter_fails}
 use Rattle.tt_fold.specs.Stack.{leave_fails, RebuildFails, not_left, not_rebuilt, FinishFails, RestFails, in_children}

@@ -18,7 +18,8 @@ use Rattle.tt_fold.specs.Steps.{tree_by}
 use Rattle.tt_fold.specs.Places.{IsIn}
 use Rattle.tt_fold.specs.Remember.{Memo, State}
 use Rattle.tt_fold.specs.Types.{TypeHooks}
-use Rattle.tt_fold.specs.TypesOnce.{with_counters, IsSteady, IsMeaning, noted_with, steadily, OnType, recalled, answered}
+use Rattle.tt_fold.specs.TypesOnce.{with_counters, IsSteady, IsMeaning, noted_with, steadily, OnType, recalled}
+use Rattle.tt_fold.specs.TypesOnce.{answered}
 use Rattle.tt_fold.specs.TypesOnce.{Noted, recalling}
 
 -- the state of a folder means the same after each answer

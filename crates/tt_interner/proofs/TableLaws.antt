@@ -27,7 +27,8 @@ use Rattle.tt_interner.specs.Rows.{size, meaning, IsNew, IsWellFormed, AreRows}
 use Rattle.tt_interner.specs.Stored.{Terms, Counters, Adds, IsInfo, HasFirst, IsAt, first_rows, anonymous_text}
 use Rattle.tt_interner.specs.Info.{keeps_info}
 use Rattle.std.specs.Prelude.{IsTrue}
-use Rattle.tt_interner.specs.Tables.{TableEntry, Tables, table_entries, with_entries, push, rows_of, infos_of, reversed_tables, merged}
+use Rattle.tt_interner.specs.Tables.{TableEntry, Tables, table_entries, with_entries, push, rows_of, infos_of}
+use Rattle.tt_interner.specs.Tables.{reversed_tables, merged}
 use Rattle.tt_interner.specs.Tables.{rows_in_order, entries_by, listed_by, AreInfos, AreTables, Keeps, no_info}
 use Rattle.tt_interner.proofs.RowLaws.{in_table, is_in_own, table-other, table-new, meaning-old, meaning-new}
 use Rattle.tt_interner.proofs.RowLaws.{slice_get-push_before, slice_get-push_last, row-old}

@@ -17,13 +17,15 @@ use Rattle.tt_interner.specs.Rows.{Row, existential_row, text_row, row_table, ta
 use Rattle.tt_interner.specs.Stored.{Terms, Counters, IsInfo, first_rows, anonymous_text}
 use Rattle.tt_interner.specs.Info.{keeps_info}
 use Rattle.std.specs.Prelude.{IsTrue}
-use Rattle.tt_interner.specs.Tables.{TableEntry, Tables, table_entries, with_entries, push, rows_of, infos_of, reversed_tables, newest}
+use Rattle.tt_interner.specs.Tables.{TableEntry, Tables, table_entries, with_entries, push, rows_of, infos_of}
+use Rattle.tt_interner.specs.Tables.{reversed_tables, newest}
 use Rattle.tt_interner.specs.Tables.{older, merged, rows_in_order, entries_by, AreInfos, AreTables, Keeps}
 use Rattle.tt_interner.specs.Existentials.{AreExistentials}
 use Rattle.tt_interner.proofs.RowLaws.{table-other, table-new, meaning-old, slice_get-push_before, slice_get-push_last}
 use Rattle.tt_interner.proofs.RowLaws.{size-more}
 use Rattle.tt_interner.proofs.Trees.{Means-row}
-use Rattle.tt_interner.proofs.TableLaws.{table_entries-other, rows_in_order-push, size_own, apart, by_table, rows_of-push}
+use Rattle.tt_interner.proofs.TableLaws.{table_entries-other, rows_in_order-push, size_own, apart, by_table}
+use Rattle.tt_interner.proofs.TableLaws.{rows_of-push}
 use Rattle.tt_interner.proofs.TableLaws.{infos_of-push}
 
 -- there are as many rows as tables in the order

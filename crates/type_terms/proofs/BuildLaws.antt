@@ -38,7 +38,8 @@ use Rattle.type_terms.specs.Means as means
 use Rattle.type_terms.specs.Means.{number_at, tree_at, AreTerms, NamesTerms, BuildsOrFolds, IsTold, IsKnown, IsThere}
 use Rattle.type_terms.specs.Means.{AddsNothing, IsAllowed, MayRefuse, want_of_memory, full_table, no_term, too_deep}
 use Rattle.type_terms.specs.Build as build
-use Rattle.type_terms.specs.Build.{IsUnbuiltPart, no_memory, no_row, no_index, IsNameOf, GivesRegion, ArePlaced, AreItemsOf}
+use Rattle.type_terms.specs.Build.{IsUnbuiltPart, no_memory, no_row, no_index, IsNameOf, GivesRegion, ArePlaced}
+use Rattle.type_terms.specs.Build.{AreItemsOf}
 use Rattle.type_terms.specs.Build.{GivesPart, GivesPlaced, IsKindOf, Answers}
 use Rattle.type_terms.specs.Room.{IsRefusalForRoom, HasValue, NeedsRoom, FormNeedsRoom}
 use Rattle.type_terms.proofs.ValueLaws.{new-lacks}

@@ -24,17 +24,17 @@ use Rattle.tt_kinds.specs.declared.region_kind.RegionKind.{RegionKind}
 use Rattle.tt_kinds.specs.declared.generic_arg.GenericArgKind.{GenericArgKind}
 use Rattle.tt_kinds.specs.declared.generic_arg.GenericArgKind.TheVariants as kind
 use Rattle.tt_kinds.specs.declared.table.Table.{Table}
-use Rattle.tt_kinds.specs.declared.table.Table.TheVariants.{Types, Consts, Patterns, Predicates, ClauseLists, ArgLists}
+use Rattle.tt_kinds.specs.declared.table.Table.TheVariants.{Types, Consts}
 use Rattle.tt_interner.specs.Rows.{Row, row_table, size, meaning}
 use Rattle.tt_interner.specs.Stored as Stored
 use Rattle.tt_interner.specs.Stored.{Terms, Extends}
+use Rattle.tt_binder.specs.Untouched.{IsUntouched}
 use Rattle.tt_binder.specs.Arguments.{argument_of}
 use Rattle.tt_binder.specs.ArgumentLaws.{arguments-still}
 use Rattle.tt_binder.specs.Instance.{HasNoCause, IsPlain, IsReason, ComesBack}
 use Rattle.tt_binder.proofs.HookLaws.{param_by_index}
 use Rattle.tt_binder.proofs.InstanceLaws.{instance_back}
 use Rattle.type_terms.specs.declared.run.answer.Answer.{Answer}
-use Rattle.type_terms.specs.declared.run.answer.Answer.TheVariants as answer
 use Rattle.type_terms.specs.declared.run.call.RegionCall.{RegionCall}
 use Rattle.type_terms.specs.declared.run.call.ArgCall.{ArgCall}
 use Rattle.type_terms.specs.declared.run.call.ArgCall.TheVariants as arg
@@ -42,17 +42,16 @@ use Rattle.type_terms.specs.declared.run.call.Call.{Call}
 use Rattle.type_terms.specs.declared.run.call.Call.TheVariants as call
 use Rattle.type_terms.specs.CallForm.{Named, one, a_term, region_tree, IsRegionTooDeep, item_positions, items_positions}
 use Rattle.type_terms.specs.CallForm.{IsItemTooDeep, AreItemsTooDeep, arg_item, arg_items, args_ids}
-use Rattle.type_terms.specs.Told.{Told, term, told, told_all, AreOwnedAnswers, HasFullTable, Setting, setting}
+use Rattle.type_terms.specs.Told.{Told, term, told_all, HasFullTable, Setting, setting}
 use Rattle.type_terms.specs.Means as means
-use Rattle.type_terms.specs.Means.{IsUnchanged, IsParameter, IsParameterOf, AddsNothing, NamesTerms, too_deep, Term}
-use Rattle.type_terms.specs.Means.{term_at, number_at, tree_at, positions, AreTerms, Suits, Tells, told_argument, told_arguments}
-use Rattle.type_terms.specs.Means.{IsAllowed, MayRefuse, want_of_memory, full_table, no_term, unfit, unsuited}
+use Rattle.type_terms.specs.Means.{IsUntouchedTerm, IsParameter, IsParameterOf, AddsNothing, NamesTerms, too_deep, Term}
+use Rattle.type_terms.specs.Means.{term_at, number_at, tree_at, positions, AreTerms, Suits, Tells, told_argument}
+use Rattle.type_terms.specs.Means.{told_arguments, IsAllowed, MayRefuse, want_of_memory, full_table, no_term, unfit}
+use Rattle.type_terms.specs.Means.{unsuited}
 use Rattle.type_terms.specs.Room.{IsRefusalForRoom}
-use Rattle.type_terms.specs.Build.{IsUnusable, IsUsable, IsAnswerAt, IsHandle, IsUnchangedAt, IsUnbuiltPart, IsPartOfCall}
-use Rattle.type_terms.specs.Build.{IsRegionOf, IsArgumentOf, GivesArgument, AreArgumentsOf, GivesArguments}
+use Rattle.type_terms.specs.Build.{IsUnusable, IsUsable, IsUnbuiltPart, IsPartOfCall, IsRegionOf, IsArgumentOf}
+use Rattle.type_terms.specs.Build.{GivesArgument, AreArgumentsOf, GivesArguments}
 use Rattle.type_terms.proofs.PartLaws.{AreTerms-append, all_placed-grow, items-none, items-more}
-use Rattle.type_terms.proofs.LookupLaws.{told-at, in_range-at, ty-handle, const-handle, pat-handle, predicate-handle}
-use Rattle.type_terms.proofs.LookupLaws.{clauses-handle, args-handle}
 
 -- one argument
 pub type-argument : (terms : Terms) (e : List Told) (p : ℕ) (t : Ty) → IsPartOfCall terms e (one (a_term Types p)) (stored Types t.number)
@@ -181,13 +180,13 @@ module _ (e : List Told) (p : ℕ) (table : Table) (u : Tree Depth) (at : term_a
     inst-reason old new NoSuchAnswer g h = unsuited (is_term, named) h
 
     pub inst-refused : (old new : Terms) (args : List (Argument Depth)) (r : Refusal) → args ≡ told_arguments e list.items → (ComesBack args u → ⊥)
-        → (IsUnchanged (record { table = table; tree = u }) → ComesBack args u)
+        → (IsUntouchedTerm (record { table = table; tree = u }) → ComesBack args u)
         → ((s : Sort) (i : ℕ) (name : Name) → u ≡ param s i name → Cause (param s i name) args r)
         → IsReason new args u r → MayRefuse (setting old new) e (call.Instantiate p list) r
     inst-refused old new args r same g back caused h =
         inst-reason old new r (λ a room. elim a [
           | inl b ↦ g (record { no_param = ap holds_param (sym tree-is) ∙ b.1; hides = inl (same ∙ ap (λ (cs : List ArgCall). told_arguments e cs) b.0) })
-          | inr b ↦ elim (subst (λ (o : Option Term). IsSomeAnd o (λ v. IsUnchanged v ⊎ IsParameter v)) at b) [
+          | inr b ↦ elim (subst (λ (o : Option Term). IsSomeAnd o (λ v. IsUntouchedTerm v ⊎ IsParameter v)) at b) [
             | inl kept ↦ g (back kept)
             | inr whole ↦
                 let found = parameter-tree whole.0 whole.1 (record { table = table; tree = u }) whole.2 in
@@ -208,17 +207,17 @@ module _ (e : List Told) (p : ℕ) (table : Table) (u : Tree Depth) (at : term_a
       λ r c. none r (rw (tree-is, ← same) at c),
     )
 
--- a term that stays whatever the arguments are comes back
-pub unchanged-back : (rows : List Row) (args : List (Argument Depth)) (table : Table) (n : ℕ) → n < size rows table
-    → IsUnchanged (record { table = table; tree = meaning rows table n }) → ComesBack args (meaning rows table n)
-unchanged-back rows args table n w h = record { no_param = h.0; hides = inr h.1 }
+-- a term that is untouched whatever the arguments are comes back
+pub untouched-back : (rows : List Row) (args : List (Argument Depth)) (table : Table) (n : ℕ) → n < size rows table
+    → IsUntouchedTerm (record { table = table; tree = meaning rows table n }) → ComesBack args (meaning rows table n)
+untouched-back rows args table n w h = record { no_param = h.0; hides = inr h.1 }
 
 -- why an instantiation adds nothing
 pub inst-adds : (s : Setting) (e : List Told) (p : ℕ) (list : Vec ArgCall Global) {P : Type 0} → AddsNothing s e (call.Instantiate p list)
-    → (list.items ≡ [] → P) → (IsSomeAnd (term_at e p) IsUnchanged → P) → (IsSomeAnd (term_at e p) IsParameter → P) → P
+    → (list.items ≡ [] → P) → (IsSomeAnd (term_at e p) IsUntouchedTerm → P) → (IsSomeAnd (term_at e p) IsParameter → P) → P
 inst-adds s e p list {P = P} a f g h = elim a [ inl b ↦ f b.0 | inr b ↦ either (term_at e p) b g h ]
   where
-    either : (o : Option Term) → IsSomeAnd o (λ u. IsUnchanged u ⊎ IsParameter u) → (IsSomeAnd o IsUnchanged → P) → (IsSomeAnd o IsParameter → P) → P
+    either : (o : Option Term) → IsSomeAnd o (λ u. IsUntouchedTerm u ⊎ IsParameter u) → (IsSomeAnd o IsUntouchedTerm → P) → (IsSomeAnd o IsParameter → P) → P
     either None b g h = absurd b
     either (Some u) b g h = elim b [ inl x ↦ g x | inr x ↦ h x ]
 
@@ -229,22 +228,12 @@ unusable-refused s e c ns deep NoSuchAnswer n d h = no_term (λ a. h (n a)) refl
 unusable-refused s e c ns deep GreatestIndex n d h = too_deep (d h) refl
 unusable-refused s e c ns deep _ n d h = absurd h
 
--- the answer that is given back where no argument changes it
-module _ (terms : Terms) (earlier : List Answer) (p : ℕ) (list : Vec ArgCall Global) (o : AreOwnedAnswers terms.rows earlier) (ids : AreTerms (told_all terms.rows earlier) (args_ids list.items))
-    (usable : IsUsable (told_all terms.rows earlier) (items_positions (arg_items list.items)) (AreItemsTooDeep (arg_items list.items))) where
-  unchanged-term : (a : Answer) (table : Table) (n : ℕ) → IsAnswerAt earlier p a → IsHandle a table n → IsUnchanged (record { table = table; tree = meaning terms.rows table n })
-      → IsAllowed (setting terms terms) (told_all terms.rows earlier) (call.Instantiate p list) (term table (meaning terms.rows table n))
-  unchanged-term a table n found is u =
-      let args = told_arguments (told_all terms.rows earlier) list.items in
-      let same = instance_back args (meaning terms.rows table n) (unchanged-back terms.rows args table n (in_range-at terms earlier p a table n found is o) u) in
-      inst-allowed (told_all terms.rows earlier) p table (meaning terms.rows table n) (told-at terms earlier p a table n found is terms.rows) list ids usable.named
-      (setting terms terms) args (meaning terms.rows table n) refl usable.shallow same.plain same.no_cause
-
-  pub unchanged-allowed : (a : Answer) → IsUnchangedAt terms.rows earlier p a → IsAllowed (setting terms terms) (told_all terms.rows earlier) (call.Instantiate p list) (told terms.rows a)
-  unchanged-allowed (answer.Ty h) u = unchanged-term (answer.Ty h) Types h.number u.at (ty-handle (answer.Ty h) h refl) u.unchanged
-  unchanged-allowed (answer.Const h) u = unchanged-term (answer.Const h) Consts h.number u.at (const-handle (answer.Const h) h refl) u.unchanged
-  unchanged-allowed (answer.Pat h) u = unchanged-term (answer.Pat h) Patterns h.number u.at (pat-handle (answer.Pat h) h refl) u.unchanged
-  unchanged-allowed (answer.Predicate h) u = unchanged-term (answer.Predicate h) Predicates h.number u.at (predicate-handle (answer.Predicate h) h refl) u.unchanged
-  unchanged-allowed (answer.Clauses h) u = unchanged-term (answer.Clauses h) ClauseLists h.number u.at (clauses-handle (answer.Clauses h) h refl) u.unchanged
-  unchanged-allowed (answer.Args h) u = unchanged-term (answer.Args h) ArgLists h.number u.at (args-handle (answer.Args h) h refl) u.unchanged
-  unchanged-allowed _ u = absurd u.unchanged
+-- the term that is given back where no argument changes it
+pub untouched-allowed : (terms : Terms) (e : List Told) (p : ℕ) (table : Table) (n : ℕ) → term_at e p ≡ Some (record { table = table; tree = meaning terms.rows table n })
+    → n < size terms.rows table → (list : Vec ArgCall Global) → AreTerms e (args_ids list.items)
+    → IsUsable e (items_positions (arg_items list.items)) (AreItemsTooDeep (arg_items list.items)) → IsUntouched (meaning terms.rows table n)
+    → IsAllowed (setting terms terms) e (call.Instantiate p list) (term table (meaning terms.rows table n))
+untouched-allowed terms e p table n at within list ids usable u =
+    let args = told_arguments e list.items in
+    let same = instance_back args (meaning terms.rows table n) (untouched-back terms.rows args table n within u) in
+    inst-allowed e p table (meaning terms.rows table n) at list ids usable.named (setting terms terms) args (meaning terms.rows table n) refl usable.shallow same.plain same.no_cause

@@ -25,7 +25,7 @@ use Rattle.tt_interner.proofs.Growth.{meaning-grows}
 use Rattle.type_terms.specs.declared.run.answer.Answer.{Answer}
 use Rattle.type_terms.specs.declared.run.answer.Answer.TheVariants as answer
 use Rattle.type_terms.specs.CallForm.{of_table, one, a_term}
-use Rattle.type_terms.specs.Told.{told, told_all, IsOwnedAnswer, AreOwnedAnswers}
+use Rattle.type_terms.specs.Told.{Told, told, told_all, IsOwnedAnswer, AreOwnedAnswers}
 use Rattle.type_terms.specs.Means.{Term, as_term, term_at, Suits, Id, as_id, id_at}
 use Rattle.type_terms.specs.Build.{IsAnswerAt, IsIdAt, HasNoId, IsHandle, IsOther, IsUnbuiltPart, no_term, IsPartOfCall}
 
@@ -152,13 +152,11 @@ no-handle (answer.Info flags outer) f g h i j k rows = refl
 no-handle (answer.Refused r) f g h i j k rows = refl
 no-handle answer.Bad f g h i j k rows = refl
 
--- what is told at a position, of the rows as they are later
-pub told-later : (old new : Terms) (earlier : List Answer) (p : ℕ) (a : Answer) (table : Table) (n : ℕ) → IsAnswerAt earlier p a → IsHandle a table n
-    → Extends old new → AreOwnedAnswers old.rows earlier
-    → term_at (told_all old.rows earlier) p ≡ Some (record { table = table; tree = meaning new.rows table n })
-told-later old new earlier p a table n at is x o =
-    told-at old earlier p a table n at is old.rows
-    ∙ ap (λ (u : Tree Depth). Some (record { table = table; tree = u })) (sym (meaning-grows old.rows new.rows x.rows table n (in_range-at old earlier p a table n at is o)))
+-- the term at a position, with its tree in the rows as they are later
+pub told-later : (old new : Terms) (e : List Told) (p : ℕ) (table : Table) (n : ℕ) → term_at e p ≡ Some (record { table = table; tree = meaning old.rows table n })
+    → Extends old new → n < size old.rows table → term_at e p ≡ Some (record { table = table; tree = meaning new.rows table n })
+told-later old new e p table n at x within =
+    at ∙ ap (λ (u : Tree Depth). Some (record { table = table; tree = u })) (sym (meaning-grows old.rows new.rows x.rows table n within))
 
 -- where the answer at the position is none
 pub nothing-told : (earlier : List Answer) (p : ℕ) (a : Answer) → IsAnswerAt earlier p a → ((rows : List Row) → as_term (Some (told rows a)) ≡ None)

@@ -30,7 +30,8 @@ use Rattle.type_terms.specs.declared.run.call.ArgCall.{ArgCall}
 use Rattle.type_terms.specs.declared.run.call.Call.TheVariants as call
 use Rattle.type_terms.specs.CallForm.{arg_item, arg_items, args_ids, item_positions, items_positions, AreItemsTooDeep}
 use Rattle.type_terms.specs.Told.{Told, term, told, told_all, AreOwnedAnswers, Setting, setting}
-use Rattle.type_terms.specs.Means.{Term, as_term, term_at, tree_of, tree_at, told_argument, told_arguments, AreTerms, IsAllowed}
+use Rattle.type_terms.specs.Means.{Term, as_term, term_at, tree_of, tree_at, told_argument, told_arguments, AreTerms}
+use Rattle.type_terms.specs.Means.{IsAllowed}
 use Rattle.type_terms.specs.Means.{MayRefuse, no_term, unsuited, IsParameter, IsParameterOf}
 use Rattle.type_terms.specs.Build.{Answers, IsAnswerAt, IsUsable}
 use Rattle.type_terms.specs.Parameters.{parameter_sort, parameter_index, term_arg, IsArgumentAt, LacksArgument}

@@ -35,8 +35,10 @@ use Rattle.type_terms.specs.CallForm.{form_positions, IsFormTooDeep, RecordCall,
 use Rattle.type_terms.specs.Told.{Told, HasFullTable}
 use Rattle.type_terms.specs.Means.{number_at, tree_at, AreTerms}
 use Rattle.type_terms.specs.Build as build
-use Rattle.type_terms.specs.Build.{IsUnbuiltPart, IsUnusable, IsUsable, IsPlaced, ArePlaced, IsItemOfCall, AreItemsOf, IsPartOfCall}
-use Rattle.type_terms.specs.Build.{ArePartsOfCall, GivesPart, GivesParts, GivesPlaced, GivesItems, PutsPlaced, PutsItems}
+use Rattle.type_terms.specs.Build.{IsUnbuiltPart, IsUnusable, IsUsable, IsPlaced, ArePlaced, IsItemOfCall, AreItemsOf}
+use Rattle.type_terms.specs.Build.{IsPartOfCall}
+use Rattle.type_terms.specs.Build.{ArePartsOfCall, GivesPart, GivesParts, GivesPlaced, GivesItems, PutsPlaced}
+use Rattle.type_terms.specs.Build.{PutsItems}
 use Rattle.type_terms.specs.Build.{IsRegionOf, IsVariableListOf, IsKindOf, GivesKind, GivesRecord}
 
 -- positions of two lists

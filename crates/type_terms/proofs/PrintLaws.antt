@@ -43,7 +43,8 @@ use Rattle.tt_kinds.specs.declared.parts.ListSort.{ListSort}
 use Rattle.tt_kinds.specs.declared.parts.ListSort.TheVariants as sort
 use Rattle.type_terms.specs.declared.ir_print.layout.Style.{Style}
 use Rattle.type_terms.specs.declared.ir_print.layout.Style.TheVariants as style
-use Rattle.type_terms.specs.Text.{opening_text, Head, no_head, head_in, fn_head, variable_head, variable_title, region_title}
+use Rattle.type_terms.specs.Text.{opening_text, Head, no_head, head_in, fn_head, variable_head, variable_title}
+use Rattle.type_terms.specs.Text.{region_title}
 use Rattle.type_terms.specs.Text.{ty_title, type_head, const_head, pattern_head, record_head, bound_head}
 use Rattle.type_terms.specs.Text.{region_name_head, type_style, record_style, style_in, closing, head_text}
 use Rattle.type_terms.specs.Text.{variables_text, text_in, texts}

@@ -20,7 +20,8 @@ use Rattle.type_terms.specs.declared.run.answer.Answer.TheVariants as answer
 use Rattle.type_terms.specs.declared.run.call.Call.{Call}
 use Rattle.type_terms.specs.declared.run.call.Call.TheVariants as call
 use Rattle.type_terms.specs.CallForm.{as_at}
-use Rattle.type_terms.specs.Told.{told, told_all, truth, term, handle_table, handle_number, IsOwnedAnswer, AreOwnedAnswers, Setting}
+use Rattle.type_terms.specs.Told.{told, told_all, truth, term, handle_table, handle_number, IsOwnedAnswer}
+use Rattle.type_terms.specs.Told.{AreOwnedAnswers, Setting}
 use Rattle.type_terms.specs.Told.{setting}
 use Rattle.type_terms.specs.Means.{Term, as_term, term_at, tree_of, table_of, table_at, Suits, IsAllowed, MayRefuse}
 use Rattle.type_terms.specs.Means.{no_term}

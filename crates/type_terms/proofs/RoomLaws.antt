@@ -30,7 +30,8 @@ use Rattle.type_terms.specs.CallForm.{variable_text, region_text, item_tree, par
 use Rattle.type_terms.specs.Told.{Told, told_all, IsStored}
 use Rattle.type_terms.specs.Means.{number_at, tree_at}
 use Rattle.type_terms.specs.Build.{ArePlaced, AreItemsOf, AreVariablesOf, IsKindOf}
-use Rattle.type_terms.specs.Room.{IsRefusalForRoom, HasValue, LacksValue, LacksText, NeedsRoom, PartNeedsRoom, VarsNeedRoom}
+use Rattle.type_terms.specs.Room.{IsRefusalForRoom, HasValue, LacksValue, LacksText, NeedsRoom, PartNeedsRoom}
+use Rattle.type_terms.specs.Room.{VarsNeedRoom}
 use Rattle.type_terms.specs.Room.{RecordNeedsRoom, ExistentialNeedsRoom, ExistentialsNeedRoom, FormNeedsRoom}
 use Rattle.type_terms.proofs.ValueLaws.{in-term, in-node, in-binder, new-lacks, first-value, later-values, value-at}
 use Rattle.type_terms.proofs.PartLaws.{get-mapped}

@@ -18,7 +18,8 @@ use Rattle.type_terms.specs.declared.run.call.Call.{Call}
 use Rattle.type_terms.specs.declared.run.call.Call.TheVariants as call
 use Rattle.type_terms.specs.declared.run.answer.Answer.{Answer}
 use Rattle.type_terms.specs.declared.run.answer.Answer.TheVariants as answer
-use Rattle.type_terms.specs.Told.{Told, term, declared, truth, info, refused, bad, told, told_all, IsOwnedAnswer, AreOwnedAnswers}
+use Rattle.type_terms.specs.Told.{Told, term, declared, truth, info, refused, bad, told, told_all, IsOwnedAnswer}
+use Rattle.type_terms.specs.Told.{AreOwnedAnswers}
 use Rattle.type_terms.specs.Told.{HasFullTable, IsStored, Setting, setting}
 use Rattle.type_terms.specs.Means.{AddsNothing, MayGrow, MayRefuse, want_of_memory, full_table, no_term}
 use Rattle.type_terms.specs.Means.{too_deep, unfit, unsuited, NamesDeclaration, IsAllowed, Means}

@@ -46,8 +46,9 @@ use Rattle.type_terms.specs.CallForm.{item_tree, items_trees, part_tree, parts_t
 use Rattle.type_terms.specs.CallForm.{part_positions, parts_positions, IsItemTooDeep, AreItemsTooDeep, IsPartTooDeep}
 use Rattle.type_terms.specs.CallForm.{ArePartsTooDeep, form_positions, form_tree, IsFormTooDeep, arg_item, arg_items}
 use Rattle.type_terms.specs.CallForm.{clause_items, RecordCall, record_tree}
-use Rattle.type_terms.specs.Told.{Told, term, told, told_all, handle_table, IsOwnedAnswer, AreOwnedAnswers, HasFullTable, setting}
-use Rattle.type_terms.specs.Means.{IsUnchanged, as_term, term_at, as_id, id_at, number_at, Tells, tree_at, told_argument}
+use Rattle.type_terms.specs.Told.{Told, term, told, told_all, handle_table, IsOwnedAnswer, AreOwnedAnswers}
+use Rattle.type_terms.specs.Told.{HasFullTable, setting}
+use Rattle.type_terms.specs.Means.{as_term, term_at, as_id, id_at, number_at, Tells, tree_at, told_argument}
 use Rattle.type_terms.specs.Means.{told_arguments, AreTerms, IsAllowed, MayRefuse}
 
 -- the answer is the handle of this number in the table
@@ -101,11 +102,6 @@ IsUnusable earlier names deep _ = ⊥
 pub record IsUsable (earlier : List Told) (names : List Named) (deep : Type 0) : Type 0 where
   pub named : AreTerms earlier names
   pub shallow : deep → ⊥
-
--- this is the answer at the position, and it is a term that stays whatever the arguments are
-pub record IsUnchangedAt (rows : List Row) (earlier : List Answer) (position : ℕ) (a : Answer) : Type 0 where
-  pub at : IsAnswerAt earlier position a
-  pub unchanged : IsSomeAnd (as_term (Some (told rows a))) IsUnchanged
 
 -- k is the name that the call gives a bound region, if these are the numbers of the ids at positions
 pub record IsNameOf (terms : Terms) (ids : ℕ → ℕ) (call : RegionNameCall) (k : BoundRegionKind) : Type 0 where
@@ -256,7 +252,8 @@ pub record GivesRecord {K : Type 0} (terms : Terms) (earlier : List Told) (r : R
     (result : Result K Refusal) : Type 0 where
   pub ok : IfOk result (λ k. IsPlaced terms earlier (record_tree (number_at earlier) (tree_at earlier) r)
       (parts_positions r.parts) (ArePartsTooDeep r.parts) (record_shape (form k)))
-  pub err : IfErr result (IsUnbuiltPart (HasFullTable terms) earlier (parts_positions r.parts) (ArePartsTooDeep r.parts))
+  pub err : IfErr result (IsUnbuiltPart (HasFullTable terms) earlier (parts_positions r.parts)
+      (ArePartsTooDeep r.parts))
 
 -- the clauses are those at the positions
 pub record AreClausesAt (terms : Terms) (earlier : List Told) (positions : List ℕ) (list : List Clause) : Type 0 where

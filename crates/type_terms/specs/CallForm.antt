@@ -299,8 +299,10 @@ module _ (ids : ℕ → ℕ) where
   -- the clauses that can be built, without their binder
   abbrev pub clause_record : ClauseCall → RecordCall
   clause_record (clause.Trait p args) = labelled_parts (trait_record (ids p)) (args_part args.items ∷ [])
-  clause_record (clause.RegionOutlives r s) = labelled_parts region_outlives_record (one (a_region r) ∷ one (a_region s) ∷ [])
-  clause_record (clause.TypeOutlives t r) = labelled_parts type_outlives_record (one (a_term Types t) ∷ one (a_region r) ∷ [])
+  clause_record (clause.RegionOutlives r s) = labelled_parts region_outlives_record
+      (one (a_region r) ∷ one (a_region s) ∷ [])
+  clause_record (clause.TypeOutlives t r) = labelled_parts type_outlives_record
+      (one (a_term Types t) ∷ one (a_region r) ∷ [])
   clause_record (clause.Projection p args t) = labelled_parts (projection_record (ids p))
       (args_part args.items ∷ term_part t ∷ [])
   clause_record (clause.ConstArgHasType c t) = labelled_parts const_has_type_record
@@ -317,13 +319,15 @@ module _ (ids : ℕ → ℕ) where
   predicate_record (predicate.DynCompatible p) = labelled_parts (dyn_compatible_record (ids p)) []
   predicate_record (predicate.Subtype expected a b) = labelled_parts (subtype_record expected)
       (one (a_term Types a) ∷ one (a_term Types b) ∷ [])
-  predicate_record (predicate.Coerce a b) = labelled_parts coerce_record (one (a_term Types a) ∷ one (a_term Types b) ∷ [])
+  predicate_record (predicate.Coerce a b) = labelled_parts coerce_record
+      (one (a_term Types a) ∷ one (a_term Types b) ∷ [])
   predicate_record (predicate.ConstEquate a b) = labelled_parts const_equate_record
       (one (a_term Consts a) ∷ one (a_term Consts b) ∷ [])
   predicate_record predicate.Ambiguous = labelled_parts ambiguous_record []
   predicate_record (predicate.NormalizesTo p args t) = labelled_parts (normalizes_to_record (ids p))
       (args_part args.items ∷ term_part t ∷ [])
-  predicate_record (predicate.AliasRelate a b r) = labelled_parts (alias_relate_record r) (term_part a ∷ term_part b ∷ [])
+  predicate_record (predicate.AliasRelate a b r) = labelled_parts (alias_relate_record r)
+      (term_part a ∷ term_part b ∷ [])
 
   -- the predicates that can be built
   abbrev pub predicate_form : PredicateCall → CallForm

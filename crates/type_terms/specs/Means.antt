@@ -235,9 +235,9 @@ abbrev pub IsThere : Setting → List Told → Table → CallForm → Type 0
 IsThere s earlier table f = IsOfShortLists f × IsKnown s earlier table
     (form_tree (number_at earlier) (tree_at earlier) f)
 
--- whatever the arguments are, the term stays: no parameter occurs in it, and no region variable is exposed
-abbrev pub IsUnchanged : Term → Type 0
-IsUnchanged u = IsUntouched u.tree
+-- whatever the arguments are, the term is untouched: no parameter occurs in it, and no region variable is exposed
+abbrev pub IsUntouchedTerm : Term → Type 0
+IsUntouchedTerm u = IsUntouched u.tree
 
 -- the term is the parameter of this sort and index
 abbrev pub IsParameterOf : Sort → ℕ → Term → Type 0
@@ -266,7 +266,7 @@ AddsNothing s earlier (call.Shift p n) = (n ≡ 0) ⊎ (outer_binder (tree_at ea
 AddsNothing s earlier (call.EraseRegions p) = met 0 (tree_at earlier p) ≡ []
 AddsNothing s earlier (call.Instantiate p args) =
     ((args.items ≡ []) × (holds_param (tree_at earlier p) ≡ false))
-    ⊎ IsSomeAnd (term_at earlier p) (λ u. IsUnchanged u ⊎ IsParameter u)
+    ⊎ IsSomeAnd (term_at earlier p) (λ u. IsUntouchedTerm u ⊎ IsParameter u)
 AddsNothing s earlier _ = ⊥
 
 -- the call may need memory or a row

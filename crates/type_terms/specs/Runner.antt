@@ -24,4 +24,5 @@ AnswersInTurn old new earlier [] [] = new ≡ old
 AnswersInTurn old new earlier [] (a ∷ answers) = ⊥
 AnswersInTurn old new earlier (c ∷ calls) [] = ⊥
 AnswersInTurn old new earlier (c ∷ calls) (a ∷ answers) =
-    (between : Terms) × AnswersCall old between earlier c a × AnswersInTurn between new (earlier ++ a ∷ []) calls answers
+    (between : Terms) × AnswersCall old between earlier c a
+    × AnswersInTurn between new (earlier ++ a ∷ []) calls answers

@@ -1,12 +1,11 @@
 //! Calls that fold terms.
 
-ghost use Rattle.std.specs.Prelude.{◌≡◌, ◌<◌, ◌↔◌, IsTrue, IsSomeAnd, MatchOption, Some, ℕ, List};
+ghost use Rattle.std.specs.Prelude.{◌≡◌, ◌<◌, Some, ℕ, List};
 ghost use Rattle.std.specs.declared.alloc.Global.{Global};
 ghost use Rattle.std.specs.declared.vec.Vec.{Vec};
 ghost use Rattle.tt_interner.specs.Rows.{size, meaning};
 ghost use Rattle.tt_interner.specs.Stored.{Extends};
 ghost use Rattle.tt_binder.specs.Arguments.{AreArguments};
-ghost use Rattle.tt_binder.specs.Untouched.{IsUntouched};
 ghost use Rattle.type_terms.specs.declared.run.call.ArgCall.{ArgCall};
 ghost use Rattle.type_terms.specs.declared.run.call.Call.TheVariants.{
   Shift as Shifts,
@@ -14,13 +13,13 @@ ghost use Rattle.type_terms.specs.declared.run.call.Call.TheVariants.{
   Instantiate as Instantiates,
 };
 ghost use Rattle.type_terms.specs.CallForm.{args_ids};
-ghost use Rattle.type_terms.specs.Told.{Told, told, told_all, IsOwnedAnswer, AreOwnedAnswers};
-ghost use Rattle.type_terms.specs.Means.{as_term, term_at, AreTerms, IsParameter, IsUnchanged};
-ghost use Rattle.type_terms.specs.Build.{Answers, AreArgumentsOf, IsUnchangedAt};
+ghost use Rattle.type_terms.specs.Told.{Told, told_all, AreOwnedAnswers};
+ghost use Rattle.type_terms.specs.Means.{term_at, AreTerms, IsParameter};
+ghost use Rattle.type_terms.specs.Build.{Answers, AreArgumentsOf};
 
 use crate::run::answer::Answer;
 use crate::run::answers::lookup::answer_at;
-use crate::run::answers::parameters::{argument_for, parameter_at};
+use crate::run::answers::parameters::{argument_for, parameter_of};
 use crate::run::answers::term_handle::TermHandle;
 use crate::run::build::lists::{build_args, check_args};
 use crate::run::call::ArgCall;
@@ -29,6 +28,21 @@ use tt_fold::{fold_regions, shift_vars};
 use tt_index::Refusal;
 use tt_interner::Interner;
 use tt_kinds::{EarlyBinder, GenericArg, Region, RegionKind};
+
+// Calls the operation on the term that the answer holds, whatever its table. An answer without a term is refused.
+macro_rules! on_term {
+    ($answer:expr, $term:ident => $operation:expr) => {
+        match $answer {
+            Answer::Ty($term) => $operation,
+            Answer::Const($term) => $operation,
+            Answer::Pat($term) => $operation,
+            Answer::Predicate($term) => $operation,
+            Answer::Clauses($term) => $operation,
+            Answer::Args($term) => $operation,
+            _ => Err(Refusal::NoSuchAnswer),
+        }
+    };
+}
 
 /// Returns the term at the position, shifted.
 pub fn shift_at(
@@ -42,15 +56,7 @@ pub fn shift_at(
     ensures answers { Answers cx.old cx.new (told_all cx.old.rows earlier.now) (Shifts position amount) result }
 {
     let answer = answer_at(earlier, position)?;
-    match answer {
-        Answer::Ty(ty) => shifted(cx, *ty, amount),
-        Answer::Const(constant) => shifted(cx, *constant, amount),
-        Answer::Pat(pat) => shifted(cx, *pat, amount),
-        Answer::Predicate(predicate) => shifted(cx, *predicate, amount),
-        Answer::Clauses(clauses) => shifted(cx, *clauses, amount),
-        Answer::Args(args) => shifted(cx, *args, amount),
-        _ => Err(Refusal::NoSuchAnswer),
-    }
+    on_term!(answer, term => shifted(cx, *term, amount))
 }
 
 // Returns the term, shifted.
@@ -72,15 +78,7 @@ pub fn erase_at(cx: &mut Interner, earlier: &[Answer], position: u32) -> Result<
     ensures answers { Answers cx.old cx.new (told_all cx.old.rows earlier.now) (Erases position) result }
 {
     let answer = answer_at(earlier, position)?;
-    match answer {
-        Answer::Ty(ty) => erased(cx, *ty),
-        Answer::Const(constant) => erased(cx, *constant),
-        Answer::Pat(pat) => erased(cx, *pat),
-        Answer::Predicate(predicate) => erased(cx, *predicate),
-        Answer::Clauses(clauses) => erased(cx, *clauses),
-        Answer::Args(args) => erased(cx, *args),
-        _ => Err(Refusal::NoSuchAnswer),
-    }
+    on_term!(answer, term => erased(cx, *term))
 }
 
 // Returns the term, with its regions erased.
@@ -97,8 +95,8 @@ fn erased<T: TermHandle>(cx: &mut Interner, term: T) -> Result<Answer, Refusal>
 }
 
 /// Returns the term at the position, instantiated. The ids that the arguments name have to be there. For a term that is
-/// itself a parameter, the term that its argument names is returned; a term with neither a parameter nor an exposed
-/// region variable is returned unchanged. In both cases no argument is built.
+/// itself a parameter, the term that its argument names is returned; an untouched term, in which no parameter
+/// occurs and no region variable is exposed, is returned as it is. In both cases no argument is built.
 pub fn instantiate_at(
     cx: &mut Interner,
     earlier: &[Answer],
@@ -112,108 +110,40 @@ pub fn instantiate_at(
         AreTerms (told_all cx.old.rows earlier.now) (args_ids list.items) →
         Answers cx.old cx.new (told_all cx.old.rows earlier.now) (Instantiates position list) result }
 {
-    match parameter_at(cx, earlier, position) {
+    let answer = answer_at(earlier, position)?;
+    match parameter_of(cx, answer) {
         Some(parameter) => {
             check_args(cx, earlier, args)?;
             argument_for(earlier, args, parameter)
         }
-        None => instantiate_whole(cx, earlier, position, args),
+        None => on_term!(answer, term => instantiate_term(cx, earlier, *term, args)),
     }
 }
 
-// Returns the term at the position, instantiated, if it is not itself a parameter.
-fn instantiate_whole(
+// Returns the term, which is not itself a parameter, instantiated. No argument is built if the term is untouched.
+fn instantiate_term<T: TermHandle>(
     cx: &mut Interner,
     earlier: &[Answer],
-    position: u32,
+    term: T,
     args: &[ArgCall],
 ) -> Result<Answer, Refusal>
     requires owned { AreOwnedAnswers cx.old.rows earlier.now }
-    requires whole { IsSomeAnd (term_at (told_all cx.old.rows earlier.now) position) IsParameter → ⊥ }
+    requires term { T.number term < size cx.old.rows T.table }
+    requires whole { IsParameter (record { table = T.table; tree = meaning cx.old.rows T.table (T.number term) }) → ⊥ }
     ensures extends { Extends cx.old cx.new }
-    ensures answers { (list : Vec ArgCall Global) →
-        list.items ≡ args.now →
-        AreTerms (told_all cx.old.rows earlier.now) (args_ids list.items) →
-        Answers cx.old cx.new (told_all cx.old.rows earlier.now) (Instantiates position list) result }
+    ensures answers { (p : ℕ) (list : Vec ArgCall Global)
+        → term_at (told_all cx.old.rows earlier.now) p
+        ≡ Some (record { table = T.table; tree = meaning cx.old.rows T.table (T.number term) })
+        → list.items ≡ args.now
+        → AreTerms (told_all cx.old.rows earlier.now) (args_ids list.items)
+        → Answers cx.old cx.new (told_all cx.old.rows earlier.now) (Instantiates p list) result }
 {
-    match unchanged_at(cx, earlier, position) {
-        Some(answer) => {
-            check_args(cx, earlier, args)?;
-            Ok(answer)
-        }
-        None => instantiate_changed(cx, earlier, position, args),
+    if is_untouched(cx, &term) {
+        check_args(cx, earlier, args)?;
+        return Ok(term.into_answer());
     }
-}
-
-// Returns the answer at the position, if it is a term that stays whatever the arguments are.
-fn unchanged_at(cx: &Interner, earlier: &[Answer], position: u32) -> Option<Answer>
-    requires { AreOwnedAnswers cx.now.rows earlier.now }
-    ensures { MatchOption
-        result
-        (IsSomeAnd (term_at (told_all cx.now.rows earlier.now) position) IsUnchanged → ⊥)
-        (IsUnchangedAt cx.now.rows earlier.now position) }
-{
-    let Ok(answer) = answer_at(earlier, position) else {
-        return None;
-    };
-    if is_unchanged(cx, answer) {
-        Some(*answer)
-    } else {
-        None
-    }
-}
-
-// Returns whether the answer is a term that stays whatever the arguments are.
-fn is_unchanged(cx: &Interner, answer: &Answer) -> bool
-    requires { IsOwnedAnswer cx.now.rows answer.now }
-    ensures { IsTrue result ↔ IsSomeAnd (as_term (Some (told cx.now.rows answer.now))) IsUnchanged }
-{
-    match answer {
-        Answer::Ty(ty) => stays(cx, *ty),
-        Answer::Const(constant) => stays(cx, *constant),
-        Answer::Pat(pat) => stays(cx, *pat),
-        Answer::Predicate(predicate) => stays(cx, *predicate),
-        Answer::Clauses(clauses) => stays(cx, *clauses),
-        Answer::Args(args) => stays(cx, *args),
-        _ => false,
-    }
-}
-
-// Returns whether no parameter occurs in the term, and no region variable is exposed.
-fn stays<T: TermHandle>(cx: &Interner, term: T) -> bool
-    requires { T.number term < size cx.now.rows T.table }
-    ensures { IsTrue result ↔ IsUntouched (meaning cx.now.rows T.table (T.number term)) }
-{
-    is_untouched(cx, &term)
-}
-
-// Returns the term at the position, instantiated, if arguments may change it.
-fn instantiate_changed(
-    cx: &mut Interner,
-    earlier: &[Answer],
-    position: u32,
-    args: &[ArgCall],
-) -> Result<Answer, Refusal>
-    requires owned { AreOwnedAnswers cx.old.rows earlier.now }
-    requires changes { IsSomeAnd (term_at (told_all cx.old.rows earlier.now) position) IsUnchanged → ⊥ }
-    requires whole { IsSomeAnd (term_at (told_all cx.old.rows earlier.now) position) IsParameter → ⊥ }
-    ensures extends { Extends cx.old cx.new }
-    ensures answers { (list : Vec ArgCall Global) →
-        list.items ≡ args.now →
-        AreTerms (told_all cx.old.rows earlier.now) (args_ids list.items) →
-        Answers cx.old cx.new (told_all cx.old.rows earlier.now) (Instantiates position list) result }
-{
-    let answer = answer_at(earlier, position)?;
     let args = build_args(cx, earlier, args)?;
-    match answer {
-        Answer::Ty(ty) => instantiated(cx, *ty, args.as_slice()),
-        Answer::Const(constant) => instantiated(cx, *constant, args.as_slice()),
-        Answer::Pat(pat) => instantiated(cx, *pat, args.as_slice()),
-        Answer::Predicate(predicate) => instantiated(cx, *predicate, args.as_slice()),
-        Answer::Clauses(clauses) => instantiated(cx, *clauses, args.as_slice()),
-        Answer::Args(list) => instantiated(cx, *list, args.as_slice()),
-        _ => Err(Refusal::NoSuchAnswer),
-    }
+    instantiated(cx, term, args.as_slice())
 }
 
 // Returns the term, instantiated.

@@ -6,8 +6,8 @@ ghost use Rattle.tt_kinds.specs.Argument.{same_sort};
 ghost use Rattle.tt_kinds.specs.declared.table.Table.TheVariants.{Types, Consts};
 ghost use Rattle.tt_interner.specs.Rows.{size, meaning};
 ghost use Rattle.tt_binder.specs.Instantiation.{IsParam};
-ghost use Rattle.type_terms.specs.Told.{Told, told, told_all, IsOwnedAnswer, AreOwnedAnswers};
-ghost use Rattle.type_terms.specs.Means.{as_term, term_at, told_argument, IsParameter, IsParameterOf};
+ghost use Rattle.type_terms.specs.Told.{Told, told, IsOwnedAnswer};
+ghost use Rattle.type_terms.specs.Means.{as_term, told_argument, IsParameter, IsParameterOf};
 ghost use Rattle.type_terms.specs.Parameters.{parameter_index, parameter_sort, term_arg, IsArgumentAt, LacksArgument};
 
 use crate::run::answer::Answer;
@@ -24,24 +24,8 @@ pub enum Parameter {
     Const(u32),
 }
 
-/// Returns the parameter at the position, if the term there is one.
-pub fn parameter_at(cx: &Interner, earlier: &[Answer], position: u32) -> Option<Parameter>
-    requires { AreOwnedAnswers cx.now.rows earlier.now }
-    ensures { MatchOption
-        result
-        (IsSomeAnd (term_at (told_all cx.now.rows earlier.now) position) IsParameter → ⊥)
-        (λ p. IsSomeAnd
-        (term_at (told_all cx.now.rows earlier.now) position)
-        (IsParameterOf (parameter_sort p) (parameter_index p))) }
-{
-    let Ok(answer) = answer_at(earlier, position) else {
-        return None;
-    };
-    parameter_of(cx, answer)
-}
-
-// Returns the parameter that the answer is, if it is one.
-fn parameter_of(cx: &Interner, answer: &Answer) -> Option<Parameter>
+/// Returns the parameter that the answer is, if it is one.
+pub fn parameter_of(cx: &Interner, answer: &Answer) -> Option<Parameter>
     requires { IsOwnedAnswer cx.now.rows answer.now }
     ensures { MatchOption
         result

@@ -4,7 +4,7 @@ use Rattle.tt_binder.specs.Arguments.{arguments}
 use Rattle.type_terms.specs.declared.run.call.Call.TheVariants as call
 use Rattle.type_terms.specs.Told.{setting}
 use Rattle.type_terms.proofs.BuildLaws.{answer-passed}
-use Rattle.type_terms.proofs.FoldLaws.{unchanged-back, inst-refused, inst-allowed}
+use Rattle.type_terms.proofs.FoldLaws.{untouched-back, inst-refused, inst-allowed}
 use Rattle.type_terms.proofs.run.answers.folds.instantiated.Goals as goal
 
 pub instantiate-requires-clause-value : goal.instantiate-requires-clause-value
@@ -17,7 +17,7 @@ returns-in_err-instance-clause-answers g c = λ e p list at ids args.
     (inst-refused e p g.T.TermHandle.table (meaning c.args.cx.now.rows g.T.TermHandle.table (g.T.TermHandle.number c.args.term)) at list ids args.items.named
     c.args.cx.now c.instantiate.new.cx (arguments c.args.cx.now.rows c.args.args.now) c.in_err-instance.field-0.0 args.means
     (λ a. let came = ((rw (c.bind.ensures, g.met.T.TermHandle.is_stored c.args.term) at c.in_err-instance.ensures.promise.same) a).0 in absurd (cc))
-    (unchanged-back c.args.cx.now.rows (arguments c.args.cx.now.rows c.args.args.now) g.T.TermHandle.table (g.T.TermHandle.number c.args.term) c.requires.term)
+    (untouched-back c.args.cx.now.rows (arguments c.args.cx.now.rows c.args.args.now) g.T.TermHandle.table (g.T.TermHandle.number c.args.term) c.requires.term)
     (rw (c.bind.ensures, g.met.T.TermHandle.is_stored c.args.term) at c.in_err-instance.ensures.promise.parameter)
     (rw (c.bind.ensures, g.met.T.TermHandle.is_stored c.args.term) at c.in_err-instance.ensures.promise.err))
 

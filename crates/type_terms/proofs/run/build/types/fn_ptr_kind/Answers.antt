@@ -4,7 +4,8 @@ use Rattle.tt_kinds.specs.Kinds.{ty_kind_shape, tys_shape}
 use Rattle.tt_kinds.specs.Shape as shape
 use Rattle.tt_kinds.specs.declared.table.Table.TheVariants.{Types, TypeLists}
 use Rattle.tt_interner.proofs.Growth.{Extends-trans}
-use Rattle.type_terms.specs.CallForm.{under, labelled_parts, a_list, terms_at, variable_kind, form_positions, IsFormTooDeep}
+use Rattle.type_terms.specs.CallForm.{under, labelled_parts, a_list, terms_at, variable_kind, form_positions}
+use Rattle.type_terms.specs.CallForm.{IsFormTooDeep}
 use Rattle.type_terms.specs.Told.{told_all, HasFullTable}
 use Rattle.type_terms.specs.Means.{number_at}
 use Rattle.type_terms.proofs.PartLaws.{kind-passed, under-kind, parts-one, placed-grows, unbuilt-first, unbuilt-always}
