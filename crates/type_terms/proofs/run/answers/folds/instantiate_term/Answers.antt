@@ -7,7 +7,7 @@ use Rattle.type_terms.specs.declared.run.call.Call.TheVariants as call
 use Rattle.type_terms.specs.CallForm.{items_positions, AreItemsTooDeep, arg_items, args_ids}
 use Rattle.type_terms.specs.Told.{told_all, HasFullTable, setting}
 use Rattle.type_terms.specs.Means.{Term, IsUntouchedTerm, IsParameter}
-use Rattle.type_terms.specs.Build.{AreArgumentsOf, IsUnbuilt, IsUnusable, IsUsable}
+use Rattle.type_terms.specs.Build.{AreArgumentsOf, IsUnbuiltPart, IsUnusable, IsUsable}
 use Rattle.type_terms.proofs.PartLaws.{AreTerms-second}
 use Rattle.type_terms.proofs.BuildLaws.{answer-passed, unbuilt-refused, Answers-earlier}
 use Rattle.type_terms.proofs.LookupLaws.{told-later}
@@ -43,7 +43,7 @@ pub returns-in_err-args-clause-answers : goal.returns-in_err-args-clause-answers
 unfolding fill
 returns-in_err-args-clause-answers g c = λ p list at same ids.
     let e = told_all c.args.cx.now.rows c.args.earlier.now in
-    let u = subst (λ (cs : List ArgCall). IsUnbuilt (HasFullTable c.build_args.new.cx) e (items_positions (arg_items cs)) (AreItemsTooDeep (arg_items cs)) c.in_err-args.field-0.0)
+    let u = subst (λ (cs : List ArgCall). IsUnbuiltPart (HasFullTable c.build_args.new.cx) e (items_positions (arg_items cs)) (AreItemsTooDeep (arg_items cs)) c.in_err-args.field-0.0)
     (sym same) c.in_err-args.ensures.args.err in
     answer-passed c.args.cx.now c.build_args.new.cx e (call.Instantiate p list) c.from_residual-in_err-args.result c.in_err-args.field-0.0 c.from_residual-in_err-args.ensures.1
     (unbuilt-refused (setting c.args.cx.now c.build_args.new.cx) e (call.Instantiate p list) (items_positions (arg_items list.items)) (AreItemsTooDeep (arg_items list.items))
