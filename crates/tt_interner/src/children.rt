@@ -100,20 +100,15 @@ impl StoredItem for Ty {
     {
         let mut places = [Ty::from_number(0); MOST_IN_PLACE];
         put_items(&mut places, children);
-        match cx.mk_tys(&places[..children.len()]) {
-            Ok(tys) => Ok(List::Tys(tys)),
-            Err(e) => Err(e),
-        }
+        let tys = cx.mk_tys(&places[..children.len()])?;
+        Ok(List::Tys(tys))
     }
 
     fn store(cx: &mut Interner, items: Vec<Ty>) -> Result<List, Refusal>
         requires { AreParts (size cx.old.rows) (children_shapes (map ty_child items.items)) }
         ensures { StoresList result cx.old cx.new Tys (map ty_child items.items) }
     {
-        let list = match cx.put_tys(items) {
-            Ok(list) => list,
-            Err(e) => return Err(e),
-        };
+        let list = cx.put_tys(items)?;
         Ok(List::Tys(list))
     }
 }
@@ -146,20 +141,15 @@ impl StoredItem for Const {
     {
         let mut places = [Const::from_number(0); MOST_IN_PLACE];
         put_items(&mut places, children);
-        match cx.mk_consts(&places[..children.len()]) {
-            Ok(consts) => Ok(List::Consts(consts)),
-            Err(e) => Err(e),
-        }
+        let consts = cx.mk_consts(&places[..children.len()])?;
+        Ok(List::Consts(consts))
     }
 
     fn store(cx: &mut Interner, items: Vec<Const>) -> Result<List, Refusal>
         requires { AreParts (size cx.old.rows) (children_shapes (map const_child items.items)) }
         ensures { StoresList result cx.old cx.new Consts (map const_child items.items) }
     {
-        let list = match cx.put_consts(items) {
-            Ok(list) => list,
-            Err(e) => return Err(e),
-        };
+        let list = cx.put_consts(items)?;
         Ok(List::Consts(list))
     }
 }
@@ -192,20 +182,15 @@ impl StoredItem for Pat {
     {
         let mut places = [Pat::from_number(0); MOST_IN_PLACE];
         put_items(&mut places, children);
-        match cx.mk_pat_list(&places[..children.len()]) {
-            Ok(pats) => Ok(List::Pats(pats)),
-            Err(e) => Err(e),
-        }
+        let pats = cx.mk_pat_list(&places[..children.len()])?;
+        Ok(List::Pats(pats))
     }
 
     fn store(cx: &mut Interner, items: Vec<Pat>) -> Result<List, Refusal>
         requires { AreParts (size cx.old.rows) (children_shapes (map pat_child items.items)) }
         ensures { StoresList result cx.old cx.new Pats (map pat_child items.items) }
     {
-        let list = match cx.put_pat_list(items) {
-            Ok(list) => list,
-            Err(e) => return Err(e),
-        };
+        let list = cx.put_pat_list(items)?;
         Ok(List::Pats(list))
     }
 }
@@ -238,20 +223,15 @@ impl StoredItem for PolyExistentialPredicate {
     {
         let mut places = [PolyExistentialPredicate::from_number(0); MOST_IN_PLACE];
         put_items(&mut places, children);
-        match cx.mk_existential_list(&places[..children.len()]) {
-            Ok(predicates) => Ok(List::Existentials(predicates)),
-            Err(e) => Err(e),
-        }
+        let predicates = cx.mk_existential_list(&places[..children.len()])?;
+        Ok(List::Existentials(predicates))
     }
 
     fn store(cx: &mut Interner, items: Vec<PolyExistentialPredicate>) -> Result<List, Refusal>
         requires { AreParts (size cx.old.rows) (children_shapes (map existential_child items.items)) }
         ensures { StoresList result cx.old cx.new Existentials (map existential_child items.items) }
     {
-        let list = match cx.put_existentials(items) {
-            Ok(list) => list,
-            Err(e) => return Err(e),
-        };
+        let list = cx.put_existentials(items)?;
         Ok(List::Existentials(list))
     }
 }
@@ -290,10 +270,8 @@ impl StoredItem for Clause {
         if !cx.are_clauses(items) {
             return Err(Refusal::NotAClause);
         }
-        match cx.mk_clauses(items) {
-            Ok(clauses) => Ok(List::Clauses(clauses)),
-            Err(e) => Err(e),
-        }
+        let clauses = cx.mk_clauses(items)?;
+        Ok(List::Clauses(clauses))
     }
 
     fn store(cx: &mut Interner, items: Vec<Clause>) -> Result<List, Refusal>
@@ -304,10 +282,7 @@ impl StoredItem for Clause {
         if !cx.are_clauses(items.as_slice()) {
             return Err(Refusal::NotAClause);
         }
-        let list = match cx.put_clauses(items) {
-            Ok(list) => list,
-            Err(e) => return Err(e),
-        };
+        let list = cx.put_clauses(items)?;
         Ok(List::Clauses(list))
     }
 }
@@ -342,20 +317,15 @@ impl StoredItem for GenericArg {
     {
         let mut places = [GenericArg::from(Ty::from_number(0)); MOST_IN_PLACE];
         put_items(&mut places, children);
-        match cx.mk_args(&places[..children.len()]) {
-            Ok(args) => Ok(List::Args(args)),
-            Err(e) => Err(e),
-        }
+        let args = cx.mk_args(&places[..children.len()])?;
+        Ok(List::Args(args))
     }
 
     fn store(cx: &mut Interner, items: Vec<GenericArg>) -> Result<List, Refusal>
         requires { AreParts (size cx.old.rows) (children_shapes (map arg_child items.items)) }
         ensures { StoresList result cx.old cx.new Args (map arg_child items.items) }
     {
-        let list = match cx.put_args(items) {
-            Ok(list) => list,
-            Err(e) => return Err(e),
-        };
+        let list = cx.put_args(items)?;
         Ok(List::Args(list))
     }
 }

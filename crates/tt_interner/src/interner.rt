@@ -109,18 +109,9 @@ impl Interner {
             return Err(Refusal::TableFull);
         }
         let mut order = Vec::new(alloc);
-        let first = match empty_lists(alloc, &mut order) {
-            Ok(lists) => lists,
-            Err(e) => return Err(e),
-        };
-        let more = match more_empty_lists(alloc, &mut order) {
-            Ok(lists) => lists,
-            Err(e) => return Err(e),
-        };
-        let symbols = match first_text(alloc, &mut order, Table::Symbols) {
-            Ok(symbols) => symbols,
-            Err(e) => return Err(e),
-        };
+        let first = empty_lists(alloc, &mut order)?;
+        let more = more_empty_lists(alloc, &mut order)?;
+        let symbols = first_text(alloc, &mut order, Table::Symbols)?;
         Ok(Interner {
             types: IndexMap::new(alloc),
             consts: IndexMap::new(alloc),

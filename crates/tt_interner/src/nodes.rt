@@ -237,26 +237,11 @@ impl Interner {
         ensures table { IfOk result (λ n. node_table n ≡ kind_table kind) }
     {
         match kind {
-            Kind::Ty(kind) => match self.mk_ty(kind) {
-                Ok(ty) => Ok(Node::Ty(ty)),
-                Err(e) => Err(e),
-            },
-            Kind::Const(kind) => match self.mk_const(kind) {
-                Ok(constant) => Ok(Node::Const(constant)),
-                Err(e) => Err(e),
-            },
-            Kind::Pat(kind) => match self.mk_pat(kind) {
-                Ok(pat) => Ok(Node::Pat(pat)),
-                Err(e) => Err(e),
-            },
-            Kind::Predicate(kind) => match self.mk_predicate(kind) {
-                Ok(predicate) => Ok(Node::Predicate(predicate)),
-                Err(e) => Err(e),
-            },
-            Kind::Existential(kind) => match self.mk_existential(kind) {
-                Ok(predicate) => Ok(Node::Existential(predicate)),
-                Err(e) => Err(e),
-            },
+            Kind::Ty(kind) => Ok(Node::Ty(self.mk_ty(kind)?)),
+            Kind::Const(kind) => Ok(Node::Const(self.mk_const(kind)?)),
+            Kind::Pat(kind) => Ok(Node::Pat(self.mk_pat(kind)?)),
+            Kind::Predicate(kind) => Ok(Node::Predicate(self.mk_predicate(kind)?)),
+            Kind::Existential(kind) => Ok(Node::Existential(self.mk_existential(kind)?)),
         }
     }
 

@@ -147,10 +147,7 @@ impl Interner {
         ensures { PutsEach result self.old self.new predicates.now }
     {
         for (i, predicate) in predicates.iter().enumerate() {
-            let handle = match self.mk_existential(*predicate) {
-                Ok(handle) => handle,
-                Err(e) => return Err(e),
-            };
+            let handle = self.mk_existential(*predicate)?;
             places[i] = handle;
         }
         self.are_rows();

@@ -1,6 +1,7 @@
 -- by the typed call
 use Rattle.std.proofs.Common.{refl}
 use Rattle.std.proofs.lemmas.Bool.{false≢true}
+use Rattle.std.proofs.lemmas.Result.{err_from_is_err_and}
 use Rattle.tt_kinds.specs.declared.parts.List.TheVariants as stored_list
 use Rattle.tt_kinds.specs.declared.parts.ListSort.TheVariants as sort
 use Rattle.tt_interner.specs.Rows.{clauses_row}
@@ -8,11 +9,13 @@ use Rattle.tt_interner.proofs.NodeSteps.{is_row_of_clauses, StoresList-ok, Store
 use Rattle.tt_interner.proofs.ClauseLaws.{no_other}
 use Rattle.tt_interner.proofs.children.ClauseStoredItem.store.Goals as goal
 
-pub returns-in-Err : goal.returns-in-Err
-returns-in-Err c = StoresList-err (λ list. list.number) _ _ sort.Clauses (clauses_row c.args.items.items) _ (is_row_of_clauses c.args.items.items) (no_other _ c.args.items.items (rw c.as_slice.ensures.value at (c.if-not-are_clauses.ensures.0 refl))) c.requires c.in-Err.e c.in-Err.ensures
+pub returns-in_err-list : goal.returns-in_err-list
+returns-in_err-list c =
+    let p = err_from_is_err_and c.from_residual.result c.from_residual.ensures.1 in
+    rw (p.1, p.2) (StoresList-err (λ list. list.number) _ _ sort.Clauses (clauses_row c.args.items.items) _ (is_row_of_clauses c.args.items.items) (no_other _ c.args.items.items (rw c.as_slice.ensures.value at (c.if-not-are_clauses.ensures.0 refl))) c.requires _ c.in_err-list.ensures)
 
 pub returns : goal.returns
-returns c = StoresList-ok (λ list. list.number) _ _ sort.Clauses (clauses_row c.args.items.items) _ (is_row_of_clauses c.args.items.items) (no_other _ c.args.items.items (rw c.as_slice.ensures.value at (c.if-not-are_clauses.ensures.0 refl))) c.in-Ok.list c.in-Ok.ensures (stored_list.Clauses c.in-Ok.list) refl refl
+returns c = StoresList-ok (λ list. list.number) _ _ sort.Clauses (clauses_row c.args.items.items) _ (is_row_of_clauses c.args.items.items) (no_other _ c.args.items.items (rw c.as_slice.ensures.value at (c.if-not-are_clauses.ensures.0 refl))) c.in_ok-list.list c.in_ok-list.ensures (stored_list.Clauses c.in_ok-list.list) refl refl
 
 pub returns-then-not-are_clauses : goal.returns-then-not-are_clauses
 returns-then-not-are_clauses c = StoresList-other _ c.are_rows.ensures.are c.args.items.items c.requires (λ h. false≢true (c.if-not-are_clauses.ensures.1 (rw c.as_slice.ensures.value h)))

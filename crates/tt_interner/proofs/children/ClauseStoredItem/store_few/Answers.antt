@@ -1,6 +1,7 @@
 -- by the typed call
 use Rattle.std.proofs.Common.{Err, refl, sym, subst, take, length}
 use Rattle.std.proofs.lemmas.Bool.{false≢true}
+use Rattle.std.proofs.lemmas.Result.{err_from_is_err_and}
 use Rattle.tt_index.specs.declared.refusal.Refusal.TheVariants.{NotAClause}
 use Rattle.tt_kinds.specs.declared.parts.List.TheVariants as stored_list
 use Rattle.tt_kinds.specs.declared.parts.ListSort.TheVariants as sort
@@ -12,19 +13,20 @@ use Rattle.tt_interner.proofs.NodeSteps.{IsRowOf, is_row_of_clauses, StoresList-
 use Rattle.tt_interner.proofs.ClauseLaws.{no_other}
 use Rattle.tt_interner.proofs.children.ClauseStoredItem.store_few.Goals as goal
 
-pub returns-in-Err : goal.returns-in-Err
-returns-in-Err c =
+pub returns-in_err-clauses : goal.returns-in_err-clauses
+returns-in_err-clauses c =
     let items = take (length c.args.children.now) c.put_items.new.places in
     let is = subst (IsRowOf sort.Clauses (clauses_row items)) c.put_items.ensures (is_row_of_clauses items) in
     let fine = subst (λ cs. IsNoClauseList (children_tree c.args.cx.now.rows sort.Clauses cs) → ⊥) c.put_items.ensures (no_other c.args.cx.now.rows items (c.if-not-are_clauses.ensures.0 refl)) in
-    StoresList-err (λ list. list.number) _ _ sort.Clauses (clauses_row items) _ is fine c.requires.parts c.in-Err.e c.in-Err.ensures
+    let p = err_from_is_err_and c.from_residual.result c.from_residual.ensures.1 in
+    rw (p.1, p.2) (StoresList-err (λ list. list.number) _ _ sort.Clauses (clauses_row items) _ is fine c.requires.parts _ c.in_err-clauses.ensures)
 
-pub returns-in-Ok : goal.returns-in-Ok
-returns-in-Ok c =
+pub returns : goal.returns
+returns c =
     let items = take (length c.args.children.now) c.put_items.new.places in
     let is = subst (IsRowOf sort.Clauses (clauses_row items)) c.put_items.ensures (is_row_of_clauses items) in
     let fine = subst (λ cs. IsNoClauseList (children_tree c.args.cx.now.rows sort.Clauses cs) → ⊥) c.put_items.ensures (no_other c.args.cx.now.rows items (c.if-not-are_clauses.ensures.0 refl)) in
-    StoresList-ok (λ list. list.number) _ _ sort.Clauses (clauses_row items) _ is fine c.in-Ok.clauses c.in-Ok.ensures (stored_list.Clauses c.in-Ok.clauses) refl refl
+    StoresList-ok (λ list. list.number) _ _ sort.Clauses (clauses_row items) _ is fine c.in_ok-clauses.clauses c.in_ok-clauses.ensures (stored_list.Clauses c.in_ok-clauses.clauses) refl refl
 
 pub returns-then-not-are_clauses : goal.returns-then-not-are_clauses
 returns-then-not-are_clauses c =

@@ -1,5 +1,6 @@
 -- by the typed call
 use Rattle.std.proofs.Common.{refl, subst}
+use Rattle.std.proofs.lemmas.Result.{err_from_is_err_and}
 use Rattle.tt_kinds.specs.declared.parts.List.TheVariants as stored_list
 use Rattle.tt_kinds.specs.declared.parts.ListSort.TheVariants as sort
 use Rattle.tt_kinds.specs.Shape.{AreParts}
@@ -10,8 +11,10 @@ use Rattle.tt_interner.proofs.children.ConstStoredItem.store.Goals as goal
 pub put_consts-requires : goal.put_consts-requires
 put_consts-requires c = subst (AreParts (size c.args.cx.now.rows)) (consts_shapes c.args.items.items) c.requires
 
-pub returns-in-Err : goal.returns-in-Err
-returns-in-Err c = StoresList-err (λ list. list.number) _ _ sort.Consts (consts_row c.args.items.items) _ (is_row_of_consts c.args.items.items) (λ bad. bad) c.requires c.in-Err.e c.in-Err.ensures
+pub returns-in_err-list : goal.returns-in_err-list
+returns-in_err-list c =
+    let p = err_from_is_err_and c.from_residual.result c.from_residual.ensures.1 in
+    rw (p.1, p.2) (StoresList-err (λ list. list.number) _ _ sort.Consts (consts_row c.args.items.items) _ (is_row_of_consts c.args.items.items) (λ bad. bad) c.requires _ c.in_err-list.ensures)
 
 pub returns : goal.returns
-returns c = StoresList-ok (λ list. list.number) _ _ sort.Consts (consts_row c.args.items.items) _ (is_row_of_consts c.args.items.items) (λ bad. bad) c.in-Ok.list c.in-Ok.ensures (stored_list.Consts c.in-Ok.list) refl refl
+returns c = StoresList-ok (λ list. list.number) _ _ sort.Consts (consts_row c.args.items.items) _ (is_row_of_consts c.args.items.items) (λ bad. bad) c.in_ok-list.list c.in_ok-list.ensures (stored_list.Consts c.in_ok-list.list) refl refl

@@ -1,5 +1,6 @@
 -- by the typed call
 use Rattle.std.proofs.Common.{refl, sym, subst, take, length}
+use Rattle.std.proofs.lemmas.Result.{err_from_is_err_and}
 use Rattle.tt_kinds.specs.declared.parts.List.TheVariants as stored_list
 use Rattle.tt_kinds.specs.declared.parts.ListSort.TheVariants as sort
 use Rattle.tt_kinds.specs.Shape.{AreParts}
@@ -14,14 +15,15 @@ mk_consts-requires c =
     subst (AreParts (size c.args.cx.now.rows)) (consts_shapes items)
     (subst (λ cs. AreParts (size c.args.cx.now.rows) (children_shapes cs)) (sym c.put_items.ensures) c.requires.parts)
 
-pub returns-in-Err : goal.returns-in-Err
-returns-in-Err c =
+pub returns-in_err-consts : goal.returns-in_err-consts
+returns-in_err-consts c =
     let items = take (length c.args.children.now) c.put_items.new.places in
     let is = subst (IsRowOf sort.Consts (consts_row items)) c.put_items.ensures (is_row_of_consts items) in
-    StoresList-err (λ list. list.number) _ _ sort.Consts (consts_row items) _ is (λ bad. bad) c.requires.parts c.in-Err.e c.in-Err.ensures
+    let p = err_from_is_err_and c.from_residual.result c.from_residual.ensures.1 in
+    rw (p.1, p.2) (StoresList-err (λ list. list.number) _ _ sort.Consts (consts_row items) _ is (λ bad. bad) c.requires.parts _ c.in_err-consts.ensures)
 
-pub returns-in-Ok : goal.returns-in-Ok
-returns-in-Ok c =
+pub returns : goal.returns
+returns c =
     let items = take (length c.args.children.now) c.put_items.new.places in
     let is = subst (IsRowOf sort.Consts (consts_row items)) c.put_items.ensures (is_row_of_consts items) in
-    StoresList-ok (λ list. list.number) _ _ sort.Consts (consts_row items) _ is (λ bad. bad) c.in-Ok.consts c.in-Ok.ensures (stored_list.Consts c.in-Ok.consts) refl refl
+    StoresList-ok (λ list. list.number) _ _ sort.Consts (consts_row items) _ is (λ bad. bad) c.in_ok-consts.consts c.in_ok-consts.ensures (stored_list.Consts c.in_ok-consts.consts) refl refl

@@ -1,5 +1,6 @@
 -- by the typed call
 use Rattle.std.proofs.Common.{refl, sym, subst, take, length}
+use Rattle.std.proofs.lemmas.Result.{err_from_is_err_and}
 use Rattle.tt_kinds.specs.declared.parts.List.TheVariants as stored_list
 use Rattle.tt_kinds.specs.declared.parts.ListSort.TheVariants as sort
 use Rattle.tt_kinds.specs.Shape.{AreParts}
@@ -14,14 +15,15 @@ mk_pat_list-requires c =
     subst (AreParts (size c.args.cx.now.rows)) (pats_shapes items)
     (subst (λ cs. AreParts (size c.args.cx.now.rows) (children_shapes cs)) (sym c.put_items.ensures) c.requires.parts)
 
-pub returns-in-Err : goal.returns-in-Err
-returns-in-Err c =
+pub returns-in_err-pats : goal.returns-in_err-pats
+returns-in_err-pats c =
     let items = take (length c.args.children.now) c.put_items.new.places in
     let is = subst (IsRowOf sort.Pats (pats_row items)) c.put_items.ensures (is_row_of_pats items) in
-    StoresList-err (λ list. list.number) _ _ sort.Pats (pats_row items) _ is (λ bad. bad) c.requires.parts c.in-Err.e c.in-Err.ensures
+    let p = err_from_is_err_and c.from_residual.result c.from_residual.ensures.1 in
+    rw (p.1, p.2) (StoresList-err (λ list. list.number) _ _ sort.Pats (pats_row items) _ is (λ bad. bad) c.requires.parts _ c.in_err-pats.ensures)
 
-pub returns-in-Ok : goal.returns-in-Ok
-returns-in-Ok c =
+pub returns : goal.returns
+returns c =
     let items = take (length c.args.children.now) c.put_items.new.places in
     let is = subst (IsRowOf sort.Pats (pats_row items)) c.put_items.ensures (is_row_of_pats items) in
-    StoresList-ok (λ list. list.number) _ _ sort.Pats (pats_row items) _ is (λ bad. bad) c.in-Ok.pats c.in-Ok.ensures (stored_list.Pats c.in-Ok.pats) refl refl
+    StoresList-ok (λ list. list.number) _ _ sort.Pats (pats_row items) _ is (λ bad. bad) c.in_ok-pats.pats c.in_ok-pats.ensures (stored_list.Pats c.in_ok-pats.pats) refl refl

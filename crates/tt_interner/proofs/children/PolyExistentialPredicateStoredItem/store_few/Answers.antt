@@ -1,5 +1,6 @@
 -- by the typed call
 use Rattle.std.proofs.Common.{refl, sym, subst, take, length}
+use Rattle.std.proofs.lemmas.Result.{err_from_is_err_and}
 use Rattle.tt_kinds.specs.declared.parts.List.TheVariants as stored_list
 use Rattle.tt_kinds.specs.declared.parts.ListSort.TheVariants as sort
 use Rattle.tt_kinds.specs.Shape.{AreParts}
@@ -15,14 +16,15 @@ mk_existential_list-requires c =
     subst (AreParts (size c.args.cx.now.rows)) (existentials_shapes items)
     (subst (λ cs. AreParts (size c.args.cx.now.rows) (children_shapes cs)) (sym c.put_items.ensures) c.requires.parts)
 
-pub returns-in-Err : goal.returns-in-Err
-returns-in-Err c =
+pub returns-in_err-predicates : goal.returns-in_err-predicates
+returns-in_err-predicates c =
     let items = take (length c.args.children.now) c.put_items.new.places in
     let is = subst (IsRowOf sort.Existentials (existentials_row items)) c.put_items.ensures (is_row_of_existentials items) in
-    StoresList-err (λ list. list.number) _ _ sort.Existentials (existentials_row items) _ is (λ bad. bad) c.requires.parts c.in-Err.e c.in-Err.ensures
+    let p = err_from_is_err_and c.from_residual.result c.from_residual.ensures.1 in
+    rw (p.1, p.2) (StoresList-err (λ list. list.number) _ _ sort.Existentials (existentials_row items) _ is (λ bad. bad) c.requires.parts _ c.in_err-predicates.ensures)
 
-pub returns-in-Ok : goal.returns-in-Ok
-returns-in-Ok c =
+pub returns : goal.returns
+returns c =
     let items = take (length c.args.children.now) c.put_items.new.places in
     let is = subst (IsRowOf sort.Existentials (existentials_row items)) c.put_items.ensures (is_row_of_existentials items) in
-    StoresList-ok (λ list. list.number) _ _ sort.Existentials (existentials_row items) _ is (λ bad. bad) c.in-Ok.predicates c.in-Ok.ensures (stored_list.Existentials c.in-Ok.predicates) refl refl
+    StoresList-ok (λ list. list.number) _ _ sort.Existentials (existentials_row items) _ is (λ bad. bad) c.in_ok-predicates.predicates c.in_ok-predicates.ensures (stored_list.Existentials c.in_ok-predicates.predicates) refl refl

@@ -1,5 +1,6 @@
 -- by the typed call
 use Rattle.std.proofs.Common.{refl}
+use Rattle.std.proofs.lemmas.Result.{err_from_is_err_and}
 use Rattle.tt_kinds.specs.Parts.{node_number}
 use Rattle.tt_kinds.specs.Handle.{Ty}
 use Rattle.tt_kinds.specs.Handle.{Const}
@@ -9,32 +10,42 @@ use Rattle.tt_kinds.specs.Handle.{PolyExistentialPredicate}
 use Rattle.tt_interner.proofs.StoreSteps.{Builds-ok_as, Builds-err_as}
 use Rattle.tt_interner.proofs.interner.Interner.store.Goals as goal
 
-pub returns-in-Ok-clause-builds : goal.returns-in-Ok-clause-builds
-returns-in-Ok-clause-builds c = rw c.in-Ty.is (Builds-ok_as {H = Ty} (λ h. h.number) (λ n. node_number n) _ _ _ _ _ refl c.in-Ok.ensures)
+pub returns-in_ok-mk_ty-in-Ty-clause-builds : goal.returns-in_ok-mk_ty-in-Ty-clause-builds
+returns-in_ok-mk_ty-in-Ty-clause-builds c = rw c.in-Ty.is (Builds-ok_as {H = Ty} (λ h. h.number) (λ n. node_number n) _ _ _ _ _ refl c.in_ok-mk_ty-in-Ty.ensures)
 
-pub returns-in-Err-clause-builds : goal.returns-in-Err-clause-builds
-returns-in-Err-clause-builds c = rw c.in-Ty.is (Builds-err_as {H = Ty} (λ h. h.number) (λ n. node_number n) _ _ _ _ c.in-Err.ensures)
+pub returns-in_err-mk_ty-in-Ty-clause-builds : goal.returns-in_err-mk_ty-in-Ty-clause-builds
+returns-in_err-mk_ty-in-Ty-clause-builds c =
+    let p = err_from_is_err_and c.from_residual.result c.from_residual.ensures.1 in
+    rw (c.in-Ty.is, p.1, p.2) (Builds-err_as {H = Ty} (λ h. h.number) (λ n. node_number n) _ _ _ _ c.in_err-mk_ty-in-Ty.ensures)
 
-pub returns-in-Ok-mk_const-clause-builds : goal.returns-in-Ok-mk_const-clause-builds
-returns-in-Ok-mk_const-clause-builds c = rw c.in-Const.is (Builds-ok_as {H = Const} (λ h. h.number) (λ n. node_number n) _ _ _ _ _ refl c.in-Ok-mk_const.ensures)
+pub returns-in_ok-mk_const-in-Const-clause-builds : goal.returns-in_ok-mk_const-in-Const-clause-builds
+returns-in_ok-mk_const-in-Const-clause-builds c = rw c.in-Const.is (Builds-ok_as {H = Const} (λ h. h.number) (λ n. node_number n) _ _ _ _ _ refl c.in_ok-mk_const-in-Const.ensures)
 
-pub returns-in-Err-mk_const-clause-builds : goal.returns-in-Err-mk_const-clause-builds
-returns-in-Err-mk_const-clause-builds c = rw c.in-Const.is (Builds-err_as {H = Const} (λ h. h.number) (λ n. node_number n) _ _ _ _ c.in-Err-mk_const.ensures)
+pub returns-in_err-mk_const-in-Const-clause-builds : goal.returns-in_err-mk_const-in-Const-clause-builds
+returns-in_err-mk_const-in-Const-clause-builds c =
+    let p = err_from_is_err_and c.from_residual-in_err-mk_const-in-Const.result c.from_residual-in_err-mk_const-in-Const.ensures.1 in
+    rw (c.in-Const.is, p.1, p.2) (Builds-err_as {H = Const} (λ h. h.number) (λ n. node_number n) _ _ _ _ c.in_err-mk_const-in-Const.ensures)
 
-pub returns-in-Ok-mk_pat-clause-builds : goal.returns-in-Ok-mk_pat-clause-builds
-returns-in-Ok-mk_pat-clause-builds c = rw c.in-Pat.is (Builds-ok_as {H = Pat} (λ h. h.number) (λ n. node_number n) _ _ _ _ _ refl c.in-Ok-mk_pat.ensures)
+pub returns-in_ok-mk_pat-in-Pat-clause-builds : goal.returns-in_ok-mk_pat-in-Pat-clause-builds
+returns-in_ok-mk_pat-in-Pat-clause-builds c = rw c.in-Pat.is (Builds-ok_as {H = Pat} (λ h. h.number) (λ n. node_number n) _ _ _ _ _ refl c.in_ok-mk_pat-in-Pat.ensures)
 
-pub returns-in-Err-mk_pat-clause-builds : goal.returns-in-Err-mk_pat-clause-builds
-returns-in-Err-mk_pat-clause-builds c = rw c.in-Pat.is (Builds-err_as {H = Pat} (λ h. h.number) (λ n. node_number n) _ _ _ _ c.in-Err-mk_pat.ensures)
+pub returns-in_err-mk_pat-in-Pat-clause-builds : goal.returns-in_err-mk_pat-in-Pat-clause-builds
+returns-in_err-mk_pat-in-Pat-clause-builds c =
+    let p = err_from_is_err_and c.from_residual-in_err-mk_pat-in-Pat.result c.from_residual-in_err-mk_pat-in-Pat.ensures.1 in
+    rw (c.in-Pat.is, p.1, p.2) (Builds-err_as {H = Pat} (λ h. h.number) (λ n. node_number n) _ _ _ _ c.in_err-mk_pat-in-Pat.ensures)
 
-pub returns-in-Ok-mk_predicate-clause-builds : goal.returns-in-Ok-mk_predicate-clause-builds
-returns-in-Ok-mk_predicate-clause-builds c = rw c.in-Predicate.is (Builds-ok_as {H = Predicate} (λ h. h.number) (λ n. node_number n) _ _ _ _ _ refl c.in-Ok-mk_predicate.ensures)
+pub returns-in_ok-mk_predicate-in-Predicate-clause-builds : goal.returns-in_ok-mk_predicate-in-Predicate-clause-builds
+returns-in_ok-mk_predicate-in-Predicate-clause-builds c = rw c.in-Predicate.is (Builds-ok_as {H = Predicate} (λ h. h.number) (λ n. node_number n) _ _ _ _ _ refl c.in_ok-mk_predicate-in-Predicate.ensures)
 
-pub returns-in-Err-mk_predicate-clause-builds : goal.returns-in-Err-mk_predicate-clause-builds
-returns-in-Err-mk_predicate-clause-builds c = rw c.in-Predicate.is (Builds-err_as {H = Predicate} (λ h. h.number) (λ n. node_number n) _ _ _ _ c.in-Err-mk_predicate.ensures)
+pub returns-in_err-mk_predicate-in-Predicate-clause-builds : goal.returns-in_err-mk_predicate-in-Predicate-clause-builds
+returns-in_err-mk_predicate-in-Predicate-clause-builds c =
+    let p = err_from_is_err_and c.from_residual-in_err-mk_predicate-in-Predicate.result c.from_residual-in_err-mk_predicate-in-Predicate.ensures.1 in
+    rw (c.in-Predicate.is, p.1, p.2) (Builds-err_as {H = Predicate} (λ h. h.number) (λ n. node_number n) _ _ _ _ c.in_err-mk_predicate-in-Predicate.ensures)
 
-pub returns-in-Ok-mk_existential-clause-builds : goal.returns-in-Ok-mk_existential-clause-builds
-returns-in-Ok-mk_existential-clause-builds c = rw c.in-Existential.is (Builds-ok_as {H = PolyExistentialPredicate} (λ h. h.number) (λ n. node_number n) _ _ _ _ _ refl c.in-Ok-mk_existential.ensures)
+pub returns-in_ok-mk_existential-in-Existential-clause-builds : goal.returns-in_ok-mk_existential-in-Existential-clause-builds
+returns-in_ok-mk_existential-in-Existential-clause-builds c = rw c.in-Existential.is (Builds-ok_as {H = PolyExistentialPredicate} (λ h. h.number) (λ n. node_number n) _ _ _ _ _ refl c.in_ok-mk_existential-in-Existential.ensures)
 
-pub returns-in-Err-mk_existential-clause-builds : goal.returns-in-Err-mk_existential-clause-builds
-returns-in-Err-mk_existential-clause-builds c = rw c.in-Existential.is (Builds-err_as {H = PolyExistentialPredicate} (λ h. h.number) (λ n. node_number n) _ _ _ _ c.in-Err-mk_existential.ensures)
+pub returns-in_err-mk_existential-in-Existential-clause-builds : goal.returns-in_err-mk_existential-in-Existential-clause-builds
+returns-in_err-mk_existential-in-Existential-clause-builds c =
+    let p = err_from_is_err_and c.from_residual-in_err-mk_existential-in-Existential.result c.from_residual-in_err-mk_existential-in-Existential.ensures.1 in
+    rw (c.in-Existential.is, p.1, p.2) (Builds-err_as {H = PolyExistentialPredicate} (λ h. h.number) (λ n. node_number n) _ _ _ _ c.in_err-mk_existential-in-Existential.ensures)

@@ -1,5 +1,6 @@
 -- the tables have their first rows
 use Rattle.std.proofs.Common.{◌≡◌, List, [], ◌∷◌, ◌++◌, ap, arith, ◌∙◌}
+use Rattle.std.proofs.lemmas.Result.{err_from_is_err_and}
 use Rattle.std.specs.String.{string_bytes}
 use Rattle.tt_interner.specs.Rows.{type_row, const_row, pat_row, predicate_row, existential_row, clauses_row, tys_row}
 use Rattle.tt_interner.specs.Rows.{consts_row, args_row, pats_row, vars_row, existentials_row, assumptions_row}
@@ -19,22 +20,22 @@ in_first_order a b c d p q r s =
 
 pub invariant_of-result : goal.invariant_of-result
 invariant_of-result c = Keeps-first _ _ _
-    (in_first_order _ _ _ _ c.new-order.ensures.items c.in-Ok.ensures.order c.in-Ok-more_empty_lists.ensures.order c.in-Ok-first_text.ensures.order)
+    (in_first_order _ _ _ _ c.new-order.ensures.items c.in_ok-first.ensures.order c.in_ok-more.ensures.order c.in_ok-symbols.ensures.order)
     (are_first_tables _ (record {
       types = ap (entries_by type_row (λ v. v)) c.new.ensures.empty;
       consts = ap (entries_by const_row (λ v. v)) c.new-2.ensures.empty;
       patterns = ap (entries_by pat_row (λ v. v)) c.new-3.ensures.empty;
       predicates = ap (entries_by predicate_row (λ v. v)) c.new-4.ensures.empty;
       existentials = ap (entries_by existential_row (λ v. v)) c.new-5.ensures.empty;
-      type_lists = entries_by-first (λ k. k.items) tys_row (λ v. v) c.in-Ok.lists.type_lists.entries [] no_info c.in-Ok.ensures.types;
-      arg_lists = entries_by-first (λ k. k.items) args_row (λ v. v) c.in-Ok.lists.arg_lists.entries [] no_info c.in-Ok.ensures.args;
-      var_lists = entries_by-first (λ k. k.items) vars_row (λ v. v) c.in-Ok.lists.var_lists.entries [] no_info c.in-Ok.ensures.vars;
-      const_lists = entries_by-first (λ k. k.items) consts_row (λ v. v) c.in-Ok.lists.const_lists.entries [] no_info c.in-Ok.ensures.consts;
-      pattern_lists = entries_by-first (λ k. k.items) pats_row (λ v. v) c.in-Ok-more_empty_lists.lists.pattern_lists.entries [] no_info c.in-Ok-more_empty_lists.ensures.patterns;
-      clause_lists = entries_by-first (λ k. k.items) clauses_row (λ v. v) c.in-Ok-more_empty_lists.lists.clause_lists.entries [] no_info c.in-Ok-more_empty_lists.ensures.clauses;
-      existential_lists = entries_by-first (λ k. k.items) existentials_row (λ v. v) c.in-Ok-more_empty_lists.lists.existential_lists.entries [] no_info c.in-Ok-more_empty_lists.ensures.existentials;
-      symbols = entries_by-first (λ k. string_bytes k) text_row (λ v. no_info) c.in-Ok-first_text.symbols.entries anonymous_text tt c.in-Ok-first_text.ensures.entries;
-      assumption_lists = entries_by-first (λ k. k.items) assumptions_row (λ v. v) c.in-Ok-more_empty_lists.lists.assumption_lists.entries [] no_info c.in-Ok-more_empty_lists.ensures.assumptions;
+      type_lists = entries_by-first (λ k. k.items) tys_row (λ v. v) c.in_ok-first.first.type_lists.entries [] no_info c.in_ok-first.ensures.types;
+      arg_lists = entries_by-first (λ k. k.items) args_row (λ v. v) c.in_ok-first.first.arg_lists.entries [] no_info c.in_ok-first.ensures.args;
+      var_lists = entries_by-first (λ k. k.items) vars_row (λ v. v) c.in_ok-first.first.var_lists.entries [] no_info c.in_ok-first.ensures.vars;
+      const_lists = entries_by-first (λ k. k.items) consts_row (λ v. v) c.in_ok-first.first.const_lists.entries [] no_info c.in_ok-first.ensures.consts;
+      pattern_lists = entries_by-first (λ k. k.items) pats_row (λ v. v) c.in_ok-more.more.pattern_lists.entries [] no_info c.in_ok-more.ensures.patterns;
+      clause_lists = entries_by-first (λ k. k.items) clauses_row (λ v. v) c.in_ok-more.more.clause_lists.entries [] no_info c.in_ok-more.ensures.clauses;
+      existential_lists = entries_by-first (λ k. k.items) existentials_row (λ v. v) c.in_ok-more.more.existential_lists.entries [] no_info c.in_ok-more.ensures.existentials;
+      symbols = entries_by-first (λ k. string_bytes k) text_row (λ v. no_info) c.in_ok-symbols.symbols.entries anonymous_text tt c.in_ok-symbols.ensures.entries;
+      assumption_lists = entries_by-first (λ k. k.items) assumptions_row (λ v. v) c.in_ok-more.more.assumption_lists.entries [] no_info c.in_ok-more.ensures.assumptions;
       declarations = ap (declared_entries 0) c.new-6.ensures.items;
       definitions = ap defined_entries c.new-7.ensures.empty;
     }))
@@ -42,22 +43,27 @@ invariant_of-result c = Keeps-first _ _ _
 
 pub returns-clause-rows : goal.returns-clause-rows
 returns-clause-rows c = rows_are_first _ _
-    (in_first_order _ _ _ _ c.new-order.ensures.items c.in-Ok.ensures.order c.in-Ok-more_empty_lists.ensures.order c.in-Ok-first_text.ensures.order)
+    (in_first_order _ _ _ _ c.new-order.ensures.items c.in_ok-first.ensures.order c.in_ok-more.ensures.order c.in_ok-symbols.ensures.order)
     (are_first_tables _ (record {
       types = ap (entries_by type_row (λ v. v)) c.new.ensures.empty;
       consts = ap (entries_by const_row (λ v. v)) c.new-2.ensures.empty;
       patterns = ap (entries_by pat_row (λ v. v)) c.new-3.ensures.empty;
       predicates = ap (entries_by predicate_row (λ v. v)) c.new-4.ensures.empty;
       existentials = ap (entries_by existential_row (λ v. v)) c.new-5.ensures.empty;
-      type_lists = entries_by-first (λ k. k.items) tys_row (λ v. v) c.in-Ok.lists.type_lists.entries [] no_info c.in-Ok.ensures.types;
-      arg_lists = entries_by-first (λ k. k.items) args_row (λ v. v) c.in-Ok.lists.arg_lists.entries [] no_info c.in-Ok.ensures.args;
-      var_lists = entries_by-first (λ k. k.items) vars_row (λ v. v) c.in-Ok.lists.var_lists.entries [] no_info c.in-Ok.ensures.vars;
-      const_lists = entries_by-first (λ k. k.items) consts_row (λ v. v) c.in-Ok.lists.const_lists.entries [] no_info c.in-Ok.ensures.consts;
-      pattern_lists = entries_by-first (λ k. k.items) pats_row (λ v. v) c.in-Ok-more_empty_lists.lists.pattern_lists.entries [] no_info c.in-Ok-more_empty_lists.ensures.patterns;
-      clause_lists = entries_by-first (λ k. k.items) clauses_row (λ v. v) c.in-Ok-more_empty_lists.lists.clause_lists.entries [] no_info c.in-Ok-more_empty_lists.ensures.clauses;
-      existential_lists = entries_by-first (λ k. k.items) existentials_row (λ v. v) c.in-Ok-more_empty_lists.lists.existential_lists.entries [] no_info c.in-Ok-more_empty_lists.ensures.existentials;
-      symbols = entries_by-first (λ k. string_bytes k) text_row (λ v. no_info) c.in-Ok-first_text.symbols.entries anonymous_text tt c.in-Ok-first_text.ensures.entries;
-      assumption_lists = entries_by-first (λ k. k.items) assumptions_row (λ v. v) c.in-Ok-more_empty_lists.lists.assumption_lists.entries [] no_info c.in-Ok-more_empty_lists.ensures.assumptions;
+      type_lists = entries_by-first (λ k. k.items) tys_row (λ v. v) c.in_ok-first.first.type_lists.entries [] no_info c.in_ok-first.ensures.types;
+      arg_lists = entries_by-first (λ k. k.items) args_row (λ v. v) c.in_ok-first.first.arg_lists.entries [] no_info c.in_ok-first.ensures.args;
+      var_lists = entries_by-first (λ k. k.items) vars_row (λ v. v) c.in_ok-first.first.var_lists.entries [] no_info c.in_ok-first.ensures.vars;
+      const_lists = entries_by-first (λ k. k.items) consts_row (λ v. v) c.in_ok-first.first.const_lists.entries [] no_info c.in_ok-first.ensures.consts;
+      pattern_lists = entries_by-first (λ k. k.items) pats_row (λ v. v) c.in_ok-more.more.pattern_lists.entries [] no_info c.in_ok-more.ensures.patterns;
+      clause_lists = entries_by-first (λ k. k.items) clauses_row (λ v. v) c.in_ok-more.more.clause_lists.entries [] no_info c.in_ok-more.ensures.clauses;
+      existential_lists = entries_by-first (λ k. k.items) existentials_row (λ v. v) c.in_ok-more.more.existential_lists.entries [] no_info c.in_ok-more.ensures.existentials;
+      symbols = entries_by-first (λ k. string_bytes k) text_row (λ v. no_info) c.in_ok-symbols.symbols.entries anonymous_text tt c.in_ok-symbols.ensures.entries;
+      assumption_lists = entries_by-first (λ k. k.items) assumptions_row (λ v. v) c.in_ok-more.more.assumption_lists.entries [] no_info c.in_ok-more.ensures.assumptions;
       declarations = ap (declared_entries 0) c.new-6.ensures.items;
       definitions = ap defined_entries c.new-7.ensures.empty;
     }))
+
+pub returns-in_err-symbols-clause-cause : goal.returns-in_err-symbols-clause-cause
+returns-in_err-symbols-clause-cause c = λ positive.
+    let p = err_from_is_err_and c.from_residual-in_err-symbols.result c.from_residual-in_err-symbols.ensures.1 in
+    rw (p.1, p.2) c.in_err-symbols.ensures.cause
