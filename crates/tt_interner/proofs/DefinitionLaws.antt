@@ -1,5 +1,5 @@
 -- The entries of definitions, and what the rows say of them.
-use Rattle.std.proofs.Common.{◌≡◌, ◌↔◌, IsTrue, take, Bor, ⊎_elim, ℕ, suc, ◌≤◌, ◌+◌, Bool, true, false, cond}
+use Rattle.std.proofs.Common.{◌≡◌, ◌↔◌, IsTrue, take, Bor, ⊎_elim, ℕ, suc, ◌≤◌, Bool, true, false, cond}
 use Rattle.std.proofs.Common.{if◌then◌else◌, eqb, List, [], ◌∷◌, ◌++◌, length, map, slice_get, All, Option, Some, None}
 use Rattle.std.proofs.Common.{is_some, Ok, refl, sym, ap, subst, ◌∙◌, arith}
 use Rattle.std.specs.Map.{lookup}
