@@ -4,10 +4,13 @@ pub mod FlagLaws
 pub mod FormEqualities
 pub mod GeneralLaws
 pub mod KindLaws
+pub mod MismatchLaws
 pub mod OccursLaws
 pub mod OwnSolution
 pub mod PairLaws
+pub mod PairMismatches
 pub mod ResolverSteps
+pub mod RootLaws
 pub mod SolutionLaws
 pub mod SubstitutionLaws
 pub mod UnificationLaws

@@ -1,16 +1,23 @@
--- The bindings of a table solve themselves.
-use Rattle.std.proofs.Common.{◌≡◌, refl, ℕ, List, get_or, Option, Some, None, sym, subst, ap, ◌∙◌}
-use Rattle.tt_kinds.specs.Label.{Name, Label, type_label, infer_type}
+-- The bindings of a table solve themselves, and are an assignment to its variables alone.
+use Rattle.std.proofs.Common.{◌≡◌, refl, ℕ, zero, suc, ◌<◌, ◌≤◌, List, [], ◌∷◌, length, get_or, Option, Some, None}
+use Rattle.std.proofs.Common.{IfSome, sym, subst, ap, ◌∙◌, arith}
+use Rattle.tt_kinds.specs.Label.{Name, Label, TypeLabel, type_label, infer_type, type_sort}
 use Rattle.tt_kinds.specs.declared.ty_kind.InferTy.TheVariants.{TyVar}
 use Rattle.tt_kinds.specs.Tree as tree
 use Rattle.tt_kinds.specs.Tree.{Depth, Tree, Forest}
-use Rattle.tt_kinds.specs.Kinds.{ty_shape}
+use Rattle.tt_kinds.specs.declared.table.Table.TheVariants.{Types}
+use Rattle.tt_kinds.specs.Shape.{Meaning, fill}
+use Rattle.tt_kinds.specs.Kinds.{Form, param, bound, plain, under, form_shape, relabelled, ty_form, ty_shape}
+use Rattle.tt_kinds.specs.Values.{option_shape}
 use Rattle.tt_kinds.specs.Handle.{Ty}
-use Rattle.tt_interner.specs.Rows.{meaning, AreRows}
+use Rattle.tt_interner.specs.Owned.{IsOwned, AreOwned}
+use Rattle.tt_interner.specs.Rows.{Row, type_row, row_shape, row_table, meaning, size, AreRows}
 use Rattle.tt_interner.specs.Stored.{Terms}
+use Rattle.tt_interner.proofs.OwnedLaws.{some_owned}
+use Rattle.tt_interner.proofs.Trees.{row_within, Means-row}
 use Rattle.tt_fold.specs.Steps.{tree_in}
 use Rattle.unify.specs.Substitution.{Substitution, variable_of, apply, apply_all, or_else, assign, assign_all}
-use Rattle.unify.specs.Substitution.{as_assignment, variable_tree, Solves}
+use Rattle.unify.specs.Substitution.{as_assignment, variable_tree, Solves, IsOwn, IsType}
 use Rattle.unify.specs.Bindings.{IsTable, substitution}
 use Rattle.unify.proofs.SubstitutionLaws.{resolved_stays, same_binding}
 use Rattle.unify.proofs.BindingsLaws.{bound_tree, reads}
@@ -51,3 +58,55 @@ module _ (terms : Terms) (entries : List (Option Ty)) (are : AreRows terms.rows)
       ap (λ o. or_else o (variable_tree v)) is
       ∙ sym (assigned_applies (substitution terms entries) r (entry_proper v (get_or entries v None) refl r is)
       ∙ resolved_stays (substitution terms entries) r (table.idempotent v r is))
+
+form_is_type : (m : Meaning) (f : Form TypeLabel) → IsType (fill m (form_shape type_sort (relabelled type_label f)))
+unfolding fill
+form_is_type m (param i name) = refl
+form_is_type m (bound d e) = refl
+form_is_type m (plain l p) = refl
+form_is_type m (under l vars r p) = refl
+
+row_is_type : (m : Meaning) (r : Row) → row_table r ≡ Types → IsType (fill m (row_shape r))
+row_is_type m (type_row k) e = form_is_type m (ty_form k)
+row_is_type m r e = absurd (cc)
+
+-- a type's tree is a type
+pub tree_is_type : (terms : Terms) (t : Ty) → AreRows terms.rows → IsOwned ty_shape terms t → IsType (tree_in terms.rows (ty_shape t))
+unfolding fill
+tree_is_type terms t are owned =
+    let at = row_within terms.rows Types t.number owned in
+    let means = Means-row terms.rows are Types t.number at.0 at.1 in
+    subst IsType (sym means.tree) (row_is_type (meaning terms.rows) at.0 means.same_table)
+
+entry_inside : (terms : Terms) (xs : List (Option Ty)) (v : ℕ) (t : Ty) → get_or xs v None ≡ Some t → AreOwned (option_shape ty_shape) terms xs → IsOwned ty_shape terms t
+entry_inside terms [] v t e owned = absurd (cc)
+entry_inside terms (x ∷ xs) zero t e owned = some_owned ty_shape terms x t e owned.0
+entry_inside terms (x ∷ xs) (suc v) t e owned = entry_inside terms xs v t e owned.1
+
+past_end : (xs : List (Option Ty)) (v : ℕ) → length xs ≤ v → get_or xs v None ≡ None
+past_end [] v h = refl
+past_end (x ∷ xs) zero h = absurd (omega (arith, h))
+past_end (x ∷ xs) (suc v) h = past_end xs v (omega (arith, h))
+
+module _ (terms : Terms) (entries : List (Option Ty)) (are : AreRows terms.rows) (table : IsTable terms entries) where
+  value_is_type : (v : ℕ) (o : Option Ty) → get_or entries v None ≡ o → IsType (as_assignment (substitution terms entries) v)
+  value_is_type v None e =
+      subst (λ b. IsType (or_else b (variable_tree v))) (sym (reads terms entries v ∙ ap (bound_tree (meaning terms.rows)) e)) refl
+  value_is_type v (Some t) e =
+      subst (λ b. IsType (or_else b (variable_tree v))) (sym (reads terms entries v ∙ ap (bound_tree (meaning terms.rows)) e))
+      (tree_is_type terms t are (entry_inside terms entries v t e table.owned.2))
+
+  -- a table's bindings, as an assignment, are one to the table's variables alone
+  pub bindings_own : IsOwn (length entries) (as_assignment (substitution terms entries))
+  bindings_own = record {
+    types = λ v. value_is_type v (get_or entries v None) refl;
+    leaves = λ v outside. ap (λ o. or_else o (variable_tree v)) (reads terms entries v ∙ ap (bound_tree (meaning terms.rows)) (past_end entries v outside));
+  }
+
+  -- two types that resolve to one have a unifier that is an assignment to the table's variables alone
+  pub resolved_unify : (left right : Ty) → apply (substitution terms entries) (tree_in terms.rows (ty_shape left)) ≡ apply (substitution terms entries) (tree_in terms.rows (ty_shape right))
+      → assign (as_assignment (substitution terms entries)) (tree_in terms.rows (ty_shape left)) ≡ assign (as_assignment (substitution terms entries)) (tree_in terms.rows (ty_shape right))
+  resolved_unify left right same =
+      let σ : Substitution = substitution terms entries in
+      assigned_applies σ (tree_in terms.rows (ty_shape left)) (type_proper terms.rows are left) ∙ same
+      ∙ sym (assigned_applies σ (tree_in terms.rows (ty_shape right)) (type_proper terms.rows are right))

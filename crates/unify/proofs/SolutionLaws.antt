@@ -80,10 +80,11 @@ module _ (a : Terms) (xs : List (Option Ty)) where
   }
 
   -- what has no solution has none that meets more
-  pub never_under : {T : Type 0} (result : Result T Fault) (ps : List Pair) (Meets Other : Assignment → Type 0) → ((ρ : Assignment) → Other ρ → Meets ρ)
-      → IfErr result (λ f. IsOccurs f → HasNoSolution Meets a xs ps) → IfErr result (λ f. IsOccurs f → HasNoSolution Other a xs ps)
-  never_under (Ok e) ps Meets Other meets never = tt
-  never_under (Err f) ps Meets Other meets never = λ occurs. record { never = λ ρ other solution. (never occurs).never ρ (meets ρ other) solution }
+  pub never_under : {T : Type 0} (Is : Fault → Type 0) (result : Result T Fault) (ps : List Pair) (Meets Other : Assignment → Type 0)
+      → ((ρ : Assignment) → Other ρ → Meets ρ)
+      → IfErr result (λ f. Is f → HasNoSolution Meets a xs ps) → IfErr result (λ f. Is f → HasNoSolution Other a xs ps)
+  never_under Is (Ok e) ps Meets Other meets never = tt
+  never_under Is (Err f) ps Meets Other meets never = λ is. record { never = λ ρ other solution. (never is).never ρ (meets ρ other) solution }
 
 -- two types that become one tree, as children
 pub types_met : (ρ : Assignment) (a : Terms) (l r : Ty) → EquatesTypes ρ a l r

@@ -1,24 +1,26 @@
 -- What a caller of the unifier may use.
-use Rattle.std.proofs.Common.{◌≡◌, ℕ, List, [], ◌∷◌, ◌++◌, Option, Some, None, ◌↔◌, sym, ap, ◌∙◌}
+use Rattle.std.proofs.Common.{◌≡◌, ℕ, List, [], ◌∷◌, ◌++◌, length, Option, Some, None, ◌↔◌, sym, ap, ◌∙◌}
 use Rattle.tt_kinds.specs.Tree.{Depth, Tree}
 use Rattle.tt_kinds.specs.Handle.{Ty}
 use Rattle.tt_kinds.specs.Shape.{fill}
 use Rattle.tt_kinds.specs.Kinds.{ty_shape}
 use Rattle.tt_interner.specs.Owned.{IsOwned}
+use Rattle.tt_interner.specs.Rows.{AreRows}
 use Rattle.tt_interner.specs.Stored.{Terms, Extends}
 use Rattle.tt_interner.proofs.Growth.{fill-grows}
 use Rattle.tt_fold.specs.Steps.{tree_in}
 use Rattle.unify.specs.Substitution.{Substitution, Assignment, apply, assign, IsWithout, IsResolved, Refines, Solves}
-use Rattle.unify.specs.Substitution.{IsMostGeneral}
+use Rattle.unify.specs.Substitution.{IsMostGeneral, HasNoOwnUnifier, as_assignment}
 use Rattle.unify.specs.Bindings.{IsTable, IsRefined, substitution}
 use Rattle.unify.proofs.SubstitutionLaws.{applied_once, resolved_stays, trees_refined}
 use Rattle.unify.proofs.BindingsLaws.{pushed_same, substitution_stays}
+use Rattle.unify.proofs.OwnSolution.{resolved_unify}
 -- a table stays a table, whatever the interner builds; the empty table; bindings of several calls in turn only grow
 pub use Rattle.unify.proofs.BindingsLaws.{table_stays, empty_table, refined_further}
 -- what solves bindings makes of a resolved type what it makes of the type; what solves bindings solved the earlier ones
 pub use Rattle.unify.proofs.GeneralLaws.{solution_factors, solves_earlier}
--- a table's bindings, as an assignment, solve the table, so there is a solution
-pub use Rattle.unify.proofs.OwnSolution.{bindings_solve}
+-- a table's bindings, as an assignment, solve the table, so there is a solution; it is one to the table's variables alone
+pub use Rattle.unify.proofs.OwnSolution.{bindings_solve, bindings_own}
 
 -- no variable occurs in what it is bound to
 pub never_within_itself : (terms : Terms) (entries : List (Option Ty)) → IsTable terms entries → (v : ℕ) (t : Tree Depth) → substitution terms entries v ≡ Some t → IsWithout v t
@@ -77,3 +79,22 @@ pub pushed_solved : (ρ : Assignment) (terms new : Terms) (entries : List (Optio
     → Solves ρ (substitution terms entries) → Solves ρ (substitution new (entries ++ None ∷ []))
 pushed_solved ρ terms new entries extends table solves v r is =
     solves v r (sym (ap (λ σ. σ v) (substitution_stays terms new entries extends table.owned)) ∙ sym (pushed_same new entries v) ∙ is)
+
+-- types mismatch exactly where the types do that they resolve to
+pub mismatch_resolved : (n : ℕ) (σ : Substitution) (t u : Tree Depth) → HasNoOwnUnifier n σ (apply σ t) (apply σ u) ↔ HasNoOwnUnifier n σ t u
+mismatch_resolved n σ t u = (
+  λ never ρ own solves same. never ρ own solves (solution_factors ρ σ solves t ∙ same ∙ sym (solution_factors ρ σ solves u)),
+  λ never ρ own solves same. never ρ own solves (sym (solution_factors ρ σ solves t) ∙ same ∙ solution_factors ρ σ solves u),
+)
+
+-- types that mismatch still do after more was bound
+pub mismatch_stays : (n : ℕ) (σ σ' : Substitution) (t u : Tree Depth) → Refines σ σ' → HasNoOwnUnifier n σ t u → HasNoOwnUnifier n σ' t u
+mismatch_stays n σ σ' t u refines never ρ own solves same = never ρ own (solves_earlier ρ σ σ' refines solves) same
+
+-- types that resolve to one type don't mismatch
+pub resolved_match : (terms : Terms) (entries : List (Option Ty)) (left right : Ty) → AreRows terms.rows → IsTable terms entries
+    → apply (substitution terms entries) (tree_in terms.rows (ty_shape left)) ≡ apply (substitution terms entries) (tree_in terms.rows (ty_shape right))
+    → HasNoOwnUnifier (length entries) (substitution terms entries) (tree_in terms.rows (ty_shape left)) (tree_in terms.rows (ty_shape right)) → ⊥
+resolved_match terms entries left right are table same never =
+    never (as_assignment (substitution terms entries)) (bindings_own terms entries are table) (bindings_solve terms entries are table)
+    (resolved_unify terms entries are table left right same)

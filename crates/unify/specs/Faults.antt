@@ -2,7 +2,7 @@
 use Rattle.std.specs.Prelude.{⊤}
 use Rattle.tt_index.specs.declared.refusal.Refusal.TheVariants.{Memory, TableFull}
 use Rattle.unify.specs.declared.fault.Fault.{Fault}
-use Rattle.unify.specs.declared.fault.Fault.TheVariants.{Occurs, Refused}
+use Rattle.unify.specs.declared.fault.Fault.TheVariants.{Mismatch, Occurs, Refused}
 
 -- memory is short, or a table is full
 abbrev pub IsForRoom : Fault → Type 0
@@ -14,3 +14,8 @@ IsForRoom _ = ⊥
 abbrev pub IsOccurs : Fault → Type 0
 IsOccurs (Occurs v t) = ⊤
 IsOccurs _ = ⊥
+
+-- the types differ, whatever their variables are bound to
+abbrev pub IsMismatch : Fault → Type 0
+IsMismatch Mismatch = ⊤
+IsMismatch _ = ⊥

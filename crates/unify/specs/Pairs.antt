@@ -1,5 +1,5 @@
 -- Pairs of children that are to be made equal.
-use Rattle.std.specs.Prelude.{◌≡◌, ◌≢◌, List, [], ◌∷◌, Option, ⊤}
+use Rattle.std.specs.Prelude.{◌≡◌, ◌≢◌, List, [], ◌∷◌, length, Option, ⊤}
 use Rattle.tt_kinds.specs.Parts.{node_table}
 use Rattle.tt_kinds.specs.declared.parts.Child.{Child}
 use Rattle.tt_kinds.specs.declared.parts.Child.TheVariants as child
@@ -14,7 +14,7 @@ use Rattle.tt_kinds.specs.Handle.{Ty}
 use Rattle.tt_interner.specs.Rows.{meaning}
 use Rattle.tt_interner.specs.Stored.{Terms}
 use Rattle.tt_fold.specs.Steps.{tree_in}
-use Rattle.unify.specs.Substitution.{Assignment, Solves, assign, assign_all}
+use Rattle.unify.specs.Substitution.{Assignment, IsOwn, Solves, assign, assign_all}
 use Rattle.unify.specs.Bindings.{substitution}
 use Rattle.unify.specs.declared.pairs.Pair.{Pair}
 
@@ -22,9 +22,11 @@ use Rattle.unify.specs.declared.pairs.Pair.{Pair}
 abbrev pub pair_shape : Pair → Shape
 pair_shape p = shape.node (record_label pair_record) (append (child_shapes p.left) (child_shapes p.right))
 
--- if the child is a stored term, it has a kind: it is no list of clauses
+-- the child is no list, of clauses neither: if it is a stored term, it has a kind
 abbrev pub IsNoList : Child → Type 0
-IsNoList c = (n : Node) → c ≡ child.Node n → node_table n ≢ ClauseLists
+IsNoList (child.List l) = ⊥
+IsNoList (child.Node n) = node_table n ≢ ClauseLists
+IsNoList _ = ⊤
 
 -- the assignment makes the two types equal
 abbrev pub EquatesTypes : Assignment → Terms → Ty → Ty → Type 0
@@ -58,3 +60,8 @@ pub record KeepsSolutions (Meets : Assignment → Type 0) (old : Terms) (entries
 pub record HasNoSolution (Meets : Assignment → Type 0) (terms : Terms) (entries : List (Option Ty)) (pairs : List Pair)
     : Type 0 where
   pub never : (ρ : Assignment) → Meets ρ → IsSolution ρ terms entries pairs → ⊥
+
+-- no assignment to the table's variables alone solves the bindings and pairs and meets the condition
+abbrev pub HasNoOwnSolution : (Assignment → Type 0) → Terms → List (Option Ty) → List Pair → Type 0
+HasNoOwnSolution Meets terms entries pairs =
+    HasNoSolution (λ ρ. IsOwn (length entries) ρ × Meets ρ) terms entries pairs

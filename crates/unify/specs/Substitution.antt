@@ -1,6 +1,6 @@
 -- Substitution of types for inference variables, on plain trees.
-use Rattle.std.specs.Prelude.{◌≡◌, ℕ, Option, Some, None, ⊤}
-use Rattle.tt_kinds.specs.Label.{Name, Label, type_label, infer_type}
+use Rattle.std.specs.Prelude.{◌≡◌, ◌≤◌, ℕ, Option, Some, None, ⊤, IsTrue}
+use Rattle.tt_kinds.specs.Label.{Name, Label, type_label, infer_type, type_sort, is_type}
 use Rattle.tt_kinds.specs.declared.ty_kind.InferTy.TheVariants.{TyVar}
 use Rattle.tt_kinds.specs.Tree.{Depth, Tree, param, bound, region, term, node, binder, Forest, none, also}
 
@@ -117,6 +117,30 @@ HasNoUnifier σ t u = (ρ : Assignment) → Solves ρ σ → assign ρ t ≡ ass
 -- the tree of the variable of this number
 abbrev pub variable_tree : ℕ → Tree Depth
 variable_tree v = term (type_label (infer_type (TyVar v))) none
+
+-- the tree is a type
+abbrev pub IsType : Tree Depth → Type 0
+IsType (param s i name) = s ≡ type_sort
+IsType (bound s d e) = s ≡ type_sort
+IsType (term l ts) = IsTrue (is_type l)
+IsType _ = ⊥
+
+-- the assignment gives each variable a type
+abbrev pub GivesTypes : Assignment → Type 0
+GivesTypes ρ = (v : ℕ) → IsType (ρ v)
+
+-- the assignment leaves the tree as it is, if the tree is a variable
+abbrev pub LeavesRoot : Assignment → Tree Depth → Type 0
+LeavesRoot ρ t = (v : ℕ) → variable_in t ≡ Some v → ρ v ≡ variable_tree v
+
+-- the assignment is to the first n variables alone: it gives each variable a type, and leaves all others as they are
+pub record IsOwn (n : ℕ) (ρ : Assignment) : Type 0 where
+  pub types : GivesTypes ρ
+  pub leaves : (v : ℕ) → n ≤ v → ρ v ≡ variable_tree v
+
+-- no assignment to the first n variables alone that solves the bindings makes the two trees equal
+abbrev pub HasNoOwnUnifier : ℕ → Substitution → Tree Depth → Tree Depth → Type 0
+HasNoOwnUnifier n σ t u = (ρ : Assignment) → IsOwn n ρ → Solves ρ σ → assign ρ t ≡ assign ρ u → ⊥
 
 -- the bindings as an assignment: a variable without a binding stays itself
 abbrev pub as_assignment : Substitution → Assignment

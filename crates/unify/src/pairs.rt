@@ -1,20 +1,23 @@
 //! Pairs of children that are to be made equal, and the pairs that their parts are.
 
-ghost use Rattle.std.specs.Prelude.{◌≢◌, ◌<◌, ◌≡◌, IfErr, IfSome, MatchOption, OnOk};
+ghost use Rattle.std.specs.Prelude.{◌≢◌, ◌<◌, ◌≡◌, IfErr, MatchOption, OnOk};
 ghost use Rattle.tt_kinds.specs.declared.table.Table.TheVariants as table;
 ghost use Rattle.tt_kinds.specs.declared.parts.Child.TheVariants as child_of;
+ghost use Rattle.tt_kinds.specs.declared.parts.Node.{Node};
+ghost use Rattle.tt_kinds.specs.declared.parts.Node.TheVariants as node_of;
+ghost use Rattle.tt_kinds.specs.Handle.{Ty};
 ghost use Rattle.tt_kinds.specs.Kinds.{child_shapes, list_shape, node_shape};
 ghost use Rattle.tt_kinds.specs.Shape.{also, none};
 ghost use Rattle.tt_kinds.specs.Parts.{list_number, list_table, node_number, node_table};
 ghost use Rattle.tt_interner.specs.Owned.{AreOwned};
 ghost use Rattle.tt_interner.specs.Rows.{size};
 ghost use Rattle.tt_fold.specs.Steps.{tree_in};
-ghost use Rattle.unify.specs.Faults.{IsOccurs};
+ghost use Rattle.unify.specs.Faults.{IsMismatch, IsOccurs};
 ghost use Rattle.unify.specs.Pairs.{pair_shape, EquatesAll, IsNoList};
-ghost use Rattle.unify.specs.Substitution.{assign, Assignment};
+ghost use Rattle.unify.specs.Substitution.{assign, Assignment, GivesTypes, LeavesRoot};
 
 use crate::fault::Fault;
-use type_terms::{Child, Interner, List, Node};
+use type_terms::{Child, Interner, List, Node, Ty};
 
 /// Two children of terms that are to be made equal.
 #[derive(Clone, Copy)]
@@ -41,7 +44,12 @@ pub fn push_parts(
         → assign ρ (tree_in cx.now.rows (node_shape left)) ≡ assign ρ (tree_in cx.now.rows (node_shape right))
         → EquatesAll ρ cx.now pairs.old.items → EquatesAll ρ cx.now pairs.new.items) }
     ensures err { IfErr result (λ fault. IsOccurs fault → ⊥) }
+    ensures mismatch { IfErr result (λ fault. IsMismatch fault → (ρ : Assignment) → GivesTypes ρ
+        → LeavesRoot ρ (tree_in cx.now.rows (node_shape left)) → LeavesRoot ρ (tree_in cx.now.rows (node_shape right))
+        → assign ρ (tree_in cx.now.rows (node_shape left)) ≢ assign ρ (tree_in cx.now.rows (node_shape right))) }
 {
+    // Kinds that differ have different trees.
+    cx.are_rows();
     let (left, right) = (cx.node_kind(left), cx.node_kind(right));
     let (old, new) = (left.parts(), right.parts());
     // Two kinds that are equal once their parts are.
@@ -74,9 +82,11 @@ pub fn push_items(
         → assign ρ (tree_in cx.now.rows (list_shape left)) ≡ assign ρ (tree_in cx.now.rows (list_shape right))
         → EquatesAll ρ cx.now pairs.old.items → EquatesAll ρ cx.now pairs.new.items) }
     ensures err { IfErr result (λ fault. IsOccurs fault → ⊥) }
+    ensures mismatch { IfErr result (λ fault. IsMismatch fault → (ρ : Assignment)
+        → assign ρ (tree_in cx.now.rows (list_shape left)) ≢ assign ρ (tree_in cx.now.rows (list_shape right))) }
 {
-    let len = cx.list_len(left);
-    if left.sort() != right.sort() || len != cx.list_len(right) {
+    let (len, other) = (cx.list_len(left), cx.list_len(right));
+    if left.sort() != right.sort() || len != other {
         return Err(Fault::Mismatch);
     }
     // The first item is pushed last, so it is compared first.
@@ -105,10 +115,24 @@ pub fn as_list(child: Child) -> Option<List>
 
 /// Returns the term that the child is, if it is one.
 pub fn as_node(child: Child) -> Option<Node>
-    ensures { IfSome result (λ node. child ≡ child_of.Node node) }
+    ensures { MatchOption result ((node : Node) → child ≢ child_of.Node node) (λ node. child ≡ child_of.Node node) }
 {
     match child {
         Child::Node(node) => Some(node),
+        _ => None,
+    }
+}
+
+/// Returns the two types that the terms are, if both are types.
+pub fn as_types(left: Node, right: Node) -> Option<(Ty, Ty)>
+    ensures { MatchOption result ((t u : Ty) → left ≡ node_of.Ty t → right ≢ node_of.Ty u)
+        (λ types. (left ≡ node_of.Ty types.0) × (right ≡ node_of.Ty types.1)) }
+{
+    match left {
+        Node::Ty(left) => match right {
+            Node::Ty(right) => Some((left, right)),
+            _ => None,
+        },
         _ => None,
     }
 }

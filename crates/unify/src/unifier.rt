@@ -1,18 +1,21 @@
 //! Unification: a stack of pairs that are to be made equal, and the bindings that make the pairs before them equal.
 
-ghost use Rattle.std.specs.Prelude.{◌≡◌, ◌<◌, None, Some, IfErr, IfOk, IfSome, OnErr, OnOk, get_or, length};
+ghost use Rattle.std.specs.Prelude.{◌≡◌, ◌≢◌, ◌<◌, ◌≤◌, ℕ, None, Some, IfErr, IfNone, IfOk, IfSome, OnErr, OnOk, get_or, length};
 ghost use Rattle.tt_kinds.specs.Kinds.{ty_shape};
 ghost use Rattle.tt_fold.specs.Steps.{tree_in};
 ghost use Rattle.tt_interner.specs.Owned.{AreOwned, IsOwned};
 ghost use Rattle.tt_interner.specs.Stored.{Extends};
 ghost use Rattle.unify.specs.Bindings.{IsRefined, IsTable, substitution, table_shape};
-ghost use Rattle.unify.specs.Faults.{IsOccurs};
-ghost use Rattle.unify.specs.Pairs.{pair_shape, Equates, EquatesTypes, HasNoSolution, IsNoList, KeepsSolutions};
-ghost use Rattle.unify.specs.Substitution.{apply, assign, variable_in, Assignment, HasNoUnifier, IsMostGeneral, Solves};
+ghost use Rattle.unify.specs.Faults.{IsMismatch, IsOccurs};
+ghost use Rattle.unify.specs.Pairs.{pair_shape, Equates, EquatesTypes, HasNoOwnSolution, HasNoSolution, IsNoList};
+ghost use Rattle.unify.specs.Pairs.{KeepsSolutions};
+ghost use Rattle.unify.specs.Resolver.{binding};
+ghost use Rattle.unify.specs.Substitution.{apply, assign, variable_in, Assignment, HasNoOwnUnifier, HasNoUnifier};
+ghost use Rattle.unify.specs.Substitution.{IsIdempotent, IsMostGeneral, Solves};
 
 use crate::bindings::Bindings;
 use crate::fault::Fault;
-use crate::pairs::{Pair, as_list, as_node, push_items, push_parts};
+use crate::pairs::{Pair, as_list, as_node, as_types, push_items, push_parts};
 use crate::resolver::{binding_of, is_variable, occurs_in, replaced, resolved, variable_of};
 use indexmap::IndexMap;
 use type_terms::{Child, Interner, Node, Refusal, Ty, TyVid, TypeVisitableExt};
@@ -33,6 +36,8 @@ fn looked_up(cx: &Interner, entries: &[Option<Ty>], ty: Ty) -> Ty
     requires ty { IsOwned ty_shape cx.now ty }
     ensures owned { IsOwned ty_shape cx.now result }
     ensures same { (ρ : Assignment) → Solves ρ (substitution cx.now entries.now) → EquatesTypes ρ cx.now ty result }
+    ensures unbound { IsIdempotent (substitution cx.now entries.now)
+        → binding (substitution cx.now entries.now) (tree_in cx.now.rows (ty_shape result)) ≡ None }
 {
     binding_of(cx, entries, ty).unwrap_or(ty)
 }
@@ -42,11 +47,15 @@ fn unbound_variable(cx: &Interner, entries: &[Option<Ty>], ty: Ty) -> Option<TyV
     requires { IsOwned ty_shape cx.now ty }
     ensures unbound { IfSome result (λ v. (v < length entries.now) × (get_or entries.now v None ≡ None)) }
     ensures is { IfSome result (λ v. variable_in (tree_in cx.now.rows (ty_shape ty)) ≡ Some v) }
+    ensures foreign { IfNone result ((v : ℕ) → variable_in (tree_in cx.now.rows (ty_shape ty)) ≡ Some v
+        → binding (substitution cx.now entries.now) (tree_in cx.now.rows (ty_shape ty)) ≡ None
+        → length entries.now ≤ v) }
 {
     match variable_of(cx, ty) {
         Some(variable) => match entries.get(variable.as_usize()) {
             Some(None) => Some(variable),
-            _ => None,
+            Some(Some(_)) => None,
+            None => None,
         },
         None => None,
     }
@@ -67,12 +76,14 @@ fn bound(
     requires unbound { get_or entries.items variable None ≡ None }
     ensures extends { Extends cx.old cx.new }
     ensures refined { IfOk result (λ e. IsRefined cx.old entries.items cx.new e.items) }
+    ensures len { IfOk result (λ e. length e.items ≡ length entries.items) }
     ensures general { IfOk result (λ e. (ρ : Assignment)
         → ρ variable ≡ assign ρ (tree_in cx.old.rows (ty_shape ty))
         → Solves ρ (substitution cx.old entries.items) → Solves ρ (substitution cx.new e.items)) }
     ensures occurs { IfErr result (λ fault. IsOccurs fault → (ρ : Assignment)
         → ρ variable ≡ assign ρ (tree_in cx.old.rows (ty_shape ty))
         → Solves ρ (substitution cx.old entries.items) → ⊥) }
+    ensures err { IfErr result (λ fault. IsMismatch fault → ⊥) }
 {
     let ty = resolved(cx, entries.as_slice(), ty)?;
     if is_variable(cx, ty, variable) {
@@ -107,10 +118,13 @@ fn unify_types(
     ensures extends { Extends cx.old cx.new }
     ensures pairs { IfOk result (λ e. AreOwned pair_shape cx.new pairs.new.items) }
     ensures refined { IfOk result (λ e. IsRefined cx.old entries.items cx.new e.items) }
+    ensures len { IfOk result (λ e. length e.items ≡ length entries.items) }
     ensures general { IfOk result (λ e. KeepsSolutions (λ ρ. EquatesTypes ρ cx.old left right)
         cx.old entries.items pairs.old.items cx.new e.items pairs.new.items) }
     ensures occurs { IfErr result (λ fault. IsOccurs fault
         → HasNoSolution (λ ρ. EquatesTypes ρ cx.old left right) cx.old entries.items pairs.old.items) }
+    ensures mismatch { IfErr result (λ fault. IsMismatch fault
+        → HasNoOwnSolution (λ ρ. EquatesTypes ρ cx.old left right) cx.old entries.items pairs.old.items) }
 {
     let left = looked_up(cx, entries.as_slice(), left);
     let right = looked_up(cx, entries.as_slice(), right);
@@ -146,19 +160,24 @@ fn unify_terms(
     ensures extends { Extends cx.old cx.new }
     ensures pairs { IfOk result (λ e. AreOwned pair_shape cx.new pairs.new.items) }
     ensures refined { IfOk result (λ e. IsRefined cx.old entries.items cx.new e.items) }
+    ensures len { IfOk result (λ e. length e.items ≡ length entries.items) }
     ensures general { IfOk result (λ e. KeepsSolutions (λ ρ. Equates ρ cx.old pair)
         cx.old entries.items pairs.old.items cx.new e.items pairs.new.items) }
     ensures occurs { IfErr result (λ fault. IsOccurs fault
         → HasNoSolution (λ ρ. Equates ρ cx.old pair) cx.old entries.items pairs.old.items) }
+    ensures mismatch { IfErr result (λ fault. IsMismatch fault → pair.left ≢ pair.right
+        → HasNoOwnSolution (λ ρ. Equates ρ cx.old pair) cx.old entries.items pairs.old.items) }
 {
+    // A handle's tree tells its table: so children of other sorts don't become equal.
+    cx.are_rows();
     let Some(left) = as_node(pair.left) else {
         return Err(Fault::Mismatch);
     };
     let Some(right) = as_node(pair.right) else {
         return Err(Fault::Mismatch);
     };
-    if let (Node::Ty(left), Node::Ty(right)) = (left, right) {
-        return unify_types(cx, entries, pairs, compared, left, right);
+    if let Some(types) = as_types(left, right) {
+        return unify_types(cx, entries, pairs, compared, types.0, types.1);
     }
     push_parts(cx, pairs, left, right)?;
     Ok(entries)
@@ -179,14 +198,19 @@ fn unify_pair(
     ensures extends { Extends cx.old cx.new }
     ensures pairs { IfOk result (λ e. AreOwned pair_shape cx.new pairs.new.items) }
     ensures refined { IfOk result (λ e. IsRefined cx.old entries.items cx.new e.items) }
+    ensures len { IfOk result (λ e. length e.items ≡ length entries.items) }
     ensures general { IfOk result (λ e. KeepsSolutions (λ ρ. Equates ρ cx.old pair)
         cx.old entries.items pairs.old.items cx.new e.items pairs.new.items) }
     ensures occurs { IfErr result (λ fault. IsOccurs fault
         → HasNoSolution (λ ρ. Equates ρ cx.old pair) cx.old entries.items pairs.old.items) }
+    ensures mismatch { IfErr result (λ fault. IsMismatch fault
+        → HasNoOwnSolution (λ ρ. Equates ρ cx.old pair) cx.old entries.items pairs.old.items) }
 {
     if pair.left == pair.right {
         return Ok(entries);
     }
+    // A handle's tree tells its table: so a list and another child don't become equal.
+    cx.are_rows();
     match as_list(pair.left) {
         Some(left) => match as_list(pair.right) {
             Some(right) => {
@@ -215,12 +239,18 @@ fn unified(
     requires right { IsOwned ty_shape cx.old right }
     ensures extends { Extends cx.old cx.new }
     ensures refined { IfOk result (λ e. IsRefined cx.old entries.items cx.new e.items) }
+    ensures len { IfOk result (λ e. length e.items ≡ length entries.items) }
     ensures general { IfOk result (λ e. IsMostGeneral
         (substitution cx.old entries.items)
         (tree_in cx.old.rows (ty_shape left))
         (tree_in cx.old.rows (ty_shape right))
         (substitution cx.new e.items)) }
     ensures occurs { IfErr result (λ fault. IsOccurs fault → HasNoUnifier
+        (substitution cx.old entries.items)
+        (tree_in cx.old.rows (ty_shape left))
+        (tree_in cx.old.rows (ty_shape right))) }
+    ensures mismatch { IfErr result (λ fault. IsMismatch fault → HasNoOwnUnifier
+        (length entries.items)
         (substitution cx.old entries.items)
         (tree_in cx.old.rows (ty_shape left))
         (tree_in cx.old.rows (ty_shape right))) }
@@ -249,6 +279,7 @@ fn solution(cx: &mut Interner, bindings: &Bindings, left: Ty, right: Ty) -> Resu
     requires right { IsOwned ty_shape cx.old right }
     ensures extends { Extends cx.old cx.new }
     ensures refined { IfOk result (λ b. IsRefined cx.old bindings.now cx.new b) }
+    ensures len { IfOk result (λ b. length b ≡ length bindings.now) }
     ensures unified { IfOk result (λ b. apply (substitution cx.new b) (tree_in cx.new.rows (ty_shape left))
         ≡ apply (substitution cx.new b) (tree_in cx.new.rows (ty_shape right))) }
     ensures general { IfOk result (λ b. IsMostGeneral
@@ -257,6 +288,11 @@ fn solution(cx: &mut Interner, bindings: &Bindings, left: Ty, right: Ty) -> Resu
         (tree_in cx.old.rows (ty_shape right))
         (substitution cx.new b)) }
     ensures occurs { IfErr result (λ fault. IsOccurs fault → HasNoUnifier
+        (substitution cx.old bindings.now)
+        (tree_in cx.old.rows (ty_shape left))
+        (tree_in cx.old.rows (ty_shape right))) }
+    ensures mismatch { IfErr result (λ fault. IsMismatch fault → HasNoOwnUnifier
+        (length bindings.now)
         (substitution cx.old bindings.now)
         (tree_in cx.old.rows (ty_shape left))
         (tree_in cx.old.rows (ty_shape right))) }
@@ -292,6 +328,7 @@ pub fn unify(cx: &mut Interner, bindings: &mut Bindings, left: Ty, right: Ty) ->
     requires right { IsOwned ty_shape cx.old right }
     ensures extends { Extends cx.old cx.new }
     ensures refined { IsRefined cx.old bindings.old cx.new bindings.new }
+    ensures len { length bindings.new ≡ length bindings.old }
     ensures unified { OnOk result (
         apply (substitution cx.new bindings.new) (tree_in cx.new.rows (ty_shape left))
         ≡ apply (substitution cx.new bindings.new) (tree_in cx.new.rows (ty_shape right))) }
@@ -301,6 +338,11 @@ pub fn unify(cx: &mut Interner, bindings: &mut Bindings, left: Ty, right: Ty) ->
         (tree_in cx.old.rows (ty_shape right))
         (substitution cx.new bindings.new)) }
     ensures occurs { IfErr result (λ fault. IsOccurs fault → HasNoUnifier
+        (substitution cx.old bindings.old)
+        (tree_in cx.old.rows (ty_shape left))
+        (tree_in cx.old.rows (ty_shape right))) }
+    ensures mismatch { IfErr result (λ fault. IsMismatch fault → HasNoOwnUnifier
+        (length bindings.old)
         (substitution cx.old bindings.old)
         (tree_in cx.old.rows (ty_shape left))
         (tree_in cx.old.rows (ty_shape right))) }

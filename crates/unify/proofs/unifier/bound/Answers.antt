@@ -1,4 +1,4 @@
-use Rattle.std.proofs.Common.{refl, ap, ◌∙◌, arith}
+use Rattle.std.proofs.Common.{Some, refl, ap, ◌∙◌, arith}
 use Rattle.tt_kinds.specs.Kinds.{ty_shape}
 use Rattle.tt_kinds.specs.Values.{option_shape}
 use Rattle.tt_interner.proofs.Growth.{Extends-trans}
@@ -11,6 +11,7 @@ use Rattle.unify.proofs.GeneralLaws.{bound_solves}
 use Rattle.unify.specs.Substitution.{Solves}
 use Rattle.std.proofs.Common.{subst, sym}
 use Rattle.std.proofs.lemmas.Bool.{true≢false}
+use Rattle.std.proofs.lemmas.List.{length-set}
 use Rattle.unify.proofs.BindingsLaws.{refined_grown, substitution_stays}
 use Rattle.unify.proofs.OccursLaws.{occurs_fails}
 use Rattle.unify.proofs.unifier.bound.Goals as goal
@@ -34,6 +35,11 @@ returns-clause-refined c =
     c.requires.table c.in_ok-ty.ensures.extends c.in_ok-occurs_in.ensures.extends c.in_ok-entries.ensures.extends
     c.in_ok-ty.ensures.owned (c.in_ok-ty.ensures.plain ∙ ap (λ xs. apply (substitution c.args.cx.now xs) (tree_in c.args.cx.now.rows (ty_shape c.args.ty))) c.as_slice.ensures.value) (c.in_ok-occurs_in.ensures.exact.0 c.if-branch.false)
     c.in_ok-entries.ensures.owned c.in_ok-entries.ensures.plain c.requires.inside c.requires.unbound c.as_usize.ensures.number
+
+pub returns-clause-len : goal.returns-clause-len
+returns-clause-len c =
+    length-set c.in_ok-entries.entries.items c.as_usize.result (Some c.in_ok-ty.ty)
+    ∙ applied_length c.occurs_in.new.cx c.replaced.new.cx _ c.args.entries.items c.in_ok-entries.entries.items c.in_ok-entries.ensures.plain
 
 pub returns-clause-general : goal.returns-clause-general
 returns-clause-general c = λ ρ equal solves.

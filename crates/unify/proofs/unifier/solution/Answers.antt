@@ -1,5 +1,5 @@
 use Rattle.std.proofs.lemmas.Result.{err_from_is_err_and}
-use Rattle.std.proofs.Common.{subst, sym, ◌∙◌}
+use Rattle.std.proofs.Common.{length, subst, sym, ap, ◌∙◌}
 use Rattle.tt_kinds.specs.Kinds.{ty_shape}
 use Rattle.tt_interner.proofs.Growth.{Extends-trans}
 use Rattle.unify.specs.Bindings.{IsRefined}
@@ -7,7 +7,7 @@ use Rattle.tt_interner.proofs.OwnedLaws.{still_owned}
 use Rattle.unify.proofs.BindingsLaws.{refined_further, refined_grown, unified_by}
 use Rattle.unify.proofs.ResolverSteps.{same_number}
 use Rattle.unify.specs.Bindings.{substitution}
-use Rattle.unify.specs.Substitution.{Solves}
+use Rattle.unify.specs.Substitution.{IsOwn, Solves}
 use Rattle.unify.proofs.BindingsLaws.{substitution_stays}
 use Rattle.unify.proofs.unifier.solution.Goals as goal
 
@@ -40,3 +40,10 @@ returns-in_err-entries-clause-occurs c =
     let p = err_from_is_err_and c.from_residual-in_err-entries.result c.from_residual-in_err-entries.ensures.1 in
     rw (p.1, p.2) (λ occurs ρ solves equal.
     c.in_err-entries.ensures.occurs occurs ρ (subst (λ xs. Solves ρ (substitution c.args.cx.now xs)) (sym c.in_ok-copied.ensures) solves) equal)
+
+pub returns-in_err-entries-clause-mismatch : goal.returns-in_err-entries-clause-mismatch
+returns-in_err-entries-clause-mismatch c =
+    let p = err_from_is_err_and c.from_residual-in_err-entries.result c.from_residual-in_err-entries.ensures.1 in
+    rw (p.1, p.2) (λ mismatch ρ own solves equal.
+    c.in_err-entries.ensures.mismatch mismatch ρ (subst (λ xs. IsOwn (length xs) ρ) (sym c.in_ok-copied.ensures) own)
+    (subst (λ xs. Solves ρ (substitution c.args.cx.now xs)) (sym c.in_ok-copied.ensures) solves) equal)

@@ -7,6 +7,10 @@ use Rattle.unify.specs.declared.pairs.Pair.{Pair}
 use Rattle.unify.proofs.SolutionLaws.{bound_keeps, looked_up_met, pairs_keep, same_solutions}
 use Rattle.unify.proofs.unifier.unify_types.Goals.{then-is_none+in_ok-push_parts, else-is_none}
 use Rattle.unify.proofs.SolutionLaws.{bound_never}
+use Rattle.std.proofs.lemmas.Result.{err_from_is_err_and}
+use Rattle.tt_kinds.specs.Kinds.{ty_shape}
+use Rattle.tt_fold.specs.Steps.{tree_in}
+use Rattle.unify.proofs.PairMismatches.{foreign_by, never_mismatch, types_mismatch}
 use Rattle.unify.proofs.unifier.unify_types.Goals as goal
 
 pub returns-then-eq-clause-refined : goal.returns-then-eq-clause-refined
@@ -66,3 +70,21 @@ returns-in-Some-unbound_variable-clause-occurs c =
     c.bound-in-Some-unbound_variable.ensures.occurs c.in-Some-unbound_variable.ensures.is
     (λ ρ solves met. sym (looked_up_met c.args.cx.now c.args.entries.items c.as_slice.result.now c.as_slice-2.result.now c.args.left c.args.right c.looked_up-left.result c.looked_up-right.result
     c.as_slice.ensures.value c.as_slice-2.ensures.value c.looked_up-left.ensures.same c.looked_up-right.ensures.same ρ solves met))
+
+pub returns-in-Some-clause-mismatch : goal.returns-in-Some-clause-mismatch
+returns-in-Some-clause-mismatch c = never_mismatch _ c.bound.result c.bound.ensures.err
+
+pub returns-in-Some-unbound_variable-clause-mismatch : goal.returns-in-Some-unbound_variable-clause-mismatch
+returns-in-Some-unbound_variable-clause-mismatch c = never_mismatch _ c.bound-in-Some-unbound_variable.result c.bound-in-Some-unbound_variable.ensures.err
+
+pub returns-in_err-push_parts-clause-mismatch : goal.returns-in_err-push_parts-clause-mismatch
+returns-in_err-push_parts-clause-mismatch c =
+    let p = err_from_is_err_and c.from_residual-in_err-push_parts.result c.from_residual-in_err-push_parts.ensures.1 in
+    rw (p.1, p.2) (λ mismatch.
+    types_mismatch c.args.cx.now c.args.entries.items c.args.pairs.now.items c.args.left c.args.right c.looked_up-left.result c.looked_up-right.result (c.in_err-push_parts.ensures.mismatch mismatch)
+    (foreign_by c.args.cx.now c.args.entries.items c.as_slice.result.now c.as_slice-3.result.now (tree_in c.args.cx.now.rows (ty_shape c.looked_up-left.result))
+    c.as_slice.ensures.value c.as_slice-3.ensures.value c.requires.table.idempotent c.looked_up-left.ensures.unbound c.in_default.ensures.foreign)
+    (foreign_by c.args.cx.now c.args.entries.items c.as_slice-2.result.now c.as_slice-4.result.now (tree_in c.args.cx.now.rows (ty_shape c.looked_up-right.result))
+    c.as_slice-2.ensures.value c.as_slice-4.ensures.value c.requires.table.idempotent c.looked_up-right.ensures.unbound c.in_default-unbound_variable.ensures.foreign)
+    (looked_up_met c.args.cx.now c.args.entries.items c.as_slice.result.now c.as_slice-2.result.now c.args.left c.args.right c.looked_up-left.result c.looked_up-right.result
+    c.as_slice.ensures.value c.as_slice-2.ensures.value c.looked_up-left.ensures.same c.looked_up-right.ensures.same))
