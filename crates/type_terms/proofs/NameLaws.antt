@@ -18,7 +18,7 @@ use Rattle.type_terms.specs.declared.run.call.RegionNameCall.{RegionNameCall}
 use Rattle.type_terms.specs.declared.run.call.VariableCall.{VariableCall}
 use Rattle.type_terms.specs.CallForm.{variable_kind}
 use Rattle.type_terms.specs.Told.{HasFullTable}
-use Rattle.type_terms.specs.Build.{IsUnbuilt, GivesName, IsVariableOf, GivesVariable, AreVariablesOf, GivesVariables, PutsVariables}
+use Rattle.type_terms.specs.Build.{IsUnbuilt, GivesName, IsVariableOf, GivesVariable, AreVariablesOf, GivesVariables, FillsVariables}
 use Rattle.type_terms.proofs.BuildLaws.{unstored, Builds-extends}
 
 -- what a question mark passes on
@@ -38,7 +38,7 @@ variables-passed terms ids cs (Ok k) r h u = absurd h
 variables-passed terms ids cs (Err x) r h u = record { ok = tt; err = rw h u }
 
 pub vars-passed : {R : Type 0} (terms : Terms) (ids : ℕ → ℕ) (cs : List VariableCall) (vs : List BoundVariableKind) (result : Result R Refusal) (r : Refusal) → IsErrAnd result (λ x. x ≡ r)
-    → IsUnbuilt (HasFullTable terms) [] [] ⊥ r → PutsVariables terms ids cs vs result
+    → IsUnbuilt (HasFullTable terms) [] [] ⊥ r → FillsVariables terms ids cs vs result
 vars-passed terms ids cs vs (Ok k) r h u = absurd h
 vars-passed terms ids cs vs (Err x) r h u = record { ok = tt; err = rw h u }
 

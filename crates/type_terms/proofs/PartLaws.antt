@@ -28,7 +28,7 @@ use Rattle.type_terms.specs.CallForm.{ExistentialForm, trait_object, existential
 use Rattle.type_terms.specs.Told.{Told, HasFullTable}
 use Rattle.type_terms.specs.Means.{number_at, tree_at, AreTerms}
 use Rattle.type_terms.specs.Build as build
-use Rattle.type_terms.specs.Build.{IsUnbuilt, IsUnusable, IsUsable, IsPlaced, ArePlaced, IsItemOf, AreItemsOf, IsPartOf, ArePartsOf, GivesPart, GivesParts, GivesPlaced, GivesItems, PutsPlaced, PutsItems, IsRegionOf, IsVariableListOf, IsKindOf, GivesKind, GivesRecord}
+use Rattle.type_terms.specs.Build.{IsUnbuilt, IsUnusable, IsUsable, IsPlaced, ArePlaced, IsItemOf, AreItemsOf, IsPartOf, ArePartsOf, GivesPart, GivesParts, GivesPlaced, GivesItems, FillsPlaced, FillsItems, IsRegionOf, IsVariableListOf, IsKindOf, GivesKind, GivesRecord}
 
 -- positions of two lists
 pub AreTerms-append : (e : List Told) (ms ns : List Named) → AreTerms e ms → AreTerms e ns → AreTerms e (ms ++ ns)
@@ -346,12 +346,12 @@ items-passed terms e is of_value (Ok l) r h k = absurd h
 items-passed terms e is of_value (Err x) r h k = record { ok = tt; err = rw h k }
 
 pub all_placed-passed : {R : Type 0} (terms : Terms) (e : List Told) (ts : Forest Depth) (ns : List Named) (deep : Type 0) (ss : Shapes) (result : Result R Refusal) (r : Refusal) → IsErrAnd result (λ x. x ≡ r)
-    → IsUnbuilt (HasFullTable terms) e ns deep r → PutsPlaced terms e ts ns deep ss result
+    → IsUnbuilt (HasFullTable terms) e ns deep r → FillsPlaced terms e ts ns deep ss result
 all_placed-passed terms e ts ns deep ss (Ok l) r h k = absurd h
 all_placed-passed terms e ts ns deep ss (Err x) r h k = record { ok = tt; err = rw h k }
 
 pub puts-passed : {H R : Type 0} (terms : Terms) (e : List Told) (is : List Item) (of_value : H → Shape) (values : List H) (result : Result R Refusal) (r : Refusal) → IsErrAnd result (λ x. x ≡ r)
-    → IsUnbuilt (HasFullTable terms) e (items_positions is) (AreItemsTooDeep is) r → PutsItems terms e is of_value values result
+    → IsUnbuilt (HasFullTable terms) e (items_positions is) (AreItemsTooDeep is) r → FillsItems terms e is of_value values result
 puts-passed terms e is of_value values result r h k =
     all_placed-passed terms e (items_trees (number_at e) (tree_at e) is) (items_positions is) (AreItemsTooDeep is) (item_shapes of_value values) result r h k
 
