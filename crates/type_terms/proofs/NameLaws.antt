@@ -17,7 +17,7 @@ use Rattle.type_terms.specs.declared.run.call.VariableCall.{VariableCall}
 use Rattle.type_terms.specs.CallForm.{variable_kind}
 use Rattle.type_terms.specs.Told.{HasFullTable}
 use Rattle.type_terms.specs.Build.{IsUnbuiltPart, IsVariableOf, GivesVariable, AreVariablesOf, GivesVariables}
-use Rattle.type_terms.specs.Build.{PutsVariables}
+use Rattle.type_terms.specs.Build.{FillsVariables}
 use Rattle.type_terms.proofs.BuildLaws.{unstored, Builds-extends}
 
 -- an error that is passed on is a variable's refusal, if it is a reason why the variable was not built
@@ -34,7 +34,7 @@ variables-passed terms ids cs (Err x) r h u = record { ok = tt; err = rw h u }
 
 -- an error that is passed on is the refusal of variables in order, if it is a reason why they were not built
 pub vars-passed : {R : Type 0} (terms : Terms) (ids : ℕ → ℕ) (cs : List VariableCall) (vs : List BoundVariableKind) (result : Result R Refusal) (r : Refusal) → IsErrAnd result (λ x. x ≡ r)
-    → IsUnbuiltPart (HasFullTable terms) [] [] ⊥ r → PutsVariables terms ids cs vs result
+    → IsUnbuiltPart (HasFullTable terms) [] [] ⊥ r → FillsVariables terms ids cs vs result
 vars-passed terms ids cs vs (Ok k) r h u = absurd h
 vars-passed terms ids cs vs (Err x) r h u = record { ok = tt; err = rw h u }
 

@@ -37,8 +37,8 @@ use Rattle.type_terms.specs.Means.{number_at, tree_at, AreTerms}
 use Rattle.type_terms.specs.Build as build
 use Rattle.type_terms.specs.Build.{IsUnbuiltPart, IsUnusable, IsUsable, IsPlaced, ArePlaced, IsItemOfCall, AreItemsOf}
 use Rattle.type_terms.specs.Build.{IsPartOfCall}
-use Rattle.type_terms.specs.Build.{ArePartsOfCall, GivesPart, GivesParts, GivesPlaced, GivesItems, PutsPlaced}
-use Rattle.type_terms.specs.Build.{PutsItems}
+use Rattle.type_terms.specs.Build.{ArePartsOfCall, GivesPart, GivesParts, GivesPlaced, GivesItems, FillsPlaced}
+use Rattle.type_terms.specs.Build.{FillsItems}
 use Rattle.type_terms.specs.Build.{IsRegionOf, IsVariableListOf, IsKindOf, GivesKind, GivesRecord}
 
 -- positions of two lists
@@ -371,13 +371,13 @@ items-passed terms e is of_value (Err x) r h k = record { ok = tt; err = rw h k 
 
 -- an error that is passed on is the refusal of values in order, if it is a reason why they were not built
 pub all_placed-passed : {R : Type 0} (terms : Terms) (e : List Told) (ts : Forest Depth) (ns : List Named) (deep : Type 0) (ss : Shapes) (result : Result R Refusal) (r : Refusal) → IsErrAnd result (λ x. x ≡ r)
-    → IsUnbuiltPart (HasFullTable terms) e ns deep r → PutsPlaced terms e ts ns deep ss result
+    → IsUnbuiltPart (HasFullTable terms) e ns deep r → FillsPlaced terms e ts ns deep ss result
 all_placed-passed terms e ts ns deep ss (Ok l) r h k = absurd h
 all_placed-passed terms e ts ns deep ss (Err x) r h k = record { ok = tt; err = rw h k }
 
 -- an error that is passed on is the refusal of the values of items, if it is a reason why they were not built
 pub puts-passed : {H R : Type 0} (terms : Terms) (e : List Told) (is : List Item) (of_value : H → Shape) (values : List H) (result : Result R Refusal) (r : Refusal) → IsErrAnd result (λ x. x ≡ r)
-    → IsUnbuiltPart (HasFullTable terms) e (items_positions is) (AreItemsTooDeep is) r → PutsItems terms e is of_value values result
+    → IsUnbuiltPart (HasFullTable terms) e (items_positions is) (AreItemsTooDeep is) r → FillsItems terms e is of_value values result
 puts-passed terms e is of_value values result r h k =
     all_placed-passed terms e (items_trees (number_at e) (tree_at e) is) (items_positions is) (AreItemsTooDeep is) (item_shapes of_value values) result r h k
 

@@ -132,7 +132,7 @@ pub record AreVariablesOf (terms : Terms) (ids : ℕ → ℕ) (calls : List Vari
   pub means : map (rename_kind (name_of (meaning terms.rows))) (map var_kind vs) ≡ map (variable_kind ids) calls
 
 -- these are the variables, or there is a refusal with a reason
-pub record PutsVariables {R : Type 0} (terms : Terms) (ids : ℕ → ℕ) (calls : List VariableCall)
+pub record FillsVariables {R : Type 0} (terms : Terms) (ids : ℕ → ℕ) (calls : List VariableCall)
     (vs : List BoundVariableKind) (result : Result R Refusal) : Type 0 where
   pub ok : OnOk result (AreVariablesOf terms ids calls vs)
   pub err : IfErr result (IsUnbuiltPart (HasFullTable terms) [] [] ⊥)
@@ -217,15 +217,16 @@ pub record GivesItems {H : Type 0} (terms : Terms) (earlier : List Told) (is : L
   pub err : IfErr result (IsUnbuiltPart (HasFullTable terms) earlier (items_positions is) (AreItemsTooDeep is))
 
 -- the shapes have these trees in order, or there is a refusal with a reason
-pub record PutsPlaced {R : Type 0} (terms : Terms) (earlier : List Told) (ts : Forest Depth) (names : List Named)
+pub record FillsPlaced {R : Type 0} (terms : Terms) (earlier : List Told) (ts : Forest Depth) (names : List Named)
     (deep : Type 0) (ss : Shapes) (result : Result R Refusal) : Type 0 where
   pub ok : OnOk result (ArePlaced terms earlier ts names deep ss)
   pub err : IfErr result (IsUnbuiltPart (HasFullTable terms) earlier names deep)
 
 -- these are the values of the items, or there is a refusal with a reason
-abbrev pub PutsItems : {H R : Type 0} → Terms → List Told → List Item → (H → Shape) → List H → Result R Refusal → Type 0
-PutsItems terms earlier is shape values result =
-    PutsPlaced terms earlier (items_trees (number_at earlier) (tree_at earlier) is) (items_positions is)
+abbrev pub FillsItems : {H R : Type 0} → Terms → List Told → List Item → (H → Shape) → List H → Result R Refusal
+    → Type 0
+FillsItems terms earlier is shape values result =
+    FillsPlaced terms earlier (items_trees (number_at earlier) (tree_at earlier) is) (items_positions is)
     (AreItemsTooDeep is) (item_shapes shape values) result
 
 -- the result is the value that the call puts in the children's places, or a refusal with a reason

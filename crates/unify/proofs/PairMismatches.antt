@@ -1,5 +1,6 @@
 -- Which pairs of children no assignment to a table's variables alone makes equal.
-use Rattle.std.proofs.Common.{◌≡◌, ◌≢◌, refl, ℕ, ◌<◌, ◌≤◌, List, [], ◌∷◌, length, Option, Some, None, Result, Ok, Err, IfErr}
+use Rattle.std.proofs.Common.{◌≡◌, ◌≢◌, refl, ℕ, ◌<◌, ◌≤◌, List, [], ◌∷◌, length, Option, Some, None, Result, Ok, Err}
+use Rattle.std.proofs.Common.{IfErr}
 use Rattle.std.proofs.Common.{Bool, true, false, sym, subst, ap, ◌∙◌}
 use Rattle.std.proofs.lemmas.Bool.{true≢false}
 use Rattle.std.specs.Prelude.{unwrap_or}
@@ -11,7 +12,8 @@ use Rattle.tt_kinds.specs.Tree as tree
 use Rattle.tt_kinds.specs.Tree.{Depth, Tree}
 use Rattle.tt_kinds.specs.Shape as shape
 use Rattle.tt_kinds.specs.Shape.{AreParts, fill, fill_all}
-use Rattle.tt_kinds.specs.Parts.{ChildSort, a_node, a_list, child_sort, node_table, node_number, list_table, list_number, list_sort}
+use Rattle.tt_kinds.specs.Parts.{ChildSort, a_node, a_list, child_sort, node_table, node_number, list_table}
+use Rattle.tt_kinds.specs.Parts.{list_number, list_sort}
 use Rattle.tt_kinds.specs.Parts.{sort_list_table}
 use Rattle.tt_kinds.specs.Kinds.{region_shape, node_shape, list_shape, child_shapes, ty_shape}
 use Rattle.tt_kinds.specs.Handle.{Ty}

@@ -12,7 +12,8 @@ use Rattle.tt_kinds.specs.Tree as tree
 use Rattle.tt_kinds.specs.Tree.{Depth, Tree, Forest, count_trees}
 use Rattle.tt_kinds.specs.Shape as shape
 use Rattle.tt_kinds.specs.Shape.{Shapes, Meaning, Sizes, AreParts, append, fill, fill_all, sort_table}
-use Rattle.tt_kinds.specs.Parts.{ChildSort, absent, a_region, a_node, a_list, child_sort, node_table, node_number, IsItem}
+use Rattle.tt_kinds.specs.Parts.{ChildSort, absent, a_region, a_node, a_list, child_sort, node_table, node_number}
+use Rattle.tt_kinds.specs.Parts.{IsItem}
 use Rattle.tt_kinds.specs.Parts.{list_table, list_number, list_sort, sort_list_table}
 use Rattle.tt_kinds.specs.Kinds.{region_shape, child_shapes, children_shapes, items_tree}
 use Rattle.tt_kinds.specs.declared.region_kind.RegionKind.{RegionKind}

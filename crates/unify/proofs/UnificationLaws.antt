@@ -19,7 +19,8 @@ use Rattle.unify.proofs.OwnSolution.{resolved_unify}
 pub use Rattle.unify.proofs.BindingsLaws.{table_stays, empty_table, refined_further}
 -- what solves bindings makes of a resolved type what it makes of the type; what solves bindings solved the earlier ones
 pub use Rattle.unify.proofs.GeneralLaws.{solution_factors, solves_earlier}
--- a table's bindings, as an assignment, solve the table, so there is a solution; it is one to the table's variables alone
+-- a table's bindings, as an assignment, solve the table, so there is a solution; it is one to the table's variables
+-- alone
 pub use Rattle.unify.proofs.OwnSolution.{bindings_solve, bindings_own}
 
 -- no variable occurs in what it is bound to

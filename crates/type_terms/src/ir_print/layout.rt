@@ -72,12 +72,12 @@ pub(crate) enum Style {
 pub(crate) enum Place {
     /// In front of a child, which may be the first and the last.
     Before { first: bool, last: bool },
-    /// After so many children.
+    /// After the last child, with the number of children.
     After(usize),
 }
 
 impl Style {
-    // Returns the style of a list in a term of this style.
+    /// Returns the style of a list in a term of this style.
     pub(crate) fn of_list(self) -> Style
         ensures { result ≡ list_style self }
     {
@@ -174,7 +174,7 @@ impl Style {
         }
     }
 
-    // Returns the text at this place.
+    /// Returns the text at this place.
     pub(crate) fn text_at(self, place: Place) -> &'static str
         ensures { result.now ≡ place_text self place }
     {
@@ -185,7 +185,7 @@ impl Style {
     }
 }
 
-// Returns the text in front of the variable of this place in a binder's list.
+/// Returns the text in front of the variable of this place in a binder's list.
 pub(crate) fn before_variable(place: usize) -> &'static str
     ensures { result.now ≡ before_variable place }
 {
@@ -195,7 +195,7 @@ pub(crate) fn before_variable(place: usize) -> &'static str
     }
 }
 
-// Returns the text after `count` variables of a binder.
+/// Returns the text after `count` variables of a binder.
 pub(crate) fn after_variables(count: usize) -> &'static str
     ensures { result.now ≡ after_variables count }
 {

@@ -93,7 +93,7 @@ fn push_child(
     Ok(())
 }
 
-// Adds the parts of a term, and the text after them. What is written first is added last.
+/// Adds the parts of a term, and the text after them. What is written first is added last.
 pub(crate) fn push_parts(pieces: &mut Pieces, style: Style, parts: &Parts) -> Result<(), AllocError>
     ensures { (rows : Items Row) → AreParts (size rows) (parts_shapes parts.now)
         → OnOk result (Adds
@@ -111,8 +111,8 @@ pub(crate) fn push_parts(pieces: &mut Pieces, style: Style, parts: &Parts) -> Re
     push_child(pieces, style, &parts.first, true, no_second)
 }
 
-// Adds the items of a stored list, in a term of this style, and the text after them. What is written first is added
-// last.
+/// Adds the items of a stored list, in a term of this style, and the text after them. What is written first is added
+/// last.
 pub(crate) fn push_list(
     cx: &Interner,
     pieces: &mut Pieces,

@@ -99,7 +99,7 @@ fn alone(before: &'static str) -> Spelling
     worded(before, Style::Joined)
 }
 
-// Returns the spelling by a word, and children in the style.
+/// Returns the spelling by a word, and children in the style.
 pub(crate) fn worded(before: &'static str, style: Style) -> Spelling
     ensures head { head_of result ≡ word before.now }
     ensures style { result.style ≡ style }
@@ -120,7 +120,7 @@ fn followed(before: &'static str, subject: Subject, style: Style) -> Spelling
     }
 }
 
-// Returns the spelling by a word, the name of the declaration of this number, and children in the style.
+/// Returns the spelling by a word, the name of the declaration of this number, and children in the style.
 pub(crate) fn declared(before: &'static str, number: u32, style: Style) -> Spelling
     ensures head { head_of result ≡ with_word before.now (item number) }
     ensures style { result.style ≡ style }
@@ -165,7 +165,7 @@ fn marked(mark: &'static str, first: u32, second: u32) -> Spelling
     followed(mark, Subject::Paired(first, second), Style::Joined)
 }
 
-// Returns the spelling of a function pointer, in front of its signature.
+/// Returns the spelling of a function pointer, in front of its signature.
 pub(crate) fn fn_spelling(kind: FnSigKind) -> Spelling
     ensures before { result.before.now ≡ safety_word (safety_in kind) }
     ensures subject { subject_of result.subject ≡ convention (abi_words (abi_in kind)) (splat_in kind) }
@@ -202,6 +202,7 @@ fn pointer_spelling(mutability: Mutability) -> Spelling
     }
 }
 
+// Returns the spelling of an inference variable.
 fn infer_spelling(var: InferTy) -> Spelling
     ensures head { head_of result ≡ infer_head var }
     ensures style { result.style ≡ Style.Joined }
@@ -358,7 +359,7 @@ fn effect_spelling(constness: BoundConstness, number: u32) -> Spelling
     }
 }
 
-// Returns how a clause is spelled.
+/// Returns how a clause is spelled.
 pub(crate) fn clause_spelling(kind: &ClauseKind) -> Spelling
     ensures head { head_of result ≡ record_head Style.Joined (clause_form kind.now).label }
     ensures style { result.style ≡ record_style Style.Joined (clause_form kind.now).label }
@@ -411,7 +412,7 @@ fn relation_style(direction: AliasRelationDirection) -> Style
     }
 }
 
-// Returns how a predicate is spelled.
+/// Returns how a predicate is spelled.
 pub(crate) fn predicate_spelling(kind: &PredicateKind) -> Spelling
     ensures head { head_of result ≡ record_head Style.Joined (predicate_form kind.now).label }
     ensures style { result.style ≡ record_style Style.Joined (predicate_form kind.now).label }
@@ -432,7 +433,7 @@ pub(crate) fn predicate_spelling(kind: &PredicateKind) -> Spelling
     }
 }
 
-// Returns how an existential predicate is spelled.
+/// Returns how an existential predicate is spelled.
 pub(crate) fn existential_spelling(kind: &ExistentialPredicate) -> Spelling
     ensures head { head_of result ≡ record_head Style.Joined (existential_form kind.now).label }
     ensures style { result.style ≡ record_style Style.Joined (existential_form kind.now).label }
@@ -444,7 +445,7 @@ pub(crate) fn existential_spelling(kind: &ExistentialPredicate) -> Spelling
     }
 }
 
-// Returns how a stored term is spelled.
+/// Returns how a stored term is spelled.
 pub(crate) fn kind_spelling(kind: &Kind) -> Spelling
     ensures head { head_of result ≡ form_head (kind_sort kind.now) (kind_form kind.now) }
     ensures style { result.style ≡ form_style (kind_form kind.now) }
@@ -471,7 +472,7 @@ fn region_name_spelling(kind: BoundRegionKind) -> Spelling
     }
 }
 
-// Returns how a region is spelled.
+/// Returns how a region is spelled.
 pub(crate) fn region_spelling(kind: &RegionKind) -> Spelling
     ensures { head_of result ≡ region_head (region_shape kind.now) }
 {
@@ -487,7 +488,7 @@ pub(crate) fn region_spelling(kind: &RegionKind) -> Spelling
     }
 }
 
-// Returns how the variable of this place in a binder's list is spelled, without its name.
+/// Returns how the variable of this place in a binder's list is spelled, without its name.
 pub(crate) fn variable_spelling(place: usize, kind: &BoundVariableKind) -> Spelling
     ensures { head_of result ≡ variable_head place (var_kind kind.now) }
 {
@@ -527,7 +528,7 @@ fn ty_title(kind: BoundTyKind) -> Spelling
     }
 }
 
-// Returns how the name of a binder's variable is spelled, after its place in the list.
+/// Returns how the name of a binder's variable is spelled, after its place in the list.
 pub(crate) fn variable_title(kind: &BoundVariableKind) -> Spelling
     ensures { head_of result ≡ variable_title (var_kind kind.now) }
 {

@@ -5,7 +5,7 @@ ghost use Rattle.type_terms.specs.Text.{abi_words, float_name, int_name, safety_
 
 use tt_index::{ExternAbi, FloatTy, IntTy, Safety, UintTy};
 
-// Returns the name of a signed integer type.
+/// Returns the name of a signed integer type.
 pub(crate) fn int_name(ty: IntTy) -> &'static str
     ensures { result.now ≡ int_name ty }
 {
@@ -19,7 +19,7 @@ pub(crate) fn int_name(ty: IntTy) -> &'static str
     }
 }
 
-// Returns the name of an unsigned integer type.
+/// Returns the name of an unsigned integer type.
 pub(crate) fn uint_name(ty: UintTy) -> &'static str
     ensures { result.now ≡ uint_name ty }
 {
@@ -33,7 +33,7 @@ pub(crate) fn uint_name(ty: UintTy) -> &'static str
     }
 }
 
-// Returns the name of a floating point type.
+/// Returns the name of a floating point type.
 pub(crate) fn float_name(ty: FloatTy) -> &'static str
     ensures { result.now ≡ float_name ty }
 {
@@ -45,7 +45,7 @@ pub(crate) fn float_name(ty: FloatTy) -> &'static str
     }
 }
 
-// Returns the word of a function that isn't safe.
+/// Returns the word of a function that isn't safe.
 pub(crate) fn safety_word(safety: Safety) -> &'static str
     ensures { result.now ≡ safety_word safety }
 {
@@ -55,7 +55,7 @@ pub(crate) fn safety_word(safety: Safety) -> &'static str
     }
 }
 
-// Returns the words of a calling convention. Rust's own has none.
+/// Returns the words of a calling convention. Rust's own has none.
 pub(crate) fn abi_words(abi: ExternAbi) -> &'static str
     ensures { result.now ≡ abi_words abi }
 {

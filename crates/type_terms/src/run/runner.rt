@@ -10,7 +10,7 @@ ghost use Rattle.type_terms.specs.Runner.{AddsAnswer, AnswersInTurn};
 
 use crate::run::answer::Answer;
 use crate::run::answers::folds::{erase_at, instantiate_at, shift_at};
-use crate::run::answers::ids::names_ids;
+use crate::run::answers::ids::call_is_declared;
 use crate::run::answers::queries::{equal_at, info_at};
 use crate::run::build::clauses::build_clauses;
 use crate::run::build::consts::{build_args_answer, build_const};
@@ -92,7 +92,7 @@ fn answer_call(cx: &mut Interner, earlier: &[Answer], call: &Call) -> Answer
         call.now
         (told cx.new.rows result) }
 {
-    if names_ids(earlier, call) {
+    if call_is_declared(earlier, call) {
         answer_named(cx, earlier, call)
     } else {
         Answer::Refused(Refusal::NoSuchAnswer)

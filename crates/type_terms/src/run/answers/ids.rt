@@ -1,4 +1,7 @@
 //! Ids, by the positions of the calls that declared them.
+//!
+//! Below, a call or a part of one is declared if each position in it that has to name a declaration names one of the
+//! right sort: all its declarations are there, and its terms may be absent.
 
 ghost use Rattle.std.specs.Prelude.{◌≡◌, ◌↔◌, ◌++◌, IsTrue, None, List, MatchOption};
 ghost use Rattle.tt_interner.specs.Rows.{Row};
@@ -54,8 +57,8 @@ fn id_at(earlier: &[Answer], position: u32) -> Option<(DeclarationSort, DefId)>
     }
 }
 
-/// Returns the number of the id at the position. A call is only answered if [`names_ids`] has found an id at each such
-/// position, so no term is built with the 0 of an absent one.
+/// Returns the number of the id at the position. The 0 of an absent one is never stored: a call is only answered if
+/// [`call_is_declared`] has found an id of the right sort at each such position.
 pub fn number_at(earlier: &[Answer], position: u32) -> u32
     ensures { (rows : List Row) → result ≡ number_at (told_all rows earlier.now) position }
 {
@@ -79,27 +82,28 @@ pub fn def_at(earlier: &[Answer], position: u32) -> DefId
     DefId::from_number(number_at(earlier, position))
 }
 
-/// Returns whether each position of the call that has to name an id does, and the id has the required sort.
-pub fn names_ids(earlier: &[Answer], call: &Call) -> bool
+/// Returns whether each position of the call that has to name a declaration names one of the right sort.
+pub fn call_is_declared(earlier: &[Answer], call: &Call) -> bool
     ensures { (rows : List Row) → IsTrue result ↔ AreTerms (told_all rows earlier.now) (id_positions call.now) }
 {
     match call {
-        Call::Ty(kind) => names_ty_ids(earlier, kind),
-        Call::Const(kind) => names_const_ids(earlier, kind),
-        Call::Predicate(predicate) => names_predicate_ids(earlier, predicate),
-        Call::Args(args) => names_args_ids(earlier, args.as_slice()),
-        Call::Declare(declaration) => names_declared_ids(earlier, &declaration.kind),
-        Call::Instantiate(_, args) => names_args_ids(earlier, args.as_slice()),
+        Call::Ty(kind) => type_is_declared(earlier, kind),
+        Call::Const(kind) => const_is_declared(earlier, kind),
+        Call::Predicate(predicate) => predicate_is_declared(earlier, predicate),
+        Call::Args(args) => args_are_declared(earlier, args.as_slice()),
+        Call::Declare(declaration) => signature_is_declared(earlier, &declaration.kind),
+        Call::Instantiate(_, args) => args_are_declared(earlier, args.as_slice()),
         _ => true,
     }
 }
 
-// Returns whether the declarations that the variables of a declared function name are there.
-fn names_declared_ids(earlier: &[Answer], call: &DeclarationKindCall) -> bool
+// Returns whether the declarations that the variables of a function's signature name are there. Other declarations have
+// no such variables.
+fn signature_is_declared(earlier: &[Answer], call: &DeclarationKindCall) -> bool
     ensures { (rows : List Row) → IsTrue result ↔ AreTerms (told_all rows earlier.now) (declared_ids call.now) }
 {
     match call {
-        DeclarationKindCall::Fn { vars, .. } => names_variables_ids(earlier, vars.as_slice()),
+        DeclarationKindCall::Fn { vars, .. } => variables_are_declared(earlier, vars.as_slice()),
         _ => true,
     }
 }
@@ -125,23 +129,28 @@ fn is_any_id(earlier: &[Answer], position: u32) -> bool
 }
 
 // Returns whether an id of this sort is at the position, and the declarations that the arguments name are there.
-fn is_id_with(earlier: &[Answer], position: u32, sort: DeclarationSort, args: &[ArgCall]) -> bool
+fn is_id_with_args(
+    earlier: &[Answer],
+    position: u32,
+    sort: DeclarationSort,
+    args: &[ArgCall],
+) -> bool
     ensures { (rows : List Row) → IsTrue result
         ↔ AreTerms (told_all rows earlier.now) (an_id sort position ++ args_ids args.now) }
 {
-    is_id(earlier, position, sort) && names_args_ids(earlier, args)
+    is_id(earlier, position, sort) && args_are_declared(earlier, args)
 }
 
 // Returns whether an id of any sort is at the position, and the declarations that the arguments name are there.
-fn is_any_id_with(earlier: &[Answer], position: u32, args: &[ArgCall]) -> bool
+fn is_any_id_with_args(earlier: &[Answer], position: u32, args: &[ArgCall]) -> bool
     ensures { (rows : List Row) → IsTrue result
         ↔ AreTerms (told_all rows earlier.now) (any_id position ++ args_ids args.now) }
 {
-    is_any_id(earlier, position) && names_args_ids(earlier, args)
+    is_any_id(earlier, position) && args_are_declared(earlier, args)
 }
 
-// Returns whether the declaration that names the bound region is there.
-fn names_name_id(earlier: &[Answer], call: &RegionNameCall) -> bool
+// Returns whether the declaration that names the region, if one does, is there.
+fn region_name_is_declared(earlier: &[Answer], call: &RegionNameCall) -> bool
     ensures { (rows : List Row) → IsTrue result ↔ AreTerms (told_all rows earlier.now) (name_ids call.now) }
 {
     match call {
@@ -150,8 +159,8 @@ fn names_name_id(earlier: &[Answer], call: &RegionNameCall) -> bool
     }
 }
 
-// Returns whether the declaration that names the bound type is there.
-fn names_ty_name_id(earlier: &[Answer], call: BoundTyKindCall) -> bool
+// Returns whether the declaration that names the type, if one does, is there.
+fn type_name_is_declared(earlier: &[Answer], call: BoundTyKindCall) -> bool
     ensures { (rows : List Row) → IsTrue result ↔ AreTerms (told_all rows earlier.now) (ty_name_ids call) }
 {
     match call {
@@ -160,23 +169,23 @@ fn names_ty_name_id(earlier: &[Answer], call: BoundTyKindCall) -> bool
     }
 }
 
-// Returns whether the declaration that names the variable is there.
-fn names_variable_id(earlier: &[Answer], call: &VariableCall) -> bool
+// Returns whether the declaration that names the variable, if one does, is there.
+fn variable_is_declared(earlier: &[Answer], call: &VariableCall) -> bool
     ensures { (rows : List Row) → IsTrue result ↔ AreTerms (told_all rows earlier.now) (variable_ids call.now) }
 {
     match call {
-        VariableCall::Ty(name) => names_ty_name_id(earlier, *name),
-        VariableCall::Region(name) => names_name_id(earlier, name),
+        VariableCall::Ty(name) => type_name_is_declared(earlier, *name),
+        VariableCall::Region(name) => region_name_is_declared(earlier, name),
         VariableCall::Const => true,
     }
 }
 
 // Returns whether the declarations that name the variables are there.
-fn names_variables_ids(earlier: &[Answer], calls: &[VariableCall]) -> bool
+fn variables_are_declared(earlier: &[Answer], calls: &[VariableCall]) -> bool
     ensures { (rows : List Row) → IsTrue result ↔ AreTerms (told_all rows earlier.now) (variables_ids calls.now) }
 {
     for call in calls {
-        if !names_variable_id(earlier, call) {
+        if !variable_is_declared(earlier, call) {
             return false;
         }
     }
@@ -184,49 +193,50 @@ fn names_variables_ids(earlier: &[Answer], calls: &[VariableCall]) -> bool
 }
 
 // Returns whether the declarations that the region names are there.
-fn names_region_ids(earlier: &[Answer], call: &RegionCall) -> bool
+fn region_is_declared(earlier: &[Answer], call: &RegionCall) -> bool
     ensures { (rows : List Row) → IsTrue result ↔ AreTerms (told_all rows earlier.now) (region_ids call.now) }
 {
     match call {
-        RegionCall::ReBound(_, _, name) => names_name_id(earlier, name),
-        RegionCall::ReLateParam(scope, name) => names_late_ids(earlier, *scope, name),
-        RegionCall::RePlaceholder(_, _, name) => names_name_id(earlier, name),
+        RegionCall::ReBound(_, _, name) => region_name_is_declared(earlier, name),
+        RegionCall::ReLateParam(scope, name) => late_parameter_is_declared(earlier, *scope, name),
+        RegionCall::RePlaceholder(_, _, name) => region_name_is_declared(earlier, name),
         _ => true,
     }
 }
 
-// Returns whether the declarations of a region parameter, seen from inside its item, are there.
-fn names_late_ids(earlier: &[Answer], scope: u32, name: &RegionNameCall) -> bool
+// Returns whether the item of a region parameter, seen from inside that item, and the declaration that names the
+// parameter are there.
+fn late_parameter_is_declared(earlier: &[Answer], scope: u32, name: &RegionNameCall) -> bool
     ensures { (rows : List Row) → IsTrue result
         ↔ AreTerms (told_all rows earlier.now) (any_id scope ++ name_ids name.now) }
 {
-    is_any_id(earlier, scope) && names_name_id(earlier, name)
+    is_any_id(earlier, scope) && region_name_is_declared(earlier, name)
 }
 
 // Returns whether the declarations that both regions name are there.
-fn names_both_ids(earlier: &[Answer], first: &RegionCall, second: &RegionCall) -> bool
+fn regions_are_declared(earlier: &[Answer], first: &RegionCall, second: &RegionCall) -> bool
     ensures { (rows : List Row) → IsTrue result
         ↔ AreTerms (told_all rows earlier.now) (region_ids first.now ++ region_ids second.now) }
 {
-    names_region_ids(earlier, first) && names_region_ids(earlier, second)
+    region_is_declared(earlier, first) && region_is_declared(earlier, second)
 }
 
-// Returns whether the declarations that the argument names are there.
-fn names_arg_ids(earlier: &[Answer], call: &ArgCall) -> bool
+// Returns whether the declarations that the argument names are there. Only a region names some.
+fn arg_is_declared(earlier: &[Answer], call: &ArgCall) -> bool
     ensures { (rows : List Row) → IsTrue result ↔ AreTerms (told_all rows earlier.now) (arg_ids call.now) }
 {
     match call {
-        ArgCall::Lifetime(region) => names_region_ids(earlier, region),
+        ArgCall::Lifetime(region) => region_is_declared(earlier, region),
         _ => true,
     }
 }
 
 // Returns whether the declarations that the arguments name are there.
-fn names_args_ids(earlier: &[Answer], calls: &[ArgCall]) -> bool
+fn args_are_declared(earlier: &[Answer], calls: &[ArgCall]) -> bool
     ensures { (rows : List Row) → IsTrue result ↔ AreTerms (told_all rows earlier.now) (args_ids calls.now) }
 {
     for call in calls {
-        if !names_arg_ids(earlier, call) {
+        if !arg_is_declared(earlier, call) {
             return false;
         }
     }
@@ -234,34 +244,34 @@ fn names_args_ids(earlier: &[Answer], calls: &[ArgCall]) -> bool
 }
 
 // Returns whether the declarations that the type names are there.
-fn names_ty_ids(earlier: &[Answer], call: &TyCall) -> bool
+fn type_is_declared(earlier: &[Answer], call: &TyCall) -> bool
     ensures { (rows : List Row) → IsTrue result ↔ AreTerms (told_all rows earlier.now) (ty_ids call.now) }
 {
     match call {
         TyCall::Foreign(position) => is_id(earlier, *position, DeclarationSort::Foreign),
-        TyCall::Bound(_, _, name) => names_ty_name_id(earlier, *name),
-        TyCall::Placeholder(_, _, name) => names_ty_name_id(earlier, *name),
-        TyCall::Ref(region, _, _) => names_region_ids(earlier, region),
-        TyCall::FnPtr { vars, .. } => names_variables_ids(earlier, vars.as_slice()),
-        TyCall::Item(item, args) => names_item_ids(earlier, *item, args.as_slice()),
+        TyCall::Bound(_, _, name) => type_name_is_declared(earlier, *name),
+        TyCall::Placeholder(_, _, name) => type_name_is_declared(earlier, *name),
+        TyCall::Ref(region, _, _) => region_is_declared(earlier, region),
+        TyCall::FnPtr { vars, .. } => variables_are_declared(earlier, vars.as_slice()),
+        TyCall::Item(item, args) => item_with_args_is_declared(earlier, *item, args.as_slice()),
         TyCall::Dynamic(existentials, region) => {
-            names_object_ids(earlier, existentials.as_slice(), region)
+            trait_object_is_declared(earlier, existentials.as_slice(), region)
         }
-        TyCall::UnsafeBinder { vars, .. } => names_variables_ids(earlier, vars.as_slice()),
+        TyCall::UnsafeBinder { vars, .. } => variables_are_declared(earlier, vars.as_slice()),
         _ => true,
     }
 }
 
-// Returns whether the item's declaration and the declarations that its arguments name are there.
-fn names_item_ids(earlier: &[Answer], call: ItemCall, args: &[ArgCall]) -> bool
+// Returns whether the item's declaration and those that its arguments name are there.
+fn item_with_args_is_declared(earlier: &[Answer], call: ItemCall, args: &[ArgCall]) -> bool
     ensures { (rows : List Row) → IsTrue result
         ↔ AreTerms (told_all rows earlier.now) (item_ids call ++ args_ids args.now) }
 {
-    names_item_id(earlier, call) && names_args_ids(earlier, args)
+    item_is_declared(earlier, call) && args_are_declared(earlier, args)
 }
 
-// Returns whether the item's declaration is there.
-fn names_item_id(earlier: &[Answer], call: ItemCall) -> bool
+// Returns whether a declaration of the item's sort is at its position.
+fn item_is_declared(earlier: &[Answer], call: ItemCall) -> bool
     ensures { (rows : List Row) → IsTrue result ↔ AreTerms (told_all rows earlier.now) (item_ids call) }
 {
     match call {
@@ -275,12 +285,12 @@ fn names_item_id(earlier: &[Answer], call: ItemCall) -> bool
         ItemCall::CoroutineWitness(position) => {
             is_id(earlier, position, DeclarationSort::Coroutine)
         }
-        ItemCall::Alias(alias) => names_alias_id(earlier, alias),
+        ItemCall::Alias(alias) => alias_is_declared(earlier, alias),
     }
 }
 
-// Returns whether the alias's declaration is there.
-fn names_alias_id(earlier: &[Answer], call: AliasCall) -> bool
+// Returns whether a declaration of the alias's sort is at its position.
+fn alias_is_declared(earlier: &[Answer], call: AliasCall) -> bool
     ensures { (rows : List Row) → IsTrue result ↔ AreTerms (told_all rows earlier.now) (alias_ids call) }
 {
     match call {
@@ -291,44 +301,48 @@ fn names_alias_id(earlier: &[Answer], call: AliasCall) -> bool
     }
 }
 
-// Returns whether the declarations that a trait object names are there.
-fn names_object_ids(earlier: &[Answer], calls: &[ExistentialCall], region: &RegionCall) -> bool
+// Returns whether the declarations that a trait object's predicates and region name are there.
+fn trait_object_is_declared(
+    earlier: &[Answer],
+    calls: &[ExistentialCall],
+    region: &RegionCall,
+) -> bool
     ensures { (rows : List Row) → IsTrue result
         ↔ AreTerms (told_all rows earlier.now) (existentials_ids calls.now ++ region_ids region.now) }
 {
-    names_existentials_ids(earlier, calls) && names_region_ids(earlier, region)
+    existentials_are_declared(earlier, calls) && region_is_declared(earlier, region)
 }
 
 // Returns whether the declarations that the existential predicates name are there.
-fn names_existentials_ids(earlier: &[Answer], calls: &[ExistentialCall]) -> bool
+fn existentials_are_declared(earlier: &[Answer], calls: &[ExistentialCall]) -> bool
     ensures { (rows : List Row) → IsTrue result ↔ AreTerms (told_all rows earlier.now) (existentials_ids calls.now) }
 {
     for call in calls {
-        if !names_existential_ids(earlier, call) {
+        if !existential_is_declared(earlier, call) {
             return false;
         }
     }
     true
 }
 
-// Returns whether the declarations that the existential predicate names are there.
-fn names_existential_ids(earlier: &[Answer], call: &ExistentialCall) -> bool
+// Returns whether the declarations that the existential predicate and its binder's variables name are there.
+fn existential_is_declared(earlier: &[Answer], call: &ExistentialCall) -> bool
     ensures { (rows : List Row) → IsTrue result ↔ AreTerms (told_all rows earlier.now) (existential_ids call.now) }
 {
-    names_existential_kind_ids(earlier, &call.kind)
-        && names_variables_ids(earlier, call.vars.as_slice())
+    existential_kind_is_declared(earlier, &call.kind)
+        && variables_are_declared(earlier, call.vars.as_slice())
 }
 
 // Returns whether the declarations that the existential predicate's kind names are there.
-fn names_existential_kind_ids(earlier: &[Answer], call: &ExistentialKindCall) -> bool
+fn existential_kind_is_declared(earlier: &[Answer], call: &ExistentialKindCall) -> bool
     ensures { (rows : List Row) → IsTrue result ↔ AreTerms (told_all rows earlier.now) (existential_kind_ids call.now) }
 {
     match call {
         ExistentialKindCall::Trait(position, args) => {
-            is_id_with(earlier, *position, DeclarationSort::Trait, args.as_slice())
+            is_id_with_args(earlier, *position, DeclarationSort::Trait, args.as_slice())
         }
         ExistentialKindCall::Projection(position, args, _) => {
-            is_any_id_with(earlier, *position, args.as_slice())
+            is_any_id_with_args(earlier, *position, args.as_slice())
         }
         ExistentialKindCall::AutoTrait(position) => {
             is_id(earlier, *position, DeclarationSort::Trait)
@@ -337,57 +351,59 @@ fn names_existential_kind_ids(earlier: &[Answer], call: &ExistentialKindCall) ->
 }
 
 // Returns whether the declarations that the constant names are there.
-fn names_const_ids(earlier: &[Answer], call: &ConstCall) -> bool
+fn const_is_declared(earlier: &[Answer], call: &ConstCall) -> bool
     ensures { (rows : List Row) → IsTrue result ↔ AreTerms (told_all rows earlier.now) (const_ids call.now) }
 {
     match call {
         ConstCall::Unevaluated(position, args) => {
-            is_id_with(earlier, *position, DeclarationSort::Const, args.as_slice())
+            is_id_with_args(earlier, *position, DeclarationSort::Const, args.as_slice())
         }
-        ConstCall::Expr(_, args) => names_args_ids(earlier, args.as_slice()),
+        ConstCall::Expr(_, args) => args_are_declared(earlier, args.as_slice()),
         _ => true,
     }
 }
 
 // Returns whether the declarations that the clause names are there.
-fn names_clause_ids(earlier: &[Answer], call: &ClauseCall) -> bool
+fn clause_is_declared(earlier: &[Answer], call: &ClauseCall) -> bool
     ensures { (rows : List Row) → IsTrue result ↔ AreTerms (told_all rows earlier.now) (clause_ids call.now) }
 {
     match call {
         ClauseCall::Trait(position, args) => {
-            is_id_with(earlier, *position, DeclarationSort::Trait, args.as_slice())
+            is_id_with_args(earlier, *position, DeclarationSort::Trait, args.as_slice())
         }
-        ClauseCall::RegionOutlives(longer, shorter) => names_both_ids(earlier, longer, shorter),
-        ClauseCall::TypeOutlives(_, region) => names_region_ids(earlier, region),
+        ClauseCall::RegionOutlives(longer, shorter) => regions_are_declared(
+            earlier, longer, shorter,
+        ),
+        ClauseCall::TypeOutlives(_, region) => region_is_declared(earlier, region),
         ClauseCall::Projection(position, args, _) => {
-            is_any_id_with(earlier, *position, args.as_slice())
+            is_any_id_with_args(earlier, *position, args.as_slice())
         }
         ClauseCall::HostEffect(position, args, _) => {
-            is_id_with(earlier, *position, DeclarationSort::Trait, args.as_slice())
+            is_id_with_args(earlier, *position, DeclarationSort::Trait, args.as_slice())
         }
         _ => true,
     }
 }
 
-// Returns whether the declarations that the predicate names are there.
-fn names_predicate_ids(earlier: &[Answer], call: &PredicateCall) -> bool
+// Returns whether the declarations that the predicate and its binder's variables name are there.
+fn predicate_is_declared(earlier: &[Answer], call: &PredicateCall) -> bool
     ensures { (rows : List Row) → IsTrue result ↔ AreTerms (told_all rows earlier.now) (predicate_ids call.now) }
 {
-    names_predicate_kind_ids(earlier, &call.kind)
-        && names_variables_ids(earlier, call.vars.as_slice())
+    predicate_kind_is_declared(earlier, &call.kind)
+        && variables_are_declared(earlier, call.vars.as_slice())
 }
 
 // Returns whether the declarations that the predicate's kind names are there.
-fn names_predicate_kind_ids(earlier: &[Answer], call: &PredicateKindCall) -> bool
+fn predicate_kind_is_declared(earlier: &[Answer], call: &PredicateKindCall) -> bool
     ensures { (rows : List Row) → IsTrue result ↔ AreTerms (told_all rows earlier.now) (predicate_kind_ids call.now) }
 {
     match call {
-        PredicateKindCall::Clause(clause) => names_clause_ids(earlier, clause),
+        PredicateKindCall::Clause(clause) => clause_is_declared(earlier, clause),
         PredicateKindCall::DynCompatible(position) => {
             is_id(earlier, *position, DeclarationSort::Trait)
         }
         PredicateKindCall::NormalizesTo(position, args, _) => {
-            is_any_id_with(earlier, *position, args.as_slice())
+            is_any_id_with_args(earlier, *position, args.as_slice())
         }
         _ => true,
     }

@@ -8,7 +8,7 @@ ghost use Rattle.tt_interner.specs.Stored.{Terms};
 ghost use Rattle.type_terms.specs.CallForm.{one, a_term, terms_at};
 ghost use Rattle.type_terms.specs.Told.{told_all, AreOwnedAnswers};
 ghost use Rattle.type_terms.specs.Means.{term_at, id_at};
-ghost use Rattle.type_terms.specs.Build.{IsAnswerAt, IsIdAt, HasNoId, GivesPart, GivesParts, GivesItems, PutsItems};
+ghost use Rattle.type_terms.specs.Build.{IsAnswerAt, IsIdAt, HasNoId, GivesPart, GivesParts, GivesItems, FillsItems};
 
 use crate::run::answer::Answer;
 use crate::run::answers::term_handle::TermHandle;
@@ -98,7 +98,7 @@ pub fn handle_pair<A: TermHandle, B: TermHandle>(
 }
 
 /// Writes the handles at the positions to the first places. Refused as [`handle_at`] is.
-pub fn put_handles<T: TermHandle>(
+pub fn fill_handles<T: TermHandle>(
     earlier: &[Answer],
     positions: &[u32],
     places: &mut [T],
@@ -106,7 +106,7 @@ pub fn put_handles<T: TermHandle>(
     requires { length positions.now ≤ length places.old }
     ensures cause { IfErr result (λ e. e ≡ NoSuchAnswer) }
     ensures items { (terms : Terms) → AreOwnedAnswers terms.rows earlier.now
-        → PutsItems terms
+        → FillsItems terms
         (told_all terms.rows earlier.now)
         (terms_at T.table positions.now)
         (λ handle. stored T.table (T.number handle))

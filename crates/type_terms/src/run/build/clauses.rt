@@ -58,7 +58,7 @@ fn clause_list(cx: &mut Interner, earlier: &[Answer], positions: &[u32]) -> Resu
 {
     if positions.len() <= MOST_IN_PLACE {
         let mut places = [Clause::from_number(0); MOST_IN_PLACE];
-        put_clauses(cx, earlier, positions, &mut places)?;
+        fill_clauses(cx, earlier, positions, &mut places)?;
         return cx.mk_clauses(&places[..positions.len()]);
     }
     let clauses = clauses_at(cx, earlier, positions)?;
@@ -66,7 +66,7 @@ fn clause_list(cx: &mut Interner, earlier: &[Answer], positions: &[u32]) -> Resu
 }
 
 // Writes the clauses at the positions to the first places.
-fn put_clauses(
+fn fill_clauses(
     cx: &Interner,
     earlier: &[Answer],
     positions: &[u32],

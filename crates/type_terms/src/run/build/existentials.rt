@@ -19,7 +19,7 @@ ghost use Rattle.type_terms.specs.CallForm.{
 };
 ghost use Rattle.type_terms.specs.Told.{told_all, AreOwnedAnswers};
 ghost use Rattle.type_terms.specs.Means.{number_at, tree_at};
-ghost use Rattle.type_terms.specs.Build.{GivesPlaced, PutsPlaced, GivesRecord, GivesKind};
+ghost use Rattle.type_terms.specs.Build.{GivesPlaced, FillsPlaced, GivesRecord, GivesKind};
 ghost use Rattle.type_terms.specs.Room.{RecordNeedsRoom, ExistentialNeedsRoom, ExistentialsNeedRoom, FormNeedsRoom};
 
 use crate::run::answer::Answer;
@@ -88,7 +88,7 @@ fn build_existentials(
 {
     if calls.len() <= MOST_IN_PLACE {
         let mut places = [PolyExistentialPredicate::from_number(0); MOST_IN_PLACE];
-        put_existentials(cx, earlier, calls, &mut places)?;
+        fill_existentials(cx, earlier, calls, &mut places)?;
         return cx.mk_existential_list(&places[..calls.len()]);
     }
     let mut built = Vec::with_capacity(cx.allocator(), calls.len())?;
@@ -100,7 +100,7 @@ fn build_existentials(
 }
 
 // Writes the existential predicates to the first places.
-fn put_existentials(
+fn fill_existentials(
     cx: &mut Interner,
     earlier: &[Answer],
     calls: &[ExistentialCall],
@@ -113,7 +113,7 @@ fn put_existentials(
         (existential_form (number_at e))
         calls.now
         in
-        PutsPlaced cx.new e
+        FillsPlaced cx.new e
         (all_trees (existential_tree (number_at e) (tree_at e)) forms)
         (all_positions existential_positions forms)
         (AnyIsDeep IsExistentialTooDeep forms)

@@ -21,11 +21,11 @@ ghost use Rattle.type_terms.specs.CallForm.{
   IsRegionTooDeep,
 };
 ghost use Rattle.type_terms.specs.Told.{told_all, AreOwnedAnswers};
-ghost use Rattle.type_terms.specs.Build.{GivesPart, GivesArgument, GivesArguments, IsUnusable, IsUsable, PutsItems};
+ghost use Rattle.type_terms.specs.Build.{GivesPart, GivesArgument, GivesArguments, IsUnusable, IsUsable, FillsItems};
 ghost use Rattle.type_terms.specs.Room.{PartNeedsRoom};
 
 use crate::run::answer::Answer;
-use crate::run::answers::lookup::{handle_at, handles_at, put_handles};
+use crate::run::answers::lookup::{fill_handles, handle_at, handles_at};
 use crate::run::answers::term_handle::TermHandle;
 use crate::run::build::regions::build_region;
 use crate::run::call::{ArgCall, RegionCall};
@@ -55,7 +55,7 @@ pub fn build_tys(cx: &mut Interner, earlier: &[Answer], positions: &[u32]) -> Re
 {
     if positions.len() <= MOST_IN_PLACE {
         let mut places = [Ty::from_number(0); MOST_IN_PLACE];
-        put_handles(earlier, positions, &mut places)?;
+        fill_handles(earlier, positions, &mut places)?;
         return cx.mk_tys(&places[..positions.len()]);
     }
     let tys = handles_at::<Ty>(cx.allocator(), earlier, positions)?;
@@ -82,7 +82,7 @@ pub fn build_consts(
 {
     if positions.len() <= MOST_IN_PLACE {
         let mut places = [Const::from_number(0); MOST_IN_PLACE];
-        put_handles(earlier, positions, &mut places)?;
+        fill_handles(earlier, positions, &mut places)?;
         return cx.mk_consts(&places[..positions.len()]);
     }
     let consts = handles_at::<Const>(cx.allocator(), earlier, positions)?;
@@ -109,7 +109,7 @@ pub fn build_pats(
 {
     if positions.len() <= MOST_IN_PLACE {
         let mut places = [Pat::from_number(0); MOST_IN_PLACE];
-        put_handles(earlier, positions, &mut places)?;
+        fill_handles(earlier, positions, &mut places)?;
         return cx.mk_pat_list(&places[..positions.len()]);
     }
     let pats = handles_at::<Pat>(cx.allocator(), earlier, positions)?;
@@ -130,7 +130,7 @@ pub fn build_arg_list(
 {
     if args.len() <= MOST_IN_PLACE {
         let mut places = [GenericArg::from(Ty::from_number(0)); MOST_IN_PLACE];
-        put_args(cx, earlier, args, &mut places)?;
+        fill_args(cx, earlier, args, &mut places)?;
         return cx.mk_args(&places[..args.len()]);
     }
     let args = build_args(cx, earlier, args)?;
@@ -138,7 +138,7 @@ pub fn build_arg_list(
 }
 
 // Writes the arguments that a call names to the first places.
-fn put_args(
+fn fill_args(
     cx: &mut Interner,
     earlier: &[Answer],
     args: &[ArgCall],
@@ -147,7 +147,7 @@ fn put_args(
     requires owned { AreOwnedAnswers cx.old.rows earlier.now }
     requires few { length args.now ≤ length places.old }
     ensures extends { Extends cx.old cx.new }
-    ensures args { PutsItems cx.new
+    ensures args { FillsItems cx.new
         (told_all cx.old.rows earlier.now)
         (arg_items args.now)
         arg_shape

@@ -31,7 +31,7 @@ ghost use Rattle.type_terms.specs.Build.{
   GivesVariable,
   GivesVariables,
   GivesRegion,
-  PutsVariables,
+  FillsVariables,
 };
 ghost use Rattle.type_terms.specs.Room.{IsRefusalForRoom, LacksText, VarsNeedRoom};
 
@@ -77,7 +77,7 @@ pub fn build_vars(
 {
     if vars.len() <= MOST_IN_PLACE {
         let mut places = [BoundVariableKind::Const; MOST_IN_PLACE];
-        put_vars(cx, earlier, vars, &mut places)?;
+        fill_vars(cx, earlier, vars, &mut places)?;
         return cx.mk_bound_vars(&places[..vars.len()]);
     }
     let mut built = Vec::with_capacity(cx.allocator(), vars.len())?;
@@ -89,7 +89,7 @@ pub fn build_vars(
 }
 
 // Writes the variables to the first places.
-fn put_vars(
+fn fill_vars(
     cx: &mut Interner,
     earlier: &[Answer],
     vars: &[VariableCall],
@@ -97,7 +97,7 @@ fn put_vars(
 ) -> Result<(), Refusal>
     requires { length vars.now ≤ length places.old }
     ensures extends { Extends cx.old cx.new }
-    ensures vars { (rows : List Row) → PutsVariables cx.new
+    ensures vars { (rows : List Row) → FillsVariables cx.new
         (number_at (told_all rows earlier.now))
         vars.now
         (take (length vars.now) places.new)

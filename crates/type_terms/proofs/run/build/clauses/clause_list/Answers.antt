@@ -10,18 +10,18 @@ use Rattle.type_terms.proofs.ClauseLaws.{clauses-placed, clauses-room, long-clau
 use Rattle.type_terms.proofs.run.build.clauses.clause_list.Goals as goal
 
 pub mk_clauses-requires : goal.mk_clauses-requires
-mk_clauses-requires c = c.in_ok-put_clauses.ensures.ok.clauses
+mk_clauses-requires c = c.in_ok-fill_clauses.ensures.ok.clauses
 
-pub returns-in_err-put_clauses-clause-list : goal.returns-in_err-put_clauses-clause-list
-returns-in_err-put_clauses-clause-list c =
+pub returns-in_err-fill_clauses-clause-list : goal.returns-in_err-fill_clauses-clause-list
+returns-in_err-fill_clauses-clause-list c =
     let e = told_all c.args.cx.now.rows c.args.earlier.now in
     let ps = c.args.positions.now in
     placed-passed c.args.cx.now e (clauses_tree (number_at e) (tree_at e) ps) (items_positions (clause_items ps)) (AreItemsTooDeep (clause_items ps)) clauses_shape
-    c.from_residual.result c.in_err-put_clauses.field-0.0 c.from_residual.ensures.1 c.in_err-put_clauses.ensures.err
+    c.from_residual.result c.in_err-fill_clauses.field-0.0 c.from_residual.ensures.1 c.in_err-fill_clauses.ensures.err
 
-pub returns-in_err-put_clauses-clause-room : goal.returns-in_err-put_clauses-clause-room
-returns-in_err-put_clauses-clause-room c =
-    let r = c.in_err-put_clauses in
+pub returns-in_err-fill_clauses-clause-room : goal.returns-in_err-fill_clauses-clause-room
+returns-in_err-fill_clauses-clause-room c =
+    let r = c.in_err-fill_clauses in
     passed c.from_residual.result r.field-0.0 _ c.from_residual.ensures.1 (never-room c.args.cx.now.rows _ _ r.field-0.0 r.ensures.cause)
 
 pub returns-then-positions-le-MOST_IN_PLACE-clause-extends : goal.returns-then-positions-le-MOST_IN_PLACE-clause-extends
@@ -29,13 +29,13 @@ returns-then-positions-le-MOST_IN_PLACE-clause-extends c = record { rows = c.mk_
 
 pub returns-then-positions-le-MOST_IN_PLACE-clause-list : goal.returns-then-positions-le-MOST_IN_PLACE-clause-list
 returns-then-positions-le-MOST_IN_PLACE-clause-list c =
-    clauses-placed c.args.cx.now c.mk_clauses.new.self (told_all c.args.cx.now.rows c.args.earlier.now) c.args.positions.now (take (length c.args.positions.now) c.put_clauses.new.places) c.mk_clauses.result
-    c.in_ok-put_clauses.ensures.ok c.mk_clauses.ensures
+    clauses-placed c.args.cx.now c.mk_clauses.new.self (told_all c.args.cx.now.rows c.args.earlier.now) c.args.positions.now (take (length c.args.positions.now) c.fill_clauses.new.places) c.mk_clauses.result
+    c.in_ok-fill_clauses.ensures.ok c.mk_clauses.ensures
 
 pub returns-then-positions-le-MOST_IN_PLACE-clause-room : goal.returns-then-positions-le-MOST_IN_PLACE-clause-room
 returns-then-positions-le-MOST_IN_PLACE-clause-room c =
-    clauses-room c.args.cx.now c.mk_clauses.new.self (told_all c.args.cx.now.rows c.args.earlier.now) c.args.positions.now (take (length c.args.positions.now) c.put_clauses.new.places) c.mk_clauses.result
-    c.in_ok-put_clauses.ensures.ok c.mk_clauses.ensures
+    clauses-room c.args.cx.now c.mk_clauses.new.self (told_all c.args.cx.now.rows c.args.earlier.now) c.args.positions.now (take (length c.args.positions.now) c.fill_clauses.new.places) c.mk_clauses.result
+    c.in_ok-fill_clauses.ensures.ok c.mk_clauses.ensures
 
 pub returns-in_err-clauses-clause-list : goal.returns-in_err-clauses-clause-list
 returns-in_err-clauses-clause-list c =

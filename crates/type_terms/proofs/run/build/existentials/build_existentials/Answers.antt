@@ -72,37 +72,37 @@ returns-clause-list c =
     (item_shapes existential_shape c.loop-call.built.items) (existentials_row c.loop-call.built.items) c.mk_existential_list-2.result placed refl refl (rw (← c.as_slice.ensures.value) c.mk_existential_list-2.ensures)
 
 pub mk_existential_list-requires : goal.mk_existential_list-requires
-mk_existential_list-requires c = c.in_ok-put_existentials.ensures.existentials.ok.parts
+mk_existential_list-requires c = c.in_ok-fill_existentials.ensures.existentials.ok.parts
 
-pub returns-in_err-put_existentials-clause-list : goal.returns-in_err-put_existentials-clause-list
-returns-in_err-put_existentials-clause-list c =
+pub returns-in_err-fill_existentials-clause-list : goal.returns-in_err-fill_existentials-clause-list
+returns-in_err-fill_existentials-clause-list c =
     let e = told_all c.args.cx.now.rows c.args.earlier.now in
     let forms = map (existential_form (number_at e)) c.args.calls.now in
-    placed-passed c.put_existentials.new.cx e (existentials_tree (number_at e) (tree_at e) forms) (all_positions existential_positions forms) (AnyIsDeep IsExistentialTooDeep forms) existentials_shape
-    c.from_residual.result c.in_err-put_existentials.field-0.0 c.from_residual.ensures.1 c.in_err-put_existentials.ensures.existentials.err
+    placed-passed c.fill_existentials.new.cx e (existentials_tree (number_at e) (tree_at e) forms) (all_positions existential_positions forms) (AnyIsDeep IsExistentialTooDeep forms) existentials_shape
+    c.from_residual.result c.in_err-fill_existentials.field-0.0 c.from_residual.ensures.1 c.in_err-fill_existentials.ensures.existentials.err
 
-pub returns-in_err-put_existentials-clause-room : goal.returns-in_err-put_existentials-clause-room
-returns-in_err-put_existentials-clause-room c =
-    passed c.from_residual.result c.in_err-put_existentials.field-0.0 _ c.from_residual.ensures.1 c.in_err-put_existentials.ensures.room
+pub returns-in_err-fill_existentials-clause-room : goal.returns-in_err-fill_existentials-clause-room
+returns-in_err-fill_existentials-clause-room c =
+    passed c.from_residual.result c.in_err-fill_existentials.field-0.0 _ c.from_residual.ensures.1 c.in_err-fill_existentials.ensures.room
 
 pub returns-then-calls-le-MOST_IN_PLACE-clause-extends : goal.returns-then-calls-le-MOST_IN_PLACE-clause-extends
-returns-then-calls-le-MOST_IN_PLACE-clause-extends c = Extends-trans c.put_existentials.ensures.extends (record { rows = c.mk_existential_list.ensures.grows; limit = c.mk_existential_list.ensures.limit })
+returns-then-calls-le-MOST_IN_PLACE-clause-extends c = Extends-trans c.fill_existentials.ensures.extends (record { rows = c.mk_existential_list.ensures.grows; limit = c.mk_existential_list.ensures.limit })
 
 pub returns-then-calls-le-MOST_IN_PLACE-clause-list : goal.returns-then-calls-le-MOST_IN_PLACE-clause-list
 returns-then-calls-le-MOST_IN_PLACE-clause-list c =
     let e = told_all c.args.cx.now.rows c.args.earlier.now in
     let forms = map (existential_form (number_at e)) c.args.calls.now in
-    let few = take (length c.args.calls.now) c.put_existentials.new.places in
-    list-placed (λ l. l.number) c.put_existentials.new.cx c.mk_existential_list.new.self e ExistentialLists (all_trees (existential_tree (number_at e) (tree_at e)) forms) (all_positions existential_positions forms) (AnyIsDeep IsExistentialTooDeep forms)
-    (item_shapes existential_shape few) (existentials_row few) c.mk_existential_list.result c.in_ok-put_existentials.ensures.existentials.ok refl refl c.mk_existential_list.ensures
+    let few = take (length c.args.calls.now) c.fill_existentials.new.places in
+    list-placed (λ l. l.number) c.fill_existentials.new.cx c.mk_existential_list.new.self e ExistentialLists (all_trees (existential_tree (number_at e) (tree_at e)) forms) (all_positions existential_positions forms) (AnyIsDeep IsExistentialTooDeep forms)
+    (item_shapes existential_shape few) (existentials_row few) c.mk_existential_list.result c.in_ok-fill_existentials.ensures.existentials.ok refl refl c.mk_existential_list.ensures
 
 pub returns-then-calls-le-MOST_IN_PLACE-clause-room : goal.returns-then-calls-le-MOST_IN_PLACE-clause-room
 returns-then-calls-le-MOST_IN_PLACE-clause-room c =
     let e = told_all c.args.cx.now.rows c.args.earlier.now in
     let forms = map (existential_form (number_at e)) c.args.calls.now in
-    let few = take (length c.args.calls.now) c.put_existentials.new.places in
-    existentials-room (λ l. l.number) c.put_existentials.new.cx c.mk_existential_list.new.self e forms (all_positions existential_positions forms) (AnyIsDeep IsExistentialTooDeep forms) few
-    c.mk_existential_list.result c.in_ok-put_existentials.ensures.existentials.ok c.mk_existential_list.ensures
+    let few = take (length c.args.calls.now) c.fill_existentials.new.places in
+    existentials-room (λ l. l.number) c.fill_existentials.new.cx c.mk_existential_list.new.self e forms (all_positions existential_positions forms) (AnyIsDeep IsExistentialTooDeep forms) few
+    c.mk_existential_list.result c.in_ok-fill_existentials.ensures.existentials.ok c.mk_existential_list.ensures
 
 pub returns-in_err-built-clause-room : goal.returns-in_err-built-clause-room
 returns-in_err-built-clause-room c =

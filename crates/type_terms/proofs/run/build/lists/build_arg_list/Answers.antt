@@ -12,22 +12,22 @@ use Rattle.type_terms.proofs.RoomLaws.{list-room, long-room}
 use Rattle.type_terms.proofs.run.build.lists.build_arg_list.Goals as goal
 
 pub mk_args-requires : goal.mk_args-requires
-mk_args-requires c = c.in_ok-put_args.ensures.args.ok.parts
+mk_args-requires c = c.in_ok-fill_args.ensures.args.ok.parts
 
 pub returns-then-args-le-MOST_IN_PLACE-clause-extends : goal.returns-then-args-le-MOST_IN_PLACE-clause-extends
-returns-then-args-le-MOST_IN_PLACE-clause-extends c = Extends-trans c.put_args.ensures.extends (record { rows = c.mk_args.ensures.grows; limit = c.mk_args.ensures.limit })
+returns-then-args-le-MOST_IN_PLACE-clause-extends c = Extends-trans c.fill_args.ensures.extends (record { rows = c.mk_args.ensures.grows; limit = c.mk_args.ensures.limit })
 
 pub returns-then-args-le-MOST_IN_PLACE-clause-list : goal.returns-then-args-le-MOST_IN_PLACE-clause-list
 returns-then-args-le-MOST_IN_PLACE-clause-list c =
-    let few = take (length c.args.args.now) c.put_args.new.places in
-    list-built (λ l. l.number) c.put_args.new.cx c.mk_args.new.self (told_all c.args.cx.now.rows c.args.earlier.now) ArgLists (arg_items c.args.args.now)
-    (item_shapes arg_shape few) (args_row few) c.mk_args.result c.in_ok-put_args.ensures.args.ok refl refl c.mk_args.ensures
+    let few = take (length c.args.args.now) c.fill_args.new.places in
+    list-built (λ l. l.number) c.fill_args.new.cx c.mk_args.new.self (told_all c.args.cx.now.rows c.args.earlier.now) ArgLists (arg_items c.args.args.now)
+    (item_shapes arg_shape few) (args_row few) c.mk_args.result c.in_ok-fill_args.ensures.args.ok refl refl c.mk_args.ensures
 
 pub returns-then-args-le-MOST_IN_PLACE-clause-room : goal.returns-then-args-le-MOST_IN_PLACE-clause-room
 returns-then-args-le-MOST_IN_PLACE-clause-room c =
-    let few = take (length c.args.args.now) c.put_args.new.places in
-    list-room (λ l. l.number) c.put_args.new.cx c.mk_args.new.self (told_all c.args.cx.now.rows c.args.earlier.now) ArgLists (arg_items c.args.args.now)
-    (item_shapes arg_shape few) (args_row few) c.mk_args.result c.in_ok-put_args.ensures.args.ok refl c.mk_args.ensures
+    let few = take (length c.args.args.now) c.fill_args.new.places in
+    list-room (λ l. l.number) c.fill_args.new.cx c.mk_args.new.self (told_all c.args.cx.now.rows c.args.earlier.now) ArgLists (arg_items c.args.args.now)
+    (item_shapes arg_shape few) (args_row few) c.mk_args.result c.in_ok-fill_args.ensures.args.ok refl c.mk_args.ensures
 
 pub returns-in_err-args-clause-list : goal.returns-in_err-args-clause-list
 returns-in_err-args-clause-list c =

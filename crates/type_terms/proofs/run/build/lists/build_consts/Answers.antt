@@ -11,21 +11,21 @@ use Rattle.type_terms.proofs.RoomLaws.{list-room, long-room}
 use Rattle.type_terms.proofs.run.build.lists.build_consts.Goals as goal
 
 pub mk_consts-requires : goal.mk_consts-requires
-mk_consts-requires c = (c.in_ok-put_handles.ensures.items c.args.cx.now c.requires).ok.parts
+mk_consts-requires c = (c.in_ok-fill_handles.ensures.items c.args.cx.now c.requires).ok.parts
 
 pub returns-then-positions-le-MOST_IN_PLACE-clause-list : goal.returns-then-positions-le-MOST_IN_PLACE-clause-list
 returns-then-positions-le-MOST_IN_PLACE-clause-list c =
-    let few = take (length c.args.positions.now) c.put_handles.new.places in
+    let few = take (length c.args.positions.now) c.fill_handles.new.places in
     list-built (λ l. l.number) c.args.cx.now c.mk_consts.new.self (told_all c.args.cx.now.rows c.args.earlier.now) ConstLists (terms_at Consts c.args.positions.now)
     (item_shapes const_shape few) (consts_row few) c.mk_consts.result
-    (c.in_ok-put_handles.ensures.items c.args.cx.now c.requires).ok refl refl c.mk_consts.ensures
+    (c.in_ok-fill_handles.ensures.items c.args.cx.now c.requires).ok refl refl c.mk_consts.ensures
 
 pub returns-then-positions-le-MOST_IN_PLACE-clause-room : goal.returns-then-positions-le-MOST_IN_PLACE-clause-room
 returns-then-positions-le-MOST_IN_PLACE-clause-room c =
-    let few = take (length c.args.positions.now) c.put_handles.new.places in
+    let few = take (length c.args.positions.now) c.fill_handles.new.places in
     list-room (λ l. l.number) c.args.cx.now c.mk_consts.new.self (told_all c.args.cx.now.rows c.args.earlier.now) ConstLists (terms_at Consts c.args.positions.now)
     (item_shapes const_shape few) (consts_row few) c.mk_consts.result
-    (c.in_ok-put_handles.ensures.items c.args.cx.now c.requires).ok refl c.mk_consts.ensures
+    (c.in_ok-fill_handles.ensures.items c.args.cx.now c.requires).ok refl c.mk_consts.ensures
 
 pub returns-in_err-consts-clause-list : goal.returns-in_err-consts-clause-list
 returns-in_err-consts-clause-list c =

@@ -11,21 +11,21 @@ use Rattle.type_terms.proofs.RoomLaws.{list-room, long-room}
 use Rattle.type_terms.proofs.run.build.lists.build_pats.Goals as goal
 
 pub mk_pat_list-requires : goal.mk_pat_list-requires
-mk_pat_list-requires c = (c.in_ok-put_handles.ensures.items c.args.cx.now c.requires).ok.parts
+mk_pat_list-requires c = (c.in_ok-fill_handles.ensures.items c.args.cx.now c.requires).ok.parts
 
 pub returns-then-positions-le-MOST_IN_PLACE-clause-list : goal.returns-then-positions-le-MOST_IN_PLACE-clause-list
 returns-then-positions-le-MOST_IN_PLACE-clause-list c =
-    let few = take (length c.args.positions.now) c.put_handles.new.places in
+    let few = take (length c.args.positions.now) c.fill_handles.new.places in
     list-built (λ l. l.number) c.args.cx.now c.mk_pat_list.new.self (told_all c.args.cx.now.rows c.args.earlier.now) PatternLists (terms_at Patterns c.args.positions.now)
     (item_shapes pat_shape few) (pats_row few) c.mk_pat_list.result
-    (c.in_ok-put_handles.ensures.items c.args.cx.now c.requires).ok refl refl c.mk_pat_list.ensures
+    (c.in_ok-fill_handles.ensures.items c.args.cx.now c.requires).ok refl refl c.mk_pat_list.ensures
 
 pub returns-then-positions-le-MOST_IN_PLACE-clause-room : goal.returns-then-positions-le-MOST_IN_PLACE-clause-room
 returns-then-positions-le-MOST_IN_PLACE-clause-room c =
-    let few = take (length c.args.positions.now) c.put_handles.new.places in
+    let few = take (length c.args.positions.now) c.fill_handles.new.places in
     list-room (λ l. l.number) c.args.cx.now c.mk_pat_list.new.self (told_all c.args.cx.now.rows c.args.earlier.now) PatternLists (terms_at Patterns c.args.positions.now)
     (item_shapes pat_shape few) (pats_row few) c.mk_pat_list.result
-    (c.in_ok-put_handles.ensures.items c.args.cx.now c.requires).ok refl c.mk_pat_list.ensures
+    (c.in_ok-fill_handles.ensures.items c.args.cx.now c.requires).ok refl c.mk_pat_list.ensures
 
 pub returns-in_err-pats-clause-list : goal.returns-in_err-pats-clause-list
 returns-in_err-pats-clause-list c =

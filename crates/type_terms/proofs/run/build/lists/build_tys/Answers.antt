@@ -11,21 +11,21 @@ use Rattle.type_terms.proofs.RoomLaws.{list-room, long-room}
 use Rattle.type_terms.proofs.run.build.lists.build_tys.Goals as goal
 
 pub mk_tys-requires : goal.mk_tys-requires
-mk_tys-requires c = (c.in_ok-put_handles.ensures.items c.args.cx.now c.requires).ok.parts
+mk_tys-requires c = (c.in_ok-fill_handles.ensures.items c.args.cx.now c.requires).ok.parts
 
 pub returns-then-positions-le-MOST_IN_PLACE-clause-list : goal.returns-then-positions-le-MOST_IN_PLACE-clause-list
 returns-then-positions-le-MOST_IN_PLACE-clause-list c =
-    let few = take (length c.args.positions.now) c.put_handles.new.places in
+    let few = take (length c.args.positions.now) c.fill_handles.new.places in
     list-built (λ l. l.number) c.args.cx.now c.mk_tys.new.self (told_all c.args.cx.now.rows c.args.earlier.now) TypeLists (terms_at Types c.args.positions.now)
     (item_shapes ty_shape few) (tys_row few) c.mk_tys.result
-    (c.in_ok-put_handles.ensures.items c.args.cx.now c.requires).ok refl refl c.mk_tys.ensures
+    (c.in_ok-fill_handles.ensures.items c.args.cx.now c.requires).ok refl refl c.mk_tys.ensures
 
 pub returns-then-positions-le-MOST_IN_PLACE-clause-room : goal.returns-then-positions-le-MOST_IN_PLACE-clause-room
 returns-then-positions-le-MOST_IN_PLACE-clause-room c =
-    let few = take (length c.args.positions.now) c.put_handles.new.places in
+    let few = take (length c.args.positions.now) c.fill_handles.new.places in
     list-room (λ l. l.number) c.args.cx.now c.mk_tys.new.self (told_all c.args.cx.now.rows c.args.earlier.now) TypeLists (terms_at Types c.args.positions.now)
     (item_shapes ty_shape few) (tys_row few) c.mk_tys.result
-    (c.in_ok-put_handles.ensures.items c.args.cx.now c.requires).ok refl c.mk_tys.ensures
+    (c.in_ok-fill_handles.ensures.items c.args.cx.now c.requires).ok refl c.mk_tys.ensures
 
 pub returns-in_err-tys-clause-list : goal.returns-in_err-tys-clause-list
 returns-in_err-tys-clause-list c =

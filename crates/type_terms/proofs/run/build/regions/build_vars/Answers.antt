@@ -42,26 +42,26 @@ returns-clause-vars c = λ rows.
     (rw (← take_all c.loop-var.var-index c.args.vars.now ended) (c.loop-var.invariant.1 rows)) (rw (← c.as_slice.ensures.value) c.mk_bound_vars-2.ensures)
 
 pub mk_bound_vars-requires : goal.mk_bound_vars-requires
-mk_bound_vars-requires c = ((c.in_ok-put_vars.ensures.vars c.args.cx.now.rows).ok.parts, tt)
+mk_bound_vars-requires c = ((c.in_ok-fill_vars.ensures.vars c.args.cx.now.rows).ok.parts, tt)
 
-pub returns-in_err-put_vars-clause-vars : goal.returns-in_err-put_vars-clause-vars
-returns-in_err-put_vars-clause-vars c = λ rows.
-    variables-passed c.put_vars.new.cx (number_at (told_all rows c.args.earlier.now)) c.args.vars.now c.from_residual.result c.in_err-put_vars.field-0.0
-    c.from_residual.ensures.1 (c.in_err-put_vars.ensures.vars rows).err
+pub returns-in_err-fill_vars-clause-vars : goal.returns-in_err-fill_vars-clause-vars
+returns-in_err-fill_vars-clause-vars c = λ rows.
+    variables-passed c.fill_vars.new.cx (number_at (told_all rows c.args.earlier.now)) c.args.vars.now c.from_residual.result c.in_err-fill_vars.field-0.0
+    c.from_residual.ensures.1 (c.in_err-fill_vars.ensures.vars rows).err
 
 pub returns-then-vars-le-MOST_IN_PLACE-clause-extends : goal.returns-then-vars-le-MOST_IN_PLACE-clause-extends
-returns-then-vars-le-MOST_IN_PLACE-clause-extends c = Extends-trans c.put_vars.ensures.extends (record { rows = c.mk_bound_vars.ensures.grows; limit = c.mk_bound_vars.ensures.limit })
+returns-then-vars-le-MOST_IN_PLACE-clause-extends c = Extends-trans c.fill_vars.ensures.extends (record { rows = c.mk_bound_vars.ensures.grows; limit = c.mk_bound_vars.ensures.limit })
 
 pub returns-then-vars-le-MOST_IN_PLACE-clause-vars : goal.returns-then-vars-le-MOST_IN_PLACE-clause-vars
 returns-then-vars-le-MOST_IN_PLACE-clause-vars c = λ rows.
-    variables-built c.put_vars.new.cx c.mk_bound_vars.new.self (number_at (told_all rows c.args.earlier.now)) c.args.vars.now (take (length c.args.vars.now) c.put_vars.new.places) c.mk_bound_vars.result
-    (c.in_ok-put_vars.ensures.vars rows).ok c.mk_bound_vars.ensures
+    variables-built c.fill_vars.new.cx c.mk_bound_vars.new.self (number_at (told_all rows c.args.earlier.now)) c.args.vars.now (take (length c.args.vars.now) c.fill_vars.new.places) c.mk_bound_vars.result
+    (c.in_ok-fill_vars.ensures.vars rows).ok c.mk_bound_vars.ensures
 
 pub returns-then-vars-le-MOST_IN_PLACE-clause-room : goal.returns-then-vars-le-MOST_IN_PLACE-clause-room
 returns-then-vars-le-MOST_IN_PLACE-clause-room c =
     every-vars-room c.mk_bound_vars.new.self.rows c.args.earlier.now c.args.vars.now c.mk_bound_vars.result
-    (λ rows. vars-room c.put_vars.new.cx c.mk_bound_vars.new.self (number_at (told_all rows c.args.earlier.now)) c.args.vars.now (take (length c.args.vars.now) c.put_vars.new.places) (λ l. l.number) c.mk_bound_vars.result
-    (c.in_ok-put_vars.ensures.vars rows).ok c.mk_bound_vars.ensures)
+    (λ rows. vars-room c.fill_vars.new.cx c.mk_bound_vars.new.self (number_at (told_all rows c.args.earlier.now)) c.args.vars.now (take (length c.args.vars.now) c.fill_vars.new.places) (λ l. l.number) c.mk_bound_vars.result
+    (c.in_ok-fill_vars.ensures.vars rows).ok c.mk_bound_vars.ensures)
 
 pub returns-in_err-built-clause-room : goal.returns-in_err-built-clause-room
 returns-in_err-built-clause-room c =
