@@ -37,7 +37,7 @@ returns-in_ok-mk_tuple-in-Tuple-clause-typed c =
     let ty = c.in_ok-mk_tuple-in-Tuple.field-0 in
     let numbers = c.in_ok-numbers-in-Tuple.numbers.now in
     let same = c.in_ok-numbers-in-Tuple.ensures ∙ ap (λ xs. part xs c.in-Tuple.items) c.as_slice-in-Tuple.ensures.value in
-    let built = tuple_built c.args.cx.now c.mk_tuple.new.self c.as_slice-in-Tuple-2.result.now (Ok ty) c.in_ok-mk_tuple-in-Tuple.ensures in
+    let built = tuple_built c.args.cx.now c.mk_tuple.new.self c.as_slice-in-Tuple-2.result.now (Ok ty) c.in_ok-mk_tuple-in-Tuple.ensures.builds in
     let is = built ∙ ap (λ xs. tuple_of (trees c.args.cx.now.rows xs)) c.as_slice-in-Tuple-2.ensures.value in
     rw c.in-Tuple.is (tuple_typed c.args.cx.now c.mk_tuple.new.self c.args.scope c.args.number c.in-Tuple.items numbers items ty same
     c.in_ok-items-in-Tuple.ensures.are is)
