@@ -1,6 +1,6 @@
 -- What an assignment of types that leaves two terms' roots doesn't make equal: terms that differ in more than their
 -- parts, and lists of other sorts or lengths.
-use Rattle.std.proofs.Common.{◌≡◌, refl, ℕ, ◌<◌, List, [], ◌∷◌, All, length, Option, Some, sym, subst, ap, ◌∙◌}
+use Rattle.std.proofs.Common.{◌≡◌, refl, ℕ, List, [], All, length, Some, sym, subst, ap, ◌∙◌}
 use Rattle.std.proofs.Common.{Bool, true, false, not, ◌&&◌}
 use Rattle.std.proofs.lemmas.Bool.{true≢false, false≢true}
 use Rattle.tt_kinds.specs.Label.{Name, Label, Sort, VarKind, type_label, const_label, predicate_label}
@@ -9,11 +9,11 @@ use Rattle.tt_kinds.specs.declared.ty_kind.InferTy.TheVariants.{TyVar}
 use Rattle.tt_kinds.specs.declared.table.Table.TheVariants.{VarLists}
 use Rattle.tt_kinds.specs.Tree as tree
 use Rattle.tt_kinds.specs.Tree.{Depth, Tree, Forest, count_trees}
-use Rattle.tt_kinds.specs.Shape.{Meaning, Sizes, AreParts, HasParts, fill, fill_all, name_of, vars_of}
+use Rattle.tt_kinds.specs.Shape.{Meaning, HasParts, fill, fill_all, name_of, vars_of}
 use Rattle.tt_kinds.specs.Shape.{rename_entry, rename_label}
 use Rattle.tt_kinds.specs.Parts.{child_sort, AreLike, IsItem, term_kind_child}
 use Rattle.tt_kinds.specs.Kinds.{Form, param, bound, plain, under, form_parts, refilled, form_shape, kind_form}
-use Rattle.tt_kinds.specs.Kinds.{kind_sort, kind_shape, kind_table, relabelled, value_form, parts_shapes, child_shapes}
+use Rattle.tt_kinds.specs.Kinds.{kind_sort, kind_shape, kind_table, relabelled, value_form, parts_shapes}
 use Rattle.tt_kinds.specs.Kinds.{children_shapes, items_tree, node_shape, list_shape, predicate_form, existential_form}
 use Rattle.tt_kinds.specs.Kinds.{RecordForm}
 use Rattle.tt_kinds.specs.declared.parts.Child.{Child}

@@ -1,6 +1,6 @@
 -- The bindings of a table solve themselves, and are an assignment to its variables alone.
-use Rattle.std.proofs.Common.{◌≡◌, refl, ℕ, zero, suc, ◌<◌, ◌≤◌, List, [], ◌∷◌, length, get_or, Option, Some, None}
-use Rattle.std.proofs.Common.{IfSome, sym, subst, ap, ◌∙◌, arith}
+use Rattle.std.proofs.Common.{◌≡◌, refl, ℕ, zero, suc, ◌≤◌, List, [], ◌∷◌, length, get_or, Option, Some, None}
+use Rattle.std.proofs.Common.{sym, subst, ap, ◌∙◌, arith}
 use Rattle.tt_kinds.specs.Label.{Name, Label, TypeLabel, type_label, infer_type, type_sort}
 use Rattle.tt_kinds.specs.declared.ty_kind.InferTy.TheVariants.{TyVar}
 use Rattle.tt_kinds.specs.Tree as tree
@@ -11,7 +11,7 @@ use Rattle.tt_kinds.specs.Kinds.{Form, param, bound, plain, under, form_shape, r
 use Rattle.tt_kinds.specs.Values.{option_shape}
 use Rattle.tt_kinds.specs.Handle.{Ty}
 use Rattle.tt_interner.specs.Owned.{IsOwned, AreOwned}
-use Rattle.tt_interner.specs.Rows.{Row, type_row, row_shape, row_table, meaning, size, AreRows}
+use Rattle.tt_interner.specs.Rows.{Row, type_row, row_shape, row_table, meaning, AreRows}
 use Rattle.tt_interner.specs.Stored.{Terms}
 use Rattle.tt_interner.proofs.OwnedLaws.{some_owned}
 use Rattle.tt_interner.proofs.Trees.{row_within, Means-row}

@@ -1,19 +1,18 @@
 -- What an assignment of types leaves of a tree: the table of its root, and so the sorts of children.
-use Rattle.std.proofs.Common.{◌≡◌, refl, ℕ, ◌<◌, List, [], ◌∷◌, All, length, Option, Some, None, sym, subst, ap, ◌∙◌}
-use Rattle.std.proofs.Common.{Bool, true, false, not, ◌&&◌, zero, suc, slice_get, arith}
-use Rattle.std.proofs.lemmas.Bool.{true≢false, false≢true}
+use Rattle.std.proofs.Common.{◌≡◌, refl, ℕ, ◌<◌, List, [], ◌∷◌, All, length, Option, Some, None, sym, ap, ◌∙◌}
+use Rattle.std.proofs.Common.{Bool, true, false, ◌&&◌, zero, suc, arith}
+use Rattle.std.proofs.lemmas.Bool.{false≢true}
 use Rattle.std.specs.Prelude.{IsTrue}
 use Rattle.tt_kinds.specs.Label.{Name, Label, type_label, infer_type, is_type, label_table}
 use Rattle.tt_kinds.specs.declared.ty_kind.InferTy.TheVariants.{TyVar}
 use Rattle.tt_kinds.specs.declared.table.Table.{Table}
-use Rattle.tt_kinds.specs.declared.table.Table.TheVariants.{Types, ClauseLists, TypeLists, ConstLists, ArgLists}
+use Rattle.tt_kinds.specs.declared.table.Table.TheVariants.{Types, TypeLists, ConstLists, ArgLists}
 use Rattle.tt_kinds.specs.declared.table.Table.TheVariants.{PatternLists, ExistentialLists}
 use Rattle.tt_kinds.specs.Tree as tree
 use Rattle.tt_kinds.specs.Tree.{Depth, Tree, Forest, count_trees}
-use Rattle.tt_kinds.specs.Shape as shape
 use Rattle.tt_kinds.specs.Shape.{Shapes, Meaning, Sizes, AreParts, append, fill, fill_all, sort_table}
 use Rattle.tt_kinds.specs.Parts.{ChildSort, absent, a_region, a_node, a_list, child_sort, node_table, node_number, IsItem}
-use Rattle.tt_kinds.specs.Parts.{list_table, list_number, list_sort, sort_list_table}
+use Rattle.tt_kinds.specs.Parts.{list_table, list_number, list_sort}
 use Rattle.tt_kinds.specs.Kinds.{region_shape, child_shapes, children_shapes, items_tree}
 use Rattle.tt_kinds.specs.declared.region_kind.RegionKind.{RegionKind}
 use Rattle.tt_kinds.specs.declared.region_kind.RegionKind.TheVariants.{ReStatic}

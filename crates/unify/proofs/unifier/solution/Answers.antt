@@ -1,5 +1,5 @@
 use Rattle.std.proofs.lemmas.Result.{err_from_is_err_and}
-use Rattle.std.proofs.Common.{length, subst, sym, ap, ◌∙◌}
+use Rattle.std.proofs.Common.{length, subst, sym, ◌∙◌}
 use Rattle.tt_kinds.specs.Kinds.{ty_shape}
 use Rattle.tt_interner.proofs.Growth.{Extends-trans}
 use Rattle.unify.specs.Bindings.{IsRefined}

@@ -41,8 +41,11 @@ returns-in-Some-as_types-clause-mismatch c =
     on_condition _ _ c.unify_types.result
     (never_under c.args.cx.now c.args.entries.items IsMismatch c.unify_types.result c.args.pairs.now.items
     (λ ρ. IsOwn n ρ × EquatesTypes ρ c.args.cx.now c.in-Some-as_types.types.0 c.in-Some-as_types.types.1) (λ ρ. IsOwn n ρ × Equates ρ c.args.cx.now c.args.pair)
-    (λ ρ met. (met.0, nodes_met ρ c.args.cx.now c.args.pair (node.Ty c.in-Some-as_types.types.0) (node.Ty c.in-Some-as_types.types.1)
-    (c.in-Some.ensures ∙ ap child.Node c.in-Some-as_types.ensures.0) (c.in-Some-as_node.ensures ∙ ap child.Node c.in-Some-as_types.ensures.1) met.1))
+    (λ ρ met. (
+      met.0,
+      nodes_met ρ c.args.cx.now c.args.pair (node.Ty c.in-Some-as_types.types.0) (node.Ty c.in-Some-as_types.types.1)
+          (c.in-Some.ensures ∙ ap child.Node c.in-Some-as_types.ensures.0) (c.in-Some-as_node.ensures ∙ ap child.Node c.in-Some-as_types.ensures.1) met.1,
+    ))
     c.unify_types.ensures.mismatch)
 
 pub returns-in_default-clause-mismatch : goal.returns-in_default-clause-mismatch
