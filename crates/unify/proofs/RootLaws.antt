@@ -10,7 +10,6 @@ use Rattle.tt_kinds.specs.declared.table.Table.TheVariants.{Types, TypeLists, Co
 use Rattle.tt_kinds.specs.declared.table.Table.TheVariants.{PatternLists, ExistentialLists}
 use Rattle.tt_kinds.specs.Tree as tree
 use Rattle.tt_kinds.specs.Tree.{Depth, Tree, Forest, count_trees}
-use Rattle.tt_kinds.specs.Shape as shape
 use Rattle.tt_kinds.specs.Shape.{Shapes, Meaning, Sizes, AreParts, append, fill, fill_all, sort_table}
 use Rattle.tt_kinds.specs.Parts.{ChildSort, absent, a_region, a_node, a_list, child_sort, node_table, node_number}
 use Rattle.tt_kinds.specs.Parts.{IsItem}

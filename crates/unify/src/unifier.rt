@@ -1,6 +1,7 @@
 //! Unification: a stack of pairs that are to be made equal, and the bindings that make the pairs before them equal.
 
-ghost use Rattle.std.specs.Prelude.{◌≡◌, ◌≢◌, ◌<◌, ◌≤◌, ℕ, None, Some, IfErr, IfNone, IfOk, IfSome, OnErr, OnOk, get_or, length};
+ghost use Rattle.std.specs.Prelude.{◌≡◌, ◌≢◌, ◌<◌, ◌≤◌, ℕ, None, Some, IfErr, IfNone, IfOk, IfSome, OnErr, OnOk};
+ghost use Rattle.std.specs.Prelude.{get_or, length};
 ghost use Rattle.tt_kinds.specs.Kinds.{ty_shape};
 ghost use Rattle.tt_fold.specs.Steps.{tree_in};
 ghost use Rattle.tt_interner.specs.Owned.{AreOwned, IsOwned};
@@ -317,7 +318,8 @@ fn solution(cx: &mut Interner, bindings: &Bindings, left: Ty, right: Ty) -> Resu
 ///
 /// If a call fails, the bindings are as before.
 ///
-/// - [`Fault::Mismatch`] if the types differ where neither is a variable that is unbound
+/// - [`Fault::Mismatch`] if the types differ where neither is a variable that is unbound; then no types in place of the
+///   table's variables make the two types equal
 /// - [`Fault::Occurs`] if a variable would be bound to a type that it occurs in; then nothing makes the two types equal
 /// - [`Fault::Escapes`] if a variable would be bound to a type that holds a bound variable of a binder around it
 /// - [`Fault::Refused`] if the library refuses a call

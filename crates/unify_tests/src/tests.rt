@@ -3,9 +3,10 @@
 mod faults;
 mod solved;
 
-ghost use Rattle.std.specs.Prelude.{IfOk};
+ghost use Rattle.std.specs.Prelude.{IfErr, IfOk};
 ghost use Rattle.tt_interner.specs.Stored.{Extends};
 ghost use Rattle.unify.specs.Bindings.{IsTable};
+ghost use Rattle.unify.specs.Faults.{IsMismatch};
 
 use std::alloc::Global;
 use std::process::Abort;
@@ -78,6 +79,19 @@ fn resolved(cx: &mut Interner, bindings: &Bindings, ty: Ty) -> Result<Ty, Refusa
     bindings.resolve(cx, ty)
 }
 
+// Makes the type equal to what it resolves to, which never is a mismatch.
+fn unified_with_resolved(cx: &mut Interner, bindings: &mut Bindings, ty: Ty) -> Result<(), Fault>
+    requires { IsTable cx.old bindings.old }
+    ensures { IfErr result (λ fault. IsMismatch fault → ⊥) }
+{
+    if !ty.is_owned(cx) {
+        return Err(Fault::Refused(NOT_OWNED));
+    }
+    let resolved = bindings.resolve(cx, ty)?;
+    cx.are_rows();
+    unify(cx, bindings, ty, resolved)
+}
+
 // Returns whether the two types become the type `both` if variables of a new table are bound.
 fn become_one(cx: &mut Interner, left: Ty, right: Ty, both: Ty) -> Result<bool, Fault> {
     let mut bindings = table_of(cx, 8)?;
@@ -85,6 +99,14 @@ fn become_one(cx: &mut Interner, left: Ty, right: Ty, both: Ty) -> Result<bool, 
     let first = resolved(cx, &bindings, left)?;
     let second = resolved(cx, &bindings, right)?;
     Ok(first == both && second == both)
+}
+
+// Returns whether the two types can be made equal, and then the first one with what it resolves to.
+fn match_resolved(cx: &mut Interner, left: Ty, right: Ty) -> Result<bool, Fault> {
+    let mut bindings = table_of(cx, 8)?;
+    unified(cx, &mut bindings, left, right)?;
+    unified_with_resolved(cx, &mut bindings, left)?;
+    Ok(true)
 }
 
 // Returns whether the two types can't be made equal because of this fault, and the table of variables stays unbound.

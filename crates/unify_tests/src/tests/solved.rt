@@ -1,6 +1,8 @@
 //! Types that can be made equal.
 
-use super::{answer, become_one, holds_anew, resolved, table_of, unified, variable};
+use super::{
+    answer, become_one, holds_anew, match_resolved, resolved, table_of, unified, variable,
+};
 use test_terms::{args, bound_ty, pointer, ref_ty, tuple, ty, u32_ty};
 use type_terms::{AdtId, GenericArg, Interner, Refusal, Region, RegionKind, Ty, TyKind};
 use unify::Fault;
@@ -35,6 +37,20 @@ fn tuples_are_unified_holds(cx: &mut Interner) -> Result<bool, Refusal> {
 #[test]
 fn tuples_are_unified(rt: HostRuntime) {
     holds_anew(&rt, rt.alloc(), tuples_are_unified_holds);
+}
+
+// `(?0, ?1)` is equal already to what it resolves to, `(u32, ?1)`.
+fn a_type_matches_what_it_resolves_to_holds(cx: &mut Interner) -> Result<bool, Refusal> {
+    let (zero, one) = (variable(cx, 0)?, variable(cx, 1)?);
+    let number = u32_ty(cx)?;
+    let left = tuple(cx, &[zero, one])?;
+    let right = tuple(cx, &[number, one])?;
+    Ok(answer(match_resolved(cx, left, right)))
+}
+
+#[test]
+fn a_type_matches_what_it_resolves_to(rt: HostRuntime) {
+    holds_anew(&rt, rt.alloc(), a_type_matches_what_it_resolves_to_holds);
 }
 
 // `(?0, ?1, ?2)` and `(?1, ?2, u32)` become `(u32, u32, u32)`: what was bound first becomes what is bound last.
