@@ -1,6 +1,7 @@
 -- Types that were built of operands' types, and the rules.
 use Rattle.std.proofs.Common.{◌≡◌, ℕ, ◌<◌, List, Result, Ok, Err, Some, subst, sym}
-use Rattle.std.specs.Prelude.{IfOk, OnOk, slice_get}
+use Rattle.std.specs.Prelude.{IfOk, IfSome, OnOk, Option, slice_get}
+use Rattle.std.specs.Result.{result_ok}
 use Rattle.tt_index.specs.declared.qualifier.Mutability.{Mutability}
 use Rattle.tt_index.specs.declared.qualifier.Mutability.TheVariants.{Not}
 use Rattle.tt_index.specs.declared.refusal.Refusal.{Refusal}
@@ -19,9 +20,12 @@ use Rattle.checker_syntax.specs.declared.program.Literal.{Literal}
 use Rattle.tt_fold.specs.Steps.{tree_in}
 use Rattle.checker_syntax.specs.declared.program.Span.{Span}
 use Rattle.checker_syntax.specs.declared.program.Expression.TheVariants as of
-use Rattle.checker.specs.Scope.{AreTypesBefore, around, trees}
-use Rattle.checker.specs.Typing.{AllBefore, Around, IsItemOf, IsTyped, Reaches, literal, literal_type, itself, through}
-use Rattle.checker.specs.Typing.{argument, variable, tuple, reference, part, tuple_of, reference_by, reference_to}
+use Rattle.checker.specs.Items.{AreTypesBefore}
+use Rattle.checker.specs.Scope.{around, trees}
+use Rattle.checker.specs.TypeTrees.{reference_by, reference_to, tuple_of}
+use Rattle.checker.specs.Typing.{AllBefore, Around, IsItemOf, IsTyped, Reaches, Writes, literal, literal_type, itself}
+use Rattle.checker.specs.Typing.{through, argument, variable, tuple, reference}
+use Rattle.checker.specs.Written.{part}
 use Rattle.checker.specs.declared.scope.Scope.{Scope}
 use Rattle.checker.proofs.ScopeLaws.{found_before}
 use Rattle.checker.proofs.TreeLaws.{item_found, reference_built, reference_read, tree_at}
@@ -41,6 +45,12 @@ for_ok_both (Err e) f h k = tt
 pub on_ok : {A E : Type 0} {P Q : Type 0} (result : Result A E) → (P → Q) → OnOk result P → OnOk result Q
 on_ok (Ok x) f h = f h
 on_ok (Err e) f h = tt
+
+-- what is kept of a result
+pub kept_holds : {A E : Type 0} (P : A → Type 0) (result : Result A E) (kept : Option A) → kept ≡ result_ok result
+    → IfOk result P → IfSome kept P
+kept_holds P (Ok x) kept is h = subst (λ o. IfSome o P) (sym is) h
+kept_holds P (Err e) kept is h = subst (λ o. IfSome o P) (sym is) tt
 
 -- a reference is taken further
 pub reaches_further : {t u : Tree Depth} (v r : Tree Depth) → Reaches t u → u ≡ reference_by r v → Reaches t v
@@ -79,9 +89,9 @@ literal_typed A number l t is = literal is
 
 -- an argument has the written type
 pub argument_typed : (terms : Terms) (scope : Scope) (number k w : ℕ) (ty : Ty) → slice_get scope.function.now.inputs.items k ≡ Some w
-    → slice_get scope.declared.now.written.items w ≡ Some ty
+    → Writes (around terms scope) w (tree_in terms.rows (ty_shape ty))
     → IsTyped (around terms scope) number (tree_in terms.rows (ty_shape ty)) (of.Argument k)
-argument_typed terms scope number k w ty there written = argument there (tree_at terms scope.declared.now.written.items w ty written)
+argument_typed terms scope number k w ty there written = argument there written
 
 -- a use of a variable has the variable's type
 pub variable_typed : (terms : Terms) (scope : Scope) (number n : ℕ) (ty : Ty) → n < number → slice_get scope.types.now n ≡ Some ty

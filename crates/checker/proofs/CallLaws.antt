@@ -1,5 +1,5 @@
 -- Calls, data type expressions and fields that were compared, and the rules.
-use Rattle.std.proofs.Common.{◌≡◌, ℕ, ◌<◌, List, length, map, Some, subst, ◌∙◌}
+use Rattle.std.proofs.Common.{◌≡◌, ℕ, ◌<◌, List, length, map, Some, subst}
 use Rattle.std.specs.Prelude.{slice_get}
 use Rattle.tt_kinds.specs.Handle.{GenericArgs, Ty}
 use Rattle.tt_kinds.specs.Kinds.{args_shape, ty_shape}
@@ -13,36 +13,34 @@ use Rattle.checker_syntax.specs.declared.program.Function.{Function}
 use Rattle.checker_syntax.specs.declared.program.Span.{Span}
 use Rattle.checker_syntax.specs.declared.program.Expression.TheVariants as of
 use Rattle.checker.specs.Scope.{IsScope, argument_trees, around}
-use Rattle.checker.specs.Typing.{Fit, HasField, IsInstance, IsTyped, Reaches, call, data_type, field, part}
+use Rattle.checker.specs.Typing.{AreTypeArguments, Fit, HasField, IsInstance, IsTyped, Reaches, call, data_type, field}
+use Rattle.checker.specs.Written.{part}
 use Rattle.checker.specs.declared.scope.Scope.{Scope}
-use Rattle.checker.proofs.InstanceLaws.{IsInstanceOf, count_arguments, fit_stays, instance_stays}
+use Rattle.checker.proofs.InstanceLaws.{IsInstanceOf, instance_stays}
 use Rattle.checker.proofs.TreeLaws.{tree_at}
 
 -- a call has its output's instance
 pub call_typed : (old new : Terms) (scope : Scope) (args : GenericArgs) → Extends old new → IsScope old scope
     → IsOwned args_shape old args → AreArguments old.rows (args_at old.rows args)
     → (number f : ℕ) (s : Span) (item : Function) (ty : Ty) (numbers : List ℕ)
-    → slice_get scope.program.now.functions.items f ≡ Some item → length (args_at old.rows args) ≡ length item.params.items
+    → slice_get scope.program.now.functions.items f ≡ Some item → AreTypeArguments (argument_trees old args) (length item.params.items)
     → numbers ≡ part scope.body.now.operands.items s → Fit (around old scope) number (argument_trees old args) item.inputs.items numbers
     → IsOwned ty_shape old ty → IsInstanceOf new scope args item.output ty
     → IsTyped (around old scope) number (tree_in old.rows (ty_shape ty)) (of.Call f s)
 call_typed old new scope args extends h owned are number f s item ty numbers there counted same fit mine is =
     let stays = instance_stays old new scope args extends h owned are item.output ty mine is in
-    call there (count_arguments old.rows (args_at old.rows args) ∙ counted)
+    call there counted
     (subst (λ ns. Fit (around old scope) number (argument_trees old args) item.inputs.items ns) same fit) stays.1 stays.2
 
 -- a data type expression has the data type
-pub data_typed : (old new : Terms) (scope : Scope) (args : GenericArgs) → Extends old new → IsScope old scope
-    → IsOwned args_shape old args → AreArguments old.rows (args_at old.rows args)
-    → (number k : ℕ) (s : Span) (item : DataType) (ty : Ty) (ws numbers : List ℕ)
+pub data_typed : (old : Terms) (scope : Scope) (args : GenericArgs) (number k : ℕ) (s : Span) (item : DataType) (ty : Ty) (ws numbers : List ℕ)
     → IsInstance (around old scope) k item (argument_trees old args) (tree_in old.rows (ty_shape ty))
     → ws ≡ map (λ f. f.ty) item.fields.items → numbers ≡ part scope.body.now.operands.items s
-    → Fit (around new scope) number (argument_trees new args) ws numbers
+    → Fit (around old scope) number (argument_trees old args) ws numbers
     → IsTyped (around old scope) number (tree_in old.rows (ty_shape ty)) (of.Data k s)
-data_typed old new scope args extends h owned are number k s item ty ws numbers is fields same fit =
-    let stays = fit_stays old new scope args extends h owned are number ws numbers fit in
+data_typed old scope args number k s item ty ws numbers is fields same fit =
     data_type is (subst (λ xs. Fit (around old scope) number (argument_trees old args) xs (part scope.body.now.operands.items s)) fields
-    (subst (λ ns. Fit (around old scope) number (argument_trees old args) ws ns) same stays))
+    (subst (λ ns. Fit (around old scope) number (argument_trees old args) ws ns) same fit))
 
 -- a field of this name that has the type
 pub field_found : (old new : Terms) (scope : Scope) (args : GenericArgs) (item : DataType) (k name : ℕ) (found : Field) (ty : Ty)

@@ -1,44 +1,41 @@
 -- What the functions of the checker need of the interner and of bindings.
-use Rattle.std.proofs.Common.{◌≡◌, ℕ, List, Result, Ok, Err, [], ◌∷◌, zero, suc, sym, subst}
+use Rattle.std.proofs.Common.{◌≡◌, ℕ, ◌<◌, List, Result, Ok, Err, [], ◌∷◌, zero, suc, sym, subst}
 use Rattle.std.specs.Prelude.{MatchResult}
 use Rattle.tt_index.specs.declared.refusal.Refusal.{Refusal}
-use Rattle.tt_kinds.specs.Handle.{Ty, Symbol}
+use Rattle.tt_kinds.specs.Handle.{Ty, Symbol, GenericArgs}
 use Rattle.tt_kinds.specs.Variant.{Variant}
 use Rattle.tt_kinds.specs.declared.declaration.DeclarationKind.{DeclarationKind}
 use Rattle.tt_interner.specs.Chained.{BuildsOf}
 use Rattle.tt_interner.specs.Declarations.{Declares}
 use Rattle.tt_interner.specs.Definitions.{Defines}
-use Rattle.tt_interner.specs.Rows.{Row, defined_row}
+use Rattle.tt_interner.specs.Rows.{Row, declared_row, defined_row, size, table}
+use Rattle.tt_interner.proofs.RowLaws.{row-new}
+use Rattle.tt_kinds.specs.declared.table.Table.TheVariants.{Declarations}
+use Rattle.std.proofs.lemmas.Option.{slice_get_within}
 use Rattle.tt_interner.proofs.StoreSteps.{Grows-add}
 use Rattle.tt_kinds.specs.Kinds.{ty_shape}
 use Rattle.tt_interner.specs.Stored.{Terms, Extends, Builds}
 use Rattle.tt_interner.proofs.Growth.{Extends-refl, Extends-trans}
-use Rattle.tt_interner.proofs.OwnedLaws.{list_still_owned}
-use Rattle.unify.proofs.UnificationLaws.{table_stays, empty_table}
 use Rattle.tt_interner.specs.Owned.{IsOwned}
-use Rattle.tt_kinds.specs.Handle.{GenericArgs}
 use Rattle.tt_kinds.specs.declared.field.FieldInfo.{FieldInfo}
 use Rattle.tt_binder.specs.Fields.{ArePlain}
-use Rattle.checker.specs.Items.{AreOwnedFields, IsDeclared}
-use Rattle.checker.specs.declared.declared.Declared.{Declared}
-
-pub extends_further : {a b c : Terms} → Extends a b → Extends b c → Extends a c
-extends_further = Extends-trans
-
--- items stay declared, whatever the interner builds
-pub declared_stay : (old new : Terms) (d : Declared) → Extends old new → IsDeclared old d → IsDeclared new d
-declared_stay old new d extends h = record {
-  data_types = list_still_owned ty_shape old new d.data_types.items extends h.data_types;
-  written = list_still_owned ty_shape old new d.written.items extends h.written;
-  functions = list_still_owned ty_shape old new d.functions.items extends h.functions;
-}
+use Rattle.checker.specs.Items.{AreOwnedFields}
 
 -- what a declaration adds leaves the rest
 pub declared_extends : {H : Type 0} (result : Result H Refusal) (number : H → ℕ) (old new : Terms) (kind : DeclarationKind) (name : Symbol)
     → Declares result number old new kind name → Extends old new
 declared_extends result number old new kind name d = record { rows = Grows-add result _ old new d.adds.rows d.adds.err; limit = d.adds.limit }
 
--- and so does a definition
+-- an id that was declared is one of the declarations
+pub declared_within : {H : Type 0} (h : H) (number : H → ℕ) (old new : Terms) (kind : DeclarationKind) (name : Symbol)
+    → Declares (Ok h) number old new kind name → number h < size new.rows Declarations
+declared_within h number old new kind name d =
+    let row = declared_row (size old.rows Declarations) (record { kind = kind; name = name }) in
+    let within = slice_get_within (table Declarations (row ∷ old.rows)) (size old.rows Declarations) row (row-new row old.rows) in
+    subst (λ rows. number h < size rows Declarations) (sym d.adds.rows)
+    (subst (λ n. n < size (row ∷ old.rows) Declarations) (sym d.adds.last) within)
+
+-- what is defined leaves the rest
 pub defined_extends : (result : Result (Unit {0}) Refusal) (old new : Terms) (n : ℕ) (vs : List Variant) → Defines result old new n vs → Extends old new
 defined_extends (Ok u) old new n vs d = record { rows = Grows-add {H = Unit {0}} (Ok u) (defined_row n vs) old new d.rows d.err; limit = d.limit }
 defined_extends (Err e) old new n vs d = record { rows = Grows-add {H = Unit {0}} (Err e) (defined_row n vs) old new d.rows d.err; limit = d.limit }
@@ -61,5 +58,5 @@ fields_owned args [] (f ∷ fields) old new plain i field at = absurd plain
 fields_owned args (d ∷ declared) (f ∷ fields) old new plain zero field at = let same : f ≡ field = cc in subst (λ x. IsOwned ty_shape new x.ty) same plain.0
 fields_owned args (d ∷ declared) (f ∷ fields) old new plain (suc i) field at = fields_owned args declared fields old new plain.2 i field at
 
--- the laws of the checker's calls, for `using`
-pub ruleset client_laws = (extends_further, declared_stay, table_stays, empty_table)
+-- the laws of growth, for `using`
+pub ruleset growth_laws = (Extends-trans)

@@ -1,3 +1,4 @@
+pub mod ArgumentLaws
 pub mod BodyLaws
 pub mod BuiltLaws
 pub mod CallLaws
@@ -7,5 +8,7 @@ pub mod ListLaws
 pub mod LookupLaws
 pub mod ProgramLaws
 pub mod ScopeLaws
+pub mod SignatureLaws
 pub mod TreeLaws
 pub mod TypingLaws
+pub mod WrittenLaws

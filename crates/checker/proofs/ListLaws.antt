@@ -1,7 +1,7 @@
 -- Items of lists to which one is pushed.
 use Rattle.std.proofs.Common.{◌≡◌, refl, ℕ, zero, suc, ◌<◌, List, [], ◌∷◌, ◌++◌, length, Some, ap, arith, pred, ◌⊎◌}
 use Rattle.std.proofs.Common.{inl, inr}
-use Rattle.std.specs.Prelude.{slice_get, take}
+use Rattle.std.specs.Prelude.{map, slice_get, take}
 
 -- an item stays where more items come after it
 pub get_more : {T : Type 0} (xs ys : List T) (i : ℕ) (x : T) → slice_get xs i ≡ Some x → slice_get (xs ++ ys) i ≡ Some x
@@ -32,3 +32,36 @@ pub take_next : {T : Type 0} (xs : List T) (i : ℕ) (x : T) → slice_get xs i 
 take_next [] i x h = absurd (cc)
 take_next (y ∷ xs) zero x h = cc
 take_next (y ∷ xs) (suc i) x h = ap (λ ys. y ∷ ys) (take_next xs i x h)
+
+-- there is one item more
+pub length_pushed : {T : Type 0} (xs : List T) (x : T) → length (xs ++ x ∷ []) ≡ suc (length xs)
+length_pushed [] x = refl
+length_pushed (y ∷ xs) x = ap suc (length_pushed xs x)
+
+-- an item after a push was there, or is the one that was pushed
+pub found_of_pushed : {T : Type 0} (xs : List T) (x : T) (i : ℕ) (y : T) → slice_get (xs ++ x ∷ []) i ≡ Some y
+    → (slice_get xs i ≡ Some y) ⊎ ((i ≡ length xs) × (x ≡ y))
+found_of_pushed [] x zero y h = inr (refl, same_item x y h)
+found_of_pushed [] x (suc i) y h = absurd (cc)
+found_of_pushed (z ∷ xs) x zero y h = inl h
+found_of_pushed (z ∷ xs) x (suc i) y h = elim (found_of_pushed xs x i y h) [
+  | inl older ↦ inl older
+  | inr newest ↦ inr (ap suc newest.0, newest.1)
+]
+
+-- a list that is mapped is as long
+pub length_mapped : {T U : Type 0} (f : T → U) (xs : List T) → length (map f xs) ≡ length xs
+length_mapped f [] = refl
+length_mapped f (x ∷ xs) = ap suc (length_mapped f xs)
+
+-- what is found in it is what an item becomes
+pub found_mapped : {T U : Type 0} (f : T → U) (xs : List T) (i : ℕ) (y : U) → slice_get (map f xs) i ≡ Some y
+    → (x : T) × (slice_get xs i ≡ Some x) × (f x ≡ y)
+found_mapped f [] i y h = absurd (cc)
+found_mapped f (x ∷ xs) zero y h = (x, refl, same_item (f x) y h)
+found_mapped f (x ∷ xs) (suc i) y h = found_mapped f xs i y h
+
+-- a list that is pushed to and mapped
+pub mapped_pushed : {T U : Type 0} (f : T → U) (xs : List T) (x : T) → map f (xs ++ x ∷ []) ≡ map f xs ++ f x ∷ []
+mapped_pushed f [] x = refl
+mapped_pushed f (y ∷ xs) x = ap (λ ys. f y ∷ ys) (mapped_pushed f xs x)

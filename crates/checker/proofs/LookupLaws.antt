@@ -1,20 +1,15 @@
 -- Types that are looked up by their numbers in turn.
-use Rattle.std.proofs.Common.{◌≡◌, refl, ℕ, suc, ◌<◌, List, [], ◌∷◌, ◌++◌, length, Some, sym, subst, ap, ◌∙◌, arith}
-use Rattle.std.proofs.Common.{inl, inr}
+use Rattle.std.proofs.Common.{◌≡◌, ℕ, suc, ◌<◌, List, [], ◌∷◌, ◌++◌, length, Some, sym, subst, ap, ◌∙◌, arith, inl, inr}
 use Rattle.std.specs.Prelude.{slice_get}
 use Rattle.std.proofs.lemmas.Option.{slice_get_within}
 use Rattle.tt_kinds.specs.Handle.{Ty}
-use Rattle.checker.specs.Scope.{AreTypesBefore}
-use Rattle.checker.proofs.ListLaws.{below_next, get_more, get_pushed}
+use Rattle.checker.specs.Items.{AreTypesBefore}
+use Rattle.checker.proofs.ListLaws.{below_next, get_more, get_pushed, length_pushed}
 
 -- the types of the first numbers
 pub record AreFirst (types : List Ty) (limit : ℕ) (ns : List ℕ) (found : List Ty) (count : ℕ) : Type 0 where
   pub counted : length found ≡ count
   pub each : (k n : ℕ) → k < count → slice_get ns k ≡ Some n → (ty : Ty) × (slice_get found k ≡ Some ty) × (n < limit) × (slice_get types n ≡ Some ty)
-
-length_pushed : (xs : List Ty) (x : Ty) → length (xs ++ x ∷ []) ≡ suc (length xs)
-length_pushed [] x = refl
-length_pushed (y ∷ xs) x = ap suc (length_pushed xs x)
 
 -- one more number
 pub first_next : (types : List Ty) (limit : ℕ) (ns : List ℕ) (found : List Ty) (count n : ℕ) (ty : Ty) → AreFirst types limit ns found count

@@ -1,6 +1,6 @@
 -- The bodies of a program, typed in turn.
-use Rattle.std.proofs.Common.{◌≡◌, refl, ℕ, zero, suc, List, [], ◌∷◌, ◌++◌, length, Option, Some, None, sym, subst, ap}
-use Rattle.std.proofs.Common.{◌∙◌, arith, inl, inr}
+use Rattle.std.proofs.Common.{◌≡◌, ℕ, zero, suc, List, [], ◌∷◌, ◌++◌, Option, Some, None, sym, subst, ap, ◌∙◌, arith}
+use Rattle.std.proofs.Common.{inl, inr}
 use Rattle.std.specs.Prelude.{slice_get, IfSome}
 use Rattle.std.proofs.lemmas.List.Elements.{All-append}
 use Rattle.std.proofs.lemmas.Option.{get_or_from_slice_get, slice_get_within}
@@ -14,47 +14,51 @@ use Rattle.tt_interner.proofs.OwnedLaws.{list_still_owned}
 use Rattle.checker_syntax.specs.declared.program.Body.{Body}
 use Rattle.checker_syntax.specs.declared.program.Function.{Function}
 use Rattle.checker_syntax.specs.declared.program.Program.{Program}
-use Rattle.checker.specs.Items.{AreTyped, IsDeclared}
+use Rattle.checker.specs.Items.{AreTyped}
 use Rattle.checker.specs.Scope.{AreTypedFirst, IsTypedFunction, body_around}
 use Rattle.checker.specs.Typing.{IsTypedBody}
-use Rattle.checker.specs.declared.declared.Declared.{Declared}
-use Rattle.checker.proofs.ListLaws.{below_next, get_more, get_pushed}
+use Rattle.checker.proofs.ListLaws.{below_next, get_more, get_pushed, length_pushed}
 use Rattle.checker.proofs.TreeLaws.{trees_stay}
 
 -- what is around a body stays, whatever the interner builds
-body_stays : (old new : Terms) (program : Program) (declared : Declared) (function : Function) (body : Body) (types : List Ty) → Extends old new → IsDeclared old declared
-    → AreOwned ty_shape old types → body_around new program declared function body types ≡ body_around old program declared function body types
-body_stays old new program declared function body types extends h owned =
-    let own = trees_stay old new declared.data_types.items extends h.data_types in
-    let written = trees_stay old new declared.written.items extends h.written in
+body_stays : (old new : Terms) (program : Program) (ids : List ℕ) (function : Function) (body : Body) (types : List Ty)
+    → Extends old new
+    → AreOwned ty_shape old types → body_around new program ids function body types ≡ body_around old program ids function body types
+body_stays old new program ids function body types extends owned =
     let found = trees_stay old new types extends owned in
     cc
 
 -- and so does its typing
-option_stays : (old new : Terms) (program : Program) (declared : Declared) (function : Function) (o : Option Body) (types : List Ty) → Extends old new → IsDeclared old declared
-    → AreOwned ty_shape old types → IfSome o (λ body. IsTypedBody (body_around old program declared function body types))
-    → IfSome o (λ body. IsTypedBody (body_around new program declared function body types))
-option_stays old new program declared function None types extends h owned typed = tt
-option_stays old new program declared function (Some body) types extends h owned typed =
-    subst IsTypedBody (sym (body_stays old new program declared function body types extends h owned)) typed
+option_stays : (old new : Terms) (program : Program) (ids : List ℕ) (function : Function) (o : Option Body) (types : List Ty)
+    → Extends old new
+    → AreOwned ty_shape old types → IfSome o (λ body. IsTypedBody (body_around old program ids function body types))
+    → IfSome o (λ body. IsTypedBody (body_around new program ids function body types))
+option_stays old new program ids function None types extends owned typed = tt
+option_stays old new program ids function (Some body) types extends owned typed =
+    subst IsTypedBody (sym (body_stays old new program ids function body types extends owned)) typed
 
-pub function_stays : (old new : Terms) (program : Program) (declared : Declared) (function : Function) (types : List Ty) → Extends old new → IsDeclared old declared
-    → AreOwned ty_shape old types → IsTypedFunction old program declared function types → IsTypedFunction new program declared function types
-function_stays old new program declared function types extends h owned typed = option_stays old new program declared function function.body types extends h owned typed
+-- the typing of a function stays
+pub function_stays : (old new : Terms) (program : Program) (ids : List ℕ) (function : Function) (types : List Ty) → Extends old new
+    → AreOwned ty_shape old types → IsTypedFunction old program ids function types → IsTypedFunction new program ids function types
+function_stays old new program ids function types extends owned typed =
+    option_stays old new program ids function function.body types extends owned typed
 
 -- a function whose body was typed
-pub function_typed : (old new : Terms) (program : Program) (declared : Declared) (function : Function) (body : Body) (types lent : List Ty) → Extends old new → IsDeclared old declared
-    → AreOwned ty_shape old types → function.body ≡ Some body → lent ≡ types → IsTypedBody (body_around old program declared function body lent)
-    → IsTypedFunction new program declared function types
-function_typed old new program declared function body types lent extends h owned is same typed =
-    let found = subst (λ x. IsTypedBody (body_around old program declared function body x)) same typed in
-    subst (λ o. IfSome o (λ b. IsTypedBody (body_around new program declared function b types))) (sym is)
-    (subst IsTypedBody (sym (body_stays old new program declared function body types extends h owned)) found)
+pub function_typed : (old new : Terms) (program : Program) (ids : List ℕ) (function : Function) (body : Body) (types lent : List Ty)
+    → Extends old new
+    → AreOwned ty_shape old types → function.body ≡ Some body → lent ≡ types → IsTypedBody (body_around old program ids function body lent)
+    → IsTypedFunction new program ids function types
+function_typed old new program ids function body types lent extends owned is same typed =
+    let found = subst (λ x. IsTypedBody (body_around old program ids function body x)) same typed in
+    subst (λ o. IfSome o (λ b. IsTypedBody (body_around new program ids function b types))) (sym is)
+    (subst IsTypedBody (sym (body_stays old new program ids function body types extends owned)) found)
 
 -- the types of a body among those of all
-types_owned : (terms : Terms) (bodies : List (Vec Ty Global)) (f : ℕ) (types : Vec Ty Global) → AreTyped terms bodies → slice_get bodies f ≡ Some types → AreOwned ty_shape terms types.items
+types_owned : (terms : Terms) (bodies : List (Vec Ty Global)) (f : ℕ) (types : Vec Ty Global) → AreTyped terms bodies
+    → slice_get bodies f ≡ Some types → AreOwned ty_shape terms types.items
 types_owned terms bodies f types all at =
-    subst (λ x. AreOwned ty_shape terms x.items) (get_or_from_slice_get bodies f types types at) (all f types (slice_get_within bodies f types at))
+    subst (λ x. AreOwned ty_shape terms x.items) (get_or_from_slice_get bodies f types types at)
+    (all f types (slice_get_within bodies f types at))
 
 -- the types of bodies are the interner's still
 pub all_stay : (old new : Terms) (bodies : List (Vec Ty Global)) → Extends old new → AreTyped old bodies → AreTyped new bodies
@@ -65,25 +69,29 @@ only_owned : (terms : Terms) (b : Vec Ty Global) → AreOwned ty_shape terms b.i
 only_owned terms b owned zero d less = owned
 only_owned terms b owned (suc k) d less = absurd (omega (arith, less))
 
-pub all_pushed : (terms : Terms) (bodies : List (Vec Ty Global)) (b : Vec Ty Global) → AreTyped terms bodies → AreOwned ty_shape terms b.items → AreTyped terms (bodies ++ b ∷ [])
-all_pushed terms bodies b all owned = All-append (λ types. AreOwned ty_shape terms types.items) bodies (b ∷ []) all (only_owned terms b owned)
-
--- there is one more
-count_pushed : (bodies : List (Vec Ty Global)) (b : Vec Ty Global) → length (bodies ++ b ∷ []) ≡ suc (length bodies)
-count_pushed [] b = refl
-count_pushed (c ∷ bodies) b = ap suc (count_pushed bodies b)
+pub all_pushed : (terms : Terms) (bodies : List (Vec Ty Global)) (b : Vec Ty Global) → AreTyped terms bodies
+    → AreOwned ty_shape terms b.items → AreTyped terms (bodies ++ b ∷ [])
+all_pushed terms bodies b all owned =
+    All-append (λ types. AreOwned ty_shape terms types.items) bodies (b ∷ []) all (only_owned terms b owned)
 
 -- one more function that is typed
-pub typed_function_next : (old new : Terms) (program : Program) (declared : Declared) (bodies : List (Vec Ty Global)) (n : ℕ) (function : Function) (types : Vec Ty Global)
-    → Extends old new → IsDeclared old declared → AreTyped old bodies → AreTypedFirst old program declared bodies n
-    → slice_get program.functions.items n ≡ Some function → IsTypedFunction new program declared function types.items
-    → AreTypedFirst new program declared (bodies ++ types ∷ []) (suc n)
-typed_function_next old new program declared bodies n function types extends h all first there typed = record {
-  counted = count_pushed bodies types ∙ ap suc first.counted;
+pub typed_function_next : (old new : Terms) (program : Program) (ids : List ℕ) (bodies : List (Vec Ty Global)) (n : ℕ)
+    (function : Function) (types : Vec Ty Global)
+    → Extends old new → AreTyped old bodies → AreTypedFirst old program ids bodies n
+    → slice_get program.functions.items n ≡ Some function → IsTypedFunction new program ids function types.items
+    → AreTypedFirst new program ids (bodies ++ types ∷ []) (suc n)
+typed_function_next old new program ids bodies n function types extends all first there typed = record {
+  counted = length_pushed bodies types ∙ ap suc first.counted;
   each = λ f item less at. elim (below_next f n less) [
-    | inl older ↦ (let one = first.each f item older at in
-        (one.0, get_more bodies (types ∷ []) f one.0 one.1, function_stays old new program declared item one.0.items extends h (types_owned old bodies f one.0 all one.1) one.2))
-    | inr same ↦ (let this : item ≡ function = let p = ap (slice_get program.functions.items) same in cc in
-        (types, get_pushed bodies types f (same ∙ sym first.counted), subst (λ x. IsTypedFunction new program declared x types.items) (sym this) typed))
+    | inl older ↦ (let one = first.each f item older at in (
+      one.0,
+      get_more bodies (types ∷ []) f one.0 one.1,
+      function_stays old new program ids item one.0.items extends (types_owned old bodies f one.0 all one.1) one.2,
+    ))
+    | inr same ↦ (let this : item ≡ function = let p = ap (slice_get program.functions.items) same in cc in (
+      types,
+      get_pushed bodies types f (same ∙ sym first.counted),
+      subst (λ x. IsTypedFunction new program ids x types.items) (sym this) typed,
+    ))
   ];
 }

@@ -5,25 +5,38 @@ use Rattle.tt_kinds.specs.Kinds.{ty_shape}
 use Rattle.tt_kinds.specs.Shape.{fill}
 use Rattle.tt_interner.specs.Rows.{meaning}
 use Rattle.tt_interner.specs.Stored.{Terms, Extends}
-use Rattle.checker.specs.Scope.{AreTypesBefore, IsScope, around, trees}
+use Rattle.tt_interner.proofs.Growth.{Extends-trans}
+use Rattle.tt_interner.proofs.OwnedLaws.{list_still_owned, owned_laws}
+use Rattle.checker_syntax.specs.declared.program.Program.{Program}
+use Rattle.checker.specs.Items.{IsDeclared, ids_of, AreTypesBefore}
+use Rattle.checker.specs.Scope.{IsScope, around, trees}
 use Rattle.checker.specs.Typing.{AllBefore}
+use Rattle.checker.specs.declared.declared.Declared.{Declared}
 use Rattle.checker.specs.declared.scope.Scope.{Scope}
-use Rattle.checker.proofs.ClientLaws.{declared_stay}
+use Rattle.checker.proofs.SignatureLaws.{functions_stay}
 use Rattle.checker.proofs.TreeLaws.{tree_at, trees_stay}
-use Rattle.tt_interner.proofs.OwnedLaws.{list_still_owned}
+use Rattle.checker.proofs.WrittenLaws.{written_stay}
+
+-- items stay declared, whatever the interner builds
+pub declared_stay : (old new : Terms) (program : Program) (d : Declared) → Extends old new → IsDeclared old program d
+    → IsDeclared new program d
+declared_stay old new program d extends h = record {
+  counted = h.counted;
+  distinct = h.distinct;
+  written = written_stay old new program (ids_of d) d.written.items (length program.types.items) extends h.written;
+  functions = functions_stay old new program d.written.items d.functions.items (length program.functions.items) extends h.functions;
+}
 
 -- a scope stays one
 pub scope_stays : (old new : Terms) (scope : Scope) → Extends old new → IsScope old scope → IsScope new scope
 scope_stays old new scope extends h = record {
-  declared = declared_stay old new scope.declared.now extends h.declared;
+  declared = declared_stay old new scope.program.now scope.declared.now extends h.declared;
   types = list_still_owned ty_shape old new scope.types.now extends h.types;
 }
 
 -- and its trees stay
 pub around_stays : (old new : Terms) (scope : Scope) → Extends old new → IsScope old scope → around new scope ≡ around old scope
 around_stays old new scope extends h =
-    let own = trees_stay old new scope.declared.now.data_types.items extends h.declared.data_types in
-    let written = trees_stay old new scope.declared.now.written.items extends h.declared.written in
     let types = trees_stay old new scope.types.now extends h.types in
     cc
 
@@ -41,5 +54,5 @@ found_before terms types limit ns found h = record {
       (fill (meaning terms.rows) (ty_shape one.0), tree_at terms found k one.0 one.1, (one.2, tree_at terms types n one.0 one.3));
 }
 
--- the laws of scopes, for `using`
-pub ruleset scope_laws = (scope_stays)
+-- what the comparison with the rules needs of scopes, growth and owned lists, for `using`
+pub ruleset verify_laws = (scope_stays, declared_stay, Extends-trans, owned_laws)

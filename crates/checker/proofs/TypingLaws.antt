@@ -5,21 +5,16 @@ use Rattle.tt_kinds.specs.Handle.{Ty}
 use Rattle.tt_kinds.specs.Kinds.{ty_shape}
 use Rattle.tt_interner.specs.Owned.{IsOwned}
 use Rattle.tt_interner.specs.Stored.{Terms, Extends}
-use Rattle.tt_interner.proofs.Growth.{fill-grows}
 use Rattle.tt_fold.specs.Steps.{tree_in}
 use Rattle.checker_syntax.specs.declared.program.Expression.{Expression}
 use Rattle.checker_syntax.specs.declared.program.Expression.TheVariants as of
 use Rattle.checker.specs.Scope.{IsScope, around}
-use Rattle.checker.specs.Typing.{Around, HasType, IsItemOf, IsTyped, Reaches, binding, dereference, item, reference_to}
+use Rattle.checker.specs.TypeTrees.{reference_to}
+use Rattle.checker.specs.Typing.{Around, HasType, IsItemOf, IsTyped, Reaches, Writes, binding, dereference, item}
 use Rattle.checker.specs.declared.scope.Scope.{Scope}
 use Rattle.checker.proofs.ListLaws.{below_next}
 use Rattle.checker.proofs.ScopeLaws.{around_stays}
-use Rattle.checker.proofs.TreeLaws.{tree_at}
-
--- the tree of a type stays
-pub tree_stays : (old new : Terms) (ty : Ty) → Extends old new → IsOwned ty_shape old ty
-    → tree_in new.rows (ty_shape ty) ≡ tree_in old.rows (ty_shape ty)
-tree_stays old new ty extends owned = fill-grows old.rows new.rows extends.rows (ty_shape ty) owned
+use Rattle.checker.proofs.TreeLaws.{tree_at, tree_stays}
 
 -- a type that is the one that was built has its rule
 pub same_typed : (A : Around) (old new : Terms) (number : ℕ) (e : Expression) (expected ty : Ty) → Extends old new
@@ -40,11 +35,11 @@ has_type terms scope number e ty there typed = record {
 -- a variable has its value's type, and the written one
 pub let_typed : (terms : Terms) (scope : Scope) (number init : ℕ) (annotation : Option ℕ) (found ty : Ty) → init < number
     → slice_get scope.types.now init ≡ Some found → found ≡ ty
-    → IfSome annotation (λ w. (d : Ty) × (slice_get scope.declared.now.written.items w ≡ Some d) × (d ≡ ty))
+    → IfSome annotation (λ w. (d : Ty) × Writes (around terms scope) w (tree_in terms.rows (ty_shape d)) × (d ≡ ty))
     → IsTyped (around terms scope) number (tree_in terms.rows (ty_shape ty)) (of.Let init annotation)
 let_typed terms scope number init (Some w) found ty before there same written =
     binding (before, tree_at terms scope.types.now init ty (there ∙ ap Some same))
-    (tree_at terms scope.declared.now.written.items w ty (written.1 ∙ ap Some written.2))
+    (subst (λ x. Writes (around terms scope) w (tree_in terms.rows (ty_shape x))) written.2 written.1)
 let_typed terms scope number init None found ty before there same written =
     binding (before, tree_at terms scope.types.now init ty (there ∙ ap Some same)) tt
 

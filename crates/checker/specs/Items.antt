@@ -1,20 +1,100 @@
--- The types of a program's items, as the interner's.
-use Rattle.std.specs.Prelude.{◌≡◌, ℕ, List, Some, slice_get}
+-- The items of a program, as the interner has them.
+use Rattle.std.specs.Prelude.{◌≡◌, ◌<◌, ℕ, List, [], ◌∷◌, ◌++◌, length, map, Some, slice_get}
 use Rattle.std.specs.List.{All}
 use Rattle.std.specs.declared.alloc.Global.{Global}
 use Rattle.std.specs.declared.vec.Vec.{Vec}
-use Rattle.tt_kinds.specs.Handle.{Ty}
+use Rattle.tt_kinds.specs.Handle.{Ty, Tys}
 use Rattle.tt_kinds.specs.Kinds.{ty_shape}
+use Rattle.tt_kinds.specs.declared.binder.Binder.{Binder}
+use Rattle.tt_kinds.specs.declared.binder.EarlyBinder.{EarlyBinder}
+use Rattle.tt_kinds.specs.declared.declaration.DeclarationKind.TheVariants as kind
 use Rattle.tt_kinds.specs.declared.field.FieldInfo.{FieldInfo}
+use Rattle.tt_kinds.specs.declared.fn_sig.FnSig.{FnSig}
+use Rattle.tt_kinds.specs.declared.table.Table.TheVariants.{Declarations}
+use Rattle.tt_interner.specs.Declarations.{declared_at}
+use Rattle.tt_interner.specs.Rows.{Row, size, tys_row}
+use Rattle.tt_kinds.specs.declared.id.DataType.{DataType}
+use Rattle.tt_kinds.specs.declared.id.Function.{Function as FunctionMark}
+use Rattle.tt_kinds.specs.declared.id.Id.{Id}
 use Rattle.tt_interner.specs.Owned.{AreOwned, IsOwned}
-use Rattle.tt_interner.specs.Stored.{Terms}
+use Rattle.tt_interner.specs.Stored.{IsAt, Terms}
+use Rattle.tt_fold.specs.Steps.{tree_in}
+use Rattle.checker_syntax.specs.declared.program.Function.{Function}
+use Rattle.checker_syntax.specs.declared.program.Program.{Program}
+use Rattle.checker.specs.Written.{AreDistinct, Writes}
 use Rattle.checker.specs.declared.declared.Declared.{Declared}
 
--- all types are the interner's
-pub record IsDeclared (terms : Terms) (d : Declared) : Type 0 where
-  pub data_types : AreOwned ty_shape terms d.data_types.items
-  pub written : AreOwned ty_shape terms d.written.items
-  pub functions : AreOwned ty_shape terms d.functions.items
+-- the id of a data type
+abbrev pub AdtId : Type 0
+AdtId = Id DataType
+
+-- the id of a function
+abbrev pub FunctionId : Type 0
+FunctionId = Id FunctionMark
+
+-- ids, as numbers
+abbrev pub numbers : List AdtId → List ℕ
+numbers ids = map (λ id. id.number) ids
+
+-- the ids of the data types
+abbrev pub ids_of : Declared → List ℕ
+ids_of d = numbers d.data_types.items
+
+-- the types are the interner's, and are this many of the first written types
+pub record AreWrittenTypes (terms : Terms) (program : Program) (ids : List ℕ) (types : List Ty) (count : ℕ)
+    : Type 0 where
+  pub owned : AreOwned ty_shape terms types
+  pub counted : length types ≡ count
+  pub each : (n : ℕ) (ty : Ty) → slice_get types n ≡ Some ty → Writes program ids n (tree_in terms.rows (ty_shape ty))
+
+-- there are as many types as numbers, and each is the type of the number in its place, which is below the limit
+pub record AreTypesBefore (types : List Ty) (limit : ℕ) (ns : List ℕ) (found : List Ty) : Type 0 where
+  pub counted : length ns ≡ length found
+  pub each : (k n : ℕ) → slice_get ns k ≡ Some n → (ty : Ty) × (slice_get found k ≡ Some ty) × (n < limit)
+      × (slice_get types n ≡ Some ty)
+
+-- the types are those that are written for the function's inputs in order, and last its output's
+pub record AreOfSignature (written : List Ty) (item : Function) (types : List Ty) : Type 0 where
+  pub inputs : List Ty
+  pub output : Ty
+  pub are : types ≡ inputs ++ output ∷ []
+  pub taken : AreTypesBefore written (length written) item.inputs.items inputs
+  pub returned : slice_get written item.output ≡ Some output
+
+-- they are in the list
+pub record ListsSignature (terms : Terms) (written : List Ty) (item : Function) (list : Tys) : Type 0 where
+  pub types : List Ty
+  pub stored : IsAt terms.rows (tys_row types) list.number
+  pub are : AreOfSignature written item types
+
+-- the function of this id is declared with the types in the list
+abbrev pub IsFunctionOf : List Row → Tys → FunctionId → Type 0
+IsFunctionOf rows types id = (sig : EarlyBinder (Binder FnSig))
+    × ((declared_at rows (record { number = id.number })).kind ≡ kind.Fn sig)
+    × (sig.value.value.inputs_and_output ≡ types)
+
+-- the function of this id is declared with the types that are written
+pub record HasSignature (terms : Terms) (written : List Ty) (item : Function) (id : FunctionId) : Type 0 where
+  pub in_range : id.number < size terms.rows Declarations
+  pub list : Tys
+  pub declared : IsFunctionOf terms.rows list id
+  pub listed : ListsSignature terms written item list
+
+-- this many of the first functions are declared with the types that are written
+pub record AreFunctions (terms : Terms) (program : Program) (written : List Ty) (ids : List FunctionId) (count : ℕ)
+    : Type 0 where
+  pub counted : length ids ≡ count
+  pub each : (f : ℕ) (id : FunctionId) (item : Function) → slice_get ids f ≡ Some id
+      → slice_get program.functions.items f ≡ Some item
+      → HasSignature terms written item id
+
+-- what is declared is what the program says: its data types are told apart, its written types are what is written, and
+-- its functions have the written types
+pub record IsDeclared (terms : Terms) (program : Program) (d : Declared) : Type 0 where
+  pub counted : length d.data_types.items ≡ length program.«data».items
+  pub distinct : AreDistinct (ids_of d)
+  pub written : AreWrittenTypes terms program (ids_of d) d.written.items (length program.types.items)
+  pub functions : AreFunctions terms program d.written.items d.functions.items (length program.functions.items)
 
 -- the types of each body are the interner's
 abbrev pub AreTyped : Terms → List (Vec Ty Global) → Type 0

@@ -1,3 +1,5 @@
 pub mod Items
 pub mod Scope
+pub mod TypeTrees
 pub mod Typing
+pub mod Written

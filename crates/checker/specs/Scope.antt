@@ -9,9 +9,9 @@ use Rattle.tt_interner.specs.Rows.{Row}
 use Rattle.tt_interner.specs.Stored.{Terms}
 use Rattle.tt_fold.specs.Steps.{tree_in}
 use Rattle.tt_binder.specs.Arguments.{arguments, args_at}
-use Rattle.checker.specs.Items.{IsDeclared}
+use Rattle.checker.specs.Items.{IsDeclared, ids_of}
 use Rattle.checker.specs.Typing.{Around, IsTypedBody}
-use Rattle.checker.specs.declared.declared.Declared.{Declared}
+use Rattle.checker.specs.Written.{AreDistinct}
 use Rattle.checker_syntax.specs.declared.program.Body.{Body}
 use Rattle.checker_syntax.specs.declared.program.Function.{Function}
 use Rattle.checker_syntax.specs.declared.program.Program.{Program}
@@ -21,52 +21,51 @@ use Rattle.checker.specs.declared.scope.Scope.{Scope}
 
 -- all types are the interner's
 pub record IsScope (terms : Terms) (scope : Scope) : Type 0 where
-  pub declared : IsDeclared terms scope.declared.now
+  pub declared : IsDeclared terms scope.program.now scope.declared.now
   pub types : AreOwned ty_shape terms scope.types.now
-
--- there are as many types as numbers, and each is the type of the number in its place, which is below the limit
-pub record AreTypesBefore (types : List Ty) (limit : ℕ) (ns : List ℕ) (found : List Ty) : Type 0 where
-  pub counted : length ns ≡ length found
-  pub each : (k n : ℕ) → slice_get ns k ≡ Some n → (ty : Ty) × (slice_get found k ≡ Some ty) × (n < limit)
-      × (slice_get types n ≡ Some ty)
 
 -- the trees of the types
 abbrev pub trees : List Row → List Ty → List (Tree Depth)
 trees rows types = map (λ ty. tree_in rows (ty_shape ty)) types
 
 -- what is around the expressions of a body, by trees
-abbrev pub body_around : Terms → Program → Declared → Function → Body → List Ty → Around
-body_around terms program declared function body types = record {
+abbrev pub body_around : Terms → Program → List ℕ → Function → Body → List Ty → Around
+body_around terms program ids function body types = record {
   program = program;
   function = function;
   body = body;
-  own = trees terms.rows declared.data_types.items;
-  written = trees terms.rows declared.written.items;
+  ids = ids;
   types = trees terms.rows types;
 }
 
 -- what is around the expressions of a scope
 abbrev pub around : Terms → Scope → Around
-around terms scope = body_around terms scope.program.now scope.declared.now scope.function.now scope.body.now
-    scope.types.now
+around terms scope = body_around terms scope.program.now
+    (ids_of scope.declared.now) scope.function.now scope.body.now scope.types.now
 
 -- if the function has a body, the expressions have these types by the rules
-abbrev pub IsTypedFunction : Terms → Program → Declared → Function → List Ty → Type 0
-IsTypedFunction terms program declared function types =
-    IfSome function.body (λ body. IsTypedBody (body_around terms program declared function body types))
+abbrev pub IsTypedFunction : Terms → Program → List ℕ → Function → List Ty → Type 0
+IsTypedFunction terms program ids function types = IfSome function.body
+    (λ body. IsTypedBody (body_around terms program ids function body types))
 
 -- so has each of the first functions, of the types in its place
-pub record AreTypedFirst (terms : Terms) (program : Program) (declared : Declared) (bodies : List (Vec Ty Global))
-    (count : ℕ) : Type 0 where
+pub record AreTypedFirst (terms : Terms) (program : Program) (ids : List ℕ) (bodies : List (Vec Ty Global)) (count : ℕ)
+    : Type 0 where
   pub counted : length bodies ≡ count
   pub each : (f : ℕ) (function : Function) → f < count → slice_get program.functions.items f ≡ Some function
       → (types : Vec Ty Global) × (slice_get bodies f ≡ Some types)
-      × IsTypedFunction terms program declared function types.items
+      × IsTypedFunction terms program ids function types.items
 
 -- so has each function
-abbrev pub AreTypedBodies : Terms → Program → Declared → List (Vec Ty Global) → Type 0
-AreTypedBodies terms program declared bodies = AreTypedFirst terms program declared bodies
-    (length program.functions.items)
+abbrev pub AreTypedBodies : Terms → Program → List ℕ → List (Vec Ty Global) → Type 0
+AreTypedBodies terms program ids bodies = AreTypedFirst terms program ids bodies (length program.functions.items)
+
+-- the ids tell the data types of the program apart, and by them each function has these types
+pub record IsTypedProgram (terms : Terms) (program : Program) (ids : List ℕ) (bodies : List (Vec Ty Global))
+    : Type 0 where
+  pub counted : length ids ≡ length program.«data».items
+  pub distinct : AreDistinct ids
+  pub typed : AreTypedBodies terms program ids bodies
 
 -- the arguments in a stored list, by trees
 abbrev pub argument_trees : Terms → GenericArgs → List (Argument Depth)

@@ -1,17 +1,9 @@
 -- The typing rules of the language, on plain trees of types.
-use Rattle.std.specs.Prelude.{◌≡◌, ◌<◌, ◌-◌, ℕ, List, [], ◌∷◌, length, Option, Some, None, map, drop, slice_get, take}
-use Rattle.std.specs.Prelude.{IfSome}
-use Rattle.std.specs.String.{string_bytes}
-use Rattle.std.specs.declared.alloc.Global.{Global}
-use Rattle.std.specs.declared.string.String.{String}
+use Rattle.std.specs.Prelude.{◌≡◌, ◌<◌, ℕ, List, length, Option, Some, map, slice_get, IfSome}
 use Rattle.tt_index.specs.declared.numeric.IntTy.TheVariants.{I32}
-use Rattle.tt_index.specs.declared.qualifier.Mutability.{Mutability}
-use Rattle.tt_index.specs.declared.qualifier.Mutability.TheVariants.{Not}
-use Rattle.tt_kinds.specs.Label.{type_sort, TypeLabel, type_label, list_label, bool_type, char_type, int_type, str_type}
-use Rattle.tt_kinds.specs.Label.{tuple_type, ref_type, erased_region}
-use Rattle.tt_kinds.specs.Tree.{Depth, Tree, Forest, param, term, node, region, none, also}
+use Rattle.tt_kinds.specs.Label.{type_sort, int_type, bool_type, char_type, str_type}
+use Rattle.tt_kinds.specs.Tree.{Depth, Tree}
 use Rattle.tt_kinds.specs.Argument.{Argument}
-use Rattle.tt_kinds.specs.declared.table.Table.TheVariants.{TypeLists}
 use Rattle.tt_binder.specs.Instance.{IsPlain}
 use Rattle.checker_syntax.specs.declared.program.Program.{Program}
 use Rattle.checker_syntax.specs.declared.program.Function.{Function}
@@ -21,31 +13,11 @@ use Rattle.checker_syntax.specs.declared.program.Body.{Body}
 use Rattle.checker_syntax.specs.declared.program.Span.{Span}
 use Rattle.checker_syntax.specs.declared.program.Literal.{Literal}
 use Rattle.checker_syntax.specs.declared.program.Literal.TheVariants as literal_of
-use Rattle.checker_syntax.specs.declared.program.WrittenType.{WrittenType}
-use Rattle.checker_syntax.specs.declared.program.WrittenType.TheVariants as written_as
 use Rattle.checker_syntax.specs.declared.program.Expression.{Expression}
 use Rattle.checker_syntax.specs.declared.program.Expression.TheVariants as of
-
--- a type without parts
-abbrev pub simple : TypeLabel → Tree Depth
-simple l = term (type_label l) none
-
--- trees, as children in order
-abbrev pub in_order : List (Tree Depth) → Forest Depth
-in_order [] = none
-in_order (t ∷ ts) = also t (in_order ts)
-
--- the tuple of these types
-abbrev pub tuple_of : List (Tree Depth) → Tree Depth
-tuple_of ts = term (type_label tuple_type) (also (node (list_label TypeLists) (in_order ts)) none)
-
--- the reference to this type, by a region
-abbrev pub reference_by : Tree Depth → Tree Depth → Tree Depth
-reference_by r t = term (type_label (ref_type Not)) (also r (also t none))
-
--- the reference to this type, by the erased region
-abbrev pub reference_to : Tree Depth → Tree Depth
-reference_to t = reference_by (region erased_region) t
+use Rattle.checker.specs.TypeTrees.{data_type_of, reference_by, reference_to, simple, tuple_of}
+use Rattle.checker.specs.Written as written
+use Rattle.checker.specs.Written.{part}
 
 -- the type of a literal
 abbrev pub literal_type : Literal → Tree Depth
@@ -63,10 +35,6 @@ pub data Reaches : Tree Depth → Tree Depth → Type 0 where
 abbrev pub IsItemOf : ℕ → Tree Depth → Tree Depth → Type 0
 IsItemOf k whole t = (ts : List (Tree Depth)) × (whole ≡ tuple_of ts) × (slice_get ts k ≡ Some t)
 
--- the numbers of this part of a list
-abbrev pub part : List ℕ → Span → List ℕ
-part numbers span = take (span.end - span.start) (drop span.start numbers)
-
 -- the thing of number n comes before the one of number i, and has this type among these
 abbrev pub Before : List (Tree Depth) → ℕ → ℕ → Tree Depth → Type 0
 Before types i n t = (n < i) × (slice_get types n ≡ Some t)
@@ -76,22 +44,29 @@ pub record AllBefore (types : List (Tree Depth)) (i : ℕ) (ns : List ℕ) (ts :
   pub counted : length ns ≡ length ts
   pub each : (k n : ℕ) → slice_get ns k ≡ Some n → (t : Tree Depth) × (slice_get ts k ≡ Some t) × Before types i n t
 
+-- there are this many arguments, and each is a type
+pub record AreTypeArguments (args : List (Argument Depth)) (count : ℕ) : Type 0 where
+  pub counted : length args ≡ count
+  pub types : (i : ℕ) (a : Argument Depth) → slice_get args i ≡ Some a → a.sort ≡ type_sort
+
+-- the trees of arguments
+abbrev pub values : List (Argument Depth) → List (Tree Depth)
+values args = map (λ a. a.value) args
+
 -- What is known around the expressions of a body.
 pub record Around : Type 0 where
   pub program : Program
   pub function : Function
   pub body : Body
-  -- each data type, at its own parameters
-  pub own : List (Tree Depth)
-  -- each written type
-  pub written : List (Tree Depth)
+  -- the ids of the data types
+  pub ids : List ℕ
   -- each expression's type
   pub types : List (Tree Depth)
 
 module _ (A : Around) where
   -- the written type of this number
   abbrev pub Writes : ℕ → Tree Depth → Type 0
-  Writes w t = slice_get A.written w ≡ Some t
+  Writes w t = written.Writes A.program A.ids w t
 
   -- the operand comes before the expression, and has this type
   abbrev pub Operand : ℕ → ℕ → Tree Depth → Type 0
@@ -112,11 +87,11 @@ module _ (A : Around) where
 
   -- the type is the data type of this number and item at these arguments, one for each parameter
   pub record IsInstance (k : ℕ) (item : DataType) (args : List (Argument Depth)) (t : Tree Depth) : Type 0 where
-    pub whole : Tree Depth
+    pub id : ℕ
     pub there : slice_get A.program.«data».items k ≡ Some item
-    pub owned : slice_get A.own k ≡ Some whole
-    pub counted : length args ≡ length item.params.items
-    pub plain : IsPlain args whole t
+    pub named : slice_get A.ids k ≡ Some id
+    pub arguments : AreTypeArguments args (length item.params.items)
+    pub is : t ≡ data_type_of id (values args)
 
   -- the data type has a field of this name, which is of the type t at these arguments
   pub record HasField (item : DataType) (args : List (Argument Depth)) (name : ℕ) (t : Tree Depth) : Type 0 where
@@ -140,7 +115,7 @@ module _ (A : Around) where
     dereference : {n : ℕ} → Operand i n (reference_to t) → IsTyped i t (of.Dereference n)
     -- a call: the arguments' types are instances of the written inputs, and the call's is the written output's
     call : {f : ℕ} {s : Span} {item : Function} {args : List (Argument Depth)} {d : Tree Depth}
-        → slice_get A.program.functions.items f ≡ Some item → length args ≡ length item.params.items
+        → slice_get A.program.functions.items f ≡ Some item → AreTypeArguments args (length item.params.items)
         → Fit i args item.inputs.items (part A.body.operands.items s)
         → Writes item.output d → IsPlain args d t → IsTyped i t (of.Call f s)
     -- a data type expression: the values' types are instances of the written fields

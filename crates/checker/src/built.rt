@@ -12,12 +12,13 @@ ghost use Rattle.checker.specs.Typing.{literal_type as type_of_literal};
 use crate::failure::Failure;
 use crate::lookup::{at, part_of};
 use crate::scope::{Scope, operand, operands, written};
+use crate::types::{reference_to, tuple_of};
 use checker_syntax::program::{Expression, Literal};
 use type_terms::prelude::*;
 
 /// Returns the type of an expression that is built of its operands' types: of a literal, an argument, a use of a
 /// variable, a tuple or a reference.
-#[tactic(auto, using(tt_interner::proofs::OwnedLaws::owned_laws, crate::proofs::ClientLaws::client_laws, crate::proofs::ScopeLaws::scope_laws))]
+#[tactic(auto, using(crate::proofs::ScopeLaws::verify_laws))]
 pub fn built(
     cx: &mut Interner,
     scope: Scope<'_>,
@@ -43,18 +44,18 @@ pub fn built(
         Expression::Tuple(items) => {
             let numbers = part_of(scope.body.operands.as_slice(), items)?;
             let items = operands(cx, scope, number, numbers)?;
-            Ok(cx.mk_tuple(items.as_slice())?)
+            tuple_of(cx, items.as_slice())
         }
         Expression::Reference(value) => {
             let referent = operand(cx, scope, number, value)?;
-            Ok(cx.mk_ref(Region::new_erased(), referent, Mutability::Not)?)
+            reference_to(cx, referent)
         }
         _ => Err(Failure::Malformed),
     }
 }
 
 // Returns the type of a literal.
-#[tactic(auto, using(tt_interner::proofs::OwnedLaws::owned_laws, crate::proofs::ClientLaws::client_laws, crate::proofs::ScopeLaws::scope_laws))]
+#[tactic(auto, using(crate::proofs::ScopeLaws::verify_laws))]
 fn literal_type(cx: &mut Interner, literal: Literal) -> Result<Ty, Failure>
     ensures extends { Extends cx.old cx.new }
     ensures owned { IfOk result (λ ty. IsOwned ty_shape cx.new ty) }
@@ -66,7 +67,7 @@ fn literal_type(cx: &mut Interner, literal: Literal) -> Result<Ty, Failure>
         Literal::Char => Ok(cx.mk_ty(TyKind::Char)?),
         Literal::Str => {
             let text = cx.mk_ty(TyKind::Str)?;
-            Ok(cx.mk_ref(Region::new_erased(), text, Mutability::Not)?)
+            reference_to(cx, text)
         }
     }
 }

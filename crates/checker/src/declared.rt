@@ -1,34 +1,46 @@
 //! The items of a program as the interner knows them.
 
-ghost use Rattle.std.specs.Prelude.{◌<◌, IfOk};
-ghost use Rattle.tt_kinds.specs.Kinds.{arg_shape, args_shape, ty_shape};
+ghost use Rattle.std.specs.Prelude.{◌≡◌, ◌<◌, ◌≤◌, IfOk, length};
+ghost use Rattle.tt_fold.specs.Steps.{tree_in};
+ghost use Rattle.tt_kinds.specs.Kinds.{ty_shape, tys_shape};
 ghost use Rattle.tt_interner.specs.Owned.{AreOwned, IsOwned};
 ghost use Rattle.tt_interner.specs.Rows.{size};
 ghost use Rattle.tt_interner.specs.Stored.{Extends};
-ghost use Rattle.tt_kinds.specs.declared.table.Table.TheVariants.{Symbols};
-ghost use Rattle.checker.specs.Items.{IsDeclared};
+ghost use Rattle.tt_kinds.specs.declared.table.Table.TheVariants.{Declarations, Symbols};
+ghost use Rattle.checker.specs.Items.{
+  AreFunctions,
+  AreOfSignature,
+  AreWrittenTypes,
+  HasSignature,
+  IsDeclared,
+  IsFunctionOf,
+  ListsSignature,
+  numbers,
+};
+ghost use Rattle.checker.specs.Written.{AreDistinct, IsWritten};
 
 use crate::failure::Failure;
-use crate::lookup::{name_of, part_of, type_at, type_before, types_before};
+use crate::lookup::{at, name_of, part_of, type_at, type_before, types_before};
+use crate::types::{data_type_of, parameter, reference_to, tuple_of};
 use checker_syntax::program::{DataType, Function, Program, WrittenType};
 use type_terms::prelude::*;
 
-/// The types of a program's items, and its written types.
+/// A program's items, and the types that it writes.
 #[derive(Drop)]
 pub struct Declared {
-    /// Each data type, at its own parameters.
-    pub data_types: Vec<Ty>,
+    /// Each data type.
+    pub data_types: Vec<AdtId>,
     /// Each written type.
     pub written: Vec<Ty>,
-    /// The type of each function, at its own parameters.
-    pub functions: Vec<Ty>,
+    /// Each function.
+    pub functions: Vec<FunctionId>,
 }
 
 /// Declares the items of a program, and builds its written types.
-#[tactic(auto, using(crate::proofs::ClientLaws::extends_further))]
+#[tactic(auto, using(crate::proofs::ClientLaws::growth_laws))]
 pub fn declare(cx: &mut Interner, program: &Program) -> Result<Declared, Failure>
     ensures extends { Extends cx.old cx.new }
-    ensures declared { IfOk result (λ d. IsDeclared cx.new d) }
+    ensures declared { IfOk result (λ d. IsDeclared cx.new program.now d) }
 {
     let data_types = data_types(cx, program)?;
     let written = written_types(cx, program, data_types.as_slice())?;
@@ -49,220 +61,135 @@ pub fn symbol_of(cx: &mut Interner, program: &Program, number: usize) -> Result<
     Ok(cx.symbol(name_of(program, number)?)?)
 }
 
-// Returns the type parameter of this index and name.
-fn parameter(cx: &mut Interner, program: &Program, index: usize, name: usize) -> Result<Ty, Failure>
+// Declares the data types.
+#[tactic(auto, using(crate::proofs::ClientLaws::growth_laws))]
+fn data_types(cx: &mut Interner, program: &Program) -> Result<Vec<AdtId>, Failure>
     ensures extends { Extends cx.old cx.new }
-    ensures owned { IfOk result (λ ty. IsOwned ty_shape cx.new ty) }
+    ensures counted { IfOk result (λ ids. length ids.items ≡ length program.now.«data».items) }
+    ensures distinct { IfOk result (λ ids. AreDistinct (numbers ids.items)) }
 {
-    let Ok(index) = u32::try_from(index) else {
-        return Err(Failure::Malformed);
-    };
-    Ok(cx.mk_param(index, name_of(program, name)?)?)
-}
-
-/// Returns the type as an argument.
-pub fn argument(cx: &Interner, ty: Ty) -> GenericArg
-    requires { IsOwned ty_shape cx.now ty }
-    ensures { IsOwned arg_shape cx.now result }
-{
-    GenericArg::from(ty)
-}
-
-// Returns the parameters of an item as arguments for itself.
-#[tactic(auto, using(crate::proofs::ClientLaws::extends_further))]
-fn own_params(
-    cx: &mut Interner,
-    program: &Program,
-    params: &[usize],
-) -> Result<GenericArgs, Failure>
-    ensures extends { Extends cx.old cx.new }
-    ensures owned { IfOk result (λ args. IsOwned args_shape cx.new args) }
-{
-    let mut args = Vec::new(cx.allocator());
-    for index in 0..params.len() {
-        let ty = parameter(cx, program, index, params[index])?;
-        args.push(argument(cx, ty))?;
+    let mut ids = Vec::new(cx.allocator());
+    for number in 0..program.data.len() {
+        let id = data_type(cx, program, program.data[number].name)?;
+        ids.push(id)?;
     }
-    listed(cx, args.as_slice())
+    Ok(ids)
 }
 
-/// Returns the list of these arguments.
-pub fn listed(cx: &mut Interner, args: &[GenericArg]) -> Result<GenericArgs, Failure>
-    requires { AreOwned arg_shape cx.old args.now }
+// Declares a data type whose name has this number. Its id comes after those of all earlier declarations.
+#[tactic(auto, using(crate::proofs::ClientLaws::growth_laws))]
+fn data_type(cx: &mut Interner, program: &Program, name: usize) -> Result<AdtId, Failure>
     ensures extends { Extends cx.old cx.new }
-    ensures owned { IfOk result (λ args. IsOwned args_shape cx.new args) }
+    ensures after { IfOk result (λ id. size cx.old.rows Declarations ≤ id.number) }
+    ensures before { IfOk result (λ id. id.number < size cx.new.rows Declarations) }
 {
-    Ok(cx.mk_args(args)?)
-}
-
-// Declares the data types, and returns them at their own parameters.
-#[tactic(auto, using(crate::proofs::ClientLaws::extends_further))]
-fn data_types(cx: &mut Interner, program: &Program) -> Result<Vec<Ty>, Failure>
-    ensures extends { Extends cx.old cx.new }
-    ensures owned { IfOk result (λ types. AreOwned ty_shape cx.new types.items) }
-{
-    let mut types = Vec::new(cx.allocator());
-    for item in program.data.iter() {
-        types.push(data_type(cx, program, item)?)?;
-    }
-    Ok(types)
-}
-
-// Declares a data type, and returns it at its own parameters.
-#[tactic(auto, using(crate::proofs::ClientLaws::extends_further))]
-fn data_type(cx: &mut Interner, program: &Program, item: &DataType) -> Result<Ty, Failure>
-    ensures extends { Extends cx.old cx.new }
-    ensures owned { IfOk result (λ ty. IsOwned ty_shape cx.new ty) }
-{
-    let name = symbol_of(cx, program, item.name)?;
-    let id = declared_adt(cx, name)?;
-    let args = own_params(cx, program, item.params.as_slice())?;
-    adt(cx, id, args)
+    let name = symbol_of(cx, program, name)?;
+    declared_adt(cx, name)
 }
 
 // Declares a data type of this name.
 fn declared_adt(cx: &mut Interner, name: Symbol) -> Result<AdtId, Failure>
     requires { name.number < size cx.old.rows Symbols }
-    ensures { Extends cx.old cx.new }
+    ensures extends { Extends cx.old cx.new }
+    ensures next { IfOk result (λ id. id.number ≡ size cx.old.rows Declarations) }
+    ensures before { IfOk result (λ id. id.number < size cx.new.rows Declarations) }
 {
     Ok(cx.declare_adt(name)?)
 }
 
-// Returns the data type of this id at these arguments.
-fn adt(cx: &mut Interner, id: AdtId, args: GenericArgs) -> Result<Ty, Failure>
-    requires { IsOwned args_shape cx.old args }
-    ensures extends { Extends cx.old cx.new }
-    ensures owned { IfOk result (λ ty. IsOwned ty_shape cx.new ty) }
-{
-    Ok(cx.mk_ty(TyKind::Adt(id, args))?)
-}
-
 // Returns the written types.
-#[tactic(auto, using(crate::proofs::ClientLaws::extends_further))]
-fn written_types(cx: &mut Interner, program: &Program, own: &[Ty]) -> Result<Vec<Ty>, Failure>
-    requires { AreOwned ty_shape cx.old own.now }
+#[tactic(auto, using(crate::proofs::ClientLaws::growth_laws))]
+fn written_types(cx: &mut Interner, program: &Program, ids: &[AdtId]) -> Result<Vec<Ty>, Failure>
     ensures extends { Extends cx.old cx.new }
-    ensures owned { IfOk result (λ types. AreOwned ty_shape cx.new types.items) }
+    ensures written { IfOk result (λ types. AreWrittenTypes
+        cx.new
+        program.now
+        (numbers ids.now)
+        types.items
+        (length program.now.types.items)) }
 {
     let mut types = Vec::new(cx.allocator());
     for index in 0..program.types.len() {
         let written = program.types[index];
-        let ty = written_type(cx, program, own, types.as_slice(), written)?;
+        let ty = written_type(cx, program, ids, types.as_slice(), written)?;
         types.push(ty)?;
     }
     Ok(types)
 }
 
 // Returns a written type, whose parts are among the earlier ones.
-#[tactic(auto, using(crate::proofs::ClientLaws::extends_further))]
+#[tactic(auto, using(crate::proofs::ClientLaws::growth_laws))]
 fn written_type(
     cx: &mut Interner,
     program: &Program,
-    own: &[Ty],
+    ids: &[AdtId],
     earlier: &[Ty],
     written: WrittenType,
 ) -> Result<Ty, Failure>
-    requires own { AreOwned ty_shape cx.old own.now }
-    requires earlier { AreOwned ty_shape cx.old earlier.now }
+    requires { AreWrittenTypes cx.old program.now (numbers ids.now) earlier.now (length earlier.now) }
     ensures extends { Extends cx.old cx.new }
     ensures owned { IfOk result (λ ty. IsOwned ty_shape cx.new ty) }
+    ensures is { IfOk result (λ ty. IsWritten
+        program.now
+        (numbers ids.now)
+        written
+        (tree_in cx.new.rows (ty_shape ty))) }
 {
     match written {
         WrittenType::Int => Ok(cx.mk_ty(TyKind::Int(IntTy::I32))?),
         WrittenType::Bool => Ok(cx.mk_ty(TyKind::Bool)?),
         WrittenType::Char => Ok(cx.mk_ty(TyKind::Char)?),
         WrittenType::Str => Ok(cx.mk_ty(TyKind::Str)?),
-        WrittenType::Param(index, name) => parameter(cx, program, index, name),
+        WrittenType::Param(index, name) => parameter(cx, index, name_of(program, name)?),
         WrittenType::Data(number, args) => {
             let Some(item) = program.data.get(number) else {
                 return Err(Failure::Malformed);
             };
-            let args = part_of(program.parts.as_slice(), args)?;
-            let args = types_before(cx, earlier, earlier.len(), args)?;
+            let id = at(ids, number)?;
+            let numbers = part_of(program.parts.as_slice(), args)?;
+            let args = types_before(cx, earlier, earlier.len(), numbers)?;
             if args.len() != item.params.len() {
                 return Err(Failure::Malformed);
             }
-            applied(cx, type_at(cx, own, number)?, args.as_slice())
+            data_type_of(cx, id, args.as_slice())
         }
         WrittenType::Tuple(items) => {
-            let items = part_of(program.parts.as_slice(), items)?;
-            let items = types_before(cx, earlier, earlier.len(), items)?;
-            Ok(cx.mk_tuple(items.as_slice())?)
+            let numbers = part_of(program.parts.as_slice(), items)?;
+            let items = types_before(cx, earlier, earlier.len(), numbers)?;
+            tuple_of(cx, items.as_slice())
         }
         WrittenType::Reference(referent) => {
             let referent = type_before(cx, earlier, earlier.len(), referent)?;
-            Ok(cx.mk_ref(Region::new_erased(), referent, Mutability::Not)?)
+            reference_to(cx, referent)
         }
     }
 }
 
-// Returns the data type at these arguments.
-#[tactic(auto, using(crate::proofs::ClientLaws::extends_further))]
-fn applied(cx: &mut Interner, own: Ty, types: &[Ty]) -> Result<Ty, Failure>
-    requires own { IsOwned ty_shape cx.old own }
-    requires types { AreOwned ty_shape cx.old types.now }
-    ensures extends { Extends cx.old cx.new }
-    ensures owned { IfOk result (λ ty. IsOwned ty_shape cx.new ty) }
-{
-    let args = arguments_of(cx, types)?;
-    let args = listed(cx, args.as_slice())?;
-    instance_of(cx, own, args)
-}
-
-/// Returns the type with its parameters replaced by these arguments.
-pub fn instance_of(cx: &mut Interner, ty: Ty, args: GenericArgs) -> Result<Ty, Failure>
-    requires ty { IsOwned ty_shape cx.old ty }
-    requires args { IsOwned args_shape cx.old args }
-    ensures extends { Extends cx.old cx.new }
-    ensures owned { IfOk result (λ ty. IsOwned ty_shape cx.new ty) }
-{
-    let instance = EarlyBinder::bind(ty).instantiate(cx, args)?;
-    Ok(instance.skip_norm_wip())
-}
-
-// Returns the types as arguments.
-fn arguments_of(cx: &Interner, types: &[Ty]) -> Result<Vec<GenericArg>, Failure>
-    requires { AreOwned ty_shape cx.now types.now }
-    ensures { IfOk result (λ args. AreOwned arg_shape cx.now args.items) }
-{
-    let mut args = Vec::new(cx.allocator());
-    for index in 0..types.len() {
-        let ty = type_at(cx, types, index)?;
-        args.push(argument(cx, ty))?;
-    }
-    Ok(args)
-}
-
 // Gives the data types their fields.
-#[tactic(auto, using(crate::proofs::ClientLaws::extends_further))]
+#[tactic(auto, using(crate::proofs::ClientLaws::growth_laws))]
 fn define_all(
     cx: &mut Interner,
     program: &Program,
-    own: &[Ty],
+    ids: &[AdtId],
     written: &[Ty],
 ) -> Result<(), Failure>
-    requires own { AreOwned ty_shape cx.old own.now }
-    requires written { AreOwned ty_shape cx.old written.now }
+    requires { AreOwned ty_shape cx.old written.now }
     ensures { Extends cx.old cx.new }
 {
     for (number, item) in program.data.iter().enumerate() {
-        let ty = type_at(cx, own, number)?;
+        let id = at(ids, number)?;
         let fields = field_defs(cx, program, item, written)?;
-        define(cx, ty, fields)?;
+        define(cx, id, fields)?;
     }
     Ok(())
 }
 
 // Gives a data type these fields.
-fn define(cx: &mut Interner, ty: Ty, fields: Vec<FieldDef>) -> Result<(), Failure>
-    requires { IsOwned ty_shape cx.old ty }
+fn define(cx: &mut Interner, id: AdtId, fields: Vec<FieldDef>) -> Result<(), Failure>
     ensures { Extends cx.old cx.new }
 {
     let mut variants = Vec::new(cx.allocator());
     variants.push(VariantDef { name: None, fields })?;
-    let TyKind::Adt(id, _) = *ty.kind(cx) else {
-        return Err(Failure::Malformed);
-    };
     let fits = cx.owns_adt_id(id)
         && cx.owns_variants(variants.as_slice())
         && Interner::fits_declaration(variants.as_slice());
@@ -273,7 +200,7 @@ fn define(cx: &mut Interner, ty: Ty, fields: Vec<FieldDef>) -> Result<(), Failur
 }
 
 // Returns the fields of a data type.
-#[tactic(auto, using(crate::proofs::ClientLaws::extends_further))]
+#[tactic(auto, using(crate::proofs::ClientLaws::growth_laws))]
 fn field_defs(
     cx: &mut Interner,
     program: &Program,
@@ -292,79 +219,87 @@ fn field_defs(
     Ok(fields)
 }
 
-// Declares the functions, and returns their types at their own parameters.
-#[tactic(auto, using(crate::proofs::ClientLaws::extends_further))]
-fn functions(cx: &mut Interner, program: &Program, written: &[Ty]) -> Result<Vec<Ty>, Failure>
+// Declares the functions.
+#[tactic(auto, using(crate::proofs::ClientLaws::growth_laws))]
+fn functions(
+    cx: &mut Interner,
+    program: &Program,
+    written: &[Ty],
+) -> Result<Vec<FunctionId>, Failure>
     requires { AreOwned ty_shape cx.old written.now }
     ensures extends { Extends cx.old cx.new }
-    ensures owned { IfOk result (λ types. AreOwned ty_shape cx.new types.items) }
+    ensures declared { IfOk result (λ ids. AreFunctions
+        cx.new
+        program.now
+        written.now
+        ids.items
+        (length program.now.functions.items)) }
 {
-    let mut types = Vec::new(cx.allocator());
-    for item in program.functions.iter() {
-        types.push(function(cx, program, item, written)?)?;
+    let mut ids = Vec::new(cx.allocator());
+    for number in 0..program.functions.len() {
+        let item = &program.functions[number];
+        let function = function(cx, program, item, written)?;
+        ids.push(function)?;
     }
-    Ok(types)
+    Ok(ids)
 }
 
-// Declares a function, and returns its type at its own parameters.
-#[tactic(auto, using(crate::proofs::ClientLaws::extends_further))]
+// Declares a function.
+#[tactic(auto, using(crate::proofs::ClientLaws::growth_laws))]
 fn function(
     cx: &mut Interner,
     program: &Program,
     item: &Function,
     written: &[Ty],
-) -> Result<Ty, Failure>
+) -> Result<FunctionId, Failure>
     requires { AreOwned ty_shape cx.old written.now }
     ensures extends { Extends cx.old cx.new }
-    ensures owned { IfOk result (λ ty. IsOwned ty_shape cx.new ty) }
+    ensures declared { IfOk result (λ id. HasSignature cx.new written.now item.now id) }
 {
-    let sig = signature(cx, item, written)?;
+    let list = signature_list(cx, item, written)?;
     let name = symbol_of(cx, program, item.name)?;
-    let id = declared_fn(cx, name, sig)?;
-    let args = own_params(cx, program, item.params.as_slice())?;
-    fn_def(cx, id, args)
+    declared_fn(cx, name, list)
 }
 
-// Returns the signature of a function.
-fn signature(cx: &mut Interner, item: &Function, written: &[Ty]) -> Result<Binder<FnSig>, Failure>
+// Returns the list of a function's types.
+#[tactic(auto, using(crate::proofs::ClientLaws::growth_laws))]
+fn signature_list(cx: &mut Interner, item: &Function, written: &[Ty]) -> Result<Tys, Failure>
     requires { AreOwned ty_shape cx.old written.now }
-    ensures { Extends cx.old cx.new }
+    ensures extends { Extends cx.old cx.new }
+    ensures owned { IfOk result (λ list. IsOwned tys_shape cx.new list) }
+    ensures listed { IfOk result (λ list. ListsSignature cx.new written.now item.now list) }
 {
     let types = signature_types(cx, item, written)?;
-    let sig = FnSig {
-        inputs_and_output: cx.mk_tys(types.as_slice())?,
-        fn_sig_kind: FnSigKind::new(ExternAbi::Rust, Safety::Safe, false),
-    };
-    Ok(Binder::bind_with_vars(sig, BoundVarKinds::default()))
+    Ok(cx.mk_tys(types.as_slice())?)
 }
 
 // Returns the types of a function's inputs in order, and last its output's.
-#[tactic(auto, using(tt_interner::proofs::OwnedLaws::owned_laws))]
 fn signature_types(cx: &Interner, item: &Function, written: &[Ty]) -> Result<Vec<Ty>, Failure>
     requires { AreOwned ty_shape cx.now written.now }
-    ensures { IfOk result (λ types. AreOwned ty_shape cx.now types.items) }
+    ensures owned { IfOk result (λ types. AreOwned ty_shape cx.now types.items) }
+    ensures are { IfOk result (λ types. AreOfSignature written.now item.now types.items) }
 {
     let mut types = types_before(cx, written, written.len(), item.inputs.as_slice())?;
-    types.push(type_at(cx, written, item.output)?)?;
+    let output = type_at(cx, written, item.output)?;
+    types.push(output)?;
     Ok(types)
 }
 
-// Declares a function of this name and signature.
-fn declared_fn(cx: &mut Interner, name: Symbol, sig: Binder<FnSig>) -> Result<FunctionId, Failure>
-    requires { name.number < size cx.old.rows Symbols }
-    ensures { Extends cx.old cx.new }
+// Declares a function of this name, with the types in the list.
+fn declared_fn(cx: &mut Interner, name: Symbol, types: Tys) -> Result<FunctionId, Failure>
+    requires name { name.number < size cx.old.rows Symbols }
+    requires types { IsOwned tys_shape cx.old types }
+    ensures extends { Extends cx.old cx.new }
+    ensures before { IfOk result (λ id. id.number < size cx.new.rows Declarations) }
+    ensures declared { IfOk result (λ id. IsFunctionOf cx.new.rows types id) }
 {
+    let sig = FnSig {
+        inputs_and_output: types,
+        fn_sig_kind: FnSigKind::new(ExternAbi::Rust, Safety::Safe, false),
+    };
+    let sig = Binder::bind_with_vars(sig, BoundVarKinds::default());
     if !cx.owns_signature(&sig) {
         return Err(Failure::Malformed);
     }
     Ok(cx.declare_function(name, EarlyBinder::bind(sig))?)
-}
-
-// Returns the type of the function of this id at these arguments.
-fn fn_def(cx: &mut Interner, id: FunctionId, args: GenericArgs) -> Result<Ty, Failure>
-    requires { IsOwned args_shape cx.old args }
-    ensures extends { Extends cx.old cx.new }
-    ensures owned { IfOk result (λ ty. IsOwned ty_shape cx.new ty) }
-{
-    Ok(cx.mk_ty(TyKind::FnDef(id, args))?)
 }

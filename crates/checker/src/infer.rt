@@ -19,9 +19,10 @@ use crate::declared::Declared;
 use crate::failure::Failure;
 use crate::lookup::{at, type_at};
 use crate::scope::{Scope, operand, place_of, type_of, written};
+use crate::types::reference_to;
 use crate::wording::unknown_type;
 use checker_syntax::program::{Body, Expression, Function, Place, Program};
-use equality::{equate, fresh_variable, is_of};
+use equality::{equate, fresh_variables, is_of};
 use type_terms::prelude::*;
 use unify::Bindings;
 
@@ -35,7 +36,7 @@ pub struct Inferred {
 }
 
 /// Infers the types of a function's body.
-#[tactic(auto, using(crate::proofs::ClientLaws::extends_further))]
+#[tactic(auto, using(crate::proofs::ClientLaws::growth_laws))]
 pub fn infer_body(
     cx: &mut Interner,
     program: &Program,
@@ -43,7 +44,7 @@ pub fn infer_body(
     function: &Function,
     body: &Body,
 ) -> Result<Inferred, Failure>
-    requires { IsDeclared cx.old declared.now }
+    requires { IsDeclared cx.old program.now declared.now }
     ensures extends { Extends cx.old cx.new }
     ensures types { IfOk result (λ i. AreOwned ty_shape cx.new i.types.items) }
     ensures subjects { IfOk result (λ i. AreOwned ty_shape cx.new i.subjects.items) }
@@ -61,7 +62,7 @@ pub fn infer_body(
 }
 
 // Infers the types of a body whose expressions have variables.
-#[tactic(auto, using(crate::proofs::ClientLaws::extends_further))]
+#[tactic(auto, using(crate::proofs::ClientLaws::growth_laws))]
 fn infer_within(
     cx: &mut Interner,
     scope: Scope<'_>,
@@ -81,7 +82,7 @@ fn infer_within(
 }
 
 // Makes the type of the result equal to the function's output.
-#[tactic(auto, using(crate::proofs::ClientLaws::extends_further))]
+#[tactic(auto, using(crate::proofs::ClientLaws::growth_laws))]
 fn infer_result(cx: &mut Interner, scope: Scope<'_>, bindings: &mut Bindings) -> Result<(), Failure>
     requires scope { IsScope cx.old scope }
     requires table { IsTable cx.old bindings.old }
@@ -94,27 +95,8 @@ fn infer_result(cx: &mut Interner, scope: Scope<'_>, bindings: &mut Bindings) ->
     equate(cx, bindings, place, output, result)
 }
 
-// Returns so many new variables.
-#[tactic(auto, using(crate::proofs::ClientLaws::extends_further))]
-fn fresh_variables(
-    cx: &mut Interner,
-    bindings: &mut Bindings,
-    count: usize,
-) -> Result<Vec<Ty>, Failure>
-    requires { IsTable cx.old bindings.old }
-    ensures extends { Extends cx.old cx.new }
-    ensures table { IsTable cx.new bindings.new }
-    ensures owned { IfOk result (λ types. AreOwned ty_shape cx.new types.items) }
-{
-    let mut variables = Vec::new(cx.allocator());
-    for _ in 0..count {
-        variables.push(fresh_variable(cx, bindings)?)?;
-    }
-    Ok(variables)
-}
-
 // Infers the types of all expressions, and returns their subjects.
-#[tactic(auto, using(crate::proofs::ClientLaws::extends_further))]
+#[tactic(auto, using(crate::proofs::ClientLaws::growth_laws))]
 fn infer_all(
     cx: &mut Interner,
     scope: Scope<'_>,
@@ -135,7 +117,7 @@ fn infer_all(
 }
 
 // Returns the types with the variables replaced, which have to be known.
-#[tactic(auto, using(crate::proofs::ClientLaws::extends_further))]
+#[tactic(auto, using(crate::proofs::ClientLaws::growth_laws))]
 fn resolved(
     cx: &mut Interner,
     scope: Scope<'_>,
@@ -162,7 +144,7 @@ fn resolved(
 }
 
 // Infers the type of the expression of this number, and returns its subject.
-#[tactic(auto, using(crate::proofs::ClientLaws::extends_further))]
+#[tactic(auto, using(crate::proofs::ClientLaws::growth_laws))]
 fn infer(
     cx: &mut Interner,
     scope: Scope<'_>,
@@ -202,7 +184,7 @@ fn infer(
 }
 
 // Infers the type of an expression whose type is built of its operands' types.
-#[tactic(auto, using(crate::proofs::ClientLaws::extends_further))]
+#[tactic(auto, using(crate::proofs::ClientLaws::growth_laws))]
 fn infer_built(
     cx: &mut Interner,
     scope: Scope<'_>,
@@ -220,7 +202,7 @@ fn infer_built(
 }
 
 // Infers the type of what a reference refers to.
-#[tactic(auto, using(crate::proofs::ClientLaws::extends_further))]
+#[tactic(auto, using(crate::proofs::ClientLaws::growth_laws))]
 fn infer_dereference(
     cx: &mut Interner,
     scope: Scope<'_>,
@@ -240,17 +222,8 @@ fn infer_dereference(
     equate(cx, bindings, place, expected, found)
 }
 
-// Returns the reference to this type.
-fn reference_to(cx: &mut Interner, ty: Ty) -> Result<Ty, Failure>
-    requires { IsOwned ty_shape cx.old ty }
-    ensures extends { Extends cx.old cx.new }
-    ensures owned { IfOk result (λ ty. IsOwned ty_shape cx.new ty) }
-{
-    Ok(cx.mk_ref(Region::new_erased(), ty, Mutability::Not)?)
-}
-
 // Infers the type of a variable, which is the type that is written, if there is one, and its value's.
-#[tactic(auto, using(crate::proofs::ClientLaws::extends_further))]
+#[tactic(auto, using(crate::proofs::ClientLaws::growth_laws))]
 fn infer_let(
     cx: &mut Interner,
     scope: Scope<'_>,
@@ -271,7 +244,7 @@ fn infer_let(
 }
 
 // Makes the type equal to the written one, if there is one.
-#[tactic(auto, using(crate::proofs::ClientLaws::extends_further))]
+#[tactic(auto, using(crate::proofs::ClientLaws::growth_laws))]
 fn equate_written(
     cx: &mut Interner,
     scope: Scope<'_>,

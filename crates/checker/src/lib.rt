@@ -5,13 +5,14 @@
 #![tactic(auto)]
 
 mod built;
-pub mod declared;
+mod declared;
 pub mod failure;
 mod infer;
 mod lookup;
 pub mod programs;
-pub mod scope;
+mod scope;
 pub mod sources;
+mod types;
 mod verify;
 mod wording;
 

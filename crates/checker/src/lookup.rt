@@ -1,10 +1,13 @@
 //! Items of a program's lists, by their numbers.
 
 ghost use Rattle.std.specs.Prelude.{◌≡◌, ◌<◌, IfOk, Some, slice_get};
+ghost use Rattle.std.specs.String.{string_bytes};
+ghost use Rattle.std.specs.declared.alloc.Global.{Global};
+ghost use Rattle.std.specs.declared.string.String.{String};
 ghost use Rattle.tt_interner.specs.Owned.{AreOwned, IsOwned};
 ghost use Rattle.tt_kinds.specs.Kinds.{ty_shape};
-ghost use Rattle.checker.specs.Scope.{AreTypesBefore};
-ghost use Rattle.checker.specs.Typing.{part};
+ghost use Rattle.checker.specs.Items.{AreTypesBefore};
+ghost use Rattle.checker.specs.Written.{part};
 
 use crate::failure::Failure;
 use checker_syntax::program::{Program, Span};
@@ -76,7 +79,11 @@ pub fn part_of(list: &[usize], span: Span) -> Result<&[usize], Failure>
 }
 
 /// Returns the name of this number.
-pub fn name_of(program: &Program, number: usize) -> Result<&str, Failure> {
+pub fn name_of(program: &Program, number: usize) -> Result<&str, Failure>
+    ensures { IfOk result (λ text. (name : String Global)
+        × (slice_get program.now.names.items number ≡ Some name)
+        × (text.now ≡ string_bytes name)) }
+{
     match program.names.get(number) {
         Some(name) => Ok(name.as_str()),
         None => Err(Failure::Malformed),

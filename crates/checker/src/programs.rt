@@ -4,9 +4,8 @@ ghost use Rattle.std.specs.Prelude.{IfOk};
 ghost use Rattle.tt_kinds.specs.Kinds.{ty_shape};
 ghost use Rattle.tt_interner.specs.Owned.{AreOwned};
 ghost use Rattle.tt_interner.specs.Stored.{Extends};
-ghost use Rattle.checker.specs.Items.{IsDeclared};
-ghost use Rattle.checker.specs.Items.{AreTyped};
-ghost use Rattle.checker.specs.Scope.{AreTypedBodies, IsTypedFunction};
+ghost use Rattle.checker.specs.Items.{AreTyped, ids_of, IsDeclared};
+ghost use Rattle.checker.specs.Scope.{AreTypedBodies, IsTypedFunction, IsTypedProgram};
 
 use crate::declared::{Declared, declare};
 use crate::failure::Failure;
@@ -16,7 +15,6 @@ use crate::scope::Scope;
 use crate::verify::verify;
 use crate::wording::text_of;
 use checker_syntax::program::{Expression, Function, Program};
-use std::alloc::AllocError;
 use type_terms::prelude::*;
 
 /// An accepted program: the types of its items, and of the expressions of each function. A function that is only
@@ -33,11 +31,16 @@ pub struct Checked {
 ///
 /// The first thing that is wrong ends the check, function by function in the order of the program, and in a function
 /// expression by expression.
-#[tactic(auto, using(crate::proofs::ClientLaws::extends_further))]
+#[tactic(auto, using(crate::proofs::ClientLaws::growth_laws))]
 pub fn check(cx: &mut Interner, program: &Program) -> Result<Checked, Failure>
     ensures extends { Extends cx.old cx.new }
     ensures owned { IfOk result (λ checked. AreTyped cx.new checked.bodies.items) }
-    ensures typed { IfOk result (λ checked. AreTypedBodies cx.new program.now checked.declared checked.bodies.items) }
+    ensures declared { IfOk result (λ checked. IsDeclared cx.new program.now checked.declared) }
+    ensures typed { IfOk result (λ checked. IsTypedProgram
+        cx.new
+        program.now
+        (ids_of checked.declared)
+        checked.bodies.items) }
 {
     let declared = declare(cx, program)?;
     let bodies = typed_bodies(cx, program, &declared)?;
@@ -45,16 +48,20 @@ pub fn check(cx: &mut Interner, program: &Program) -> Result<Checked, Failure>
 }
 
 // Returns the types of each function's expressions.
-#[tactic(auto, using(crate::proofs::ClientLaws::extends_further))]
+#[tactic(auto, using(crate::proofs::ClientLaws::growth_laws))]
 fn typed_bodies(
     cx: &mut Interner,
     program: &Program,
     declared: &Declared,
 ) -> Result<Vec<Vec<Ty>>, Failure>
-    requires { IsDeclared cx.old declared.now }
+    requires { IsDeclared cx.old program.now declared.now }
     ensures extends { Extends cx.old cx.new }
     ensures owned { IfOk result (λ bodies. AreTyped cx.new bodies.items) }
-    ensures typed { IfOk result (λ bodies. AreTypedBodies cx.new program.now declared.now bodies.items) }
+    ensures typed { IfOk result (λ bodies. AreTypedBodies
+        cx.new
+        program.now
+        (ids_of declared.now)
+        bodies.items) }
 {
     let mut bodies = Vec::new(cx.allocator());
     for number in 0..program.functions.len() {
@@ -68,20 +75,20 @@ fn typed_bodies(
 }
 
 // Returns the types of the function's expressions, none without a body.
-#[tactic(auto, using(crate::proofs::ClientLaws::extends_further))]
+#[tactic(auto, using(crate::proofs::ClientLaws::growth_laws))]
 fn types_of(
     cx: &mut Interner,
     program: &Program,
     declared: &Declared,
     function: &Function,
 ) -> Result<Vec<Ty>, Failure>
-    requires { IsDeclared cx.old declared.now }
+    requires { IsDeclared cx.old program.now declared.now }
     ensures extends { Extends cx.old cx.new }
     ensures owned { IfOk result (λ types. AreOwned ty_shape cx.new types.items) }
     ensures typed { IfOk result (λ types. IsTypedFunction
         cx.new
         program.now
-        declared.now
+        (ids_of declared.now)
         function.now
         types.items) }
 {
@@ -101,7 +108,7 @@ fn types_of(
 }
 
 /// Returns a line for each variable of the program: the place of its `let`, and its type.
-#[tactic(auto, using(crate::proofs::ClientLaws::extends_further))]
+#[tactic(auto, using(crate::proofs::ClientLaws::growth_laws))]
 pub fn variables(cx: &Interner, program: &Program, bodies: &[Vec<Ty>]) -> Result<String, Failure>
     requires { AreTyped cx.now bodies.now }
 {

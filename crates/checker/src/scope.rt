@@ -3,7 +3,10 @@
 ghost use Rattle.std.specs.Prelude.{◌≡◌, ◌<◌, IfOk, Some, slice_get};
 ghost use Rattle.tt_interner.specs.Owned.{AreOwned, IsOwned};
 ghost use Rattle.tt_kinds.specs.Kinds.{ty_shape};
-ghost use Rattle.checker.specs.Scope.{AreTypesBefore, IsScope};
+ghost use Rattle.tt_fold.specs.Steps.{tree_in};
+ghost use Rattle.checker.specs.Items.{AreTypesBefore};
+ghost use Rattle.checker.specs.Scope.{around, IsScope};
+ghost use Rattle.checker.specs.Typing.{Writes};
 
 use crate::declared::Declared;
 use crate::failure::Failure;
@@ -68,8 +71,11 @@ pub fn operands(
 /// Returns the written type of this number.
 pub fn written(cx: &Interner, scope: Scope<'_>, number: usize) -> Result<Ty, Failure>
     requires { IsScope cx.now scope }
-    ensures is { IfOk result (λ ty. slice_get scope.entry.declared.now.written.items number ≡ Some ty) }
     ensures owned { IfOk result (λ ty. IsOwned ty_shape cx.now ty) }
+    ensures is { IfOk result (λ ty. Writes
+        (around cx.now scope.entry)
+        number
+        (tree_in cx.now.rows (ty_shape ty))) }
 {
     type_at(cx, scope.declared.written.as_slice(), number)
 }

@@ -2,29 +2,27 @@
 
 mod instances;
 
-ghost use Rattle.std.specs.Prelude.{◌≡◌, IfOk, IsTrue, OnOk, Some, slice_get};
+ghost use Rattle.std.specs.Prelude.{◌≡◌, OnOk};
 ghost use Rattle.tt_fold.specs.Steps.{tree_in};
 ghost use Rattle.tt_interner.specs.Owned.{AreOwned, IsOwned};
 ghost use Rattle.tt_interner.specs.Stored.{Extends};
 ghost use Rattle.tt_kinds.specs.Kinds.{ty_shape};
 ghost use Rattle.checker_syntax.specs.declared.program.Expression.TheVariants as of;
 ghost use Rattle.checker.specs.Scope.{around, IsScope};
-ghost use Rattle.checker.specs.Typing.{HasType, IsItemOf, IsTyped, IsTypedBody, Reaches};
+ghost use Rattle.checker.specs.Typing.{HasType, IsTyped, IsTypedBody};
 
 use crate::built::built;
 use crate::failure::Failure;
 use crate::lookup::{at, type_at};
 use crate::scope::{Scope, operand, type_of, written};
+use crate::types::{item_type, reference_to, without_references};
 use checker_syntax::program::Expression;
 use instances::{verify_call, verify_data, verify_field};
 use type_terms::prelude::*;
 
-// How many references a type is taken out of at most.
-const MOST_REFERENCES: u32 = u32::MAX;
-
 /// Compares the type of each expression with the rule, and the result's with the written one. A call's type arguments
 /// are those of its subject.
-#[tactic(auto, using(tt_interner::proofs::OwnedLaws::owned_laws, crate::proofs::ClientLaws::client_laws, crate::proofs::ScopeLaws::scope_laws))]
+#[tactic(auto, using(crate::proofs::ScopeLaws::verify_laws))]
 pub fn verify(cx: &mut Interner, scope: Scope<'_>, subjects: &[Ty]) -> Result<(), Failure>
     requires scope { IsScope cx.old scope }
     requires subjects { AreOwned ty_shape cx.old subjects.now }
@@ -52,15 +50,8 @@ fn same(left: Ty, right: Ty) -> Result<(), Failure>
     }
 }
 
-// Returns whether the two types are one.
-fn is_same(left: Ty, right: Ty) -> bool
-    ensures { IsTrue result → left ≡ right }
-{
-    if left == right { true } else { false }
-}
-
 // Compares the type of the expression of this number with the rule.
-#[tactic(auto, using(tt_interner::proofs::OwnedLaws::owned_laws, crate::proofs::ClientLaws::client_laws, crate::proofs::ScopeLaws::scope_laws))]
+#[tactic(auto, using(crate::proofs::ScopeLaws::verify_laws))]
 fn verify_expression(
     cx: &mut Interner,
     scope: Scope<'_>,
@@ -115,7 +106,7 @@ fn verify_let(
 }
 
 // Compares the type of what a reference refers to with the rule.
-#[tactic(auto, using(tt_interner::proofs::OwnedLaws::owned_laws, crate::proofs::ClientLaws::client_laws, crate::proofs::ScopeLaws::scope_laws))]
+#[tactic(auto, using(crate::proofs::ScopeLaws::verify_laws))]
 fn verify_dereference(
     cx: &mut Interner,
     scope: Scope<'_>,
@@ -133,7 +124,7 @@ fn verify_dereference(
         (of.Dereference value)) }
 {
     let found = operand(cx, scope, number, value)?;
-    let expected = cx.mk_ref(Region::new_erased(), ty, Mutability::Not)?;
+    let expected = reference_to(cx, ty)?;
     same(found, expected)
 }
 
@@ -155,42 +146,8 @@ fn verify_item(
 {
     let found = operand(cx, scope, number, value)?;
     let whole = without_references(cx, found);
-    let expected = item_type(cx, whole, item)?;
-    same(expected, ty)
-}
-
-// Returns the type that a reference refers to, if need be through further ones, and otherwise the type itself.
-fn without_references(cx: &Interner, ty: Ty) -> Ty
-    requires { IsOwned ty_shape cx.now ty }
-    ensures owned { IsOwned ty_shape cx.now result }
-    ensures reaches { Reaches
-        (tree_in cx.now.rows (ty_shape ty))
-        (tree_in cx.now.rows (ty_shape result)) }
-{
-    let mut inner = ty;
-    for _ in 0..MOST_REFERENCES {
-        let TyKind::Ref(_, referent, mutability) = *inner.kind(cx) else {
-            return inner;
-        };
-        let Mutability::Not = mutability else {
-            return inner;
-        };
-        inner = referent;
+    match item_type(cx, whole, item) {
+        Some(expected) => same(expected, ty),
+        None => Err(Failure::Unverified),
     }
-    inner
-}
-
-// Returns the type of the item of this number of a tuple.
-fn item_type(cx: &Interner, ty: Ty, item: usize) -> Result<Ty, Failure>
-    requires { IsOwned ty_shape cx.now ty }
-    ensures { IfOk result (λ found. IsItemOf
-        item
-        (tree_in cx.now.rows (ty_shape ty))
-        (tree_in cx.now.rows (ty_shape found))) }
-{
-    let TyKind::Tuple(items) = *ty.kind(cx) else {
-        return Err(Failure::Unverified);
-    };
-    let found = at(items.as_slice(cx), item)?;
-    Ok(found)
 }

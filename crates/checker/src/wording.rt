@@ -57,7 +57,7 @@ fn shown_letter(shown: &mut String, hidden: Hidden, letter: char) -> Result<Hidd
 }
 
 // Returns the text of the type with its variables replaced.
-#[tactic(auto, using(crate::proofs::ClientLaws::extends_further))]
+#[tactic(auto, using(crate::proofs::ClientLaws::growth_laws))]
 fn shown(cx: &mut Interner, bindings: &Bindings, ty: Ty) -> Result<String, Failure>
     requires table { IsTable cx.old bindings.now }
     requires ty { IsOwned ty_shape cx.old ty }
@@ -69,7 +69,7 @@ fn shown(cx: &mut Interner, bindings: &Bindings, ty: Ty) -> Result<String, Failu
 }
 
 /// Returns what to say where a type was found in place of another one.
-#[tactic(auto, using(crate::proofs::ClientLaws::extends_further))]
+#[tactic(auto, using(crate::proofs::ClientLaws::growth_laws))]
 pub fn mismatch(
     cx: &mut Interner,
     bindings: &Bindings,
@@ -95,7 +95,7 @@ pub fn mismatch(
 }
 
 /// Returns what to say where a type isn't known.
-#[tactic(auto, using(crate::proofs::ClientLaws::extends_further))]
+#[tactic(auto, using(crate::proofs::ClientLaws::growth_laws))]
 pub fn unknown_type(
     cx: &mut Interner,
     bindings: &Bindings,
@@ -117,7 +117,7 @@ pub fn unknown_type(
 }
 
 /// Returns what to say where a type has no field of this name.
-#[tactic(auto, using(crate::proofs::ClientLaws::extends_further))]
+#[tactic(auto, using(crate::proofs::ClientLaws::growth_laws))]
 pub fn no_field(
     cx: &mut Interner,
     bindings: &Bindings,
@@ -137,7 +137,7 @@ pub fn no_field(
 }
 
 /// Returns what to say where a type has no item of this number.
-#[tactic(auto, using(crate::proofs::ClientLaws::extends_further))]
+#[tactic(auto, using(crate::proofs::ClientLaws::growth_laws))]
 pub fn no_item(
     cx: &mut Interner,
     bindings: &Bindings,

@@ -1,7 +1,7 @@
 //! Calls and data type expressions, whose type arguments are inferred.
 
 ghost use Rattle.std.specs.Prelude.{IfOk};
-ghost use Rattle.tt_kinds.specs.Kinds.{arg_shape, ty_shape};
+ghost use Rattle.tt_kinds.specs.Kinds.{ty_shape};
 ghost use Rattle.tt_interner.specs.Owned.{AreOwned, IsOwned};
 ghost use Rattle.tt_interner.specs.Stored.{Extends};
 ghost use Rattle.unify.specs.Bindings.{IsTable};
@@ -9,52 +9,53 @@ ghost use Rattle.checker.specs.Items.{AreOwnedFields};
 ghost use Rattle.checker.specs.Scope.{IsScope};
 ghost use Rattle.tt_kinds.specs.Values.{fn_sig_shape};
 
-use crate::declared::{argument, instance_of, listed};
 use crate::failure::Failure;
-use crate::infer::equality::{equate, fresh_variable, is_of};
+use crate::infer::equality::{equate, fresh_variables, is_of};
 use crate::lookup::{at, part_of, type_at};
 use crate::scope::{Scope, operand, place_of};
+use crate::types::{data_type_of, function_of};
 use crate::wording::wrong_count;
 use checker_syntax::program::Span;
 use type_terms::FieldInfo;
 use type_terms::prelude::*;
 use unify::Bindings;
 
-// Returns the type with new variables for this many parameters.
-#[tactic(auto, using(crate::proofs::ClientLaws::extends_further))]
-fn fresh_instance(
+// Returns the type of the function of this id at new variables, one for each of this many parameters.
+#[tactic(auto, using(crate::proofs::ClientLaws::growth_laws))]
+fn fresh_function(
     cx: &mut Interner,
     bindings: &mut Bindings,
-    ty: Ty,
+    id: FunctionId,
     params: usize,
 ) -> Result<Ty, Failure>
-    requires table { IsTable cx.old bindings.old }
-    requires ty { IsOwned ty_shape cx.old ty }
+    requires { IsTable cx.old bindings.old }
     ensures extends { Extends cx.old cx.new }
     ensures table { IsTable cx.new bindings.new }
     ensures owned { IfOk result (λ ty. IsOwned ty_shape cx.new ty) }
 {
-    let mut args = Vec::new(cx.allocator());
-    for _ in 0..params {
-        args.push(fresh_argument(cx, bindings)?)?;
-    }
-    let args = listed(cx, args.as_slice())?;
-    instance_of(cx, ty, args)
+    let variables = fresh_variables(cx, bindings, params)?;
+    function_of(cx, id, variables.as_slice())
 }
 
-// Returns a new variable as an argument.
-fn fresh_argument(cx: &mut Interner, bindings: &mut Bindings) -> Result<GenericArg, Failure>
+// Returns the data type of this id at new variables, one for each of this many parameters.
+#[tactic(auto, using(crate::proofs::ClientLaws::growth_laws))]
+fn fresh_data_type(
+    cx: &mut Interner,
+    bindings: &mut Bindings,
+    id: AdtId,
+    params: usize,
+) -> Result<Ty, Failure>
     requires { IsTable cx.old bindings.old }
     ensures extends { Extends cx.old cx.new }
     ensures table { IsTable cx.new bindings.new }
-    ensures owned { IfOk result (λ arg. IsOwned arg_shape cx.new arg) }
+    ensures owned { IfOk result (λ ty. IsOwned ty_shape cx.new ty) }
 {
-    let ty = fresh_variable(cx, bindings)?;
-    Ok(argument(cx, ty))
+    let variables = fresh_variables(cx, bindings, params)?;
+    data_type_of(cx, id, variables.as_slice())
 }
 
 // Makes the types of the operands equal to those that are expected, in order.
-#[tactic(auto, using(crate::proofs::ClientLaws::extends_further))]
+#[tactic(auto, using(crate::proofs::ClientLaws::growth_laws))]
 fn equate_each(
     cx: &mut Interner,
     scope: Scope<'_>,
@@ -79,7 +80,7 @@ fn equate_each(
 }
 
 /// Infers the type of a call, and the type arguments of the function, and returns the type of the function at these.
-#[tactic(auto, using(crate::proofs::ClientLaws::extends_further))]
+#[tactic(auto, using(crate::proofs::ClientLaws::growth_laws))]
 pub fn infer_call(
     cx: &mut Interner,
     scope: Scope<'_>,
@@ -103,8 +104,8 @@ pub fn infer_call(
         let message = wrong_count(cx, scope.program, place, callee, arguments.len())?;
         return Err(Failure::Wrong(message));
     }
-    let ty = type_at(cx, scope.declared.functions.as_slice(), function)?;
-    let item = fresh_instance(cx, bindings, ty, callee.params.len())?;
+    let id = at(scope.declared.functions.as_slice(), function)?;
+    let item = fresh_function(cx, bindings, id, callee.params.len())?;
     let (inputs, output) = signature(cx, item)?;
     equate_each(cx, scope, bindings, number, inputs.as_slice(), arguments)?;
     is_of(cx, scope, bindings, number, output)?;
@@ -112,7 +113,7 @@ pub fn infer_call(
 }
 
 // Returns the types of the inputs and of the output of a function's type.
-#[tactic(auto, using(crate::proofs::ClientLaws::extends_further))]
+#[tactic(auto, using(crate::proofs::ClientLaws::growth_laws))]
 fn signature(cx: &mut Interner, item: Ty) -> Result<(Vec<Ty>, Ty), Failure>
     requires { IsOwned ty_shape cx.old item }
     ensures extends { Extends cx.old cx.new }
@@ -146,7 +147,7 @@ fn inputs_of(cx: &Interner, sig: FnSig) -> Result<Vec<Ty>, Failure>
 }
 
 /// Infers the type of a data type expression, and the type arguments of the data type.
-#[tactic(auto, using(crate::proofs::ClientLaws::extends_further))]
+#[tactic(auto, using(crate::proofs::ClientLaws::growth_laws))]
 pub fn infer_data(
     cx: &mut Interner,
     scope: Scope<'_>,
@@ -164,8 +165,8 @@ pub fn infer_data(
         return Err(Failure::Malformed);
     };
     let values = part_of(scope.body.operands.as_slice(), fields)?;
-    let ty = type_at(cx, scope.declared.data_types.as_slice(), data)?;
-    let ty = fresh_instance(cx, bindings, ty, item.params.len())?;
+    let id = at(scope.declared.data_types.as_slice(), data)?;
+    let ty = fresh_data_type(cx, bindings, id, item.params.len())?;
     let types = field_types(cx, ty)?;
     if values.len() != types.len() {
         return Err(Failure::Malformed);
@@ -175,7 +176,7 @@ pub fn infer_data(
 }
 
 // Returns the types of a data type's fields.
-#[tactic(auto, using(crate::proofs::ClientLaws::extends_further))]
+#[tactic(auto, using(crate::proofs::ClientLaws::growth_laws))]
 fn field_types(cx: &mut Interner, ty: Ty) -> Result<Vec<Ty>, Failure>
     requires { IsOwned ty_shape cx.old ty }
     ensures extends { Extends cx.old cx.new }

@@ -2,7 +2,7 @@
 
 ghost use Rattle.std.specs.Prelude.{IfOk};
 ghost use Rattle.tt_kinds.specs.Kinds.{ty_shape};
-ghost use Rattle.tt_interner.specs.Owned.{IsOwned};
+ghost use Rattle.tt_interner.specs.Owned.{AreOwned, IsOwned};
 ghost use Rattle.tt_interner.specs.Stored.{Extends};
 ghost use Rattle.unify.specs.Bindings.{IsTable};
 ghost use Rattle.checker.specs.Scope.{IsScope};
@@ -14,9 +14,9 @@ use checker_syntax::program::Place;
 use type_terms::prelude::*;
 use unify::{Bindings, Fault, unify};
 
-/// Returns a new variable.
-#[tactic(auto, using(crate::proofs::ClientLaws::extends_further))]
-pub fn fresh_variable(cx: &mut Interner, bindings: &mut Bindings) -> Result<Ty, Failure>
+// Returns a new variable.
+#[tactic(auto, using(crate::proofs::ClientLaws::growth_laws))]
+fn fresh_variable(cx: &mut Interner, bindings: &mut Bindings) -> Result<Ty, Failure>
     requires { IsTable cx.old bindings.old }
     ensures extends { Extends cx.old cx.new }
     ensures table { IsTable cx.new bindings.new }
@@ -29,8 +29,27 @@ pub fn fresh_variable(cx: &mut Interner, bindings: &mut Bindings) -> Result<Ty, 
     }
 }
 
+/// Returns this many new variables.
+#[tactic(auto, using(crate::proofs::ClientLaws::growth_laws))]
+pub fn fresh_variables(
+    cx: &mut Interner,
+    bindings: &mut Bindings,
+    count: usize,
+) -> Result<Vec<Ty>, Failure>
+    requires { IsTable cx.old bindings.old }
+    ensures extends { Extends cx.old cx.new }
+    ensures table { IsTable cx.new bindings.new }
+    ensures owned { IfOk result (λ types. AreOwned ty_shape cx.new types.items) }
+{
+    let mut variables = Vec::new(cx.allocator());
+    for _ in 0..count {
+        variables.push(fresh_variable(cx, bindings)?)?;
+    }
+    Ok(variables)
+}
+
 /// Makes the type that was found at a place equal to the one that is expected there.
-#[tactic(auto, using(crate::proofs::ClientLaws::extends_further))]
+#[tactic(auto, using(crate::proofs::ClientLaws::growth_laws))]
 pub fn equate(
     cx: &mut Interner,
     bindings: &mut Bindings,
@@ -52,7 +71,7 @@ pub fn equate(
 }
 
 /// Makes this the type of the expression of this number.
-#[tactic(auto, using(crate::proofs::ClientLaws::extends_further))]
+#[tactic(auto, using(crate::proofs::ClientLaws::growth_laws))]
 pub fn is_of(
     cx: &mut Interner,
     scope: Scope<'_>,

@@ -11,33 +11,15 @@ use crate::declared::symbol_of;
 use crate::failure::Failure;
 use crate::infer::calls::{field_type, fields_of};
 use crate::infer::equality::is_of;
-use crate::lookup::{at, name_of, type_at};
+use crate::lookup::{at, name_of};
 use crate::scope::{Scope, operand, place_of};
+use crate::types::{item_type, without_references};
 use crate::wording::{no_field, no_item, unknown_type};
 use type_terms::prelude::*;
 use unify::Bindings;
 
-// How many references a type is taken out of at most.
-const MOST_REFERENCES: u32 = u32::MAX;
-
-// Returns the type that a reference refers to, if need be through further ones, and otherwise the type itself.
-#[tactic(auto, using(crate::proofs::ClientLaws::extends_further))]
-fn without_references(cx: &Interner, ty: Ty) -> Ty
-    requires { IsOwned ty_shape cx.now ty }
-    ensures { IsOwned ty_shape cx.now result }
-{
-    let mut inner = ty;
-    for _ in 0..MOST_REFERENCES {
-        let TyKind::Ref(_, referent, _) = *inner.kind(cx) else {
-            return inner;
-        };
-        inner = referent;
-    }
-    inner
-}
-
 // Returns the type of the operand as far as it is known, out of references.
-#[tactic(auto, using(crate::proofs::ClientLaws::extends_further))]
+#[tactic(auto, using(crate::proofs::ClientLaws::growth_laws))]
 fn known(
     cx: &mut Interner,
     scope: Scope<'_>,
@@ -57,7 +39,7 @@ fn known(
 }
 
 // Returns the type of the field of this name, if the type has one.
-#[tactic(auto, using(crate::proofs::ClientLaws::extends_further))]
+#[tactic(auto, using(crate::proofs::ClientLaws::growth_laws))]
 fn field_named(cx: &mut Interner, ty: Ty, name: Symbol) -> Result<Option<Ty>, Failure>
     requires { IsOwned ty_shape cx.old ty }
     ensures extends { Extends cx.old cx.new }
@@ -83,7 +65,7 @@ fn is_unknown(cx: &Interner, ty: Ty) -> bool
 }
 
 /// Infers the type of a field of a value.
-#[tactic(auto, using(crate::proofs::ClientLaws::extends_further))]
+#[tactic(auto, using(crate::proofs::ClientLaws::growth_laws))]
 pub fn infer_field(
     cx: &mut Interner,
     scope: Scope<'_>,
@@ -112,7 +94,7 @@ pub fn infer_field(
 }
 
 /// Infers the type of an item of a tuple.
-#[tactic(auto, using(crate::proofs::ClientLaws::extends_further))]
+#[tactic(auto, using(crate::proofs::ClientLaws::growth_laws))]
 pub fn infer_item(
     cx: &mut Interner,
     scope: Scope<'_>,
@@ -136,16 +118,4 @@ pub fn infer_item(
         Some(ty) => is_of(cx, scope, bindings, number, ty),
         None => Err(Failure::Wrong(no_item(cx, bindings, place, whole, item)?)),
     }
-}
-
-// Returns the type of the item of this number, if the type is a tuple that has it.
-#[tactic(auto, using(tt_interner::proofs::OwnedLaws::owned_laws))]
-fn item_type(cx: &Interner, ty: Ty, item: usize) -> Option<Ty>
-    requires { IsOwned ty_shape cx.now ty }
-    ensures { IfSome result (λ item. IsOwned ty_shape cx.now item) }
-{
-    let TyKind::Tuple(items) = *ty.kind(cx) else {
-        return None;
-    };
-    type_at(cx, items.as_slice(cx), item).ok()
 }

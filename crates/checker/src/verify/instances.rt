@@ -1,6 +1,6 @@
 //! Types that are compared with instances of written ones.
 
-ghost use Rattle.std.specs.Prelude.{◌≡◌, IfOk, IsTrue, OnOk, Some, map, slice_get};
+ghost use Rattle.std.specs.Prelude.{◌≡◌, IfOk, IfSome, IsTrue, OnOk, Some, map, slice_get};
 ghost use Rattle.tt_binder.specs.Arguments.{AreArguments, args_at};
 ghost use Rattle.tt_binder.specs.Instance.{IsPlain};
 ghost use Rattle.tt_fold.specs.Steps.{tree_in};
@@ -13,15 +13,15 @@ ghost use Rattle.checker.specs.Scope.{around, argument_trees, IsScope};
 ghost use Rattle.checker.specs.Typing.{Fit, HasField, IsInstance, IsTyped, Writes};
 
 use crate::failure::Failure;
-use crate::lookup::{part_of, type_at};
+use crate::lookup::{at, part_of};
 use crate::scope::{Scope, operand, written};
-use crate::verify::{is_same, same, without_references};
+use crate::types::{are_type_arguments, without_references};
+use crate::verify::same;
 use checker_syntax::program::{DataType, Span};
-use type_terms::SliceLike;
 use type_terms::prelude::*;
 
 // Returns the written type of this number at the arguments.
-#[tactic(auto, using(tt_interner::proofs::OwnedLaws::owned_laws, crate::proofs::ClientLaws::client_laws, crate::proofs::ScopeLaws::scope_laws))]
+#[tactic(auto, using(crate::proofs::ScopeLaws::verify_laws))]
 fn instance(
     cx: &mut Interner,
     scope: Scope<'_>,
@@ -42,7 +42,7 @@ fn instance(
 }
 
 // Compares the type with the written one at the arguments.
-#[tactic(auto, using(tt_interner::proofs::OwnedLaws::owned_laws, crate::proofs::ClientLaws::client_laws, crate::proofs::ScopeLaws::scope_laws))]
+#[tactic(auto, using(crate::proofs::ScopeLaws::verify_laws))]
 fn verify_instance(
     cx: &mut Interner,
     scope: Scope<'_>,
@@ -62,7 +62,7 @@ fn verify_instance(
 }
 
 // Compares the types of operands with the written ones at the arguments.
-#[tactic(auto, using(tt_interner::proofs::OwnedLaws::owned_laws, crate::proofs::ClientLaws::client_laws, crate::proofs::ScopeLaws::scope_laws))]
+#[tactic(auto, using(crate::proofs::ScopeLaws::verify_laws))]
 fn verify_each(
     cx: &mut Interner,
     scope: Scope<'_>,
@@ -85,7 +85,7 @@ fn verify_each(
         return Err(Failure::Unverified);
     }
     // The arguments are the interner's, so their trees stay whatever is built.
-    let _count = args.len(cx);
+    let _arguments = args.as_slice(cx);
     for index in 0..declared.len() {
         let found = operand(cx, scope, number, operands[index])?;
         verify_instance(cx, scope, declared[index], args, found)?;
@@ -94,7 +94,7 @@ fn verify_each(
 }
 
 /// Compares the types of a call with the rule.
-#[tactic(auto, using(tt_interner::proofs::OwnedLaws::owned_laws, crate::proofs::ClientLaws::client_laws, crate::proofs::ScopeLaws::scope_laws))]
+#[tactic(auto, using(crate::proofs::ScopeLaws::verify_laws))]
 pub fn verify_call(
     cx: &mut Interner,
     scope: Scope<'_>,
@@ -120,7 +120,7 @@ pub fn verify_call(
     let TyKind::FnDef(_, args) = *subject.kind(cx) else {
         return Err(Failure::Unverified);
     };
-    if args.len(cx) != item.params.len() {
+    if !are_type_arguments(cx, args, item.params.len()) {
         return Err(Failure::Unverified);
     }
     let operands = part_of(scope.body.operands.as_slice(), operands)?;
@@ -128,54 +128,48 @@ pub fn verify_call(
     verify_instance(cx, scope, item.output, args, ty)
 }
 
-// Returns the arguments of a data type.
-fn arguments_of(cx: &Interner, ty: Ty) -> Result<GenericArgs, Failure>
-    requires { IsOwned ty_shape cx.now ty }
-    ensures owned { IfOk result (λ args. IsOwned args_shape cx.now args) }
-    ensures are { IfOk result (λ args. AreArguments cx.now.rows (args_at cx.now.rows args)) }
-{
-    match *ty.kind(cx) {
-        TyKind::Adt(_, args) => {
-            // The arguments are the interner's, so their trees stay whatever is built.
-            let _count = args.len(cx);
-            Ok(args)
-        }
-        _ => Err(Failure::Unverified),
-    }
-}
-
-// Returns whether the type is the data type of this number and item, at the arguments.
-#[tactic(auto, using(tt_interner::proofs::OwnedLaws::owned_laws, crate::proofs::ClientLaws::client_laws, crate::proofs::ScopeLaws::scope_laws))]
-fn is_instance(
-    cx: &mut Interner,
+// Returns the arguments of the data type of this number and item, if the type is that one.
+fn arguments_of(
+    cx: &Interner,
     scope: Scope<'_>,
     data: usize,
     item: &DataType,
-    args: GenericArgs,
     ty: Ty,
-) -> Result<bool, Failure>
-    requires scope { IsScope cx.old scope }
+) -> Result<Option<GenericArgs>, Failure>
+    requires scope { IsScope cx.now scope }
     requires item { slice_get scope.program.now.«data».items «data» ≡ Some item.now }
-    requires args { IsOwned args_shape cx.old args }
-    requires ty { IsOwned ty_shape cx.old ty }
-    ensures extends { Extends cx.old cx.new }
-    ensures is { IfOk result (λ is. IsTrue is → IsInstance
-        (around cx.old scope.entry)
+    requires ty { IsOwned ty_shape cx.now ty }
+    ensures owned { IfOk result (λ found. IfSome found (λ args. IsOwned args_shape cx.now args)) }
+    ensures are { IfOk result (λ found. IfSome found (λ args. AreArguments
+        cx.now.rows
+        (args_at cx.now.rows args))) }
+    ensures is { IfOk result (λ found. IfSome found (λ args. IsInstance
+        (around cx.now scope.entry)
         «data»
         item.now
-        (argument_trees cx.old args)
-        (tree_in cx.old.rows (ty_shape ty))) }
+        (argument_trees cx.now args)
+        (tree_in cx.now.rows (ty_shape ty)))) }
 {
-    if args.len(cx) != item.params.len() {
-        return Ok(false);
+    let TyKind::Adt(id, args) = *ty.kind(cx) else {
+        return Ok(None);
+    };
+    let declared = at(scope.declared.data_types.as_slice(), data)?;
+    if is_same(id, declared) && are_type_arguments(cx, args, item.params.len()) {
+        Ok(Some(args))
+    } else {
+        Ok(None)
     }
-    let own = type_at(cx, scope.declared.data_types.as_slice(), data)?;
-    let instance = EarlyBinder::bind(own).instantiate(cx, args)?;
-    Ok(is_same(instance.skip_norm_wip(), ty))
+}
+
+// Returns whether the two ids are one.
+fn is_same(left: AdtId, right: AdtId) -> bool
+    ensures { IsTrue result → left ≡ right }
+{
+    if left == right { true } else { false }
 }
 
 /// Compares the types of a data type expression with the rule.
-#[tactic(auto, using(tt_interner::proofs::OwnedLaws::owned_laws, crate::proofs::ClientLaws::client_laws, crate::proofs::ScopeLaws::scope_laws))]
+#[tactic(auto, using(crate::proofs::ScopeLaws::verify_laws))]
 pub fn verify_data(
     cx: &mut Interner,
     scope: Scope<'_>,
@@ -196,10 +190,9 @@ pub fn verify_data(
     let Some(item) = scope.program.data.get(data) else {
         return Err(Failure::Malformed);
     };
-    let args = arguments_of(cx, ty)?;
-    if !is_instance(cx, scope, data, item, args, ty)? {
+    let Some(args) = arguments_of(cx, scope, data, item, ty)? else {
         return Err(Failure::Unverified);
-    }
+    };
     let values = part_of(scope.body.operands.as_slice(), fields)?;
     let types = field_types(cx, item)?;
     verify_each(cx, scope, number, args, types.as_slice(), values)
@@ -217,7 +210,7 @@ fn field_types(cx: &Interner, item: &DataType) -> Result<Vec<usize>, Failure>
 }
 
 /// Compares the type of a field with the rule.
-#[tactic(auto, using(tt_interner::proofs::OwnedLaws::owned_laws, crate::proofs::ClientLaws::client_laws, crate::proofs::ScopeLaws::scope_laws))]
+#[tactic(auto, using(crate::proofs::ScopeLaws::verify_laws))]
 pub fn verify_field(
     cx: &mut Interner,
     scope: Scope<'_>,
@@ -237,10 +230,9 @@ pub fn verify_field(
 {
     let found = operand(cx, scope, number, value)?;
     let whole = without_references(cx, found);
-    let args = arguments_of(cx, whole)?;
     for data in 0..scope.program.data.len() {
         let item = &scope.program.data[data];
-        if is_instance(cx, scope, data, item, args, whole)? {
+        if let Some(args) = arguments_of(cx, scope, data, item, whole)? {
             return verify_field_of(cx, scope, item, args, ty, name);
         }
     }
@@ -248,7 +240,7 @@ pub fn verify_field(
 }
 
 // Compares the type of a data type's field with the rule.
-#[tactic(auto, using(tt_interner::proofs::OwnedLaws::owned_laws, crate::proofs::ClientLaws::client_laws, crate::proofs::ScopeLaws::scope_laws))]
+#[tactic(auto, using(crate::proofs::ScopeLaws::verify_laws))]
 fn verify_field_of(
     cx: &mut Interner,
     scope: Scope<'_>,

@@ -1,13 +1,12 @@
-use Rattle.std.proofs.Common.{Ok, ap, sym, ◌∙◌}
+use Rattle.std.proofs.Common.{ap, sym, ◌∙◌}
 use Rattle.std.specs.Prelude.{slice_get}
 use Rattle.tt_kinds.specs.Kinds.{ty_shape}
 use Rattle.tt_fold.specs.Steps.{tree_in}
-use Rattle.checker.specs.Scope.{around}
-use Rattle.checker.specs.Typing.{part, tuple_of}
-use Rattle.checker.specs.Scope.{trees}
-use Rattle.checker.proofs.BuiltLaws.{argument_typed, for_ok, for_ok_both, literal_typed}
-use Rattle.checker.proofs.BuiltLaws.{reference_built_by, reference_typed, tuple_typed, variable_typed}
-use Rattle.checker.proofs.TreeLaws.{tuple_built}
+use Rattle.checker.specs.Scope.{around, trees}
+use Rattle.checker.specs.TypeTrees.{tuple_of}
+use Rattle.checker.specs.Written.{part}
+use Rattle.checker.proofs.BuiltLaws.{argument_typed, for_ok, for_ok_both, literal_typed, reference_typed, tuple_typed}
+use Rattle.checker.proofs.BuiltLaws.{variable_typed}
 use Rattle.checker.proofs.built.built.Goals as goal
 
 pub returns-in-Literal-clause-typed : goal.returns-in-Literal-clause-typed
@@ -31,23 +30,20 @@ returns-in-Local-clause-typed c =
     (λ ty before there. variable_typed c.args.cx.now c.args.scope c.args.number c.in-Local.binding ty before there)
     c.operand.ensures.before c.operand.ensures.is)
 
-pub returns-in_ok-mk_tuple-in-Tuple-clause-typed : goal.returns-in_ok-mk_tuple-in-Tuple-clause-typed
-returns-in_ok-mk_tuple-in-Tuple-clause-typed c =
+pub returns-in_ok-items-in-Tuple-clause-typed : goal.returns-in_ok-items-in-Tuple-clause-typed
+returns-in_ok-items-in-Tuple-clause-typed c =
+    let old = c.args.cx.now in
     let items = c.in_ok-items-in-Tuple.items.items in
-    let ty = c.in_ok-mk_tuple-in-Tuple.field-0 in
     let numbers = c.in_ok-numbers-in-Tuple.numbers.now in
     let same = c.in_ok-numbers-in-Tuple.ensures ∙ ap (λ xs. part xs c.in-Tuple.items) c.as_slice-in-Tuple.ensures.value in
-    let built = tuple_built c.args.cx.now c.mk_tuple.new.self c.as_slice-in-Tuple-2.result.now (Ok ty) c.in_ok-mk_tuple-in-Tuple.ensures.builds in
-    let is = built ∙ ap (λ xs. tuple_of (trees c.args.cx.now.rows xs)) c.as_slice-in-Tuple-2.ensures.value in
-    rw c.in-Tuple.is (tuple_typed c.args.cx.now c.mk_tuple.new.self c.args.scope c.args.number c.in-Tuple.items numbers items ty same
-    c.in_ok-items-in-Tuple.ensures.are is)
+    let lent = ap (λ xs. tuple_of (trees old.rows xs)) c.as_slice-in-Tuple-2.ensures.value in
+    rw c.in-Tuple.is (for_ok c.tuple_of.result (λ ty is.
+    tuple_typed old c.tuple_of.new.cx c.args.scope c.args.number c.in-Tuple.items numbers items ty same
+    c.in_ok-items-in-Tuple.ensures.are (is ∙ lent)) c.tuple_of.ensures.is)
 
-pub returns-in_ok-mk_ref-in-Reference-clause-typed : goal.returns-in_ok-mk_ref-in-Reference-clause-typed
-returns-in_ok-mk_ref-in-Reference-clause-typed c =
-    let referent = c.in_ok-referent-in-Reference.referent in
-    let ty = c.in_ok-mk_ref-in-Reference.field-0 in
-    let is = reference_built_by c.args.cx.now c.mk_ref.new.self c.new_erased.result referent ty
-    c.mk_ref.result c.new_erased.ensures c.in_ok-mk_ref-in-Reference.was c.mk_ref.ensures in
-    let found = c.in_ok-referent-in-Reference.ensures in
-    rw c.in-Reference.is (reference_typed c.args.cx.now c.mk_ref.new.self c.args.scope c.args.number c.in-Reference.value referent ty
-    found.before found.is is)
+pub returns-in_ok-referent-in-Reference-clause-typed : goal.returns-in_ok-referent-in-Reference-clause-typed
+returns-in_ok-referent-in-Reference-clause-typed c =
+    let found = c.in_ok-referent-in-Reference in
+    rw c.in-Reference.is (for_ok c.reference_to.result (λ ty is.
+    reference_typed c.args.cx.now c.reference_to.new.cx c.args.scope c.args.number c.in-Reference.value found.referent ty
+    found.ensures.before found.ensures.is is) c.reference_to.ensures.is)

@@ -1,11 +1,17 @@
-use Rattle.tt_kinds.specs.Kinds.{ty_shape}
-use Rattle.tt_interner.specs.Owned.{AreOwned}
+use Rattle.std.proofs.Common.{◌≡◌, length}
+use Rattle.tt_kinds.specs.declared.table.Table.TheVariants.{Declarations}
+use Rattle.tt_interner.specs.Rows.{size}
 use Rattle.tt_interner.specs.Stored.{Extends}
+use Rattle.checker.specs.Items.{numbers}
+use Rattle.checker.specs.Written.{AreDistinct}
+use Rattle.checker.proofs.WrittenLaws.{AreBelow}
 use Rattle.checker.proofs.declared.data_types.Given as goal
 
--- the types are the interner's
-abbrev pub invariant-loop-item : goal.invariant-loop-item
-invariant-loop-item l = record {
+-- the ids are distinct, and are among the declarations
+abbrev pub invariant-loop-number : goal.invariant-loop-number
+invariant-loop-number l = record {
   extends : Extends l.initial.cx l.cx;
-  types : AreOwned ty_shape l.cx l.types.items;
+  counted : length l.ids.items ≡ l.number;
+  distinct : AreDistinct (numbers l.ids.items);
+  below : AreBelow (numbers l.ids.items) (size l.cx.rows Declarations);
 }

@@ -1,5 +1,9 @@
-use Rattle.checker.proofs.ClientLaws.{declared_extends}
+use Rattle.checker.proofs.ClientLaws.{declared_extends, declared_within}
 use Rattle.checker.proofs.declared.declared_fn.Goals as goal
 
-pub returns : goal.returns
-returns c = declared_extends c.declare_function.result _ c.args.cx.now c.declare_function.new.self _ _ c.declare_function.ensures
+pub returns-clause-extends : goal.returns-clause-extends
+returns-clause-extends c = declared_extends c.declare_function.result _ c.args.cx.now c.declare_function.new.self _ _ c.declare_function.ensures
+
+pub returns-clause-before : goal.returns-clause-before
+returns-clause-before c =
+    declared_within c.in_ok-declare_function.field-0 _ c.args.cx.now c.declare_function.new.self _ _ c.in_ok-declare_function.ensures

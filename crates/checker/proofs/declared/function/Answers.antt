@@ -1,9 +1,18 @@
 use Rattle.tt_interner.proofs.Growth.{Extends-trans}
+use Rattle.checker.proofs.BuiltLaws.{for_ok_both}
+use Rattle.checker.proofs.SignatureLaws.{list_stays}
 use Rattle.checker.proofs.declared.function.Goals as goal
-
-pub returns-in_err-args-clause-extends : goal.returns-in_err-args-clause-extends
-returns-in_err-args-clause-extends c = Extends-trans c.signature.ensures (Extends-trans c.symbol_of.ensures.extends (Extends-trans c.declared_fn.ensures c.own_params.ensures.extends))
 
 pub returns-clause-extends : goal.returns-clause-extends
 returns-clause-extends c =
-    Extends-trans c.signature.ensures (Extends-trans c.symbol_of.ensures.extends (Extends-trans c.declared_fn.ensures (Extends-trans c.own_params.ensures.extends c.fn_def.ensures.extends)))
+    Extends-trans c.signature_list.ensures.extends (Extends-trans c.symbol_of.ensures.extends c.declared_fn.ensures.extends)
+
+pub returns-clause-declared : goal.returns-clause-declared
+returns-clause-declared c =
+    let list = c.in_ok-list.list in
+    let later = Extends-trans c.symbol_of.ensures.extends c.declared_fn.ensures.extends in
+    let listed = list_stays c.signature_list.new.cx c.declared_fn.new.cx c.args.written.now c.args.item.now list later
+    c.in_ok-list.ensures.listed in
+    for_ok_both c.declared_fn.result
+    (λ id before declared. record { in_range = before; list = list; declared = declared; listed = listed })
+    c.declared_fn.ensures.before c.declared_fn.ensures.declared

@@ -1,11 +1,10 @@
-use Rattle.tt_kinds.specs.Kinds.{ty_shape}
-use Rattle.tt_interner.specs.Owned.{AreOwned}
 use Rattle.tt_interner.specs.Stored.{Extends}
+use Rattle.checker.specs.Items.{AreFunctions}
 use Rattle.checker.proofs.declared.functions.Given as goal
 
--- the types are the interner's
-abbrev pub invariant-loop-item : goal.invariant-loop-item
-invariant-loop-item l = record {
+-- the first functions are declared
+abbrev pub invariant-loop-number : goal.invariant-loop-number
+invariant-loop-number l = record {
   extends : Extends l.initial.cx l.cx;
-  types : AreOwned ty_shape l.cx l.types.items;
+  declared : AreFunctions l.cx l.program l.written l.ids.items l.number;
 }

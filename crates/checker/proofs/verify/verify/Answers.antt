@@ -5,7 +5,7 @@ use Rattle.tt_interner.proofs.OwnedLaws.{list_still_owned}
 use Rattle.checker.specs.Scope.{around}
 use Rattle.checker.proofs.BodyLaws.{body_typed}
 use Rattle.checker.proofs.BuiltLaws.{on_ok}
-use Rattle.checker.proofs.ClientLaws.{extends_further}
+use Rattle.tt_interner.proofs.Growth.{Extends-trans}
 use Rattle.checker.proofs.ScopeLaws.{scope_stays}
 use Rattle.checker.proofs.TypingLaws.{AreTypedBelow, has_type_stays, typed_next}
 use Rattle.checker.proofs.verify.verify.Goals as goal
@@ -29,7 +29,7 @@ loop-number-preserved c =
     let at = sym (ap (λ xs. slice_get xs n) c.as_slice.ensures.value) ∙ c.in_ok-expression.ensures in
     let has = has_type_stays old c.loop-number.cx c.args.scope n e inv.extends c.requires.scope c.in_ok-verify_expression.ensures.typed in
     record {
-      extends = extends_further inv.extends c.in_ok-verify_expression.ensures.extends;
+      extends = Extends-trans inv.extends c.in_ok-verify_expression.ensures.extends;
       typed = subst (λ m. AreTypedBelow A es m) (sym (add-one n)) (typed_next A es n e inv.typed at has);
     }
 
@@ -45,6 +45,6 @@ returns-clause-typed c =
     let all : length expressions.items ≤ c.loop-number.number =
     omega (arith, c.loop-number-test.false, c.len-number-end.ensures, expressions.ok.0) in
     on_ok c.same.result (λ same.
-    body_typed c.args.cx.now c.args.scope c.loop-number.number c.in_ok-output.output c.in_ok-result.result all
-    c.loop-number.invariant.typed
+    body_typed c.args.cx.now c.loop-number.cx c.args.scope c.loop-number.number c.in_ok-output.output c.in_ok-result.result
+    c.loop-number.invariant.extends c.requires.scope all c.loop-number.invariant.typed
     c.in_ok-output.ensures.is c.in_ok-result.ensures.is same) c.same.ensures

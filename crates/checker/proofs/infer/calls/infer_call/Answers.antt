@@ -4,22 +4,22 @@ use Rattle.checker.proofs.ScopeLaws.{scope_stays}
 use Rattle.checker.proofs.infer.calls.infer_call.Goals as goal
 
 pub returns-in_err-inputs-clause-table : goal.returns-in_err-inputs-clause-table
-returns-in_err-inputs-clause-table c = table_stays c.fresh_instance.new.cx c.signature.new.cx c.fresh_instance.new.bindings c.signature.ensures.extends c.fresh_instance.ensures.table
+returns-in_err-inputs-clause-table c = table_stays c.fresh_function.new.cx c.signature.new.cx c.fresh_function.new.bindings c.signature.ensures.extends c.fresh_function.ensures.table
 
 pub equate_each-requires-clause-table : goal.equate_each-requires-clause-table
-equate_each-requires-clause-table c = table_stays c.fresh_instance.new.cx c.signature.new.cx c.fresh_instance.new.bindings c.signature.ensures.extends c.fresh_instance.ensures.table
+equate_each-requires-clause-table c = table_stays c.fresh_function.new.cx c.signature.new.cx c.fresh_function.new.bindings c.signature.ensures.extends c.fresh_function.ensures.table
 
 pub equate_each-requires-clause-scope : goal.equate_each-requires-clause-scope
-equate_each-requires-clause-scope c = scope_stays c.args.cx.now c.signature.new.cx _ (Extends-trans c.fresh_instance.ensures.extends c.signature.ensures.extends) c.requires.scope
+equate_each-requires-clause-scope c = scope_stays c.args.cx.now c.signature.new.cx _ (Extends-trans c.fresh_function.ensures.extends c.signature.ensures.extends) c.requires.scope
 
 pub returns-in_err-equate_each-clause-extends : goal.returns-in_err-equate_each-clause-extends
-returns-in_err-equate_each-clause-extends c = Extends-trans c.fresh_instance.ensures.extends (Extends-trans c.signature.ensures.extends c.equate_each.ensures.extends)
+returns-in_err-equate_each-clause-extends c = Extends-trans c.fresh_function.ensures.extends (Extends-trans c.signature.ensures.extends c.equate_each.ensures.extends)
 
 pub is_of-requires-clause-scope : goal.is_of-requires-clause-scope
-is_of-requires-clause-scope c = scope_stays c.args.cx.now c.equate_each.new.cx _ (Extends-trans c.fresh_instance.ensures.extends (Extends-trans c.signature.ensures.extends c.equate_each.ensures.extends)) c.requires.scope
+is_of-requires-clause-scope c = scope_stays c.args.cx.now c.equate_each.new.cx _ (Extends-trans c.fresh_function.ensures.extends (Extends-trans c.signature.ensures.extends c.equate_each.ensures.extends)) c.requires.scope
 
 pub returns-in_err-is_of-clause-extends : goal.returns-in_err-is_of-clause-extends
-returns-in_err-is_of-clause-extends c = Extends-trans c.fresh_instance.ensures.extends (Extends-trans c.signature.ensures.extends (Extends-trans c.equate_each.ensures.extends c.is_of.ensures.extends))
+returns-in_err-is_of-clause-extends c = Extends-trans c.fresh_function.ensures.extends (Extends-trans c.signature.ensures.extends (Extends-trans c.equate_each.ensures.extends c.is_of.ensures.extends))
 
 pub returns-clause-extends : goal.returns-clause-extends
-returns-clause-extends c = Extends-trans c.fresh_instance.ensures.extends (Extends-trans c.signature.ensures.extends (Extends-trans c.equate_each.ensures.extends c.is_of.ensures.extends))
+returns-clause-extends c = Extends-trans c.fresh_function.ensures.extends (Extends-trans c.signature.ensures.extends (Extends-trans c.equate_each.ensures.extends c.is_of.ensures.extends))

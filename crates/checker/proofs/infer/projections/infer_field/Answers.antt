@@ -26,3 +26,7 @@ returns-in_err-no_field-in-None-clause-extends c = Extends-trans c.known.ensures
 
 pub returns-in_ok-no_field-in-None-clause-extends : goal.returns-in_ok-no_field-in-None-clause-extends
 returns-in_ok-no_field-in-None-clause-extends c = Extends-trans c.known.ensures.extends (Extends-trans c.symbol_of.ensures.extends (Extends-trans c.field_named.ensures.extends c.no_field.ensures.extends))
+
+pub returns-in_err-ty-clause-extends : goal.returns-in_err-ty-clause-extends
+returns-in_err-ty-clause-extends c =
+    Extends-trans c.known.ensures.extends (Extends-trans c.symbol_of.ensures.extends c.field_named.ensures.extends)

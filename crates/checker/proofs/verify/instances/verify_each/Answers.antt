@@ -1,7 +1,8 @@
 use Rattle.std.proofs.Common.{◌<◌, length, get_or, arith, add-one, sym, subst}
 use Rattle.std.proofs.lemmas.Option.{slice_get-get_or, slice_get_within}
 use Rattle.checker.specs.Scope.{argument_trees, around}
-use Rattle.checker.proofs.ClientLaws.{extends_further}
+use Rattle.tt_interner.proofs.Growth.{Extends-trans}
+use Rattle.checker.proofs.ArgumentLaws.{arguments_in_range}
 use Rattle.checker.proofs.InstanceLaws.{AreFitBelow, fit_next, operand_fits}
 use Rattle.checker.proofs.ScopeLaws.{scope_stays}
 use Rattle.checker.proofs.verify.instances.verify_each.Goals as goal
@@ -25,12 +26,12 @@ loop-index-preserved c =
     let value = c.in_ok-found.ensures in
     let second : i < length ns = omega (arith, c.loop-index-test.true, c.if-declared-operands.false) in
     let fits = operand_fits old c.loop-index.cx c.args.scope c.args.args inv.extends c.requires.scope c.requires.args
-    c.len-count.ensures.are
+    (arguments_in_range old c.args.args c.as_slice-arguments.result.now c.as_slice-arguments.ensures)
     c.args.number (get_or ws i 0) (get_or ns i 0) c.in_ok-found.found value.before value.is c.in_ok-verify_instance.ensures.plain in
     let next = fit_next A c.args.number args ws ns i (get_or ws i 0) (get_or ns i 0) inv.fit
     (slice_get-get_or ws i 0 c.loop-index-test.true) (slice_get-get_or ns i 0 second) fits in
     record {
-      extends = extends_further inv.extends c.in_ok-verify_instance.ensures.extends;
+      extends = Extends-trans inv.extends c.in_ok-verify_instance.ensures.extends;
       fit = subst (λ m. AreFitBelow A c.args.number args ws ns m) (sym (add-one i)) next;
     }
 

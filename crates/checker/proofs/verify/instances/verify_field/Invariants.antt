@@ -1,6 +1,6 @@
-use Rattle.tt_interner.specs.Stored.{Extends}
+use Rattle.std.proofs.Common.{◌≡◌}
 use Rattle.checker.proofs.verify.instances.verify_field.Given as goal
 
--- the interner has only grown
+-- nothing was built
 abbrev pub invariant-loop-data : goal.invariant-loop-data
-invariant-loop-data l = Extends l.initial.cx l.cx
+invariant-loop-data l = l.cx ≡ l.initial.cx
