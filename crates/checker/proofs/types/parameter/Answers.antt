@@ -10,5 +10,5 @@ returns-clause-extends c = chained_extends _ _ _ c.mk_param.result c.args.cx.now
 pub returns-clause-is : goal.returns-clause-is
 returns-clause-is c =
     let name = c.args.name.now in
-    let is = param_built c.in-Ok.index name c.args.cx.now c.mk_param.new.self (Ok c.in_ok-mk_param.field-0) c.in_ok-mk_param.ensures in
+    let is = param_built c.in-Ok.index name c.args.cx.now c.mk_param.new.self (Ok c.in_ok-mk_param.field-0) c.in_ok-mk_param.ensures.builds in
     is ∙ ap (λ i. parameter_of i name) c.in-Ok.ensures.1
