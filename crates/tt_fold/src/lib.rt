@@ -3,8 +3,8 @@
 //! Take a folder that replaces `T` by `u32`, and the type `&'a [T]`. The fold calls `fold_ty` at the reference, which
 //! returns `Descend`; `fold_region` at `'a`, which returns `'a`; `fold_ty` at the slice, which returns `Descend`; and
 //! `fold_ty` at `T`, which returns `Replace(u32)`. On its way back it stores `[u32]` and calls `after_ty` with it, then it
-//! stores `&'a [u32]` and calls `after_ty` with that. A term whose contents all stay is not stored again: `after_ty` gets
-//! the term itself.
+//! stores `&'a [u32]` and calls `after_ty` with that. A term whose contents all stay is found where it is stored, so
+//! `after_ty` gets the term itself.
 #![tactic(auto)]
 
 mod assumptions;
