@@ -262,6 +262,12 @@ entries_by-listed : {K X V : Type 0} (hold : K → X) (row : X → Row) (info : 
 entries_by-listed hold row info [] = refl
 entries_by-listed hold row info (e ∷ es) = ap (λ l. (record { row = row (hold e.0); info = info e.1 }) ∷ l) (entries_by-listed hold row info es)
 
+-- one key more, listed by what it holds
+pub listed_by-push : {K X V : Type 0} (hold : K → X) (es es' : List (K × V)) (k : K) (v : V) (x : X) → hold k ≡ x → es' ≡ es ++ (k, v) ∷ []
+    → listed_by hold es' ≡ listed_by hold es ++ (x, v) ∷ []
+listed_by-push hold es es' k v x held e =
+    ap (listed_by hold) e ∙ map-append (λ e. (hold e.0, e.1)) es ((k, v) ∷ []) ∙ ap (λ y. listed_by hold es ++ (y, v) ∷ []) held
+
 -- one list more
 pub entries_by-added : {K X V : Type 0} (hold : K → X) (row : X → Row) (info : V → FlagComputation) (es es' : List (K × V)) (x : X) (v : V) → listed_by hold es' ≡ listed_by hold es ++ (x, v) ∷ []
     → entries_by (λ k. row (hold k)) info es' ≡ entries_by (λ k. row (hold k)) info es ++ (record { row = row x; info = info v }) ∷ []

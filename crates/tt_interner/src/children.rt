@@ -108,7 +108,7 @@ impl StoredItem for Ty {
         requires { AreParts (size cx.old.rows) (children_shapes (map ty_child items.items)) }
         ensures { StoresList result cx.old cx.new Tys (map ty_child items.items) }
     {
-        let list = cx.put_tys(items)?;
+        let list = cx.mk_tys(items.as_slice())?;
         Ok(List::Tys(list))
     }
 }

@@ -27,10 +27,11 @@ mod predicates;
 mod symbols;
 mod types;
 
-use crate::tables::first_text;
+use crate::tables::{TyList, first_text};
 pub use declarations::{AliasOfId, RegionName};
 use empty_lists::{empty_lists, more_empty_lists};
 use indexmap::IndexMap;
+use smallvec::SmallVec;
 use std::alloc::Global;
 use std::marker::Model;
 use tt_flags::FlagComputation;
@@ -53,7 +54,7 @@ pub struct Interner {
     predicates: IndexMap<Binder<PredicateKind>, FlagComputation>,
     existentials: IndexMap<Binder<ExistentialPredicate>, FlagComputation>,
     clause_lists: IndexMap<Vec<Clause>, FlagComputation>,
-    type_lists: IndexMap<Vec<Ty>, FlagComputation>,
+    type_lists: IndexMap<TyList, FlagComputation>,
     const_lists: IndexMap<Vec<Const>, FlagComputation>,
     arg_lists: IndexMap<Vec<GenericArg>, FlagComputation>,
     pattern_lists: IndexMap<Vec<Pat>, FlagComputation>,
@@ -67,6 +68,8 @@ pub struct Interner {
     definitions: IndexMap<AdtId, Vec<VariantDef>>,
     // the table of each row, in the order in which rows came
     order: Vec<Table>,
+    // a list of types that is too long for a key in place, while it is looked up
+    long_list: TyList,
     limit: u32,
     descents: u64,
     shift_descents: u64,
@@ -130,6 +133,7 @@ impl Interner {
             declarations: Vec::new(alloc),
             definitions: IndexMap::new(alloc),
             order,
+            long_list: SmallVec::new(alloc),
             limit: limit.min(GREATEST_INDEX),
             descents: 0,
             shift_descents: 0,

@@ -15,6 +15,7 @@ ghost use Rattle.std.specs.Prelude.{
   OnOk,
   OnErr,
   IfErr,
+  IfSome,
   slice_get,
   length,
 };
@@ -23,14 +24,21 @@ ghost use Rattle.std.specs.Cmp.Lexicographic.{pointwise};
 ghost use Rattle.std.specs.Str.{bytes_eq};
 ghost use Rattle.std.specs.String.{string_bytes};
 ghost use Rattle.tt_interner.specs.Tables.{listed_by, no_info};
-ghost use Rattle.indexmap.specs.IndexMap.{get, index_of, index_of_by, keys, values, index_map_len};
+ghost use Rattle.indexmap.specs.IndexMap.{get, get_by, index_of, index_of_by, keys, values, index_map_len};
 
 use indexmap::IndexMap;
+use smallvec::SmallVec;
 use std::alloc::Global;
 use std::hash::Hash;
 use tt_flags::FlagComputation;
 use tt_index::Refusal;
-use tt_kinds::Table;
+use tt_kinds::{Table, Ty};
+
+// The number of types of a short list, which are kept in the list's row.
+const MOST_IN_ROW: usize = 4;
+
+/// The types of a list. Up to four of them are kept in place, so a short list takes no memory of its own.
+pub(crate) type TyList = SmallVec<Ty, MOST_IN_ROW>;
 
 /// Adds a new entry to a table that has less than `limit` entries, records the table in the order, and returns the
 /// entry's number. If refused, it changes neither.
@@ -254,6 +262,121 @@ pub(crate) fn find_or_add_list<T: Copy + Eq + Hash + Drop>(
     }
 }
 
+/// Finds a list of types, or adds it as `find_or_add_list` does. A short list is found or added with one look-up. A
+/// longer one is looked up by a copy in `spare`, which has room for each list that it was asked for, so that a list that
+/// is there is found without allocation.
+pub(crate) fn find_or_add_tys(
+    order: &mut Vec<Table>,
+    limit: u32,
+    table: Table,
+    entries: &mut IndexMap<TyList, FlagComputation>,
+    spare: &mut TyList,
+    items: &[Ty],
+    info: FlagComputation,
+) -> Result<u32, Refusal>
+    requires few { length entries.old.entries ≤ limit }
+    requires same { (there : FlagComputation)
+        → get_by (λ k. pointwise ⟦<Ty as PartialEq>⟧.eq items.now k.items) entries.old ≡ Some there → there ≡ info }
+    // If there is such a row:
+    ensures found { (n : ℕ) → index_of_by (λ k. pointwise ⟦<Ty as PartialEq>⟧.eq items.now k.items) entries.old ≡ Some n
+        → (result ≡ Ok n) × (order.new.items ≡ order.old.items) × (entries.new.entries ≡ entries.old.entries) }
+    // On success, if there is none:
+    ensures order { index_of_by (λ k. pointwise ⟦<Ty as PartialEq>⟧.eq items.now k.items) entries.old ≡ None
+        → OnOk result (order.new.items ≡ order.old.items ++ table ∷ []) }
+    ensures entries { index_of_by (λ k. pointwise ⟦<Ty as PartialEq>⟧.eq items.now k.items) entries.old ≡ None
+        → OnOk result (listed_by (λ k. k.items) entries.new.entries
+        ≡ listed_by (λ k. k.items) entries.old.entries ++ (items.now, info) ∷ []) }
+    ensures number { index_of_by (λ k. pointwise ⟦<Ty as PartialEq>⟧.eq items.now k.items) entries.old ≡ None
+        → IfOk result (λ n. (n ≡ length entries.old.entries) × (n < limit)) }
+    // On a refusal:
+    ensures order_stays { OnErr result (order.new.items ≡ order.old.items) }
+    ensures entries_stay { OnErr result (entries.new.entries ≡ entries.old.entries) }
+    ensures cause { IfErr result (λ e. (e ≡ Refusal.Memory)
+        ⊎ ((e ≡ Refusal.TableFull) × (limit ≤ length entries.old.entries))) }
+    // In a full table:
+    ensures full { index_of_by (λ k. pointwise ⟦<Ty as PartialEq>⟧.eq items.now k.items) entries.old ≡ None
+        → limit ≤ length entries.old.entries
+        → result ≡ Err Refusal.TableFull }
+{
+    if items.len() > MOST_IN_ROW {
+        return match find_long(entries, spare, items) {
+            Some(number) => Ok(number as u32),
+            None => add_tys(order, limit, table, entries, items, info),
+        };
+    }
+    match SmallVec::from_slice(*entries.allocator(), items) {
+        Ok(key) => find_or_insert(order, limit, table, entries, key, info),
+        Err(_) => unreachable!(),
+    }
+}
+
+// Adds a new list of types, as `add`.
+fn add_tys(
+    order: &mut Vec<Table>,
+    limit: u32,
+    table: Table,
+    entries: &mut IndexMap<TyList, FlagComputation>,
+    items: &[Ty],
+    info: FlagComputation,
+) -> Result<u32, Refusal>
+    requires { lookup (λ k. pointwise ⟦<Ty as PartialEq>⟧.eq items.now k.items) entries.old.entries ≡ None }
+    // On success:
+    ensures order { OnOk result (order.new.items ≡ order.old.items ++ table ∷ []) }
+    ensures entries { OnOk result (listed_by (λ k. k.items) entries.new.entries
+        ≡ listed_by (λ k. k.items) entries.old.entries ++ (items.now, info) ∷ []) }
+    ensures number { IfOk result (λ n. (n ≡ length entries.old.entries) × (n < limit)) }
+    // On a refusal:
+    ensures order_stays { OnErr result (order.new.items ≡ order.old.items) }
+    ensures entries_stay { OnErr result (entries.new.entries ≡ entries.old.entries) }
+    ensures cause { IfErr result (λ e. (e ≡ Refusal.Memory)
+        ⊎ ((e ≡ Refusal.TableFull) × (limit ≤ length entries.old.entries))) }
+    // In a full table:
+    ensures full { limit ≤ length entries.old.entries → result ≡ Err Refusal.TableFull }
+{
+    if entries.len() >= limit as usize {
+        return Err(Refusal::TableFull);
+    }
+    match SmallVec::from_slice(*entries.allocator(), items) {
+        Ok(key) => add(order, limit, table, entries, key, info),
+        Err(_) => Err(Refusal::Memory),
+    }
+}
+
+// Returns the number of a list if it is there, found by a copy, or without one if there is no memory for it.
+fn find_long(
+    entries: &IndexMap<TyList, FlagComputation>,
+    spare: &mut TyList,
+    items: &[Ty],
+) -> Option<usize>
+    ensures index { result ≡ index_of_by (λ k. pointwise ⟦<Ty as PartialEq>⟧.eq items.now k.items) entries.now }
+    ensures within { IfSome result (λ i. i < index_map_len entries.now) }
+{
+    spare.clear();
+    match spare.extend_from_slice(items) {
+        Ok(()) => entries.get_index_of(&*spare),
+        Err(_) => find_in_turn(entries, items),
+    }
+}
+
+// Returns the number of a list if it is there, found without a key.
+#[cold]
+#[inline(never)]
+fn find_in_turn<T: Eq + Hash>(
+    entries: &IndexMap<SmallVec<T, MOST_IN_ROW>, FlagComputation>,
+    items: &[T],
+) -> Option<usize>
+    ensures index { result ≡ index_of_by (λ k. pointwise T.eq items.now k.items) entries.now }
+    ensures within { IfSome result (λ i. i < index_map_len entries.now) }
+{
+    entries
+        .keys()
+        .position(|key: &SmallVec<T, MOST_IN_ROW>| -> bool
+            ensures { result ≡ pointwise T.eq items.entry.now key.now.items }
+        {
+            items == key.as_slice()
+        })
+}
+
 /// Adds a new text to the table of texts, as `add`.
 pub(crate) fn add_text(
     order: &mut Vec<Table>,
@@ -298,6 +421,23 @@ pub(crate) fn first_list<T: Copy + Eq + Hash + Drop>(
     let mut entries = IndexMap::new(alloc);
     let info = FlagComputation::new();
     match add_list(order, 1, table, &mut entries, &[], info) {
+        Ok(_) => Ok(entries),
+        Err(_) => Err(Refusal::Memory),
+    }
+}
+
+/// Returns a table of the empty list of types alone, as `first_list`.
+pub(crate) fn first_ty_list(
+    alloc: Global,
+    order: &mut Vec<Table>,
+    table: Table,
+) -> Result<IndexMap<TyList, FlagComputation>, Refusal>
+    ensures order { OnOk result (order.new.items ≡ order.old.items ++ table ∷ []) }
+    ensures entries { IfOk result (λ map. listed_by (λ k. k.items) map.entries ≡ ([], no_info) ∷ []) }
+    ensures cause { IfErr result (λ e. e ≡ Refusal.Memory) }
+{
+    let mut entries = IndexMap::new(alloc);
+    match add(order, 1, table, &mut entries, SmallVec::new(alloc), FlagComputation::new()) {
         Ok(_) => Ok(entries),
         Err(_) => Err(Refusal::Memory),
     }

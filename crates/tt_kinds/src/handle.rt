@@ -73,6 +73,16 @@ impl IsStored for TypeRow {
 /// A type: the name of a stored [`TyKind`](crate::TyKind).
 pub type Ty = Handle<TypeRow>;
 
+/// A type for a place that holds none yet, such as an unused one of a small vector. It names the first row, which an
+/// interner need not have.
+impl Default for Ty {
+    ghost is_default = { λ first. first ≡ handle 0 };
+
+    fn default() -> Ty {
+        Ty::from_number(0)
+    }
+}
+
 /// The mark of constants.
 pub enum ConstRow {}
 

@@ -3,7 +3,7 @@
 ghost use Rattle.std.specs.Prelude.{◌≡◌, [], ◌∷◌, ◌++◌, OnOk, IfOk, IfErr};
 ghost use Rattle.tt_interner.specs.Tables.{listed_by, no_info};
 
-use crate::tables::first_list;
+use crate::tables::{TyList, first_list, first_ty_list};
 use indexmap::IndexMap;
 use std::alloc::Global;
 use tt_flags::FlagComputation;
@@ -16,7 +16,7 @@ use tt_kinds::{
 /// The tables of lists of types, arguments, variables and constants, each with the empty list alone.
 #[derive(Drop)]
 pub(crate) struct EmptyLists {
-    pub(crate) type_lists: IndexMap<Vec<Ty>, FlagComputation>,
+    pub(crate) type_lists: IndexMap<TyList, FlagComputation>,
     pub(crate) arg_lists: IndexMap<Vec<GenericArg>, FlagComputation>,
     pub(crate) var_lists: IndexMap<Vec<BoundVariableKind>, FlagComputation>,
     pub(crate) const_lists: IndexMap<Vec<Const>, FlagComputation>,
@@ -41,7 +41,7 @@ pub(crate) fn empty_lists(alloc: Global, order: &mut Vec<Table>) -> Result<Empty
     ensures consts { IfOk result (λ lists. listed_by (λ k. k.items) lists.const_lists.entries ≡ ([], no_info) ∷ []) }
     ensures cause { IfErr result (λ e. e ≡ Refusal.Memory) }
 {
-    let type_lists = first_list(alloc, order, Table::TypeLists)?;
+    let type_lists = first_ty_list(alloc, order, Table::TypeLists)?;
     let arg_lists = first_list(alloc, order, Table::ArgLists)?;
     let var_lists = first_list(alloc, order, Table::VarLists)?;
     let const_lists = first_list(alloc, order, Table::ConstLists)?;

@@ -14,7 +14,7 @@ use crate::children::MOST_IN_PLACE;
 use crate::collect::{collected, fill};
 use crate::flag_computation::{items_info, ty_kind_info};
 use crate::handle::{InternedKind, InternedList};
-use crate::tables::{find_or_add, find_or_add_list, find_or_insert, key_at};
+use crate::tables::{find_or_add, find_or_add_tys, key_at};
 use tt_index::{Mutability, Refusal};
 use tt_kinds::{Kind, OwnFlags, ParamTy, Region, Table, Ty, TyKind, Tys};
 
@@ -114,11 +114,12 @@ impl Interner {
         ensures { Builds result (λ list. list.number) self.old self.new (tys_row items.now) }
     {
         let info = items_info(self, items);
-        let number = find_or_add_list(
+        let number = find_or_add_tys(
             &mut self.order,
             self.limit,
             Table::TypeLists,
             &mut self.type_lists,
+            &mut self.long_list,
             items,
             info,
         )?;
@@ -148,26 +149,9 @@ impl Interner {
             None => self.mk_tys(&places[..count]),
             Some(next) => {
                 let items = collected(self.allocator(), &places, next, iter)?;
-                self.put_tys(items)
+                self.mk_tys(items.as_slice())
             }
         }
-    }
-
-    // Returns the list of these items, with one look-up; a new list keeps the vector.
-    pub(crate) fn put_tys(&mut self, items: Vec<Ty>) -> Result<Tys, Refusal>
-        requires { AreParts (size self.old.rows) (item_shapes ty_shape items.items) }
-        ensures { Builds result (λ list. list.number) self.old self.new (tys_row items.items) }
-    {
-        let info = items_info(self, items.as_slice());
-        let number = find_or_insert(
-            &mut self.order,
-            self.limit,
-            Table::TypeLists,
-            &mut self.type_lists,
-            items,
-            info,
-        )?;
-        Ok(Tys::from_number(number))
     }
 }
 

@@ -8,13 +8,13 @@ use Rattle.tt_interner.specs.Rows.{tys_row, size}
 use Rattle.tt_interner.proofs.NodeSteps.{is_row_of_tys, tys_shapes, StoresList-ok, StoresList-err}
 use Rattle.tt_interner.proofs.children.TyStoredItem.store.Goals as goal
 
-pub put_tys-requires : goal.put_tys-requires
-put_tys-requires c = subst (AreParts (size c.args.cx.now.rows)) (tys_shapes c.args.items.items) c.requires
+pub mk_tys-requires : goal.mk_tys-requires
+mk_tys-requires c = rw c.as_slice.ensures.value (subst (AreParts (size c.args.cx.now.rows)) (tys_shapes c.args.items.items) c.requires)
 
 pub returns-in_err-list : goal.returns-in_err-list
 returns-in_err-list c =
     let p = err_from_is_err_and c.from_residual.result c.from_residual.ensures.1 in
-    rw (p.1, p.2) (StoresList-err (λ list. list.number) _ _ sort.Tys (tys_row c.args.items.items) _ (is_row_of_tys c.args.items.items) (λ bad. bad) c.requires _ c.in_err-list.ensures)
+    rw (p.1, p.2) (StoresList-err (λ list. list.number) _ _ sort.Tys (tys_row c.args.items.items) _ (is_row_of_tys c.args.items.items) (λ bad. bad) c.requires _ (rw c.as_slice.ensures.value at c.in_err-list.ensures))
 
 pub returns : goal.returns
-returns c = StoresList-ok (λ list. list.number) _ _ sort.Tys (tys_row c.args.items.items) _ (is_row_of_tys c.args.items.items) (λ bad. bad) c.in_ok-list.list c.in_ok-list.ensures (stored_list.Tys c.in_ok-list.list) refl refl
+returns c = StoresList-ok (λ list. list.number) _ _ sort.Tys (tys_row c.args.items.items) _ (is_row_of_tys c.args.items.items) (λ bad. bad) c.in_ok-list.list (rw c.as_slice.ensures.value at c.in_ok-list.ensures) (stored_list.Tys c.in_ok-list.list) refl refl

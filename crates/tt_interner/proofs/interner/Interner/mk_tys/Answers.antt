@@ -8,12 +8,15 @@ use Rattle.tt_interner.proofs.InfoLaws.{info_list}
 use Rattle.tt_kinds.specs.Kinds.{ty_shape}
 use Rattle.tt_kinds.proofs.RangeLaws.{items-fit}
 use Rattle.tt_interner.proofs.TableLaws.{entries_by-added}
-use Rattle.tt_interner.proofs.PutSteps.{few, put_kept, built, built_refused}
+use Rattle.tt_interner.proofs.PutSteps.{few, same, put_kept, built, built_refused}
 use Rattle.tt_interner.proofs.Keys.{tys_key}
 use Rattle.tt_interner.proofs.interner.Interner.mk_tys.Goals as goal
 
-pub find_or_add_list-requires : goal.find_or_add_list-requires
-find_or_add_list-requires c = few c.self.inside.order.items (tables c.self.inside) _ _ _ c.self.view_is c.self.invariant (λ k. tys_row k.items) _ (tys_row c.args.items.now) (tys_key (λ k. k.items) c.args.items.now) c.self.inside.type_lists.entries refl
+pub find_or_add_tys-requires-clause-few : goal.find_or_add_tys-requires-clause-few
+find_or_add_tys-requires-clause-few c = few c.self.inside.order.items (tables c.self.inside) _ _ _ c.self.view_is c.self.invariant (λ k. tys_row k.items) _ (tys_row c.args.items.now) (tys_key (λ k. k.items) c.args.items.now) c.self.inside.type_lists.entries refl
+
+pub find_or_add_tys-requires-clause-same : goal.find_or_add_tys-requires-clause-same
+find_or_add_tys-requires-clause-same c = same c.self.inside.order.items (tables c.self.inside) _ _ _ c.self.view_is c.self.invariant (λ k. tys_row k.items) _ (tys_row c.args.items.now) (tys_key (λ k. k.items) c.args.items.now) c.self.inside.type_lists.entries refl c.items_info-info.result (info_list _ _ TypeLists _ c.items_info-info.ensures) refl
 
 pub invariant_of-self-2 : goal.invariant_of-self-2
 invariant_of-self-2 c = put_kept c.self.inside.order.items (tables c.self.inside) _ _ _ c.self.view_is c.self.invariant (λ k. tys_row k.items) _ (tys_row c.args.items.now) (tys_key (λ k. k.items) c.args.items.now) c.self.inside.type_lists.entries refl c.items_info-info.result (info_list _ _ TypeLists _ c.items_info-info.ensures)

@@ -7,5 +7,5 @@ use Rattle.tt_interner.proofs.TableLaws.{key_row}
 use Rattle.tt_interner.proofs.interner.types.TysInternedList.as_slice.Goals as goal
 
 pub returns : goal.returns
-returns c = rw (c.as_slice.ensures.value, ← c.cx.view_is)
+returns c = rw (c.as_slice.ensures, ← c.cx.view_is)
     (reads _ c.cx.invariant.tables.are TypeLists _ _ refl (key_row _ _ _ c.cx.invariant.tables TypeLists (λ k. tys_row k.items) (λ v. v) c.cx.inside.type_lists.entries refl _ _ refl (rw c.number.ensures at c.key_at.ensures)))
