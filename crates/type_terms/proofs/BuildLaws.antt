@@ -242,7 +242,7 @@ not_both index.Canonical s g = g
 pub region-bound : (terms : Terms) (ids : ℕ → ℕ) (i : BoundVarIndexKind) (b : BoundRegion) (name : RegionNameCall) (result : Result RegionKind Refusal)
     → IsNameOf terms ids name b.kind
     → (IsBelowGreatest (depth i) → result ≡ Ok (ReBound i b)) → ((IsBelowGreatest (depth i) → ⊥) → result ≡ Err GreatestIndex)
-    → GivesRegion terms (tree.bound region_sort (depth i) (call_forms.region_entry ids b.var name)) (IsGreatest (depth i)) result
+    → GivesRegion terms (tree.bound region_sort (depth i) (call_forms.region_call_entry ids b.var name)) (IsGreatest (depth i)) result
 unfolding fill
 region-bound terms ids i b name result n ok deep = elim (IsBelowGreatest-or-not i) [
   | inl s ↦

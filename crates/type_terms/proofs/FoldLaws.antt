@@ -40,7 +40,7 @@ use Rattle.type_terms.specs.declared.run.call.ArgCall.{ArgCall}
 use Rattle.type_terms.specs.declared.run.call.ArgCall.TheVariants as arg
 use Rattle.type_terms.specs.declared.run.call.Call.{Call}
 use Rattle.type_terms.specs.declared.run.call.Call.TheVariants as call
-use Rattle.type_terms.specs.CallForm.{Named, one, a_term, region_tree, IsRegionTooDeep, item_positions, items_positions}
+use Rattle.type_terms.specs.CallForm.{Named, one, a_term, region_call_tree, IsRegionTooDeep, item_positions, items_positions}
 use Rattle.type_terms.specs.CallForm.{IsItemTooDeep, AreItemsTooDeep, arg_item, arg_items, args_ids}
 use Rattle.type_terms.specs.Told.{Told, term, told_all, HasFullTable, Setting, setting}
 use Rattle.type_terms.specs.Means as means
@@ -70,7 +70,7 @@ const-argument terms e p t h = record {
 }
 
 -- the region that a call describes is the argument that it names as a lifetime
-pub region-argument : (terms : Terms) (e : List Told) (c : RegionCall) (r : RegionKind) → IsRegionOf terms (region_tree (number_at e) c) (IsRegionTooDeep c) r
+pub region-argument : (terms : Terms) (e : List Told) (c : RegionCall) (r : RegionKind) → IsRegionOf terms (region_call_tree (number_at e) c) (IsRegionTooDeep c) r
     → IsArgumentOf terms e (arg.Lifetime c) (kind.Lifetime r)
 region-argument terms e c r h = record {
   item = record { part = h.part; means = h.means; named = tt; shallow = h.shallow };

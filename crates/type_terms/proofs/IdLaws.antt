@@ -8,8 +8,8 @@ use Rattle.type_terms.specs.declared.run.answer.Answer.TheVariants as answer
 use Rattle.type_terms.specs.declared.run.call.Call.{Call}
 use Rattle.type_terms.specs.declared.run.call.Call.TheVariants as call
 use Rattle.type_terms.specs.CallForm.{Named, of_id, an_id, any_id, args_ids, ty_ids, const_ids, predicate_ids}
-use Rattle.type_terms.specs.CallForm.{declared_ids, declared_positions, arg_items, args_part, ty_form, const_form}
-use Rattle.type_terms.specs.CallForm.{predicate_form, form_positions, items_positions, part_positions}
+use Rattle.type_terms.specs.CallForm.{declared_ids, declared_positions, arg_items, args_part, ty_call_form, const_call_form}
+use Rattle.type_terms.specs.CallForm.{predicate_call_form, form_positions, items_positions, part_positions}
 use Rattle.type_terms.specs.Told.{Told, told, told_all}
 use Rattle.type_terms.specs.Means.{as_id, id_at, number_at, id_positions, Tells, AreTerms, NamesTerms}
 use Rattle.type_terms.specs.Build.{IsAnswerAt}
@@ -49,9 +49,9 @@ module _ (e : List Told) (ms ns : List Named) where
 
 -- the ids are among what the call names
 pub ids-named : (e : List Told) (c : Call) → NamesTerms e c → AreTerms e (id_positions c)
-ids-named e (call.Ty k) h = AreTerms-first e (ty_ids k) (form_positions (ty_form (number_at e) k)) h
-ids-named e (call.Const k) h = AreTerms-first e (const_ids k) (form_positions (const_form (number_at e) k)) h
-ids-named e (call.Predicate k) h = AreTerms-first e (predicate_ids k) (form_positions (predicate_form (number_at e) k)) h
+ids-named e (call.Ty k) h = AreTerms-first e (ty_ids k) (form_positions (ty_call_form (number_at e) k)) h
+ids-named e (call.Const k) h = AreTerms-first e (const_ids k) (form_positions (const_call_form (number_at e) k)) h
+ids-named e (call.Predicate k) h = AreTerms-first e (predicate_ids k) (form_positions (predicate_call_form (number_at e) k)) h
 ids-named e (call.Args args) h = AreTerms-first e (args_ids args.items) (part_positions (args_part args.items)) h
 ids-named e (call.Instantiate p args) h = AreTerms-first e (args_ids args.items) (items_positions (arg_items args.items)) h.1
 ids-named e (call.Declare d) h = AreTerms-first e (declared_ids d.kind) (declared_positions d.kind) h

@@ -28,7 +28,7 @@ use Rattle.type_terms.specs.declared.run.call.RegionCall.{RegionCall}
 use Rattle.type_terms.specs.declared.run.call.VariableCall.{VariableCall}
 use Rattle.type_terms.specs.CallForm.{ExistentialForm, trait_object, existentials_tree, existential_positions}
 use Rattle.type_terms.specs.CallForm.{IsExistentialTooDeep, all_trees, all_positions, AnyIsDeep, Named, Item, Part, one}
-use Rattle.type_terms.specs.CallForm.{a_region, CallForm, plain, under, variable_kind, region_tree, IsRegionTooDeep}
+use Rattle.type_terms.specs.CallForm.{a_region, CallForm, plain, under, variable_kind, region_call_tree, IsRegionTooDeep}
 use Rattle.type_terms.specs.CallForm.{item_tree, items_trees, item_positions, items_positions, part_positions}
 use Rattle.type_terms.specs.CallForm.{parts_positions, IsItemTooDeep, AreItemsTooDeep, IsPartTooDeep, ArePartsTooDeep}
 use Rattle.type_terms.specs.CallForm.{form_positions, IsFormTooDeep, RecordCall, record_tree}
@@ -255,7 +255,7 @@ module _ {C : Type 0} (item : C → Item) where
       (named-among item_positions e (map item cs) i (item c) here) (deep-among IsItemTooDeep (map item cs) i (item c) here) u
 
 -- a region
-pub region-part : (terms : Terms) (e : List Told) (c : RegionCall) (r : RegionKind) → IsRegionOf terms (region_tree (number_at e) c) (IsRegionTooDeep c) r
+pub region-part : (terms : Terms) (e : List Told) (c : RegionCall) (r : RegionKind) → IsRegionOf terms (region_call_tree (number_at e) c) (IsRegionTooDeep c) r
     → IsPartOfCall terms e (one (a_region c)) (region_shape r)
 region-part terms e c r h = record { part = h.part; means = h.means; named = tt; shallow = h.shallow }
 
@@ -347,7 +347,7 @@ placed-passed terms e t ns deep of_value (Err x) r h k = record { ok = tt; err =
 -- the kind of a trait object
 pub dynamic-kind : (terms : Terms) (e : List Told) (xs : List ExistentialForm) (c : RegionCall) (s : Shape) (r : RegionKind)
     → IsPlaced terms e (existentials_tree (number_at e) (tree_at e) xs) (all_positions existential_positions xs) (AnyIsDeep IsExistentialTooDeep xs) s
-    → IsRegionOf terms (region_tree (number_at e) c) (IsRegionTooDeep c) r
+    → IsRegionOf terms (region_call_tree (number_at e) c) (IsRegionTooDeep c) r
     → IsKindOf terms e (trait_object xs c) (shape.term (type_label dynamic_type) (shape.also s (shape.also (region_shape r) shape.none)))
 unfolding fill
 dynamic-kind terms e xs c s r h k = record {

@@ -13,7 +13,7 @@ ghost use Rattle.type_terms.specs.declared.run.call.Call.TheVariants.{Const as B
 ghost use Rattle.type_terms.specs.CallForm.{
   args_ids,
   const_ids,
-  const_form,
+  const_call_form,
   value_call_form,
   param,
   plain,
@@ -93,13 +93,13 @@ fn const_kind(cx: &mut Interner, earlier: &[Answer], call: &ConstCall) -> Result
     ensures extends { Extends cx.old cx.new }
     ensures kind { GivesKind cx.new
         (told_all cx.old.rows earlier.now)
-        (const_form (number_at (told_all cx.old.rows earlier.now)) call.now)
+        (const_call_form (number_at (told_all cx.old.rows earlier.now)) call.now)
         const_kind_shape
         result }
     ensures room { IfErr result
         (FormNeedsRoom cx.new.rows
         (told_all cx.old.rows earlier.now)
-        (const_form (number_at (told_all cx.old.rows earlier.now)) call.now)) }
+        (const_call_form (number_at (told_all cx.old.rows earlier.now)) call.now)) }
 {
     match call {
         ConstCall::Param { index, name } => param_kind(cx, *index, name.as_str()),

@@ -21,7 +21,7 @@ ghost use Rattle.tt_interner.specs.Stored.{Terms, Extends};
 ghost use Rattle.type_terms.specs.declared.run.call.Call.TheVariants.{Predicate as BuildsPredicate};
 ghost use Rattle.type_terms.specs.CallForm.{
   predicate_ids,
-  predicate_form,
+  predicate_call_form,
   predicate_record,
   clause_record,
   labelled_parts,
@@ -87,13 +87,13 @@ fn bound_kind(
     ensures extends { Extends cx.old cx.new }
     ensures kind { GivesKind cx.new
         (told_all cx.old.rows earlier.now)
-        (predicate_form (number_at (told_all cx.old.rows earlier.now)) call.now)
+        (predicate_call_form (number_at (told_all cx.old.rows earlier.now)) call.now)
         predicate_kind_shape
         result }
     ensures room { IfErr result
         (FormNeedsRoom cx.new.rows
         (told_all cx.old.rows earlier.now)
-        (predicate_form (number_at (told_all cx.old.rows earlier.now)) call.now)) }
+        (predicate_call_form (number_at (told_all cx.old.rows earlier.now)) call.now)) }
 {
     match predicate_kind(cx, earlier, &call.kind) {
         Ok(kind) => {
