@@ -40,7 +40,7 @@ use Rattle.type_terms.specs.Means.{AddsNothing, IsAllowed, MayRefuse, want_of_me
 use Rattle.type_terms.specs.Build as build
 use Rattle.type_terms.specs.Build.{IsUnbuiltPart, no_memory, no_row, no_index, IsNameOf, GivesRegion, ArePlaced}
 use Rattle.type_terms.specs.Build.{AreItemsOf}
-use Rattle.type_terms.specs.Build.{GivesPart, GivesPlaced, IsKindOf, Answers}
+use Rattle.type_terms.specs.Build.{GivesPart, GivesPlaced, IsKindOf, MayAnswerCall}
 use Rattle.type_terms.specs.Room.{IsRefusalForRoom, HasValue, NeedsRoom, FormNeedsRoom}
 use Rattle.type_terms.proofs.ValueLaws.{new-lacks}
 use Rattle.type_terms.proofs.RoomLaws.{stored-value}
@@ -197,13 +197,13 @@ there-built number start old new answers form row r h b are x o there =
     new-lacks old.rows are row h.parts b.absent (subst (λ (t : Tree Depth). HasValue old.rows t) (sym h.means) (stored-value old.rows (row_table row) _ s))
 
 -- what an answer is from later terms it is from earlier ones
-pub Answers-earlier : (start old new : Terms) (e : List Told) (c : Call) (result : Result Answer Refusal) → Extends start old → Answers old new e c result → Answers start new e c result
-Answers-earlier start old new e c (Ok a) x h = record {
+pub MayAnswerCall-earlier : (start old new : Terms) (e : List Told) (c : Call) (result : Result Answer Refusal) → Extends start old → MayAnswerCall old new e c result → MayAnswerCall start new e c result
+MayAnswerCall-earlier start old new e c (Ok a) x h = record {
   owned = h.owned;
   ok = IsAllowed-wider (setting old new) (setting start new) (λ f. f) (size-grows start.rows old.rows x.rows Declarations) (IsStored-grows start.rows old.rows x.rows) e c (told new.rows a) h.ok;
   err = tt;
 }
-Answers-earlier start old new e c (Err r) x h = record {
+MayAnswerCall-earlier start old new e c (Err r) x h = record {
   owned = tt;
   ok = tt;
   err = IsAllowed-wider (setting old new) (setting start new) (λ f. f) (size-grows start.rows old.rows x.rows Declarations) (IsStored-grows start.rows old.rows x.rows) e c (refused r) h.err;
@@ -217,7 +217,7 @@ region-passed terms t deep (Err x) r h u = record { ok = tt; err = rw h u }
 
 -- an error that is passed on may be the answer of the call, if the call may be refused with it
 pub answer-passed : (start terms : Terms) (e : List Told) (c : Call) (result : Result Answer Refusal) (r : Refusal) → IsErrAnd result (λ x. x ≡ r)
-    → MayRefuse (setting start terms) e c r → Answers start terms e c result
+    → MayRefuse (setting start terms) e c r → MayAnswerCall start terms e c result
 answer-passed start terms e c (Ok k) r h u = absurd h
 answer-passed start terms e c (Err x) r h u = record { owned = tt; ok = tt; err = rw h u }
 

@@ -45,7 +45,7 @@ use Rattle.type_terms.specs.CallForm.{IsItemTooDeep, AreItemsTooDeep, arg_item, 
 use Rattle.type_terms.specs.Told.{Told, term, told_all, HasFullTable, Setting, setting}
 use Rattle.type_terms.specs.Means as means
 use Rattle.type_terms.specs.Means.{IsUntouchedTerm, IsParameter, IsParameterOf, AddsNothing, NamesTerms, too_deep, Term}
-use Rattle.type_terms.specs.Means.{term_at, number_at, tree_at, positions, AreTerms, Suits, Tells, told_argument}
+use Rattle.type_terms.specs.Means.{term_at, number_at, tree_at, positions, AreTerms, Suits, TellsWanted, told_argument}
 use Rattle.type_terms.specs.Means.{told_arguments, IsAllowed, MayRefuse, want_of_memory, full_table, no_term, unfit}
 use Rattle.type_terms.specs.Means.{unsuited}
 use Rattle.type_terms.specs.Room.{IsRefusalForRoom}
@@ -104,7 +104,7 @@ arguments-more old new e cs xs c a x h k = record {
 
 -- a position without a term
 pub absent-refused : (P : Setting) (rows : List Row) (earlier : List Answer) (n : Named) (ns : List Named) (c : Call) → positions (told_all rows earlier) c ≡ n ∷ ns
-    → (Tells (told_all rows earlier) n.want n.position → IsSomeAnd (term_at (told_all rows earlier) n.position) (Suits (told_all rows earlier) n.want))
+    → (TellsWanted (told_all rows earlier) n.want n.position → IsSomeAnd (term_at (told_all rows earlier) n.position) (Suits (told_all rows earlier) n.want))
     → (r : Refusal) → r ≡ NoSuchAnswer
     → ((rows : List Row) → term_at (told_all rows earlier) n.position ≡ None) → MayRefuse P (told_all rows earlier) c r
 absent-refused P rows earlier n ns c q w r i h =

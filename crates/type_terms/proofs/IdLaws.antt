@@ -11,7 +11,7 @@ use Rattle.type_terms.specs.CallForm.{Named, of_id, an_id, any_id, args_ids, ty_
 use Rattle.type_terms.specs.CallForm.{declared_ids, declared_positions, arg_items, args_part, ty_call_form, const_call_form}
 use Rattle.type_terms.specs.CallForm.{predicate_call_form, form_positions, items_positions, part_positions}
 use Rattle.type_terms.specs.Told.{Told, told, told_all}
-use Rattle.type_terms.specs.Means.{as_id, id_at, number_at, id_positions, Tells, AreTerms, NamesTerms}
+use Rattle.type_terms.specs.Means.{as_id, id_at, number_at, id_positions, TellsWanted, AreTerms, NamesTerms}
 use Rattle.type_terms.specs.Build.{IsAnswerAt}
 use Rattle.type_terms.proofs.PartLaws.{AreTerms-append, AreTerms-first, AreTerms-second}
 
@@ -30,7 +30,7 @@ module _ (e : List Told) (p : ℕ) where
   pub sort-told : (s : DeclarationSort) (n : ℕ) → id_at e p ≡ Some (record { sort = s; number = n }) → IsTrue true ↔ AreTerms e (an_id s p)
   sort-told s n at = rw at (λ h. (refl, tt), λ h. refl)
 
-  pub no-sort-told : (s : DeclarationSort) → (Tells e (of_id s) p → ⊥) → IsTrue false ↔ AreTerms e (an_id s p)
+  pub no-sort-told : (s : DeclarationSort) → (TellsWanted e (of_id s) p → ⊥) → IsTrue false ↔ AreTerms e (an_id s p)
   no-sort-told s none = (λ h. absurd (cc), λ h. absurd (none h.0))
 
   pub any-told : (s : DeclarationSort) (n : ℕ) → id_at e p ≡ Some (record { sort = s; number = n }) → IsTrue true ↔ AreTerms e (any_id p)

@@ -33,7 +33,7 @@ use Rattle.type_terms.specs.Told.{Told, term, told, told_all, AreOwnedAnswers, S
 use Rattle.type_terms.specs.Means.{Term, as_term, term_at, tree_of, tree_at, told_argument, told_arguments, AreTerms}
 use Rattle.type_terms.specs.Means.{IsAllowed}
 use Rattle.type_terms.specs.Means.{MayRefuse, no_term, unsuited, IsParameter, IsParameterOf}
-use Rattle.type_terms.specs.Build.{Answers, IsAnswerAt, IsUsable}
+use Rattle.type_terms.specs.Build.{MayAnswerCall, IsAnswerAt, IsUsable}
 use Rattle.type_terms.specs.Parameters.{parameter_sort, parameter_index, term_arg, IsArgumentAt, LacksArgument}
 use Rattle.type_terms.specs.Parameters.{none_given, not_told}
 use Rattle.type_terms.proofs.PartLaws.{AreTerms-append, named-among}
@@ -214,7 +214,7 @@ pub argument-answers : (terms : Terms) (earlier : List Answer) (at : ℕ) (p : P
     → AreTerms (told_all terms.rows earlier) (args_ids list.items)
     → IsUsable (told_all terms.rows earlier) (items_positions (arg_items list.items)) (AreItemsTooDeep (arg_items list.items))
     → AreOwnedAnswers terms.rows earlier → IfOk result (IsArgumentAt earlier list.items p) → IfErr result (LacksArgument earlier list.items p)
-    → Answers terms terms (told_all terms.rows earlier) (call.Instantiate at list) result
+    → MayAnswerCall terms terms (told_all terms.rows earlier) (call.Instantiate at list) result
 argument-answers terms earlier at p list (Ok a) found ids usable o given lacks = record {
   owned = given.at.owned terms.rows o;
   ok = argument-allowed terms.rows earlier at p list (setting terms terms) found ids usable a given;

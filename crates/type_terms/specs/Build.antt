@@ -48,7 +48,7 @@ use Rattle.type_terms.specs.CallForm.{IsPartTooDeep, ArePartsTooDeep, form_posit
 use Rattle.type_terms.specs.CallForm.{arg_item, arg_items, clause_items, RecordCall, record_tree}
 use Rattle.type_terms.specs.Told.{Told, term, told, told_all, handle_table, IsOwnedAnswer, AreOwnedAnswers}
 use Rattle.type_terms.specs.Told.{HasFullTable, setting}
-use Rattle.type_terms.specs.Means.{as_term, term_at, as_id, id_at, number_at, Tells, tree_at, told_argument}
+use Rattle.type_terms.specs.Means.{as_term, term_at, as_id, id_at, number_at, TellsWanted, tree_at, told_argument}
 use Rattle.type_terms.specs.Means.{told_arguments, AreTerms, IsAllowed, MayRefuse}
 
 -- the answer is the handle of this number in the table
@@ -67,7 +67,7 @@ IsIdAt earlier p s n = (rows : List Row) → id_at (told_all rows earlier) p ≡
 
 -- no id of this sort is at the position
 abbrev pub HasNoId : List Answer → ℕ → DeclarationSort → Type 0
-HasNoId earlier p s = (rows : List Row) → Tells (told_all rows earlier) (of_id s) p → ⊥
+HasNoId earlier p s = (rows : List Row) → TellsWanted (told_all rows earlier) (of_id s) p → ⊥
 
 -- both answers are handles of the same table
 abbrev pub AreOfOneTable : Answer → Answer → Type 0
@@ -318,7 +318,8 @@ pub record GivesSig (terms : Terms) (earlier : List Told) (vars : List VariableC
       (part_positions (a_list TypeLists (terms_at Types positions))) ⊥)
 
 -- the result may be the call's answer, if the terms grow from the old ones to the new ones
-pub record Answers (old new : Terms) (earlier : List Told) (call : Call) (result : Result Answer Refusal) : Type 0 where
+pub record MayAnswerCall (old new : Terms) (earlier : List Told) (call : Call) (result : Result Answer Refusal)
+    : Type 0 where
   pub owned : IfOk result (IsOwnedAnswer new.rows)
   pub ok : IfOk result (λ a. IsAllowed (setting old new) earlier call (told new.rows a))
   pub err : IfErr result (MayRefuse (setting old new) earlier call)

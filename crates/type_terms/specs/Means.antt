@@ -131,15 +131,15 @@ Suits earlier (of_id s) u = ⊥
 Suits earlier of_any_id u = ⊥
 
 -- the position tells what is wanted there: an id of the sort or of any, or a term
-abbrev pub Tells : List Told → Want → ℕ → Type 0
-Tells earlier (of_id s) p = IsSomeAnd (id_at earlier p) (λ i. i.sort ≡ s)
-Tells earlier of_any_id p = IsSomeAnd (id_at earlier p) (λ i. ⊤)
-Tells earlier w p = IsSomeAnd (term_at earlier p) (Suits earlier w)
+abbrev pub TellsWanted : List Told → Want → ℕ → Type 0
+TellsWanted earlier (of_id s) p = IsSomeAnd (id_at earlier p) (λ i. i.sort ≡ s)
+TellsWanted earlier of_any_id p = IsSomeAnd (id_at earlier p) (λ i. ⊤)
+TellsWanted earlier w p = IsSomeAnd (term_at earlier p) (Suits earlier w)
 
 -- each position tells a term or an id that is wanted there
 abbrev pub AreTerms : List Told → List Named → Type 0
 AreTerms earlier [] = ⊤
-AreTerms earlier (n ∷ ns) = Tells earlier n.want n.position × AreTerms earlier ns
+AreTerms earlier (n ∷ ns) = TellsWanted earlier n.want n.position × AreTerms earlier ns
 
 -- each position that the call names tells a term or an id that is wanted there
 abbrev pub NamesTerms : List Told → Call → Type 0

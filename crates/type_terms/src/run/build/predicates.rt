@@ -33,7 +33,7 @@ ghost use Rattle.type_terms.specs.CallForm.{
 };
 ghost use Rattle.type_terms.specs.Told.{Told, told_all, AreOwnedAnswers};
 ghost use Rattle.type_terms.specs.Means.{number_at, AreTerms};
-ghost use Rattle.type_terms.specs.Build.{GivesPart, GivesParts, GivesRecord, GivesKind, Answers};
+ghost use Rattle.type_terms.specs.Build.{GivesPart, GivesParts, GivesRecord, GivesKind, MayAnswerCall};
 ghost use Rattle.type_terms.specs.Room.{PartNeedsRoom, RecordNeedsRoom, FormNeedsRoom};
 
 use crate::run::answer::Answer;
@@ -61,7 +61,7 @@ pub fn build_predicate(
     requires { AreOwnedAnswers cx.old.rows earlier.now }
     ensures extends { Extends cx.old cx.new }
     ensures answers { AreTerms (told_all cx.old.rows earlier.now) (predicate_ids call.now)
-        → Answers cx.old cx.new (told_all cx.old.rows earlier.now) (BuildsPredicate call.now) result }
+        → MayAnswerCall cx.old cx.new (told_all cx.old.rows earlier.now) (BuildsPredicate call.now) result }
 {
     match bound_kind(cx, earlier, call) {
         Ok(kind) => {

@@ -45,7 +45,7 @@ ghost use Rattle.type_terms.specs.Told.{Told, told_all, AreOwnedAnswers};
 ghost use Rattle.type_terms.specs.Means.{number_at, AreTerms};
 ghost use Rattle.type_terms.specs.Build.{
   GivesKind,
-  Answers,
+  MayAnswerCall,
 };
 ghost use Rattle.type_terms.specs.Room.{IsRefusalForRoom, LacksText, FormNeedsRoom};
 
@@ -73,7 +73,7 @@ pub fn build_ty(cx: &mut Interner, earlier: &[Answer], call: &TyCall) -> Result<
     requires { AreOwnedAnswers cx.old.rows earlier.now }
     ensures extends { Extends cx.old cx.new }
     ensures answers { AreTerms (told_all cx.old.rows earlier.now) (ty_ids call.now)
-        → Answers cx.old cx.new (told_all cx.old.rows earlier.now) (BuildsTy call.now) result }
+        → MayAnswerCall cx.old cx.new (told_all cx.old.rows earlier.now) (BuildsTy call.now) result }
 {
     match ty_kind(cx, earlier, call) {
         Ok(kind) => {
