@@ -40,7 +40,7 @@ use Rattle.tt_visit.specs.Visit.{Visits, Tells, TellingBreaks, GoesOver, GoesIns
 use Rattle.tt_visit.specs.Visit.{unhooked_seen, node_seen, term_seen, param_seen, bound_seen, all_seen, one_seen}
 use Rattle.tt_visit.specs.Visit.{Breaks, BreaksInside, BreaksAll, term_broke, inside_broke, unhooked_broke, node_broke}
 use Rattle.tt_visit.specs.Visit.{error_broke, term_inside_broke, first_broke, later_broke}
-use Rattle.tt_visit.specs.Steps.{form_error, kind_error, AreVarsStored, Asks, AskingBreaks, GoesUnder, BreaksUnder}
+use Rattle.tt_visit.specs.Steps.{form_error, kind_error, AreVarsStored, AsksVisitor, AskingBreaks, GoesUnder, BreaksUnder}
 
 -- a result that keeps a promise, whether it goes on or breaks, keeps every weaker promise
 pub flow-weaker : {B C : Type 0} (r : ControlFlow B C) {P P' : C → Type 0} {Q Q' : B → Type 0}
@@ -140,21 +140,21 @@ unhooked-broke V s s' (tree.node l ts) b is h = elim h [ ]
 
 -- what a hook's answer leads to
 module _ {M B : Type 0} (V : Visits M B) where
-  pub asked-skip : (r : Root) (s s' : M) (t : Tree Depth) → root t ≡ r → Asks V r s t Skip s' → GoesOver V s t s'
+  pub asked-skip : (r : Root) (s s' : M) (t : Tree Depth) → root t ≡ r → AsksVisitor V r s t Skip s' → GoesOver V s t s'
   asked-skip hooked s s' t is h = skipped is h
   asked-skip unhooked s s' t is h = let never = h.0 in cc
   asked-skip a_region s s' t is h = absurd h
   asked-skip a_part s s' t is h = absurd h
   asked-skip no_term s s' t is h = absurd h
 
-  pub asked-descend : (r : Root) (s s1 s' : M) (t : Tree Depth) → root t ≡ r → Asks V r s t Descend s1 → GoesInside V s1 t s' → GoesOver V s t s'
+  pub asked-descend : (r : Root) (s s1 s' : M) (t : Tree Depth) → root t ≡ r → AsksVisitor V r s t Descend s1 → GoesInside V s1 t s' → GoesOver V s t s'
   asked-descend hooked s s1 s' t is h inside = went_inside is h inside
   asked-descend unhooked s s1 s' t is h inside = unhooked-inside V s s' t is (rw h.1 at inside)
   asked-descend a_region s s1 s' t is h inside = absurd h
   asked-descend a_part s s1 s' t is h inside = absurd h
   asked-descend no_term s s1 s' t is h inside = absurd h
 
-  pub asked-broke-inside : (r : Root) (s s1 s' : M) (t : Tree Depth) (b : B) → root t ≡ r → Asks V r s t Descend s1 → BreaksInside V s1 t b s' → Breaks V s t b s'
+  pub asked-broke-inside : (r : Root) (s s1 s' : M) (t : Tree Depth) (b : B) → root t ≡ r → AsksVisitor V r s t Descend s1 → BreaksInside V s1 t b s' → Breaks V s t b s'
   asked-broke-inside hooked s s1 s' t b is h inside = inside_broke is h inside
   asked-broke-inside unhooked s s1 s' t b is h inside = unhooked-broke V s s' t b is (rw h.1 at inside)
   asked-broke-inside a_region s s1 s' t b is h inside = absurd h
