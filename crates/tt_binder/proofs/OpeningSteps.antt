@@ -105,6 +105,7 @@ module _ (terms terms1 : Terms) (args : Args) (k : ℕ) (o : Sort) (e : Entry �
   unfolding fill
   outside_past out other deep fits = outside_great args k o (rename_entry (name_of (meaning terms.rows)) e) i out other deep fits
 
+  -- if a variable of another binder is built with its index outside, it is opened, and else refused for a reason
   pub outside_built : {H : Type 0} (number : H → ℕ) (t : Table) (result : Result H Refusal) → IsOuter k i → (IsOwn k (depth i) → ⊥)
       → MatchResult result
       (λ h. IsPartOf terms1.rows (stored t (number h)) × (tree_in terms1.rows (stored t (number h)) ≡ tree_in terms.rows (bound_shape o (index_outside k i) e)))
@@ -128,12 +129,14 @@ module _ (rows : List Row) (args : Args) (k : ℕ) (o : Sort) (e : Entry ℕ) (i
   unfolding fill
   own_refused unbuilt r h = own_refuses args k o (rename_entry (name_of (meaning rows)) e) unbuilt (depth i) own r h
 
+  -- without arguments, a variable of the opened binder is refused with `NoArguments`
   pub own_lacks : (unbuilt : Tree Depth → Refusal → Type 0) → args ≡ [] → OpeningRefuses unbuilt args k (tree_in rows (bound_shape o i e)) NoArguments
   unfolding fill
   own_lacks unbuilt none = own_without args k o (rename_entry (name_of (meaning rows)) e) unbuilt (depth i) own none
 
 -- what is built of an own variable
 module _ (rows : List Row) (args : Args) (k : ℕ) (o : Sort) (e : Entry ℕ) (i : BoundVarIndexKind) (own : IsOwn k (depth i)) (unbuilt : Tree Depth → Refusal → Type 0) (new : List Row) where
+  -- a variable of the opened binder is opened to what a parameter of its index becomes, and refused as that is
   pub own_found : {H : Type 0} (shape : H → Shape) (result : Result H Refusal)
       → MatchResult result
       (λ h. IsPartOf new (shape h) × Instantiates args k (param o e.var []) (tree_in new (shape h)))
@@ -144,6 +147,7 @@ module _ (rows : List Row) (args : Args) (k : ℕ) (o : Sort) (e : Entry ℕ) (i
   own_found shape (Ok h) is = (is.0, own_given rows args k o e i own (tree_in new (shape h)) is.1)
   own_found shape (Err r) is = own_refused rows args k o e i own unbuilt r is
 
+  -- a variable of the opened binder is opened to the argument put for its index, and refused as the argument is
   pub own_put : {H : Type 0} (shape : H → Shape) (kept kept' : Kept) (c c' : Counters) (result : Result H Refusal)
       → MatchResult result
       (λ h. IsPartOf new (shape h) × PutsArgument args k (param o e.var []) (tree_in new (shape h)) kept c kept' c')

@@ -30,6 +30,7 @@ use Rattle.tt_visit.specs.declared.frame.Frame.{Frame}
 use Rattle.tt_visit.proofs.VisitSteps.{flow-weaker}
 
 module _ {M B : Type 0} (V : Visits M B) (rows : List Row) (s : M) where
+  -- a visit that was begun also meets weaker promises, within greater bounds
   pub begun-weaker : {P P' : M → Type 0} {Q Q' : B → M → Type 0} {h w h' w' : ℕ} (r : ControlFlow B (Option Frame))
       → MatchControlFlow r (λ o. Begun V rows P Q h w o s) (λ b. Q b s)
       → ((s2 : M) → P s2 → P' s2) → ((b : B) (s2 : M) → Q b s2 → Q' b s2) → h ≤ h' → w ≤ w'
@@ -94,6 +95,7 @@ work-append f (also x ss) us = omega (arith, work-append f ss us)
 
 -- the parts of a term
 module _ {rows : List Row} {p : Parts} {vars : Option BoundVarKinds} {f : Frame} where
+  -- a frame that holds stored parts of a term, under its stored variables if it has some, is stored
   pub holds-frame : HoldsParts p vars f → AreVarsStored (size rows) vars → AreParts (size rows) (parts_shapes p) → IsFrame rows f
   holds-frame h stored are = record {
     rest = h.rest rows;

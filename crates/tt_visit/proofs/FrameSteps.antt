@@ -57,6 +57,7 @@ module _ {rows : List Row} {f f' : Frame} {c : Child} where
   taken-parts : Taken rows f c f' → IsFrame rows f → AreParts (size rows) (append (child_shapes c) (children_shapes (frame_children rows f')))
   taken-parts t is = rw t.children at is.todo.parts
 
+  -- a child that was taken from a stored frame is stored
   pub taken-child : Taken rows f c f' → IsFrame rows f → AreParts (size rows) (child_shapes c)
   taken-child t is = parts-before (size rows) (child_shapes c) (children_shapes (frame_children rows f')) (taken-parts t is)
 
@@ -132,6 +133,7 @@ pub record Visiting {M B S : Type 0} (owned : List Row → S → Type 0) (means 
   pub fails_around : (b : B) (s1 s' : M) → GoesOn V rows (means rows s) (frame_todo rows f) s1 → StackBreaks V rows s1 rs b s' → BreaksOn V rows (means rows s0) (frame_todo rows whole) b s'
 
 module _ {M B S : Type 0} {owned : List Row → S → Type 0} {means : List Row → S → M} {V : Visits M B} {rows : List Row} {s0 : S} {whole : Frame} where
+  -- the visit starts with the whole frame and an empty stack
   pub visiting-starts : (frames : List Remaining) → frames ≡ [] → owned rows s0 → IsFrame rows whole → Visiting owned means V rows s0 whole s0 whole (inward frames)
   visiting-starts frames empty o is = rw empty (record {
     is_owned = o;
@@ -202,18 +204,21 @@ module _ {M B S : Type 0} {owned : List Row → S → Type 0} {means : List Row 
   kept-cases {r} frames frames' (inl added) h = rw (added, inward-more frames r) h
   kept-cases frames frames' (inr same) h = rw same.1 (visiting-drops same.0 h)
 
+  -- the visit goes on with the frame of a child that was gone into; what is left around it is on the stack
   pub visiting-into : {s s1 : S} {f f' : Frame} {c : Child} {k w : ℕ} {inner : Frame} (frames frames' : List Remaining)
       → Visiting owned means V rows s0 whole s f (inward frames) → Taken rows f c f' → owned rows s1
       → Inside V rows (GoesOverAll V (means rows s) (fill_all (meaning rows) (child_shapes c))) (BreaksAll V (means rows s) (fill_all (meaning rows) (child_shapes c))) k w inner (means rows s1)
       → k ≤ child_height rows c → IsKept frames f'.rest frames' → Visiting owned means V rows s0 whole s1 inner (inward frames')
   visiting-into frames frames' h t o i below kept = kept-cases frames frames' kept (visiting-inside h t o i below)
 
+  -- with no child left and an empty stack, the visitor has gone over the whole frame once its binder is left
   pub visiting-ends : {s s1 : S} {f : Frame} {vars : Option BoundVarKinds} (frames : List Remaining)
       → Visiting owned means V rows s0 whole s f (inward frames) → frame_children rows f ≡ [] → vars ≡ rest_binder f.rest → VisitorLeaves V rows (means rows s) vars (means rows s1)
       → length frames ≡ 0 → GoesOn V rows (means rows s0) (frame_todo rows whole) (means rows s1)
   visiting-ends {s} {s1} {f} {vars} frames h done same l empty =
       h.ends (means rows s1) (means rows s1) (goes-up V rows (means rows s) (means rows s1) f vars done same l) (rw (inward-none frames empty) refl)
 
+  -- with no child left, the visit goes on with the last of the stack once the frame's binder is left
   pub visiting-up : {s s1 : S} {f f1 : Frame} {vars : Option BoundVarKinds} (frames frames' : List Remaining) (r : Remaining)
       → Visiting owned means V rows s0 whole s f (inward frames) → frame_children rows f ≡ [] → vars ≡ rest_binder f.rest → VisitorLeaves V rows (means rows s) vars (means rows s1)
       → owned rows s1 → frames ≡ frames' ++ r ∷ [] → f1 ≡ record { first = None; rest = r } → Visiting owned means V rows s0 whole s1 f1 (inward frames')
@@ -239,6 +244,7 @@ unfoldable pub total : List Row → Frame → List Remaining → ℕ
 total rows f frames = suc (children_work rows (frame_children rows f)) + rests_work rows (inward frames)
 
 module _ (rows : List Row) where
+  -- a child that was visited leaves less work
   pub total-past : (f f' : Frame) (c : Child) (frames : List Remaining) → Taken rows f c f' → total rows f' frames < total rows f frames
   unfolding total
   total-past f f' c frames t = omega (arith, taken-work t, some-work rows c)
@@ -247,11 +253,13 @@ module _ (rows : List Row) where
   kept-work frames frames' r (inl added) = omega (arith, ap (λ rs. rests_work rows (inward rs)) added, ap (rests_work rows) (inward-more frames r))
   kept-work frames frames' r (inr same) = omega (arith, ap (λ rs. rests_work rows (inward rs)) same.1)
 
+  -- going into a child leaves less work
   pub total-into : (f f' inner : Frame) (c : Child) (frames frames' : List Remaining) → Taken rows f c f' → children_work rows (frame_children rows inner) + 1 < child_work rows c
       → IsKept frames f'.rest frames' → total rows inner frames' < total rows f frames
   unfolding total
   total-into f f' inner c frames frames' t light kept = omega (arith, taken-work t, ap (children_work rows) (taken-rest t), light, kept-work frames frames' f'.rest kept)
 
+  -- going on with the last of the stack leaves less work
   pub total-up : (f f1 : Frame) (frames frames' : List Remaining) (r : Remaining) → frame_children rows f ≡ [] → frames ≡ frames' ++ r ∷ [] → f1 ≡ record { first = None; rest = r }
       → total rows f1 frames' < total rows f frames
   unfolding total

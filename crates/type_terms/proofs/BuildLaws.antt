@@ -172,6 +172,7 @@ there-refused start old new x answers o are t f r needs there room =
 
 -- the term of the kind that the call names is its answer
 module _ (start old new : Terms) (e : List Told) (c : Call) (form : CallForm) (row : Row) (h : IsKindOf old e form (row_shape row)) where
+  -- if the kind that a call names is built, the call may have the term as its answer
   pub kind-allowed : {H : Type 0} (number : H → ℕ) (x : H) (a : Answer) → Builds (Ok x) number old new row
       → told new.rows a ≡ term (row_table row) (meaning new.rows (row_table row) (number x))
       → (AreTerms e (form_positions form) → (call_forms.IsFormTooDeep form → ⊥) → IsAllowed (setting start new) e c (term (row_table row) (call_forms.form_tree (number_at e) (tree_at e) form)))
@@ -179,6 +180,7 @@ module _ (start old new : Terms) (e : List Told) (c : Call) (form : CallForm) (r
   kind-allowed number x a b t allowed =
       rw (t, b.means, h.means) (allowed h.named (λ d. let y = b.deep (h.deep.1 d) in absurd (cc)))
 
+  -- if the kind that a call names isn't built, the call may be refused as the building was
   pub kind-refused : {H : Type 0} (number : H → ℕ) (r : Refusal) → Builds {H = H} (Err r) number old new row
       → BuildsOrFolds c → (AddsNothing (setting start new) e c → ⊥)
       → (NamesTerms e c → AreTerms e (form_positions form)) → (call_forms.IsFormTooDeep form → means.IsCallTooDeep e c)

@@ -147,12 +147,14 @@ module _ (e : List Told) (p : ℕ) (table : Table) (u : Tree Depth) (at : term_a
   shift-reason old new n NotAClause g h = absurd h
   shift-reason old new n NoSuchAnswer g h = absurd h
 
+  -- a call that shifts may be refused as a shift of its term is, if the shift changes the term
   pub shift-refused : (old new : Terms) (n : ℕ) (r : Refusal) → ((n ≡ 0) ⊎ (outer_binder u ≡ 0) → ⊥) → IsShiftRefusal new n u r
       → MayRefuse (setting old new) e (call.Shift p n) r
   shift-refused old new n r g h =
       shift-reason old new n r (subst (λ (t : Tree Depth). (n ≡ 0) ⊎ (outer_binder t ≡ 0) → ⊥) (sym tree-is) g)
       (subst (λ (t : Tree Depth). IsShiftRefusal new n t r) (sym tree-is) h)
 
+  -- a call that shifts may have a tree as its answer that reads as its term moved
   pub shift-allowed : (P : Setting) (n : ℕ) (v : Tree Depth) → read 0 v ≡ move n (read 0 u) → IsAllowed P e (call.Shift p n) (term table v)
   shift-allowed P n v m = (
     (is_term, tt),
@@ -179,6 +181,7 @@ module _ (e : List Told) (p : ℕ) (table : Table) (u : Tree Depth) (at : term_a
     inst-reason old new NotAClause g h = unsuited (is_term, named) h
     inst-reason old new NoSuchAnswer g h = unsuited (is_term, named) h
 
+    -- a call that instantiates may be refused as an instantiation is, if the value doesn't come back
     pub inst-refused : (old new : Terms) (args : List (Argument Depth)) (r : Refusal) → args ≡ told_arguments e list.items → (ComesBack args u → ⊥)
         → (IsUntouchedTerm (record { table = table; tree = u }) → ComesBack args u)
         → ((s : Sort) (i : ℕ) (name : Name) → u ≡ param s i name → Cause (param s i name) args r)
@@ -196,6 +199,7 @@ module _ (e : List Told) (p : ℕ) (table : Table) (u : Tree Depth) (at : term_a
         (subst (λ (t : Tree Depth). IsReason new (told_arguments e list.items) t r) (sym tree-is)
         (subst (λ (ys : List (Argument Depth)). IsReason new ys u r) same h))
 
+    -- a call that instantiates may have a plain instance as its answer, if there is no cause for a refusal
     pub inst-allowed : (P : Setting) (args : List (Argument Depth)) (v : Tree Depth) → args ≡ told_arguments e list.items → (AreItemsTooDeep (arg_items list.items) → ⊥)
         → IsPlain args u v → HasNoCause args u → IsAllowed P e (call.Instantiate p list) (term table v)
     inst-allowed P args v same shallow plain none = (

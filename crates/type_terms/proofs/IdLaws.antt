@@ -27,23 +27,29 @@ no-id-at earlier p a at f rows = at.is_id rows ∙ no-id a f rows
 
 -- what is at a position that has to tell an id of the sort, or of any
 module _ (e : List Told) (p : ℕ) where
+  -- a test for an id of a sort is right to be true if the position tells such an id
   pub sort-told : (s : DeclarationSort) (n : ℕ) → id_at e p ≡ Some (record { sort = s; number = n }) → IsTrue true ↔ AreTerms e (an_id s p)
   sort-told s n at = rw at (λ h. (refl, tt), λ h. refl)
 
+  -- a test for an id of a sort is right to be false if the position tells no such id
   pub no-sort-told : (s : DeclarationSort) → (TellsWanted e (of_id s) p → ⊥) → IsTrue false ↔ AreTerms e (an_id s p)
   no-sort-told s none = (λ h. absurd (cc), λ h. absurd (none h.0))
 
+  -- a test for any id is right to be true if the position tells an id
   pub any-told : (s : DeclarationSort) (n : ℕ) → id_at e p ≡ Some (record { sort = s; number = n }) → IsTrue true ↔ AreTerms e (any_id p)
   any-told s n at = rw at (λ h. (tt, tt), λ h. refl)
 
+  -- a test for any id is right to be false if the position tells none
   pub none-told : id_at e p ≡ None → IsTrue false ↔ AreTerms e (any_id p)
   none-told at = rw at (λ h. absurd (cc), λ h. absurd h.0)
 
 -- what is at the positions of two lists
 module _ (e : List Told) (ms ns : List Named) where
+  -- if the first positions tell what is wanted, a test of the other ones is right for all of them
   pub both-told : (b : Bool) → AreTerms e ms → IsTrue b ↔ AreTerms e ns → IsTrue b ↔ AreTerms e (ms ++ ns)
   both-told b h k = (λ t. AreTerms-append e ms ns h (k.0 t), λ a. k.1 (AreTerms-second e ms ns a))
 
+  -- a test of the first positions that is false is right for all of them
   pub first-untold : (b : Bool) → b ≡ false → IsTrue b ↔ AreTerms e ms → IsTrue b ↔ AreTerms e (ms ++ ns)
   first-untold b f k = (λ t. absurd (cc), λ a. k.1 (AreTerms-first e ms ns a))
 

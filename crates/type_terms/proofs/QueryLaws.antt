@@ -90,6 +90,7 @@ module _ (rows : List Row) (earlier : List Answer) (p q : ℕ) (a b : Answer) (h
   table-second : table_at (told_all rows earlier) q ≡ handle_table b
   table-second = ap table_of (k.means rows) ∙ told-table rows b
 
+  -- whether the numbers of two handles of one table are equal is an answer to whether their terms are
   pub equal-allowed : (P : Setting) (r : Bool) → AreOwnedAnswers rows earlier → AreOfOneTable a b
       → ((t : Table) (n m : ℕ) → n < size rows t → m < size rows t → (meaning rows t n ≡ meaning rows t m) ↔ (n ≡ m))
       → r ≡ eqb (handle_number a) (handle_number b) → IsAllowed P (told_all rows earlier) (call.Equal p q) (truth r)
