@@ -60,8 +60,8 @@ use Rattle.tt_fold.specs.Memory.{place_of, same_place, type_at, memo_at, memos}
 use Rattle.tt_fold.specs.Places.{IsIn}
 use Rattle.tt_fold.specs.Remember.{Memo, places}
 use Rattle.tt_fold.specs.declared.memory.Place.{Place}
-use Rattle.tt_binder.specs.Validate.{Agrees, Agrees_all, vars_at, Validation, validation_place, SeenAgree, RootAgrees, AddsPlace}
-use Rattle.tt_binder.specs.Validate.{ValidationLooks, EntersOnce, validate_hooks, ValidationIsExact}
+use Rattle.tt_binder.specs.Validate.{Agrees, Agrees_all, vars_at, Validation, validation_place, SeenAgree, RootAgrees}
+use Rattle.tt_binder.specs.Validate.{AddsPlace, ValidationLooks, EntersOnce, validate_hooks, ValidationIsExact}
 use Rattle.tt_binder.specs.declared.validate_bound_vars.WrongBoundVar.{WrongBoundVar}
 use Rattle.tt_binder.proofs.RowArguments.{IsClauseTree, kind_tree, const_kind_tree}
 

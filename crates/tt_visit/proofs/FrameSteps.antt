@@ -11,7 +11,8 @@ use Rattle.tt_visit.specs.Steps.{AreVarsStored}
 use Rattle.tt_visit.specs.Visit.{Visits, GoesOverAll, all_seen, BreaksAll}
 use Rattle.tt_visit.specs.Frames.{rest_children, rest_binder, frame_children, IsRest, IsKept, inward, children_height}
 use Rattle.tt_visit.specs.Frames.{children_work, child_height, child_work, frame_todo, rest_todo, IsFrame, AreRests}
-use Rattle.tt_visit.specs.Frames.{AreBinders, VisitorLeaves, GoesOn, BreaksOn, StackGoes, StackLeaves, StackBreaks, Inside}
+use Rattle.tt_visit.specs.Frames.{AreBinders, VisitorLeaves, GoesOn, BreaksOn, StackGoes, StackLeaves, StackBreaks}
+use Rattle.tt_visit.specs.Frames.{Inside}
 use Rattle.tt_visit.specs.declared.frame.Frame.{Frame}
 use Rattle.tt_visit.specs.declared.frame.Remaining.{Remaining}
 use Rattle.tt_visit.specs.declared.frame.Remaining.TheVariants as rest

@@ -40,7 +40,8 @@ use Rattle.tt_visit.specs.Visit.{Visits, Tells, TellingBreaks, GoesOver, GoesIns
 use Rattle.tt_visit.specs.Visit.{unhooked_seen, node_seen, term_seen, param_seen, bound_seen, all_seen, one_seen}
 use Rattle.tt_visit.specs.Visit.{Breaks, BreaksInside, BreaksAll, term_broke, inside_broke, unhooked_broke, node_broke}
 use Rattle.tt_visit.specs.Visit.{error_broke, term_inside_broke, first_broke, later_broke}
-use Rattle.tt_visit.specs.Steps.{form_error, kind_error, AreVarsStored, AsksVisitor, AskingBreaks, GoesUnder, BreaksUnder}
+use Rattle.tt_visit.specs.Steps.{form_error, kind_error, AreVarsStored, AsksVisitor, AskingBreaks, GoesUnder}
+use Rattle.tt_visit.specs.Steps.{BreaksUnder}
 
 -- a result that keeps a promise, whether it goes on or breaks, keeps every weaker promise
 pub flow-weaker : {B C : Type 0} (r : ControlFlow B C) {P P' : C → Type 0} {Q Q' : B → Type 0}

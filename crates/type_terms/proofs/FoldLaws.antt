@@ -40,8 +40,8 @@ use Rattle.type_terms.specs.declared.run.call.ArgCall.{ArgCall}
 use Rattle.type_terms.specs.declared.run.call.ArgCall.TheVariants as arg
 use Rattle.type_terms.specs.declared.run.call.Call.{Call}
 use Rattle.type_terms.specs.declared.run.call.Call.TheVariants as call
-use Rattle.type_terms.specs.CallForm.{Named, one, a_term, region_call_tree, IsRegionTooDeep, item_positions, items_positions}
-use Rattle.type_terms.specs.CallForm.{IsItemTooDeep, AreItemsTooDeep, arg_item, arg_items, args_ids}
+use Rattle.type_terms.specs.CallForm.{Named, one, a_term, region_call_tree, IsRegionTooDeep, item_positions}
+use Rattle.type_terms.specs.CallForm.{items_positions, IsItemTooDeep, AreItemsTooDeep, arg_item, arg_items, args_ids}
 use Rattle.type_terms.specs.Told.{Told, term, told_all, HasFullTable, Setting, setting}
 use Rattle.type_terms.specs.Means as means
 use Rattle.type_terms.specs.Means.{IsUntouchedTerm, IsParameter, IsParameterOf, AddsNothing, NamesTerms, too_deep, Term}

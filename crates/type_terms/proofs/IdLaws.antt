@@ -8,8 +8,9 @@ use Rattle.type_terms.specs.declared.run.answer.Answer.TheVariants as answer
 use Rattle.type_terms.specs.declared.run.call.Call.{Call}
 use Rattle.type_terms.specs.declared.run.call.Call.TheVariants as call
 use Rattle.type_terms.specs.CallForm.{Named, of_id, an_id, any_id, args_ids, ty_ids, const_ids, predicate_ids}
-use Rattle.type_terms.specs.CallForm.{declared_ids, declared_positions, arg_items, args_part, ty_call_form, const_call_form}
-use Rattle.type_terms.specs.CallForm.{predicate_call_form, form_positions, items_positions, part_positions}
+use Rattle.type_terms.specs.CallForm.{declared_ids, declared_positions, arg_items, args_part, ty_call_form}
+use Rattle.type_terms.specs.CallForm.{const_call_form, predicate_call_form, form_positions, items_positions}
+use Rattle.type_terms.specs.CallForm.{part_positions}
 use Rattle.type_terms.specs.Told.{Told, told, told_all}
 use Rattle.type_terms.specs.Means.{as_id, id_at, number_at, id_positions, TellsWanted, AreTerms, NamesTerms}
 use Rattle.type_terms.specs.Build.{IsAnswerAt}

@@ -28,10 +28,10 @@ use Rattle.type_terms.specs.declared.run.call.RegionCall.{RegionCall}
 use Rattle.type_terms.specs.declared.run.call.VariableCall.{VariableCall}
 use Rattle.type_terms.specs.CallForm.{ExistentialForm, trait_object, existentials_tree, existential_positions}
 use Rattle.type_terms.specs.CallForm.{IsExistentialTooDeep, all_trees, all_positions, AnyIsDeep, Named, Item, Part, one}
-use Rattle.type_terms.specs.CallForm.{a_region, CallForm, plain, under, variable_kind, region_call_tree, IsRegionTooDeep}
-use Rattle.type_terms.specs.CallForm.{item_tree, items_trees, item_positions, items_positions, part_positions}
-use Rattle.type_terms.specs.CallForm.{parts_positions, IsItemTooDeep, AreItemsTooDeep, IsPartTooDeep, ArePartsTooDeep}
-use Rattle.type_terms.specs.CallForm.{form_positions, IsFormTooDeep, RecordCall, record_tree}
+use Rattle.type_terms.specs.CallForm.{a_region, CallForm, plain, under, variable_kind, region_call_tree}
+use Rattle.type_terms.specs.CallForm.{IsRegionTooDeep, item_tree, items_trees, item_positions, items_positions}
+use Rattle.type_terms.specs.CallForm.{part_positions, parts_positions, IsItemTooDeep, AreItemsTooDeep, IsPartTooDeep}
+use Rattle.type_terms.specs.CallForm.{ArePartsTooDeep, form_positions, IsFormTooDeep, RecordCall, record_tree}
 use Rattle.type_terms.specs.Told.{Told, HasFullTable}
 use Rattle.type_terms.specs.Means.{number_at, tree_at, AreTerms}
 use Rattle.type_terms.specs.Build as build

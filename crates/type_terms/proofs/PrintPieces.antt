@@ -19,8 +19,8 @@ use Rattle.tt_interner.specs.Rows.{Row, size, meaning}
 use Rattle.type_terms.specs.declared.ir_print.layout.Style.{Style}
 use Rattle.type_terms.specs.declared.ir_print.layout.Place.TheVariants as place
 use Rattle.type_terms.specs.declared.ir_print.pieces.Piece.{Piece}
-use Rattle.type_terms.specs.Text.{style_in, are_none, before_child, closing, names, text_in, texts, child_text, BeginsText}
-use Rattle.type_terms.specs.Text.{Writes}
+use Rattle.type_terms.specs.Text.{style_in, are_none, before_child, closing, names, text_in, texts, child_text}
+use Rattle.type_terms.specs.Text.{BeginsText, Writes}
 use Rattle.type_terms.specs.Pieces.{inner_work, forest_pieces, inner_child_work, piece_text, pieces_text, pieces_work}
 use Rattle.type_terms.specs.Pieces.{ArePieces, AddsPieces, Opened, OpensText, Left}
 use Rattle.type_terms.proofs.PrintSteps.{begins-same, begins-more, writes-end}

@@ -4,8 +4,8 @@ use Rattle.tt_kinds.specs.Kinds.{record_shape, existential_shape}
 use Rattle.tt_kinds.specs.Kinds as kinds
 use Rattle.tt_interner.specs.Rows.{existential_row}
 use Rattle.tt_interner.proofs.Growth.{Extends-trans}
-use Rattle.type_terms.specs.CallForm.{existential_call_form, existential_record, existential_tree, existential_positions}
-use Rattle.type_terms.specs.CallForm.{IsExistentialTooDeep, under}
+use Rattle.type_terms.specs.CallForm.{existential_call_form, existential_record, existential_tree}
+use Rattle.type_terms.specs.CallForm.{existential_positions, IsExistentialTooDeep, under}
 use Rattle.type_terms.specs.Told.{told_all, HasFullTable}
 use Rattle.type_terms.specs.Means.{number_at, tree_at}
 use Rattle.std.proofs.Common.{map}

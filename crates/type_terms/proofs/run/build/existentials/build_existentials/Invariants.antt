@@ -2,8 +2,8 @@ use Rattle.std.proofs.Common.{take, map}
 use Rattle.tt_kinds.specs.Shape.{item_shapes}
 use Rattle.tt_kinds.specs.Kinds.{existential_shape}
 use Rattle.tt_interner.specs.Stored.{Extends}
-use Rattle.type_terms.specs.CallForm.{existential_call_form, existential_tree, existential_positions, IsExistentialTooDeep}
-use Rattle.type_terms.specs.CallForm.{all_trees, all_positions, AnyIsDeep}
+use Rattle.type_terms.specs.CallForm.{existential_call_form, existential_tree, existential_positions}
+use Rattle.type_terms.specs.CallForm.{IsExistentialTooDeep, all_trees, all_positions, AnyIsDeep}
 use Rattle.type_terms.specs.Told.{told_all}
 use Rattle.type_terms.specs.Means.{number_at, tree_at}
 use Rattle.type_terms.specs.Build.{ArePlaced}

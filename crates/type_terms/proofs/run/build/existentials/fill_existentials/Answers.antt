@@ -6,8 +6,8 @@ use Rattle.tt_kinds.specs.Shape.{item_shapes}
 use Rattle.tt_kinds.specs.Kinds.{existential_shape}
 use Rattle.tt_interner.proofs.Growth.{Extends-refl, Extends-trans}
 use Rattle.type_terms.specs.declared.run.call.ExistentialCall.{ExistentialCall}
-use Rattle.type_terms.specs.CallForm.{existential_call_form, existential_tree, existential_positions, IsExistentialTooDeep}
-use Rattle.type_terms.specs.CallForm.{all_trees, all_positions, AnyIsDeep}
+use Rattle.type_terms.specs.CallForm.{existential_call_form, existential_tree, existential_positions}
+use Rattle.type_terms.specs.CallForm.{IsExistentialTooDeep, all_trees, all_positions, AnyIsDeep}
 use Rattle.type_terms.specs.Told.{told_all, HasFullTable}
 use Rattle.type_terms.specs.Means.{number_at, tree_at}
 use Rattle.type_terms.specs.Build.{ArePlaced}

@@ -3,7 +3,8 @@ use Rattle.tt_kinds.specs.Label.{predicate_label}
 use Rattle.tt_kinds.specs.Kinds.{record_shape, predicate_kind_shape}
 use Rattle.tt_kinds.specs.Kinds as kinds
 use Rattle.tt_interner.proofs.Growth.{Extends-trans}
-use Rattle.type_terms.specs.CallForm.{predicate_call_form, predicate_record, variable_kind, form_positions, IsFormTooDeep}
+use Rattle.type_terms.specs.CallForm.{predicate_call_form, predicate_record, variable_kind, form_positions}
+use Rattle.type_terms.specs.CallForm.{IsFormTooDeep}
 use Rattle.type_terms.specs.Told.{told_all, HasFullTable}
 use Rattle.type_terms.specs.Means.{number_at}
 use Rattle.type_terms.proofs.PartLaws.{kind-passed, bound-record, placed-grows, unbuilt-always}
