@@ -150,6 +150,7 @@ module _ (args : GenericArgs) (fs now : List FieldInfo) (i : ℕ) (old between :
   pub to-args : args.number < size old.rows ArgLists → args.number < size between.rows ArgLists
   to-args own = in_range-grows old.rows between.rows to-extend.rows ArgLists args.number own
 
+  -- the type of the next field, which has no instance yet, is in range
   pub to-own : (d : FieldInfo) → i < length fs → OwnsTypes old.rows fs → (get_or now i d).ty.number < size between.rows Types
   to-own d h own =
       let here : (get_or fs i d).ty.number < size old.rows Types = own i d h in
@@ -221,6 +222,7 @@ module _ (rows : List Row) (base : Ty) where
   own-from name v i (f ∷ fs) h =
       All-cons HasOwnTy (declared_field base name v i f) (fields_from base name v (i + 1) fs) (All-head (IsOwnField rows) f fs h).1 (own-from name v (i + 1) fs (All-tail (IsOwnField rows) f fs h))
 
+  -- if the names and types in variants are in range, so are the types of all their fields
   pub own-among : (v : ℕ) (vs : List VariantDef) → All (IsOwnVariant rows) vs → OwnsTypes rows (fields_among base v (map variant_of vs))
   own-among v [] h = All-nil HasOwnTy
   own-among v (x ∷ vs) h =

@@ -53,15 +53,19 @@ use Rattle.tt_binder.proofs.WalkLaws.{made-inst, instantiation_laws, knows_first
 
 -- the laws of an instance
 module _ (args : List (Argument Depth)) (t r : Tree Depth) (is : IsInstance args t r) where
+  -- to replace in an instance is to replace once, by the arguments with the further ones put into them
   pub composes : Composes args t r
   composes later = rw is.plain (put-put later (readings args) (read 0 t) (IsAnswered-read args 0 t is.answered))
 
+  -- to move an instance is to instantiate the moved value by the moved arguments
   pub commutes : Commutes args t r
   commutes n = rw is.plain (move-put n (readings args) (read 0 t))
 
+  -- if the value and the arguments agree with their binders' lists, so does the instance
   pub stays_matched : StaysMatched args t r
   stays_matched h_args h = rw is.plain (MatchedUnder-put (readings args) h_args [] (read 0 t) h)
 
+  -- if no argument holds a parameter, the instance holds none
   pub leaves_no_param : LeavesNoParam args r
   leaves_no_param h_args = rw is.plain (holds_param-put (readings args) (read 0 t) (IsAnswered-read args 0 t is.answered) h_args)
 

@@ -36,12 +36,15 @@ by_place P k d inner at_it outer = elim (cases_lt d k) [
 
 -- what comes of a variable of an inner binder, of the opened one, and of one outside of it
 module _ (args : Args) (k d : ℕ) (s : Sort) (e : Entry Name) where
+  -- a variable of a binder inside of the opened one stays as it is
   pub open-inner : d < k → open_variable args k s (at d) e ≡ bound s (at d) e
   open-inner h = rw (lt-ltb d k h) refl
 
+  -- a variable of the opened binder is replaced by its argument
   pub open-own : d ≡ k → open_variable args k s (at d) e ≡ given_under args k s e.var []
   open-own is = rw (le-ltb d k (omega arith), eq-eqb d k is) refl
 
+  -- a variable of a binder outside of the opened one has an index one less
   pub open-outer : k < d → open_variable args k s (at d) e ≡ bound s (at (d - 1)) e
   open-outer h = let other : d ≡ k → ⊥ = λ e. omega arith in rw (le-ltb d k (omega arith), ne_eqb d k other) refl
 
@@ -67,6 +70,7 @@ read-open_variable args k s (at d) e = by_place (read k (open_variable args k s 
 
 -- opening is plain
 mutual
+  -- an opened tree reads as the tree with the arguments in the places of the opened binder's own variables
   pub read-open_tree : (args : Args) (k : ℕ) (t : Tree Depth) → read k (open_tree k args t) ≡ put_own (readings args) k (read (suc k) t)
   read-open_tree args k (param s i name) = refl
   read-open_tree args k (bound s d e) = read-open_variable args k s d e

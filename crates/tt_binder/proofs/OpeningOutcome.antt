@@ -93,6 +93,7 @@ new_opener rows items a b k es same outside empty = rw (same, outside, empty) re
 
 -- what the folder's walk promises of the call
 module _ {S T : Type 0} {owned : List Row → S → Type 0} {means : List Row → S → Opening} {shape : T → Shape} {terms terms' : Terms} {s s' : S} {x : T} (args : Args) where
+  -- a fold by a new folder keeps all promises of taking a binder off, if something is bound outside of the value
   pub opened_outcome : (result : Result T Refusal) → means terms.rows s ≡ at_first args → KeepsClauses (open_tree 0 args (tree_by shape terms.rows x)) → 0 < outer_binder (tree_by shape terms.rows x)
       → Folds owned means (IsPartBy shape) (tree_by shape) (Walks opening_hooks) (Fails opening_hooks (refusals_of terms')) terms s x result terms' s'
       → OpeningPromise shape args x terms result terms'

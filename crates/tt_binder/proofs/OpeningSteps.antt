@@ -42,7 +42,7 @@ use Rattle.tt_binder.specs.Arguments.{arguments}
 use Rattle.tt_binder.specs.Instantiation.{Args, Kept, Instantiates, PutsArgument, LeafRefuses}
 use Rattle.tt_binder.specs.Instantiation.{for_cause as leaf_for_cause, shift_unbuilt, shift_too_far}
 use Rattle.tt_binder.specs.Opening.{open_variable, open_tree, IsOwn, OpeningCause}
-use Rattle.tt_binder.specs.BinderOpener.{Opening, opening_state, index_outside, Opens, OpeningRefuses, for_cause}
+use Rattle.tt_binder.specs.BinderOpener.{Opening, opening_state, index_outside, OpensTree, OpeningRefuses, for_cause}
 use Rattle.tt_binder.specs.BinderOpener.{not_built, too_great, opening}
 use Rattle.tt_binder.proofs.ShiftedLaws.{put_argument}
 use Rattle.tt_binder.proofs.OpeningLaws.{by_place, open-own, open-inner, open-outer, low_opens}
@@ -53,7 +53,7 @@ module _ (args : Args) (k : ℕ) (o : Sort) (e : Entry Name) where
   own_tree (at d) is = open-own args k d o e is
   own_tree canonical is = absurd is
 
-  pub own_opens : (d : Depth) → IsOwn k d → (r : Tree Depth) → Instantiates args k (param o e.var []) r → Opens args k (bound o d e) r
+  pub own_opens : (d : Depth) → IsOwn k d → (r : Tree Depth) → Instantiates args k (param o e.var []) r → OpensTree args k (bound o d e) r
   own_opens d own r done = record { plain = done.plain ∙ sym (own_tree d own); given = λ is. done.allows.answered }
 
   own_caused : (d : Depth) → IsOwn k d → (r : Refusal) → Cause (param o e.var []) args r → OpeningCause args k (bound o d e) r
@@ -76,7 +76,7 @@ module _ (args : Args) (k : ℕ) (o : Sort) (e : Entry Name) where
   own_without unbuilt d own none = for_cause (none, own)
 
   -- another variable has its index outside
-  pub outside_opens : (i : BoundVarIndexKind) → (IsOwn k (depth i) → ⊥) → Opens args k (bound o (depth i) e) (bound o (depth (index_outside k i)) e)
+  pub outside_opens : (i : BoundVarIndexKind) → (IsOwn k (depth i) → ⊥) → OpensTree args k (bound o (depth i) e) (bound o (depth (index_outside k i)) e)
   outside_opens (Bound d) other = record { plain = by_place (bound o (depth (index_outside k (Bound d))) e ≡ open_variable args k o (at d) e) k d inner (λ is. absurd (other is)) outer; given = λ is. absurd (other is) }
     where
       inner : d < k → bound o (depth (index_outside k (Bound d))) e ≡ open_variable args k o (at d) e
@@ -97,7 +97,7 @@ module _ (args : Args) (k : ℕ) (o : Sort) (e : Entry Name) where
 
 -- what is built of another variable
 module _ (terms terms1 : Terms) (args : Args) (k : ℕ) (o : Sort) (e : Entry ℕ) (i : BoundVarIndexKind) where
-  outside_tree : (IsOwn k (depth i) → ⊥) → Opens args k (tree_in terms.rows (bound_shape o i e)) (tree_in terms.rows (bound_shape o (index_outside k i) e))
+  outside_tree : (IsOwn k (depth i) → ⊥) → OpensTree args k (tree_in terms.rows (bound_shape o i e)) (tree_in terms.rows (bound_shape o (index_outside k i) e))
   unfolding fill
   outside_tree other = outside_opens args k o (rename_entry (name_of (meaning terms.rows)) e) i other
 
@@ -105,12 +105,13 @@ module _ (terms terms1 : Terms) (args : Args) (k : ℕ) (o : Sort) (e : Entry �
   unfolding fill
   outside_past out other deep fits = outside_great args k o (rename_entry (name_of (meaning terms.rows)) e) i out other deep fits
 
+  -- if a variable of another binder is built with its index outside, it is opened, and else refused for a reason
   pub outside_built : {H : Type 0} (number : H → ℕ) (t : Table) (result : Result H Refusal) → IsOuter k i → (IsOwn k (depth i) → ⊥)
       → MatchResult result
       (λ h. IsPartOf terms1.rows (stored t (number h)) × (tree_in terms1.rows (stored t (number h)) ≡ tree_in terms.rows (bound_shape o (index_outside k i) e)))
       (λ r. IsTooGreat r (IsGreatest (depth (index_outside k i))) ⊎ IsRefused terms1 (tree_in terms.rows (bound_shape o (index_outside k i) e)) r)
       → MatchResult result
-      (λ h. IsPartOf terms1.rows (stored t (number h)) × Opens args k (tree_in terms.rows (bound_shape o i e)) (tree_in terms1.rows (stored t (number h))))
+      (λ h. IsPartOf terms1.rows (stored t (number h)) × OpensTree args k (tree_in terms.rows (bound_shape o i e)) (tree_in terms1.rows (stored t (number h))))
       (λ r. OpeningRefuses (IsRefused terms1) args k (tree_in terms.rows (bound_shape o i e)) r)
   outside_built number t (Ok h) out other is = let n = outside_tree other in (is.0, record { plain = is.1 ∙ n.plain; given = n.given })
   outside_built number t (Err r) out other is = elim is [
@@ -120,7 +121,7 @@ module _ (terms terms1 : Terms) (args : Args) (k : ℕ) (o : Sort) (e : Entry �
 
 -- what takes the place of an own variable
 module _ (rows : List Row) (args : Args) (k : ℕ) (o : Sort) (e : Entry ℕ) (i : BoundVarIndexKind) (own : IsOwn k (depth i)) where
-  pub own_given : (r : Tree Depth) → Instantiates args k (param o e.var []) r → Opens args k (tree_in rows (bound_shape o i e)) r
+  pub own_given : (r : Tree Depth) → Instantiates args k (param o e.var []) r → OpensTree args k (tree_in rows (bound_shape o i e)) r
   unfolding fill
   own_given r done = own_opens args k o (rename_entry (name_of (meaning rows)) e) (depth i) own r done
 
@@ -128,28 +129,31 @@ module _ (rows : List Row) (args : Args) (k : ℕ) (o : Sort) (e : Entry ℕ) (i
   unfolding fill
   own_refused unbuilt r h = own_refuses args k o (rename_entry (name_of (meaning rows)) e) unbuilt (depth i) own r h
 
+  -- without arguments, a variable of the opened binder is refused with `NoArguments`
   pub own_lacks : (unbuilt : Tree Depth → Refusal → Type 0) → args ≡ [] → OpeningRefuses unbuilt args k (tree_in rows (bound_shape o i e)) NoArguments
   unfolding fill
   own_lacks unbuilt none = own_without args k o (rename_entry (name_of (meaning rows)) e) unbuilt (depth i) own none
 
 -- what is built of an own variable
 module _ (rows : List Row) (args : Args) (k : ℕ) (o : Sort) (e : Entry ℕ) (i : BoundVarIndexKind) (own : IsOwn k (depth i)) (unbuilt : Tree Depth → Refusal → Type 0) (new : List Row) where
+  -- a variable of the opened binder is opened to what a parameter of its index becomes, and refused as that is
   pub own_found : {H : Type 0} (shape : H → Shape) (result : Result H Refusal)
       → MatchResult result
       (λ h. IsPartOf new (shape h) × Instantiates args k (param o e.var []) (tree_in new (shape h)))
       (λ r. LeafRefuses unbuilt args k (param o e.var []) r)
       → MatchResult result
-      (λ h. IsPartOf new (shape h) × Opens args k (tree_in rows (bound_shape o i e)) (tree_in new (shape h)))
+      (λ h. IsPartOf new (shape h) × OpensTree args k (tree_in rows (bound_shape o i e)) (tree_in new (shape h)))
       (λ r. OpeningRefuses unbuilt args k (tree_in rows (bound_shape o i e)) r)
   own_found shape (Ok h) is = (is.0, own_given rows args k o e i own (tree_in new (shape h)) is.1)
   own_found shape (Err r) is = own_refused rows args k o e i own unbuilt r is
 
+  -- a variable of the opened binder is opened to the argument put for its index, and refused as the argument is
   pub own_put : {H : Type 0} (shape : H → Shape) (kept kept' : Kept) (c c' : Counters) (result : Result H Refusal)
       → MatchResult result
       (λ h. IsPartOf new (shape h) × PutsArgument args k (param o e.var []) (tree_in new (shape h)) kept c kept' c')
       (λ r. LeafRefuses unbuilt args k (param o e.var []) r)
       → MatchResult result
-      (λ h. IsPartOf new (shape h) × Opens args k (tree_in rows (bound_shape o i e)) (tree_in new (shape h)))
+      (λ h. IsPartOf new (shape h) × OpensTree args k (tree_in rows (bound_shape o i e)) (tree_in new (shape h)))
       (λ r. OpeningRefuses unbuilt args k (tree_in rows (bound_shape o i e)) r)
   own_put shape kept kept' c c' (Ok h) is =
       let argument = put_argument is.1 in
@@ -165,7 +169,7 @@ below-outside k Canonical low = tt
 pub region_outside : (unbuilt : Tree Depth → Refusal → Type 0) (rows : List Row) (args : Args) (k : ℕ) (i : BoundVarIndexKind) (b : BoundRegion) (result : Result RegionKind Refusal)
     → IsBelowGreatest (depth i) → (IsOwn k (depth i) → ⊥) → IsPartOf rows (region_shape (ReBound i b)) → (IsShallow (ReBound (index_outside k i) b) → result ≡ Ok (ReBound (index_outside k i) b))
     → MatchResult result
-    (λ r. IsPartOf rows (region_shape r) × Opens args k (tree_in rows (region_shape (ReBound i b))) (tree_in rows (region_shape r)))
+    (λ r. IsPartOf rows (region_shape r) × OpensTree args k (tree_in rows (region_shape (ReBound i b))) (tree_in rows (region_shape r)))
     (λ e. OpeningRefuses unbuilt args k (tree_in rows (region_shape (ReBound i b))) e)
 unfolding fill
 region_outside unbuilt rows args k i b result low other part is =
@@ -174,7 +178,7 @@ region_outside unbuilt rows args k i b result low other part is =
 -- what the hook at regions answers
 pub region_answered : (unbuilt : Tree Depth → Refusal → Type 0) (rows : List Row) (s : Standing Opening) (x y : RegionKind) (result : Result RegionKind Refusal) → x ≡ y
     → MatchResult result
-    (λ r. IsPartOf rows (region_shape r) × Opens s.state.rule s.state.under (tree_in rows (region_shape y)) (tree_in rows (region_shape r)))
+    (λ r. IsPartOf rows (region_shape r) × OpensTree s.state.rule s.state.under (tree_in rows (region_shape y)) (tree_in rows (region_shape r)))
     (λ e. OpeningRefuses unbuilt s.state.rule s.state.under (tree_in rows (region_shape y)) e)
     → MatchResult result
     (λ r. IsPartOf rows (region_shape r) × ((s ≡ s) × Done opening s.state.rule s.state.under (tree_in rows (region_shape x)) (tree_in rows (region_shape r))))
@@ -200,7 +204,7 @@ at_state s c = record { state = s; counters = c }
 
 -- what takes a variable's place is answered
 pub opened_step : (old new : Terms) (xs ys : List GenericArgKind) (k : ℕ) (es : List (Place × Ty)) (t r : Tree Depth) → opening_state new.rows ys k es ≡ opening_state old.rows xs k es
-    → IsVariable t → Opens (arguments old.rows xs) k t r → new.counters.descents ≡ old.counters.descents → old.counters.shift_descents ≤ new.counters.shift_descents
+    → IsVariable t → OpensTree (arguments old.rows xs) k t r → new.counters.descents ≡ old.counters.descents → old.counters.shift_descents ≤ new.counters.shift_descents
     → OnTerm opening (at_state (opening_state old.rows xs k es) old.counters) t (replace r) (at_state (opening_state new.rows ys k es) new.counters)
 opened_step old new xs ys k es t r state is opens descents shifts = rw state (given (is, opens, descents, shifts))
 
@@ -238,8 +242,8 @@ unfolding fill
 variable_at f o i e t same = rw same tt
 
 -- what a tree is opened to, an equal tree is opened to
-pub opens_at : (args : Args) (k : ℕ) (t u r : Tree Depth) → t ≡ u → Opens args k u r → Opens args k t r
-opens_at args k t u r same h = subst (λ x. Opens args k x r) (sym same) h
+pub opens_at : (args : Args) (k : ℕ) (t u r : Tree Depth) → t ≡ u → OpensTree args k u r → OpensTree args k t r
+opens_at args k t u r same h = subst (λ x. OpensTree args k x r) (sym same) h
 
 -- why a tree isn't opened is why an equal tree isn't
 pub refuses_at : (unbuilt : Tree Depth → Refusal → Type 0) (args : Args) (k : ℕ) (t u : Tree Depth) (e : Refusal) → t ≡ u → OpeningRefuses unbuilt args k u e → OpeningRefuses unbuilt args k t e

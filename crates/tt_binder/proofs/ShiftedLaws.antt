@@ -114,6 +114,7 @@ shift_still shape old new p x y es fs none (made below there part tree pairs kep
 
 -- what an argument's shift promises, of parameters of its sort
 module _ {T : Type 0} (shape : T → Shape) (old new : Terms) (args : Args) (sort : Sort) (index k : ℕ) (x y : T) (es fs : List (ParamAt × T)) where
+  -- once a parameter's argument is shifted, all remembered shifts are right among the new rows
   pub shift_owned : Grows old.rows new.rows → argument args sort index ≡ Some (tree_by shape old.rows x) → OwnsShifts shape old.rows args sort es
       → Shifts shape old x (param_at index k) es fs new y → OwnsShifts shape new.rows args sort fs
   shift_owned g a owns (unshifted stay same kept still) = rw kept (OwnsShifts-still shape old.rows new.rows args sort es g owns)
@@ -126,6 +127,7 @@ module _ {T : Type 0} (shape : T → Shape) (old new : Terms) (args : Args) (sor
   placed : (name : Name) (v r : Tree Depth) → argument args sort index ≡ Some v → r ≡ shift_tree 0 k v → IsArgument args k (param sort index name) r
   placed name v r a is = let d = given_done args k sort index name v r a is in record { param = tt; plain = d.plain; allows = d.allows }
 
+  -- the shifted argument is in range
   pub shift_part : IsPartBy shape old.rows x → OwnsShifts shape old.rows args sort es → Shifts shape old x (param_at index k) es fs new y → IsPartBy shape new.rows y
   shift_part part owns (unshifted stay same kept still) = rw (same, still) part
   shift_part part owns (found there kept still) = rw still (found_shift shape old.rows args sort (param_at index k) y es owns there).part
@@ -134,6 +136,7 @@ module _ {T : Type 0} (shape : T → Shape) (old new : Terms) (args : Args) (sor
   same_counters : (c c' : Counters) → c'.descents ≡ c.descents → c' ≡ record { descents = c.descents; shift_descents = c'.shift_descents }
   same_counters c c' same = ap (λ n. record { descents = n; shift_descents = c'.shift_descents }) same
 
+  -- a parameter's argument is put in its place once it is shifted past the binders above
   pub shift_puts : (name : Name) → argument args sort index ≡ Some (tree_by shape old.rows x) → OwnsShifts shape old.rows args sort es
       → new.counters.descents ≡ old.counters.descents → old.counters.shift_descents ≤ new.counters.shift_descents → Shifts shape old x (param_at index k) es fs new y
       → PutsArgument args k (param sort index name) (tree_by shape new.rows y) (keys_of es) old.counters (keys_of fs) new.counters
@@ -200,10 +203,12 @@ module _ (args : Args) (k : ℕ) (t r : Tree Depth) (beside : Kept) (apart : (i 
   }) more pairs
 
 module _ (args : Args) (k : ℕ) (t r : Tree Depth) (beside : Kept) (apart : (i : ℕ) → IsParamIn (param_at i k) k t → IsIn (param_at i k) beside → ⊥) {kept kept' : Kept} {c c' : Counters} where
+  -- an argument is put alike with further shifts remembered behind, if none of them is its parameter's
   pub puts_before : PutsArgument args k t r kept c kept' c' → PutsArgument args k t r (kept ++ beside) c (kept' ++ beside) c'
   puts_before puts = puts_beside args k t r beside apart (λ ks. ks ++ beside) (λ ks q h. IsIn-append q ks beside h)
       (λ ks q h. elim h [ inl a ↦ IsIn-left q ks beside a | inr b ↦ IsIn-right q ks beside b ]) puts
 
+  -- an argument is put alike with further shifts remembered in front, if none of them is its parameter's
   pub puts_after : PutsArgument args k t r kept c kept' c' → PutsArgument args k t r (beside ++ kept) c (beside ++ kept') c'
   puts_after puts = puts_beside args k t r beside apart (λ ks. beside ++ ks) (λ ks q h. elim (IsIn-append q beside ks h) [ inl b ↦ inr b | inr a ↦ inl a ])
       (λ ks q h. elim h [ inl a ↦ IsIn-right q beside ks a | inr b ↦ IsIn-left q beside ks b ]) puts

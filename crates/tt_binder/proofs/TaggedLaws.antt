@@ -6,6 +6,7 @@ use Rattle.tt_fold.specs.Places.{IsIn, AreDistinct}
 use Rattle.tt_fold.proofs.PlaceLaws.{IsIn-append}
 
 module _ {A : Type 0} where
+  -- the items of two lists of distinct items are distinct together if no item is in both lists
   pub AreDistinct-append : (xs ys : List A) → AreDistinct xs → AreDistinct ys → ((x : A) → IsIn x xs → IsIn x ys → ⊥) → AreDistinct (xs ++ ys)
   AreDistinct-append [] ys d e apart = e
   AreDistinct-append (x ∷ xs) ys d e apart = (
@@ -18,6 +19,7 @@ module _ {K X : Type 0} where
   abbrev pub beside : K → List X → List (K × X)
   beside k xs = map (λ x. (k, x)) xs
 
+  -- all items of the lists, each beside its list's key
   abbrev pub tagged : List (K × List X) → List (K × X)
   tagged [] = []
   tagged (e ∷ l) = beside e.0 e.1 ++ tagged l
@@ -45,6 +47,7 @@ module _ {K X : Type 0} where
       AreDistinct-append (beside e.0 e.1) (tagged l) (AreDistinct-beside e.0 e.1 (each e (inl refl))) (AreDistinct-tagged l d.1 (λ f h. each f (inr h)))
       (λ p a b. d.0 (rw (← (IsIn-beside p e.0 e.1 a).0) (IsIn-keys p l b)))
 
+  -- the items of two lists of lists, beside their keys, are those of the first and then of the second
   pub tagged-append : (l m : List (K × List X)) → tagged (l ++ m) ≡ tagged l ++ tagged m
   tagged-append [] m = refl
   tagged-append (e ∷ l) m = ap (λ xs. beside e.0 e.1 ++ xs) (tagged-append l m) ∙ sym (append_assoc (beside e.0 e.1) (tagged l) (tagged m))

@@ -37,6 +37,7 @@ abbrev mutual
   Meets m (node l ts) e = Meets_all m ts e
   Meets m (binder vs t) e = IsBinderRefusal m e ⊎ Meets (further_in m) t e
 
+  -- the same for trees in order
   pub Meets_all : Replacing → Forest Depth → Refusal → Type 0
   Meets_all m none e = ⊥
   Meets_all m (also t ts) e = Meets m t e ⊎ Meets_all m ts e
@@ -51,6 +52,7 @@ abbrev mutual
   IsRooted (node l ts) = IsRooted_all ts
   IsRooted (binder vs t) = IsRooted t
 
+  -- the same for trees in order
   pub IsRooted_all : Forest Depth → Type 0
   IsRooted_all none = ⊤
   IsRooted_all (also t ts) = IsRooted t × IsRooted_all ts
@@ -161,6 +163,7 @@ module _ (heeded : Refusal → Bool) where
   replaced_clean m t r (by_value is) clean = clean
 
   mutual
+    -- a walk without flags that ends well gives the plain result, leaves its state and met nothing that it heeds
     pub does : {m m' : Replacing} {t r : Tree Depth} → Walks (unpruned_hooks heeded) m t r m' → Does m t r m'
     does {m} {m'} {t} {r} (at_region is h) =
         record { stays = h.0; plain = h.1 ∙ region_placed m t is; clean = λ e heeds met. h.2 e heeds (region_leaf m t e is met) }
@@ -283,6 +286,7 @@ place_fits_or k (outer j) = below_or (j + k) greatest
 place_fits_or k apart = inl tt
 
 mutual
+  -- a reading fits under a number of binders, or it doesn't
   pub fits_or : (k : ℕ) (r : Tree Place) → FitsUnder k r ⊎ (FitsUnder k r → ⊥)
   fits_or k (param s i name) = inl tt
   fits_or k (bound s p x) = place_fits_or k p

@@ -60,8 +60,8 @@ use Rattle.tt_fold.specs.Memory.{place_of, same_place, type_at, memo_at, memos}
 use Rattle.tt_fold.specs.Places.{IsIn}
 use Rattle.tt_fold.specs.Remember.{Memo, places}
 use Rattle.tt_fold.specs.declared.memory.Place.{Place}
-use Rattle.tt_binder.specs.Validate.{Agrees, Agrees_all, vars_at, Validation, here, SeenAgree, RootAgrees, AddsPlace}
-use Rattle.tt_binder.specs.Validate.{ValidationLooks, EntersOnce, validate_hooks, ValidationIsExact}
+use Rattle.tt_binder.specs.Validate.{Agrees, Agrees_all, vars_at, Validation, validation_place, SeenAgree, RootAgrees}
+use Rattle.tt_binder.specs.Validate.{AddsPlace, ValidationLooks, EntersOnce, validate_hooks, ValidationIsExact}
 use Rattle.tt_binder.specs.declared.validate_bound_vars.WrongBoundVar.{WrongBoundVar}
 use Rattle.tt_binder.proofs.RowArguments.{IsClauseTree, kind_tree, const_kind_tree}
 
@@ -249,7 +249,7 @@ mutual
   goes_agrees s s' t (skipped is h) fits clean = record {
     fine = elim h.0 [
       | inl agrees ↦ agrees
-      | inr there ↦ (let small : tree_size t < suc (tree_size t) = omega arith in clean.at_place (here s t) there small)
+      | inr there ↦ (let small : tree_size t < suc (tree_size t) = omega arith in clean.at_place (validation_place s t) there small)
     ];
     seen = adds_none s.vars s s' h.1;
   }
@@ -257,20 +257,20 @@ mutual
       let still = told_still s1 s2 (error_of l) told in
       let vars : s2.vars ≡ s.vars = ap (λ x. x.vars) still ∙ h.vars in
       let depth : s2.depth ≡ s.depth = ap (λ x. x.depth) still ∙ h.depth in
-      let entered : AddsPlace (here s (term l ts)) s.seen s2.seen = λ q m. h.seen q (rw still at m) in
-      let before = inside_clean s.vars (here s (term l ts)) (suc (size_all ts)) s.seen s2.seen refl entered clean in
+      let entered : AddsPlace (validation_place s (term l ts)) s.seen s2.seen = λ q m. h.seen q (rw still at m) in
+      let before = inside_clean s.vars (validation_place s (term l ts)) (suc (size_all ts)) s.seen s2.seen refl entered clean in
       let less : suc (size_all ts) ≤ suc (size_all ts) = omega arith in
       let inner = goes_all_agree s2 s' ts all fits (fewer_clean s.vars s2.vars (suc (size_all ts)) (suc (size_all ts)) s2.seen s2.seen vars less refl before) in
       let among : Agrees_all s.vars s.depth ts = rw (vars, depth) at inner.fine in
       let added : AddsClean s.vars s2.seen s'.seen = rw vars at inner.seen in
-      record { fine = among; seen = descended s.vars (here s (term l ts)) s.seen s2.seen s'.seen among entered added }
+      record { fine = among; seen = descended s.vars (validation_place s (term l ts)) s.seen s2.seen s'.seen among entered added }
   goes_agrees s s' (param o i name) (went_inside is h param_seen) fits clean = record {
     fine = tt;
-    seen = descended s.vars (here s (param o i name)) s.seen s'.seen s'.seen tt h.seen (λ q m. inl m);
+    seen = descended s.vars (validation_place s (param o i name)) s.seen s'.seen s'.seen tt h.seen (λ q m. inl m);
   }
   goes_agrees s s' (bound o d e) (went_inside is h bound_seen) fits clean = record {
     fine = h.agrees;
-    seen = descended s.vars (here s (bound o d e)) s.seen s'.seen s'.seen h.agrees h.seen (λ q m. inl m);
+    seen = descended s.vars (validation_place s (bound o d e)) s.seen s'.seen s'.seen h.agrees h.seen (λ q m. inl m);
   }
   goes_agrees s s' (region r) (went_inside is h inside) fits clean = elim inside [ ]
   goes_agrees s s' (node l ts) (went_inside is h inside) fits clean = elim inside [ ]

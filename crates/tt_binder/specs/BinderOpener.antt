@@ -44,7 +44,7 @@ index_outside k (Bound d) = Bound (if nat_lt d k then d else d - 1)
 index_outside k Canonical = Canonical
 
 -- the tree under k binders is opened, and each own variable of the opened binder has an argument
-pub record Opens (args : Args) (k : ℕ) (t r : Tree Depth) : Type 0 where
+pub record OpensTree (args : Args) (k : ℕ) (t r : Tree Depth) : Type 0 where
   pub plain : r ≡ open_tree k args t
   pub given : IsGiven args k t
 
@@ -64,7 +64,7 @@ opening = record {
   Allows = IsGiven;
   IsEntered = λ args k t. IsVariable t → ⊥;
   IsTodo = λ args k t. k < outer_binder t;
-  Gives = λ s t r kept c. IsVariable t × Opens s.state.rule s.state.under t r × (c.descents ≡ s.counters.descents)
+  Gives = λ s t r kept c. IsVariable t × OpensTree s.state.rule s.state.under t r × (c.descents ≡ s.counters.descents)
       × (s.counters.shift_descents ≤ c.shift_descents);
   RegionFails = OpeningRefuses;
   TermFails = λ unbuilt s t e s'. (s'.counters.descents ≡ s.counters.descents)

@@ -42,8 +42,8 @@ pub record Validation : Type 0 where
   pub seen : List TypeAt
 
 -- a term at the validation's place
-abbrev pub here : Validation → Tree Depth → TypeAt
-here s t = record { standing = t; under = s.depth }
+abbrev pub validation_place : Validation → Tree Depth → TypeAt
+validation_place s t = record { standing = t; under = s.depth }
 
 -- the types that are remembered agree
 abbrev pub SeenAgree : Validation → Type 0
@@ -59,16 +59,16 @@ abbrev pub AddsPlace : TypeAt → List TypeAt → List TypeAt → Type 0
 AddsPlace p old new = (q : TypeAt) → IsIn q new → (q ≡ p) ⊎ IsIn q old
 
 -- a term is entered, and perhaps remembered
-pub record Descends (s : Validation) (t : Tree Depth) (s' : Validation) : Type 0 where
+pub record ValidationDescends (s : Validation) (t : Tree Depth) (s' : Validation) : Type 0 where
   pub agrees : RootAgrees s.vars s.depth t
   pub vars : s'.vars ≡ s.vars
   pub depth : s'.depth ≡ s.depth
-  pub seen : AddsPlace (here s t) s.seen s'.seen
+  pub seen : AddsPlace (validation_place s t) s.seen s'.seen
 
 -- a term that agrees is skipped, and one that was entered before; one that is entered is no variable that disagrees
 abbrev pub ValidationLooks : Validation → Tree Depth → Next → Validation → Type 0
-ValidationLooks s t Skip s' = (Agrees s.vars s.depth t ⊎ IsIn (here s t) s.seen) × (s' ≡ s)
-ValidationLooks s t Descend s' = Descends s t s'
+ValidationLooks s t Skip s' = (Agrees s.vars s.depth t ⊎ IsIn (validation_place s t) s.seen) × (s' ≡ s)
+ValidationLooks s t Descend s' = ValidationDescends s t s'
 
 -- a place is skipped if it is remembered, and else entered
 abbrev pub EntersOnce : TypeAt → List TypeAt → Next → List TypeAt → Type 0

@@ -16,7 +16,7 @@ ghost use Rattle.tt_binder.specs.BinderOpener.{
   opening_hooks,
   opening_state,
   OpeningRefuses,
-  Opens,
+  OpensTree,
   OwnsOpener,
 };
 
@@ -74,7 +74,7 @@ fn opened_region<S: SliceLike>(
         MatchResult
         result
         (λ r. IsPartOf cx.now.rows (region_shape r)
-        × Opens arguments binders_passed tree (tree_in cx.now.rows (region_shape r)))
+        × OpensTree arguments binders_passed tree (tree_in cx.now.rows (region_shape r)))
         (λ e. OpeningRefuses (IsRefused cx.now) arguments binders_passed tree e) }
 {
     match outside(index, binders_passed) {
@@ -120,7 +120,7 @@ fn opened_ty<S: SliceLike>(
         MatchResult
         result
         (λ ty. IsPartOf cx.new.rows (ty_shape ty)
-        × Opens arguments binders_passed tree (tree_in cx.new.rows (ty_shape ty)))
+        × OpensTree arguments binders_passed tree (tree_in cx.new.rows (ty_shape ty)))
         (λ e. OpeningRefuses (IsRefused cx.new) arguments binders_passed tree e) }
 {
     match outside(index, binders_passed) {
@@ -166,7 +166,7 @@ fn opened_const<S: SliceLike>(
         MatchResult
         result
         (λ constant. IsPartOf cx.new.rows (const_shape constant)
-        × Opens arguments binders_passed tree (tree_in cx.new.rows (const_shape constant)))
+        × OpensTree arguments binders_passed tree (tree_in cx.new.rows (const_shape constant)))
         (λ e. OpeningRefuses (IsRefused cx.new) arguments binders_passed tree e) }
 {
     match outside(index, binders_passed) {

@@ -43,12 +43,14 @@ abbrev under_binder : ℕ → RecordLabel ℕ → Parts → Shapes
 under_binder n m p = shape.also (shape.binder n (shape.node (record_label m) (parts_shapes p))) shape.none
 
 module _ {L : Type 0} (sort : Sort) (record_of : L → RecordLabel ℕ) (token_of : L → Option ℕ) where
+  -- if the plain node of a form is in range, so are the form's children
   pub bare-parts : (rows : List Row) (f : Form L) → IsPartOf rows (bare_shape sort record_of token_of f) → ArePartsOf rows (parts_shapes (form_parts f))
   bare-parts rows (param i name) h = tt
   bare-parts rows (bound d e) h = tt
   bare-parts rows (plain l p) h = right_parts rows (token_shapes (token_of l)) (parts_shapes p) h.2
   bare-parts rows (under l vars m p) h = let u = right_parts rows (token_shapes (token_of l)) (under_binder vars.number m p) h.2 in u.0.1.2
 
+  -- if the plain node of a form is in range, so is the list of the form's binder, if it has one
   pub bare-binder : (rows : List Row) (f : Form L) → IsPartOf rows (bare_shape sort record_of token_of f) → HasBinder rows (form_binder f)
   bare-binder rows (param i name) h = tt
   bare-binder rows (bound d e) h = tt
@@ -114,6 +116,7 @@ module _ {L : Type 0} (sort : Sort) (record_of : L → RecordLabel ℕ) (token_o
 
   -- the fold of the parts is the fold of the kind
   module _ {M E S : Type 0} {owned : List Row → S → Type 0} {means : List Row → S → M} {H : Hooks (Standing M) E} {errors : Errors E} {T : Type 0} (of : T → Form L) where
+    -- if the fold of a kind's children under its binder fails, so does the fold of the kind's plain node
     pub bare_fails : {terms terms1 : Terms} {s s1 : S} {x : T} {e : E}
         → Folds owned means (ArePartsFor (form_parts (of x))) parts_trees
         (WalksUnder H (binder_in terms.rows (form_binder (of x)))) (FailsUnder H errors (binder_in terms.rows (form_binder (of x))))
@@ -122,6 +125,7 @@ module _ {L : Type 0} (sort : Sort) (record_of : L → RecordLabel ℕ) (token_o
         (Walks H) (Fails H errors) terms s x (Err e) terms1 s1
     bare_fails {terms} {x} d = record { extends = d.extends; is_owned = d.is_owned; outcome = fails-bare terms.rows (of x) d.outcome }
 
+    -- if a kind's children are folded under its binder, the plain node is folded to the kind with the new children
     pub bare_folds : {terms terms1 : Terms} {s s1 : S} {x y : T} {q : Parts} → IsPartOf terms.rows (bare_shape sort record_of token_of (of x)) → of y ≡ refilled q (of x)
         → Folds owned means (ArePartsFor (form_parts (of x))) parts_trees
         (WalksUnder H (binder_in terms.rows (form_binder (of x)))) (FailsUnder H errors (binder_in terms.rows (form_binder (of x))))
@@ -141,6 +145,7 @@ module _ {L : Type 0} (sort : Sort) (record_of : L → RecordLabel ℕ) (token_o
 
 -- a token by itself
 module _ {M E S : Type 0} {owned : List Row → S → Type 0} {means : List Row → S → M} {H : Hooks (Standing M) E} {errors : Errors E} where
+  -- an error token is folded to itself
   pub token_folds : {terms : Terms} {s : S} (error : ErrorGuaranteed) → owned terms.rows s
       → Folds owned means (IsPartBy (λ error. token_shape error.0)) (tree_by (λ error. token_shape error.0)) (Walks H) (Fails H errors) terms s error (Ok error) terms s
   unfolding fill

@@ -104,11 +104,13 @@ module _ (f : Meaning) (s : Shift) (o : Sort) (i : BoundVarIndexKind) (e : Entry
   unfolding fill
   term_given t r same is = rw same (tt, is)
 
+  -- what refuses the tree of a bound variable's shape refuses an equal tree
   pub term_refused : (unbuilt : Tree Depth → Refusal → Type 0) (t : Tree Depth) (r : Refusal) → t ≡ fill f (bound_shape o i e)
       → IsTooGreat r (IsTooFar s (fill f (bound_shape o i e))) ⊎ unbuilt (moved_tree s (fill f (bound_shape o i e))) r
       → IsTooGreat r (IsTooFar s t) ⊎ unbuilt (moved_tree s t) r
   term_refused unbuilt t r same cause = rw same cause
 
+  -- a bound variable whose moved index would be above the greatest is too far out to be moved
   pub past_too_far : IsPast s.amount s.under i → IsTooFar s (fill f (bound_shape o i e))
   unfolding fill
   past_too_far past = past-far s.amount s.under i past

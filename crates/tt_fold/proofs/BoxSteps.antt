@@ -32,11 +32,13 @@ module _ {M E S : Type 0} {owned : List Row → S → Type 0} {means : List Row 
 
   -- two values of one shape have one fold
   module _ {T A : Type 0} (of : T → Shape) (a : A → Shape) where
+    -- if two values have one shape and the fold of one fails, so does the fold of the other
     pub same_fails : {terms terms1 : Terms} {s s1 : S} {e : E} (x : T) (u : A) → of x ≡ a u
         → Folds owned means (IsPartBy a) (tree_by a) (Walks H) (Fails H errors) terms s u (Err e) terms1 s1
         → Folds owned means (IsPartBy of) (tree_by of) (Walks H) (Fails H errors) terms s x (Err e) terms1 s1
     same_fails x u at_x d = record { extends = d.extends; is_owned = d.is_owned; outcome = rw at_x d.outcome }
 
+    -- if two values have one shape, and so have two results, one is folded as the other is
     pub same_folds : {terms terms1 : Terms} {s s1 : S} (x y : T) (u v : A) → of x ≡ a u → of y ≡ a v
         → Folds owned means (IsPartBy a) (tree_by a) (Walks H) (Fails H errors) terms s u (Ok v) terms1 s1
         → Folds owned means (IsPartBy of) (tree_by of) (Walks H) (Fails H errors) terms s x (Ok y) terms1 s1

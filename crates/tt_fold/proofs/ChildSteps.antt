@@ -117,6 +117,7 @@ module _ {M E S : Type 0} {owned : Listed Row → S → Type 0} {means : Listed 
       → Folds owned means (IsChildFor c) child_trees (WalksAll H) (ChildFails H errors) terms s c (Err e) terms1 s1
   child_not_begun d = record { extends = d.extends; is_owned = d.is_owned; outcome = d.outcome }
 
+  -- a child that came to another at once is folded to it
   pub child_done : {terms terms1 : Terms} {s s1 : S} {c y : Child} {other : Errors E}
       → Goes owned means (IsBegun H (child_trees terms.rows c) (child_tree terms.rows c) c) (λ m x m'. ChildFails H other m (child_trees terms.rows c) x m') terms s (Ok (begun.Done y)) terms1 s1
       → Folds owned means (IsChildFor c) child_trees (WalksAll H) (ChildFails H errors) terms s c (Ok y) terms1 s1
@@ -167,6 +168,7 @@ module _ {M E S : Type 0} {owned : Listed Row → S → Type 0} {means : Listed 
       → Folds owned means (IsNodeFor n) node_tree (Walks H) (Fails H errors) terms s n (Err e) terms1 s1
   node_fails {terms} {n} d = record { extends = d.extends; is_owned = d.is_owned; outcome = one_fails (rw (one_tree terms.rows (node_shape n)) at d.outcome) }
 
+  -- a stored term is folded to the term that it came to as a child
   pub node_folds : {terms terms1 : Terms} {s s1 : S} {n m : Node} {y : Child}
       → Folds owned means (IsChildFor (child.Node n)) child_trees (WalksAll H) (ChildFails H errors) terms s (child.Node n) (Ok y) terms1 s1
       → m ≡ child_node y
@@ -181,6 +183,7 @@ module _ {M E S : Type 0} {owned : Listed Row → S → Type 0} {means : Listed 
       → Folds owned means (IsListFor l) list_tree (Walks H) (Fails H errors) terms s l (Err e) terms1 s1
   list_fails {terms} {l} d = record { extends = d.extends; is_owned = d.is_owned; outcome = one_fails (rw (one_tree terms.rows (list_shape l)) at d.outcome) }
 
+  -- a stored list is folded to the list that it came to as a child
   pub list_folds : {terms terms1 : Terms} {s s1 : S} {l m : List} {y : Child}
       → Folds owned means (IsChildFor (child.List l)) child_trees (WalksAll H) (ChildFails H errors) terms s (child.List l) (Ok y) terms1 s1
       → y ≡ child.List m
@@ -195,6 +198,7 @@ module _ {M E S : Type 0} {owned : Listed Row → S → Type 0} {means : Listed 
       → Folds owned means (IsNodeFor n) node_tree (WalksInside H) (InsideFails H errors) terms s n (Err e) terms1 s1
   inside_not_open d = record { extends = d.extends; is_owned = d.is_owned; outcome = d.outcome }
 
+  -- the contents of a term are folded to the term itself if there is nothing to begin
   pub inside_none : {terms terms1 : Terms} {s s1 : S} {n : Node} {other : Errors E} → IsPartOf terms.rows (node_shape n)
       → Goes owned means (IsOpen H (child_tree terms.rows (child.Node n)) (child.Node n)) (λ m x m'. InsideFails H other m (child_tree terms.rows (child.Node n)) x m') terms s (Ok None) terms1 s1
       → Folds owned means (IsNodeFor n) node_tree (WalksInside H) (InsideFails H errors) terms s n (Ok n) terms1 s1
@@ -204,6 +208,7 @@ module _ {M E S : Type 0} {owned : Listed Row → S → Type 0} {means : Listed 
     outcome = (record { owned = IsPart-grows _ _ d.extends.rows (node_shape n) part; like = refl }, rw (fill-grows _ _ d.extends.rows (node_shape n) part) d.outcome);
   }
 
+  -- the fold of a term's contents fails if the contents were begun and what is left of them fails
   pub inside_rest : {terms terms1 terms2 : Terms} {s s1 s2 : S} {n : Node} {f : Frame} {e : E} {other : Errors E} → IsPartOf terms.rows (node_shape n)
       → Goes owned means (IsOpen H (child_tree terms.rows (child.Node n)) (child.Node n)) (λ m x m'. InsideFails H other m (child_tree terms.rows (child.Node n)) x m') terms s (Ok (Some f)) terms1 s1
       → Goes owned means
@@ -218,6 +223,7 @@ module _ {M E S : Type 0} {owned : Listed Row → S → Type 0} {means : Listed 
       let no_part = subst (λ t. root t ≡ a_part → ⊥) tree (node_no_part terms.rows n part) in
       record { extends = Extends-trans d.extends r.extends; is_owned = r.is_owned; outcome = rw tree (inside_rest_fails _ any no_part opens r.outcome) }
 
+  -- a term's contents are folded to the term that comes of them once they were begun
   pub inside_ends : {terms terms1 terms2 : Terms} {s s1 s2 : S} {n m : Node} {y : Child} {f : Frame} {other another : Errors E} → IsPartOf terms.rows (node_shape n)
       → Goes owned means (IsOpen H (child_tree terms.rows (child.Node n)) (child.Node n)) (λ k x k'. InsideFails H other k (child_tree terms.rows (child.Node n)) x k') terms s (Ok (Some f)) terms1 s1
       → Goes owned means

@@ -38,6 +38,7 @@ abbrev mutual
   KeepsClauses (tree.node l ts) = KeepsClauses_all ts
   KeepsClauses (tree.binder vs t) = KeepsClauses t
 
+  -- the same for trees in order
   pub KeepsClauses_all : Forest Depth → Type 0
   KeepsClauses_all none = ⊤
   KeepsClauses_all (also t ts) = KeepsClauses t × KeepsClauses_all ts
@@ -64,6 +65,7 @@ never_bad {u} m h bad = no_bad_list u (stands-keeps m h) bad
 
 -- where no bad list occurs in a tree, it is such a tree
 mutual
+  -- if no part of a tree is a list of clauses with another item, each list of clauses in it holds clauses alone
   pub keeps-fine : (t : Tree Depth) → ((u : Tree Depth) → StandsIn u t → IsNoClauseList u → ⊥) → KeepsClauses t
   keeps-fine (tree.param s i name) h = tt
   keeps-fine (tree.bound s d e) h = tt
@@ -112,6 +114,7 @@ module _ (variable : ℕ → Sort → Depth → Entry Name → Tree Depth) (para
 
   module _ (bound_given : (k : ℕ) (s : Sort) (d : Depth) (e : Entry Name) → KeepsClauses (variable k s d e)) (given : (k : ℕ) (s : Sort) (i : ℕ) (name : Name) → KeepsClauses (parameter k s i name)) where
     mutual
+      -- other trees for leaves add no list of clauses with another item, if the trees have none
       pub leaves-keep : (k : ℕ) (t : Tree Depth) → KeepsClauses t → KeepsClauses (with_leaves variable parameter k t)
       leaves-keep k (tree.param s i name) h = given k s i name
       leaves-keep k (tree.bound s d e) h = bound_given k s d e
@@ -126,14 +129,17 @@ module _ (variable : ℕ → Sort → Depth → Entry Name → Tree Depth) (para
 
 -- and so do other indices and other trees for parameters
 module _ (index : ℕ → Depth → Depth) (parameter : ℕ → Sort → ℕ → Name → Tree Depth) where
+  -- a list of clauses has another item only if it had one before its indices and parameters were replaced
   pub list_before : (k : ℕ) (l : Label Name) (ts : Forest Depth) → IsNoClauseList (tree.term l (rebuild_all index parameter k ts)) → IsNoClauseList (tree.term l ts)
   list_before k l ts h =
       leaves_list_before (reindexed index) parameter k l ts (subst (λ us. IsNoClauseList (tree.term l us)) (sym (with_leaves_all-rebuild index parameter k ts)) h)
 
+  -- where indices and parameters are replaced, a clause by itself stays a clause
   pub rebuild-keeps_clause : (k : ℕ) (l : Label Name) (ts : Forest Depth) → LosesClause l ts (rebuild_all index parameter k ts) → ⊥
   rebuild-keeps_clause k l ts h =
       leaves-keep_clause (reindexed index) parameter k l ts (subst (λ us. LosesClause l ts us) (sym (with_leaves_all-rebuild index parameter k ts)) h)
 
+  -- other trees for parameters add no list of clauses with another item, if the trees have none
   pub rebuild-keeps : ((k : ℕ) (s : Sort) (i : ℕ) (name : Name) → KeepsClauses (parameter k s i name)) → (k : ℕ) (t : Tree Depth) → KeepsClauses t → KeepsClauses (rebuild index parameter k t)
   rebuild-keeps given k t h =
       subst KeepsClauses (with_leaves-rebuild index parameter k t) (leaves-keep (reindexed index) parameter (λ j s d e. tt) given k t h)

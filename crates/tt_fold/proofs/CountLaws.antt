@@ -292,6 +292,7 @@ module _ {R K : Type 0} (T : Task R K) (laws : TaskLaws T) where
 -- from a state that remembers nothing
 module _ {R K : Type 0} (T : Task R K) (laws : TaskLaws T) (among : List TypeAt) (s s' : Standing (State R K)) (t : Tree Depth) (fresh : s.state.memory ≡ [])
     (all : (p : TypeAt) → IsPlaceIn p s.state.under t → IsTaken T s.state.rule p.under p.standing → IsIn p among) where
+  -- of a state that remembers nothing, all that is remembered was done by the rule
   pub knows-nothing : Knows T laws s.state
   knows-nothing m h = absurd (subst (λ ms. IsIn m ms) fresh h)
 

@@ -15,6 +15,7 @@ use Rattle.tt_fold.specs.Steps.{Folds}
 
 module _ {M E : Type 0} (H : Hooks M E) where
   mutual
+    -- a folder that never counts walks as it does without counts, and the counts stay
     pub walks-quietly : {s s' : Standing M} {t r : Tree Depth} → Walks (keeps_counters H) s t r s' → Quietly (λ m m'. Walks H m t r m') s s'
     walks-quietly (at_region is h) = (at_region is h.0, h.1)
     walks-quietly (replaced is h) = (replaced is h.0, h.1)
@@ -38,6 +39,7 @@ module _ {M E : Type 0} (H : Hooks M E) where
 
 module _ {M E : Type 0} (H : Hooks M E) (errors : Errors E) where
   mutual
+    -- a folder that never counts fails as it does without counts, and the counts stay
     pub fails-quietly : {s s' : Standing M} {t : Tree Depth} {e : E} → Fails (keeps_counters H) errors s t e s' → Quietly (λ m m'. Fails H errors m t e m') s s'
     fails-quietly (region_failed is h) = (region_failed is h.0, h.1)
     fails-quietly (term_failed is h) = (term_failed is h.0, h.1)

@@ -24,6 +24,7 @@ module _ {M E : Type 0} {H : Hooks M E} (s : M) (rows : List Row) where
     all_walk (also d ds) h = next (data_walks d h.0) (all_walk ds h.1)
 
 module _ {M E S T : Type 0} {owned : List Row → S → Type 0} {means : List Row → S → M} {H : Hooks (Standing M) E} {errors : Errors E} (of : T → Shape) where
+  -- a value that is data alone is folded to itself
   pub data_folds : {terms : Terms} {s : S} (x : T) → IsData (of x) → IsPartOf terms.rows (of x) → owned terms.rows s
       → Folds owned means (IsPartBy of) (tree_by of) (Walks H) (Fails H errors) terms s x (Ok x) terms s
   data_folds {terms} x is part o = record { extends = Extends-refl terms; is_owned = o; outcome = (part, data_walks _ terms.rows (of x) is) }

@@ -120,6 +120,7 @@ module _ {M E S : Type 0} {owned : Listed Row → S → Type 0} {means : Listed 
         let o = rw (fill_all-grows _ _ extends.rows (parts_shapes p) owns) at d.outcome in
         record { extends = Extends-trans extends d.extends; is_owned = d.is_owned; outcome = in_under_failed enter o }
 
+    -- the fold of parts under a binder fails if the hook after the binder fails
     pub under_leave_fails : {terms terms1 terms2 terms3 : Terms} {s s1 s2 s3 : S} {p q : Parts} {e : E} (vars : BoundVarKinds) {other : Errors E}
         → HasVars terms.rows vars → ArePartsOf terms.rows (parts_shapes p) → Extends terms terms1
         → H.enter (stands means terms s) (vars_in terms.rows vars) (stands means terms1 s1)
@@ -131,6 +132,7 @@ module _ {M E S : Type 0} {owned : Listed Row → S → Type 0} {means : Listed 
         let l = rw (vars-grow (Extends-trans extends d.extends).rows vars has) at leave in
         record { extends = Extends-trans extends (Extends-trans d.extends more); is_owned = owned3; outcome = in_leave_failed enter o.1 l }
 
+    -- parts are folded under a binder if it is entered, they are folded, and it is left
     pub under_folds : {terms terms1 terms2 terms3 : Terms} {s s1 s2 s3 : S} {p q : Parts} (vars : BoundVarKinds) {other : Errors E}
         → HasVars terms.rows vars → ArePartsOf terms.rows (parts_shapes p) → Extends terms terms1
         → H.enter (stands means terms s) (vars_in terms.rows vars) (stands means terms1 s1)
@@ -156,6 +158,7 @@ module _ {M E S : Type 0} {owned : Listed Row → S → Type 0} {means : Listed 
     parts_first_fails {terms} {p} d =
         record { extends = d.extends; is_owned = d.is_owned; outcome = rw (append_trees terms.rows (child_shapes p.first) (child_shapes p.second)) (FailsAll-before _ (child_fails d.outcome)) }
 
+    -- the fold of two parts fails if the first is folded and the fold of the second fails
     pub parts_second_fails : {terms terms1 terms2 : Terms} {s s1 s2 : S} {p : Parts} {x : Child} {e : E} {other : Errors E}
         → ArePartsOf terms.rows (parts_shapes p)
         → Folds owned means (IsChildFor p.first) child_trees (WalksAll H) (ChildFails H other) terms s p.first (Ok x) terms1 s1
@@ -170,6 +173,7 @@ module _ {M E S : Type 0} {owned : Listed Row → S → Type 0} {means : Listed 
           outcome = rw (append_trees terms.rows (child_shapes p.first) (child_shapes p.second)) (FailsAll-append a.outcome.1 (λ h. h) (child_fails o));
         }
 
+    -- two parts are folded if the first is folded and then the second
     pub parts_fold : {terms terms1 terms2 : Terms} {s s1 s2 : S} {p : Parts} {x y : Child} {other : Errors E}
         → ArePartsOf terms.rows (parts_shapes p)
         → Folds owned means (IsChildFor p.first) child_trees (WalksAll H) (ChildFails H other) terms s p.first (Ok x) terms1 s1

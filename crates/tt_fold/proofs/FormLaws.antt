@@ -1,12 +1,11 @@
 -- Kinds by their forms.
 use Rattle.std.proofs.Common.{true, false, All, [], slice_get, ◌≡◌, ℕ, List, Some, None, refl, ap, sym}
 use Rattle.std.proofs.lemmas.Option.{slice_get_within, get_or_from_slice_get}
-use Rattle.tt_kinds.specs.Label.{Name, Sort, type_sort, const_sort, TypeLabel, ConstLabel, Label, type_label}
-use Rattle.tt_kinds.specs.Label.{const_label, text_label, record_label}
+use Rattle.tt_kinds.specs.Label.{Name, Sort, Label, type_label, const_label, text_label, record_label}
 use Rattle.tt_kinds.specs.Tree as tree
 use Rattle.tt_kinds.specs.Tree.{Depth, Tree}
 use Rattle.tt_kinds.specs.Shape as shape
-use Rattle.tt_kinds.specs.Shape.{Meaning, Sizes, HasParts, IsTooDeep, fill, name_of, rename_label, IsNamedLabel}
+use Rattle.tt_kinds.specs.Shape.{Sizes, HasParts, IsTooDeep, fill, name_of, rename_label, IsNamedLabel}
 use Rattle.tt_kinds.specs.Kinds.{Form, param, bound, plain, under, form_parts, form_binder, refilled, relabelled}
 use Rattle.tt_kinds.specs.Kinds.{form_shape, kind_form, ty_form, const_form, parts_shapes}
 use Rattle.tt_kinds.specs.declared.parts.Child.{Child}
@@ -16,7 +15,6 @@ use Rattle.tt_kinds.specs.declared.parts.Kind.TheVariants as kind
 use Rattle.tt_kinds.specs.declared.parts.Parts.{Parts}
 use Rattle.tt_interner.specs.Rows.{Row, size, meaning, Grows}
 use Rattle.tt_interner.proofs.Growth.{HasParts-grows, row-grows}
-use Rattle.tt_visit.specs.Types.{is_type_tree}
 use Rattle.tt_fold.specs.Parts.{HoldsAny, IsInner, IsChildless, ArePartsOf, HasBinder}
 
 -- the label means the same among more rows, and its names are theirs
@@ -52,22 +50,6 @@ form-labels old new g s (param i name) h = tt
 form-labels old new g s (bound d e) h = tt
 form-labels old new g s (plain l p) h = keeps_label old new g l h.0
 form-labels old new g s (under l vars m p) h = (keeps_label old new g l h.0, keeps_label old new g (record_label m) h.1.0.1.1)
-
--- the trees of types
-pub type-type : (m : Meaning) (f : Form TypeLabel) → is_type_tree (fill m (form_shape type_sort (relabelled type_label f))) ≡ true
-unfolding fill
-type-type m (param i name) = refl
-type-type m (bound d e) = refl
-type-type m (plain l p) = refl
-type-type m (under l vars r p) = refl
-
--- and of constants
-pub const-type : (m : Meaning) (f : Form ConstLabel) → is_type_tree (fill m (form_shape const_sort (relabelled const_label f))) ≡ false
-unfolding fill
-const-type m (param i name) = refl
-const-type m (bound d e) = refl
-const-type m (plain l p) = refl
-const-type m (under l vars r p) = refl
 
 inner : {L : Type 0} (label : L → Label ℕ) → ((l : L) → HoldsAny (label l)) → (f : Form L)
     → ((form_binder (relabelled label f) ≡ None) → ((form_parts (relabelled label f)).first ≡ child.Absent) → ((form_parts (relabelled label f)).second ≡ child.Absent) → ⊥)

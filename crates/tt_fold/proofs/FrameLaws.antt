@@ -167,6 +167,7 @@ few_absent rows n count (Some l) h = omega (arith, no_absent (λ c. IsItem (list
 few_absent rows n count None h = omega (arith, absent_length (children_by rows n None))
 
 module _ {old new : Listed Row} (g : Grows old new) where
+  -- when rows are added, a form whose labels and binder are in range keeps its outline
   pub form_outline-grows : (f : Form (Label ℕ)) → KeepsLabels old new f → HasBinder old (form_binder f) → form_outline new f ≡ form_outline old f
   form_outline-grows (param i name) k b = refl
   form_outline-grows (bound d e) k b = refl
@@ -239,15 +240,19 @@ pub frame-absent : {rows : Listed Row} {f : Frame} → IsFoldFrame rows f → ab
 frame-absent {f} h = few_absent _ (child_node f.item) f.count (child_list f.item) h.made
 
 module _ {old new : Listed Row} (g : Grows old new) where
+  -- when rows are added, a frame's term or list keeps its tree
   pub item_tree-grows : {f : Frame} → IsFoldFrame old f → child_tree new f.item ≡ child_tree old f.item
   item_tree-grows {f} h = fill-grows old new g (child_shape f.item) (whole-part _ f.item h.is h.part)
 
+  -- when rows are added, a frame's term or list keeps its outline
   pub outline-grows : {f : Frame} → IsFoldFrame old f → outline_of new f.item ≡ outline_of old f.item
   outline-grows {f} h = outline_by-grows g (child_node f.item) f.count (child_list f.item) h.made
 
+  -- when rows are added, a frame's term or list keeps its children
   pub children-grow : {f : Frame} → IsFoldFrame old f → children_in new f ≡ children_in old f
   children-grow {f} h = children_by-grows g (child_node f.item) f.count (child_list f.item) h.made
 
+  -- when rows are added, a frame of the rows is still one
   pub frame-grows : {f : Frame} → IsFoldFrame old f → IsFoldFrame new f
   frame-grows {f} h = record {
     is = h.is;
@@ -256,14 +261,17 @@ module _ {old new : Listed Row} (g : Grows old new) where
     made = made-grows g (child_node f.item) f.count (child_list f.item) h.made;
   }
 
+  -- when rows are added, children in range keep their trees
   pub values-grow : (vs : Listed Child) → ArePartsOf old (children_shapes vs) → children_trees new vs ≡ children_trees old vs
   values-grow vs h = fill_all-grows old new g (children_shapes vs) h
 
+  -- when rows are added, the trees that are left in a frame stay the same
   pub left-grows : {f : Frame} → IsFoldFrame old f → left_of new f ≡ left_of old f
   left-grows {f} h =
       ap (λ cs. children_trees new (drop f.next cs)) (children-grow h)
       ∙ values-grow (drop f.next (children_in old f)) (drop_parts old f.next (children_in old f) (frame-parts h))
 
+  -- when rows are added, values that came of a frame's first children still do
   pub holds-grows : {f : Frame} {vs : Listed Child} → Holds old f vs → Holds new f vs
   holds-grows {f} {vs} h = record {
     frame = frame-grows h.frame;
@@ -272,6 +280,7 @@ module _ {old new : Listed Row} (g : Grows old new) where
     wanted = rw (outline-grows h.frame, values-grow vs h.owned) h.wanted;
   }
 
+  -- when rows are added, the frames around a term or a list are still around it
   pub below-grows : (root item : Child) (ps : Listed BegunFrame) → AreBelow old root item ps → AreBelow new root item ps
   below-grows root item [] h = h
   below-grows root item (p ∷ ps) h = (
@@ -282,10 +291,12 @@ module _ {old new : Listed Row} (g : Grows old new) where
   context-grows : (p : BegunFrame) → Holds old p.frame p.values → context_of new p ≡ context_of old p
   context-grows p h = rw (item_tree-grows h.frame, outline-grows h.frame, values-grow p.values h.owned, left-grows h.frame) refl
 
+  -- when rows are added, the frames around a term or a list keep their contexts
   pub contexts-grow : (root item : Child) (ps : Listed BegunFrame) → AreBelow old root item ps → contexts new ps ≡ contexts old ps
   contexts-grow root item [] h = refl
   contexts-grow root item (p ∷ ps) h = rw (context-grows p h.0.holds, contexts-grow root p.frame.item ps h.1) refl
 
+  -- when rows are added, the work that is left in a frame stays the same
   pub frame_work-grows : {f : Frame} → IsFoldFrame old f → frame_work new f ≡ frame_work old f
   frame_work-grows {f} h =
       ap (λ cs. suc (absent_among (drop f.next cs) + work_all (left_of new f))) (children-grow h)

@@ -138,6 +138,7 @@ pub record Risen {M E S : Type 0} (owned : Listed Row → S → Type 0) (means :
 
 module _ {M E S : Type 0} {owned : Listed Row → S → Type 0} {means : Listed Row → S → M} {H : Hooks (Standing M) E} {gives : Refusal → E → Type 0}
     {terms0 : Terms} {s0 : S} {first : Frame} where
+  -- the walk starts with a frame of which all children are left, an empty stack and no values
   pub going_starts : {fs : Listed Frame} {vs : Listed Child} → owned terms0.rows s0 → IsFoldFrame terms0.rows first → first.next ≡ 0 → fs ≡ [] → vs ≡ []
       → Going owned means H gives terms0 s0 first terms0 s0 first fs vs
   going_starts o is start no_frames no_values = rw (no_frames, no_values) (record {
@@ -290,11 +291,13 @@ module _ {M E S : Type 0} {owned : Listed Row → S → Type 0} {means : Listed 
       omega (arith, all, frame-count h.holds.frame, alike_length h.results (children_in terms.rows f) h.holds.alike, h.counted, ap length h.values_are, length-append (values_of h.below) h.results) in
       ap (λ m. take m vs) k ∙ ap (take (length (values_of h.below))) h.values_are ∙ take-append_seam (values_of h.below) h.results
 
+  -- there are at least as many values as children in a frame whose children were all walked
   pub enough_values : {terms : Terms} {s : S} {f : Frame} {fs : Listed Frame} {vs : Listed Child}
       → (h : Going owned means H gives terms0 s0 first terms s f fs vs) → f.count ≤ f.next → f.count ≤ length vs
   enough_values {terms} {f} {vs} h all =
       omega (arith, all, frame-count h.holds.frame, alike_length h.results (children_in terms.rows f) h.holds.alike, h.counted, ap length h.values_are, length-append (values_of h.below) h.results)
 
+  -- the last values came of the children of a frame whose children were all walked
   pub last_held : {terms : Terms} {s : S} {f : Frame} {fs : Listed Frame} {vs : Listed Child}
       → (h : Going owned means H gives terms0 s0 first terms s f fs vs) → f.count ≤ f.next → Holds terms.rows f (last_of f.count vs)
   last_held h all = rw (last_results h all) h.holds
@@ -349,6 +352,7 @@ module _ {M E S : Type 0} {owned : Listed Row → S → Type 0} {means : Listed 
         outcome = h.fails _ _ _ (rw (none_left h all, top.below_is) (in_finish done k fails1));
       }
 
+  -- an innermost term or list that is built and finished goes up to the frame around it
   pub rises : {terms terms1 terms2 : Terms} {s s1 s2 : S} {f f' : Frame} {fs fs' : Listed Frame} {vs : Listed Child} {z y : Child}
       → Going owned means H gives terms0 s0 first terms s f fs vs → f.count ≤ f.next → fs ≡ fs' ++ f' ∷ [] → Extends terms terms1 → Extends terms1 terms2 → owned terms2.rows s2
       → Rebuilds H (outline_of terms.rows f.item) (children_trees terms.rows (last_of f.count vs)) (stands means terms s) (child_tree terms1.rows z) (stands means terms1 s1)
@@ -373,6 +377,7 @@ module _ {M E S : Type 0} {owned : Listed Row → S → Type 0} {means : Listed 
       let are = rw top.below_is at h.below_are in
       subst (λ x. IsResult rows x y) top.frame_is (record { owned = is_y.owned; fit = frame_fits _ _ _ are.0.holds.frame are.0.walked is_y.like })
 
+  -- the walk goes on with the frame around, which has what came of the innermost as one value more
   pub going_up : {terms terms1 terms2 : Terms} {s s1 s2 : S} {f f' : Frame} {fs fs' : Listed Frame} {vs vs1 vs' : Listed Child} {z y : Child}
       → (h : Going owned means H gives terms0 s0 first terms s f fs vs) → Risen owned means H terms terms1 terms2 s s1 s2 f f' fs fs' vs z y
       → (HasUnwanted (wanted_by (outline_of terms2.rows f'.item)) (child_trees terms2.rows y) → ⊥)
@@ -451,6 +456,7 @@ module _ {M E S : Type 0} {owned : Listed Row → S → Type 0} {means : Listed 
       → (h : Going owned means H gives terms0 s0 first terms s f fs vs) → Extends terms terms1 → frames_work terms1.rows fs ≡ frames_work terms.rows fs
   work_same {f} h extends = rw h.frames_are (frames_work-grows extends.rows first.item f.item h.below h.below_are)
 
+  -- a child that came to another leaves less work
   pub total_past : {terms terms1 : Terms} {s : S} {f : Frame} {fs : Listed Frame} {vs : Listed Child} (c : Child)
       → Going owned means H gives terms0 s0 first terms s f fs vs → slice_get (children_in terms.rows f) f.next ≡ Some c
       → Extends terms terms1 → total_work terms1.rows (stepped f) fs < total_work terms.rows f fs
@@ -462,6 +468,7 @@ module _ {M E S : Type 0} {owned : Listed Row → S → Type 0} {means : Listed 
       let w = work_next terms.rows c (drop (f.next + 1) cs) in
       omega (arith, a, b, d, w, work_same h extends)
 
+  -- going into a child leaves less work
   pub total_into : {terms terms1 : Terms} {s s1 : S} {f n : Frame} {fs fs' : Listed Frame} {vs : Listed Child} (c : Child)
       → Going owned means H gives terms0 s0 first terms s f fs vs → slice_get (children_in terms.rows f) f.next ≡ Some c
       → Extends terms terms1 → IsNewFrame terms1.rows c n
@@ -481,6 +488,7 @@ module _ {M E S : Type 0} {owned : Listed Row → S → Type 0} {means : Listed 
       let n_next = absent_next c (drop (f.next + 1) cs) in
       omega (arith, a, b, d, v, w, t, few, p, n_next, work_same h extends)
 
+  -- going on with the frame around leaves less work
   pub total_up : {terms terms1 : Terms} {s : S} {f : Frame} {fs : Listed Frame} {vs : Listed Child} (fs' : Listed Frame) (f' : Frame)
       → Going owned means H gives terms0 s0 first terms s f fs vs → fs ≡ fs' ++ f' ∷ [] → Extends terms terms1
       → total_work terms1.rows f' fs' < total_work terms.rows f fs

@@ -212,16 +212,19 @@ module _ {M E S : Type 0} {owned : Listed Row → S → Type 0} {means : Listed 
       → Goes owned means (λ _ _ m m'. Opens H (binder_in terms.rows b) m m') (EnterFails H errors (binder_in terms.rows b)) terms s (Ok (tt {0})) terms s
   enter_bare {terms} same o = rw same (record { extends = Extends-refl terms; is_owned = o; outcome = opens_bare })
 
+  -- the binder of a term is entered, or not, as the hook before it says
   pub enter_binder : {terms terms1 : Terms} {s s1 : S} {b : Option BoundVarKinds} {vars : BoundVarKinds} {r : Result (Unit {0}) E} → b ≡ Some vars → Extends terms terms1 → owned terms1.rows s1
       → MatchResult r (λ _. H.enter (stands means terms s) (vars_in terms.rows vars) (stands means terms1 s1)) (λ e. H.enter_fails errors.unbuilt (stands means terms s) (vars_in terms.rows vars) e (stands means terms1 s1))
       → Goes owned means (λ _ _ m m'. Opens H (binder_in terms.rows b) m m') (EnterFails H errors (binder_in terms.rows b)) terms s r terms1 s1
   enter_binder {r} same extends o h =
       rw same (record { extends = extends; is_owned = o; outcome = MatchResult-weaker r h (λ y k. opens_binder k) (λ e k. enter_fails k) })
 
+  -- a term without a binder has none to be left
   pub leave_bare : {terms : Terms} {s : S} {b : Option BoundVarKinds} → b ≡ None → owned terms.rows s
       → Goes owned means (λ _ _ m m'. Leaves H (binder_in terms.rows b) m m') (LeaveFails H errors (binder_in terms.rows b)) terms s (Ok (tt {0})) terms s
   leave_bare {terms} same o = rw same (record { extends = Extends-refl terms; is_owned = o; outcome = leaves_bare })
 
+  -- the binder of a term is left, or not, as the hook after it says
   pub leave_binder : {terms terms1 : Terms} {s s1 : S} {b : Option BoundVarKinds} {vars : BoundVarKinds} {r : Result (Unit {0}) E} → b ≡ Some vars → Extends terms terms1 → owned terms1.rows s1
       → MatchResult r (λ _. H.leave (stands means terms s) (vars_in terms.rows vars) (stands means terms1 s1)) (λ e. H.leave_fails errors.unbuilt (stands means terms s) (vars_in terms.rows vars) e (stands means terms1 s1))
       → Goes owned means (λ _ _ m m'. Leaves H (binder_in terms.rows b) m m') (LeaveFails H errors (binder_in terms.rows b)) terms s r terms1 s1
@@ -242,6 +245,7 @@ module _ {M E S : Type 0} {owned : Listed Row → S → Type 0} {means : Listed 
       let tree = ap (tree_in terms.rows) same.shape ∙ stored_tree terms.rows (node_table n) (node_number n) ∙ is in
       record { extends = Extends-refl terms; is_owned = o; outcome = rw tree (walks_leaf H _ terms.rows (stored_kind terms.rows n) leaf) }
 
+  -- the contents of a term aren't begun if its binder isn't entered
   pub open_fails : {terms terms1 : Terms} {s s1 : S} {e : E} (c : Child) (b : Option BoundVarKinds) (n : Node) → IsWhole c → ArePartsOf terms.rows (child_shapes c) → None ≡ child_list c
       → n ≡ child_node c → SameTerm c n → b ≡ form_binder (kind_form (stored_kind terms.rows n)) → IsTermFrame terms.rows n 2
       → meaning terms.rows (node_table n) (node_number n) ≡ fill (meaning terms.rows) (kind_shape (stored_kind terms.rows n))
@@ -254,6 +258,7 @@ module _ {M E S : Type 0} {owned : Listed Row → S → Type 0} {means : Listed 
       let k = rw (vars_are, ← form_binder_of terms.rows f) at d.outcome in
       record { extends = d.extends; is_owned = d.is_owned; outcome = rw tree (enter_fails_inside (form_outline terms.rows f) _ (form_any terms.rows f t.inner) k) }
 
+  -- once a term's binder is entered, its contents are begun with a frame of two children
   pub open_ok : {terms terms1 : Terms} {s s1 : S} (c : Child) (b : Option BoundVarKinds) (n : Node) → IsWhole c → ArePartsOf terms.rows (child_shapes c) → None ≡ child_list c
       → n ≡ child_node c → SameTerm c n → b ≡ form_binder (kind_form (stored_kind terms.rows n)) → IsTermFrame terms.rows n 2
       → meaning terms.rows (node_table n) (node_number n) ≡ fill (meaning terms.rows) (kind_shape (stored_kind terms.rows n))
@@ -277,6 +282,7 @@ module _ {M E S : Type 0} {owned : Listed Row → S → Type 0} {means : Listed 
       → Goes owned means (IsAsked H (child_tree terms.rows c) c) (λ m e m'. Fails H errors m (child_tree terms.rows c) e m') terms s (Ok step.Descend) terms s
   ask_none {terms} c is part h o = record { extends = Extends-refl terms; is_owned = o; outcome = unhooked_asks terms.rows c is (whole-part _ c is part) h }
 
+  -- the fold of a term fails if the term's hook fails
   pub ask_fails : {terms terms1 : Terms} {s s1 : S} {e : E} (c : Child) (n : Node) → IsWhole c → ArePartsOf terms.rows (child_shapes c) → IsHooked c n
       → Extends terms terms1 → owned terms1.rows s1 → H.term_fails errors.unbuilt (stands means terms s) (node_tree terms.rows n) e (stands means terms1 s1)
       → Goes owned means (IsAsked H (child_tree terms.rows c) c) (λ m x m'. Fails H errors m (child_tree terms.rows c) x m') terms s (Err e) terms1 s1
@@ -284,6 +290,7 @@ module _ {M E S : Type 0} {owned : Listed Row → S → Type 0} {means : Listed 
       let k = rw (← ap (tree_in terms.rows) h.same.shape) at fails in
       record { extends = extends; is_owned = o; outcome = term_failed (hooked_is terms.rows c n h (whole-part _ c is part)) k }
 
+  -- a child whose hook replaces the term comes to the other term
   pub ask_replaced : {terms terms1 : Terms} {s s1 : S} (c : Child) (n m : Node) (y : Child) → IsWhole c → ArePartsOf terms.rows (child_shapes c) → IsHooked c n
       → Extends terms terms1 → owned terms1.rows s1 → SameTerm y m → child_sort y ≡ child_sort c → IsNodeFor n terms1.rows m
       → H.on_term (stands means terms s) (node_tree terms.rows n) (replace (node_tree terms1.rows m)) (stands means terms1 s1)
@@ -292,6 +299,7 @@ module _ {M E S : Type 0} {owned : Listed Row → S → Type 0} {means : Listed 
       let k = rw (← ap (tree_in terms.rows) h.same.shape, ← ap (tree_in terms1.rows) same.shape) at asked in
       record { extends = extends; is_owned = o; outcome = (as_child same sorts for_n, replaced (hooked_is terms.rows c n h (whole-part _ c is part)) k) }
 
+  -- a child whose hook keeps the term comes to itself
   pub ask_kept : {terms terms1 : Terms} {s s1 : S} (c : Child) (n : Node) → IsWhole c → ArePartsOf terms.rows (child_shapes c) → IsHooked c n
       → Extends terms terms1 → owned terms1.rows s1
       → H.on_term (stands means terms s) (node_tree terms.rows n) keep (stands means terms1 s1)
@@ -300,6 +308,7 @@ module _ {M E S : Type 0} {owned : Listed Row → S → Type 0} {means : Listed 
       let k = rw (← ap (tree_in terms.rows) h.same.shape) at asked in
       record { extends = extends; is_owned = o; outcome = kept (hooked_is terms.rows c n h (whole-part _ c is part)) k }
 
+  -- the contents of a child are next if the hook answers to descend
   pub ask_descends : {terms terms1 : Terms} {s s1 : S} (c : Child) (n : Node) → IsWhole c → ArePartsOf terms.rows (child_shapes c) → IsHooked c n
       → Extends terms terms1 → owned terms1.rows s1
       → H.on_term (stands means terms s) (node_tree terms.rows n) descend (stands means terms1 s1)
@@ -316,6 +325,7 @@ module _ {M E S : Type 0} {owned : Listed Row → S → Type 0} {means : Listed 
   finish_none {terms} c is part h o for_c =
       record { extends = Extends-refl terms; is_owned = o; outcome = (for_c, unasked (unhooked_never terms.rows c is (whole-part _ c is part) h)) }
 
+  -- the fold of a child isn't finished if the hook after the term fails
   pub finish_fails_step : {terms terms1 : Terms} {s s1 : S} {r : Child} {e : E} (c : Child) (n m : Node) → IsWhole c → ArePartsOf terms.rows (child_shapes c) → IsHooked c n → SameTerm r m
       → Extends terms terms1 → owned terms1.rows s1
       → H.after_fails errors.unbuilt (stands means terms s) (node_tree terms.rows n) (node_tree terms.rows m) e (stands means terms1 s1)
@@ -326,6 +336,7 @@ module _ {M E S : Type 0} {owned : Listed Row → S → Type 0} {means : Listed 
       let k = rw (← ap (tree_in terms.rows) h.same.shape, ← ap (tree_in terms.rows) same.shape) at fails in
       record { extends = extends; is_owned = o; outcome = record { is = hooked_is terms.rows c n h (whole-part _ c is part); failed = k } }
 
+  -- the fold of a child is finished with the term that the hook after it returns
   pub finish_ok : {terms terms1 : Terms} {s s1 : S} {r y : Child} (c : Child) (n m u : Node) → IsWhole c → ArePartsOf terms.rows (child_shapes c) → IsHooked c n → SameTerm r m → SameTerm y u → child_sort y ≡ child_sort c
       → Extends terms terms1 → owned terms1.rows s1 → IsNodeFor n terms1.rows u
       → H.after_term (stands means terms s) (node_tree terms.rows n) (node_tree terms.rows m) (node_tree terms1.rows u) (stands means terms1 s1)
@@ -343,6 +354,7 @@ module _ {M E S : Type 0} {owned : Listed Row → S → Type 0} {means : Listed 
       let y_is = like-whole y c d.outcome.0.like is in
       record { extends = d.extends; is_owned = d.is_owned; outcome = (d.outcome.0, rw (whole-tree terms.rows c is, whole-tree terms1.rows y y_is) (WalksAll-one d.outcome.1)) }
 
+  -- a child whose hook keeps the term is done, and comes to itself
   pub begun_kept : {terms terms1 : Terms} {s s1 : S} (c : Child) → IsWhole c → ArePartsOf terms.rows (child_shapes c) → Goes owned means (IsAsked H (child_tree terms.rows c) c) (λ m x m'. Fails H errors m (child_tree terms.rows c) x m') terms s (Ok step.Keep) terms1 s1
       → Goes owned means (IsBegun H (child_trees terms.rows c) (child_tree terms.rows c) c) (λ m x m'. Fails H errors m (child_tree terms.rows c) x m') terms s (Ok (begun.Done c)) terms1 s1
   begun_kept {terms} {terms1} c is part d = record {
@@ -354,6 +366,7 @@ module _ {M E S : Type 0} {owned : Listed Row → S → Type 0} {means : Listed 
     );
   }
 
+  -- the fold of a child fails if the hook answers to descend and the contents can't be begun
   pub begun_not_open : {terms terms1 terms2 : Terms} {s s1 s2 : S} {e : E} {other : Errors E} (c : Child) → IsWhole c → ArePartsOf terms.rows (child_shapes c)
       → Goes owned means (IsAsked H (child_tree terms.rows c) c) (λ m x m'. Fails H other m (child_tree terms.rows c) x m') terms s (Ok step.Descend) terms1 s1
       → Goes owned means (IsOpen H (child_tree terms1.rows c) c) (λ m x m'. InsideFails H errors m (child_tree terms1.rows c) x m') terms1 s1 (Err e) terms2 s2
@@ -362,6 +375,7 @@ module _ {M E S : Type 0} {owned : Listed Row → S → Type 0} {means : Listed 
       let k = rw (fill-grows _ _ d.extends.rows (child_shape c) (whole-part _ c is part)) at o.outcome in
       record { extends = Extends-trans d.extends o.extends; is_owned = o.is_owned; outcome = asks_fails d.outcome k }
 
+  -- a child is begun with the frame of its contents if the hook answers to descend
   pub begun_inside : {terms terms1 terms2 : Terms} {s s1 s2 : S} {other : Errors E} (c : Child) (f : Frame) → IsWhole c → ArePartsOf terms.rows (child_shapes c)
       → Goes owned means (IsAsked H (child_tree terms.rows c) c) (λ m x m'. Fails H other m (child_tree terms.rows c) x m') terms s (Ok step.Descend) terms1 s1
       → Goes owned means (IsOpen H (child_tree terms1.rows c) c) (λ m x m'. InsideFails H errors m (child_tree terms1.rows c) x m') terms1 s1 (Ok (Some f)) terms2 s2
@@ -378,6 +392,7 @@ module _ {M E S : Type 0} {owned : Listed Row → S → Type 0} {means : Listed 
         outcome = (opened, record { between = _; is_whole = before ∙ rw left at; any = o.outcome.1; asked = d.outcome; opened = o.outcome.2 });
       }
 
+  -- the fold of a child without contents to begin fails if the hook after the term fails
   pub begun_finish_fails : {terms terms1 terms2 terms3 : Terms} {s s1 s2 s3 : S} {e : E} {other another : Errors E} (c : Child) → IsWhole c → ArePartsOf terms.rows (child_shapes c)
       → Goes owned means (IsAsked H (child_tree terms.rows c) c) (λ m x m'. Fails H other m (child_tree terms.rows c) x m') terms s (Ok step.Descend) terms1 s1
       → Goes owned means (IsOpen H (child_tree terms1.rows c) c) (λ m x m'. InsideFails H another m (child_tree terms1.rows c) x m') terms1 s1 (Ok None) terms2 s2
@@ -391,6 +406,7 @@ module _ {M E S : Type 0} {owned : Listed Row → S → Type 0} {means : Listed 
       let l = rw (fill-grows _ _ (Extends-trans d.extends o.extends).rows (child_shape c) at) at f.outcome in
       record { extends = Extends-trans (Extends-trans d.extends o.extends) f.extends; is_owned = f.is_owned; outcome = leaf_fails d.outcome k l }
 
+  -- a child without contents to begin is done, and comes to what the hook after the term returns
   pub begun_leaf : {terms terms1 terms2 terms3 : Terms} {s s1 s2 s3 : S} {y : Child} {other another : Errors E} (c : Child) → IsWhole c → ArePartsOf terms.rows (child_shapes c)
       → Goes owned means (IsAsked H (child_tree terms.rows c) c) (λ m x m'. Fails H other m (child_tree terms.rows c) x m') terms s (Ok step.Descend) terms1 s1
       → Goes owned means (IsOpen H (child_tree terms1.rows c) c) (λ m x m'. InsideFails H another m (child_tree terms1.rows c) x m') terms1 s1 (Ok None) terms2 s2
@@ -414,12 +430,14 @@ module _ {M E S : Type 0} {owned : Listed Row → S → Type 0} {means : Listed 
       → Goes owned means (IsBegun H (child_trees terms.rows c) (child_tree terms.rows c) c) (λ m x m'. ChildFails H errors m (child_trees terms.rows c) x m') terms s (Ok (begun.Done child.Absent)) terms s
   begun_absent {terms} c same o = rw same (record { extends = Extends-refl terms; is_owned = o; outcome = (record { owned = no_parts terms.rows; like = refl }, rw (no_trees terms.rows) done) })
 
+  -- the fold of a child that is a region fails if the region's hook fails
   pub begun_region_fails : {terms terms1 : Terms} {s s1 : S} {e : E} (c : Child) (x : RegionKind) → c ≡ child.Region x → Extends terms terms1 → owned terms1.rows s1
       → H.region_fails errors.unbuilt (stands means terms s) (tree_in terms.rows (region_shape x)) e (stands means terms1 s1)
       → Goes owned means (IsBegun H (child_trees terms.rows c) (child_tree terms.rows c) c) (λ m z m'. ChildFails H errors m (child_trees terms.rows c) z m') terms s (Err e) terms1 s1
   begun_region_fails {terms} c x same extends o h =
       rw same (record { extends = extends; is_owned = o; outcome = rw (one_tree terms.rows (region_shape x)) (child_failed (region_failed (root-region (meaning terms.rows) x) h)) })
 
+  -- a child that is a region is done, and comes to what the region's hook returns
   pub begun_region : {terms terms1 : Terms} {s s1 : S} (c : Child) (x y : RegionKind) → c ≡ child.Region x → Extends terms terms1 → owned terms1.rows s1 → IsPartOf terms1.rows (region_shape y)
       → H.on_region (stands means terms s) (tree_in terms.rows (region_shape x)) (tree_in terms1.rows (region_shape y)) (stands means terms1 s1)
       → Goes owned means (IsBegun H (child_trees terms.rows c) (child_tree terms.rows c) c) (λ m z m'. ChildFails H errors m (child_trees terms.rows c) z m') terms s (Ok (begun.Done (child.Region y))) terms1 s1
@@ -433,6 +451,7 @@ module _ {M E S : Type 0} {owned : Listed Row → S → Type 0} {means : Listed 
         );
       })
 
+  -- a child that is a term or a list is begun as the term or the list is
   pub begun_item : {terms terms1 : Terms} {s s1 : S} {r : Result _ E} (c : Child) → IsWhole c
       → Goes owned means (IsBegun H (child_trees terms.rows c) (child_tree terms.rows c) c) (λ m x m'. Fails H errors m (child_tree terms.rows c) x m') terms s r terms1 s1
       → Goes owned means (IsBegun H (child_trees terms.rows c) (child_tree terms.rows c) c) (λ m x m'. ChildFails H errors m (child_trees terms.rows c) x m') terms s r terms1 s1
@@ -459,6 +478,7 @@ list_fits {rows} {results} l h e =
 
 -- a term's frame and what came of its children
 module _ {rows : Listed Row} {f : Frame} {results : Listed Child} (h : Holds rows f results) (n : Node) (e : None ≡ child_list f.item) (node : n ≡ child_node f.item) where
+  -- if the frame is no list's, its term is stored and has contents
   pub term_facts : IsTermFrame rows n f.count
   term_facts = rw (← e, ← node) at h.frame.made
 
@@ -476,6 +496,7 @@ module _ {rows : Listed Row} {f : Frame} {results : Listed Child} (h : Holds row
       let alike = rw (are, kids) at h.alike in
       record { first = alike.0; second = alike.1.0 }
 
+  -- the two values that came of a term's children are in range as parts
   pub term_parts : (q : Parts) → results ≡ q.first ∷ q.second ∷ [] → ArePartsOf rows (parts_shapes q)
   term_parts q are = rw (← two_shapes q) (rw are at h.owned)
 
@@ -501,6 +522,7 @@ module _ {M E S : Type 0} {owned : Listed Row → S → Type 0} {means : Listed 
       let fit = rw (← is) at h.wanted in
       rw same (record { extends = Extends-refl terms; is_owned = o; outcome = rw (← is) (not_rebuilt fit leaves_bare b) })
 
+  -- a frame's list is built of its values if the list of these items is stored
   pub rebuild_list_ok : {terms terms1 : Terms} {s : S} {f : Frame} {results : Listed Child} {y : Child} (l u : List) → Holds terms.rows f results → Some l ≡ child_list f.item
       → Extends terms terms1 → owned terms1.rows s → stands means terms1 s ≡ stands means terms s
       → SameList y u → child_sort y ≡ child_sort f.item → IsPartOf terms1.rows (list_shape u)

@@ -12,6 +12,7 @@ ap2 f p q = cc
 
 module _ (index : ℕ → Depth → Depth) (parameter : ℕ → Sort → ℕ → Name → Tree Depth) where
   mutual
+    -- to replace variables by variables of other indices is to rebuild the tree with these indices
     pub with_leaves-rebuild : (k : ℕ) (t : Tree Depth) → with_leaves (reindexed index) parameter k t ≡ rebuild index parameter k t
     with_leaves-rebuild k (param s i name) = refl
     with_leaves-rebuild k (bound s d e) = refl
@@ -20,6 +21,7 @@ module _ (index : ℕ → Depth → Depth) (parameter : ℕ → Sort → ℕ →
     with_leaves-rebuild k (node l ts) = ap (node l) (with_leaves_all-rebuild k ts)
     with_leaves-rebuild k (binder vs t) = ap (binder vs) (with_leaves-rebuild (suc k) t)
 
+    -- the same for trees in order
     pub with_leaves_all-rebuild : (k : ℕ) (ts : Forest Depth) → with_leaves_all (reindexed index) parameter k ts ≡ rebuild_all index parameter k ts
     with_leaves_all-rebuild k none = refl
     with_leaves_all-rebuild k (also t ts) = ap2 also (with_leaves-rebuild k t) (with_leaves_all-rebuild k ts)

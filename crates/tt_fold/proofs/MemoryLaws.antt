@@ -80,6 +80,7 @@ remembered_or_not rows es t k (Some after) interned part owns h = (found_owned r
 
 -- what is there after a note is the note, or was there
 module _ (rows : List Row) (t : Ty) (k : ℕ) (after : Ty) where
+  -- if the handles in a memory and in a note are in range, they are in the memory with the note
   pub note_owned : (es : List (Place × Ty)) → IsPartOf rows (ty_shape t) → IsPartOf rows (ty_shape after) → OwnsMemos rows es → OwnsMemos rows (insert_entry same_place es (place_of t k) after)
   note_owned [] part result owns = (part, result, tt)
   note_owned (e ∷ es) part result owns = elim (cases_Bool (same_place (place_of t k) e.0)) [

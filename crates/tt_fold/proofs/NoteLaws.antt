@@ -171,9 +171,11 @@ noted_last notes p after h = noted_new notes p after (not_found notes p h)
 -- a note beside those that were put into a map
 module _ (notes : List Note) (p : Place) (after : Ty) (m new : List (Place × Ty)) (distinct : IsDistinct same_place (keys_of (note_entries notes)))
     (put : m ≡ insert_all same_place [] (note_entries notes)) (one_more : new ≡ insert_entry same_place m p after) where
+  -- a map of the notes with one more is the notes' entries with this one
   pub noted_in_map : new ≡ insert_entry same_place (note_entries notes) p after
   noted_in_map = one_more ∙ ap (λ es. insert_entry same_place es p after) (put ∙ all_put (note_entries notes) distinct)
 
+  -- the map with one more has no fewer entries than there are notes
   pub as_many_in_map : length notes ≤ length new
   as_many_in_map =
       let rise : length (note_entries notes) ≤ length (insert_entry same_place (note_entries notes) p after) = length_noted (note_entries notes) p after in

@@ -94,8 +94,10 @@ pub children-one : (c : Child) → children_shapes (c ∷ []) ≡ child_shapes c
 children-one c = append-none (child_shapes c)
 
 module _ {old new : List Row} (g : Grows old new) where
+  -- when rows are added, a list of variables in range stays in range
   pub vars-kept : (vars : BoundVarKinds) → HasVars old vars → HasVars new vars
   vars-kept vars h = let more = size-grows _ _ g VarLists in omega (arith, more, h)
 
+  -- when rows are added, a list in range keeps its variables
   pub vars-grow : (vars : BoundVarKinds) → HasVars old vars → vars_in new vars ≡ vars_in old vars
   vars-grow vars h = ap vars_of (meaning-grows _ _ g VarLists vars.number h)

@@ -9,16 +9,19 @@ use Rattle.tt_kinds.specs.Count.{TypeAt, type_if, generic_types, generic_types_a
 use Rattle.tt_fold.specs.Places.{IsIn, AreDistinct, CountsPairs, IsPlaceIn, IsPlaceAmong}
 
 module _ {A : Type 0} where
+  -- what is in two lists together is in the first or in the second
   pub IsIn-append : (x : A) (xs ys : List A) → IsIn x (xs ++ ys) → IsIn x xs ⊎ IsIn x ys
   IsIn-append x [] ys h = inr h
   IsIn-append x (y ∷ xs) ys (inl e) = inl (inl e)
   IsIn-append x (y ∷ xs) ys (inr h) = elim (IsIn-append x xs ys h) [ inl a ↦ inl (inr a) | inr b ↦ inr b ]
 
+  -- what is in the first of two lists is in both together
   pub IsIn-left : (x : A) (xs ys : List A) → IsIn x xs → IsIn x (xs ++ ys)
   IsIn-left x [] ys h = absurd h
   IsIn-left x (y ∷ xs) ys (inl e) = inl e
   IsIn-left x (y ∷ xs) ys (inr h) = inr (IsIn-left x xs ys h)
 
+  -- what is in the second of two lists is in both together
   pub IsIn-right : (x : A) (xs ys : List A) → IsIn x ys → IsIn x (xs ++ ys)
   IsIn-right x [] ys h = h
   IsIn-right x (y ∷ xs) ys h = inr (IsIn-right x xs ys h)
@@ -28,6 +31,7 @@ module _ {A : Type 0} where
   IsIn-only x y (inl e) = e
   IsIn-only x y (inr h) = absurd h
 
+  -- distinct items stay distinct with a new one behind them
   pub AreDistinct-last : (xs : List A) (x : A) → AreDistinct xs → (IsIn x xs → ⊥) → AreDistinct (xs ++ x ∷ [])
   AreDistinct-last [] x d new = (λ h. h, tt)
   AreDistinct-last (y ∷ xs) x d new = (
@@ -87,6 +91,7 @@ abbrev mutual
   size (node l ts) = size_all ts
   size (binder vs t) = size t
 
+  -- the same for trees in order
   pub size_all : Forest Depth → ℕ
   size_all none = zero
   size_all (also t ts) = size t + size_all ts
@@ -139,6 +144,7 @@ IsMoving k (term l ts) = (is_type l && ltb k (outer_binder (term l ts))) ≡ tru
 IsMoving k _ = ⊥
 
 mutual
+  -- the list of a tree's types with parameters has each place of such a type in the tree
   pub generic_types-have : (p : TypeAt) (k : ℕ) (t : Tree Depth) → IsPlaceIn p k t → IsGeneric p.standing → IsIn p (generic_types k t)
   generic_types-have p k (param s i name) h g = absurd h
   generic_types-have p k (bound s d e) h g = absurd h
@@ -154,6 +160,7 @@ mutual
   generic_types_among-have p k (also t ts) (inr h) g = IsIn-right p (generic_types k t) (generic_types_among k ts) (generic_types_among-have p k ts h g)
 
 mutual
+  -- the list of a tree's types with a variable to be shifted has each place of such a type in the tree
   pub moving_types-have : (p : TypeAt) (k : ℕ) (t : Tree Depth) → IsPlaceIn p k t → IsMoving p.under p.standing → IsIn p (moving_types k t)
   moving_types-have p k (param s i name) h g = absurd h
   moving_types-have p k (bound s d e) h g = absurd h

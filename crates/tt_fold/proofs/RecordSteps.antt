@@ -83,12 +83,14 @@ module _ {M E S : Type 0} {owned : List Row → S → Type 0} {means : List Row 
 
   -- a record of one value
   module _ {T A : Type 0} (of : T → Shape) (a : A → Shape) (l : RecordLabel ℕ) where
+    -- the fold of a record of one value fails if the fold of the value fails
     pub one_fails : {terms terms1 : Terms} {s s1 : S} {e : E} (x : T) (u : A) → of x ≡ one_record l (a u)
         → Folds owned means (IsPartBy a) (tree_by a) (Walks H) (Fails H errors) terms s u (Err e) terms1 s1
         → Folds owned means (IsPartBy of) (tree_by of) (Walks H) (Fails H errors) terms s x (Err e) terms1 s1
     unfolding fill
     one_fails x u at_x d = record { extends = d.extends; is_owned = d.is_owned; outcome = rw at_x (node_failed (here d.outcome)) }
 
+    -- a record of one value is folded to the record of the value's result
     pub one_folds : {terms terms1 : Terms} {s s1 : S} → IsNameless l → (x y : T) (u v : A) → of x ≡ one_record l (a u) → of y ≡ one_record l (a v)
         → Folds owned means (IsPartBy a) (tree_by a) (Walks H) (Fails H errors) terms s u (Ok v) terms1 s1
         → Folds owned means (IsPartBy of) (tree_by of) (Walks H) (Fails H errors) terms s x (Ok y) terms1 s1
@@ -106,12 +108,14 @@ module _ {M E S : Type 0} {owned : List Row → S → Type 0} {means : List Row 
 
   -- a record of two values
   module _ {T A B : Type 0} (of : T → Shape) (a : A → Shape) (b : B → Shape) (l : RecordLabel ℕ) where
+    -- the fold of a record of two values fails if the fold of the first fails
     pub two_first_fails : {terms terms1 : Terms} {s s1 : S} {e : E} (x : T) (u : A) (v : B) → of x ≡ two_record l (a u) (b v)
         → Folds owned means (IsPartBy a) (tree_by a) (Walks H) (Fails H errors) terms s u (Err e) terms1 s1
         → Folds owned means (IsPartBy of) (tree_by of) (Walks H) (Fails H errors) terms s x (Err e) terms1 s1
     unfolding fill
     two_first_fails x u v at_x d = record { extends = d.extends; is_owned = d.is_owned; outcome = rw at_x (node_failed (here d.outcome)) }
 
+    -- the fold of a record of two values fails if the first is folded and the fold of the second fails
     pub two_second_fails : {terms terms1 terms2 : Terms} {s s1 s2 : S} {e : E} {other : Errors E} (x : T) (u y : A) (v : B) → of x ≡ two_record l (a u) (b v)
         → IsPartBy b terms.rows v
         → Folds owned means (IsPartBy a) (tree_by a) (Walks H) (Fails H other) terms s u (Ok y) terms1 s1
@@ -122,6 +126,7 @@ module _ {M E S : Type 0} {owned : List Row → S → Type 0} {means : List Row 
         let o = rw (fill-grows _ _ d1.extends.rows (b v) part) at d2.outcome in
         record { extends = Extends-trans d1.extends d2.extends; is_owned = d2.is_owned; outcome = rw at_x (node_failed (later d1.outcome.1 (λ h. h) (here o))) }
 
+    -- a record of two values is folded to the record of their results
     pub two_folds : {terms terms1 terms2 : Terms} {s s1 s2 : S} {other : Errors E} → IsNameless l → (x z : T) (u y : A) (v w : B)
         → of x ≡ two_record l (a u) (b v) → of z ≡ two_record l (a y) (b w) → IsPartBy b terms.rows v
         → Folds owned means (IsPartBy a) (tree_by a) (Walks H) (Fails H other) terms s u (Ok y) terms1 s1
@@ -142,12 +147,14 @@ module _ {M E S : Type 0} {owned : List Row → S → Type 0} {means : List Row 
 
   -- a record of three values
   module _ {T A B C : Type 0} (of : T → Shape) (a : A → Shape) (b : B → Shape) (c : C → Shape) (l : RecordLabel ℕ) where
+    -- the fold of a record of three values fails if the fold of the first fails
     pub three_first_fails : {terms terms1 : Terms} {s s1 : S} {e : E} (x : T) (u : A) (v : B) (w : C) → of x ≡ three_record l (a u) (b v) (c w)
         → Folds owned means (IsPartBy a) (tree_by a) (Walks H) (Fails H errors) terms s u (Err e) terms1 s1
         → Folds owned means (IsPartBy of) (tree_by of) (Walks H) (Fails H errors) terms s x (Err e) terms1 s1
     unfolding fill
     three_first_fails x u v w at_x d = record { extends = d.extends; is_owned = d.is_owned; outcome = rw at_x (node_failed (here d.outcome)) }
 
+    -- the fold of a record of three values fails if the first is folded and the fold of the second fails
     pub three_second_fails : {terms terms1 terms2 : Terms} {s s1 s2 : S} {e : E} {other : Errors E} (x : T) (u p : A) (v : B) (w : C)
         → of x ≡ three_record l (a u) (b v) (c w) → IsPartBy b terms.rows v
         → Folds owned means (IsPartBy a) (tree_by a) (Walks H) (Fails H other) terms s u (Ok p) terms1 s1
@@ -158,6 +165,7 @@ module _ {M E S : Type 0} {owned : List Row → S → Type 0} {means : List Row 
         let o = rw (fill-grows _ _ d1.extends.rows (b v) part) at d2.outcome in
         record { extends = Extends-trans d1.extends d2.extends; is_owned = d2.is_owned; outcome = rw at_x (node_failed (later d1.outcome.1 (λ h. h) (here o))) }
 
+    -- the fold of a record of three values fails if two are folded and the fold of the third fails
     pub three_third_fails : {terms terms1 terms2 terms3 : Terms} {s s1 s2 s3 : S} {e : E} {other another : Errors E} (x : T) (u p : A) (v q : B) (w : C)
         → of x ≡ three_record l (a u) (b v) (c w) → IsPartBy b terms.rows v → IsPartBy c terms.rows w
         → Folds owned means (IsPartBy a) (tree_by a) (Walks H) (Fails H other) terms s u (Ok p) terms1 s1
@@ -174,6 +182,7 @@ module _ {M E S : Type 0} {owned : List Row → S → Type 0} {means : List Row 
           outcome = rw at_x (node_failed (later d1.outcome.1 (λ h. h) (later o.1 (λ h. h) (here f))));
         }
 
+    -- a record of three values is folded to the record of their results
     pub three_folds : {terms terms1 terms2 terms3 : Terms} {s s1 s2 s3 : S} {other another : Errors E} → IsNameless l → (x z : T) (u p : A) (v q : B) (w r : C)
         → of x ≡ three_record l (a u) (b v) (c w) → of z ≡ three_record l (a p) (b q) (c r) → IsPartBy b terms.rows v → IsPartBy c terms.rows w
         → Folds owned means (IsPartBy a) (tree_by a) (Walks H) (Fails H other) terms s u (Ok p) terms1 s1
@@ -198,12 +207,14 @@ module _ {M E S : Type 0} {owned : List Row → S → Type 0} {means : List Row 
 
   -- what a kind without a row says: a record of its parts
   module _ {T : Type 0} (of : T → RecordForm) where
+    -- the fold of a kind without a row fails if the fold of its parts fails
     pub parts_fail : {terms terms1 : Terms} {s s1 : S} {x : T} {e : E}
         → Folds owned means (ArePartsFor (of x).parts) parts_trees (WalksAll H) (FailsAll H errors any_trees) terms s (of x).parts (Err e) terms1 s1
         → Folds owned means (IsPartBy (λ x. record_shape (of x))) (tree_by (λ x. record_shape (of x))) (Walks H) (Fails H errors) terms s x (Err e) terms1 s1
     unfolding fill
     parts_fail d = record { extends = d.extends; is_owned = d.is_owned; outcome = node_failed d.outcome }
 
+    -- a kind without a row is folded to the kind with the results of its parts
     pub parts_fold : {terms terms1 : Terms} {s s1 : S} {x y : T} {q : Parts} → IsPartOf terms.rows (record_shape (of x)) → of y ≡ replenished q (of x)
         → Folds owned means (ArePartsFor (of x).parts) parts_trees (WalksAll H) (FailsAll H errors any_trees) terms s (of x).parts (Ok q) terms1 s1
         → Folds owned means (IsPartBy (λ x. record_shape (of x))) (tree_by (λ x. record_shape (of x))) (Walks H) (Fails H errors) terms s x (Ok y) terms1 s1
@@ -239,6 +250,7 @@ module _ {M E S : Type 0} {owned : List Row → S → Type 0} {means : List Row 
       → Folds owned means (IsPartBy unsafe_value) (tree_by unsafe_value) (Walks H) (Fails H errors) terms s t (Err e) terms1 s1
   unsafe_value_fails t d = one_fails unsafe_value ty_shape unsafe_binder_record t t refl d
 
+  -- the record of a type under an unsafe binder is folded to the record of the type's result
   pub unsafe_value_folds : {terms terms1 : Terms} {s s1 : S} (t u : Ty)
       → Folds owned means (IsPartBy ty_shape) (tree_by ty_shape) (Walks H) (Fails H errors) terms s t (Ok u) terms1 s1
       → Folds owned means (IsPartBy unsafe_value) (tree_by unsafe_value) (Walks H) (Fails H errors) terms s t (Ok u) terms1 s1
@@ -250,6 +262,7 @@ module _ {M E S : Type 0} {owned : List Row → S → Type 0} {means : List Row 
       → Folds owned means (IsPartBy unsafe_binder_shape) (tree_by unsafe_binder_shape) (Walks H) (Fails H errors) terms s i (Err e) terms1 s1
   unsafe_fails i d = record { extends = d.extends; is_owned = d.is_owned; outcome = d.outcome }
 
+  -- the contents of an unsafe binder are folded to contents with the result of the binder in them
   pub unsafe_folds : {terms terms1 : Terms} {s s1 : S} {b : Binder Ty} (i j : UnsafeBinderInner) → j.0.value ≡ b.value → j.0.bound_vars ≡ b.bound_vars
       → Folds owned means (IsPartBy (binder_shape unsafe_value)) (tree_by (binder_shape unsafe_value)) (Walks H) (Fails H errors) terms s i.0 (Ok b) terms1 s1
       → Folds owned means (IsPartBy unsafe_binder_shape) (tree_by unsafe_binder_shape) (Walks H) (Fails H errors) terms s i (Ok j) terms1 s1

@@ -35,5 +35,6 @@ module _ {F : Type 0} (step : F → RegionKind → ℕ → RegionKind → F → 
   after_more before (c ∷ calls) p q i made =
       subst (λ all. I all q) (append_assoc before (c ∷ []) calls) (after_more (before ++ (c ∷ [])) calls made.0 q (next before c p made.0 i made.1) made.2)
 
+  -- what holds before the calls and is kept by each of them holds after all that were made
   pub after_calls : (calls : List RegionCall) (p q : F) → I [] p → AreMade step p calls q → I calls q
   after_calls calls p q i made = after_more [] calls p q i made

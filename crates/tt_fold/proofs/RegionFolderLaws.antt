@@ -42,6 +42,7 @@ second-empty (x ∷ xs) ys h = cc
 
 -- a tree in which no region is met stays, whatever the answers
 mutual
+  -- a tree in which no region is met stays as it is, whatever the answers are
   pub placed-none : (k : ℕ) (t : Tree Depth) (answers : List (Tree Depth)) → met k t ≡ [] → placed k t answers ≡ t
   placed-none k (param s i name) answers h = ap (λ ms. placed_leaf ms (param s i name) answers) h
   placed-none k (bound s d e) answers h = ap (λ ms. placed_leaf ms (bound s d e) answers) h
@@ -227,6 +228,7 @@ module _ {F : Type 0} (step : F → RegionKind → ℕ → RegionKind → F → 
   also-is p q = cc
 
   mutual
+    -- a walk asks about exactly the regions that are met, in order, and puts the answers in their places
     pub asks : {s s' : Asking F} {t r : Tree Depth} → Walks (region_hooks step) s t r s' → Asked s t r s'
     asks {s} {s'} (at_region {t} {r} is (inl (h, a))) = record {
       calls = record { region = a.region; depth = s.under; answer = a.answer } ∷ [];
@@ -314,6 +316,7 @@ module _ {F : Type 0} (step : F → RegionKind → ℕ → RegionKind → F → 
         rw count (take-append-add (answered s.names calls) more (length rest))
 
     mutual
+      -- a walk that fails asked about the first of the regions that are met, and about no others
       pub asks_some : {s s' : Asking F} {t : Tree Depth} {e : Refusal} → Fails (region_hooks step) errors s t e s' → KeepsClauses t → AskedSome s t e s'
       asks_some (region_failed is h) keeps = absurd h
       asks_some (term_failed is h) keeps = absurd h

@@ -188,6 +188,7 @@ module _ {F : Type 0} (step : F → RegionKind → ℕ → RegionKind → F → 
         refused = placing_refusal terms t (answered names m.calls) e m.why;
       }
 
+  -- a walk by a new folder of regions that fails called the closure at exactly the first regions met
   pub walk_places_some : RegionFoldersPlaceSome step
   walk_places_some names f counters terms t e s' fine d = walk_ends names f counters terms t e s' (keeps-fine t fine) d
 

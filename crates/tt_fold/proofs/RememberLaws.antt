@@ -104,6 +104,7 @@ module _ {R K : Type 0} (T : Task R K) (laws : TaskLaws T) where
   done_also q k t u ts us d ds = record { plain = ap2 also d.plain ds.plain; allow = (d.allows, ds.allow) }
 
   mutual
+    -- a walk by a folder that remembers does its task, and all that is remembered was done by the rule
     pub does : {s s' : Standing (State R K)} {t r : Tree Depth} → Walks (remembering T) s t r s' → Knows s.state → Does s t r s'
     does {s} (at_region is h) knows = rw h.0 (record { stays = still s knows; is_done = h.1 })
     does {s} (replaced {t} {r} is (given {kept} {c} g)) knows =
@@ -131,6 +132,7 @@ module _ {R K : Type 0} (T : Task R K) (laws : TaskLaws T) where
         let d = rw (← n.stays.rule, ← n.stays.under) at n.is_done in
         record { stays = then_stays s s1 s' n.stays (after_stays after n.stays.knows d); is_done = rw (after_same after) n.is_done }
 
+    -- the same for the contents of a term that is entered
     pub does_inside : {s s' : Standing (State R K)} {t u : Tree Depth} → WalksInside (remembering T) s t u s' → T.IsEntered s.state.rule s.state.under t → Knows s.state → Does s t u s'
     does_inside {s} (in_term {l} {ts} {us} w fit) entered knows =
         let n = does_all w knows in
@@ -193,6 +195,7 @@ module _ {R K : Type 0} (T : Task R K) (laws : TaskLaws T) where
       rises : T.Rises s.counters s'.counters
 
     mutual
+      -- if a walk by a folder that remembers fails, the rule has a reason for it, and the counts don't fall
       pub refused : {s s' : Standing (State R K)} {t : Tree Depth} {e : Refusal} → Fails (remembering T) errors s t e s' → Knows s.state → Refused s t e s'
       refused {s} {t} {e} (region_failed is h) knows =
           record { why = laws.region_refused errors.unbuilt s.state.rule s.state.under t e h.1; rises = rw h.0 (laws.rises_still s.counters) }

@@ -287,6 +287,7 @@ abbrev pub start : ℕ → State ℕ ⊤
 start n = record { rule = n; under = 0; kept = tt; memory = [] }
 
 module _ {S T : Type 0} {owned : List Row → S → Type 0} {means : List Row → S → State ℕ ⊤} {shape : T → Shape} {terms terms' : Terms} {s s' : S} {x : T} (n : ℕ) where
+  -- a fold by a new shifter keeps all promises of a shift
   pub shift_outcome : (result : Result T Refusal) → means terms.rows s ≡ start n → KeepsClauses (tree_by shape terms.rows x)
       → Folds owned means (IsPartBy shape) (tree_by shape) (Walks (remembering shifting)) (Fails (remembering shifting) (refusals_of terms')) terms s x result terms' s'
       → IsShift shape n terms x result terms'

@@ -90,6 +90,7 @@ module _ {M E : Type 0} {H : Hooks M E} where
   walks_by e any (at_list is) opens w r (finishes is2 after) = (let h = sym is ∙ is2 in cc)
   walks_by {o} e any (at_list is) opens w r (unasked never) = rw e (walks_list o (ap root (sym e) ∙ is) opens w r)
 
+  -- a term or a list is walked if it is begun, its children are walked, it is rebuilt and then finished
   pub walks_whole : {t u r : Tree Depth} {ts us : Forest Depth} {s s1 s2 s3 s4 : M} {o : Outline}
       → Begins H t o ts s s1 → WalksAll H s1 ts us s2 → Rebuilds H o us s2 u s3 → Finishes H t u s3 r s4 → Walks H s t r s4
   walks_whole b w r f = walks_by b.is_whole b.any b.asked b.opened w r f
@@ -112,6 +113,7 @@ module _ {M E : Type 0} {H : Hooks M E} where
       → Proceeds H c.before c.outline (with_result c v) c.left cs s2 r s' → Proceeds H t o ds none (c ∷ cs) s r s'
   proceeds_up b f p = more done b f p
 
+  -- if no child of the outermost tree is left, what is built of its results is what comes of it
   pub proceeds_end : {t u : Tree Depth} {o : Outline} {ds : Forest Depth} {s s' : M}
       → Rebuilds H o (joined_trees ds none) s u s' → Proceeds H t o ds none [] s u s'
   proceeds_end b = last done b
@@ -192,6 +194,7 @@ module _ {M E : Type 0} {H : Hooks M E} {errors : Errors E} where
       passed_failed is (rw e (inside_rest_fails o any (term_no_part o ts e (λ no. let h = sym is ∙ no in cc)) opens f))
   fails_by {o} e any (at_list is) opens f = rw e (list_rest_fails o (ap root (sym e) ∙ is) opens f)
 
+  -- the walk of a term or a list fails if it is begun and what is left of it fails
   pub fails_whole : {t : Tree Depth} {e : E} {ts : Forest Depth} {s s1 s' : M} {o : Outline}
       → Begins H t o ts s s1 → RestFails H errors o ts s1 e s' → Fails H errors s t e s'
   fails_whole b f = fails_by b.is_whole b.any b.asked b.opened f
@@ -204,6 +207,7 @@ module _ {M E : Type 0} {H : Hooks M E} {errors : Errors E} where
   finish_fails_by e any (passes is) opens w r f = (let h = sym is ∙ f.is in cc)
   finish_fails_by e any (at_list is) opens w r f = (let h = sym is ∙ f.is in cc)
 
+  -- the walk of a term fails if its children are walked, it is rebuilt, and the hook after it fails
   pub finish_fails : {t u : Tree Depth} {e : E} {ts us : Forest Depth} {s s1 s2 s3 s' : M} {o : Outline}
       → Begins H t o ts s s1 → WalksAll H s1 ts us s2 → Rebuilds H o us s2 u s3 → FinishFails H errors t u s3 e s' → Fails H errors s t e s'
   finish_fails b w r f = finish_fails_by b.is_whole b.any b.asked b.opened w r f
@@ -233,6 +237,7 @@ module _ {M E : Type 0} {H : Hooks M E} {errors : Errors E} where
       → Halts H errors c.before c.outline (with_result c v) c.left cs s2 e s' → Halts H errors t o ds none (c ∷ cs) s e s'
   halts_up b f good p = above done b f good p
 
+  -- an error that comes with nothing around the tree is one of what is left of it
   pub halts_rests : {t : Tree Depth} {e : E} {o : Outline} {ts : Forest Depth} {s s' : M} → Halts H errors t o none ts [] s e s' → RestFails H errors o ts s e s'
   halts_rests (in_left f) = in_children f
   halts_rests (in_rebuild ws f) = in_whole ws f

@@ -52,6 +52,7 @@ module _ {R K : Type 0} (T : Task R K) where
     pub rises : T.Rises s.counters s'.counters
     pub amount : T.amount s'.counters ≤ T.amount s.counters
 
+  -- what a task has to meet, so that a folder that remembers does it
   pub record TaskLaws : Type 1 where
     -- which terms are entered
     pub passed_entered : (q : R) (k : ℕ) (t : Tree Depth) → IsPassed t → T.IsEntered q k t

@@ -357,6 +357,7 @@ module _ {M E S : Type 0} (means : List Row → S → M) (H : TypeHooks (Standin
     last_of t c e c' (inl same) = inl same
     last_of t c e c' (inr h) = inr (record { type = h.type; of_tree = record { is_type = h.is_type; occurs = h.place }; end = h.end; fails = h.fails; counters = h.counters })
 
+    -- up to an error too, no type is taken apart twice
     pub fails_once : {s s' : Standing (State M ⊤)} {t : Tree Depth} {e : E} → Fails (recalling means H) errors s t e s' → s.state.rule ≡ m → FailsOnce H m errors.unbuilt t s.counters e s'.counters
     fails_once {s} {s'} {t} {e} f rule =
         let n = takes_some f rule in

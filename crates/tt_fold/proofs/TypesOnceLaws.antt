@@ -97,6 +97,7 @@ module _ {M E S : Type 0} (means : List Row → S → M) (H : TypeHooks (Standin
   same_answer r u h = cc
 
   mutual
+    -- a walk with a memory gives what the walk without it gives, and what it remembers stays right
     pub does : {s s' : Standing (State M ⊤)} {t r : Tree Depth} → Walks (recalling means H) s t r s' → Recalls s → Does t r s'
     does {s} {s'} (at_region is h) known = rw h.1 (record { stays = known; plain = at_region is (h.0, refl) })
     does {s} {s'} (replaced {t} {r} is h) known =
@@ -135,6 +136,7 @@ module _ {M E S : Type 0} (means : List Row → S → M) (H : TypeHooks (Standin
   -- where it fails, it fails so without memory too, but for want of memory, which may come earlier
   module _ (errors : Errors E) where
     mutual
+      -- an error that ends a walk with a memory may also end the walk without it
       pub fails : {s s' : Standing (State M ⊤)} {t : Tree Depth} {e : E} → Fails (recalling means H) errors s t e s' → Recalls s → Fails (steadily H m) errors tt t e tt
       fails (region_failed is h) known = absurd h
       fails {s} (term_failed {t} {e} is h) known =

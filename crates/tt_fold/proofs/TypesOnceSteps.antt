@@ -111,6 +111,7 @@ module _ {M E S T : Type 0} (means : List Row → S → M) (H : TypeHooks (Stand
     pub ok_once : IfOk result (λ y. CallsOnce H (means rows folder) t c c')
     pub err_once : IfErr result (λ e. FailsOnce H (means rows folder) errors.unbuilt t c e c')
 
+  -- the outcome of a fold that began with an empty memory is one without memory, and no type is taken apart twice
   pub plain : (owns : T → Type 0) (t : Tree Depth) (tree : T → Tree Depth) (result : Result T E) (s' : Standing (State M ⊤))
       → MatchResult result (λ y. owns y × Walks (recalling means H) (recalls rows (means rows folder) es c) t (tree y) s')
       (λ e. Fails (recalling means H) errors (recalls rows (means rows folder) es c) t e s')

@@ -30,6 +30,7 @@ binder-part : {T : Type 0} (of_value : T → Shape) (rows : List Row) (x : Binde
 binder-part of_value rows x h k = (h, k)
 
 module _ {M E S : Type 0} {owned : List Row → S → Type 0} {means : List Row → S → M} {H : Hooks (Standing M) E} where
+  -- a region is folded to what its hook returns, and the fold fails if the hook fails
   pub region_folds : {terms terms1 : Terms} {s s1 : S} (errors : Errors E) (x : RegionKind) (r : Result RegionKind E)
       → Extends terms terms1 → owned terms1.rows s1
       → MatchResult r
@@ -46,12 +47,14 @@ module _ {M E S : Type 0} {owned : List Row → S → Type 0} {means : List Row 
   module _ {errors : Errors E} where
     -- binders
     module _ {T : Type 0} (of_value : T → Shape) where
+      -- the fold of a binder fails if the hook before its value fails
       pub binder_enter_fails : {terms terms1 : Terms} {s s1 : S} {x : Binder T} {e : E}
           → Extends terms terms1 → owned terms1.rows s1 → H.enter_fails errors.unbuilt (stands means terms s) (vars_in terms.rows x.bound_vars) e (stands means terms1 s1)
           → Folds owned means (IsPartBy (binder_shape of_value)) (tree_by (binder_shape of_value)) (Walks H) (Fails H errors) terms s x (Err e) terms1 s1
       unfolding fill
       binder_enter_fails extends o h = record { extends = extends; is_owned = o; outcome = enter_failed h }
 
+      -- the fold of a binder fails if it is entered and the fold of its value fails
       pub binder_value_fails : {terms terms1 terms2 : Terms} {s s1 s2 : S} {x : Binder T} {e : E}
           → IsPartBy of_value terms.rows x.value → Extends terms terms1
           → H.enter (stands means terms s) (vars_in terms.rows x.bound_vars) (stands means terms1 s1)
@@ -62,6 +65,7 @@ module _ {M E S : Type 0} {owned : List Row → S → Type 0} {means : List Row 
           let o = rw (fill-grows _ _ extends.rows (of_value x.value) part) at d.outcome in
           record { extends = Extends-trans extends d.extends; is_owned = d.is_owned; outcome = under_failed enter o }
 
+      -- the fold of a binder fails if its value is folded and the hook after the value fails
       pub binder_leave_fails : {terms terms1 terms2 terms3 : Terms} {s s1 s2 s3 : S} {x : Binder T} {y : T} {e : E} {other : Errors E}
           → HasVars terms.rows x.bound_vars → IsPartBy of_value terms.rows x.value → Extends terms terms1
           → H.enter (stands means terms s) (vars_in terms.rows x.bound_vars) (stands means terms1 s1)
@@ -74,6 +78,7 @@ module _ {M E S : Type 0} {owned : List Row → S → Type 0} {means : List Row 
           let l = rw (vars-grow (Extends-trans extends d.extends).rows x.bound_vars has) at leave in
           record { extends = Extends-trans extends (Extends-trans d.extends more); is_owned = owned3; outcome = leave_failed enter o.1 l }
 
+      -- a binder is folded to the same variables around its value's result
       pub binder_folds : {terms terms1 terms2 terms3 : Terms} {s s1 s2 s3 : S} {x : Binder T} {y : T} {other : Errors E}
           → HasVars terms.rows x.bound_vars → IsPartBy of_value terms.rows x.value → Extends terms terms1
           → H.enter (stands means terms s) (vars_in terms.rows x.bound_vars) (stands means terms1 s1)
@@ -104,6 +109,7 @@ module _ {M E S : Type 0} {owned : List Row → S → Type 0} {means : List Row 
       unfolding fill
       super_binder_fails d = record { extends = d.extends; is_owned = d.is_owned; outcome = super_binder_failed d.outcome }
 
+      -- without its own hooks, a binder is folded to the same variables around its value's result
       pub super_binder_folds : {terms terms1 : Terms} {s s1 : S} {x : Binder T} {y : T}
           → HasVars terms.rows x.bound_vars
           → Folds owned means (IsPartBy of_value) (tree_by of_value) (Walks H) (Fails H errors) terms s x.value (Ok y) terms1 s1
@@ -122,11 +128,13 @@ module _ {M E S : Type 0} {owned : List Row → S → Type 0} {means : List Row 
 
     -- a stored term without its own hook
     module _ {T : Type 0} (f : T → Node) (shape : T → Shape) (same : (x : T) → node_shape (f x) ≡ shape x) where
+      -- without its own hook, the fold of a stored term fails if the fold of its contents fails
       pub super_term_fails : {terms terms1 : Terms} {s s1 : S} {t : T} {e : E}
           → Folds owned means (IsNodeFor (f t)) node_tree (WalksInside H) (InsideFails H errors) terms s (f t) (Err e) terms1 s1
           → Folds owned means (IsPartBy shape) (tree_by shape) (SuperWalks H) (SuperFails H errors) terms s t (Err e) terms1 s1
       super_term_fails {t} d = record { extends = d.extends; is_owned = d.is_owned; outcome = rw (← same t) (super_term_failed d.outcome) }
 
+      -- without its own hook, a stored term is folded to the term that comes of its contents
       pub super_term_folds : {terms terms1 : Terms} {s s1 : S} {t u : T} {n : Node} → n ≡ f u
           → Folds owned means (IsNodeFor (f t)) node_tree (WalksInside H) (InsideFails H errors) terms s (f t) (Ok n) terms1 s1
           → Folds owned means (IsPartBy shape) (tree_by shape) (SuperWalks H) (SuperFails H errors) terms s t (Ok u) terms1 s1

@@ -48,17 +48,20 @@ module _ {T : Type 0} (of : T → Shape) where
   sequence-tree rows xs = refl
 
   module _ {M E S : Type 0} {owned : List Row → S → Type 0} {means : List Row → S → M} {H : Hooks (Standing M) E} where
+    -- at the start no value of a list is folded, and all are left
     pub values_none : {terms : Terms} {s : S} {list values rest : List T} → owned terms.rows s → values ≡ [] → rest ≡ list
         → FoldsValues of owned means H terms s list values rest terms s
     values_none {terms} o empty all =
         rw (empty, all) (record { front = []; split = refl; extends = Extends-refl terms; is_owned = o; are_values = no_parts terms.rows; walked = rw (no_trees terms.rows) done })
 
+    -- the next value of a list is in range if the list is
     pub value_part : {terms terms1 : Terms} {s s1 : S} {list values rest left : List T} {x : T}
         → IsPartOf terms.rows (sequence_shape of list) → FoldsValues of owned means H terms s list values rest terms1 s1 → rest ≡ x ∷ left → IsPartOf terms.rows (of x)
     value_part {terms} {list} {left} {x} parts p taken =
         let split : list ≡ p.front ++ x ∷ left = p.split ∙ ap (λ r. p.front ++ r) taken in
         part-after terms.rows p.front x left (rw split at (sequence-parts terms.rows list parts))
 
+    -- if the next value of a list is folded, one more is folded and the others are left
     pub values_more : {terms terms1 terms2 : Terms} {s s1 s2 : S} {list values more rest left : List T} {x y : T} {other : Errors E}
         → IsPartOf terms.rows (sequence_shape of list) → FoldsValues of owned means H terms s list values rest terms1 s1 → rest ≡ x ∷ left
         → Folds owned means (IsPartBy of) (tree_by of) (Walks H) (Fails H other) terms1 s1 x (Ok y) terms2 s2
@@ -80,6 +83,7 @@ module _ {T : Type 0} (of : T → Shape) where
         })
 
     module _ {errors : Errors E} {V : Type 0} (items : V → List T) where
+      -- the fold of a list fails if the fold of its next value fails
       pub value_fails : {terms terms1 terms2 : Terms} {s s1 s2 : S} {v : V} {values rest left : List T} {x : T} {e : E}
           → IsPartOf terms.rows (sequence_shape of (items v)) → FoldsValues of owned means H terms s (items v) values rest terms1 s1 → rest ≡ x ∷ left
           → Folds owned means (IsPartBy of) (tree_by of) (Walks H) (Fails H errors) terms1 s1 x (Err e) terms2 s2
@@ -92,6 +96,7 @@ module _ {T : Type 0} (of : T → Shape) where
           ap (λ xs. trees_in terms.rows (item_shapes of xs)) split ∙ trees-append terms.rows p.front (x ∷ left) in
           record { extends = Extends-trans p.extends d.extends; is_owned = d.is_owned; outcome = rw (sequence-tree terms.rows (items v), is) (node_failed (FailsAll-append p.walked (λ h. h) (here o))) }
 
+      -- the fold of a list fails before its next value if the memory for the results is refused
       pub values_stop : {terms terms1 : Terms} {s s1 : S} {v : V} {values rest : List T} {e : E}
           → FoldsValues of owned means H terms s (items v) values rest terms1 s1 → ((u : Tree Depth) → errors.unbuilt u e)
           → Folds owned means (IsPartBy (λ v. sequence_shape of (items v))) (tree_by (λ v. sequence_shape of (items v))) (Walks H) (Fails H errors) terms s v (Err e) terms1 s1
@@ -100,6 +105,7 @@ module _ {T : Type 0} (of : T → Shape) where
           ap (λ xs. trees_in terms.rows (item_shapes of xs)) p.split ∙ trees-append terms.rows p.front rest in
           record { extends = p.extends; is_owned = p.is_owned; outcome = rw (sequence-tree terms.rows (items v), is) (node_failed (FailsAll-append p.walked (λ h. h) (stopped b))) }
 
+      -- a list of which no value is left is folded to the list of the results
       pub values_fold : {terms terms1 : Terms} {s s1 : S} {v w : V} {rest : List T}
           → FoldsValues of owned means H terms s (items v) (items w) rest terms1 s1 → rest ≡ []
           → Folds owned means (IsPartBy (λ v. sequence_shape of (items v))) (tree_by (λ v. sequence_shape of (items v))) (Walks H) (Fails H errors) terms s v (Ok w) terms1 s1

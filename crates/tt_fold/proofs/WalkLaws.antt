@@ -23,6 +23,7 @@ WalksAll-append done b = b
 WalksAll-append (next a more) b = next a (WalksAll-append more b)
 
 module _ {M E : Type 0} {H : Hooks M E} {errors : Errors E} where
+  -- a failure in trees is one behind other trees too, if these are walked to results that are wanted
   pub FailsAll-append : {w : Wanted} {s s1 s2 : M} {ts us vs : Forest Depth} {e : E}
       → WalksAll H s ts us s1 → (HasUnwanted w us → ⊥) → FailsAll H errors w s1 vs e s2 → FailsAll H errors w s (joined_trees ts vs) e s2
   FailsAll-append done fit b = b

@@ -124,7 +124,7 @@ module _ {F : Type 0} (step : F → RegionKind → ℕ → RegionKind → F → 
     pub refused : IsPlacingRefusal terms t (answered names calls) e
 
   -- the closure is called at a region, and its answer replaces the region
-  pub record Asks (s : Asking F) (t r : Tree Depth) (s' : Asking F) : Type 0 where
+  pub record AsksClosure (s : Asking F) (t r : Tree Depth) (s' : Asking F) : Type 0 where
     pub region : RegionKind
     pub answer : RegionKind
     pub is_region : t ≡ region_tree s.names region
@@ -136,7 +136,7 @@ module _ {F : Type 0} (step : F → RegionKind → ℕ → RegionKind → F → 
   -- a folder of regions calls its closure at each region that is met, and keeps only terms that meet none
   abbrev pub region_hooks : Hooks (Asking F) Refusal
   region_hooks = record {
-    on_region = λ s t r s'. ((met s.under t ≡ record { standing = t; under = s.under } ∷ []) × Asks s t r s')
+    on_region = λ s t r s'. ((met s.under t ≡ record { standing = t; under = s.under } ∷ []) × AsksClosure s t r s')
         ⊎ ((met s.under t ≡ []) × (s' ≡ s) × (r ≡ t));
     region_fails = λ unbuilt s t e s'. ⊥;
     on_term = λ s t a s'. (s' ≡ s) × ((a ≡ descend) ⊎ ((a ≡ keep) × (met s.under t ≡ [])));

@@ -27,11 +27,13 @@ module _ {S T E F : Type 0} (steps : S → Option T → S → Type 0) (g : Mut F
       let same : x ≡ y = cc in
       ((map_source j, subst (λ z. steps (map_source m) (Some z) (map_source j)) (sym same) step, more.0), more.1)
 
+  -- if a closure makes each item a value, the source yields to its end the items whose values are yielded
   pub source-drains : (xs : List T) (m : _) (s : S) → map_source m ≡ s → map_callee m ≡ f
       → Drains (map_steps steps g) m (map Ok xs) → MakesValues → Drains steps s xs
   source-drains xs m s from is (u, (v, ys, none)) only =
       subst (λ z. Drains steps z xs) from (map_source u, (map_source v, (source-yields xs m v is only ys).0, none.0))
 
+  -- if a closure makes each item a value and there are more values than are kept in place, so are the items
   pub source-many : (m : _) (s : S) → map_source m ≡ s → map_callee m ≡ f
       → YieldsManyOk (map_steps steps g) m → MakesValues → YieldsMany steps s
   source-many m s from is (xs, rest, ys, many) only =

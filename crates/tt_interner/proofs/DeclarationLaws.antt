@@ -60,12 +60,15 @@ module _ (rows : List Row) (ts : Tables) (limit : ℕ) (are : AreTables rows ts 
   has_rows : table Declarations rows ≡ map (λ (e : TableEntry). e.row) (declared_entries 0 ds)
   has_rows = are.has Declarations ∙ ap (map (λ (e : TableEntry). e.row)) is
 
+  -- as many declarations are kept as the rows have
   pub declared_count : length ds ≡ size rows Declarations
   declared_count = sym (ap length has_rows ∙ length-map (declared_entries 0 ds) (λ (e : TableEntry). e.row) ∙ length-declared_entries 0 ds)
 
+  -- a declaration with the number of those that are kept is a new row
   pub declared_new : (n : ℕ) (d : Declaration) → length ds ≡ n → IsNew (declared_row n d) rows
   declared_new n d count = IsNew-from_table (declared_row n d) rows (subst (IsNew (declared_row n d)) (sym has_rows) (IsNew-declared 0 ds n d (omega arith)))
 
+  -- the declaration that is kept at a place is the row of that number
   pub declared_is : (n : ℕ) (d : Declaration) → slice_get ds n ≡ Some d → IsAt rows (declared_row n d) n
   declared_is n d at = ap (λ l. slice_get l n) has_rows ∙ slice_get-declared 0 ds n n d (omega arith) at
 

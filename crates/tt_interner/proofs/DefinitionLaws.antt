@@ -76,6 +76,7 @@ module _ {S : Type 0} (rows : List Row) (ts : Tables) (limit : ℕ) (are : AreTa
   has_rows : table Definitions rows ≡ kept_rows es
   has_rows = are.has Definitions ∙ ap (map (λ (e : TableEntry). e.row)) is
 
+  -- as many definitions are kept as the rows have
   pub defined_count : length es ≡ size rows Definitions
   defined_count = sym (ap length has_rows ∙ length-map (defined_entries es) (λ (e : TableEntry). e.row) ∙ length-map es (λ e. record { row = defined_row e.0.number (map variant_of e.1.items); info = no_info }))
 
@@ -83,6 +84,7 @@ module _ {S : Type 0} (rows : List Row) (ts : Tables) (limit : ℕ) (are : AreTa
   unfolding variants_of
   variants-found n = ap (variants_among n) has_rows ∙ variants-kept n es
 
+  -- a definition is a new row if the rows don't define its data type
   pub defined_new : (n : ℕ) (us : List Variant) → variants_of rows n ≡ None → IsNew (defined_row n us) rows
   unfolding variants_of
   defined_new n us none = IsNew-from_table (defined_row n us) rows (subst (IsNew (defined_row n us)) (sym has_rows) (IsNew-defined n us (kept_rows es) (sym (ap (variants_among n) has_rows) ∙ none)))
@@ -147,12 +149,14 @@ module _ (rows : List Row) where
   parts-fields [] parts = All-nil (IsOwnField rows)
   parts-fields (f ∷ fs) parts = All-cons (IsOwnField rows) f fs (parts.0.2.0, parts.0.2.1.0) (parts-fields fs parts.1)
 
+  -- if the names and types in variants are in range, so are the variants' parts
   pub variants-parts : (vs : List VariantDef) → All (IsOwnVariant rows) vs → AreParts (size rows) (item_shapes variant_shape (map variant_of vs))
   variants-parts [] own = tt
   variants-parts (v ∷ vs) own =
       let first = All-head (IsOwnVariant rows) v vs own in
       ((refl, tt, (name-part v.name first.0, ((refl, tt, fields-parts v.fields.items first.1), tt))), variants-parts vs (All-tail (IsOwnVariant rows) v vs own))
 
+  -- if variants' parts are in range, so are the names and types in the variants
   pub parts-variants : (vs : List VariantDef) → AreParts (size rows) (item_shapes variant_shape (map variant_of vs)) → All (IsOwnVariant rows) vs
   parts-variants [] parts = All-nil (IsOwnVariant rows)
   parts-variants (v ∷ vs) parts = All-cons (IsOwnVariant rows) v vs (part-name v.name parts.0.2.0, parts-fields v.fields.items parts.0.2.1.0.2) (parts-variants vs parts.1)
@@ -223,6 +227,7 @@ undefined rows n h = by (variants_of rows n) refl
 
 -- what a look-up in the map says
 module _ {S : Type 0} (rows : List Row) (ts : Tables) (limit : ℕ) (are : AreTables rows ts limit) (es : List (Id S × Vec VariantDef Global)) (is : table_entries ts Definitions ≡ defined_entries es) where
+  -- a look-up of a data type that isn't defined finds nothing
   pub not_there : (n : ℕ) → (IsDefined rows n → ⊥) → lookup (λ (k : Id S). eqb n k.number) es ≡ None
   not_there n h = by (lookup (λ (k : Id S). eqb n k.number) es) refl
     where
@@ -230,9 +235,11 @@ module _ {S : Type 0} (rows : List Row) (ts : Tables) (limit : ℕ) (are : AreTa
       by None e = refl
       by (Some vs) e = absurd (none-some (map variant_of vs.items) (sym (undefined rows n h) ∙ variants-found rows ts limit are es is n ∙ ap (option_map variants) e))
 
+  -- the variants that a look-up finds are the ones that the rows define
   pub there : (n : ℕ) (vs : Vec VariantDef Global) → lookup (λ (k : Id S). eqb n k.number) es ≡ Some vs → variants_of rows n ≡ Some (map variant_of vs.items)
   there n vs e = variants-found rows ts limit are es is n ∙ ap (option_map variants) e
 
+  -- a data type that a look-up doesn't find isn't defined
   pub absent : (n : ℕ) → lookup (λ (k : Id S). eqb n k.number) es ≡ None → IsDefined rows n → ⊥
   absent n e h = false≢true (sym (ap is_some (variants-found rows ts limit are es is n ∙ ap (option_map variants) e)) ∙ h)
 

@@ -121,9 +121,11 @@ module _ (old new : List Row) (a : AddsPredicates old new) (n : ℕ) (many : n +
   as_many : n ≡ length a.more
   as_many = omega (arith, ap length a.kept, length-append {A = Row} a.more old)
 
+  -- the newest rows, as many as were added, are all of existential predicates
   pub newest_only : AreExistentials (take n new)
   newest_only = subst AreExistentials (sym (ap (take n) a.kept ∙ ap (λ k. take k (a.more ++ old)) as_many ∙ take-append_seam a.more old)) a.only
 
+  -- without the newest rows, as many as were added, the rows are the old ones
   pub rest_is : drop n new ≡ old
   rest_is = ap (drop n) a.kept ∙ ap (λ k. drop k (a.more ++ old)) as_many ∙ drop-append_seam a.more old
 
@@ -186,9 +188,11 @@ module _ (old between : Terms) (ps : List Predicate) (hs : List Handle) (limit :
     stored : AreStored between.rows ps hs
     stored = stored_later old.limit old.rows between.rows between.rows ps hs stores (Grows-refl between.rows)
 
+    -- once all the predicates are stored, their handles are in range
     pub list_parts : AreParts (size between.rows) (item_shapes existential_shape hs)
     list_parts = handles_parts old.rows between.rows are (grows old.limit old.rows between.rows ps hs stores) ps hs stored
 
+    -- once all the predicates are stored, the result of storing their list is the whole call's
     pub PutsEach-listed : (result : Result BoundExistentialPredicates Refusal) (new : Terms) → Builds result (λ l. l.number) between new (existentials_row hs) → PutsEach result old new ps
     PutsEach-listed result new builds = record {
       done = ps;
@@ -374,9 +378,11 @@ module _ (old mid : Terms) (ps : List Predicate) (are : AreRows old.rows) where
     cause_of GreatestIndex c = absurd (next_shallow (Err e) puts puts.handles puts.left c)
     cause_of _ c = c
 
+    -- where a row was refused, all rows added before are of existential predicates
     pub added : AddsPredicates old.rows mid.rows
     added = subst (λ (t : Terms). AddsPredicates old.rows t.rows) (sym puts.next.err) (adds old.limit old.rows puts.between.rows puts.done puts.handles puts.stores)
 
+    -- a call that is refused a row keeps its promise if it takes the rows back that it added
     pub BuildsAll-err : (new : Terms) → new.rows ≡ old.rows → new.limit ≡ mid.limit → new.counters ≡ mid.counters → BuildsAll (Err e) old new ps
     BuildsAll-err new rows limit counters =
         let back : new ≡ old = same_terms (Err e) puts new old rows (limit ∙ puts.next.limit ∙ puts.limit) (counters ∙ puts.next.counters ∙ puts.counters) in

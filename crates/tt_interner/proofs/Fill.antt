@@ -36,8 +36,8 @@ tree_table (tree.term l ts) = label_table l
 tree_table (tree.node l ts) = label_table l
 tree_table (tree.binder vs t) = None
 
--- no part of a list stands in the shape: its tree is the tree of the items written out, so that it tells no list
 abbrev mutual
+  -- no part of a list is in the shape: its tree is the tree of the items written out, so that it tells no list
   pub HasNoView : Shape → Type 0
   HasNoView (param s i name) = ⊤
   HasNoView (bound s d e) = ⊤
@@ -201,6 +201,7 @@ module _ (size : Sizes) (f : Meaning) (d : Distinguishes size f) where
   mutual
     unfolding fill
 
+    -- two shapes in range that hold no part of a list are one if their trees are
     pub fill-one : (s s' : Shape) → HasNoView s → HasNoView s' → IsPart size s → IsPart size s' → fill f s ≡ fill f s' → s ≡ s'
     fill-one (stored t n) (stored u m) v w p q e = let tables = d.tables t u n m p q e in let numbers = d.numbers t u n m p q e in cc
     fill-one (stored t n) (param s i name) v w p q e = absurd (not_stored t n _ p e q.0)

@@ -131,6 +131,7 @@ module _ (small large : Sizes) (more : (t : Table) → small t ≤ large t) wher
     AreParts-more none h = tt
     AreParts-more (also s ss) h = (IsPart-more s h.0, AreParts-more ss h.1)
 
+  -- what a row holds stays in range where tables grow
   pub HasParts-more : (s : Shape) → HasParts small s → HasParts large s
   HasParts-more (param s i name) h = let m = more Symbols in omega arith
   HasParts-more (bound s d e) h = IsNamedKind-more e.kind h
@@ -240,6 +241,7 @@ module _ (f g : Meaning) (bounds : Sizes) (same : (t : Table) (n : ℕ) → n < 
     fill_all-same none h = refl
     fill_all-same (also s ss) h = rw (fill-same s h.0, fill_all-same ss h.1) refl
 
+  -- what a row holds has one tree by two meanings that agree on handles in range
   pub row-same : (s : Shape) → HasParts bounds s → fill f s ≡ fill g s
   unfolding fill
   row-same (param s i name) h = ap (λ t. tree.param s i (text_of t)) (same Symbols name h)
@@ -281,27 +283,35 @@ Extends-trans g h = record { rows = Grows-trans g.rows h.rows; limit = h.limit �
 
 -- where rows grow, all of this stays
 module _ (old new : List Row) (g : Grows old new) where
+  -- where rows grow, a handle in range stays in range
   pub in_range-grows : (t : Table) (n : ℕ) → n < size old t → n < size new t
   in_range-grows t n h = rw g.kept (keeps g.more old t n h).0
 
+  -- where rows grow, no table has fewer of them than before
   pub size-grows : (t : Table) → size old t ≤ size new t
   size-grows t = g.in_range t
 
+  -- where rows grow, a handle in range keeps its tree
   pub meaning-grows : (t : Table) (n : ℕ) → n < size old t → meaning new t n ≡ meaning old t n
   meaning-grows t n h = rw g.kept (keeps g.more old t n h).1
 
+  -- where rows grow, a shape in range stays in range
   pub IsPart-grows : (s : Shape) → IsPart (size old) s → IsPart (size new) s
   IsPart-grows s h = IsPart-more (size old) (size new) size-grows s h
 
+  -- where rows grow, shapes in range stay in range
   pub AreParts-grows : (ss : Shapes) → AreParts (size old) ss → AreParts (size new) ss
   AreParts-grows ss h = AreParts-more (size old) (size new) size-grows ss h
 
+  -- where rows grow, what a row holds stays in range
   pub HasParts-grows : (s : Shape) → HasParts (size old) s → HasParts (size new) s
   HasParts-grows s h = HasParts-more (size old) (size new) size-grows s h
 
+  -- where rows grow, a shape in range keeps its tree
   pub fill-grows : (s : Shape) → IsPart (size old) s → fill (meaning new) s ≡ fill (meaning old) s
   fill-grows s h = fill-same (meaning new) (meaning old) (size old) meaning-grows s h
 
+  -- where rows grow, shapes in range keep their trees
   pub fill_all-grows : (ss : Shapes) → AreParts (size old) ss → fill_all (meaning new) ss ≡ fill_all (meaning old) ss
   fill_all-grows ss h = fill_all-same (meaning new) (meaning old) (size old) meaning-grows ss h
 

@@ -197,12 +197,14 @@ module _ (s : Sort) where
 
 -- A kind is in range where its names, its children and its binder's list are.
 module _ (size : Sizes) (s : Sort) where
+  -- what a form holds is in range if its names, its children and its binder's list are
   pub form_in_range : (k : Form (Label ℕ)) → IsNamedForm size k → AreParts size (parts_shapes (form_parts k)) → IsBinderIn size (form_binder k) → HasParts size (form_shape s k)
   form_in_range (param i name) n p b = n
   form_in_range (bound d e) n p b = n
   form_in_range (plain l ps) n p b = (n, p)
   form_in_range (under l vars m ps) n p b = (n.0, ((b, (refl, n.1, p)), tt))
 
+  -- if what a form holds is in range, so are its names, its children and its binder's list
   pub form_of_range : (k : Form (Label ℕ)) → HasParts size (form_shape s k) → IsNamedForm size k × AreParts size (parts_shapes (form_parts k)) × IsBinderIn size (form_binder k)
   form_of_range (param i name) h = (h, tt, tt)
   form_of_range (bound d e) h = (h, tt, tt)

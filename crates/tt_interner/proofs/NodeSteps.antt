@@ -298,9 +298,11 @@ module _ (rows : List Row) (l : StoredList) (r : Row) {T : Type 0} (child : T �
   children_here : children_at rows l ≡ map child items
   children_here = row_children rows l r (subst (λ t. slice_get (table t rows) (list_number l) ≡ Some r) is.in_table at) ∙ is.children
 
+  -- a stored list has as many children as its row has items
   pub len_here : length (children_at rows l) ≡ length items
   len_here = ap length children_here ∙ length-map items child
 
+  -- the child of a stored list at a place comes from the item of its row there
   pub child_here : (i : ℕ) (x : T) → slice_get items i ≡ Some x → slice_get (children_at rows l) i ≡ Some (child x)
   child_here i x e = ap (λ cs. slice_get cs i) children_here ∙ slice_get-map child items i x e
 
@@ -504,6 +506,7 @@ module _ {H : Type 0} (number : H → ℕ) (old new : Terms) (s : ListSort) (r :
       ok_err : (result : Result H Refusal) → result ≡ Ok h → result ≡ Err TableFull → ⊥
       ok_err result p q = cc
 
+  -- if a typed call is refused the row of the children, so is their list, for the same cause
   pub StoresList-err : AreParts (size old.rows) (children_shapes cs) → (e : Refusal) → Builds {H = H} (Err e) number old new r → StoresList (Err e) old new s cs
   StoresList-err parts e builds = record {
     in_range = tt;

@@ -26,6 +26,7 @@ ok_err n e result p q = cc
 -- the row r has the key of an entry of its table, or of none
 module _ {K : Type 0} (order : List Table) (ts : Tables) (limit : ℕ) (counters : Counters) (old : Terms) (view_is : record { rows = rows_in_order order ts; limit = limit; counters = counters } ≡ old) (keeps : Keeps order ts limit)
     (row : K → Row) (test : K → Bool) (r : Row) (key : IsKey test row r) (es : List (K × FlagComputation)) (is : table_entries ts (row_table r) ≡ entries_by row (λ v. v) es) where
+  -- a table has no more entries than the limit
   pub few : length es ≤ limit
   few = let many = count _ _ _ keeps.tables (row_table r) row (λ v. v) es is in let within = keeps.tables.within (row_table r) in omega arith
 
@@ -33,6 +34,7 @@ module _ {K : Type 0} (order : List Table) (ts : Tables) (limit : ℕ) (counters
   are = subst (λ (v : Terms). AreRows v.rows) view_is keeps.tables.are
 
   module _ (info : FlagComputation) (is_info : IsInfo info (fill (meaning old.rows) (row_shape r))) where
+    -- what a table keeps for the row, if it keeps cached information, is what was computed for it
     pub same : IsTrue (keeps_info (row_table r)) → (there : FlagComputation) → lookup test es ≡ Some there → there ≡ info
     same has_info there h = same_info _ _ _ keeps.tables (row_table r) row es is has_info test r refl key there info h
         (subst (λ (v : Terms). IsInfo info (fill (meaning v.rows) (row_shape r))) (sym view_is) is_info)
@@ -50,6 +52,7 @@ module _ {K : Type 0} (order : List Table) (ts : Tables) (limit : ℕ) (counters
         pushed : position test (keys_of es) ≡ None → with_entries ts (row_table r) (entries_by row (λ v. v) es') ≡ with_entries ts (row_table r) (table_entries ts (row_table r) ++ (record { row = r; info = info }) ∷ [])
         pushed none = ap (with_entries ts (row_table r)) (more none ∙ ap (λ l. l ++ (record { row = r; info = info }) ∷ []) (sym is))
 
+        -- whether an entry was found or added, the fields agree afterwards
         pub put_kept : HasParts (size old.rows) (row_shape r) → IndicesFitIn (row_shape r) → IsWellFormed old.rows r → Keeps order' (with_entries ts (row_table r) (entries_by row (λ v. v) es')) limit
         put_kept parts fit holds =
             let many = count _ _ _ keeps.tables (row_table r) row (λ v. v) es is in
@@ -58,6 +61,7 @@ module _ {K : Type 0} (order : List Table) (ts : Tables) (limit : ℕ) (counters
             (λ none new. kept order order' ts _ limit counters old view_is keeps (record { row = r; info = info }) (pushed none) (noted none) n' ((last none).0 ∙ many) (last none).1
             parts fit holds (subst (λ (v : Terms). IsNew r v.rows) view_is new) is_info)
 
+        -- the returned number is the row's, which was there and nothing changed, or was added as a new one
         pub put : {H : Type 0} (number : H → ℕ) (h : H) → number h ≡ n' → Puts (Ok h) number old (record { rows = rows_in_order order' (with_entries ts (row_table r) (entries_by row (λ v. v) es')); limit = limit; counters = counters }) r
         put number h named =
             let many = count _ _ _ keeps.tables (row_table r) row (λ v. v) es is in
@@ -73,6 +77,7 @@ module _ {K : Type 0} (order : List Table) (ts : Tables) (limit : ℕ) (counters
               added order order' ts _ limit counters old view_is keeps (record { row = r; info = info }) (pushed none) (noted none) n' ((last none).0 ∙ many) (last none).1 number h named,
             ))
 
+        -- a call that returns the row's number keeps the promise of a building call
         pub built : {H : Type 0} (number : H → ℕ) (h : H) → number h ≡ n' → (IsTooDeep (row_shape r) → ⊥)
             → Builds (Ok h) number old (record { rows = rows_in_order order' (with_entries ts (row_table r) (entries_by row (λ v. v) es')); limit = limit; counters = counters }) r
         built number h named shallow = Builds-put number old r are (Ok h) _ shallow (put number h named)
@@ -80,6 +85,7 @@ module _ {K : Type 0} (order : List Table) (ts : Tables) (limit : ℕ) (counters
       -- or it was refused
       module _ (e : Refusal) (err : result ≡ Err e) (order_stays : order' ≡ order) (entries_stay : es' ≡ es)
           (cause : (e ≡ Memory) ⊎ ((e ≡ TableFull) × (limit ≤ length es))) (full : position test (keys_of es) ≡ None → limit ≤ length es → result ≡ Err TableFull) where
+        -- a call that is refused changed nothing, and the row is new
         pub put_refused : {H : Type 0} (number : H → ℕ) → Puts (Err e) number old (record { rows = rows_in_order order' (with_entries ts (row_table r) (entries_by row (λ v. v) es')); limit = limit; counters = counters }) r
         put_refused number =
             let many = count _ _ _ keeps.tables (row_table r) row (λ v. v) es is in
@@ -90,6 +96,7 @@ module _ {K : Type 0} (order : List Table) (ts : Tables) (limit : ℕ) (counters
               refused order order' ts _ limit counters old view_is keeps order_stays (stays entries_stay) number r result e (length es) err many cause (full none) is_new,
             ))
 
+        -- a call that is refused the row keeps the promise of a building call
         pub built_refused : {H : Type 0} (number : H → ℕ) → (IsTooDeep (row_shape r) → ⊥)
             → Builds (Err e) number old (record { rows = rows_in_order order' (with_entries ts (row_table r) (entries_by row (λ v. v) es')); limit = limit; counters = counters }) r
         built_refused number shallow = Builds-put number old r are (Err e) _ shallow (put_refused number)

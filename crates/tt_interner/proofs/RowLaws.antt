@@ -90,10 +90,12 @@ pub is_in_own : (r : Row) → is_in (row_table r) r ≡ true
 is_in_own r = is_in_self (row_table r)
 
 module _ (r : Row) (rows : List Row) where
+  -- a new row is put at the end of the table that it is in
   pub table-own : (t : Table) → is_in t r ≡ true → table t (r ∷ rows) ≡ table t rows ++ r ∷ []
   unfolding table
   table-own t e = ap (λ b. cond b (table t rows ++ r ∷ []) (table t rows)) e
 
+  -- a new row leaves the tables as they are that it isn't in
   pub table-other : (t : Table) → is_in t r ≡ false → table t (r ∷ rows) ≡ table t rows
   unfolding table
   table-other t e = ap (λ b. cond b (table t rows ++ r ∷ []) (table t rows)) e
@@ -107,6 +109,7 @@ module _ (r : Row) (rows : List Row) where
     pub same_table : row_table r ≡ t
     pub last : n ≡ size rows t
 
+  -- a handle that is in range with the new row is in range before it, or is the new row's
   pub place_cases : (t : Table) (n : ℕ) → n < size (r ∷ rows) t → (n < size rows t) ⊎ IsNewest t n
   place_cases t n h = by (is_in t r) refl
     where

@@ -19,6 +19,7 @@ module _ (rows : List Row) (r : Row) where
   pub Stores-added : (after : List Row) (n : ℕ) → IsNew r rows → after ≡ r ∷ rows → n ≡ size rows (row_table r) → Stores rows after r n
   Stores-added after n new is last = record { stored = rw (is, last) (row-new r rows); grown = inr (is, new) }
 
+  -- the handle of a row that is there means the tree of the row's shape
   pub means_found : AreRows rows → (n : ℕ) → IsAt rows r n → meaning rows (row_table r) n ≡ fill (meaning rows) (row_shape r)
   means_found are n at = (Means-row rows are (row_table r) n r at).tree
 
@@ -161,6 +162,7 @@ module _ {H : Type 0} (number : H → ℕ) (old : Terms) (r : Row) where
 
 -- the same of another handle
 module _ {H G : Type 0} (number : H → ℕ) (number' : G → ℕ) (old new : Terms) (r : Row) where
+  -- the promise of a building call holds of another handle with the same number
   pub Builds-ok_as : (h : H) (g : G) → number' g ≡ number h → Builds (Ok h) number old new r → Builds (Ok g) number' old new r
   Builds-ok_as h g same b = record {
     in_range = rw same b.in_range;
@@ -183,6 +185,7 @@ module _ {H G : Type 0} (number : H → ℕ) (number' : G → ℕ) (old new : Te
       ok_err : (e : Refusal) (result : Result H Refusal) → result ≡ Ok h → result ≡ Err e → ⊥
       ok_err e result p q = cc
 
+  -- the promise of a building call that is refused holds for handles of any type
   pub Builds-err_as : (e : Refusal) → Builds (Err e) number old new r → Builds (Err e) number' old new r
   Builds-err_as e b = record {
     in_range = tt;

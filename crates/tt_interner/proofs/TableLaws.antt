@@ -199,6 +199,7 @@ module _ {K V : Type 0} (rows : List Row) (ts : Tables) (limit : ℕ) (are : Are
   has_rows : table t rows ≡ map (λ (x : TableEntry). x.row) (entries_by row info es)
   has_rows = are.has t ∙ ap (map (λ (x : TableEntry). x.row)) is
 
+  -- a map has as many entries as its table has rows
   pub count : length es ≡ size rows t
   count = sym (ap length has_rows ∙ length-map (entries_by row info es) (λ (x : TableEntry). x.row) ∙ length-map es (λ e. record { row = row e.0; info = info e.1 }))
 
@@ -207,12 +208,15 @@ module _ {K V : Type 0} (rows : List Row) (ts : Tables) (limit : ℕ) (are : Are
   fits n h = let many = count in let few = are.within t in let small = are.small in omega arith
 
   module _ (test : K → Bool) (r : Row) (own : row_table r ≡ t) (key : IsKey test row r) where
+    -- the row of a key that is found at a place has that place as its number
     pub found : (n : ℕ) → position test (keys_of es) ≡ Some n → IsAt rows r n
     found n e = subst (λ u. slice_get (table u rows) n ≡ Some r) (sym own) (ap (λ l. slice_get l n) has_rows ∙ found_row test row info r key es n e)
 
+    -- the row of a key that isn't found is new
     pub absent : lookup test es ≡ None → IsNew r rows
     absent e = IsNew-from_table r rows (subst (λ u. IsNew r (table u rows)) (sym own) (subst (IsNew r) (sym has_rows) (new_row test row info r key es (none_passes_from_lookup test es e))))
 
+    -- the key of a new row isn't found
     pub not_there : IsNew r rows → lookup test es ≡ None
     not_there new = absent_row test row info r key es (subst (IsNew r) has_rows (IsNew-table r rows t new))
 
@@ -300,19 +304,24 @@ module _ (order order' : List Table) (ts ts' : Tables) (limit : ℕ) (counters :
       first = (e.row ∷ keeps.first.0, ap (λ o. rows_in_order o ts') noted ∙ rows_added order ts ts' e is ∙ ap (λ rows. e.row ∷ rows) keeps.first.1);
     }
 
+    -- if a new row that is well formed is added with the right information, the fields agree afterwards
     pub kept : HasParts (size old.rows) (row_shape e.row) → IndicesFitIn (row_shape e.row) → IsWellFormed old.rows e.row → IsNew e.row old.rows → IsInfo e.info (fill (meaning old.rows) (row_shape e.row)) → Keeps order' ts' limit
     kept parts fit holds new info = kept_by parts fit holds new (λ keeps. info)
 
+    -- the row of the added entry is the last of its table
     pub added : {H : Type 0} (number : H → ℕ) (h : H) → number h ≡ n → Adds (Ok h) number old (record { rows = rows_in_order order' ts'; limit = limit; counters = counters }) e.row
     added number h same = rw (← view_is) (Adds-ok number (record { rows = rows_in_order order ts; limit = limit; counters = counters }) e.row h (record { rows = rows_in_order order' ts'; limit = limit; counters = counters })
         (ap (λ o. rows_in_order o ts') noted ∙ rows_added order ts ts' e is) (same ∙ last) (omega arith) refl refl)
 
+  -- if the order and the tables are the same, so is what contracts see
   pub unchanged : (order' ≡ order) → ts' ≡ ts → record { rows = rows_in_order order' ts'; limit = limit; counters = counters } ≡ old
   unchanged same_order same = rw (same_order, same) view_is
 
+  -- if the order and the tables are the same, the fields still agree
   pub still_kept : (order' ≡ order) → ts' ≡ ts → Keeps order' ts' limit
   still_kept same_order same = rw (same_order, same) keeps
 
+  -- if nothing changed, a refusal for want of memory or with a full table is one of adding the row
   pub refused : (order' ≡ order) → ts' ≡ ts → {H G : Type 0} (number : H → ℕ) (r : Row) (result : Result G Refusal) (e : Refusal) (count : ℕ) → result ≡ Err e → count ≡ size (rows_in_order order ts) (row_table r)
       → (e ≡ Memory) ⊎ ((e ≡ TableFull) × (limit ≤ count)) → (limit ≤ count → result ≡ Err TableFull) → IsNew r old.rows → Adds (Err e) number old (record { rows = rows_in_order order' ts'; limit = limit; counters = counters }) r
   refused same_order same number r result e count is counts cause full new =

@@ -246,9 +246,11 @@ module _ (order : List Table) (ts : Tables) (limit : ℕ) (counters : Counters) 
   as_many : length ts.existentials ≡ length es
   as_many = ap length is ∙ length-map es (λ e. record { row = existential_row e.0; info = e.1 })
 
+  -- no more rows are taken back than the order has
   pub few_tables : k ≤ length order
   few_tables = (few_back k order ts limit keeps old.rows rows_are only).0
 
+  -- no more rows are taken back than the table of existential predicates has
   pub few_entries : k ≤ length es
   few_entries = let few = (few_back k order ts limit keeps old.rows rows_are only).1 in let many = as_many in omega arith
 
@@ -260,8 +262,10 @@ module _ (order : List Table) (ts : Tables) (limit : ℕ) (counters : Counters) 
     entries_left : entries_by existential_row (λ v. v) es' ≡ take m ts.existentials
     entries_left = ap (entries_by existential_row (λ v. v)) cut' ∙ sym (take-map (λ e. record { row = existential_row e.0; info = e.1 }) m es) ∙ sym (ap (take m) is)
 
+    -- the fields agree once the order and the entries are cut
     pub back_kept : Keeps order' (record ts { existentials = entries_by existential_row (λ v. v) es' }) limit
     back_kept = rw (cut, entries_left) left.keeps
 
+    -- once the order and the entries are cut, the k newest rows are gone and the others stay
     pub back_rows : rows_in_order order' (record ts { existentials = entries_by existential_row (λ v. v) es' }) ≡ drop k old.rows
     back_rows = rw (cut, entries_left) left.rows

@@ -90,6 +90,7 @@ module _ (rows : List Row) (are : AreRows rows) where
       let means = Means-row rows are Symbols n at.0 at.1 in
       means.tree ∙ text_of_row (meaning rows) at.0 means.same_table ∙ ap (λ x. tree.node (text_label (text_of x)) tree.none) (sym means.tree)
 
+  -- a stored list of variables means a node that is labelled with them and has no children
   pub vars_within : (n : ℕ) → n < size rows VarLists → meaning rows VarLists n ≡ tree.node (var_list_label (vars_of (meaning rows VarLists n))) tree.none
   vars_within n h =
       let at = row_within rows VarLists n h in

@@ -38,9 +38,11 @@ module _ (args : List (Argument Depth)) (t : Tree Depth) (answered : IsAnswered 
   pub Cause-no_arguments : Cause t args NoArguments → ⊥
   Cause-no_arguments h = HasParam-never (λ s i. ⊤) (λ s i. IsSome (argument args s i)) (λ s i x y. argument-past args s i (rw h.0 (omega arith)) y) t h.1 answered
 
+  -- where each parameter has its argument, none has an index past the last argument
   pub Cause-out_of_range : (index : ℕ) → Cause t args (ArgOutOfRange index) → ⊥
   Cause-out_of_range index h = HasParam-never (λ s i. i ≡ index) (λ s i. IsSome (argument args s i)) (λ s i x y. argument-past args s i (rw x h.2) y) t h.1 answered
 
+  -- where each parameter has its argument, none has an argument of another sort at its index
   pub Cause-kind : (index : ℕ) → Cause t args (ArgKind index) → ⊥
   Cause-kind index h = HasParam-never (λ s i. (i ≡ index) × HasOtherSort args s i) (λ s i. IsSome (argument args s i)) (λ s i x y. argument-other args s i x.1 y) t h answered
 

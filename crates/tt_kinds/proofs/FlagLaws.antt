@@ -74,6 +74,7 @@ both m n a b p q = param_bit-or m n ∙ ap (λ x. max x (param_bit n)) p ∙ ap 
 -- where labels set none of the three, they are set exactly where a parameter occurs
 module _ (no_label : (l : Label Name) → param_bit (flags_of_label l) ≡ 0) where
   mutual
+    -- one of the three flags for parameters is set in a tree's scan exactly where a parameter occurs in the tree
     pub param_bit-scan : (t : Tree Depth) → param_bit (scan t) ≡ as_number (holds_param t)
     param_bit-scan (param s i name) = param_bit-param s
     param_bit-scan (bound s d e) = param_bit-bound s d

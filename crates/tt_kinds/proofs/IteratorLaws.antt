@@ -44,6 +44,7 @@ module _ {U S A B K : Type 0} (outer : U → Option B → U → Type 0) (gives :
       )
 
 module _ {S A : Type 0} (gives : S → Option A → S → Type 0) where
+  -- calls of a `BinderIter` in a row give the inner iterator's items in order, each under the binder's variables
   pub bound_runs : (s : BinderIter S) → RunsUnderBinder gives s.bound_vars s
   bound_runs =
       made_runs (GivesUnderBinder gives) gives (λ s. s.iter) (λ s. s.bound_vars)
@@ -51,12 +52,14 @@ module _ {S A : Type 0} (gives : S → Option A → S → Type 0) where
       (λ s y t k. (y.value, k.0, (k.1, ap (λ vars. record { value = y.value; bound_vars = vars }) k.2)))
       (λ s t k. k.0)
 
+  -- calls of an `EarlyBinderIter` in a row give the inner iterator's items in order, each still to be instantiated
   pub early_runs : (s : EarlyBinderIter S) → RunsEarly gives s
   early_runs =
       made_runs {K = Unit {0}} (GivesEarly gives) gives (λ s. s.t) (λ _. tt) (λ _ item. record { value = item })
       (λ s y t k. (y.value, k, (refl, refl)))
       (λ s t k. k)
 
+  -- calls of an `IterIdentity` in a row give the inner iterator's items in order, each marked as not normalized
   pub marked_runs : (s : IterIdentity S) → RunsMarked gives s
   marked_runs =
       made_runs {K = Unit {0}} (GivesMarked gives) gives (λ s. s.iter) (λ _. tt) (λ _ item. record { value = item })
@@ -73,6 +76,7 @@ module _ {S A : Type 0} (gives : S → Option A → S → Type 0) where
         → (xs : List A) (ys : List (Unnormalized B)) → linked copies tt xs ys → AllZip R xs ys
     related R all xs ys = linked_pairs copies R tt (λ x y q k. (refl, all x y k)) xs ys
 
+    -- calls of an `IterIdentityCopied` in a row give what each inner item dereferences to, marked as not normalized
     pub copied_runs : (s : IterIdentityCopied S) → RunsCopied gives dereferences s
     copied_runs s p _ e =
         let h = beside (GivesCopied gives dereferences) gives (λ u. u.it) (λ _. tt) copies (λ u y t k. k) (λ u t k. k) p in (

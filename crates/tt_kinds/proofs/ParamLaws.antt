@@ -95,6 +95,7 @@ mutual
   IsGeneric-from_test (node l ts) h = IsGeneric_among-from_test ts h
   IsGeneric-from_test (binder vs t) h = IsGeneric-from_test t h
 
+  -- if the test finds a parameter among trees in order, there is one in one of them
   pub IsGeneric_among-from_test : {I : Type 0} (ts : Forest I) → holds_param_among ts ≡ true → IsGeneric_among ts
   IsGeneric_among-from_test none h = cc
   IsGeneric_among-from_test (also t ts) h = elim (or-true (holds_param t) (holds_param_among ts) h)

@@ -11,6 +11,7 @@ ap2 f p q = cc
 -- what is replaced at each depth by what does not depend on it
 module _ {I J : Type 0} (index : I → J) (parameter : Sort → ℕ → Name → Tree J) where
   mutual
+    -- a walk that replaces alike at each depth is the replacement that counts no binders
     pub rebuild-anywhere : (k : ℕ) (t : Tree I) → rebuild (λ j. index) (λ j. parameter) k t ≡ replace index parameter t
     rebuild-anywhere k (param s i name) = refl
     rebuild-anywhere k (bound s d e) = refl
@@ -26,6 +27,7 @@ module _ {I J : Type 0} (index : I → J) (parameter : Sort → ℕ → Name →
 -- walks that agree at each leaf give one tree
 module _ {I J : Type 0} (f g : ℕ → I → J) (p q : ℕ → Sort → ℕ → Name → Tree J) where
   mutual
+    -- two walks that agree at each leaf of a tree make one tree of it
     pub rebuild-same : (k : ℕ) (t : Tree I) → Each (λ j d. f j d ≡ g j d) (λ j s i name. p j s i name ≡ q j s i name) k t → rebuild f p k t ≡ rebuild g q k t
     rebuild-same k (param s i name) h = h
     rebuild-same k (bound s d e) h = ap (λ x. bound s x e) h
@@ -41,6 +43,7 @@ module _ {I J : Type 0} (f g : ℕ → I → J) (p q : ℕ → Sort → ℕ → 
 -- a condition that every leaf meets
 module _ {I : Type 0} (P : ℕ → I → Type 0) (Q : ℕ → Sort → ℕ → Name → Type 0) (index : (k : ℕ) (d : I) → P k d) (parameter : (k : ℕ) (s : Sort) (i : ℕ) (name : Name) → Q k s i name) where
   mutual
+    -- a condition that every index and every parameter meets is met at each leaf of a tree
     pub Each-always : (k : ℕ) (t : Tree I) → Each P Q k t
     Each-always k (param s i name) = parameter k s i name
     Each-always k (bound s d e) = index k d
@@ -56,6 +59,7 @@ module _ {I : Type 0} (P : ℕ → I → Type 0) (Q : ℕ → Sort → ℕ → N
 -- a condition that follows from another
 module _ {I : Type 0} (P P' : ℕ → I → Type 0) (Q Q' : ℕ → Sort → ℕ → Name → Type 0) (index : (k : ℕ) (d : I) → P k d → P' k d) (parameter : (k : ℕ) (s : Sort) (i : ℕ) (name : Name) → Q k s i name → Q' k s i name) where
   mutual
+    -- where each leaf of a tree meets a condition, each meets one that follows from it
     pub Each-then : (k : ℕ) (t : Tree I) → Each P Q k t → Each P' Q' k t
     Each-then k (param s i name) h = parameter k s i name h
     Each-then k (bound s d e) h = index k d h
@@ -86,6 +90,7 @@ module _ {I J K : Type 0} (f : ℕ → I → J) (p : ℕ → Sort → ℕ → Na
 -- a walk that begins n binders deeper
 module _ {I J : Type 0} (f : ℕ → I → J) (p : ℕ → Sort → ℕ → Name → Tree J) (n : ℕ) where
   mutual
+    -- a walk that begins n binders deeper is the walk that takes each depth for n greater
     pub rebuild-deeper : (k : ℕ) (t : Tree I) → rebuild f p (n + k) t ≡ rebuild (λ j. f (n + j)) (λ j. p (n + j)) k t
     rebuild-deeper k (param s i name) = refl
     rebuild-deeper k (bound s d e) = refl
@@ -100,6 +105,7 @@ module _ {I J : Type 0} (f : ℕ → I → J) (p : ℕ → Sort → ℕ → Name
 
 -- what is left as it is
 mutual
+  -- a walk that keeps each index and each parameter gives the tree itself
   pub rebuild-nothing : {I : Type 0} (k : ℕ) (t : Tree I) → rebuild (λ j d. d) keep k t ≡ t
   rebuild-nothing k (param s i name) = refl
   rebuild-nothing k (bound s d e) = refl
@@ -114,17 +120,20 @@ mutual
 
 -- two walks in turn that give at each leaf what one walk gives
 module _ {I J K : Type 0} (f : ℕ → I → J) (p : ℕ → Sort → ℕ → Name → Tree J) (g : ℕ → J → K) (q : ℕ → Sort → ℕ → Name → Tree K) (h : ℕ → I → K) (r : ℕ → Sort → ℕ → Name → Tree K) where
+  -- two walks in turn are a third one, if at each leaf of the tree they give what it gives
   pub rebuild-joined : (k : ℕ) (t : Tree I) → Each (λ j d. g j (f j d) ≡ h j d) (λ j s i name. rebuild g q j (p j s i name) ≡ r j s i name) k t → rebuild g q k (rebuild f p k t) ≡ rebuild h r k t
   rebuild-joined k t e = rebuild-rebuild f p g q k t ∙ rebuild-same _ _ _ _ k t e
 
 -- the same of a walk and then a replacement
 module _ {I J K : Type 0} (f : ℕ → I → J) (p : ℕ → Sort → ℕ → Name → Tree J) (g : J → K) (q : Sort → ℕ → Name → Tree K) (h : ℕ → I → K) (r : ℕ → Sort → ℕ → Name → Tree K) where
+  -- a walk and then a replacement are another walk, if at each leaf of the tree they give what it gives
   pub replace-rebuild : (k : ℕ) (t : Tree I) → Each (λ j d. g (f j d) ≡ h j d) (λ j s i name. replace g q (p j s i name) ≡ r j s i name) k t → replace g q (rebuild f p k t) ≡ rebuild h r k t
   replace-rebuild k t e = sym (rebuild-anywhere g q k (rebuild f p k t)) ∙ rebuild-joined f p (λ j. g) (λ j. q) h r k t
       (Each-then _ _ _ _ (λ j d x. x) (λ j s i name x. rebuild-anywhere g q j (p j s i name) ∙ x) k t e)
 
 -- the same of two replacements
 module _ {I J K : Type 0} (f : I → J) (p : Sort → ℕ → Name → Tree J) (g : J → K) (q : Sort → ℕ → Name → Tree K) (h : I → K) (r : Sort → ℕ → Name → Tree K) where
+  -- two replacements in turn are a third one, if at each leaf of the tree they give what it gives
   pub replace-replace : (t : Tree I) → Each (λ j d. g (f d) ≡ h d) (λ j s i name. replace g q (p s i name) ≡ r s i name) 0 t → replace g q (replace f p t) ≡ replace h r t
   replace-replace t e = ap (replace g q) (sym (rebuild-anywhere f p 0 t)) ∙ replace-rebuild (λ j. f) (λ j. p) g q (λ j. h) (λ j. r) 0 t e ∙ rebuild-anywhere h r 0 t
 
@@ -145,6 +154,7 @@ module _ {I J : Type 0} (P : ℕ → J → Type 0) (Q : ℕ → Sort → ℕ →
 
 -- the same of a replacement
 module _ {I J : Type 0} (P : ℕ → J → Type 0) (Q : ℕ → Sort → ℕ → Name → Type 0) (f : I → J) (p : Sort → ℕ → Name → Tree J) where
+  -- a condition is met throughout the result of a replacement if what replaces each leaf meets it
   pub Each-replace : (k : ℕ) (t : Tree I) → Each (λ j d. P j (f d)) (λ j s i name. Each P Q j (p s i name)) k t → Each P Q k (replace f p t)
   Each-replace k t h = subst (λ r. Each P Q k r) (rebuild-anywhere f p k t) (Each-rebuild P Q (λ j. f) (λ j. p) k t h)
 

@@ -72,14 +72,18 @@ module _ {L : Type 0} (sort : Sort) (label : L → Label ℕ) (record_of : L →
       let inside = broke-term V f (label l) (shape.also (shape.binder vars.number (shape.node (record_label m) (parts_shapes p))) shape.none) s s' b h in node_broke refl (rw (tells l) at inside)
 
 module _ {M B : Type 0} (V : Visits M B) (f : Meaning) where
+  -- a visitor that goes over the contents of a kind of type goes over the kind's plain node
   pub ty-seen : (k : TyKind) (s s' : M) → GoesInside V s (fill f (kind_shape (kind.Ty k))) s' → GoesOver V s (fill f (bare_ty_shape k)) s'
   ty-seen k s s' h = form-seen type_sort type_label bare_type_record error_of_type (λ l. refl) V f (ty_form k) s s' h
 
+  -- if the visit of the contents of a kind of type breaks, so does the visit of the kind's plain node
   pub ty-broke : (k : TyKind) (s s' : M) (b : B) → BreaksInside V s (fill f (kind_shape (kind.Ty k))) b s' → Breaks V s (fill f (bare_ty_shape k)) b s'
   ty-broke k s s' b h = form-broke type_sort type_label bare_type_record error_of_type (λ l. refl) V f (ty_form k) s s' b h
 
+  -- a visitor that goes over the contents of a kind of constant goes over the kind's plain node
   pub const-seen : (k : ConstKind) (s s' : M) → GoesInside V s (fill f (kind_shape (kind.Const k))) s' → GoesOver V s (fill f (bare_const_shape k)) s'
   const-seen k s s' h = form-seen const_sort const_label bare_const_record error_of_const (λ l. refl) V f (const_form k) s s' h
 
+  -- if the visit of the contents of a kind of constant breaks, so does the visit of the kind's plain node
   pub const-broke : (k : ConstKind) (s s' : M) (b : B) → BreaksInside V s (fill f (kind_shape (kind.Const k))) b s' → Breaks V s (fill f (bare_const_shape k)) b s'
   const-broke k s s' b h = form-broke const_sort const_label bare_const_record error_of_const (λ l. refl) V f (const_form k) s s' b h

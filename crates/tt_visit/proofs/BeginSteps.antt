@@ -25,11 +25,12 @@ use Rattle.tt_visit.specs.Visit.{node_broke, value_broke, under_broke}
 use Rattle.tt_visit.specs.declared.visitor.Next.TheVariants.{Descend}
 use Rattle.tt_visit.specs.Frames.{present, rest_binder, frame_children, children_height, children_work, child_height}
 use Rattle.tt_visit.specs.Frames.{child_work, parts_height, tree_work, forest_work, frame_todo, IsFrame, HoldsParts}
-use Rattle.tt_visit.specs.Frames.{Leaves, GoesOn, BreaksOn, Inside, Begun, HasFrame, Finishes}
+use Rattle.tt_visit.specs.Frames.{VisitorLeaves, GoesOn, BreaksOn, Inside, Begun, HasFrame, FinishesVisit}
 use Rattle.tt_visit.specs.declared.frame.Frame.{Frame}
 use Rattle.tt_visit.proofs.VisitSteps.{flow-weaker}
 
 module _ {M B : Type 0} (V : Visits M B) (rows : List Row) (s : M) where
+  -- a visit that was begun also meets weaker promises, within greater bounds
   pub begun-weaker : {P P' : M → Type 0} {Q Q' : B → M → Type 0} {h w h' w' : ℕ} (r : ControlFlow B (Option Frame))
       → MatchControlFlow r (λ o. Begun V rows P Q h w o s) (λ b. Q b s)
       → ((s2 : M) → P s2 → P' s2) → ((b : B) (s2 : M) → Q b s2 → Q' b s2) → h ≤ h' → w ≤ w'
@@ -54,7 +55,7 @@ module _ {M B : Type 0} (V : Visits M B) (rows : List Row) (s : M) where
 -- a visit that was begun and then taken to its end has gone over the whole, or broken in it
 pub finished : {M B : Type 0} (V : Visits M B) (rows : List Row) (P : M → Type 0) (Q : B → M → Type 0) (h w : ℕ) (s1 s2 : M)
     (begun : ControlFlow B (Option Frame)) (r : ControlFlow B (Unit {0}))
-    → MatchControlFlow begun (λ o. Begun V rows P Q h w o s1) (λ b. Q b s1) → Finishes V rows s1 begun r s2
+    → MatchControlFlow begun (λ o. Begun V rows P Q h w o s1) (λ b. Q b s1) → FinishesVisit V rows s1 begun r s2
     → MatchControlFlow r (λ _. P s2) (λ b. Q b s2)
 finished V rows P Q h w s1 s2 (Break b) r k e = rw (e.0, e.1) k
 finished V rows P Q h w s1 s2 (Continue None) r k e = rw (e.0, e.1) k
@@ -94,6 +95,7 @@ work-append f (also x ss) us = omega (arith, work-append f ss us)
 
 -- the parts of a term
 module _ {rows : List Row} {p : Parts} {vars : Option BoundVarKinds} {f : Frame} where
+  -- a frame that holds stored parts of a term, under its stored variables if it has some, is stored
   pub holds-frame : HoldsParts p vars f → AreVarsStored (size rows) vars → AreParts (size rows) (parts_shapes p) → IsFrame rows f
   holds-frame h stored are = record {
     rest = h.rest rows;
@@ -102,8 +104,8 @@ module _ {rows : List Row} {p : Parts} {vars : Option BoundVarKinds} {f : Frame}
 
   pub holds-inside : {M B : Type 0} {V : Visits M B} {P : M → Type 0} {Q : B → M → Type 0} {s : M}
       → HoldsParts p vars f → AreVarsStored (size rows) vars → AreParts (size rows) (parts_shapes p)
-      → ((m s2 : M) → GoesOverAll V s (fill_all (meaning rows) (parts_shapes p)) m → Leaves V rows m vars s2 → P s2)
-      → ((b : B) (m s2 : M) → BreaksAll V s (fill_all (meaning rows) (parts_shapes p)) b m → Leaves V rows m vars s2 → Q b s2)
+      → ((m s2 : M) → GoesOverAll V s (fill_all (meaning rows) (parts_shapes p)) m → VisitorLeaves V rows m vars s2 → P s2)
+      → ((b : B) (m s2 : M) → BreaksAll V s (fill_all (meaning rows) (parts_shapes p)) b m → VisitorLeaves V rows m vars s2 → Q b s2)
       → Inside V rows P Q (parts_height rows p + 1) (forest_work (fill_all (meaning rows) (parts_shapes p)) + 3) f s
   holds-inside h stored are g k = record {
     is_frame = holds-frame h stored are;

@@ -11,6 +11,7 @@ module _ {M B : Type 0} (V : Visits M B) (f : Meaning) (s : M) where
   mutual
     unfolding fill fill_all
 
+    -- a visitor goes over a value that is data alone and stays in its state
     pub data_seen : (d : Shape) → IsData d → GoesOver V s (fill f d) s
     data_seen (node (record_label l) ds) is = node_seen refl (all_data_seen ds is)
     data_seen _ is = absurd is

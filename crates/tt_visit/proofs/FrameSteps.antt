@@ -11,7 +11,8 @@ use Rattle.tt_visit.specs.Steps.{AreVarsStored}
 use Rattle.tt_visit.specs.Visit.{Visits, GoesOverAll, all_seen, BreaksAll}
 use Rattle.tt_visit.specs.Frames.{rest_children, rest_binder, frame_children, IsRest, IsKept, inward, children_height}
 use Rattle.tt_visit.specs.Frames.{children_work, child_height, child_work, frame_todo, rest_todo, IsFrame, AreRests}
-use Rattle.tt_visit.specs.Frames.{AreBinders, Leaves, GoesOn, BreaksOn, StackGoes, StackLeaves, StackBreaks, Inside}
+use Rattle.tt_visit.specs.Frames.{AreBinders, VisitorLeaves, GoesOn, BreaksOn, StackGoes, StackLeaves, StackBreaks}
+use Rattle.tt_visit.specs.Frames.{Inside}
 use Rattle.tt_visit.specs.declared.frame.Frame.{Frame}
 use Rattle.tt_visit.specs.declared.frame.Remaining.{Remaining}
 use Rattle.tt_visit.specs.declared.frame.Remaining.TheVariants as rest
@@ -57,6 +58,7 @@ module _ {rows : List Row} {f f' : Frame} {c : Child} where
   taken-parts : Taken rows f c f' → IsFrame rows f → AreParts (size rows) (append (child_shapes c) (children_shapes (frame_children rows f')))
   taken-parts t is = rw t.children at is.todo.parts
 
+  -- a child that was taken from a stored frame is stored
   pub taken-child : Taken rows f c f' → IsFrame rows f → AreParts (size rows) (child_shapes c)
   taken-child t is = parts-before (size rows) (child_shapes c) (children_shapes (frame_children rows f')) (taken-parts t is)
 
@@ -97,7 +99,7 @@ module _ {M B : Type 0} {V : Visits M B} {rows : List Row} {f f' : Frame} {c : C
   }
 
   child-breaks : {s s1 : M} {b : B} (s2 : M) → Taken rows f c f' → BreaksAll V s (fill_all (meaning rows) (child_shapes c)) b s1
-      → Leaves V rows s1 (rest_binder f'.rest) s2 → BreaksOn V rows s (frame_todo rows f) b s2
+      → VisitorLeaves V rows s1 (rest_binder f'.rest) s2 → BreaksOn V rows s (frame_todo rows f) b s2
   child-breaks {s} {s1} {b} s2 t w l = record {
     after = s1;
     breaks = rw t.children (broke-before V (meaning rows) (child_shapes c) (children_shapes (frame_children rows f')) s s1 b w);
@@ -117,7 +119,7 @@ goes-none V rows s cs e = rw e all_seen
 
 -- nothing is left of a term
 goes-up : {M B : Type 0} (V : Visits M B) (rows : List Row) (m m1 : M) (f : Frame) (vars : Option BoundVarKinds) → frame_children rows f ≡ [] → vars ≡ rest_binder f.rest
-    → Leaves V rows m vars m1 → GoesOn V rows m (frame_todo rows f) m1
+    → VisitorLeaves V rows m vars m1 → GoesOn V rows m (frame_todo rows f) m1
 goes-up V rows m m1 f vars done same l = record { after = m; goes = goes-none V rows m (frame_children rows f) done; leaves = rw (← same) l }
 
 -- The visit of a frame, begun in the state s0, has come to the state s. Whatever comes of what is left makes the whole.
@@ -132,6 +134,7 @@ pub record Visiting {M B S : Type 0} (owned : List Row → S → Type 0) (means 
   pub fails_around : (b : B) (s1 s' : M) → GoesOn V rows (means rows s) (frame_todo rows f) s1 → StackBreaks V rows s1 rs b s' → BreaksOn V rows (means rows s0) (frame_todo rows whole) b s'
 
 module _ {M B S : Type 0} {owned : List Row → S → Type 0} {means : List Row → S → M} {V : Visits M B} {rows : List Row} {s0 : S} {whole : Frame} where
+  -- the visit starts with the whole frame and an empty stack
   pub visiting-starts : (frames : List Remaining) → frames ≡ [] → owned rows s0 → IsFrame rows whole → Visiting owned means V rows s0 whole s0 whole (inward frames)
   visiting-starts frames empty o is = rw empty (record {
     is_owned = o;
@@ -159,7 +162,7 @@ module _ {M B S : Type 0} {owned : List Row → S → Type 0} {means : List Row 
 
   -- the visit of a child broke
   pub visiting-breaks : {s : S} {f f' : Frame} {c : Child} {rs : List Remaining} {b : B} {m : M} (m1 m2 : M) → Visiting owned means V rows s0 whole s f rs → Taken rows f c f'
-      → BreaksAll V (means rows s) (fill_all (meaning rows) (child_shapes c)) b m → Leaves V rows m (rest_binder f'.rest) m1 → StackLeaves V rows m1 rs m2
+      → BreaksAll V (means rows s) (fill_all (meaning rows) (child_shapes c)) b m → VisitorLeaves V rows m (rest_binder f'.rest) m1 → StackLeaves V rows m1 rs m2
       → BreaksOn V rows (means rows s0) (frame_todo rows whole) b m2
   visiting-breaks {b} m1 m2 h t w l ls = h.fails b m1 m2 (child-breaks m1 t w l) ls
 
@@ -202,20 +205,23 @@ module _ {M B S : Type 0} {owned : List Row → S → Type 0} {means : List Row 
   kept-cases {r} frames frames' (inl added) h = rw (added, inward-more frames r) h
   kept-cases frames frames' (inr same) h = rw same.1 (visiting-drops same.0 h)
 
+  -- the visit goes on with the frame of a child that was gone into; what is left around it is on the stack
   pub visiting-into : {s s1 : S} {f f' : Frame} {c : Child} {k w : ℕ} {inner : Frame} (frames frames' : List Remaining)
       → Visiting owned means V rows s0 whole s f (inward frames) → Taken rows f c f' → owned rows s1
       → Inside V rows (GoesOverAll V (means rows s) (fill_all (meaning rows) (child_shapes c))) (BreaksAll V (means rows s) (fill_all (meaning rows) (child_shapes c))) k w inner (means rows s1)
       → k ≤ child_height rows c → IsKept frames f'.rest frames' → Visiting owned means V rows s0 whole s1 inner (inward frames')
   visiting-into frames frames' h t o i below kept = kept-cases frames frames' kept (visiting-inside h t o i below)
 
+  -- with no child left and an empty stack, the visitor has gone over the whole frame once its binder is left
   pub visiting-ends : {s s1 : S} {f : Frame} {vars : Option BoundVarKinds} (frames : List Remaining)
-      → Visiting owned means V rows s0 whole s f (inward frames) → frame_children rows f ≡ [] → vars ≡ rest_binder f.rest → Leaves V rows (means rows s) vars (means rows s1)
+      → Visiting owned means V rows s0 whole s f (inward frames) → frame_children rows f ≡ [] → vars ≡ rest_binder f.rest → VisitorLeaves V rows (means rows s) vars (means rows s1)
       → length frames ≡ 0 → GoesOn V rows (means rows s0) (frame_todo rows whole) (means rows s1)
   visiting-ends {s} {s1} {f} {vars} frames h done same l empty =
       h.ends (means rows s1) (means rows s1) (goes-up V rows (means rows s) (means rows s1) f vars done same l) (rw (inward-none frames empty) refl)
 
+  -- with no child left, the visit goes on with the last of the stack once the frame's binder is left
   pub visiting-up : {s s1 : S} {f f1 : Frame} {vars : Option BoundVarKinds} (frames frames' : List Remaining) (r : Remaining)
-      → Visiting owned means V rows s0 whole s f (inward frames) → frame_children rows f ≡ [] → vars ≡ rest_binder f.rest → Leaves V rows (means rows s) vars (means rows s1)
+      → Visiting owned means V rows s0 whole s f (inward frames) → frame_children rows f ≡ [] → vars ≡ rest_binder f.rest → VisitorLeaves V rows (means rows s) vars (means rows s1)
       → owned rows s1 → frames ≡ frames' ++ r ∷ [] → f1 ≡ record { first = None; rest = r } → Visiting owned means V rows s0 whole s1 f1 (inward frames')
   visiting-up {s} {s1} {f} {vars} frames frames' r h0 done same l o popped is =
       let h : Visiting owned means V rows s0 whole s f (r ∷ inward frames') = rw (popped, inward-more frames' r) at h0 in
@@ -239,6 +245,7 @@ unfoldable pub total : List Row → Frame → List Remaining → ℕ
 total rows f frames = suc (children_work rows (frame_children rows f)) + rests_work rows (inward frames)
 
 module _ (rows : List Row) where
+  -- a child that was visited leaves less work
   pub total-past : (f f' : Frame) (c : Child) (frames : List Remaining) → Taken rows f c f' → total rows f' frames < total rows f frames
   unfolding total
   total-past f f' c frames t = omega (arith, taken-work t, some-work rows c)
@@ -247,11 +254,13 @@ module _ (rows : List Row) where
   kept-work frames frames' r (inl added) = omega (arith, ap (λ rs. rests_work rows (inward rs)) added, ap (rests_work rows) (inward-more frames r))
   kept-work frames frames' r (inr same) = omega (arith, ap (λ rs. rests_work rows (inward rs)) same.1)
 
+  -- going into a child leaves less work
   pub total-into : (f f' inner : Frame) (c : Child) (frames frames' : List Remaining) → Taken rows f c f' → children_work rows (frame_children rows inner) + 1 < child_work rows c
       → IsKept frames f'.rest frames' → total rows inner frames' < total rows f frames
   unfolding total
   total-into f f' inner c frames frames' t light kept = omega (arith, taken-work t, ap (children_work rows) (taken-rest t), light, kept-work frames frames' f'.rest kept)
 
+  -- going on with the last of the stack leaves less work
   pub total-up : (f f1 : Frame) (frames frames' : List Remaining) (r : Remaining) → frame_children rows f ≡ [] → frames ≡ frames' ++ r ∷ [] → f1 ≡ record { first = None; rest = r }
       → total rows f1 frames' < total rows f frames
   unfolding total
@@ -265,5 +274,5 @@ binders-next size frames frames' r are popped = rw (popped, inward-more frames' 
 
 -- the binders of a stack are left if the innermost one is, and then the binders around it
 pub leaves-next : {M B : Type 0} (V : Visits M B) (rows : List Row) (m m1 m2 : M) (frames frames' : List Remaining) (r : Remaining) → frames ≡ frames' ++ r ∷ []
-    → Leaves V rows m (rest_binder r) m1 → StackLeaves V rows m1 (inward frames') m2 → StackLeaves V rows m (inward frames) m2
+    → VisitorLeaves V rows m (rest_binder r) m1 → StackLeaves V rows m1 (inward frames') m2 → StackLeaves V rows m (inward frames) m2
 leaves-next V rows m m1 m2 frames frames' r popped l ls = rw (popped, inward-more frames' r) (m1, l, ls)

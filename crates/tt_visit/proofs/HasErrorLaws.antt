@@ -132,6 +132,7 @@ mutual
   tokenless_all (also t ts) h = both-none (first_error t) (first_error_among ts) (tokenless t (bits-left has_error (scan t) (scan_all ts) h)) (tokenless_all ts (bits-right has_error (scan t) (scan_all ts) h))
 
 mutual
+  -- if no error is found in a tree, its scan misses the flag for errors
   pub errorless : (t : Tree Depth) → first_error t ≡ None → Misses has_error (scan t)
   errorless (param s i name) h = param-errorless s
   errorless (bound s d e) h = bits-both has_error (bound_flags s) (index_flags d) (bound_sort-errorless s) (index-errorless d)

@@ -130,6 +130,7 @@ mutual
   goes_all-range s s' (also t ts) (one_seen {s1 = s1} h more) = (goes-range s s1 t h, goes_all-range s1 s' ts more)
 
 mutual
+  -- a visit that asks for ranges alone never breaks
   pub breaks-range : (s s' : ⊤) (t : Tree Depth) (b : FoundEscapingVars) → Breaks range_hooks s t b s' → ⊥
   breaks-range s s' t b (region_broke is h) = h
   breaks-range s s' t b (term_broke is h) = h
@@ -152,6 +153,7 @@ pub record Passes (s : Search) (range : Type 0) (reach : ℕ) (s' : Search) : Ty
   pub in_range : range → reach ≤ s.outer_index
 
 mutual
+  -- a search that ends well found no escaping variable, if it passed over nothing or the tree is in range
   pub goes-passes : (s s' : Search) (t : Tree Depth) → GoesOver search_hooks s t s' → Passes s (InRange t) (outer_binder t) s'
   goes-passes s s' t (region_seen is h) = rw h.0 (record { index = refl; unskipped = λ e. (e, h.1); in_range = λ r. h.1 })
   goes-passes s s' t (skipped is h) = rw h.0 (record { index = refl; unskipped = λ e. (e, h.2); in_range = λ r. h.2 })

@@ -18,11 +18,13 @@ module _ {T : Type 0} (of_item : T → Shape) where
   items-from list n x h lt =
       ap (item_shapes of_item) (take-rest list n x h lt) ∙ items-append (take n list) (x ∷ drop (n + 1) list)
 
+  -- an item of a list is in range if all the items are
   pub part-item : (size : Sizes) (list : List T) (n : ℕ) (x : T) → x ≡ get_or list n x → n < length list → AreParts size (item_shapes of_item list) → IsPart size (of_item x)
   part-item size list n x h lt are =
       (parts-after size (item_shapes of_item (take n list)) (also (of_item x) (item_shapes of_item (drop (n + 1) list))) (rw (items-from list n x h lt) at are)).0
 
   module _ {M B : Type 0} (V : Visits M B) (f : Meaning) (list : List T) (n : ℕ) where
+    -- to go over the first n items of a list and then over the next is to go over the first n + 1
     pub item-seen : (x : T) (s s1 s' : M) → x ≡ get_or list n x → n < length list → GoesOverAll V s (fill_all f (item_shapes of_item (take n list))) s1
         → GoesOver V s1 (fill f (of_item x)) s' → GoesOverAll V s (fill_all f (item_shapes of_item (take (n + 1) list))) s'
     unfolding fill_all
@@ -30,6 +32,7 @@ module _ {T : Type 0} (of_item : T → Shape) where
         let e = ap (item_shapes of_item) (take-more list n x h lt) ∙ items-append (take n list) (x ∷ []) in
         rw e (seen-append V f (item_shapes of_item (take n list)) (also (of_item x) none) s s1 s' before (one_seen now all_seen))
 
+    -- the visit of a list breaks if the visitor goes over the first n items and breaks at the next
     pub item-broke : (x : T) (s s1 s' : M) (b : B) → x ≡ get_or list n x → n < length list → GoesOverAll V s (fill_all f (item_shapes of_item (take n list))) s1
         → Breaks V s1 (fill f (of_item x)) b s' → BreaksAll V s (fill_all f (item_shapes of_item list)) b s'
     unfolding fill_all
@@ -37,6 +40,7 @@ module _ {T : Type 0} (of_item : T → Shape) where
         rw (items-from list n x h lt)
         (broke-after V f (item_shapes of_item (take n list)) (also (of_item x) (item_shapes of_item (drop (n + 1) list))) s s1 s' b before (first_broke now))
 
+    -- to go over the first n items of a list that has no more is to go over the list
     pub items-seen : (s s' : M) → length list ≤ n → GoesOverAll V s (fill_all f (item_shapes of_item (take n list))) s' → GoesOverAll V s (fill_all f (item_shapes of_item list)) s'
     items-seen s s' all w =
         let whole : take n list ≡ list = grind (arith, common_steps) in

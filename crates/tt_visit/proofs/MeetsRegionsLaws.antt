@@ -334,6 +334,7 @@ no-error-breaks s s' None b h = h
 no-error-breaks s s' (Some e) b h = h
 
 mutual
+  -- a visit that asks for the indices of regions alone never breaks
   pub breaks-range : (s s' : ⊤) (t : Tree Depth) (b : MetRegion) → Breaks region_range_hooks s t b s' → ⊥
   breaks-range s s' t b (region_broke is h) = h
   breaks-range s s' t b (term_broke is h) = h
@@ -389,6 +390,7 @@ no-region-bound const_sort k (at d) e is = other-none const_sort k (bound const_
 no-region-bound s k canonical e is = refl
 
 mutual
+  -- a search that ends well met no region, if it passed over nothing or all regions are bound and in range
   pub goes-passes : (s s' : RegionSearch) (t : Tree Depth) → GoesOver meets_hooks s t s'
       → Passes s (AreInRange t) (Misses 0x220000 (scan t)) (met s.depth t ≡ []) s'
   goes-passes s s' t (region_seen is h) = rw h.0 (passed-by s (AreInRange t) (Misses 0x220000 (scan t)) (met s.depth t ≡ []) h.1)

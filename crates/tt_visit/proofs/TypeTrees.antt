@@ -18,7 +18,7 @@ use Rattle.tt_visit.specs.declared.visitor.Next.{Next}
 use Rattle.tt_visit.specs.declared.visitor.Next.TheVariants.{Descend}
 
 -- the table of types
-abbrev is_types : Table → Bool
+abbrev pub is_types : Table → Bool
 is_types Types = true
 is_types _ = false
 
@@ -63,7 +63,7 @@ type-more r rows t n before (inr is) =
     rw (is.last, ← is.same_table) whole
 
 -- types are stored in their table alone
-stored-type : (rows : List Row) (t : Table) (n : ℕ) → n < size rows t → is_type_tree (meaning rows t n) ≡ is_types t
+pub stored-type : (rows : List Row) (t : Table) (n : ℕ) → n < size rows t → is_type_tree (meaning rows t n) ≡ is_types t
 unfolding table
 stored-type [] t n h = absurd (omega arith)
 stored-type (r ∷ rows) t n h = type-more r rows t n (λ low. stored-type rows t n low) (place_cases r rows t n h)

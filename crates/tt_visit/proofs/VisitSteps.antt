@@ -40,7 +40,8 @@ use Rattle.tt_visit.specs.Visit.{Visits, Tells, TellingBreaks, GoesOver, GoesIns
 use Rattle.tt_visit.specs.Visit.{unhooked_seen, node_seen, term_seen, param_seen, bound_seen, all_seen, one_seen}
 use Rattle.tt_visit.specs.Visit.{Breaks, BreaksInside, BreaksAll, term_broke, inside_broke, unhooked_broke, node_broke}
 use Rattle.tt_visit.specs.Visit.{error_broke, term_inside_broke, first_broke, later_broke}
-use Rattle.tt_visit.specs.Steps.{form_error, kind_error, AreVarsStored, Asks, AskingBreaks, GoesUnder, BreaksUnder}
+use Rattle.tt_visit.specs.Steps.{form_error, kind_error, AreVarsStored, AsksVisitor, AskingBreaks, GoesUnder}
+use Rattle.tt_visit.specs.Steps.{BreaksUnder}
 
 -- a result that keeps a promise, whether it goes on or breaks, keeps every weaker promise
 pub flow-weaker : {B C : Type 0} (r : ControlFlow B C) {P P' : C → Type 0} {Q Q' : B → Type 0}
@@ -140,27 +141,31 @@ unhooked-broke V s s' (tree.node l ts) b is h = elim h [ ]
 
 -- what a hook's answer leads to
 module _ {M B : Type 0} (V : Visits M B) where
-  pub asked-skip : (r : Root) (s s' : M) (t : Tree Depth) → root t ≡ r → Asks V r s t Skip s' → GoesOver V s t s'
+  -- a visitor goes over a term that its hook answers to skip
+  pub asked-skip : (r : Root) (s s' : M) (t : Tree Depth) → root t ≡ r → AsksVisitor V r s t Skip s' → GoesOver V s t s'
   asked-skip hooked s s' t is h = skipped is h
   asked-skip unhooked s s' t is h = let never = h.0 in cc
   asked-skip a_region s s' t is h = absurd h
   asked-skip a_part s s' t is h = absurd h
   asked-skip no_term s s' t is h = absurd h
 
-  pub asked-descend : (r : Root) (s s1 s' : M) (t : Tree Depth) → root t ≡ r → Asks V r s t Descend s1 → GoesInside V s1 t s' → GoesOver V s t s'
+  -- a visitor goes over a term that its hook answers to enter, if it then goes over the contents
+  pub asked-descend : (r : Root) (s s1 s' : M) (t : Tree Depth) → root t ≡ r → AsksVisitor V r s t Descend s1 → GoesInside V s1 t s' → GoesOver V s t s'
   asked-descend hooked s s1 s' t is h inside = went_inside is h inside
   asked-descend unhooked s s1 s' t is h inside = unhooked-inside V s s' t is (rw h.1 at inside)
   asked-descend a_region s s1 s' t is h inside = absurd h
   asked-descend a_part s s1 s' t is h inside = absurd h
   asked-descend no_term s s1 s' t is h inside = absurd h
 
-  pub asked-broke-inside : (r : Root) (s s1 s' : M) (t : Tree Depth) (b : B) → root t ≡ r → Asks V r s t Descend s1 → BreaksInside V s1 t b s' → Breaks V s t b s'
+  -- the visit of a term breaks if the hook answers to enter it and the visit of the contents breaks
+  pub asked-broke-inside : (r : Root) (s s1 s' : M) (t : Tree Depth) (b : B) → root t ≡ r → AsksVisitor V r s t Descend s1 → BreaksInside V s1 t b s' → Breaks V s t b s'
   asked-broke-inside hooked s s1 s' t b is h inside = inside_broke is h inside
   asked-broke-inside unhooked s s1 s' t b is h inside = unhooked-broke V s s' t b is (rw h.1 at inside)
   asked-broke-inside a_region s s1 s' t b is h inside = absurd h
   asked-broke-inside a_part s s1 s' t b is h inside = absurd h
   asked-broke-inside no_term s s1 s' t b is h inside = absurd h
 
+  -- the visit of a term breaks if the term's hook breaks
   pub asking-broke : (r : Root) (s s' : M) (t : Tree Depth) (b : B) → root t ≡ r → AskingBreaks V r s t b s' → Breaks V s t b s'
   asking-broke hooked s s' t b is h = term_broke is h
   asking-broke unhooked s s' t b is h = absurd h
@@ -232,9 +237,11 @@ module _ {M B : Type 0} (V : Visits M B) (f : Meaning) where
       → GoesUnder V f s1 (form_binder (kind_form k)) (fill_all f (parts_shapes (form_parts (kind_form k)))) s' → GoesInside V s (fill f (kind_shape k)) s'
   inside-kind k s s1 s' e h = inside-form (kind_sort k) (kind_form k) s s1 s' e h
 
+  -- the visit of a kind's contents breaks if the visitor breaks at the kind's error
   pub told-kind : (k : Kind) (s s' : M) (b : B) → TellingBreaks V s (kind_error k) b s' → BreaksInside V s (fill f (kind_shape k)) b s'
   told-kind k s s' b e = told-form (kind_sort k) (kind_form k) s s' b e
 
+  -- the visit of a kind's contents breaks if it goes past the kind's error and breaks in the parts
   pub broke-kind : (k : Kind) (s s1 s' : M) (b : B) → Tells V s (kind_error k) s1
       → BreaksUnder V f s1 (form_binder (kind_form k)) (fill_all f (parts_shapes (form_parts (kind_form k)))) b s' → BreaksInside V s (fill f (kind_shape k)) b s'
   broke-kind k s s1 s' b e h = broke-form (kind_sort k) (kind_form k) s s1 s' b e h
@@ -245,12 +252,14 @@ module _ {M B : Type 0} (V : Visits M B) (f : Meaning) where
   seen-append none us s s1 s' a b = rw (← unseen V s s1 a) b
   seen-append (also x ss) us s s1 s' (one_seen {s1 = m} a more) b = one_seen a (seen-append ss us m s1 s' more b)
 
+  -- a visit that breaks in the first of two lists of shapes breaks in both together
   pub broke-before : (ss us : Shapes) (s s' : M) (b : B) → BreaksAll V s (fill_all f ss) b s' → BreaksAll V s (fill_all f (append ss us)) b s'
   unfolding fill_all
   broke-before none us s s' b h = absurd (unbroken V s s' b h)
   broke-before (also x ss) us s s' b (first_broke h) = first_broke h
   broke-before (also x ss) us s s' b (later_broke {s1 = m} a h) = later_broke a (broke-before ss us m s' b h)
 
+  -- a visit that goes over the first of two lists of shapes and breaks in the second breaks in both together
   pub broke-after : (ss us : Shapes) (s s1 s' : M) (b : B) → GoesOverAll V s (fill_all f ss) s1 → BreaksAll V s1 (fill_all f us) b s' → BreaksAll V s (fill_all f (append ss us)) b s'
   unfolding fill_all
   broke-after none us s s1 s' b a h = rw (← unseen V s s1 a) h
@@ -309,6 +318,7 @@ has-kind (node.Clauses x) never is = never x refl
 
 -- a list that is none of clauses has no hook
 module _ {M B : Type 0} (V : Visits M B) where
+  -- a visitor that goes over the items of a list goes over the list, unless it is one of clauses
   pub list-seen : (l : StoredList) (ts : Forest Depth) (s s' : M) → ((x : Clauses) → l ≡ list.Clauses x → ⊥)
       → GoesOverAll V s ts s' → GoesOver V s (items_tree (list_sort l) ts) s'
   list-seen (list.Tys x) ts s s' never h = node_seen refl h
@@ -318,6 +328,7 @@ module _ {M B : Type 0} (V : Visits M B) where
   list-seen (list.Existentials x) ts s s' never h = node_seen refl h
   list-seen (list.Clauses x) ts s s' never h = absurd (never x refl)
 
+  -- if the visit of a list's items breaks, so does the visit of the list, unless it is one of clauses
   pub list-broke : (l : StoredList) (ts : Forest Depth) (s s' : M) (b : B) → ((x : Clauses) → l ≡ list.Clauses x → ⊥)
       → BreaksAll V s ts b s' → Breaks V s (items_tree (list_sort l) ts) b s'
   list-broke (list.Tys x) ts s s' b never h = node_broke refl h

@@ -177,21 +177,21 @@ pub record HoldsParts (parts : Parts) (vars : Option BoundVarKinds) (f : Frame) 
 
 module _ {M B : Type 0} (V : Visits M B) (rows : List Row) where
   -- the binder of a term is left, if it has one
-  abbrev pub Leaves : M → Option BoundVarKinds → M → Type 0
-  Leaves s None s' = s' ≡ s
-  Leaves s (Some vars) s' = V.leave s (vars_of (meaning rows VarLists vars.number)) s'
+  abbrev pub VisitorLeaves : M → Option BoundVarKinds → M → Type 0
+  VisitorLeaves s None s' = s' ≡ s
+  VisitorLeaves s (Some vars) s' = V.leave s (vars_of (meaning rows VarLists vars.number)) s'
 
   -- the visitor goes over what is left of a term, and leaves its binder
   pub record GoesOn (s : M) (t : Todo) (s' : M) : Type 0 where
     pub after : M
     pub goes : GoesOverAll V s (todo_trees rows t) after
-    pub leaves : Leaves after t.binder s'
+    pub leaves : VisitorLeaves after t.binder s'
 
   -- the same for a visit that breaks
   pub record BreaksOn (s : M) (t : Todo) (b : B) (s' : M) : Type 0 where
     pub after : M
     pub breaks : BreaksAll V s (todo_trees rows t) b after
-    pub leaves : Leaves after t.binder s'
+    pub leaves : VisitorLeaves after t.binder s'
 
   -- the visitor goes over what is left of terms, the innermost first
   abbrev pub StackGoes : M → List Remaining → M → Type 0
@@ -201,7 +201,7 @@ module _ {M B : Type 0} (V : Visits M B) (rows : List Row) where
   -- the binders of the terms are left, the innermost first
   abbrev pub StackLeaves : M → List Remaining → M → Type 0
   StackLeaves s [] s' = s' ≡ s
-  StackLeaves s (r ∷ rs) s' = (s1 : M) × Leaves s (rest_binder r) s1 × StackLeaves s1 rs s'
+  StackLeaves s (r ∷ rs) s' = (s1 : M) × VisitorLeaves s (rest_binder r) s1 × StackLeaves s1 rs s'
 
   -- the visit of what is left of the terms breaks, and leaves the binders around
   abbrev pub StackBreaks : M → List Remaining → B → M → Type 0
@@ -234,17 +234,17 @@ HasFrame rows (Break b) = ⊤
 module _ {M B S : Type 0} (means : List Row → S → M) (V : Visits M B) where
   -- A call began the visit of x in the visitor's state s, and answered r: what it says of a visit that breaks, of one
   -- that is done, and of one that leaves a frame.
-  abbrev pub Begins : {X : Type 0} → (M → X → M → Type 0) → (M → X → B → M → Type 0) → ℕ → ℕ → List Row → S → X
+  abbrev pub BeginsVisit : {X : Type 0} → (M → X → M → Type 0) → (M → X → B → M → Type 0) → ℕ → ℕ → List Row → S → X
       → ControlFlow B (Option Frame) → S → Type 0
-  Begins goes breaks height work rows s x r s' = MatchControlFlow r
+  BeginsVisit goes breaks height work rows s x r s' = MatchControlFlow r
       (λ o. Begun V rows (goes (means rows s) x) (breaks (means rows s) x) height work o (means rows s'))
       (λ b. breaks (means rows s) x b (means rows s'))
 
 module _ {M B : Type 0} (V : Visits M B) (rows : List Row) where
   -- a call took a visit that was begun to its end
-  abbrev pub Finishes : M → ControlFlow B (Option Frame) → ControlFlow B (Unit {0}) → M → Type 0
-  Finishes s (Break b) r s' = (r ≡ Break b) × (s' ≡ s)
-  Finishes s (Continue None) r s' = (r ≡ Continue (tt {0})) × (s' ≡ s)
-  Finishes s (Continue (Some f)) r s' = MatchControlFlow r
+  abbrev pub FinishesVisit : M → ControlFlow B (Option Frame) → ControlFlow B (Unit {0}) → M → Type 0
+  FinishesVisit s (Break b) r s' = (r ≡ Break b) × (s' ≡ s)
+  FinishesVisit s (Continue None) r s' = (r ≡ Continue (tt {0})) × (s' ≡ s)
+  FinishesVisit s (Continue (Some f)) r s' = MatchControlFlow r
       (λ _. GoesOn V rows s (frame_todo rows f) s')
       (λ b. BreaksOn V rows s (frame_todo rows f) b s')

@@ -33,10 +33,10 @@ AreVarsStored size (Some vars) = vars.number < size VarLists
 
 module _ {M B : Type 0} (V : Visits M B) where
   -- the answer of a term's hook; a term without a hook is entered
-  abbrev pub Asks : Root → M → Tree Depth → Next → M → Type 0
-  Asks hooked s t next s' = V.on_term s t next s'
-  Asks unhooked s t next s' = (next ≡ Descend) × (s' ≡ s)
-  Asks _ s t next s' = ⊥
+  abbrev pub AsksVisitor : Root → M → Tree Depth → Next → M → Type 0
+  AsksVisitor hooked s t next s' = V.on_term s t next s'
+  AsksVisitor unhooked s t next s' = (next ≡ Descend) × (s' ≡ s)
+  AsksVisitor _ s t next s' = ⊥
 
   -- the hook of a term breaks
   abbrev pub AskingBreaks : Root → M → Tree Depth → B → M → Type 0

@@ -36,7 +36,7 @@ ghost use Rattle.tt_visit.specs.Root.{table_root};
 ghost use Rattle.tt_visit.specs.Steps.{
   Answers,
   AreVarsStored,
-  Asks,
+  AsksVisitor,
   AskingBreaks,
   BreaksUnder,
   Ends,
@@ -46,13 +46,13 @@ ghost use Rattle.tt_visit.specs.Steps.{
 };
 ghost use Rattle.tt_visit.specs.Frames.{
   AreBinders,
-  Begins,
+  BeginsVisit,
   BreaksOn,
   child_height,
   child_work,
   children_height,
   children_work,
-  Finishes,
+  FinishesVisit,
   forest_work,
   frame_children,
   frame_todo,
@@ -60,7 +60,7 @@ ghost use Rattle.tt_visit.specs.Frames.{
   HasFrame,
   inward,
   IsFrame,
-  Leaves,
+  VisitorLeaves,
   parts_height,
   rest_binder,
   StackLeaves,
@@ -191,7 +191,7 @@ fn finish<V: TypeVisitor>(
     requires frame { HasFrame cx.now.rows begun }
     ensures owned { V.owned cx.now.rows visitor.new }
     ensures broke { OwnsBreak V.break_owned cx.now.rows result }
-    ensures result { Finishes V.hooks cx.now.rows
+    ensures result { FinishesVisit V.hooks cx.now.rows
         (V.meaning cx.now.rows visitor.old) begun result (V.meaning cx.now.rows visitor.new) }
 {
     match begun {
@@ -257,7 +257,7 @@ fn leave<V: TypeVisitor>(cx: &Interner, visitor: &mut V, binder: Option<BoundVar
     requires owned { V.owned cx.now.rows visitor.old }
     requires binder { AreVarsStored (size cx.now.rows) binder }
     ensures owned { V.owned cx.now.rows visitor.new }
-    ensures result { Leaves V.hooks cx.now.rows
+    ensures result { VisitorLeaves V.hooks cx.now.rows
         (V.meaning cx.now.rows visitor.old) binder (V.meaning cx.now.rows visitor.new) }
 {
     match binder {
@@ -293,7 +293,7 @@ fn begin_child<V: TypeVisitor>(
     requires child { AreParts (size cx.now.rows) (child_shapes child.now) }
     ensures owned { V.owned cx.now.rows visitor.new }
     ensures broke { OwnsBreak V.break_owned cx.now.rows result }
-    ensures begun { Begins V.meaning V.hooks (GoesOverAll V.hooks) (BreaksAll V.hooks)
+    ensures begun { BeginsVisit V.meaning V.hooks (GoesOverAll V.hooks) (BreaksAll V.hooks)
         (child_height cx.now.rows child.now) (child_work cx.now.rows child.now)
         cx.now.rows visitor.old (fill_all (meaning cx.now.rows) (child_shapes child.now)) result visitor.new }
 {
@@ -318,7 +318,7 @@ fn begin_node<V: TypeVisitor>(
     requires node { IsPartBy node_shape cx.now.rows node }
     ensures owned { V.owned cx.now.rows visitor.new }
     ensures broke { OwnsBreak V.break_owned cx.now.rows result }
-    ensures begun { Begins V.meaning V.hooks (GoesOver V.hooks) (Breaks V.hooks)
+    ensures begun { BeginsVisit V.meaning V.hooks (GoesOver V.hooks) (Breaks V.hooks)
         (child_height cx.now.rows (child.Node node)) (child_work cx.now.rows (child.Node node))
         cx.now.rows visitor.old (tree_by node_shape cx.now.rows node) result visitor.new }
 {
@@ -339,7 +339,7 @@ fn begin_inside<V: TypeVisitor>(
     requires node { IsPartBy node_shape cx.now.rows node }
     ensures owned { V.owned cx.now.rows visitor.new }
     ensures broke { OwnsBreak V.break_owned cx.now.rows result }
-    ensures begun { Begins V.meaning V.hooks (GoesInside V.hooks) (BreaksInside V.hooks)
+    ensures begun { BeginsVisit V.meaning V.hooks (GoesInside V.hooks) (BreaksInside V.hooks)
         (child_height cx.now.rows (child.Node node)) (child_work cx.now.rows (child.Node node))
         cx.now.rows visitor.old (tree_by node_shape cx.now.rows node) result visitor.new }
 {
@@ -365,7 +365,7 @@ fn begin_kind<V: TypeVisitor>(
     requires kind { HasParts (size cx.now.rows) (kind_shape kind.now) }
     ensures owned { V.owned cx.now.rows visitor.new }
     ensures broke { OwnsBreak V.break_owned cx.now.rows result }
-    ensures begun { Begins V.meaning V.hooks (GoesInside V.hooks) (BreaksInside V.hooks)
+    ensures begun { BeginsVisit V.meaning V.hooks (GoesInside V.hooks) (BreaksInside V.hooks)
         (parts_height cx.now.rows (form_parts (kind_form kind.now)) + 1)
         (tree_work (tree_by kind_shape cx.now.rows kind.now) + 2)
         cx.now.rows visitor.old (tree_by kind_shape cx.now.rows kind.now) result visitor.new }
@@ -388,7 +388,7 @@ fn begin_contents<V: TypeVisitor>(
     requires parts { AreParts (size cx.now.rows) (parts_shapes parts) }
     ensures owned { V.owned cx.now.rows visitor.new }
     ensures broke { OwnsBreak V.break_owned cx.now.rows result }
-    ensures begun { Begins V.meaning V.hooks
+    ensures begun { BeginsVisit V.meaning V.hooks
         (λ s. GoesUnder V.hooks (meaning cx.now.rows) s bound_vars)
         (λ s. BreaksUnder V.hooks (meaning cx.now.rows) s bound_vars)
         (parts_height cx.now.rows parts + 1)
@@ -413,7 +413,7 @@ fn begin_under<V: TypeVisitor>(
     requires parts { AreParts (size cx.now.rows) (parts_shapes parts) }
     ensures owned { V.owned cx.now.rows visitor.new }
     ensures broke { OwnsBreak V.break_owned cx.now.rows result }
-    ensures begun { Begins V.meaning V.hooks
+    ensures begun { BeginsVisit V.meaning V.hooks
         (λ s. GoesUnder V.hooks (meaning cx.now.rows) s (Some vars))
         (λ s. BreaksUnder V.hooks (meaning cx.now.rows) s (Some vars))
         (parts_height cx.now.rows parts + 1)
@@ -440,7 +440,7 @@ fn begin_list<V: TypeVisitor>(
     requires list { IsPartBy list_shape cx.now.rows list }
     ensures owned { V.owned cx.now.rows visitor.new }
     ensures broke { OwnsBreak V.break_owned cx.now.rows result }
-    ensures begun { Begins V.meaning V.hooks (GoesOver V.hooks) (Breaks V.hooks)
+    ensures begun { BeginsVisit V.meaning V.hooks (GoesOver V.hooks) (Breaks V.hooks)
         (child_height cx.now.rows (child.List list)) (child_work cx.now.rows (child.List list))
         cx.now.rows visitor.old (tree_by list_shape cx.now.rows list) result visitor.new }
 {
@@ -473,7 +473,7 @@ fn ask<V: TypeVisitor>(cx: &Interner, visitor: &mut V, node: Node) -> ControlFlo
     ensures owned { V.owned cx.now.rows visitor.new }
     ensures broke { OwnsBreak V.break_owned cx.now.rows result }
     ensures result { Answers V.meaning
-        (Asks V.hooks (table_root (node_table node))) (AskingBreaks V.hooks (table_root (node_table node)))
+        (AsksVisitor V.hooks (table_root (node_table node))) (AskingBreaks V.hooks (table_root (node_table node)))
         cx.now.rows visitor.old (tree_by node_shape cx.now.rows node) result visitor.new }
 {
     match node {

@@ -40,7 +40,7 @@ use Rattle.type_terms.specs.Means.{AddsNothing, IsAllowed, MayRefuse, want_of_me
 use Rattle.type_terms.specs.Build as build
 use Rattle.type_terms.specs.Build.{IsUnbuiltPart, no_memory, no_row, no_index, IsNameOf, GivesRegion, ArePlaced}
 use Rattle.type_terms.specs.Build.{AreItemsOf}
-use Rattle.type_terms.specs.Build.{GivesPart, GivesPlaced, IsKindOf, Answers}
+use Rattle.type_terms.specs.Build.{GivesPart, GivesPlaced, IsKindOf, MayAnswerCall}
 use Rattle.type_terms.specs.Room.{IsRefusalForRoom, HasValue, NeedsRoom, FormNeedsRoom}
 use Rattle.type_terms.proofs.ValueLaws.{new-lacks}
 use Rattle.type_terms.proofs.RoomLaws.{stored-value}
@@ -172,6 +172,7 @@ there-refused start old new x answers o are t f r needs there room =
 
 -- the term of the kind that the call names is its answer
 module _ (start old new : Terms) (e : List Told) (c : Call) (form : CallForm) (row : Row) (h : IsKindOf old e form (row_shape row)) where
+  -- if the kind that a call names is built, the call may have the term as its answer
   pub kind-allowed : {H : Type 0} (number : H → ℕ) (x : H) (a : Answer) → Builds (Ok x) number old new row
       → told new.rows a ≡ term (row_table row) (meaning new.rows (row_table row) (number x))
       → (AreTerms e (form_positions form) → (call_forms.IsFormTooDeep form → ⊥) → IsAllowed (setting start new) e c (term (row_table row) (call_forms.form_tree (number_at e) (tree_at e) form)))
@@ -179,6 +180,7 @@ module _ (start old new : Terms) (e : List Told) (c : Call) (form : CallForm) (r
   kind-allowed number x a b t allowed =
       rw (t, b.means, h.means) (allowed h.named (λ d. let y = b.deep (h.deep.1 d) in absurd (cc)))
 
+  -- if the kind that a call names isn't built, the call may be refused as the building was
   pub kind-refused : {H : Type 0} (number : H → ℕ) (r : Refusal) → Builds {H = H} (Err r) number old new row
       → BuildsOrFolds c → (AddsNothing (setting start new) e c → ⊥)
       → (NamesTerms e c → AreTerms e (form_positions form)) → (call_forms.IsFormTooDeep form → means.IsCallTooDeep e c)
@@ -197,13 +199,13 @@ there-built number start old new answers form row r h b are x o there =
     new-lacks old.rows are row h.parts b.absent (subst (λ (t : Tree Depth). HasValue old.rows t) (sym h.means) (stored-value old.rows (row_table row) _ s))
 
 -- what an answer is from later terms it is from earlier ones
-pub Answers-earlier : (start old new : Terms) (e : List Told) (c : Call) (result : Result Answer Refusal) → Extends start old → Answers old new e c result → Answers start new e c result
-Answers-earlier start old new e c (Ok a) x h = record {
+pub MayAnswerCall-earlier : (start old new : Terms) (e : List Told) (c : Call) (result : Result Answer Refusal) → Extends start old → MayAnswerCall old new e c result → MayAnswerCall start new e c result
+MayAnswerCall-earlier start old new e c (Ok a) x h = record {
   owned = h.owned;
   ok = IsAllowed-wider (setting old new) (setting start new) (λ f. f) (size-grows start.rows old.rows x.rows Declarations) (IsStored-grows start.rows old.rows x.rows) e c (told new.rows a) h.ok;
   err = tt;
 }
-Answers-earlier start old new e c (Err r) x h = record {
+MayAnswerCall-earlier start old new e c (Err r) x h = record {
   owned = tt;
   ok = tt;
   err = IsAllowed-wider (setting old new) (setting start new) (λ f. f) (size-grows start.rows old.rows x.rows Declarations) (IsStored-grows start.rows old.rows x.rows) e c (refused r) h.err;
@@ -217,7 +219,7 @@ region-passed terms t deep (Err x) r h u = record { ok = tt; err = rw h u }
 
 -- an error that is passed on may be the answer of the call, if the call may be refused with it
 pub answer-passed : (start terms : Terms) (e : List Told) (c : Call) (result : Result Answer Refusal) (r : Refusal) → IsErrAnd result (λ x. x ≡ r)
-    → MayRefuse (setting start terms) e c r → Answers start terms e c result
+    → MayRefuse (setting start terms) e c r → MayAnswerCall start terms e c result
 answer-passed start terms e c (Ok k) r h u = absurd h
 answer-passed start terms e c (Err x) r h u = record { owned = tt; ok = tt; err = rw h u }
 
@@ -242,7 +244,7 @@ not_both index.Canonical s g = g
 pub region-bound : (terms : Terms) (ids : ℕ → ℕ) (i : BoundVarIndexKind) (b : BoundRegion) (name : RegionNameCall) (result : Result RegionKind Refusal)
     → IsNameOf terms ids name b.kind
     → (IsBelowGreatest (depth i) → result ≡ Ok (ReBound i b)) → ((IsBelowGreatest (depth i) → ⊥) → result ≡ Err GreatestIndex)
-    → GivesRegion terms (tree.bound region_sort (depth i) (call_forms.region_entry ids b.var name)) (IsGreatest (depth i)) result
+    → GivesRegion terms (tree.bound region_sort (depth i) (call_forms.region_call_entry ids b.var name)) (IsGreatest (depth i)) result
 unfolding fill
 region-bound terms ids i b name result n ok deep = elim (IsBelowGreatest-or-not i) [
   | inl s ↦

@@ -58,9 +58,11 @@ module _ (old new : Terms) (kind : DeclarationKind) (name : Symbol) where
   abbrev row : Row
   row = declared_row (size old.rows Declarations) (record { kind = kind; name = name })
 
+  -- a declaration extends the terms, also where it is refused
   pub Declares-extends : (result : Result DefId Refusal) → Declares result (λ id. id.number) old new kind name → Extends old new
   Declares-extends result d = record { rows = Grows-add result row old new d.adds.rows d.adds.err; limit = d.adds.limit }
 
+  -- the id of a new declaration is in range, and names a declaration of the sort
   pub declared-owned : (sort : DeclarationSort) (id : DefId) → Declares {H = DefId} (Ok id) (λ x. x.number) old new kind name → sort ≡ sort_of kind
       → IsOfSort new.rows sort id.number
   declared-owned sort id d same = (

@@ -46,9 +46,11 @@ module _ {F : Type 0} (step : F → RegionKind → ℕ → RegionKind → F → 
   each-erased symbols (c ∷ calls) f h = λ named a g k.
       let one = erases f c.0 c.1 a g h k in (subst (HasName symbols) (sym one.0) tt, each-erased symbols calls g one.1)
 
+  -- a closure that answers the erased region each time answers regions of the interner
   pub answers-regions : (symbols : ℕ) (f : F) → Erases f → AnswersRegions step symbols f
   answers-regions symbols f h = record { at = λ calls. each-erased symbols calls f h }
 
+  -- a fold by a closure that answers the erased region each time gives the erased tree
   pub places-erased : (f : F) (t u : Tree Depth) → Erases f → (last : F) × Places step names f t u last → u ≡ erased t
   places-erased f t u h p =
       p.1.are_placed ∙ ap (placed 0 t) (answers-erased p.1.calls f p.0 h p.1.made ∙ ap (map (λ (m : Met). tree.region erased_region)) p.1.are_met)
@@ -60,6 +62,7 @@ module _ {F : Type 0} (step : F → RegionKind → ℕ → RegionKind → F → 
   each-named [] f = tt
   each-named (c ∷ calls) f = λ h a g k. (named f c.0 c.1 a g k h, each-named calls g)
 
+  -- a closure that keeps the names of regions in range answers regions of the interner
   pub answers-named : (f : F) → AnswersRegions step symbols f
   answers-named f = record { at = λ calls. each-named calls f }
 
@@ -104,11 +107,13 @@ module _ (e : List Told) (p : ℕ) (table : Table) (u : Tree Depth) (at : term_a
   erase-reason old new answers NotAClause g h = absurd h
   erase-reason old new answers NoSuchAnswer g h = absurd h
 
+  -- a call that erases may be refused as a fold of regions of its term is, if a region is met
   pub erase-refused : {F : Type 0} (step : F → RegionKind → ℕ → RegionKind → F → Type 0) (names : ℕ → Name) (f : F) (old new : Terms) (r : Refusal)
       → (met 0 u ≡ [] → ⊥) → (last : F) × PlacesSome step names new f u r last → MayRefuse (setting old new) e (call.EraseRegions p) r
   erase-refused step names f old new r g h =
       erase-reason old new (answered names h.1.calls) r (subst (λ (t : Tree Depth). met 0 t ≡ [] → ⊥) (sym tree-is) g)
       (subst (λ (t : Tree Depth). IsPlacingRefusal new t (answered names h.1.calls) r) (sym tree-is) h.1.refused)
 
+  -- a call that erases may have the erased tree of its term as its answer
   pub erase-allowed : (s : Setting) (v : Tree Depth) → v ≡ erased u → IsAllowed s e (call.EraseRegions p) (term table v)
   erase-allowed s v same = ((is_term, tt), (λ d. d), rw at refl, same ∙ ap erased (sym tree-is), λ r c. c)

@@ -40,12 +40,12 @@ use Rattle.type_terms.specs.declared.run.call.ArgCall.{ArgCall}
 use Rattle.type_terms.specs.declared.run.call.ArgCall.TheVariants as arg
 use Rattle.type_terms.specs.declared.run.call.Call.{Call}
 use Rattle.type_terms.specs.declared.run.call.Call.TheVariants as call
-use Rattle.type_terms.specs.CallForm.{Named, one, a_term, region_tree, IsRegionTooDeep, item_positions, items_positions}
-use Rattle.type_terms.specs.CallForm.{IsItemTooDeep, AreItemsTooDeep, arg_item, arg_items, args_ids}
+use Rattle.type_terms.specs.CallForm.{Named, one, a_term, region_call_tree, IsRegionTooDeep, item_positions}
+use Rattle.type_terms.specs.CallForm.{items_positions, IsItemTooDeep, AreItemsTooDeep, arg_item, arg_items, args_ids}
 use Rattle.type_terms.specs.Told.{Told, term, told_all, HasFullTable, Setting, setting}
 use Rattle.type_terms.specs.Means as means
 use Rattle.type_terms.specs.Means.{IsUntouchedTerm, IsParameter, IsParameterOf, AddsNothing, NamesTerms, too_deep, Term}
-use Rattle.type_terms.specs.Means.{term_at, number_at, tree_at, positions, AreTerms, Suits, Tells, told_argument}
+use Rattle.type_terms.specs.Means.{term_at, number_at, tree_at, positions, AreTerms, Suits, TellsWanted, told_argument}
 use Rattle.type_terms.specs.Means.{told_arguments, IsAllowed, MayRefuse, want_of_memory, full_table, no_term, unfit}
 use Rattle.type_terms.specs.Means.{unsuited}
 use Rattle.type_terms.specs.Room.{IsRefusalForRoom}
@@ -70,7 +70,7 @@ const-argument terms e p t h = record {
 }
 
 -- the region that a call describes is the argument that it names as a lifetime
-pub region-argument : (terms : Terms) (e : List Told) (c : RegionCall) (r : RegionKind) → IsRegionOf terms (region_tree (number_at e) c) (IsRegionTooDeep c) r
+pub region-argument : (terms : Terms) (e : List Told) (c : RegionCall) (r : RegionKind) → IsRegionOf terms (region_call_tree (number_at e) c) (IsRegionTooDeep c) r
     → IsArgumentOf terms e (arg.Lifetime c) (kind.Lifetime r)
 region-argument terms e c r h = record {
   item = record { part = h.part; means = h.means; named = tt; shallow = h.shallow };
@@ -104,7 +104,7 @@ arguments-more old new e cs xs c a x h k = record {
 
 -- a position without a term
 pub absent-refused : (P : Setting) (rows : List Row) (earlier : List Answer) (n : Named) (ns : List Named) (c : Call) → positions (told_all rows earlier) c ≡ n ∷ ns
-    → (Tells (told_all rows earlier) n.want n.position → IsSomeAnd (term_at (told_all rows earlier) n.position) (Suits (told_all rows earlier) n.want))
+    → (TellsWanted (told_all rows earlier) n.want n.position → IsSomeAnd (term_at (told_all rows earlier) n.position) (Suits (told_all rows earlier) n.want))
     → (r : Refusal) → r ≡ NoSuchAnswer
     → ((rows : List Row) → term_at (told_all rows earlier) n.position ≡ None) → MayRefuse P (told_all rows earlier) c r
 absent-refused P rows earlier n ns c q w r i h =
@@ -147,12 +147,14 @@ module _ (e : List Told) (p : ℕ) (table : Table) (u : Tree Depth) (at : term_a
   shift-reason old new n NotAClause g h = absurd h
   shift-reason old new n NoSuchAnswer g h = absurd h
 
+  -- a call that shifts may be refused as a shift of its term is, if the shift changes the term
   pub shift-refused : (old new : Terms) (n : ℕ) (r : Refusal) → ((n ≡ 0) ⊎ (outer_binder u ≡ 0) → ⊥) → IsShiftRefusal new n u r
       → MayRefuse (setting old new) e (call.Shift p n) r
   shift-refused old new n r g h =
       shift-reason old new n r (subst (λ (t : Tree Depth). (n ≡ 0) ⊎ (outer_binder t ≡ 0) → ⊥) (sym tree-is) g)
       (subst (λ (t : Tree Depth). IsShiftRefusal new n t r) (sym tree-is) h)
 
+  -- a call that shifts may have a tree as its answer that reads as its term moved
   pub shift-allowed : (P : Setting) (n : ℕ) (v : Tree Depth) → read 0 v ≡ move n (read 0 u) → IsAllowed P e (call.Shift p n) (term table v)
   shift-allowed P n v m = (
     (is_term, tt),
@@ -179,6 +181,7 @@ module _ (e : List Told) (p : ℕ) (table : Table) (u : Tree Depth) (at : term_a
     inst-reason old new NotAClause g h = unsuited (is_term, named) h
     inst-reason old new NoSuchAnswer g h = unsuited (is_term, named) h
 
+    -- a call that instantiates may be refused as an instantiation is, if the value doesn't come back
     pub inst-refused : (old new : Terms) (args : List (Argument Depth)) (r : Refusal) → args ≡ told_arguments e list.items → (ComesBack args u → ⊥)
         → (IsUntouchedTerm (record { table = table; tree = u }) → ComesBack args u)
         → ((s : Sort) (i : ℕ) (name : Name) → u ≡ param s i name → Cause (param s i name) args r)
@@ -196,6 +199,7 @@ module _ (e : List Told) (p : ℕ) (table : Table) (u : Tree Depth) (at : term_a
         (subst (λ (t : Tree Depth). IsReason new (told_arguments e list.items) t r) (sym tree-is)
         (subst (λ (ys : List (Argument Depth)). IsReason new ys u r) same h))
 
+    -- a call that instantiates may have a plain instance as its answer, if there is no cause for a refusal
     pub inst-allowed : (P : Setting) (args : List (Argument Depth)) (v : Tree Depth) → args ≡ told_arguments e list.items → (AreItemsTooDeep (arg_items list.items) → ⊥)
         → IsPlain args u v → HasNoCause args u → IsAllowed P e (call.Instantiate p list) (term table v)
     inst-allowed P args v same shallow plain none = (

@@ -83,9 +83,11 @@ module _ (terms : Terms) (earlier : List Answer) (p : ℕ) (a : Answer) (table :
   pub told-at : (rows : List Row) → term_at (told_all rows earlier) p ≡ Some (record { table = table; tree = meaning rows table n })
   told-at rows = rw (at.means rows, is.told rows) refl
 
+  -- the handle at a position is in range
   pub in_range-at : AreOwnedAnswers terms.rows earlier → n < size terms.rows table
   in_range-at o = is.owned terms.rows (at.owned terms.rows o)
 
+  -- the handle at a position is what a call puts in the place of a child by naming the position
   pub part-at : AreOwnedAnswers terms.rows earlier → IsPartOfCall terms (told_all terms.rows earlier) (one (a_term table p)) (stored table n)
   unfolding fill
   part-at o = record {

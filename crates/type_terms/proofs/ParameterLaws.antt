@@ -33,7 +33,7 @@ use Rattle.type_terms.specs.Told.{Told, term, told, told_all, AreOwnedAnswers, S
 use Rattle.type_terms.specs.Means.{Term, as_term, term_at, tree_of, tree_at, told_argument, told_arguments, AreTerms}
 use Rattle.type_terms.specs.Means.{IsAllowed}
 use Rattle.type_terms.specs.Means.{MayRefuse, no_term, unsuited, IsParameter, IsParameterOf}
-use Rattle.type_terms.specs.Build.{Answers, IsAnswerAt, IsUsable}
+use Rattle.type_terms.specs.Build.{MayAnswerCall, IsAnswerAt, IsUsable}
 use Rattle.type_terms.specs.Parameters.{parameter_sort, parameter_index, term_arg, IsArgumentAt, LacksArgument}
 use Rattle.type_terms.specs.Parameters.{none_given, not_told}
 use Rattle.type_terms.proofs.PartLaws.{AreTerms-append, named-among}
@@ -72,13 +72,16 @@ module _ (earlier : List Answer) (cs : List ArgCall) (p : Parameter) (index : �
   named-at : (q : ℕ) → c ≡ term_arg p q → slice_get cs (parameter_index p) ≡ Some (term_arg p q)
   named-at q is = subst (λ (i : ℕ). slice_get cs i ≡ Some (term_arg p q)) same (at ∙ ap Some is)
 
+  -- the parameter's argument is the answer that the argument at its index names, if that is of its sort
   pub argument-found : (q : ℕ) → c ≡ term_arg p q → (a : Answer) → IsAnswerAt earlier q a → IsArgumentAt earlier cs p a
   argument-found q is a found = record { position = q; given = named-at q is; at = found }
 
+  -- the parameter has no argument if the position that the one at its index names tells no term
   pub argument-untold : (q : ℕ) → c ≡ term_arg p q → ((rows : List Row) → term_at (told_all rows earlier) q ≡ None) → (r : Refusal) → r ≡ NoSuchAnswer
       → LacksArgument earlier cs p r
   argument-untold q is none r cause = not_told q (named-at q is) none cause
 
+  -- the parameter has no argument if the one at its index is of another sort
   pub argument-unsuited : ((e : List Told) → same_sort (parameter_sort p) (told_argument e c).sort ≡ false) → LacksArgument earlier cs p (ArgKind index)
   argument-unsuited other =
       none_given (λ e name. subst (λ (i : ℕ). Cause (param (parameter_sort p) i name) (told_arguments e cs) (ArgKind index)) same
@@ -214,7 +217,7 @@ pub argument-answers : (terms : Terms) (earlier : List Answer) (at : ℕ) (p : P
     → AreTerms (told_all terms.rows earlier) (args_ids list.items)
     → IsUsable (told_all terms.rows earlier) (items_positions (arg_items list.items)) (AreItemsTooDeep (arg_items list.items))
     → AreOwnedAnswers terms.rows earlier → IfOk result (IsArgumentAt earlier list.items p) → IfErr result (LacksArgument earlier list.items p)
-    → Answers terms terms (told_all terms.rows earlier) (call.Instantiate at list) result
+    → MayAnswerCall terms terms (told_all terms.rows earlier) (call.Instantiate at list) result
 argument-answers terms earlier at p list (Ok a) found ids usable o given lacks = record {
   owned = given.at.owned terms.rows o;
   ok = argument-allowed terms.rows earlier at p list (setting terms terms) found ids usable a given;

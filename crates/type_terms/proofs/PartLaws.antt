@@ -28,10 +28,10 @@ use Rattle.type_terms.specs.declared.run.call.RegionCall.{RegionCall}
 use Rattle.type_terms.specs.declared.run.call.VariableCall.{VariableCall}
 use Rattle.type_terms.specs.CallForm.{ExistentialForm, trait_object, existentials_tree, existential_positions}
 use Rattle.type_terms.specs.CallForm.{IsExistentialTooDeep, all_trees, all_positions, AnyIsDeep, Named, Item, Part, one}
-use Rattle.type_terms.specs.CallForm.{a_region, CallForm, plain, under, variable_kind, region_tree, IsRegionTooDeep}
-use Rattle.type_terms.specs.CallForm.{item_tree, items_trees, item_positions, items_positions, part_positions}
-use Rattle.type_terms.specs.CallForm.{parts_positions, IsItemTooDeep, AreItemsTooDeep, IsPartTooDeep, ArePartsTooDeep}
-use Rattle.type_terms.specs.CallForm.{form_positions, IsFormTooDeep, RecordCall, record_tree}
+use Rattle.type_terms.specs.CallForm.{a_region, CallForm, plain, under, variable_kind, region_call_tree}
+use Rattle.type_terms.specs.CallForm.{IsRegionTooDeep, item_tree, items_trees, item_positions, items_positions}
+use Rattle.type_terms.specs.CallForm.{part_positions, parts_positions, IsItemTooDeep, AreItemsTooDeep, IsPartTooDeep}
+use Rattle.type_terms.specs.CallForm.{ArePartsTooDeep, form_positions, IsFormTooDeep, RecordCall, record_tree}
 use Rattle.type_terms.specs.Told.{Told, HasFullTable}
 use Rattle.type_terms.specs.Means.{number_at, tree_at, AreTerms}
 use Rattle.type_terms.specs.Build as build
@@ -133,6 +133,7 @@ parts-two terms e p q s u h k = parts-also terms e p (q ∷ []) s (shape.also u 
 
 -- the positions that the items of a list name
 module _ {X : Type 0} (names_of : X → List Named) where
+  -- if the positions of a list's items and of one more tell what is wanted, so do all with this one behind
   pub named-append : (e : List Told) (xs : List X) (x : X) → AreTerms e (all_positions names_of xs) → AreTerms e (names_of x)
       → AreTerms e (all_positions names_of (xs ++ x ∷ []))
   named-append e [] x h k = AreTerms-append e (names_of x) [] k tt
@@ -140,6 +141,7 @@ module _ {X : Type 0} (names_of : X → List Named) where
       AreTerms-append e (names_of w) (all_positions names_of (xs ++ x ∷ [])) (AreTerms-first e (names_of w) (all_positions names_of xs) h)
       (named-append e xs x (AreTerms-second e (names_of w) (all_positions names_of xs) h) k)
 
+  -- if the positions that a list's items name tell what is wanted, so do those of each item
   pub named-among : (e : List Told) (xs : List X) (i : ℕ) (x : X) → slice_get xs i ≡ Some x → AreTerms e (all_positions names_of xs) → AreTerms e (names_of x)
   named-among e [] i x h k = absurd (cc)
   named-among e (w ∷ xs) zero x h k =
@@ -176,10 +178,12 @@ module _ {X T : Type 0} (tree_of : (ℕ → ℕ) → (ℕ → Tree Depth) → X 
       let rest : fill_all f (item_shapes of_value ys) ≡ all_trees (tree_of ids at) xs = cc in
       rw (first, trees-append f ids at xs ys x y rest k) refl
 
+  -- no values are placed where there are no items
   pub all-none : (terms : Terms) (e : List Told) → ArePlaced terms e (all_trees (tree_of (number_at e) (tree_at e)) []) (all_positions names_of []) (AnyIsDeep deep_of []) (item_shapes of_value [])
   unfolding fill
   all-none terms e = record { parts = tt; means = refl; named = tt; shallow = λ d. d }
 
+  -- if values are placed for a list's items and one for the next, they are placed for all with this one behind
   pub all-more : (terms : Terms) (e : List Told) (xs : List X) (ys : List T) (x : X) (y : T)
       → ArePlaced terms e (all_trees (tree_of (number_at e) (tree_at e)) xs) (all_positions names_of xs) (AnyIsDeep deep_of xs) (item_shapes of_value ys)
       → IsPlaced terms e (tree_of (number_at e) (tree_at e) x) (names_of x) (deep_of x) (of_value y)
@@ -203,9 +207,11 @@ get-mapped f xs i x h = slice_get-map f xs i ∙ ap (option_map f) h
 
 -- items in order: the calls' items, and the values
 module _ {C T : Type 0} (item : C → Item) (of_value : T → Shape) where
+  -- no values are in the places of no items of a call
   pub items-none : (terms : Terms) (e : List Told) → AreItemsOf terms e (map item []) (item_shapes of_value [])
   items-none terms e = all-none item_tree item_positions IsItemTooDeep of_value terms e
 
+  -- if values are in the places of a call's items and one is in the next one's, they are in the places of all
   pub items-more : (terms : Terms) (e : List Told) (cs : List C) (xs : List T) (c : C) (x : T)
       → AreItemsOf terms e (map item cs) (item_shapes of_value xs) → IsItemOfCall terms e (item c) (of_value x)
       → AreItemsOf terms e (map item (cs ++ c ∷ [])) (item_shapes of_value (xs ++ x ∷ []))
@@ -235,9 +241,11 @@ unbuilt-unusable P e ns deep r is (build.no_index h i) = absurd (cc)
 
 -- items of calls that can be used
 module _ {C : Type 0} (item : C → Item) where
+  -- the positions of no items can be used
   pub usable-none : (e : List Told) → IsUsable e (items_positions (map item [])) (AreItemsTooDeep (map item []))
   usable-none e = record { named = tt; shallow = λ d. d }
 
+  -- if the positions of items and of one more can be used, so can the positions of all with this one behind
   pub usable-more : (e : List Told) (cs : List C) (c : C) → IsUsable e (items_positions (map item cs)) (AreItemsTooDeep (map item cs))
       → IsUsable e (item_positions (item c)) (IsItemTooDeep (item c)) → IsUsable e (items_positions (map item (cs ++ c ∷ []))) (AreItemsTooDeep (map item (cs ++ c ∷ [])))
   usable-more e cs c h k =
@@ -247,6 +255,7 @@ module _ {C : Type 0} (item : C → Item) where
         shallow = shallow-append IsItemTooDeep (map item cs) (item c) h.shallow k.shallow;
       })
 
+  -- if the positions of one item can't be used, neither can the positions of all
   pub unusable-among : (e : List Told) (cs : List C) (i : ℕ) (c : C) (r : Refusal) → slice_get cs i ≡ Some c
       → IsUnusable e (item_positions (item c)) (IsItemTooDeep (item c)) r → IsUnusable e (items_positions (map item cs)) (AreItemsTooDeep (map item cs)) r
   unusable-among e cs i c r h u =
@@ -255,7 +264,7 @@ module _ {C : Type 0} (item : C → Item) where
       (named-among item_positions e (map item cs) i (item c) here) (deep-among IsItemTooDeep (map item cs) i (item c) here) u
 
 -- a region
-pub region-part : (terms : Terms) (e : List Told) (c : RegionCall) (r : RegionKind) → IsRegionOf terms (region_tree (number_at e) c) (IsRegionTooDeep c) r
+pub region-part : (terms : Terms) (e : List Told) (c : RegionCall) (r : RegionKind) → IsRegionOf terms (region_call_tree (number_at e) c) (IsRegionTooDeep c) r
     → IsPartOfCall terms e (one (a_region c)) (region_shape r)
 region-part terms e c r h = record { part = h.part; means = h.means; named = tt; shallow = h.shallow }
 
@@ -347,7 +356,7 @@ placed-passed terms e t ns deep of_value (Err x) r h k = record { ok = tt; err =
 -- the kind of a trait object
 pub dynamic-kind : (terms : Terms) (e : List Told) (xs : List ExistentialForm) (c : RegionCall) (s : Shape) (r : RegionKind)
     → IsPlaced terms e (existentials_tree (number_at e) (tree_at e) xs) (all_positions existential_positions xs) (AnyIsDeep IsExistentialTooDeep xs) s
-    → IsRegionOf terms (region_tree (number_at e) c) (IsRegionTooDeep c) r
+    → IsRegionOf terms (region_call_tree (number_at e) c) (IsRegionTooDeep c) r
     → IsKindOf terms e (trait_object xs c) (shape.term (type_label dynamic_type) (shape.also s (shape.also (region_shape r) shape.none)))
 unfolding fill
 dynamic-kind terms e xs c s r h k = record {

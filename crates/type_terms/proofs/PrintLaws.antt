@@ -89,6 +89,7 @@ module _ (f : ℕ → Name) where
   head-renamed s (record_label l) = record-renamed s l
   head-renamed s _ = refl
 
+  -- to replace the name in a variable's head is to take the head of the variable with another name
   pub variable-renamed : (n : ℕ) (v : VarKind ℕ) → rename_head f (variable_head n v) ≡ variable_head n (rename_kind f v)
   variable-renamed n (region_variable r) = refl
   variable-renamed n (type_variable k) = refl
@@ -104,6 +105,7 @@ module _ (f : ℕ → Name) where
   ty_title-renamed bound_ty.Anon = refl
   ty_title-renamed (bound_ty.Param d) = refl
 
+  -- to replace the name in a variable's title is to take the title of the variable with another name
   pub title-renamed : (v : VarKind ℕ) → rename_head f (variable_title v) ≡ variable_title (rename_kind f v)
   title-renamed (region_variable r) = region_title-renamed r
   title-renamed (type_variable k) = ty_title-renamed k
@@ -300,6 +302,7 @@ module _ (size : Sizes) where
   fn-named (style.Signature k) = tt
   fn-named _ = tt
 
+  -- the name in a record's head is in range if the names in its label are
   pub record-named : (s : Style) (l : RecordLabel ℕ) → IsNamedRecord size l → IsNamedSubject size (record_head s l).subject
   record-named s (unstable_feature_record n) h = h
   record-named s fn_sig_tys_record h = fn-named s
@@ -330,6 +333,7 @@ module _ (size : Sizes) where
   form-named s (plain l p) h = head-named style.Joined l h.0
   form-named s (under l vars m p) h = record-named (style_in style.Joined l) m h.1.0.1.1
 
+  -- the name in a kind's head is in range if what the kind holds is
   pub kind-named : (k : Kind) → HasParts size (kind_shape k) → IsNamedSubject size (form_head (kind_sort k) (kind_form k)).subject
   kind-named k h = form-named (kind_sort k) (kind_form k) h
 

@@ -106,6 +106,7 @@ drop-from list n x here =
     grind (arith, common_steps)
 
 module _ (f : Meaning) (o : ListSort) where
+  -- each child may be an item of a list of the sort
   abbrev pub AreItems : List Child → Type 0
   AreItems list = All (λ c. IsItem o (child_sort c)) list
 

@@ -6,14 +6,14 @@ use Rattle.std.proofs.Math.Seq.{take-append_seam}
 use Rattle.std.specs.Str.{IsUtf8, IsCharBoundary}
 use Rattle.std.proofs.lemmas.Str.{IsCharBoundary-from_take}
 use Rattle.std.proofs.lemmas.List.{append-nil}
-use Rattle.type_terms.specs.Text.{Begins, Writes}
+use Rattle.type_terms.specs.Text.{BeginsText, Writes}
 
 -- bytes were added, and then others
-pub begins-more : (a b c : List ℕ) → Begins a b → Begins b c → Begins a c
+pub begins-more : (a b c : List ℕ) → BeginsText a b → BeginsText b c → BeginsText a c
 begins-more a b c h k = record { rest = h.rest ++ k.rest; is = k.is ∙ ap (λ x. x ++ k.rest) h.is ∙ append_assoc a h.rest k.rest }
 
 -- nothing was added
-pub begins-same : (a : List ℕ) → Begins a a
+pub begins-same : (a : List ℕ) → BeginsText a a
 begins-same a = record { rest = []; is = sym (append-nil a) }
 
 -- the same text, written another way
@@ -21,7 +21,7 @@ pub writes-same : {T E : Type 0} (r : Result T E) (a b x y : List ℕ) → x ≡
 writes-same r a b x y e h = rw (← e) h
 
 -- the end of an old text is a place where the longer one may be cut
-pub old-end : (old now : List ℕ) (n : ℕ) → IsUtf8 old → IsUtf8 now → n ≡ length old → Begins old now → IsCharBoundary now n × (take n now ≡ old)
+pub old-end : (old now : List ℕ) (n : ℕ) → IsUtf8 old → IsUtf8 now → n ≡ length old → BeginsText old now → IsCharBoundary now n × (take n now ≡ old)
 old-end old now n old_text now_text count h =
     let first : take n now ≡ old = rw (count, h.is) (take-append_seam old h.rest) in
     let within : n ≤ length now = rw (count, h.is) (omega (arith, length-append old h.rest)) in
@@ -36,7 +36,7 @@ writes-then x (Ok y) a b c first rest h k = record {
 writes-then x (Err e) a b c first rest h k = record { written = tt; kept = begins-more a b c h.kept k.kept }
 
 -- a text was written that ends the whole one behind the old one
-pub writes-end : {T E : Type 0} (r : Result T E) (a b c rest whole : List ℕ) → b ++ rest ≡ a ++ whole → Begins a b → Writes r b c rest → Writes r a c whole
+pub writes-end : {T E : Type 0} (r : Result T E) (a b c rest whole : List ℕ) → b ++ rest ≡ a ++ whole → BeginsText a b → Writes r b c rest → Writes r a c whole
 writes-end (Ok x) a b c rest whole same h k = record { written = k.written ∙ same; kept = begins-more a b c h k.kept }
 writes-end (Err e) a b c rest whole same h k = record { written = tt; kept = begins-more a b c h k.kept }
 

@@ -11,7 +11,7 @@ use Rattle.tt_interner.specs.Rows.{Row, vars_row, size, meaning, AreRows}
 use Rattle.tt_interner.specs.Stored.{IsAt}
 use Rattle.tt_interner.proofs.Trees.{Means-row}
 use Rattle.type_terms.specs.Text.{Head, head_text, variable_head, variable_title, variable_text, variables_text}
-use Rattle.type_terms.specs.Text.{before_variable, after_variables, Begins, Writes}
+use Rattle.type_terms.specs.Text.{before_variable, after_variables, BeginsText, Writes}
 use Rattle.type_terms.specs.Spelling.{rename_head}
 use Rattle.type_terms.proofs.PrintSteps.{begins-more, begins-same, writes-end}
 use Rattle.type_terms.proofs.PrintLaws.{variable-renamed, title-renamed}
@@ -32,7 +32,7 @@ module _ (item_name : ℕ → Name) (f : Meaning) where
   pub record VariablesLeft (a b : List ℕ) (items : List BoundVariableKind) (n : ℕ) : Type 0 where
     pub within : n ≤ length items
     pub text : b ++ variables_text item_name n (tree_variables f (drop n items)) ≡ a ++ variables_text item_name 0 (tree_variables f items)
-    pub kept : Begins a b
+    pub kept : BeginsText a b
 
   -- at the start nothing is written
   pub variables-start : (a : List ℕ) (items : List BoundVariableKind) (n : ℕ) → n ≡ 0 → VariablesLeft a a items n

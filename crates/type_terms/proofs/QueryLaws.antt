@@ -25,7 +25,7 @@ use Rattle.type_terms.specs.Told.{AreOwnedAnswers, Setting}
 use Rattle.type_terms.specs.Told.{setting}
 use Rattle.type_terms.specs.Means.{Term, as_term, term_at, tree_of, table_of, table_at, Suits, IsAllowed, MayRefuse}
 use Rattle.type_terms.specs.Means.{no_term}
-use Rattle.type_terms.specs.Build.{IsAnswerAt, AreOfOneTable, IsInfoOf, Answers}
+use Rattle.type_terms.specs.Build.{IsAnswerAt, AreOfOneTable, IsInfoOf, MayAnswerCall}
 
 -- what a handle of a table tells
 told-handle : (rows : List Row) (a : Answer) (t : Table) → handle_table a ≡ Some t → told rows a ≡ term t (meaning rows t (handle_number a))
@@ -90,6 +90,7 @@ module _ (rows : List Row) (earlier : List Answer) (p q : ℕ) (a b : Answer) (h
   table-second : table_at (told_all rows earlier) q ≡ handle_table b
   table-second = ap table_of (k.means rows) ∙ told-table rows b
 
+  -- whether the numbers of two handles of one table are equal is an answer to whether their terms are
   pub equal-allowed : (P : Setting) (r : Bool) → AreOwnedAnswers rows earlier → AreOfOneTable a b
       → ((t : Table) (n m : ℕ) → n < size rows t → m < size rows t → (meaning rows t n ≡ meaning rows t m) ↔ (n ≡ m))
       → r ≡ eqb (handle_number a) (handle_number b) → IsAllowed P (told_all rows earlier) (call.Equal p q) (truth r)
@@ -158,14 +159,14 @@ only-args (answer.Args x) f g h i j rows u e = let same : record { table = ArgLi
 only-args _ f g h i j rows u e = absurd (cc)
 
 -- the answer of a call that gives a term
-pub answered-allowed : (start terms : Terms) (earlier : List Answer) (rows : List Row) (c : Call) (result : Result Answer Refusal) (a : Answer) → Answers start terms (told_all rows earlier) c result
+pub answered-allowed : (start terms : Terms) (earlier : List Answer) (rows : List Row) (c : Call) (result : Result Answer Refusal) (a : Answer) → MayAnswerCall start terms (told_all rows earlier) c result
     → MatchResult result (λ b. a ≡ b) (λ e. a ≡ answer.Refused e)
     → IsAllowed (setting start terms) (told_all rows earlier) c (told terms.rows a)
 answered-allowed start terms earlier rows c (Ok b) a h e = rw e h.ok
 answered-allowed start terms earlier rows c (Err r) a h e = rw e h.err
 
 -- the handle or the id in an answer that is made of a call's result is the interner's
-pub answered-owned : (start terms : Terms) (earlier : List Answer) (rows : List Row) (c : Call) (result : Result Answer Refusal) (a : Answer) → Answers start terms (told_all rows earlier) c result
+pub answered-owned : (start terms : Terms) (earlier : List Answer) (rows : List Row) (c : Call) (result : Result Answer Refusal) (a : Answer) → MayAnswerCall start terms (told_all rows earlier) c result
     → MatchResult result (λ b. a ≡ b) (λ e. a ≡ answer.Refused e) → IsOwnedAnswer terms.rows a
 answered-owned start terms earlier rows c (Ok b) a h e = rw e h.owned
 answered-owned start terms earlier rows c (Err r) a h e = rw e tt

@@ -120,9 +120,11 @@ item-room item rows e t cs i c r here h room short are v =
 
 -- a child of a term
 module _ (rows : List Row) (e : List Told) (l : Label Name) where
+  -- if a refusal for want of room says that a term's first child isn't there, it says so of the term
   pub first-room : (p : Part) (ps : List Part) (r : Refusal) → PartNeedsRoom rows e p r → FormNeedsRoom rows e (plain l (p ∷ ps)) r
   first-room p ps r h room short are v = h room short.0 are (first-value rows _ _ (in-term rows are l _ v))
 
+  -- if a refusal for want of room says that a term's second child isn't there, it says so of the term
   pub second-room : (p q : Part) (ps : List Part) (r : Refusal) → PartNeedsRoom rows e q r → FormNeedsRoom rows e (plain l (p ∷ q ∷ ps)) r
   second-room p q ps r h room short are v = h room short.1.0 are (first-value rows _ _ (later-values rows _ _ (in-term rows are l _ v)))
 
@@ -130,14 +132,17 @@ module _ (rows : List Row) (e : List Told) (l : Label Name) where
   pub record-room : (vs : List (VarKind Name)) (c : RecordCall) (r : Refusal) → RecordNeedsRoom rows e c r → FormNeedsRoom rows e (under l vs c.label c.parts) r
   record-room vs c r h room short are v = h room short.1 are (in-binder rows are vs _ (first-value rows _ _ (in-term rows are l _ v))).body
 
+  -- if a refusal for want of room says that a binder's list isn't there, it says so of the term
   pub binder-room : (vs : List (VarKind Name)) (m : RecordLabel Name) (ps : List Part) (r : Refusal) → VarsNeedRoom rows vs r → FormNeedsRoom rows e (under l vs m ps) r
   binder-room vs m ps r h room short are v = h room short.0 are (in-binder rows are vs _ (first-value rows _ _ (in-term rows are l _ v))).vars
 
 -- a child of a record
 module _ (rows : List Row) (e : List Told) (m : RecordLabel Name) where
+  -- if a refusal for want of room says that a record's first child isn't there, it says so of the record
   pub first-record-room : (p : Part) (ps : List Part) (r : Refusal) → PartNeedsRoom rows e p r → RecordNeedsRoom rows e (record { label = m; parts = p ∷ ps }) r
   first-record-room p ps r h room short are v = h room short.0 are (first-value rows _ _ (in-node rows are (record_label m) _ v).children)
 
+  -- if a refusal for want of room says that a record's second child isn't there, it says so of the record
   pub second-record-room : (p q : Part) (ps : List Part) (r : Refusal) → PartNeedsRoom rows e q r → RecordNeedsRoom rows e (record { label = m; parts = p ∷ q ∷ ps }) r
   second-record-room p q ps r h room short are v = h room short.1.0 are (first-value rows _ _ (later-values rows _ _ (in-node rows are (record_label m) _ v).children))
 
@@ -176,9 +181,11 @@ term-room number old new e form row (Err r) h b = λ room short. refused-lacks n
 
 -- the existential predicates of a trait object, and its region
 module _ (rows : List Row) (e : List Told) (xs : List ExistentialForm) (c : RegionCall) (r : Refusal) where
+  -- if a refusal for want of room says that a trait object's predicates aren't there, it says so of the object
   pub object-room : ExistentialsNeedRoom rows e xs r → FormNeedsRoom rows e (trait_object xs c) r
   object-room h room short are v = h room short are (first-value rows _ _ (in-term rows are (type_label dynamic_type) _ v))
 
+  -- if a refusal for want of room says that the text in a region is new, no trait object with it is there
   pub object-region-room : (IsRefusalForRoom r → LacksText rows (region_text c)) → FormNeedsRoom rows e (trait_object xs c) r
   object-region-room lacks room short are v =
       region-lacks rows (number_at e) c (lacks room) are (first-value rows _ _ (later-values rows _ _ (in-term rows are (type_label dynamic_type) _ v)))

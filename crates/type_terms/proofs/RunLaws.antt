@@ -39,6 +39,7 @@ module _ (old new : List Row) (g : Grows old new) where
   told-grows (answer.Refused r) h = refl
   told-grows answer.Bad h = refl
 
+  -- where rows grow, answers whose handles are in range tell what they told
   pub told_all-grows : (answers : List Answer) → AreOwnedAnswers old answers → told_all new answers ≡ told_all old answers
   told_all-grows [] h = refl
   told_all-grows (a ∷ answers) h = rw (told-grows a h.0, told_all-grows answers h.1) refl
@@ -58,10 +59,12 @@ module _ (old new : List Row) (g : Grows old new) where
   IsOwnedAnswer-grows (answer.Refused r) h = tt
   IsOwnedAnswer-grows answer.Bad h = tt
 
+  -- where rows grow, the handles and ids in answers stay in range
   pub AreOwnedAnswers-grows : (answers : List Answer) → AreOwnedAnswers old answers → AreOwnedAnswers new answers
   AreOwnedAnswers-grows [] h = tt
   AreOwnedAnswers-grows (a ∷ answers) h = (IsOwnedAnswer-grows a h.0, AreOwnedAnswers-grows answers h.1)
 
+  -- where rows grow, a tree that is stored stays stored
   pub IsStored-grows : (t : Table) (u : Tree Depth) → IsStored old t u → IsStored new t u
   IsStored-grows t u h = record {
     number = h.number;
@@ -122,6 +125,7 @@ module _ (s t : Setting) (full : s.full → t.full) (fewer : t.declarations ≤ 
   }
   NamesDeclaration-wider e _ sort n u h = absurd h
 
+  -- an answer stays allowed with more full tables, and with fewer declarations and terms before the calls
   pub IsAllowed-wider : (e : List Told) (c : Call) (u : Told) → IsAllowed s e c u → IsAllowed t e c u
   IsAllowed-wider e c (term table v) h = h
   IsAllowed-wider e c (declared sort n v) h = (h.0, NamesDeclaration-wider e c sort n v h.1)

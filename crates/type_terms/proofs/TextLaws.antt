@@ -24,7 +24,7 @@ use Rattle.type_terms.specs.declared.run.call.VariableCall.TheVariants as variab
 use Rattle.type_terms.specs.declared.run.call.RegionCall.{RegionCall}
 use Rattle.type_terms.specs.declared.run.call.RegionCall.TheVariants.{ReEarlyParam, ReBound, ReLateParam, ReStatic}
 use Rattle.type_terms.specs.declared.run.call.RegionCall.TheVariants.{ReVar, RePlaceholder, ReErased, ReError}
-use Rattle.type_terms.specs.CallForm.{called, variable_kind, region_tree, name_text, region_text, variable_text}
+use Rattle.type_terms.specs.CallForm.{called, variable_kind, region_call_tree, name_text, region_text, variable_text}
 use Rattle.type_terms.specs.Room.{HasValue, LacksValue, LacksText}
 use Rattle.type_terms.proofs.ValueLaws.{IsNode, in-node, new-lacks}
 
@@ -159,7 +159,7 @@ name-text ids (region_name.NamedForPrinting text) = refl
 name-text ids (region_name.Named p) = refl
 name-text ids region_name.ClosureEnv = refl
 
-tree-text : (ids : ℕ → ℕ) (r : RegionCall) → tree_text (region_tree ids r) ≡ region_text r
+tree-text : (ids : ℕ → ℕ) (r : RegionCall) → tree_text (region_call_tree ids r) ≡ region_text r
 tree-text ids (ReEarlyParam index name) = refl
 tree-text ids (ReBound i var name) = name-text ids name
 tree-text ids (ReLateParam p name) = name-text ids name
@@ -170,8 +170,8 @@ tree-text ids ReErased = refl
 tree-text ids (ReError e) = refl
 
 -- no value is a region whose text is none
-pub region-lacks : (rows : List Row) (ids : ℕ → ℕ) (r : RegionCall) → LacksText rows (region_text r) → LacksValue rows (region_tree ids r)
-region-lacks rows ids r lacks are v = lacking rows are (region_text r) (region_tree ids r) (tree-text ids r) lacks v
+pub region-lacks : (rows : List Row) (ids : ℕ → ℕ) (r : RegionCall) → LacksText rows (region_text r) → LacksValue rows (region_call_tree ids r)
+region-lacks rows ids r lacks are v = lacking rows are (region_text r) (region_call_tree ids r) (tree-text ids r) lacks v
 
 -- nor a parameter whose name is none
 pub param-lacks : (rows : List Row) (s : Sort) (i : ℕ) (name : Name) → IsNew (text_row name) rows → LacksValue rows (tree.param s i name)

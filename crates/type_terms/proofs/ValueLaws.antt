@@ -196,6 +196,7 @@ module _ (rows : List Row) (are : AreRows rows) where
   binder-part (shape.node m ss) vs t h e = absurd (cc)
   binder-part (shape.part_of u n x) vs t h e = absurd (cc)
 
+  -- if a value has a binder's tree, there are values of what is under the binder and of its list of variables
   pub in-binder : (vs : List (VarKind Name)) (t : Tree Depth) → HasValue rows (tree.binder vs t) → IsUnder vs t
   in-binder vs t v = binder-part v.shape vs t v.part v.means
 

@@ -42,13 +42,13 @@ use Rattle.std.specs.declared.alloc.Global.{Global}
 use Rattle.std.specs.declared.vec.Vec.{Vec}
 use Rattle.type_terms.specs.CallForm.{a_list, terms_at, declared_sort, declared_item, declared_trees}
 use Rattle.type_terms.specs.CallForm.{declared_positions, of_id, CallForm, Named, Item, Part, called, variable_kind}
-use Rattle.type_terms.specs.CallForm.{item_tree, items_trees, part_tree, parts_trees, item_positions, items_positions}
-use Rattle.type_terms.specs.CallForm.{part_positions, parts_positions, IsItemTooDeep, AreItemsTooDeep, IsPartTooDeep}
-use Rattle.type_terms.specs.CallForm.{ArePartsTooDeep, form_positions, form_tree, IsFormTooDeep, arg_item, arg_items}
-use Rattle.type_terms.specs.CallForm.{clause_items, RecordCall, record_tree}
+use Rattle.type_terms.specs.CallForm.{item_tree, items_trees, part_tree, call_parts_trees, item_positions}
+use Rattle.type_terms.specs.CallForm.{items_positions, part_positions, parts_positions, IsItemTooDeep, AreItemsTooDeep}
+use Rattle.type_terms.specs.CallForm.{IsPartTooDeep, ArePartsTooDeep, form_positions, form_tree, IsFormTooDeep}
+use Rattle.type_terms.specs.CallForm.{arg_item, arg_items, clause_items, RecordCall, record_tree}
 use Rattle.type_terms.specs.Told.{Told, term, told, told_all, handle_table, IsOwnedAnswer, AreOwnedAnswers}
 use Rattle.type_terms.specs.Told.{HasFullTable, setting}
-use Rattle.type_terms.specs.Means.{as_term, term_at, as_id, id_at, number_at, Tells, tree_at, told_argument}
+use Rattle.type_terms.specs.Means.{as_term, term_at, as_id, id_at, number_at, TellsWanted, tree_at, told_argument}
 use Rattle.type_terms.specs.Means.{told_arguments, AreTerms, IsAllowed, MayRefuse}
 
 -- the answer is the handle of this number in the table
@@ -67,7 +67,7 @@ IsIdAt earlier p s n = (rows : List Row) → id_at (told_all rows earlier) p ≡
 
 -- no id of this sort is at the position
 abbrev pub HasNoId : List Answer → ℕ → DeclarationSort → Type 0
-HasNoId earlier p s = (rows : List Row) → Tells (told_all rows earlier) (of_id s) p → ⊥
+HasNoId earlier p s = (rows : List Row) → TellsWanted (told_all rows earlier) (of_id s) p → ⊥
 
 -- both answers are handles of the same table
 abbrev pub AreOfOneTable : Answer → Answer → Type 0
@@ -195,7 +195,7 @@ IsPartOfCall terms earlier p s = IsPlaced terms earlier (part_tree (number_at ea
 
 -- the values are the ones that the call puts in the children's places
 abbrev pub ArePartsOfCall : Terms → List Told → List Part → Shapes → Type 0
-ArePartsOfCall terms earlier ps ss = ArePlaced terms earlier (parts_trees (number_at earlier) (tree_at earlier) ps)
+ArePartsOfCall terms earlier ps ss = ArePlaced terms earlier (call_parts_trees (number_at earlier) (tree_at earlier) ps)
     (parts_positions ps) (ArePartsTooDeep ps) ss
 
 -- the result has this tree, or is a refusal with a reason
@@ -318,7 +318,8 @@ pub record GivesSig (terms : Terms) (earlier : List Told) (vars : List VariableC
       (part_positions (a_list TypeLists (terms_at Types positions))) ⊥)
 
 -- the result may be the call's answer, if the terms grow from the old ones to the new ones
-pub record Answers (old new : Terms) (earlier : List Told) (call : Call) (result : Result Answer Refusal) : Type 0 where
+pub record MayAnswerCall (old new : Terms) (earlier : List Told) (call : Call) (result : Result Answer Refusal)
+    : Type 0 where
   pub owned : IfOk result (IsOwnedAnswer new.rows)
   pub ok : IfOk result (λ a. IsAllowed (setting old new) earlier call (told new.rows a))
   pub err : IfErr result (MayRefuse (setting old new) earlier call)

@@ -163,11 +163,11 @@ value_call_form t (valtree.Branch cs) = plain (const_label branch_const)
     (one (a_term Types t) ∷ a_list ConstLists (terms_at Consts cs.items) ∷ [])
 
 -- the patterns that can be built
-abbrev pub pat_form : PatCall → CallForm
-pat_form (pat.Range start end) = plain (pattern_label range_pattern)
+abbrev pub pat_call_form : PatCall → CallForm
+pat_call_form (pat.Range start end) = plain (pattern_label range_pattern)
     (one (a_term Consts start) ∷ one (a_term Consts end) ∷ [])
-pat_form (pat.Or ps) = plain (pattern_label or_pattern) (a_list PatternLists (terms_at Patterns ps.items) ∷ [])
-pat_form pat.NotNull = plain (pattern_label not_null_pattern) []
+pat_call_form (pat.Or ps) = plain (pattern_label or_pattern) (a_list PatternLists (terms_at Patterns ps.items) ∷ [])
+pat_call_form pat.NotNull = plain (pattern_label not_null_pattern) []
 
 -- the text of a bound region's name, if there is one
 abbrev pub name_text : RegionNameCall → Option Name
@@ -208,30 +208,30 @@ module _ (ids : ℕ → ℕ) where
   variable_kind variable.Const = const_variable
 
   -- a bound region's entry
-  abbrev pub region_entry : ℕ → RegionNameCall → Entry Name
-  region_entry var name = record { var = var; kind = region_variable (called name) }
+  abbrev pub region_call_entry : ℕ → RegionNameCall → Entry Name
+  region_call_entry var name = record { var = var; kind = region_variable (called name) }
 
   -- a bound type's entry
-  abbrev pub ty_entry : ℕ → BoundTyKindCall → Entry Name
-  ty_entry var name = record { var = var; kind = type_variable (ty_called name) }
+  abbrev pub ty_call_entry : ℕ → BoundTyKindCall → Entry Name
+  ty_call_entry var name = record { var = var; kind = type_variable (ty_called name) }
 
   -- the tree of a region
-  abbrev pub region_tree : RegionCall → Tree Depth
-  region_tree (ReEarlyParam index name) = tree.param region_sort index (string_bytes name)
-  region_tree (ReBound i var name) = tree.bound region_sort (depth i) (region_entry var name)
-  region_tree (ReLateParam p name) = tree.region (late_param_region (ids p) (called name))
-  region_tree ReStatic = tree.region static_region
-  region_tree (ReVar v) = tree.region (region_var v)
-  region_tree (RePlaceholder u var name) = tree.region (placeholder_region u var (called name))
-  region_tree ReErased = tree.region erased_region
-  region_tree (ReError e) = tree.region (error_region e.0)
+  abbrev pub region_call_tree : RegionCall → Tree Depth
+  region_call_tree (ReEarlyParam index name) = tree.param region_sort index (string_bytes name)
+  region_call_tree (ReBound i var name) = tree.bound region_sort (depth i) (region_call_entry var name)
+  region_call_tree (ReLateParam p name) = tree.region (late_param_region (ids p) (called name))
+  region_call_tree ReStatic = tree.region static_region
+  region_call_tree (ReVar v) = tree.region (region_var v)
+  region_call_tree (RePlaceholder u var name) = tree.region (placeholder_region u var (called name))
+  region_call_tree ReErased = tree.region erased_region
+  region_call_tree (ReError e) = tree.region (error_region e.0)
 
   -- the kind of an alias
-  abbrev pub alias_of : AliasCall → AliasTyKind
-  alias_of (alias.Projection p) = alias_kind.Projection (id_of (ids p))
-  alias_of (alias.Inherent p) = alias_kind.Inherent (id_of (ids p))
-  alias_of (alias.Opaque p) = alias_kind.Opaque (id_of (ids p))
-  alias_of (alias.Free p) = alias_kind.Free (id_of (ids p))
+  abbrev pub alias_call_kind : AliasCall → AliasTyKind
+  alias_call_kind (alias.Projection p) = alias_kind.Projection (id_of (ids p))
+  alias_call_kind (alias.Inherent p) = alias_kind.Inherent (id_of (ids p))
+  alias_call_kind (alias.Opaque p) = alias_kind.Opaque (id_of (ids p))
+  alias_call_kind (alias.Free p) = alias_kind.Free (id_of (ids p))
 
   -- the item of a type with arguments
   abbrev pub item_type : ItemCall → TypeLabel
@@ -241,7 +241,7 @@ module _ (ids : ℕ → ℕ) where
   item_type (item.CoroutineClosure p) = coroutine_closure_type (ids p)
   item_type (item.Coroutine p) = coroutine_type (ids p)
   item_type (item.CoroutineWitness p) = coroutine_witness_type (ids p)
-  item_type (item.Alias k) = alias_type (alias_of k)
+  item_type (item.Alias k) = alias_type (alias_call_kind k)
 
   -- the existential predicates that can be built, without their binder
   abbrev pub existential_record : ExistentialKindCall → RecordCall
@@ -252,49 +252,50 @@ module _ (ids : ℕ → ℕ) where
   existential_record (existential.AutoTrait p) = labelled_parts (auto_trait_record (ids p)) []
 
   -- the existential predicates that can be built
-  abbrev pub existential_form : ExistentialCall → ExistentialForm
-  existential_form x = record { vars = map variable_kind x.vars.items; under = existential_record x.kind }
+  abbrev pub existential_call_form : ExistentialCall → ExistentialForm
+  existential_call_form x = record { vars = map variable_kind x.vars.items; under = existential_record x.kind }
 
   -- the types that can be built
-  abbrev pub ty_form : TyCall → CallForm
-  ty_form ty.Bool = plain (type_label bool_type) []
-  ty_form ty.Char = plain (type_label char_type) []
-  ty_form (ty.Int i) = plain (type_label (int_type i)) []
-  ty_form (ty.Uint i) = plain (type_label (uint_type i)) []
-  ty_form (ty.Float f) = plain (type_label (float_type f)) []
-  ty_form (ty.Foreign p) = plain (type_label (foreign_type (ids p))) []
-  ty_form ty.Str = plain (type_label str_type) []
-  ty_form ty.Never = plain (type_label never_type) []
-  ty_form (ty.Param index name) = param type_sort index (string_bytes name)
-  ty_form (ty.Bound i var name) = bound type_sort (depth i) (ty_entry var name)
-  ty_form (ty.Placeholder u var name) = plain (type_label
+  abbrev pub ty_call_form : TyCall → CallForm
+  ty_call_form ty.Bool = plain (type_label bool_type) []
+  ty_call_form ty.Char = plain (type_label char_type) []
+  ty_call_form (ty.Int i) = plain (type_label (int_type i)) []
+  ty_call_form (ty.Uint i) = plain (type_label (uint_type i)) []
+  ty_call_form (ty.Float f) = plain (type_label (float_type f)) []
+  ty_call_form (ty.Foreign p) = plain (type_label (foreign_type (ids p))) []
+  ty_call_form ty.Str = plain (type_label str_type) []
+  ty_call_form ty.Never = plain (type_label never_type) []
+  ty_call_form (ty.Param index name) = param type_sort index (string_bytes name)
+  ty_call_form (ty.Bound i var name) = bound type_sort (depth i) (ty_call_entry var name)
+  ty_call_form (ty.Placeholder u var name) = plain (type_label
       (placeholder_type (record { universe = u; bound = record { var = var; kind = ty_called name } }))) []
-  ty_form (ty.Infer i) = plain (type_label (infer_type i)) []
-  ty_form (ty.Error e) = plain (type_label (error_type e.0)) []
-  ty_form (ty.Ref r t m) = plain (type_label (ref_type m)) (one (a_region r) ∷ one (a_term Types t) ∷ [])
-  ty_form (ty.RawPtr t m) = plain (type_label (raw_ptr_type m)) (one (a_term Types t) ∷ [])
-  ty_form (ty.Slice t) = plain (type_label slice_type) (one (a_term Types t) ∷ [])
-  ty_form (ty.Array t c) = plain (type_label array_type) (one (a_term Types t) ∷ one (a_term Consts c) ∷ [])
-  ty_form (ty.Tuple ts) = plain (type_label tuple_type) (a_list TypeLists (terms_at Types ts.items) ∷ [])
-  ty_form (ty.FnPtr vars ts h) =
+  ty_call_form (ty.Infer i) = plain (type_label (infer_type i)) []
+  ty_call_form (ty.Error e) = plain (type_label (error_type e.0)) []
+  ty_call_form (ty.Ref r t m) = plain (type_label (ref_type m)) (one (a_region r) ∷ one (a_term Types t) ∷ [])
+  ty_call_form (ty.RawPtr t m) = plain (type_label (raw_ptr_type m)) (one (a_term Types t) ∷ [])
+  ty_call_form (ty.Slice t) = plain (type_label slice_type) (one (a_term Types t) ∷ [])
+  ty_call_form (ty.Array t c) = plain (type_label array_type) (one (a_term Types t) ∷ one (a_term Consts c) ∷ [])
+  ty_call_form (ty.Tuple ts) = plain (type_label tuple_type) (a_list TypeLists (terms_at Types ts.items) ∷ [])
+  ty_call_form (ty.FnPtr vars ts h) =
       under (type_label (fn_ptr_type h)) (map variable_kind vars.items) fn_sig_tys_record
       (a_list TypeLists (terms_at Types ts.items) ∷ [])
-  ty_form (ty.Item i args) = plain (type_label (item_type i)) (args_part args.items ∷ [])
-  ty_form (ty.Dynamic xs r) = trait_object (map existential_form xs.items) r
-  ty_form (ty.Pat t p) = plain (type_label pat_type) (one (a_term Types t) ∷ one (a_term Patterns p) ∷ [])
-  ty_form (ty.UnsafeBinder vars t) = under (type_label unsafe_binder_type)
+  ty_call_form (ty.Item i args) = plain (type_label (item_type i)) (args_part args.items ∷ [])
+  ty_call_form (ty.Dynamic xs r) = trait_object (map existential_call_form xs.items) r
+  ty_call_form (ty.Pat t p) = plain (type_label pat_type) (one (a_term Types t) ∷ one (a_term Patterns p) ∷ [])
+  ty_call_form (ty.UnsafeBinder vars t) = under (type_label unsafe_binder_type)
       (map variable_kind vars.items) unsafe_binder_record (one (a_term Types t) ∷ [])
 
   -- the constants that can be built
-  abbrev pub const_form : ConstCall → CallForm
-  const_form (const.Param index name) = param const_sort index (string_bytes name)
-  const_form (const.Infer i) = plain (const_label (infer_const i)) []
-  const_form (const.Bound i b) = bound const_sort (depth i) (const_entry b)
-  const_form (const.Placeholder p) = plain (const_label (placeholder_const p)) []
-  const_form (const.Unevaluated p args) = plain (const_label (unevaluated_const (ids p))) (args_part args.items ∷ [])
-  const_form (const.Value t v) = value_call_form t v
-  const_form (const.Error e) = plain (const_label (error_const e.0)) []
-  const_form (const.Expr tag args) = plain (const_label (expr_const tag)) (args_part args.items ∷ [])
+  abbrev pub const_call_form : ConstCall → CallForm
+  const_call_form (const.Param index name) = param const_sort index (string_bytes name)
+  const_call_form (const.Infer i) = plain (const_label (infer_const i)) []
+  const_call_form (const.Bound i b) = bound const_sort (depth i) (const_entry b)
+  const_call_form (const.Placeholder p) = plain (const_label (placeholder_const p)) []
+  const_call_form (const.Unevaluated p args) = plain (const_label (unevaluated_const (ids p)))
+      (args_part args.items ∷ [])
+  const_call_form (const.Value t v) = value_call_form t v
+  const_call_form (const.Error e) = plain (const_label (error_const e.0)) []
+  const_call_form (const.Expr tag args) = plain (const_label (expr_const tag)) (args_part args.items ∷ [])
 
   -- the clauses that can be built, without their binder
   abbrev pub clause_record : ClauseCall → RecordCall
@@ -330,8 +331,8 @@ module _ (ids : ℕ → ℕ) where
       (term_part a ∷ term_part b ∷ [])
 
   -- the predicates that can be built
-  abbrev pub predicate_form : PredicateCall → CallForm
-  predicate_form p = under predicate_label (map variable_kind p.vars.items) (predicate_record p.kind).label
+  abbrev pub predicate_call_form : PredicateCall → CallForm
+  predicate_call_form p = under predicate_label (map variable_kind p.vars.items) (predicate_record p.kind).label
       (predicate_record p.kind).parts
 
 -- clauses as items of a list
@@ -607,7 +608,7 @@ all_trees of_one (x ∷ xs) = also (of_one x) (all_trees of_one xs)
 module _ (ids : ℕ → ℕ) (at : ℕ → Tree Depth) where
   -- the tree of an item
   abbrev pub item_tree : Item → Tree Depth
-  item_tree (a_region r) = region_tree ids r
+  item_tree (a_region r) = region_call_tree ids r
   item_tree (a_term t p) = at p
   item_tree (a_clause p) = at p
 
@@ -633,13 +634,13 @@ module _ (ids : ℕ → ℕ) (at : ℕ → Tree Depth) where
       (declared_trees d.kind)
 
   -- the trees of children, in order
-  abbrev pub parts_trees : List Part → Forest Depth
-  parts_trees [] = none
-  parts_trees (p ∷ ps) = also (part_tree p) (parts_trees ps)
+  abbrev pub call_parts_trees : List Part → Forest Depth
+  call_parts_trees [] = none
+  call_parts_trees (p ∷ ps) = also (part_tree p) (call_parts_trees ps)
 
   -- the tree of the record under a predicate's binder
   abbrev pub record_tree : RecordCall → Tree Depth
-  record_tree r = tree.node (record_label r.label) (parts_trees r.parts)
+  record_tree r = tree.node (record_label r.label) (call_parts_trees r.parts)
 
   -- the tree of an existential predicate
   abbrev pub existential_tree : ExistentialForm → Tree Depth
@@ -657,7 +658,8 @@ module _ (ids : ℕ → ℕ) (at : ℕ → Tree Depth) where
   abbrev pub form_tree : CallForm → Tree Depth
   form_tree (param s i name) = tree.param s i name
   form_tree (bound s d e) = tree.bound s d e
-  form_tree (plain l ps) = tree.term l (parts_trees ps)
-  form_tree (under l vs m ps) = tree.term l (also (tree.binder vs (tree.node (record_label m) (parts_trees ps))) none)
+  form_tree (plain l ps) = tree.term l (call_parts_trees ps)
+  form_tree (under l vs m ps) = tree.term l
+      (also (tree.binder vs (tree.node (record_label m) (call_parts_trees ps))) none)
   form_tree (trait_object xs r) = tree.term (type_label dynamic_type)
-      (also (existentials_tree xs) (also (region_tree ids r) none))
+      (also (existentials_tree xs) (also (region_call_tree ids r) none))

@@ -26,10 +26,11 @@ use Rattle.type_terms.specs.declared.run.call.DeclareCall.{DeclareCall}
 use Rattle.type_terms.specs.declared.run.call.Call.TheVariants as call
 use Rattle.type_terms.specs.CallForm.{CallForm, IsShort, IsOfShortLists, form_tree, Want, of_table, of_clause, as_at}
 use Rattle.type_terms.specs.CallForm.{of_any, with_flags, of_id, of_any_id, Named, arg_items, args_part, args_ids}
-use Rattle.type_terms.specs.CallForm.{ty_ids, const_ids, predicate_ids, ty_form, const_form, pat_form, predicate_form}
-use Rattle.type_terms.specs.CallForm.{declared_sort, declared_ids, declared_positions, declaration_tree, clause_items}
-use Rattle.type_terms.specs.CallForm.{clauses_tree, form_positions, items_positions, part_positions, part_tree}
-use Rattle.type_terms.specs.CallForm.{region_tree, IsFormTooDeep, IsPartTooDeep, AreItemsTooDeep}
+use Rattle.type_terms.specs.CallForm.{ty_ids, const_ids, predicate_ids, ty_call_form, const_call_form, pat_call_form}
+use Rattle.type_terms.specs.CallForm.{predicate_call_form, declared_sort, declared_ids, declared_positions}
+use Rattle.type_terms.specs.CallForm.{declaration_tree, clause_items, clauses_tree, form_positions, items_positions}
+use Rattle.type_terms.specs.CallForm.{part_positions, part_tree, region_call_tree, IsFormTooDeep, IsPartTooDeep}
+use Rattle.type_terms.specs.CallForm.{AreItemsTooDeep}
 use Rattle.type_terms.specs.Told.{Setting, Told, term, declared, truth, info, refused, bad}
 
 -- a term with its table
@@ -105,10 +106,10 @@ id_positions _ = []
 
 -- the positions that a call names
 abbrev pub positions : List Told → Call → List Named
-positions earlier (call.Ty k) = ty_ids k ++ form_positions (ty_form (number_at earlier) k)
-positions earlier (call.Const k) = const_ids k ++ form_positions (const_form (number_at earlier) k)
-positions earlier (call.Pat k) = form_positions (pat_form k)
-positions earlier (call.Predicate k) = predicate_ids k ++ form_positions (predicate_form (number_at earlier) k)
+positions earlier (call.Ty k) = ty_ids k ++ form_positions (ty_call_form (number_at earlier) k)
+positions earlier (call.Const k) = const_ids k ++ form_positions (const_call_form (number_at earlier) k)
+positions earlier (call.Pat k) = form_positions (pat_call_form k)
+positions earlier (call.Predicate k) = predicate_ids k ++ form_positions (predicate_call_form (number_at earlier) k)
 positions earlier (call.Clauses ps) = items_positions (clause_items ps.items)
 positions earlier (call.Args args) = args_ids args.items ++ part_positions (args_part args.items)
 positions earlier (call.Declare d) = declared_ids d.kind ++ declared_positions d.kind
@@ -130,15 +131,15 @@ Suits earlier (of_id s) u = ⊥
 Suits earlier of_any_id u = ⊥
 
 -- the position tells what is wanted there: an id of the sort or of any, or a term
-abbrev pub Tells : List Told → Want → ℕ → Type 0
-Tells earlier (of_id s) p = IsSomeAnd (id_at earlier p) (λ i. i.sort ≡ s)
-Tells earlier of_any_id p = IsSomeAnd (id_at earlier p) (λ i. ⊤)
-Tells earlier w p = IsSomeAnd (term_at earlier p) (Suits earlier w)
+abbrev pub TellsWanted : List Told → Want → ℕ → Type 0
+TellsWanted earlier (of_id s) p = IsSomeAnd (id_at earlier p) (λ i. i.sort ≡ s)
+TellsWanted earlier of_any_id p = IsSomeAnd (id_at earlier p) (λ i. ⊤)
+TellsWanted earlier w p = IsSomeAnd (term_at earlier p) (Suits earlier w)
 
 -- each position tells a term or an id that is wanted there
 abbrev pub AreTerms : List Told → List Named → Type 0
 AreTerms earlier [] = ⊤
-AreTerms earlier (n ∷ ns) = Tells earlier n.want n.position × AreTerms earlier ns
+AreTerms earlier (n ∷ ns) = TellsWanted earlier n.want n.position × AreTerms earlier ns
 
 -- each position that the call names tells a term or an id that is wanted there
 abbrev pub NamesTerms : List Told → Call → Type 0
@@ -146,17 +147,17 @@ NamesTerms earlier c = AreTerms earlier (positions earlier c)
 
 -- a bound index of the call's kind or regions is the greatest
 abbrev pub IsCallTooDeep : List Told → Call → Type 0
-IsCallTooDeep earlier (call.Ty k) = IsFormTooDeep (ty_form (number_at earlier) k)
-IsCallTooDeep earlier (call.Const k) = IsFormTooDeep (const_form (number_at earlier) k)
-IsCallTooDeep earlier (call.Pat k) = IsFormTooDeep (pat_form k)
-IsCallTooDeep earlier (call.Predicate k) = IsFormTooDeep (predicate_form (number_at earlier) k)
+IsCallTooDeep earlier (call.Ty k) = IsFormTooDeep (ty_call_form (number_at earlier) k)
+IsCallTooDeep earlier (call.Const k) = IsFormTooDeep (const_call_form (number_at earlier) k)
+IsCallTooDeep earlier (call.Pat k) = IsFormTooDeep (pat_call_form k)
+IsCallTooDeep earlier (call.Predicate k) = IsFormTooDeep (predicate_call_form (number_at earlier) k)
 IsCallTooDeep earlier (call.Args args) = IsPartTooDeep (args_part args.items)
 IsCallTooDeep earlier (call.Instantiate p args) = AreItemsTooDeep (arg_items args.items)
 IsCallTooDeep earlier _ = ⊥
 
 -- an argument with its tree
 abbrev pub told_argument : List Told → ArgCall → Argument Depth
-told_argument earlier (arg.Lifetime r) = record { sort = region_sort; value = region_tree (number_at earlier) r }
+told_argument earlier (arg.Lifetime r) = record { sort = region_sort; value = region_call_tree (number_at earlier) r }
 told_argument earlier (arg.«Type» p) = record { sort = type_sort; value = tree_at earlier p }
 told_argument earlier (arg.Const p) = record { sort = const_sort; value = tree_at earlier p }
 
@@ -205,11 +206,12 @@ given_table earlier _ = None
 
 -- the term is the one that the call builds, or the result of the fold
 abbrev pub Gives : List Told → Call → Tree Depth → Type 0
-Gives earlier (call.Ty k) t = t ≡ form_tree (number_at earlier) (tree_at earlier) (ty_form (number_at earlier) k)
-Gives earlier (call.Const k) t = t ≡ form_tree (number_at earlier) (tree_at earlier) (const_form (number_at earlier) k)
-Gives earlier (call.Pat k) t = t ≡ form_tree (number_at earlier) (tree_at earlier) (pat_form k)
+Gives earlier (call.Ty k) t = t ≡ form_tree (number_at earlier) (tree_at earlier) (ty_call_form (number_at earlier) k)
+Gives earlier (call.Const k) t = t ≡ form_tree (number_at earlier) (tree_at earlier)
+    (const_call_form (number_at earlier) k)
+Gives earlier (call.Pat k) t = t ≡ form_tree (number_at earlier) (tree_at earlier) (pat_call_form k)
 Gives earlier (call.Predicate k) t = t ≡ form_tree (number_at earlier) (tree_at earlier)
-    (predicate_form (number_at earlier) k)
+    (predicate_call_form (number_at earlier) k)
 Gives earlier (call.Clauses ps) t = t ≡ clauses_tree (number_at earlier) (tree_at earlier) ps.items
 Gives earlier (call.Args args) t = t ≡ part_tree (number_at earlier) (tree_at earlier) (args_part args.items)
 Gives earlier (call.EraseRegions p) t = t ≡ erased (tree_at earlier p)
@@ -252,10 +254,10 @@ IsParameter u = (s : Sort) × (i : ℕ) × IsParameterOf s i u
 -- the call adds nothing: the term that it builds is there, or the term that it folds stays as it is or is itself a
 -- parameter
 abbrev pub AddsNothing : Setting → List Told → Call → Type 0
-AddsNothing s earlier (call.Ty k) = IsThere s earlier Types (ty_form (number_at earlier) k)
-AddsNothing s earlier (call.Const k) = IsThere s earlier Consts (const_form (number_at earlier) k)
-AddsNothing s earlier (call.Pat k) = IsThere s earlier Patterns (pat_form k)
-AddsNothing s earlier (call.Predicate k) = IsThere s earlier Predicates (predicate_form (number_at earlier) k)
+AddsNothing s earlier (call.Ty k) = IsThere s earlier Types (ty_call_form (number_at earlier) k)
+AddsNothing s earlier (call.Const k) = IsThere s earlier Consts (const_call_form (number_at earlier) k)
+AddsNothing s earlier (call.Pat k) = IsThere s earlier Patterns (pat_call_form k)
+AddsNothing s earlier (call.Predicate k) = IsThere s earlier Predicates (predicate_call_form (number_at earlier) k)
 AddsNothing s earlier (call.Clauses ps) =
     (length ps.items ≤ most_in_place) × IsKnown s earlier ClauseLists
     (clauses_tree (number_at earlier) (tree_at earlier) ps.items)

@@ -8,7 +8,7 @@ use Rattle.type_terms.specs.declared.ir_print.layout.Style.{Style}
 use Rattle.type_terms.specs.declared.ir_print.layout.Place.{Place}
 use Rattle.type_terms.specs.declared.ir_print.layout.Place.TheVariants as place
 use Rattle.type_terms.specs.declared.ir_print.pieces.Piece.{Piece}
-use Rattle.type_terms.specs.Text.{before_child, closing, names, child_text, Begins}
+use Rattle.type_terms.specs.Text.{before_child, closing, names, child_text, BeginsText}
 
 -- the text at a place
 abbrev pub place_text : Style → Place → List ℕ
@@ -21,14 +21,14 @@ abbrev mutual
   inner_work (param o i name) = 1
   inner_work (bound o d e) = 1
   inner_work (region r) = 1
-  inner_work (term l ts) = suc (forest_work ts)
-  inner_work (node l ts) = suc (forest_work ts)
+  inner_work (term l ts) = suc (forest_pieces ts)
+  inner_work (node l ts) = suc (forest_pieces ts)
   inner_work (binder vs t) = inner_work t
 
   -- how many pieces the texts of trees are made of
-  pub forest_work : Forest Depth → ℕ
-  forest_work none = 0
-  forest_work (also t ts) = suc (inner_work t) + forest_work ts
+  pub forest_pieces : Forest Depth → ℕ
+  forest_pieces none = 0
+  forest_pieces (also t ts) = suc (inner_work t) + forest_pieces ts
 
 -- how many pieces a child's text is made of, without the piece that is the child
 abbrev pub inner_child_work : Forest Depth → ℕ
@@ -57,7 +57,7 @@ module _ (rows : List Row) where
   ArePieces (p ∷ ps) = ArePieces ps × AreParts (size rows) (child_shapes p.child)
 
   -- pieces with this text, and no more work than this, were added on top of the old ones
-  pub record Adds (old new : List Piece) (added : List ℕ) (work : ℕ) : Type 0 where
+  pub record AddsPieces (old new : List Piece) (added : List ℕ) (work : ℕ) : Type 0 where
     pub text : pieces_text new ≡ added ++ pieces_text old
     pub low : pieces_work new ≤ work + pieces_work old
     pub parts : ArePieces old → ArePieces new
@@ -69,13 +69,13 @@ module _ (rows : List Row) where
     pub parts : ArePieces old → ArePieces new
 
   -- the text was begun; if memory was refused, the old text is still in front
-  pub record Opens {T E : Type 0} (result : Result T E) (a b : List ℕ) (old new : List Piece) (whole : List ℕ)
+  pub record OpensText {T E : Type 0} (result : Result T E) (a b : List ℕ) (old new : List Piece) (whole : List ℕ)
       (work : ℕ) : Type 0 where
     pub opened : OnOk result (Opened a b old new whole work)
-    pub kept : Begins a b
+    pub kept : BeginsText a b
 
   -- what was written, and the pieces that are left, are the whole text behind the old one
   pub record Left (a b : List ℕ) (ps : List Piece) (whole : List ℕ) : Type 0 where
     pub text : b ++ pieces_text ps ≡ a ++ whole
-    pub kept : Begins a b
+    pub kept : BeginsText a b
     pub parts : ArePieces ps

@@ -546,11 +546,11 @@ abbrev pub names : List Row → ℕ → Name
 names rows d = owner_name rows d ++ own_name rows d
 
 -- bytes were added, or none
-pub record Begins (old new : List ℕ) : Type 0 where
+pub record BeginsText (old new : List ℕ) : Type 0 where
   pub rest : List ℕ
   pub is : new ≡ old ++ rest
 
 -- the text was added; if memory for it was refused, the old text is still in front
 pub record Writes {T E : Type 0} (result : Result T E) (old new added : List ℕ) : Type 0 where
   pub written : OnOk result (new ≡ old ++ added)
-  pub kept : Begins old new
+  pub kept : BeginsText old new

@@ -21,7 +21,7 @@ ghost use Rattle.tt_kinds.specs.declared.table.Table.TheVariants.{Symbols, VarLi
 ghost use Rattle.tt_kinds.specs.Handle.{BoundVarKinds};
 ghost use Rattle.tt_interner.specs.Owned.{IsPartBy, tree_by};
 ghost use Rattle.tt_interner.specs.Rows.{meaning, size};
-ghost use Rattle.type_terms.specs.Pieces.{ArePieces, Opens, inner_child_work, inner_work, piece_text, pieces_text};
+ghost use Rattle.type_terms.specs.Pieces.{ArePieces, OpensText, inner_child_work, inner_work, piece_text, pieces_text};
 ghost use Rattle.type_terms.specs.Spelling.{
   IsNamedSubject,
   binder_text,
@@ -306,7 +306,7 @@ fn write_node(
     node: Node,
 ) -> Result<(), AllocError>
     requires { IsPartBy node_shape cx.now.rows node }
-    ensures { Opens
+    ensures { OpensText
         cx.now.rows
         result
         (string_bytes out.old)
@@ -333,7 +333,7 @@ fn write_kind(
     kind: &Kind,
 ) -> Result<(), AllocError>
     requires { HasParts (size cx.now.rows) (kind_shape kind.now) }
-    ensures { (s : Styles) → Opens
+    ensures { (s : Styles) → OpensText
         cx.now.rows
         result
         (string_bytes out.old)
@@ -358,7 +358,7 @@ fn write_piece(
     piece: &Piece,
 ) -> Result<(), AllocError>
     requires { AreParts (size cx.now.rows) (child_shapes piece.now.child) }
-    ensures { Opens
+    ensures { OpensText
         cx.now.rows
         result
         (string_bytes out.old)

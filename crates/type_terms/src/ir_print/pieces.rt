@@ -9,7 +9,7 @@ ghost use Rattle.tt_kinds.specs.Shape.{AreParts, Meaning, fill_all};
 ghost use Rattle.tt_kinds.specs.Tree.{count_trees};
 ghost use Rattle.tt_interner.specs.Owned.{IsPartBy, tree_by};
 ghost use Rattle.tt_interner.specs.Rows.{Row, meaning, size};
-ghost use Rattle.type_terms.specs.Pieces.{Adds, forest_work, inner_work};
+ghost use Rattle.type_terms.specs.Pieces.{AddsPieces, forest_pieces, inner_work};
 ghost use Rattle.type_terms.specs.Text.{are_none, before_child, child_text, closing, names, style_in, text_in, texts};
 
 use super::layout::{Place, Style};
@@ -45,7 +45,7 @@ impl Default for Piece {
 
 // Adds the text after `count` children.
 fn push_end(pieces: &mut Pieces, style: Style, count: usize) -> Result<(), AllocError>
-    ensures { (rows : Items Row) → OnOk result (Adds
+    ensures { (rows : Items Row) → OnOk result (AddsPieces
         rows
         pieces.old.items
         pieces.new.items
@@ -70,7 +70,7 @@ fn push_child(
     last: bool,
 ) -> Result<(), AllocError>
     ensures { (rows : Items Row) → AreParts (size rows) (child_shapes child.now)
-        → OnOk result (Adds
+        → OnOk result (AddsPieces
         rows
         pieces.old.items
         pieces.new.items
@@ -79,7 +79,7 @@ fn push_child(
         (before_child style first last)
         style
         (fill_all (meaning rows) (child_shapes child.now)))
-        (forest_work (fill_all (meaning rows) (child_shapes child.now)))) }
+        (forest_pieces (fill_all (meaning rows) (child_shapes child.now)))) }
 {
     if is_absent(child) {
         return Ok(());
@@ -96,13 +96,13 @@ fn push_child(
 /// Adds the parts of a term, and the text after them. What is written first is added last.
 pub(crate) fn push_parts(pieces: &mut Pieces, style: Style, parts: &Parts) -> Result<(), AllocError>
     ensures { (rows : Items Row) → AreParts (size rows) (parts_shapes parts.now)
-        → OnOk result (Adds
+        → OnOk result (AddsPieces
         rows
         pieces.old.items
         pieces.new.items
         (texts (names rows) style true (fill_all (meaning rows) (parts_shapes parts.now))
         ++ closing style (count_trees (fill_all (meaning rows) (parts_shapes parts.now))))
-        (suc (forest_work (fill_all (meaning rows) (parts_shapes parts.now))))) }
+        (suc (forest_pieces (fill_all (meaning rows) (parts_shapes parts.now))))) }
 {
     push_end(pieces, style, part_count(parts))?;
     let no_first = is_absent(&parts.first);
@@ -120,7 +120,7 @@ pub(crate) fn push_list(
     list: List,
 ) -> Result<(), AllocError>
     requires { IsPartBy list_shape cx.now.rows list }
-    ensures { OnOk result (Adds
+    ensures { OnOk result (AddsPieces
         cx.now.rows
         pieces.old.items
         pieces.new.items

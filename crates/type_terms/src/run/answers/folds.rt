@@ -15,7 +15,7 @@ ghost use Rattle.type_terms.specs.declared.run.call.Call.TheVariants.{
 ghost use Rattle.type_terms.specs.CallForm.{args_ids};
 ghost use Rattle.type_terms.specs.Told.{Told, told_all, AreOwnedAnswers};
 ghost use Rattle.type_terms.specs.Means.{term_at, AreTerms, IsParameter};
-ghost use Rattle.type_terms.specs.Build.{Answers, AreArgumentsOf};
+ghost use Rattle.type_terms.specs.Build.{MayAnswerCall, AreArgumentsOf};
 
 use crate::run::answer::Answer;
 use crate::run::answers::lookup::answer_at;
@@ -53,7 +53,7 @@ pub fn shift_at(
 ) -> Result<Answer, Refusal>
     requires { AreOwnedAnswers cx.old.rows earlier.now }
     ensures extends { Extends cx.old cx.new }
-    ensures answers { Answers cx.old cx.new (told_all cx.old.rows earlier.now) (Shifts position amount) result }
+    ensures answers { MayAnswerCall cx.old cx.new (told_all cx.old.rows earlier.now) (Shifts position amount) result }
 {
     let answer = answer_at(earlier, position)?;
     on_term!(answer, term => shifted(cx, *term, amount))
@@ -65,7 +65,7 @@ fn shifted<T: TermHandle>(cx: &mut Interner, term: T, amount: u32) -> Result<Ans
     ensures extends { Extends cx.old cx.new }
     ensures answers { (earlier : List Told) (p : ℕ)
         → term_at earlier p ≡ Some (record { table = T.table; tree = meaning cx.old.rows T.table (T.number term) })
-        → Answers cx.old cx.new earlier (Shifts p amount) result }
+        → MayAnswerCall cx.old cx.new earlier (Shifts p amount) result }
 {
     let shifted = shift_vars(cx, term, amount)?;
     Ok(shifted.into_answer())
@@ -75,7 +75,7 @@ fn shifted<T: TermHandle>(cx: &mut Interner, term: T, amount: u32) -> Result<Ans
 pub fn erase_at(cx: &mut Interner, earlier: &[Answer], position: u32) -> Result<Answer, Refusal>
     requires { AreOwnedAnswers cx.old.rows earlier.now }
     ensures extends { Extends cx.old cx.new }
-    ensures answers { Answers cx.old cx.new (told_all cx.old.rows earlier.now) (Erases position) result }
+    ensures answers { MayAnswerCall cx.old cx.new (told_all cx.old.rows earlier.now) (Erases position) result }
 {
     let answer = answer_at(earlier, position)?;
     on_term!(answer, term => erased(cx, *term))
@@ -87,7 +87,7 @@ fn erased<T: TermHandle>(cx: &mut Interner, term: T) -> Result<Answer, Refusal>
     ensures extends { Extends cx.old cx.new }
     ensures answers { (earlier : List Told) (p : ℕ) →
         term_at earlier p ≡ Some (record { table = T.table; tree = meaning cx.old.rows T.table (T.number term) }) →
-        Answers cx.old cx.new earlier (Erases p) result }
+        MayAnswerCall cx.old cx.new earlier (Erases p) result }
 {
     let region = Region::new(RegionKind::ReErased)?;
     let erased = fold_regions(cx, term, move |_, _| region)?;
@@ -108,7 +108,7 @@ pub fn instantiate_at(
     ensures answers { (list : Vec ArgCall Global) →
         list.items ≡ args.now →
         AreTerms (told_all cx.old.rows earlier.now) (args_ids list.items) →
-        Answers cx.old cx.new (told_all cx.old.rows earlier.now) (Instantiates position list) result }
+        MayAnswerCall cx.old cx.new (told_all cx.old.rows earlier.now) (Instantiates position list) result }
 {
     let answer = answer_at(earlier, position)?;
     match parameter_of(cx, answer) {
@@ -136,7 +136,7 @@ fn instantiate_term<T: TermHandle>(
         ≡ Some (record { table = T.table; tree = meaning cx.old.rows T.table (T.number term) })
         → list.items ≡ args.now
         → AreTerms (told_all cx.old.rows earlier.now) (args_ids list.items)
-        → Answers cx.old cx.new (told_all cx.old.rows earlier.now) (Instantiates p list) result }
+        → MayAnswerCall cx.old cx.new (told_all cx.old.rows earlier.now) (Instantiates p list) result }
 {
     if is_untouched(cx, &term) {
         check_args(cx, earlier, args)?;
@@ -159,7 +159,7 @@ fn instantiated<T: TermHandle>(
         → term_at earlier p ≡ Some (record { table = T.table; tree = meaning cx.old.rows T.table (T.number term) })
         → AreTerms earlier (args_ids list.items)
         → AreArgumentsOf cx.old earlier list.items args.now
-        → Answers cx.old cx.new earlier (Instantiates p list) result }
+        → MayAnswerCall cx.old cx.new earlier (Instantiates p list) result }
 {
     let instance = EarlyBinder::bind(term).instantiate(cx, args)?;
     Ok(instance.skip_norm_wip().into_answer())

@@ -11,7 +11,7 @@ ghost use Rattle.type_terms.specs.declared.run.call.Call.TheVariants.{Clauses as
 ghost use Rattle.type_terms.specs.CallForm.{clause_items, one, a_clause, items_positions, AreItemsTooDeep, clauses_tree};
 ghost use Rattle.type_terms.specs.Told.{told_all, AreOwnedAnswers, HasFullTable};
 ghost use Rattle.type_terms.specs.Means.{number_at, tree_at};
-ghost use Rattle.type_terms.specs.Build.{IsUnbuiltPart, AreClausesAt, GivesPart, GivesPlaced, Answers};
+ghost use Rattle.type_terms.specs.Build.{IsUnbuiltPart, AreClausesAt, GivesPart, GivesPlaced, MayAnswerCall};
 ghost use Rattle.type_terms.specs.Room.{ClausesNeedRoom};
 
 use crate::run::answer::Answer;
@@ -31,7 +31,7 @@ pub fn build_clauses(
     requires { AreOwnedAnswers cx.old.rows earlier.now }
     ensures extends { Extends cx.old cx.new }
     ensures answers { (list : Vec ℕ Global) → list.items ≡ positions.now
-        → Answers cx.old cx.new (told_all cx.old.rows earlier.now) (BuildsClauses list) result }
+        → MayAnswerCall cx.old cx.new (told_all cx.old.rows earlier.now) (BuildsClauses list) result }
 {
     match clause_list(cx, earlier, positions) {
         Ok(list) => Ok(Answer::Clauses(list)),

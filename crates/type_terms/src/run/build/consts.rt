@@ -13,7 +13,7 @@ ghost use Rattle.type_terms.specs.declared.run.call.Call.TheVariants.{Const as B
 ghost use Rattle.type_terms.specs.CallForm.{
   args_ids,
   const_ids,
-  const_form,
+  const_call_form,
   value_call_form,
   param,
   plain,
@@ -24,7 +24,7 @@ ghost use Rattle.type_terms.specs.CallForm.{
 };
 ghost use Rattle.type_terms.specs.Told.{Told, told_all, AreOwnedAnswers};
 ghost use Rattle.type_terms.specs.Means.{number_at, AreTerms};
-ghost use Rattle.type_terms.specs.Build.{GivesKind, Answers};
+ghost use Rattle.type_terms.specs.Build.{GivesKind, MayAnswerCall};
 ghost use Rattle.type_terms.specs.Room.{FormNeedsRoom};
 
 use crate::run::answer::Answer;
@@ -48,7 +48,7 @@ pub fn build_const(
     requires { AreOwnedAnswers cx.old.rows earlier.now }
     ensures extends { Extends cx.old cx.new }
     ensures answers { AreTerms (told_all cx.old.rows earlier.now) (const_ids call.now)
-        → Answers cx.old cx.new (told_all cx.old.rows earlier.now) (BuildsConst call.now) result }
+        → MayAnswerCall cx.old cx.new (told_all cx.old.rows earlier.now) (BuildsConst call.now) result }
 {
     match const_kind(cx, earlier, call) {
         Ok(kind) => {
@@ -75,7 +75,7 @@ pub fn build_args_answer(
     ensures extends { Extends cx.old cx.new }
     ensures answers { (list : Vec ArgCall Global) → list.items ≡ args.now
         → AreTerms (told_all cx.old.rows earlier.now) (args_ids list.items)
-        → Answers cx.old cx.new (told_all cx.old.rows earlier.now) (BuildsArgs list) result }
+        → MayAnswerCall cx.old cx.new (told_all cx.old.rows earlier.now) (BuildsArgs list) result }
 {
     match build_arg_list(cx, earlier, args) {
         Ok(args) => Ok(Answer::Args(args)),
@@ -93,13 +93,13 @@ fn const_kind(cx: &mut Interner, earlier: &[Answer], call: &ConstCall) -> Result
     ensures extends { Extends cx.old cx.new }
     ensures kind { GivesKind cx.new
         (told_all cx.old.rows earlier.now)
-        (const_form (number_at (told_all cx.old.rows earlier.now)) call.now)
+        (const_call_form (number_at (told_all cx.old.rows earlier.now)) call.now)
         const_kind_shape
         result }
     ensures room { IfErr result
         (FormNeedsRoom cx.new.rows
         (told_all cx.old.rows earlier.now)
-        (const_form (number_at (told_all cx.old.rows earlier.now)) call.now)) }
+        (const_call_form (number_at (told_all cx.old.rows earlier.now)) call.now)) }
 {
     match call {
         ConstCall::Param { index, name } => param_kind(cx, *index, name.as_str()),

@@ -17,7 +17,7 @@ ghost use Rattle.type_terms.specs.CallForm.{
 };
 ghost use Rattle.type_terms.specs.Told.{told_all, AreOwnedAnswers};
 ghost use Rattle.type_terms.specs.Means.{number_at, AreTerms};
-ghost use Rattle.type_terms.specs.Build.{Answers, GivesDeclared, GivesSig};
+ghost use Rattle.type_terms.specs.Build.{MayAnswerCall, GivesDeclared, GivesSig};
 
 use crate::run::answer::Answer;
 use crate::run::answers::lookup::declared_at;
@@ -39,7 +39,7 @@ pub fn declare_at(
     requires owned { AreOwnedAnswers cx.old.rows earlier.now }
     requires ids { AreTerms (told_all cx.old.rows earlier.now) (declared_ids call.now.kind) }
     ensures extends { Extends cx.old cx.new }
-    ensures answers { Answers cx.old cx.new (told_all cx.old.rows earlier.now) (Declares call.now) result }
+    ensures answers { MayAnswerCall cx.old cx.new (told_all cx.old.rows earlier.now) (Declares call.now) result }
 {
     let kind = declared_kind(cx, earlier, &call.kind)?;
     let name = cx.symbol(call.name.as_str())?;

@@ -6,7 +6,7 @@ ghost use Rattle.tt_kinds.specs.Kinds.{existential_form as form_of_existential};
 ghost use Rattle.tt_kinds.specs.Kinds.{ty_kind_shape, existential_shape, existentials_shape};
 ghost use Rattle.tt_interner.specs.Stored.{Extends};
 ghost use Rattle.type_terms.specs.CallForm.{
-  existential_form,
+  existential_call_form,
   existential_record,
   existential_tree,
   existentials_tree,
@@ -47,7 +47,7 @@ pub fn dynamic_kind(
     ensures kind { GivesKind cx.new
         (told_all cx.old.rows earlier.now)
         (trait_object
-        (map (existential_form (number_at (told_all cx.old.rows earlier.now))) existentials.now)
+        (map (existential_call_form (number_at (told_all cx.old.rows earlier.now))) existentials.now)
         region.now)
         ty_kind_shape
         result }
@@ -55,7 +55,7 @@ pub fn dynamic_kind(
         (FormNeedsRoom cx.new.rows
         (told_all cx.old.rows earlier.now)
         (trait_object
-        (map (existential_form (number_at (told_all cx.old.rows earlier.now))) existentials.now)
+        (map (existential_call_form (number_at (told_all cx.old.rows earlier.now))) existentials.now)
         region.now)) }
 {
     let existentials = build_existentials(cx, earlier, existentials)?;
@@ -72,7 +72,7 @@ fn build_existentials(
     requires { AreOwnedAnswers cx.old.rows earlier.now }
     ensures extends { Extends cx.old cx.new }
     ensures list { let e = told_all cx.old.rows earlier.now in let forms = map
-        (existential_form (number_at e))
+        (existential_call_form (number_at e))
         calls.now
         in
         GivesPlaced cx.new e
@@ -84,7 +84,7 @@ fn build_existentials(
     ensures room { IfErr result
         (ExistentialsNeedRoom cx.new.rows
         (told_all cx.old.rows earlier.now)
-        (map (existential_form (number_at (told_all cx.old.rows earlier.now))) calls.now)) }
+        (map (existential_call_form (number_at (told_all cx.old.rows earlier.now))) calls.now)) }
 {
     if calls.len() <= MOST_IN_PLACE {
         let mut places = [PolyExistentialPredicate::from_number(0); MOST_IN_PLACE];
@@ -110,7 +110,7 @@ fn fill_existentials(
     requires few { length calls.now ≤ length places.old }
     ensures extends { Extends cx.old cx.new }
     ensures existentials { let e = told_all cx.old.rows earlier.now in let forms = map
-        (existential_form (number_at e))
+        (existential_call_form (number_at e))
         calls.now
         in
         FillsPlaced cx.new e
@@ -122,7 +122,7 @@ fn fill_existentials(
     ensures room { IfErr result
         (ExistentialsNeedRoom cx.new.rows
         (told_all cx.old.rows earlier.now)
-        (map (existential_form (number_at (told_all cx.old.rows earlier.now))) calls.now)) }
+        (map (existential_call_form (number_at (told_all cx.old.rows earlier.now))) calls.now)) }
 {
     for (i, call) in calls.iter().enumerate() {
         places[i] = build_existential(cx, earlier, call)?;
@@ -138,7 +138,7 @@ fn build_existential(
 ) -> Result<PolyExistentialPredicate, Refusal>
     requires { AreOwnedAnswers cx.old.rows earlier.now }
     ensures extends { Extends cx.old cx.new }
-    ensures existential { let e = told_all cx.old.rows earlier.now in let form = existential_form
+    ensures existential { let e = told_all cx.old.rows earlier.now in let form = existential_call_form
         (number_at e)
         call.now
         in
@@ -151,7 +151,7 @@ fn build_existential(
     ensures room { IfErr result
         (ExistentialNeedsRoom cx.new.rows
         (told_all cx.old.rows earlier.now)
-        (existential_form (number_at (told_all cx.old.rows earlier.now)) call.now)) }
+        (existential_call_form (number_at (told_all cx.old.rows earlier.now)) call.now)) }
 {
     let kind = existential_kind(cx, earlier, &call.kind)?;
     let vars = build_vars(cx, earlier, call.vars.as_slice())?;

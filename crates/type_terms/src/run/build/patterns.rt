@@ -4,9 +4,9 @@ ghost use Rattle.std.specs.Prelude.{IfErr};
 ghost use Rattle.tt_kinds.specs.Kinds.{pattern_kind_shape};
 ghost use Rattle.tt_interner.specs.Stored.{Extends};
 ghost use Rattle.type_terms.specs.declared.run.call.Call.TheVariants.{Pat as BuildsPat};
-ghost use Rattle.type_terms.specs.CallForm.{pat_form};
+ghost use Rattle.type_terms.specs.CallForm.{pat_call_form};
 ghost use Rattle.type_terms.specs.Told.{told_all, AreOwnedAnswers};
-ghost use Rattle.type_terms.specs.Build.{GivesKind, Answers};
+ghost use Rattle.type_terms.specs.Build.{GivesKind, MayAnswerCall};
 ghost use Rattle.type_terms.specs.Room.{FormNeedsRoom};
 
 use crate::run::answer::Answer;
@@ -21,7 +21,7 @@ use tt_kinds::{Const, PatternKind};
 pub fn build_pat(cx: &mut Interner, earlier: &[Answer], call: &PatCall) -> Result<Answer, Refusal>
     requires { AreOwnedAnswers cx.old.rows earlier.now }
     ensures extends { Extends cx.old cx.new }
-    ensures answers { Answers cx.old cx.new (told_all cx.old.rows earlier.now) (BuildsPat call.now) result }
+    ensures answers { MayAnswerCall cx.old cx.new (told_all cx.old.rows earlier.now) (BuildsPat call.now) result }
 {
     match pattern_kind(cx, earlier, call) {
         Ok(kind) => {
@@ -45,8 +45,13 @@ fn pattern_kind(
 ) -> Result<PatternKind, Refusal>
     requires { AreOwnedAnswers cx.old.rows earlier.now }
     ensures extends { Extends cx.old cx.new }
-    ensures kind { GivesKind cx.new (told_all cx.old.rows earlier.now) (pat_form call.now) pattern_kind_shape result }
-    ensures room { IfErr result (FormNeedsRoom cx.new.rows (told_all cx.old.rows earlier.now) (pat_form call.now)) }
+    ensures kind { GivesKind cx.new
+        (told_all cx.old.rows earlier.now)
+        (pat_call_form call.now)
+        pattern_kind_shape
+        result }
+    ensures room { IfErr result
+        (FormNeedsRoom cx.new.rows (told_all cx.old.rows earlier.now) (pat_call_form call.now)) }
 {
     match call {
         PatCall::Range { start, end } => {

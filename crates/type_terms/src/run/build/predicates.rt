@@ -21,7 +21,7 @@ ghost use Rattle.tt_interner.specs.Stored.{Terms, Extends};
 ghost use Rattle.type_terms.specs.declared.run.call.Call.TheVariants.{Predicate as BuildsPredicate};
 ghost use Rattle.type_terms.specs.CallForm.{
   predicate_ids,
-  predicate_form,
+  predicate_call_form,
   predicate_record,
   clause_record,
   labelled_parts,
@@ -33,7 +33,7 @@ ghost use Rattle.type_terms.specs.CallForm.{
 };
 ghost use Rattle.type_terms.specs.Told.{Told, told_all, AreOwnedAnswers};
 ghost use Rattle.type_terms.specs.Means.{number_at, AreTerms};
-ghost use Rattle.type_terms.specs.Build.{GivesPart, GivesParts, GivesRecord, GivesKind, Answers};
+ghost use Rattle.type_terms.specs.Build.{GivesPart, GivesParts, GivesRecord, GivesKind, MayAnswerCall};
 ghost use Rattle.type_terms.specs.Room.{PartNeedsRoom, RecordNeedsRoom, FormNeedsRoom};
 
 use crate::run::answer::Answer;
@@ -61,7 +61,7 @@ pub fn build_predicate(
     requires { AreOwnedAnswers cx.old.rows earlier.now }
     ensures extends { Extends cx.old cx.new }
     ensures answers { AreTerms (told_all cx.old.rows earlier.now) (predicate_ids call.now)
-        → Answers cx.old cx.new (told_all cx.old.rows earlier.now) (BuildsPredicate call.now) result }
+        → MayAnswerCall cx.old cx.new (told_all cx.old.rows earlier.now) (BuildsPredicate call.now) result }
 {
     match bound_kind(cx, earlier, call) {
         Ok(kind) => {
@@ -87,13 +87,13 @@ fn bound_kind(
     ensures extends { Extends cx.old cx.new }
     ensures kind { GivesKind cx.new
         (told_all cx.old.rows earlier.now)
-        (predicate_form (number_at (told_all cx.old.rows earlier.now)) call.now)
+        (predicate_call_form (number_at (told_all cx.old.rows earlier.now)) call.now)
         predicate_kind_shape
         result }
     ensures room { IfErr result
         (FormNeedsRoom cx.new.rows
         (told_all cx.old.rows earlier.now)
-        (predicate_form (number_at (told_all cx.old.rows earlier.now)) call.now)) }
+        (predicate_call_form (number_at (told_all cx.old.rows earlier.now)) call.now)) }
 {
     match predicate_kind(cx, earlier, &call.kind) {
         Ok(kind) => {

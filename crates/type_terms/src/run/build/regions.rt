@@ -20,8 +20,8 @@ ghost use Rattle.type_terms.specs.CallForm.{
   called,
   ty_called,
   variable_kind,
-  region_entry,
-  region_tree,
+  region_call_entry,
+  region_call_tree,
   IsRegionTooDeep,
 };
 ghost use Rattle.type_terms.specs.Told.{told_all};
@@ -158,7 +158,7 @@ pub fn build_region(
 ) -> Result<Region, Refusal>
     ensures extends { Extends cx.old cx.new }
     ensures region { (rows : List Row) → GivesRegion cx.new
-        (region_tree (number_at (told_all rows earlier.now)) call.now)
+        (region_call_tree (number_at (told_all rows earlier.now)) call.now)
         (IsRegionTooDeep call.now)
         result }
     ensures room { IfErr result (λ e. IsRefusalForRoom e → LacksText cx.new.rows (region_text call.now)) }
@@ -238,7 +238,7 @@ fn build_bound(
 ) -> Result<Region, Refusal>
     ensures extends { Extends cx.old cx.new }
     ensures region { (rows : List Row) → GivesRegion cx.new
-        (tree.bound region_sort (depth index) (region_entry (number_at (told_all rows earlier.now)) var name.now))
+        (tree.bound region_sort (depth index) (region_call_entry (number_at (told_all rows earlier.now)) var name.now))
         (IsGreatest (depth index))
         result }
     ensures room { IfErr result (λ e. IsRefusalForRoom e → LacksText cx.new.rows (name_text name.now)) }

@@ -26,8 +26,8 @@ ghost use Rattle.type_terms.specs.declared.run.call.Call.TheVariants.{Ty as Buil
 ghost use Rattle.type_terms.specs.CallForm.{
   region_text,
   ty_ids,
-  ty_form,
-  alias_of,
+  ty_call_form,
+  alias_call_kind,
   param,
   plain,
   under,
@@ -45,7 +45,7 @@ ghost use Rattle.type_terms.specs.Told.{Told, told_all, AreOwnedAnswers};
 ghost use Rattle.type_terms.specs.Means.{number_at, AreTerms};
 ghost use Rattle.type_terms.specs.Build.{
   GivesKind,
-  Answers,
+  MayAnswerCall,
 };
 ghost use Rattle.type_terms.specs.Room.{IsRefusalForRoom, LacksText, FormNeedsRoom};
 
@@ -73,7 +73,7 @@ pub fn build_ty(cx: &mut Interner, earlier: &[Answer], call: &TyCall) -> Result<
     requires { AreOwnedAnswers cx.old.rows earlier.now }
     ensures extends { Extends cx.old cx.new }
     ensures answers { AreTerms (told_all cx.old.rows earlier.now) (ty_ids call.now)
-        → Answers cx.old cx.new (told_all cx.old.rows earlier.now) (BuildsTy call.now) result }
+        → MayAnswerCall cx.old cx.new (told_all cx.old.rows earlier.now) (BuildsTy call.now) result }
 {
     match ty_kind(cx, earlier, call) {
         Ok(kind) => {
@@ -95,13 +95,13 @@ fn ty_kind(cx: &mut Interner, earlier: &[Answer], call: &TyCall) -> Result<TyKin
     ensures extends { Extends cx.old cx.new }
     ensures kind { GivesKind cx.new
         (told_all cx.old.rows earlier.now)
-        (ty_form (number_at (told_all cx.old.rows earlier.now)) call.now)
+        (ty_call_form (number_at (told_all cx.old.rows earlier.now)) call.now)
         ty_kind_shape
         result }
     ensures room { IfErr result
         (FormNeedsRoom cx.new.rows
         (told_all cx.old.rows earlier.now)
-        (ty_form (number_at (told_all cx.old.rows earlier.now)) call.now)) }
+        (ty_call_form (number_at (told_all cx.old.rows earlier.now)) call.now)) }
 {
     match call {
         TyCall::Bool => Ok(TyKind::Bool),
@@ -341,7 +341,7 @@ fn type_of_item(earlier: &[Answer], item: ItemCall, args: GenericArgs) -> TyKind
 
 // Returns the kind of the alias.
 fn alias_kind(earlier: &[Answer], alias: AliasCall) -> AliasTyKind
-    ensures { (rows : List Row) → result ≡ alias_of (number_at (told_all rows earlier.now)) alias }
+    ensures { (rows : List Row) → result ≡ alias_call_kind (number_at (told_all rows earlier.now)) alias }
 {
     match alias {
         AliasCall::Projection(position) => AliasTyKind::Projection {

@@ -4,16 +4,16 @@ use Rattle.tt_kinds.specs.Kinds.{children_shapes}
 use Rattle.tt_interner.specs.Rows.{meaning}
 use Rattle.tt_interner.specs.Children.{children_at}
 use Rattle.type_terms.specs.Text.{closing, names, texts}
-use Rattle.type_terms.specs.Pieces.{Adds, forest_work}
+use Rattle.type_terms.specs.Pieces.{AddsPieces, forest_pieces}
 use Rattle.type_terms.proofs.ir_print.pieces.push_list.Given as goal
 
 abbrev pub invariant-items : goal.invariant-items
 invariant-items l = record {
   within : l.index ≤ length (children_at l.cx.rows l.list);
-  adds : Adds l.cx.rows l.fn.pieces.items l.pieces.items
+  adds : AddsPieces l.cx.rows l.fn.pieces.items l.pieces.items
       (texts (names l.cx.rows) l.items (l.index == 0) (fill_all (meaning l.cx.rows) (children_shapes (drop l.index (children_at l.cx.rows l.list))))
       ++ closing l.items l.count)
-      (suc (forest_work (fill_all (meaning l.cx.rows) (children_shapes (drop l.index (children_at l.cx.rows l.list))))));
+      (suc (forest_pieces (fill_all (meaning l.cx.rows) (children_shapes (drop l.index (children_at l.cx.rows l.list))))));
 }
 
 abbrev pub decreases-items : goal.decreases-items

@@ -9,7 +9,7 @@ use Rattle.type_terms.specs.Told.{told_all, HasFullTable, setting}
 use Rattle.type_terms.specs.Means.{Term, IsUntouchedTerm, IsParameter}
 use Rattle.type_terms.specs.Build.{AreArgumentsOf, IsUnbuiltPart, IsUnusable, IsUsable}
 use Rattle.type_terms.proofs.PartLaws.{AreTerms-second}
-use Rattle.type_terms.proofs.BuildLaws.{answer-passed, unbuilt-refused, Answers-earlier}
+use Rattle.type_terms.proofs.BuildLaws.{answer-passed, unbuilt-refused, MayAnswerCall-earlier}
 use Rattle.type_terms.proofs.LookupLaws.{told-later}
 use Rattle.type_terms.proofs.FoldLaws.{inst-adds, unusable-refused, untouched-allowed}
 use Rattle.type_terms.proofs.run.answers.folds.instantiate_term.Goals as goal
@@ -67,7 +67,7 @@ pub returns-clause-answers : goal.returns-clause-answers
 returns-clause-answers g c = λ p list at same ids.
     let e = told_all c.args.cx.now.rows c.args.earlier.now in
     let k = subst (λ (cs : List ArgCall). AreArgumentsOf c.build_args.new.cx e cs c.in_ok-args.args.items) (sym same) c.in_ok-args.ensures.args.ok in
-    Answers-earlier c.args.cx.now c.build_args.new.cx c.instantiated.new.cx e (call.Instantiate p list) c.instantiated.result c.build_args.ensures.extends
+    MayAnswerCall-earlier c.args.cx.now c.build_args.new.cx c.instantiated.new.cx e (call.Instantiate p list) c.instantiated.result c.build_args.ensures.extends
     (c.instantiated.ensures.answers e p list
     (told-later c.args.cx.now c.build_args.new.cx e p g.T.TermHandle.table (g.T.TermHandle.number c.args.term) at c.build_args.ensures.extends c.requires.term)
     ids (rw (c.as_slice.ensures.value) k))

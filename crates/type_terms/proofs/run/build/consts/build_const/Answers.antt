@@ -4,7 +4,7 @@ use Rattle.tt_interner.specs.Rows.{const_row}
 use Rattle.tt_interner.proofs.Growth.{Extends-trans}
 use Rattle.type_terms.specs.declared.run.answer.Answer.TheVariants as answer
 use Rattle.type_terms.specs.declared.run.call.Call.TheVariants as call
-use Rattle.type_terms.specs.CallForm.{const_ids, const_form, form_positions, IsFormTooDeep}
+use Rattle.type_terms.specs.CallForm.{const_ids, const_call_form, form_positions, IsFormTooDeep}
 use Rattle.type_terms.specs.Told.{told_all, setting}
 use Rattle.type_terms.specs.Means.{number_at}
 use Rattle.type_terms.proofs.PartLaws.{AreTerms-append, AreTerms-second}
@@ -18,7 +18,7 @@ returns-in_err-constant-in-Ok-clause-extends c = Extends-trans c.const_kind.ensu
 pub returns-in_err-constant-in-Ok-clause-answers : goal.returns-in_err-constant-in-Ok-clause-answers
 returns-in_err-constant-in-Ok-clause-answers c = λ ids.
     let e = told_all c.args.cx.now.rows c.args.earlier.now in
-    let form = const_form (number_at e) c.args.call.now in
+    let form = const_call_form (number_at e) c.args.call.now in
     answer-passed c.args.cx.now c.mk_const.new.self e (call.Const c.args.call.now) c.from_residual.result c.in_err-constant-in-Ok.field-0.0 c.from_residual.ensures.1
     (kind-refused c.args.cx.now c.const_kind.new.cx c.mk_const.new.self e (call.Const c.args.call.now) form (const_row c.in-Ok.kind) c.in-Ok.ensures.kind.ok
     (λ h. h.number) c.in_err-constant-in-Ok.field-0.0 c.in_err-constant-in-Ok.ensures tt
@@ -30,7 +30,7 @@ returns-in_ok-constant-in-Ok-clause-extends c = Extends-trans c.const_kind.ensur
 pub returns-in_ok-constant-in-Ok-clause-answers : goal.returns-in_ok-constant-in-Ok-clause-answers
 returns-in_ok-constant-in-Ok-clause-answers c = λ ids.
     let e = told_all c.args.cx.now.rows c.args.earlier.now in
-    let form = const_form (number_at e) c.args.call.now in
+    let form = const_call_form (number_at e) c.args.call.now in
     record {
       owned = c.in_ok-constant-in-Ok.ensures.in_range;
       ok = kind-allowed c.args.cx.now c.const_kind.new.cx c.mk_const.new.self e (call.Const c.args.call.now) form (const_row c.in-Ok.kind) c.in-Ok.ensures.kind.ok
@@ -41,7 +41,7 @@ returns-in_ok-constant-in-Ok-clause-answers c = λ ids.
 pub returns-in-Err-clause-answers : goal.returns-in-Err-clause-answers
 returns-in-Err-clause-answers c = λ ids.
     let e = told_all c.args.cx.now.rows c.args.earlier.now in
-    let form = const_form (number_at e) c.args.call.now in
+    let form = const_call_form (number_at e) c.args.call.now in
     record {
       owned = tt;
       ok = tt;

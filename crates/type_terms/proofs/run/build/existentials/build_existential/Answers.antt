@@ -4,8 +4,8 @@ use Rattle.tt_kinds.specs.Kinds.{record_shape, existential_shape}
 use Rattle.tt_kinds.specs.Kinds as kinds
 use Rattle.tt_interner.specs.Rows.{existential_row}
 use Rattle.tt_interner.proofs.Growth.{Extends-trans}
-use Rattle.type_terms.specs.CallForm.{existential_form, existential_record, existential_tree, existential_positions}
-use Rattle.type_terms.specs.CallForm.{IsExistentialTooDeep, under}
+use Rattle.type_terms.specs.CallForm.{existential_call_form, existential_record, existential_tree}
+use Rattle.type_terms.specs.CallForm.{existential_positions, IsExistentialTooDeep, under}
 use Rattle.type_terms.specs.Told.{told_all, HasFullTable}
 use Rattle.type_terms.specs.Means.{number_at, tree_at}
 use Rattle.std.proofs.Common.{map}
@@ -20,7 +20,7 @@ use Rattle.type_terms.proofs.run.build.existentials.build_existential.Goals as g
 pub returns-in_err-kind-clause-existential : goal.returns-in_err-kind-clause-existential
 returns-in_err-kind-clause-existential c =
     let e = told_all c.args.cx.now.rows c.args.earlier.now in
-    let form = existential_form (number_at e) c.args.call.now in
+    let form = existential_call_form (number_at e) c.args.call.now in
     placed-passed c.existential_kind.new.cx e (existential_tree (number_at e) (tree_at e) form) (existential_positions form) (IsExistentialTooDeep form) existential_shape c.from_residual.result c.in_err-kind.field-0.0 c.from_residual.ensures.1
     c.in_err-kind.ensures.kind.err
 
@@ -30,7 +30,7 @@ returns-in_err-vars-clause-extends c = Extends-trans c.existential_kind.ensures.
 pub returns-in_err-vars-clause-existential : goal.returns-in_err-vars-clause-existential
 returns-in_err-vars-clause-existential c =
     let e = told_all c.args.cx.now.rows c.args.earlier.now in
-    let form = existential_form (number_at e) c.args.call.now in
+    let form = existential_call_form (number_at e) c.args.call.now in
     placed-passed c.build_vars.new.cx e (existential_tree (number_at e) (tree_at e) form) (existential_positions form) (IsExistentialTooDeep form) existential_shape c.from_residual-in_err-vars.result c.in_err-vars.field-0.0 c.from_residual-in_err-vars.ensures.1
     (unbuilt-always (HasFullTable c.build_vars.new.cx) e (existential_positions form) (IsExistentialTooDeep form) c.in_err-vars.field-0.0 (c.in_err-vars.ensures.vars c.args.cx.now.rows).err)
 

@@ -8,7 +8,7 @@ use Rattle.tt_kinds.specs.declared.table.Table.TheVariants.{ExistentialLists}
 use Rattle.tt_interner.specs.Rows.{existentials_row}
 use Rattle.tt_interner.proofs.Growth.{Extends-refl, Extends-trans}
 use Rattle.type_terms.specs.declared.run.call.ExistentialCall.{ExistentialCall}
-use Rattle.type_terms.specs.CallForm.{existential_form, existential_tree, existentials_tree, existential_positions}
+use Rattle.type_terms.specs.CallForm.{existential_call_form, existential_tree, existentials_tree, existential_positions}
 use Rattle.type_terms.specs.CallForm.{IsExistentialTooDeep, all_trees, all_positions, AnyIsDeep}
 use Rattle.type_terms.specs.Told.{told_all, HasFullTable}
 use Rattle.type_terms.specs.Means.{number_at, tree_at}
@@ -36,11 +36,11 @@ returns-in_err-existential-clause-list c =
     let inside : c.loop-call.call-index < length c.args.calls.now = omega arith in
     let here = slice_get_read c.args.calls.now (length c.args.calls.now) c.loop-call.call-index c.call-item.result refl inside c.call-item.is in
     let e = told_all c.args.cx.now.rows c.args.earlier.now in
-    let forms = map (existential_form (number_at e)) c.args.calls.now in
+    let forms = map (existential_call_form (number_at e)) c.args.calls.now in
     placed-passed c.build_existential.new.cx e (existentials_tree (number_at e) (tree_at e) forms) (all_positions existential_positions forms) (AnyIsDeep IsExistentialTooDeep forms) existentials_shape
     c.from_residual-in_err-existential.result c.in_err-existential.field-0.0 c.from_residual-in_err-existential.ensures.1
-    (unbuilt-one existential_tree existential_positions IsExistentialTooDeep existential_shape (HasFullTable c.build_existential.new.cx) e forms c.loop-call.call-index (existential_form (number_at (told_all c.args.cx.now.rows c.args.earlier.now)) c.call-item.result) c.in_err-existential.field-0.0
-    (get-mapped (existential_form (number_at e)) c.args.calls.now c.loop-call.call-index c.call-item.result here) (rw (← same) c.in_err-existential.ensures.existential.err))
+    (unbuilt-one existential_tree existential_positions IsExistentialTooDeep existential_shape (HasFullTable c.build_existential.new.cx) e forms c.loop-call.call-index (existential_call_form (number_at (told_all c.args.cx.now.rows c.args.earlier.now)) c.call-item.result) c.in_err-existential.field-0.0
+    (get-mapped (existential_call_form (number_at e)) c.args.calls.now c.loop-call.call-index c.call-item.result here) (rw (← same) c.in_err-existential.ensures.existential.err))
 
 pub returns-in_err-push-clause-extends : goal.returns-in_err-push-clause-extends
 returns-in_err-push-clause-extends c = Extends-trans c.loop-call.invariant.0 c.build_existential.ensures.extends
@@ -50,8 +50,8 @@ loop-call-preserved c =
     let same = told_all-grows c.args.cx.now.rows c.loop-call.cx.rows c.loop-call.invariant.0.rows c.args.earlier.now c.requires in
     let inside : c.loop-call.call-index < length c.args.calls.now = omega arith in (
       Extends-trans c.loop-call.invariant.0 c.build_existential.ensures.extends,
-      rw (take_more c.args.calls.now c.loop-call.call-index c.call-item.result inside, ← c.call-item.is, c.in_ok-push.ensures.items, map-append (existential_form (number_at (told_all c.args.cx.now.rows c.args.earlier.now))) _ (c.call-item.result ∷ []))
-          (all-more existential_tree existential_positions IsExistentialTooDeep existential_shape c.build_existential.new.cx (told_all c.args.cx.now.rows c.args.earlier.now) _ _ (existential_form (number_at (told_all c.args.cx.now.rows c.args.earlier.now)) c.call-item.result) c.in_ok-existential.existential
+      rw (take_more c.args.calls.now c.loop-call.call-index c.call-item.result inside, ← c.call-item.is, c.in_ok-push.ensures.items, map-append (existential_call_form (number_at (told_all c.args.cx.now.rows c.args.earlier.now))) _ (c.call-item.result ∷ []))
+          (all-more existential_tree existential_positions IsExistentialTooDeep existential_shape c.build_existential.new.cx (told_all c.args.cx.now.rows c.args.earlier.now) _ _ (existential_call_form (number_at (told_all c.args.cx.now.rows c.args.earlier.now)) c.call-item.result) c.in_ok-existential.existential
           (all_placed-grow c.loop-call.cx c.build_existential.new.cx c.build_existential.ensures.extends c.loop-call.invariant.1) (rw (← same) c.in_ok-existential.ensures.existential.ok)),
     )
 
@@ -65,9 +65,9 @@ pub returns-clause-list : goal.returns-clause-list
 returns-clause-list c =
     let ended : length c.args.calls.now ≤ c.loop-call.call-index = omega arith in
     let e = told_all c.args.cx.now.rows c.args.earlier.now in
-    let forms = map (existential_form (number_at e)) c.args.calls.now in
-    let placed = subst (λ (cs : List ExistentialCall). ArePlaced c.loop-call.cx e (all_trees (existential_tree (number_at e) (tree_at e)) (map (existential_form (number_at e)) cs)) (all_positions existential_positions (map (existential_form (number_at e)) cs))
-    (AnyIsDeep IsExistentialTooDeep (map (existential_form (number_at e)) cs)) (item_shapes existential_shape c.loop-call.built.items)) (take_all c.loop-call.call-index c.args.calls.now ended) c.loop-call.invariant.1 in
+    let forms = map (existential_call_form (number_at e)) c.args.calls.now in
+    let placed = subst (λ (cs : List ExistentialCall). ArePlaced c.loop-call.cx e (all_trees (existential_tree (number_at e) (tree_at e)) (map (existential_call_form (number_at e)) cs)) (all_positions existential_positions (map (existential_call_form (number_at e)) cs))
+    (AnyIsDeep IsExistentialTooDeep (map (existential_call_form (number_at e)) cs)) (item_shapes existential_shape c.loop-call.built.items)) (take_all c.loop-call.call-index c.args.calls.now ended) c.loop-call.invariant.1 in
     list-placed (λ l. l.number) c.loop-call.cx c.mk_existential_list-2.new.self e ExistentialLists (all_trees (existential_tree (number_at e) (tree_at e)) forms) (all_positions existential_positions forms) (AnyIsDeep IsExistentialTooDeep forms)
     (item_shapes existential_shape c.loop-call.built.items) (existentials_row c.loop-call.built.items) c.mk_existential_list-2.result placed refl refl (rw (← c.as_slice.ensures.value) c.mk_existential_list-2.ensures)
 
@@ -77,7 +77,7 @@ mk_existential_list-requires c = c.in_ok-fill_existentials.ensures.existentials.
 pub returns-in_err-fill_existentials-clause-list : goal.returns-in_err-fill_existentials-clause-list
 returns-in_err-fill_existentials-clause-list c =
     let e = told_all c.args.cx.now.rows c.args.earlier.now in
-    let forms = map (existential_form (number_at e)) c.args.calls.now in
+    let forms = map (existential_call_form (number_at e)) c.args.calls.now in
     placed-passed c.fill_existentials.new.cx e (existentials_tree (number_at e) (tree_at e) forms) (all_positions existential_positions forms) (AnyIsDeep IsExistentialTooDeep forms) existentials_shape
     c.from_residual.result c.in_err-fill_existentials.field-0.0 c.from_residual.ensures.1 c.in_err-fill_existentials.ensures.existentials.err
 
@@ -91,7 +91,7 @@ returns-then-calls-le-MOST_IN_PLACE-clause-extends c = Extends-trans c.fill_exis
 pub returns-then-calls-le-MOST_IN_PLACE-clause-list : goal.returns-then-calls-le-MOST_IN_PLACE-clause-list
 returns-then-calls-le-MOST_IN_PLACE-clause-list c =
     let e = told_all c.args.cx.now.rows c.args.earlier.now in
-    let forms = map (existential_form (number_at e)) c.args.calls.now in
+    let forms = map (existential_call_form (number_at e)) c.args.calls.now in
     let few = take (length c.args.calls.now) c.fill_existentials.new.places in
     list-placed (λ l. l.number) c.fill_existentials.new.cx c.mk_existential_list.new.self e ExistentialLists (all_trees (existential_tree (number_at e) (tree_at e)) forms) (all_positions existential_positions forms) (AnyIsDeep IsExistentialTooDeep forms)
     (item_shapes existential_shape few) (existentials_row few) c.mk_existential_list.result c.in_ok-fill_existentials.ensures.existentials.ok refl refl c.mk_existential_list.ensures
@@ -99,7 +99,7 @@ returns-then-calls-le-MOST_IN_PLACE-clause-list c =
 pub returns-then-calls-le-MOST_IN_PLACE-clause-room : goal.returns-then-calls-le-MOST_IN_PLACE-clause-room
 returns-then-calls-le-MOST_IN_PLACE-clause-room c =
     let e = told_all c.args.cx.now.rows c.args.earlier.now in
-    let forms = map (existential_form (number_at e)) c.args.calls.now in
+    let forms = map (existential_call_form (number_at e)) c.args.calls.now in
     let few = take (length c.args.calls.now) c.fill_existentials.new.places in
     existentials-room (λ l. l.number) c.fill_existentials.new.cx c.mk_existential_list.new.self e forms (all_positions existential_positions forms) (AnyIsDeep IsExistentialTooDeep forms) few
     c.mk_existential_list.result c.in_ok-fill_existentials.ensures.existentials.ok c.mk_existential_list.ensures
@@ -107,19 +107,19 @@ returns-then-calls-le-MOST_IN_PLACE-clause-room c =
 pub returns-in_err-built-clause-room : goal.returns-in_err-built-clause-room
 returns-in_err-built-clause-room c =
     let e = told_all c.args.cx.now.rows c.args.earlier.now in
-    long-existentials-room (existential_form (number_at e)) c.args.cx.now.rows e c.args.calls.now c.from_residual-in_err-built.result (omega arith)
+    long-existentials-room (existential_call_form (number_at e)) c.args.cx.now.rows e c.args.calls.now c.from_residual-in_err-built.result (omega arith)
 
 pub returns-in_err-existential-clause-room : goal.returns-in_err-existential-clause-room
 returns-in_err-existential-clause-room c =
     let e = told_all c.args.cx.now.rows c.args.earlier.now in
-    long-existentials-room (existential_form (number_at e)) c.build_existential.new.cx.rows e c.args.calls.now c.from_residual-in_err-existential.result (omega arith)
+    long-existentials-room (existential_call_form (number_at e)) c.build_existential.new.cx.rows e c.args.calls.now c.from_residual-in_err-existential.result (omega arith)
 
 pub returns-in_err-push-clause-room : goal.returns-in_err-push-clause-room
 returns-in_err-push-clause-room c =
     let e = told_all c.args.cx.now.rows c.args.earlier.now in
-    long-existentials-room (existential_form (number_at e)) c.build_existential.new.cx.rows e c.args.calls.now c.from_residual-in_err-push.result (omega arith)
+    long-existentials-room (existential_call_form (number_at e)) c.build_existential.new.cx.rows e c.args.calls.now c.from_residual-in_err-push.result (omega arith)
 
 pub returns-clause-room : goal.returns-clause-room
 returns-clause-room c =
     let e = told_all c.args.cx.now.rows c.args.earlier.now in
-    long-existentials-room (existential_form (number_at e)) c.mk_existential_list-2.new.self.rows e c.args.calls.now c.mk_existential_list-2.result (omega arith)
+    long-existentials-room (existential_call_form (number_at e)) c.mk_existential_list-2.new.self.rows e c.args.calls.now c.mk_existential_list-2.result (omega arith)

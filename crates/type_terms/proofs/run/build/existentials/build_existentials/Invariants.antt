@@ -2,8 +2,8 @@ use Rattle.std.proofs.Common.{take, map}
 use Rattle.tt_kinds.specs.Shape.{item_shapes}
 use Rattle.tt_kinds.specs.Kinds.{existential_shape}
 use Rattle.tt_interner.specs.Stored.{Extends}
-use Rattle.type_terms.specs.CallForm.{existential_form, existential_tree, existential_positions, IsExistentialTooDeep}
-use Rattle.type_terms.specs.CallForm.{all_trees, all_positions, AnyIsDeep}
+use Rattle.type_terms.specs.CallForm.{existential_call_form, existential_tree, existential_positions}
+use Rattle.type_terms.specs.CallForm.{IsExistentialTooDeep, all_trees, all_positions, AnyIsDeep}
 use Rattle.type_terms.specs.Told.{told_all}
 use Rattle.type_terms.specs.Means.{number_at, tree_at}
 use Rattle.type_terms.specs.Build.{ArePlaced}
@@ -11,6 +11,6 @@ use Rattle.type_terms.proofs.run.build.existentials.build_existentials.Given as 
 
 abbrev pub invariant-loop-call : goal.invariant-loop-call
 invariant-loop-call l =
-    let forms = map (existential_form (number_at (told_all l.fn.cx.rows l.earlier))) (take l.call-index l.calls) in
+    let forms = map (existential_call_form (number_at (told_all l.fn.cx.rows l.earlier))) (take l.call-index l.calls) in
     Extends l.fn.cx l.cx × ArePlaced l.cx (told_all l.fn.cx.rows l.earlier) (all_trees (existential_tree (number_at (told_all l.fn.cx.rows l.earlier)) (tree_at (told_all l.fn.cx.rows l.earlier))) forms) (all_positions existential_positions forms)
     (AnyIsDeep IsExistentialTooDeep forms) (item_shapes existential_shape l.built.items)

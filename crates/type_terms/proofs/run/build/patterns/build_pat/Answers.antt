@@ -4,7 +4,7 @@ use Rattle.tt_interner.specs.Rows.{pat_row}
 use Rattle.tt_interner.proofs.Growth.{Extends-trans}
 use Rattle.type_terms.specs.declared.run.answer.Answer.TheVariants as answer
 use Rattle.type_terms.specs.declared.run.call.Call.TheVariants as call
-use Rattle.type_terms.specs.CallForm.{pat_form, form_positions, IsFormTooDeep}
+use Rattle.type_terms.specs.CallForm.{pat_call_form, form_positions, IsFormTooDeep}
 use Rattle.type_terms.specs.Told.{told_all, setting}
 use Rattle.type_terms.proofs.BuildLaws.{answer-passed, unbuilt-refused, kind-allowed, kind-refused, there-built}
 use Rattle.type_terms.proofs.BuildLaws.{there-refused}
@@ -17,9 +17,9 @@ pub returns-in_err-pat-in-Ok-clause-answers : goal.returns-in_err-pat-in-Ok-clau
 returns-in_err-pat-in-Ok-clause-answers c =
     let e = told_all c.args.cx.now.rows c.args.earlier.now in
     answer-passed c.args.cx.now c.mk_pat.new.self e (call.Pat c.args.call.now) c.from_residual.result c.in_err-pat-in-Ok.field-0.0 c.from_residual.ensures.1
-    (kind-refused c.args.cx.now c.pattern_kind.new.cx c.mk_pat.new.self e (call.Pat c.args.call.now) (pat_form c.args.call.now) (pat_row c.in-Ok.kind) c.in-Ok.ensures.kind.ok
+    (kind-refused c.args.cx.now c.pattern_kind.new.cx c.mk_pat.new.self e (call.Pat c.args.call.now) (pat_call_form c.args.call.now) (pat_row c.in-Ok.kind) c.in-Ok.ensures.kind.ok
     (λ h. h.number) c.in_err-pat-in-Ok.field-0.0 c.in_err-pat-in-Ok.ensures tt
-    (there-built (λ h. h.number) c.args.cx.now c.pattern_kind.new.cx c.mk_pat.new.self c.args.earlier.now (pat_form c.args.call.now) (pat_row c.in-Ok.kind) c.in_err-pat-in-Ok.field-0.0 c.in-Ok.ensures.kind.ok c.in_err-pat-in-Ok.ensures c.are_rows.ensures.are c.pattern_kind.ensures.extends c.requires) (λ n. n) (λ d. d))
+    (there-built (λ h. h.number) c.args.cx.now c.pattern_kind.new.cx c.mk_pat.new.self c.args.earlier.now (pat_call_form c.args.call.now) (pat_row c.in-Ok.kind) c.in_err-pat-in-Ok.field-0.0 c.in-Ok.ensures.kind.ok c.in_err-pat-in-Ok.ensures c.are_rows.ensures.are c.pattern_kind.ensures.extends c.requires) (λ n. n) (λ d. d))
 
 pub returns-in_ok-pat-in-Ok-clause-extends : goal.returns-in_ok-pat-in-Ok-clause-extends
 returns-in_ok-pat-in-Ok-clause-extends c = Extends-trans c.pattern_kind.ensures.extends (record { rows = c.mk_pat.ensures.grows; limit = c.mk_pat.ensures.limit })
@@ -29,7 +29,7 @@ returns-in_ok-pat-in-Ok-clause-answers c =
     let e = told_all c.args.cx.now.rows c.args.earlier.now in
     record {
       owned = c.in_ok-pat-in-Ok.ensures.in_range;
-      ok = kind-allowed c.args.cx.now c.pattern_kind.new.cx c.mk_pat.new.self e (call.Pat c.args.call.now) (pat_form c.args.call.now) (pat_row c.in-Ok.kind) c.in-Ok.ensures.kind.ok
+      ok = kind-allowed c.args.cx.now c.pattern_kind.new.cx c.mk_pat.new.self e (call.Pat c.args.call.now) (pat_call_form c.args.call.now) (pat_row c.in-Ok.kind) c.in-Ok.ensures.kind.ok
           (λ h. h.number) c.in_ok-pat-in-Ok.pat (answer.Pat c.in_ok-pat-in-Ok.pat) c.in_ok-pat-in-Ok.ensures refl (λ n d. (n, d, refl, refl, λ r x. x));
       err = tt;
     }
@@ -40,6 +40,6 @@ returns-in-Err-clause-answers c =
     record {
       owned = tt;
       ok = tt;
-      err = unbuilt-refused (setting c.args.cx.now c.pattern_kind.new.cx) e (call.Pat c.args.call.now) (form_positions (pat_form c.args.call.now)) (IsFormTooDeep (pat_form c.args.call.now)) _
-          tt (there-refused c.args.cx.now c.pattern_kind.new.cx c.pattern_kind.new.cx c.pattern_kind.ensures.extends c.args.earlier.now c.requires c.are_rows-in-Err.ensures.are Patterns (pat_form c.args.call.now) _ c.in-Err.ensures.room) (λ n. n) (λ d. d) c.in-Err.ensures.kind.err;
+      err = unbuilt-refused (setting c.args.cx.now c.pattern_kind.new.cx) e (call.Pat c.args.call.now) (form_positions (pat_call_form c.args.call.now)) (IsFormTooDeep (pat_call_form c.args.call.now)) _
+          tt (there-refused c.args.cx.now c.pattern_kind.new.cx c.pattern_kind.new.cx c.pattern_kind.ensures.extends c.args.earlier.now c.requires c.are_rows-in-Err.ensures.are Patterns (pat_call_form c.args.call.now) _ c.in-Err.ensures.room) (λ n. n) (λ d. d) c.in-Err.ensures.kind.err;
     }

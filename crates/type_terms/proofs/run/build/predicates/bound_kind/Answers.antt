@@ -3,7 +3,8 @@ use Rattle.tt_kinds.specs.Label.{predicate_label}
 use Rattle.tt_kinds.specs.Kinds.{record_shape, predicate_kind_shape}
 use Rattle.tt_kinds.specs.Kinds as kinds
 use Rattle.tt_interner.proofs.Growth.{Extends-trans}
-use Rattle.type_terms.specs.CallForm.{predicate_form, predicate_record, variable_kind, form_positions, IsFormTooDeep}
+use Rattle.type_terms.specs.CallForm.{predicate_call_form, predicate_record, variable_kind, form_positions}
+use Rattle.type_terms.specs.CallForm.{IsFormTooDeep}
 use Rattle.type_terms.specs.Told.{told_all, HasFullTable}
 use Rattle.type_terms.specs.Means.{number_at}
 use Rattle.type_terms.proofs.PartLaws.{kind-passed, bound-record, placed-grows, unbuilt-always}
@@ -16,7 +17,7 @@ returns-in_err-vars-in-Ok-clause-extends c = Extends-trans c.predicate_kind.ensu
 
 pub returns-in_err-vars-in-Ok-clause-kind : goal.returns-in_err-vars-in-Ok-clause-kind
 returns-in_err-vars-in-Ok-clause-kind c =
-    let form = predicate_form (number_at (told_all c.args.cx.now.rows c.args.earlier.now)) c.args.call.now in
+    let form = predicate_call_form (number_at (told_all c.args.cx.now.rows c.args.earlier.now)) c.args.call.now in
     let r = c.in_err-vars-in-Ok in
     kind-passed c.build_vars.new.cx (told_all c.args.cx.now.rows c.args.earlier.now) form predicate_kind_shape c.from_residual.result r.field-0.0 c.from_residual.ensures.1
     (unbuilt-always (HasFullTable c.build_vars.new.cx) (told_all c.args.cx.now.rows c.args.earlier.now) (form_positions form) (IsFormTooDeep form) r.field-0.0 (r.ensures.vars c.args.cx.now.rows).err)

@@ -4,7 +4,7 @@ use Rattle.tt_interner.specs.Rows.{predicate_row}
 use Rattle.tt_interner.proofs.Growth.{Extends-trans}
 use Rattle.type_terms.specs.declared.run.answer.Answer.TheVariants as answer
 use Rattle.type_terms.specs.declared.run.call.Call.TheVariants as call
-use Rattle.type_terms.specs.CallForm.{predicate_ids, predicate_form, form_positions, IsFormTooDeep}
+use Rattle.type_terms.specs.CallForm.{predicate_ids, predicate_call_form, form_positions, IsFormTooDeep}
 use Rattle.type_terms.specs.Told.{told_all, setting}
 use Rattle.type_terms.specs.Means.{number_at}
 use Rattle.type_terms.proofs.PartLaws.{AreTerms-append, AreTerms-second}
@@ -18,7 +18,7 @@ returns-in_err-predicate-in-Ok-clause-extends c = Extends-trans c.bound_kind.ens
 pub returns-in_err-predicate-in-Ok-clause-answers : goal.returns-in_err-predicate-in-Ok-clause-answers
 returns-in_err-predicate-in-Ok-clause-answers c = λ ids.
     let e = told_all c.args.cx.now.rows c.args.earlier.now in
-    let form = predicate_form (number_at e) c.args.call.now in
+    let form = predicate_call_form (number_at e) c.args.call.now in
     answer-passed c.args.cx.now c.mk_predicate.new.self e (call.Predicate c.args.call.now) c.from_residual.result c.in_err-predicate-in-Ok.field-0.0 c.from_residual.ensures.1
     (kind-refused c.args.cx.now c.bound_kind.new.cx c.mk_predicate.new.self e (call.Predicate c.args.call.now) form (predicate_row c.in-Ok.kind) c.in-Ok.ensures.kind.ok
     (λ h. h.number) c.in_err-predicate-in-Ok.field-0.0 c.in_err-predicate-in-Ok.ensures tt
@@ -30,7 +30,7 @@ returns-in_ok-predicate-in-Ok-clause-extends c = Extends-trans c.bound_kind.ensu
 pub returns-in_ok-predicate-in-Ok-clause-answers : goal.returns-in_ok-predicate-in-Ok-clause-answers
 returns-in_ok-predicate-in-Ok-clause-answers c = λ ids.
     let e = told_all c.args.cx.now.rows c.args.earlier.now in
-    let form = predicate_form (number_at e) c.args.call.now in
+    let form = predicate_call_form (number_at e) c.args.call.now in
     record {
       owned = c.in_ok-predicate-in-Ok.ensures.in_range;
       ok = kind-allowed c.args.cx.now c.bound_kind.new.cx c.mk_predicate.new.self e (call.Predicate c.args.call.now) form (predicate_row c.in-Ok.kind) c.in-Ok.ensures.kind.ok
@@ -41,7 +41,7 @@ returns-in_ok-predicate-in-Ok-clause-answers c = λ ids.
 pub returns-in-Err-clause-answers : goal.returns-in-Err-clause-answers
 returns-in-Err-clause-answers c = λ ids.
     let e = told_all c.args.cx.now.rows c.args.earlier.now in
-    let form = predicate_form (number_at e) c.args.call.now in
+    let form = predicate_call_form (number_at e) c.args.call.now in
     record {
       owned = tt;
       ok = tt;

@@ -8,7 +8,7 @@ use Rattle.tt_kinds.specs.Shape as shape
 use Rattle.tt_kinds.specs.declared.table.Table.TheVariants.{Types, TypeLists}
 use Rattle.tt_kinds.specs.declared.ty_kind.TyKind.TheVariants as ty
 use Rattle.std.specs.String.{string_bytes}
-use Rattle.type_terms.specs.CallForm.{plain, one, a_region, a_term, a_list, terms_at, ty_called, ty_entry}
+use Rattle.type_terms.specs.CallForm.{plain, one, a_region, a_term, a_list, terms_at, ty_called, ty_call_entry}
 use Rattle.type_terms.specs.Told.{told_all, HasFullTable}
 use Rattle.type_terms.specs.Means.{number_at}
 use Rattle.type_terms.proofs.PartLaws.{kind-passed, plain-kind, parts-one, unbuilt-first}
@@ -59,7 +59,7 @@ returns-in-Bound-clause-kind c =
     let b = c.in-Bound in
     record {
       ok = rw (c.bound_kind.ensures c.args.cx.now.rows)
-          (bound-kind c.args.cx.now e type_sort (depth b.index) (record { var = b.var; kind = type_variable (ty_called (number_at e) b.name) }) (ty_entry (number_at e) b.var b.name) tt refl);
+          (bound-kind c.args.cx.now e type_sort (depth b.index) (record { var = b.var; kind = type_variable (ty_called (number_at e) b.name) }) (ty_call_entry (number_at e) b.var b.name) tt refl);
       err = tt;
     })
 
