@@ -368,13 +368,11 @@ fn find_in_turn<T: Eq + Hash>(
     ensures index { result ≡ index_of_by (λ k. pointwise T.eq items.now k.items) entries.now }
     ensures within { IfSome result (λ i. i < index_map_len entries.now) }
 {
-    entries
-        .keys()
-        .position(|key: &SmallVec<T, MOST_IN_ROW>| -> bool
+    entries.keys().position(
+        |key: &SmallVec<T, MOST_IN_ROW>| -> bool
             ensures { result ≡ pointwise T.eq items.entry.now key.now.items }
-        {
-            items == key.as_slice()
-        })
+        { items == key.as_slice() },
+    )
 }
 
 /// Adds a new text to the table of texts, as `add`.
@@ -437,7 +435,14 @@ pub(crate) fn first_ty_list(
     ensures cause { IfErr result (λ e. e ≡ Refusal.Memory) }
 {
     let mut entries = IndexMap::new(alloc);
-    match add(order, 1, table, &mut entries, SmallVec::new(alloc), FlagComputation::new()) {
+    match add(
+        order,
+        1,
+        table,
+        &mut entries,
+        SmallVec::new(alloc),
+        FlagComputation::new(),
+    ) {
         Ok(_) => Ok(entries),
         Err(_) => Err(Refusal::Memory),
     }
