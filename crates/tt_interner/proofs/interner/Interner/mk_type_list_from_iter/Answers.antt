@@ -13,8 +13,8 @@ returns-in_err-items-in-Some-clause-builds g c =
     (_, _, yields-more g.I.Iterator.next_gives _ _ _ _ _ first.1 first.2, simp length-append (omega arith)) in
     search rules
 
-pub mk_tys-requires-in_ok-items-in-Some : goal.mk_tys-requires-in_ok-items-in-Some
-mk_tys-requires-in_ok-items-in-Some g c =
+pub mk_tys-requires-in-Some : goal.mk_tys-requires-in-Some
+mk_tys-requires-in-Some g c =
     let first = rw c.in-Some.is at c.fill-count.ensures.fills in
     let all = c.in_ok-items-in-Some.ensures.ok in
     rw (c.as_slice.ensures.value, all.2) (c.requires.items _ (drains-joined g.I.Iterator.next_gives _ _ _ _ _ _ first.1 first.2 all.1))
@@ -23,4 +23,4 @@ pub returns-in_ok-items-in-Some-clause-builds : goal.returns-in_ok-items-in-Some
 returns-in_ok-items-in-Some-clause-builds g c =
     let first = rw c.in-Some.is at c.fill-count.ensures.fills in
     let all = c.in_ok-items-in-Some.ensures.ok in
-    inl (_, drains-joined g.I.Iterator.next_gives _ _ _ _ _ _ first.1 first.2 all.1, rw (c.as_slice.ensures.value, all.2) at c.mk_tys.ensures)
+    inl (_, drains-joined g.I.Iterator.next_gives _ _ _ _ _ _ first.1 first.2 all.1, rw (c.as_slice.ensures.value, all.2) at c.mk_tys-in-Some.ensures)
