@@ -2,8 +2,9 @@
 
 use crate::regions::region;
 use crate::words::{Unread, Words, number, position};
+use smallvec::SmallVec;
 use std::alloc::Global;
-use type_terms::ArgCall;
+use type_terms::{ArgCall, Positions};
 
 /// Returns the arguments of all further words: `%N` is a type, `#N` a constant, and each other word a region.
 pub fn arguments(alloc: Global, words: &Words) -> Result<Vec<ArgCall>, Unread> {
@@ -28,8 +29,8 @@ fn argument(alloc: Global, word: &str) -> Result<ArgCall, Unread> {
 }
 
 /// Returns the positions of all further words.
-pub fn positions(alloc: Global, words: &Words) -> Result<Vec<u32>, Unread> {
-    let mut positions = Vec::new(alloc);
+pub fn positions(alloc: Global, words: &Words) -> Result<Positions, Unread> {
+    let mut positions = SmallVec::new(alloc);
     for word in words.rest().split(" ") {
         if !word.is_empty() {
             positions.push(position(word)?)?;

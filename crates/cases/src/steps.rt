@@ -1,7 +1,7 @@
 //! Steps of cases.
 
 use crate::routines::Routine;
-use type_terms::Call;
+use type_terms::{Call, Positions};
 
 /// A list or another value that holds terms.
 #[derive(Clone, Copy, PartialEq, Eq)]
@@ -82,7 +82,7 @@ pub enum Step {
     Call(Call),
     /// A change of the types at these positions, in a container. The answer is the list of the types that are then in
     /// the container.
-    Changed(Container, Change, Vec<u32>),
+    Changed(Container, Change, Positions),
     /// What the library makes of a type.
     Derived(Derivation),
     /// Whether the data type that is declared at the position has these variants. It gets them if it isn't defined yet.

@@ -1,5 +1,6 @@
 -- The calls that declare, over plain variables.
 use Rattle.std.proofs.Common.{◌≡◌, ◌<◌, ◌≤◌, ℕ, List, [], ◌∷◌, Result, Ok, ap, sym, refl, inl, inr, ◌∙◌, arith}
+use Rattle.smallvec.specs.declared.small_vec.SmallVec.{SmallVec}
 use Rattle.tt_index.specs.declared.refusal.Refusal.{Refusal}
 use Rattle.tt_kinds.specs.Label.{Name, ItemLabel, fn_item, declaration_label}
 use Rattle.tt_kinds.specs.Tree.{Depth, Tree, Forest, node, none}
@@ -110,7 +111,7 @@ declared-passed terms e call (Ok s) r h u = absurd h
 declared-passed terms e call (Err x) r h u = record { ok = tt; err = rw h u }
 
 -- a function of the signature
-pub sig-declared : (terms : Terms) (e : List Told) (vars : Vec VariableCall Global) (ts : Vec ℕ Global) (kind : FnSigKind) (sig : EarlyBinder (Binder FnSig))
+pub sig-declared : (terms : Terms) (e : List Told) (vars : Vec VariableCall Global) (ts : SmallVec ℕ 4 Global) (kind : FnSigKind) (sig : EarlyBinder (Binder FnSig))
     → IsSigOf terms e vars.items ts.items kind sig → IsDeclaredBy terms e (declares.Fn vars ts kind) (declared_kind.Fn sig)
 unfolding fill
 sig-declared terms e vars ts kind sig h = record {
@@ -122,7 +123,7 @@ sig-declared terms e vars ts kind sig h = record {
 }
 
 -- what is no function has no terms
-pub no-function : (call : DeclarationKindCall) → ((vars : Vec VariableCall Global) (ts : Vec ℕ Global) (kind : FnSigKind) → call ≡ declares.Fn vars ts kind → ⊥) → HasNoTerms call
+pub no-function : (call : DeclarationKindCall) → ((vars : Vec VariableCall Global) (ts : SmallVec ℕ 4 Global) (kind : FnSigKind) → call ≡ declares.Fn vars ts kind → ⊥) → HasNoTerms call
 no-function (declares.Fn vars ts kind) f = f vars ts kind refl
 no-function _ f = tt
 

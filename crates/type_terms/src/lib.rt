@@ -20,6 +20,7 @@ pub use run::ExistentialKindCall;
 pub use run::Fault;
 pub use run::ItemCall;
 pub use run::PatCall;
+pub use run::Positions;
 pub use run::PredicateCall;
 pub use run::PredicateKindCall;
 pub use run::RegionCall;

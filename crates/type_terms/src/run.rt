@@ -10,7 +10,7 @@ pub mod script;
 pub use answer::Answer;
 pub use call::{
     AliasCall, ArgCall, BoundTyKindCall, Call, ClauseCall, ConstCall, DeclarationKindCall,
-    DeclareCall, ExistentialCall, ExistentialKindCall, ItemCall, PatCall, PredicateCall,
+    DeclareCall, ExistentialCall, ExistentialKindCall, ItemCall, PatCall, Positions, PredicateCall,
     PredicateKindCall, RegionCall, RegionNameCall, TermCall, TyCall, ValTreeCall, VariableCall,
 };
 pub use runner::{answer_next, run_calls};

@@ -1,5 +1,6 @@
 //! Calls of the library, as values.
 
+use smallvec::SmallVec;
 use tt_index::{
     BoundVar, DebruijnIndex, FloatTy, IntTy, Mutability, RegionVid, UintTy, UniverseIndex,
 };
@@ -7,6 +8,9 @@ use tt_kinds::{
     AliasRelationDirection, BoundConst, BoundConstness, BoundVarIndexKind, ErrorGuaranteed,
     FnHeader, FnSigKind, InferConst, InferTy, PlaceholderConst, ScalarInt,
 };
+
+/// The positions of a call's parts, in order. Up to four take no memory of their own.
+pub type Positions = SmallVec<u32, 4>;
 
 /// The name of a bound region of a call: a [`BoundRegionKind`](tt_kinds::BoundRegionKind) with a text in place of a
 /// symbol, and the position of the declaring call in place of an id.
@@ -152,13 +156,13 @@ pub enum TyCall {
     /// An array of this type with this length.
     Array(u32, u32),
     /// A tuple of these types.
-    Tuple(Vec<u32>),
+    Tuple(Positions),
     /// A function pointer.
     FnPtr {
         /// The variables of its binder.
         vars: Vec<VariableCall>,
         /// The types of the inputs in order, then the output's.
-        inputs_and_output: Vec<u32>,
+        inputs_and_output: Positions,
         /// The parts of its signature other than the types.
         header: FnHeader,
     },
@@ -183,7 +187,7 @@ pub enum ValTreeCall {
     /// A leaf: the bits of a scalar.
     Leaf(ScalarInt),
     /// A branch: the values of its fields or items, in order.
-    Branch(Vec<u32>),
+    Branch(Positions),
 }
 
 /// A constant to be built: a [`ConstKind`](tt_kinds::ConstKind) with a text in place of a symbol, and positions in
@@ -224,7 +228,7 @@ pub enum PatCall {
         end: u32,
     },
     /// The values that at least one of the patterns allows.
-    Or(Vec<u32>),
+    Or(Positions),
     /// Every value but the null pointer.
     NotNull,
 }
@@ -352,7 +356,7 @@ pub enum DeclarationKindCall {
         /// The variables of the signature's binder.
         vars: Vec<VariableCall>,
         /// The types of the inputs in order, then the output's.
-        inputs_and_output: Vec<u32>,
+        inputs_and_output: Positions,
         /// The parts of the signature other than the types.
         fn_sig_kind: FnSigKind,
     },
@@ -395,7 +399,7 @@ pub enum Call {
     /// Builds the predicate.
     Predicate(PredicateCall),
     /// Builds the list of the clauses that the calls at the positions answered.
-    Clauses(Vec<u32>),
+    Clauses(Positions),
     /// Builds the list of generic arguments.
     Args(Vec<ArgCall>),
     /// Makes the declaration.

@@ -2,7 +2,7 @@
 
 ghost use Rattle.std.specs.Prelude.{◌≡◌, ◌≤◌, ℕ, take, length, IfOk, IfErr, OnOk};
 ghost use Rattle.std.specs.declared.alloc.Global.{Global};
-ghost use Rattle.std.specs.declared.vec.Vec.{Vec};
+ghost use Rattle.smallvec.specs.declared.small_vec.SmallVec.{SmallVec};
 ghost use Rattle.tt_index.specs.declared.refusal.Refusal.TheVariants.{NoSuchAnswer};
 ghost use Rattle.tt_kinds.specs.Kinds.{clause_shape, clauses_shape};
 ghost use Rattle.tt_interner.specs.Rows.{IsClause};
@@ -30,7 +30,7 @@ pub fn build_clauses(
 ) -> Result<Answer, Refusal>
     requires { AreOwnedAnswers cx.old.rows earlier.now }
     ensures extends { Extends cx.old cx.new }
-    ensures answers { (list : Vec ℕ Global) → list.items ≡ positions.now
+    ensures answers { (list : SmallVec ℕ 4 Global) → list.items ≡ positions.now
         → MayAnswerCall cx.old cx.new (told_all cx.old.rows earlier.now) (BuildsClauses list) result }
 {
     match clause_list(cx, earlier, positions) {

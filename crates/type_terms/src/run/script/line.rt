@@ -2,11 +2,12 @@
 
 ghost use Rattle.std.specs.Prelude.{◌≤◌, IfOk};
 
-use crate::run::call::{ArgCall, Call};
+use crate::run::call::{ArgCall, Call, Positions};
 use crate::run::script::number::parse_number;
 use crate::run::script::regions::parse_region;
 use crate::run::script::types::parse_ty;
 use crate::run::script::words::Words;
+use smallvec::SmallVec;
 use std::alloc::{AllocError, AllocFailed, Global};
 
 /// Why a line gave no call.
@@ -73,8 +74,8 @@ pub fn position(words: &mut Words) -> Result<u32, LineError> {
 }
 
 /// Returns the positions of all further words.
-pub fn positions(alloc: Global, words: &mut Words) -> Result<Vec<u32>, LineError> {
-    let mut positions = Vec::new(alloc);
+pub fn positions(alloc: Global, words: &mut Words) -> Result<Positions, LineError> {
+    let mut positions = SmallVec::new(alloc);
     while let Some(word) = words.next_word() {
         positions.push(parse_position(word)?)?;
     }
