@@ -2,7 +2,7 @@
 
 ghost use Rattle.std.specs.Prelude.{◌≤◌, map, take, length, IfErr};
 ghost use Rattle.tt_kinds.specs.Shape.{item_shapes};
-ghost use Rattle.tt_kinds.specs.Kinds.{existential_form as form_of_existential};
+ghost use Rattle.tt_kinds.specs.Kinds.{existential_form};
 ghost use Rattle.tt_kinds.specs.Kinds.{ty_kind_shape, existential_shape, existentials_shape};
 ghost use Rattle.tt_interner.specs.Stored.{Extends};
 ghost use Rattle.type_terms.specs.CallForm.{
@@ -169,7 +169,7 @@ fn existential_kind(
     ensures kind { GivesRecord cx.new
         (told_all cx.old.rows earlier.now)
         (existential_record (number_at (told_all cx.old.rows earlier.now)) call.now)
-        form_of_existential
+        existential_form
         result }
     ensures room { IfErr result
         (RecordNeedsRoom cx.new.rows

@@ -14,7 +14,7 @@ ghost use Rattle.tt_kinds.specs.Label.{
 };
 ghost use Rattle.tt_kinds.specs.Shape.{also, append};
 ghost use Rattle.tt_kinds.specs.Parts.{term_child};
-ghost use Rattle.tt_kinds.specs.Kinds.{predicate_form as form_of_predicate};
+ghost use Rattle.tt_kinds.specs.Kinds.{predicate_form};
 ghost use Rattle.tt_kinds.specs.Kinds.{child_shapes, clause_form, predicate_kind_shape, args_shape, term_shape};
 ghost use Rattle.tt_interner.specs.Rows.{Row};
 ghost use Rattle.tt_interner.specs.Stored.{Terms, Extends};
@@ -115,7 +115,7 @@ fn predicate_kind(
     ensures kind { GivesRecord cx.new
         (told_all cx.old.rows earlier.now)
         (predicate_record (number_at (told_all cx.old.rows earlier.now)) call.now)
-        form_of_predicate
+        predicate_form
         result }
     ensures room { IfErr result
         (RecordNeedsRoom cx.new.rows
@@ -163,7 +163,7 @@ fn subtype(
         → GivesRecord terms
         (told_all terms.rows earlier.now)
         (labelled_parts (subtype_record a_is_expected) (one (a_term Table.Types a) ∷ one (a_term Table.Types b) ∷ []))
-        form_of_predicate
+        predicate_form
         result }
 {
     let pair = handle_pair::<Ty, Ty>(earlier, a, b)?;
@@ -181,7 +181,7 @@ fn coerce(earlier: &[Answer], a: u32, b: u32) -> Result<PredicateKind, Refusal>
         → GivesRecord terms
         (told_all terms.rows earlier.now)
         (labelled_parts coerce_record (one (a_term Table.Types a) ∷ one (a_term Table.Types b) ∷ []))
-        form_of_predicate
+        predicate_form
         result }
 {
     let pair = handle_pair::<Ty, Ty>(earlier, a, b)?;
@@ -206,7 +206,7 @@ fn normalizes_to(
         (labelled_parts
         (normalizes_to_record (number_at (told_all cx.old.rows earlier.now) position))
         (args_part args.now ∷ term_part term ∷ []))
-        form_of_predicate
+        predicate_form
         result }
     ensures room { IfErr result
         (RecordNeedsRoom cx.new.rows
