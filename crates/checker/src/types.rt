@@ -1,14 +1,12 @@
 //! The types of the language, built and taken apart.
 
-ghost use Rattle.std.specs.Prelude.{◌≡◌, IfOk, IfSome, IsTrue, length, map};
+ghost use Rattle.std.specs.Prelude.{◌≡◌, IfOk, IfSome, IsTrue, map};
 ghost use Rattle.tt_binder.specs.Arguments.{AreArguments, args_at};
 ghost use Rattle.tt_fold.specs.Steps.{tree_in};
 ghost use Rattle.tt_interner.specs.Owned.{AreOwned, IsOwned};
-ghost use Rattle.tt_interner.specs.Rows.{size};
 ghost use Rattle.tt_interner.specs.Stored.{Extends};
-ghost use Rattle.tt_kinds.specs.Kinds.{arg_shape, args_shape, ty_shape};
+ghost use Rattle.tt_kinds.specs.Kinds.{args_shape, ty_shape};
 ghost use Rattle.tt_kinds.specs.declared.generic_arg.GenericArgKind.TheVariants as arg;
-ghost use Rattle.tt_kinds.specs.declared.table.Table.TheVariants.{Symbols};
 ghost use Rattle.checker.specs.Scope.{argument_trees, trees};
 ghost use Rattle.checker.specs.TypeTrees as tree;
 ghost use Rattle.checker.specs.Typing.{AreTypeArguments, IsItemOf, Reaches, values};

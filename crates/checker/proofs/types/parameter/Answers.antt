@@ -1,11 +1,10 @@
 use Rattle.std.proofs.Common.{Ok, ap, ◌∙◌}
 use Rattle.checker.specs.TypeTrees.{parameter_of}
-use Rattle.checker.proofs.ClientLaws.{chained_extends}
 use Rattle.checker.proofs.TreeLaws.{param_built}
 use Rattle.checker.proofs.types.parameter.Goals as goal
 
 pub returns-clause-extends : goal.returns-clause-extends
-returns-clause-extends c = chained_extends _ _ _ c.mk_param.result c.args.cx.now c.mk_param.new.self c.mk_param.ensures.builds
+returns-clause-extends c = c.mk_param.ensures.extends
 
 pub returns-clause-is : goal.returns-clause-is
 returns-clause-is c =

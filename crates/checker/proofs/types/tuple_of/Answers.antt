@@ -1,10 +1,9 @@
 use Rattle.std.proofs.Common.{Ok}
-use Rattle.checker.proofs.ClientLaws.{chained_extends}
 use Rattle.checker.proofs.TreeLaws.{tuple_built}
 use Rattle.checker.proofs.types.tuple_of.Goals as goal
 
 pub returns-clause-extends : goal.returns-clause-extends
-returns-clause-extends c = chained_extends _ _ _ c.mk_tuple.result c.args.cx.now c.mk_tuple.new.self c.mk_tuple.ensures.builds
+returns-clause-extends c = c.mk_tuple.ensures.extends
 
 pub returns-clause-is : goal.returns-clause-is
 returns-clause-is c =
