@@ -14,11 +14,11 @@ use Rattle.tt_kinds.specs.Handle.{Symbol}
 use Rattle.tt_kinds.specs.declared.id.DefId.{DefId}
 use Rattle.tt_kinds.specs.declared.table.Table.TheVariants.{Types, TypeLists, Declarations}
 use Rattle.tt_interner.specs.Rows.{Row, declared_row, text_row, size, meaning}
-use Rattle.tt_interner.specs.Stored.{Terms, Extends, Builds}
+use Rattle.tt_interner.specs.Stored.{Terms, Builds}
 use Rattle.tt_interner.specs.Declarations.{Declares, IsOfSort}
 use Rattle.tt_interner.proofs.Growth.{fill_all-grows}
 use Rattle.tt_interner.proofs.RowLaws.{row-new, meaning-new}
-use Rattle.tt_interner.proofs.StoreSteps.{in_range, Grows-add}
+use Rattle.tt_interner.proofs.StoreSteps.{in_range}
 use Rattle.std.specs.Prelude.{Err, IfErr, IfOk, IsErrAnd}
 use Rattle.std.specs.declared.alloc.Global.{Global}
 use Rattle.std.specs.declared.vec.Vec.{Vec}
@@ -58,10 +58,6 @@ module _ (old new : Terms) (kind : DeclarationKind) (name : Symbol) where
   -- the row that it adds
   abbrev row : Row
   row = declared_row (size old.rows Declarations) (record { kind = kind; name = name })
-
-  -- a declaration extends the terms, also where it is refused
-  pub Declares-extends : (result : Result DefId Refusal) → Declares result (λ id. id.number) old new kind name → Extends old new
-  Declares-extends result d = record { rows = Grows-add result row old new d.adds.rows d.adds.err; limit = d.adds.limit }
 
   -- the id of a new declaration is in range, and names a declaration of the sort
   pub declared-owned : (sort : DeclarationSort) (id : DefId) → Declares {H = DefId} (Ok id) (λ x. x.number) old new kind name → sort ≡ sort_of kind

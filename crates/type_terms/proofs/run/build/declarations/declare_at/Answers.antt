@@ -9,7 +9,7 @@ use Rattle.type_terms.specs.Told.{told_all}
 use Rattle.type_terms.specs.Means.{number_at, tree_at}
 use Rattle.type_terms.proofs.BuildLaws.{answer-passed}
 use Rattle.type_terms.proofs.PartLaws.{AreTerms-append}
-use Rattle.type_terms.proofs.DeclareLaws.{new-id, Declares-extends, declared-owned, declared-tree, declare-refused}
+use Rattle.type_terms.proofs.DeclareLaws.{new-id, declared-owned, declared-tree, declare-refused}
 use Rattle.type_terms.proofs.run.build.declarations.declare_at.Goals as goal
 
 pub returns-in_err-kind-clause-answers : goal.returns-in_err-kind-clause-answers
@@ -26,13 +26,13 @@ pub returns-in_err-id-clause-extends : goal.returns-in_err-id-clause-extends
 returns-in_err-id-clause-extends c =
     Extends-trans c.declared_kind.ensures.extends
     (Extends-trans (record { rows = c.symbol.ensures.grows; limit = c.symbol.ensures.limit })
-    (Declares-extends c.symbol.new.self c.declare.new.self c.in_ok-kind.kind c.in_ok-name.name c.declare.result c.declare.ensures))
+    c.declare.ensures.extends)
 
 pub returns-clause-extends : goal.returns-clause-extends
 returns-clause-extends c =
     Extends-trans c.declared_kind.ensures.extends
     (Extends-trans (record { rows = c.symbol.ensures.grows; limit = c.symbol.ensures.limit })
-    (Declares-extends c.symbol.new.self c.declare.new.self c.in_ok-kind.kind c.in_ok-name.name c.declare.result c.declare.ensures))
+    c.declare.ensures.extends)
 
 pub returns-clause-answers : goal.returns-clause-answers
 returns-clause-answers c =
