@@ -67,10 +67,10 @@ returns-in-Args-clause-allowed c =
 pub returns-in-Clauses-clause-owned : goal.returns-in-Clauses-clause-owned
 returns-in-Clauses-clause-owned c =
     answered-owned c.args.cx.now c.build_clauses.new.cx c.args.earlier.now c.args.cx.now.rows (call.Clauses c.in-Clauses.positions) c.build_clauses.result
-    c.outcome_answer-in-Clauses.result (c.build_clauses.ensures.answers c.in-Clauses.positions (sym c.as_slice.ensures.value)) c.outcome_answer-in-Clauses.ensures
+    c.outcome_answer-in-Clauses.result (c.build_clauses.ensures.answers c.in-Clauses.positions (sym c.as_slice.ensures)) c.outcome_answer-in-Clauses.ensures
 
 pub returns-in-Clauses-clause-allowed : goal.returns-in-Clauses-clause-allowed
 returns-in-Clauses-clause-allowed c =
     rw (c.in-Clauses.is)
     (answered-allowed c.args.cx.now c.build_clauses.new.cx c.args.earlier.now c.args.cx.now.rows (call.Clauses c.in-Clauses.positions) c.build_clauses.result
-    c.outcome_answer-in-Clauses.result (c.build_clauses.ensures.answers c.in-Clauses.positions (sym c.as_slice.ensures.value)) c.outcome_answer-in-Clauses.ensures)
+    c.outcome_answer-in-Clauses.result (c.build_clauses.ensures.answers c.in-Clauses.positions (sym c.as_slice.ensures)) c.outcome_answer-in-Clauses.ensures)

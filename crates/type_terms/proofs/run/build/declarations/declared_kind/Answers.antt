@@ -9,14 +9,14 @@ returns-in_err-sig-in-Fn-clause-kind c =
     let e = told_all c.args.cx.now.rows c.args.earlier.now in
     rw c.in-Fn.is
     (declared-passed c.declared_sig.new.cx e (declares.Fn c.in-Fn.vars c.in-Fn.inputs_and_output c.in-Fn.fn_sig_kind) c.from_residual.result c.in_err-sig-in-Fn.field-0.0 c.from_residual.ensures.1
-    (rw (← c.as_slice.ensures.value) c.in_err-sig-in-Fn.ensures.sig.err))
+    (rw (← c.as_slice.ensures) c.in_err-sig-in-Fn.ensures.sig.err))
 
 pub returns-in_ok-sig-in-Fn-clause-kind : goal.returns-in_ok-sig-in-Fn-clause-kind
 returns-in_ok-sig-in-Fn-clause-kind c =
     let e = told_all c.args.cx.now.rows c.args.earlier.now in
     rw c.in-Fn.is (record {
       ok = sig-declared c.declared_sig.new.cx e c.in-Fn.vars c.in-Fn.inputs_and_output c.in-Fn.fn_sig_kind c.in_ok-sig-in-Fn.sig
-          (rw (← c.as_slice-vars.ensures.value, ← c.as_slice.ensures.value) c.in_ok-sig-in-Fn.ensures.sig.ok);
+          (rw (← c.as_slice-vars.ensures.value, ← c.as_slice.ensures) c.in_ok-sig-in-Fn.ensures.sig.ok);
       err = tt;
     })
 

@@ -38,7 +38,7 @@ returns-in_err-pats-in-Or-clause-kind c =
     let r = c.in_err-pats-in-Or in
     rw (c.in-Or.is)
     (kind-passed c.build_pats.new.cx e (plain (pattern_label or_pattern) (part ∷ [])) pattern_kind_shape c.from_residual-in_err-pats-in-Or.result r.field-0.0 c.from_residual-in_err-pats-in-Or.ensures.1
-    (unbuilt-first (HasFullTable c.build_pats.new.cx) e part [] r.field-0.0 (rw (← c.as_slice.ensures.value) r.ensures.list.err)))
+    (unbuilt-first (HasFullTable c.build_pats.new.cx) e part [] r.field-0.0 (rw (← c.as_slice.ensures) r.ensures.list.err)))
 
 pub returns-in_ok-pats-in-Or-clause-kind : goal.returns-in_ok-pats-in-Or-clause-kind
 returns-in_ok-pats-in-Or-clause-kind c =
@@ -48,7 +48,7 @@ returns-in_ok-pats-in-Or-clause-kind c =
     rw (c.in-Or.is)
     (record {
       ok = plain-kind c.build_pats.new.cx e (pattern_label or_pattern) (part ∷ []) (pattern_label or_pattern) (shape.also (pats_shape r.pats) shape.none)
-          (parts-one c.build_pats.new.cx e part (pats_shape r.pats) (rw (← c.as_slice.ensures.value) r.ensures.list.ok)) tt refl;
+          (parts-one c.build_pats.new.cx e part (pats_shape r.pats) (rw (← c.as_slice.ensures) r.ensures.list.ok)) tt refl;
       err = tt;
     })
 
@@ -69,4 +69,4 @@ returns-in_err-pats-in-Or-clause-room c =
     let r = c.in_err-pats-in-Or in
     rw (c.in-Or.is)
     (passed c.from_residual-in_err-pats-in-Or.result r.field-0.0 _ c.from_residual-in_err-pats-in-Or.ensures.1
-    (first-room c.build_pats.new.cx.rows e (pattern_label or_pattern) part [] r.field-0.0 (rw (← c.as_slice.ensures.value) r.ensures.room)))
+    (first-room c.build_pats.new.cx.rows e (pattern_label or_pattern) part [] r.field-0.0 (rw (← c.as_slice.ensures) r.ensures.room)))

@@ -112,7 +112,7 @@ returns-in_err-build_tys-in-Tuple-clause-kind c =
     let r = c.in_err-build_tys-in-Tuple in
     rw (c.in-Tuple.is)
     (kind-passed c.build_tys.new.cx e (plain (type_label tuple_type) (part ∷ [])) ty_kind_shape c.from_residual-in_err-build_tys-in-Tuple.result r.field-0.0 c.from_residual-in_err-build_tys-in-Tuple.ensures.1
-    (unbuilt-first (HasFullTable c.build_tys.new.cx) e part [] r.field-0.0 (rw (← c.as_slice.ensures.value) r.ensures.list.err)))
+    (unbuilt-first (HasFullTable c.build_tys.new.cx) e part [] r.field-0.0 (rw (← c.as_slice.ensures) r.ensures.list.err)))
 
 pub returns-in_ok-build_tys-in-Tuple-clause-kind : goal.returns-in_ok-build_tys-in-Tuple-clause-kind
 returns-in_ok-build_tys-in-Tuple-clause-kind c =
@@ -122,7 +122,7 @@ returns-in_ok-build_tys-in-Tuple-clause-kind c =
     rw (c.in-Tuple.is)
     (record {
       ok = plain-kind c.build_tys.new.cx e (type_label tuple_type) (part ∷ []) (type_label tuple_type) (shape.also (tys_shape r.field-0) shape.none)
-          (parts-one c.build_tys.new.cx e part (tys_shape r.field-0) (rw (← c.as_slice.ensures.value) r.ensures.list.ok)) tt refl;
+          (parts-one c.build_tys.new.cx e part (tys_shape r.field-0) (rw (← c.as_slice.ensures) r.ensures.list.ok)) tt refl;
       err = tt;
     })
 
@@ -156,7 +156,7 @@ returns-in_err-build_tys-in-Tuple-clause-room c =
     let r = c.in_err-build_tys-in-Tuple in
     rw (c.in-Tuple.is)
     (passed c.from_residual-in_err-build_tys-in-Tuple.result r.field-0.0 _ c.from_residual-in_err-build_tys-in-Tuple.ensures.1
-    (first-room c.build_tys.new.cx.rows e (type_label tuple_type) part [] r.field-0.0 (rw (← c.as_slice.ensures.value) r.ensures.room)))
+    (first-room c.build_tys.new.cx.rows e (type_label tuple_type) part [] r.field-0.0 (rw (← c.as_slice.ensures) r.ensures.room)))
 
 pub returns-in-Param-clause-room : goal.returns-in-Param-clause-room
 returns-in-Param-clause-room c =
