@@ -129,31 +129,7 @@ pub(crate) fn begin<M, F: Core<M>>(
             let new_region = folder.core_region(cx, *region)?;
             Ok(Begun::Done(Child::Region(new_region)))
         }
-        _ => begin_whole::<M, F>(cx, folder, child),
-    }
-}
-
-// Begins a term or a list. Types and lists of types, which most are, have copies of the code of their own, where what
-// the item is isn't asked again.
-#[inline(always)]
-fn begin_whole<M, F: Core<M>>(
-    cx: &mut Interner,
-    folder: &mut F,
-    item: &Child,
-) -> Result<Begun, F::Error>
-    requires owned { F.owned cx.old.rows folder.old }
-    requires item { ArePartsOf cx.old.rows (child_shapes item.now) }
-    requires whole { IsWhole item.now }
-    ensures still { StaysStill F.hooks F.touches_nothing F.meaning (child_shape item.now) cx.old folder.old cx.new }
-    ensures goes { Goes F.owned F.meaning
-        (IsBegun F.hooks (child_trees cx.old.rows item.now) (child_tree cx.old.rows item.now) item.now)
-        (λ s e s'. Fails F.hooks (errors_of F.Error.from_gives cx.new) s (child_tree cx.old.rows item.now) e s')
-        cx.old folder.old result cx.new folder.new }
-{
-    match item {
-        Child::Node(Node::Ty(_)) => begin_item::<M, F>(cx, folder, item),
-        Child::List(List::Tys(_)) => begin_item::<M, F>(cx, folder, item),
-        _ => begin_item::<M, F>(cx, folder, item),
+        _ => begin_item::<M, F>(cx, folder, child),
     }
 }
 
@@ -182,7 +158,7 @@ fn begin_item<M, F: Core<M>>(
             match opened {
                 Some(frame) => Ok(Begun::Inside(frame)),
                 None => {
-                    let value = finish::<M, F>(cx, folder, item, *item)?;
+                    let value = finish_item::<M, F>(cx, folder, item, *item)?;
                     Ok(Begun::Done(value))
                 }
             }
@@ -533,40 +509,6 @@ fn suspend(frames: &mut Frames, frame: &Frame) -> Result<(), Refusal>
 // Builds a term or a list from the results of its children, which are the last values.
 #[inline(always)]
 fn rebuild<M, F: Core<M>>(
-    cx: &mut Interner,
-    folder: &mut F,
-    frame: &Frame,
-    values: &mut Values,
-) -> Result<Child, F::Error>
-    requires owned { F.owned cx.old.rows folder.old }
-    requires holds { Holds cx.old.rows frame.now (last_of frame.now.count values.old.items) }
-    requires full { frame.now.count ≤ length values.old.items }
-    ensures values { OnOk result
-        (values.new.items ≡ take (length values.old.items - frame.now.count) values.old.items) }
-    ensures goes { Goes F.owned F.meaning
-        (IsRebuilt F.hooks cx.old.rows frame.now (last_of frame.now.count values.old.items))
-        (RebuildFails F.hooks
-        (errors_of F.Error.from_gives cx.new)
-        (outline_of cx.old.rows frame.now.item)
-        (children_trees cx.old.rows (last_of frame.now.count values.old.items)))
-        cx.old folder.old result cx.new folder.new }
-{
-    match &frame.item {
-        Child::Node(Node::Ty(_)) => rebuild_term::<M, F>(cx, folder, frame, values),
-        Child::List(List::Tys(tys)) => rebuild_list::<M, F>(
-            cx,
-            folder,
-            frame,
-            List::Tys(*tys),
-            values,
-        ),
-        _ => rebuild_other::<M, F>(cx, folder, frame, values),
-    }
-}
-
-// Builds any term or list from the results of its children.
-#[inline(always)]
-fn rebuild_other<M, F: Core<M>>(
     cx: &mut Interner,
     folder: &mut F,
     frame: &Frame,

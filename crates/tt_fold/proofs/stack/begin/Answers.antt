@@ -18,4 +18,4 @@ returns-in_ok-new_region-in-Region-clause-goes g c =
 
 pub returns-in_default-clause-goes : goal.returns-in_default-clause-goes
 returns-in_default-clause-goes g c =
-    begun_item _ (whole_else _ c.in_default.not-Absent c.in_default.not-Region) c.begin_whole.ensures.goes
+    begun_item _ (whole_else _ c.in_default.not-Absent c.in_default.not-Region) c.begin_item.ensures.goes
