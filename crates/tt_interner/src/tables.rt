@@ -263,8 +263,8 @@ pub(crate) fn find_or_add_list<T: Copy + Eq + Hash + Drop>(
 }
 
 /// Finds a list of types, or adds it as `find_or_add_list` does. A short list is found or added with one look-up. A
-/// longer one is looked up by a copy in `spare`, which has room for each list that it was asked for, so that a list that
-/// is there is found without allocation.
+/// longer one is looked up by a copy in `spare`. That keeps its room from call to call, so a list that is there is found
+/// without allocation.
 pub(crate) fn find_or_add_tys(
     order: &mut Vec<Table>,
     limit: u32,
