@@ -1,4 +1,5 @@
 pub mod Root
+pub mod Handles
 pub mod Visit
 pub mod Steps
 pub mod Frames

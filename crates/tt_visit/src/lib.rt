@@ -11,7 +11,7 @@ pub mod binder;
 mod containers;
 mod data;
 mod frame;
-mod handles;
+pub mod handles;
 mod has_error;
 mod has_escaping_vars;
 mod has_type_flags;
@@ -26,6 +26,7 @@ pub mod visitable;
 pub mod visitor;
 
 pub use binder::{BinderExt, EarlyBinderExt};
+pub use handles::{HasHook, IsWalked};
 pub use has_error::HasErrorVisitor;
 pub use has_escaping_vars::{FoundEscapingVars, HasEscapingVarsVisitor};
 pub use has_type_flags::{FoundFlags, HasTypeFlagsVisitor};

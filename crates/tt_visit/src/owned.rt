@@ -6,6 +6,7 @@ ghost use Rattle.tt_kinds.specs.Kinds.{parts_shapes};
 ghost use Rattle.tt_interner.specs.Owned.{IsPartBy};
 ghost use Rattle.tt_interner.specs.Rows.{size};
 
+use crate::handles::IsWalked;
 use crate::visitable::TypeVisitable;
 use indexmap::IndexSet;
 use smallvec::SmallVec;
@@ -18,15 +19,14 @@ use tt_index::{
 };
 use tt_interner::Interner;
 use tt_kinds::{
-    AliasRelationDirection, AliasTerm, AliasTy, Binder, BoundExistentialPredicates,
-    BoundVarIndexKind, Clause, ClauseKind, Clauses, CoercePredicate, Const, ConstKind, Consts,
-    CoroutineWitnessTypes, ErrorGuaranteed, ExistentialPredicate, ExistentialProjection,
-    ExistentialTraitRef, ExprConst, FnInputTys, FnSig, FnSigTys, GenericArg, GenericArgKind,
-    GenericArgs, GenericArgsSlice, HostEffectPredicate, NormalizesTo, OutlivesPredicate, ParamEnv,
-    Parts, Pat, PatList, PatternKind, PlaceholderConst, PlaceholderRegion, PlaceholderType,
-    PolyExistentialPredicate, Predicate, PredicateKind, ProjectionPredicate, Region,
+    AliasRelationDirection, AliasTerm, AliasTy, Binder, BoundVarIndexKind, Clause, ClauseKind,
+    CoercePredicate, Const, ConstKind, CoroutineWitnessTypes, ErrorGuaranteed,
+    ExistentialPredicate, ExistentialProjection, ExistentialTraitRef, ExprConst, FnInputTys, FnSig,
+    FnSigTys, GenericArg, GenericArgKind, GenericArgsSlice, Handle, HostEffectPredicate,
+    NormalizesTo, OutlivesPredicate, ParamEnv, Parts, PatternKind, PlaceholderConst,
+    PlaceholderRegion, PlaceholderType, Predicate, PredicateKind, ProjectionPredicate, Region,
     RegionAssumptions, SubtypePredicate, Term, TermKind, TraitPredicate, TraitRef, Ty, TyKind,
-    TypeAndMut, Tys, UnevaluatedConst, UnsafeBinderInner, ValTree, ValTreeKind, ValueConst,
+    TypeAndMut, UnevaluatedConst, UnsafeBinderInner, ValTree, ValTreeKind, ValueConst,
 };
 
 /// A value that can test whether its handles are of an interner.
@@ -56,67 +56,7 @@ fn are_parts_owned(cx: &Interner, parts: &Parts) -> bool
     cx.owns_child(&parts.first) && cx.owns_child(&parts.second)
 }
 
-impl Owned for Ty {
-    fn is_owned(&self, cx: &Interner) -> bool {
-        cx.owns(*self)
-    }
-}
-
-impl Owned for Const {
-    fn is_owned(&self, cx: &Interner) -> bool {
-        cx.owns(*self)
-    }
-}
-
-impl Owned for Predicate {
-    fn is_owned(&self, cx: &Interner) -> bool {
-        cx.owns(*self)
-    }
-}
-
-impl Owned for Clauses {
-    fn is_owned(&self, cx: &Interner) -> bool {
-        cx.owns(*self)
-    }
-}
-
-impl Owned for Pat {
-    fn is_owned(&self, cx: &Interner) -> bool {
-        cx.owns(*self)
-    }
-}
-
-impl Owned for PolyExistentialPredicate {
-    fn is_owned(&self, cx: &Interner) -> bool {
-        cx.owns(*self)
-    }
-}
-
-impl Owned for Tys {
-    fn is_owned(&self, cx: &Interner) -> bool {
-        cx.owns(*self)
-    }
-}
-
-impl Owned for Consts {
-    fn is_owned(&self, cx: &Interner) -> bool {
-        cx.owns(*self)
-    }
-}
-
-impl Owned for GenericArgs {
-    fn is_owned(&self, cx: &Interner) -> bool {
-        cx.owns(*self)
-    }
-}
-
-impl Owned for PatList {
-    fn is_owned(&self, cx: &Interner) -> bool {
-        cx.owns(*self)
-    }
-}
-
-impl Owned for BoundExistentialPredicates {
+impl<K: IsWalked> Owned for Handle<K> {
     fn is_owned(&self, cx: &Interner) -> bool {
         cx.owns(*self)
     }
