@@ -18,10 +18,10 @@ use test_terms::{
 };
 use type_terms::{
     AsPredicate, Binder, BoundVarKinds, Clause, ClauseKind, Clauses, ClonesTree, Const, Core,
-    ErrorGuaranteed, FallibleTypeFolder, GenericArg, InternedKind, Interner, Kind, List, Next,
-    Node, Owned, Predicate, PredicateKind, Refusal, Region, RegionKind, Step, Term, Ty, TyKind,
-    TypeFoldable, TypeFolder, TypeSuperFoldable, TypeSuperVisitable, TypeVisitable, TypeVisitor,
-    Tys, visit_kind, visit_list, visit_node,
+    ErrorGuaranteed, FallibleTypeFolder, GenericArg, Handle, HasHook, InternedKind, Interner,
+    IsWalked, Kind, List, Next, Node, Owned, Predicate, PredicateKind, Refusal, Region, RegionKind,
+    Step, Term, Ty, TyKind, TypeFoldable, TypeFolder, TypeSuperFoldable, TypeSuperVisitable,
+    TypeVisitable, TypeVisitor, Tys, visit_kind, visit_list, visit_node,
 };
 
 // Counts the regions outside of errors, and breaks at an error.
@@ -112,6 +112,19 @@ fn regions_inside<T: Owned + TypeSuperVisitable>(
     Ok(counted(outcome, &visitor))
 }
 
+// Returns the count of regions in the term or the list of a handle, which may be of any mark that visits follow.
+fn regions_at<K: IsWalked>(cx: &Interner, handle: Handle<K>) -> Result<Result<u64, u32>, Refusal> {
+    regions_in(cx, &handle)
+}
+
+// Returns the same without the term's own hook.
+fn regions_inside_at<K: HasHook>(
+    cx: &Interner,
+    handle: Handle<K>,
+) -> Result<Result<u64, u32>, Refusal> {
+    regions_inside(cx, &handle)
+}
+
 // Returns the count of regions in stored terms, by their rows, and in a kind that may be stored or not, all together.
 fn regions_in_rows(
     cx: &Interner,
@@ -145,6 +158,8 @@ fn regions_are_counted_holds(cx: &mut Interner) -> Result<bool, Refusal> {
         regions_in(cx, &(&(region, two), GenericArg::from(one))) == Ok(Ok(4))
             && regions_inside(cx, &two) == Ok(Ok(2))
             && regions_inside(cx, &bound) == Ok(Ok(3))
+            && regions_at(cx, list) == Ok(Ok(3))
+            && regions_inside_at(cx, two) == Ok(Ok(2))
             && regions_in_rows(cx, two, list, TyKind::Tuple(list)) == Ok(Ok(8)),
     )
 }
