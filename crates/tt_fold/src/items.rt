@@ -1,10 +1,12 @@
 //! Children as the walk takes them: terms and lists as one, where a list of clauses is also a term.
 
-ghost use Rattle.std.specs.Prelude.{◌≡◌, ◌↔◌, IfErr, IsTrue, OnErr, OnOk};
+ghost use Rattle.std.specs.Prelude.{◌≡◌, ◌↔◌, IfErr, IfSome, IsTrue, OnErr, OnOk};
 ghost use Rattle.tt_index.specs.declared.refusal.Refusal.TheVariants.{NotAClause};
 ghost use Rattle.tt_kinds.specs.Kinds.{child_shapes};
 ghost use Rattle.tt_kinds.specs.Parts.{child_sort, IsItem};
 ghost use Rattle.tt_kinds.specs.declared.parts.Child.TheVariants as child;
+ghost use Rattle.tt_kinds.specs.declared.parts.List.TheVariants as list;
+ghost use Rattle.tt_kinds.specs.declared.parts.Node.TheVariants as node;
 ghost use Rattle.tt_fold.specs.Items.{
   child_list,
   child_node,
@@ -22,7 +24,7 @@ ghost use Rattle.tt_fold.specs.Walk.{clause_trees, HasUnwanted, wanted_of};
 
 use tt_index::Refusal;
 use tt_interner::{AsClause, Interner};
-use tt_kinds::{Child, List, ListSort, Node};
+use tt_kinds::{Child, List, ListSort, Node, Ty, Tys};
 
 // Returns the list that a child is, if it is one. A list of clauses may also be a term.
 #[inline(always)]
@@ -45,6 +47,28 @@ fn clause_list(node: Node) -> Option<List>
         Node::Clauses(clauses) => Some(List::Clauses(clauses)),
         Node::Ty(_) | Node::Const(_) | Node::Pat(_) | Node::Predicate(_) | Node::Existential(_) =>
             None,
+    }
+}
+
+// Returns the type that a child is, if it is one.
+#[inline(always)]
+pub(crate) fn ty_in(item: &Child) -> Option<Ty>
+    ensures { IfSome result (λ ty. item.now ≡ child.Node (node.Ty ty)) }
+{
+    match item {
+        Child::Node(Node::Ty(ty)) => Some(*ty),
+        _ => None,
+    }
+}
+
+// Returns the list of types that a child is, if it is one.
+#[inline(always)]
+pub(crate) fn tys_in(item: &Child) -> Option<Tys>
+    ensures { IfSome result (λ tys. item.now ≡ child.List (list.Tys tys)) }
+{
+    match item {
+        Child::List(List::Tys(tys)) => Some(*tys),
+        _ => None,
     }
 }
 

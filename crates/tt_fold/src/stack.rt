@@ -63,7 +63,9 @@ ghost use Rattle.tt_fold.specs.Going.{
 
 use crate::core_folder::Core;
 use crate::folder::Step;
-use crate::items::{as_item, as_list_item, check_item, hooked_in, is_absent, list_in, term_in};
+use crate::items::{
+    as_item, as_list_item, check_item, hooked_in, is_absent, list_in, term_in, ty_in, tys_in,
+};
 use smallvec::SmallVec;
 use tt_index::Refusal;
 use tt_interner::Interner;
@@ -103,7 +105,8 @@ type Frames = SmallVec<Frame, 8>;
 // The results of the children of all frames. A few short lists need no allocation.
 type Values = SmallVec<Child, 16>;
 
-// Begins a child: calls its hook, and enters its binder.
+// Begins a child: calls its hook, and enters its binder. What is walked is mostly types and lists of types, so their steps
+// alone are a part of the loop. Other terms and lists have calls.
 #[inline(always)]
 pub(crate) fn begin<M, F: Core<M>>(
     cx: &mut Interner,
@@ -129,8 +132,50 @@ pub(crate) fn begin<M, F: Core<M>>(
             let new_region = folder.core_region(cx, *region)?;
             Ok(Begun::Done(Child::Region(new_region)))
         }
-        _ => begin_item::<M, F>(cx, folder, child),
+        _ => match (ty_in(child), tys_in(child)) {
+            (Some(ty), _) => {
+                let item = Child::Node(Node::Ty(ty));
+                begin_item::<M, F>(cx, folder, &item)
+            }
+            (None, Some(tys)) => {
+                let list = List::Tys(tys);
+                Ok(Begun::Inside(list_frame(cx, &Child::List(list), list)))
+            }
+            (None, None) => {
+                // Copied in and out, so that neither has a place in memory in the other arms too.
+                let item = *child;
+                let begun = begin_other::<M, F>(cx, folder, &item)?;
+                match begun {
+                    Begun::Done(value) => Ok(Begun::Done(value)),
+                    Begun::Inside(frame) => Ok(Begun::Inside(frame)),
+                }
+            }
+        },
     }
+}
+
+// Begins a term or a list of any table, outside of the loop.
+#[inline(never)]
+fn begin_other<M, F: Core<M>>(
+    cx: &mut Interner,
+    folder: &mut F,
+    item: &Child,
+) -> Result<Begun, F::Error>
+    requires owned { F.owned cx.old.rows folder.old }
+    requires item { ArePartsOf cx.old.rows (child_shapes item.now) }
+    requires whole { IsWhole item.now }
+    ensures still { StaysStill F.hooks F.touches_nothing F.meaning (child_shape item.now) cx.old folder.old cx.new }
+    ensures goes { Goes F.owned F.meaning
+        (IsBegun F.hooks (child_trees cx.old.rows item.now) (child_tree cx.old.rows item.now) item.now)
+        (λ s e s'. ChildFails F.hooks
+        (errors_of F.Error.from_gives cx.new)
+        s
+        (child_trees cx.old.rows item.now)
+        e
+        s')
+        cx.old folder.old result cx.new folder.new }
+{
+    begin_item::<M, F>(cx, folder, item)
 }
 
 // Begins a term or a list. A term without children is done at once.
@@ -158,7 +203,9 @@ fn begin_item<M, F: Core<M>>(
             match opened {
                 Some(frame) => Ok(Begun::Inside(frame)),
                 None => {
-                    let value = finish_item::<M, F>(cx, folder, item, *item)?;
+                    // Copied, so that the item itself needs no place in memory.
+                    let leaf = *item;
+                    let value = finish_other::<M, F>(cx, folder, &leaf, *item)?;
                     Ok(Begun::Done(value))
                 }
             }
@@ -337,8 +384,42 @@ pub(crate) fn finish<M, F: Core<M>>(
     match before {
         Child::Node(Node::Ty(_)) => finish_item::<M, F>(cx, folder, before, rebuilt),
         Child::List(List::Tys(_)) => finish_item::<M, F>(cx, folder, before, rebuilt),
-        _ => finish_item::<M, F>(cx, folder, before, rebuilt),
+        _ => {
+            // Copied in and out, as where a child is begun.
+            let item = *before;
+            let finished = finish_other::<M, F>(cx, folder, &item, rebuilt)?;
+            Ok(finished)
+        }
     }
+}
+
+// Calls the hook of any term or list after its contents, outside of the loop.
+#[inline(never)]
+fn finish_other<M, F: Core<M>>(
+    cx: &mut Interner,
+    folder: &mut F,
+    before: &Child,
+    rebuilt: Child,
+) -> Result<Child, F::Error>
+    requires owned { F.owned cx.old.rows folder.old }
+    requires before { ArePartsOf cx.old.rows (child_shapes before.now) }
+    requires whole { IsWhole before.now }
+    requires rebuilt { IsChildFor before.now cx.old.rows rebuilt }
+    ensures { Goes F.owned F.meaning
+        (λ rows y s s'. IsChildFor before.now rows y
+        × Finishes F.hooks
+        (child_tree cx.old.rows before.now)
+        (child_tree cx.old.rows rebuilt)
+        s
+        (child_tree rows y)
+        s')
+        (FinishFails F.hooks
+        (errors_of F.Error.from_gives cx.new)
+        (child_tree cx.old.rows before.now)
+        (child_tree cx.old.rows rebuilt))
+        cx.old folder.old result cx.new folder.new }
+{
+    finish_item::<M, F>(cx, folder, before, rebuilt)
 }
 
 // Calls the hook of any term or list after its contents.
@@ -497,7 +578,10 @@ fn suspend(frames: &mut Frames, frame: &Frame) -> Result<(), Refusal>
     ensures kept { OnOk result (frames.new.items ≡ frames.old.items ++ frame.now ∷ []) }
     ensures memory { IfErr result (λ e. e ≡ Memory) }
 {
-    frames.reserve(1)?;
+    // There is mostly room, and asking for it is a call.
+    if frames.len() == frames.capacity() {
+        frames.reserve(1)?;
+    }
     frames.push_reserved(Frame {
         item: frame.item,
         count: frame.count,
@@ -509,6 +593,45 @@ fn suspend(frames: &mut Frames, frame: &Frame) -> Result<(), Refusal>
 // Builds a term or a list from the results of its children, which are the last values.
 #[inline(always)]
 fn rebuild<M, F: Core<M>>(
+    cx: &mut Interner,
+    folder: &mut F,
+    frame: &Frame,
+    values: &mut Values,
+) -> Result<Child, F::Error>
+    requires owned { F.owned cx.old.rows folder.old }
+    requires holds { Holds cx.old.rows frame.now (last_of frame.now.count values.old.items) }
+    requires full { frame.now.count ≤ length values.old.items }
+    ensures values { OnOk result
+        (values.new.items ≡ take (length values.old.items - frame.now.count) values.old.items) }
+    ensures goes { Goes F.owned F.meaning
+        (IsRebuilt F.hooks cx.old.rows frame.now (last_of frame.now.count values.old.items))
+        (RebuildFails F.hooks
+        (errors_of F.Error.from_gives cx.new)
+        (outline_of cx.old.rows frame.now.item)
+        (children_trees cx.old.rows (last_of frame.now.count values.old.items)))
+        cx.old folder.old result cx.new folder.new }
+{
+    match &frame.item {
+        Child::Node(Node::Ty(_)) => rebuild_term::<M, F>(cx, folder, frame, values),
+        Child::List(List::Tys(tys)) => rebuild_list::<M, F>(
+            cx,
+            folder,
+            frame,
+            List::Tys(*tys),
+            values,
+        ),
+        _ => {
+            // Copied in and out, as where a child is begun.
+            let copied = *frame;
+            let rebuilt = rebuild_other::<M, F>(cx, folder, &copied, values)?;
+            Ok(rebuilt)
+        }
+    }
+}
+
+// Builds a term or a list of any table from the results of its children, outside of the loop.
+#[inline(never)]
+fn rebuild_other<M, F: Core<M>>(
     cx: &mut Interner,
     folder: &mut F,
     frame: &Frame,
