@@ -105,8 +105,8 @@ type Frames = SmallVec<Frame, 8>;
 // The results of the children of all frames. A few short lists need no allocation.
 type Values = SmallVec<Child, 16>;
 
-// Begins a child: calls its hook, and enters its binder. What is walked is mostly types and lists of types, so their steps
-// alone are a part of the loop. Other terms and lists have calls.
+// Begins a child: calls its hook, and enters its binder. What is walked is mostly types and lists of types, so their
+// steps alone are a part of the loop. Other terms and lists have calls.
 #[inline(always)]
 pub(crate) fn begin<M, F: Core<M>>(
     cx: &mut Interner,
