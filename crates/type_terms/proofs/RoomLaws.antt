@@ -26,7 +26,7 @@ use Rattle.type_terms.specs.declared.run.call.VariableCall.{VariableCall}
 use Rattle.type_terms.specs.CallForm.{Item, Part, one, a_region, a_list, CallForm, param, plain, under, trait_object}
 use Rattle.type_terms.specs.CallForm.{ExistentialForm, IsShortExistential, RecordCall, labelled_parts, all_trees}
 use Rattle.type_terms.specs.CallForm.{existential_tree, existentials_tree, form_tree, Named, variable_kind}
-use Rattle.type_terms.specs.CallForm.{variable_text, region_text, item_tree, part_tree}
+use Rattle.type_terms.specs.CallForm.{variable_name_text, region_text, item_tree, part_tree}
 use Rattle.type_terms.specs.Told.{Told, told_all, IsStored}
 use Rattle.type_terms.specs.Means.{number_at, tree_at}
 use Rattle.type_terms.specs.Build.{ArePlaced, AreItemsOf, AreVariablesOf, IsKindOf}
@@ -107,7 +107,7 @@ named-room rows e s i name (Ok k) new = tt
 named-room rows e s i name (Err r) new = param-room rows e s i name r new
 
 -- a variable's name is new
-pub variable-room : (rows : List Row) (ids : ℕ → ℕ) (cs : List VariableCall) (i : ℕ) (c : VariableCall) (r : Refusal) → slice_get cs i ≡ Some c → LacksText rows (variable_text c)
+pub variable-room : (rows : List Row) (ids : ℕ → ℕ) (cs : List VariableCall) (i : ℕ) (c : VariableCall) (r : Refusal) → slice_get cs i ≡ Some c → LacksText rows (variable_name_text c)
     → VarsNeedRoom rows (map (variable_kind ids) cs) r
 variable-room rows ids cs i c r here lacks room short = variable-lacks rows ids cs i c here lacks
 

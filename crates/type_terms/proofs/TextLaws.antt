@@ -24,7 +24,7 @@ use Rattle.type_terms.specs.declared.run.call.VariableCall.TheVariants as variab
 use Rattle.type_terms.specs.declared.run.call.RegionCall.{RegionCall}
 use Rattle.type_terms.specs.declared.run.call.RegionCall.TheVariants.{ReEarlyParam, ReBound, ReLateParam, ReStatic}
 use Rattle.type_terms.specs.declared.run.call.RegionCall.TheVariants.{ReVar, RePlaceholder, ReErased, ReError}
-use Rattle.type_terms.specs.CallForm.{called, variable_kind, region_call_tree, name_text, region_text, variable_text}
+use Rattle.type_terms.specs.CallForm.{called, variable_kind, region_call_tree, name_text, region_text, variable_name_text}
 use Rattle.type_terms.specs.Room.{HasValue, LacksValue, LacksText}
 use Rattle.type_terms.proofs.ValueLaws.{IsNode, in-node, new-lacks}
 
@@ -177,7 +177,7 @@ region-lacks rows ids r lacks are v = lacking rows are (region_text r) (region_c
 pub param-lacks : (rows : List Row) (s : Sort) (i : ℕ) (name : Name) → IsNew (text_row name) rows → LacksValue rows (tree.param s i name)
 param-lacks rows s i name new are v = lacking rows are (Some name) (tree.param s i name) refl new v
 
-var-text : (ids : ℕ → ℕ) (c : VariableCall) → var_text (variable_kind ids c) ≡ variable_text c
+var-text : (ids : ℕ → ℕ) (c : VariableCall) → var_text (variable_kind ids c) ≡ variable_name_text c
 var-text ids (variable.Ty k) = refl
 var-text ids (variable.Region k) = name-text ids k
 var-text ids variable.Const = refl
@@ -189,10 +189,10 @@ named-variable rows are vs i v (Some name) here e lacks n =
     known-text rows are name (label-text (meaning rows) (size rows) n.label vs i v name n.named n.renamed here e) lacks
 
 -- nor a list of variables with such a name
-pub variable-lacks : (rows : List Row) (ids : ℕ → ℕ) (cs : List VariableCall) (i : ℕ) (c : VariableCall) → slice_get cs i ≡ Some c → LacksText rows (variable_text c)
+pub variable-lacks : (rows : List Row) (ids : ℕ → ℕ) (cs : List VariableCall) (i : ℕ) (c : VariableCall) → slice_get cs i ≡ Some c → LacksText rows (variable_name_text c)
     → LacksValue rows (node (var_list_label (map (variable_kind ids) cs)) tree.none)
 variable-lacks rows ids cs i c here lacks are v =
-    named-variable rows are (map (variable_kind ids) cs) i (variable_kind ids c) (variable_text c)
+    named-variable rows are (map (variable_kind ids) cs) i (variable_kind ids c) (variable_name_text c)
     (slice_get-map (variable_kind ids) cs i ∙ ap (option_map (variable_kind ids)) here) (var-text ids c) lacks
     (in-node rows are (var_list_label (map (variable_kind ids) cs)) tree.none v)
 

@@ -183,9 +183,9 @@ region_text (RePlaceholder u var name) = name_text name
 region_text _ = None
 
 -- the text of a variable's name, if there is one
-abbrev pub variable_text : VariableCall → Option Name
-variable_text (variable.Region name) = name_text name
-variable_text _ = None
+abbrev pub variable_name_text : VariableCall → Option Name
+variable_name_text (variable.Region name) = name_text name
+variable_name_text _ = None
 
 -- the number of the id at each position
 module _ (ids : ℕ → ℕ) where

@@ -21,5 +21,5 @@ at_most limit None = None
 at_most limit (Some n) = if nat_le n limit then Some n else None
 
 -- the number that the word writes, if it is at most the limit
-abbrev pub number_of : ℕ → List ℕ → Option ℕ
-number_of limit word = at_most limit (decimal word)
+abbrev pub number_within : ℕ → List ℕ → Option ℕ
+number_within limit word = at_most limit (decimal word)

@@ -15,7 +15,7 @@ ghost use Rattle.tt_interner.specs.Stored.{Extends};
 ghost use Rattle.type_terms.specs.CallForm.{
   name_text,
   region_text,
-  variable_text,
+  variable_name_text,
   param,
   called,
   ty_called,
@@ -120,7 +120,7 @@ fn build_var(
 ) -> Result<BoundVariableKind, Refusal>
     ensures extends { Extends cx.old cx.new }
     ensures var { (rows : List Row) → GivesVariable cx.new (number_at (told_all rows earlier.now)) var.now result }
-    ensures room { OnErr result (LacksText cx.new.rows (variable_text var.now)) }
+    ensures room { OnErr result (LacksText cx.new.rows (variable_name_text var.now)) }
 {
     match var {
         VariableCall::Ty(name) => Ok(BoundVariableKind::Ty(ty_name(earlier, *name))),

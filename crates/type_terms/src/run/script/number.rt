@@ -1,12 +1,12 @@
 //! Numbers in scripts.
 
 ghost use Rattle.std.specs.Prelude.{◌≡◌};
-ghost use Rattle.type_terms.specs.Number.{number_of};
+ghost use Rattle.type_terms.specs.Number.{number_within};
 
 /// Returns the word's decimal number, leading zeros allowed, if it is at most `limit`. A word without a digit, or with
 /// anything but digits, has none.
 pub fn parse_number(word: &[u8], limit: u32) -> Option<u32>
-    ensures { result ≡ number_of limit word.now }
+    ensures { result ≡ number_within limit word.now }
 {
     if word.is_empty() {
         return None;
