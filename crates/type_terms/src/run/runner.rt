@@ -100,6 +100,7 @@ fn answer_call(cx: &mut Interner, earlier: &[Answer], call: &Call) -> Answer
 }
 
 // Returns the answer to a call whose ids are there.
+#[inline(always)]
 fn answer_named(cx: &mut Interner, earlier: &[Answer], call: &Call) -> Answer
     requires owned { AreOwnedAnswers cx.old.rows earlier.now }
     requires named { AreTerms (told_all cx.old.rows earlier.now) (id_positions call.now) }

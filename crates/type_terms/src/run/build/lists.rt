@@ -40,6 +40,7 @@ use tt_kinds::{
 pub const MOST_IN_PLACE: usize = 8;
 
 /// Returns the list of the types at the positions.
+#[inline(always)]
 pub fn build_tys(cx: &mut Interner, earlier: &[Answer], positions: &[u32]) -> Result<Tys, Refusal>
     requires { AreOwnedAnswers cx.old.rows earlier.now }
     ensures extends { Extends cx.old cx.new }

@@ -151,6 +151,7 @@ fn build_name(
 }
 
 /// Returns the region that the call names.
+#[inline(always)]
 pub fn build_region(
     cx: &mut Interner,
     earlier: &[Answer],

@@ -69,11 +69,13 @@ pub fn number(words: &mut Words, limit: u32) -> Result<u32, LineError>
 }
 
 /// Returns the position of the next word.
+#[inline(always)]
 pub fn position(words: &mut Words) -> Result<u32, LineError> {
     parse_position(words.next_word().ok_or(LineError::Bad)?)
 }
 
 /// Returns the positions of all further words.
+#[inline(always)]
 pub fn positions(alloc: Global, words: &mut Words) -> Result<Positions, LineError> {
     let mut positions = SmallVec::new(alloc);
     while let Some(word) = words.next_word() {

@@ -11,6 +11,7 @@ use tt_index::{BoundVar, DebruijnIndex, GREATEST_INDEX, RegionVid};
 use tt_kinds::{BoundVarIndexKind, ErrorGuaranteed};
 
 /// Returns the region of a word.
+#[inline(always)]
 pub fn parse_region(alloc: Global, word: &[u8]) -> Result<RegionCall, LineError> {
     match word {
         b"'static" => Ok(RegionCall::ReStatic),

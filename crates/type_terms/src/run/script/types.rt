@@ -78,6 +78,7 @@ fn parse_name(word: &[u8]) -> Option<TyCall> {
 }
 
 // Returns a reference of the region and the type that the next two words name.
+#[inline(always)]
 fn reference(
     alloc: Global,
     words: &mut Words,
