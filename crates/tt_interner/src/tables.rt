@@ -304,10 +304,21 @@ pub(crate) fn find_or_add_tys(
             None => add_tys(order, limit, table, entries, items, info),
         };
     }
-    match SmallVec::from_slice(*entries.allocator(), items) {
-        Ok(key) => find_or_insert(order, limit, table, entries, key, info),
-        Err(_) => unreachable!(),
+    let key = short_key(*entries.allocator(), items);
+    find_or_insert(order, limit, table, entries, key, info)
+}
+
+// Returns the key of a short list, for which no memory is asked.
+#[inline(always)]
+fn short_key(alloc: Global, items: &[Ty]) -> TyList
+    requires { length items.now ≤ 4 }
+    ensures { result.items ≡ items.now }
+{
+    let mut key: TyList = SmallVec::new(alloc);
+    for item in items {
+        key.push_reserved(*item);
     }
+    key
 }
 
 // Adds a new list of types, as `add`.
