@@ -24,7 +24,8 @@ use Rattle.type_terms.specs.declared.run.call.VariableCall.TheVariants as variab
 use Rattle.type_terms.specs.declared.run.call.RegionCall.{RegionCall}
 use Rattle.type_terms.specs.declared.run.call.RegionCall.TheVariants.{ReEarlyParam, ReBound, ReLateParam, ReStatic}
 use Rattle.type_terms.specs.declared.run.call.RegionCall.TheVariants.{ReVar, RePlaceholder, ReErased, ReError}
-use Rattle.type_terms.specs.CallForm.{called, variable_kind, region_call_tree, name_text, region_text, variable_name_text}
+use Rattle.type_terms.specs.CallForm.{called, variable_kind, region_call_tree, name_text, region_text}
+use Rattle.type_terms.specs.CallForm.{variable_name_text}
 use Rattle.type_terms.specs.Room.{HasValue, LacksValue, LacksText}
 use Rattle.type_terms.proofs.ValueLaws.{IsNode, in-node, new-lacks}
 

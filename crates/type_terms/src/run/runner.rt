@@ -30,8 +30,8 @@ use tt_interner::Interner;
 /// Each answer is one that its call may have in the interner as the calls before it left it. In particular, these calls
 /// are refused with neither `Memory` nor `TableFull`:
 ///
-/// - one that builds a term that is stored by then, even if it was stored as a part of another term and no answer is it.
-///   A term with a list of more than eight items (terms, arguments, existential predicates or variables of a binder) is
+/// - one that builds a term that is stored by then, even if it was stored as a part of another term and no answer is
+///   it. A term with a list of more than eight items (terms, arguments, existential predicates or variables of a binder) is
 ///   excepted: its items are collected in memory before the list is looked up;
 /// - a shift by 0, or of a term that no variable escapes; an erasing of a term in which no region is met;
 /// - an instantiation of a type or a constant that is itself a parameter, of a term without parameters if there are no

@@ -17,8 +17,8 @@ use std::alloc::{AllocError, Global};
 use std::io::{ErrorKind, Read, Write};
 use tt_interner::Interner;
 
-/// Runs a script: reads `input` to its end, then makes an interner and runs the calls on it, then writes a line for each
-/// answer to `output`.
+/// Runs a script: reads `input` to its end, then makes an interner and runs the calls on it, then writes a line for
+/// each answer to `output`.
 pub fn run_script<R: Read + Drop, W: Write + Drop>(
     alloc: Global,
     mut input: R,

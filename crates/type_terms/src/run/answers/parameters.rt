@@ -30,7 +30,9 @@ pub fn parameter_of(cx: &Interner, answer: &Answer) -> Option<Parameter>
     ensures { MatchOption
         result
         (IsSomeAnd (as_term (Some (told cx.now.rows answer.now))) IsParameter → ⊥)
-        (λ p. IsSomeAnd (as_term (Some (told cx.now.rows answer.now))) (IsParameterOf (parameter_sort p) (parameter_index p))) }
+        (λ p. IsSomeAnd
+        (as_term (Some (told cx.now.rows answer.now)))
+        (IsParameterOf (parameter_sort p) (parameter_index p))) }
 {
     match answer {
         Answer::Ty(ty) => type_parameter(cx, *ty),
@@ -45,7 +47,8 @@ fn type_parameter(cx: &Interner, ty: Ty) -> Option<Parameter>
     ensures { MatchOption
         result
         ((i : ℕ) → IsParam type_sort i (meaning cx.now.rows Types ty.number) → ⊥)
-        (λ p. (parameter_sort p ≡ type_sort) × IsParam type_sort (parameter_index p) (meaning cx.now.rows Types ty.number)) }
+        (λ p. (parameter_sort p ≡ type_sort)
+        × IsParam type_sort (parameter_index p) (meaning cx.now.rows Types ty.number)) }
 {
     cx.are_rows();
     match ty.kind(cx) {

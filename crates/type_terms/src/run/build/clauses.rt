@@ -8,7 +8,14 @@ ghost use Rattle.tt_kinds.specs.Kinds.{clause_shape, clauses_shape};
 ghost use Rattle.tt_interner.specs.Rows.{IsClause};
 ghost use Rattle.tt_interner.specs.Stored.{Extends};
 ghost use Rattle.type_terms.specs.declared.run.call.Call.TheVariants.{Clauses as BuildsClauses};
-ghost use Rattle.type_terms.specs.CallForm.{clause_items, one, a_clause, items_positions, AreItemsTooDeep, clauses_tree};
+ghost use Rattle.type_terms.specs.CallForm.{
+  a_clause,
+  AreItemsTooDeep,
+  clause_items,
+  clauses_tree,
+  items_positions,
+  one,
+};
 ghost use Rattle.type_terms.specs.Told.{told_all, AreOwnedAnswers, HasFullTable};
 ghost use Rattle.type_terms.specs.Means.{number_at, tree_at};
 ghost use Rattle.type_terms.specs.Build.{IsUnbuiltPart, AreClausesAt, GivesPart, GivesPlaced, MayAnswerCall};
