@@ -1,7 +1,8 @@
 //! Children as the walk takes them: terms and lists as one, where a list of clauses is also a term.
 
-ghost use Rattle.std.specs.Prelude.{◌≡◌, ◌↔◌, IfErr, IfSome, IsTrue, OnErr, OnOk};
+ghost use Rattle.std.specs.Prelude.{◌≡◌, ◌↔◌, IfErr, IsTrue, MatchOption, OnErr, OnOk};
 ghost use Rattle.tt_index.specs.declared.refusal.Refusal.TheVariants.{NotAClause};
+ghost use Rattle.tt_kinds.specs.Handle.{Ty, Tys};
 ghost use Rattle.tt_kinds.specs.Kinds.{child_shapes};
 ghost use Rattle.tt_kinds.specs.Parts.{child_sort, IsItem};
 ghost use Rattle.tt_kinds.specs.declared.parts.Child.TheVariants as child;
@@ -53,7 +54,10 @@ fn clause_list(node: Node) -> Option<List>
 // Returns the type that a child is, if it is one.
 #[inline(always)]
 pub(crate) fn ty_in(item: &Child) -> Option<Ty>
-    ensures { IfSome result (λ ty. item.now ≡ child.Node (node.Ty ty)) }
+    ensures { MatchOption
+        result
+        ((ty : Ty) → item.now ≡ child.Node (node.Ty ty) → ⊥)
+        (λ ty. item.now ≡ child.Node (node.Ty ty)) }
 {
     match item {
         Child::Node(Node::Ty(ty)) => Some(*ty),
@@ -64,7 +68,10 @@ pub(crate) fn ty_in(item: &Child) -> Option<Ty>
 // Returns the list of types that a child is, if it is one.
 #[inline(always)]
 pub(crate) fn tys_in(item: &Child) -> Option<Tys>
-    ensures { IfSome result (λ tys. item.now ≡ child.List (list.Tys tys)) }
+    ensures { MatchOption
+        result
+        ((tys : Tys) → item.now ≡ child.List (list.Tys tys) → ⊥)
+        (λ tys. item.now ≡ child.List (list.Tys tys)) }
 {
     match item {
         Child::List(List::Tys(tys)) => Some(*tys),
