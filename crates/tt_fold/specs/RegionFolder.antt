@@ -5,7 +5,7 @@ use Rattle.tt_index.specs.Greatest.{greatest}
 use Rattle.tt_index.specs.declared.refusal.Refusal.{Refusal}
 use Rattle.tt_index.specs.declared.refusal.Refusal.TheVariants.{Memory, TableFull, GreatestIndex}
 use Rattle.tt_kinds.specs.Label.{Name, text_label}
-use Rattle.tt_kinds.specs.Tree.{Depth, Tree, region, node, none}
+use Rattle.tt_kinds.specs.Tree.{Depth, Tree, node, none}
 use Rattle.tt_kinds.specs.Met.{Met, met, placed}
 pub use Rattle.tt_kinds.specs.Fitting.{BindersFit, BindersFit_all}
 use Rattle.tt_kinds.specs.Shape.{fill, IsPart, name_of}

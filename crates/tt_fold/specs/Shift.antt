@@ -4,7 +4,7 @@ use Rattle.std.specs.Prelude.{⊤}
 use Rattle.tt_index.specs.Greatest.{greatest}
 use Rattle.tt_index.specs.declared.refusal.Refusal.{Refusal}
 use Rattle.tt_index.specs.declared.refusal.Refusal.TheVariants.{Memory, TableFull, GreatestIndex}
-use Rattle.tt_kinds.specs.Tree.{Depth, Tree, bound, region}
+use Rattle.tt_kinds.specs.Tree.{Depth, Tree, bound}
 use Rattle.tt_kinds.specs.Matched.{MatchedUnder}
 use Rattle.tt_kinds.specs.Reading.{read, move, outer_binder, Fits, FitsUnder, keep as keep_parameter}
 use Rattle.tt_kinds.specs.Shape.{Meaning, fill}
