@@ -105,8 +105,8 @@ type Frames = SmallVec<Frame, 8>;
 // The results of the children of all frames. A few short lists need no allocation.
 type Values = SmallVec<Child, 16>;
 
-// Begins a child: calls its hook, and enters its binder. What is walked is mostly types and lists of types, so their
-// steps alone are a part of the loop. Other terms and lists have calls.
+// Begins a child: calls its hook, and enters its binder. Most children are types and lists of types, so only their
+// steps are inlined in the loop. Other terms and lists are begun by a call.
 #[inline(always)]
 pub(crate) fn begin<M, F: Core<M>>(
     cx: &mut Interner,
@@ -142,7 +142,7 @@ pub(crate) fn begin<M, F: Core<M>>(
                 Ok(Begun::Inside(list_frame(cx, &Child::List(list), list)))
             }
             (None, None) => {
-                // Copied in and out, so that neither has a place in memory in the other arms too.
+                // The argument and the result are copied, so that neither needs a place in memory in the other arms.
                 let item = *child;
                 let begun = begin_other::<M, F>(cx, folder, &item)?;
                 match begun {
@@ -203,7 +203,7 @@ fn begin_item<M, F: Core<M>>(
             match opened {
                 Some(frame) => Ok(Begun::Inside(frame)),
                 None => {
-                    // Copied, so that the item itself needs no place in memory.
+                    // Copied, so that the item itself can stay in registers.
                     let leaf = *item;
                     let value = finish_other::<M, F>(cx, folder, &leaf, *item)?;
                     Ok(Begun::Done(value))
@@ -385,7 +385,7 @@ pub(crate) fn finish<M, F: Core<M>>(
         Child::Node(Node::Ty(_)) => finish_item::<M, F>(cx, folder, before, rebuilt),
         Child::List(List::Tys(_)) => finish_item::<M, F>(cx, folder, before, rebuilt),
         _ => {
-            // Copied in and out, as where a child is begun.
+            // The argument and the result are copied, as where a child is begun.
             let item = *before;
             let finished = finish_other::<M, F>(cx, folder, &item, rebuilt)?;
             Ok(finished)
@@ -578,7 +578,7 @@ fn suspend(frames: &mut Frames, frame: &Frame) -> Result<(), Refusal>
     ensures kept { OnOk result (frames.new.items ≡ frames.old.items ++ frame.now ∷ []) }
     ensures memory { IfErr result (λ e. e ≡ Memory) }
 {
-    // There is mostly room, and asking for it is a call.
+    // There is room in most cases, and `reserve` is a call.
     if frames.len() == frames.capacity() {
         frames.reserve(1)?;
     }
@@ -621,7 +621,7 @@ fn rebuild<M, F: Core<M>>(
             values,
         ),
         _ => {
-            // Copied in and out, as where a child is begun.
+            // The argument and the result are copied, as where a child is begun.
             let copied = *frame;
             let rebuilt = rebuild_other::<M, F>(cx, folder, &copied, values)?;
             Ok(rebuilt)

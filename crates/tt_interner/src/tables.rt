@@ -308,7 +308,7 @@ pub(crate) fn find_or_add_tys(
     find_or_insert(order, limit, table, entries, key, info)
 }
 
-// Returns the key of a short list, for which no memory is asked.
+// Returns the key of a short list. It takes no memory of its own.
 #[inline(always)]
 fn short_key(alloc: Global, items: &[Ty]) -> TyList
     requires { length items.now ≤ 4 }
