@@ -25,8 +25,10 @@ use Rattle.tt_fold.specs.Stack.{Finishes, FinishFails, Rests, RestFails, in_left
 use Rattle.tt_fold.specs.Items.{child_tree, IsWhole}
 use Rattle.tt_fold.specs.Going.{outline_of, children_in, absent_among, IsFoldFrame, Holds, IsNotKept, IsResult, last_of}
 use Rattle.tt_fold.specs.Going.{left_of, BegunFrame, frames_of, values_of, work, work_all, frames_work, total_work}
-use Rattle.tt_fold.specs.Going.{IsNewFrame}
+use Rattle.tt_fold.specs.Going.{IsNewFrame, IsFrameOrResult, HasAdvanced, IsStuck, BeginsChild}
 use Rattle.tt_fold.specs.Going.{Going}
+use Rattle.tt_fold.specs.declared.stack.Begun.{Begun}
+use Rattle.tt_fold.specs.declared.stack.Begun.TheVariants as begun
 use Rattle.tt_fold.specs.declared.stack.Frame.{Frame}
 use Rattle.tt_fold.proofs.PartLaws.{joined_trees-none, no_trees, no_parts, one_tree}
 use Rattle.tt_fold.proofs.WantedLaws.{none-wanted, joined_trees-wanted, child_fails, child_unwanted, memory_unbuilt}
@@ -276,6 +278,33 @@ module _ {M E S : Type 0} {owned : Listed Row → S → Type 0} {means : Listed 
             (in_left (FailsAll-before _ (child_unwanted (wanted_by (outline_of terms.rows f.item)) terms.rows c w bad (subst (λ x. gives x e) k.1 gave)))));
       }
 
+  -- what was begun is the frame of contents, or a result of the frame
+  pub begun_fits : {terms terms1 : Terms} {s s1 : S} {f : Frame} {fs : Listed Frame} {vs : Listed Child} (c : Child) (b : Begun)
+      → Going owned means H gives terms0 s0 first terms s f fs vs → slice_get (children_in terms.rows f) f.next ≡ Some c
+      → BeginsChild owned means H gives c terms s (Ok b) terms1 s1 → IsFrameOrResult terms1.rows (stepped f) b
+  begun_fits c (begun.Done y) h is_c d =
+      let is_y = d.outcome.0 in
+      record { owned = is_y.owned; fit = frame_fits _ _ _ h.holds.frame is_c is_y.like }
+  begun_fits c (begun.Inside n) h is_c d = tt
+
+  -- the walk goes on once a child is begun
+  pub going_on : {terms terms1 : Terms} {s s1 : S} {f f' : Frame} {fs fs' : Listed Frame} {vs vs' : Listed Child} (c : Child) (b : Begun)
+      → Going owned means H gives terms0 s0 first terms s f fs vs → slice_get (children_in terms.rows f) f.next ≡ Some c
+      → BeginsChild owned means H gives c terms s (Ok b) terms1 s1
+      → HasAdvanced terms1.rows (stepped f) fs vs b f' fs' vs' → Going owned means H gives terms0 s0 first terms1 s1 f' fs' vs'
+  going_on c (begun.Done y) h is_c d to =
+      rw (to.0, to.1) (going_past c y h is_c d.extends d.is_owned d.outcome.0 d.outcome.1 to.3 to.2)
+  going_on c (begun.Inside n) h is_c d to = rw (to.0, to.2) (going_into c h is_c d.extends d.is_owned d.outcome.0 d.outcome.1 to.1)
+
+  -- what was begun isn't kept, or its contents can't be next
+  pub going_stuck : {terms terms1 : Terms} {s s1 : S} {f : Frame} {fs : Listed Frame} {vs : Listed Child} {e : E} {r : Refusal} (c : Child) (b : Begun)
+      → Going owned means H gives terms0 s0 first terms s f fs vs → slice_get (children_in terms.rows f) f.next ≡ Some c
+      → BeginsChild owned means H gives c terms s (Ok b) terms1 s1
+      → IsStuck terms1.rows (stepped f) b r → gives r e → Failed owned means H gives terms0 s0 first e terms1 s1
+  going_stuck c (begun.Done y) h is_c d stuck gave = going_not_kept c y h is_c d.extends d.is_owned d.outcome.0 d.outcome.1 stuck gave
+  going_stuck {terms1} {r} c (begun.Inside n) h is_c d stuck gave =
+      going_stops (going_into c h is_c d.extends d.is_owned d.outcome.0 d.outcome.1 refl) (λ u. (r, (gave, memory_unbuilt terms1 u r stuck)))
+
   -- the last values are the results of the innermost frame
   pub last_results : {terms : Terms} {s : S} {f : Frame} {fs : Listed Frame} {vs : Listed Child}
       → (h : Going owned means H gives terms0 s0 first terms s f fs vs) → f.count ≤ f.next → last_of f.count vs ≡ h.results
@@ -487,6 +516,14 @@ module _ {M E S : Type 0} {owned : Listed Row → S → Type 0} {means : Listed 
       let p = ap (frames_work terms1.rows) pushed ∙ frames_work-append terms1.rows fs (stepped f) in
       let n_next = absent_next c (drop (f.next + 1) cs) in
       omega (arith, a, b, d, v, w, t, few, p, n_next, work_same h extends)
+
+  -- less work is left once a child is begun
+  pub total_on : {terms terms1 : Terms} {s s1 : S} {f : Frame} {fs : Listed Frame} {vs : Listed Child} (f' : Frame) (fs' : Listed Frame) (vs' : Listed Child) (c : Child) (b : Begun)
+      → Going owned means H gives terms0 s0 first terms s f fs vs → slice_get (children_in terms.rows f) f.next ≡ Some c
+      → BeginsChild owned means H gives c terms s (Ok b) terms1 s1
+      → HasAdvanced terms1.rows (stepped f) fs vs b f' fs' vs' → total_work terms1.rows f' fs' < total_work terms.rows f fs
+  total_on f' fs' vs' c (begun.Done y) h is_c d to = rw (to.0, to.1) (total_past c h is_c d.extends)
+  total_on f' fs' vs' c (begun.Inside n) h is_c d to = rw to.0 (total_into c h is_c d.extends d.outcome.0 d.outcome.1 to.1)
 
   -- going on with the frame around leaves less work
   pub total_up : {terms terms1 : Terms} {s : S} {f : Frame} {fs : Listed Frame} {vs : Listed Child} (fs' : Listed Frame) (f' : Frame)

@@ -461,6 +461,13 @@ module _ {M E S : Type 0} {owned : Listed Row → S → Type 0} {means : Listed 
     outcome = MatchResult-weaker r d.outcome (λ y h. h) (λ e h. rw (whole-tree terms.rows c is) (child_failed h));
   }
 
+  -- a list without a hook is begun with the frame of its items
+  pub begun_list : {terms : Terms} {s : S} (c : Child) (l : List) (f : Frame) → IsWhole c → ArePartsOf terms.rows (child_shapes c) → Some l ≡ child_list c → IsHookOf c None
+      → owned terms.rows s → IsNewFrame terms.rows c f
+      → Goes owned means (IsBegun H (child_trees terms.rows c) (child_tree terms.rows c) c) (λ m x m'. ChildFails H errors m (child_trees terms.rows c) x m') terms s (Ok (begun.Inside f)) terms s
+  begun_list c l f is part e h o new =
+      begun_item c is (begun_inside {other = errors} c f is part (ask_none c is part h o) (open_list c l f e o new))
+
 -- a form with other children
 refilled_whole : (rows : Listed Row) (o : Sort) (q : Parts) (f : Form (Label ℕ)) → IsInner f → tree_in rows (form_shape o (refilled q f)) ≡ whole (form_outline rows f) (trees_in rows (parts_shapes q))
 unfolding fill

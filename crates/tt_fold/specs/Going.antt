@@ -1,6 +1,6 @@
 -- What holds at each turn of the walk over stored terms.
 use Rattle.std.specs.Prelude.{◌≡◌, ◌<◌, ◌⊎◌, ◌+◌, ◌-◌, ◌^◌, ℕ, suc, Option, Some, None, [], ◌∷◌, ◌++◌, length, drop}
-use Rattle.std.specs.Prelude.{slice_get, All, ⊤}
+use Rattle.std.specs.Prelude.{slice_get, All, Result, ⊤}
 use Rattle.std.specs.Prelude.{List as Listed}
 use Rattle.tt_index.specs.declared.refusal.Refusal.{Refusal}
 use Rattle.tt_index.specs.declared.refusal.Refusal.TheVariants.{Memory, NotAClause}
@@ -20,13 +20,14 @@ use Rattle.tt_interner.specs.Rows.{Row, size, meaning}
 use Rattle.tt_interner.specs.Stored.{Terms, Extends}
 use Rattle.tt_interner.specs.Children.{children_at}
 use Rattle.tt_interner.specs.Nodes.{stored_kind}
-use Rattle.tt_fold.specs.Walk.{Hooks, Wanted, Walks, WalksInside, WalksAll, HasUnwanted}
+use Rattle.tt_fold.specs.Walk.{Hooks, Wanted, Walks, WalksInside, WalksAll, HasUnwanted, ChildFails}
 use Rattle.tt_fold.specs.Counts.{Standing, stands}
-use Rattle.tt_fold.specs.Steps.{errors_of, vars_in}
+use Rattle.tt_fold.specs.Steps.{Goes, errors_of, vars_in}
 use Rattle.tt_fold.specs.Parts.{ArePartsOf, child_trees, children_trees, IsChildFor, IsInner}
 use Rattle.tt_fold.specs.Items.{child_tree, child_list, child_node, IsWhole}
 use Rattle.tt_fold.specs.Stack.{Outline, plain, under, items, whole, binder_of, wanted_by, TakesAny, Asks, Opens}
-use Rattle.tt_fold.specs.Stack.{Begins, Rebuilds, Rests, RestFails, Context, Proceeds, Halts}
+use Rattle.tt_fold.specs.Stack.{Begins, Rebuilds, RebuildFails, Finishes, FinishFails, Rests, RestFails, Context}
+use Rattle.tt_fold.specs.Stack.{Proceeds, Halts}
 use Rattle.tt_fold.specs.declared.stack.Begun.{Begun}
 use Rattle.tt_fold.specs.declared.stack.Begun.TheVariants as begun
 use Rattle.tt_fold.specs.declared.stack.Frame.{Frame}
@@ -132,6 +133,23 @@ pub record IsResult (rows : Listed Row) (f : Frame) (value : Child) : Type 0 whe
 abbrev pub IsNotKept : Wanted → Forest Depth → Refusal → Type 0
 IsNotKept w ts e = ((HasUnwanted w ts → ⊥) × (e ≡ Memory)) ⊎ (HasUnwanted w ts × (e ≡ NotAClause))
 
+-- what was begun is the frame of a child's contents, or a value that may be one of the frame's results
+abbrev pub IsFrameOrResult : Listed Row → Frame → Begun → Type 0
+IsFrameOrResult rows f (begun.Done y) = IsResult rows f y
+IsFrameOrResult rows f (begun.Inside inner) = ⊤
+
+-- the result is kept as the last value, or the frame is suspended and the frame of the contents comes next
+abbrev pub HasAdvanced : Listed Row → Frame → Listed Frame → Listed Child → Begun → Frame → Listed Frame → Listed Child
+    → Type 0
+HasAdvanced rows f fs vs (begun.Done y) f' fs' vs' = (f' ≡ f) × (fs' ≡ fs) × (vs' ≡ vs ++ y ∷ [])
+    × (HasUnwanted (wanted_by (outline_of rows f.item)) (child_trees rows y) → ⊥)
+HasAdvanced rows f fs vs (begun.Inside inner) f' fs' vs' = (f' ≡ inner) × (fs' ≡ fs ++ f ∷ []) × (vs' ≡ vs)
+
+-- the result isn't kept, or the memory for the frame is refused
+abbrev pub IsStuck : Listed Row → Frame → Begun → Refusal → Type 0
+IsStuck rows f (begun.Done y) e = IsNotKept (wanted_by (outline_of rows f.item)) (child_trees rows y) e
+IsStuck rows f (begun.Inside inner) e = e ≡ Memory
+
 -- the last values
 abbrev pub last_of : ℕ → Listed Child → Listed Child
 last_of n values = drop (length values - n) values
@@ -233,6 +251,30 @@ module _ {M E : Type 0} (H : Hooks M E) where
   IsRebuilt rows0 f results rows y s s' =
       IsChildFor f.item rows y × Rebuilds H (outline_of rows0 f.item) (children_trees rows0 results) s
       (child_tree rows y) s'
+
+module _ {M E S : Type 0} (owned : Listed Row → S → Type 0) (means : Listed Row → S → M) (H : Hooks (Standing M) E)
+    (gives : Refusal → E → Type 0) where
+  -- the call began the child, or failed as a walk of the child may fail
+  abbrev pub BeginsChild : Child → Terms → S → Result Begun E → Terms → S → Type 0
+  BeginsChild c terms s r terms' s' = Goes owned means
+      (IsBegun H (child_trees terms.rows c) (child_tree terms.rows c) c)
+      (λ m e m'. ChildFails H (errors_of gives terms') m (child_trees terms.rows c) e m')
+      terms s r terms' s'
+
+  -- the call built the frame's term or list of the results of its children
+  abbrev pub RebuildsFrame : Frame → Listed Child → Terms → S → Result Child E → Terms → S → Type 0
+  RebuildsFrame f results terms s r terms' s' = Goes owned means
+      (IsRebuilt H terms.rows f results)
+      (RebuildFails H (errors_of gives terms') (outline_of terms.rows f.item) (children_trees terms.rows results))
+      terms s r terms' s'
+
+  -- the call returned what the hook after the contents makes of the rebuilt term or list
+  abbrev pub FinishesItem : Child → Child → Terms → S → Result Child E → Terms → S → Type 0
+  FinishesItem before rebuilt terms s r terms' s' = Goes owned means
+      (λ rows y m m'. IsChildFor before rows y
+      × Finishes H (child_tree terms.rows before) (child_tree terms.rows rebuilt) m (child_tree rows y) m')
+      (FinishFails H (errors_of gives terms') (child_tree terms.rows before) (child_tree terms.rows rebuilt))
+      terms s r terms' s'
 
 -- The walk of the root's children, begun among the terms0 and in the state s0, has come to the terms and the state s,
 -- to the innermost frame, the frames around it and the values of them all. Whatever is left to do makes the walk of the

@@ -1,6 +1,6 @@
 //! The memory of a folder: the results of types, each under a number of binders.
 
-ghost use Rattle.std.specs.Prelude.{◌≡◌, ◌<◌, [], length, position, IfOk, IfErr, IsOk, OnOk, OnErr, MatchOption};
+ghost use Rattle.std.specs.Prelude.{◌≡◌, ◌<◌, ◌≤◌, [], length, position, IfOk, IfErr, IsOk, OnOk, OnErr, MatchOption};
 ghost use Rattle.std.specs.Map.{lookup};
 ghost use Rattle.indexmap.specs.IndexMap.{insert_all, insert_entry};
 ghost use Rattle.tt_kinds.specs.Kinds.{ty_shape};
@@ -8,7 +8,7 @@ ghost use Rattle.tt_fold.specs.Steps.{IsPartOf};
 ghost use Rattle.tt_fold.specs.Places.{IsIn};
 ghost use Rattle.tt_fold.specs.Remember.{places};
 ghost use Rattle.tt_fold.specs.Memory.{place_of, same_place, type_at, memo_at, memos, OwnsMemos};
-ghost use Rattle.tt_fold.specs.Notes.{note_entries};
+ghost use Rattle.tt_fold.specs.Notes.{AreNotes, note_entries, noted_entries};
 
 use indexmap::IndexMap;
 use smallvec::SmallVec;
@@ -89,6 +89,32 @@ fn map_of(alloc: Global, notes: &[Note]) -> Result<IndexMap<Place, Ty>, Refusal>
     Ok(entries)
 }
 
+// Remembers the result of a place in a map. Notes that are still kept in place are moved into one. It is a call of its
+// own, so that `note` has no place for a map to clear each time.
+#[inline(never)]
+fn note_in_map(notes: &mut Notes, place: Place, after: Ty) -> Result<(), Refusal>
+    requires notes { AreNotes notes.old }
+    requires full { 8 ≤ length (noted_entries notes.old) }
+    ensures notes { AreNotes notes.new }
+    ensures ok { OnOk result
+        (noted_entries notes.new ≡ insert_entry same_place (noted_entries notes.old) place after) }
+    ensures err { IfErr result (λ e. e ≡ Refusal.Memory) }
+    ensures stays { OnErr result (noted_entries notes.new ≡ noted_entries notes.old) }
+{
+    match notes {
+        Notes::Few(few) => {
+            let mut many = map_of(*few.allocator(), few.as_slice())?;
+            many.insert(place, after)?;
+            *notes = Notes::Many(many);
+            Ok(())
+        }
+        Notes::Many(many) => {
+            many.insert(place, after)?;
+            Ok(())
+        }
+    }
+}
+
 impl Memory {
     /// Returns an empty memory. It allocates nothing until more than eight places are noted.
     pub fn new(alloc: Global) -> Memory
@@ -135,12 +161,7 @@ impl Memory {
                     few.push_reserved(Note { place, after });
                     Ok(())
                 }
-                None => {
-                    let mut many = map_of(*few.allocator(), few.as_slice())?;
-                    many.insert(place, after)?;
-                    self.notes = Notes::Many(many);
-                    Ok(())
-                }
+                None => note_in_map(&mut self.notes, place, after),
             },
             Notes::Many(many) => {
                 many.insert(place, after)?;

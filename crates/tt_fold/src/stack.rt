@@ -19,14 +19,13 @@ ghost use Rattle.std.specs.Prelude.{
   take,
 };
 ghost use Rattle.tt_kinds.specs.Kinds.{child_shapes};
-ghost use Rattle.tt_fold.specs.Walk.{ChildFails, Fails, HasUnwanted, InsideFails};
+ghost use Rattle.tt_fold.specs.Walk.{Fails, HasUnwanted, InsideFails};
 ghost use Rattle.tt_fold.specs.Steps.{errors_of, Goes};
 ghost use Rattle.tt_fold.specs.Still.{StaysStill};
 ghost use Rattle.tt_fold.specs.Parts.{
   ArePartsOf,
   binder_in,
   child_trees,
-  children_trees,
   HasBinder,
   IsChildFor,
   IsChildless,
@@ -35,30 +34,31 @@ ghost use Rattle.tt_fold.specs.Items.{child_list, child_node, child_shape, child
 ghost use Rattle.tt_index.specs.declared.refusal.Refusal.TheVariants.{Memory};
 ghost use Rattle.tt_fold.specs.Stack.{
   EnterFails,
-  FinishFails,
-  Finishes,
   LeaveFails,
   Leaves,
   Opens,
-  RebuildFails,
   RestFails,
   Rests,
   wanted_by,
 };
 ghost use Rattle.tt_fold.specs.Going.{
+  BeginsChild,
   children_in,
+  FinishesItem,
+  HasAdvanced,
   Holds,
   IsAsked,
-  IsBegun,
   IsFoldFrame,
+  IsFrameOrResult,
   IsNotKept,
   IsOpen,
   IsNewFrame,
-  IsRebuilt,
   IsResult,
+  IsStuck,
   last_of,
   left_of,
   outline_of,
+  RebuildsFrame,
 };
 
 use crate::core_folder::Core;
@@ -105,10 +105,9 @@ type Frames = SmallVec<Frame, 8>;
 // The results of the children of all frames. A few short lists need no allocation.
 type Values = SmallVec<Child, 16>;
 
-// Begins a child: calls its hook, and enters its binder. Most children are types and lists of types, so only their
-// steps are inlined in the loop. Other terms and lists are begun by a call.
+// Begins the child at which a walk starts. That is mostly a type, so a type's step is inlined.
 #[inline(always)]
-pub(crate) fn begin<M, F: Core<M>>(
+pub(crate) fn begin_root<M, F: Core<M>>(
     cx: &mut Interner,
     folder: &mut F,
     child: &Child,
@@ -116,15 +115,23 @@ pub(crate) fn begin<M, F: Core<M>>(
     requires owned { F.owned cx.old.rows folder.old }
     requires child { ArePartsOf cx.old.rows (child_shapes child.now) }
     ensures still { StaysStill F.hooks F.touches_nothing F.meaning (child_shape child.now) cx.old folder.old cx.new }
-    ensures goes { Goes F.owned F.meaning
-        (IsBegun F.hooks (child_trees cx.old.rows child.now) (child_tree cx.old.rows child.now) child.now)
-        (λ s e s'. ChildFails F.hooks
-        (errors_of F.Error.from_gives cx.new)
-        s
-        (child_trees cx.old.rows child.now)
-        e
-        s')
-        cx.old folder.old result cx.new folder.new }
+    ensures goes { BeginsChild F.owned F.meaning F.hooks F.Error.from_gives
+        child.now cx.old folder.old result cx.new folder.new }
+{
+    match ty_in(child) {
+        Some(ty) => begin_item::<M, F>(cx, folder, &Child::Node(Node::Ty(ty))),
+        None => begin::<M, F>(cx, folder, child),
+    }
+}
+
+// Begins a child: calls its hook, and enters its binder. A term or a list is begun by a call.
+#[inline(always)]
+fn begin<M, F: Core<M>>(cx: &mut Interner, folder: &mut F, child: &Child) -> Result<Begun, F::Error>
+    requires owned { F.owned cx.old.rows folder.old }
+    requires child { ArePartsOf cx.old.rows (child_shapes child.now) }
+    ensures still { StaysStill F.hooks F.touches_nothing F.meaning (child_shape child.now) cx.old folder.old cx.new }
+    ensures goes { BeginsChild F.owned F.meaning F.hooks F.Error.from_gives
+        child.now cx.old folder.old result cx.new folder.new }
 {
     match child {
         Child::Absent => Ok(Begun::Done(Child::Absent)),
@@ -132,25 +139,31 @@ pub(crate) fn begin<M, F: Core<M>>(
             let new_region = folder.core_region(cx, *region)?;
             Ok(Begun::Done(Child::Region(new_region)))
         }
-        _ => match (ty_in(child), tys_in(child)) {
-            (Some(ty), _) => {
-                let item = Child::Node(Node::Ty(ty));
-                begin_item::<M, F>(cx, folder, &item)
-            }
-            (None, Some(tys)) => {
-                let list = List::Tys(tys);
-                Ok(Begun::Inside(list_frame(cx, &Child::List(list), list)))
-            }
-            (None, None) => {
-                // The argument and the result are copied, so that neither needs a place in memory in the other arms.
-                let item = *child;
-                let begun = begin_other::<M, F>(cx, folder, &item)?;
-                match begun {
-                    Begun::Done(value) => Ok(Begun::Done(value)),
-                    Begun::Inside(frame) => Ok(Begun::Inside(frame)),
-                }
-            }
-        },
+        _ => begin_by_call::<M, F>(cx, folder, child),
+    }
+}
+
+// Begins any term or list by a call. The argument and the result are copied, so that neither needs a place in memory in
+// the loop's other arms. This is a function of its own, since an inlined function clears its places in memory in each
+// turn, whether or not their arm is taken.
+#[inline(always)]
+fn begin_by_call<M, F: Core<M>>(
+    cx: &mut Interner,
+    folder: &mut F,
+    item: &Child,
+) -> Result<Begun, F::Error>
+    requires owned { F.owned cx.old.rows folder.old }
+    requires item { ArePartsOf cx.old.rows (child_shapes item.now) }
+    requires whole { IsWhole item.now }
+    ensures still { StaysStill F.hooks F.touches_nothing F.meaning (child_shape item.now) cx.old folder.old cx.new }
+    ensures goes { BeginsChild F.owned F.meaning F.hooks F.Error.from_gives
+        item.now cx.old folder.old result cx.new folder.new }
+{
+    let copied = *item;
+    let begun = begin_other::<M, F>(cx, folder, &copied)?;
+    match begun {
+        Begun::Done(value) => Ok(Begun::Done(value)),
+        Begun::Inside(frame) => Ok(Begun::Inside(frame)),
     }
 }
 
@@ -165,15 +178,8 @@ fn begin_other<M, F: Core<M>>(
     requires item { ArePartsOf cx.old.rows (child_shapes item.now) }
     requires whole { IsWhole item.now }
     ensures still { StaysStill F.hooks F.touches_nothing F.meaning (child_shape item.now) cx.old folder.old cx.new }
-    ensures goes { Goes F.owned F.meaning
-        (IsBegun F.hooks (child_trees cx.old.rows item.now) (child_tree cx.old.rows item.now) item.now)
-        (λ s e s'. ChildFails F.hooks
-        (errors_of F.Error.from_gives cx.new)
-        s
-        (child_trees cx.old.rows item.now)
-        e
-        s')
-        cx.old folder.old result cx.new folder.new }
+    ensures goes { BeginsChild F.owned F.meaning F.hooks F.Error.from_gives
+        item.now cx.old folder.old result cx.new folder.new }
 {
     begin_item::<M, F>(cx, folder, item)
 }
@@ -189,10 +195,8 @@ fn begin_item<M, F: Core<M>>(
     requires item { ArePartsOf cx.old.rows (child_shapes item.now) }
     requires whole { IsWhole item.now }
     ensures still { StaysStill F.hooks F.touches_nothing F.meaning (child_shape item.now) cx.old folder.old cx.new }
-    ensures goes { Goes F.owned F.meaning
-        (IsBegun F.hooks (child_trees cx.old.rows item.now) (child_tree cx.old.rows item.now) item.now)
-        (λ s e s'. Fails F.hooks (errors_of F.Error.from_gives cx.new) s (child_tree cx.old.rows item.now) e s')
-        cx.old folder.old result cx.new folder.new }
+    ensures goes { BeginsChild F.owned F.meaning F.hooks F.Error.from_gives
+        item.now cx.old folder.old result cx.new folder.new }
 {
     let step = ask::<M, F>(cx, folder, item)?;
     match step {
@@ -203,9 +207,7 @@ fn begin_item<M, F: Core<M>>(
             match opened {
                 Some(frame) => Ok(Begun::Inside(frame)),
                 None => {
-                    // Copied, so that the item itself can stay in registers.
-                    let leaf = *item;
-                    let value = finish_other::<M, F>(cx, folder, &leaf, *item)?;
+                    let value = finish_by_call::<M, F>(cx, folder, item, *item)?;
                     Ok(Begun::Done(value))
                 }
             }
@@ -367,30 +369,35 @@ pub(crate) fn finish<M, F: Core<M>>(
     requires before { ArePartsOf cx.old.rows (child_shapes before.now) }
     requires whole { IsWhole before.now }
     requires rebuilt { IsChildFor before.now cx.old.rows rebuilt }
-    ensures { Goes F.owned F.meaning
-        (λ rows y s s'. IsChildFor before.now rows y
-        × Finishes F.hooks
-        (child_tree cx.old.rows before.now)
-        (child_tree cx.old.rows rebuilt)
-        s
-        (child_tree rows y)
-        s')
-        (FinishFails F.hooks
-        (errors_of F.Error.from_gives cx.new)
-        (child_tree cx.old.rows before.now)
-        (child_tree cx.old.rows rebuilt))
-        cx.old folder.old result cx.new folder.new }
+    ensures { FinishesItem F.owned F.meaning F.hooks F.Error.from_gives
+        before.now rebuilt cx.old folder.old result cx.new folder.new }
 {
     match before {
         Child::Node(Node::Ty(_)) => finish_item::<M, F>(cx, folder, before, rebuilt),
         Child::List(List::Tys(_)) => finish_item::<M, F>(cx, folder, before, rebuilt),
-        _ => {
-            // The argument and the result are copied, as where a child is begun.
-            let item = *before;
-            let finished = finish_other::<M, F>(cx, folder, &item, rebuilt)?;
-            Ok(finished)
-        }
+        _ => finish_by_call::<M, F>(cx, folder, before, rebuilt),
     }
+}
+
+// Calls the hook of any term or list after its contents, by a call. The argument and the result are copied, as where a
+// child is begun.
+#[inline(always)]
+fn finish_by_call<M, F: Core<M>>(
+    cx: &mut Interner,
+    folder: &mut F,
+    before: &Child,
+    rebuilt: Child,
+) -> Result<Child, F::Error>
+    requires owned { F.owned cx.old.rows folder.old }
+    requires before { ArePartsOf cx.old.rows (child_shapes before.now) }
+    requires whole { IsWhole before.now }
+    requires rebuilt { IsChildFor before.now cx.old.rows rebuilt }
+    ensures { FinishesItem F.owned F.meaning F.hooks F.Error.from_gives
+        before.now rebuilt cx.old folder.old result cx.new folder.new }
+{
+    let item = *before;
+    let finished = finish_other::<M, F>(cx, folder, &item, rebuilt)?;
+    Ok(finished)
 }
 
 // Calls the hook of any term or list after its contents, outside of the loop.
@@ -405,19 +412,8 @@ fn finish_other<M, F: Core<M>>(
     requires before { ArePartsOf cx.old.rows (child_shapes before.now) }
     requires whole { IsWhole before.now }
     requires rebuilt { IsChildFor before.now cx.old.rows rebuilt }
-    ensures { Goes F.owned F.meaning
-        (λ rows y s s'. IsChildFor before.now rows y
-        × Finishes F.hooks
-        (child_tree cx.old.rows before.now)
-        (child_tree cx.old.rows rebuilt)
-        s
-        (child_tree rows y)
-        s')
-        (FinishFails F.hooks
-        (errors_of F.Error.from_gives cx.new)
-        (child_tree cx.old.rows before.now)
-        (child_tree cx.old.rows rebuilt))
-        cx.old folder.old result cx.new folder.new }
+    ensures { FinishesItem F.owned F.meaning F.hooks F.Error.from_gives
+        before.now rebuilt cx.old folder.old result cx.new folder.new }
 {
     finish_item::<M, F>(cx, folder, before, rebuilt)
 }
@@ -434,19 +430,8 @@ fn finish_item<M, F: Core<M>>(
     requires before { ArePartsOf cx.old.rows (child_shapes before.now) }
     requires whole { IsWhole before.now }
     requires rebuilt { IsChildFor before.now cx.old.rows rebuilt }
-    ensures { Goes F.owned F.meaning
-        (λ rows y s s'. IsChildFor before.now rows y
-        × Finishes F.hooks
-        (child_tree cx.old.rows before.now)
-        (child_tree cx.old.rows rebuilt)
-        s
-        (child_tree rows y)
-        s')
-        (FinishFails F.hooks
-        (errors_of F.Error.from_gives cx.new)
-        (child_tree cx.old.rows before.now)
-        (child_tree cx.old.rows rebuilt))
-        cx.old folder.old result cx.new folder.new }
+    ensures { FinishesItem F.owned F.meaning F.hooks F.Error.from_gives
+        before.now rebuilt cx.old folder.old result cx.new folder.new }
 {
     match hooked_in(before) {
         None => Ok(rebuilt),
@@ -483,12 +468,20 @@ pub(crate) fn fold_frames<M, F: Core<M>>(
         if frame.next < frame.count {
             let child = next_child(cx, &frame);
             frame.next += 1;
-            let begun = begin::<M, F>(cx, folder, &child)?;
-            match begun {
-                Begun::Done(value) => keep(cx, &frame, &mut values, value)?,
-                Begun::Inside(inner) => {
-                    suspend(&mut frames, &frame)?;
-                    frame = inner;
+            match (ty_in(&child), tys_in(&child)) {
+                (Some(ty), _) => {
+                    let item = Child::Node(Node::Ty(ty));
+                    let begun = begin_item::<M, F>(cx, folder, &item)?;
+                    advance(cx, &mut frames, &mut frame, &mut values, begun)?;
+                }
+                (None, Some(tys)) => {
+                    let list = List::Tys(tys);
+                    let begun = Begun::Inside(list_frame(cx, &Child::List(list), list));
+                    advance(cx, &mut frames, &mut frame, &mut values, begun)?;
+                }
+                (None, None) => {
+                    let begun = begin::<M, F>(cx, folder, &child)?;
+                    advance(cx, &mut frames, &mut frame, &mut values, begun)?;
                 }
             }
         } else {
@@ -515,12 +508,20 @@ fn next_child(cx: &Interner, frame: &Frame) -> Child
     match &frame.item {
         Child::Node(Node::Ty(ty)) => term_child(cx, frame, Node::Ty(*ty)),
         Child::List(List::Tys(tys)) => cx.list_child(List::Tys(*tys), frame.next),
-        _ => {
-            // Copied, so that the call's place in memory isn't the one of the other arms' results too.
-            let child = other_child(cx, frame);
-            child
-        }
+        _ => child_by_call(cx, frame),
     }
+}
+
+// Returns the child of any term or list that is begun next, by a call. The result is copied, so that the call's place
+// in memory isn't the one of the other arms' results too.
+#[inline(always)]
+fn child_by_call(cx: &Interner, frame: &Frame) -> Child
+    requires frame { IsFoldFrame cx.now.rows frame.now }
+    requires more { frame.now.next < frame.now.count }
+    ensures { slice_get (children_in cx.now.rows frame.now) frame.now.next ≡ Some result }
+{
+    let child = other_child(cx, frame);
+    child
 }
 
 // Returns the child of a term that is begun next.
@@ -551,6 +552,38 @@ fn other_child(cx: &Interner, frame: &Frame) -> Child
     match list_in(&frame.item) {
         Some(list) => cx.list_child(list, frame.next),
         None => term_child(cx, frame, term_in(&frame.item)),
+    }
+}
+
+// Keeps the result of a child of the frame, or suspends the frame and goes on with the child's contents.
+#[inline(always)]
+fn advance(
+    cx: &Interner,
+    frames: &mut Frames,
+    frame: &mut Frame,
+    values: &mut Values,
+    begun: Begun,
+) -> Result<(), Refusal>
+    requires frame { IsFoldFrame cx.now.rows frame.old }
+    requires begun { IsFrameOrResult cx.now.rows frame.old begun }
+    ensures advanced { OnOk result (HasAdvanced
+        cx.now.rows
+        frame.old
+        frames.old.items
+        values.old.items
+        begun
+        frame.new
+        frames.new.items
+        values.new.items) }
+    ensures stuck { IfErr result (IsStuck cx.now.rows frame.old begun) }
+{
+    match begun {
+        Begun::Done(value) => keep(cx, frame, values, value),
+        Begun::Inside(inner) => {
+            suspend(frames, frame)?;
+            *frame = inner;
+            Ok(())
+        }
     }
 }
 
@@ -603,13 +636,8 @@ fn rebuild<M, F: Core<M>>(
     requires full { frame.now.count ≤ length values.old.items }
     ensures values { OnOk result
         (values.new.items ≡ take (length values.old.items - frame.now.count) values.old.items) }
-    ensures goes { Goes F.owned F.meaning
-        (IsRebuilt F.hooks cx.old.rows frame.now (last_of frame.now.count values.old.items))
-        (RebuildFails F.hooks
-        (errors_of F.Error.from_gives cx.new)
-        (outline_of cx.old.rows frame.now.item)
-        (children_trees cx.old.rows (last_of frame.now.count values.old.items)))
-        cx.old folder.old result cx.new folder.new }
+    ensures goes { RebuildsFrame F.owned F.meaning F.hooks F.Error.from_gives
+        frame.now (last_of frame.now.count values.old.items) cx.old folder.old result cx.new folder.new }
 {
     match &frame.item {
         Child::Node(Node::Ty(_)) => rebuild_term::<M, F>(cx, folder, frame, values),
@@ -620,13 +648,29 @@ fn rebuild<M, F: Core<M>>(
             List::Tys(*tys),
             values,
         ),
-        _ => {
-            // The argument and the result are copied, as where a child is begun.
-            let copied = *frame;
-            let rebuilt = rebuild_other::<M, F>(cx, folder, &copied, values)?;
-            Ok(rebuilt)
-        }
+        _ => rebuild_by_call::<M, F>(cx, folder, frame, values),
     }
+}
+
+// Builds any term or list by a call. The argument and the result are copied, as where a child is begun.
+#[inline(always)]
+fn rebuild_by_call<M, F: Core<M>>(
+    cx: &mut Interner,
+    folder: &mut F,
+    frame: &Frame,
+    values: &mut Values,
+) -> Result<Child, F::Error>
+    requires owned { F.owned cx.old.rows folder.old }
+    requires holds { Holds cx.old.rows frame.now (last_of frame.now.count values.old.items) }
+    requires full { frame.now.count ≤ length values.old.items }
+    ensures values { OnOk result
+        (values.new.items ≡ take (length values.old.items - frame.now.count) values.old.items) }
+    ensures goes { RebuildsFrame F.owned F.meaning F.hooks F.Error.from_gives
+        frame.now (last_of frame.now.count values.old.items) cx.old folder.old result cx.new folder.new }
+{
+    let copied = *frame;
+    let rebuilt = rebuild_other::<M, F>(cx, folder, &copied, values)?;
+    Ok(rebuilt)
 }
 
 // Builds a term or a list of any table from the results of its children, outside of the loop.
@@ -642,13 +686,8 @@ fn rebuild_other<M, F: Core<M>>(
     requires full { frame.now.count ≤ length values.old.items }
     ensures values { OnOk result
         (values.new.items ≡ take (length values.old.items - frame.now.count) values.old.items) }
-    ensures goes { Goes F.owned F.meaning
-        (IsRebuilt F.hooks cx.old.rows frame.now (last_of frame.now.count values.old.items))
-        (RebuildFails F.hooks
-        (errors_of F.Error.from_gives cx.new)
-        (outline_of cx.old.rows frame.now.item)
-        (children_trees cx.old.rows (last_of frame.now.count values.old.items)))
-        cx.old folder.old result cx.new folder.new }
+    ensures goes { RebuildsFrame F.owned F.meaning F.hooks F.Error.from_gives
+        frame.now (last_of frame.now.count values.old.items) cx.old folder.old result cx.new folder.new }
 {
     match list_in(&frame.item) {
         Some(list) => rebuild_list::<M, F>(cx, folder, frame, list, values),
@@ -671,13 +710,8 @@ fn rebuild_list<M, F: Core<M>>(
     requires full { frame.now.count ≤ length values.old.items }
     ensures values { OnOk result
         (values.new.items ≡ take (length values.old.items - frame.now.count) values.old.items) }
-    ensures goes { Goes F.owned F.meaning
-        (IsRebuilt F.hooks cx.old.rows frame.now (last_of frame.now.count values.old.items))
-        (RebuildFails F.hooks
-        (errors_of F.Error.from_gives cx.new)
-        (outline_of cx.old.rows frame.now.item)
-        (children_trees cx.old.rows (last_of frame.now.count values.old.items)))
-        cx.old folder.now result cx.new folder.now }
+    ensures goes { RebuildsFrame F.owned F.meaning F.hooks F.Error.from_gives
+        frame.now (last_of frame.now.count values.old.items) cx.old folder.now result cx.new folder.now }
 {
     let results = last_values(values, frame.count);
     let new_list = cx.store_list(list.sort(), results)?;
@@ -698,13 +732,8 @@ fn rebuild_term<M, F: Core<M>>(
     requires full { 2 ≤ length values.old.items }
     requires term { None ≡ child_list frame.now.item }
     ensures values { OnOk result (values.new.items ≡ take (length values.old.items - 2) values.old.items) }
-    ensures goes { Goes F.owned F.meaning
-        (IsRebuilt F.hooks cx.old.rows frame.now (last_of 2 values.old.items))
-        (RebuildFails F.hooks
-        (errors_of F.Error.from_gives cx.new)
-        (outline_of cx.old.rows frame.now.item)
-        (children_trees cx.old.rows (last_of 2 values.old.items)))
-        cx.old folder.old result cx.new folder.new }
+    ensures goes { RebuildsFrame F.owned F.meaning F.hooks F.Error.from_gives
+        frame.now (last_of 2 values.old.items) cx.old folder.old result cx.new folder.new }
 {
     let node = term_in(&frame.item);
     let contents = cx.node_parts(node);

@@ -35,7 +35,7 @@ ghost use Rattle.tt_fold.specs.Parts.{
 
 use crate::core_folder::Core;
 use crate::items::{list_of, term_in};
-use crate::stack::{Begun, begin, finish, fold_frames, open};
+use crate::stack::{Begun, begin_root, finish, fold_frames, open};
 use tt_interner::Interner;
 use tt_kinds::{BoundVarKinds, Child, List, Node, Parts};
 
@@ -155,7 +155,7 @@ pub(crate) fn fold_child<M, F: Core<M>>(
         (WalksAll F.hooks) (ChildFails F.hooks (errors_of F.Error.from_gives cx.new))
         cx.old folder.old child result cx.new folder.new }
 {
-    let begun = begin::<M, F>(cx, folder, &child)?;
+    let begun = begin_root::<M, F>(cx, folder, &child)?;
     match begun {
         Begun::Done(value) => Ok(value),
         Begun::Inside(frame) => {

@@ -1,12 +1,13 @@
-use Rattle.std.proofs.Common.{refl, arith}
+use Rattle.std.proofs.Common.{inr, refl, arith}
 use Rattle.std.proofs.lemmas.Result.{err_from_is_err_and}
 use Rattle.tt_interner.proofs.Growth.{Extends-trans}
-use Rattle.tt_fold.proofs.WantedLaws.{memory_unbuilt}
-use Rattle.tt_fold.proofs.FrameLaws.{frame-fits, frame-grows, frame_fits}
-use Rattle.tt_fold.proofs.GoingLaws.{stepped-frame, next_part, no_frames, going_starts, going_past, going_into}
-use Rattle.tt_fold.proofs.GoingLaws.{going_stops, going_child_fails, going_not_kept, going_rebuild_fails, going_ends}
+use Rattle.tt_fold.specs.declared.stack.Begun.TheVariants as begun
+use Rattle.tt_fold.proofs.FrameLaws.{frame-fits, frame-grows}
+use Rattle.tt_fold.proofs.ItemSteps.{begun_list}
+use Rattle.tt_fold.proofs.GoingLaws.{stepped-frame, next_part, no_frames, going_starts, begun_fits, going_on}
+use Rattle.tt_fold.proofs.GoingLaws.{going_stuck, going_child_fails, going_rebuild_fails, going_ends}
 use Rattle.tt_fold.proofs.GoingLaws.{going_finish_fails, going_up, going_up_not_kept, rises, outer_frame, outer_result}
-use Rattle.tt_fold.proofs.GoingLaws.{last_held, enough_values, total_past, total_into, total_up}
+use Rattle.tt_fold.proofs.GoingLaws.{last_held, enough_values, total_on, total_up}
 use Rattle.tt_fold.proofs.stack.fold_frames.Goals as goal
 
 pub walk-init : goal.walk-init
@@ -26,56 +27,102 @@ begin-requires-clause-owned g c = c.walk.invariant.is_owned
 pub begin-requires-clause-child : goal.begin-requires-clause-child
 begin-requires-clause-child g c = next_part _ c.walk.invariant.holds.frame c.next_child-child.ensures
 
-pub returns-in_err-begun : goal.returns-in_err-begun
-returns-in_err-begun g c =
+pub begin_item-requires-clause-item : goal.begin_item-requires-clause-item
+begin_item-requires-clause-item g c =
+    let is = rw c.in-Some-default.is-0 at c.ty_in.ensures in
+    next_part _ c.walk.invariant.holds.frame (rw is at c.next_child-child.ensures)
+
+pub returns-in_err-begun-in-Some-default : goal.returns-in_err-begun-in-Some-default
+returns-in_err-begun-in-Some-default g c =
     let p = err_from_is_err_and c.from_residual.result c.from_residual.ensures.1 in
-    let d = c.in_err-begun.ensures.goes in
-    rw (p.1, p.2) (going_child_fails _ c.walk.invariant c.next_child-child.ensures d.extends d.is_owned d.outcome)
+    let is = rw c.in-Some-default.is-0 at c.ty_in.ensures in
+    let d = c.in_err-begun-in-Some-default.ensures.goes in
+    rw (p.1, p.2) (going_child_fails _ c.walk.invariant (rw is at c.next_child-child.ensures) d.extends d.is_owned d.outcome)
 
-pub keep-requires-clause-frame : goal.keep-requires-clause-frame
-keep-requires-clause-frame g c = stepped-frame (frame-grows c.in_ok-begun.ensures.goes.extends.rows c.walk.invariant.holds.frame)
+pub advance-requires-clause-frame : goal.advance-requires-clause-frame
+advance-requires-clause-frame g c =
+    stepped-frame (frame-grows c.in_ok-begun-in-Some-default.ensures.goes.extends.rows c.walk.invariant.holds.frame)
 
-pub keep-requires-clause-child : goal.keep-requires-clause-child
-keep-requires-clause-child g c =
-    let h = rw c.in-Done.is at c.in_ok-begun.ensures.goes.outcome in
-    record { owned = h.0.owned; fit = frame_fits _ _ _ c.walk.invariant.holds.frame c.next_child-child.ensures h.0.like }
+pub advance-requires-clause-begun : goal.advance-requires-clause-begun
+advance-requires-clause-begun g c =
+    let is = rw c.in-Some-default.is-0 at c.ty_in.ensures in
+    begun_fits _ _ c.walk.invariant (rw is at c.next_child-child.ensures) c.in_ok-begun-in-Some-default.ensures.goes
 
 pub walk-smaller-in-Continue-branch-2 : goal.walk-smaller-in-Continue-branch-2
-walk-smaller-in-Continue-branch-2 g c = total_past _ c.walk.invariant c.next_child-child.ensures c.in_ok-begun.ensures.goes.extends
+walk-smaller-in-Continue-branch-2 g c =
+    let is = rw c.in-Some-default.is-0 at c.ty_in.ensures in
+    let d = c.in_ok-begun-in-Some-default.ensures.goes in
+    total_on _ _ _ _ _ c.walk.invariant (rw is at c.next_child-child.ensures) d c.in_ok-advance-in-Some-default.ensures.advanced
 
 pub walk-preserved-in-Continue-branch-2 : goal.walk-preserved-in-Continue-branch-2
 walk-preserved-in-Continue-branch-2 g c =
-    let d = c.in_ok-begun.ensures.goes in
-    let h = rw c.in-Done.is at d.outcome in
-    let k = c.in_ok-keep-in-Done.ensures in
-    going_past _ _ c.walk.invariant c.next_child-child.ensures d.extends d.is_owned h.0 h.1 k.wanted k.kept
+    let is = rw c.in-Some-default.is-0 at c.ty_in.ensures in
+    let d = c.in_ok-begun-in-Some-default.ensures.goes in
+    going_on _ _ c.walk.invariant (rw is at c.next_child-child.ensures) d c.in_ok-advance-in-Some-default.ensures.advanced
 
-pub returns-in_err-keep-in-Done : goal.returns-in_err-keep-in-Done
-returns-in_err-keep-in-Done g c =
-    let d = c.in_ok-begun.ensures.goes in
-    let h = rw c.in-Done.is at d.outcome in
-    let p = err_from_is_err_and c.from_residual-in_err-keep-in-Done.result c.from_residual-in_err-keep-in-Done.ensures.1 in
-    rw p.1 (going_not_kept _ _ c.walk.invariant c.next_child-child.ensures d.extends d.is_owned h.0 h.1 c.in_err-keep-in-Done.ensures.failed p.2)
+pub returns-in_err-advance-in-Some-default : goal.returns-in_err-advance-in-Some-default
+returns-in_err-advance-in-Some-default g c =
+    let is = rw c.in-Some-default.is-0 at c.ty_in.ensures in
+    let d = c.in_ok-begun-in-Some-default.ensures.goes in
+    let p = err_from_is_err_and c.from_residual-in_err-advance-in-Some-default.result c.from_residual-in_err-advance-in-Some-default.ensures.1 in
+    rw p.1 (going_stuck _ _ c.walk.invariant (rw is at c.next_child-child.ensures) d c.in_err-advance-in-Some-default.ensures.stuck p.2)
 
-pub returns-in_err-suspend-in-Inside : goal.returns-in_err-suspend-in-Inside
-returns-in_err-suspend-in-Inside g c =
-    let d = c.in_ok-begun.ensures.goes in
-    let h = rw c.in-Inside.is at d.outcome in
-    let p = err_from_is_err_and c.from_residual-in_err-suspend-in-Inside.result c.from_residual-in_err-suspend-in-Inside.ensures.1 in
-    let inside = going_into _ c.walk.invariant c.next_child-child.ensures d.extends d.is_owned h.0 h.1 refl in
-    rw p.1 (going_stops inside (λ u. (c.in_err-suspend-in-Inside.field-0.0, (p.2, memory_unbuilt _ u _ c.in_err-suspend-in-Inside.ensures.memory))))
+pub list_frame-requires-clause-item : goal.list_frame-requires-clause-item
+list_frame-requires-clause-item g c =
+    let is = rw c.in-None-Some.is-1 at c.tys_in.ensures in
+    next_part _ c.walk.invariant.holds.frame (rw is at c.next_child-child.ensures)
 
-pub walk-smaller-in-Inside : goal.walk-smaller-in-Inside
-walk-smaller-in-Inside g c =
-    let d = c.in_ok-begun.ensures.goes in
-    let h = rw c.in-Inside.is at d.outcome in
-    total_into _ c.walk.invariant c.next_child-child.ensures d.extends h.0 h.1 c.in_ok-suspend-in-Inside.ensures.kept
+pub walk-smaller-in-Continue-branch-3 : goal.walk-smaller-in-Continue-branch-3
+walk-smaller-in-Continue-branch-3 g c =
+    let h = c.walk.invariant in
+    let is = rw c.in-None-Some.is-1 at c.tys_in.ensures in
+    let next = rw is at c.next_child-child.ensures in
+    total_on _ _ _ _ (begun.Inside _) h next (begun_list _ _ _ tt (next_part _ h.holds.frame next) refl (inr refl) h.is_owned c.list_frame.ensures) c.in_ok-advance-in-None-Some.ensures.advanced
 
-pub walk-preserved-in-Inside : goal.walk-preserved-in-Inside
-walk-preserved-in-Inside g c =
-    let d = c.in_ok-begun.ensures.goes in
-    let h = rw c.in-Inside.is at d.outcome in
-    going_into _ c.walk.invariant c.next_child-child.ensures d.extends d.is_owned h.0 h.1 c.in_ok-suspend-in-Inside.ensures.kept
+pub walk-preserved-in-Continue-branch-3 : goal.walk-preserved-in-Continue-branch-3
+walk-preserved-in-Continue-branch-3 g c =
+    let h = c.walk.invariant in
+    let is = rw c.in-None-Some.is-1 at c.tys_in.ensures in
+    let next = rw is at c.next_child-child.ensures in
+    going_on _ (begun.Inside _) h next (begun_list _ _ _ tt (next_part _ h.holds.frame next) refl (inr refl) h.is_owned c.list_frame.ensures) c.in_ok-advance-in-None-Some.ensures.advanced
+
+pub returns-in_err-advance-in-None-Some : goal.returns-in_err-advance-in-None-Some
+returns-in_err-advance-in-None-Some g c =
+    let h = c.walk.invariant in
+    let is = rw c.in-None-Some.is-1 at c.tys_in.ensures in
+    let next = rw is at c.next_child-child.ensures in
+    let p = err_from_is_err_and c.from_residual-in_err-advance-in-None-Some.result c.from_residual-in_err-advance-in-None-Some.ensures.1 in
+    rw p.1 (going_stuck _ (begun.Inside _) h next (begun_list _ _ _ tt (next_part _ h.holds.frame next) refl (inr refl) h.is_owned c.list_frame.ensures) c.in_err-advance-in-None-Some.ensures.stuck p.2)
+
+pub returns-in_err-begun-in-None-None : goal.returns-in_err-begun-in-None-None
+returns-in_err-begun-in-None-None g c =
+    let p = err_from_is_err_and c.from_residual-in_err-begun-in-None-None.result c.from_residual-in_err-begun-in-None-None.ensures.1 in
+    let d = c.in_err-begun-in-None-None.ensures.goes in
+    rw (p.1, p.2) (going_child_fails _ c.walk.invariant c.next_child-child.ensures d.extends d.is_owned d.outcome)
+
+pub advance-requires-in-None-None-clause-frame : goal.advance-requires-in-None-None-clause-frame
+advance-requires-in-None-None-clause-frame g c =
+    stepped-frame (frame-grows c.in_ok-begun-in-None-None.ensures.goes.extends.rows c.walk.invariant.holds.frame)
+
+pub advance-requires-in-None-None-clause-begun : goal.advance-requires-in-None-None-clause-begun
+advance-requires-in-None-None-clause-begun g c =
+    begun_fits _ _ c.walk.invariant c.next_child-child.ensures c.in_ok-begun-in-None-None.ensures.goes
+
+pub walk-smaller-in-Continue-branch-5 : goal.walk-smaller-in-Continue-branch-5
+walk-smaller-in-Continue-branch-5 g c =
+    let d = c.in_ok-begun-in-None-None.ensures.goes in
+    total_on _ _ _ _ _ c.walk.invariant c.next_child-child.ensures d c.in_ok-advance-in-None-None.ensures.advanced
+
+pub walk-preserved-in-Continue-branch-5 : goal.walk-preserved-in-Continue-branch-5
+walk-preserved-in-Continue-branch-5 g c =
+    let d = c.in_ok-begun-in-None-None.ensures.goes in
+    going_on _ _ c.walk.invariant c.next_child-child.ensures d c.in_ok-advance-in-None-None.ensures.advanced
+
+pub returns-in_err-advance-in-None-None : goal.returns-in_err-advance-in-None-None
+returns-in_err-advance-in-None-None g c =
+    let d = c.in_ok-begun-in-None-None.ensures.goes in
+    let p = err_from_is_err_and c.from_residual-in_err-advance-in-None-None.result c.from_residual-in_err-advance-in-None-None.ensures.1 in
+    rw p.1 (going_stuck _ _ c.walk.invariant c.next_child-child.ensures d c.in_err-advance-in-None-None.ensures.stuck p.2)
 
 pub rebuild-requires-clause-owned : goal.rebuild-requires-clause-owned
 rebuild-requires-clause-owned g c = c.walk.invariant.is_owned
@@ -110,12 +157,12 @@ returns-in_err-value-in-Some g c =
     let f = c.in_err-value-in-Some.ensures in
     rw (p.1, p.2) (going_finish_fails _ _ _ c.walk.invariant c.if-frame.false c.in-Some.ensures.items d.extends f.extends f.is_owned d.outcome.1 f.outcome)
 
-pub keep-requires-in-Some-clause-frame : goal.keep-requires-in-Some-clause-frame
-keep-requires-in-Some-clause-frame g c =
+pub keep-requires-clause-frame : goal.keep-requires-clause-frame
+keep-requires-clause-frame g c =
     outer_frame _ _ c.walk.invariant c.in-Some.ensures.items (Extends-trans c.in_ok-rebuilt.ensures.goes.extends c.in_ok-value-in-Some.ensures.extends)
 
-pub keep-requires-in-Some-clause-child : goal.keep-requires-in-Some-clause-child
-keep-requires-in-Some-clause-child g c = outer_result _ _ _ c.walk.invariant c.in-Some.ensures.items c.in_ok-value-in-Some.ensures.outcome.0
+pub keep-requires-clause-child : goal.keep-requires-clause-child
+keep-requires-clause-child g c = outer_result _ _ _ c.walk.invariant c.in-Some.ensures.items c.in_ok-value-in-Some.ensures.outcome.0
 
 pub walk-smaller : goal.walk-smaller
 walk-smaller g c =

@@ -37,11 +37,12 @@ pub fn parse_line(alloc: Global, line: &[u8]) -> Result<Option<Call>, AllocError
     let Some(first) = words.next_word() else {
         return Ok(None);
     };
-    match parse_call(alloc, first, &mut words) {
-        Ok(call) => Ok(Some(call)),
-        Err(LineError::Bad) => Ok(Some(Call::Bad)),
-        Err(LineError::Memory) => Err(AllocError),
-    }
+    let call = match parse_call(alloc, first, &mut words) {
+        Ok(call) => call,
+        Err(LineError::Bad) => Call::Bad,
+        Err(LineError::Memory) => return Err(AllocError),
+    };
+    Ok(Some(call))
 }
 
 // Returns the call of this first word and the further words of its line.
@@ -55,7 +56,11 @@ fn parse_call(alloc: Global, first: &[u8], words: &mut Words) -> Result<Call, Li
         _ => Call::Ty(parse_ty(alloc, first, words)?),
     };
     match words.next_word() {
-        Some(_) => Err(LineError::Bad),
+        Some(_) => {
+            // By a call, since an inlined `drop` has places in memory, which are cleared for each line.
+            drop(call);
+            Err(LineError::Bad)
+        }
         None => Ok(call),
     }
 }
