@@ -89,8 +89,8 @@ fn map_of(alloc: Global, notes: &[Note]) -> Result<IndexMap<Place, Ty>, Refusal>
     Ok(entries)
 }
 
-// Remembers the result of a place in a map. Notes that are still kept in place are moved into one. It is a call of its
-// own, so that `note` has no place for a map to clear each time.
+// Remembers a result in a map, and first moves notes that are kept in place into one. It isn't inlined, so that `note`
+// doesn't clear the room for a map each time.
 #[inline(never)]
 fn note_in_map(notes: &mut Notes, place: Place, after: Ty) -> Result<(), Refusal>
     requires notes { AreNotes notes.old }

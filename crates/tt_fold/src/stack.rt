@@ -144,8 +144,8 @@ fn begin<M, F: Core<M>>(cx: &mut Interner, folder: &mut F, child: &Child) -> Res
 }
 
 // Begins any term or list by a call. The argument and the result are copied, so that neither needs a place in memory in
-// the loop's other arms. This is a function of its own, since an inlined function clears its places in memory in each
-// turn, whether or not their arm is taken.
+// the loop's other arms. It is a function of its own, since an inlined function clears its places in memory when it is
+// entered, also those of arms that aren't taken.
 #[inline(always)]
 fn begin_by_call<M, F: Core<M>>(
     cx: &mut Interner,

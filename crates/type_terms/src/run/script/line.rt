@@ -57,7 +57,7 @@ fn parse_call(alloc: Global, first: &[u8], words: &mut Words) -> Result<Call, Li
     };
     match words.next_word() {
         Some(_) => {
-            // By a call, since an inlined `drop` has places in memory, which are cleared for each line.
+            // Dropped by this call: otherwise the places in memory for its parts would be cleared for each line.
             drop(call);
             Err(LineError::Bad)
         }
