@@ -107,8 +107,8 @@ impl Classes {
                 continue;
             }
             match (types.kind(left), types.kind(right)) {
-                (_, Kind::Variable(_)) => self.parents[right as usize] = left,
                 (Kind::Variable(_), _) => self.parents[left as usize] = right,
+                (_, Kind::Variable(_)) => self.parents[right as usize] = left,
                 (Kind::Pair(a, b), Kind::Pair(c, d)) => {
                     self.parents[left as usize] = right;
                     pairs.push((b, d));
@@ -191,6 +191,14 @@ fn sides(types: &mut Types, line: &str) -> Option<(Type, Type)> {
                 right = types.make(Kind::Pair(right, int));
             }
         }
+        "links" => {
+            for level in 0..levels {
+                let own = types.make(Kind::Variable(level));
+                let next = types.make(Kind::Variable(level + 1));
+                left = types.make(Kind::Pair(left, own));
+                right = types.make(Kind::Pair(right, next));
+            }
+        }
         _ => return None,
     }
     Some((left, right))
@@ -199,7 +207,7 @@ fn sides(types: &mut Types, line: &str) -> Option<(Type, Type)> {
 /// Returns what is printed for a line, or why it failed.
 fn answer(line: &str) -> Result<String, String> {
     let mut types = Types::default();
-    let (left, right) = sides(&mut types, line).ok_or("a line is `pairs N` or `chain N`")?;
+    let (left, right) = sides(&mut types, line).ok_or("a line is `pairs N`, `chain N` or `links N`")?;
     let mut classes = Classes::new(&types);
     let outcome = classes.unify(&types, left, right).and_then(|()| {
         let colours = vec![Colour::Unseen; types.kinds.len()];

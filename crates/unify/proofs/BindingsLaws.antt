@@ -1,6 +1,7 @@
 -- Tables of bindings: their entries, and the substitutions that they are.
 use Rattle.std.proofs.Common.{◌≡◌, refl, ℕ, zero, suc, ◌<◌, List, [], ◌∷◌, ◌++◌, length, get_or, set, Option, Some}
-use Rattle.std.proofs.Common.{None, sym, subst, ap, ◌∙◌, arith, pred, ◌⊎◌, inl, inr, ◌≢◌}
+use Rattle.std.proofs.Common.{None, sym, subst, ap, ◌∙◌, arith, inl, inr, ◌≢◌}
+use Rattle.std.proofs.lemmas.Bool.{cases_eq}
 use Rattle.std.proofs.lemmas.List.{get_or-set_same, get_or-set_other}
 use Rattle.tt_kinds.specs.Tree as tree
 use Rattle.tt_kinds.specs.Tree.{Depth, Tree, Forest, count_trees}
@@ -22,7 +23,7 @@ use Rattle.unify.specs.Bindings.{table_shape, entry_binding, binding_at, entries
 use Rattle.unify.specs.Bindings.{IsRefined, single_table}
 
 -- the trees of entries
-abbrev entry_trees : Meaning → List (Option Ty) → Forest Depth
+abbrev pub entry_trees : Meaning → List (Option Ty) → Forest Depth
 entry_trees m xs = fill_all m (item_shapes (option_shape ty_shape) xs)
 
 -- the tree that an entry binds
@@ -30,7 +31,8 @@ abbrev pub bound_tree : Meaning → Option Ty → Option (Tree Depth)
 bound_tree m None = None
 bound_tree m (Some t) = Some (fill m (ty_shape t))
 
-entry_is : (m : Meaning) (o : Option Ty) → entry_binding (fill m (option_shape ty_shape o)) ≡ bound_tree m o
+-- an entry's tree binds what the entry binds
+pub entry_is : (m : Meaning) (o : Option Ty) → entry_binding (fill m (option_shape ty_shape o)) ≡ bound_tree m o
 unfolding fill
 entry_is m None = refl
 entry_is m (Some t) = refl
@@ -48,11 +50,12 @@ unfolding fill
 reads terms xs v = entry_at (meaning terms.rows) xs v
 
 -- what an entry binds after a substitution
-abbrev image : Substitution → Option (Tree Depth) → Option (Tree Depth)
+abbrev pub image : Substitution → Option (Tree Depth) → Option (Tree Depth)
 image σ None = None
 image σ (Some b) = Some (apply σ b)
 
-entry_applied : (σ : Substitution) (m : Meaning) (o : Option Ty) → entry_binding (apply σ (fill m (option_shape ty_shape o))) ≡ image σ (bound_tree m o)
+-- and so after a substitution
+pub entry_applied : (σ : Substitution) (m : Meaning) (o : Option Ty) → entry_binding (apply σ (fill m (option_shape ty_shape o))) ≡ image σ (bound_tree m o)
 unfolding fill
 entry_applied σ m None = refl
 entry_applied σ m (Some t) = refl
@@ -83,12 +86,14 @@ applied_length terms new σ xs ys h =
     let forests : entry_trees (meaning new.rows) ys ≡ apply_all σ (entry_trees (meaning terms.rows) xs) = ap entries_of h in
     sym (count_entries (meaning new.rows) ys) ∙ ap count_trees forests ∙ count_applied σ (entry_trees (meaning terms.rows) xs) ∙ count_entries (meaning terms.rows) xs
 
--- two numbers are equal or not
-pub same_or_other : (v w : ℕ) → (w ≡ v) ⊎ (w ≢ v)
-same_or_other zero zero = inl refl
-same_or_other zero (suc w) = inr (λ e. absurd (omega (arith, e)))
-same_or_other (suc v) zero = inr (λ e. absurd (omega (arith, e)))
-same_or_other (suc v) (suc w) = elim (same_or_other v w) [ inl e ↦ inl (ap suc e) | inr other ↦ inr (λ e. other (ap pred e)) ]
+-- the bindings of a table to which a substitution was applied
+pub applied_each : (terms new : Terms) (σ : Substitution) (xs ys : List (Option Ty))
+    → fill (meaning new.rows) (table_shape ys) ≡ apply σ (fill (meaning terms.rows) (table_shape xs))
+    → (w : ℕ) → substitution new ys w ≡ image σ (substitution terms xs w)
+unfolding fill
+applied_each terms new σ xs ys applied w =
+    let forests : entry_trees (meaning new.rows) ys ≡ apply_all σ (entry_trees (meaning terms.rows) xs) = ap entries_of applied in
+    ap (λ ts. binding_at ts w) forests ∙ applied_at σ (meaning terms.rows) xs w ∙ ap (image σ) (sym (reads terms xs w))
 
 -- the variable alone is bound
 pub single_at : (v : ℕ) (t : Ty) → get_or (single_table v t) v None ≡ Some t
@@ -106,7 +111,7 @@ single_other (suc v) t (suc w) other = single_other v t w (λ e. other (ap suc e
 pub binds_only : (terms : Terms) (v : ℕ) (t : Ty) → BindsOnly (substitution terms (single_table v t)) v (fill (meaning terms.rows) (ty_shape t))
 binds_only terms v t = record {
   own = reads terms (single_table v t) v ∙ rw (single_at v t) refl;
-  others = λ w b has. elim (same_or_other v w) [
+  others = λ w b has. elim (cases_eq w v) [
     | inl e ↦ (
       e,
       let at : substitution terms (single_table v t) v ≡ Some b = subst (λ n. substitution terms (single_table v t) n ≡ Some b) e has in
@@ -134,25 +139,17 @@ module _ (terms new : Terms) (xs ys : List (Option Ty)) (v : ℕ) (t : Ty) (τ :
     (only : BindsOnly τ v (fill (meaning new.rows) (ty_shape t)))
     (applied : fill (meaning new.rows) (table_shape ys) ≡ apply τ (fill (meaning terms.rows) (table_shape xs)))
     (inside : v < length xs) (free : get_or xs v None ≡ None) where
-  -- the other entries after the substitution
-  others_at : (w : ℕ) → bound_tree (meaning new.rows) (get_or ys w None) ≡ image τ (bound_tree (meaning terms.rows) (get_or xs w None))
-  unfolding fill
-  others_at w =
-      let forests : entry_trees (meaning new.rows) ys ≡ apply_all τ (entry_trees (meaning terms.rows) xs) = ap entries_of applied in
-      sym (entry_at (meaning new.rows) ys w) ∙ ap (λ ts. binding_at ts w) forests ∙ applied_at τ (meaning terms.rows) xs w
-
   -- the table with the variable bound is first the old table and then the binding
   pub bound_composes : IsComposition (substitution terms xs) τ (substitution new (set ys v (Some t)))
-  bound_composes w = elim (same_or_other v w) [
+  bound_composes w = elim (cases_eq w v) [
     | inl e ↦ (let long : v < length ys = omega (arith, inside, applied_length terms new τ xs ys applied) in
         let at : get_or (set ys v (Some t)) w None ≡ Some t = subst (λ n. get_or (set ys v (Some t)) n None ≡ Some t) (sym e) (get_or-set_same ys v (Some t) None long) in
         let none : substitution terms xs w ≡ None = subst (λ n. substitution terms xs n ≡ None) (sym e) (unbound terms xs v free) in
         let own : τ w ≡ Some (fill (meaning new.rows) (ty_shape t)) = subst (λ n. τ n ≡ Some (fill (meaning new.rows) (ty_shape t))) (sym e) only.own in
         reads new (set ys v (Some t)) w ∙ rw at refl ∙ sym own ∙ rw none refl)
     | inr other ↦ (let at : get_or (set ys v (Some t)) w None ≡ get_or ys w None = get_or-set_other ys v w (Some t) None other in
-        let old : substitution terms xs w ≡ bound_tree (meaning terms.rows) (get_or xs w None) = reads terms xs w in
         let none = other_unbound τ v (fill (meaning new.rows) (ty_shape t)) only w (τ w) refl other in
-        reads new (set ys v (Some t)) w ∙ ap (bound_tree (meaning new.rows)) at ∙ others_at w ∙ then_is τ w (bound_tree (meaning terms.rows) (get_or xs w None)) none ∙ ap (λ o. then o τ w) (sym old))
+        reads new (set ys v (Some t)) w ∙ ap (bound_tree (meaning new.rows)) at ∙ sym (reads new ys w) ∙ applied_each terms new τ xs ys applied w ∙ then_is τ w (substitution terms xs w) none)
   ]
 
 -- whatever the interner builds, a table stays the same substitution

@@ -3,6 +3,7 @@ pub mod BindingsLaws
 pub mod FlagLaws
 pub mod FormEqualities
 pub mod GeneralLaws
+pub mod GroundLaws
 pub mod KindLaws
 pub mod MismatchLaws
 pub mod OccursLaws

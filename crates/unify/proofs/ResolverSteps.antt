@@ -3,6 +3,7 @@ use Rattle.std.proofs.Common.{◌≡◌, refl, ℕ, zero, suc, ◌<◌, List, []
 use Rattle.std.proofs.Common.{false, true, ◌↔◌, IsTrue, sym, ap, ◌∙◌, subst, arith, MatchOption, IfSome, IsFalse}
 use Rattle.std.proofs.Common.{nat_eq, not}
 use Rattle.std.proofs.lemmas.Bool.{eqb-true, eq-eqb, true≢false}
+use Rattle.std.proofs.lemmas.List.{get_or_default}
 use Rattle.tt_flags.specs.TypeFlags.{has_ty_infer}
 use Rattle.tt_kinds.specs.Scan.{scan}
 use Rattle.tt_kinds.specs.Tree as tree
@@ -51,12 +52,6 @@ binding_at_variable σ (tree.region r) v h = absurd (cc)
 binding_at_variable σ (tree.node l ts) v h = absurd (cc)
 binding_at_variable σ (tree.binder vs t) v h = absurd (cc)
 
--- the item at a place inside, whatever is given for places outside
-inside_or : {T : Type 0} (xs : List T) (i : ℕ) (d e : T) → i < length xs → get_or xs i d ≡ get_or xs i e
-inside_or [] i d e h = absurd (omega (arith, h))
-inside_or (x ∷ xs) zero d e h = refl
-inside_or (x ∷ xs) (suc i) d e h = inside_or xs i d e (omega (arith, h))
-
 -- the item past the end
 outside_or : {T : Type 0} (xs : List T) (i : ℕ) (d : T) → (i < length xs → ⊥) → get_or xs i d ≡ d
 outside_or [] i d h = refl
@@ -75,7 +70,7 @@ entry_says terms σ t (Some b) h = h
 pub says_entry : (terms : Terms) (xs : List (Option Ty)) (t : Tree Depth) (v : ℕ) (o : Option Ty) → variable_in t ≡ Some v → v < length xs → o ≡ get_or xs v o
     → EntrySays terms (substitution terms xs) t o
 says_entry terms xs t v o is inside at =
-    let entry : get_or xs v None ≡ o = inside_or xs v None o inside ∙ sym at in
+    let entry : get_or xs v None ≡ o = get_or_default xs v None o inside ∙ sym at in
     entry_says terms (substitution terms xs) t o
     (binding_at_variable (substitution terms xs) t v is ∙ reads terms xs v ∙ ap (bound_tree (meaning terms.rows)) entry)
 

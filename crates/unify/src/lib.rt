@@ -6,6 +6,7 @@
 
 pub mod bindings;
 pub mod fault;
+mod ground;
 mod pairs;
 mod resolver;
 mod unifier;

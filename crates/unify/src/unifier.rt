@@ -8,6 +8,7 @@ ghost use Rattle.tt_interner.specs.Owned.{AreOwned, IsOwned};
 ghost use Rattle.tt_interner.specs.Stored.{Extends};
 ghost use Rattle.unify.specs.Bindings.{IsRefined, IsTable, substitution, table_shape};
 ghost use Rattle.unify.specs.Faults.{IsMismatch, IsOccurs};
+ghost use Rattle.unify.specs.Ground.{ListsNonground};
 ghost use Rattle.unify.specs.Pairs.{pair_shape, Equates, EquatesTypes, HasNoOwnSolution, HasNoSolution, IsNoList};
 ghost use Rattle.unify.specs.Pairs.{KeepsSolutions};
 ghost use Rattle.unify.specs.Resolver.{binding};
@@ -16,8 +17,9 @@ ghost use Rattle.unify.specs.Substitution.{IsIdempotent, IsMostGeneral, Solves};
 
 use crate::bindings::Bindings;
 use crate::fault::Fault;
+use crate::ground::{list_nonground, nonground_variables, replaced_in};
 use crate::pairs::{Pair, as_list, as_node, as_types, push_items, push_parts};
-use crate::resolver::{binding_of, is_variable, occurs_in, replaced, resolved, variable_of};
+use crate::resolver::{binding_of, is_variable, occurs_in, resolved, variable_of};
 use indexmap::IndexMap;
 use type_terms::{Child, Interner, Node, Refusal, Ty, TyVid, TypeVisitableExt};
 
@@ -68,15 +70,18 @@ fn unbound_variable(cx: &Interner, entries: &[Option<Ty>], ty: Ty) -> Option<TyV
 fn bound(
     cx: &mut Interner,
     entries: Vec<Option<Ty>>,
+    nonground: &mut Vec<usize>,
     variable: TyVid,
     ty: Ty,
 ) -> Result<Vec<Option<Ty>>, Fault>
     requires table { IsTable cx.old entries.items }
+    requires nonground { ListsNonground cx.old entries.items nonground.old.items }
     requires ty { IsOwned ty_shape cx.old ty }
     requires inside { variable < length entries.items }
     requires unbound { get_or entries.items variable None ≡ None }
     ensures extends { Extends cx.old cx.new }
     ensures refined { IfOk result (λ e. IsRefined cx.old entries.items cx.new e.items) }
+    ensures nonground { IfOk result (λ e. ListsNonground cx.new e.items nonground.new.items) }
     ensures len { IfOk result (λ e. length e.items ≡ length entries.items) }
     ensures general { IfOk result (λ e. (ρ : Assignment)
         → ρ variable ≡ assign ρ (tree_in cx.old.rows (ty_shape ty))
@@ -97,8 +102,10 @@ fn bound(
     if ty.has_escaping_bound_vars(cx) {
         return Err(Fault::Escapes(variable, ty));
     }
-    let mut entries = replaced(cx, entries, variable, ty)?;
-    entries[variable.as_usize()] = Some(ty);
+    let mut entries = replaced_in(cx, entries, nonground.as_slice(), variable, ty)?;
+    let number = variable.as_usize();
+    list_nonground(cx, nonground, number, Some(ty))?;
+    entries[number] = Some(ty);
     Ok(entries)
 }
 
@@ -107,18 +114,21 @@ fn bound(
 fn unify_types(
     cx: &mut Interner,
     entries: Vec<Option<Ty>>,
+    nonground: &mut Vec<usize>,
     pairs: &mut Vec<Pair>,
     compared: &mut IndexMap<Compared, ()>,
     left: Ty,
     right: Ty,
 ) -> Result<Vec<Option<Ty>>, Fault>
     requires table { IsTable cx.old entries.items }
+    requires nonground { ListsNonground cx.old entries.items nonground.old.items }
     requires pairs { AreOwned pair_shape cx.old pairs.old.items }
     requires left { IsOwned ty_shape cx.old left }
     requires right { IsOwned ty_shape cx.old right }
     ensures extends { Extends cx.old cx.new }
     ensures pairs { IfOk result (λ e. AreOwned pair_shape cx.new pairs.new.items) }
     ensures refined { IfOk result (λ e. IsRefined cx.old entries.items cx.new e.items) }
+    ensures nonground { IfOk result (λ e. ListsNonground cx.new e.items nonground.new.items) }
     ensures len { IfOk result (λ e. length e.items ≡ length entries.items) }
     ensures general { IfOk result (λ e. KeepsSolutions (λ ρ. EquatesTypes ρ cx.old left right)
         cx.old entries.items pairs.old.items cx.new e.items pairs.new.items) }
@@ -133,10 +143,10 @@ fn unify_types(
         return Ok(entries);
     }
     if let Some(variable) = unbound_variable(cx, entries.as_slice(), left) {
-        return bound(cx, entries, variable, right);
+        return bound(cx, entries, nonground, variable, right);
     }
     if let Some(variable) = unbound_variable(cx, entries.as_slice(), right) {
-        return bound(cx, entries, variable, left);
+        return bound(cx, entries, nonground, variable, left);
     }
     if compared.insert(Compared { left, right }, ())?.is_none() {
         push_parts(cx, pairs, Node::Ty(left), Node::Ty(right))?;
@@ -149,11 +159,13 @@ fn unify_types(
 fn unify_terms(
     cx: &mut Interner,
     entries: Vec<Option<Ty>>,
+    nonground: &mut Vec<usize>,
     pairs: &mut Vec<Pair>,
     compared: &mut IndexMap<Compared, ()>,
     pair: Pair,
 ) -> Result<Vec<Option<Ty>>, Fault>
     requires table { IsTable cx.old entries.items }
+    requires nonground { ListsNonground cx.old entries.items nonground.old.items }
     requires pairs { AreOwned pair_shape cx.old pairs.old.items }
     requires pair { IsOwned pair_shape cx.old pair }
     requires left { IsNoList pair.left }
@@ -161,6 +173,7 @@ fn unify_terms(
     ensures extends { Extends cx.old cx.new }
     ensures pairs { IfOk result (λ e. AreOwned pair_shape cx.new pairs.new.items) }
     ensures refined { IfOk result (λ e. IsRefined cx.old entries.items cx.new e.items) }
+    ensures nonground { IfOk result (λ e. ListsNonground cx.new e.items nonground.new.items) }
     ensures len { IfOk result (λ e. length e.items ≡ length entries.items) }
     ensures general { IfOk result (λ e. KeepsSolutions (λ ρ. Equates ρ cx.old pair)
         cx.old entries.items pairs.old.items cx.new e.items pairs.new.items) }
@@ -178,7 +191,7 @@ fn unify_terms(
         return Err(Fault::Mismatch);
     };
     if let Some(types) = as_types(left, right) {
-        return unify_types(cx, entries, pairs, compared, types.0, types.1);
+        return unify_types(cx, entries, nonground, pairs, compared, types.0, types.1);
     }
     push_parts(cx, pairs, left, right)?;
     Ok(entries)
@@ -189,16 +202,19 @@ fn unify_terms(
 fn unify_pair(
     cx: &mut Interner,
     entries: Vec<Option<Ty>>,
+    nonground: &mut Vec<usize>,
     pairs: &mut Vec<Pair>,
     compared: &mut IndexMap<Compared, ()>,
     pair: Pair,
 ) -> Result<Vec<Option<Ty>>, Fault>
     requires table { IsTable cx.old entries.items }
+    requires nonground { ListsNonground cx.old entries.items nonground.old.items }
     requires pairs { AreOwned pair_shape cx.old pairs.old.items }
     requires pair { IsOwned pair_shape cx.old pair }
     ensures extends { Extends cx.old cx.new }
     ensures pairs { IfOk result (λ e. AreOwned pair_shape cx.new pairs.new.items) }
     ensures refined { IfOk result (λ e. IsRefined cx.old entries.items cx.new e.items) }
+    ensures nonground { IfOk result (λ e. ListsNonground cx.new e.items nonground.new.items) }
     ensures len { IfOk result (λ e. length e.items ≡ length entries.items) }
     ensures general { IfOk result (λ e. KeepsSolutions (λ ρ. Equates ρ cx.old pair)
         cx.old entries.items pairs.old.items cx.new e.items pairs.new.items) }
@@ -222,7 +238,7 @@ fn unify_pair(
         },
         None => match as_list(pair.right) {
             Some(_) => Err(Fault::Mismatch),
-            None => unify_terms(cx, entries, pairs, compared, pair),
+            None => unify_terms(cx, entries, nonground, pairs, compared, pair),
         },
     }
 }
@@ -257,6 +273,7 @@ fn unified(
         (tree_in cx.old.rows (ty_shape right))) }
 {
     let mut entries = entries;
+    let mut nonground = nonground_variables(cx, entries.as_slice())?;
     let mut compared = IndexMap::new(cx.allocator());
     let mut pairs = Vec::new(cx.allocator());
     pairs.push(Pair {
@@ -267,7 +284,7 @@ fn unified(
         let Some(pair) = pairs.pop() else {
             return Ok(entries);
         };
-        entries = unify_pair(cx, entries, &mut pairs, &mut compared, pair)?;
+        entries = unify_pair(cx, entries, &mut nonground, &mut pairs, &mut compared, pair)?;
     }
     Err(Fault::Refused(Refusal::TableFull))
 }

@@ -1,6 +1,6 @@
 //! Makes two types equal for each line of standard input, and prints how many types that took.
 //!
-//! A line is `pairs N` or `chain N`, where N is the number of levels.
+//! A line is `pairs N`, `chain N` or `links N`, where N is the number of levels.
 #![tactic(auto)]
 
 mod outcome;
@@ -21,7 +21,7 @@ fn run<R: Read + Drop, W: Write + Drop>(alloc: Global, mut input: R, mut output:
     let mut text = String::new(alloc);
     let _count = input.read_to_string(&mut text)?;
     for line in text.lines() {
-        let workload = Workload::of(line).context("a line is `pairs N` or `chain N`")?;
+        let workload = Workload::of(line).context("a line is `pairs N`, `chain N` or `links N`")?;
         let printed = answer(alloc, line, workload)?;
         output.write_all(printed.as_bytes())?;
     }

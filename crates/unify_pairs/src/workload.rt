@@ -12,6 +12,9 @@ pub enum Workload {
     /// Level 0 is `i32`. Level n + 1 is `(level n, ?n)` on the left and `(level n, i32)` on the right, so each level
     /// has a variable to bind.
     Chain(u32),
+    /// Level 0 is `i32`. Level n + 1 is `(level n, ?n)` on the left and `(level n, ?(n + 1))` on the right, so each
+    /// variable but the last one is bound to the next one.
+    Links(u32),
 }
 
 impl Workload {
@@ -22,6 +25,7 @@ impl Workload {
         match word {
             "pairs" => Some(Workload::Pairs(levels)),
             "chain" => Some(Workload::Chain(levels)),
+            "links" => Some(Workload::Links(levels)),
             _ => None,
         }
     }
@@ -31,6 +35,7 @@ impl Workload {
         match self {
             Workload::Pairs(_) => 1,
             Workload::Chain(levels) => levels,
+            Workload::Links(levels) => levels.saturating_add(1),
         }
     }
 
@@ -43,6 +48,7 @@ impl Workload {
                 Ok((nested(cx, zero, levels)?, nested(cx, number, levels)?))
             }
             Workload::Chain(levels) => chain(cx, number, levels),
+            Workload::Links(levels) => links(cx, number, levels),
         }
     }
 }
@@ -72,6 +78,17 @@ fn chain(cx: &mut Interner, end: Ty, levels: u32) -> Result<(Ty, Ty), Refusal> {
         let own = variable(cx, level)?;
         left = tuple(cx, &[left, own])?;
         right = tuple(cx, &[right, end])?;
+    }
+    Ok((left, right))
+}
+
+// Returns two chains of this many levels that end in the type: a variable on the left has the next one on its right.
+fn links(cx: &mut Interner, end: Ty, levels: u32) -> Result<(Ty, Ty), Refusal> {
+    let (mut left, mut right) = (end, end);
+    for level in 0..levels {
+        let (own, next) = (variable(cx, level)?, variable(cx, level + 1)?);
+        left = tuple(cx, &[left, own])?;
+        right = tuple(cx, &[right, next])?;
     }
     Ok((left, right))
 }

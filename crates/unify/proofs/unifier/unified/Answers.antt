@@ -2,6 +2,7 @@ use Rattle.std.proofs.lemmas.Result.{err_from_is_err_and}
 use Rattle.std.proofs.Common.{refl, subst, sym, ◌∙◌}
 use Rattle.tt_interner.specs.Owned.{AreOwned}
 use Rattle.tt_interner.proofs.Growth.{Extends-refl, Extends-trans}
+use Rattle.unify.specs.Ground.{ListsNonground}
 use Rattle.unify.specs.Pairs.{pair_shape, EquatesAll}
 use Rattle.unify.specs.Substitution.{IsOwn}
 use Rattle.unify.proofs.BindingsLaws.{refined_further, refined_itself}
@@ -15,6 +16,7 @@ loop-init c = record {
   pairs = pairs_pushed c.args.cx.now c.new-pairs.result.items c.push.new.self.items _ _ c.in_ok-push.ensures.items
       (subst (AreOwned pair_shape c.args.cx.now) (sym c.new-pairs.ensures.items) tt) (c.requires.left, tt) (c.requires.right, tt);
   refined = refined_itself c.args.cx.now c.args.entries.items c.requires.table;
+  nonground = subst (λ xs. ListsNonground c.args.cx.now xs c.in_ok-nonground.nonground.items) c.as_slice.ensures.value c.in_ok-nonground.ensures;
   len = refl;
   general = λ ρ solves equal. record {
     solves = solves;
@@ -37,6 +39,7 @@ loop-preserved c = record {
   pairs = c.in_ok-entries.ensures.pairs;
   refined = refined_further c.args.cx.now c.loop.cx c.unify_pair.new.cx c.args.entries.items c.loop.entries.items c.in_ok-entries.entries.items
       c.loop.invariant.refined c.in_ok-entries.ensures.refined;
+  nonground = c.in_ok-entries.ensures.nonground;
   len = c.in_ok-entries.ensures.len ∙ c.loop.invariant.len;
   general = λ ρ solves equal.
       let before = c.loop.invariant.general ρ solves equal in
