@@ -1,6 +1,7 @@
 //! The bindings of a table that hold variables themselves. Only they change where a variable is replaced.
 
-ghost use Rattle.std.specs.Prelude.{◌≡◌, ◌⊎◌, Contains, ℕ, IfOk, OnOk};
+ghost use Rattle.std.specs.Prelude.{◌≡◌, ◌⊎◌, Contains, ℕ, IfErr, IfOk, OnOk};
+ghost use Rattle.tt_index.specs.declared.refusal.Refusal.TheVariants.{Memory};
 ghost use Rattle.tt_kinds.specs.Kinds.{ty_shape};
 ghost use Rattle.tt_kinds.specs.Values.{option_shape};
 ghost use Rattle.tt_interner.specs.Owned.{IsOwned};
@@ -25,6 +26,7 @@ pub fn list_nonground(
     ensures only { OnOk result ((v : ℕ) → Contains nonground.new.items v → Contains nonground.old.items v ⊎ (v ≡ number)) }
     ensures own { OnOk result
         (Contains nonground.new.items number ⊎ IsGround (tree_in cx.now.rows (option_shape ty_shape entry))) }
+    ensures err { IfErr result (λ refusal. refusal ≡ Memory) }
 {
     if entry.has_infer_types(cx) {
         nonground.push(number)?;
@@ -35,7 +37,8 @@ pub fn list_nonground(
 /// Returns the numbers of the variables whose bindings hold variables.
 pub fn nonground_variables(cx: &Interner, entries: &[Option<Ty>]) -> Result<Vec<usize>, Refusal>
     requires { IsOwned table_shape cx.now entries.now }
-    ensures { IfOk result (λ nonground. ListsNonground cx.now entries.now nonground.items) }
+    ensures lists { IfOk result (λ nonground. ListsNonground cx.now entries.now nonground.items) }
+    ensures err { IfErr result (λ refusal. refusal ≡ Memory) }
 {
     let mut nonground = Vec::new(cx.allocator());
     for number in 0..entries.len() {

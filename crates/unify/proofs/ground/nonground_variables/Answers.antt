@@ -16,7 +16,7 @@ loop-number-preserved c =
     (one_more c.args.cx.now c.args.entries.now c.loop-number.number (get_or c.args.entries.now c.loop-number.number None) refl
     c.loop-number.nonground.items c.list_nonground.new.nonground.items said.kept said.only said.own c.loop-number.invariant)
 
-pub returns : goal.returns
-returns c =
+pub returns-clause-lists : goal.returns-clause-lists
+returns-clause-lists c =
     all_before c.args.cx.now c.args.entries.now c.loop-number.number c.loop-number.nonground.items
     (omega (arith, c.loop-number-test.false, c.loop-number.auto.number-end)) c.loop-number.invariant

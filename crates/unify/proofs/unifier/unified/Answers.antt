@@ -16,7 +16,7 @@ loop-init c = record {
   pairs = pairs_pushed c.args.cx.now c.new-pairs.result.items c.push.new.self.items _ _ c.in_ok-push.ensures.items
       (subst (AreOwned pair_shape c.args.cx.now) (sym c.new-pairs.ensures.items) tt) (c.requires.left, tt) (c.requires.right, tt);
   refined = refined_itself c.args.cx.now c.args.entries.items c.requires.table;
-  nonground = subst (λ xs. ListsNonground c.args.cx.now xs c.in_ok-nonground.nonground.items) c.as_slice.ensures.value c.in_ok-nonground.ensures;
+  nonground = subst (λ xs. ListsNonground c.args.cx.now xs c.in_ok-nonground.nonground.items) c.as_slice.ensures.value c.in_ok-nonground.ensures.lists;
   len = refl;
   general = λ ρ solves equal. record {
     solves = solves;
