@@ -20,8 +20,8 @@ const GREATEST: usize = 4_294_967_040;
 
 /// What each inference variable is bound to.
 ///
-/// Variables are numbered from 0 in the order in which [`Bindings::new_variable`] makes them. What a variable is bound to
-/// has no bound variable itself, so that one replacement resolves a type.
+/// Variables are numbered from 0 in the order in which [`Bindings::new_variable`] makes them. What a variable is bound
+/// to has no bound variable itself, so that one replacement resolves a type.
 #[derive(Drop)]
 pub struct Bindings {
     pub(crate) entries: Vec<Option<Ty>>,
@@ -75,8 +75,8 @@ impl Bindings {
         Ok(ty)
     }
 
-    /// Returns the type with each bound variable replaced by its binding. Refused for want of memory, or where a table is
-    /// full, with `TableFull`.
+    /// Returns the type with each bound variable replaced by its binding. Refused for want of memory, or where a table
+    /// is full, with `TableFull`.
     pub fn resolve(&self, cx: &mut Interner, ty: Ty) -> Result<Ty, Refusal>
         requires table { IsTable cx.old self.now }
         requires ty { IsOwned ty_shape cx.old ty }

@@ -23,7 +23,8 @@ pub fn list_nonground(
 ) -> Result<(), Refusal>
     requires { IsOwned (option_shape ty_shape) cx.now entry }
     ensures kept { OnOk result ((v : ℕ) → Contains nonground.old.items v → Contains nonground.new.items v) }
-    ensures only { OnOk result ((v : ℕ) → Contains nonground.new.items v → Contains nonground.old.items v ⊎ (v ≡ number)) }
+    ensures only { OnOk result
+        ((v : ℕ) → Contains nonground.new.items v → Contains nonground.old.items v ⊎ (v ≡ number)) }
     ensures own { OnOk result
         (Contains nonground.new.items number ⊎ IsGround (tree_in cx.now.rows (option_shape ty_shape entry))) }
     ensures err { IfErr result (λ refusal. refusal ≡ Memory) }
@@ -47,8 +48,8 @@ pub fn nonground_variables(cx: &Interner, entries: &[Option<Ty>]) -> Result<Vec<
     Ok(nonground)
 }
 
-/// Returns the entries with the variable replaced by the type `put`, which doesn't hold it. An entry that isn't listed is
-/// ground, and stays as it is.
+/// Returns the entries with the variable replaced by the type `put`, which doesn't hold it. An entry that isn't listed
+/// is ground, and stays as it is.
 #[tactic(auto, using(crate::proofs::BindingsLaws::extends_further))]
 pub fn replaced_in(
     cx: &mut Interner,

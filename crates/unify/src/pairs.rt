@@ -67,7 +67,8 @@ pub fn push_parts(
     Ok(())
 }
 
-/// Pushes the pairs of the items of two lists. Fails with [`Fault::Mismatch`] if they have not as many, or of other sorts.
+/// Pushes the pairs of the items of two lists. Fails with [`Fault::Mismatch`] if they don't have as many items, or items
+/// of other sorts.
 pub fn push_items(
     cx: &Interner,
     pairs: &mut Vec<Pair>,
