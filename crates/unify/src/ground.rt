@@ -1,4 +1,5 @@
-//! The bindings of a table that hold variables themselves. Only they change where a variable is replaced.
+//! The bindings of a table that aren't ground: they hold inference variables themselves. Only they change where a
+//! variable is replaced.
 
 ghost use Rattle.std.specs.Prelude.{◌≡◌, ◌⊎◌, Contains, ℕ, IfErr, IfOk, OnOk};
 ghost use Rattle.tt_index.specs.declared.refusal.Refusal.TheVariants.{Memory};
