@@ -184,19 +184,12 @@ fn sides(types: &mut Types, line: &str) -> Option<(Type, Type)> {
                 right = types.make(Kind::Pair(right, right));
             }
         }
-        "chain" => {
-            for level in 0..levels {
-                let variable = types.make(Kind::Variable(level));
-                left = types.make(Kind::Pair(left, variable));
-                right = types.make(Kind::Pair(right, int));
-            }
-        }
-        "links" => {
+        "chain" | "links" => {
             for level in 0..levels {
                 let own = types.make(Kind::Variable(level));
-                let next = types.make(Kind::Variable(level + 1));
+                let other = if word == "links" { types.make(Kind::Variable(level + 1)) } else { int };
                 left = types.make(Kind::Pair(left, own));
-                right = types.make(Kind::Pair(right, next));
+                right = types.make(Kind::Pair(right, other));
             }
         }
         _ => return None,

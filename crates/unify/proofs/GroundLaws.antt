@@ -55,6 +55,20 @@ unfolding fill
 entry_ground terms None r has ground = absurd (cc)
 entry_ground terms (Some t) r has ground = subst IsGround (same_binding (fill (meaning terms.rows) (ty_shape t)) r has) (λ v. (ground v).0)
 
+-- The list with one number more: each binding is listed or ground, if the others were, and the one of this number is
+-- ground where its entry is.
+listed_or_ground : (before after : List ℕ) (n : ℕ) (σ : Substitution) (entry : Tree Depth) (v : ℕ) (r : Tree Depth)
+    → ((w : ℕ) → Contains before w → Contains after w) → Contains after n ⊎ IsGround entry
+    → (σ n ≡ Some r → IsGround entry → IsGround r) → (v ≢ n → Contains before v ⊎ IsGround r)
+    → σ v ≡ Some r → Contains after v ⊎ IsGround r
+listed_or_ground before after n σ entry v r kept own ground other has = elim (cases_eq v n) [
+  | inl same ↦ elim own [
+    | inl c ↦ inl (subst (Contains after) (sym same) c)
+    | inr is ↦ inr (ground (subst (λ k. σ k ≡ Some r) same has) is)
+  ]
+  | inr differs ↦ elim (other differs) [ inl c ↦ inl (kept v c) | inr is ↦ inr is ]
+]
+
 -- The list, entry by entry.
 
 -- the same as `ListsNonground`, of the entries before the n-th
@@ -68,24 +82,13 @@ module _ (terms : Terms) (xs : List (Option Ty)) where
       (only : (v : ℕ) → Contains after v → Contains before v ⊎ (v ≡ n))
       (own : Contains after n ⊎ IsGround (tree_in terms.rows (option_shape ty_shape entry)))
       (lists : ListsBefore terms xs n before) where
-    own_or_ground : (v : ℕ) (r : Tree Depth) → v ≡ n → substitution terms xs v ≡ Some r → Contains after v ⊎ IsGround r
-    own_or_ground v r same has = elim own [
-      | inl c ↦ inl (subst (Contains after) (sym same) c)
-      | inr ground ↦ inr (entry_ground terms entry r
-          (ap (bound_tree (meaning terms.rows)) (sym at ∙ ap (λ k. get_or xs k None) (sym same)) ∙ sym (reads terms xs v) ∙ has) ground)
-    ]
-
-    earlier_or_ground : (v : ℕ) (r : Tree Depth) → v < n → substitution terms xs v ≡ Some r → Contains after v ⊎ IsGround r
-    earlier_or_ground v r below has = elim (lists.others v r below has) [ inl c ↦ inl (kept v c) | inr ground ↦ inr ground ]
-
     -- one entry more
     pub one_more : ListsBefore terms xs (suc n) after
     one_more = record {
       within = λ v c. elim (only v c) [ inl earlier ↦ omega (arith, lists.within v earlier) | inr is ↦ omega (arith, is) ];
-      others = λ v r below has. elim (cases_eq v n) [
-        | inl same ↦ own_or_ground v r same has
-        | inr other ↦ earlier_or_ground v r (omega (arith, below, other)) has
-      ];
+      others = λ v r below has. listed_or_ground before after n (substitution terms xs) (tree_in terms.rows (option_shape ty_shape entry)) v r kept own
+          (λ here ground. entry_ground terms entry r (ap (bound_tree (meaning terms.rows)) (sym at) ∙ sym (reads terms xs n) ∙ here) ground)
+          (λ differs. lists.others v r (omega (arith, below, differs)) has) has;
     }
 
   -- an entry that binds is inside the table
@@ -240,10 +243,10 @@ module _ (terms new : Terms) (xs ys : List (Option Ty)) (place : ℕ) (t : Ty) (
   long : length (set ys place (Some t)) ≡ length xs
   long = length-set ys place (Some t) ∙ applied_length terms new τ xs ys applied
 
-  image_ground : (w : ℕ) (o : Option (Tree Depth)) (r : Tree Depth) → substitution terms xs w ≡ o → image τ o ≡ Some r → Contains nonground' w ⊎ IsGround r
+  image_ground : (w : ℕ) (o : Option (Tree Depth)) (r : Tree Depth) → substitution terms xs w ≡ o → image τ o ≡ Some r → Contains nonground w ⊎ IsGround r
   image_ground w None r is has = absurd (cc)
   image_ground w (Some b) r is has = elim (lists.others w b is) [
-    | inl c ↦ inl (kept w c)
+    | inl c ↦ inl c
     | inr ground ↦ inr (subst IsGround (sym (ground_stays τ b ground) ∙ same_binding (apply τ b) r has) ground)
   ]
 
@@ -254,15 +257,10 @@ module _ (terms new : Terms) (xs ys : List (Option Ty)) (place : ℕ) (t : Ty) (
       | inl before ↦ omega (arith, lists.within w before, long)
       | inr is ↦ omega (arith, is, inside, long)
     ];
-    others = λ w r has. elim (cases_eq w place) [
-      | inl same ↦ elim own [
-        | inl c ↦ inl (subst (Contains nonground') (sym same) c)
-        | inr ground ↦ inr (
-            let at : get_or (set ys place (Some t)) place None ≡ Some t = get_or-set_same ys place (Some t) None (omega (arith, inside, applied_length terms new τ xs ys applied)) in
-            let there : substitution new (set ys place (Some t)) place ≡ Some r = subst (λ n. substitution new (set ys place (Some t)) n ≡ Some r) same has in
-            entry_ground new (Some t) r (sym (ap (bound_tree (meaning new.rows)) at) ∙ sym (reads new (set ys place (Some t)) place) ∙ there) ground)
-      ]
-      | inr other ↦ image_ground w (substitution terms xs w) r refl (sym (applied_each terms new τ xs ys applied w) ∙ reads new ys w
-          ∙ sym (ap (bound_tree (meaning new.rows)) (get_or-set_other ys place w (Some t) None other)) ∙ sym (reads new (set ys place (Some t)) w) ∙ has)
-    ];
+    others = λ w r has. listed_or_ground nonground nonground' place (substitution new (set ys place (Some t))) (tree_in new.rows (option_shape ty_shape (Some t))) w r kept own
+        (λ here ground.
+        let at : get_or (set ys place (Some t)) place None ≡ Some t = get_or-set_same ys place (Some t) None (omega (arith, inside, applied_length terms new τ xs ys applied)) in
+        entry_ground new (Some t) r (sym (ap (bound_tree (meaning new.rows)) at) ∙ sym (reads new (set ys place (Some t)) place) ∙ here) ground)
+        (λ differs. image_ground w (substitution terms xs w) r refl (sym (applied_each terms new τ xs ys applied w) ∙ reads new ys w
+        ∙ sym (ap (bound_tree (meaning new.rows)) (get_or-set_other ys place w (Some t) None differs)) ∙ sym (reads new (set ys place (Some t)) w) ∙ has)) has;
   }

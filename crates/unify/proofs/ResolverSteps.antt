@@ -1,9 +1,9 @@
 -- What a resolver answers, from what it tests.
 use Rattle.std.proofs.Common.{◌≡◌, refl, ℕ, zero, suc, ◌<◌, List, [], ◌∷◌, length, get_or, Option, Some, None, Bool}
 use Rattle.std.proofs.Common.{false, true, ◌↔◌, IsTrue, sym, ap, ◌∙◌, subst, arith, MatchOption, IfSome, IsFalse}
-use Rattle.std.proofs.Common.{nat_eq, not}
-use Rattle.std.proofs.lemmas.Bool.{eqb-true, eq-eqb, true≢false}
-use Rattle.std.proofs.lemmas.List.{get_or_default}
+use Rattle.std.proofs.Common.{nat_eq, not, inl, inr}
+use Rattle.std.proofs.lemmas.Bool.{cases_lt, eqb-true, eq-eqb, true≢false}
+use Rattle.std.proofs.lemmas.List.{get_or_default, get_or_past}
 use Rattle.tt_flags.specs.TypeFlags.{has_ty_infer}
 use Rattle.tt_kinds.specs.Scan.{scan}
 use Rattle.tt_kinds.specs.Tree as tree
@@ -54,9 +54,7 @@ binding_at_variable σ (tree.binder vs t) v h = absurd (cc)
 
 -- the item past the end
 outside_or : {T : Type 0} (xs : List T) (i : ℕ) (d : T) → (i < length xs → ⊥) → get_or xs i d ≡ d
-outside_or [] i d h = refl
-outside_or (x ∷ xs) zero d h = absurd (h (omega arith))
-outside_or (x ∷ xs) (suc i) d h = outside_or xs i d (λ l. h (omega (arith, l)))
+outside_or xs i d h = get_or_past xs i d (elim (cases_lt i (length xs)) [ inl less ↦ absurd (h less) | inr past ↦ past ])
 
 -- what an entry says of a variable's binding
 abbrev pub EntrySays : Terms → Substitution → Tree Depth → Option Ty → Type 0

@@ -49,8 +49,8 @@ pub fn nonground_variables(cx: &Interner, entries: &[Option<Ty>]) -> Result<Vec<
     Ok(nonground)
 }
 
-/// Returns the entries with the variable replaced by the type `put`, which doesn't hold it. An entry that isn't listed
-/// is ground, and stays as it is.
+/// Returns the entries with the variable replaced by the type `put`. An entry that isn't listed is ground, and stays as
+/// it is. Since `put` doesn't hold the variable, a number that is listed twice does no harm.
 #[tactic(auto, using(crate::proofs::BindingsLaws::extends_further))]
 pub fn replaced_in(
     cx: &mut Interner,

@@ -47,9 +47,25 @@ impl Workload {
                 let zero = variable(cx, 0)?;
                 Ok((nested(cx, zero, levels)?, nested(cx, number, levels)?))
             }
-            Workload::Chain(levels) => chain(cx, number, levels),
-            Workload::Links(levels) => links(cx, number, levels),
+            Workload::Chain(levels) => self.chains(cx, number, levels),
+            Workload::Links(levels) => self.chains(cx, number, levels),
         }
+    }
+
+    // Returns two chains of this many levels that end in the type. A variable on the left has the next one on its right
+    // in `links`, and else the type.
+    fn chains(self, cx: &mut Interner, end: Ty, levels: u32) -> Result<(Ty, Ty), Refusal> {
+        let (mut left, mut right) = (end, end);
+        for level in 0..levels {
+            let own = variable(cx, level)?;
+            let other = match self {
+                Workload::Links(_) => variable(cx, level + 1)?,
+                _ => end,
+            };
+            left = tuple(cx, &[left, own])?;
+            right = tuple(cx, &[right, other])?;
+        }
+        Ok((left, right))
     }
 }
 
@@ -69,26 +85,4 @@ fn nested(cx: &mut Interner, inner: Ty, levels: u32) -> Result<Ty, Refusal> {
         outer = tuple(cx, &[outer, outer])?;
     }
     Ok(outer)
-}
-
-// Returns two chains of this many levels that end in the type: one with a variable at each level, one with the type.
-fn chain(cx: &mut Interner, end: Ty, levels: u32) -> Result<(Ty, Ty), Refusal> {
-    let (mut left, mut right) = (end, end);
-    for level in 0..levels {
-        let own = variable(cx, level)?;
-        left = tuple(cx, &[left, own])?;
-        right = tuple(cx, &[right, end])?;
-    }
-    Ok((left, right))
-}
-
-// Returns two chains of this many levels that end in the type: a variable on the left has the next one on its right.
-fn links(cx: &mut Interner, end: Ty, levels: u32) -> Result<(Ty, Ty), Refusal> {
-    let (mut left, mut right) = (end, end);
-    for level in 0..levels {
-        let (own, next) = (variable(cx, level)?, variable(cx, level + 1)?);
-        left = tuple(cx, &[left, own])?;
-        right = tuple(cx, &[right, next])?;
-    }
-    Ok((left, right))
 }
