@@ -1,8 +1,8 @@
 -- Frames among more rows, and the children that are left in them.
-use Rattle.std.proofs.Common.{◌≡◌, ℕ, zero, suc, ◌+◌, ◌^◌, ◌<◌, ◌≤◌, [], ◌∷◌, ◌++◌, length, drop, slice_get, get_or}
+use Rattle.std.proofs.Common.{◌≡◌, ℕ, zero, suc, ◌+◌, ◌-◌, ◌^◌, ◌<◌, ◌≤◌, [], ◌∷◌, ◌++◌, length, drop, slice_get, get_or}
 use Rattle.std.proofs.Common.{All, Option, Some, None, refl, ap, sym, ◌∙◌, arith}
 use Rattle.std.proofs.Common.{List as Listed}
-use Rattle.std.proofs.lemmas.List.{drop_more}
+use Rattle.std.proofs.lemmas.List.{drop_more, length-drop}
 use Rattle.std.proofs.Math.ListN.{drop_of_length-le}
 use Rattle.std.proofs.lemmas.Option.{slice_get_within, get_or_from_slice_get, same_Some, none-some}
 use Rattle.tt_kinds.specs.Label.{Label}
@@ -28,7 +28,8 @@ use Rattle.tt_fold.specs.Parts.{ArePartsOf, HasBinder, child_trees, children_tre
 use Rattle.tt_fold.specs.Stack.{joined_trees}
 use Rattle.tt_fold.specs.Stack as outline
 use Rattle.tt_fold.specs.Items.{child_shape, child_tree, child_list, child_node, IsWhole}
-use Rattle.tt_fold.specs.Going.{form_outline, outline_by, outline_of, children_by, children_in, absent_among, IsMadeOf}
+use Rattle.tt_fold.specs.Going.{form_outline, outline_by, outline_of, term_parts_at, present, walked_parts}
+use Rattle.tt_fold.specs.Going.{children_by, children_in, absent_among, IsMadeOf, last_of}
 use Rattle.tt_fold.specs.Going.{IsFoldFrame, FitsList, AreAlike, Holds, left_of, BegunFrame, frames_of, context_of}
 use Rattle.tt_fold.specs.Going.{contexts}
 use Rattle.tt_fold.specs.Going.{AreBelow, work_all, frame_work, frames_work}
@@ -80,9 +81,26 @@ last_trees rows cs c =
 pub last_parts : (rows : Listed Row) (cs : Listed Child) (c : Child) → ArePartsOf rows (children_shapes cs) → ArePartsOf rows (child_shapes c) → ArePartsOf rows (children_shapes (cs ++ c ∷ []))
 last_parts rows cs c h k = rw (children-append cs (c ∷ []), children-one c) (append_parts rows (children_shapes cs) (child_shapes c) h k)
 
--- the shapes of a term's first and second part, taken as a list of children, are the shapes of its parts
-pub two_shapes : (p : Parts) → children_shapes (p.first ∷ p.second ∷ []) ≡ parts_shapes p
-two_shapes p = ap (append (child_shapes p.first)) (children-one p.second)
+-- a child that may be absent has the same shapes by itself and in a list
+present_shapes : (c : Child) → children_shapes (present c) ≡ child_shapes c
+present_shapes child.Absent = refl
+present_shapes (child.Region r) = children-one (child.Region r)
+present_shapes (child.Node n) = children-one (child.Node n)
+present_shapes (child.List l) = children-one (child.List l)
+
+present_few : (c : Child) → length (present c) ≤ 1
+present_few child.Absent = omega arith
+present_few (child.Region r) = omega arith
+present_few (child.Node n) = omega arith
+present_few (child.List l) = omega arith
+
+-- the shapes of the walked parts of a term, taken as a list of children, are the shapes of its parts
+pub walked_shapes : (p : Parts) → children_shapes (walked_parts p) ≡ parts_shapes p
+walked_shapes p = ap (append (child_shapes p.first)) (present_shapes p.second)
+
+-- at most two parts of a term are walked
+pub walked_few : (p : Parts) → length (walked_parts p) ≤ 2
+walked_few p = omega (arith, present_few p.second)
 
 pub drop_parts : (rows : Listed Row) (n : ℕ) (cs : Listed Child) → ArePartsOf rows (children_shapes cs) → ArePartsOf rows (children_shapes (drop n cs))
 drop_parts rows zero cs h = h
@@ -130,6 +148,10 @@ alike_all P (v ∷ vs) (c ∷ cs) f h a = λ k d lt. elim k as (λ j. j < length
   | suc j ↦ λ l. alike_all P vs cs f h.1 (λ i e lt2. a (suc i) e (omega (arith, lt2))) j d (omega (arith, l))
 ] lt
 
+-- there are as many last values as are asked for, if there are so many
+pub last_count : {n : ℕ} (vs : Listed Child) → n ≤ length vs → length (last_of n vs) ≡ n
+last_count {n} vs full = omega (arith, length-drop (length vs - n) vs, full)
+
 -- how many children a frame has
 pub counted : (rows : Listed Row) (n : Node) (count : ℕ) (l : Option List) → IsMadeOf rows n count l → count ≡ length (children_by rows n l)
 counted rows n count (Some l) h = h.counted
@@ -137,7 +159,7 @@ counted rows n count None h = h.counted
 
 counted-fits : (rows : Listed Row) (n : Node) (count : ℕ) (l : Option List) → IsMadeOf rows n count l → count < 2 ^ 64
 counted-fits rows n count (Some l) h = h.fits
-counted-fits rows n count None h = omega (arith, h.counted)
+counted-fits rows n count None h = omega (arith, h.counted, walked_few (term_parts_at rows n))
 
 -- absent children are few
 no_absent : (P : Child → Type 0) (cs : Listed Child) → (P child.Absent → ⊥) → All P cs → absent_among cs ≡ 0
@@ -164,7 +186,7 @@ no_item sort.Clauses h = h
 
 pub few_absent : (rows : Listed Row) (n : Node) (count : ℕ) (l : Option List) → IsMadeOf rows n count l → absent_among (children_by rows n l) ≤ 2
 few_absent rows n count (Some l) h = omega (arith, no_absent (λ c. IsItem (list_sort l) (child_sort c)) (children_at rows l) (no_item (list_sort l)) h.fit)
-few_absent rows n count None h = omega (arith, absent_length (children_by rows n None))
+few_absent rows n count None h = omega (arith, absent_length (children_by rows n None), walked_few (term_parts_at rows n))
 
 module _ {old new : Listed Row} (g : Grows old new) where
   -- when rows are added, a form whose labels and binder are in range keeps its outline
@@ -184,7 +206,7 @@ module _ {old new : Listed Row} (g : Grows old new) where
   children_by-grows : (n : Node) (count : ℕ) (l : Option List) → IsMadeOf old n count l → children_by new n l ≡ children_by old n l
   children_by-grows n count (Some l) h = children_at-grows old new g l h.in_range
   children_by-grows n count None h =
-      ap (λ k. (form_parts (kind_form k)).first ∷ (form_parts (kind_form k)).second ∷ []) (stored_kind-grows old new g n h.in_range)
+      ap (λ k. walked_parts (form_parts (kind_form k))) (stored_kind-grows old new g n h.in_range)
 
   made-grows : (n : Node) (count : ℕ) (l : Option List) → IsMadeOf old n count l → IsMadeOf new n count l
   made-grows n count (Some l) h =
@@ -204,14 +226,14 @@ module _ {old new : Listed Row} (g : Grows old new) where
         table = rw same h.table;
         named = rw same (HasParts-grows old new g (kind_shape (stored_kind old n)) h.named);
         inner = rw same h.inner;
-        counted = h.counted;
+        counted = rw same h.counted;
       }
 
 pub children_by-parts : (rows : Listed Row) (n : Node) (count : ℕ) (l : Option List) → IsMadeOf rows n count l → ArePartsOf rows (children_shapes (children_by rows n l))
 children_by-parts rows n count (Some l) h = h.parts
 children_by-parts rows n count None h =
     let k = stored_kind rows n in
-    rw (two_shapes (form_parts (kind_form k))) (form-parts rows (kind_sort k) (kind_form k) h.named)
+    rw (walked_shapes (form_parts (kind_form k))) (form-parts rows (kind_sort k) (kind_form k) h.named)
 
 -- the handles in the children of a frame name rows
 pub frame-parts : {rows : Listed Row} {f : Frame} → IsFoldFrame rows f → ArePartsOf rows (children_shapes (children_in rows f))

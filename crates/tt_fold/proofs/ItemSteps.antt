@@ -1,7 +1,7 @@
 -- What the walk asks of a term or a list, and what it builds of one: what the calls promise makes what the whole
 -- promises.
 use Rattle.std.proofs.Common.{◌≡◌, ℕ, ◌<◌, ◌^◌, [], ◌∷◌, length, drop, All, Result, Ok, Err, Option, Some, None, refl}
-use Rattle.std.proofs.Common.{ap, sym, subst, ◌∙◌, inl, inr}
+use Rattle.std.proofs.Common.{ap, sym, subst, ◌∙◌, inl, inr, arith, get_or, ◌≤◌}
 use Rattle.std.proofs.Common.{List as Listed}
 use Rattle.std.proofs.lemmas.Result.{MatchResult-weaker}
 use Rattle.std.proofs.lemmas.Option.{same_Some, none-some}
@@ -10,7 +10,7 @@ use Rattle.tt_kinds.specs.Label.{Sort, Label}
 use Rattle.tt_kinds.specs.Tree.{Depth, Tree}
 use Rattle.tt_kinds.specs.Parts.{node_table, node_number, list_table, list_number, list_sort, child_sort, IsItem}
 use Rattle.tt_kinds.specs.Parts.{AreLike}
-use Rattle.tt_kinds.specs.Shape.{fill, HasParts}
+use Rattle.tt_kinds.specs.Shape.{fill, append, HasParts}
 use Rattle.tt_kinds.specs.Kinds.{Form, param, bound, plain, under, form_binder, form_parts, form_shape, refilled}
 use Rattle.tt_kinds.specs.Kinds.{kind_form, kind_sort, kind_shape, kind_table, node_shape, list_shape, region_shape}
 use Rattle.tt_kinds.specs.Kinds.{child_shapes, parts_shapes, children_shapes, items_tree}
@@ -45,16 +45,17 @@ use Rattle.tt_fold.specs.Stack.{leave_fails, rebuilds, RebuildFails, not_left, n
 use Rattle.tt_fold.specs.Stack.{FinishFails}
 use Rattle.tt_fold.specs.Items.{child_shape, child_tree, child_list, child_node, child_root, IsWhole, SameTerm}
 use Rattle.tt_fold.specs.Items.{SameList, IsHooked, IsHookOf}
-use Rattle.tt_fold.specs.Going.{form_outline, outline_of, children_in, IsTermFrame, IsFoldFrame, Holds, IsNewFrame}
-use Rattle.tt_fold.specs.Going.{IsAsked}
+use Rattle.tt_fold.specs.Going.{form_outline, outline_of, term_parts_at, present, walked_parts, parts_of, children_in}
+use Rattle.tt_fold.specs.Going.{IsTermFrame, IsFoldFrame, AreAlike, Holds, IsNewFrame, IsAsked}
 use Rattle.tt_fold.specs.Going.{IsOpen, IsBegun, IsRebuilt, left_of}
 use Rattle.tt_fold.specs.declared.folder.Step.TheVariants as step
 use Rattle.tt_fold.specs.declared.stack.Begun.TheVariants as begun
 use Rattle.tt_fold.specs.declared.stack.Frame.{Frame}
-use Rattle.tt_fold.proofs.PartLaws.{stored_tree, in_range, no_trees, one_tree, no_parts, one_part}
+use Rattle.tt_fold.proofs.PartLaws.{stored_tree, in_range, no_trees, one_tree, no_parts, one_part, children-one}
 use Rattle.tt_fold.proofs.WalkLaws.{walks_leaf, WalksAll-one}
 use Rattle.tt_fold.proofs.StackLaws.{enter_fails_inside, asks_fails, leaf_fails, leaf_walks}
-use Rattle.tt_fold.proofs.FrameLaws.{whole-part, part-whole, whole-tree, like-whole, alike_all, two_shapes}
+use Rattle.tt_fold.proofs.FrameLaws.{whole-part, part-whole, whole-tree, like-whole, alike_all, alike_length}
+use Rattle.tt_fold.proofs.FrameLaws.{walked_shapes, walked_few}
 use Rattle.tt_fold.proofs.FrameLaws.{form_outline-grows, outline-grows, frame-grows}
 use Rattle.tt_fold.proofs.FormLaws.{form-labels, form-binder}
 
@@ -177,30 +178,31 @@ list_opened {rows} c l is part e counted means parts fit fits =
     }
 
 -- a term before its children
-term_frame : {rows : Listed Row} (c : Child) (n : Node) → IsWhole c → ArePartsOf rows (child_shapes c) → None ≡ child_list c
-    → n ≡ child_node c → SameTerm c n → IsTermFrame rows n 2
+term_frame : {rows : Listed Row} {count : ℕ} (c : Child) (n : Node) → IsWhole c → ArePartsOf rows (child_shapes c) → None ≡ child_list c
+    → n ≡ child_node c → SameTerm c n → IsTermFrame rows n count
     → meaning rows (node_table n) (node_number n) ≡ fill (meaning rows) (kind_shape (stored_kind rows n))
-    → IsFoldFrame rows (record { item = c; count = 2; next = 0 })
+    → IsFoldFrame rows (record { item = c; count = count; next = 0 })
 term_frame {rows} c n is part e node same t means =
     let k = stored_kind rows n in
     let p = form_parts (kind_form k) in
-    let kids = ap (trees_in rows) (two_shapes p) in
-    let tree : child_tree rows c ≡ whole (form_outline rows (kind_form k)) (children_trees rows (p.first ∷ p.second ∷ [])) =
+    let kids = ap (trees_in rows) (walked_shapes p) in
+    let tree : child_tree rows c ≡ whole (form_outline rows (kind_form k)) (children_trees rows (walked_parts p)) =
     rw kids (ap (tree_in rows) same.shape ∙ stored_tree rows (node_table n) (node_number n) ∙ means ∙ form_whole rows (kind_sort k) (kind_form k) t.inner) in
     record { is = is; part = part; tree = rw (← e, ← node) tree; made = rw (← e, ← node) t }
 
 -- what the interner says of a term
-pub term_made : {rows : Listed Row} (c : Child) (n : Node) → IsWhole c → ArePartsOf rows (child_shapes c) → None ≡ child_list c
+pub term_made : {rows : Listed Row} {count : ℕ} (c : Child) (n : Node) → IsWhole c → ArePartsOf rows (child_shapes c) → None ≡ child_list c
     → n ≡ child_node c → SameTerm c n
     → kind_table (stored_kind rows n) ≡ node_table n → HasParts (size rows) (kind_shape (stored_kind rows n)) → IsInner (kind_form (stored_kind rows n))
-    → IsTermFrame rows n 2
-term_made {rows} c n is part e node same table named inner = record {
+    → count ≡ length (walked_parts (term_parts_at rows n))
+    → IsTermFrame rows n count
+term_made {rows} c n is part e node same table named inner counted = record {
   in_range = in_range rows (node_table n) (node_number n) (hooked_part rows c n same (whole-part _ c is part));
   has_kind = rw node (no_clauses c is e);
   table = table;
   named = named;
   inner = inner;
-  counted = refl;
+  counted = counted;
 }
 
 outline_is : (rows : Listed Row) (c : Child) (n : Node) → None ≡ child_list c → n ≡ child_node c → outline_of rows c ≡ form_outline rows (kind_form (stored_kind rows n))
@@ -246,25 +248,25 @@ module _ {M E S : Type 0} {owned : Listed Row → S → Type 0} {means : Listed 
       record { extends = Extends-refl terms; is_owned = o; outcome = rw tree (walks_leaf H _ terms.rows (stored_kind terms.rows n) leaf) }
 
   -- the contents of a term aren't begun if its binder isn't entered
-  pub open_fails : {terms terms1 : Terms} {s s1 : S} {e : E} (c : Child) (b : Option BoundVarKinds) (n : Node) → IsWhole c → ArePartsOf terms.rows (child_shapes c) → None ≡ child_list c
-      → n ≡ child_node c → SameTerm c n → b ≡ form_binder (kind_form (stored_kind terms.rows n)) → IsTermFrame terms.rows n 2
+  pub open_fails : {terms terms1 : Terms} {s s1 : S} {e : E} {count : ℕ} (c : Child) (b : Option BoundVarKinds) (n : Node) → IsWhole c → ArePartsOf terms.rows (child_shapes c) → None ≡ child_list c
+      → n ≡ child_node c → SameTerm c n → b ≡ form_binder (kind_form (stored_kind terms.rows n)) → IsTermFrame terms.rows n count
       → meaning terms.rows (node_table n) (node_number n) ≡ fill (meaning terms.rows) (kind_shape (stored_kind terms.rows n))
       → Goes owned means (λ _ _ m m'. Opens H (binder_in terms.rows b) m m') (EnterFails H errors (binder_in terms.rows b)) terms s (unit_err e) terms1 s1
       → Goes owned means (IsOpen H (child_tree terms.rows c) c) (λ m x m'. InsideFails H errors m (child_tree terms.rows c) x m') terms s (Err e) terms1 s1
-  open_fails {terms} c b n is part e node same vars_are t means_is d =
+  open_fails {terms} {count} c b n is part e node same vars_are t means_is d =
       let f = kind_form (stored_kind terms.rows n) in
       let frame = term_frame c n is part e node same t means_is in
-      let tree = frame.tree ∙ ap (λ o. whole o (children_trees terms.rows (children_in terms.rows (record { item = c; count = 2; next = 0 })))) (outline_is terms.rows c n e node) in
+      let tree = frame.tree ∙ ap (λ o. whole o (children_trees terms.rows (children_in terms.rows (record { item = c; count = count; next = 0 })))) (outline_is terms.rows c n e node) in
       let k = rw (vars_are, ← form_binder_of terms.rows f) at d.outcome in
       record { extends = d.extends; is_owned = d.is_owned; outcome = rw tree (enter_fails_inside (form_outline terms.rows f) _ (form_any terms.rows f t.inner) k) }
 
-  -- once a term's binder is entered, its contents are begun with a frame of two children
-  pub open_ok : {terms terms1 : Terms} {s s1 : S} (c : Child) (b : Option BoundVarKinds) (n : Node) → IsWhole c → ArePartsOf terms.rows (child_shapes c) → None ≡ child_list c
-      → n ≡ child_node c → SameTerm c n → b ≡ form_binder (kind_form (stored_kind terms.rows n)) → IsTermFrame terms.rows n 2
+  -- once a term's binder is entered, its contents are begun with a frame of its children
+  pub open_ok : {terms terms1 : Terms} {s s1 : S} {count : ℕ} (c : Child) (b : Option BoundVarKinds) (n : Node) → IsWhole c → ArePartsOf terms.rows (child_shapes c) → None ≡ child_list c
+      → n ≡ child_node c → SameTerm c n → b ≡ form_binder (kind_form (stored_kind terms.rows n)) → IsTermFrame terms.rows n count
       → meaning terms.rows (node_table n) (node_number n) ≡ fill (meaning terms.rows) (kind_shape (stored_kind terms.rows n))
       → Goes owned means (λ _ _ m m'. Opens H (binder_in terms.rows b) m m') (EnterFails H errors (binder_in terms.rows b)) terms s (Ok (tt {0})) terms1 s1
       → Goes owned means (IsOpen H (child_tree terms.rows c) c) (λ m x m'. InsideFails H errors m (child_tree terms.rows c) x m') terms s
-      (Ok (Some (record { item = c; count = 2; next = 0 }))) terms1 s1
+      (Ok (Some (record { item = c; count = count; next = 0 }))) terms1 s1
   open_ok {terms} {terms1} c b n is part e node same vars_are t means_is d =
       let f = kind_form (stored_kind terms.rows n) in
       let frame = term_frame c n is part e node same t means_is in
@@ -483,11 +485,36 @@ list_fits {rows} {results} l h e =
     let alike = rw (← e) at h.alike in
     alike_all (λ x. IsItem (list_sort l) (child_sort x)) results (children_at rows l) (λ v c s p. rw s p) alike made.fit
 
+-- at most two values have the shapes of the parts that they are
+results_shapes : (vs : Listed Child) → length vs ≤ 2 → children_shapes vs ≡ parts_shapes (parts_of vs)
+results_shapes [] few = refl
+results_shapes (v ∷ []) few = refl
+results_shapes (v ∷ w ∷ []) few = ap (append (child_shapes v)) (children-one w)
+results_shapes (v ∷ w ∷ x ∷ vs) few = absurd (omega (arith, few))
+
+alike_second : (c : Child) (vs : Listed Child) → AreAlike vs (present c) → length vs ≡ length (present c) → child_sort (get_or vs 0 child.Absent) ≡ child_sort c
+alike_second child.Absent [] h all = refl
+alike_second child.Absent (v ∷ vs) h all = absurd h
+alike_second (child.Region r) [] h all = absurd (omega (arith, all))
+alike_second (child.Region r) (v ∷ vs) h all = h.0
+alike_second (child.Node n) [] h all = absurd (omega (arith, all))
+alike_second (child.Node n) (v ∷ vs) h all = h.0
+alike_second (child.List l) [] h all = absurd (omega (arith, all))
+alike_second (child.List l) (v ∷ vs) h all = h.0
+
+-- the values of all walked parts are as parts of the same sorts
+alike_parts : (p : Parts) (vs : Listed Child) → AreAlike vs (walked_parts p) → length vs ≡ length (walked_parts p) → AreLike p (parts_of vs)
+alike_parts p [] h all = absurd (omega (arith, all))
+alike_parts p (v ∷ vs) h all = record { first = h.0; second = alike_second p.second vs h.1 (omega (arith, all)) }
+
 -- a term's frame and what came of its children
 module _ {rows : Listed Row} {f : Frame} {results : Listed Child} (h : Holds rows f results) (n : Node) (e : None ≡ child_list f.item) (node : n ≡ child_node f.item) where
   -- if the frame is no list's, its term is stored and has contents
   pub term_facts : IsTermFrame rows n f.count
   term_facts = rw (← e, ← node) at h.frame.made
+
+  term_children : children_in rows f ≡ walked_parts (term_parts_at rows n)
+  term_children = rw (← e, ← node) refl
 
   pub term_outline : outline_of rows f.item ≡ form_outline rows (kind_form (stored_kind rows n))
   term_outline = outline_is rows f.item n e node
@@ -496,26 +523,27 @@ module _ {rows : Listed Row} {f : Frame} {results : Listed Child} (h : Holds row
   term_binder b vars_are = ap binder_of term_outline ∙ form_binder_of rows (kind_form (stored_kind rows n)) ∙ ap (binder_in rows) (sym vars_are)
 
   -- the results by their places
-  pub term_like : (q : Parts) → results ≡ q.first ∷ q.second ∷ [] → AreLike (form_parts (kind_form (stored_kind rows n))) q
-  term_like q are =
-      let p = form_parts (kind_form (stored_kind rows n)) in
-      let kids : children_in rows f ≡ p.first ∷ p.second ∷ [] = rw (← e, ← node) refl in
-      let alike = rw (are, kids) at h.alike in
-      record { first = alike.0; second = alike.1.0 }
+  pub term_like : (q : Parts) → q ≡ parts_of results → length results ≡ f.count → AreLike (form_parts (kind_form (stored_kind rows n))) q
+  term_like q are all =
+      rw are (alike_parts (term_parts_at rows n) results (rw term_children at h.alike) (all ∙ term_facts.counted))
 
-  -- the two values that came of a term's children are in range as parts
-  pub term_parts : (q : Parts) → results ≡ q.first ∷ q.second ∷ [] → ArePartsOf rows (parts_shapes q)
-  term_parts q are = rw (← two_shapes q) (rw are at h.owned)
+  term_few : length results ≤ 2
+  term_few = omega (arith, alike_length results (children_in rows f) h.alike, ap length term_children, walked_few (term_parts_at rows n))
+
+  -- the values that came of a term's children are in range as parts
+  pub term_parts : (q : Parts) → q ≡ parts_of results → ArePartsOf rows (parts_shapes q)
+  term_parts q are = rw (are, ← results_shapes results term_few) h.owned
 
   -- the term with other children, among more rows
-  pub term_rebuilt : {new : Listed Row} (q : Parts) (j : Kind) → Grows rows new → results ≡ q.first ∷ q.second ∷ []
+  pub term_rebuilt : {new : Listed Row} (q : Parts) (j : Kind) → Grows rows new → q ≡ parts_of results
       → kind_form j ≡ refilled q (kind_form (stored_kind rows n)) → kind_sort j ≡ kind_sort (stored_kind rows n)
       → tree_in new (kind_shape j) ≡ whole (outline_of rows f.item) (children_trees rows results)
   term_rebuilt {new} q j g are form sort_is =
       let k = stored_kind rows n in
       let same_outline : form_outline new (kind_form k) ≡ form_outline rows (kind_form k) = form_outline-grows g (kind_form k) (form-labels rows new g (kind_sort k) (kind_form k) term_facts.named) (form-binder rows (kind_sort k) (kind_form k) term_facts.named) in
       let same_trees : trees_in new (parts_shapes q) ≡ children_trees rows results =
-      fill_all-grows rows new g (parts_shapes q) (term_parts q are) ∙ ap (trees_in rows) (sym (two_shapes q)) ∙ ap (children_trees rows) (sym are) in
+      fill_all-grows rows new g (parts_shapes q) (term_parts q are) ∙ ap (λ x. trees_in rows (parts_shapes x)) are
+      ∙ ap (trees_in rows) (sym (results_shapes results term_few)) in
       ap (λ s. tree_in new (form_shape s (kind_form j))) sort_is ∙ ap (λ x. tree_in new (form_shape (kind_sort k) x)) form
       ∙ refilled_whole new (kind_sort k) q (kind_form k) term_facts.inner
       ∙ rw (same_outline, same_trees, term_outline) refl
@@ -560,7 +588,7 @@ module _ {M E S : Type 0} {owned : Listed Row → S → Type 0} {means : Listed 
       → Holds terms.rows f results → None ≡ child_list f.item → n ≡ child_node f.item
       → b ≡ form_binder (kind_form (stored_kind terms.rows n))
       → Goes owned means (λ _ _ m m'. Leaves H (binder_in terms.rows b) m m') (LeaveFails H other (binder_in terms.rows b)) terms s (Ok (tt {0})) terms1 s1
-      → results ≡ q.first ∷ q.second ∷ [] → kind_form j ≡ refilled q (kind_form (stored_kind terms.rows n)) → kind_sort j ≡ kind_sort (stored_kind terms.rows n)
+      → q ≡ parts_of results → kind_form j ≡ refilled q (kind_form (stored_kind terms.rows n)) → kind_sort j ≡ kind_sort (stored_kind terms.rows n)
       → terms2 ≡ terms1 → errors.unbuilt (tree_in terms1.rows (kind_shape j)) e
       → Goes owned means (IsRebuilt H terms.rows f results) (RebuildFails H errors (outline_of terms.rows f.item) (children_trees terms.rows results)) terms s (Err e) terms2 s1
   rebuild_not_stored n q j h e node vars_are d are form sort_is same b =
@@ -573,7 +601,7 @@ module _ {M E S : Type 0} {owned : Listed Row → S → Type 0} {means : Listed 
       → Holds terms.rows f results → None ≡ child_list f.item → n ≡ child_node f.item
       → b ≡ form_binder (kind_form (stored_kind terms.rows n))
       → Goes owned means (λ _ _ m m'. Leaves H (binder_in terms.rows b) m m') (LeaveFails H other (binder_in terms.rows b)) terms s (Ok (tt {0})) terms1 s1
-      → results ≡ q.first ∷ q.second ∷ [] → kind_form j ≡ refilled q (kind_form (stored_kind terms.rows n)) → kind_sort j ≡ kind_sort (stored_kind terms.rows n)
+      → q ≡ parts_of results → kind_form j ≡ refilled q (kind_form (stored_kind terms.rows n)) → kind_sort j ≡ kind_sort (stored_kind terms.rows n)
       → Extends terms1 terms2 → owned terms2.rows s1 → stands means terms2 s1 ≡ stands means terms1 s1
       → SameTerm y u → child_sort y ≡ child_sort f.item → IsNodeFor n terms2.rows u → node_tree terms2.rows u ≡ tree_in terms1.rows (kind_shape j)
       → Goes owned means (IsRebuilt H terms.rows f results) (RebuildFails H errors (outline_of terms.rows f.item) (children_trees terms.rows results)) terms s (Ok y) terms2 s1

@@ -1,6 +1,6 @@
 -- What holds at each turn of the walk over stored terms.
 use Rattle.std.specs.Prelude.{◌≡◌, ◌<◌, ◌⊎◌, ◌+◌, ◌-◌, ◌^◌, ℕ, suc, Option, Some, None, [], ◌∷◌, ◌++◌, length, drop}
-use Rattle.std.specs.Prelude.{slice_get, All, Result, ⊤}
+use Rattle.std.specs.Prelude.{slice_get, get_or, All, Result, ⊤}
 use Rattle.std.specs.Prelude.{List as Listed}
 use Rattle.tt_index.specs.declared.refusal.Refusal.{Refusal}
 use Rattle.tt_index.specs.declared.refusal.Refusal.TheVariants.{Memory, NotAClause}
@@ -56,10 +56,25 @@ outline_of rows c = outline_by rows (child_node c) (child_list c)
 abbrev pub term_parts_at : Listed Row → Node → Parts
 term_parts_at rows n = form_parts (kind_form (stored_kind rows n))
 
--- the children, by the list that it is or the term
+-- the child, if it is there
+abbrev pub present : Child → Listed Child
+present child.Absent = []
+present (child.Region r) = child.Region r ∷ []
+present (child.Node n) = child.Node n ∷ []
+present (child.List l) = child.List l ∷ []
+
+-- the parts of a term that are walked: the first, and the second if it is there
+abbrev pub walked_parts : Parts → Listed Child
+walked_parts p = p.first ∷ present p.second
+
+-- the values as the parts of a term, absent where there is no value
+abbrev pub parts_of : Listed Child → Parts
+parts_of vs = record { first = get_or vs 0 child.Absent; second = get_or vs 1 child.Absent }
+
+-- the children that are walked, by the list that it is or the term
 abbrev pub children_by : Listed Row → Node → Option List → Listed Child
 children_by rows n (Some l) = children_at rows l
-children_by rows n None = (term_parts_at rows n).first ∷ (term_parts_at rows n).second ∷ []
+children_by rows n None = walked_parts (term_parts_at rows n)
 
 -- the children of a frame's term or list
 abbrev pub children_in : Listed Row → Frame → Listed Child
@@ -80,7 +95,7 @@ pub record IsTermFrame (rows : Listed Row) (n : Node) (count : ℕ) : Type 0 whe
   pub table : kind_table (stored_kind rows n) ≡ node_table n
   pub named : HasParts (size rows) (kind_shape (stored_kind rows n))
   pub inner : IsInner (kind_form (stored_kind rows n))
-  pub counted : count ≡ 2
+  pub counted : count ≡ length (walked_parts (term_parts_at rows n))
 
 -- the list is stored, and holds so many children
 pub record IsListFrame (rows : Listed Row) (l : List) (count : ℕ) : Type 0 where

@@ -4,7 +4,8 @@ ghost use Rattle.std.specs.Prelude.{◌≡◌, ◌↔◌, IfErr, IsTrue, MatchOp
 ghost use Rattle.tt_index.specs.declared.refusal.Refusal.TheVariants.{NotAClause};
 ghost use Rattle.tt_kinds.specs.Handle.{Ty, Tys};
 ghost use Rattle.tt_kinds.specs.Kinds.{child_shapes};
-ghost use Rattle.tt_kinds.specs.Parts.{child_sort, IsItem};
+ghost use Rattle.tt_kinds.specs.Parts.{a_node, child_sort, IsItem};
+ghost use Rattle.tt_kinds.specs.declared.table.Table.TheVariants as table;
 ghost use Rattle.tt_kinds.specs.declared.parts.Child.TheVariants as child;
 ghost use Rattle.tt_kinds.specs.declared.parts.List.TheVariants as list;
 ghost use Rattle.tt_kinds.specs.declared.parts.Node.TheVariants as node;
@@ -176,6 +177,17 @@ pub(crate) fn is_absent(child: &Child) -> bool
     match child {
         Child::Absent => true,
         Child::Region(_) | Child::Node(_) | Child::List(_) => false,
+    }
+}
+
+// Returns whether the child is a predicate.
+#[inline(always)]
+pub(crate) fn is_predicate(child: &Child) -> bool
+    ensures { IsTrue result ↔ (child_sort child.now ≡ a_node table.Predicates) }
+{
+    match child {
+        Child::Node(Node::Predicate(_)) => true,
+        _ => false,
     }
 }
 

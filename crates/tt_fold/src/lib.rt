@@ -20,6 +20,7 @@ pub mod folder;
 mod handles;
 mod items;
 pub mod memory;
+mod rebuild;
 mod records;
 pub mod region_folder;
 pub mod region_replacer;

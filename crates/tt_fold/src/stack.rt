@@ -3,7 +3,6 @@
 ghost use Rattle.std.specs.Prelude.{
   ◌≡◌,
   ◌<◌,
-  ◌≤◌,
   ◌-◌,
   ◌++◌,
   ◌∷◌,
@@ -16,7 +15,6 @@ ghost use Rattle.std.specs.Prelude.{
   OnOk,
   slice_get,
   Some,
-  take,
 };
 ghost use Rattle.tt_kinds.specs.Kinds.{child_shapes};
 ghost use Rattle.tt_fold.specs.Walk.{Fails, HasUnwanted, InsideFails};
@@ -34,8 +32,6 @@ ghost use Rattle.tt_fold.specs.Items.{child_list, child_node, child_shape, child
 ghost use Rattle.tt_index.specs.declared.refusal.Refusal.TheVariants.{Memory};
 ghost use Rattle.tt_fold.specs.Stack.{
   EnterFails,
-  LeaveFails,
-  Leaves,
   Opens,
   RestFails,
   Rests,
@@ -46,7 +42,6 @@ ghost use Rattle.tt_fold.specs.Going.{
   children_in,
   FinishesItem,
   HasAdvanced,
-  Holds,
   IsAsked,
   IsFoldFrame,
   IsFrameOrResult,
@@ -55,17 +50,17 @@ ghost use Rattle.tt_fold.specs.Going.{
   IsNewFrame,
   IsResult,
   IsStuck,
-  last_of,
   left_of,
   outline_of,
-  RebuildsFrame,
+  walked_parts,
 };
 
 use crate::core_folder::Core;
 use crate::folder::Step;
 use crate::items::{
-    as_item, as_list_item, check_item, hooked_in, is_absent, list_in, term_in, ty_in, tys_in,
+    as_item, check_item, hooked_in, is_absent, is_predicate, list_in, term_in, ty_in, tys_in,
 };
+use crate::rebuild::rebuild;
 use smallvec::SmallVec;
 use tt_index::Refusal;
 use tt_interner::Interner;
@@ -76,9 +71,9 @@ use tt_kinds::{BoundVarKinds, Child, List, Node, Parts};
 #[derive(Clone, Copy)]
 pub(crate) struct Frame {
     // The term or the list. Its children are read in its row.
-    item: Child,
-    // The number of children.
-    count: usize,
+    pub(crate) item: Child,
+    // The number of children that are walked.
+    pub(crate) count: usize,
     // The number of children that were begun.
     next: usize,
 }
@@ -103,7 +98,7 @@ pub(crate) enum Begun {
 type Frames = SmallVec<Frame, 8>;
 
 // The results of the children of all frames. A few short lists need no allocation.
-type Values = SmallVec<Child, 16>;
+pub(crate) type Values = SmallVec<Child, 16>;
 
 // Begins the child at which a walk starts. That is mostly a type, so a type's step is inlined.
 #[inline(always)]
@@ -303,9 +298,20 @@ fn open_term<M, F: Core<M>>(
     enter::<M, F>(cx, folder, contents.bound_vars)?;
     Ok(Some(Frame {
         item: *item,
-        count: 2,
+        count: walked_count(&contents.parts),
         next: 0,
     }))
+}
+
+// Returns how many children of a term are walked. An absent second one isn't.
+#[inline(always)]
+fn walked_count(parts: &Parts) -> usize
+    ensures { result ≡ length (walked_parts parts.now) }
+{
+    match &parts.second {
+        Child::Absent => 1,
+        _ => 2,
+    }
 }
 
 // Returns whether there are neither children nor a binder, so that the term need not be built again.
@@ -334,26 +340,6 @@ fn enter<M, F: Core<M>>(
     match binder {
         None => Ok(()),
         Some(vars) => folder.core_enter(cx, vars),
-    }
-}
-
-// Leaves the binder of a term, if it has one.
-#[inline(always)]
-fn leave<M, F: Core<M>>(
-    cx: &mut Interner,
-    folder: &mut F,
-    binder: Option<BoundVarKinds>,
-) -> Result<(), F::Error>
-    requires owned { F.owned cx.old.rows folder.old }
-    requires binder { HasBinder cx.old.rows binder }
-    ensures { Goes F.owned F.meaning
-        (λ _ _ s s'. Leaves F.hooks (binder_in cx.old.rows binder) s s')
-        (LeaveFails F.hooks (errors_of F.Error.from_gives cx.new) (binder_in cx.old.rows binder))
-        cx.old folder.old result cx.new folder.new }
-{
-    match binder {
-        None => Ok(()),
-        Some(vars) => folder.core_leave(cx, vars),
     }
 }
 
@@ -598,8 +584,11 @@ fn keep(cx: &Interner, frame: &Frame, values: &mut Values, value: Child) -> Resu
     ensures failed { IfErr result
         (IsNotKept (wanted_by (outline_of cx.now.rows frame.now.item)) (child_trees cx.now.rows value)) }
 {
-    if let Some(list) = list_in(&frame.item) {
-        check_item(cx, list.sort(), &value)?;
+    // Only predicates are items of lists of clauses. What the value is, is mostly known where this is inlined.
+    if is_predicate(&value) {
+        if let Some(list) = list_in(&frame.item) {
+            check_item(cx, list.sort(), &value)?;
+        }
     }
     values.push(value)?;
     Ok(())
@@ -621,149 +610,4 @@ fn suspend(frames: &mut Frames, frame: &Frame) -> Result<(), Refusal>
         next: frame.next,
     });
     Ok(())
-}
-
-// Builds a term or a list from the results of its children, which are the last values.
-#[inline(always)]
-fn rebuild<M, F: Core<M>>(
-    cx: &mut Interner,
-    folder: &mut F,
-    frame: &Frame,
-    values: &mut Values,
-) -> Result<Child, F::Error>
-    requires owned { F.owned cx.old.rows folder.old }
-    requires holds { Holds cx.old.rows frame.now (last_of frame.now.count values.old.items) }
-    requires full { frame.now.count ≤ length values.old.items }
-    ensures values { OnOk result
-        (values.new.items ≡ take (length values.old.items - frame.now.count) values.old.items) }
-    ensures goes { RebuildsFrame F.owned F.meaning F.hooks F.Error.from_gives
-        frame.now (last_of frame.now.count values.old.items) cx.old folder.old result cx.new folder.new }
-{
-    match &frame.item {
-        Child::Node(Node::Ty(_)) => rebuild_term::<M, F>(cx, folder, frame, values),
-        Child::List(List::Tys(tys)) => rebuild_list::<M, F>(
-            cx,
-            folder,
-            frame,
-            List::Tys(*tys),
-            values,
-        ),
-        _ => rebuild_by_call::<M, F>(cx, folder, frame, values),
-    }
-}
-
-// Builds any term or list by a call. The argument and the result are copied, as where a child is begun.
-#[inline(always)]
-fn rebuild_by_call<M, F: Core<M>>(
-    cx: &mut Interner,
-    folder: &mut F,
-    frame: &Frame,
-    values: &mut Values,
-) -> Result<Child, F::Error>
-    requires owned { F.owned cx.old.rows folder.old }
-    requires holds { Holds cx.old.rows frame.now (last_of frame.now.count values.old.items) }
-    requires full { frame.now.count ≤ length values.old.items }
-    ensures values { OnOk result
-        (values.new.items ≡ take (length values.old.items - frame.now.count) values.old.items) }
-    ensures goes { RebuildsFrame F.owned F.meaning F.hooks F.Error.from_gives
-        frame.now (last_of frame.now.count values.old.items) cx.old folder.old result cx.new folder.new }
-{
-    let copied = *frame;
-    let rebuilt = rebuild_other::<M, F>(cx, folder, &copied, values)?;
-    Ok(rebuilt)
-}
-
-// Builds a term or a list of any table from the results of its children, outside of the loop.
-#[inline(never)]
-fn rebuild_other<M, F: Core<M>>(
-    cx: &mut Interner,
-    folder: &mut F,
-    frame: &Frame,
-    values: &mut Values,
-) -> Result<Child, F::Error>
-    requires owned { F.owned cx.old.rows folder.old }
-    requires holds { Holds cx.old.rows frame.now (last_of frame.now.count values.old.items) }
-    requires full { frame.now.count ≤ length values.old.items }
-    ensures values { OnOk result
-        (values.new.items ≡ take (length values.old.items - frame.now.count) values.old.items) }
-    ensures goes { RebuildsFrame F.owned F.meaning F.hooks F.Error.from_gives
-        frame.now (last_of frame.now.count values.old.items) cx.old folder.old result cx.new folder.new }
-{
-    match list_in(&frame.item) {
-        Some(list) => rebuild_list::<M, F>(cx, folder, frame, list, values),
-        None => rebuild_term::<M, F>(cx, folder, frame, values),
-    }
-}
-
-// Builds a list from the results of its items.
-#[inline(always)]
-fn rebuild_list<M, F: Core<M>>(
-    cx: &mut Interner,
-    folder: &F,
-    frame: &Frame,
-    list: List,
-    values: &mut Values,
-) -> Result<Child, F::Error>
-    requires owned { F.owned cx.old.rows folder.now }
-    requires holds { Holds cx.old.rows frame.now (last_of frame.now.count values.old.items) }
-    requires list { Some list ≡ child_list frame.now.item }
-    requires full { frame.now.count ≤ length values.old.items }
-    ensures values { OnOk result
-        (values.new.items ≡ take (length values.old.items - frame.now.count) values.old.items) }
-    ensures goes { RebuildsFrame F.owned F.meaning F.hooks F.Error.from_gives
-        frame.now (last_of frame.now.count values.old.items) cx.old folder.now result cx.new folder.now }
-{
-    let results = last_values(values, frame.count);
-    let new_list = cx.store_list(list.sort(), results)?;
-    values.truncate(values.len() - frame.count);
-    Ok(as_list_item(&frame.item, new_list))
-}
-
-// Builds a term from the results of its children.
-#[inline(always)]
-fn rebuild_term<M, F: Core<M>>(
-    cx: &mut Interner,
-    folder: &mut F,
-    frame: &Frame,
-    values: &mut Values,
-) -> Result<Child, F::Error>
-    requires owned { F.owned cx.old.rows folder.old }
-    requires holds { Holds cx.old.rows frame.now (last_of 2 values.old.items) }
-    requires full { 2 ≤ length values.old.items }
-    requires term { None ≡ child_list frame.now.item }
-    ensures values { OnOk result (values.new.items ≡ take (length values.old.items - 2) values.old.items) }
-    ensures goes { RebuildsFrame F.owned F.meaning F.hooks F.Error.from_gives
-        frame.now (last_of 2 values.old.items) cx.old folder.old result cx.new folder.new }
-{
-    let node = term_in(&frame.item);
-    let contents = cx.node_parts(node);
-    leave::<M, F>(cx, folder, contents.bound_vars)?;
-    // The values are read where they are, and dropped once the term is stored.
-    let parts = last_parts(values);
-    let new_node = cx.store_like(node, parts)?;
-    values.truncate(values.len() - 2);
-    Ok(as_item(&frame.item, new_node))
-}
-
-// Returns the last two values, the results of a term's children.
-#[inline(always)]
-fn last_parts(values: &Values) -> Parts
-    requires { 2 ≤ length values.now.items }
-    ensures { last_of 2 values.now.items ≡ result.first ∷ result.second ∷ [] }
-{
-    let last = last_values(values, 2);
-    Parts {
-        first: last[0],
-        second: last[1],
-    }
-}
-
-// Returns the last `count` values.
-#[inline(always)]
-fn last_values(values: &Values, count: usize) -> &[Child]
-    requires { count ≤ length values.now.items }
-    ensures { result.now ≡ last_of count values.now.items }
-{
-    let start = values.len() - count;
-    &values.as_slice()[start..]
 }

@@ -17,7 +17,7 @@ returns-in_err-enter g c =
     let is = c.node_parts-contents.ensures in
     let k = stored_kind c.args.cx.now.rows c.term_in.result in
     let inner = is_inner k (rw (is.bound_vars, is.children) at c.if-is_leaf.ensures.1) in
-    let t = term_made _ _ c.requires.whole c.requires.item c.requires.term c.term_in.ensures.node c.term_in.ensures.same is.table is.parts inner in
+    let t = term_made _ _ c.requires.whole c.requires.item c.requires.term c.term_in.ensures.node c.term_in.ensures.same is.table is.parts inner refl in
     rw (p.1, p.2) (open_fails _ _ _ c.requires.whole c.requires.item c.requires.term c.term_in.ensures.node c.term_in.ensures.same is.bound_vars t is.means c.in_err-enter.ensures)
 
 pub returns : goal.returns
@@ -25,5 +25,6 @@ returns g c =
     let is = c.node_parts-contents.ensures in
     let k = stored_kind c.args.cx.now.rows c.term_in.result in
     let inner = is_inner k (rw (is.bound_vars, is.children) at c.if-is_leaf.ensures.1) in
-    let t = term_made _ _ c.requires.whole c.requires.item c.requires.term c.term_in.ensures.node c.term_in.ensures.same is.table is.parts inner in
+    let counted = rw is.children at c.walked_count.ensures in
+    let t = term_made _ _ c.requires.whole c.requires.item c.requires.term c.term_in.ensures.node c.term_in.ensures.same is.table is.parts inner counted in
     open_ok _ _ _ c.requires.whole c.requires.item c.requires.term c.term_in.ensures.node c.term_in.ensures.same is.bound_vars t is.means c.in_ok-enter.ensures

@@ -1,4 +1,4 @@
-use Rattle.std.proofs.Common.{sym, ◌∙◌}
+use Rattle.std.proofs.Common.{sym, ◌∙◌, arith}
 use Rattle.std.proofs.lemmas.Result.{err_from_is_err_and}
 use Rattle.tt_kinds.specs.Kinds.{kind_form, kind_sort, kind_shape}
 use Rattle.tt_kinds.specs.Shape.{HasParts, IsTooDeep}
@@ -11,17 +11,23 @@ use Rattle.tt_fold.proofs.FormLaws.{not-deep}
 use Rattle.tt_fold.proofs.FoldSteps.{stands-still, stored_node, stored_node_tree, not_stored}
 use Rattle.tt_fold.proofs.ItemSteps.{term_facts, term_like, term_parts, rebuild_not_left, rebuild_not_stored}
 use Rattle.tt_fold.proofs.ItemSteps.{rebuild_stored}
-use Rattle.tt_fold.proofs.stack.rebuild_term.Goals as goal
+use Rattle.tt_fold.proofs.FrameLaws.{last_count}
+use Rattle.tt_fold.proofs.rebuild.rebuild_term.Goals as goal
 
 pub returns-in_err-leave-clause-goes : goal.returns-in_err-leave-clause-goes
 returns-in_err-leave-clause-goes g c =
     let p = err_from_is_err_and c.from_residual.result c.from_residual.ensures.1 in
     rw (p.1, p.2) (rebuild_not_left _ c.requires.holds c.requires.term c.term_in-node.ensures.node c.node_parts-contents.ensures.bound_vars c.in_err-leave.ensures)
 
+pub last_parts-parts-requires-clause-some : goal.last_parts-parts-requires-clause-some
+last_parts-parts-requires-clause-some g c =
+    let t = term_facts c.requires.holds _ c.requires.term c.term_in-node.ensures.node in
+    omega (arith, t.counted)
+
 pub store_like-requires-clause-like : goal.store_like-requires-clause-like
 store_like-requires-clause-like g c =
     let t = term_facts c.requires.holds _ c.requires.term c.term_in-node.ensures.node in
-    rw (stored_kind-grows _ _ c.in_ok-leave.ensures.extends.rows c.term_in-node.result t.in_range) (term_like c.requires.holds _ c.requires.term c.term_in-node.ensures.node _ c.last_parts-parts.ensures)
+    rw (stored_kind-grows _ _ c.in_ok-leave.ensures.extends.rows c.term_in-node.result t.in_range) (term_like c.requires.holds _ c.requires.term c.term_in-node.ensures.node _ c.last_parts-parts.ensures (last_count _ c.requires.full))
 
 pub store_like-requires-clause-parts : goal.store_like-requires-clause-parts
 store_like-requires-clause-parts g c =

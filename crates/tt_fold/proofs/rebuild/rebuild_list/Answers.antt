@@ -3,7 +3,7 @@ use Rattle.tt_fold.specs.GrowthLaws.{stored-adds, items-no_symbol}
 use Rattle.std.proofs.Common.{◌∙◌}
 use Rattle.tt_fold.proofs.FoldSteps.{stands-still, stored_list, stored_list_tree}
 use Rattle.tt_fold.proofs.ItemSteps.{list_fits, rebuild_list_fails, rebuild_list_ok}
-use Rattle.tt_fold.proofs.stack.rebuild_list.Goals as goal
+use Rattle.tt_fold.proofs.rebuild.rebuild_list.Goals as goal
 
 pub store_list-requires-clause-fit : goal.store_list-requires-clause-fit
 store_list-requires-clause-fit g c = rw (c.sort.ensures, c.last_values-results.ensures) (list_fits _ c.requires.holds c.requires.list)

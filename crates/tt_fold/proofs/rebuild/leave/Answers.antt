@@ -1,5 +1,5 @@
 use Rattle.tt_fold.proofs.ItemSteps.{leave_bare, leave_binder}
-use Rattle.tt_fold.proofs.stack.leave.Goals as goal
+use Rattle.tt_fold.proofs.rebuild.leave.Goals as goal
 
 pub returns-in-None : goal.returns-in-None
 returns-in-None g c = leave_bare c.in-None.is c.requires.owned
