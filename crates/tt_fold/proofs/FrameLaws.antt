@@ -23,12 +23,13 @@ use Rattle.tt_interner.specs.Children.{children_at}
 use Rattle.tt_interner.specs.Nodes.{stored_kind}
 use Rattle.tt_interner.proofs.Growth.{IsPart-grows, AreParts-grows, HasParts-grows, fill-grows, fill_all-grows}
 use Rattle.tt_interner.proofs.Growth.{children_at-grows, stored_kind-grows}
+use Rattle.tt_visit.specs.Frames.{present}
 use Rattle.tt_fold.specs.Steps.{IsPartOf}
 use Rattle.tt_fold.specs.Parts.{ArePartsOf, HasBinder, child_trees, children_trees, trees_in}
 use Rattle.tt_fold.specs.Stack.{joined_trees}
 use Rattle.tt_fold.specs.Stack as outline
 use Rattle.tt_fold.specs.Items.{child_shape, child_tree, child_list, child_node, IsWhole}
-use Rattle.tt_fold.specs.Going.{form_outline, outline_by, outline_of, term_parts_at, present, walked_parts}
+use Rattle.tt_fold.specs.Going.{form_outline, outline_by, outline_of, term_parts_at, walked_parts}
 use Rattle.tt_fold.specs.Going.{children_by, children_in, absent_among, IsMadeOf, last_of}
 use Rattle.tt_fold.specs.Going.{IsFoldFrame, FitsList, AreAlike, Holds, left_of, BegunFrame, frames_of, context_of}
 use Rattle.tt_fold.specs.Going.{contexts}
@@ -84,9 +85,9 @@ last_parts rows cs c h k = rw (children-append cs (c ∷ []), children-one c) (a
 -- a child that may be absent has the same shapes by itself and in a list
 present_shapes : (c : Child) → children_shapes (present c) ≡ child_shapes c
 present_shapes child.Absent = refl
-present_shapes (child.Region r) = children-one (child.Region r)
-present_shapes (child.Node n) = children-one (child.Node n)
-present_shapes (child.List l) = children-one (child.List l)
+present_shapes (child.Region r) = refl
+present_shapes (child.Node n) = refl
+present_shapes (child.List l) = refl
 
 present_few : (c : Child) → length (present c) ≤ 1
 present_few child.Absent = omega arith

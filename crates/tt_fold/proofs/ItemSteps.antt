@@ -30,6 +30,7 @@ use Rattle.tt_interner.specs.Stored.{Terms, Extends}
 use Rattle.tt_interner.specs.Children.{children_at}
 use Rattle.tt_interner.specs.Nodes.{stored_kind}
 use Rattle.tt_interner.proofs.Growth.{Extends-refl, Extends-trans, AreParts-grows, fill-grows, fill_all-grows}
+use Rattle.tt_visit.specs.Frames.{present}
 use Rattle.tt_visit.specs.Root.{root, hooked, unhooked, a_part}
 use Rattle.tt_visit.proofs.VisitSteps.{root-meaning, root-region}
 use Rattle.tt_fold.specs.Walk.{Hooks, Errors, replace, keep, descend, IsTerm, replaced, kept, at_region, done, Fails}
@@ -45,7 +46,7 @@ use Rattle.tt_fold.specs.Stack.{leave_fails, rebuilds, RebuildFails, not_left, n
 use Rattle.tt_fold.specs.Stack.{FinishFails}
 use Rattle.tt_fold.specs.Items.{child_shape, child_tree, child_list, child_node, child_root, IsWhole, SameTerm}
 use Rattle.tt_fold.specs.Items.{SameList, IsHooked, IsHookOf}
-use Rattle.tt_fold.specs.Going.{form_outline, outline_of, term_parts_at, present, walked_parts, parts_of, children_in}
+use Rattle.tt_fold.specs.Going.{form_outline, outline_of, term_parts_at, walked_parts, parts_of, children_in}
 use Rattle.tt_fold.specs.Going.{IsTermFrame, IsFoldFrame, AreAlike, Holds, IsNewFrame, IsAsked}
 use Rattle.tt_fold.specs.Going.{IsOpen, IsBegun, IsRebuilt, left_of}
 use Rattle.tt_fold.specs.declared.folder.Step.TheVariants as step

@@ -20,6 +20,7 @@ use Rattle.tt_interner.specs.Rows.{Row, size, meaning}
 use Rattle.tt_interner.specs.Stored.{Terms, Extends}
 use Rattle.tt_interner.specs.Children.{children_at}
 use Rattle.tt_interner.specs.Nodes.{stored_kind}
+use Rattle.tt_visit.specs.Frames.{present}
 use Rattle.tt_fold.specs.Walk.{Hooks, Wanted, Walks, WalksInside, WalksAll, HasUnwanted, ChildFails}
 use Rattle.tt_fold.specs.Counts.{Standing, stands}
 use Rattle.tt_fold.specs.Steps.{Goes, errors_of, vars_in}
@@ -55,13 +56,6 @@ outline_of rows c = outline_by rows (child_node c) (child_list c)
 -- the children of a stored term
 abbrev pub term_parts_at : Listed Row → Node → Parts
 term_parts_at rows n = form_parts (kind_form (stored_kind rows n))
-
--- the child, if it is there
-abbrev pub present : Child → Listed Child
-present child.Absent = []
-present (child.Region r) = child.Region r ∷ []
-present (child.Node n) = child.Node n ∷ []
-present (child.List l) = child.List l ∷ []
 
 -- the parts of a term that are walked: the first, and the second if it is there
 abbrev pub walked_parts : Parts → Listed Child
