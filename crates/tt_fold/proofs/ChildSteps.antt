@@ -84,7 +84,8 @@ table_no_part (node_is.Predicate x) e = cc
 table_no_part (node_is.Existential x) e = cc
 table_no_part (node_is.Clauses x) e = cc
 
-node_no_part : (rows : Listed Row) (n : Node) → IsPartOf rows (node_shape n) → root (node_tree rows n) ≡ a_part → ⊥
+-- a stored term is no part of a term
+pub node_no_part : (rows : Listed Row) (n : Node) → IsPartOf rows (node_shape n) → root (node_tree rows n) ≡ a_part → ⊥
 node_no_part rows n part e = table_no_part n (sym (node_root rows n part) ∙ e)
 
 -- the children of a frame that is opened

@@ -84,20 +84,22 @@ no_clauses (child.Node (node_is.Clauses x)) is e t = absurd (none-some _ e)
 no_clauses (child.List l) is e t = absurd (none-some l e)
 
 -- what a form makes of its children
-form_whole : (rows : Listed Row) (o : Sort) (f : Form (Label ℕ)) → IsInner f → tree_in rows (form_shape o f) ≡ whole (form_outline rows f) (trees_in rows (parts_shapes (form_parts f)))
+pub form_whole : (rows : Listed Row) (o : Sort) (f : Form (Label ℕ)) → IsInner f → tree_in rows (form_shape o f) ≡ whole (form_outline rows f) (trees_in rows (parts_shapes (form_parts f)))
 unfolding fill
 form_whole rows o (param i name) is = absurd is
 form_whole rows o (bound d e) is = absurd is
 form_whole rows o (plain l p) is = refl
 form_whole rows o (under l vars m p) is = refl
 
-form_any : (rows : Listed Row) (f : Form (Label ℕ)) → IsInner f → TakesAny (form_outline rows f)
+-- a form with children or a binder may have any children
+pub form_any : (rows : Listed Row) (f : Form (Label ℕ)) → IsInner f → TakesAny (form_outline rows f)
 form_any rows (param i name) is = absurd is
 form_any rows (bound d e) is = absurd is
 form_any rows (plain l p) is = is _
 form_any rows (under l vars m p) is = (is _, λ ts us h. h)
 
-form_binder_of : (rows : Listed Row) (f : Form (Label ℕ)) → binder_of (form_outline rows f) ≡ binder_in rows (form_binder f)
+-- the binder of a form is the binder of its outline
+pub form_binder_of : (rows : Listed Row) (f : Form (Label ℕ)) → binder_of (form_outline rows f) ≡ binder_in rows (form_binder f)
 form_binder_of rows (param i name) = refl
 form_binder_of rows (bound d e) = refl
 form_binder_of rows (plain l p) = refl
@@ -472,7 +474,7 @@ module _ {M E S : Type 0} {owned : Listed Row → S → Type 0} {means : Listed 
       begun_item c is (begun_inside {other = errors} c f is part (ask_none c is part h o) (open_list c l f e o new))
 
 -- a form with other children
-refilled_whole : (rows : Listed Row) (o : Sort) (q : Parts) (f : Form (Label ℕ)) → IsInner f → tree_in rows (form_shape o (refilled q f)) ≡ whole (form_outline rows f) (trees_in rows (parts_shapes q))
+pub refilled_whole : (rows : Listed Row) (o : Sort) (q : Parts) (f : Form (Label ℕ)) → IsInner f → tree_in rows (form_shape o (refilled q f)) ≡ whole (form_outline rows f) (trees_in rows (parts_shapes q))
 unfolding fill
 refilled_whole rows o q (param i name) is = absurd is
 refilled_whole rows o q (bound d e) is = absurd is

@@ -13,6 +13,7 @@ mod ValueSteps
 mod BareLaws
 mod RecordSteps
 mod VecSteps
+mod CallSteps
 mod BoxSteps
 mod DataSteps
 mod AssumptionSteps

@@ -28,7 +28,8 @@ module _ {T : Type 0} (of : T → Shape) where
   shapes-append [] ys = refl
   shapes-append (x ∷ xs) ys = ap (shape.also (of x)) (shapes-append xs ys)
 
-  trees-append : (rows : List Row) (xs ys : List T) → trees_in rows (item_shapes of (xs ++ ys)) ≡ joined_trees (trees_in rows (item_shapes of xs)) (trees_in rows (item_shapes of ys))
+  -- the trees of two lists of values, one after the other, are the trees of the first and then of the second
+  pub trees-append : (rows : List Row) (xs ys : List T) → trees_in rows (item_shapes of (xs ++ ys)) ≡ joined_trees (trees_in rows (item_shapes of xs)) (trees_in rows (item_shapes of ys))
   trees-append rows xs ys = ap (trees_in rows) (shapes-append xs ys) ∙ append_trees rows (item_shapes of xs) (item_shapes of ys)
 
   -- the value after the front
@@ -40,7 +41,8 @@ module _ {T : Type 0} (of : T → Shape) where
   sequence-parts : (rows : List Row) (xs : List T) → IsPartOf rows (sequence_shape of xs) → ArePartsOf rows (item_shapes of xs)
   sequence-parts rows xs h = h.2
 
-  sequence-part : (rows : List Row) (xs : List T) → ArePartsOf rows (item_shapes of xs) → IsPartOf rows (sequence_shape of xs)
+  -- a list of values is in range if each value is
+  pub sequence-part : (rows : List Row) (xs : List T) → ArePartsOf rows (item_shapes of xs) → IsPartOf rows (sequence_shape of xs)
   sequence-part rows xs h = (refl, tt, h)
 
   sequence-tree : (rows : List Row) (xs : List T) → tree_in rows (sequence_shape of xs) ≡ tree.node (record_label sequence_record) (trees_in rows (item_shapes of xs))

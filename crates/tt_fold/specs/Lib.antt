@@ -17,6 +17,7 @@ pub mod Stack
 pub mod Copies
 pub mod Items
 pub mod Going
+pub mod Calls
 pub mod RegionFolder
 pub mod RegionFolderGrowth
 pub mod Regions

@@ -10,6 +10,7 @@
 mod assumptions;
 mod bare;
 mod boxes;
+mod calls;
 mod clones;
 mod clones_containers;
 mod containers;

@@ -121,7 +121,7 @@ fn rebuild_list<M, F: Core<M>>(
 
 // Leaves the binder of a term, if it has one.
 #[inline(always)]
-fn leave<M, F: Core<M>>(
+pub(crate) fn leave<M, F: Core<M>>(
     cx: &mut Interner,
     folder: &mut F,
     binder: Option<BoundVarKinds>,

@@ -100,28 +100,13 @@ type Frames = SmallVec<Frame, 8>;
 // The results of the children of all frames. A few short lists need no allocation.
 pub(crate) type Values = SmallVec<Child, 16>;
 
-// Begins the child at which a walk starts. That is mostly a type, so a type's step is inlined.
+// Begins a child: calls its hook, and enters its binder. A term or a list is begun by a call.
 #[inline(always)]
-pub(crate) fn begin_root<M, F: Core<M>>(
+pub(crate) fn begin<M, F: Core<M>>(
     cx: &mut Interner,
     folder: &mut F,
     child: &Child,
 ) -> Result<Begun, F::Error>
-    requires owned { F.owned cx.old.rows folder.old }
-    requires child { ArePartsOf cx.old.rows (child_shapes child.now) }
-    ensures still { StaysStill F.hooks F.touches_nothing F.meaning (child_shape child.now) cx.old folder.old cx.new }
-    ensures goes { BeginsChild F.owned F.meaning F.hooks F.Error.from_gives
-        child.now cx.old folder.old result cx.new folder.new }
-{
-    match ty_in(child) {
-        Some(ty) => begin_item::<M, F>(cx, folder, &Child::Node(Node::Ty(ty))),
-        None => begin::<M, F>(cx, folder, child),
-    }
-}
-
-// Begins a child: calls its hook, and enters its binder. A term or a list is begun by a call.
-#[inline(always)]
-fn begin<M, F: Core<M>>(cx: &mut Interner, folder: &mut F, child: &Child) -> Result<Begun, F::Error>
     requires owned { F.owned cx.old.rows folder.old }
     requires child { ArePartsOf cx.old.rows (child_shapes child.now) }
     ensures still { StaysStill F.hooks F.touches_nothing F.meaning (child_shape child.now) cx.old folder.old cx.new }
@@ -316,7 +301,7 @@ fn walked_count(parts: &Parts) -> usize
 
 // Returns whether there are neither children nor a binder, so that the term need not be built again.
 #[inline(always)]
-fn is_leaf(contents: &Contents) -> bool
+pub(crate) fn is_leaf(contents: &Contents) -> bool
     ensures { IsTrue result ↔ IsChildless contents.now.bound_vars contents.now.parts }
 {
     let parts = &contents.parts;
@@ -325,7 +310,7 @@ fn is_leaf(contents: &Contents) -> bool
 
 // Enters the binder of a term, if it has one.
 #[inline(always)]
-fn enter<M, F: Core<M>>(
+pub(crate) fn enter<M, F: Core<M>>(
     cx: &mut Interner,
     folder: &mut F,
     binder: Option<BoundVarKinds>,
@@ -345,7 +330,7 @@ fn enter<M, F: Core<M>>(
 
 // Calls the hook after the contents of a term or a list, if it has one.
 #[inline(always)]
-pub(crate) fn finish<M, F: Core<M>>(
+fn finish<M, F: Core<M>>(
     cx: &mut Interner,
     folder: &mut F,
     before: &Child,
@@ -368,7 +353,7 @@ pub(crate) fn finish<M, F: Core<M>>(
 // Calls the hook of any term or list after its contents, by a call. The argument and the result are copied, as where a
 // child is begun.
 #[inline(always)]
-fn finish_by_call<M, F: Core<M>>(
+pub(crate) fn finish_by_call<M, F: Core<M>>(
     cx: &mut Interner,
     folder: &mut F,
     before: &Child,

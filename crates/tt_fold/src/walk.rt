@@ -33,9 +33,10 @@ ghost use Rattle.tt_fold.specs.Parts.{
   parts_trees,
 };
 
+use crate::calls::{LEVELS, fold_within};
 use crate::core_folder::Core;
 use crate::items::{list_of, term_in};
-use crate::stack::{Begun, begin_root, finish, fold_frames, open};
+use crate::stack::{fold_frames, open};
 use tt_interner::Interner;
 use tt_kinds::{BoundVarKinds, Child, List, Node, Parts};
 
@@ -141,7 +142,7 @@ pub(crate) fn fold_parts<M, F: Core<M>>(
     Ok(Parts { first, second })
 }
 
-// Walks a child. A child whose hook answers at once starts no stack.
+// Walks a child.
 #[inline(always)]
 pub(crate) fn fold_child<M, F: Core<M>>(
     cx: &mut Interner,
@@ -155,14 +156,7 @@ pub(crate) fn fold_child<M, F: Core<M>>(
         (WalksAll F.hooks) (ChildFails F.hooks (errors_of F.Error.from_gives cx.new))
         cx.old folder.old child result cx.new folder.new }
 {
-    let begun = begin_root::<M, F>(cx, folder, &child)?;
-    match begun {
-        Begun::Done(value) => Ok(value),
-        Begun::Inside(frame) => {
-            let rebuilt = fold_frames::<M, F>(cx, folder, frame)?;
-            finish::<M, F>(cx, folder, &child, rebuilt)
-        }
-    }
+    fold_within::<M, F>(cx, folder, &child, LEVELS)
 }
 
 // Walks a stored list. A list of clauses has a hook.

@@ -3,7 +3,7 @@ use Rattle.tt_interner.proofs.Growth.{Extends-trans, AreParts-grows}
 use Rattle.tt_kinds.specs.Kinds.{child_shapes}
 use Rattle.tt_fold.proofs.ChildSteps.{opened_whole, child_not_begun, child_done, child_rest_fails, child_ends}
 use Rattle.tt_fold.proofs.ChildSteps.{never_inside, rest_is}
-use Rattle.tt_fold.proofs.walk.fold_child.Goals as goal
+use Rattle.tt_fold.proofs.calls.fold_by_loop.Goals as goal
 
 pub returns-in_err-begun-clause-folds : goal.returns-in_err-begun-clause-folds
 returns-in_err-begun-clause-folds g c =
@@ -37,25 +37,25 @@ returns-in_err-rebuilt-in-Inside-clause-still g c =
     let d = rw c.in-Inside.is at c.in_ok-begun.ensures.goes in
     λ alone ends. absurd (never_inside c.requires.child d alone ends)
 
-pub finish-requires-clause-before : goal.finish-requires-clause-before
-finish-requires-clause-before g c =
+pub finish_by_call-requires-clause-before : goal.finish_by_call-requires-clause-before
+finish_by_call-requires-clause-before g c =
     let extends = Extends-trans c.in_ok-begun.ensures.goes.extends c.in_ok-rebuilt-in-Inside.ensures.extends in
-    AreParts-grows _ _ extends.rows (child_shapes c.args.child) c.requires.child
+    AreParts-grows _ _ extends.rows (child_shapes c.args.child.now) c.requires.child
 
-pub finish-requires-clause-whole : goal.finish-requires-clause-whole
-finish-requires-clause-whole g c =
+pub finish_by_call-requires-clause-whole : goal.finish_by_call-requires-clause-whole
+finish_by_call-requires-clause-whole g c =
     let d = rw c.in-Inside.is at c.in_ok-begun.ensures.goes in
     opened_whole d.outcome.0
 
-pub finish-requires-clause-rebuilt : goal.finish-requires-clause-rebuilt
-finish-requires-clause-rebuilt g c =
+pub finish_by_call-requires-clause-rebuilt : goal.finish_by_call-requires-clause-rebuilt
+finish_by_call-requires-clause-rebuilt g c =
     let d = rw c.in-Inside.is at c.in_ok-begun.ensures.goes in
     rest_is d.outcome.0 c.in_ok-rebuilt-in-Inside.ensures
 
 pub returns-in_ok-rebuilt-in-Inside-clause-folds : goal.returns-in_ok-rebuilt-in-Inside-clause-folds
 returns-in_ok-rebuilt-in-Inside-clause-folds g c =
     let d = rw c.in-Inside.is at c.in_ok-begun.ensures.goes in
-    child_ends c.requires.child d c.in_ok-rebuilt-in-Inside.ensures c.finish.ensures
+    child_ends c.requires.child d c.in_ok-rebuilt-in-Inside.ensures c.finish_by_call.ensures
 
 pub returns-in_ok-rebuilt-in-Inside-clause-still : goal.returns-in_ok-rebuilt-in-Inside-clause-still
 returns-in_ok-rebuilt-in-Inside-clause-still g c =
