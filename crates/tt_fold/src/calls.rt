@@ -1,5 +1,5 @@
-//! The walk of the outermost types and lists of types, by calls. The loop of module `stack` walks what is deeper, and all
-//! other terms and lists.
+//! The walk of the outermost types and lists of types, by calls. The loop of module `stack` walks what is deeper, and
+//! all other terms and lists.
 
 ghost use Rattle.std.specs.Prelude.{◌≡◌, ◌<◌, ◌++◌, ◌∷◌, [], Some, length, slice_get, IfErr, OnOk};
 ghost use Rattle.std.specs.Prelude.{List as Listed};
@@ -36,8 +36,8 @@ use tt_index::Refusal;
 use tt_interner::{InternedList, Interner};
 use tt_kinds::{Child, List, Node, Parts, Ty, Tys};
 
-// How many types deep a walk goes by calls. Each level, with a list of types inside of it, takes less than a kilobyte of
-// the machine's stack.
+// How many types deep a walk goes by calls. Each level, with a list of types inside of it, takes less than a kilobyte
+// of the machine's stack.
 pub(crate) const LEVELS: u32 = 512;
 
 // The results of the types of a list. A short list needs no allocation.
@@ -168,8 +168,8 @@ fn descend<M, F: Core<M>>(
     Ok(new_node.ty())
 }
 
-// Walks the contents of a type, and returns the type with their results. A type without children is kept. Where no level
-// is left, the loop walks the contents.
+// Walks the contents of a type, and returns the type with their results. A type without children is kept. Where no
+// level is left, the loop walks the contents.
 #[cycle(calls)]
 #[inline(always)]
 fn fold_contents_of<M, F: Core<M>>(
