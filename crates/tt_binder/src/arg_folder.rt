@@ -97,6 +97,7 @@ fn const_at<S: SliceLike>(cx: &Interner, args: S, index: u32) -> Result<Const, R
 }
 
 /// Returns the argument for the region parameter of the index, shifted past the enclosing binders.
+#[inline(never)]
 pub fn region_argument<S: SliceLike>(
     cx: &Interner,
     args: S,
@@ -309,6 +310,7 @@ impl<S: SliceLike> TypeFolder for ArgFolder<S> {
 
     ghost touches_nothing = { λ rows s t. IsOpenParam s.binders_passed t };
 
+    #[inline(always)]
     fn fold_region(&mut self, cx: &mut Interner, region: Region) -> Result<Region, Refusal> {
         match region.kind() {
             RegionKind::ReEarlyParam(parameter) => {

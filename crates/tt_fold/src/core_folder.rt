@@ -148,6 +148,7 @@ impl<F: TypeFolder> Core<Plain> for F {
 
     ghost touches_nothing = { F.TypeFolder.touches_nothing };
 
+    #[inline(always)]
     fn core_region(&mut self, cx: &mut Interner, region: Region) -> Result<Region, Refusal> {
         self.fold_region(cx, region)
     }
@@ -213,6 +214,7 @@ impl<F: FallibleTypeFolder> Core<Fallible> for F {
 
     ghost touches_nothing = { F.FallibleTypeFolder.touches_nothing };
 
+    #[inline(always)]
     fn core_region(&mut self, cx: &mut Interner, region: Region) -> Result<Region, F::Error> {
         self.try_fold_region(cx, region)
     }

@@ -126,6 +126,7 @@ impl Memory {
     }
 
     /// Returns the result of the type under `under` binders, if it is remembered.
+    #[inline(always)]
     pub fn recall(&self, ty: Ty, under: u32) -> Option<Ty>
         ensures { result ≡ lookup (same_place (place_of ty under)) self.now }
     {
@@ -144,6 +145,7 @@ impl Memory {
 
     /// Remembers the result of a type under `under` binders, in place of an earlier one. Refused only for want of
     /// memory; then nothing changes. Never refused while fewer than eight places are remembered.
+    #[inline(always)]
     pub fn note(&mut self, before: Ty, under: u32, after: Ty) -> Result<(), Refusal>
         ensures ok { OnOk result (self.new ≡ insert_entry same_place self.old (place_of before under) after) }
         ensures err { IfErr result (λ e. e ≡ Refusal.Memory) }
@@ -173,6 +175,7 @@ impl Memory {
 
 /// Returns the result of the type under `under` binders, if it is remembered. Equal trees have equal handles, so if
 /// none is found for the type, none is remembered for its tree.
+#[inline(always)]
 pub fn look_up(cx: &Interner, memory: &Memory, ty: Ty, under: u32) -> Option<Ty>
     requires ty { IsPartOf cx.now.rows (ty_shape ty) }
     requires memory { OwnsMemos cx.now.rows memory.now }

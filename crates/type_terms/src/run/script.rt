@@ -13,8 +13,10 @@ use crate::run::runner::answer_next;
 use crate::run::script::fault::Fault;
 use crate::run::script::line::parse_line;
 use crate::run::script::print::print_answer;
+use bstr::ByteSlice;
 use std::alloc::{AllocError, Global};
 use std::io::{ErrorKind, Read, Write};
+use std::mem;
 use tt_interner::Interner;
 
 /// Runs a script: reads `input` to its end, then makes an interner and runs the calls on it, then writes a line for
@@ -36,11 +38,10 @@ pub fn run_script<R: Read + Drop, W: Write + Drop>(
 
 // Returns the lines that answer the script.
 fn answer_script<R: Read>(alloc: Global, input: &mut R) -> Result<String, Fault> {
-    let script = read_script(alloc, input)?;
+    let pieces = read_script(alloc, input)?;
     let mut cx = Interner::new(alloc).map_err(|_| Fault::Memory)?;
-    let answers = answer_lines(&mut cx, script.as_slice());
+    let answers = answer_lines(&mut cx, pieces);
     drop(cx);
-    drop(script);
     Ok(print_answers(alloc, answers?.as_slice())?)
 }
 
@@ -50,14 +51,21 @@ const LINE: usize = 12;
 // The number of bytes that are read at once.
 const BLOCK: usize = 65536;
 
-// Returns the input up to its end.
-fn read_script<R: Read>(alloc: Global, input: &mut R) -> Result<Vec<u8>, Fault> {
-    let mut script = Vec::new(alloc);
+// A piece of the script that has so many bytes ends with the last line that is whole.
+const PIECE: usize = 2 * BLOCK;
+
+// Returns the input up to its end, in pieces of whole lines, so that each can be let go once its calls are answered.
+fn read_script<R: Read>(alloc: Global, input: &mut R) -> Result<Vec<Vec<u8>>, Fault> {
+    let mut pieces = Vec::new(alloc);
+    let mut piece = Vec::new(alloc);
     let mut block = vec![in alloc; 0; BLOCK]?;
     for _ in 0..u32::MAX {
         match input.read(block.as_mut_slice()) {
-            Ok(0) => return Ok(script),
-            Ok(count) => script.extend_from_slice(&block[..count])?,
+            Ok(0) => {
+                pieces.push(piece).map_err(AllocError::from)?;
+                return Ok(pieces);
+            }
+            Ok(count) => keep_block(&mut pieces, &mut piece, &block[..count])?,
             Err(error) => {
                 if error.kind() != ErrorKind::Interrupted {
                     return Err(Fault::Input);
@@ -68,26 +76,37 @@ fn read_script<R: Read>(alloc: Global, input: &mut R) -> Result<Vec<u8>, Fault> 
     Err(Fault::Input)
 }
 
+// Adds a block that was read to the piece, or to a new one after its last whole line if the piece is long.
+fn keep_block(
+    pieces: &mut Vec<Vec<u8>>,
+    piece: &mut Vec<u8>,
+    block: &[u8],
+) -> Result<(), AllocError> {
+    let mut rest = block;
+    if piece.len() >= PIECE {
+        if let Some(end) = block.rfind_byte(b'\n') {
+            piece.extend_from_slice(&block[..=end])?;
+            let next = Vec::new(*piece.allocator());
+            pieces.push(mem::replace(piece, next))?;
+            rest = &block[end + 1..];
+        }
+    }
+    piece.extend_from_slice(rest)
+}
+
 // Returns the answers to the calls of the lines, on a new interner. Each call is answered as it is read, so none is
 // kept.
-fn answer_lines(cx: &mut Interner, script: &[u8]) -> Result<Vec<Answer>, Fault> {
+fn answer_lines(cx: &mut Interner, pieces: Vec<Vec<u8>>) -> Result<Vec<Answer>, Fault> {
     let alloc = cx.allocator();
     let mut answers = Vec::new(alloc);
-    for line in script.split_inclusive(|byte| *byte == b'\n') {
-        if let Some(call) = parse_line(alloc, without_end(line))? {
-            answer_next(cx, &mut answers, &call).map_err(|_| Fault::Memory)?;
+    for piece in pieces {
+        for line in piece.as_slice().lines() {
+            if let Some(call) = parse_line(alloc, line)? {
+                answer_next(cx, &mut answers, &call).map_err(|_| Fault::Memory)?;
+            }
         }
     }
     Ok(answers)
-}
-
-// Returns the line without its line feed and the carriage return before it.
-fn without_end(line: &[u8]) -> &[u8] {
-    match line {
-        [content @ .., b'\r', b'\n'] => content,
-        [content @ .., b'\n'] => content,
-        _ => line,
-    }
 }
 
 // Returns a line for each answer.
