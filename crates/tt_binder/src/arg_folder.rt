@@ -310,7 +310,6 @@ impl<S: SliceLike> TypeFolder for ArgFolder<S> {
 
     ghost touches_nothing = { λ rows s t. IsOpenParam s.binders_passed t };
 
-    #[inline(always)]
     fn fold_region(&mut self, cx: &mut Interner, region: Region) -> Result<Region, Refusal> {
         match region.kind() {
             RegionKind::ReEarlyParam(parameter) => {
@@ -348,6 +347,7 @@ impl<S: SliceLike> TypeFolder for ArgFolder<S> {
         }
     }
 
+    #[inline(always)]
     fn after_ty(&mut self, _cx: &mut Interner, before: Ty, rebuilt: Ty) -> Result<Ty, Refusal> {
         self.memory.note(before, self.binders_passed, rebuilt)?;
         Ok(rebuilt)

@@ -126,6 +126,7 @@ impl Memory {
     }
 
     /// Returns the result of the type under `under` binders, if it is remembered.
+    #[inline(always)]
     pub fn recall(&self, ty: Ty, under: u32) -> Option<Ty>
         ensures { result ≡ lookup (same_place (place_of ty under)) self.now }
     {
@@ -174,6 +175,7 @@ impl Memory {
 
 /// Returns the result of the type under `under` binders, if it is remembered. Equal trees have equal handles, so if
 /// none is found for the type, none is remembered for its tree.
+#[inline(always)]
 pub fn look_up(cx: &Interner, memory: &Memory, ty: Ty, under: u32) -> Option<Ty>
     requires ty { IsPartOf cx.now.rows (ty_shape ty) }
     requires memory { OwnsMemos cx.now.rows memory.now }

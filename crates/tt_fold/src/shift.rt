@@ -232,6 +232,7 @@ impl TypeFolder for Shifter {
         }
     }
 
+    #[inline(always)]
     fn after_ty(&mut self, _cx: &mut Interner, before: Ty, rebuilt: Ty) -> Result<Ty, Refusal> {
         self.memory
             .note(before, self.current_index.as_u32(), rebuilt)?;
