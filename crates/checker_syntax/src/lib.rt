@@ -12,8 +12,6 @@ pub mod message;
 mod names;
 pub mod program;
 pub mod syntax_error;
-#[cfg(test)]
-mod tests;
 mod token;
 mod tokens;
 mod types;

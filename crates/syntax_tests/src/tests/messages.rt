@@ -1,24 +1,9 @@
 //! What is wrong with a source, and where.
 
-use crate::program::Place;
-use crate::read;
-use crate::syntax_error::SyntaxError;
-use crate::tests::at;
-use std::alloc::Global;
-use std::process::Abort;
+use crate::tests::{at, is_refused};
+use checker_syntax::read;
+use checker_syntax::syntax_error::SyntaxError;
 use std::test::Fail;
-
-// Asserts that the source is refused with this message.
-fn is_refused(rt: &impl Abort, alloc: Global, source: &str, place: Place, text: &str) {
-    match read(alloc, source) {
-        Err(SyntaxError::Wrong(message)) => {
-            assert_eq!(rt; message.text.as_str(), text, "{source}");
-            assert_eq!(rt; message.place, place, "{source}");
-        }
-        Err(SyntaxError::Memory) => panic!(rt; "no memory: {source}"),
-        Ok(_) => panic!(rt; "a program: {source}"),
-    }
-}
 
 #[test]
 fn tokens(rt: HostRuntime) {

@@ -1,10 +1,10 @@
 //! Deep nesting, and refused memory.
 
-use crate::message::Message;
-use crate::read;
-use crate::syntax_error::SyntaxError;
 use crate::tests::at;
 use crate::tests::bodies::EXAMPLE;
+use checker_syntax::message::Message;
+use checker_syntax::read;
+use checker_syntax::syntax_error::SyntaxError;
 use std::alloc::{AllocError, Global};
 use std::string::String;
 use std::test::Fail;

@@ -1,8 +1,8 @@
 //! Written types, structs and signatures.
 
-use crate::program::{Field, Program, WrittenType};
-use crate::read;
-use crate::tests::{at, span};
+use crate::tests::{at, has_names, span};
+use checker_syntax::program::{Field, Program, WrittenType};
+use checker_syntax::read;
 use std::process::Abort;
 use std::test::Fail;
 
@@ -10,14 +10,6 @@ use std::test::Fail;
 fn has_types(rt: &impl Abort, program: &Program, types: &[WrittenType], parts: &[usize]) {
     assert_eq!(rt; program.types.as_slice(), types);
     assert_eq!(rt; program.parts.as_slice(), parts);
-}
-
-// Asserts that the program's names are these.
-fn has_names(rt: &impl Abort, program: &Program, names: &[&str]) {
-    assert_eq!(rt; program.names.len(), names.len());
-    for (name, wanted) in program.names.iter().zip(names) {
-        assert_eq!(rt; name.as_str(), *wanted);
-    }
 }
 
 #[test]

@@ -1,41 +1,9 @@
 //! Functions' bodies.
 
-use crate::program::{Body, Expression, Literal, Place, Program};
-use crate::read;
-use crate::tests::{at, span};
-use std::alloc::Global;
-use std::process::Abort;
+use crate::tests::{at, is_body, last_body, span};
+use checker_syntax::program::{Expression, Literal, Program};
+use checker_syntax::read;
 use std::test::Fail;
-
-// Returns the body of the last function of the source.
-fn last_body(alloc: Global, source: &str) -> Result<Body, Fail> {
-    let mut program = read(alloc, source)?;
-    let function = program.functions.pop().ok_or("no function")?;
-    Ok(function.body.ok_or("no body")?)
-}
-
-// Asserts what the body has.
-fn is_body(
-    rt: &impl Abort,
-    body: &Body,
-    expressions: &[(Expression, Place)],
-    operands: &[usize],
-    value: usize,
-) {
-    assert_eq!(rt; body.expressions.len(), expressions.len());
-    assert_eq!(rt; body.places.len(), expressions.len());
-    for ((expression, place), (wanted, at)) in body
-        .expressions
-        .iter()
-        .zip(&body.places)
-        .zip(expressions)
-    {
-        assert_eq!(rt; *expression, *wanted);
-        assert_eq!(rt; *place, *at);
-    }
-    assert_eq!(rt; body.operands.as_slice(), operands);
-    assert_eq!(rt; body.result, value);
-}
 
 #[test]
 fn literals_and_tuples(rt: HostRuntime) -> Result<(), Fail> {
