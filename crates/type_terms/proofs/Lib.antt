@@ -16,10 +16,3 @@ pub mod ParameterLaws
 pub mod EraseLaws
 pub mod QueryLaws
 pub mod DeclareLaws
-pub mod PrintSteps
-pub mod PrintNames
-pub mod PrintLaws
-pub mod PrintVariables
-pub mod PrintParts
-pub mod PrintPieces
-mod TextExamples

@@ -6,6 +6,3 @@ pub mod Room
 pub mod Build
 pub mod Parameters
 pub mod Runner
-pub mod Text
-pub mod Spelling
-pub mod Pieces

@@ -1,11 +1,9 @@
 //! The type terms of the Rust compiler's type checker: the library as one crate, and a runner of lists of calls.
 #![tactic(auto)]
 
-pub mod ir_print;
 pub mod prelude;
 pub mod run;
 
-pub use ir_print::IrPrint;
 pub use run::AliasCall;
 pub use run::Answer;
 pub use run::ArgCall;
@@ -268,6 +266,7 @@ pub use tt_kinds::laws::shift_by_zero_keeps_trees;
 pub use tt_kinds::laws::shift_keeps_low_trees;
 pub use tt_kinds::laws::shifts_read_as_moved;
 pub use tt_kinds::laws::split_signatures_are_joined;
+pub use tt_print::IrPrint;
 pub use tt_visit::BinderExt;
 pub use tt_visit::EarlyBinderExt;
 pub use tt_visit::FoundEscapingVars;

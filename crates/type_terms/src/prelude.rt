@@ -1,7 +1,6 @@
 //! The traits whose methods users call, the traits that they implement, and the commonest types and functions, for
 //! `use type_terms::prelude::*;`.
 
-pub use crate::ir_print::IrPrint;
 pub use tt_binder::{DataTypes, Instantiate, IterInstantiate, TypeSignature, instantiate_binder};
 pub use tt_fold::{
     Step, TypeFoldable, TypeFolder, TypeReplacer, TypeSuperFoldable, fold_regions, replace_types,
@@ -23,6 +22,7 @@ pub use tt_kinds::{
     ParamTy, PlaceholderType, Predicate, PredicateKind, Region, RegionKind, Symbol, Term, TermKind,
     TraitId, TraitPredicate, TraitRef, Ty, TyKind, Tys, VariantDef,
 };
+pub use tt_print::IrPrint;
 pub use tt_visit::{
     BinderExt, EarlyBinderExt, InternedView, Next, Owned, TypeInspector, TypeSuperVisitable,
     TypeVisitable, TypeVisitableExt, TypeVisitor, are_owned, inspect_types,

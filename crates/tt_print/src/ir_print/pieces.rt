@@ -1,0 +1,180 @@
+//! The pieces of a text that are still to be written. They are on the heap, so that a term may be as deep as memory
+//! allows.
+
+ghost use Rattle.std.specs.Prelude.{◌≡◌, ◌≤◌, suc, true, ◌++◌, List as Items, OnOk};
+ghost use Rattle.tt_kinds.specs.Kinds.{child_shapes, items_label, list_shape, parts_shapes};
+ghost use Rattle.tt_kinds.specs.Label.{Name};
+ghost use Rattle.tt_kinds.specs.Parts.{list_sort};
+ghost use Rattle.tt_kinds.specs.Shape.{AreParts, Meaning, fill_all};
+ghost use Rattle.tt_kinds.specs.Tree.{count_trees};
+ghost use Rattle.tt_interner.specs.Owned.{IsPartBy, tree_by};
+ghost use Rattle.tt_interner.specs.Rows.{Row, meaning, size};
+ghost use Rattle.tt_print.specs.Pieces.{AddsPieces, forest_pieces, inner_work};
+ghost use Rattle.tt_print.specs.Text.{are_none, before_child, child_text, closing, names, style_in, text_in, texts};
+
+use super::layout::{Place, Style};
+use smallvec::SmallVec;
+use std::alloc::AllocError;
+use tt_interner::Interner;
+use tt_kinds::{Child, List, Parts};
+
+/// The text at a place of a term, and the child that comes then, if there is one.
+#[derive(Clone, Copy)]
+pub(crate) struct Piece {
+    /// The style of the term.
+    pub(crate) style: Style,
+    /// The place.
+    pub(crate) place: Place,
+    /// The child.
+    pub(crate) child: Child,
+}
+
+/// The pieces that are still to be written, the next one last. A small term needs no allocation.
+pub(crate) type Pieces = SmallVec<Piece, 8>;
+
+// A small vector keeps the default in its unused places.
+impl Default for Piece {
+    fn default() -> Piece {
+        Piece {
+            style: Style::Joined,
+            place: Place::After(0),
+            child: Child::Absent,
+        }
+    }
+}
+
+// Adds the text after `count` children.
+fn push_end(pieces: &mut Pieces, style: Style, count: usize) -> Result<(), AllocError>
+    ensures { (rows : Items Row) → OnOk result (AddsPieces
+        rows
+        pieces.old.items
+        pieces.new.items
+        (closing style count)
+        1) }
+{
+    pieces.reserve(1)?;
+    pieces.push_reserved(Piece {
+        style,
+        place: Place::After(count),
+        child: Child::Absent,
+    });
+    Ok(())
+}
+
+// Adds a child, which may be the first and the last, with the text in front of it.
+fn push_child(
+    pieces: &mut Pieces,
+    style: Style,
+    child: &Child,
+    first: bool,
+    last: bool,
+) -> Result<(), AllocError>
+    ensures { (rows : Items Row) → AreParts (size rows) (child_shapes child.now)
+        → OnOk result (AddsPieces
+        rows
+        pieces.old.items
+        pieces.new.items
+        (child_text
+        (names rows)
+        (before_child style first last)
+        style
+        (fill_all (meaning rows) (child_shapes child.now)))
+        (forest_pieces (fill_all (meaning rows) (child_shapes child.now)))) }
+{
+    if is_absent(child) {
+        return Ok(());
+    }
+    pieces.reserve(1)?;
+    pieces.push_reserved(Piece {
+        style,
+        place: Place::Before { first, last },
+        child: *child,
+    });
+    Ok(())
+}
+
+/// Adds the parts of a term, and the text after them. What is written first is added last.
+pub(crate) fn push_parts(pieces: &mut Pieces, style: Style, parts: &Parts) -> Result<(), AllocError>
+    ensures { (rows : Items Row) → AreParts (size rows) (parts_shapes parts.now)
+        → OnOk result (AddsPieces
+        rows
+        pieces.old.items
+        pieces.new.items
+        (texts (names rows) style true (fill_all (meaning rows) (parts_shapes parts.now))
+        ++ closing style (count_trees (fill_all (meaning rows) (parts_shapes parts.now))))
+        (suc (forest_pieces (fill_all (meaning rows) (parts_shapes parts.now))))) }
+{
+    push_end(pieces, style, part_count(parts))?;
+    let no_first = is_absent(&parts.first);
+    push_child(pieces, style, &parts.second, no_first, true)?;
+    let no_second = is_absent(&parts.second);
+    push_child(pieces, style, &parts.first, true, no_second)
+}
+
+/// Adds the items of a stored list, in a term of this style, and the text after them. What is written first is added
+/// last.
+pub(crate) fn push_list(
+    cx: &Interner,
+    pieces: &mut Pieces,
+    style: Style,
+    list: List,
+) -> Result<(), AllocError>
+    requires { IsPartBy list_shape cx.now.rows list }
+    ensures { OnOk result (AddsPieces
+        cx.now.rows
+        pieces.old.items
+        pieces.new.items
+        (text_in (names cx.now.rows) style (tree_by list_shape cx.now.rows list))
+        (inner_work (tree_by list_shape cx.now.rows list))) }
+{
+    let items = items_style(style, list);
+    let count = cx.list_len(list);
+    push_end(pieces, items, count)?;
+    let mut index = count;
+    'items: while index > 0 {
+        index -= 1;
+        let child = cx.list_child(list, index);
+        push_child(pieces, items, &child, index == 0, index + 1 == count)?;
+    }
+    Ok(())
+}
+
+// Returns the style of a list's items, in a term of this style.
+fn items_style(style: Style, list: List) -> Style
+    ensures { result ≡ style_in style (items_label {N = Name} (list_sort list)) }
+{
+    match list {
+        List::Clauses(_) => Style::Listed,
+        _ => style.of_list(),
+    }
+}
+
+// Returns whether there is no child.
+#[tactic(auto, unfolding(tt_kinds::specs::Shape::fill_all))]
+fn is_absent(child: &Child) -> bool
+    ensures { (f : Meaning) → result ≡ are_none (fill_all f (child_shapes child.now)) }
+{
+    match child {
+        Child::Absent => true,
+        Child::Region(_) | Child::Node(_) | Child::List(_) => false,
+    }
+}
+
+// Returns the number of children: one or none.
+#[tactic(auto, unfolding(tt_kinds::specs::Shape::fill_all))]
+fn child_count(child: &Child) -> usize
+    ensures count { (f : Meaning) → result ≡ count_trees (fill_all f (child_shapes child.now)) }
+    ensures few { result ≤ 1 }
+{
+    match child {
+        Child::Absent => 0,
+        Child::Region(_) | Child::Node(_) | Child::List(_) => 1,
+    }
+}
+
+// Returns the number of parts.
+fn part_count(parts: &Parts) -> usize
+    ensures { (f : Meaning) → result ≡ count_trees (fill_all f (parts_shapes parts.now)) }
+{
+    child_count(&parts.first) + child_count(&parts.second)
+}
