@@ -1,6 +1,6 @@
 //! Functions' bodies.
 
-use crate::tests::{at, is_body, last_body, span};
+use super::{at, is_body, last_body, span};
 use checker_syntax::program::{Expression, Literal, Program};
 use checker_syntax::read;
 use std::test::Fail;

@@ -1,7 +1,7 @@
 //! Deep nesting, and refused memory.
 
-use crate::tests::at;
-use crate::tests::bodies::EXAMPLE;
+use super::at;
+use super::bodies::EXAMPLE;
 use checker_syntax::message::Message;
 use checker_syntax::read;
 use checker_syntax::syntax_error::SyntaxError;

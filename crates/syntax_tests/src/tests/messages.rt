@@ -1,6 +1,6 @@
 //! What is wrong with a source, and where.
 
-use crate::tests::{at, is_refused};
+use super::{at, is_refused};
 use checker_syntax::read;
 use checker_syntax::syntax_error::SyntaxError;
 use std::test::Fail;

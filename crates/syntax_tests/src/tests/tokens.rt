@@ -1,6 +1,6 @@
 //! The tokens of a source, by what is read of them.
 
-use crate::tests::{at, has_names, is_body, is_refused, last_body, span};
+use super::{at, has_names, is_body, is_refused, last_body, span};
 use checker_syntax::program::{Expression, Literal};
 use checker_syntax::read;
 use std::test::Fail;

@@ -1,6 +1,6 @@
 //! Written types, structs and signatures.
 
-use crate::tests::{at, has_names, span};
+use super::{at, has_names, span};
 use checker_syntax::program::{Field, Program, WrittenType};
 use checker_syntax::read;
 use std::process::Abort;
