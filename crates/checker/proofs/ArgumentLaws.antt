@@ -17,7 +17,7 @@ use Rattle.tt_kinds.specs.declared.ty_kind.TyKind.TheVariants as kind
 use Rattle.tt_interner.specs.Reads.{Reads}
 use Rattle.tt_interner.specs.Rows.{Row, args_row, meaning, type_row}
 use Rattle.tt_interner.specs.Stored.{Terms}
-use Rattle.tt_binder.specs.Arguments.{AreArguments, arg_sort, argument_of, arguments, args_at, row_args}
+use Rattle.tt_interner.specs.Arguments.{AreArguments, arg_sort, argument_of, arguments, args_at, row_args}
 use Rattle.checker.specs.Items.{AdtId}
 use Rattle.checker.specs.Scope.{argument_trees}
 use Rattle.checker.specs.TypeTrees.{arguments_of, data_type_of, in_order}

@@ -6,7 +6,7 @@ use Rattle.tt_kinds.specs.Kinds.{args_shape, ty_shape}
 use Rattle.tt_interner.specs.Owned.{IsOwned}
 use Rattle.tt_interner.specs.Stored.{Terms, Extends}
 use Rattle.tt_fold.specs.Steps.{tree_in}
-use Rattle.tt_binder.specs.Arguments.{AreArguments, args_at}
+use Rattle.tt_interner.specs.Arguments.{AreArguments, args_at}
 use Rattle.checker_syntax.specs.declared.program.DataType.{DataType}
 use Rattle.checker_syntax.specs.declared.program.Field.{Field}
 use Rattle.checker_syntax.specs.declared.program.Function.{Function}

@@ -9,7 +9,7 @@ use Rattle.tt_interner.specs.Owned.{IsOwned}
 use Rattle.tt_interner.specs.Stored.{Terms, Extends}
 use Rattle.tt_interner.proofs.OwnedLaws.{found_owned}
 use Rattle.tt_fold.specs.Steps.{tree_in}
-use Rattle.tt_binder.specs.Arguments.{AreArguments, args_at}
+use Rattle.tt_interner.specs.Arguments.{AreArguments, args_at}
 use Rattle.tt_binder.specs.ArgumentLaws.{args_at-grows, arguments-still}
 use Rattle.tt_binder.specs.Instance.{IsPlain}
 use Rattle.checker_syntax.specs.declared.program.DataType.{DataType}

@@ -8,7 +8,7 @@ use Rattle.tt_interner.specs.Owned.{AreOwned}
 use Rattle.tt_interner.specs.Rows.{Row}
 use Rattle.tt_interner.specs.Stored.{Terms}
 use Rattle.tt_fold.specs.Steps.{tree_in}
-use Rattle.tt_binder.specs.Arguments.{arguments, args_at}
+use Rattle.tt_interner.specs.Arguments.{arguments, args_at}
 use Rattle.checker.specs.Items.{IsDeclared, ids_of}
 use Rattle.checker.specs.Typing.{Around, IsTypedBody}
 use Rattle.checker.specs.Written.{AreDistinct}

@@ -1,7 +1,7 @@
 //! The types of the language, built and taken apart.
 
 ghost use Rattle.std.specs.Prelude.{◌≡◌, IfOk, IfSome, IsTrue, map};
-ghost use Rattle.tt_binder.specs.Arguments.{AreArguments, args_at};
+ghost use Rattle.tt_interner.specs.Arguments.{AreArguments, args_at};
 ghost use Rattle.tt_fold.specs.Steps.{tree_in};
 ghost use Rattle.tt_interner.specs.Owned.{AreOwned, IsOwned};
 ghost use Rattle.tt_interner.specs.Stored.{Extends};

@@ -12,7 +12,7 @@ use Rattle.tt_kinds.specs.declared.generic_arg.GenericArgKind.{GenericArgKind}
 use Rattle.tt_interner.specs.Rows.{Row, AreRows}
 use Rattle.tt_fold.specs.Steps.{IsPartOf, tree_in}
 use Rattle.tt_fold.proofs.ClauseLaws.{KeepsClauses, leaves-keep, rebuild-keeps, shift-keeps, value_keeps}
-use Rattle.tt_binder.specs.Arguments.{argument_of, arguments, AreArguments}
+use Rattle.tt_interner.specs.Arguments.{argument_of, arguments, AreArguments}
 use Rattle.tt_binder.specs.Opening.{open_variable, open_tree}
 use Rattle.tt_binder.proofs.OpeningLaws.{by_place, open-inner, open-own, open-outer}
 

@@ -25,7 +25,7 @@ use Rattle.tt_interner.specs.Definitions.{IsOwnField, IsOwnVariant}
 use Rattle.tt_interner.specs.Rows.{Row, size, meaning, AreRows}
 use Rattle.tt_interner.specs.Stored.{Terms, Extends}
 use Rattle.tt_interner.proofs.Growth.{Extends-refl, Extends-trans, in_range-grows, meaning-grows}
-use Rattle.tt_binder.specs.Arguments.{arguments, args_at, AreArguments}
+use Rattle.tt_interner.specs.Arguments.{arguments, args_at, AreArguments}
 use Rattle.tt_binder.specs.ArgumentLaws.{args_at-grows, arguments-still}
 use Rattle.tt_binder.specs.Instance.{IsPlain}
 use Rattle.tt_binder.proofs.RowArguments.{are_arguments_at}

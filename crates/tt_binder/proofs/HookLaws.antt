@@ -49,10 +49,11 @@ use Rattle.tt_fold.specs.Walk.{replace, keep, descend}
 use Rattle.tt_fold.specs.Places.{IsIn}
 use Rattle.tt_fold.specs.Remember.{here, places, IsTaken, OnTerm, given, left_alone, taken_apart, gone_into, AfterTerm}
 use Rattle.tt_fold.specs.Remember.{not_noted}
-use Rattle.tt_binder.specs.Arguments.{arg_sort, argument_of, arguments, AreArguments}
+use Rattle.tt_interner.specs.Arguments.{arg_sort, argument_of, arguments, AreArguments}
 use Rattle.tt_binder.specs.Instantiation.{Instantiation, Instantiates, PutsArgument, instantiation, LeafRefuses}
-use Rattle.tt_binder.specs.Instantiation.{shift_unbuilt, shift_too_far, IsParam, IsTypeOrClause, is_const, IsInnerConst}
-use Rattle.tt_binder.specs.Untouched.{IsUntouched}
+use Rattle.tt_binder.specs.Instantiation.{shift_unbuilt, shift_too_far, IsTypeOrClause, is_const, IsInnerConst}
+use Rattle.tt_kinds.specs.Param.{IsParam}
+use Rattle.tt_kinds.specs.Cause.{IsUntouched}
 use Rattle.tt_binder.proofs.FlagLaws.{hides_none}
 use Rattle.tt_binder.proofs.RowArguments.{IsTypeTree, IsConstTree, IsClauseTree}
 use Rattle.tt_binder.proofs.WalkLaws.{on_true, const-gone, left_done}

@@ -36,7 +36,7 @@ use Rattle.tt_fold.proofs.TaskLaws.{Refuses, without, too_far, caused}
 use Rattle.tt_fold.proofs.RememberLaws.{does, Refused, refused}
 use Rattle.tt_binder.specs.Instantiation.{Args, Instantiation, at_first, Instantiates, instantiation, LeafRefuses}
 use Rattle.tt_binder.specs.Instantiation.{for_cause, shift_unbuilt, shift_too_far, IsTypeOrClause, arg_hooks}
-use Rattle.tt_binder.specs.Arguments.{arguments}
+use Rattle.tt_interner.specs.Arguments.{arguments}
 use Rattle.tt_kinds.specs.Handle.{Const}
 use Rattle.tt_kinds.specs.Handle.{Ty}
 use Rattle.std.specs.Map.{keys_of}

@@ -28,7 +28,7 @@ use Rattle.tt_fold.proofs.PlaceLaws.{IsMoving, moving_types-have, pairs_none}
 use Rattle.tt_fold.proofs.RememberLaws.{does, refused}
 use Rattle.tt_fold.proofs.TaskLaws.{Refuses, without, too_far, caused}
 use Rattle.tt_fold.proofs.WantedLaws.{refusals-tell}
-use Rattle.tt_binder.specs.Arguments.{arguments}
+use Rattle.tt_interner.specs.Arguments.{arguments}
 use Rattle.tt_binder.specs.Instantiation.{Args}
 use Rattle.tt_binder.specs.Opening.{open_tree, IsOpened, IsOpeningReason}
 use Rattle.tt_binder.specs.OpeningPromise.{OpeningPromise}

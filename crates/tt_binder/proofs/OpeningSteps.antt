@@ -38,7 +38,7 @@ use Rattle.tt_fold.specs.Remember.{places, IsTaken, Done, OnTerm, given, left_al
 use Rattle.tt_fold.specs.Memory.{memos}
 use Rattle.tt_fold.specs.declared.memory.Place.{Place}
 use Rattle.tt_fold.proofs.BoundLaws.{bound_shape}
-use Rattle.tt_binder.specs.Arguments.{arguments}
+use Rattle.tt_interner.specs.Arguments.{arguments}
 use Rattle.tt_binder.specs.Instantiation.{Args, Kept, Instantiates, PutsArgument, LeafRefuses}
 use Rattle.tt_binder.specs.Instantiation.{for_cause as leaf_for_cause, shift_unbuilt, shift_too_far}
 use Rattle.tt_binder.specs.Opening.{open_variable, open_tree, IsOwn, OpeningCause}

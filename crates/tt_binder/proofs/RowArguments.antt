@@ -25,9 +25,10 @@ use Rattle.tt_interner.proofs.RowLaws.{IsNewest, place_cases, meaning-old, meani
 use Rattle.tt_interner.proofs.Trees.{Means-row}
 use Rattle.tt_interner.specs.Stored.{IsAt}
 use Rattle.tt_fold.specs.Steps.{IsPartOf, tree_in}
-use Rattle.tt_binder.specs.Arguments.{AreArguments, row_args, args_at}
+use Rattle.tt_interner.specs.Arguments.{AreArguments, row_args, args_at}
 use Rattle.tt_binder.specs.Instance.{IsOfClauses}
-use Rattle.tt_binder.specs.Instantiation.{IsTypeOrClause, is_const, IsInnerConst, IsParam}
+use Rattle.tt_binder.specs.Instantiation.{IsTypeOrClause, is_const, IsInnerConst}
+use Rattle.tt_kinds.specs.Param.{IsParam}
 
 -- the arguments of a stored list are among the rows
 row_args_parts : (rows : List Row) → AreRows rows → (n : ℕ) (o : Option Row) → slice_get (table ArgLists rows) n ≡ o → AreArguments rows (row_args o)

@@ -17,7 +17,8 @@ use Rattle.tt_fold.specs.Steps.{IsPartOf, tree_in}
 use Rattle.tt_fold.specs.Still.{EndsAt, IsAlone}
 use Rattle.tt_fold.specs.Walk.{descend}
 use Rattle.tt_fold.specs.Remember.{OnTerm, taken_apart, gone_into}
-use Rattle.tt_binder.specs.Instantiation.{Instantiation, instantiation, arg_hooks, IsOpenParam, IsParam}
+use Rattle.tt_binder.specs.Instantiation.{Instantiation, instantiation, arg_hooks, IsOpenParam}
+use Rattle.tt_kinds.specs.Param.{IsParam}
 use Rattle.tt_binder.proofs.RowArguments.{IsTypeTree}
 
 -- at an open parameter no binder is passed

@@ -14,7 +14,8 @@ use Rattle.tt_visit.specs.Visit.{node_broke, enter_broke, under_broke, error_bro
 use Rattle.tt_visit.specs.Visit.{first_broke, later_broke}
 use Rattle.tt_visit.specs.declared.visitor.Next.TheVariants.{Skip, Descend}
 use Rattle.tt_binder.specs.Instantiation.{IsInnerConst, IsGoneInto}
-use Rattle.tt_binder.specs.Untouched.{IsUntouched, passed_by, entered, untouched_visits}
+use Rattle.tt_binder.specs.Untouched.{passed_by, entered, untouched_visits}
+use Rattle.tt_kinds.specs.Cause.{IsUntouched}
 use Rattle.tt_binder.proofs.FlagLaws.{hides_none}
 use Rattle.tt_binder.proofs.WalkLaws.{const-gone, passed-gone}
 

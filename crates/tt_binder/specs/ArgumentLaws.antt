@@ -18,7 +18,7 @@ use Rattle.tt_kinds.specs.Handle.{Ty}
 use Rattle.tt_fold.specs.Memory.{memos, OwnsMemos}
 use Rattle.tt_fold.proofs.MemoryLaws.{memos-still, OwnsMemos-still}
 use Rattle.tt_fold.specs.declared.memory.Place.{Place}
-use Rattle.tt_binder.specs.Arguments.{arguments, AreArguments, row_args, args_at}
+use Rattle.tt_interner.specs.Arguments.{arguments, AreArguments, row_args, args_at}
 use Rattle.tt_binder.specs.Shifted.{OwnsShifts, OwnsArguments}
 use Rattle.tt_binder.specs.Instantiation.{Kept, Instantiation}
 use Rattle.tt_binder.specs.declared.shifted.ParamAt.{ParamAt}

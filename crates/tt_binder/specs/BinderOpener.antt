@@ -19,7 +19,7 @@ use Rattle.tt_fold.specs.Memory.{memos, OwnsMemos}
 use Rattle.tt_fold.specs.Remember.{State, Task, remembering}
 use Rattle.tt_fold.specs.Shift.{IsVariable}
 use Rattle.tt_fold.specs.declared.memory.Place.{Place}
-use Rattle.tt_binder.specs.Arguments.{AreArguments, arguments}
+use Rattle.tt_interner.specs.Arguments.{AreArguments, arguments}
 use Rattle.tt_binder.specs.Shifted.{OwnsShifts}
 use Rattle.tt_binder.specs.Instantiation.{Args, Rises}
 use Rattle.tt_binder.specs.Opening.{open_variable, open_tree, IsGiven, OpeningCause}

@@ -18,7 +18,7 @@ use Rattle.tt_kinds.specs.declared.variant.FieldDef.{FieldDef}
 use Rattle.tt_interner.specs.Definitions.{variants_of}
 use Rattle.tt_interner.specs.Rows.{Row, type_row, size, meaning}
 use Rattle.tt_interner.specs.Stored.{Terms, Extends, IsAt}
-use Rattle.tt_binder.specs.Arguments.{arguments, args_at}
+use Rattle.tt_interner.specs.Arguments.{arguments, args_at}
 use Rattle.tt_binder.specs.Instance.{IsPlain}
 use Rattle.tt_binder.specs.Promise.{InstancePromise}
 

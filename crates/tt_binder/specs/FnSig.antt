@@ -17,7 +17,7 @@ use Rattle.tt_kinds.specs.declared.ty_kind.TyKind.TheVariants as ty
 use Rattle.tt_interner.specs.Rows.{Row}
 use Rattle.tt_interner.specs.Stored.{Terms}
 use Rattle.tt_interner.specs.Declarations.{declared_at, IsOfSort}
-use Rattle.tt_binder.specs.Arguments.{arguments, args_at}
+use Rattle.tt_interner.specs.Arguments.{arguments, args_at}
 use Rattle.tt_binder.specs.Promise.{InstancePromise}
 
 -- the type is a function pointer, the item of a declared function, or an error

@@ -146,8 +146,3 @@ arg_hooks = remembering instantiation
 abbrev pub IsOpenParam : ℕ → Tree Depth → Type 0
 IsOpenParam binders_passed (param o i name) = binders_passed ≡ 0
 IsOpenParam binders_passed _ = ⊥
-
--- the tree is a parameter of the sort and the index
-abbrev pub IsParam : Sort → ℕ → Tree Depth → Type 0
-IsParam sort index (param s i name) = (s ≡ sort) × (i ≡ index)
-IsParam sort index _ = ⊥

@@ -1,4 +1,3 @@
-pub mod Arguments
 pub mod Shifted
 pub mod Sharing
 pub mod ArgumentLaws

@@ -8,7 +8,7 @@ use Rattle.tt_interner.specs.Rows.{Row, Grows}
 use Rattle.tt_fold.specs.Memory.{memos, OwnsMemos}
 use Rattle.tt_fold.proofs.MemoryLaws.{memos-still, OwnsMemos-still}
 use Rattle.tt_fold.specs.declared.memory.Place.{Place}
-use Rattle.tt_binder.specs.Arguments.{arguments, AreArguments}
+use Rattle.tt_interner.specs.Arguments.{arguments, AreArguments}
 use Rattle.tt_binder.specs.Shifted.{OwnsShifts}
 use Rattle.tt_binder.specs.BinderOpener.{Opening, opening_state, OwnsOpener}
 use Rattle.tt_binder.specs.ArgumentLaws.{AreArguments-still, arguments-still, OwnsShifts-still}

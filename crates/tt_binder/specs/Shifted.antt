@@ -19,7 +19,7 @@ use Rattle.tt_fold.specs.Memory.{OwnsMemos}
 use Rattle.tt_fold.specs.Places.{CountsPairs}
 use Rattle.tt_fold.specs.Steps.{IsPartBy, tree_by}
 use Rattle.tt_fold.specs.declared.memory.Place.{Place}
-use Rattle.tt_binder.specs.Arguments.{AreArguments, arguments}
+use Rattle.tt_interner.specs.Arguments.{AreArguments, arguments}
 use Rattle.tt_binder.specs.declared.shifted.ParamAt.{ParamAt}
 
 -- a parameter of the index under k binders

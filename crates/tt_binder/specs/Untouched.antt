@@ -2,15 +2,11 @@
 use Rattle.std.specs.Prelude.{◌≡◌, true, false, ⊤}
 use Rattle.tt_kinds.specs.Tree.{Depth, Tree}
 use Rattle.tt_kinds.specs.Param.{holds_param}
-use Rattle.tt_kinds.specs.Cause.{HidesRegionVars}
+use Rattle.tt_kinds.specs.Cause.{IsUntouched}
 use Rattle.tt_visit.specs.Visit.{Visits}
 use Rattle.tt_visit.specs.declared.visitor.Next.{Next}
 use Rattle.tt_visit.specs.declared.visitor.Next.TheVariants.{Skip, Descend}
 use Rattle.tt_binder.specs.Instantiation.{IsTypeOrClause, IsInnerConst}
-
--- no parameter occurs in the tree, and no region variable is exposed
-abbrev pub IsUntouched : Tree Depth → Type 0
-IsUntouched t = (holds_param t ≡ false) × HidesRegionVars t
 
 -- the visit skips a type, a predicate or a clause list without parameters, and enters each constant that is not one
 pub data Passes : Tree Depth → Next → Type 0 where

@@ -9,17 +9,10 @@ ghost use Rattle.tt_kinds.specs.Cause.{Cause};
 ghost use Rattle.tt_interner.specs.Stored.{Extends};
 ghost use Rattle.tt_fold.specs.Memory.{memos};
 ghost use Rattle.tt_fold.specs.Steps.{IsPartOf, IsRefused, tree_in};
-ghost use Rattle.tt_binder.specs.Arguments.{AreArguments, arguments};
+ghost use Rattle.tt_interner.specs.Arguments.{AreArguments, arguments};
 ghost use Rattle.tt_binder.specs.Shifted.{OwnsArguments, OwnsShifts};
-ghost use Rattle.tt_binder.specs.Instantiation.{
-  Instantiation,
-  Instantiates,
-  PutsArgument,
-  IsOpenParam,
-  LeafRefuses,
-  IsParam,
-  arg_hooks,
-};
+ghost use Rattle.tt_binder.specs.Instantiation.{Instantiation, Instantiates, PutsArgument, IsOpenParam, LeafRefuses, arg_hooks};
+ghost use Rattle.tt_kinds.specs.Param.{IsParam};
 
 use crate::shifted::Shifted;
 use crate::slice_like::SliceLike;

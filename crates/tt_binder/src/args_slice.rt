@@ -3,7 +3,7 @@
 ghost use Rattle.std.specs.Prelude.{◌≡◌, ◌<◌, drop, take};
 ghost use Rattle.tt_kinds.specs.declared.table.Table.TheVariants.{ArgLists};
 ghost use Rattle.tt_interner.specs.Rows.{size};
-ghost use Rattle.tt_binder.specs.Arguments.{AreArguments};
+ghost use Rattle.tt_interner.specs.Arguments.{AreArguments};
 ghost use Rattle.tt_binder.specs.ArgsSlice.{args_in};
 
 use crate::slice_like::SliceLike;

@@ -7,7 +7,7 @@ ghost use Rattle.tt_kinds.specs.Kinds.{const_kind_shape, const_shape, region_sha
 ghost use Rattle.tt_interner.specs.Stored.{Extends};
 ghost use Rattle.tt_fold.specs.Shift.{IsOuter};
 ghost use Rattle.tt_fold.specs.Steps.{IsPartOf, IsRefused, tree_in};
-ghost use Rattle.tt_binder.specs.Arguments.{AreArguments, arguments};
+ghost use Rattle.tt_interner.specs.Arguments.{AreArguments, arguments};
 ghost use Rattle.tt_binder.specs.Shifted.{OwnsShifts};
 ghost use Rattle.tt_binder.specs.Opening.{IsOwn};
 ghost use Rattle.tt_binder.specs.BinderOpener.{

@@ -10,7 +10,7 @@ ghost use Rattle.tt_kinds.specs.Count.{generic_types, place_count};
 ghost use Rattle.tt_interner.specs.Stored.{Extends};
 ghost use Rattle.tt_fold.specs.Places.{CountsPairs};
 ghost use Rattle.tt_fold.specs.Steps.{IsPartBy, tree_by};
-ghost use Rattle.tt_binder.specs.Arguments.{arguments};
+ghost use Rattle.tt_interner.specs.Arguments.{arguments};
 ghost use Rattle.tt_binder.specs.Unpruned.{PruningIsUnseen};
 ghost use Rattle.tt_binder.specs.Instance.{IsInstance, IsReason, ComesBack};
 ghost use Rattle.tt_binder.specs.Promise.{InstancePromise};

@@ -3,7 +3,7 @@
 ghost use Rattle.std.specs.Prelude.{◌≡◌, IfSome};
 ghost use Rattle.std.specs.Iterator.{IsFinite, MakesProgress, UpTo, size};
 ghost use Rattle.std.specs.Iterator.SizeHint.{IsWithinCount};
-ghost use Rattle.tt_binder.specs.Arguments.{AreArguments, arguments};
+ghost use Rattle.tt_interner.specs.Arguments.{AreArguments, arguments};
 ghost use Rattle.tt_binder.specs.IterInstantiated.{GivesInstance, GivesTarget, NextIsOwned};
 
 use crate::instantiate::Instantiate;

@@ -1,7 +1,7 @@
 //! Opening a binder: its contents outside of it, with arguments for its variables.
 
 ghost use Rattle.tt_fold.specs.Steps.{IsPartBy};
-ghost use Rattle.tt_binder.specs.Arguments.{arguments};
+ghost use Rattle.tt_interner.specs.Arguments.{arguments};
 ghost use Rattle.tt_binder.specs.OpeningPromise.{OpeningPromise};
 
 use crate::binder_opener::BinderOpener;

@@ -3,7 +3,7 @@
 ghost use Rattle.std.specs.Prelude.{◌≡◌, ◌↔◌, ◌<◌, List, length, slice_get, IsTrue};
 ghost use Rattle.tt_kinds.specs.declared.generic_arg.GenericArgKind.{GenericArgKind};
 ghost use Rattle.tt_interner.specs.Rows.{Row, Grows};
-ghost use Rattle.tt_binder.specs.Arguments.{AreArguments};
+ghost use Rattle.tt_interner.specs.Arguments.{AreArguments};
 
 use tt_interner::{InternedList, Interner};
 use tt_kinds::{GenericArg, GenericArgs};
@@ -67,7 +67,7 @@ impl SliceLike for &[GenericArg] {
 impl SliceLike for GenericArgs {
     ghost use Rattle.tt_kinds.specs.declared.table.Table.TheVariants.{ArgLists};
     ghost use Rattle.tt_interner.specs.Rows.{size};
-    ghost use Rattle.tt_binder.specs.Arguments.{args_at};
+    ghost use Rattle.tt_interner.specs.Arguments.{args_at};
 
     ghost items = { args_at };
 

@@ -2,7 +2,8 @@
 
 ghost use Rattle.std.specs.Prelude.{◌↔◌, IsTrue};
 ghost use Rattle.tt_fold.specs.Steps.{IsPartBy, tree_by};
-ghost use Rattle.tt_binder.specs.Untouched.{IsUntouched, untouched_visits};
+ghost use Rattle.tt_binder.specs.Untouched.{untouched_visits};
+ghost use Rattle.tt_kinds.specs.Cause.{IsUntouched};
 
 use crate::arg_folder::const_parameter;
 use std::ops::ControlFlow;

@@ -18,4 +18,5 @@ pub mod Existentials
 pub mod Info
 pub mod Reads
 pub mod Owned
+pub mod Arguments
 pub mod Fitting

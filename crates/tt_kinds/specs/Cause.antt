@@ -1,10 +1,10 @@
 -- Why an instantiation is refused.
-use Rattle.std.specs.Prelude.{ℕ, List, [], length, ◌≡◌, ◌≢◌, ◌≤◌, ◌⊎◌, IsTrue, not, IsSomeAnd, slice_get}
+use Rattle.std.specs.Prelude.{ℕ, List, [], length, ◌≡◌, ◌≢◌, ◌≤◌, ◌⊎◌, false, IsTrue, not, IsSomeAnd, slice_get}
 use Rattle.std.specs.Bool.{OnTrue}
 use Rattle.tt_kinds.specs.Label.{Name, Sort, FreeRegion, region_var, is_type_or_clause}
 use Rattle.tt_kinds.specs.Tree.{Depth, Tree, param, bound, region, term, node, binder, Forest, none, also}
 use Rattle.tt_kinds.specs.Argument.{Argument, same_sort}
-use Rattle.tt_kinds.specs.Param.{HasParam, IsGeneric, IsGeneric_among}
+use Rattle.tt_kinds.specs.Param.{holds_param, HasParam, IsGeneric, IsGeneric_among}
 use Rattle.tt_index.specs.declared.refusal.Refusal.{Refusal}
 use Rattle.tt_index.specs.declared.refusal.Refusal.TheVariants.{NoArguments, ArgOutOfRange, ArgKind, RegionVariable}
 
@@ -31,6 +31,10 @@ module _ {I : Type 0} (x : ℕ) where
 -- each region variable of the tree is in a type, predicate or clause list without parameters
 abbrev pub HidesRegionVars : {I : Type 0} → Tree I → Type 0
 HidesRegionVars t = (x : ℕ) → HasExposed x t → ⊥
+
+-- no parameter occurs in the tree, and no region variable is exposed
+abbrev pub IsUntouched : {I : Type 0} → Tree I → Type 0
+IsUntouched t = (holds_param t ≡ false) × HidesRegionVars t
 
 -- the argument at the index is there and has another sort
 abbrev pub HasOtherSort : {I : Type 0} → List (Argument I) → Sort → ℕ → Type 0

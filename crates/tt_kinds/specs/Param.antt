@@ -49,6 +49,11 @@ module _ {I : Type 0} (P : Sort → ℕ → Type 0) where
     EachParam_among none = ⊤
     EachParam_among (also t ts) = EachParam t × EachParam_among ts
 
+-- the tree is a parameter of the sort and the index
+abbrev pub IsParam : {I : Type 0} → Sort → ℕ → Tree I → Type 0
+IsParam sort index (param s i name) = (s ≡ sort) × (i ≡ index)
+IsParam sort index _ = ⊥
+
 -- some parameter occurs in the tree
 abbrev pub IsGeneric : {I : Type 0} → Tree I → Type 0
 IsGeneric t = HasParam (λ s i. ⊤) t

@@ -28,8 +28,8 @@ use Rattle.tt_kinds.specs.declared.table.Table.TheVariants.{Types, Consts}
 use Rattle.tt_interner.specs.Rows.{Row, row_table, size, meaning}
 use Rattle.tt_interner.specs.Stored as Stored
 use Rattle.tt_interner.specs.Stored.{Terms, Extends}
-use Rattle.tt_binder.specs.Untouched.{IsUntouched}
-use Rattle.tt_binder.specs.Arguments.{argument_of}
+use Rattle.tt_kinds.specs.Cause.{IsUntouched}
+use Rattle.tt_interner.specs.Arguments.{argument_of}
 use Rattle.tt_binder.specs.ArgumentLaws.{arguments-still}
 use Rattle.tt_binder.specs.Instance.{HasNoCause, IsPlain, IsReason, ComesBack}
 use Rattle.tt_binder.proofs.HookLaws.{param_by_index}

@@ -20,7 +20,7 @@ use Rattle.tt_kinds.specs.declared.table.Table.{Table}
 use Rattle.tt_kinds.specs.declared.table.Table.TheVariants.{Types, Consts, Patterns, Predicates, ClauseLists, ArgLists}
 use Rattle.tt_interner.specs.Rows.{Row, meaning}
 use Rattle.tt_interner.specs.Stored.{Terms}
-use Rattle.tt_binder.specs.Instantiation.{IsParam}
+use Rattle.tt_kinds.specs.Param.{IsParam}
 use Rattle.tt_binder.specs.Instance.{HasNoCause, IsPlain}
 use Rattle.type_terms.specs.declared.run.answer.Answer.{Answer}
 use Rattle.type_terms.specs.declared.run.answer.Answer.TheVariants as answer

@@ -35,8 +35,8 @@ use Rattle.type_terms.specs.declared.run.call.VariableCall.{VariableCall}
 use Rattle.type_terms.specs.declared.run.call.ArgCall.{ArgCall}
 use Rattle.type_terms.specs.declared.run.call.DeclarationKindCall.{DeclarationKindCall}
 use Rattle.type_terms.specs.declared.run.call.Call.{Call}
-use Rattle.tt_binder.specs.Arguments.{argument_of}
-use Rattle.tt_binder.specs.Arguments.{arguments}
+use Rattle.tt_interner.specs.Arguments.{argument_of}
+use Rattle.tt_interner.specs.Arguments.{arguments}
 use Rattle.tt_kinds.specs.declared.generic_arg.GenericArgKind.{GenericArgKind}
 use Rattle.std.specs.declared.alloc.Global.{Global}
 use Rattle.std.specs.declared.vec.Vec.{Vec}

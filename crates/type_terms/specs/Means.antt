@@ -17,8 +17,8 @@ use Rattle.tt_kinds.specs.declared.table.Table.{Table}
 use Rattle.tt_kinds.specs.declared.table.Table.TheVariants.{Types, Consts, Patterns, Predicates, ClauseLists, ArgLists}
 use Rattle.tt_interner.specs.Clauses.{is_clause_tree}
 use Rattle.tt_interner.specs.Stored.{most_in_place}
-use Rattle.tt_binder.specs.Instantiation.{IsParam}
-use Rattle.tt_binder.specs.Untouched.{IsUntouched}
+use Rattle.tt_kinds.specs.Param.{IsParam}
+use Rattle.tt_kinds.specs.Cause.{IsUntouched}
 use Rattle.type_terms.specs.declared.run.call.ArgCall.{ArgCall}
 use Rattle.type_terms.specs.declared.run.call.ArgCall.TheVariants as arg
 use Rattle.type_terms.specs.declared.run.call.Call.{Call}

@@ -1,7 +1,7 @@
 //! Types that are compared with instances of written ones.
 
 ghost use Rattle.std.specs.Prelude.{◌≡◌, IfOk, IfSome, IsTrue, OnOk, Some, map, slice_get};
-ghost use Rattle.tt_binder.specs.Arguments.{AreArguments, args_at};
+ghost use Rattle.tt_interner.specs.Arguments.{AreArguments, args_at};
 ghost use Rattle.tt_binder.specs.Instance.{IsPlain};
 ghost use Rattle.tt_fold.specs.Steps.{tree_in};
 ghost use Rattle.tt_interner.specs.Owned.{IsOwned};

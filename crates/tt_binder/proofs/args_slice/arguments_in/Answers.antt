@@ -2,7 +2,7 @@
 use Rattle.std.proofs.Common.{◌≡◌, refl, sym, ap, ◌∙◌}
 use Rattle.tt_kinds.specs.Kinds.{arg_shape}
 use Rattle.tt_interner.proofs.OwnedLaws.{take_owned, drop_owned}
-use Rattle.tt_binder.specs.Arguments.{row_args, args_at}
+use Rattle.tt_interner.specs.Arguments.{row_args, args_at}
 use Rattle.tt_binder.proofs.args_slice.arguments_in.Goals as goal
 
 pub returns-clause-items : goal.returns-clause-items

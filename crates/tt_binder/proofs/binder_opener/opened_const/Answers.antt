@@ -7,7 +7,7 @@ use Rattle.tt_kinds.specs.declared.table.Table.TheVariants.{Consts}
 use Rattle.tt_kinds.specs.declared.const_kind.ConstKind.TheVariants as kind
 use Rattle.tt_interner.specs.Rows.{const_row}
 use Rattle.tt_fold.proofs.BoundLaws.{bound_stored}
-use Rattle.tt_binder.specs.Arguments.{arguments}
+use Rattle.tt_interner.specs.Arguments.{arguments}
 use Rattle.tt_binder.specs.ArgumentLaws.{OwnsShifts-still}
 use Rattle.tt_binder.proofs.OpeningSteps.{outside_built, own_lacks, own_put}
 use Rattle.tt_binder.proofs.binder_opener.opened_const.Goals as goal

@@ -3,7 +3,7 @@ use Rattle.std.proofs.lemmas.List.{nil_from_length}
 use Rattle.tt_kinds.specs.Label.{region_sort}
 use Rattle.tt_kinds.specs.Bound.{region_entry}
 use Rattle.tt_kinds.specs.Kinds.{region_shape}
-use Rattle.tt_binder.specs.Arguments.{arguments}
+use Rattle.tt_interner.specs.Arguments.{arguments}
 use Rattle.tt_binder.proofs.OpeningSteps.{own_found, own_lacks, region_outside}
 use Rattle.tt_binder.proofs.binder_opener.opened_region.Goals as goal
 

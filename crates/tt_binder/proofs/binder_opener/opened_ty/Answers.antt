@@ -7,7 +7,7 @@ use Rattle.tt_kinds.specs.declared.table.Table.TheVariants.{Types}
 use Rattle.tt_kinds.specs.declared.ty_kind.TyKind.TheVariants as kind
 use Rattle.tt_interner.specs.Rows.{type_row}
 use Rattle.tt_fold.proofs.BoundLaws.{bound_stored}
-use Rattle.tt_binder.specs.Arguments.{arguments}
+use Rattle.tt_interner.specs.Arguments.{arguments}
 use Rattle.tt_binder.specs.ArgumentLaws.{OwnsShifts-still}
 use Rattle.tt_binder.proofs.OpeningSteps.{outside_built, own_lacks, own_put}
 use Rattle.tt_binder.proofs.binder_opener.opened_ty.Goals as goal

@@ -4,7 +4,7 @@ use Rattle.std.proofs.lemmas.List.{nil_from_length}
 use Rattle.std.proofs.lemmas.Result.{err_from_is_err_and}
 use Rattle.tt_kinds.specs.Param.{holds_param}
 use Rattle.tt_fold.specs.Steps.{refusals_of, tree_by}
-use Rattle.tt_binder.specs.Arguments.{arguments}
+use Rattle.tt_interner.specs.Arguments.{arguments}
 use Rattle.tt_fold.proofs.RememberLaws.{does}
 use Rattle.tt_binder.specs.Instantiation.{instantiation}
 use Rattle.tt_binder.proofs.WalkLaws.{instantiation_laws, knows_first}

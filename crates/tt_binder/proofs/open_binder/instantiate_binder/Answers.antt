@@ -1,5 +1,5 @@
 use Rattle.std.proofs.Common.{refl}
-use Rattle.tt_binder.specs.Arguments.{arguments}
+use Rattle.tt_interner.specs.Arguments.{arguments}
 use Rattle.tt_binder.proofs.ClauseLaws.{opened_keeps}
 use Rattle.tt_binder.proofs.OpeningOutcome.{new_opener, opened_back, opened_outcome}
 use Rattle.tt_binder.proofs.open_binder.instantiate_binder.Goals as goal

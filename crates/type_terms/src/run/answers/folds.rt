@@ -5,7 +5,7 @@ ghost use Rattle.std.specs.declared.alloc.Global.{Global};
 ghost use Rattle.std.specs.declared.vec.Vec.{Vec};
 ghost use Rattle.tt_interner.specs.Rows.{size, meaning};
 ghost use Rattle.tt_interner.specs.Stored.{Extends};
-ghost use Rattle.tt_binder.specs.Arguments.{AreArguments};
+ghost use Rattle.tt_interner.specs.Arguments.{AreArguments};
 ghost use Rattle.type_terms.specs.declared.run.call.ArgCall.{ArgCall};
 ghost use Rattle.type_terms.specs.declared.run.call.Call.TheVariants.{
   Shift as Shifts,

@@ -5,7 +5,7 @@ ghost use Rattle.tt_kinds.specs.Label.{const_sort, type_sort};
 ghost use Rattle.tt_kinds.specs.Argument.{same_sort};
 ghost use Rattle.tt_kinds.specs.declared.table.Table.TheVariants.{Types, Consts};
 ghost use Rattle.tt_interner.specs.Rows.{size, meaning};
-ghost use Rattle.tt_binder.specs.Instantiation.{IsParam};
+ghost use Rattle.tt_kinds.specs.Param.{IsParam};
 ghost use Rattle.type_terms.specs.Told.{Told, told, IsOwnedAnswer};
 ghost use Rattle.type_terms.specs.Means.{as_term, told_argument, IsParameter, IsParameterOf};
 ghost use Rattle.type_terms.specs.Parameters.{parameter_index, parameter_sort, term_arg, IsArgumentAt, LacksArgument};

@@ -14,7 +14,7 @@ use Rattle.tt_kinds.specs.declared.generic_arg.GenericArgKind.{GenericArgKind}
 use Rattle.tt_kinds.specs.declared.generic_arg.GenericArgKind.TheVariants.{«Type» as TypeArg}
 use Rattle.tt_interner.specs.Rows.{Row}
 use Rattle.tt_interner.specs.Stored.{Terms}
-use Rattle.tt_binder.specs.Arguments.{arguments, argument_of}
+use Rattle.tt_interner.specs.Arguments.{arguments, argument_of}
 use Rattle.tt_fold.specs.Steps.{tree_in}
 use Rattle.std.proofs.lemmas.Bool.{false≢true}
 use Rattle.tt_binder.specs.Instance.{IsPlain, IsReason}

@@ -1,7 +1,7 @@
 use Rattle.std.proofs.Common.{◌++◌}
 use Rattle.std.specs.Map.{keys_of}
 use Rattle.tt_fold.proofs.MemoryLaws.{note_owned, type_noted}
-use Rattle.tt_binder.specs.Arguments.{arguments}
+use Rattle.tt_interner.specs.Arguments.{arguments}
 use Rattle.tt_binder.specs.Instantiation.{instantiation}
 use Rattle.tt_binder.proofs.arg_folder.ArgFolderTypeFolder.after_ty.Goals as goal
 

@@ -4,7 +4,7 @@ use Rattle.std.proofs.lemmas.Result.{err_from_is_err_and}
 use Rattle.tt_kinds.specs.Label.{type_sort, const_sort}
 use Rattle.tt_kinds.specs.Kinds.{ty_shape, const_shape}
 use Rattle.tt_fold.specs.Steps.{tree_in}
-use Rattle.tt_binder.specs.Arguments.{arguments}
+use Rattle.tt_interner.specs.Arguments.{arguments}
 use Rattle.tt_binder.specs.ArgumentLaws.{OwnsShifts-still, owned-kept, state-still}
 use Rattle.tt_binder.proofs.ShiftedLaws.{kept_apart, puts_after}
 use Rattle.tt_binder.proofs.RowArguments.{const_is, inner_const}

@@ -1,5 +1,5 @@
 use Rattle.tt_fold.proofs.MemoryLaws.{note_owned, type_noted}
-use Rattle.tt_binder.specs.Arguments.{arguments}
+use Rattle.tt_interner.specs.Arguments.{arguments}
 use Rattle.tt_binder.specs.BinderOpener.{opening}
 use Rattle.tt_binder.proofs.binder_opener.BinderOpenerTypeFolder.after_ty.Goals as goal
 

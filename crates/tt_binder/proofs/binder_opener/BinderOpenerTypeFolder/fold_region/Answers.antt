@@ -2,7 +2,7 @@ use Rattle.std.proofs.Common.{refl, sym, ◌∙◌}
 use Rattle.tt_interner.specs.Rows.{meaning}
 use Rattle.tt_interner.proofs.Growth.{Extends-refl}
 use Rattle.tt_kinds.specs.declared.region_kind.RegionKind.TheVariants.{ReBound}
-use Rattle.tt_binder.specs.Arguments.{arguments}
+use Rattle.tt_interner.specs.Arguments.{arguments}
 use Rattle.tt_binder.specs.BinderOpener.{opening_state}
 use Rattle.tt_binder.proofs.OpeningSteps.{at_state, region_answered, region_stays}
 use Rattle.tt_binder.proofs.binder_opener.BinderOpenerTypeFolder.fold_region.Goals as goal

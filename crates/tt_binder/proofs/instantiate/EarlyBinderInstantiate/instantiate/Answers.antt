@@ -4,7 +4,7 @@ use Rattle.std.specs.Prelude.{Result, Err}
 use Rattle.tt_fold.specs.Steps.{tree_by}
 use Rattle.tt_index.specs.declared.refusal.Refusal.{Refusal}
 use Rattle.tt_interner.specs.Stored.{Terms}
-use Rattle.tt_binder.specs.Arguments.{arguments}
+use Rattle.tt_interner.specs.Arguments.{arguments}
 use Rattle.tt_binder.specs.Promise.{IsBack}
 use Rattle.tt_binder.proofs.InstanceLaws.{composes, commutes, stays_matched, leaves_no_param, type_back, clauses_back}
 use Rattle.tt_binder.proofs.InstanceLaws.{clause_back}

@@ -1,6 +1,6 @@
 use Rattle.tt_kinds.specs.Shape.{fill}
 use Rattle.tt_interner.specs.Rows.{meaning}
-use Rattle.tt_binder.specs.Arguments.{arguments}
+use Rattle.tt_interner.specs.Arguments.{arguments}
 use Rattle.type_terms.specs.declared.run.call.Call.TheVariants as call
 use Rattle.type_terms.specs.Told.{setting}
 use Rattle.type_terms.proofs.BuildLaws.{answer-passed}

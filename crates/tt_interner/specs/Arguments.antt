@@ -10,7 +10,7 @@ use Rattle.tt_kinds.specs.Handle.{GenericArgs}
 use Rattle.tt_kinds.specs.declared.generic_arg.GenericArgKind.{GenericArgKind}
 use Rattle.tt_kinds.specs.declared.generic_arg.GenericArgKind.TheVariants as arg
 use Rattle.tt_interner.specs.Rows.{Row, args_row, table, size}
-use Rattle.tt_fold.specs.Steps.{tree_in}
+use Rattle.tt_interner.specs.Owned.{tree_in}
 
 -- the sort of an argument
 abbrev pub arg_sort : GenericArgKind → Sort
