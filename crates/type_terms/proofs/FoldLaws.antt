@@ -1,10 +1,9 @@
 -- The calls that fold terms, over plain variables.
-use Rattle.std.proofs.Common.{◌≡◌, ◌<◌, ℕ, inl, inr, List, [], ◌∷◌, ◌++◌, Some, None, Option, Result, Ok, Err, refl, ap}
+use Rattle.std.proofs.Common.{◌≡◌, ◌<◌, ℕ, inl, inr, List, [], ◌++◌, Some, None, Option, refl, ap}
 use Rattle.std.proofs.Common.{sym, ◌∙◌, subst}
-use Rattle.std.specs.Prelude.{IsErrAnd, IsSomeAnd, ◌⊎◌}
+use Rattle.std.specs.Prelude.{IsSomeAnd, ◌⊎◌}
 use Rattle.std.specs.declared.alloc.Global.{Global}
 use Rattle.std.specs.declared.vec.Vec.{Vec}
-use Rattle.std.proofs.lemmas.List.{map-append}
 use Rattle.tt_index.specs.declared.refusal.Refusal.{Refusal}
 use Rattle.tt_index.specs.declared.refusal.Refusal.TheVariants.{Memory, TableFull, GreatestIndex, NoArguments}
 use Rattle.tt_index.specs.declared.refusal.Refusal.TheVariants.{ArgOutOfRange, ArgKind, RegionVariable, NotAClause}
@@ -16,42 +15,28 @@ use Rattle.tt_kinds.specs.Argument.{Argument, put, readings}
 use Rattle.tt_kinds.specs.Param.{holds_param}
 use Rattle.tt_kinds.specs.Reading.{read, move, outer_binder}
 use Rattle.tt_fold.specs.Shift.{IsShiftRefusal}
-use Rattle.tt_kinds.specs.Shape.{stored}
-use Rattle.tt_kinds.specs.Kinds.{arg_shape}
-use Rattle.tt_kinds.specs.Handle.{Ty}
-use Rattle.tt_kinds.specs.Handle.{Const}
-use Rattle.tt_kinds.specs.declared.region_kind.RegionKind.{RegionKind}
-use Rattle.tt_kinds.specs.declared.generic_arg.GenericArgKind.{GenericArgKind}
-use Rattle.tt_kinds.specs.declared.generic_arg.GenericArgKind.TheVariants as kind
 use Rattle.tt_kinds.specs.declared.table.Table.{Table}
-use Rattle.tt_kinds.specs.declared.table.Table.TheVariants.{Types, Consts}
 use Rattle.tt_interner.specs.Rows.{Row, row_table, size, meaning}
 use Rattle.tt_interner.specs.Stored as Stored
-use Rattle.tt_interner.specs.Stored.{Terms, Extends}
+use Rattle.tt_interner.specs.Stored.{Terms}
 use Rattle.tt_kinds.specs.Cause.{IsUntouched}
-use Rattle.tt_interner.specs.Arguments.{argument_of}
-use Rattle.tt_binder.specs.ArgumentLaws.{arguments-still}
 use Rattle.tt_binder.specs.Instance.{HasNoCause, IsPlain, IsReason, ComesBack}
 use Rattle.tt_binder.proofs.HookLaws.{param_by_index}
 use Rattle.tt_binder.proofs.InstanceLaws.{instance_back}
-use Rattle.tt_calls.specs.declared.answer.Answer.{Answer}
-use Rattle.tt_calls.specs.declared.call.RegionCall.{RegionCall}
 use Rattle.tt_calls.specs.declared.call.ArgCall.{ArgCall}
-use Rattle.tt_calls.specs.declared.call.ArgCall.TheVariants as arg
 use Rattle.tt_calls.specs.declared.call.Call.{Call}
 use Rattle.tt_calls.specs.declared.call.Call.TheVariants as call
-use Rattle.tt_calls.specs.CallForm.{Named, one, a_term, region_call_tree, IsRegionTooDeep, item_positions}
-use Rattle.tt_calls.specs.CallForm.{items_positions, IsItemTooDeep, AreItemsTooDeep, arg_item, arg_items, args_ids}
-use Rattle.tt_calls.specs.Told.{Told, term, told_all, HasFullTable, Setting, setting}
+use Rattle.tt_calls.specs.CallForm.{Named}
+use Rattle.tt_calls.specs.CallForm.{items_positions, AreItemsTooDeep, arg_items, args_ids}
+use Rattle.tt_calls.specs.Told.{Told, term, HasFullTable, Setting, setting}
 use Rattle.tt_calls.specs.Means as means
 use Rattle.tt_calls.specs.Means.{IsUntouchedTerm, IsParameter, IsParameterOf, AddsNothing, NamesTerms, too_deep, Term}
-use Rattle.tt_calls.specs.Means.{term_at, number_at, tree_at, positions, AreTerms, Suits, TellsWanted, told_argument}
+use Rattle.tt_calls.specs.Means.{term_at, tree_at, AreTerms}
 use Rattle.tt_calls.specs.Means.{told_arguments, IsAllowed, MayRefuse, want_of_memory, full_table, no_term, unfit}
 use Rattle.tt_calls.specs.Means.{unsuited}
 use Rattle.tt_calls.specs.Room.{IsRefusalForRoom}
-use Rattle.tt_calls.specs.Build.{IsUnusable, IsUsable, IsUnbuiltPart, IsPartOfCall, IsRegionOf, IsArgumentOf}
-use Rattle.tt_calls.specs.Build.{GivesArgument, AreArgumentsOf, GivesArguments}
-use Rattle.tt_calls.proofs.PartLaws.{AreTerms-append, all_placed-grow, items-none, items-more}
+use Rattle.tt_calls.specs.Build.{IsUnusable, IsUsable}
+use Rattle.tt_calls.proofs.PartLaws.{AreTerms-append}
 
 -- the refusal for a full table names one
 pub full-table : (terms : Terms) (u : Tree Depth) → Stored.IsUnbuilt terms u TableFull → HasFullTable terms

@@ -1,5 +1,5 @@
 -- A run goes on by one call.
-use Rattle.std.proofs.Common.{◌≡◌, List, [], ◌∷◌, ◌++◌, refl, sym, subst, arith, append_assoc}
+use Rattle.std.proofs.Common.{List, [], ◌∷◌, ◌++◌, refl, sym, subst, arith, append_assoc}
 use Rattle.std.proofs.Common.{append-nil}
 use Rattle.std.proofs.lemmas.List.{map-append}
 use Rattle.tt_kinds.specs.declared.table.Table.TheVariants.{Declarations}
