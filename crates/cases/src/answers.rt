@@ -1,7 +1,7 @@
 //! Answers: whether they are an interner's, and how they are printed.
 
 ghost use Rattle.std.specs.Prelude.{IsTrue};
-ghost use Rattle.type_terms.specs.Told.{AreOwnedAnswers, IsOwnedAnswer};
+ghost use Rattle.tt_calls.specs.Told.{AreOwnedAnswers, IsOwnedAnswer};
 
 use crate::tolerance::Tolerance;
 use test_terms::{Flagged, NOT_OWNED, info};

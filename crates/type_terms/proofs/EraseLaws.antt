@@ -20,10 +20,10 @@ use Rattle.tt_kinds.specs.declared.table.Table.{Table}
 use Rattle.tt_interner.specs.Stored.{Terms}
 use Rattle.tt_fold.specs.RegionFolder.{HasName, AnswersEach, AnswersRegions, RegionCall, BindersFit, BindersFit_all}
 use Rattle.tt_fold.specs.RegionFolder.{asked, answered, region_tree, AreMade, Places, PlacesSome, IsPlacingRefusal}
-use Rattle.type_terms.specs.declared.run.call.Call.TheVariants as call
-use Rattle.type_terms.specs.Told.{Told, term, Setting, setting}
-use Rattle.type_terms.specs.Means.{term_at, tree_at, erased, IsAllowed, MayRefuse, want_of_memory, full_table, unfit}
-use Rattle.type_terms.proofs.BuildLaws.{IsBelowGreatest-or-not, not_both}
+use Rattle.tt_calls.specs.declared.call.Call.TheVariants as call
+use Rattle.tt_calls.specs.Told.{Told, term, Setting, setting}
+use Rattle.tt_calls.specs.Means.{term_at, tree_at, erased, IsAllowed, MayRefuse, want_of_memory, full_table, unfit}
+use Rattle.tt_calls.proofs.BuildLaws.{IsBelowGreatest-or-not, not_both}
 use Rattle.type_terms.proofs.FoldLaws.{full-table}
 
 region_tree-erased : (names : ℕ → Name) → region_tree names ReErased ≡ tree.region erased_region

@@ -1,4 +1,4 @@
--- The calls that fold terms, and the arguments of calls, over plain variables.
+-- The calls that fold terms, over plain variables.
 use Rattle.std.proofs.Common.{◌≡◌, ◌<◌, ℕ, inl, inr, List, [], ◌∷◌, ◌++◌, Some, None, Option, Result, Ok, Err, refl, ap}
 use Rattle.std.proofs.Common.{sym, ◌∙◌, subst}
 use Rattle.std.specs.Prelude.{IsErrAnd, IsSomeAnd, ◌⊎◌}
@@ -34,82 +34,24 @@ use Rattle.tt_binder.specs.ArgumentLaws.{arguments-still}
 use Rattle.tt_binder.specs.Instance.{HasNoCause, IsPlain, IsReason, ComesBack}
 use Rattle.tt_binder.proofs.HookLaws.{param_by_index}
 use Rattle.tt_binder.proofs.InstanceLaws.{instance_back}
-use Rattle.type_terms.specs.declared.run.answer.Answer.{Answer}
-use Rattle.type_terms.specs.declared.run.call.RegionCall.{RegionCall}
-use Rattle.type_terms.specs.declared.run.call.ArgCall.{ArgCall}
-use Rattle.type_terms.specs.declared.run.call.ArgCall.TheVariants as arg
-use Rattle.type_terms.specs.declared.run.call.Call.{Call}
-use Rattle.type_terms.specs.declared.run.call.Call.TheVariants as call
-use Rattle.type_terms.specs.CallForm.{Named, one, a_term, region_call_tree, IsRegionTooDeep, item_positions}
-use Rattle.type_terms.specs.CallForm.{items_positions, IsItemTooDeep, AreItemsTooDeep, arg_item, arg_items, args_ids}
-use Rattle.type_terms.specs.Told.{Told, term, told_all, HasFullTable, Setting, setting}
-use Rattle.type_terms.specs.Means as means
-use Rattle.type_terms.specs.Means.{IsUntouchedTerm, IsParameter, IsParameterOf, AddsNothing, NamesTerms, too_deep, Term}
-use Rattle.type_terms.specs.Means.{term_at, number_at, tree_at, positions, AreTerms, Suits, TellsWanted, told_argument}
-use Rattle.type_terms.specs.Means.{told_arguments, IsAllowed, MayRefuse, want_of_memory, full_table, no_term, unfit}
-use Rattle.type_terms.specs.Means.{unsuited}
-use Rattle.type_terms.specs.Room.{IsRefusalForRoom}
-use Rattle.type_terms.specs.Build.{IsUnusable, IsUsable, IsUnbuiltPart, IsPartOfCall, IsRegionOf, IsArgumentOf}
-use Rattle.type_terms.specs.Build.{GivesArgument, AreArgumentsOf, GivesArguments}
-use Rattle.type_terms.proofs.PartLaws.{AreTerms-append, all_placed-grow, items-none, items-more}
-
--- one argument
-pub type-argument : (terms : Terms) (e : List Told) (p : ℕ) (t : Ty) → IsPartOfCall terms e (one (a_term Types p)) (stored Types t.number)
-    → IsArgumentOf terms e (arg.«Type» p) (kind.«Type» t)
-type-argument terms e p t h = record {
-  item = record { part = h.part; means = h.means; named = h.named; shallow = h.shallow };
-  means = ap (λ (x : Tree Depth). record { sort = type_sort; value = x }) h.means;
-}
-
--- a constant that is the term at a position is the argument that a call names by this position
-pub const-argument : (terms : Terms) (e : List Told) (p : ℕ) (t : Const) → IsPartOfCall terms e (one (a_term Consts p)) (stored Consts t.number)
-    → IsArgumentOf terms e (arg.Const p) (kind.Const t)
-const-argument terms e p t h = record {
-  item = record { part = h.part; means = h.means; named = h.named; shallow = h.shallow };
-  means = ap (λ (x : Tree Depth). record { sort = const_sort; value = x }) h.means;
-}
-
--- the region that a call describes is the argument that it names as a lifetime
-pub region-argument : (terms : Terms) (e : List Told) (c : RegionCall) (r : RegionKind) → IsRegionOf terms (region_call_tree (number_at e) c) (IsRegionTooDeep c) r
-    → IsArgumentOf terms e (arg.Lifetime c) (kind.Lifetime r)
-region-argument terms e c r h = record {
-  item = record { part = h.part; means = h.means; named = tt; shallow = h.shallow };
-  means = ap (λ (x : Tree Depth). record { sort = region_sort; value = x }) h.means;
-}
-
--- an error that is passed on is an argument's refusal, if it is a reason why the argument was not built
-pub argument-passed : (terms : Terms) (e : List Told) (c : ArgCall) (result : Result GenericArgKind Refusal) (r : Refusal) → IsErrAnd result (λ x. x ≡ r)
-    → IsUnbuiltPart (HasFullTable terms) e (item_positions (arg_item c)) (IsItemTooDeep (arg_item c)) r → GivesArgument terms e c result
-argument-passed terms e c (Ok k) r h u = absurd h
-argument-passed terms e c (Err x) r h u = record { ok = tt; err = rw h u }
-
--- an error that is passed on is the refusal of arguments, if it is a reason why they were not built
-pub arguments-passed : (terms : Terms) (e : List Told) (cs : List ArgCall) (result : Result (Vec GenericArgKind Global) Refusal) (r : Refusal) → IsErrAnd result (λ x. x ≡ r)
-    → IsUnbuiltPart (HasFullTable terms) e (items_positions (arg_items cs)) (AreItemsTooDeep (arg_items cs)) r → GivesArguments terms e cs result
-arguments-passed terms e cs (Ok k) r h u = absurd h
-arguments-passed terms e cs (Err x) r h u = record { ok = tt; err = rw h u }
-
--- one argument more
-pub arguments-nothing : (terms : Terms) (e : List Told) → AreArgumentsOf terms e [] []
-arguments-nothing terms e = record { items = items-none arg_item arg_shape terms e; means = refl }
-
--- the arguments built so far, and the next one, built among more rows, are the arguments that a call names so far
-pub arguments-more : (old new : Terms) (e : List Told) (cs : List ArgCall) (xs : List GenericArgKind) (c : ArgCall) (a : GenericArgKind)
-    → Extends old new → AreArgumentsOf old e cs xs → IsArgumentOf new e c a
-    → AreArgumentsOf new e (cs ++ c ∷ []) (xs ++ a ∷ [])
-arguments-more old new e cs xs c a x h k = record {
-  items = items-more arg_item arg_shape new e cs xs c a (all_placed-grow old new x h.items) k.item;
-  means = rw (map-append (argument_of new.rows) xs (a ∷ []), map-append (told_argument e) cs (c ∷ []), arguments-still old.rows new.rows xs xs x.rows refl h.items.parts, h.means, k.means) refl;
-}
-
--- a position without a term
-pub absent-refused : (P : Setting) (rows : List Row) (earlier : List Answer) (n : Named) (ns : List Named) (c : Call) → positions (told_all rows earlier) c ≡ n ∷ ns
-    → (TellsWanted (told_all rows earlier) n.want n.position → IsSomeAnd (term_at (told_all rows earlier) n.position) (Suits (told_all rows earlier) n.want))
-    → (r : Refusal) → r ≡ NoSuchAnswer
-    → ((rows : List Row) → term_at (told_all rows earlier) n.position ≡ None) → MayRefuse P (told_all rows earlier) c r
-absent-refused P rows earlier n ns c q w r i h =
-    no_term (λ a. let b = subst (λ (qs : List Named). AreTerms (told_all rows earlier) qs) q a in
-    subst (λ (o : Option Term). IsSomeAnd o (Suits (told_all rows earlier) n.want)) (h rows) (w b.0)) i
+use Rattle.tt_calls.specs.declared.answer.Answer.{Answer}
+use Rattle.tt_calls.specs.declared.call.RegionCall.{RegionCall}
+use Rattle.tt_calls.specs.declared.call.ArgCall.{ArgCall}
+use Rattle.tt_calls.specs.declared.call.ArgCall.TheVariants as arg
+use Rattle.tt_calls.specs.declared.call.Call.{Call}
+use Rattle.tt_calls.specs.declared.call.Call.TheVariants as call
+use Rattle.tt_calls.specs.CallForm.{Named, one, a_term, region_call_tree, IsRegionTooDeep, item_positions}
+use Rattle.tt_calls.specs.CallForm.{items_positions, IsItemTooDeep, AreItemsTooDeep, arg_item, arg_items, args_ids}
+use Rattle.tt_calls.specs.Told.{Told, term, told_all, HasFullTable, Setting, setting}
+use Rattle.tt_calls.specs.Means as means
+use Rattle.tt_calls.specs.Means.{IsUntouchedTerm, IsParameter, IsParameterOf, AddsNothing, NamesTerms, too_deep, Term}
+use Rattle.tt_calls.specs.Means.{term_at, number_at, tree_at, positions, AreTerms, Suits, TellsWanted, told_argument}
+use Rattle.tt_calls.specs.Means.{told_arguments, IsAllowed, MayRefuse, want_of_memory, full_table, no_term, unfit}
+use Rattle.tt_calls.specs.Means.{unsuited}
+use Rattle.tt_calls.specs.Room.{IsRefusalForRoom}
+use Rattle.tt_calls.specs.Build.{IsUnusable, IsUsable, IsUnbuiltPart, IsPartOfCall, IsRegionOf, IsArgumentOf}
+use Rattle.tt_calls.specs.Build.{GivesArgument, AreArgumentsOf, GivesArguments}
+use Rattle.tt_calls.proofs.PartLaws.{AreTerms-append, all_placed-grow, items-none, items-more}
 
 -- the refusal for a full table names one
 pub full-table : (terms : Terms) (u : Tree Depth) → Stored.IsUnbuilt terms u TableFull → HasFullTable terms

@@ -1,18 +1,4 @@
-mod NumberLaws
 pub mod RunLaws
-pub mod LookupLaws
-pub mod IdLaws
-pub mod ResultLaws
-pub mod PartLaws
-pub mod ClauseLaws
-pub mod ValueLaws
-pub mod TextLaws
-pub mod RoomLaws
-pub mod BuildLaws
-pub mod NameLaws
-pub mod KindLaws
 pub mod FoldLaws
 pub mod ParameterLaws
 pub mod EraseLaws
-pub mod QueryLaws
-pub mod DeclareLaws

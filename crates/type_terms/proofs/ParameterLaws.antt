@@ -22,21 +22,21 @@ use Rattle.tt_interner.specs.Rows.{Row, meaning}
 use Rattle.tt_interner.specs.Stored.{Terms}
 use Rattle.tt_kinds.specs.Param.{IsParam}
 use Rattle.tt_binder.specs.Instance.{HasNoCause, IsPlain}
-use Rattle.type_terms.specs.declared.run.answer.Answer.{Answer}
-use Rattle.type_terms.specs.declared.run.answer.Answer.TheVariants as answer
+use Rattle.tt_calls.specs.declared.answer.Answer.{Answer}
+use Rattle.tt_calls.specs.declared.answer.Answer.TheVariants as answer
 use Rattle.type_terms.specs.declared.run.answers.parameters.Parameter.{Parameter}
 use Rattle.type_terms.specs.declared.run.answers.parameters.Parameter.TheVariants as parameter
-use Rattle.type_terms.specs.declared.run.call.ArgCall.{ArgCall}
-use Rattle.type_terms.specs.declared.run.call.Call.TheVariants as call
-use Rattle.type_terms.specs.CallForm.{arg_item, arg_items, args_ids, item_positions, items_positions, AreItemsTooDeep}
-use Rattle.type_terms.specs.Told.{Told, term, told, told_all, AreOwnedAnswers, Setting, setting}
-use Rattle.type_terms.specs.Means.{Term, as_term, term_at, tree_of, tree_at, told_argument, told_arguments, AreTerms}
-use Rattle.type_terms.specs.Means.{IsAllowed}
-use Rattle.type_terms.specs.Means.{MayRefuse, no_term, unsuited, IsParameter, IsParameterOf}
-use Rattle.type_terms.specs.Build.{MayAnswerCall, IsAnswerAt, IsUsable}
+use Rattle.tt_calls.specs.declared.call.ArgCall.{ArgCall}
+use Rattle.tt_calls.specs.declared.call.Call.TheVariants as call
+use Rattle.tt_calls.specs.CallForm.{arg_item, arg_items, args_ids, item_positions, items_positions, AreItemsTooDeep}
+use Rattle.tt_calls.specs.Told.{Told, term, told, told_all, AreOwnedAnswers, Setting, setting}
+use Rattle.tt_calls.specs.Means.{Term, as_term, term_at, tree_of, tree_at, told_argument, told_arguments, AreTerms}
+use Rattle.tt_calls.specs.Means.{IsAllowed}
+use Rattle.tt_calls.specs.Means.{MayRefuse, no_term, unsuited, IsParameter, IsParameterOf}
+use Rattle.tt_calls.specs.Build.{MayAnswerCall, IsAnswerAt, IsUsable}
 use Rattle.type_terms.specs.Parameters.{parameter_sort, parameter_index, term_arg, IsArgumentAt, LacksArgument}
 use Rattle.type_terms.specs.Parameters.{none_given, not_told}
-use Rattle.type_terms.proofs.PartLaws.{AreTerms-append, named-among}
+use Rattle.tt_calls.proofs.PartLaws.{AreTerms-append, named-among}
 use Rattle.type_terms.proofs.FoldLaws.{parameter-tree, inst-allowed}
 
 -- the arguments have one at an index where the call names one

@@ -6,14 +6,14 @@ use Rattle.tt_kinds.specs.Label.{Name, Sort, type_sort, const_sort}
 use Rattle.tt_kinds.specs.Tree.{param}
 use Rattle.tt_kinds.specs.Cause.{Cause}
 use Rattle.tt_interner.specs.Rows.{Row}
-use Rattle.type_terms.specs.declared.run.answer.Answer.{Answer}
+use Rattle.tt_calls.specs.declared.answer.Answer.{Answer}
 use Rattle.type_terms.specs.declared.run.answers.parameters.Parameter.{Parameter}
 use Rattle.type_terms.specs.declared.run.answers.parameters.Parameter.TheVariants as parameter
-use Rattle.type_terms.specs.declared.run.call.ArgCall.{ArgCall}
-use Rattle.type_terms.specs.declared.run.call.ArgCall.TheVariants as arg
-use Rattle.type_terms.specs.Told.{Told, told_all}
-use Rattle.type_terms.specs.Means.{told_arguments, term_at}
-use Rattle.type_terms.specs.Build.{IsAnswerAt}
+use Rattle.tt_calls.specs.declared.call.ArgCall.{ArgCall}
+use Rattle.tt_calls.specs.declared.call.ArgCall.TheVariants as arg
+use Rattle.tt_calls.specs.Told.{Told, told_all}
+use Rattle.tt_calls.specs.Means.{told_arguments, term_at}
+use Rattle.tt_calls.specs.Build.{IsAnswerAt}
 
 -- the sort of a parameter
 abbrev pub parameter_sort : Parameter → Sort

@@ -1,10 +1,10 @@
 -- The answers to calls, as an interner gives them one after another.
 use Rattle.std.specs.Prelude.{◌≡◌, List, [], ◌∷◌, ◌++◌}
 use Rattle.tt_interner.specs.Stored.{Terms, Extends}
-use Rattle.type_terms.specs.declared.run.answer.Answer.{Answer}
-use Rattle.type_terms.specs.declared.run.call.Call.{Call}
-use Rattle.type_terms.specs.Told.{told, told_all, setting, IsOwnedAnswer}
-use Rattle.type_terms.specs.Means.{IsAllowed}
+use Rattle.tt_calls.specs.declared.answer.Answer.{Answer}
+use Rattle.tt_calls.specs.declared.call.Call.{Call}
+use Rattle.tt_calls.specs.Told.{told, told_all, setting, IsOwnedAnswer}
+use Rattle.tt_calls.specs.Means.{IsAllowed}
 
 -- the answers have one more, which may be the call's answer
 pub record AddsAnswer (old new : Terms) (before : List Answer) (call : Call) (after : List Answer) : Type 0 where

@@ -1,8 +1,5 @@
-//! Answers to calls, by the positions of earlier answers.
+//! Answers to calls that fold terms.
 
+pub mod folded_handle;
 pub mod folds;
-pub mod ids;
-pub mod lookup;
 pub mod parameters;
-pub mod queries;
-pub mod term_handle;

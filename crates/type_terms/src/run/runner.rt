@@ -2,23 +2,22 @@
 
 ghost use Rattle.std.specs.Prelude.{◌≡◌, ◌<◌, ◌∷◌, ◌++◌, IsOk, IfOk, IfErr, OnOk, OnErr, MatchResult, List, []};
 ghost use Rattle.std.specs.Vec.{vec_len, vec_capacity};
-ghost use Rattle.type_terms.specs.declared.run.call.Call.{Call};
+ghost use Rattle.tt_calls.specs.declared.call.Call.{Call};
 ghost use Rattle.tt_interner.specs.Stored.{Terms, Extends};
-ghost use Rattle.type_terms.specs.Told.{told, told_all, setting, IsOwnedAnswer, AreOwnedAnswers};
-ghost use Rattle.type_terms.specs.Means.{id_positions, AreTerms, IsAllowed, Means};
+ghost use Rattle.tt_calls.specs.Told.{told, told_all, setting, IsOwnedAnswer, AreOwnedAnswers};
+ghost use Rattle.tt_calls.specs.Means.{id_positions, AreTerms, IsAllowed, Means};
 ghost use Rattle.type_terms.specs.Runner.{AddsAnswer, AnswersInTurn};
 
-use crate::run::answer::Answer;
 use crate::run::answers::folds::{erase_at, instantiate_at, shift_at};
-use crate::run::answers::ids::call_is_declared;
-use crate::run::answers::queries::{equal_at, info_at};
-use crate::run::build::clauses::build_clauses;
-use crate::run::build::consts::{build_args_answer, build_const};
-use crate::run::build::declarations::declare_at;
-use crate::run::build::patterns::build_pat;
-use crate::run::build::predicates::build_predicate;
-use crate::run::build::types::build_ty;
-use crate::run::call::Call;
+use tt_calls::answers::ids::call_is_declared;
+use tt_calls::answers::queries::{equal_at, info_at};
+use tt_calls::build::clauses::build_clauses;
+use tt_calls::build::consts::{build_args_answer, build_const};
+use tt_calls::build::declarations::declare_at;
+use tt_calls::build::patterns::build_pat;
+use tt_calls::build::predicates::build_predicate;
+use tt_calls::build::types::build_ty;
+use tt_calls::{Answer, Call};
 use tt_index::Refusal;
 use tt_interner::Interner;
 

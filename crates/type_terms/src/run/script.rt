@@ -1,22 +1,13 @@
 //! Scripts, with one call on each line.
 
-pub mod fault;
-pub mod line;
-mod number;
-mod print;
-mod regions;
-mod types;
-mod words;
-
-use crate::run::answer::Answer;
 use crate::run::runner::answer_next;
-use crate::run::script::fault::Fault;
-use crate::run::script::line::parse_line;
-use crate::run::script::print::print_answer;
 use bstr::ByteSlice;
 use std::alloc::{AllocError, Global};
 use std::io::{ErrorKind, Read, Write};
 use std::mem;
+use tt_calls::script::print::print_answer;
+pub use tt_calls::script::{fault, line};
+use tt_calls::{Answer, Fault, parse_line};
 use tt_interner::Interner;
 
 /// Runs a script: reads `input` to its end, then makes an interner and runs the calls on it, then writes a line for

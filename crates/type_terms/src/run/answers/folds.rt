@@ -6,24 +6,23 @@ ghost use Rattle.std.specs.declared.vec.Vec.{Vec};
 ghost use Rattle.tt_interner.specs.Rows.{size, meaning};
 ghost use Rattle.tt_interner.specs.Stored.{Extends};
 ghost use Rattle.tt_interner.specs.Arguments.{AreArguments};
-ghost use Rattle.type_terms.specs.declared.run.call.ArgCall.{ArgCall};
-ghost use Rattle.type_terms.specs.declared.run.call.Call.TheVariants.{
+ghost use Rattle.tt_calls.specs.declared.call.ArgCall.{ArgCall};
+ghost use Rattle.tt_calls.specs.declared.call.Call.TheVariants.{
   Shift as Shifts,
   EraseRegions as Erases,
   Instantiate as Instantiates,
 };
-ghost use Rattle.type_terms.specs.CallForm.{args_ids};
-ghost use Rattle.type_terms.specs.Told.{Told, told_all, AreOwnedAnswers};
-ghost use Rattle.type_terms.specs.Means.{term_at, AreTerms, IsParameter};
-ghost use Rattle.type_terms.specs.Build.{MayAnswerCall, AreArgumentsOf};
+ghost use Rattle.tt_calls.specs.CallForm.{args_ids};
+ghost use Rattle.tt_calls.specs.Told.{Told, told_all, AreOwnedAnswers};
+ghost use Rattle.tt_calls.specs.Means.{term_at, AreTerms, IsParameter};
+ghost use Rattle.tt_calls.specs.Build.{MayAnswerCall, AreArgumentsOf};
 
-use crate::run::answer::Answer;
-use crate::run::answers::lookup::answer_at;
+use crate::run::answers::folded_handle::FoldedHandle;
 use crate::run::answers::parameters::{argument_for, parameter_of};
-use crate::run::answers::term_handle::TermHandle;
-use crate::run::build::lists::{build_args, check_args};
-use crate::run::call::ArgCall;
 use tt_binder::{Instantiate, is_untouched};
+use tt_calls::answers::lookup::answer_at;
+use tt_calls::build::lists::{build_args, check_args};
+use tt_calls::{Answer, ArgCall};
 use tt_fold::{fold_regions, shift_vars};
 use tt_index::Refusal;
 use tt_interner::Interner;
@@ -60,7 +59,7 @@ pub fn shift_at(
 }
 
 // Returns the term, shifted.
-fn shifted<T: TermHandle>(cx: &mut Interner, term: T, amount: u32) -> Result<Answer, Refusal>
+fn shifted<T: FoldedHandle>(cx: &mut Interner, term: T, amount: u32) -> Result<Answer, Refusal>
     requires { T.number term < size cx.old.rows T.table }
     ensures extends { Extends cx.old cx.new }
     ensures answers { (earlier : List Told) (p : ℕ)
@@ -82,7 +81,7 @@ pub fn erase_at(cx: &mut Interner, earlier: &[Answer], position: u32) -> Result<
 }
 
 // Returns the term, with its regions erased.
-fn erased<T: TermHandle>(cx: &mut Interner, term: T) -> Result<Answer, Refusal>
+fn erased<T: FoldedHandle>(cx: &mut Interner, term: T) -> Result<Answer, Refusal>
     requires { T.number term < size cx.old.rows T.table }
     ensures extends { Extends cx.old cx.new }
     ensures answers { (earlier : List Told) (p : ℕ) →
@@ -121,7 +120,7 @@ pub fn instantiate_at(
 }
 
 // Returns the term, which is not itself a parameter, instantiated. No argument is built if the term is untouched.
-fn instantiate_term<T: TermHandle>(
+fn instantiate_term<T: FoldedHandle>(
     cx: &mut Interner,
     earlier: &[Answer],
     term: T,
@@ -147,7 +146,7 @@ fn instantiate_term<T: TermHandle>(
 }
 
 // Returns the term, instantiated.
-fn instantiated<T: TermHandle>(
+fn instantiated<T: FoldedHandle>(
     cx: &mut Interner,
     term: T,
     args: &[GenericArg],

@@ -6,13 +6,12 @@ ghost use Rattle.tt_kinds.specs.Argument.{same_sort};
 ghost use Rattle.tt_kinds.specs.declared.table.Table.TheVariants.{Types, Consts};
 ghost use Rattle.tt_interner.specs.Rows.{size, meaning};
 ghost use Rattle.tt_kinds.specs.Param.{IsParam};
-ghost use Rattle.type_terms.specs.Told.{Told, told, IsOwnedAnswer};
-ghost use Rattle.type_terms.specs.Means.{as_term, told_argument, IsParameter, IsParameterOf};
+ghost use Rattle.tt_calls.specs.Told.{Told, told, IsOwnedAnswer};
+ghost use Rattle.tt_calls.specs.Means.{as_term, told_argument, IsParameter, IsParameterOf};
 ghost use Rattle.type_terms.specs.Parameters.{parameter_index, parameter_sort, term_arg, IsArgumentAt, LacksArgument};
 
-use crate::run::answer::Answer;
-use crate::run::answers::lookup::answer_at;
-use crate::run::call::ArgCall;
+use tt_calls::answers::lookup::answer_at;
+use tt_calls::{Answer, ArgCall};
 use tt_index::Refusal;
 use tt_interner::{InternedKind, Interner};
 use tt_kinds::{Const, ConstKind, Ty, TyKind};

@@ -1,7 +1,7 @@
 use Rattle.std.proofs.Common.{◌≡◌, false, true, refl, sym, ◌∙◌}
-use Rattle.type_terms.specs.Told.{told_all}
-use Rattle.type_terms.specs.Means.{no_term}
-use Rattle.type_terms.proofs.IdLaws.{ids-named}
+use Rattle.tt_calls.specs.Told.{told_all}
+use Rattle.tt_calls.specs.Means.{no_term}
+use Rattle.tt_calls.proofs.IdLaws.{ids-named}
 use Rattle.type_terms.proofs.run.runner.answer_call.Goals as goal
 
 pub answer_named-requires-clause-named : goal.answer_named-requires-clause-named

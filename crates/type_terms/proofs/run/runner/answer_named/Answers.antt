@@ -1,6 +1,6 @@
 use Rattle.std.proofs.Common.{sym}
-use Rattle.type_terms.specs.declared.run.call.Call.TheVariants as call
-use Rattle.type_terms.proofs.QueryLaws.{answered-allowed, answered-owned}
+use Rattle.tt_calls.specs.declared.call.Call.TheVariants as call
+use Rattle.tt_calls.proofs.QueryLaws.{answered-allowed, answered-owned}
 use Rattle.type_terms.proofs.run.runner.answer_named.Goals as goal
 
 pub returns-in-Ty-clause-owned : goal.returns-in-Ty-clause-owned

@@ -1,4 +1,5 @@
-use Rattle.type_terms.proofs.RunLaws.{AreOwnedAnswers-grows, AreOwnedAnswers-append, ran-more}
+use Rattle.tt_calls.proofs.ToldLaws.{AreOwnedAnswers-grows}
+use Rattle.type_terms.proofs.RunLaws.{AreOwnedAnswers-append, ran-more}
 use Rattle.type_terms.proofs.run.runner.answer_next.Goals as goal
 
 pub returns-in_err-push-clause-owned : goal.returns-in_err-push-clause-owned

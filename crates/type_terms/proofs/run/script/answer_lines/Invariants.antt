@@ -1,4 +1,4 @@
-use Rattle.type_terms.specs.Told.{AreOwnedAnswers}
+use Rattle.tt_calls.specs.Told.{AreOwnedAnswers}
 use Rattle.type_terms.proofs.run.script.answer_lines.Given as goal
 
 abbrev pub invariant-loop-line : goal.invariant-loop-line

@@ -1,12 +1,12 @@
 use Rattle.std.proofs.Common.{[], refl}
 use Rattle.tt_kinds.specs.declared.table.Table.TheVariants.{Types, Consts, Patterns, Predicates, ClauseLists, ArgLists}
-use Rattle.type_terms.specs.declared.run.call.Call.TheVariants as call
-use Rattle.type_terms.specs.Told.{told_all, setting}
-use Rattle.type_terms.specs.Means.{any}
-use Rattle.type_terms.proofs.BuildLaws.{answer-passed}
-use Rattle.type_terms.proofs.LookupLaws.{told-at, in_range-at, ty-handle, const-handle, pat-handle, predicate-handle}
-use Rattle.type_terms.proofs.LookupLaws.{clauses-handle, args-handle, no-handle, nothing-told}
-use Rattle.type_terms.proofs.FoldLaws.{absent-refused}
+use Rattle.tt_calls.specs.declared.call.Call.TheVariants as call
+use Rattle.tt_calls.specs.Told.{told_all, setting}
+use Rattle.tt_calls.specs.Means.{any}
+use Rattle.tt_calls.proofs.BuildLaws.{answer-passed}
+use Rattle.tt_calls.proofs.LookupLaws.{told-at, in_range-at, ty-handle, const-handle, pat-handle, predicate-handle}
+use Rattle.tt_calls.proofs.LookupLaws.{clauses-handle, args-handle, no-handle, nothing-told}
+use Rattle.tt_calls.proofs.LookupLaws.{absent-refused}
 use Rattle.type_terms.proofs.run.answers.folds.erase_at.Goals as goal
 
 pub returns-in_err-answer-clause-answers : goal.returns-in_err-answer-clause-answers

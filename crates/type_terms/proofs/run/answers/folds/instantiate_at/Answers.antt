@@ -1,18 +1,19 @@
 use Rattle.std.proofs.Common.{◌++◌, refl, subst, sym}
 use Rattle.std.specs.Prelude.{List, IfOk, IfErr}
 use Rattle.tt_kinds.specs.declared.table.Table.TheVariants.{Types, Consts, Patterns, Predicates, ClauseLists, ArgLists}
-use Rattle.type_terms.specs.declared.run.call.ArgCall.{ArgCall}
-use Rattle.type_terms.specs.declared.run.call.Call.TheVariants as call
-use Rattle.type_terms.specs.CallForm.{items_positions, AreItemsTooDeep, arg_items, args_ids}
-use Rattle.type_terms.specs.Told.{told_all, setting}
-use Rattle.type_terms.specs.Means.{any}
-use Rattle.type_terms.specs.Build.{IsUnusable, IsUsable}
+use Rattle.tt_calls.specs.declared.call.ArgCall.{ArgCall}
+use Rattle.tt_calls.specs.declared.call.Call.TheVariants as call
+use Rattle.tt_calls.specs.CallForm.{items_positions, AreItemsTooDeep, arg_items, args_ids}
+use Rattle.tt_calls.specs.Told.{told_all, setting}
+use Rattle.tt_calls.specs.Means.{any}
+use Rattle.tt_calls.specs.Build.{IsUnusable, IsUsable}
 use Rattle.type_terms.specs.Parameters.{IsArgumentAt, LacksArgument}
-use Rattle.type_terms.proofs.PartLaws.{AreTerms-second}
-use Rattle.type_terms.proofs.BuildLaws.{answer-passed}
-use Rattle.type_terms.proofs.LookupLaws.{told-at, in_range-at, ty-handle, const-handle, pat-handle, predicate-handle}
-use Rattle.type_terms.proofs.LookupLaws.{clauses-handle, args-handle, no-handle, nothing-told}
-use Rattle.type_terms.proofs.FoldLaws.{absent-refused, unusable-refused}
+use Rattle.tt_calls.proofs.PartLaws.{AreTerms-second}
+use Rattle.tt_calls.proofs.BuildLaws.{answer-passed}
+use Rattle.tt_calls.proofs.LookupLaws.{told-at, in_range-at, ty-handle, const-handle, pat-handle, predicate-handle}
+use Rattle.tt_calls.proofs.LookupLaws.{clauses-handle, args-handle, no-handle, nothing-told}
+use Rattle.tt_calls.proofs.LookupLaws.{absent-refused}
+use Rattle.type_terms.proofs.FoldLaws.{unusable-refused}
 use Rattle.type_terms.proofs.ParameterLaws.{argument-answers}
 use Rattle.type_terms.proofs.run.answers.folds.instantiate_at.Goals as goal
 

@@ -2,20 +2,20 @@ use Rattle.std.proofs.Common.{◌∙◌, subst, sym}
 use Rattle.std.specs.Prelude.{List, Option, IsSomeAnd}
 use Rattle.tt_kinds.specs.Shape.{fill}
 use Rattle.tt_interner.proofs.Growth.{Extends-trans, in_range-grows}
-use Rattle.type_terms.specs.declared.run.call.ArgCall.{ArgCall}
-use Rattle.type_terms.specs.declared.run.call.Call.TheVariants as call
-use Rattle.type_terms.specs.CallForm.{items_positions, AreItemsTooDeep, arg_items, args_ids}
-use Rattle.type_terms.specs.Told.{told_all, HasFullTable, setting}
-use Rattle.type_terms.specs.Means.{Term, IsUntouchedTerm, IsParameter}
-use Rattle.type_terms.specs.Build.{AreArgumentsOf, IsUnbuiltPart, IsUnusable, IsUsable}
-use Rattle.type_terms.proofs.PartLaws.{AreTerms-second}
-use Rattle.type_terms.proofs.BuildLaws.{answer-passed, unbuilt-refused, MayAnswerCall-earlier}
-use Rattle.type_terms.proofs.LookupLaws.{told-later}
+use Rattle.tt_calls.specs.declared.call.ArgCall.{ArgCall}
+use Rattle.tt_calls.specs.declared.call.Call.TheVariants as call
+use Rattle.tt_calls.specs.CallForm.{items_positions, AreItemsTooDeep, arg_items, args_ids}
+use Rattle.tt_calls.specs.Told.{told_all, HasFullTable, setting}
+use Rattle.tt_calls.specs.Means.{Term, IsUntouchedTerm, IsParameter}
+use Rattle.tt_calls.specs.Build.{AreArgumentsOf, IsUnbuiltPart, IsUnusable, IsUsable}
+use Rattle.tt_calls.proofs.PartLaws.{AreTerms-second}
+use Rattle.tt_calls.proofs.BuildLaws.{answer-passed, unbuilt-refused, MayAnswerCall-earlier}
+use Rattle.tt_calls.proofs.LookupLaws.{told-later}
 use Rattle.type_terms.proofs.FoldLaws.{inst-adds, unusable-refused, untouched-allowed}
 use Rattle.type_terms.proofs.run.answers.folds.instantiate_term.Goals as goal
 
 pub is_untouched-requires : goal.is_untouched-requires
-is_untouched-requires g c = rw (g.met.T.TermHandle.is_stored c.args.term) c.requires.term
+is_untouched-requires g c = rw (g.met.T.FoldedHandle.is_stored c.args.term) c.requires.term
 
 pub returns-in_err-check_args-clause-answers : goal.returns-in_err-check_args-clause-answers
 returns-in_err-check_args-clause-answers g c = λ p list at same ids.
@@ -35,7 +35,7 @@ returns-then-is_untouched-clause-answers g c = λ p list at same ids.
       owned = c.into_answer.ensures.owns c.args.cx.now.rows c.requires.term;
       ok = rw (c.into_answer.ensures.told c.args.cx.now.rows)
           (untouched-allowed c.args.cx.now e p g.T.TermHandle.table (g.T.TermHandle.number c.args.term) at c.requires.term list ids usable
-          ((rw (g.met.T.TermHandle.is_stored c.args.term) at c.is_untouched.ensures).0 c.if-is_untouched.true));
+          ((rw (g.met.T.FoldedHandle.is_stored c.args.term) at c.is_untouched.ensures).0 c.if-is_untouched.true));
       err = tt;
     }
 
@@ -49,7 +49,7 @@ returns-in_err-args-clause-answers g c = λ p list at same ids.
     (unbuilt-refused (setting c.args.cx.now c.build_args.new.cx) e (call.Instantiate p list) (items_positions (arg_items list.items)) (AreItemsTooDeep (arg_items list.items))
     c.in_err-args.field-0.0 tt (λ a. inst-adds (setting c.args.cx.now c.build_args.new.cx) e p list a
     (λ none. let built = c.in_err-args.ensures.none (sym same ∙ none) in absurd (cc))
-    (λ b. let held = (rw (g.met.T.TermHandle.is_stored c.args.term) at c.is_untouched.ensures).1 (subst (λ (o : Option Term). IsSomeAnd o IsUntouchedTerm) at b) in absurd (cc))
+    (λ b. let held = (rw (g.met.T.FoldedHandle.is_stored c.args.term) at c.is_untouched.ensures).1 (subst (λ (o : Option Term). IsSomeAnd o IsUntouchedTerm) at b) in absurd (cc))
     (λ b. absurd (c.requires.whole (subst (λ (o : Option Term). IsSomeAnd o IsParameter) at b))))
     (λ h. AreTerms-second e (args_ids list.items) (items_positions (arg_items list.items)) h.1) (λ d. d) u)
 

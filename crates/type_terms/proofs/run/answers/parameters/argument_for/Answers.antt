@@ -1,7 +1,7 @@
 use Rattle.std.proofs.Common.{length, refl}
 use Rattle.std.proofs.lemmas.Option.{slice_get_read}
 use Rattle.type_terms.specs.Parameters.{LacksArgument}
-use Rattle.type_terms.proofs.ResultLaws.{passed}
+use Rattle.tt_calls.proofs.ResultLaws.{passed}
 use Rattle.type_terms.proofs.ParameterLaws.{argument-found, argument-untold, argument-unsuited}
 use Rattle.type_terms.proofs.run.answers.parameters.argument_for.Goals as goal
 

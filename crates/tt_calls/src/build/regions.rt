@@ -1,0 +1,249 @@
+//! The building of regions and of binders' variables.
+
+ghost use Rattle.std.specs.Prelude.{◌≡◌, ◌≤◌, IfErr, map, take, length, List, OnErr};
+ghost use Rattle.tt_kinds.specs.Tree as tree;
+ghost use Rattle.tt_kinds.specs.Label.{
+  region_sort,
+  late_param_region,
+  placeholder_region,
+};
+ghost use Rattle.tt_kinds.specs.Bound.{depth};
+ghost use Rattle.tt_kinds.specs.Shape.{IsGreatest};
+ghost use Rattle.tt_kinds.specs.Shape as shape;
+ghost use Rattle.tt_interner.specs.Rows.{Row, text_row, IsNew};
+ghost use Rattle.tt_interner.specs.Stored.{Extends};
+ghost use Rattle.tt_calls.specs.CallForm.{
+  name_text,
+  region_text,
+  variable_name_text,
+  param,
+  called,
+  ty_called,
+  variable_kind,
+  region_call_entry,
+  region_call_tree,
+  IsRegionTooDeep,
+};
+ghost use Rattle.tt_calls.specs.Told.{told_all};
+ghost use Rattle.tt_calls.specs.Means.{number_at};
+ghost use Rattle.tt_calls.specs.Build.{
+  GivesName,
+  GivesVariable,
+  GivesVariables,
+  GivesRegion,
+  FillsVariables,
+};
+ghost use Rattle.tt_calls.specs.Room.{IsRefusalForRoom, LacksText, VarsNeedRoom};
+
+use crate::answer::Answer;
+use crate::answers::ids::{def_at, number_at};
+use crate::answers::lookup::{handle_at, handle_pair};
+use crate::build::existentials::dynamic_kind;
+use crate::build::lists::{MOST_IN_PLACE, build_arg_list, build_tys};
+use crate::call::{
+    AliasCall, ArgCall, BoundTyKindCall, ItemCall, RegionCall, RegionNameCall, TyCall, VariableCall,
+};
+use tt_index::{BoundVar, Mutability, Refusal, UniverseIndex};
+use tt_interner::Interner;
+use tt_kinds::{
+    AdtId, AliasTy, AliasTyKind, Binder, BoundRegion, BoundRegionKind, BoundTy, BoundTyKind,
+    BoundVarIndexKind, BoundVarKinds, BoundVariableKind, ClosureId, Const, CoroutineClosureId,
+    CoroutineId, EarlyParamRegion, FnHeader, FnSigTys, ForeignId, FreeTyAliasId, GenericArgs,
+    InherentAssocTyId, LateParamRegion, OpaqueTyId, ParamTy, Pat, Placeholder, Region, RegionKind,
+    Table, TraitAssocTyId, Ty, TyKind, UnsafeBinderInner,
+};
+
+/// Returns the name of a bound type.
+pub fn ty_name(earlier: &[Answer], name: BoundTyKindCall) -> BoundTyKind
+    ensures { (rows : List Row) → result ≡ ty_called (number_at (told_all rows earlier.now)) name }
+{
+    match name {
+        BoundTyKindCall::Anon => BoundTyKind::Anon,
+        BoundTyKindCall::Param(position) => BoundTyKind::Param(def_at(earlier, position)),
+    }
+}
+
+/// Returns the list of the variables.
+pub fn build_vars(
+    cx: &mut Interner,
+    earlier: &[Answer],
+    vars: &[VariableCall],
+) -> Result<BoundVarKinds, Refusal>
+    ensures extends { Extends cx.old cx.new }
+    ensures vars { (rows : List Row) → GivesVariables cx.new (number_at (told_all rows earlier.now)) vars.now result }
+    ensures room { IfErr result (λ e. (rows : List Row) → VarsNeedRoom cx.new.rows
+        (map (variable_kind (number_at (told_all rows earlier.now))) vars.now)
+        e) }
+{
+    if vars.len() <= MOST_IN_PLACE {
+        let mut places = [BoundVariableKind::Const; MOST_IN_PLACE];
+        fill_vars(cx, earlier, vars, &mut places)?;
+        return cx.mk_bound_vars(&places[..vars.len()]);
+    }
+    let mut built = Vec::with_capacity(cx.allocator(), vars.len())?;
+    for var in vars {
+        let var = build_var(cx, earlier, var)?;
+        built.push(var)?;
+    }
+    cx.mk_bound_vars(built.as_slice())
+}
+
+// Writes the variables to the first places.
+fn fill_vars(
+    cx: &mut Interner,
+    earlier: &[Answer],
+    vars: &[VariableCall],
+    places: &mut [BoundVariableKind],
+) -> Result<(), Refusal>
+    requires { length vars.now ≤ length places.old }
+    ensures extends { Extends cx.old cx.new }
+    ensures vars { (rows : List Row) → FillsVariables cx.new
+        (number_at (told_all rows earlier.now))
+        vars.now
+        (take (length vars.now) places.new)
+        result }
+    ensures room { IfErr result (λ e. (rows : List Row) → VarsNeedRoom cx.new.rows
+        (map (variable_kind (number_at (told_all rows earlier.now))) vars.now)
+        e) }
+{
+    for (i, var) in vars.iter().enumerate() {
+        places[i] = build_var(cx, earlier, var)?;
+    }
+    Ok(())
+}
+
+// Returns the variable of a binder's list that the call names.
+fn build_var(
+    cx: &mut Interner,
+    earlier: &[Answer],
+    var: &VariableCall,
+) -> Result<BoundVariableKind, Refusal>
+    ensures extends { Extends cx.old cx.new }
+    ensures var { (rows : List Row) → GivesVariable cx.new (number_at (told_all rows earlier.now)) var.now result }
+    ensures room { OnErr result (LacksText cx.new.rows (variable_name_text var.now)) }
+{
+    match var {
+        VariableCall::Ty(name) => Ok(BoundVariableKind::Ty(ty_name(earlier, *name))),
+        VariableCall::Region(name) => Ok(BoundVariableKind::Region(build_name(cx, earlier, name)?)),
+        VariableCall::Const => Ok(BoundVariableKind::Const),
+    }
+}
+
+// Returns the name of a bound region.
+fn build_name(
+    cx: &mut Interner,
+    earlier: &[Answer],
+    name: &RegionNameCall,
+) -> Result<BoundRegionKind, Refusal>
+    ensures extends { Extends cx.old cx.new }
+    ensures name { (rows : List Row) → GivesName cx.new (number_at (told_all rows earlier.now)) name.now result }
+    ensures room { OnErr result (LacksText cx.new.rows (name_text name.now)) }
+{
+    match name {
+        RegionNameCall::Anon => Ok(BoundRegionKind::Anon),
+        RegionNameCall::NamedForPrinting(text) => {
+            let symbol = cx.symbol(text.as_str())?;
+            Ok(BoundRegionKind::NamedForPrinting(symbol))
+        }
+        RegionNameCall::Named(position) => Ok(BoundRegionKind::Named(def_at(earlier, *position))),
+        RegionNameCall::ClosureEnv => Ok(BoundRegionKind::ClosureEnv),
+    }
+}
+
+/// Returns the region that the call names.
+#[inline(always)]
+pub fn build_region(
+    cx: &mut Interner,
+    earlier: &[Answer],
+    call: &RegionCall,
+) -> Result<Region, Refusal>
+    ensures extends { Extends cx.old cx.new }
+    ensures region { (rows : List Row) → GivesRegion cx.new
+        (region_call_tree (number_at (told_all rows earlier.now)) call.now)
+        (IsRegionTooDeep call.now)
+        result }
+    ensures room { IfErr result (λ e. IsRefusalForRoom e → LacksText cx.new.rows (region_text call.now)) }
+{
+    match call {
+        RegionCall::ReEarlyParam { index, name } => build_early_param(cx, *index, name.as_str()),
+        RegionCall::ReBound(index, var, name) => build_bound(cx, earlier, *index, *var, name),
+        RegionCall::ReLateParam(scope, name) => build_late_param(cx, earlier, *scope, name),
+        RegionCall::ReStatic => Region::new(RegionKind::ReStatic),
+        RegionCall::ReVar(variable) => Region::new(RegionKind::ReVar(*variable)),
+        RegionCall::RePlaceholder(universe, var, name) => {
+            build_placeholder(cx, earlier, *universe, *var, name)
+        }
+        RegionCall::ReErased => Region::new(RegionKind::ReErased),
+        RegionCall::ReError(token) => Region::new(RegionKind::ReError(*token)),
+    }
+}
+
+// Returns the region parameter of the call.
+fn build_early_param(cx: &mut Interner, index: u32, name: &str) -> Result<Region, Refusal>
+    ensures extends { Extends cx.old cx.new }
+    ensures region { GivesRegion cx.new (tree.param region_sort index name.now) ⊥ result }
+    ensures room { OnErr result (IsNew (text_row name.now) cx.new.rows) }
+{
+    let name = cx.symbol(name)?;
+    Region::new(RegionKind::ReEarlyParam(EarlyParamRegion { index, name }))
+}
+
+// Returns the region parameter of the call, seen from inside its item.
+fn build_late_param(
+    cx: &mut Interner,
+    earlier: &[Answer],
+    scope: u32,
+    name: &RegionNameCall,
+) -> Result<Region, Refusal>
+    ensures extends { Extends cx.old cx.new }
+    ensures region { (rows : List Row) → GivesRegion cx.new
+        (tree.region (late_param_region
+        (number_at (told_all rows earlier.now) scope)
+        (called (number_at (told_all rows earlier.now)) name.now)))
+        ⊥
+        result }
+    ensures room { OnErr result (LacksText cx.new.rows (name_text name.now)) }
+{
+    let kind = build_name(cx, earlier, name)?;
+    let scope = def_at(earlier, scope);
+    Region::new(RegionKind::ReLateParam(LateParamRegion { scope, kind }))
+}
+
+// Returns the placeholder region of the call.
+fn build_placeholder(
+    cx: &mut Interner,
+    earlier: &[Answer],
+    universe: UniverseIndex,
+    var: BoundVar,
+    name: &RegionNameCall,
+) -> Result<Region, Refusal>
+    ensures extends { Extends cx.old cx.new }
+    ensures region { (rows : List Row) → GivesRegion cx.new
+        (tree.region (placeholder_region universe var (called (number_at (told_all rows earlier.now)) name.now)))
+        ⊥
+        result }
+    ensures room { OnErr result (LacksText cx.new.rows (name_text name.now)) }
+{
+    let kind = build_name(cx, earlier, name)?;
+    let bound = BoundRegion { var, kind };
+    Region::new(RegionKind::RePlaceholder(Placeholder { universe, bound }))
+}
+
+// Returns the bound region of the call.
+fn build_bound(
+    cx: &mut Interner,
+    earlier: &[Answer],
+    index: BoundVarIndexKind,
+    var: BoundVar,
+    name: &RegionNameCall,
+) -> Result<Region, Refusal>
+    ensures extends { Extends cx.old cx.new }
+    ensures region { (rows : List Row) → GivesRegion cx.new
+        (tree.bound region_sort (depth index) (region_call_entry (number_at (told_all rows earlier.now)) var name.now))
+        (IsGreatest (depth index))
+        result }
+    ensures room { IfErr result (λ e. IsRefusalForRoom e → LacksText cx.new.rows (name_text name.now)) }
+{
+    let kind = build_name(cx, earlier, name)?;
+    Region::new(RegionKind::ReBound(index, BoundRegion { var, kind }))
+}

@@ -1,0 +1,25 @@
+//! Numbers in scripts.
+
+ghost use Rattle.std.specs.Prelude.{◌≡◌};
+ghost use Rattle.tt_calls.specs.Number.{number_within};
+
+/// Returns the word's decimal number, leading zeros allowed, if it is at most `limit`. A word without a digit, or with
+/// anything but digits, has none.
+pub fn parse_number(word: &[u8], limit: u32) -> Option<u32>
+    ensures { result ≡ number_within limit word.now }
+{
+    if word.is_empty() {
+        return None;
+    }
+    let mut value: u64 = 0;
+    for byte in word {
+        if !byte.is_ascii_digit() {
+            return None;
+        }
+        value = value * 10 + u64::from(*byte - b'0');
+        if value > u64::from(limit) {
+            return None;
+        }
+    }
+    Some(value as u32)
+}

@@ -1,9 +1,0 @@
-use Rattle.std.proofs.Common.{List, take}
-use Rattle.tt_interner.specs.Rows.{Row}
-use Rattle.type_terms.specs.CallForm.{variable_ids, all_positions}
-use Rattle.type_terms.specs.Told.{told_all}
-use Rattle.type_terms.specs.Means.{AreTerms}
-use Rattle.type_terms.proofs.run.answers.ids.variables_are_declared.Given as goal
-
-abbrev pub invariant-loop-call : goal.invariant-loop-call
-invariant-loop-call l = (rows : List Row) → AreTerms (told_all rows l.earlier) (all_positions variable_ids (take l.call-index l.calls))

@@ -1,7 +1,0 @@
-use Rattle.std.proofs.Common.{take}
-use Rattle.type_terms.specs.Told.{told_all}
-use Rattle.type_terms.specs.Build.{AreClausesAt}
-use Rattle.type_terms.proofs.run.build.clauses.clauses_at.Given as goal
-
-abbrev pub invariant-loop-position : goal.invariant-loop-position
-invariant-loop-position l = AreClausesAt l.cx (told_all l.cx.rows l.earlier) (take l.position-index l.positions) l.clauses.items

@@ -1,8 +1,0 @@
-use Rattle.std.proofs.Common.{refl}
-use Rattle.type_terms.proofs.run.build.regions.ty_name.Goals as goal
-
-pub returns-in-Anon : goal.returns-in-Anon
-returns-in-Anon c = λ rows. rw (c.in-Anon.is) refl
-
-pub returns-in-Param : goal.returns-in-Param
-returns-in-Param c = λ rows. rw (c.in-Param.is, ← c.def_at.ensures rows) refl

@@ -1,5 +1,0 @@
-use Rattle.std.proofs.Common.{length}
-use Rattle.type_terms.proofs.run.script.line.arguments.Given as goal
-
-abbrev pub decreases-loop-word : goal.decreases-loop-word
-decreases-loop-word l = length l.words.rest.now
