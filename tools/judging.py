@@ -38,15 +38,16 @@ def below(crate):
 
 
 def library_of(crate, over):
-    """Returns the built library of the crate in this checkout."""
-    built = f"{over}/crates/{crate}/out/rlib/{crate}.rlib"
-    if not os.path.isfile(f"{built}/format"):
-        sys.exit(f"{over} has no built library of {crate}")
-    return built
+    """Returns the built library of the crate, in the first of these checkouts that has it, if there is one."""
+    found = [f"{it}/crates/{crate}/out/rlib/{crate}.rlib" for it in over]
+    return next((it for it in found if os.path.isfile(f"{it}/format")), None)
 
 
 def words_of(crate, over):
-    """Returns the words that `rattle check` is to have for the crate, over the libraries of this checkout."""
+    """Returns the words that `rattle check` is to have for the crate, over the libraries of these checkouts."""
+    lacking = [it for it in below(crate) if not library_of(it, over)]
+    if lacking:
+        sys.exit(f"{' '.join(over)}: no built library of {' '.join(lacking)}")
     words = ["check", "--crate-name", crate, "src/lib.rt"]
     for it in ["std", *uses()[crate]]:
         words += ["--extern", f"{it}={library_of(it, over) if it in uses() else f'{kit()}/rlibs/{it}.rlib'}"]
