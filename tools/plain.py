@@ -1,6 +1,6 @@
 """The script language of `terms` on plain trees: what the answers to a script may be.
 
-It follows docs/SCRIPT.md and the definitions in words of docs/DEFINITIONS.md, and shares no code with the library. A type is a
+It follows docs/SCRIPT.md and the definitions in words of docs/TRUST.md, and shares no code with the library. A type is a
 tree of tuples without sharing, and each call is the definition itself: nothing is cached, skipped or counted binder by binder.
 """
 
