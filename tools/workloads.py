@@ -23,7 +23,7 @@ class Chance:
 
 
 class Script:
-    """The lines of a script. The number of a call is that of its line, since none is empty."""
+    """The lines of a script. The number of a call is its line's number, since no line is empty."""
 
     def __init__(self):
         self.lines = []
