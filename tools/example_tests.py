@@ -1,17 +1,34 @@
 #!/usr/bin/env python3
-"""Prints a module of tests, one for each script and each program of examples/: it has to print what is in the file beside it."""
+"""Prints a module of tests: one for each script and each program of examples/, which has to print what is in the file beside
+it, and one for each file of small programs (bin/programs), without the large ones, which take long without optimization."""
 
 import glob
 import os
 import sys
 
-TOP = os.path.join(os.path.dirname(os.path.realpath(__file__)), "..")
+sys.dont_write_bytecode = True
+from edits import TOP
+from programs import files, programs_of
+
 HEAD = """\
 //! The scripts and programs of examples/.
 
 use checker::run;
+use std::alloc::Global;
+use std::process::Abort;
 use std::test::Fail;
 use type_terms::run_script;
+
+// Asserts that the checker prints this for each source, which is at this line of its file.
+fn are_checked(rt: &impl Abort, alloc: Global, programs: &[(u64, &str, &str)]) -> Result<(), Fail> {
+    for (line, source, printed) in programs {
+        let mut output = Vec::new(alloc);
+        run(alloc, source.as_bytes(), &mut output)?;
+        let output = String::from_utf8_lossy(alloc, output.as_slice())?;
+        assert_eq!(rt; output.as_str(), *printed, "line {line}");
+    }
+    Ok(())
+}
 """
 TEST = """
 #[test]
@@ -24,6 +41,16 @@ fn {name}(rt: HostRuntime) -> Result<(), Fail> {{
     Ok(())
 }}
 """
+PROGRAMS = """
+#[test]
+fn programs_{name}(rt: HostRuntime) -> Result<(), Fail> {{
+    are_checked(&rt, rt.alloc(), [
+{rows}
+    ].as_slice())
+}}
+"""
+# The most characters of a source that isn't large
+LARGEST = 1000
 
 
 def literal(path):
@@ -32,12 +59,26 @@ def literal(path):
         return "".join(chr(byte) if 32 <= byte < 127 and byte not in b'"\\' else f"\\x{byte:02x}" for byte in it.read())
 
 
+def quoted(text):
+    """Returns the literal of a text."""
+    return '"' + "".join(it if it.isprintable() and it not in '"\\' else f"\\u{{{ord(it):x}}}" for it in text) + '"'
+
+
+def programs_test(path):
+    """Returns the test of a file of small programs."""
+    small = [it for it in programs_of(path) if len(it.source) <= LARGEST and "…" not in it.printed]
+    rows = "\n".join(f"        ({it.line}, {quoted(it.source)}, {quoted(it.printed)})," for it in small)
+    return PROGRAMS.format(name=os.path.basename(path).partition(".")[0], rows=rows)
+
+
 def main():
     print(HEAD, end="")
     for pattern, call in ("*.terms", "run_script"), ("worked/*.terms", "run_script"), ("checker/*.lang", "run"):
         for path in sorted(glob.glob(f"{TOP}/examples/{pattern}")):
             name = os.path.relpath(path, f"{TOP}/examples").partition(".")[0].replace("/", "_")
             print(TEST.format(name=name, call=call, source=literal(path), printed=literal(f"{path}.stdout")), end="")
+    for path in files():
+        print(programs_test(path), end="")
     return 0
 
 

@@ -43,7 +43,7 @@ def library_of(crate, over):
     return next((it for it in found if os.path.isfile(f"{it}/format")), None)
 
 
-def words_of(crate, over):
+def words_of(crate, over, jobs):
     """Returns the words that `rattle check` is to have for the crate, over the libraries of these checkouts."""
     lacking = [it for it in below(crate) if not library_of(it, over)]
     if lacking:
@@ -54,7 +54,18 @@ def words_of(crate, over):
     for it in [f"{kit()}/rlibs", *(os.path.dirname(library_of(low, over)) for low in below(crate))]:
         words += ["-L", f"dependency={it}"]
     logic = ["--antt-project", f"{kit()}/rattle/logic/antt-project.json", "--logic-built", f"{kit()}/logic_built"]
-    return [*words, *logic, "--links", f"{crate}=", "--jobs", "1"]
+    return [*words, *logic, "--links", f"{crate}=", "--jobs", str(jobs)]
+
+
+def checked(words, folder):
+    """Runs the prover with these words in the folder, and returns all that was said."""
+    how = {"stdin": subprocess.DEVNULL, "stdout": subprocess.PIPE, "stderr": subprocess.STDOUT, "text": True}
+    return subprocess.run([f"{kit()}/bin/rattle", *words], cwd=folder, errors="replace", **how).stdout
+
+
+def proved_over(crate, over, kept, jobs):
+    """Checks the crate itself, keeps the work in this folder, and returns all that was said."""
+    return checked([*words_of(crate, over, jobs), "--incremental", kept], f"{TOP}/crates/{crate}")
 
 
 def judged(crate, texts, over, kept=None, only=()):
@@ -70,15 +81,14 @@ def judged(crate, texts, over, kept=None, only=()):
         for path, text in texts.items():
             with open(f"{room}/{path}", "w", encoding="utf-8") as it:
                 it.write(text)
-        words = [f"{kit()}/bin/rattle", *words_of(crate, over)]
+        words = words_of(crate, over, 1)
         for it in only:
             words += ["--only", it]
         if kept:
             # The checker replaces the files that it keeps, and changes none.
             subprocess.run(["cp", "-al", kept, f"{room}/kept"], check=True)
             words += ["--incremental", f"{room}/kept"]
-        how = {"stdin": subprocess.DEVNULL, "stdout": subprocess.PIPE, "stderr": subprocess.STDOUT, "text": True}
-        return subprocess.run(words, cwd=room, errors="replace", **how).stdout
+        return checked(words, room)
 
 
 def verdicts(said):

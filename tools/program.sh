@@ -60,7 +60,7 @@ build() {
     trap 'rm -f "$log" "$began"' EXIT
     mapfile -t crates < <(crates_below; echo "$crate")
     say "the program isn't built for these sources: ${#crates[@]} crates are proved first"
-    say "from nothing that takes an hour or more of processor time (docs/MAINTAINING.md, Times), and less where little changed"
+    say "from nothing that takes an hour or more of processor time (CONTRIBUTING.md, Times), and less where little changed"
     say "bin/$name --unproved takes about a minute, without proofs"
     for proved in "${crates[@]}"; do
         number=$((number + 1))

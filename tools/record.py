@@ -59,7 +59,8 @@ def source(path):
 @functools.lru_cache(maxsize=None)
 def definitions(path):
     """Returns a file of definitions without its comments."""
-    return re.sub(r"(?m)^\s*--.*$|\s+$", "", read(path))
+    lines = [it.rstrip() for it in read(path).split("\n")]
+    return "\n".join(it for it in lines if it and not it.lstrip().startswith("--"))
 
 
 def items_of(crate, form):

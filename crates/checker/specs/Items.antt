@@ -1,4 +1,4 @@
--- The items of a program, as the interner has them.
+-- The items of a program, as they are declared in the interner.
 use Rattle.std.specs.Prelude.{◌≡◌, ◌<◌, ℕ, List, [], ◌∷◌, ◌++◌, length, map, Some, slice_get}
 use Rattle.std.specs.List.{All}
 use Rattle.std.specs.declared.alloc.Global.{Global}
@@ -36,11 +36,11 @@ FunctionId = Id FunctionMark
 abbrev pub numbers : List AdtId → List ℕ
 numbers ids = map (λ id. id.number) ids
 
--- the ids of the data types
+-- the ids of the declared data types, as numbers
 abbrev pub ids_of : Declared → List ℕ
 ids_of d = numbers d.data_types.items
 
--- the types are the interner's, and are this many of the first written types
+-- the types are the interner's, and are what this many of the first written types denote
 pub record AreWrittenTypes (terms : Terms) (program : Program) (ids : List ℕ) (types : List Ty) (count : ℕ)
     : Type 0 where
   pub owned : AreOwned ty_shape terms types
@@ -53,7 +53,7 @@ pub record AreTypesBefore (types : List Ty) (limit : ℕ) (ns : List ℕ) (found
   pub each : (k n : ℕ) → slice_get ns k ≡ Some n → (ty : Ty) × (slice_get found k ≡ Some ty) × (n < limit)
       × (slice_get types n ≡ Some ty)
 
--- the types are those that are written for the function's inputs in order, and last its output's
+-- the types are the ones that are written for the function's inputs, in order, and last for its output
 pub record AreOfSignature (written : List Ty) (item : Function) (types : List Ty) : Type 0 where
   pub inputs : List Ty
   pub output : Ty
@@ -61,7 +61,7 @@ pub record AreOfSignature (written : List Ty) (item : Function) (types : List Ty
   pub taken : AreTypesBefore written (length written) item.inputs.items inputs
   pub returned : slice_get written item.output ≡ Some output
 
--- they are in the list
+-- the types that are written for the function are in the list
 pub record ListsSignature (terms : Terms) (written : List Ty) (item : Function) (list : Tys) : Type 0 where
   pub types : List Ty
   pub stored : IsAt terms.rows (tys_row types) list.number
@@ -88,8 +88,8 @@ pub record AreFunctions (terms : Terms) (program : Program) (written : List Ty) 
       → slice_get program.functions.items f ≡ Some item
       → HasSignature terms written item id
 
--- what is declared is what the program says: its data types are told apart, its written types are what is written, and
--- its functions have the written types
+-- what is declared is what the program says: each data type has an id of its own, each written type is declared as what
+-- it denotes, and each function has the types that are written for it
 pub record IsDeclared (terms : Terms) (program : Program) (d : Declared) : Type 0 where
   pub counted : length d.data_types.items ≡ length program.«data».items
   pub distinct : AreDistinct (ids_of d)

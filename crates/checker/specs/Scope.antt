@@ -1,4 +1,4 @@
--- What is known around an expression, and the trees of the types in it.
+-- What is known around the expressions of a body, with types as trees.
 use Rattle.std.specs.Prelude.{◌≡◌, ◌<◌, ℕ, List, Some, length, map, slice_get, IfSome}
 use Rattle.tt_kinds.specs.Argument.{Argument}
 use Rattle.tt_kinds.specs.Handle.{Ty, GenericArgs}
@@ -19,7 +19,7 @@ use Rattle.std.specs.declared.alloc.Global.{Global}
 use Rattle.std.specs.declared.vec.Vec.{Vec}
 use Rattle.checker.specs.declared.scope.Scope.{Scope}
 
--- all types are the interner's
+-- what is declared is what the program says, and the types of the expressions are the interner's
 pub record IsScope (terms : Terms) (scope : Scope) : Type 0 where
   pub declared : IsDeclared terms scope.program.now scope.declared.now
   pub types : AreOwned ty_shape terms scope.types.now
@@ -28,7 +28,7 @@ pub record IsScope (terms : Terms) (scope : Scope) : Type 0 where
 abbrev pub trees : List Row → List Ty → List (Tree Depth)
 trees rows types = map (λ ty. tree_in rows (ty_shape ty)) types
 
--- what is around the expressions of a body, by trees
+-- what is around the expressions of a body, with types as trees
 abbrev pub body_around : Terms → Program → List ℕ → Function → Body → List Ty → Around
 body_around terms program ids function body types = record {
   program = program;
@@ -48,7 +48,7 @@ abbrev pub IsTypedFunction : Terms → Program → List ℕ → Function → Lis
 IsTypedFunction terms program ids function types = IfSome function.body
     (λ body. IsTypedBody (body_around terms program ids function body types))
 
--- so has each of the first functions, of the types in its place
+-- there are this many lists of types, and each of the first functions has the types in its place by the rules
 pub record AreTypedFirst (terms : Terms) (program : Program) (ids : List ℕ) (bodies : List (Vec Ty Global)) (count : ℕ)
     : Type 0 where
   pub counted : length bodies ≡ count
@@ -56,17 +56,17 @@ pub record AreTypedFirst (terms : Terms) (program : Program) (ids : List ℕ) (b
       → (types : Vec Ty Global) × (slice_get bodies f ≡ Some types)
       × IsTypedFunction terms program ids function types.items
 
--- so has each function
+-- each function has the types in its place by the rules
 abbrev pub AreTypedBodies : Terms → Program → List ℕ → List (Vec Ty Global) → Type 0
 AreTypedBodies terms program ids bodies = AreTypedFirst terms program ids bodies (length program.functions.items)
 
--- the ids tell the data types of the program apart, and by them each function has these types
+-- each data type of the program has an id of its own, and with these ids each function has its types by the rules
 pub record IsTypedProgram (terms : Terms) (program : Program) (ids : List ℕ) (bodies : List (Vec Ty Global))
     : Type 0 where
   pub counted : length ids ≡ length program.«data».items
   pub distinct : AreDistinct ids
   pub typed : AreTypedBodies terms program ids bodies
 
--- the arguments in a stored list, by trees
+-- the arguments in a stored list, as trees
 abbrev pub argument_trees : Terms → GenericArgs → List (Argument Depth)
 argument_trees terms args = arguments terms.rows (args_at terms.rows args)

@@ -39,10 +39,10 @@ list_of ts = node (list_label TypeLists) (in_order ts)
 abbrev pub tuple_of : List (Tree Depth) → Tree Depth
 tuple_of ts = term (type_label tuple_type) (also (list_of ts) none)
 
--- the reference to this type, by a region
+-- the reference to this type, with this region
 abbrev pub reference_by : Tree Depth → Tree Depth → Tree Depth
 reference_by r t = term (type_label (ref_type Not)) (also r (also t none))
 
--- the reference to this type, by the erased region
+-- the reference to this type, with the erased region
 abbrev pub reference_to : Tree Depth → Tree Depth
 reference_to t = reference_by (region erased_region) t

@@ -26,7 +26,7 @@ literal_type literal_of.Bool = simple bool_type
 literal_type literal_of.Char = simple char_type
 literal_type literal_of.Str = reference_to (simple str_type)
 
--- the second type is the first one, or what it refers to, if need be through further references
+-- the second type is the first one, with any number of the shared references around it taken off
 pub data Reaches : Tree Depth → Tree Depth → Type 0 where
   itself : {t : Tree Depth} → Reaches t t
   through : {r t u : Tree Depth} → Reaches t u → Reaches (reference_by r t) u
@@ -35,11 +35,11 @@ pub data Reaches : Tree Depth → Tree Depth → Type 0 where
 abbrev pub IsItemOf : ℕ → Tree Depth → Tree Depth → Type 0
 IsItemOf k whole t = (ts : List (Tree Depth)) × (whole ≡ tuple_of ts) × (slice_get ts k ≡ Some t)
 
--- the thing of number n comes before the one of number i, and has this type among these
+-- n is below i, and this is the type of number n among these types
 abbrev pub Before : List (Tree Depth) → ℕ → ℕ → Tree Depth → Type 0
 Before types i n t = (n < i) × (slice_get types n ≡ Some t)
 
--- there are as many numbers as types, and each is of a thing before the one of number i that has the type in its place
+-- there are as many numbers as types, and each number is below i and has the type in its place
 pub record AllBefore (types : List (Tree Depth)) (i : ℕ) (ns : List ℕ) (ts : List (Tree Depth)) : Type 0 where
   pub counted : length ns ≡ length ts
   pub each : (k n : ℕ) → slice_get ns k ≡ Some n → (t : Tree Depth) × (slice_get ts k ≡ Some t) × Before types i n t
@@ -64,7 +64,7 @@ pub record Around : Type 0 where
   pub types : List (Tree Depth)
 
 module _ (A : Around) where
-  -- the written type of this number
+  -- the written type of this number denotes this type
   abbrev pub Writes : ℕ → Tree Depth → Type 0
   Writes w t = written.Writes A.program A.ids w t
 
@@ -72,15 +72,15 @@ module _ (A : Around) where
   abbrev pub Operand : ℕ → ℕ → Tree Depth → Type 0
   Operand i n t = Before A.types i n t
 
-  -- so do operands, in order
+  -- each operand comes before the expression, and has the type in its place
   abbrev pub Operands : ℕ → List ℕ → List (Tree Depth) → Type 0
   Operands i ns ts = AllBefore A.types i ns ts
 
-  -- the operand's type is the instance of the written one
+  -- the operand's type is the instance of the written type at these arguments
   abbrev pub Fits : ℕ → List (Argument Depth) → ℕ → ℕ → Type 0
   Fits i args w n = (d : Tree Depth) × (t : Tree Depth) × Writes w d × Operand i n t × IsPlain args d t
 
-  -- there are as many operands as written types, and each is of the instance of the one in its place
+  -- there are as many operands as written types, and each fits the written type in its place
   pub record Fit (i : ℕ) (args : List (Argument Depth)) (ws ns : List ℕ) : Type 0 where
     pub counted : length ws ≡ length ns
     pub each : (k w n : ℕ) → slice_get ws k ≡ Some w → slice_get ns k ≡ Some n → Fits i args w n
@@ -93,7 +93,7 @@ module _ (A : Around) where
     pub arguments : AreTypeArguments args (length item.params.items)
     pub is : t ≡ data_type_of id (values args)
 
-  -- the data type has a field of this name, which is of the type t at these arguments
+  -- the data type has a field of this name, whose type at these arguments is t
   pub record HasField (item : DataType) (args : List (Argument Depth)) (name : ℕ) (t : Tree Depth) : Type 0 where
     pub number : ℕ
     pub field : Field
@@ -136,7 +136,7 @@ module _ (A : Around) where
     pub there : slice_get A.types i ≡ Some type
     pub typed : IsTyped i type e
 
-  -- the body has these types: each expression by a rule, and the result the written output's
+  -- each expression of the body has its type by a rule, and the result has the written output type
   pub record IsTypedBody : Type 0 where
     pub each : (i : ℕ) (e : Expression) → slice_get A.body.expressions.items i ≡ Some e → HasType i e
     pub result : Tree Depth

@@ -17,20 +17,20 @@ use Rattle.checker.specs.TypeTrees.{data_type_of, parameter_of, reference_to, si
 abbrev pub part : List ℕ → Span → List ℕ
 part numbers span = take (span.end - span.start) (drop span.start numbers)
 
--- the same number isn't at two places
+-- no number is at two places
 abbrev pub AreDistinct : List ℕ → Type 0
 AreDistinct ns = (j k n : ℕ) → slice_get ns j ≡ Some n → slice_get ns k ≡ Some n → j ≡ k
 
 -- the program's data types have these ids
 module _ (program : Program) (ids : List ℕ) where
   mutual
-    -- what is written is this type
+    -- what is written denotes this type
     pub data IsWritten : WrittenType → Tree Depth → Type 0 where
       int : IsWritten written_as.Int (simple (int_type I32))
       bool : IsWritten written_as.Bool (simple bool_type)
       char : IsWritten written_as.Char (simple char_type)
       text : IsWritten written_as.Str (simple str_type)
-      -- a type parameter of the item around, by its number and its name
+      -- a type parameter of the item around the written type, by its number and its name
       parameter : {index name : ℕ} {s : String Global} → slice_get program.names.items name ≡ Some s
           → IsWritten (written_as.Param index name) (parameter_of index (string_bytes s))
       -- a data type has as many arguments as parameters
@@ -42,12 +42,12 @@ module _ (program : Program) (ids : List ℕ) where
           → IsWritten (written_as.Tuple s) (tuple_of ts)
       reference : {n : ℕ} {t : Tree Depth} → Writes n t → IsWritten (written_as.Reference n) (reference_to t)
 
-    -- the written type of this number is this type
+    -- the written type of this number denotes this type
     pub data Writes : ℕ → Tree Depth → Type 0 where
       at : {n : ℕ} {w : WrittenType} {t : Tree Depth} → slice_get program.types.items n ≡ Some w → IsWritten w t
           → Writes n t
 
-    -- the written types of these numbers are these types, in order
+    -- the written types of these numbers denote these types, in order
     pub data AreWritten : List ℕ → List (Tree Depth) → Type 0 where
       done : AreWritten [] []
       next : {n : ℕ} {t : Tree Depth} {ns : List ℕ} {ts : List (Tree Depth)} → Writes n t → AreWritten ns ts

@@ -1,4 +1,4 @@
-//! Types that are built of the types of operands.
+//! Types that are built from the types of operands.
 
 ghost use Rattle.std.specs.Prelude.{◌≡◌, IfOk};
 ghost use Rattle.tt_fold.specs.Steps.{tree_in};
@@ -16,7 +16,7 @@ use crate::types::{reference_to, tuple_of};
 use checker_syntax::program::{Expression, Literal};
 use type_terms::prelude::*;
 
-/// Returns the type of an expression that is built of its operands' types: of a literal, an argument, a use of a
+/// Returns the type of an expression whose type follows from its operands' types: a literal, an argument, a use of a
 /// variable, a tuple or a reference.
 #[tactic(auto, using(crate::proofs::ScopeLaws::verify_laws))]
 pub fn built(

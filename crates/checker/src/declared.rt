@@ -1,4 +1,4 @@
-//! The items of a program as the interner knows them.
+//! The items of a program, declared in the interner.
 
 ghost use Rattle.std.specs.Prelude.{◌≡◌, ◌<◌, ◌≤◌, IfOk, length};
 ghost use Rattle.tt_fold.specs.Steps.{tree_in};
@@ -28,11 +28,11 @@ use type_terms::prelude::*;
 /// A program's items, and the types that it writes.
 #[derive(Drop)]
 pub struct Declared {
-    /// Each data type.
+    /// The id of each data type.
     pub data_types: Vec<AdtId>,
-    /// Each written type.
+    /// What each written type denotes.
     pub written: Vec<Ty>,
-    /// Each function.
+    /// The id of each function.
     pub functions: Vec<FunctionId>,
 }
 
@@ -76,7 +76,7 @@ fn data_types(cx: &mut Interner, program: &Program) -> Result<Vec<AdtId>, Failur
     Ok(ids)
 }
 
-// Declares a data type whose name has this number. Its id comes after those of all earlier declarations.
+// Declares a data type whose name has this number. Its id is above the ids of all earlier declarations.
 #[tactic(auto, using(crate::proofs::ClientLaws::growth_laws))]
 fn data_type(cx: &mut Interner, program: &Program, name: usize) -> Result<AdtId, Failure>
     ensures extends { Extends cx.old cx.new }
@@ -97,7 +97,7 @@ fn declared_adt(cx: &mut Interner, name: Symbol) -> Result<AdtId, Failure>
     Ok(cx.declare_adt(name)?)
 }
 
-// Returns the written types.
+// Returns what the written types denote.
 #[tactic(auto, using(crate::proofs::ClientLaws::growth_laws))]
 fn written_types(cx: &mut Interner, program: &Program, ids: &[AdtId]) -> Result<Vec<Ty>, Failure>
     ensures extends { Extends cx.old cx.new }
@@ -117,7 +117,7 @@ fn written_types(cx: &mut Interner, program: &Program, ids: &[AdtId]) -> Result<
     Ok(types)
 }
 
-// Returns a written type, whose parts are among the earlier ones.
+// Returns what a written type denotes, whose parts are among the earlier written types.
 #[tactic(auto, using(crate::proofs::ClientLaws::growth_laws))]
 fn written_type(
     cx: &mut Interner,
@@ -261,7 +261,7 @@ fn function(
     declared_fn(cx, name, list)
 }
 
-// Returns the list of a function's types.
+// Returns the stored list of a function's types.
 #[tactic(auto, using(crate::proofs::ClientLaws::growth_laws))]
 fn signature_list(cx: &mut Interner, item: &Function, written: &[Ty]) -> Result<Tys, Failure>
     requires { AreOwned ty_shape cx.old written.now }
@@ -273,7 +273,7 @@ fn signature_list(cx: &mut Interner, item: &Function, written: &[Ty]) -> Result<
     Ok(cx.mk_tys(types.as_slice())?)
 }
 
-// Returns the types of a function's inputs in order, and last its output's.
+// Returns the types of a function's inputs in order, and last the type of its output.
 fn signature_types(cx: &Interner, item: &Function, written: &[Ty]) -> Result<Vec<Ty>, Failure>
     requires { AreOwned ty_shape cx.now written.now }
     ensures owned { IfOk result (λ types. AreOwned ty_shape cx.now types.items) }

@@ -11,15 +11,16 @@ pub enum Failure {
     /// The program is wrong.
     #[error("{0}")]
     Wrong(Message),
-    /// A number in the program is no place of the list that it belongs to, or an operand doesn't come before its
-    /// expression. No program that was read is so.
+    /// The program isn't well formed: for example, a number is out of range of its list, or an operand doesn't come
+    /// before its expression. No source is known that is read as such a program.
     #[error("a number in the program points nowhere")]
     Malformed,
-    /// The types that were found don't meet the rules. No program is known for which this is returned; the proof
+    /// The types that were found don't meet the rules. No program is known that gives this failure, but the proof
     /// doesn't exclude it.
     #[error("the types that were found do not meet the rules")]
     Unverified,
     /// The library refused a call: memory is short ([`Refusal::Memory`]), or a table is full ([`Refusal::TableFull`]).
+    /// No program is known that gives another refusal.
     #[error("{0}")]
     Refused(Refusal),
 }

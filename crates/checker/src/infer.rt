@@ -1,6 +1,6 @@
-//! The types of a body's expressions, inferred.
+//! Inferring the types of a body's expressions.
 //!
-//! Each expression has an inference variable, and each rule makes types equal.
+//! Each expression has an inference variable for its type, and each rule makes types equal.
 
 mod calls;
 mod equality;
@@ -26,12 +26,12 @@ use equality::{equate, fresh_variables, is_of};
 use type_terms::prelude::*;
 use unify::Bindings;
 
-/// The types of a body that were inferred.
+/// The inferred types of a body.
 #[derive(Drop)]
 pub struct Inferred {
     /// The type of each expression.
     pub types: Vec<Ty>,
-    /// Of each call, the type of the function, at its type arguments. Of another expression, the expression's type.
+    /// For each call, the type of the function at its type arguments. For another expression, the expression's type.
     pub subjects: Vec<Ty>,
 }
 
@@ -61,7 +61,7 @@ pub fn infer_body(
     infer_within(cx, scope, &mut bindings)
 }
 
-// Infers the types of a body whose expressions have variables.
+// Infers the types of a body whose expressions have variables for their types.
 #[tactic(auto, using(crate::proofs::ClientLaws::growth_laws))]
 fn infer_within(
     cx: &mut Interner,
@@ -95,7 +95,7 @@ fn infer_result(cx: &mut Interner, scope: Scope<'_>, bindings: &mut Bindings) ->
     equate(cx, bindings, place, output, result)
 }
 
-// Infers the types of all expressions, and returns their subjects.
+// Infers the types of all expressions, and returns the [`Inferred::subjects`], with variables.
 #[tactic(auto, using(crate::proofs::ClientLaws::growth_laws))]
 fn infer_all(
     cx: &mut Interner,
@@ -116,7 +116,7 @@ fn infer_all(
     Ok(subjects)
 }
 
-// Returns the types with the variables replaced, which have to be known.
+// Returns the types with their variables replaced. Each type has to be known.
 #[tactic(auto, using(crate::proofs::ClientLaws::growth_laws))]
 fn resolved(
     cx: &mut Interner,
@@ -143,7 +143,7 @@ fn resolved(
     Ok(known)
 }
 
-// Infers the type of the expression of this number, and returns its subject.
+// Infers the type of the expression of this number, and returns the expression's entry of [`Inferred::subjects`].
 #[tactic(auto, using(crate::proofs::ClientLaws::growth_laws))]
 fn infer(
     cx: &mut Interner,
@@ -183,7 +183,7 @@ fn infer(
     Ok(ty)
 }
 
-// Infers the type of an expression whose type is built of its operands' types.
+// Infers the type of an expression whose type follows from its operands' types.
 #[tactic(auto, using(crate::proofs::ClientLaws::growth_laws))]
 fn infer_built(
     cx: &mut Interner,
@@ -222,7 +222,7 @@ fn infer_dereference(
     equate(cx, bindings, place, expected, found)
 }
 
-// Infers the type of a variable, which is the type that is written, if there is one, and its value's.
+// Infers the type of a `let`: the type of its value, which has to equal the written type if there is one.
 #[tactic(auto, using(crate::proofs::ClientLaws::growth_laws))]
 fn infer_let(
     cx: &mut Interner,

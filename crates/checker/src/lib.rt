@@ -1,7 +1,7 @@
 //! A checker of a small language with generics, a client of `type_terms` and `unify`.
 //!
 //! [`check`] infers the types of a program's expressions, and compares them with the typing rules. [`run`] reads a
-//! source and tells what was found.
+//! source and writes the verdict.
 #![tactic(auto)]
 
 mod built;

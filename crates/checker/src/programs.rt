@@ -17,8 +17,8 @@ use crate::wording::text_of;
 use checker_syntax::program::{Expression, Function, Program};
 use type_terms::prelude::*;
 
-/// An accepted program: the types of its items, and of the expressions of each function. A function that is only
-/// declared has none.
+/// An accepted program: its declared items, and the types of each function's expressions. A function that is only
+/// declared has no expressions.
 #[derive(Drop)]
 pub struct Checked {
     pub declared: Declared,
@@ -29,8 +29,8 @@ pub struct Checked {
 ///
 /// # Errors
 ///
-/// The first thing that is wrong ends the check, function by function in the order of the program, and in a function
-/// expression by expression.
+/// The first error ends the check. The functions are checked in the order of the program, and the types of a function's
+/// expressions are inferred in the order of the expressions.
 #[tactic(auto, using(crate::proofs::ClientLaws::growth_laws))]
 pub fn check(cx: &mut Interner, program: &Program) -> Result<Checked, Failure>
     ensures extends { Extends cx.old cx.new }
@@ -74,7 +74,7 @@ fn typed_bodies(
     Ok(bodies)
 }
 
-// Returns the types of the function's expressions, none without a body.
+// Returns the types of the function's expressions, or no types if the function has no body.
 #[tactic(auto, using(crate::proofs::ClientLaws::growth_laws))]
 fn types_of(
     cx: &mut Interner,
@@ -107,7 +107,8 @@ fn types_of(
     Ok(found.types)
 }
 
-/// Returns a line for each variable of the program: the place of its `let`, and its type.
+/// Returns a line for each variable of the program: the place of its `let`, and its type. The types have to be this
+/// interner's, as the ones that [`check`] returns are.
 #[tactic(auto, using(crate::proofs::ClientLaws::growth_laws))]
 pub fn variables(cx: &Interner, program: &Program, bodies: &[Vec<Ty>]) -> Result<String, Failure>
     requires { AreTyped cx.now bodies.now }

@@ -14,8 +14,8 @@ use crate::lookup::{at, type_at, type_before, types_before};
 use checker_syntax::program::{Body, Function, Place, Program};
 use type_terms::{Interner, Ty};
 
-/// A function's body, what is declared around it, and the types of its expressions. While these are inferred, they are
-/// variables.
+/// A function's body, what is declared around it, and the types of its expressions. During inference these types are
+/// inference variables.
 #[derive(Clone, Copy)]
 pub struct Scope<'a> {
     pub program: &'a Program,

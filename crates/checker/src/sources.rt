@@ -1,4 +1,4 @@
-//! Programs from an input.
+//! Checking sources.
 
 use crate::failure::Failure;
 use crate::programs::{check, variables};
@@ -11,14 +11,14 @@ use std::io;
 use std::io::{Read, Write};
 use type_terms::Interner;
 
-/// What was found of a program.
+/// The verdict on a program.
 #[derive(Debug, Drop)]
 pub enum Verdict {
-    /// It is accepted. The text has a line for each variable: the place of its `let`, and its type.
+    /// The program is accepted. The text has a line for each variable: the place of its `let`, and its type.
     Accepted(String),
-    /// It is wrong, as the message says.
+    /// The program is wrong, as the message says.
     Wrong(Message),
-    /// It isn't checked to its end, for this reason.
+    /// The program wasn't checked to its end, for this reason.
     GivenUp(Failure),
 }
 
@@ -58,7 +58,7 @@ fn types(cx: &mut Interner, program: &Program) -> Result<String, Failure> {
     variables(cx, program, checked.bodies.as_slice())
 }
 
-/// Reads a program from the input, writes what was found of it to the output, and returns whether it is accepted. The
+/// Reads a program from the input, writes the verdict to the output, and returns whether the program is accepted. The
 /// input has to be UTF-8.
 pub fn run<R: Read + Drop, W: Write + Drop>(
     alloc: Global,

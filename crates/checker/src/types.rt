@@ -15,7 +15,7 @@ use crate::failure::Failure;
 use crate::lookup::type_at;
 use type_terms::prelude::*;
 
-// How many references a type is taken out of at most.
+// The greatest number of references that are taken off a type.
 const MOST_REFERENCES: u32 = u32::MAX;
 
 /// Returns the type parameter of this index and name.
@@ -40,7 +40,7 @@ pub fn tuple_of(cx: &mut Interner, items: &[Ty]) -> Result<Ty, Failure>
     Ok(cx.mk_tuple(items)?)
 }
 
-/// Returns the reference to this type, by the erased region.
+/// Returns the reference to this type, with the erased region.
 pub fn reference_to(cx: &mut Interner, referent: Ty) -> Result<Ty, Failure>
     requires { IsOwned ty_shape cx.old referent }
     ensures extends { Extends cx.old cx.new }
@@ -115,7 +115,8 @@ pub fn are_type_arguments(cx: &Interner, args: GenericArgs, count: usize) -> boo
     items.len() == count
 }
 
-/// Returns the type that a reference refers to, if need be through further ones, and otherwise the type itself.
+/// Returns the type without the shared references around it, up to `u32::MAX` of them. A type that is no shared
+/// reference is returned as it is.
 pub fn without_references(cx: &Interner, ty: Ty) -> Ty
     requires { IsOwned ty_shape cx.now ty }
     ensures owned { IsOwned ty_shape cx.now result }

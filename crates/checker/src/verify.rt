@@ -1,4 +1,4 @@
-//! Types of a body that are compared with the rules.
+//! Comparing the types of a body with the rules.
 
 mod instances;
 
@@ -20,8 +20,8 @@ use checker_syntax::program::Expression;
 use instances::{verify_call, verify_data, verify_field};
 use type_terms::prelude::*;
 
-/// Compares the type of each expression with the rule, and the result's with the written one. A call's type arguments
-/// are those of its subject.
+/// Compares the type of each expression with its rule, and the type of the result with the written output type. The
+/// type arguments of a call are the arguments of its subject.
 #[tactic(auto, using(crate::proofs::ScopeLaws::verify_laws))]
 pub fn verify(cx: &mut Interner, scope: Scope<'_>, subjects: &[Ty]) -> Result<(), Failure>
     requires scope { IsScope cx.old scope }
@@ -39,7 +39,7 @@ pub fn verify(cx: &mut Interner, scope: Scope<'_>, subjects: &[Ty]) -> Result<()
     same(output, result)
 }
 
-// Succeeds if the two types are one.
+// Succeeds if the two types are the same.
 fn same(left: Ty, right: Ty) -> Result<(), Failure>
     ensures { OnOk result (left ≡ right) }
 {
@@ -50,7 +50,7 @@ fn same(left: Ty, right: Ty) -> Result<(), Failure>
     }
 }
 
-// Compares the type of the expression of this number with the rule.
+// Compares the type of the expression of this number with its rule.
 #[tactic(auto, using(crate::proofs::ScopeLaws::verify_laws))]
 fn verify_expression(
     cx: &mut Interner,

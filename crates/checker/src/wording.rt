@@ -1,4 +1,4 @@
-//! What is said of a wrong program.
+//! The messages about wrong programs.
 
 ghost use Rattle.tt_kinds.specs.Kinds.{ty_shape};
 ghost use Rattle.tt_interner.specs.Owned.{IsOwned};
@@ -68,7 +68,7 @@ fn shown(cx: &mut Interner, bindings: &Bindings, ty: Ty) -> Result<String, Failu
     Ok(text_of(cx, ty)?)
 }
 
-/// Returns what to say where a type was found in place of another one.
+/// Returns the message that a type was found in place of another one.
 #[tactic(auto, using(crate::proofs::ClientLaws::growth_laws))]
 pub fn mismatch(
     cx: &mut Interner,
@@ -94,7 +94,7 @@ pub fn mismatch(
     Ok(Message { place, text })
 }
 
-/// Returns what to say where a type isn't known.
+/// Returns the message that a type isn't known.
 #[tactic(auto, using(crate::proofs::ClientLaws::growth_laws))]
 pub fn unknown_type(
     cx: &mut Interner,
@@ -116,7 +116,7 @@ pub fn unknown_type(
     Ok(Message { place, text })
 }
 
-/// Returns what to say where a type has no field of this name.
+/// Returns the message that a type has no field of this name.
 #[tactic(auto, using(crate::proofs::ClientLaws::growth_laws))]
 pub fn no_field(
     cx: &mut Interner,
@@ -136,7 +136,7 @@ pub fn no_field(
     Ok(Message { place, text })
 }
 
-/// Returns what to say where a type has no item of this number.
+/// Returns the message that a type has no item of this number.
 #[tactic(auto, using(crate::proofs::ClientLaws::growth_laws))]
 pub fn no_item(
     cx: &mut Interner,
@@ -156,7 +156,7 @@ pub fn no_item(
     Ok(Message { place, text })
 }
 
-/// Returns what to say where a function is called with another number of arguments.
+/// Returns the message that a function is called with a wrong number of arguments.
 pub fn wrong_count(
     cx: &Interner,
     program: &Program,
@@ -176,7 +176,7 @@ pub fn wrong_count(
     Ok(Message { place, text })
 }
 
-// Returns what a noun ends with that counts so many.
+// Returns the ending of a noun that follows this count.
 fn plural(count: usize) -> &'static str {
     if count == 1 { "" } else { "s" }
 }

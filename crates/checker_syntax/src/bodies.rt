@@ -16,7 +16,7 @@ use std::alloc::Global;
 use std::mem;
 use std::string::String;
 
-/// A reader of bodies, and what was read of a body.
+/// A reader of bodies, and the parts of a body that were read.
 #[derive(Drop)]
 pub struct BodyReader<'a> {
     alloc: Global,
@@ -31,14 +31,14 @@ pub struct BodyReader<'a> {
     operands: Vec<usize>,
 }
 
-// A name in scope, and the expression of its value.
+// A name in scope, and the expression that a use of the name becomes.
 #[derive(Clone, Copy, Debug, PartialEq, Eq)]
 struct Variable {
     name: usize,
     value: Expression,
 }
 
-// A field's name in the expression of a struct, and the number of the expression of its value.
+// A field's name in the value of a struct, and the number of the expression for the field.
 #[derive(Clone, Copy, Debug, PartialEq, Eq)]
 struct FieldValue {
     name: usize,
@@ -170,7 +170,7 @@ impl<'a> BodyReader<'a> {
         self.declare_local(name, value, ty, place)
     }
 
-    // Reads an expression with at most so many levels, and returns its number.
+    // Reads an expression with at most this many levels, and returns its number.
     #[cycle(bodies)]
     fn expression(&mut self, levels: usize) -> Result<usize, SyntaxError>
         ensures { tokens_left self.new.types.tokens ≤ tokens_left self.old.types.tokens }
@@ -221,7 +221,7 @@ impl<'a> BodyReader<'a> {
         }
     }
 
-    // Reads what comes after a name: arguments, fields, or nothing of them after a variable.
+    // Reads what comes after a name: the arguments of a call, the fields of a value, or nothing after a variable.
     #[cycle(bodies)]
     fn named(&mut self, name: usize, token: Token, levels: usize) -> Result<usize, SyntaxError>
         ensures { tokens_left self.new.types.tokens ≤ tokens_left self.old.types.tokens }

@@ -8,7 +8,8 @@ use crate::token::{Token, TokenKind};
 use crate::types::TypeReader;
 use std::alloc::Global;
 
-/// A function without its body: the tokens of the body are still to be read, if there are any.
+/// A function without its body. If the function has a body, `body` has the tokens from there on, which are still to be
+/// read.
 #[derive(Drop)]
 pub struct Signature<'a> {
     pub name: usize,
@@ -82,7 +83,7 @@ pub fn read_signature<'a>(
     })
 }
 
-// Reads the end of a signature, and returns the tokens of the body, if one comes next.
+// Reads the end of a signature, and returns the tokens from the body on, if one comes next.
 fn read_end<'a>(reader: &mut TypeReader<'a>) -> Result<Option<&'a [Token]>, SyntaxError> {
     if reader.tokens.eat(TokenKind::Semicolon) {
         reader.tokens.expect_item()?;
@@ -94,7 +95,7 @@ fn read_end<'a>(reader: &mut TypeReader<'a>) -> Result<Option<&'a [Token]>, Synt
     }
 }
 
-// Reads names with their types, and the closing token after them. Messages call such a name `what`.
+// Reads names with their types, and the closing token after them. Messages call each name `what`.
 fn read_fields(
     alloc: Global,
     reader: &mut TypeReader,

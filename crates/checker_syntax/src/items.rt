@@ -44,7 +44,7 @@ pub struct Items {
 }
 
 impl Items {
-    /// Returns no items.
+    /// Returns an empty table of items.
     pub fn new(alloc: Global) -> Items {
         Items {
             data: HashMap::new(alloc),
@@ -62,7 +62,7 @@ impl Items {
         self.functions.get(&name).copied()
     }
 
-    // Numbers the item, and says whether it is the first of its kind with its name.
+    // Numbers the item, and returns whether it is the first of its kind with its name.
     fn declare(&mut self, head: &Head) -> Result<bool, AllocError> {
         match head.kind {
             ItemKind::Struct => {
@@ -80,8 +80,8 @@ impl Items {
     }
 }
 
-/// Returns the beginnings of the items, and numbers them by their names. As no item is in another, each `struct` and
-/// `fn` begins one, and what stands between is passed over.
+/// Returns the beginnings of the items, and numbers the items by their names. No item is inside of another, so each
+/// `struct` and each `fn` begins an item, and the tokens between are passed over.
 pub fn read_heads<'a>(
     alloc: Global,
     tokens: &mut Tokens<'a>,
@@ -95,7 +95,7 @@ pub fn read_heads<'a>(
     Ok(heads)
 }
 
-// Passes over the tokens up to the next item's keyword and over it, and returns what it begins.
+// Passes over the tokens up to and including the next item's keyword, and returns what the keyword begins.
 fn next_item(tokens: &mut Tokens) -> Option<ItemKind>
     ensures { OnSome result (tokens_left tokens.new < tokens_left tokens.old) }
 {

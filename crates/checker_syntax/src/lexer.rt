@@ -37,7 +37,7 @@ impl<'a> Lexer<'a> {
         self.names
     }
 
-    /// Returns the tokens that are left.
+    /// Reads the tokens that are left.
     pub fn tokens(&mut self) -> Result<Vec<Token>, SyntaxError> {
         let mut tokens = Vec::new(self.alloc);
         loop {
@@ -57,7 +57,7 @@ impl<'a> Lexer<'a> {
         }
     }
 
-    /// Returns the token of the end of what was read.
+    /// Returns the end token, at the place up to which the source is read.
     pub fn end(&self) -> Token {
         Token {
             kind: TokenKind::End,
@@ -88,7 +88,7 @@ impl<'a> Lexer<'a> {
         let mut characters = self.rest.chars();
         let next = characters.next();
         self.rest = characters.as_str();
-        // A source has fewer bytes than a number has values, so neither sum saturates.
+        // A source has fewer bytes than `usize` has values, so neither sum saturates.
         match next {
             Some('\n') => {
                 self.place.line = self.place.line.saturating_add(1);
@@ -100,7 +100,7 @@ impl<'a> Lexer<'a> {
         next
     }
 
-    // Passes over the next character if it is this one, and says whether it is.
+    // Passes over the next character if it is this one, and returns whether it is.
     fn eat(&mut self, character: char) -> bool
         ensures { length self.new.rest.now ≤ length self.old.rest.now }
     {
@@ -237,7 +237,7 @@ impl<'a> Lexer<'a> {
     {
         let place = self.place;
         match self.advance() {
-            // The literal isn't closed, as its caller tells.
+            // The caller reports that the literal isn't closed.
             None => Ok(()),
             Some('n' | 't' | '\\' | '\'' | '"' | '0') => Ok(()),
             Some(other) => {
@@ -248,7 +248,7 @@ impl<'a> Lexer<'a> {
     }
 }
 
-// Says whether the character may be in a name.
+// Returns whether the character may be in a name.
 fn is_of_word(character: char) -> bool {
     character.is_ascii_alphanumeric() || character == '_'
 }

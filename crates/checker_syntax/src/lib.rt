@@ -26,8 +26,8 @@ use crate::tokens::Tokens;
 use crate::types::TypeReader;
 use std::alloc::Global;
 
-/// Returns the program of the source. The first error ends the reading: of the tokens first, then of the items' names
-/// and type parameters, then of the structs and signatures, then of the bodies.
+/// Reads the program of a source. The first error ends the reading. The tokens are read first, then the items' names
+/// and type parameters, then the structs and signatures, and then the bodies.
 pub fn read(alloc: Global, source: &str) -> Result<Program, SyntaxError> {
     let mut lexer = Lexer::new(alloc, source);
     let list = lexer.tokens()?;

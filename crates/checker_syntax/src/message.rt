@@ -22,7 +22,7 @@ impl fmt::Display for Message {
     }
 }
 
-/// Returns the error of this text at the place, or [`SyntaxError::Memory`] if memory was refused for the text.
+/// Returns the error with this text at the place, or [`SyntaxError::Memory`] if memory was refused for the text.
 pub(crate) fn wrong(place: Place, text: Result<String, AllocError>) -> SyntaxError {
     match text {
         Ok(text) => SyntaxError::Wrong(Message { place, text }),

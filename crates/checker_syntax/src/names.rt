@@ -13,7 +13,7 @@ pub struct Names<'a> {
 }
 
 impl<'a> Names<'a> {
-    /// Returns no names.
+    /// Returns an empty table of names.
     pub fn new(alloc: Global) -> Names<'a> {
         Names {
             alloc,
@@ -22,7 +22,7 @@ impl<'a> Names<'a> {
         }
     }
 
-    /// Returns the number of the name, a new one for a new name.
+    /// Returns the number of the name. A new name gets a new number.
     pub fn number(&mut self, text: &'a str) -> Result<usize, AllocError> {
         if let Some(number) = self.numbers.get(text) {
             return Ok(*number);
@@ -33,7 +33,7 @@ impl<'a> Names<'a> {
         Ok(number)
     }
 
-    /// Returns the names by their numbers.
+    /// Returns the names in the order of their numbers.
     pub fn into_texts(self) -> Vec<String> {
         self.texts
     }

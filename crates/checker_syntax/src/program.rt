@@ -30,11 +30,11 @@ pub enum WrittenType {
     Char,
     /// `str`
     Str,
-    /// The type parameter of this number of the item around it, and its name's number.
+    /// The type parameter of this number, of the item around the type, and the number of the parameter's name.
     Param(usize, usize),
-    /// The data type of this number with type arguments, numbers of written types in [`Program::parts`].
+    /// The data type of this number, and its type arguments: numbers of written types in [`Program::parts`].
     Data(usize, Span),
-    /// A tuple of types, numbers of written types in [`Program::parts`]. `()` has none.
+    /// A tuple of types: numbers of written types in [`Program::parts`]. `()` has none.
     Tuple(Span),
     /// A reference to the written type of this number. The region isn't written.
     Reference(usize),
@@ -56,11 +56,12 @@ pub enum Expression {
     Literal(Literal),
     /// The function's argument of this number.
     Argument(usize),
-    /// `let x: T = e;` with the expression `e`, and the written type `T` if it is there. It has the type of `x`.
+    /// `let x: T = e;`: the number of `e`, and the number of the written type `T` if there is one. The type of the
+    /// `let` is the type of `x`.
     Let(usize, Option<usize>),
-    /// A use of the variable of this `let`.
+    /// A use of the variable of the `let` of this number.
     Local(usize),
-    /// `(a, b)`, numbers of expressions in [`Body::operands`]. `()` has none.
+    /// `(a, b)`: numbers of expressions in [`Body::operands`]. `()` has none.
     Tuple(Span),
     /// `&e`
     Reference(usize),
@@ -68,12 +69,12 @@ pub enum Expression {
     Dereference(usize),
     /// `f(a, b)`: the function's number, and its arguments' numbers in [`Body::operands`].
     Call(usize, Span),
-    /// `S { x: a, y: b }`: the data type's number, and its fields' values in the order in which they are declared,
-    /// numbers in [`Body::operands`].
+    /// `S { x: a, y: b }`: the data type's number, and the numbers of the fields' values in [`Body::operands`], in the
+    /// order in which the fields are declared.
     Data(usize, Span),
-    /// `e.x`, and the number of the field's name.
+    /// `e.x`: the number of `e`, and the number of the field's name.
     Field(usize, usize),
-    /// `e.0`, and the item's number.
+    /// `e.0`: the number of `e`, and the item's number.
     Item(usize, usize),
 }
 

@@ -46,7 +46,7 @@ pub struct Token {
 }
 
 impl TokenKind {
-    /// Returns the keyword that is written like this.
+    /// Returns the keyword with this text, if there is one.
     pub fn keyword(text: &str) -> Option<TokenKind> {
         match text {
             "struct" => Some(TokenKind::Struct),
@@ -58,7 +58,7 @@ impl TokenKind {
         }
     }
 
-    /// Returns the token of this one character.
+    /// Returns the kind of token that this character is by itself, if it is one.
     pub fn mark(character: char) -> Option<TokenKind> {
         match character {
             '(' => Some(TokenKind::OpenParen),

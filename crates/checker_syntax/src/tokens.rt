@@ -9,7 +9,7 @@ use crate::syntax_error::SyntaxError;
 use crate::token::{Token, TokenKind};
 use std::alloc::Global;
 
-/// The tokens that are still to be read, and the source that they are of.
+/// The tokens that are still to be read, and their source.
 #[derive(Drop)]
 pub struct Tokens<'a> {
     alloc: Global,
@@ -39,7 +39,7 @@ impl<'a> Tokens<'a> {
         self.rest = rest;
     }
 
-    /// Returns the next token.
+    /// Returns the next token, or the end of the source if no token is left.
     pub fn peek(&self) -> Token {
         match self.rest.first() {
             Some(token) => *token,
@@ -64,7 +64,7 @@ impl<'a> Tokens<'a> {
         let _ = self.next();
     }
 
-    /// Passes over the next token if it is of this kind, and says whether it is.
+    /// Passes over the next token if it is of this kind, and returns whether it is.
     pub fn eat(&mut self, kind: TokenKind) -> bool
         ensures ahead { tokens_left self.new ≤ tokens_left self.old }
         ensures passed { OnTrue result (tokens_left self.new < tokens_left self.old) }
@@ -89,7 +89,8 @@ impl<'a> Tokens<'a> {
         }
     }
 
-    /// Passes over the next token, which has to be a name, and returns its number. Messages call it `what`.
+    /// Passes over the next token, which has to be a name, and returns the name's number. Messages call the name
+    /// `what`.
     pub fn name(&mut self, what: &str) -> Result<usize, SyntaxError>
         ensures { tokens_left self.new ≤ tokens_left self.old }
     {
@@ -110,12 +111,12 @@ impl<'a> Tokens<'a> {
         }
     }
 
-    /// Returns how the token is written.
+    /// Returns the text of the token.
     pub fn text(&self, token: Token) -> &'a str {
         self.source.get(token.start..token.end).unwrap_or("")
     }
 
-    /// Returns the error that this was expected instead of the next token.
+    /// Returns the error that `what` was expected instead of the next token.
     pub fn expected(&self, what: &str) -> SyntaxError {
         let token = self.peek();
         let message = match token.kind {
@@ -138,5 +139,5 @@ impl<'a> Tokens<'a> {
     }
 }
 
-/// How many levels deep types may be nested, and how many expressions and blocks.
+/// The greatest number of levels to which types, or expressions and blocks, may be nested.
 pub const LEVELS: usize = 200;

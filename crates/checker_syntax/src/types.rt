@@ -25,14 +25,14 @@ pub struct TypeReader<'a> {
     parts: Vec<usize>,
 }
 
-/// The numbers that were read of a list in brackets.
+/// The numbers of the types or expressions that were read from a list in brackets.
 #[derive(Debug, Drop)]
 pub struct List {
     pub numbers: Vec<usize>,
     pub ends_in_comma: bool,
 }
 
-// A type that a name stands for, before its type arguments are read.
+// What a type's name denotes, before its type arguments are read.
 #[derive(Clone, Copy, Debug, PartialEq, Eq)]
 enum NamedType {
     // A type without type parameters.
@@ -64,13 +64,13 @@ impl<'a> TypeReader<'a> {
         }
     }
 
-    /// Reads the item with these type parameters from here on.
+    /// Begins an item with these type parameters, at the tokens `rest`.
     pub fn begin_item(&mut self, params: Vec<usize>, rest: &'a [Token]) {
         self.params = params;
         self.tokens.go_to(rest);
     }
 
-    /// Returns the type parameters of the item, which is read to its end.
+    /// Ends the item, and returns its type parameters.
     pub fn end_item(&mut self) -> Vec<usize> {
         mem::replace(&mut self.params, Vec::new(self.alloc))
     }
@@ -98,7 +98,7 @@ impl<'a> TypeReader<'a> {
         self.push(WrittenType::Tuple(none))
     }
 
-    // Reads a type with at most so many levels.
+    // Reads a type with at most this many levels, and returns its number.
     #[cycle(types)]
     fn nested_type(&mut self, levels: usize) -> Result<usize, SyntaxError>
         ensures { tokens_left self.new.tokens ≤ tokens_left self.old.tokens }
@@ -179,7 +179,7 @@ impl<'a> TypeReader<'a> {
         })
     }
 
-    // Returns what the name stands for.
+    // Returns what the type's name denotes.
     fn named_type(&self, name: usize, token: Token) -> Result<NamedType, SyntaxError> {
         if let Some(param) = self.params.iter().position(|param| *param == name) {
             return Ok(NamedType::Plain(WrittenType::Param(param, name)));
@@ -241,7 +241,7 @@ impl<'a> TypeReader<'a> {
     }
 }
 
-// Returns the message that a type has more or fewer type arguments than type parameters.
+// Returns the message that the numbers of type arguments and type parameters differ.
 fn wrong_count(
     alloc: Global,
     name: &str,

@@ -1,8 +1,6 @@
-//! Programs that are read, and sources that are refused.
+//! What is read of a source: names, types, declarations and bodies.
 
 mod bodies;
-mod depth;
-mod messages;
 mod tokens;
 mod types;
 
@@ -61,18 +59,7 @@ fn has_names(rt: &impl Abort, program: &Program, names: &[&str]) {
     }
 }
 
-// Asserts that the source is refused with this message.
-fn is_refused(rt: &impl Abort, alloc: Global, source: &str, place: Place, text: &str) {
-    match read(alloc, source) {
-        Err(SyntaxError::Wrong(message)) => {
-            assert_eq!(rt; message.text.as_str(), text, "{source}");
-            assert_eq!(rt; message.place, place, "{source}");
-        }
-        Err(SyntaxError::Memory) => panic!(rt; "no memory: {source}"),
-        Ok(_) => panic!(rt; "a program: {source}"),
-    }
-}
-
+// Spaces and comments are no items.
 #[test]
 fn an_empty_source_is_an_empty_program(rt: HostRuntime) -> Result<(), Fail> {
     for source in ["", " \r\n\t", "// nothing", "// nothing\n"] {
@@ -83,5 +70,18 @@ fn an_empty_source_is_an_empty_program(rt: HostRuntime) -> Result<(), Fail> {
         assert_eq!(rt; program.data.len(), 0, "{source:?}");
         assert_eq!(rt; program.functions.len(), 0, "{source:?}");
     }
+    Ok(())
+}
+
+// Its text has the place, and a refusal of memory has a text too.
+#[test]
+fn an_error_is_printed_with_its_place(rt: HostRuntime) -> Result<(), Fail> {
+    let error = read(rt.alloc(), "\nfn f() { x }").err().ok_or("a program")?;
+    assert_eq!(rt;
+        error.to_string(rt.alloc())?.as_str(),
+        "2:10: unknown value `x`"
+    );
+    let memory = SyntaxError::Memory.to_string(rt.alloc())?;
+    assert_eq!(rt; memory.as_str(), "out of memory");
     Ok(())
 }

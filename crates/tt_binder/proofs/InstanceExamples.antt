@@ -10,23 +10,25 @@ use Rattle.tt_fold.proofs.ShiftExamples.{i32}
 use Rattle.tt_binder.specs.Instance.{ComesBack}
 use Rattle.tt_binder.proofs.SharingExamples.{parameter, one, tuple}
 
--- a region variable in a type without parameters is hidden, so the type comes back, and without arguments it does so
--- too
+-- a reference to `i32` whose region is a region variable
 abbrev hidden : Tree Depth
 hidden = term (type_label (ref_type mutability.«Not»)) (also (region (region_var 0)) (also i32 none))
 
+-- a region variable in a type without parameters is hidden, so the type comes back
 comes_back : ComesBack (one i32) hidden
 comes_back = record { no_param = refl; hides = inr (λ x h. elim h.0 [ inl a ↦ a | inr b ↦ elim b [ inl c ↦ c | inr d ↦ d ] ]) }
 
+-- such a type comes back also where there are no arguments
 comes_back_without : ComesBack [] hidden
 comes_back_without = record { no_param = refl; hides = inl refl }
 
--- a region where two types are wanted is one of another sort, and one too few
+-- a pair of two parameters, and a region as the one argument
 abbrev two_parameters : Tree Depth
 two_parameters = tuple (also parameter (also (param type_sort 1 []) none))
 
 abbrev a_region : Argument Depth
 a_region = record { sort = region_sort; value = region static_region }
 
+-- a region where two types are wanted is of another sort, and one too few: either cause may be named
 two_causes : Cause two_parameters (a_region ∷ []) (ArgKind 0) × Cause two_parameters (a_region ∷ []) (ArgOutOfRange 1)
 two_causes = (inl (inl (refl, refl)), ((λ e. cc), inl (inr (inl refl)), omega arith))

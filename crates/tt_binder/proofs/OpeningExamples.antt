@@ -29,7 +29,7 @@ a_static = region static_region
 one_region : open_tree 0 (region_arg a_static ∷ []) (reference_to (variable_at 0 0)) ≡ reference_to a_static
 one_region = refl
 
--- two of them become two arguments, by their numbers
+-- two variables become two arguments, by their numbers
 two_regions : open_tree 0 (region_arg a_static ∷ region_arg (variable_at 3 0) ∷ []) (tuple (also (reference_to (variable_at 0 1)) (also (reference_to (variable_at 0 0)) none)))
     ≡ tuple (also (reference_to (variable_at 3 0)) (also (reference_to a_static) none))
 two_regions = refl
@@ -49,24 +49,27 @@ reads_plain : IsOpened (region_arg (variable_at 0 0) ∷ []) (pointer (also (ref
     (pointer (also (reference_to (variable_at 1 0)) (also (reference_to (variable_at 1 1)) none)))
 reads_plain = refl
 
--- nothing else is read so: an argument that is captured, or a variable of another number
+-- no argument is captured in what is read
 captured : IsOpened (region_arg (variable_at 0 0) ∷ []) (pointer (also (reference_to (variable_at 1 0)) none)) (pointer (also (reference_to (variable_at 0 0)) none)) → ⊥
 captured h = let never : 0 ≡ 1 = ap greatest_reach h in omega (arith, never)
 
+-- no variable becomes the argument of another number
 other_number : IsOpened (region_arg a_static ∷ region_arg (variable_at 3 0) ∷ []) (reference_to (variable_at 0 1)) (reference_to a_static) → ⊥
 other_number h = let never : 0 ≡ 4 = ap greatest_reach h in omega (arith, never)
 
--- why one isn't opened: no arguments, too few, and one of another sort
+-- no arguments: refused
 no_arguments : OpeningCause [] 0 (reference_to (variable_at 0 0)) NoArguments
 no_arguments = (refl, inl refl)
 
+-- fewer arguments than the number of the variable: refused with the number
 too_few : OpeningCause (region_arg a_static ∷ []) 0 (reference_to (variable_at 0 1)) (ArgOutOfRange 1)
 too_few = ((λ e. cc), inl (refl, refl), omega arith)
 
+-- a type for a region: refused with the number
 other_sort : OpeningCause (one i32) 0 (reference_to (variable_at 0 0)) (ArgKind 0)
 other_sort = inl (refl, refl, refl)
 
--- the variable of another binder wants none
+-- the variable of another binder wants no argument
 not_its_own : OpeningCause [] 0 (pointer (also (reference_to (variable_at 0 0)) none)) NoArguments → ⊥
 not_its_own h = elim h.1 [
   | inl under ↦ elim under [ inl list ↦ elim list [ inl first ↦ elim first [ inl is ↦ omega (arith, is) | inr rest ↦ elim rest [ inl a ↦ a | inr b ↦ b ] ] | inr nothing ↦ nothing ] | inr nothing ↦ nothing ]

@@ -39,11 +39,11 @@ pointer ts = term (type_label (fn_ptr_type (record { fn_sig_kind = record { flag
 abbrev twice_and_under : Tree Depth → Tree Depth → Tree Depth
 twice_and_under t u = tuple (also (tuple (also t none)) (also (tuple (also t none)) (also (pointer (also (tuple (also u none)) none)) none)))
 
--- under the pointer's binder the argument is shifted
+-- under the pointer's binder the argument is shifted, and outside of the binder it stays as it is
 twice_and_under_put : inst_tree 0 (one (reference_at 0)) (twice_and_under parameter parameter) ≡ twice_and_under (reference_at 0) (reference_at 1)
 twice_and_under_put = refl
 
--- five types are taken apart, of which two are the same under as many binders
+-- `(P, P, fn(P))` has five places of types with a parameter, of which two are one type under as many binders
 five_positions : place_count (twice_and_under parameter parameter) ≡ 5
 five_positions = refl
 
@@ -61,14 +61,15 @@ among_four p (inr (inl first)) = inr (inl first)
 among_four p (inr (inr (inl again))) = inr (inl again)
 among_four p (inr (inr (inr rest))) = inr (inr rest)
 
+-- of these five at most four are taken apart
 four_pairs : (before after : ℕ) → CountsPairs (generic_types 0 (twice_and_under parameter parameter)) before after → after ≤ before + 4
 four_pairs before after c = omega (arith, c.few, length-distinct c.pairs four c.distinct (λ p h. among_four p (c.each p h)))
 
--- a parameter paired 64 times has 2^64 - 1 such places, of 64 types
+-- a parameter paired 64 times has 2^64 - 1 such places, of 64 types: at most 64 are taken apart
 tower_taken_apart : (before after : ℕ) → CountsPairs (generic_types 0 (paired 64 parameter)) before after → after ≤ before + 64
 tower_taken_apart before after c = few-among generic_types (λ k u. holds_param (twice u)) (λ k u. refl) 64 before after parameter c
 
--- and its instance is the argument paired 64 times
+-- the tower's instance is the argument paired 64 times
 tower_put : inst_tree 0 (one i32) (paired 64 parameter) ≡ paired 64 i32
 tower_put = rebuild-paired (λ j d. d) (given_under (one i32)) 64 parameter
 
@@ -103,7 +104,7 @@ in-pointers p (inl h) = one-is-at p 1 (in-pointer p (also parameter none) h)
 in-pointers p (inr (inl h)) = both-are-at p 1 (in-pointer p (also parameter (also parameter none)) h)
 in-pointers p (inr (inr h)) = absurd h
 
--- so an argument that is a tower is shifted once for all of them, which takes at most 65 types apart
+-- a tower as the argument, and its types that a shift takes apart
 abbrev tower_args : List (Argument Depth)
 tower_args = one (paired 64 (reference_at 0))
 
@@ -121,6 +122,7 @@ in-tower x m =
     let there = IsIn-map under_one x.1 tower (moving-pairs 64 (reference_at 0) x.1 moving) in
     subst (λ p. IsIn {A = ParamAt × TypeAt} (p, x.1) (map under_one tower)) (sym place) there
 
+-- an argument that is a tower is shifted once for all three, which takes at most 65 types apart
 shifted_once : (before after : ℕ) → CountsShifts tower_args (tuple pointers) before after → after ≤ before + 65
 shifted_once before after c = omega (
   arith,
@@ -130,12 +132,13 @@ shifted_once before after c = omega (
   length-pairs 64 0 (reference_at 0) (moving_types 0 (reference_at 0)),
 )
 
--- under no binder an argument isn't shifted
+-- no type of the argument is shifted for a parameter under no binder
 never-moved : (x : ParamAt × TypeAt) → IsMovedFor (one (reference_at 0)) (twice parameter) x.0 x.1 → ⊥
 never-moved x m =
     let place = both-are-at x.0 0 (in-tuple x.0 (also parameter (also parameter none)) m.param) in
     let some : 0 < 0 = subst (λ p. 0 < p.under) place m.under_some in
     omega (arith, some)
 
+-- an argument that is put under no binder is not shifted
 not_shifted : (before after : ℕ) → CountsShifts (one (reference_at 0)) (twice parameter) before after → after ≤ before
 not_shifted before after c = omega (arith, c.few, length-distinct c.moved [] c.distinct (λ x h. never-moved x (c.each x h)))

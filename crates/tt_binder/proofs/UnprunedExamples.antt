@@ -33,7 +33,7 @@ under_binder t = term (type_label unsafe_binder_type) (also (binder [] (node (re
 abbrev one : Tree Depth → List (Argument Depth)
 one t = record { sort = type_sort; value = t } ∷ []
 
--- (T, for<> T) where T is a variable bound just outside: under the binder it is shifted past it
+-- `(T, for<> T)`, where T becomes a variable bound just outside: under the binder it is shifted past it
 both_places : GivesUnpruned each (one (variable 0)) (pair (param type_sort 0 []) (under_binder (param type_sort 0 []))) (pair (variable 0) (under_binder (variable 1)))
 both_places = (
   outside (one (variable 0)),
@@ -44,7 +44,7 @@ both_places = (
       done) (λ h. h)) (refl, refl))) done)) (λ h. h)) (refl, refl)),
 )
 
--- a parameter past the end of the list
+-- a parameter past the end of the list is refused
 past_the_end : FailsUnpruned each (one truth) (pair truth (param type_sort 1 [])) (ArgOutOfRange 1)
 past_the_end = (
   outside (one truth),
@@ -64,6 +64,6 @@ second_alone = (
       (here (region_failed refl (refl, refl, refl)))))),
 )
 
--- a region variable is met also where nothing around it holds a parameter
+-- a region variable is refused also where nothing around it holds a parameter
 hidden_variable : FailsUnpruned each (one truth) (term (type_label dynamic_type) (also (region (region_var 3)) none)) (RegionVariable 3)
 hidden_variable = (outside (one truth), descent_failed refl (refl, refl, λ e heeds h. h) (inside_failed (in_term_failed (here (region_failed refl (refl, refl, refl))))))

@@ -25,27 +25,30 @@ near = bound region_sort (at 0) (record { var = 0; kind = region_variable anonym
 abbrev under_region : Tree Depth
 under_region = binder one_region (reference_at 1)
 
--- the type agrees with a list of one type, and the region doesn't
+-- a bound type agrees with a list of one type
 type_agrees : Agrees one_type 0 bound_type
 type_agrees is = refl
 
+-- a bound region disagrees with a list of one type
 region_disagrees : Agrees one_type 0 near → ⊥
 region_disagrees h = let never = h refl in cc
 
--- a number that is not below the length of the list
+-- a number that is not below the length of the list disagrees
 second_disagrees : Agrees one_type 0 (bound type_sort (at 0) (record { var = 1; kind = type_variable bound_ty.Anon })) → ⊥
 second_disagrees h = let never = h refl in cc
 
--- a region of another name
+-- a region disagrees with a region of another name
 name_disagrees : Agrees (region_variable (named 3) ∷ []) 0 near → ⊥
 name_disagrees h = let never = h refl in cc
 
--- under one more binder the outer binder's variables have the index 1, and those of index 0 are the inner binder's
+-- under one more binder the outer binder's variables have the index 1, and agree with its list
 inner_agrees : Agrees one_region 0 under_region
 inner_agrees = (λ is. refl, (tt, tt))
 
+-- the outer binder's variables disagree with an empty list
 none_disagrees : Agrees [] 0 under_region → ⊥
 none_disagrees h = let never = h.0 refl in cc
 
+-- the inner binder's variables of index 0 take no part
 own_agrees : Agrees [] 0 (binder one_region near)
 own_agrees is = let never = is in cc

@@ -80,7 +80,7 @@ state-still old new xs ys k kept es g same h all =
     (arguments-still old new xs ys g same h)
     ∙ ap (λ m. record { rule = arguments old xs; under = k; kept = kept; memory = m }) (memos-still old new es g all)
 
--- a folder with arguments owns the same with more rows, and with the shifts that it remembers then
+-- the handles of a folder with arguments stay among the rows, also with the shifts that it remembers afterwards
 module _ {S : Type 0} {items : List Row → S → List GenericArgKind} {owns : List Row → S → Type 0}
     (still_owned : (old new : List Row) (x : S) → Grows old new → owns old x → owns new x)
     (still_items : (old new : List Row) (x : S) → Grows old new → owns old x → items new x ≡ items old x)

@@ -38,25 +38,27 @@ opening_state rows items k memory = record {
   memory = memos rows memory;
 }
 
--- the index of a variable that isn't the opened binder's own, under k binders in it, as it is outside of the opened one
+-- the index that a variable under k binders of the contents has outside of the opened binder, if it isn't this binder's
+-- own
 abbrev pub index_outside : ℕ → BoundVarIndexKind → BoundVarIndexKind
 index_outside k (Bound d) = Bound (if nat_lt d k then d else d - 1)
 index_outside k Canonical = Canonical
 
--- the tree under k binders is opened, and each own variable of the opened binder has an argument
+-- r is the opened tree of t, which is under k binders, and each own variable of the opened binder has an argument
 pub record OpensTree (args : Args) (k : ℕ) (t r : Tree Depth) : Type 0 where
   pub plain : r ≡ open_tree k args t
   pub given : IsGiven args k t
 
--- a tree under k binders isn't opened: for a cause, because a tree in what is made of it isn't built, or since that
--- doesn't fit
+-- why a tree under k binders isn't opened: for a cause, because a tree in the opened tree isn't built, or because the
+-- opened tree doesn't fit
 pub data OpeningRefuses (unbuilt : Tree Depth → Refusal → Type 0) (args : Args) (k : ℕ) (t : Tree Depth) (e : Refusal)
     : Type 0 where
   for_cause : OpeningCause args k t e → OpeningRefuses unbuilt args k t e
   not_built : (u : Tree Depth) → StandsIn u (open_tree k args t) → unbuilt u e → OpeningRefuses unbuilt args k t e
   too_great : e ≡ GreatestIndex → (FitsUnder k (read k (open_tree k args t)) → ⊥) → OpeningRefuses unbuilt args k t e
 
--- the task of opening a binder, which takes each type apart that has a variable bound by it or outside of it
+-- the task of opening a binder, in which each type with a variable that is bound by the binder or outside of it is
+-- taken apart
 abbrev pub opening : Task Args ⊤
 opening = record {
   variable = open_variable;

@@ -51,7 +51,7 @@ abbrev pub fields_among : Ty → ℕ → List Variant → List FieldInfo
 fields_among base v [] = []
 fields_among base v (x ∷ xs) = fields_from base x.name v 0 x.fields ++ fields_among base (v + 1) xs
 
--- the variants, or none without a definition
+-- the variants, or none if there is no definition
 abbrev pub variants_or_none : Option (List Variant) → List Variant
 variants_or_none None = []
 variants_or_none (Some vs) = vs
@@ -60,7 +60,7 @@ variants_or_none (Some vs) = vs
 abbrev pub declared_fields : List Row → Ty → Id DataType → List FieldInfo
 declared_fields rows base id = fields_among base 0 (variants_or_none (variants_of rows id.number))
 
--- the type in a result as an instantiation returns it
+-- a result with a type, as an instantiation returns it
 abbrev pub unnormalized : Result Ty Refusal → Result (Unnormalized Ty) Refusal
 unnormalized (Ok t) = Ok (record { value = t })
 unnormalized (Err e) = Err e
@@ -89,14 +89,14 @@ StopsAtField args (f ∷ fs) e old new =
     InstantiatesTy args f.ty old (Err e) new
     ⊎ ((t : Ty) × (between : Terms) × InstantiatesTy args f.ty old (Ok t) between × StopsAtField args fs e between new)
 
--- all fields with their instances; or one of these was refused, or the memory for a list that is not empty, and nothing
--- changed
+-- the fields have their instances; or an instance was refused; or the memory for a list that is not empty was refused,
+-- and nothing changed
 abbrev pub GivesInstances : GenericArgs → List FieldInfo → Terms → Result (Vec FieldInfo Global) Refusal → Terms
     → Type 0
 GivesInstances args fs old (Ok fields) new = AreInstances args fs fields.items old new
 GivesInstances args fs old (Err e) new = StopsAtField args fs e old new ⊎ ((e ≡ Memory) × (fs ≢ []) × (new ≡ old))
 
--- the type of each of the fields is in range, and plain replacement in the declared one
+-- the type of each field is in range, and is plain replacement in the declared type
 abbrev pub ArePlain : GenericArgs → List FieldInfo → List FieldInfo → List Row → List Row → Type 0
 ArePlain args [] [] old new = ⊤
 ArePlain args (f ∷ fs) (i ∷ is) old new =

@@ -27,7 +27,7 @@ HasFnSig rows (ty.FnDef id args) = IsOfSort rows sort.Fn id.number
 HasFnSig rows (ty.Error e) = ⊤
 HasFnSig rows _ = ⊥
 
--- the signature of no types, of a safe function of Rust's convention, under a binder of no variables
+-- the signature of a safe function of Rust's convention, without types, under a binder without variables
 abbrev pub no_sig : Binder FnSig
 no_sig = record {
   value = record { inputs_and_output = handle 0; fn_sig_kind = plain_header.fn_sig_kind };
@@ -39,7 +39,7 @@ abbrev pub instance : {T : Type 0} → Result (Unnormalized T) Refusal → Resul
 instance (Ok u) = Ok u.value
 instance (Err e) = Err e
 
--- the result is the function's signature as it is declared, instantiated with the arguments, or the refusal of that
+-- the result of instantiating the function's declared signature with the arguments: the instance or the refusal
 pub record InstantiatesSig (id : DefId) (args : GenericArgs) (old : Terms) (result : Result (Binder FnSig) Refusal)
     (new : Terms) : Type 0 where
   pub sig : EarlyBinder (Binder FnSig)
@@ -49,8 +49,8 @@ pub record InstantiatesSig (id : DefId) (args : GenericArgs) (old : Terms) (resu
       (arguments old.rows (args_at old.rows args)) sig.value old instantiated new
   pub is : result ≡ instance instantiated
 
--- the signature of a type: a pointer's parts joined, a function's as it is declared and instantiated, and none for an
--- error
+-- the signature of a type: a pointer's joined parts, a function's instantiated declaration, or, for an error, a
+-- signature without types
 abbrev pub GivesFnSig : TyKind → Terms → Result (Binder FnSig) Refusal → Terms → Type 0
 GivesFnSig (ty.FnPtr types header) old result new = (result ≡ Ok (joined types header)) × (new ≡ old)
 GivesFnSig (ty.FnDef id args) old result new = InstantiatesSig (record { number = id.number }) args old result new

@@ -22,16 +22,16 @@ IsPlain args t r = read 0 r ≡ put (readings args) (read 0 t)
 abbrev pub HasNoCause : List (Argument Depth) → Tree Depth → Type 0
 HasNoCause args t = (e : Refusal) → Cause t args e → ⊥
 
--- further arguments replace in the result as the first ones, with the further ones replaced in them, do in the value
+-- to put later arguments into the result is to put the arguments, with the later ones put into them, into the value
 abbrev pub Composes : List (Argument Depth) → Tree Depth → Tree Depth → Type 0
 Composes args t r = (later : List (Argument Place)) → put later (read 0 r)
     ≡ put (change_values (put later) (readings args)) (read 0 t)
 
--- the result, moved, is the moved value with moved arguments
+-- the result, moved, is the moved value with the moved arguments put into it
 abbrev pub Commutes : List (Argument Depth) → Tree Depth → Tree Depth → Type 0
 Commutes args t r = (n : ℕ) → move n (read 0 r) ≡ put (change_values (move n) (readings args)) (move n (read 0 t))
 
--- if the value and the arguments agree with their binders, the result does
+-- if the variables of the value and of the arguments match their binders' lists, the variables of the result do
 abbrev pub StaysMatched : List (Argument Depth) → Tree Depth → Tree Depth → Type 0
 StaysMatched args t r = ArgumentsMatched (readings args) → MatchedUnder [] (read 0 t) → MatchedUnder [] (read 0 r)
 
@@ -45,22 +45,22 @@ pub record IsInstance (args : List (Argument Depth)) (t r : Tree Depth) : Type 0
   pub answered : IsAnswered args t
   pub no_cause : HasNoCause args t
 
--- why an instantiation is refused, as its call ends: memory was refused, a term or a list of the plain result would be
--- a new row of a table that is full, the plain result doesn't fit, or a cause holds
+-- why an instantiation is refused, in the interner at the end of the call: memory was refused, a term or a list of the
+-- plain result would be a new row of a table that is full, the plain result doesn't fit, or a cause holds
 abbrev pub IsReason : Terms → List (Argument Depth) → Tree Depth → Refusal → Type 0
 IsReason terms args t Memory = ⊤
 IsReason terms args t TableFull = IsPartUnbuilt terms (inst_tree 0 args t) TableFull
 IsReason terms args t GreatestIndex = Fits (put (readings args) (read 0 t)) → ⊥
 IsReason terms args t e = Cause t args e
 
--- the table is the one of predicates, or of clause lists
+-- the table holds predicates, or lists of clauses
 abbrev pub IsOfClauses : Table → Type 0
 IsOfClauses Predicates = ⊤
 IsOfClauses ClauseLists = ⊤
 IsOfClauses _ = ⊥
 
--- there is nothing to replace and nothing to refuse: no parameter, and no exposed region variable unless there are no
--- arguments
+-- there is nothing to replace and nothing to refuse: no parameter occurs, and there are no arguments or no region
+-- variable is exposed
 pub record ComesBack (args : List (Argument Depth)) (t : Tree Depth) : Type 0 where
   pub no_param : holds_param t ≡ false
   pub hides : (args ≡ []) ⊎ HidesRegionVars t

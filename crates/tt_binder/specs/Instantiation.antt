@@ -33,7 +33,7 @@ Kept = List ParamAt
 abbrev pub Instantiation : Type 0
 Instantiation = State Args Kept
 
--- the state outside of each binder, with nothing remembered
+-- the state of a new folder: no binder is entered, and nothing is remembered
 abbrev pub at_first : Args → Instantiation
 at_first args = record { rule = args; under = 0; kept = []; memory = [] }
 
@@ -42,8 +42,8 @@ pub record IsInstantiable (args : Args) (t : Tree Depth) : Type 0 where
   pub answered : IsAnswered args t
   pub hides : HidesRegionVars t
 
--- a leaf under k binders is refused: for a cause, or, if it has to be shifted past some binders, because a tree
--- in the shifted argument isn't built, or because that argument doesn't fit
+-- why a leaf under k binders is refused: for a cause; or, if there are binders to shift past, because a tree in the
+-- shifted argument isn't built, or because the shifted argument doesn't fit
 pub data LeafRefuses (unbuilt : Tree Depth → Refusal → Type 0) (args : Args) (k : ℕ) (t : Tree Depth) (e : Refusal)
     : Type 0 where
   for_cause : Cause t args e → LeafRefuses unbuilt args k t e
@@ -56,14 +56,14 @@ pub data LeafRefuses (unbuilt : Tree Depth → Refusal → Type 0) (args : Args)
 abbrev pub IsShiftCount : Standing Instantiation → ℕ → Type 0
 IsShiftCount s n = (s.counters.shift_descents ≤ n) × (s.state.under ≡ 0 → n ≡ s.counters.shift_descents)
 
--- the tree is a type's, a predicate's or a clause list's
+-- the tree is a type, a predicate or a list of clauses
 abbrev pub IsTypeOrClause : Tree Depth → Type 0
 IsTypeOrClause (param s i name) = IsTrue (is_type_sort s)
 IsTypeOrClause (bound s d e) = IsTrue (is_type_sort s)
 IsTypeOrClause (term l ts) = IsTrue (is_type_or_clause l)
 IsTypeOrClause _ = ⊥
 
--- the label is a constant's
+-- the label is a label of a constant
 abbrev pub is_const : Label Name → Bool
 is_const (const_label l) = true
 is_const _ = false
@@ -79,7 +79,8 @@ pub record Rises (c c' : Counters) : Type 0 where
   pub descents : c.descents ≤ c'.descents
   pub shift_descents : c.shift_descents ≤ c'.shift_descents
 
--- the tree is entered: a variable, or a term that holds a parameter if it would otherwise hide its region variables
+-- the tree is entered: a bound variable, or a term; a type, a predicate or a list of clauses only if it holds a
+-- parameter
 abbrev pub IsGoneInto : Tree Depth → Type 0
 IsGoneInto (bound s d e) = ⊤
 IsGoneInto (term l ts) = OnTrue (is_type_or_clause l) (IsGeneric_among ts)
@@ -95,7 +96,7 @@ abbrev pub IsAnyParam : Tree Depth → Type 0
 IsAnyParam (param o i name) = ⊤
 IsAnyParam _ = ⊥
 
--- a parameter's argument takes its place, shifted past the binders above it
+-- a parameter's argument takes the parameter's place, shifted past the k binders above it
 pub record IsArgument (args : Args) (k : ℕ) (t r : Tree Depth) : Type 0 where
   pub param : IsAnyParam t
   pub plain : r ≡ inst_tree k args t
@@ -115,7 +116,7 @@ pub data PutsArgument (args : Args) (k : ℕ) (t r : Tree Depth) : Kept → Coun
       → c.shift_descents ≤ n → CountsPairs (moving_at args i) c.shift_descents n
       → PutsArgument args k t r kept c kept' (record { descents = c.descents; shift_descents = n })
 
--- the task of replacing parameters by arguments, which takes each type apart that holds a parameter
+-- the task of replacing parameters by arguments, in which each type that holds a parameter is taken apart
 abbrev pub instantiation : Task Args Kept
 instantiation = record {
   variable = λ args. reindexed (λ j d. d);

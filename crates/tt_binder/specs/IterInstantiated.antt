@@ -15,7 +15,7 @@ module _ {I T : Type 0} (shape : T → Shape) (gives : I → Option T → I → 
   abbrev pub NextIsOwned : List Row → I → Type 0
   NextIsOwned rows it = (item : T) (left : I) → gives it (Some item) left → IsPartBy shape rows item
 
-  -- the iterator had no item and nothing changed; or it gave one, and the result is this item's instance
+  -- the iterator had no item, and the interner is unchanged; or it gave an item, and the result is the item's instance
   abbrev pub GivesInstance : List (Argument Depth) → I → Terms → Option (Result (Unnormalized T) Refusal) → I → Terms
       → Type 0
   GivesInstance args it old result left new =
@@ -23,7 +23,7 @@ module _ {I T : Type 0} (shape : T → Shape) (gives : I → Option T → I → 
       (gives it None left × (new ≡ old))
       (λ r. (item : T) × gives it (Some item) left × InstancePromise shape args item old r new)
 
--- the iterator had no item; or it gave one that points to this value
+-- the iterator had no item; or it gave an item that points to this value
 abbrev pub GivesTarget : {I A T : Type 0} → (I → Option A → I → Type 0) → (A → T → Type 0) → I → Option T → I → Type 0
 GivesTarget gives points it None left = gives it None left
 GivesTarget {A} gives points it (Some value) left = (item : A) × gives it (Some item) left × points item value

@@ -23,7 +23,7 @@ opening-still old new xs ys k es g same h all =
     (arguments-still old new xs ys g same h)
     ∙ ap (λ m. record { rule = arguments old xs; under = k; kept = tt; memory = m }) (memos-still old new es g all)
 
--- it owns the same with more rows, and with the shifts that it remembers then
+-- the folder's handles stay among the rows, also with the shifts that it remembers afterwards
 module _ {S : Type 0} {items : List Row → S → List GenericArgKind} {owns : List Row → S → Type 0}
     (still_owned : (old new : List Row) (x : S) → Grows old new → owns old x → owns new x)
     (still_items : (old new : List Row) (x : S) → Grows old new → owns old x → items new x ≡ items old x)

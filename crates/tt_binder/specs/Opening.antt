@@ -1,5 +1,5 @@
--- What opening a binder gives: its own variables are replaced by arguments, and the other indices are those outside of
--- it.
+-- What opening a binder gives: the binder's own variables are replaced by arguments, and other variables have their
+-- indices outside of the binder.
 use Rattle.std.specs.Prelude.{ℕ, suc, ◌-◌, List, [], length, nat_eq, nat_lt, if◌then◌else◌, ◌≡◌, ◌≢◌, ◌≤◌, ◌⊎◌, ⊤}
 use Rattle.std.specs.Prelude.{IsSome}
 use Rattle.tt_index.specs.declared.refusal.Refusal.{Refusal}
@@ -16,8 +16,8 @@ use Rattle.tt_interner.specs.Stored.{Terms}
 use Rattle.tt_fold.specs.Leaves.{with_leaves}
 use Rattle.tt_fold.specs.Stands.{IsPartUnbuilt}
 
--- A variable that is read under k binders of a binder's contents: if it is the binder's own, its argument's reading
--- takes its place, as that of a parameter of its number would.
+-- A variable as it is read, under k binders of a binder's contents: if it is the binder's own, its argument's reading
+-- takes its place, as for a parameter of the variable's number.
 abbrev pub put_variable : List (Argument Place) → ℕ → Sort → Place → Entry Name → Tree Place
 put_variable args k s (own d) e = if nat_eq d k then given args s e.var [] else bound s (own d) e
 put_variable args k s (outer j) e = bound s (outer j) e
@@ -28,18 +28,19 @@ put_variable args k s apart e = bound s apart e
 abbrev pub put_own : List (Argument Place) → ℕ → Tree Place → Tree Place
 put_own args k r = with_leaves (put_variable args) keep k r
 
--- The same of a variable as it is written: if it is the binder's own, it is replaced by its argument, shifted past the
--- k binders; one of these binders' stays, and one that is bound outside loses a binder.
+-- The same for a variable as it is written: if it is the binder's own, its argument takes its place, shifted past the k
+-- binders. A variable of one of these k binders stays. The index of a variable that is bound outside of the binder is
+-- one less.
 abbrev pub open_variable : List (Argument Depth) → ℕ → Sort → Depth → Entry Name → Tree Depth
 open_variable args k s (at d) e = if nat_lt d k then bound s
     (at d) e else if nat_eq d k then given_under args k s e.var [] else bound s (at (d - 1)) e
 open_variable args k s canonical e = bound s canonical e
 
--- a binder's contents, under k binders in them, without the binder
+-- a tree under k binders of a binder's contents, without the binder
 abbrev pub open_tree : ℕ → List (Argument Depth) → Tree Depth → Tree Depth
 open_tree k args t = with_leaves (open_variable args) keep k t
 
--- the result reads as the contents do outside of the binder, with arguments for the binder's own variables
+-- the result reads as the contents do under the binder, with the arguments' readings for the binder's own variables
 abbrev pub IsOpened : List (Argument Depth) → Tree Depth → Tree Depth → Type 0
 IsOpened args t r = read 0 r ≡ put_own (readings args) 0 (read 1 t)
 
@@ -82,12 +83,12 @@ IsOwn k canonical = ⊥
 abbrev pub IsGivenAt : List (Argument Depth) → ℕ → Sort → Depth → Entry Name → Type 0
 IsGivenAt args k s d e = IsOwn k d → IsSome (argument args s e.var)
 
--- each of the binder's own variables has an argument of its sort, in contents under k binders
+-- each of the binder's own variables in a tree under k binders of the contents has an argument of its sort
 abbrev pub IsGiven : List (Argument Depth) → ℕ → Tree Depth → Type 0
 IsGiven args k t = EachVariable (IsGivenAt args) k t
 
--- the refusal's reason is in the contents, under k binders, and the arguments: there are no arguments, none for an own
--- variable, or one of another sort
+-- the refusal's cause is in a tree under k binders of the contents, and in the arguments: one of the binder's own
+-- variables has no argument, or an argument of another sort
 abbrev pub OpeningCause : List (Argument Depth) → ℕ → Tree Depth → Refusal → Type 0
 OpeningCause args k t NoArguments = (args ≡ []) × HasVariable (λ j s d e. IsOwn j d) k t
 OpeningCause args k t (ArgOutOfRange index) = (args ≢ []) × HasVariable (λ j s d e. IsOwn j d × (e.var ≡ index)) k t
@@ -96,8 +97,8 @@ OpeningCause args k t (ArgKind index) = HasVariable (λ j s d e. IsOwn j d × (e
     k t
 OpeningCause args k t _ = ⊥
 
--- why a binder isn't opened, as the call ends: memory was refused, a term or a list of the plain result would be a new
--- row of a table that is full, the plain result doesn't fit, or a cause holds
+-- why a binder isn't opened, in the interner at the end of the call: memory was refused, a term or a list of the plain
+-- result would be a new row of a table that is full, the plain result doesn't fit, or a cause holds
 abbrev pub IsOpeningReason : Terms → List (Argument Depth) → Tree Depth → Refusal → Type 0
 IsOpeningReason terms args t Memory = ⊤
 IsOpeningReason terms args t TableFull = IsPartUnbuilt terms (open_tree 0 args t) TableFull

@@ -7,7 +7,7 @@ use Rattle.tt_fold.specs.Places.{IsIn, AreDistinct}
 use Rattle.tt_binder.specs.declared.shifted.ParamAt.{ParamAt}
 
 abbrev mutual
-  -- a parameter of the index, under so many binders, is in a tree under k of them
+  -- a parameter of the index occurs, under the number of binders, in a tree under k binders
   pub IsParamIn : ParamAt → ℕ → Tree Depth → Type 0
   IsParamIn p k (param s i name) = (i ≡ p.index) × (k ≡ p.under)
   IsParamIn p k (bound s d e) = ⊥
@@ -28,14 +28,16 @@ moving_of (Some a) = moving_types 0 a.value
 abbrev pub moving_at : List (Argument Depth) → ℕ → List TypeAt
 moving_at args i = moving_of (slice_get args i)
 
--- a parameter is in the value, under some binders, and a type of its argument has a variable to be shifted
+-- the parameter occurs in the value, under at least one binder, and the type of its argument has a variable to be
+-- shifted
 pub record IsMovedFor (args : List (Argument Depth)) (t : Tree Depth) (p : ParamAt) (u : TypeAt) : Type 0 where
   pub under_some : 0 < p.under
   pub param : IsParamIn p 0 t
   pub moving : IsIn u (moving_at args p.index)
 
--- A count grew by no more than the distinct pairs of a parameter, by its index and the binders above it, and a type
--- that a shift of its argument takes apart: these are some of them, each once, and as many at least.
+-- A count grew by no more than the number of distinct pairs of a parameter, by its index and the binders above it, and
+-- a type that a shift of its argument takes apart: `moved` are some of these pairs, each once, and at least as many as
+-- the count grew by.
 pub record CountsShifts (args : List (Argument Depth)) (t : Tree Depth) (before after : ℕ) : Type 0 where
   pub moved : List (ParamAt × TypeAt)
   pub distinct : AreDistinct moved

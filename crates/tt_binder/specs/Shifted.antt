@@ -31,8 +31,8 @@ abbrev pub same_param : ParamAt → ParamAt → Bool
 same_param p q = nat_eq p.index q.index && nat_eq p.under q.under
 
 module _ {T : Type 0} (shape : T → Shape) where
-  -- an argument under the binders above a parameter: if there are any and it has a variable to shift, the remembered
-  -- shift, or else a new one, which is remembered
+  -- The argument of a parameter, shifted past the binders above the parameter: the argument itself if there are no
+  -- binders or it has no variable to shift, and otherwise the remembered shift, or a new shift, which is remembered.
   pub data Shifts (old : Terms) (x : T) (p : ParamAt) (es fs : List (ParamAt × T)) (new : Terms) (y : T) : Type 0 where
     unshifted : (p.under ≡ 0) ⊎ (outer_binder (tree_by shape old.rows x) ≡ 0) → y ≡ x → fs ≡ es → new ≡ old
         → Shifts old x p es fs new y
@@ -50,12 +50,12 @@ module _ {T : Type 0} (shape : T → Shape) where
     pub part : IsPartBy shape rows e.1
     pub shifted : tree_by shape rows e.1 ≡ shift_tree 0 e.0.under value
 
-  -- so are all remembered shifts
+  -- the same for all remembered shifts
   abbrev pub OwnsShifts : List Row → List (Argument Depth) → Sort → List (ParamAt × T) → Type 0
   OwnsShifts rows args sort [] = ⊤
   OwnsShifts rows args sort (e ∷ es) = IsShift rows args sort e × OwnsShifts rows args sort es
 
--- a folder's handles are among the rows: its arguments, of which there are some, its memory, and its shifts
+-- a folder's handles are among the rows: its arguments, its memory, and its shifts; and there is an argument
 abbrev pub OwnsArguments : {S : Type 0} → (List Row → S → List GenericArgKind) → (List Row → S → Type 0) → List Row → S
     → List (Place × Ty) → List (ParamAt × Ty) → List (ParamAt × Const) → Type 0
 OwnsArguments items owns rows x memory types consts = owns rows x

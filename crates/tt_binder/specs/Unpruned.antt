@@ -26,15 +26,15 @@ pub record Replacing : Type 0 where
   pub args : List (Argument Depth)
   pub under : ℕ
 
--- outside of each binder
+-- the state outside of all binders
 abbrev pub outside : List (Argument Depth) → Replacing
 outside args = record { args = args; under = 0 }
 
--- one binder further in
+-- the state one binder further in
 abbrev pub further_in : Replacing → Replacing
 further_in m = record { args = m.args; under = suc m.under }
 
--- one binder further out
+-- the state one binder further out
 abbrev pub further_out : Replacing → Replacing
 further_out m = record { args = m.args; under = m.under - 1 }
 
@@ -57,7 +57,8 @@ abbrev pub become : Replacing → Tree Depth → Tree Depth
 become m (param s i name) = value_or (param s i name) m.under (value_for m s i)
 become m t = t
 
--- there is no value, for this reason, or it doesn't fit under k binders when it is shifted past them
+-- why a value isn't placed under k binders: there is none, for this reason, or it doesn't fit when it is shifted past
+-- them
 abbrev pub IsValueRefusal : ℕ → Result (Tree Depth) Refusal → Refusal → Type 0
 IsValueRefusal k (Ok t) e = (e ≡ GreatestIndex) × (FitsUnder k (read k (shift_tree 0 k t)) → ⊥)
 IsValueRefusal k (Err r) e = e ≡ r
@@ -68,11 +69,11 @@ IsLeafRefusal m (param s i name) e = IsValueRefusal m.under (value_for m s i) e
 IsLeafRefusal m (region (region_var x)) e = e ≡ RegionVariable x
 IsLeafRefusal m _ e = ⊥
 
--- why a binder is refused: as many binders enclose it as may
+-- why a binder is refused: the binders around it are as many as an index can count
 abbrev pub IsBinderRefusal : Replacing → Refusal → Type 0
 IsBinderRefusal m e = (e ≡ GreatestIndex) × (greatest ≤ m.under)
 
--- none of the refusals is heeded
+-- none of the refusals for which there is a reason is heeded
 abbrev pub HeedsNone : (Refusal → Bool) → (Refusal → Type 0) → Type 0
 HeedsNone heeded why = (e : Refusal) → IsTrue (heeded e) → why e → ⊥
 
@@ -81,7 +82,8 @@ abbrev pub answer : Replacing → Tree Depth → Answer
 answer m (param s i name) = replace (become m (param s i name))
 answer m _ = descend
 
--- The folder that skips nothing and uses no flag. It ends at the refusals that it heeds, and past another it goes on.
+-- The hooks of a folder that skips nothing and uses no flag. The walk ends at a refusal that the folder heeds, and goes
+-- on at any other.
 abbrev pub unpruned_hooks : (Refusal → Bool) → Hooks Replacing Refusal
 unpruned_hooks heeded = record {
   on_region = λ m t r m'. (m' ≡ m) × (r ≡ become m t) × HeedsNone heeded (IsLeafRefusal m t);
@@ -96,7 +98,7 @@ unpruned_hooks heeded = record {
   leave_fails = λ unbuilt m vs e m'. ⊥;
 }
 
--- the errors of a fold whose every building call succeeds, with memory for all and room in each table
+-- the meaning of errors in a fold in which all building calls succeed: there is memory for all, and room in each table
 abbrev pub all_built : Errors Refusal
 all_built = record { unbuilt = λ u e. ⊥; unwanted = λ e. e ≡ NotAClause }
 
@@ -104,7 +106,7 @@ all_built = record { unbuilt = λ u e. ⊥; unwanted = λ e. e ≡ NotAClause }
 abbrev pub GivesUnpruned : (Refusal → Bool) → List (Argument Depth) → Tree Depth → Tree Depth → Type 0
 GivesUnpruned heeded args t r = (m : Replacing) × Walks (unpruned_hooks heeded) (outside args) t r m
 
--- it ends at the refusal
+-- the walk ends at the refusal
 abbrev pub FailsUnpruned : (Refusal → Bool) → List (Argument Depth) → Tree Depth → Refusal → Type 0
 FailsUnpruned heeded args t e = (m : Replacing) × Fails (unpruned_hooks heeded) all_built (outside args) t e m
 
@@ -113,7 +115,7 @@ abbrev pub IsPlainReason : List (Argument Depth) → Tree Depth → Refusal → 
 IsPlainReason args t GreatestIndex = Fits (put (readings args) (read 0 t)) → ⊥
 IsPlainReason args t e = Cause t args e
 
--- the second refusal is the first
+-- the two refusals are the same
 abbrev pub only : Refusal → Refusal → Bool
 only Memory Memory = true
 only TableFull TableFull = true
@@ -126,28 +128,28 @@ only NotAClause NotAClause = true
 only NoSuchAnswer NoSuchAnswer = true
 only _ _ = false
 
--- A walk that skips nothing has the same tree and the same refusals as plain replacement with its causes, whatever it
--- heeds.
+-- A walk that skips nothing has the same tree and the same refusals as plain replacement with its causes, whatever the
+-- walk heeds.
 pub record IsUnseen (args : List (Argument Depth)) (t : Tree Depth) : Type 0 where
-  -- it gives a tree exactly if that is the plain result and no heeded reason holds
+  -- the walk gives a tree exactly if the tree is the plain result and no heeded refusal has a reason
   pub gives : (heeded : Refusal → Bool) (r : Tree Depth) → GivesUnpruned heeded args t r ↔ IsPlain args t r
       × HeedsNone heeded (IsPlainReason args t)
-  -- a refusal at which it ends is a reason that holds, and is heeded
+  -- a refusal at which the walk ends is heeded and has a reason
   pub refused : (heeded : Refusal → Bool) (e : Refusal) → FailsUnpruned heeded args t e → IsTrue (heeded e)
       × IsPlainReason args t e
-  -- if a reason holds that it heeds, it ends at one
+  -- if a heeded refusal has a reason, the walk ends at a refusal
   pub ends : (heeded : Refusal → Bool) (e : Refusal) → IsTrue (heeded e) → IsPlainReason args t e → (found : Refusal)
       × FailsUnpruned heeded args t found
-  -- the walk that heeds one refusal alone ends at it exactly if it is a reason that holds
+  -- a walk that heeds one refusal alone ends at this refusal exactly if the refusal has a reason
   pub meets : (e : Refusal) → FailsUnpruned (only e) args t e ↔ IsPlainReason args t e
 
 -- no region inference variable occurs in the tree, exposed or hidden
 abbrev pub HoldsNoRegionVar : Tree Depth → Type 0
 HoldsNoRegionVar t = (x : ℕ) → StandsIn (region (region_var x)) t → ⊥
 
--- If an interner's value holds no region variable, its binders fit, and so do the indices that it has beside its
--- handles, and there is an argument, the walk over its tree that skips nothing gives the tree that plain replacement
--- gives, and ends for the same reasons.
+-- The walk over the tree of an interner's value that skips nothing gives the tree that plain replacement gives, and
+-- ends for the same reasons. The premises: there is an argument, the value holds no region variable, its binders fit,
+-- and so do the indices that it has beside its handles.
 abbrev pub PruningIsUnseen : Type 0
 PruningIsUnseen = (rows : List Row) (args : List (Argument Depth)) (s : Shape) → AreRows rows → IsPartOf rows s
     → args ≢ []

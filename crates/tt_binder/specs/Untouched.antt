@@ -8,12 +8,13 @@ use Rattle.tt_visit.specs.declared.visitor.Next.{Next}
 use Rattle.tt_visit.specs.declared.visitor.Next.TheVariants.{Skip, Descend}
 use Rattle.tt_binder.specs.Instantiation.{IsTypeOrClause, IsInnerConst}
 
--- the visit skips a type, a predicate or a clause list without parameters, and enters each constant that is not one
+-- the visit skips a type, a predicate or a list of clauses without parameters, and enters a constant that is not a
+-- parameter
 pub data Passes : Tree Depth → Next → Type 0 where
   passed_by : {t : Tree Depth} → IsTypeOrClause t → holds_param t ≡ false → Passes t Skip
   entered : {t : Tree Depth} → IsInnerConst t → Passes t Descend
 
--- the visit breaks at the first part that isn't left as it is
+-- the visitor's hooks: the visit breaks at the first region or term that arguments don't leave as it is
 abbrev pub untouched_visits : Visits (Unit {0}) (Unit {0})
 untouched_visits = record {
   on_region = λ s t s'. IsUntouched t;

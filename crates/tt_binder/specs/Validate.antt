@@ -1,4 +1,4 @@
--- Variables of the binder just outside of a value, and whether they agree with its list.
+-- Variables of the binder just outside of a value, and whether they agree with the binder's list.
 use Rattle.std.specs.Prelude.{◌≡◌, ◌⊎◌, ℕ, suc, ◌+◌, ◌-◌, ◌≤◌, List, ⊤}
 use Rattle.tt_index.specs.Greatest.{greatest}
 use Rattle.tt_kinds.specs.Count.{TypeAt}
@@ -34,18 +34,19 @@ abbrev mutual
 abbrev pub vars_at : List Row → BoundVarKinds → List (VarKind Name)
 vars_at rows vars = vars_of (meaning rows VarLists vars.number)
 
--- a validation: the list of the binder just outside of the value, and under how many binders of the value it is
+-- the state of a validation: the list of the binder just outside of the value, and how many binders of the value it
+-- entered
 pub record Validation : Type 0 where
   pub vars : List (VarKind Name)
   pub depth : ℕ
   -- the types that were entered and are remembered, with the number of binders above each
   pub seen : List TypeAt
 
--- a term at the validation's place
+-- a term under the binders that the validation entered
 abbrev pub validation_place : Validation → Tree Depth → TypeAt
 validation_place s t = record { standing = t; under = s.depth }
 
--- the types that are remembered agree
+-- the remembered types agree
 abbrev pub SeenAgree : Validation → Type 0
 SeenAgree s = (p : TypeAt) → IsIn p s.seen → Agrees s.vars p.under p.standing
 
@@ -54,7 +55,7 @@ abbrev pub RootAgrees : List (VarKind Name) → ℕ → Tree Depth → Type 0
 RootAgrees vs k (bound s d e) = Agrees vs k (bound s d e)
 RootAgrees vs k _ = ⊤
 
--- each new place is this one, or was there before
+-- each place of the new list is p or in the old list
 abbrev pub AddsPlace : TypeAt → List TypeAt → List TypeAt → Type 0
 AddsPlace p old new = (q : TypeAt) → IsIn q new → (q ≡ p) ⊎ IsIn q old
 
@@ -65,22 +66,22 @@ pub record ValidationDescends (s : Validation) (t : Tree Depth) (s' : Validation
   pub depth : s'.depth ≡ s.depth
   pub seen : AddsPlace (validation_place s t) s.seen s'.seen
 
--- a term that agrees is skipped, and one that was entered before; one that is entered is no variable that disagrees
+-- a skipped term agrees, or was entered before; an entered term is no variable that disagrees
 abbrev pub ValidationLooks : Validation → Tree Depth → Next → Validation → Type 0
 ValidationLooks s t Skip s' = (Agrees s.vars s.depth t ⊎ IsIn (validation_place s t) s.seen) × (s' ≡ s)
 ValidationLooks s t Descend s' = ValidationDescends s t s'
 
--- a place is skipped if it is remembered, and else entered
+-- a skipped place is remembered; an entered place may be remembered from then on
 abbrev pub EntersOnce : TypeAt → List TypeAt → Next → List TypeAt → Type 0
 EntersOnce p old Skip new = IsIn p old × (new ≡ old)
 EntersOnce p old Descend new = AddsPlace p old new
 
--- a binder is entered with one more binder to count, and skipped if there is no index for it
+-- an entered binder is counted; a binder is skipped only if no index can count it
 abbrev pub ValidationEnters : Validation → Next → Validation → Type 0
 ValidationEnters s Descend s' = s' ≡ record { vars = s.vars; depth = s.depth + 1; seen = s.seen }
 ValidationEnters s Skip s' = (greatest ≤ s.depth) × (s' ≡ s)
 
--- what disagrees breaks
+-- the visitor's hooks, which break only at a region or a term that disagrees
 abbrev pub validate_hooks : Visits Validation WrongBoundVar
 validate_hooks = record {
   on_region = λ s t s'. (s' ≡ s) × Agrees s.vars s.depth t;
@@ -94,8 +95,9 @@ validate_hooks = record {
   leave = λ s vs s'. s' ≡ record { vars = s.vars; depth = s.depth - 1; seen = s.seen };
 }
 
--- A visit that goes to its end found that all agree, and one that breaks that one disagrees. A visitor that is new
--- remembers nothing, and after a visit that goes to its end what it remembers agrees.
+-- If a visit goes to its end, the indices in the tree are in range and the types that were remembered before agree,
+-- then all variables agree, and so do the types that are remembered afterwards. A new visitor remembers nothing. If a
+-- visit breaks, a variable disagrees.
 abbrev pub ValidationIsExact : Type 0
 ValidationIsExact = (s s' : Validation) (t : Tree Depth)
     → (GoesOver validate_hooks s t s' → IndicesFit t → SeenAgree s → Agrees s.vars s.depth t × SeenAgree s')

@@ -116,7 +116,7 @@ pub fn region_argument<S: SliceLike>(
         e) }
 {
     let argument = region_at(cx, args, index)?;
-    // No shift of 0 binders is refused, since the region is in range.
+    // A shift by 0 binders is never refused, since the region is in range.
     let _in_range = argument.in_range();
     let shifted = shift_region(argument, binders_passed)?;
     Ok(shifted)
@@ -224,7 +224,7 @@ pub fn const_argument<S: SliceLike>(
     Ok(placed)
 }
 
-// Returns the index of the parameter, if the type is one.
+// Returns the parameter's index, if the type is a parameter.
 fn type_parameter(cx: &Interner, ty: Ty) -> Option<u32>
     requires { IsPartOf cx.now.rows (ty_shape ty) }
     ensures { MatchOption
@@ -239,7 +239,7 @@ fn type_parameter(cx: &Interner, ty: Ty) -> Option<u32>
     }
 }
 
-/// Returns the index of the parameter, if the constant is one.
+/// Returns the parameter's index, if the constant is a parameter.
 pub fn const_parameter(cx: &Interner, constant: Const) -> Option<u32>
     requires { IsPartOf cx.now.rows (const_shape constant) }
     ensures { MatchOption
@@ -254,9 +254,10 @@ pub fn const_parameter(cx: &Interner, constant: Const) -> Option<u32>
     }
 }
 
-/// Replaces parameters by arguments, and counts the binders that it enters. There has to be an argument. A type that
-/// occurs again under the same number of binders isn't taken apart again, and the argument of a parameter that occurs
-/// again under the same number of binders isn't shifted again.
+/// A folder that replaces parameters by arguments, and counts the binders that it enters. There has to be an argument.
+///
+/// A type that occurs again under the same number of binders isn't taken apart again, and the argument of a parameter
+/// that occurs again under the same number of binders isn't shifted again.
 #[derive(Drop)]
 pub struct ArgFolder<S> {
     args: S,
@@ -269,7 +270,7 @@ pub struct ArgFolder<S> {
 }
 
 impl<S: Copy> ArgFolder<S> {
-    /// Returns the folder outside of each binder, with empty memories that allocate nothing.
+    /// Returns a folder that has entered no binder, with empty memories that allocate nothing.
     pub fn new(alloc: Global, args: S) -> ArgFolder<S>
         ensures args { result.args ≡ args }
         ensures binders_passed { result.binders_passed ≡ 0 }

@@ -30,7 +30,7 @@ fn arguments_in<'a>(cx: &'a Interner, view: GenericArgsSlice) -> &'a [GenericArg
     span(all, view.start() as usize, view.len() as usize)
 }
 
-/// The arguments are those at the view's places. If it reaches beyond its list, they are the ones that are there.
+/// The arguments are the items at the view's places. If the view reaches beyond its list, it ends where the list ends.
 impl SliceLike for GenericArgsSlice {
     ghost use Rattle.tt_kinds.specs.declared.table.Table.TheVariants.{ArgLists};
     ghost use Rattle.tt_interner.specs.Rows.{size};

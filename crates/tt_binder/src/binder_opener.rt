@@ -34,8 +34,8 @@ use tt_kinds::{
     Node, Predicate, Region, RegionKind, Ty, TyKind,
 };
 
-// Returns the index outside of the opened binder of a variable under so many binders of its contents, or `None` if the
-// variable is the opened binder's own.
+// Returns the index that a variable under `binders_passed` binders of the contents has outside of the opened binder, or
+// `None` if the variable is the opened binder's own.
 fn outside(index: BoundVarIndexKind, binders_passed: u32) -> Option<BoundVarIndexKind>
     ensures { MatchOption
         result
@@ -186,8 +186,8 @@ fn opened_const<S: SliceLike>(
     }
 }
 
-/// Takes a binder off the contents that it folds. Each type is taken apart once under each number of binders, and each
-/// argument is shifted once past each number of them.
+/// A folder that takes a binder off the contents that it folds. Each type is taken apart once under each number of
+/// binders, and each argument is shifted once past each number of binders.
 #[derive(Drop)]
 pub struct BinderOpener<S> {
     args: S,
@@ -201,7 +201,7 @@ pub struct BinderOpener<S> {
 }
 
 impl<S: Copy> BinderOpener<S> {
-    /// Returns the folder outside of each binder of the contents, with empty memories that allocate nothing.
+    /// Returns a folder that has entered no binder of the contents, with empty memories that allocate nothing.
     pub fn new(alloc: Global, args: S) -> BinderOpener<S>
         ensures args { result.args ≡ args }
         ensures binders_passed { result.binders_passed ≡ 0 }

@@ -50,19 +50,19 @@ pub trait DataTypes: Sized {
     // The interner's terms.
     ghost terms_of: { Self → Terms };
 
-    /// Returns whether the type is a data type. It has to be of this interner; [`Interner::owns_ty`] tests it.
+    /// Returns whether the type is a data type. The type has to be of this interner; [`Interner::owns_ty`] tests it.
     fn is_adt(&self, ty: Ty) -> bool
         requires { ty.number < size (terms_of self.now).rows Types }
         ensures { IsTrue result ↔ IsAdt (terms_of self.now).rows ty };
 
-    /// Returns the fields of a data type, variant by variant, in the order of its definition. The type of each is the
-    /// defined one instantiated with the data type's arguments, and isn't normalized; `base` is the data type itself. A
-    /// data type that isn't defined yet has no fields. The type has to be a data type of this interner;
+    /// Returns the fields of a data type, variant by variant, in the order of its definition. The type of each field is
+    /// the defined type, instantiated with the data type's arguments, and isn't normalized. `base` is the data type
+    /// itself. A data type that isn't defined yet has no fields. The type has to be a data type of this interner;
     /// [`DataTypes::is_adt`] tests it.
     ///
-    /// The types are instantiated in turn, and the call is refused where [`Instantiate::instantiate`] of one is: the
-    /// terms that the types before it need are stored then. It is also refused if the memory for the list is (`Memory`),
-    /// and then nothing changes. Where there are no fields, it is never refused.
+    /// The types are instantiated in turn. If [`Instantiate::instantiate`] of one of them is refused, so is the call,
+    /// and the terms that the types before it need stay stored. If the memory for the list is refused, the call is
+    /// refused with `Memory`, and nothing changes. If there are no fields, the call is never refused.
     fn fields_of(&mut self, ty: Ty) -> Result<Vec<FieldInfo>, Refusal>
         requires { IsAdt (terms_of self.old).rows ty }
         ensures { GivesFields ty (terms_of self.old) result (terms_of self.new) };
@@ -88,7 +88,7 @@ impl DataTypes for Interner {
     }
 }
 
-// Returns the id and the arguments of a data type.
+// Returns the id and the arguments of a data type, if the type is one.
 fn adt_of(cx: &Interner, ty: Ty) -> Option<(AdtId, GenericArgs)>
     requires { ty.number < size cx.now.rows Types }
     ensures { MatchOption result (IsAdt cx.now.rows ty → ⊥) (λ adt. IsAdtOf cx.now.rows ty adt.0 adt.1

@@ -18,7 +18,7 @@ use tt_index::Refusal;
 use tt_interner::Interner;
 use tt_kinds::{Binder, BoundVarKinds, FnSig, FunctionId, GenericArgs, TyKind};
 
-/// Kinds of types, of which some have a signature.
+/// Kinds of types, some of which have a signature.
 pub trait TypeSignature: Sized {
     // The kind.
     ghost kind_of: { Self → TyKind };
@@ -28,13 +28,17 @@ pub trait TypeSignature: Sized {
     fn has_fn_sig(&self, cx: &Interner) -> bool
         ensures { IsTrue result ↔ HasFnSig cx.now.rows (kind_of self.now) };
 
-    /// Returns the signature: of a function pointer its types and its other parts; of a function item the declared
-    /// signature, instantiated with the item's arguments; of an error the signature without types. The type has to have
-    /// one, and its handles have to be this interner's; [`TypeSignature::has_fn_sig`] and [`Interner::owns_kind`] test
-    /// it.
+    /// Returns the signature of a function pointer, a function item or an error.
     ///
-    /// The signature of a function item is refused where [`Instantiate::instantiate`] of the declared one is. The others
-    /// build nothing and are never refused. The signature's handles are this interner's.
+    /// - The signature of a function pointer has the pointer's types and its other parts.
+    /// - The signature of a function item is the declared signature, instantiated with the item's arguments.
+    /// - The signature of an error has no types.
+    ///
+    /// The type has to have a signature, and its handles have to be this interner's; [`TypeSignature::has_fn_sig`] and
+    /// [`Interner::owns_kind`] test this.
+    ///
+    /// For a function item, the call is refused if [`Instantiate::instantiate`] of the declared signature is. Otherwise
+    /// it builds nothing and is never refused. The signature's handles are this interner's.
     fn fn_sig(self, cx: &mut Interner) -> Result<Binder<FnSig>, Refusal>
         requires sig { HasFnSig cx.old.rows (kind_of self) }
         requires parts { IsPartBy bare_ty_shape cx.old.rows (kind_of self) }
@@ -43,7 +47,7 @@ pub trait TypeSignature: Sized {
         ensures owned { IfOk result (λ sig. IsOwned (binder_shape fn_sig_shape) cx.new sig) };
 }
 
-// Returns the signature of a function as it is declared, instantiated with these arguments.
+// Returns a function's declared signature, instantiated with these arguments.
 fn instantiated_sig(
     cx: &mut Interner,
     id: FunctionId,
@@ -78,7 +82,7 @@ impl TypeSignature for TyKind {
             TyKind::FnPtr(types, header) => Ok(types.with(header)),
             TyKind::FnDef(id, args) => instantiated_sig(cx, id, args),
             TyKind::Error(_) => {
-                // The lists of the signature without types are the empty ones, which each interner has.
+                // The lists of the signature without types are empty, and each interner has the empty lists.
                 cx.are_rows();
                 Ok(Binder::bind_with_vars(FnSig::dummy(), BoundVarKinds::default()))
             },

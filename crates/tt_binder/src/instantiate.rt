@@ -33,25 +33,34 @@ pub trait Instantiate<T: TypeFoldable>: Sized {
     /// Returns the value with each parameter replaced by the argument at the parameter's index. No binder of the value
     /// captures a variable of an argument.
     ///
-    /// Refused if there are no arguments and the value has a parameter (`NoArguments`); if there are some, but none for
-    /// a parameter (`ArgOutOfRange`), or one of another kind (`ArgKind`); if there are some and a region inference
-    /// variable occurs in the value outside of the types, predicates and lists of clauses without parameters
-    /// (`RegionVariable`); if the result would need an index that is too great or would nest too many binders
-    /// (`GreatestIndex`); if a term or a list of the result is not stored yet and its table has as many rows as it may
-    /// have (`TableFull`); and if the memory for a new one is refused (`Memory`). If several reasons hold, one of them
-    /// is returned. A constant without parameters hides no region variable. An instance of a clause is a clause, so the
-    /// call never fails with `NotAClause`.
+    /// Refused with:
     ///
-    /// A value without parameters in which no such region variable occurs is returned unchanged, and nothing is built;
-    /// so is every type, predicate, clause and list of clauses without parameters. If there are no arguments, region
-    /// variables aren't looked for. Each type of the value that holds a parameter without being one adds at most one to
-    /// the interner's count of descents for each number of binders above it, at however many places it is; constants,
-    /// predicates and lists of clauses add none of their own. An argument is shifted once for each number of binders
-    /// above its parameter, at however many places the parameter is, which adds to the shifter's count as much as one
-    /// `shift_vars` of the argument may.
+    /// - `NoArguments` if there are no arguments and the value has a parameter;
+    /// - `ArgOutOfRange` if there are arguments, but none at a parameter's index;
+    /// - `ArgKind` if a parameter's argument is of another kind;
+    /// - `RegionVariable` if there are arguments, and a region inference variable occurs in the value outside of the
+    ///   types, predicates and lists of clauses without parameters (a constant without parameters hides none);
+    /// - `GreatestIndex` if the result would need an index that is too great or would nest too many binders;
+    /// - `TableFull` if a term or a list of the result is new and its table is full;
+    /// - `Memory` if the memory for the result or for the fold itself is refused.
     ///
-    /// A value that is itself a parameter is refused only if it has no argument of its kind; otherwise its argument is
-    /// returned unshifted. Then nothing is built, and the interner is unchanged, even if the value is refused.
+    /// If several reasons hold, one of them is returned. An instance of a clause is a clause, so the call never fails
+    /// with `NotAClause`.
+    ///
+    /// A value without parameters in which no such region variable occurs is returned unchanged, and nothing is built.
+    /// So is every type, predicate, clause and list of clauses without parameters. If there are no arguments, region
+    /// variables aren't looked for.
+    ///
+    /// If the value is itself a parameter, its argument is returned unshifted. The call is refused only if there is no
+    /// argument of the parameter's kind. In both cases nothing is built, and the interner is unchanged.
+    ///
+    /// A call that succeeds raises the interner's counts as follows:
+    ///
+    /// - A type of the value that holds a parameter without being one adds at most one to the count of descents for
+    ///   each number of binders above the type, however many places it has. Constants, predicates and lists of clauses
+    ///   add nothing of their own.
+    /// - An argument is shifted at most once for each number of binders above its parameter, however many places the
+    ///   parameter has. Each shift adds to the shifter's count what one `shift_vars` of the argument may add.
     fn instantiate<S: SliceLike>(
         self,
         cx: &mut Interner,
@@ -67,7 +76,7 @@ pub trait Instantiate<T: TypeFoldable>: Sized {
             cx.new };
 }
 
-// Returns the value if there are no arguments.
+// Returns the value, instantiated without arguments.
 fn without_arguments<T: TypeFoldable>(cx: &Interner, value: T) -> Result<T, Refusal>
     requires { IsPartBy T.shape cx.now.rows value }
     ensures some { holds_param (tree_by T.shape cx.now.rows value) ≡ true → result ≡ Err Refusal.NoArguments }
@@ -131,7 +140,8 @@ fn instantiate_value<T: TypeFoldable, S: SliceLike>(
     if is_untouched(cx, &value) {
         return Ok(value);
     }
-    // The lists of clauses that are stored hold clauses alone, and an instance of a clause is one.
+    // Stored lists of clauses hold clauses alone, and an instance of a clause is a clause. So no list is refused with
+    // `NotAClause`.
     cx.are_rows();
     let mut folder = ArgFolder::new(cx.allocator(), args);
     let folded = value.fold_with(cx, &mut folder)?;
@@ -151,11 +161,17 @@ impl<T: TypeFoldable> Instantiate<T> for EarlyBinder<T> {
     }
 }
 
-/// Does nothing. The contract gives callers the fact that a walk over a value's whole tree, which uses no flag and
-/// replaces each parameter, gives the same tree as [`Instantiate::instantiate`] and is refused for the same causes, if
-/// no region inference variable occurs in the value, no more binders than the greatest index counts are nested in it,
-/// and there is an argument. Only a value that has regions or indices of its own, beside its handles, has to have them
-/// in range: [`stored_values_fit`](tt_interner::stored_values_fit) says that stored terms do.
+/// Does nothing. The contract gives callers the fact that, under some premises, a walk over a value's whole tree, which
+/// uses no flag and replaces each parameter, gives the same tree as [`Instantiate::instantiate`] and is refused for the
+/// same causes.
+///
+/// These are the premises:
+///
+/// - There is an argument.
+/// - No region inference variable occurs in the value.
+/// - No more binders are nested in the value than an index can count.
+/// - The indices that the value has beside its handles, as in a region, are below the greatest.
+///   [`stored_indices_fit`](tt_interner::stored_indices_fit) says that the indices in stored terms always are.
 pub fn pruning_is_unseen()
     ensures { PruningIsUnseen }
 {}

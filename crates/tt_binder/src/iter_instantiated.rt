@@ -16,7 +16,7 @@ use tt_kinds::{EarlyBinder, GenericArg, Unnormalized};
 
 /// Values in an item's declaration, which can be iterated and instantiated one by one.
 pub trait IterInstantiate<I: IntoIterator>: Sized {
-    // What the values are iterated from, in the declaration.
+    // The collection in the declaration.
     ghost declared_items: { Self → I };
 
     /// Returns an iterator over the items, which instantiates each with these arguments.
@@ -50,10 +50,9 @@ impl<I: IntoIterator> IterInstantiate<I> for EarlyBinder<I> {
     }
 }
 
-/// An iterator that instantiates the items of another one. Since that may build terms, each step is handed the
-/// interner.
+/// An iterator that instantiates the items of another iterator. A step may build terms, so it takes the interner.
 ///
-/// An item whose instantiation is refused is used up: the iterator goes on with the one after it.
+/// An item whose instantiation is refused is used up: the next step takes the item after it.
 #[derive(Drop)]
 pub struct IterInstantiated<I, S> {
     it: I,
@@ -61,10 +60,10 @@ pub struct IterInstantiated<I, S> {
 }
 
 impl<I: Iterator, S: SliceLike> IterInstantiated<I, S> {
-    /// Returns the next item, instantiated, or `None` if there is none, and then nothing is built. The handles in the
-    /// arguments and in that item have to be this interner's.
+    /// Returns the next item, instantiated, or `None` if no item is left; then nothing is built. The handles in the
+    /// arguments and in the item have to be this interner's.
     ///
-    /// Refused where [`Instantiate::instantiate`] of the item is.
+    /// Returns a refusal if [`Instantiate::instantiate`] of the item does.
     pub fn next(&mut self, cx: &mut Interner) -> Option<Result<Unnormalized<I::Item>, Refusal>>
     where
         I::Item: TypeFoldable,
@@ -85,10 +84,10 @@ impl<I: Iterator, S: SliceLike> IterInstantiated<I, S> {
         Some(EarlyBinder::bind(item).instantiate(cx, self.args))
     }
 
-    /// Returns the last item, instantiated, or `None` if there is none, and then nothing is built. The handles in the
-    /// arguments and in that item have to be this interner's.
+    /// Returns the last item, instantiated, or `None` if no item is left; then nothing is built. The handles in the
+    /// arguments and in the item have to be this interner's.
     ///
-    /// Refused where [`Instantiate::instantiate`] of the item is.
+    /// Returns a refusal if [`Instantiate::instantiate`] of the item does.
     pub fn next_back(&mut self, cx: &mut Interner) -> Option<Result<Unnormalized<I::Item>, Refusal>>
     where
         I: DoubleEndedIterator,
@@ -110,7 +109,7 @@ impl<I: Iterator, S: SliceLike> IterInstantiated<I, S> {
         Some(EarlyBinder::bind(item).instantiate(cx, self.args))
     }
 
-    /// Returns bounds on how many items are left: the ones of the iterator whose items they are.
+    /// Returns the inner iterator's bounds on how many items are left.
     pub fn size_hint(&self) -> (usize, Option<usize>)
         ensures lower { IsWithinCount result.0 (I.remaining self.now.it) }
         ensures upper { IfSome result.1 (UpTo (I.remaining self.now.it)) }
@@ -129,10 +128,10 @@ impl<I: Iterator, S: SliceLike> IterInstantiated<I, S> {
     }
 }
 
-/// An iterator that instantiates the values that the items of another one point to. Since that may build terms, each
-/// step is handed the interner.
+/// An iterator that instantiates the values that the items of another iterator point to. A step may build terms, so it
+/// takes the interner.
 ///
-/// An item whose instantiation is refused is used up: the iterator goes on with the one after it.
+/// An item whose instantiation is refused is used up: the next step takes the item after it.
 #[derive(Drop)]
 pub struct IterInstantiatedCopied<'a, I> {
     pointers: I,
@@ -144,10 +143,10 @@ where
     I::Item: Deref + Drop,
     <I::Item as Deref>::Target: Copy + TypeFoldable,
 {
-    /// Returns the value that the next item points to, instantiated, or `None` if there is no item, and then nothing is
-    /// built. The handles in the arguments and in that value have to be this interner's.
+    /// Returns the value that the next item points to, instantiated, or `None` if no item is left; then nothing is
+    /// built. The handles in the arguments and in the value have to be this interner's.
     ///
-    /// Refused where [`Instantiate::instantiate`] of the value is.
+    /// Returns a refusal if [`Instantiate::instantiate`] of the value does.
     pub fn next(
         &mut self,
         cx: &mut Interner,
@@ -171,10 +170,10 @@ where
         Some(EarlyBinder::bind(value).instantiate(cx, self.args))
     }
 
-    /// Returns the value that the last item points to, instantiated, or `None` if there is no item, and then nothing is
-    /// built. The handles in the arguments and in that value have to be this interner's.
+    /// Returns the value that the last item points to, instantiated, or `None` if no item is left; then nothing is
+    /// built. The handles in the arguments and in the value have to be this interner's.
     ///
-    /// Refused where [`Instantiate::instantiate`] of the value is.
+    /// Returns a refusal if [`Instantiate::instantiate`] of the value does.
     pub fn next_back(
         &mut self,
         cx: &mut Interner,
@@ -200,7 +199,7 @@ where
         Some(EarlyBinder::bind(value).instantiate(cx, self.args))
     }
 
-    /// Returns bounds on how many items are left: the ones of the iterator whose items they are.
+    /// Returns the inner iterator's bounds on how many items are left.
     pub fn size_hint(&self) -> (usize, Option<usize>)
         ensures lower { IsWithinCount result.0 (I.remaining self.now.pointers) }
         ensures upper { IfSome result.1 (UpTo (I.remaining self.now.pointers)) }

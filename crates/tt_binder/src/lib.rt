@@ -4,6 +4,7 @@
 mod arg_folder;
 pub mod args_slice;
 mod binder_opener;
+mod equality;
 mod fields;
 mod fn_sig;
 pub mod instantiate;
@@ -14,6 +15,7 @@ pub mod slice_like;
 mod untouched;
 pub mod validate_bound_vars;
 
+pub use equality::equal_breaks_are_same;
 pub use fields::DataTypes;
 pub use fn_sig::TypeSignature;
 pub use instantiate::{Instantiate, pruning_is_unseen};

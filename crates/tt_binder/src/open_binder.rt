@@ -1,4 +1,4 @@
-//! Opening a binder: its contents outside of it, with arguments for its variables.
+//! Opening a binder: taking the binder off its contents, with arguments for its variables.
 
 ghost use Rattle.tt_fold.specs.Steps.{IsPartBy};
 ghost use Rattle.tt_interner.specs.Arguments.{arguments};
@@ -16,16 +16,22 @@ use tt_visit::TypeVisitableExt;
 /// number. No binder in the contents captures a variable of an argument, and a variable that is bound outside of the
 /// binder keeps its binder: its index is one less.
 ///
-/// Refused if there are no arguments and one of the binder's own variables occurs (`NoArguments`); if there are some,
-/// but none for such a variable (`ArgOutOfRange`), or one of another sort (`ArgKind`); if the result would need an
-/// index that is too great or would nest too many binders (`GreatestIndex`); if a term or a list of the result is not
-/// stored yet and its table has as many rows as it may have (`TableFull`); and if the memory for a new one, or for the
-/// results that are remembered until the call ends, is refused (`Memory`). If several reasons hold, one of them is
-/// returned.
+/// Refused with:
+///
+/// - `NoArguments` if there are no arguments and one of the binder's own variables occurs;
+/// - `ArgOutOfRange` if there are arguments, but none for one of the binder's own variables;
+/// - `ArgKind` if the argument of one of the binder's own variables is of another kind;
+/// - `GreatestIndex` if the result would need an index that is too great or would nest too many binders;
+/// - `TableFull` if a term or a list of the result is new and its table is full;
+/// - `Memory` if memory is refused for the result, for the fold itself, or for the results that are remembered until
+///   the call ends.
+///
+/// If several reasons hold, one of them is returned.
 ///
 /// Contents in which no variable occurs that is bound by the binder or outside of it are returned unchanged, and
-/// nothing is built. Each type that has such a variable is taken apart once for each number of binders around its
-/// places, which adds one to the interner's count of descents; an argument is shifted once past each number of binders.
+/// nothing is built. Each type that has such a variable is taken apart at most once for each number of binders around
+/// its places. Each time adds one to the interner's count of descents. An argument is shifted once past each number of
+/// binders.
 pub fn instantiate_binder<T: TypeFoldable, S: SliceLike>(
     cx: &mut Interner,
     binder: Binder<T>,
@@ -44,9 +50,10 @@ pub fn instantiate_binder<T: TypeFoldable, S: SliceLike>(
     if !value.has_escaping_bound_vars(cx) {
         return Ok(value);
     }
-    // The lists of clauses that are stored hold clauses alone, so no opened one is refused for an item.
+    // Stored lists of clauses hold clauses alone, and an opened clause is a clause. So no list is refused with
+    // `NotAClause`.
     cx.are_rows();
-    // The number of arguments isn't needed, but that their handles are the interner's.
+    // Only the contract of this call is needed: the handles of the arguments are the interner's.
     let _count = args.len(cx);
     let mut opener = BinderOpener::new(cx.allocator(), args);
     value.fold_with(cx, &mut opener)

@@ -48,8 +48,8 @@ impl<T: TypeFoldable + Copy> Shifted<T> {
         }
     }
 
-    /// Returns the argument of the parameter of the index, shifted past the binders above the parameter. If that is
-    /// another value, it is built once and remembered.
+    /// Returns `argument`, the argument of the parameter of this index, shifted past the `under` binders above the
+    /// parameter. If the shift changes the argument, the result is built once and remembered.
     pub fn shift(
         &mut self,
         cx: &mut Interner,

@@ -12,7 +12,7 @@ use tt_kinds::{GenericArg, GenericArgs};
 pub trait SliceLike: Copy {
     // The arguments in order.
     ghost items: { List Row → Self → List GenericArgKind };
-    // The list is one of the rows, or its handles are.
+    // A stored list is one of the rows; each handle in a borrowed list names one of the rows.
     ghost owned: { List Row → Self → Type 0 };
 
     /// Returns the number of arguments.

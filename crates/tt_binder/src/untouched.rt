@@ -12,7 +12,8 @@ use tt_interner::{Flags, Interner};
 use tt_kinds::{BoundVarKinds, Clauses, Const, ErrorGuaranteed, Predicate, Region, RegionKind, Ty};
 use tt_visit::{Next, TypeVisitable, TypeVisitor};
 
-// Breaks at a parameter, and at a region variable outside of the types, predicates and clause lists without parameters.
+// Breaks at a parameter, and at a region variable outside of the types, predicates and lists of clauses without
+// parameters.
 #[derive(Drop)]
 struct TouchedVisitor;
 
@@ -74,8 +75,8 @@ impl TypeVisitor for TouchedVisitor {
     fn leave_binder(&mut self, _cx: &Interner, _vars: BoundVarKinds) {}
 }
 
-/// Returns whether every instantiation leaves the value untouched: no parameter occurs in it, and no region variable is
-/// exposed.
+/// Returns whether every instantiation leaves the value untouched: no parameter occurs in it, and no region variable
+/// occurs in it outside of the types, predicates and lists of clauses without parameters.
 pub fn is_untouched<T: TypeVisitable>(cx: &Interner, value: &T) -> bool
     requires { IsPartBy T.shape cx.now.rows value.now }
     ensures { IsTrue result ↔ IsUntouched (tree_by T.shape cx.now.rows value.now) }

@@ -30,18 +30,20 @@ use tt_visit::{Next, TypeVisitor};
 #[derive(Clone, Copy, Debug, PartialEq, Eq)]
 pub struct WrongBoundVar;
 
-/// Breaks at the first variable of the binder just outside of the visited value that has no entry in that binder's
-/// list: if its number isn't below the length of the list, or if the list has another kind of variable there, or one
-/// of another name.
+/// A visitor that breaks at the first variable of the binder just outside of the visited value that has no entry in the
+/// binder's list.
 ///
-/// A term is taken apart only if its outer exclusive binder says that it holds a variable of that binder or of one
-/// further out, and a type only once under as many binders: the visitor remembers which types it entered. If the memory
-/// for that is refused, it enters them again. Under more binders than an index can count, there is no variable of that
-/// binder.
+/// A variable has no entry if its number isn't below the length of the list, or if the list has a variable of another
+/// kind, or of another name, at this number.
+///
+/// The visitor enters a term only if the term's outer exclusive binder says that the term holds a variable of this
+/// binder or of one further out. It remembers which types it entered, and enters a type only once under each number of
+/// binders. If the memory for this is refused, it enters the type again. It skips what is under more binders than an
+/// index can count, since no variable there belongs to this binder.
 #[derive(Drop)]
 pub struct ValidateBoundVars {
     bound_vars: BoundVarKinds,
-    // the index of the binder that has the list, as counted from where the visit is
+    // the index of the binder that has the list, at the place that the visit has reached
     binder_index: DebruijnIndex,
     // each type that was entered, as its own result
     visited: Memory,
@@ -77,7 +79,7 @@ impl ValidateBoundVars {
         outer_exclusive_binder <= self.binder_index
     }
 
-    // Returns the entry of this number in the list.
+    // Returns the entry of this number in the list, if there is one.
     fn entry(&self, cx: &Interner, var: BoundVar) -> Option<BoundVariableKind>
         requires { self.now.bound_vars.number < size cx.now.rows VarLists }
         ensures { (items : List BoundVariableKind)
@@ -138,8 +140,8 @@ impl ValidateBoundVars {
     }
 }
 
-// Returns whether the contents of a type under `under` binders come next: not if it is remembered. If they do, it is
-// remembered from now on, unless the memory for it is refused.
+// Returns whether the visit enters a type under `under` binders: `Skip` if the type is remembered, and otherwise
+// `Descend`. A type that is entered is remembered from then on, unless the memory for it is refused.
 fn enter_once(cx: &Interner, visited: &mut Memory, ty: Ty, under: u32) -> Next
     requires ty { IsPartOf cx.now.rows (ty_shape ty) }
     requires visited { OwnsMemos cx.now.rows visited.old }
@@ -282,9 +284,11 @@ impl TypeVisitor for ValidateBoundVars {
     }
 }
 
-/// Does nothing. The contract gives callers the fact that a visit by [`ValidateBoundVars`] breaks exactly if a variable
-/// disagrees. Only a value that has regions or indices of its own, beside its handles, has to have them in range:
-/// [`stored_indices_fit`](tt_interner::stored_indices_fit) says that stored terms do.
+/// Does nothing. The contract gives callers the fact that, if all indices in a value's tree are below the greatest, a
+/// visit of the value by a new [`ValidateBoundVars`] breaks exactly if a variable disagrees with the list.
+///
+/// [`stored_indices_fit`](tt_interner::stored_indices_fit) says that the indices in stored terms always are. So only
+/// the indices that the value has beside its handles matter, as in a region.
 pub fn validation_is_exact()
     ensures { ValidationIsExact }
 {}

@@ -61,7 +61,7 @@ pub record IsHandle (a : Answer) (table : Table) (number : ℕ) : Type 0 where
 abbrev pub IsOther : Answer → Table → Type 0
 IsOther a table = (rows : List Row) → IsSomeAnd (as_term (Some (told rows a))) (λ u. u.table ≡ table) → ⊥
 
--- the id at the position is this one, of this sort
+-- the id at the position has this sort and this number
 abbrev pub IsIdAt : List Answer → ℕ → DeclarationSort → ℕ → Type 0
 IsIdAt earlier p s n = (rows : List Row) → id_at (told_all rows earlier) p ≡ Some (record { sort = s; number = n })
 
@@ -73,7 +73,7 @@ HasNoId earlier p s = (rows : List Row) → TellsWanted (told_all rows earlier) 
 abbrev pub AreOfOneTable : Answer → Answer → Type 0
 AreOfOneTable a b = IsSome (handle_table a) × (handle_table a ≡ handle_table b)
 
--- the answer is the information of the tree's term
+-- the answer has the flags and the outer exclusive binder of this tree
 abbrev pub IsInfoOf : Tree Depth → Answer → Type 0
 IsInfoOf t (answer.Info flags outer) = (flags.bits ≡ scan t) × (outer ≡ outer_binder t)
 IsInfoOf t _ = ⊥
@@ -84,7 +84,7 @@ pub record IsAnswerAt (earlier : List Answer) (position : ℕ) (a : Answer) : Ty
   pub is_id : (rows : List Row) → id_at (told_all rows earlier) position ≡ as_id (Some (told rows a))
   pub owned : (rows : List Row) → AreOwnedAnswers rows earlier → IsOwnedAnswer rows a
 
--- why a part of a term was not built: it names the positions in named, and deep says that it needs the greatest index
+-- why a part was not built, where named has its positions, and deep says that it needs the greatest index
 pub data IsUnbuiltPart (full : Type 0) (earlier : List Told) (named : List Named) (deep : Type 0) (e : Refusal)
     : Type 0 where
   no_memory : e ≡ Memory → IsUnbuiltPart full earlier named deep e
@@ -103,12 +103,12 @@ pub record IsUsable (earlier : List Told) (names : List Named) (deep : Type 0) :
   pub named : AreTerms earlier names
   pub shallow : deep → ⊥
 
--- k is the name that the call gives a bound region, if these are the numbers of the ids at positions
+-- k is the name that the call gives a bound region, where ids has the number of the id at each position
 pub record IsNameOf (terms : Terms) (ids : ℕ → ℕ) (call : RegionNameCall) (k : BoundRegionKind) : Type 0 where
   pub part : IsNamed (size terms.rows) (region_name k)
   pub means : rename_region (name_of (meaning terms.rows)) (region_name k) ≡ called ids call
 
--- the result is that name, or a refusal with a reason
+-- the result is the name that the call gives, or a refusal with a reason
 pub record GivesName (terms : Terms) (ids : ℕ → ℕ) (call : RegionNameCall) (result : Result BoundRegionKind Refusal)
     : Type 0 where
   pub ok : IfOk result (IsNameOf terms ids call)
@@ -119,50 +119,50 @@ pub record IsVariableOf (terms : Terms) (ids : ℕ → ℕ) (call : VariableCall
   pub part : IsNamedKind (size terms.rows) (var_kind v)
   pub means : rename_kind (name_of (meaning terms.rows)) (var_kind v) ≡ variable_kind ids call
 
--- the result is that variable, or a refusal with a reason
+-- the result is the variable that the call names, or a refusal with a reason
 pub record GivesVariable (terms : Terms) (ids : ℕ → ℕ) (call : VariableCall) (result : Result BoundVariableKind Refusal)
     : Type 0 where
   pub ok : IfOk result (IsVariableOf terms ids call)
   pub err : IfErr result (IsUnbuiltPart (HasFullTable terms) [] [] ⊥)
 
--- the variables are those that the calls name
+-- the variables are the ones that the calls name
 pub record AreVariablesOf (terms : Terms) (ids : ℕ → ℕ) (calls : List VariableCall) (vs : List BoundVariableKind)
     : Type 0 where
   pub parts : AreNamedKinds (size terms.rows) (map var_kind vs)
   pub means : map (rename_kind (name_of (meaning terms.rows))) (map var_kind vs) ≡ map (variable_kind ids) calls
 
--- these are the variables, or there is a refusal with a reason
+-- these are the variables that the calls name, or the result is a refusal with a reason
 pub record FillsVariables {R : Type 0} (terms : Terms) (ids : ℕ → ℕ) (calls : List VariableCall)
     (vs : List BoundVariableKind) (result : Result R Refusal) : Type 0 where
   pub ok : OnOk result (AreVariablesOf terms ids calls vs)
   pub err : IfErr result (IsUnbuiltPart (HasFullTable terms) [] [] ⊥)
 
--- the list holds the variables
+-- the list holds the variables that the calls name
 pub record IsVariableListOf (terms : Terms) (ids : ℕ → ℕ) (calls : List VariableCall) (list : BoundVarKinds)
     : Type 0 where
   pub in_range : list.number < size terms.rows VarLists
   pub means : meaning terms.rows VarLists list.number ≡ node (var_list_label (map (variable_kind ids) calls)) none
 
--- the result is that list, or a refusal with a reason
+-- the result is the list of the variables that the calls name, or a refusal with a reason
 pub record GivesVariables (terms : Terms) (ids : ℕ → ℕ) (calls : List VariableCall)
     (result : Result BoundVarKinds Refusal) : Type 0 where
   pub ok : IfOk result (IsVariableListOf terms ids calls)
   pub err : IfErr result (IsUnbuiltPart (HasFullTable terms) [] [] ⊥)
 
--- the region has this tree
+-- the region has this tree, and the greatest index isn't needed (deep)
 pub record IsRegionOf (terms : Terms) (t : Tree Depth) (deep : Type 0) (r : RegionKind) : Type 0 where
   pub part : IsPart (size terms.rows) (region_shape r)
   pub means : fill (meaning terms.rows) (region_shape r) ≡ t
   pub shallow : deep → ⊥
 
--- the result is that region, or a refusal with a reason; deep says that the region needs the greatest index
+-- the result is the region with this tree, or a refusal with a reason; deep says that it needs the greatest index
 pub record GivesRegion (terms : Terms) (t : Tree Depth) (deep : Type 0) (result : Result RegionKind Refusal)
     : Type 0 where
   pub ok : IfOk result (IsRegionOf terms t deep)
   pub err : IfErr result (IsUnbuiltPart (HasFullTable terms) [] [] deep)
 
--- the shape has this tree, these positions tell terms, and deep, which says that it needs the greatest index, doesn't
--- hold
+-- the shape has this tree, these positions tell what is wanted there, and deep, which says that the greatest index is
+-- needed, doesn't hold
 pub record IsPlaced (terms : Terms) (earlier : List Told) (t : Tree Depth) (names : List Named) (deep : Type 0)
     (s : Shape) : Type 0 where
   pub part : IsPart (size terms.rows) s
@@ -210,19 +210,19 @@ pub record GivesPart {H : Type 0} (terms : Terms) (earlier : List Told) (p : Par
   pub ok : IfOk result (λ h. IsPartOfCall terms earlier p (shape h))
   pub err : IfErr result (IsUnbuiltPart (HasFullTable terms) earlier (part_positions p) (IsPartTooDeep p))
 
--- the result is the value that the call puts in the items' places, or a refusal with a reason
+-- the result has the values that the call puts in the items' places, or a refusal with a reason
 pub record GivesItems {H : Type 0} (terms : Terms) (earlier : List Told) (is : List Item) (shape : H → Shape)
     (result : Result (Vec H Global) Refusal) : Type 0 where
   pub ok : IfOk result (λ hs. AreItemsOf terms earlier is (item_shapes shape hs.items))
   pub err : IfErr result (IsUnbuiltPart (HasFullTable terms) earlier (items_positions is) (AreItemsTooDeep is))
 
--- the shapes have these trees in order, or there is a refusal with a reason
+-- the shapes have these trees in order, or the result is a refusal with a reason
 pub record FillsPlaced {R : Type 0} (terms : Terms) (earlier : List Told) (ts : Forest Depth) (names : List Named)
     (deep : Type 0) (ss : Shapes) (result : Result R Refusal) : Type 0 where
   pub ok : OnOk result (ArePlaced terms earlier ts names deep ss)
   pub err : IfErr result (IsUnbuiltPart (HasFullTable terms) earlier names deep)
 
--- these are the values of the items, or there is a refusal with a reason
+-- these are the values of the items, or the result is a refusal with a reason
 abbrev pub FillsItems : {H R : Type 0} → Terms → List Told → List Item → (H → Shape) → List H → Result R Refusal
     → Type 0
 FillsItems terms earlier is shape values result =
@@ -242,7 +242,7 @@ pub record IsKindOf (terms : Terms) (earlier : List Told) (form : CallForm) (s :
   pub named : AreTerms earlier (form_positions form)
   pub deep : shape.IsTooDeep s ↔ IsFormTooDeep form
 
--- the result is such a kind, or a refusal with a reason
+-- the result is the kind that the call names, or a refusal with a reason
 pub record GivesKind {K : Type 0} (terms : Terms) (earlier : List Told) (form : CallForm) (shape : K → Shape)
     (result : Result K Refusal) : Type 0 where
   pub ok : IfOk result (λ k. IsKindOf terms earlier form (shape k))
@@ -256,7 +256,7 @@ pub record GivesRecord {K : Type 0} (terms : Terms) (earlier : List Told) (r : R
   pub err : IfErr result (IsUnbuiltPart (HasFullTable terms) earlier (parts_positions r.parts)
       (ArePartsTooDeep r.parts))
 
--- the clauses are those at the positions
+-- the list has the clauses at the positions
 pub record AreClausesAt (terms : Terms) (earlier : List Told) (positions : List ℕ) (list : List Clause) : Type 0 where
   pub items : AreItemsOf terms earlier (clause_items positions) (item_shapes clause_shape list)
   pub clauses : AreClauses terms.rows list
@@ -266,20 +266,20 @@ pub record IsArgumentOf (terms : Terms) (earlier : List Told) (call : ArgCall) (
   pub item : IsItemOfCall terms earlier (arg_item call) (arg_shape a)
   pub means : argument_of terms.rows a ≡ told_argument earlier call
 
--- the result is that argument, or a refusal with a reason
+-- the result is the argument that the call names, or a refusal with a reason
 pub record GivesArgument (terms : Terms) (earlier : List Told) (call : ArgCall) (result : Result GenericArgKind Refusal)
     : Type 0 where
   pub ok : IfOk result (IsArgumentOf terms earlier call)
   pub err : IfErr result (IsUnbuiltPart (HasFullTable terms) earlier (item_positions (arg_item call))
       (IsItemTooDeep (arg_item call)))
 
--- the arguments are those that the call names
+-- the arguments are the ones that the call names
 pub record AreArgumentsOf (terms : Terms) (earlier : List Told) (calls : List ArgCall) (args : List GenericArgKind)
     : Type 0 where
   pub items : AreItemsOf terms earlier (arg_items calls) (item_shapes arg_shape args)
   pub means : arguments terms.rows args ≡ told_arguments earlier calls
 
--- the result is those arguments, or a refusal with a reason
+-- the result has the arguments that the call names, or a refusal with a reason
 pub record GivesArguments (terms : Terms) (earlier : List Told) (calls : List ArgCall)
     (result : Result (Vec GenericArgKind Global) Refusal) : Type 0 where
   pub ok : IfOk result (λ args. AreArgumentsOf terms earlier calls args.items)
@@ -296,7 +296,7 @@ pub record IsDeclaredBy (terms : Terms) (earlier : List Told) (call : Declaratio
       ≡ declared_trees (number_at earlier) (tree_at earlier) call
   pub named : AreTerms earlier (declared_positions call)
 
--- the result is that, or a refusal with a reason
+-- the result is what the call declares, or a refusal with a reason
 pub record GivesDeclared (terms : Terms) (earlier : List Told) (call : DeclarationKindCall)
     (result : Result DeclarationKind Refusal) : Type 0 where
   pub ok : IfOk result (IsDeclaredBy terms earlier call)
@@ -310,7 +310,7 @@ pub record IsSigOf (terms : Terms) (earlier : List Told) (vars : List VariableCa
       (tys_shape sig.value.value.inputs_and_output)
   pub other : sig.value.value.fn_sig_kind ≡ kind
 
--- the result is that signature, or a refusal with a reason
+-- the result is the signature with these parts, or a refusal with a reason
 pub record GivesSig (terms : Terms) (earlier : List Told) (vars : List VariableCall) (positions : List ℕ)
     (kind : FnSigKind) (result : Result (EarlyBinder (Binder FnSig)) Refusal) : Type 0 where
   pub ok : IfOk result (IsSigOf terms earlier vars positions kind)

@@ -1,5 +1,5 @@
--- What building calls build: the tree over the trees and the ids at the positions that they name, and what they ask of
--- what is there.
+-- What building calls build, from the trees and the ids at the positions that they name.
+-- What they want at these positions: a term, a clause, or an id.
 use Rattle.std.specs.Prelude.{ℕ, ◌≤◌, List, [], ◌∷◌, ◌++◌, map, length, All, ◌⊎◌, ⊤, Option, Some, None}
 use Rattle.std.specs.String.{string_bytes}
 use Rattle.tt_kinds.specs.Label.{Name, Sort, region_sort, type_sort, const_sort, RegionName, anonymous, printed, named}
@@ -114,7 +114,7 @@ pub record RecordCall : Type 0 where
   pub label : RecordLabel Name
   pub parts : List Part
 
--- a label with these children
+-- the record of this label and these children
 abbrev pub labelled_parts : RecordLabel Name → List Part → RecordCall
 labelled_parts l ps = record { label = l; parts = ps }
 
@@ -141,7 +141,7 @@ args_part args = a_list ArgLists (arg_items args)
 abbrev pub terms_at : Table → List ℕ → List Item
 terms_at t ps = map (a_term t) ps
 
--- what a call builds: a parameter, a bound variable, or a node of its label and its children
+-- what a call builds: a parameter, a bound variable, or a term of a label and its children
 pub data CallForm : Type 0 where
   param : Sort → ℕ → Name → CallForm
   bound : Sort → Depth → Entry Name → CallForm
@@ -151,18 +151,18 @@ pub data CallForm : Type 0 where
   -- a trait object: its existential predicates, and its region
   trait_object : List ExistentialForm → RegionCall → CallForm
 
--- a type or a constant
+-- the child that is this type or constant
 abbrev pub term_part : TermCall → Part
 term_part (term.Ty p) = one (a_term Types p)
 term_part (term.Const p) = one (a_term Consts p)
 
--- the values that can be built, of the type at the position
+-- what a call builds for a value of the type at the position
 abbrev pub value_call_form : ℕ → ValTreeCall → CallForm
 value_call_form t (valtree.Leaf s) = plain (const_label (leaf_const s.bits s.size)) (one (a_term Types t) ∷ [])
 value_call_form t (valtree.Branch cs) = plain (const_label branch_const)
     (one (a_term Types t) ∷ a_list ConstLists (terms_at Consts cs.items) ∷ [])
 
--- the patterns that can be built
+-- what a call for a pattern builds
 abbrev pub pat_call_form : PatCall → CallForm
 pat_call_form (pat.Range start end) = plain (pattern_label range_pattern)
     (one (a_term Consts start) ∷ one (a_term Consts end) ∷ [])
@@ -187,7 +187,7 @@ abbrev pub variable_name_text : VariableCall → Option Name
 variable_name_text (variable.Region name) = name_text name
 variable_name_text _ = None
 
--- the number of the id at each position
+-- the number of the id at each position (ids)
 module _ (ids : ℕ → ℕ) where
   -- the name of a bound region
   abbrev pub called : RegionNameCall → RegionName Name
@@ -243,7 +243,7 @@ module _ (ids : ℕ → ℕ) where
   item_type (item.CoroutineWitness p) = coroutine_witness_type (ids p)
   item_type (item.Alias k) = alias_type (alias_call_kind k)
 
-  -- the existential predicates that can be built, without their binder
+  -- what a call for an existential predicate builds under the binder
   abbrev pub existential_record : ExistentialKindCall → RecordCall
   existential_record (existential.Trait p args) = labelled_parts (existential_trait_record (ids p))
       (args_part args.items ∷ [])
@@ -251,11 +251,11 @@ module _ (ids : ℕ → ℕ) where
       labelled_parts (existential_projection_record (ids p)) (args_part args.items ∷ term_part t ∷ [])
   existential_record (existential.AutoTrait p) = labelled_parts (auto_trait_record (ids p)) []
 
-  -- the existential predicates that can be built
+  -- what a call for an existential predicate builds
   abbrev pub existential_call_form : ExistentialCall → ExistentialForm
   existential_call_form x = record { vars = map variable_kind x.vars.items; under = existential_record x.kind }
 
-  -- the types that can be built
+  -- what a call for a type builds
   abbrev pub ty_call_form : TyCall → CallForm
   ty_call_form ty.Bool = plain (type_label bool_type) []
   ty_call_form ty.Char = plain (type_label char_type) []
@@ -285,7 +285,7 @@ module _ (ids : ℕ → ℕ) where
   ty_call_form (ty.UnsafeBinder vars t) = under (type_label unsafe_binder_type)
       (map variable_kind vars.items) unsafe_binder_record (one (a_term Types t) ∷ [])
 
-  -- the constants that can be built
+  -- what a call for a constant builds
   abbrev pub const_call_form : ConstCall → CallForm
   const_call_form (const.Param index name) = param const_sort index (string_bytes name)
   const_call_form (const.Infer i) = plain (const_label (infer_const i)) []
@@ -297,7 +297,7 @@ module _ (ids : ℕ → ℕ) where
   const_call_form (const.Error e) = plain (const_label (error_const e.0)) []
   const_call_form (const.Expr tag args) = plain (const_label (expr_const tag)) (args_part args.items ∷ [])
 
-  -- the clauses that can be built, without their binder
+  -- what a call for a clause builds under the binder
   abbrev pub clause_record : ClauseCall → RecordCall
   clause_record (clause.Trait p args) = labelled_parts (trait_record (ids p)) (args_part args.items ∷ [])
   clause_record (clause.RegionOutlives r s) = labelled_parts region_outlives_record
@@ -314,7 +314,7 @@ module _ (ids : ℕ → ℕ) where
       (args_part args.items ∷ [])
   clause_record (clause.UnstableFeature name) = labelled_parts (unstable_feature_record (string_bytes name)) []
 
-  -- the predicates that can be built, without their binder
+  -- what a call for a predicate builds under the binder
   abbrev pub predicate_record : PredicateKindCall → RecordCall
   predicate_record (predicate.Clause c) = clause_record c
   predicate_record (predicate.DynCompatible p) = labelled_parts (dyn_compatible_record (ids p)) []
@@ -330,7 +330,7 @@ module _ (ids : ℕ → ℕ) where
   predicate_record (predicate.AliasRelate a b r) = labelled_parts (alias_relate_record r)
       (term_part a ∷ term_part b ∷ [])
 
-  -- the predicates that can be built
+  -- what a call for a predicate builds
   abbrev pub predicate_call_form : PredicateCall → CallForm
   predicate_call_form p = under predicate_label (map variable_kind p.vars.items) (predicate_record p.kind).label
       (predicate_record p.kind).parts
@@ -339,41 +339,41 @@ module _ (ids : ℕ → ℕ) where
 abbrev pub clause_items : List ℕ → List Item
 clause_items ps = map a_clause ps
 
--- the region is bound by the binder of the greatest index
+-- the region is too deep: its binder has the greatest index
 abbrev pub IsRegionTooDeep : RegionCall → Type 0
 IsRegionTooDeep (ReBound i var name) = IsGreatest (depth i)
 IsRegionTooDeep _ = ⊥
 
--- a region in the item's place is bound by the binder of the greatest index
+-- a region in the item's place is too deep
 abbrev pub IsItemTooDeep : Item → Type 0
 IsItemTooDeep (a_region r) = IsRegionTooDeep r
 IsItemTooDeep (a_term t p) = ⊥
 IsItemTooDeep (a_clause p) = ⊥
 
--- one of the list is deep
+-- one item of the list is deep
 abbrev pub AnyIsDeep : {X : Type 0} → (X → Type 0) → List X → Type 0
 AnyIsDeep deep [] = ⊥
 AnyIsDeep deep (x ∷ xs) = deep x ⊎ AnyIsDeep deep xs
 
--- such a region is among the items
+-- a region among the items is too deep
 abbrev pub AreItemsTooDeep : List Item → Type 0
 AreItemsTooDeep is = AnyIsDeep IsItemTooDeep is
 
--- such a region is in the child's place
+-- a region in the child's place is too deep
 abbrev pub IsPartTooDeep : Part → Type 0
 IsPartTooDeep (one i) = IsItemTooDeep i
 IsPartTooDeep (a_list t is) = AreItemsTooDeep is
 
--- such a region is among the children
+-- a region among the children is too deep
 abbrev pub ArePartsTooDeep : List Part → Type 0
 ArePartsTooDeep [] = ⊥
 ArePartsTooDeep (p ∷ ps) = IsPartTooDeep p ⊎ ArePartsTooDeep ps
 
--- such a region occurs in the existential predicate
+-- a region in the existential predicate is too deep
 abbrev pub IsExistentialTooDeep : ExistentialForm → Type 0
 IsExistentialTooDeep x = ArePartsTooDeep x.under.parts
 
--- the term is bound by the binder of the greatest index, or such a region is among the children
+-- the built term is bound by the binder of the greatest index, or a region in it is too deep
 abbrev pub IsFormTooDeep : CallForm → Type 0
 IsFormTooDeep (param s i name) = ⊥
 IsFormTooDeep (bound s d e) = IsGreatest d
@@ -391,15 +391,15 @@ abbrev pub AreShort : List Part → Type 0
 AreShort [] = ⊤
 AreShort (p ∷ ps) = IsShort p × AreShort ps
 
--- no list in the existential predicate, nor its list of variables, has more items than are collected without allocation
+-- the existential predicate has no list, and no list of variables, of more items than are collected without allocation
 abbrev pub IsShortExistential : ExistentialForm → Type 0
 IsShortExistential x = (length x.vars ≤ most_in_place) × AreShort x.under.parts
 
--- the same for existential predicates, and for the list of them
+-- the same for each of the existential predicates, and for the list of them
 abbrev pub AreShortExistentials : List ExistentialForm → Type 0
 AreShortExistentials xs = (length xs ≤ most_in_place) × All IsShortExistential xs
 
--- no list of the term has more items than are collected without allocation, nor has a list of variables
+-- the term has no list, and no list of variables, of more items than are collected without allocation
 abbrev pub IsOfShortLists : CallForm → Type 0
 IsOfShortLists (param s i name) = ⊤
 IsOfShortLists (bound s d e) = ⊤
@@ -444,11 +444,11 @@ form_positions (plain l ps) = parts_positions ps
 form_positions (under l vs m ps) = parts_positions ps
 form_positions (trait_object xs r) = all_positions existential_positions xs
 
--- the position of an id of the sort
+-- the position where an id of the sort is wanted
 abbrev pub an_id : DeclarationSort → ℕ → List Named
 an_id s p = record { want = of_id s; position = p } ∷ []
 
--- the position of an id of any sort
+-- the position where an id of any sort is wanted
 abbrev pub any_id : ℕ → List Named
 any_id p = record { want = of_any_id; position = p } ∷ []
 
@@ -604,7 +604,7 @@ abbrev pub all_trees : {X : Type 0} → (X → Tree Depth) → List X → Forest
 all_trees of_one [] = none
 all_trees of_one (x ∷ xs) = also (of_one x) (all_trees of_one xs)
 
--- the number of the id and the tree at each position
+-- the number of the id at each position (ids), and the tree at each position (at)
 module _ (ids : ℕ → ℕ) (at : ℕ → Tree Depth) where
   -- the tree of an item
   abbrev pub item_tree : Item → Tree Depth
@@ -628,7 +628,7 @@ module _ (ids : ℕ → ℕ) (at : ℕ → Tree Depth) where
       (also (part_tree (a_list TypeLists (terms_at Types ts.items))) none)
   declared_trees _ = none
 
-  -- the tree of the declaration that a call makes, with its place among the declarations
+  -- the tree of the declaration that a call makes as the declaration of number n
   abbrev pub declaration_tree : ℕ → DeclareCall → Tree Depth
   declaration_tree n d = tree.node (declaration_label n (declared_item ids d.kind) (string_bytes d.name))
       (declared_trees d.kind)
@@ -654,7 +654,7 @@ module _ (ids : ℕ → ℕ) (at : ℕ → Tree Depth) where
   abbrev pub clauses_tree : List ℕ → Tree Depth
   clauses_tree ps = tree.term clause_list_label (items_trees (clause_items ps))
 
-  -- the tree that a building call gives
+  -- the tree of what a call builds
   abbrev pub form_tree : CallForm → Tree Depth
   form_tree (param s i name) = tree.param s i name
   form_tree (bound s d e) = tree.bound s d e

@@ -38,7 +38,7 @@ pub record Term : Type 0 where
   pub table : Table
   pub tree : Tree Depth
 
--- the term that was told
+-- the term that was told, if one was
 abbrev pub as_term : Option Told → Option Term
 as_term (Some (term t u)) = Some (record { table = t; tree = u })
 as_term _ = None
@@ -53,7 +53,7 @@ pub record Id : Type 0 where
   pub sort : DeclarationSort
   pub number : ℕ
 
--- the id that was told
+-- the id that was told, if one was
 abbrev pub as_id : Option Told → Option Id
 as_id (Some (declared s n t)) = Some (record { sort = s; number = n })
 as_id _ = None
@@ -68,11 +68,11 @@ abbrev pub number_of : Option Id → ℕ
 number_of None = 0
 number_of (Some i) = i.number
 
--- the number of the id at a position
+-- the number of the id at a position, or 0 if there is none
 abbrev pub number_at : List Told → ℕ → ℕ
 number_at earlier p = number_of (id_at earlier p)
 
--- the tree of a term
+-- the tree of a term, or the erased region if there is none
 abbrev pub tree_of : Option Term → Tree Depth
 tree_of None = tree.region erased_region
 tree_of (Some t) = t.tree
@@ -81,12 +81,12 @@ tree_of (Some t) = t.tree
 abbrev pub tree_at : List Told → ℕ → Tree Depth
 tree_at earlier p = tree_of (term_at earlier p)
 
--- the table of a term
+-- the table of a term, if there is one
 abbrev pub table_of : Option Term → Option Table
 table_of None = None
 table_of (Some t) = Some t.table
 
--- the table of the term at a position
+-- the table of the term at a position, if there is one
 abbrev pub table_at : List Told → ℕ → Option Table
 table_at earlier p = table_of (term_at earlier p)
 
@@ -120,7 +120,7 @@ positions earlier (call.Equal p q) = any p ∷ record { want = as_at p; position
 positions earlier (call.Info p) = record { want = with_flags; position = p } ∷ []
 positions earlier call.Bad = []
 
--- the term is a wanted one
+-- the term is what is wanted
 abbrev pub Suits : List Told → Want → Term → Type 0
 Suits earlier (of_table t) u = u.table ≡ t
 Suits earlier of_clause u = (u.table ≡ Predicates) × IsTrue (is_clause_tree u.tree)
@@ -130,22 +130,22 @@ Suits earlier with_flags u = u.table ≢ ArgLists
 Suits earlier (of_id s) u = ⊥
 Suits earlier of_any_id u = ⊥
 
--- the position tells what is wanted there: an id of the sort or of any, or a term
+-- the position tells what is wanted there: an id of the sort, an id of any sort, or a term that suits
 abbrev pub TellsWanted : List Told → Want → ℕ → Type 0
 TellsWanted earlier (of_id s) p = IsSomeAnd (id_at earlier p) (λ i. i.sort ≡ s)
 TellsWanted earlier of_any_id p = IsSomeAnd (id_at earlier p) (λ i. ⊤)
 TellsWanted earlier w p = IsSomeAnd (term_at earlier p) (Suits earlier w)
 
--- each position tells a term or an id that is wanted there
+-- each position tells what is wanted there
 abbrev pub AreTerms : List Told → List Named → Type 0
 AreTerms earlier [] = ⊤
 AreTerms earlier (n ∷ ns) = TellsWanted earlier n.want n.position × AreTerms earlier ns
 
--- each position that the call names tells a term or an id that is wanted there
+-- each position that the call names tells what is wanted there
 abbrev pub NamesTerms : List Told → Call → Type 0
 NamesTerms earlier c = AreTerms earlier (positions earlier c)
 
--- a bound index of the call's kind or regions is the greatest
+-- what the call builds, or a region in it or in an argument, is bound by the binder of the greatest index
 abbrev pub IsCallTooDeep : List Told → Call → Type 0
 IsCallTooDeep earlier (call.Ty k) = IsFormTooDeep (ty_call_form (number_at earlier) k)
 IsCallTooDeep earlier (call.Const k) = IsFormTooDeep (const_call_form (number_at earlier) k)
@@ -165,7 +165,7 @@ told_argument earlier (arg.Const p) = record { sort = const_sort; value = tree_a
 abbrev pub told_arguments : List Told → List ArgCall → List (Argument Depth)
 told_arguments earlier args = map (told_argument earlier) args
 
--- the call may need memory or a row
+-- the call builds, declares or folds
 abbrev pub BuildsOrFolds : Call → Type 0
 BuildsOrFolds (call.Ty k) = ⊤
 BuildsOrFolds (call.Const k) = ⊤
@@ -179,11 +179,11 @@ BuildsOrFolds (call.EraseRegions p) = ⊤
 BuildsOrFolds (call.Instantiate p args) = ⊤
 BuildsOrFolds _ = ⊥
 
--- the tree with the erased region in the place of each region that is neither bound in it nor canonical
+-- the tree with the erased region in the place of each region that is neither canonical nor bound in the tree
 abbrev pub erased : Tree Depth → Tree Depth
 erased t = placed 0 t (map (λ m. tree.region erased_region) (met 0 t))
 
--- the reading of the term that a fold gives
+-- the reading of the term that the call gives, if the call folds
 abbrev pub folded : List Told → Call → Option (Tree Place)
 folded earlier (call.Shift p n) = Some (move n (read 0 (tree_at earlier p)))
 folded earlier (call.EraseRegions p) = Some (read 0 (erased (tree_at earlier p)))
@@ -191,7 +191,7 @@ folded earlier (call.Instantiate p args) = Some (put (readings (told_arguments e
     (read 0 (tree_at earlier p)))
 folded earlier _ = None
 
--- the table of the call's result
+-- the table of the term that the call gives, if it gives one
 abbrev pub given_table : List Told → Call → Option Table
 given_table earlier (call.Ty k) = Some Types
 given_table earlier (call.Const k) = Some Consts
@@ -217,22 +217,22 @@ Gives earlier (call.Args args) t = t ≡ part_tree (number_at earlier) (tree_at 
 Gives earlier (call.EraseRegions p) t = t ≡ erased (tree_at earlier p)
 Gives earlier c t = folded earlier c ≡ Some (read 0 t)
 
--- the arguments don't suit the term
+-- the call instantiates, and the term with these arguments has a cause for this refusal
 abbrev pub HasCause : List Told → Call → Refusal → Type 0
 HasCause earlier (call.Instantiate p args) r = Cause (tree_at earlier p) (told_arguments earlier args.items) r
 HasCause earlier _ r = ⊥
 
--- the term was told
+-- a term of the table with this tree was told
 abbrev pub IsTold : List Told → Table → Tree Depth → Type 0
 IsTold [] table u = ⊥
 IsTold (term t v ∷ earlier) table u = ((t ≡ table) × (v ≡ u)) ⊎ IsTold earlier table u
 IsTold (t ∷ earlier) table u = IsTold earlier table u
 
--- the term of this tree is there: it was stored before the calls, or told
+-- a term of the table with this tree is there: it was stored before the calls, or told
 abbrev pub IsKnown : Setting → List Told → Table → Tree Depth → Type 0
 IsKnown s earlier table u = s.stored table u ⊎ IsTold earlier table u
 
--- the term that is built has no long list, and it is there
+-- the term that is built is there, and has no long list
 abbrev pub IsThere : Setting → List Told → Table → CallForm → Type 0
 IsThere s earlier table f = IsOfShortLists f × IsKnown s earlier table
     (form_tree (number_at earlier) (tree_at earlier) f)
@@ -297,7 +297,7 @@ GivesInfo earlier (call.Info p) flags outer = (flags ≡ scan (tree_at earlier p
     × (outer ≡ outer_binder (tree_at earlier p))
 GivesInfo earlier _ flags outer = ⊥
 
--- the number is above each id that was told
+-- the number is above the number of each id that was told
 abbrev pub IsAbove : List Told → ℕ → Type 0
 IsAbove [] n = ⊤
 IsAbove (declared s m t ∷ ts) n = (m < n) × IsAbove ts n
@@ -308,7 +308,7 @@ pub record GivesId (s : Setting) (earlier : List Told) (call : DeclareCall) (sor
     (t : Tree Depth) : Type 0 where
   pub sorted : sort ≡ declared_sort call.kind
   pub declares : t ≡ declaration_tree (number_at earlier) (tree_at earlier) n call
-  -- no declaration that was there before the calls has its number, and none that was told
+  -- no declaration from before the calls has its number, and no declaration that was told
   pub new : s.declarations ≤ n
   pub later : IsAbove earlier n
 

@@ -5,12 +5,12 @@ use Rattle.std.specs.Prelude.{ℕ, ◌+◌, ◌-◌, ◌*◌, Bool, ◌&&◌, na
 abbrev pub is_digit : ℕ → Bool
 is_digit byte = nat_le 48 byte && nat_le byte 57
 
--- the number of all digits, where those before these make n
+-- the number that the digits write after earlier digits of number n, if all are digits
 abbrev pub number_after : ℕ → List ℕ → Option ℕ
 number_after n [] = Some n
 number_after n (b ∷ bs) = if is_digit b then number_after (n * 10 + (b - 48)) bs else None
 
--- the number that a word of digits writes in the decimal system
+-- the number that the word writes in decimal, if it is not empty and has only digits
 abbrev pub decimal : List ℕ → Option ℕ
 decimal [] = None
 decimal (b ∷ bs) = number_after 0 (b ∷ bs)

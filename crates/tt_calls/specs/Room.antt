@@ -1,4 +1,4 @@
--- The meaning of a refusal for want of room: some part of the built term isn't there.
+-- What a refusal for want of room means: some part of the term that was to be built isn't stored.
 use Rattle.std.specs.Prelude.{◌≡◌, ℕ, ◌≤◌, length, List, Option, IsSomeAnd, ⊤}
 use Rattle.tt_index.specs.declared.refusal.Refusal.{Refusal}
 use Rattle.tt_index.specs.declared.refusal.Refusal.TheVariants.{Memory, TableFull}
@@ -25,15 +25,15 @@ pub record HasValue (rows : List Row) (t : Tree Depth) : Type 0 where
   pub part : IsPart (size rows) shape
   pub means : fill (meaning rows) shape ≡ t
 
--- no such value has this tree
+-- no value whose handles are in range has this tree
 abbrev pub LacksValue : List Row → Tree Depth → Type 0
 LacksValue rows t = AreRows rows → HasValue rows t → ⊥
 
--- the text, if there is one, is none of the rows
+-- the text, if there is one, isn't stored
 abbrev pub LacksText : List Row → Option Name → Type 0
 LacksText rows text = IsSomeAnd text (λ name. IsNew (text_row name) rows)
 
--- a refusal for want of room says that no value has the tree, if no list to be built is long
+-- if the refusal is for want of room, and no list to be built is long, no value has the tree
 abbrev pub NeedsRoom : List Row → Type 0 → Tree Depth → Refusal → Type 0
 NeedsRoom rows short t r = IsRefusalForRoom r → short → LacksValue rows t
 

@@ -12,11 +12,11 @@ use Rattle.tt_interner.specs.Declarations.{IsOfSort}
 use Rattle.tt_calls.specs.declared.answer.Answer.{Answer}
 use Rattle.tt_calls.specs.declared.answer.Answer.TheVariants as answer
 
--- the content of an answer: a term, an id, a truth value, flags and an outer exclusive binder, a refusal, or no call
+-- the content of an answer: a term, an id, a truth value, flags and an outer exclusive binder, a refusal, or a bad line
 pub data Told : Type 0 where
   -- a term of the table
   term : Table → Tree Depth → Told
-  -- the id of a declaration of this sort: its number, and its tree, which is what is declared with its name
+  -- the id of a declaration of this sort: its number, and its tree, which has what is declared and the name
   declared : DeclarationSort → ℕ → Tree Depth → Told
   truth : Bool → Told
   info : ℕ → ℕ → Told
@@ -37,7 +37,7 @@ told rows (answer.Info flags outer) = info flags.bits outer
 told rows (answer.Refused r) = refused r
 told rows answer.Bad = bad
 
--- the table of an answer's handle, if it is one
+-- the table of an answer's handle, if the answer is one
 abbrev pub handle_table : Answer → Option Table
 handle_table (answer.Ty t) = Some Types
 handle_table (answer.Const c) = Some Consts
@@ -47,7 +47,7 @@ handle_table (answer.Clauses l) = Some ClauseLists
 handle_table (answer.Args l) = Some ArgLists
 handle_table _ = None
 
--- the number of an answer's handle in its table, or 0 if it is not a handle
+-- the number of an answer's handle in its table, or 0 if the answer is not a handle
 abbrev pub handle_number : Answer → ℕ
 handle_number (answer.Ty h) = h.number
 handle_number (answer.Const h) = h.number
@@ -77,7 +77,7 @@ abbrev pub AreOwnedAnswers : List Row → List Answer → Type 0
 AreOwnedAnswers rows [] = ⊤
 AreOwnedAnswers rows (a ∷ answers) = IsOwnedAnswer rows a × AreOwnedAnswers rows answers
 
--- some table holds its limit
+-- some table holds the limit of rows
 pub record HasFullTable (terms : Terms) : Type 0 where
   pub table : Table
   pub full : terms.limit ≤ size terms.rows table
@@ -97,7 +97,7 @@ pub record Setting : Type 1 where
   -- a term of the table with this tree was stored before the calls
   pub stored : Table → Tree Depth → Type 0
 
--- an interner that has the old terms before the calls, and the new ones at the end
+-- the facts if the interner has the old terms before the calls, and the new ones at the end
 abbrev pub setting : Terms → Terms → Setting
 setting old new = record {
   full = HasFullTable new;

@@ -1,4 +1,4 @@
-//! Answers to calls, by the positions of earlier answers.
+//! Earlier answers by their positions, and the answers to queries.
 
 pub mod ids;
 pub mod lookup;

@@ -1,4 +1,4 @@
-//! The building of terms, of what a call names.
+//! Building terms and declarations from calls and earlier answers.
 
 pub mod clauses;
 pub mod consts;

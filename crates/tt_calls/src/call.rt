@@ -9,36 +9,36 @@ use tt_kinds::{
     FnHeader, FnSigKind, InferConst, InferTy, PlaceholderConst, ScalarInt,
 };
 
-/// The positions of a call's parts, in order. Up to four take no memory of their own.
+/// The positions of a call's parts, in order. Up to four positions are kept without an allocation.
 pub type Positions = SmallVec<u32, 4>;
 
-/// The name of a bound region of a call: a [`BoundRegionKind`](tt_kinds::BoundRegionKind) with a text in place of a
+/// The name of a bound region in a call: a [`BoundRegionKind`](tt_kinds::BoundRegionKind) with a text in place of a
 /// symbol, and the position of the declaring call in place of an id.
-#[derive(Debug, PartialEq, Eq, Drop)]
+#[derive(Debug, Drop)]
 pub enum RegionNameCall {
-    /// It has no name.
+    /// The region has no name.
     Anon,
-    /// It has no declaration, and is printed by this name.
+    /// The region has no declaration, and is printed by this name.
     NamedForPrinting(String),
-    /// It is declared, as anything, by the call at this position.
+    /// The call at this position declared the region. The declaration may be of any sort.
     Named(u32),
     /// The region of a closure's own environment.
     ClosureEnv,
 }
 
-/// The name of a bound type of a call: a [`BoundTyKind`](tt_kinds::BoundTyKind) with the position of the declaring call
+/// The name of a bound type in a call: a [`BoundTyKind`](tt_kinds::BoundTyKind) with the position of the declaring call
 /// in place of an id.
-#[derive(Clone, Copy, Debug, PartialEq, Eq)]
+#[derive(Clone, Copy, Debug)]
 pub enum BoundTyKindCall {
-    /// It has no name.
+    /// The type has no name.
     Anon,
-    /// It is declared, as anything, by the call at this position.
+    /// The call at this position declared the type. The declaration may be of any sort.
     Param(u32),
 }
 
-/// A variable of a binder of a call: a [`BoundVariableKind`](tt_kinds::BoundVariableKind) with a text in place of a
-/// symbol, and a position in place of an id.
-#[derive(Debug, PartialEq, Eq, Drop)]
+/// A variable of a binder in a call: a [`BoundVariableKind`](tt_kinds::BoundVariableKind) with a text in place of a
+/// symbol, and the position of the declaring call in place of an id.
+#[derive(Debug, Drop)]
 pub enum VariableCall {
     /// The variable is a type.
     Ty(BoundTyKindCall),
@@ -48,9 +48,9 @@ pub enum VariableCall {
     Const,
 }
 
-/// A region of a call: a [`RegionKind`](tt_kinds::RegionKind) with a text in place of a symbol, and the position of the
+/// A region in a call: a [`RegionKind`](tt_kinds::RegionKind) with a text in place of a symbol, and the position of the
 /// declaring call in place of an id.
-#[derive(Debug, PartialEq, Eq, Drop)]
+#[derive(Debug, Drop)]
 pub enum RegionCall {
     /// A region parameter of an item.
     ReEarlyParam {
@@ -59,10 +59,11 @@ pub enum RegionCall {
         /// Its name.
         name: String,
     },
-    /// A region that a binder binds: its binder, its place in the binder's list, and its name. A call with the greatest
-    /// bound index is refused.
+    /// A region that a binder binds: its binder, its place in the binder's list, and its name. A call with the binder
+    /// index [`GREATEST_INDEX`](tt_index::GREATEST_INDEX) is refused.
     ReBound(BoundVarIndexKind, BoundVar, RegionNameCall),
-    /// A region parameter of an item, seen from inside the item: the item, declared as anything, and the region's name.
+    /// A region parameter of an item, seen from inside the item: the item, whose declaration may be of any sort, and
+    /// the region's name.
     ReLateParam(u32, RegionNameCall),
     /// `'static`.
     ReStatic,
@@ -79,7 +80,7 @@ pub enum RegionCall {
 
 /// The kind of an alias: an [`AliasTyKind`](tt_kinds::AliasTyKind) with the position of the declaring call in place of
 /// an id.
-#[derive(Clone, Copy, Debug, PartialEq, Eq)]
+#[derive(Clone, Copy, Debug)]
 pub enum AliasCall {
     /// An associated type of a trait, which an implementation gives.
     Projection(u32),
@@ -92,7 +93,7 @@ pub enum AliasCall {
 }
 
 /// The item of a type with generic arguments, by the position of the declaring call.
-#[derive(Clone, Copy, Debug, PartialEq, Eq)]
+#[derive(Clone, Copy, Debug)]
 pub enum ItemCall {
     /// A struct, an enum or a union.
     Adt(u32),
@@ -111,8 +112,8 @@ pub enum ItemCall {
 }
 
 /// A type to be built: a [`TyKind`](tt_kinds::TyKind) with a text in place of a symbol and, in place of a handle or an
-/// id, the position of the call that answered it, counted from 1.
-#[derive(Debug, PartialEq, Eq, Drop)]
+/// id, the position, counted from 1, of the call that answered it.
+#[derive(Debug, Drop)]
 pub enum TyCall {
     /// `bool`.
     Bool,
@@ -137,8 +138,8 @@ pub enum TyCall {
         /// Its name.
         name: String,
     },
-    /// A type that a binder binds: its binder, its place in the binder's list, and its name. A call with the greatest
-    /// bound index is refused.
+    /// A type that a binder binds: its binder, its place in the binder's list, and its name. A call with the binder
+    /// index [`GREATEST_INDEX`](tt_index::GREATEST_INDEX) is refused.
     Bound(BoundVarIndexKind, BoundVar, BoundTyKindCall),
     /// A placeholder, a bound type whose binder has been entered: the universe in which it can be named, its place in
     /// the binder's list, and its name.
@@ -168,7 +169,7 @@ pub enum TyCall {
     },
     /// The type of an item with its generic arguments.
     Item(ItemCall, Vec<ArgCall>),
-    /// A trait object: the predicates on the type that it hides, and the region that this type outlives.
+    /// A trait object: the predicates on the type that the object hides, and the region that this type outlives.
     Dynamic(Vec<ExistentialCall>, RegionCall),
     /// A type, restricted to the values that a pattern allows.
     Pat(u32, u32),
@@ -181,8 +182,8 @@ pub enum TyCall {
     },
 }
 
-/// The kind of a value of the type level: a [`ValTreeKind`](tt_kinds::ValTreeKind) with positions of constants.
-#[derive(Debug, PartialEq, Eq, Drop)]
+/// The kind of a value of the type level: a [`ValTreeKind`](tt_kinds::ValTreeKind) with positions in place of handles.
+#[derive(Debug, Drop)]
 pub enum ValTreeCall {
     /// A leaf: the bits of a scalar.
     Leaf(ScalarInt),
@@ -192,7 +193,7 @@ pub enum ValTreeCall {
 
 /// A constant to be built: a [`ConstKind`](tt_kinds::ConstKind) with a text in place of a symbol, and positions in
 /// place of handles and of the id of an unevaluated constant.
-#[derive(Debug, PartialEq, Eq, Drop)]
+#[derive(Debug, Drop)]
 pub enum ConstCall {
     /// A constant parameter of an item.
     Param {
@@ -203,7 +204,8 @@ pub enum ConstCall {
     },
     /// A constant inference variable.
     Infer(InferConst),
-    /// A constant that a binder binds. A call with the greatest bound index is refused.
+    /// A constant that a binder binds. A call with the binder index [`GREATEST_INDEX`](tt_index::GREATEST_INDEX) is
+    /// refused.
     Bound(BoundVarIndexKind, BoundConst),
     /// A placeholder: a bound constant whose binder has been entered.
     Placeholder(PlaceholderConst),
@@ -213,12 +215,12 @@ pub enum ConstCall {
     Value(u32, ValTreeCall),
     /// A constant for which an error was reported.
     Error(ErrorGuaranteed),
-    /// An expression over constants: the front end's number for it, and its contents.
+    /// An expression over constants: the front end's number for the expression, and its contents.
     Expr(u32, Vec<ArgCall>),
 }
 
 /// A pattern to be built: a [`PatternKind`](tt_kinds::PatternKind) with positions in place of handles.
-#[derive(Debug, PartialEq, Eq, Drop)]
+#[derive(Debug, Drop)]
 pub enum PatCall {
     /// The values from one constant to another.
     Range {
@@ -233,8 +235,8 @@ pub enum PatCall {
     NotNull,
 }
 
-/// A type or a constant of a call.
-#[derive(Clone, Copy, Debug, PartialEq, Eq)]
+/// A type or a constant in a call.
+#[derive(Clone, Copy, Debug)]
 pub enum TermCall {
     /// The type that the call at this position answered.
     Ty(u32),
@@ -243,7 +245,7 @@ pub enum TermCall {
 }
 
 /// The kind of a clause: a [`ClauseKind`](tt_kinds::ClauseKind) with positions in place of handles and ids.
-#[derive(Debug, PartialEq, Eq, Drop)]
+#[derive(Debug, Drop)]
 pub enum ClauseCall {
     /// A type implements a trait: the trait, and its generic arguments, the self type first.
     Trait(u32, Vec<ArgCall>),
@@ -251,7 +253,8 @@ pub enum ClauseCall {
     RegionOutlives(RegionCall, RegionCall),
     /// A type outlives a region.
     TypeOutlives(u32, RegionCall),
-    /// An alias is equal to a term: the alias, declared as anything, its generic arguments and the term.
+    /// An alias is equal to a term: the alias, whose declaration may be of any sort, its generic arguments, and the
+    /// term.
     Projection(u32, Vec<ArgCall>, TermCall),
     /// A constant has a type.
     ConstArgHasType(u32, u32),
@@ -259,14 +262,14 @@ pub enum ClauseCall {
     WellFormed(TermCall),
     /// A constant can be computed.
     ConstEvaluatable(u32),
-    /// A type implements a trait so that it can be used in constants.
+    /// A type implements a trait for use in constants.
     HostEffect(u32, Vec<ArgCall>, BoundConstness),
     /// The unstable feature of this name is enabled.
     UnstableFeature(String),
 }
 
 /// The kind of a predicate: a [`PredicateKind`](tt_kinds::PredicateKind) with positions in place of handles and ids.
-#[derive(Debug, PartialEq, Eq, Drop)]
+#[derive(Debug, Drop)]
 pub enum PredicateKindCall {
     /// A clause.
     Clause(ClauseCall),
@@ -287,26 +290,28 @@ pub enum PredicateKindCall {
     ConstEquate(u32, u32),
     /// It is unknown whether the predicate holds.
     Ambiguous,
-    /// An alias normalizes to a term: the alias, declared as anything, its generic arguments and the term.
+    /// An alias normalizes to a term: the alias, whose declaration may be of any sort, its generic arguments, and the
+    /// term.
     NormalizesTo(u32, Vec<ArgCall>, TermCall),
-    /// Two terms, aliases or not, are related.
+    /// Two terms, which may be aliases, are related in this direction.
     AliasRelate(TermCall, TermCall, AliasRelationDirection),
 }
 
-/// A predicate of a trait object on the type that it hides: an [`ExistentialPredicate`](tt_kinds::ExistentialPredicate)
-/// with positions in place of handles and ids.
-#[derive(Debug, PartialEq, Eq, Drop)]
+/// A predicate of a trait object on the type that the object hides: an
+/// [`ExistentialPredicate`](tt_kinds::ExistentialPredicate) with positions in place of handles and ids.
+#[derive(Debug, Drop)]
 pub enum ExistentialKindCall {
-    /// It implements a trait with these generic arguments.
+    /// The hidden type implements a trait with these generic arguments.
     Trait(u32, Vec<ArgCall>),
-    /// An associated item of its trait, declared as anything, with these generic arguments, is equal to a term.
+    /// An associated item of the hidden type's trait is equal to a term: the item, whose declaration may be of any
+    /// sort, its generic arguments, and the term.
     Projection(u32, Vec<ArgCall>, TermCall),
-    /// It implements an auto trait.
+    /// The hidden type implements an auto trait.
     AutoTrait(u32),
 }
 
 /// An existential predicate to be built.
-#[derive(Debug, PartialEq, Eq, Drop)]
+#[derive(Debug, Drop)]
 pub struct ExistentialCall {
     /// Its kind.
     pub kind: ExistentialKindCall,
@@ -315,7 +320,7 @@ pub struct ExistentialCall {
 }
 
 /// A predicate to be built.
-#[derive(Debug, PartialEq, Eq, Drop)]
+#[derive(Debug, Drop)]
 pub struct PredicateCall {
     /// Its kind.
     pub kind: PredicateKindCall,
@@ -323,8 +328,8 @@ pub struct PredicateCall {
     pub vars: Vec<VariableCall>,
 }
 
-/// A generic argument of a call.
-#[derive(Debug, PartialEq, Eq, Drop)]
+/// A generic argument in a call.
+#[derive(Debug, Drop)]
 pub enum ArgCall {
     /// A region.
     Lifetime(RegionCall),
@@ -336,7 +341,7 @@ pub enum ArgCall {
 
 /// What is declared: a [`DeclarationKind`](tt_kinds::DeclarationKind) with the position of the declaring call in place
 /// of an id, and positions of types.
-#[derive(Debug, PartialEq, Eq, Drop)]
+#[derive(Debug, Drop)]
 pub enum DeclarationKindCall {
     /// A trait.
     Trait {
@@ -374,12 +379,12 @@ pub enum DeclarationKindCall {
     Coroutine,
     /// A constant whose value is computed on demand.
     Const,
-    /// A parameter: of a type, a region or a constant.
+    /// A type, region or constant parameter.
     Param,
 }
 
-/// A declaration to be made. Each such call makes a new id, even if names repeat.
-#[derive(Debug, PartialEq, Eq, Drop)]
+/// A declaration to be made. Each call makes a new id, even if names repeat.
+#[derive(Debug, Drop)]
 pub struct DeclareCall {
     /// What is declared.
     pub kind: DeclarationKindCall,
@@ -388,7 +393,7 @@ pub struct DeclareCall {
 }
 
 /// A call of the library. A position names the answer of an earlier call of the list: the first call has position 1.
-#[derive(Debug, PartialEq, Eq, Drop)]
+#[derive(Debug, Drop)]
 pub enum Call {
     /// Builds the type.
     Ty(TyCall),
@@ -408,8 +413,8 @@ pub enum Call {
     Shift(u32, u32),
     /// Instantiates the term at the position with the arguments.
     Instantiate(u32, Vec<ArgCall>),
-    /// Replaces each region of the term at the position by the erased one, except for regions that are bound in the
-    /// term and canonical ones.
+    /// Replaces each region of the term at the position by the erased one, except for canonical regions and those that
+    /// the term's own binders bind.
     EraseRegions(u32),
     /// Tests whether the terms at two positions are the same.
     Equal(u32, u32),

@@ -1,10 +1,11 @@
-//! Calls of the library as values, their answers, the building of terms by calls, and the lines of scripts.
+//! Calls of the library as values: what they build, their answers, and the lines of scripts.
 #![tactic(auto)]
 
 pub mod answer;
 pub mod answers;
 pub mod build;
 pub mod call;
+mod equality;
 pub mod script;
 
 pub use answer::Answer;
@@ -13,5 +14,6 @@ pub use call::{
     DeclareCall, ExistentialCall, ExistentialKindCall, ItemCall, PatCall, Positions, PredicateCall,
     PredicateKindCall, RegionCall, RegionNameCall, TermCall, TyCall, ValTreeCall, VariableCall,
 };
+pub use equality::equal_answers_are_same;
 pub use script::fault::Fault;
 pub use script::line::parse_line;

@@ -139,7 +139,7 @@ abbrev pub has_regions : ℕ
 has_regions = 0x260000
 
 -- a name local to one function or one inference context: a type or constant parameter, inference variable, placeholder
--- or freshened variable, a free local region or an erased one
+-- or freshened variable, a free local region or an erased region
 abbrev pub has_free_local_names : ℕ
 has_free_local_names = 0xe0036d
 

@@ -14,8 +14,8 @@ use tt_index::DebruijnIndex;
 pub struct FlagComputation {
     /// The union of the flags of all parts.
     pub flags: TypeFlags,
-    /// One more than the greatest index of a bound variable that escapes the term, or 0 if none escapes. Neither the
-    /// binder of this index nor one outside of it binds a variable of the term.
+    /// One more than the greatest index of a bound variable that escapes the term, or 0 if none escapes. The binder of
+    /// this index binds no variable of the term, and neither does any binder outside of it.
     pub outer_exclusive_binder: DebruijnIndex,
 }
 
@@ -37,8 +37,8 @@ impl FlagComputation {
         }
     }
 
-    /// Returns the information of a variable bound at `index`, with these flags. [`DebruijnIndex::can_shift_in`] of 1
-    /// tests the condition.
+    /// Returns the information of a variable bound at `index`, with these flags. [`DebruijnIndex::can_shift_in`],
+    /// called with 1, tests the condition.
     pub fn bound_at(flags: TypeFlags, index: DebruijnIndex) -> FlagComputation
         requires { index < greatest }
         ensures { result ≡ computed flags.bits (index + 1) }
@@ -65,7 +65,7 @@ impl FlagComputation {
     }
 
     /// Returns the information of these parts under one binder, whose list of variables has the flags `list_flags`.
-    /// Outside the binder every index that still escapes is one less.
+    /// Outside of the binder, the index of each variable that still escapes is one less.
     pub fn under_binder(self, list_flags: TypeFlags) -> FlagComputation
         ensures { result
             ≡ computed (bit_or list_flags.bits self.flags.bits) (self.outer_exclusive_binder - 1) }

@@ -8,10 +8,10 @@ ghost use Rattle.tt_flags.specs.TypeFlags.{flag_table};
 use bitflags::{Flag, Flags};
 use std::ops::{BitAnd, BitAndAssign, BitOr, BitOrAssign};
 
-/// A set of flags, each of which says that some form occurs in a term. The flags of a term are the union over its
-/// parts, so they tell whether a part of some form occurs, without a walk.
+/// A set of flags, each of which says that something occurs in a term, such as a type parameter. The flags of a term
+/// are the union of the flags of its parts, so a test of the flags replaces a walk over the term.
 ///
-/// In a contract `flags.bits` is the number of the bits of `flags`.
+/// In a contract, `flags.bits` is the bits of `flags` as a number.
 #[derive(Clone, Copy, Debug, PartialEq, Eq, Hash)]
 pub struct TypeFlags {
     bits: u32,
@@ -122,7 +122,7 @@ impl TypeFlags {
     pub const HAS_REGIONS: TypeFlags = TypeFlags { bits: 0x260000 };
 
     /// A name local to one function or one inference context: a type or constant parameter,
-    /// inference variable, placeholder or freshened variable, a free local region or an erased one.
+    /// inference variable, placeholder or freshened variable, a free local region or an erased region.
     pub const HAS_FREE_LOCAL_NAMES: TypeFlags = TypeFlags { bits: 0xE0036D };
 
     /// A type or constant parameter, placeholder or inference variable, whose replacement could
@@ -138,14 +138,14 @@ impl TypeFlags {
         TypeFlags { bits: 0 }
     }
 
-    /// Returns the set of exactly these bits, including those that no flag names.
+    /// Returns the set of exactly these bits, including bits that belong to no flag.
     pub const fn from_bits_retain(bits: u32) -> TypeFlags
         ensures { result ≡ record { bits = bits } }
     {
         TypeFlags { bits }
     }
 
-    /// Returns the number of the set's bits.
+    /// Returns the set's bits as a number.
     pub const fn bits(self) -> u32
         ensures { result ≡ self.bits }
     {
@@ -174,7 +174,7 @@ impl TypeFlags {
         self.bits & other.bits == other.bits
     }
 
-    /// Returns the flags of either set.
+    /// Returns the flags that are in at least one of the two sets.
     pub const fn union(self, other: TypeFlags) -> TypeFlags
         ensures { result ≡ record { bits = bit_or self.bits other.bits } }
     {
@@ -183,7 +183,7 @@ impl TypeFlags {
         }
     }
 
-    /// Returns the flags of both sets.
+    /// Returns the flags that are in both sets.
     pub const fn intersection(self, other: TypeFlags) -> TypeFlags
         ensures { result ≡ record { bits = bit_and self.bits other.bits } }
     {
@@ -269,7 +269,7 @@ impl BitAndAssign for TypeFlags {
     }
 }
 
-// The rows of these constants, under their names.
+// The table's rows of these constants, each with the constant's name.
 macro_rules! flag_rows {
     ($($flag:ident)*) => {
         &[$(Flag { name: stringify!($flag), value: TypeFlags::$flag },)*]

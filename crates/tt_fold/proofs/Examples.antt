@@ -66,7 +66,7 @@ none_fails (term_failed is h) = h
 none_fails (descent_failed is h d) = cc (h.0)
 none_fails (passed_failed is d) = cc
 
--- no walk of the two clauses succeeds
+-- a folder that replaces each predicate by one that is no clause never gets through two clauses
 never_walks : {s' : ℕ} {r : Tree Depth} → Walks replacing 0 two_clauses r s' → ⊥
 never_walks (at_region is h) = h
 never_walks (replaced is h) = cc (h.0)
@@ -74,7 +74,7 @@ never_walks (kept is h) = cc (h.0)
 never_walks (descended is h (rebuilt (in_term (next w more) fit) after)) = fit (inl (rw (one_replaced w).0 refl))
 never_walks (passed is w) = cc
 
--- each fails at the first one, for which the folder was asked once
+-- such a folder ends with `NotAClause` at the first clause, for which it was asked once
 ends_at_first : {s' : ℕ} {e : Refusal} → Fails replacing errors 0 two_clauses e s' → (e ≡ NotAClause) × (s' ≡ 1)
 ends_at_first (region_failed is h) = absurd h
 ends_at_first (term_failed is h) = absurd h

@@ -40,7 +40,7 @@ first_of i = ReBound i (record { var = 0; kind = Anon })
 abbrev counting : ℕ → RegionKind → ℕ → RegionKind → ℕ → Type 0
 counting n r k answer m = (answer ≡ ReVar n) × (m ≡ suc n)
 
--- it is called at each place of a region, though both are in one handle
+-- the closure is called at each place of a region, also if both are in one handle, each time from the state before
 one_handle_twice : Places counting names 0 (node (record_label pair_record) (also (reference ReStatic) (also (reference ReStatic) none)))
     (node (record_label pair_record) (also (reference (ReVar 0)) (also (reference (ReVar 1)) none))) 2
 unfolding fill
@@ -55,10 +55,11 @@ one_handle_twice = record {
 abbrev keeping : RegionKind → List (RegionKind × ℕ) → RegionKind → ℕ → RegionKind → List (RegionKind × ℕ) → Type 0
 keeping same calls r k answer calls' = (answer ≡ same) × (calls' ≡ calls ++ (r, k) ∷ [])
 
--- it isn't called at the pointer's own region, and its answers are bound by the pointer where they are placed
+-- a pointer under a binder of one region, with three references
 abbrev three : RegionKind → RegionKind → RegionKind → Tree Depth
 three p q r = pointer (region_variable anonymous ∷ []) (also (reference p) (also (reference q) (also (reference r) (also (term (type_label tuple_type) (also (types none) none)) none))))
 
+-- the closure is not called at the pointer's own region, and its answers are bound by the pointer where they are placed
 own_not_asked : Places (keeping (first_of (Bound 0))) names [] (three (first_of (Bound 0)) (first_of (Bound 1)) ReStatic)
     (three (first_of (Bound 0)) (first_of (Bound 0)) (first_of (Bound 0))) ((first_of (Bound 1), 1) ∷ (ReStatic, 1) ∷ [])
 unfolding fill
@@ -73,13 +74,13 @@ own_not_asked = record {
 abbrev alone : RegionKind → Tree Depth
 alone r = pointer [] (also (reference r) (also (term (type_label tuple_type) (also (types none) none)) none))
 
--- an answer of the greatest index that a variable may have is placed as it is, and points outside of the pointer
+-- an answer of the last index is placed as it is, and points outside of the pointer
 last_placed : (placed 0 (alone ReStatic) (region_tree names (first_of (Bound 4294967039)) ∷ []) ≡ alone (first_of (Bound 4294967039)))
     × (scan (alone (first_of (Bound 4294967039))) ≡ 0x40000) × (outer_binder (alone (first_of (Bound 4294967039))) ≡ 4294967039)
 unfolding fill
 last_placed = (refl, refl, refl)
 
--- a canonical variable points to no binder
+-- an answer that is a canonical variable points to no binder
 canonical_placed : (placed 0 (alone ReStatic) (region_tree names (first_of Canonical) ∷ []) ≡ alone (first_of Canonical))
     × (scan (alone (first_of Canonical)) ≡ 0x4040000) × (outer_binder (alone (first_of Canonical)) ≡ 0)
 unfolding fill

@@ -24,14 +24,15 @@ abbrev pub reference_at : ℕ → Tree Depth
 reference_at d = term (type_label (ref_type mutability.«Not»))
     (also (bound region_sort (at d) (record { var = 0; kind = region_variable anonymous })) (also i32 none))
 
--- a type without variables is shifted by nothing
+-- a shift by the greatest number leaves a type without variables as it is
 closed_stays : shift_tree 0 4294967295 i32 ≡ i32
 closed_stays = refl
 
--- shifted up to the last index that may be, it fits, and further it doesn't
+-- shifted up to the last index, a reference fits
 last_fits : (outer_binder (shift_tree 0 4294967039 (reference_at 0)) ≡ 4294967040) × Fits (move 4294967039 (read 0 (reference_at 0)))
 last_fits = (refl, ((omega arith, (tt, tt))))
 
+-- shifted further, a reference is refused with `GreatestIndex`
 shift_too_far : (terms : Terms) → IsShiftRefusal terms 4294967295 (reference_at 0) GreatestIndex
 shift_too_far terms h = omega (arith, h.0)
 
@@ -107,6 +108,6 @@ unfolding paired
 rebuild-paired index parameter zero t = refl
 rebuild-paired index parameter (suc n) t = rw (rebuild-paired index parameter n t) refl
 
--- so the shifted type is `&'^1.0 i32`, paired 64 times
+-- the shifted type is `&'^1.0 i32`, paired 64 times
 tower_moved : shift_tree 0 1 (paired 64 (reference_at 0)) ≡ paired 64 (reference_at 1)
 tower_moved = rebuild-paired (shifted 1) keep 64 (reference_at 0)

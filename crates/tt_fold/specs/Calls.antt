@@ -13,8 +13,8 @@ use Rattle.tt_fold.specs.Counts.{Standing}
 use Rattle.tt_fold.specs.Steps.{tree_in}
 use Rattle.tt_fold.specs.Parts.{ArePartsOf, trees_in, FoldsValues}
 
--- so many types of the stored list, which has `count` types, were folded, from the terms and the state s to terms' and
--- s', and gave the others
+-- The first `next` types of the stored list, which has `count` types, were folded, which gave `types`. Before, the
+-- interner is `terms` and the folder's state is s; afterwards they are terms' and s'.
 pub record FoldsTypes {M E S : Type 0} (owned : List Row → S → Type 0) (means : List Row → S → M)
     (H : Hooks (Standing M) E)
     (terms : Terms) (s : S) (tys : Tys) (count next : ℕ) (types : List Ty) (terms' : Terms) (s' : S) : Type 0 where

@@ -9,7 +9,7 @@ pub record Standing (M : Type 0) : Type 0 where
   pub state : M
   pub counters : Counters
 
--- the meaning of the folder's state among the terms, with their counts
+-- the meaning of the folder's state in the interner, with the interner's counts
 abbrev pub stands : {M S : Type 0} → (List Row → S → M) → Terms → S → Standing M
 stands means terms s = record { state = means terms.rows s; counters = terms.counters }
 
@@ -17,7 +17,7 @@ stands means terms s = record { state = means terms.rows s; counters = terms.cou
 abbrev pub Quietly : {M : Type 0} → (M → M → Type 0) → Standing M → Standing M → Type 0
 Quietly R s s' = R s.state s'.state × (s'.counters ≡ s.counters)
 
--- the hooks of a folder that never counts
+-- the hooks of a folder that leaves the counts as they are
 abbrev pub keeps_counters : {M E : Type 0} → Hooks M E → Hooks (Standing M) E
 keeps_counters H = record {
   on_region = λ s t r s'. Quietly (λ m m'. H.on_region m t r m') s s';

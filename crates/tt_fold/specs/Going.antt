@@ -44,12 +44,12 @@ form_outline rows (kinds.under l vars m p) =
     under (rename_label (name_of (meaning rows)) l) (vars_in rows vars)
     (rename_label (name_of (meaning rows)) (record_label m))
 
--- the outline of a term or a list, by the list that it is or the term
+-- the outline of a list, or of a term if there is no list
 abbrev pub outline_by : Listed Row → Node → Option List → Outline
 outline_by rows n (Some l) = items (list_sort l)
 outline_by rows n None = form_outline rows (kind_form (stored_kind rows n))
 
--- the outline of a child that is a term or a list
+-- the outline of a child, which is a term or a list
 abbrev pub outline_of : Listed Row → Child → Outline
 outline_of rows c = outline_by rows (child_node c) (child_list c)
 
@@ -61,11 +61,11 @@ term_parts_at rows n = form_parts (kind_form (stored_kind rows n))
 abbrev pub walked_parts : Parts → Listed Child
 walked_parts p = p.first ∷ present p.second
 
--- the values as the parts of a term, absent where there is no value
+-- the first two values as the parts of a term; a part without a value is absent
 abbrev pub parts_of : Listed Child → Parts
 parts_of vs = record { first = get_or vs 0 child.Absent; second = get_or vs 1 child.Absent }
 
--- the children that are walked, by the list that it is or the term
+-- the children of a list, or the walked parts of a term if there is no list
 abbrev pub children_by : Listed Row → Node → Option List → Listed Child
 children_by rows n (Some l) = children_at rows l
 children_by rows n None = walked_parts (term_parts_at rows n)
@@ -91,7 +91,7 @@ pub record IsTermFrame (rows : Listed Row) (n : Node) (count : ℕ) : Type 0 whe
   pub inner : IsInner (kind_form (stored_kind rows n))
   pub counted : count ≡ length (walked_parts (term_parts_at rows n))
 
--- the list is stored, and holds so many children
+-- the list is stored, and has this many children
 pub record IsListFrame (rows : Listed Row) (l : List) (count : ℕ) : Type 0 where
   pub in_range : list_number l < size rows (list_table l)
   pub parts : ArePartsOf rows (children_shapes (children_at rows l))
@@ -99,12 +99,12 @@ pub record IsListFrame (rows : Listed Row) (l : List) (count : ℕ) : Type 0 whe
   pub counted : count ≡ length (children_at rows l)
   pub fits : count < 2 ^ 64
 
--- what a frame says of its term or its list
+-- what holds of a frame's list, or of its term if there is no list
 abbrev pub IsMadeOf : Listed Row → Node → ℕ → Option List → Type 0
 IsMadeOf rows n count (Some l) = IsListFrame rows l count
 IsMadeOf rows n count None = IsTermFrame rows n count
 
--- the frame's term or list is the rows', and is made of its children
+-- the frame's term or list is among the rows, and its tree is made of its children's trees
 pub record IsFoldFrame (rows : Listed Row) (f : Frame) : Type 0 where
   pub is : IsWhole f.item
   pub part : ArePartsOf rows (child_shapes f.item)
@@ -117,7 +117,7 @@ AreAlike [] cs = ⊤
 AreAlike (v ∷ vs) [] = ⊥
 AreAlike (v ∷ vs) (c ∷ cs) = (child_sort v ≡ child_sort c) × AreAlike vs cs
 
--- the values came of the frame's first children
+-- the values may be the results of the frame's first children
 pub record Holds (rows : Listed Row) (f : Frame) (values : Listed Child) : Type 0 where
   pub frame : IsFoldFrame rows f
   pub owned : ArePartsOf rows (children_shapes values)
@@ -133,16 +133,16 @@ abbrev pub FitsList : Option List → Child → Type 0
 FitsList (Some l) value = IsItem (list_sort l) (child_sort value)
 FitsList None value = ⊤
 
--- the value may be one of the frame's results, if it is what has to come
+-- the value may be one of the frame's results, if it is what the child has to become
 pub record IsResult (rows : Listed Row) (f : Frame) (value : Child) : Type 0 where
   pub owned : ArePartsOf rows (child_shapes value)
   pub fit : FitsList (child_list f.item) value
 
--- the memory for a value is refused, or it is not what has to come
+-- why a value is not kept: the memory for it is refused, or it is not what the child has to become
 abbrev pub IsNotKept : Wanted → Forest Depth → Refusal → Type 0
 IsNotKept w ts e = ((HasUnwanted w ts → ⊥) × (e ≡ Memory)) ⊎ (HasUnwanted w ts × (e ≡ NotAClause))
 
--- what was begun is the frame of a child's contents, or a value that may be one of the frame's results
+-- what was begun is the frame of a child's contents, or a value that may be one of this frame's results
 abbrev pub IsFrameOrResult : Listed Row → Frame → Begun → Type 0
 IsFrameOrResult rows f (begun.Done y) = IsResult rows f y
 IsFrameOrResult rows f (begun.Inside inner) = ⊤
@@ -154,12 +154,12 @@ HasAdvanced rows f fs vs (begun.Done y) f' fs' vs' = (f' ≡ f) × (fs' ≡ fs) 
     × (HasUnwanted (wanted_by (outline_of rows f.item)) (child_trees rows y) → ⊥)
 HasAdvanced rows f fs vs (begun.Inside inner) f' fs' vs' = (f' ≡ inner) × (fs' ≡ fs ++ f ∷ []) × (vs' ≡ vs)
 
--- the result isn't kept, or the memory for the frame is refused
+-- why the walk ends: the result isn't kept, or the memory for the frame is refused
 abbrev pub IsStuck : Listed Row → Frame → Begun → Refusal → Type 0
 IsStuck rows f (begun.Done y) e = IsNotKept (wanted_by (outline_of rows f.item)) (child_trees rows y) e
 IsStuck rows f (begun.Inside inner) e = e ≡ Memory
 
--- the last values
+-- the last n values
 abbrev pub last_of : ℕ → Listed Child → Listed Child
 last_of n values = drop (length values - n) values
 
@@ -168,17 +168,17 @@ pub record BegunFrame : Type 0 where
   pub frame : Frame
   pub values : Listed Child
 
--- the frames of parts, the innermost first, in the order in which they came
+-- the frames alone, the outermost first, of a list with the innermost first
 abbrev pub frames_of : Listed BegunFrame → Listed Frame
 frames_of [] = []
 frames_of (p ∷ ps) = frames_of ps ++ p.frame ∷ []
 
--- their results in the order in which they came
+-- the results in these frames, in the order in which they came
 abbrev pub values_of : Listed BegunFrame → Listed Child
 values_of [] = []
 values_of (p ∷ ps) = values_of ps ++ p.values
 
--- a part among the rows: its tree, its results and the children that are left
+-- a frame's context: its tree, its outline, its results, and the children that are left
 abbrev pub context_of : Listed Row → BegunFrame → Context
 context_of rows p = record {
   before = child_tree rows p.frame.item;
@@ -187,24 +187,26 @@ context_of rows p = record {
   left = left_of rows p.frame;
 }
 
--- the contexts of parts, in the same order
+-- the contexts of frames, in the same order
 abbrev pub contexts : Listed Row → Listed BegunFrame → Listed Context
 contexts rows [] = []
 contexts rows (p ∷ ps) = context_of rows p ∷ contexts rows ps
 
--- the values came of the children before this one, which is being walked
+-- the item is the frame's child that is being walked, and the values may be the results of the frame's earlier children
 pub record IsBelow (rows : Listed Row) (item : Child) (p : BegunFrame) : Type 0 where
   pub holds : Holds rows p.frame p.values
   pub counted : length p.values + 1 ≡ p.frame.next
   pub walked : slice_get (children_in rows p.frame) (length p.values) ≡ Some item
 
--- each part's child is the term or the list of the part before it, the outermost is the root
+-- The frames around an item, from the innermost to the root's: the item is the child that is being walked in the first
+-- frame, the first frame's term or list is this child in the second frame, and so on. The last frame's term or list is
+-- the root.
 abbrev pub AreBelow : Listed Row → Child → Child → Listed BegunFrame → Type 0
 AreBelow rows root item [] = item ≡ root
 AreBelow rows root item (p ∷ ps) = IsBelow rows item p × AreBelow rows root p.frame.item ps
 
 abbrev mutual
-  -- the work that the walk of a tree is
+  -- the work of the walk of a tree, which is a measure that shows that the loop ends
   pub work : Tree Depth → ℕ
   work (param s i name) = 0
   work (bound s d e) = 0
@@ -249,13 +251,13 @@ module _ {M E : Type 0} (H : Hooks M E) where
       × Opens H (binder_of (outline_of rows item)) s s'
   IsOpen t item rows None s s' = WalksInside H s t t s'
 
-  -- the child came to another, or its children are next
+  -- the child has its result, or its children are next
   abbrev pub IsBegun : Forest Depth → Tree Depth → Child → Listed Row → Begun → M → M → Type 0
   IsBegun ts t item rows (begun.Done y) s s' = IsChildFor item rows y × WalksAll H s ts (child_trees rows y) s'
   IsBegun ts t item rows (begun.Inside f) s s' = IsNewFrame rows item f
       × Begins H t (outline_of rows item) (left_of rows f) s s'
 
-  -- the frame's term or list is built of the results
+  -- the frame's term or list is built from the results
   abbrev pub IsRebuilt : Listed Row → Frame → Listed Child → Listed Row → Child → M → M → Type 0
   IsRebuilt rows0 f results rows y s s' =
       IsChildFor f.item rows y × Rebuilds H (outline_of rows0 f.item) (children_trees rows0 results) s
@@ -270,14 +272,14 @@ module _ {M E S : Type 0} (owned : Listed Row → S → Type 0) (means : Listed 
       (λ m e m'. ChildFails H (errors_of gives terms') m (child_trees terms.rows c) e m')
       terms s r terms' s'
 
-  -- the call built the frame's term or list of the results of its children
+  -- the call built the frame's term or list from the results of its children
   abbrev pub RebuildsFrame : Frame → Listed Child → Terms → S → Result Child E → Terms → S → Type 0
   RebuildsFrame f results terms s r terms' s' = Goes owned means
       (IsRebuilt H terms.rows f results)
       (RebuildFails H (errors_of gives terms') (outline_of terms.rows f.item) (children_trees terms.rows results))
       terms s r terms' s'
 
-  -- the call returned what the hook after the contents makes of the rebuilt term or list
+  -- the call returned the answer of the hook after the contents, or the rebuilt term or list if it has no hook
   abbrev pub FinishesItem : Child → Child → Terms → S → Result Child E → Terms → S → Type 0
   FinishesItem before rebuilt terms s r terms' s' = Goes owned means
       (λ rows y m m'. IsChildFor before rows y
@@ -285,9 +287,9 @@ module _ {M E S : Type 0} (owned : Listed Row → S → Type 0) (means : Listed 
       (FinishFails H (errors_of gives terms') (child_tree terms.rows before) (child_tree terms.rows rebuilt))
       terms s r terms' s'
 
--- The walk of the root's children, begun among the terms0 and in the state s0, has come to the terms and the state s,
--- to the innermost frame, the frames around it and the values of them all. Whatever is left to do makes the walk of the
--- whole.
+-- The walk of the root's children began with the interner terms0 and the state s0. It has come to `terms` and the state
+-- s, to the innermost frame, to the frames around it and to the values of all of them. Whatever way the rest of the
+-- walk goes, it completes the walk of the root's children.
 pub record Going {M E S : Type 0} (owned : Listed Row → S → Type 0) (means : Listed Row → S → M)
     (H : Hooks (Standing M) E) (gives : Refusal → E → Type 0)
     (terms0 : Terms) (s0 : S) (first : Frame) (terms : Terms) (s : S) (frame : Frame) (frames : Listed Frame)
@@ -306,7 +308,7 @@ pub record Going {M E S : Type 0} (owned : Listed Row → S → Type 0) (means :
       (children_trees terms.rows results) (left_of terms.rows frame) (contexts terms.rows below)
       (stands means terms s) u s'
       → Rests H (outline_of terms0.rows first.item) (left_of terms0.rows first) (stands means terms0 s0) u s'
-  -- the terms at the end say what an error tells
+  -- the meaning of an error depends on the interner at the end
   pub fails : (final : Terms) (e : E) (s' : Standing M)
       → Halts H (errors_of gives final) (child_tree terms.rows frame.item) (outline_of terms.rows frame.item)
       (children_trees terms.rows results) (left_of terms.rows frame) (contexts terms.rows below)

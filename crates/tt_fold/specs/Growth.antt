@@ -1,4 +1,4 @@
--- Growth by terms and lists alone, as the building calls of a fold cause it.
+-- Growth by rows other than symbols, as the building calls of a fold cause it.
 use Rattle.std.specs.Prelude.{◌≡◌, List, [], ◌∷◌, false, ⊤}
 use Rattle.tt_kinds.specs.declared.table.Table.TheVariants.{Symbols}
 use Rattle.tt_interner.specs.Rows.{Row, is_in, Grows}

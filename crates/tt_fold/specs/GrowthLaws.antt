@@ -15,7 +15,7 @@ use Rattle.tt_interner.proofs.RowLaws.{table-other}
 use Rattle.tt_interner.proofs.Growth.{sizes-grow}
 use Rattle.tt_fold.specs.Growth.{HoldsNoSymbol, AddsTerms}
 
--- a term or a list that was stored, or was there
+-- storing a term or a list adds one row that is no symbol, or nothing if the row was there
 pub stored-adds : {old new : List Row} {r : Row} {n : ℕ} → is_in Symbols r ≡ false → Stores old new r n
     → AddsTerms old new
 stored-adds {old} {new} {r} other h = elim h.grown [

@@ -1,4 +1,4 @@
--- The place of a folder's entries: in place, or in a map.
+-- How a folder's memory keeps its notes: in place, or in a map.
 use Rattle.std.specs.Prelude.{◌≤◌, List, map, length}
 use Rattle.std.specs.List.{IsDistinct}
 use Rattle.std.specs.Map.{keys_of}

@@ -107,7 +107,7 @@ pub record IsChildless (bound_vars : Option BoundVarKinds) (parts : Parts) : Typ
   pub first : parts.first ≡ child.Absent
   pub second : parts.second ≡ child.Absent
 
--- of the children of a term with the label may come any trees
+-- the children of a term with the label may become any trees
 abbrev pub HoldsAny : Label ℕ → Type 0
 HoldsAny l = (name : ℕ → Name) → wanted_in (rename_label name l) ≡ any_trees
 
@@ -118,8 +118,8 @@ IsInner (form.bound d e) = ⊥
 IsInner (form.plain l p) = HoldsAny l
 IsInner (form.under l vars m p) = HoldsAny l
 
--- some values of the list were folded, from the terms and the state s to terms' and s', and gave the others; the rest
--- is left
+-- The first values of the list were folded, which gave `values`; `rest` is left. Before, the interner is `terms` and
+-- the folder's state is s; afterwards they are terms' and s'.
 pub record FoldsValues {M E S T : Type 0} (shape : T → Shape) (owned : Listed Row → S → Type 0)
     (means : Listed Row → S → M) (H : Hooks (Standing M) E)
     (terms : Terms) (s : S) (list values rest : Listed T) (terms' : Terms) (s' : S) : Type 0 where

@@ -13,8 +13,8 @@ abbrev pub AreDistinct : {A : Type 0} → List A → Type 0
 AreDistinct [] = ⊤
 AreDistinct (x ∷ xs) = (IsIn x xs → ⊥) × AreDistinct xs
 
--- a count grew by no more than the distinct ones among the places: these are some of them, each once, and as many at
--- least
+-- A count grew by no more than the number of distinct places in the list: `pairs` are some of these places, each once,
+-- and at least as many as the count grew by.
 pub record CountsPairs (among : List TypeAt) (before after : ℕ) : Type 0 where
   pub pairs : List TypeAt
   pub distinct : AreDistinct pairs
@@ -22,7 +22,7 @@ pub record CountsPairs (among : List TypeAt) (before after : ℕ) : Type 0 where
   pub few : after ≤ before + length pairs
 
 abbrev mutual
-  -- a stored term, with the binders above it, is one of a tree under k binders
+  -- the stored term occurs, under this number of binders, in a tree under k binders
   pub IsPlaceIn : TypeAt → ℕ → Tree Depth → Type 0
   IsPlaceIn p k (param s i name) = ⊥
   IsPlaceIn p k (bound s d e) = ⊥

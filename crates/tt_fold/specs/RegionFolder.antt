@@ -1,4 +1,4 @@
--- The calls of a folder of regions to its closure, and the places of the answers.
+-- The calls that a folder of regions makes of its closure, and the places of the answers.
 use Rattle.std.specs.Prelude.{◌≡◌, ℕ, suc, ◌-◌, ◌≤◌, ◌⊎◌, Bool, true, false, not, nat_lt, List, [], ◌∷◌, ◌++◌, map, ⊤}
 use Rattle.std.specs.List.{FoldsTo}
 use Rattle.tt_index.specs.Greatest.{greatest}
@@ -22,7 +22,7 @@ use Rattle.tt_fold.specs.Counts.{Standing, keeps_counters}
 use Rattle.tt_fold.specs.Steps.{refusals_of}
 use Rattle.tt_fold.specs.Stands.{StandsIn}
 
--- the variable's binder is none of the k around it, and it is not a variable of a canonical query
+-- the variable's binder is none of the k around it, and the variable is not canonical
 abbrev pub is_outside : ℕ → BoundVarIndexKind → Bool
 is_outside k (Bound d) = not (nat_lt d k)
 is_outside k Canonical = false
@@ -42,7 +42,7 @@ is_met k (ReError e) = true
 abbrev pub names_in : List Row → ℕ → Name
 names_in rows n = name_of (meaning rows) n
 
--- the region's name is one of so many symbols
+-- if the region's name is a symbol, its number is below the number of symbols
 abbrev pub HasName : ℕ → RegionKind → Type 0
 HasName symbols r = IsPart (λ t. symbols) (region_shape r)
 
@@ -78,9 +78,8 @@ deeper s = record { closure = s.closure; under = suc s.under; names = s.names }
 abbrev pub higher : {F : Type 0} → Asking F → Asking F
 higher s = record { closure = s.closure; under = s.under - 1; names = s.names }
 
--- Why a fold of the regions in a tree ended after these answers: the memory for something new was refused, a term or a
--- list that has the answers in it, whatever the next ones are, is new and its table is full, or binders are nested too
--- deep.
+-- Why a fold of the regions in a tree was refused after these answers: memory was refused; a term or a list with these
+-- answers in it, whatever the next answers are, is new and its table is full; or binders are nested too deep.
 abbrev pub IsPlacingRefusal : Terms → Tree Depth → List (Tree Depth) → Refusal → Type 0
 IsPlacingRefusal terms t answers Memory = ⊤
 IsPlacingRefusal terms t answers TableFull =
@@ -90,31 +89,31 @@ IsPlacingRefusal terms t answers GreatestIndex = BindersFit 0 t → ⊥
 IsPlacingRefusal terms t answers _ = ⊥
 
 module _ {F : Type 0} (step : F → RegionKind → ℕ → RegionKind → F → Type 0) where
-  -- the calls were made one after the other, each from the state that the one before left
+  -- the calls were made one after the other, each from the state that the call before left
   abbrev pub AreMade : F → List RegionCall → F → Type 0
   AreMade f calls g = FoldsTo (λ p c q. step p c.region c.depth c.answer q) f calls g
 
-  -- called at each of the regions in turn, from the state that the call before left, the closure answers a region whose
-  -- name is one of the symbols, if each region that it is called at has such a name
+  -- The closure is called at the regions one after the other, each time from the state that the call before left. As
+  -- long as the names of the regions are among the symbols, so are the names of the answers.
   abbrev pub AnswersEach : ℕ → F → List (RegionKind × ℕ) → Type 0
   AnswersEach symbols f [] = ⊤
   AnswersEach symbols f (c ∷ calls) = HasName symbols c.0 → (answer : RegionKind) (g : F) → step f c.0 c.1 answer g →
       HasName symbols answer × AnswersEach symbols g calls
 
-  -- the closure does so whatever the regions are
+  -- the same whatever the regions are
   pub record AnswersRegions (symbols : ℕ) (f : F) : Type 0 where
     pub at : (calls : List (RegionKind × ℕ)) → AnswersEach symbols f calls
 
-  -- the closure f was called at exactly the regions met in t, in order, which left it as last, and the answers are in
-  -- their places in u
+  -- calls of the closure at exactly the regions met in t, in order, lead from f to `last`, and u is t with the answers
+  -- in the places of these regions
   pub record Places (names : ℕ → Name) (f : F) (t u : Tree Depth) (last : F) : Type 0 where
     pub calls : List RegionCall
     pub made : AreMade f calls last
     pub are_met : asked names calls ≡ met 0 t
     pub are_placed : u ≡ placed 0 t (answered names calls)
 
-  -- the closure f was called at exactly the first of the regions met in t, in order, which left it as last, and then
-  -- the fold was refused
+  -- calls of the closure at exactly the first of the regions met in t, in order, lead from f to `last`, and then the
+  -- fold was refused
   pub record PlacesSome (names : ℕ → Name) (terms : Terms) (f : F) (t : Tree Depth) (e : Refusal) (last : F)
       : Type 0 where
     pub calls : List RegionCall
@@ -133,7 +132,7 @@ module _ {F : Type 0} (step : F → RegionKind → ℕ → RegionKind → F → 
     pub under : s'.under ≡ s.under
     pub names : s'.names ≡ s.names
 
-  -- a folder of regions calls its closure at each region that is met, and keeps only terms that meet none
+  -- a folder of regions calls its closure at each region that is met, and keeps only terms without such a region
   abbrev pub region_hooks : Hooks (Asking F) Refusal
   region_hooks = record {
     on_region = λ s t r s'. ((met s.under t ≡ record { standing = t; under = s.under } ∷ []) × AsksClosure s t r s')
@@ -149,7 +148,7 @@ module _ {F : Type 0} (step : F → RegionKind → ℕ → RegionKind → F → 
     leave_fails = λ unbuilt s vs e s'. ⊥;
   }
 
-  -- the state of a folder of regions that was just made of the closure, with the counts
+  -- the state of a new folder of regions with the closure, and the counts
   abbrev pub just_made : (ℕ → Name) → F → Counters → Standing (Asking F)
   just_made names f counters = record { state = record { closure = f; under = 0; names = names }; counters = counters }
 
@@ -158,8 +157,8 @@ module _ {F : Type 0} (step : F → RegionKind → ℕ → RegionKind → F → 
   RegionFoldersPlace = (names : ℕ → Name) (f : F) (counters : Counters) (t u : Tree Depth) (s' : Standing (Asking F)) →
       Walks (keeps_counters region_hooks) (just_made names f counters) t u s' → Places names f t u s'.state.closure
 
-  -- if it ends early, in a tree whose lists of clauses hold clauses alone, it called its closure at exactly the first
-  -- of them
+  -- if the walk ends with a refusal, in a tree whose lists of clauses hold clauses alone, it called its closure at
+  -- exactly the first of the regions met
   abbrev pub RegionFoldersPlaceSome : Type 0
   RegionFoldersPlaceSome = (names : ℕ → Name) (f : F) (counters : Counters) (terms : Terms) (t : Tree Depth)
       (e : Refusal) (s' : Standing (Asking F)) →

@@ -1,4 +1,4 @@
--- The meaning and the needs of a folder of regions stay if no symbol is added.
+-- If no symbol is added, a folder of regions means the same, and its closure still meets its condition.
 use Rattle.std.proofs.Common.{◌≡◌, ℕ, List, ap, subst, sym}
 use std.Path.{fun_ext}
 use Rattle.tt_kinds.specs.declared.region_kind.RegionKind.{RegionKind}

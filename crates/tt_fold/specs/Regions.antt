@@ -3,8 +3,8 @@ use Rattle.std.specs.Prelude.{◌≡◌, ⊤}
 use Rattle.tt_kinds.specs.Tree.{Depth, Tree}
 use Rattle.tt_fold.specs.Walk.{Hooks, descend}
 
--- What the one hook of such a folder may do: M is its state's meaning, and E its errors. An error may say that a tree
--- is not built: the relation says which errors say so of which trees.
+-- What the one hook of such a folder may do: M is the meaning of the folder's state, and E the type of its errors. The
+-- relation that `region_fails` takes says which errors mean that which tree is not built.
 pub record RegionHooks (M E : Type 0) : Type 1 where
   -- state, region, answer, state
   pub on_region : M → Tree Depth → Tree Depth → M → Type 0

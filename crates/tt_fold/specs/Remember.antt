@@ -1,4 +1,4 @@
--- A folder that remembers what it took apart: what its hooks may do, for any task.
+-- What the hooks of a folder that remembers results may do, for any task.
 use Rattle.std.specs.Prelude.{◌≡◌, ℕ, suc, ◌-◌, ◌≤◌, ◌⊎◌, List, [], ◌∷◌, ◌++◌, map, IsTrue, true, false}
 use Rattle.tt_index.specs.Greatest.{greatest}
 use Rattle.tt_index.specs.declared.refusal.Refusal.{Refusal}
@@ -18,24 +18,24 @@ pub record Memo : Type 0 where
   pub place : TypeAt
   pub result : Tree Depth
 
--- the state of a folder that remembers: its rule, how many binders it entered, what it keeps
--- besides, and what it remembers
+-- the state of a folder that remembers: its rule, how many binders it entered, what it keeps besides, and what it
+-- remembers
 pub record State (R K : Type 0) : Type 0 where
   pub rule : R
   pub under : ℕ
   pub kept : K
   pub memory : List Memo
 
--- the remembered types
+-- the types whose results are remembered, each with the number of binders above it
 abbrev pub places : List Memo → List TypeAt
 places memory = map (λ m. m.place) memory
 
 module _ {R K : Type 0} where
-  -- a tree at the folder's place
+  -- a tree, with the number of binders that the folder entered
   abbrev pub here : State R K → Tree Depth → TypeAt
   here s t = record { standing = t; under = s.under }
 
-  -- a tree at the folder's place, and its result
+  -- the same with the tree's result
   abbrev pub memo : State R K → Tree Depth → Tree Depth → Memo
   memo s t r = record { place = here s t; result = r }
 
@@ -43,14 +43,14 @@ module _ {R K : Type 0} where
   abbrev pub with_memory : State R K → List Memo → State R K
   with_memory s memory = record { rule = s.rule; under = s.under; kept = s.kept; memory = memory }
 
-  -- one binder further in
+  -- the state one binder further in
   abbrev pub deeper : Standing (State R K) → Standing (State R K)
   deeper s = record {
     state = record { rule = s.state.rule; under = suc s.state.under; kept = s.state.kept; memory = s.state.memory };
     counters = s.counters;
   }
 
-  -- one binder further out
+  -- the state one binder further out
   abbrev pub shallower : Standing (State R K) → Standing (State R K)
   shallower s = record {
     state = record { rule = s.state.rule; under = s.state.under - 1; kept = s.state.kept; memory = s.state.memory };
@@ -72,27 +72,27 @@ module _ {R K : Type 0} where
   abbrev pub noting : Standing (State R K) → Tree Depth → Tree Depth → Standing (State R K)
   noting s t r = record { state = with_memory s.state (s.state.memory ++ memo s.state t r ∷ []); counters = s.counters }
 
--- The task of a folder by a rule of type R, which keeps a K besides its memory.
+-- The task of a folder that remembers: R is the type of its rule, and K the type of what it keeps besides its memory.
 pub record Task (R K : Type 0) : Type 1 where
   -- what takes the place of a bound variable, and of a parameter, under a number of binders
   pub variable : R → ℕ → Sort → Depth → Entry Name → Tree Depth
   pub parameter : R → ℕ → Sort → ℕ → Name → Tree Depth
-  -- a further condition on a tree under a number of binders that isn't refused
+  -- a further condition, which a tree under a number of binders meets if it isn't refused
   pub Allows : R → ℕ → Tree Depth → Type 0
   -- the term is entered
   pub IsEntered : R → ℕ → Tree Depth → Type 0
   -- the type has to be taken apart, if it isn't remembered
   pub IsTodo : R → ℕ → Tree Depth → Type 0
-  -- an answer is given at once: state, term, answer, and what is kept and the counts afterwards
+  -- the term is replaced at once: state, term, answer, and what is kept and the counts afterwards
   pub Gives : Standing (State R K) → Tree Depth → Tree Depth → K → Counters → Type 0
   -- why a region is refused
   pub RegionFails : (Tree Depth → Refusal → Type 0) → R → ℕ → Tree Depth → Refusal → Type 0
-  -- why no answer is given at a term, and the state afterwards
+  -- why the hook fails at a term, and the state afterwards
   pub TermFails : (Tree Depth → Refusal → Type 0) → Standing (State R K) → Tree Depth → Refusal → Standing (State R K)
       → Type 0
   -- why a tree under a number of binders is refused even if all can be built and all indices fit
   pub IsCause : R → ℕ → Tree Depth → Refusal → Type 0
-  -- the counts after one descent into a type, the count of these, and how counts may change
+  -- the counts after one more descent into a type, the count of these descents, and how the counts may change
   pub count : Counters → Counters
   pub amount : Counters → ℕ
   pub Rises : Counters → Counters → Type 0
@@ -119,13 +119,13 @@ module _ {R K : Type 0} (T : Task R K) where
   IsTaken q k (node l ts) = ⊥
   IsTaken q k (binder vs t) = ⊥
 
-  -- one descent more
+  -- the state with one more descent counted
   abbrev pub one_more : Standing (State R K) → Standing (State R K)
   one_more s = with_counts s (T.count s.counters)
 
   -- the answer of the hook before a term's children
   pub data OnTerm : Standing (State R K) → Tree Depth → Answer → Standing (State R K) → Type 0 where
-    -- an answer is given at once
+    -- the term is replaced at once
     given : {s : Standing (State R K)} {t r : Tree Depth} {kept : K} {c : Counters} → T.Gives s t r kept c
         → OnTerm s t (replace r) (spent s kept c)
     -- the result of the type under as many binders is remembered

@@ -43,7 +43,7 @@ abbrev pub moved_index : ℕ → ℕ → BoundVarIndexKind → BoundVarIndexKind
 moved_index n k (Bound d) = Bound (if nat_lt d k then d else n + d)
 moved_index n k Canonical = Canonical
 
--- the bound variable, if the type is one
+-- the index and the variable, if the type is a bound type
 abbrev pub bound_ty_in : TyKind → Option (BoundVarIndexKind × BoundTy)
 bound_ty_in (ty.Bound i b) = Some (i, b)
 bound_ty_in _ = None
@@ -53,7 +53,7 @@ abbrev pub bound_ty_of : Kind → Option (BoundVarIndexKind × BoundTy)
 bound_ty_of (kind.Ty k) = bound_ty_in k
 bound_ty_of _ = None
 
--- the bound variable, if the constant is one
+-- the index and the variable, if the constant is a bound constant
 abbrev pub bound_const_in : ConstKind → Option (BoundVarIndexKind × BoundConst)
 bound_const_in (const.Bound i b) = Some (i, b)
 bound_const_in _ = None
@@ -63,12 +63,12 @@ abbrev pub bound_const_of : Kind → Option (BoundVarIndexKind × BoundConst)
 bound_const_of (kind.Const k) = bound_const_in k
 bound_const_of _ = None
 
--- the variable's binder is none of the k
+-- the variable's binder is none of the k around it
 abbrev pub IsOuter : ℕ → BoundVarIndexKind → Type 0
 IsOuter k (Bound d) = k ≤ d
 IsOuter k Canonical = ⊥
 
--- the index with n added is above the greatest, and its binder is none of the k
+-- the index with n added is above the greatest, and the variable's binder is none of the k around it
 abbrev pub IsPast : ℕ → ℕ → BoundVarIndexKind → Type 0
 IsPast n k (Bound d) = (k ≤ d) × (greatest < d + n)
 IsPast n k Canonical = ⊥
@@ -84,7 +84,7 @@ moved_region n k (RePlaceholder p) = RePlaceholder p
 moved_region n k ReErased = ReErased
 moved_region n k (ReError e) = ReError e
 
--- the region is the other one, with its reading moved by n, which fits
+-- the region, shifted by n: its reading is moved by n, and fits
 pub record IsShiftedRegion (f : Meaning) (n : ℕ) (region shifted : RegionKind) : Type 0 where
   pub plain : read 0 (fill f (region_shape shifted)) ≡ move n (read 0 (fill f (region_shape region)))
   pub tree : fill f (region_shape shifted) ≡ shift_tree 0 n (fill f (region_shape region))
@@ -94,15 +94,15 @@ pub record IsShiftedRegion (f : Meaning) (n : ℕ) (region shifted : RegionKind)
 abbrev pub shift_state : ℕ → ℕ → List Row → List (Place × Ty) → State ℕ ⊤
 shift_state n k rows es = record { rule = n; under = k; kept = tt; memory = memos rows es }
 
--- how much is added at the shifter's place
+-- the shifter's amount, and how many binders it entered
 abbrev pub shift_of : State ℕ ⊤ → Shift
 shift_of s = record { amount = s.rule; under = s.under }
 
--- the tree at the shifter's place, moved
+-- the tree under the binders that the shifter entered, shifted
 abbrev pub moved_tree : Shift → Tree Depth → Tree Depth
 moved_tree s t = shift_tree s.under s.amount t
 
--- the moved tree needs the greatest index
+-- the shifted tree does not fit
 abbrev pub IsTooFar : Shift → Tree Depth → Type 0
 IsTooFar s t = FitsUnder s.under (read s.under (moved_tree s t)) → ⊥
 
@@ -111,21 +111,21 @@ abbrev pub IsVariable : Tree Depth → Type 0
 IsVariable (bound s d e) = ⊤
 IsVariable _ = ⊥
 
--- one descent of the shifter more
+-- the counts with one more descent of the shifter
 abbrev pub count_shift : Counters → Counters
 count_shift c = record { descents = c.descents; shift_descents = counted c.shift_descents }
 
--- the shifter's count doesn't fall, and the other stays
+-- the shifter's count doesn't fall, and the other count stays
 pub record ShiftsCount (c c' : Counters) : Type 0 where
   pub descents : c'.descents ≡ c.descents
   pub up : c.shift_descents ≤ c'.shift_descents
 
--- the index of a variable, or of a binder, is too great
+-- the refusal is `GreatestIndex`, for this cause
 abbrev pub IsTooGreat : Refusal → Type 0 → Type 0
 IsTooGreat e cause = (e ≡ GreatestIndex) × cause
 
--- The shifter's task by an amount: a bound variable is moved at once, a term with no variable bound outside the binders
--- that were entered stays, and other terms are entered.
+-- The shifter's task, with the amount as its rule: a bound variable is shifted at once, and other terms are entered. A
+-- type with a variable that is bound outside of the entered binders has to be taken apart.
 abbrev pub shifting : Task ℕ ⊤
 shifting = record {
   variable = λ n. reindexed (shifted n);
@@ -143,12 +143,12 @@ shifting = record {
   Rises = ShiftsCount;
 }
 
--- at how many places of a tree a type occurs that has a variable to be shifted
+-- the number of places of a tree at which a type with a variable to be shifted occurs
 abbrev pub moving_positions : Tree Depth → ℕ
 moving_positions t = length (moving_types 0 t)
 
--- Why a shift of the tree by n ends with a refusal: the memory for a new term was refused, a term or a list of the
--- moved tree would be a new row of a table that is full, or the moved reading does not fit.
+-- Why a shift of the tree by n ends with a refusal: memory was refused, a term or a list of the shifted tree would be a
+-- new row of a table that is full, or the moved reading does not fit.
 abbrev pub IsShiftRefusal : Terms → ℕ → Tree Depth → Refusal → Type 0
 IsShiftRefusal terms n t Memory = ⊤
 IsShiftRefusal terms n t TableFull = IsPartUnbuilt terms (shift_tree 0 n t) TableFull
@@ -159,7 +159,7 @@ IsShiftRefusal terms n t _ = ⊥
 abbrev pub ShiftsOn : ℕ → Tree Depth → Tree Depth → Type 0
 ShiftsOn n t r = (m : ℕ) → shift_tree 0 m r ≡ shift_tree 0 (m + n) t
 
--- no other tree has this shifted tree
+-- r is no other tree's shift by n
 abbrev pub ComesOf : ℕ → Tree Depth → Tree Depth → Type 0
 ComesOf n t r = (u : Tree Depth) → shift_tree 0 n u ≡ r → u ≡ t
 

@@ -8,46 +8,46 @@ use Rattle.tt_visit.specs.Root.{root, a_part}
 use Rattle.tt_fold.specs.Walk.{IsTerm, IsPassed, Wanted, any_trees, wanted_in, wanted_of, HasUnwanted, LosesClause}
 use Rattle.tt_fold.specs.Walk.{Hooks, Errors, descend, WalksAll, FailsAll}
 
--- the trees, one after another
+-- the first trees, and then the others
 abbrev pub joined_trees : Forest Depth → Forest Depth → Forest Depth
 joined_trees none us = us
 joined_trees (also t ts) us = also t (joined_trees ts us)
 
--- what a term or a list is but for its children
+-- a term or a list without its children
 pub data Outline : Type 0 where
   -- a term of the label
   plain : Label Name → Outline
-  -- a term of the label, with its children in a node of the other one under a binder
+  -- a term of the first label, with its children under a binder, in a node of the other label
   under : Label Name → List (VarKind Name) → Label Name → Outline
   -- a list
   items : ListSort → Outline
 
--- the tree of an outline and its children
+-- the tree with this outline and these children
 abbrev pub whole : Outline → Forest Depth → Tree Depth
 whole (plain l) ts = term l ts
 whole (under l vs m) ts = term l (also (binder vs (node m ts)) none)
 whole (items sort) ts = items_tree sort ts
 
--- the variables of its binder, if it has one
+-- the variables of an outline's binder, if it has one
 abbrev pub binder_of : Outline → Option (List (VarKind Name))
 binder_of (plain l) = None
 binder_of (under l vs m) = Some vs
 binder_of (items sort) = None
 
--- what has to come of its children
+-- what the children of an outline have to become
 abbrev pub wanted_by : Outline → Wanted
 wanted_by (plain l) = any_trees
 wanted_by (under l vs m) = any_trees
 wanted_by (items sort) = wanted_of sort
 
--- a term of the outline may have any children
+-- the children of a term with the outline may become any trees
 abbrev pub TakesAny : Outline → Type 0
 TakesAny (plain l) = wanted_in l ≡ any_trees
 TakesAny (under l vs m) = (wanted_in l ≡ any_trees) × ((ts us : Forest Depth) → LosesClause m ts us → ⊥)
 TakesAny (items sort) = ⊤
 
 module _ {M E : Type 0} (H : Hooks M E) where
-  -- a hook answered `descend` at the tree, if one is asked there
+  -- the hook at the tree, if there is one, answered `descend`
   pub data Asks : Tree Depth → M → M → Type 0 where
     asks : {t : Tree Depth} {s s' : M} → IsTerm t → H.on_term s t descend s' → Asks t s s'
     passes : {t : Tree Depth} {s : M} → IsPassed t → Asks t s s
@@ -58,12 +58,12 @@ module _ {M E : Type 0} (H : Hooks M E) where
     opens_bare : {s : M} → Opens None s s
     opens_binder : {s s' : M} {vs : List (VarKind Name)} → H.enter s vs s' → Opens (Some vs) s s'
 
-  -- it is left
+  -- the binder, if there is one, is left
   pub data Leaves : Option (List (VarKind Name)) → M → M → Type 0 where
     leaves_bare : {s : M} → Leaves None s s
     leaves_binder : {s s' : M} {vs : List (VarKind Name)} → H.leave s vs s' → Leaves (Some vs) s s'
 
-  -- the tree of the outline is begun, and its children are next
+  -- the tree, which has this outline and these children, is begun, and its children are next
   pub record Begins (t : Tree Depth) (o : Outline) (ts : Forest Depth) (s s' : M) : Type 0 where
     pub between : M
     pub is_whole : t ≡ whole o ts
@@ -71,68 +71,69 @@ module _ {M E : Type 0} (H : Hooks M E) where
     pub asked : Asks t s between
     pub opened : Opens (binder_of o) between s'
 
-  -- the binder is left, and the tree is built of what came of its children
+  -- the binder is left, and the tree is built from the results of its children
   pub data Rebuilds (o : Outline) : Forest Depth → M → Tree Depth → M → Type 0 where
     rebuilds : {us : Forest Depth} {s s' : M} → (HasUnwanted (wanted_by o) us → ⊥) → Leaves (binder_of o) s s'
         → Rebuilds o us s (whole o us) s'
 
-  -- a hook was asked after the tree's contents, if one is asked there
+  -- the hook after the tree's contents was called, if there is one
   pub data Finishes : Tree Depth → Tree Depth → M → Tree Depth → M → Type 0 where
     finishes : {t u r : Tree Depth} {s s' : M} → IsTerm t → H.after_term s t u r s' → Finishes t u s r s'
     unasked : {t u : Tree Depth} {s : M} → (IsTerm t → ⊥) → Finishes t u s u s
 
-  -- the walk of the children that are next, and the tree that is built of what came of them
+  -- the walk of the children that are next, and the tree that is built from their results
   pub record Rests (o : Outline) (ts : Forest Depth) (s : M) (u : Tree Depth) (s' : M) : Type 0 where
     pub results : Forest Depth
     pub between : M
     pub walked : WalksAll H s ts results between
     pub built : Rebuilds o results between u s'
 
--- the same where it ends with an error
+-- the same for steps that end with an error
 module _ {M E : Type 0} (H : Hooks M E) (errors : Errors E) where
   -- the hook before a binder's value failed
   pub data EnterFails : Option (List (VarKind Name)) → M → E → M → Type 0 where
     enter_fails : {s s' : M} {vs : List (VarKind Name)} {e : E} → H.enter_fails errors.unbuilt s vs e s'
         → EnterFails (Some vs) s e s'
 
-  -- the hook after it failed
+  -- the hook after a binder's value failed
   pub data LeaveFails : Option (List (VarKind Name)) → M → E → M → Type 0 where
     leave_fails : {s s' : M} {vs : List (VarKind Name)} {e : E} → H.leave_fails errors.unbuilt s vs e s'
         → LeaveFails (Some vs) s e s'
 
-  -- the binder was not left, or the tree is not built
+  -- the binder was not left, or the tree was not built
   pub data RebuildFails (o : Outline) : Forest Depth → M → E → M → Type 0 where
     not_left : {us : Forest Depth} {s s' : M} {e : E} → LeaveFails (binder_of o) s e s' → RebuildFails o us s e s'
     not_rebuilt : {us : Forest Depth} {s s' : M} {e : E}
         → (HasUnwanted (wanted_by o) us → ⊥) → Leaves H (binder_of o) s s' → errors.unbuilt (whole o us) e
         → RebuildFails o us s e s'
 
-  -- the hook after the tree failed
+  -- the hook after the tree's contents failed
   pub record FinishFails (t u : Tree Depth) (s : M) (e : E) (s' : M) : Type 0 where
     pub is : IsTerm t
     pub failed : H.after_fails errors.unbuilt s t u e s'
 
-  -- a child was not walked, or the tree is not built
+  -- the walk of a child failed, the binder was not left, or the tree was not built
   pub data RestFails (o : Outline) : Forest Depth → M → E → M → Type 0 where
     in_children : {ts : Forest Depth} {s s' : M} {e : E} → FailsAll H errors (wanted_by o) s ts e s'
         → RestFails o ts s e s'
     in_whole : {ts us : Forest Depth} {s s1 s' : M} {e : E} → WalksAll H s ts us s1 → RebuildFails o us s1 e s'
         → RestFails o ts s e s'
 
--- a term or a list, the results of its first children, and the children that are left; one in between is being walked
+-- a term or a list, the results of its first children, and the children that are left; the child in between is being
+-- walked
 pub record Context : Type 0 where
   pub before : Tree Depth
   pub outline : Outline
   pub done : Forest Depth
   pub left : Forest Depth
 
--- what is around a tree, after the tree came to the other one
+-- the results of a context's first children, and this result of the child after them
 abbrev pub with_result : Context → Tree Depth → Forest Depth
 with_result c u = joined_trees c.done (also u none)
 
 module _ {M E : Type 0} (H : Hooks M E) where
-  -- From a state, with these results of a tree of the outline and these children left, and with these contexts around
-  -- it, comes a tree. At the outermost tree no hook is asked.
+  -- The rest of a walk: a tree with the outline has these results and these children left, these contexts are around
+  -- it, and the walk goes from a state to a tree and a state. After the outermost tree no hook is called.
   pub data Proceeds : Tree Depth → Outline → Forest Depth → Forest Depth → List Context → M → Tree Depth → M
       → Type 0 where
     last : {t r : Tree Depth} {o : Outline} {ds ts us : Forest Depth} {s s1 s' : M}
@@ -142,7 +143,7 @@ module _ {M E : Type 0} (H : Hooks M E) where
         → WalksAll H s ts us s1 → Rebuilds H o (joined_trees ds us) s1 u s2 → Finishes H t u s2 v s3
         → Proceeds c.before c.outline (with_result c v) c.left cs s3 r s' → Proceeds t o ds ts (c ∷ cs) s r s'
 
--- the same where an error comes
+-- the same for a walk that an error ends
 module _ {M E : Type 0} (H : Hooks M E) (errors : Errors E) where
   pub data Halts : Tree Depth → Outline → Forest Depth → Forest Depth → List Context → M → E → M → Type 0 where
     in_left : {t : Tree Depth} {o : Outline} {ds ts : Forest Depth} {cs : List Context} {s s' : M} {e : E}

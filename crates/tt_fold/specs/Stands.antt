@@ -7,7 +7,7 @@ use Rattle.tt_interner.specs.Stored.{Terms, IsUnbuilt}
 
 module _ (u : Tree Depth) where
   mutual
-    -- the tree u is the other tree, or occurs in a child of it or under its binder
+    -- the tree u is this tree, or occurs in one of its children or under its binder
     pub data StandsIn : Tree Depth → Type 0 where
       itself : StandsIn u
       in_term : {l : Label Name} {ts : Forest Depth} → StandsAmong ts → StandsIn (term l ts)
@@ -19,6 +19,6 @@ module _ (u : Tree Depth) where
       in_first : {t : Tree Depth} {ts : Forest Depth} → StandsIn t → StandsAmong (also t ts)
       in_later : {t : Tree Depth} {ts : Forest Depth} → StandsAmong ts → StandsAmong (also t ts)
 
--- a term or a list that occurs in the tree is not stored, for this reason
+-- a term or a list that occurs in the tree was not stored, for this reason
 abbrev pub IsPartUnbuilt : Terms → Tree Depth → Refusal → Type 0
 IsPartUnbuilt terms t e = (u : Tree Depth) × StandsIn u t × IsUnbuilt terms u e

@@ -25,7 +25,7 @@ HasVars rows vars = vars.number < size rows VarLists
 abbrev pub vars_in : List Row → BoundVarKinds → List (VarKind Name)
 vars_in rows vars = vars_of (meaning rows VarLists vars.number)
 
--- the meaning of a hook's answer at a term with such a shape
+-- what a hook's answer means, where `shape` is the shape of a term
 abbrev pub answer_of : {T : Type 0} → (T → Shape) → List Row → Step T → Answer
 answer_of shape rows (step.Replace x) = replace (tree_in rows (shape x))
 answer_of shape rows step.Keep = keep
@@ -37,11 +37,11 @@ OwnsStep shape rows (step.Replace x) = IsPartOf rows (shape x)
 OwnsStep shape rows step.Keep = ⊤
 OwnsStep shape rows step.Descend = ⊤
 
--- the error says that the tree is not built
+-- the error comes from a refusal that says that the tree is not built
 abbrev pub IsErrorOfUnbuilt : {E : Type 0} → (Refusal → E → Type 0) → Terms → Tree Depth → E → Type 0
 IsErrorOfUnbuilt gives terms u e = (r : Refusal) × (gives r e × IsUnbuilt terms u r)
 
--- what the errors that refusals become say
+-- the meaning of errors, where `gives` says which errors a refusal may give
 abbrev pub errors_of : {E : Type 0} → (Refusal → E → Type 0) → Terms → Errors E
 errors_of gives terms = record { unbuilt = IsErrorOfUnbuilt gives terms; unwanted = gives NotAClause }
 
@@ -49,7 +49,7 @@ errors_of gives terms = record { unbuilt = IsErrorOfUnbuilt gives terms; unwante
 abbrev pub IsItself : Refusal → Refusal → Type 0
 IsItself r e = e ≡ r
 
--- what refusals say as errors
+-- the meaning of refusals, as errors
 abbrev pub refusals_of : Terms → Errors Refusal
 refusals_of terms = errors_of IsItself terms
 
@@ -57,8 +57,8 @@ refusals_of terms = errors_of IsItself terms
 abbrev pub IsRefused : Terms → Tree Depth → Refusal → Type 0
 IsRefused terms = IsErrorOfUnbuilt IsItself terms
 
--- A hook took the terms to terms' and the folder's state s to s', and answered r. `gives` says which error a refusal
--- gives.
+-- The answer r of a hook. Before the call the interner is `terms` and the folder's state is s; afterwards they are
+-- terms' and s'. `gives` says which errors a refusal may give.
 module _ {M E S : Type 0} (means : List Row → S → M) (H : Hooks (Standing M) E) (gives : Refusal → E → Type 0) where
   -- at a region
   abbrev pub AnswersRegion : Terms → S → RegionKind → Result RegionKind E → Terms → S → Type 0
@@ -101,8 +101,8 @@ module _ {M E S : Type 0} (means : List Row → S → M) (H : Hooks (Standing M)
       (λ e. H.leave_fails (IsErrorOfUnbuilt gives terms') (stands means terms s) (vars_in terms.rows vars) e
       (stands means terms' s'))
 
--- A call took the terms to terms' and the folder's state s to s', and returned r: what it says of a
--- result's value and of an error.
+-- The result r of a call. Before it the interner is `terms` and the folder's state is s; afterwards they are terms' and
+-- s'. On success `good` holds of the returned value and the states, and otherwise `fails` of the error and the states.
 pub record Goes {M E S T : Type 0} (owned : List Row → S → Type 0) (means : List Row → S → M)
     (good : List Row → T → Standing M → Standing M → Type 0) (fails : Standing M → E → Standing M → Type 0)
     (terms : Terms) (s : S) (r : Result T E) (terms' : Terms) (s' : S) : Type 0 where
@@ -112,7 +112,8 @@ pub record Goes {M E S T : Type 0} (owned : List Row → S → Type 0) (means : 
       (λ y. good terms'.rows y (stands means terms s) (stands means terms' s'))
       (λ e. fails (stands means terms s) e (stands means terms' s'))
 
--- a fold took the value x of the terms to a result, the terms to terms', and the folder's state s to s'
+-- The same for a fold of the value x: on success `walks` holds of the trees of x and of the result and of the states,
+-- and otherwise `fails` of the tree of x, the error and the states.
 pub record Folds {M E S T X : Type 0} (owned : List Row → S → Type 0) (means : List Row → S → M)
     (owns : List Row → T → Type 0) (tree : List Row → T → X)
     (walks : Standing M → X → X → Standing M → Type 0) (fails : Standing M → X → E → Standing M → Type 0)

@@ -12,8 +12,8 @@ use Rattle.tt_fold.specs.Counts.{Standing, stands}
 use Rattle.tt_fold.specs.Steps.{IsErrorOfUnbuilt, OwnsStep, answer_of, tree_in}
 use Rattle.tt_fold.specs.declared.folder.Step.{Step}
 
--- What the one hook of such a folder may do: M is its state's meaning, and E its errors. An error may say that a tree
--- is not built: the relation says which errors say so of which trees.
+-- What the one hook of such a folder may do: M is the meaning of the folder's state, and E the type of its errors. The
+-- relation that `type_fails` takes says which errors mean that which tree is not built.
 pub record TypeHooks (M E : Type 0) : Type 1 where
   -- state, type, answer, state
   pub on_type : M → Tree Depth → Answer → M → Type 0
@@ -50,8 +50,8 @@ only_types H = record {
   leave_fails = λ unbuilt s vs e s'. ⊥;
 }
 
--- The hook took the terms to terms' and the folder's state s to s', and answered r at the type x. `gives` says which
--- error a refusal gives.
+-- The answer r of the hook at the type x. Before the call the interner is `terms` and the folder's state is s;
+-- afterwards they are terms' and s'. `gives` says which errors a refusal may give.
 abbrev pub AnswersType : {M E S : Type 0} → (List Row → S → M) → TypeHooks (Standing M) E → (Refusal → E → Type 0)
     → Terms → S → Ty → Result (Step Ty) E → Terms → S → Type 0
 AnswersType means H gives terms s x r terms' s' = MatchResult r

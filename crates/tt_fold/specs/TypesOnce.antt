@@ -18,7 +18,7 @@ use Rattle.tt_fold.specs.Types.{TypeHooks, only_types}
 abbrev pub with_counters : {M : Type 0} → M → Counters → Standing M
 with_counters m c = record { state = m; counters = c }
 
--- the same state and memory are the same together
+-- equal states with equal memories are equal
 pub recalls-same : {M : Type 0} {m m1 : M} {memory memory1 : List Memo} → m1 ≡ m → memory1 ≡ memory
     → ◌≡◌ {A = State M ⊤} (record { rule = m1; under = 0; kept = tt; memory = memory1 })
     (record { rule = m; under = 0; kept = tt; memory = memory })
@@ -28,11 +28,11 @@ recalls-same same known = cc
 abbrev pub KeepsState : {M E : Type 0} → TypeHooks (Standing M) E → Type 0
 KeepsState {M} H = (s s' : Standing M) (t : Tree Depth) (a : Answer) → H.on_type s t a s' → s'.state ≡ s.state
 
--- its state has one meaning alone, since it holds no handles, or means the same after each answer
+-- the folder's state has only one meaning, since it holds no handles, or means the same after each answer
 abbrev pub IsSteady : {M E S : Type 0} → (S → Shape) → TypeHooks (Standing M) E → Type 0
 IsSteady {M} {E} {S} shape H = ((s : S) → shape s ≡ no_handles) ⊎ KeepsState H
 
--- it is what a folder's state means
+-- m is what a state of the folder means, among some rows
 pub record IsMeaning {M S : Type 0} (means : List Row → S → M) (m : M) : Type 0 where
   pub rows : List Row
   pub folder : S
@@ -52,7 +52,7 @@ pub record IsTypeOf (t u : Tree Depth) : Type 0 where
   pub occurs : StandsIn u t
 
 module _ {M E : Type 0} (H : TypeHooks (Standing M) E) (m : M) where
-  -- the hooks of a folder that answers as this one does in one state, whatever the counts are
+  -- what the hook may do in the state m, whatever the counts are
   abbrev pub steady_types : TypeHooks ⊤ E
   steady_types = record {
     on_type = λ s t a s'. (c : Counters) × (c' : Counters) × H.on_type (with_counters m c) t a (with_counters m c');
@@ -60,11 +60,12 @@ module _ {M E : Type 0} (H : TypeHooks (Standing M) E) (m : M) where
         × H.type_fails unbuilt (with_counters m c) t e s_end;
   }
 
+  -- the hooks of a folder that replaces types alone, by this hook
   abbrev pub steadily : Hooks ⊤ E
   steadily = only_types steady_types
 
-  -- All calls of the hook in turn took the counts from c to c': the list has the types that it had taken apart, one for
-  -- each answer `descend`.
+  -- All calls of the hook, one after the other, took the counts from c to c'. The list has the types at which the hook
+  -- answered `descend`, one for each such answer.
   pub data Calls : Counters → List (Tree Depth) → Counters → Type 0 where
     no_more : {c : Counters} → Calls c [] c
     takes_apart : {c c1 c' : Counters} {t : Tree Depth} {ts : List (Tree Depth)}
@@ -72,8 +73,8 @@ module _ {M E : Type 0} (H : TypeHooks (Standing M) E) (m : M) where
     goes_on : {c c1 c' : Counters} {t : Tree Depth} {a : Answer} {ts : List (Tree Depth)}
         → (a ≡ descend → ⊥) → H.on_type (with_counters m c) t a (with_counters m c1) → Calls c1 ts c' → Calls c ts c'
 
-  -- The hook's calls took the counts from c to c', and had no type taken apart twice: these are distinct types of the
-  -- tree.
+  -- The hook's calls took the counts from c to c', and no type was taken apart twice. The list has the types that were
+  -- taken apart, and each of them occurs in the tree.
   pub record CallsOnce (t : Tree Depth) (c c' : Counters) : Type 0 where
     pub types : List (Tree Depth)
     pub calls : Calls c types c'
@@ -89,7 +90,7 @@ module _ {M E : Type 0} (H : TypeHooks (Standing M) E) (m : M) where
     pub fails : H.type_fails unbuilt (with_counters m c) type e end
     pub counters : c' ≡ end.counters
 
-  -- the same as `CallsOnce` for a fold that ends with an error: one more call may have failed with it
+  -- the same as `CallsOnce` for a fold that an error ends: one more call may have failed with this error
   pub record FailsOnce (unbuilt : Tree Depth → E → Type 0) (t : Tree Depth) (c : Counters) (e : E) (c' : Counters)
       : Type 0 where
     pub before : Counters
@@ -97,7 +98,7 @@ module _ {M E : Type 0} (H : TypeHooks (Standing M) E) (m : M) where
     pub last : (c' ≡ before) ⊎ FailsAt unbuilt t before e c'
 
 module _ {M E S : Type 0} (means : List Row → S → M) (H : TypeHooks (Standing M) E) where
-  -- the answer at a type: its remembered result, or the folder's own if none is remembered
+  -- the answer at a type: its remembered result, or the folder's own answer if none is remembered
   pub data OnType : Standing (State M ⊤) → Tree Depth → Answer → Standing (State M ⊤) → Type 0 where
     recalled : {s : Standing (State M ⊤)} {t r : Tree Depth} → IsIn (noted_with t r) s.state.memory
         → OnType s t (replace r) s

@@ -1,4 +1,4 @@
--- The fold of a tree.
+-- The walk of a folder over a tree, and a walk that an error ends.
 use Rattle.std.specs.Prelude.{◌≡◌, ℕ, List, Option, Some, None}
 use Rattle.tt_kinds.specs.Label.{Name, Sort, VarKind, Entry, Label, clause_list_label, clause_label}
 use Rattle.tt_kinds.specs.Tree.{Depth, Tree, param, bound, term, node, binder, Forest, none, also}
@@ -13,7 +13,7 @@ pub data Answer : Type 0 where
   keep : Answer
   descend : Answer
 
--- the tree is a region's
+-- the tree is a region
 abbrev pub IsRegion : Tree Depth → Type 0
 IsRegion t = root t ≡ a_region
 
@@ -25,33 +25,33 @@ IsTerm t = root t ≡ hooked
 abbrev pub IsPassed : Tree Depth → Type 0
 IsPassed t = root t ≡ unhooked
 
--- the wanted results of trees in order: any trees, or clauses alone
+-- what trees in order have to become: any trees, or clauses alone
 pub data Wanted : Type 0 where
   any_trees : Wanted
   clause_trees : Wanted
 
--- the wanted results of the children of a term
+-- what the children of a term with the label have to become
 abbrev pub wanted_in : Label Name → Wanted
 wanted_in clause_list_label = clause_trees
 wanted_in _ = any_trees
 
--- the wanted results of the items of a list
+-- what the items of a list of the sort have to become
 abbrev pub wanted_of : ListSort → Wanted
 wanted_of Clauses = clause_trees
 wanted_of _ = any_trees
 
--- one of the trees is not wanted
+-- one of the trees is no clause, where clauses are wanted
 abbrev pub HasUnwanted : Wanted → Forest Depth → Type 0
 HasUnwanted any_trees us = ⊥
 HasUnwanted clause_trees us = HasOther us
 
--- a clause by itself is lost: its predicate, which was a clause, became another tree
+-- a clause by itself is lost: its predicate was a clause, and the result is none
 abbrev pub LosesClause : Label Name → Forest Depth → Forest Depth → Type 0
 LosesClause clause_label ts us = (HasOther ts → ⊥) × HasOther us
 LosesClause _ ts us = ⊥
 
--- What a folder's hooks may do: M is its state's meaning, and E its errors. An error of a hook may say that a tree is
--- not built: the relation says which errors say so of which trees.
+-- What a folder's hooks may do: M is the meaning of the folder's state, and E the type of its errors. The relation that
+-- `region_fails` and its relatives take says which errors mean that which tree is not built.
 pub record Hooks (M E : Type 0) : Type 1 where
   -- state, region, answer, state
   pub on_region : M → Tree Depth → Tree Depth → M → Type 0
@@ -70,7 +70,7 @@ pub record Hooks (M E : Type 0) : Type 1 where
 
 module _ {M E : Type 0} (H : Hooks M E) where
   mutual
-    -- from a state the folder takes a tree to a tree, and ends in a state
+    -- the walk of a tree: the state before, the tree, its result, and the state after
     pub data Walks : M → Tree Depth → Tree Depth → M → Type 0 where
       at_region : {s s' : M} {t r : Tree Depth} → IsRegion t → H.on_region s t r s' → Walks s t r s'
       replaced : {s s' : M} {t r : Tree Depth} → IsTerm t → H.on_term s t (replace r) s' → Walks s t r s'
@@ -78,7 +78,7 @@ module _ {M E : Type 0} (H : Hooks M E) where
       descended : {s s1 s' : M} {t r : Tree Depth} → IsTerm t → H.on_term s t descend s1 → Descends s1 t r s'
           → Walks s t r s'
       passed : {s s' : M} {t u : Tree Depth} → IsPassed t → WalksInside s t u s' → Walks s t u s'
-      -- a clause by itself becomes a clause
+      -- a clause by itself has to stay a clause
       at_node : {s s' : M} {l : Label Name} {ts us : Forest Depth}
           → WalksAll s ts us s' → (LosesClause l ts us → ⊥) → Walks s (node l ts) (node l us) s'
       at_binder : {s s1 s2 s' : M} {vs : List (VarKind Name)} {t u : Tree Depth}
@@ -88,7 +88,7 @@ module _ {M E : Type 0} (H : Hooks M E) where
     pub data Descends : M → Tree Depth → Tree Depth → M → Type 0 where
       rebuilt : {s s1 s' : M} {t u r : Tree Depth} → WalksInside s t u s1 → H.after_term s1 t u r s' → Descends s t r s'
 
-    -- the same for the children of a term, whose label stays: the items of a list of clauses become clauses
+    -- the same for the contents of a term, whose label stays: the items of a list of clauses have to become clauses
     pub data WalksInside : M → Tree Depth → Tree Depth → M → Type 0 where
       in_term : {s s' : M} {l : Label Name} {ts us : Forest Depth}
           → WalksAll s ts us s' → (HasUnwanted (wanted_in l) us → ⊥) → WalksInside s (term l ts) (term l us) s'
@@ -101,16 +101,18 @@ module _ {M E : Type 0} (H : Hooks M E) where
       next : {s s1 s' : M} {t u : Tree Depth} {ts us : Forest Depth}
           → Walks s t u s1 → WalksAll s1 ts us s' → WalksAll s (also t ts) (also u us) s'
 
--- what a folder's errors may say
+-- the meaning of errors
 pub record Errors (E : Type 0) : Type 1 where
-  -- the tree was not built
+  -- the error says that the tree was not built
   pub unbuilt : Tree Depth → E → Type 0
-  -- the result of an item, or of a clause by itself, is not wanted
+  -- the error says that an item of a list of clauses, or a clause by itself, did not become a clause
   pub unwanted : E → Type 0
 
--- The walk ends with an error and in a state. The error is a hook's, or says which tree was not built: the tree that
--- was to be stored, or every tree if the memory for a list's items was refused. Or it says that an item of a
--- list of clauses, or a clause by itself, did not become a clause.
+-- A walk that an error ends: the state before, the tree, the error, and the state at the end. The error is:
+-- - a hook's error;
+-- - an error that says that the tree to be stored was not built;
+-- - an error that says so of every tree, if the walk's own memory was refused;
+-- - or an error that says that an item of a list of clauses, or a clause by itself, did not become a clause.
 module _ {M E : Type 0} (H : Hooks M E) (errors : Errors E) where
   mutual
     pub data Fails : M → Tree Depth → E → M → Type 0 where
@@ -148,7 +150,7 @@ module _ {M E : Type 0} (H : Hooks M E) (errors : Errors E) where
       not_built : {s s1 : M} {t u : Tree Depth} {e : E} → WalksInside H s t u s1 → errors.unbuilt u e
           → InsideFails s t e s1
 
-    -- the same for trees in order: the walk goes on past a tree whose result is wanted, and no further
+    -- the same for trees in order: the walk goes on after a tree only if the result is what the tree has to become
     pub data FailsAll : Wanted → M → Forest Depth → E → M → Type 0 where
       stopped : {w : Wanted} {s : M} {ts : Forest Depth} {e : E} → ((u : Tree Depth) → errors.unbuilt u e)
           → FailsAll w s ts e s
@@ -160,20 +162,20 @@ module _ {M E : Type 0} (H : Hooks M E) (errors : Errors E) where
           → Walks H s t u s1 → (HasUnwanted w (also u none) → ⊥) → FailsAll w s1 ts e s_end
           → FailsAll w s (also t ts) e s_end
 
--- the same for a child: it has at most one tree, and an absent child does not fail
+-- the same for a child, which has at most one tree; the walk of an absent child does not fail
 module _ {M E : Type 0} (H : Hooks M E) (errors : Errors E) where
   pub data ChildFails : M → Forest Depth → E → M → Type 0 where
     child_failed : {s s_end : M} {t : Tree Depth} {e : E} → Fails H errors s t e s_end
         → ChildFails s (also t none) e s_end
 
--- the walk of trees under a binder of the variables, if there is one
+-- the walk of trees, under a binder of the variables if there is one
 module _ {M E : Type 0} (H : Hooks M E) where
   pub data WalksUnder : Option (List (VarKind Name)) → M → Forest Depth → Forest Depth → M → Type 0 where
     in_open : {s s' : M} {ts us : Forest Depth} → WalksAll H s ts us s' → WalksUnder None s ts us s'
     in_binder : {s s1 s2 s' : M} {vs : List (VarKind Name)} {ts us : Forest Depth}
         → H.enter s vs s1 → WalksAll H s1 ts us s2 → H.leave s2 vs s' → WalksUnder (Some vs) s ts us s'
 
--- the same for a walk that ends with an error
+-- the same for a walk that an error ends
 module _ {M E : Type 0} (H : Hooks M E) (errors : Errors E) where
   pub data FailsUnder : Option (List (VarKind Name)) → M → Forest Depth → E → M → Type 0 where
     in_open_failed : {s s_end : M} {ts : Forest Depth} {e : E} → FailsAll H errors any_trees s ts e s_end
@@ -186,14 +188,14 @@ module _ {M E : Type 0} (H : Hooks M E) (errors : Errors E) where
         → H.enter s vs s1 → WalksAll H s1 ts us s2 → H.leave_fails errors.unbuilt s2 vs e s_end
         → FailsUnder (Some vs) s ts e s_end
 
--- the walk of a term, or of a value under a binder, without its own hooks
+-- the walk of a term, or of a value under a binder, without the hooks at the term or the binder itself
 module _ {M E : Type 0} (H : Hooks M E) where
   pub data SuperWalks : M → Tree Depth → Tree Depth → M → Type 0 where
     super_term : {s s' : M} {t u : Tree Depth} → WalksInside H s t u s' → SuperWalks s t u s'
     super_binder : {s s' : M} {vs : List (VarKind Name)} {t u : Tree Depth} → Walks H s t u s'
         → SuperWalks s (binder vs t) (binder vs u) s'
 
--- the same for a walk that ends with an error
+-- the same for a walk that an error ends
 module _ {M E : Type 0} (H : Hooks M E) (errors : Errors E) where
   pub data SuperFails : M → Tree Depth → E → M → Type 0 where
     super_term_failed : {s s_end : M} {t : Tree Depth} {e : E} → InsideFails H errors s t e s_end

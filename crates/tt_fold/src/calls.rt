@@ -100,7 +100,7 @@ fn fold_other<M, F: Core<M>>(
     }
 }
 
-// Walks a child by the loop. A child whose hook answers at once starts no stack.
+// Walks a child by the loop. A child that the walk doesn't enter starts no stack.
 #[inline(never)]
 fn fold_by_loop<M, F: Core<M>>(
     cx: &mut Interner,
@@ -124,7 +124,7 @@ fn fold_by_loop<M, F: Core<M>>(
     }
 }
 
-// Walks a type. It is inlined in its callers, so that a type whose hook answers at once costs no call.
+// Walks a type. This function is inlined, so that a type whose hook replaces or keeps it costs no call.
 #[cycle(calls)]
 #[inline(always)]
 fn fold_ty<M, F: Core<M>>(
@@ -168,8 +168,8 @@ fn descend<M, F: Core<M>>(
     Ok(new_node.ty())
 }
 
-// Walks the contents of a type, and returns the type with their results. A type without children is kept. Where no
-// level is left, the loop walks the contents.
+// Walks the contents of a type, and returns the type with their results. A type without children is kept. If no level
+// is left, the loop walks the contents.
 #[cycle(calls)]
 #[inline(always)]
 fn fold_contents_of<M, F: Core<M>>(

@@ -26,7 +26,7 @@ where
     ghost keeps = { λ value copy same. ap (λ number. Self.shape (handle number)) same.0 };
 }
 
-// An index's copy is known by the structs behind the two, whose numbers are equal.
+// An index and its copy are equal since the structs behind them have one number.
 impl<S> ClonesTree for Index<S> {
     ghost keeps = { λ value copy same. ap Self.shape (sym same.3 ∙ same.4.0 ∙ same.2) };
 }

@@ -1,4 +1,4 @@
-//! The trait under both traits of folders, so that one walk serves both.
+//! The trait under all traits of folders, so that one walk serves them all.
 
 ghost use Rattle.std.specs.Prelude.{◌≡◌, List};
 ghost use Rattle.tt_index.specs.declared.refusal.Refusal.{Refusal};
@@ -31,21 +31,21 @@ use tt_index::Refusal;
 use tt_interner::Interner;
 use tt_kinds::{BoundVarKinds, Node, Region, Ty};
 
-/// The hooks that the walk calls on a folder of either trait; the mark `M` says which trait.
+/// The hooks that the walk calls on a folder of any trait; the mark `M` names the trait.
 pub trait Core<M> {
     /// The error of the folder.
     type Error: From<Refusal> + Drop;
 
-    // The meaning of a state, with the trees of its handles.
+    // What a state means, with trees in the places of its handles.
     ghost Meaning: { Type 0 };
 
     ghost meaning: { List Row → Self → Self.Meaning };
     // Each handle of the state names one of the rows.
     ghost owned: { List Row → Self → Type 0 };
 
-    // The relations that the hooks keep to.
+    // What the hooks promise, as relations on states and trees.
     ghost hooks: { Hooks (Standing Self.Meaning) Self.Error };
-    // The trees at which the hooks leave the terms as they are, among rows and in a state: none by default.
+    // The trees at which the hooks leave the interner unchanged, given its rows and the state; by default none.
     ghost touches_nothing: { List Row → Self → Tree Depth → Type 0 } = { λ rows s t. ⊥ };
 
     /// Called at each region.
@@ -121,7 +121,7 @@ pub trait Core<M> {
         ensures owned { owned cx.new.rows self.new }
         ensures result { LeavesBinder meaning hooks Self.Error.from_gives cx.old self.old vars result cx.new self.new };
 
-    // New terms and lists change no meaning.
+    // When terms and lists are added, the state's handles still name rows, and the state means the same.
     ghost still_owned: { (old new : List Row) (s : Self) → AddsTerms old new → owned old s → owned new s };
 
     ghost still_means: { (old new : List Row) (s : Self) → AddsTerms old new

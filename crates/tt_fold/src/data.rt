@@ -16,7 +16,7 @@ use tt_kinds::{
 };
 use tt_visit::TypeVisitable;
 
-// Folds such a value.
+// Returns the value: there is nothing to fold in it.
 fn fold_data<T: TypeVisitable + Drop, M, F: Core<M>>(
     value: T,
     _cx: &mut Interner,

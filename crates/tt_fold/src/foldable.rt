@@ -11,10 +11,10 @@ use tt_interner::Interner;
 use tt_kinds::Binder;
 use tt_visit::TypeVisitable;
 
-/// A value that a folder can fold: its regions, types and binders are visited, and it is rebuilt from the folder's
-/// results.
+/// A value that a folder can fold. The fold calls the folder at the value's parts, and rebuilds the value from the
+/// folder's results.
 pub trait TypeFoldable: TypeVisitable + Drop + Sized {
-    /// Folds the value with a folder of either trait. Types implement this method; callers use
+    /// Folds the value with a folder of the trait that the mark `M` names. Types implement this method; callers use
     /// [`TypeFoldable::fold_with`] or [`TypeFoldable::try_fold_with`].
     fn fold_core<M, F: Core<M>>(self, cx: &mut Interner, folder: &mut F) -> Result<Self, F::Error>
         requires state { F.owned cx.old.rows folder.old }
@@ -25,10 +25,14 @@ pub trait TypeFoldable: TypeVisitable + Drop + Sized {
             cx.old folder.old self result cx.new folder.new };
 
     /// Returns the value with its regions, types, constants, predicates and lists of clauses replaced by the folder's
-    /// results. They are visited in order, each before its contents. The first refusal of a hook ends the fold, and so
-    /// does a refusal to build the result, with `Memory` or with `TableFull`. If an item of a list of clauses, or a
-    /// clause by itself, becomes a predicate that is not a clause, the fold ends with `NotAClause` at it, and no later
-    /// hook is called.
+    /// results. The fold visits them in order, each before its contents.
+    ///
+    /// The fold ends at the first refusal:
+    ///
+    /// - a hook's refusal;
+    /// - `Memory` or `TableFull`, if the result can't be built;
+    /// - `NotAClause`, if an item of a list of clauses, or a clause by itself, becomes a predicate that is not a
+    ///   clause. No hook after this item or clause is called.
     final fn fold_with<F: TypeFolder>(
         self,
         cx: &mut Interner,
@@ -61,10 +65,10 @@ pub trait TypeFoldable: TypeVisitable + Drop + Sized {
     }
 }
 
-/// A value with hooks of its own, whose contents can be folded without calling them.
+/// A value with hooks of its own, whose contents can be folded without a call of these hooks.
 pub trait TypeSuperFoldable: TypeFoldable {
-    /// Folds the value's contents with a folder of either trait. Types implement this method; callers use
-    /// [`TypeSuperFoldable::super_fold_with`] or [`TypeSuperFoldable::try_super_fold_with`].
+    /// Folds the value's contents with a folder of the trait that the mark `M` names. Types implement this method;
+    /// callers use [`TypeSuperFoldable::super_fold_with`] or [`TypeSuperFoldable::try_super_fold_with`].
     fn super_fold_core<M, F: Core<M>>(
         self,
         cx: &mut Interner,
@@ -76,8 +80,8 @@ pub trait TypeSuperFoldable: TypeFoldable {
             (SuperWalks F.hooks) (SuperFails F.hooks (errors_of F.Error.from_gives cx.new))
             cx.old folder.old self result cx.new folder.new };
 
-    /// Returns the value with its contents folded. The hooks at the value itself are not called: the hooks of a stored
-    /// term, or the hooks before and after a binder's value.
+    /// Returns the value with its contents folded. The hooks at the value itself are not called: neither the hooks of a
+    /// stored term, nor the hooks before and after a binder's value.
     final fn super_fold_with<F: TypeFolder>(
         self,
         cx: &mut Interner,
@@ -92,7 +96,7 @@ pub trait TypeSuperFoldable: TypeFoldable {
         self.super_fold_core::<Plain, F>(cx, folder)
     }
 
-    /// Like [`TypeFoldable::fold_with`], with a folder that has errors of its own.
+    /// Like [`TypeSuperFoldable::super_fold_with`], with a folder that has errors of its own.
     final fn try_super_fold_with<F: FallibleTypeFolder>(
         self,
         cx: &mut Interner,

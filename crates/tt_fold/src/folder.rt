@@ -28,7 +28,7 @@ use tt_kinds::{BoundVarKinds, Clauses, Const, Predicate, Region, Ty};
 /// The answer of a folder's hook at a type, a constant, a predicate or a list of clauses, before its contents.
 #[derive(Clone, Copy, Debug, PartialEq, Eq)]
 pub enum Step<T> {
-    /// This term replaces the visited one, and the walk does not enter it.
+    /// This term replaces the visited one, and the walk enters neither.
     Replace(T),
     /// The term stays, and the walk does not enter it.
     Keep,
@@ -38,20 +38,20 @@ pub enum Step<T> {
 
 /// A folder whose only errors are refusals.
 ///
-/// A folder is called at each region, type, constant, predicate, list of clauses and binder of the value that it folds,
-/// in order, and returns their replacements. Patterns, existential predicates, other lists and records have no hook:
-/// the walk enters them. Each method has to be written: a default body could promise nothing exact.
+/// The walk calls the folder at each region, type, constant, predicate, list of clauses and binder that it reaches, in
+/// order. The folder returns their replacements. Patterns, existential predicates, other lists and records have no
+/// hook: the walk enters them. Each method has to be written, since a default body could promise nothing exact.
 pub trait TypeFolder {
-    // The meaning of a state, with the trees of its handles.
+    // What a state means, with trees in the places of its handles.
     ghost Meaning: { Type 0 };
 
     ghost meaning: { List Row → Self → Self.Meaning };
     // Each handle of the state names one of the rows.
     ghost owned: { List Row → Self → Type 0 };
 
-    // The relations that the hooks keep to.
+    // What the hooks promise, as relations on states and trees.
     ghost hooks: { Hooks (Standing Self.Meaning) Refusal };
-    // The trees at which the hooks leave the terms as they are, among rows and in a state: none by default.
+    // The trees at which the hooks leave the interner unchanged, given its rows and the state; by default none.
     ghost touches_nothing: { List Row → Self → Tree Depth → Type 0 } = { λ rows s t. ⊥ };
 
     /// Called at each region: returns its replacement.
@@ -64,7 +64,7 @@ pub trait TypeFolder {
             → cx.new ≡ cx.old }
         ensures result { AnswersRegion meaning hooks IsItself cx.old self.old region result cx.new self.new };
 
-    /// Called at each type, before its contents: returns what to do there.
+    /// Called at each type, before its contents: returns whether to replace, keep or enter it.
     fn fold_ty(&mut self, cx: &mut Interner, ty: Ty) -> Result<Step<Ty>, Refusal>
         requires owned { owned cx.old.rows self.old }
         requires ty { IsPartOf cx.old.rows (ty_shape ty) }
@@ -84,7 +84,7 @@ pub trait TypeFolder {
         ensures result { RebuildsTerm meaning hooks IsItself ty_shape
             cx.old self.old before rebuilt result cx.new self.new };
 
-    /// Called at each constant, before its contents: returns what to do there.
+    /// Called at each constant, before its contents: returns whether to replace, keep or enter it.
     fn fold_const(&mut self, cx: &mut Interner, constant: Const) -> Result<Step<Const>, Refusal>
         requires owned { owned cx.old.rows self.old }
         requires constant { IsPartOf cx.old.rows (const_shape constant) }
@@ -110,7 +110,7 @@ pub trait TypeFolder {
         ensures result { RebuildsTerm meaning hooks IsItself const_shape
             cx.old self.old before rebuilt result cx.new self.new };
 
-    /// Called at each predicate and each clause, before its contents: returns what to do there.
+    /// Called at each predicate and each clause, before its contents: returns whether to replace, keep or enter it.
     fn fold_predicate(
         &mut self,
         cx: &mut Interner,
@@ -140,7 +140,7 @@ pub trait TypeFolder {
         ensures result { RebuildsTerm meaning hooks IsItself predicate_shape
             cx.old self.old before rebuilt result cx.new self.new };
 
-    /// Called at each list of clauses, before the clauses: returns what to do there.
+    /// Called at each list of clauses, before the clauses: returns whether to replace, keep or enter it.
     fn fold_clauses(
         &mut self,
         cx: &mut Interner,
@@ -186,7 +186,7 @@ pub trait TypeFolder {
         ensures owned { owned cx.new.rows self.new }
         ensures result { LeavesBinder meaning hooks IsItself cx.old self.old vars result cx.new self.new };
 
-    // New terms and lists change no meaning.
+    // When terms and lists are added, the state's handles still name rows, and the state means the same.
     ghost still_owned: { (old new : List Row) (s : Self) → AddsTerms old new → owned old s → owned new s };
 
     ghost still_means: { (old new : List Row) (s : Self) → AddsTerms old new
@@ -194,21 +194,21 @@ pub trait TypeFolder {
         → meaning new s ≡ meaning old s };
 }
 
-/// A folder with errors of its own. It has the methods of [`TypeFolder`].
+/// A folder with errors of its own. The walk calls its methods as it calls the methods of [`TypeFolder`].
 pub trait FallibleTypeFolder {
     /// The error of the folder.
     type Error: From<Refusal> + Drop;
 
-    // The meaning of a state, with the trees of its handles.
+    // What a state means, with trees in the places of its handles.
     ghost Meaning: { Type 0 };
 
     ghost meaning: { List Row → Self → Self.Meaning };
     // Each handle of the state names one of the rows.
     ghost owned: { List Row → Self → Type 0 };
 
-    // The relations that the hooks keep to.
+    // What the hooks promise, as relations on states and trees.
     ghost hooks: { Hooks (Standing Self.Meaning) Self.Error };
-    // The trees at which the hooks leave the terms as they are, among rows and in a state: none by default.
+    // The trees at which the hooks leave the interner unchanged, given its rows and the state; by default none.
     ghost touches_nothing: { List Row → Self → Tree Depth → Type 0 } = { λ rows s t. ⊥ };
 
     /// Called at each region: returns its replacement.
@@ -222,7 +222,7 @@ pub trait FallibleTypeFolder {
         ensures result { AnswersRegion meaning hooks Self.Error.from_gives
             cx.old self.old region result cx.new self.new };
 
-    /// Called at each type, before its contents: returns what to do there.
+    /// Called at each type, before its contents: returns whether to replace, keep or enter it.
     fn try_fold_ty(&mut self, cx: &mut Interner, ty: Ty) -> Result<Step<Ty>, Self::Error>
         requires owned { owned cx.old.rows self.old }
         requires ty { IsPartOf cx.old.rows (ty_shape ty) }
@@ -243,7 +243,7 @@ pub trait FallibleTypeFolder {
         ensures result { RebuildsTerm meaning hooks Self.Error.from_gives ty_shape
             cx.old self.old before rebuilt result cx.new self.new };
 
-    /// Called at each constant, before its contents: returns what to do there.
+    /// Called at each constant, before its contents: returns whether to replace, keep or enter it.
     fn try_fold_const(
         &mut self,
         cx: &mut Interner,
@@ -273,7 +273,7 @@ pub trait FallibleTypeFolder {
         ensures result { RebuildsTerm meaning hooks Self.Error.from_gives const_shape
             cx.old self.old before rebuilt result cx.new self.new };
 
-    /// Called at each predicate and each clause, before its contents: returns what to do there.
+    /// Called at each predicate and each clause, before its contents: returns whether to replace, keep or enter it.
     fn try_fold_predicate(
         &mut self,
         cx: &mut Interner,
@@ -303,7 +303,7 @@ pub trait FallibleTypeFolder {
         ensures result { RebuildsTerm meaning hooks Self.Error.from_gives predicate_shape
             cx.old self.old before rebuilt result cx.new self.new };
 
-    /// Called at each list of clauses, before the clauses: returns what to do there.
+    /// Called at each list of clauses, before the clauses: returns whether to replace, keep or enter it.
     fn try_fold_clauses(
         &mut self,
         cx: &mut Interner,
@@ -349,7 +349,7 @@ pub trait FallibleTypeFolder {
         ensures owned { owned cx.new.rows self.new }
         ensures result { LeavesBinder meaning hooks Self.Error.from_gives cx.old self.old vars result cx.new self.new };
 
-    // New terms and lists change no meaning.
+    // When terms and lists are added, the state's handles still name rows, and the state means the same.
     ghost still_owned: { (old new : List Row) (s : Self) → AddsTerms old new → owned old s → owned new s };
 
     ghost still_means: { (old new : List Row) (s : Self) → AddsTerms old new

@@ -1,4 +1,4 @@
-//! Children as the walk takes them: terms and lists as one, where a list of clauses is also a term.
+//! Children as terms and as lists. A list of clauses is both.
 
 ghost use Rattle.std.specs.Prelude.{◌≡◌, ◌↔◌, IfErr, IsTrue, MatchOption, OnErr, OnOk};
 ghost use Rattle.tt_index.specs.declared.refusal.Refusal.TheVariants.{NotAClause};
@@ -28,7 +28,7 @@ use tt_index::Refusal;
 use tt_interner::{AsClause, Interner};
 use tt_kinds::{Child, List, ListSort, Node, Ty, Tys};
 
-// Returns the list that a child is, if it is one. A list of clauses may also be a term.
+// Returns the child as a list, if it is a list, or a term that is a list of clauses.
 #[inline(always)]
 pub(crate) fn list_in(item: &Child) -> Option<List>
     ensures { result ≡ child_list item.now }
@@ -40,7 +40,7 @@ pub(crate) fn list_in(item: &Child) -> Option<List>
     }
 }
 
-// Returns the list that a term is, if it is a list of clauses.
+// Returns the term as a list, if it is a list of clauses.
 #[inline(always)]
 fn clause_list(node: Node) -> Option<List>
     ensures { result ≡ child_list (child.Node node) }
@@ -52,7 +52,7 @@ fn clause_list(node: Node) -> Option<List>
     }
 }
 
-// Returns the type that a child is, if it is one.
+// Returns the child as a type, if it is one.
 #[inline(always)]
 pub(crate) fn ty_in(item: &Child) -> Option<Ty>
     ensures { MatchOption
@@ -66,7 +66,7 @@ pub(crate) fn ty_in(item: &Child) -> Option<Ty>
     }
 }
 
-// Returns the list of types that a child is, if it is one.
+// Returns the child as a list of types, if it is one.
 #[inline(always)]
 pub(crate) fn tys_in(item: &Child) -> Option<Tys>
     ensures { MatchOption
@@ -80,7 +80,7 @@ pub(crate) fn tys_in(item: &Child) -> Option<Tys>
     }
 }
 
-// Returns the term that a child is.
+// Returns the child as a term.
 #[inline(always)]
 pub(crate) fn term_in(item: &Child) -> Node
     requires { HasTerm item.now }
@@ -95,7 +95,7 @@ pub(crate) fn term_in(item: &Child) -> Node
     }
 }
 
-// Returns the term at which a hook is called, if there is one.
+// Returns the child as a term, if a hook is called at it.
 #[inline(always)]
 pub(crate) fn hooked_in(item: &Child) -> Option<Node>
     requires { IsWhole item.now }
@@ -119,7 +119,7 @@ fn hooked_node(node: Node) -> Option<Node>
     }
 }
 
-// Returns a list of clauses as a term.
+// Returns the list as a term, if it is a list of clauses.
 #[inline(always)]
 fn hooked_list(list: List) -> Option<Node>
     ensures { IsHookOf (child.List list) result }
@@ -131,7 +131,7 @@ fn hooked_list(list: List) -> Option<Node>
     }
 }
 
-// Returns the term as a child like `item`.
+// Returns the term as a child: a list if `item` is one, and a term otherwise.
 #[inline(always)]
 pub(crate) fn as_item(item: &Child, node: Node) -> Child
     requires { IsTermOf item.now node }
@@ -144,7 +144,7 @@ pub(crate) fn as_item(item: &Child, node: Node) -> Child
     }
 }
 
-// Returns the list as a child like `item`.
+// Returns the list as a child: a list if `item` is one, and a term otherwise.
 #[inline(always)]
 pub(crate) fn as_list_item(item: &Child, list: List) -> Child
     requires { IsListOf item.now list }
@@ -157,7 +157,7 @@ pub(crate) fn as_list_item(item: &Child, list: List) -> Child
     }
 }
 
-// Returns the list that a child is.
+// Returns the child as a list.
 #[inline(always)]
 pub(crate) fn list_of(item: Child) -> List
     requires { IsList item }
@@ -169,7 +169,7 @@ pub(crate) fn list_of(item: Child) -> List
     }
 }
 
-// Returns whether there is no child.
+// Returns whether the child is absent.
 #[inline(always)]
 pub(crate) fn is_absent(child: &Child) -> bool
     ensures { IsTrue result ↔ (child.now ≡ Child.Absent) }
@@ -191,7 +191,7 @@ pub(crate) fn is_predicate(child: &Child) -> bool
     }
 }
 
-// Tests whether the result of an item may be in a list of this sort: in a list of clauses, only a clause may.
+// Checks that the item may be in a list of this sort: an item of a list of clauses has to be a clause.
 #[inline(always)]
 pub(crate) fn check_item(cx: &Interner, sort: ListSort, item: &Child) -> Result<(), Refusal>
     requires item { ArePartsOf cx.now.rows (child_shapes item.now) }
@@ -206,7 +206,7 @@ pub(crate) fn check_item(cx: &Interner, sort: ListSort, item: &Child) -> Result<
     }
 }
 
-// Tests whether the item is a clause.
+// Checks that the item is a clause.
 fn check_clause(cx: &Interner, item: &Child) -> Result<(), Refusal>
     requires item { ArePartsOf cx.now.rows (child_shapes item.now) }
     requires fit { IsItem ListSort.Clauses (child_sort item.now) }

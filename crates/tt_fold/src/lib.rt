@@ -1,10 +1,15 @@
 //! Folds, which take a term apart, change it and rebuild it.
 //!
-//! Take a folder that replaces `T` by `u32`, and the type `&'a [T]`. The fold calls `fold_ty` at the reference, which
-//! returns `Descend`; `fold_region` at `'a`, which returns `'a`; `fold_ty` at the slice, which returns `Descend`; and
-//! `fold_ty` at `T`, which returns `Replace(u32)`. On its way back it stores `[u32]` and calls `after_ty` with it, then it
-//! stores `&'a [u32]` and calls `after_ty` with that. A term whose contents all stay is found where it is stored, so
-//! `after_ty` gets the term itself.
+//! For example, a folder that replaces `T` by `u32` folds the type `&'a [T]` in these steps:
+//!
+//! 1. `fold_ty` at the reference returns `Descend`.
+//! 2. `fold_region` at `'a` returns `'a`.
+//! 3. `fold_ty` at the slice returns `Descend`.
+//! 4. `fold_ty` at `T` returns `Replace(u32)`.
+//! 5. The walk stores `[u32]`, and calls `after_ty` with it.
+//! 6. The walk stores `&'a [u32]`, and calls `after_ty` with it.
+//!
+//! If the contents of a term stay the same, the walk finds the stored term again, so `after_ty` gets the term itself.
 #![tactic(auto)]
 
 mod assumptions;
@@ -16,6 +21,7 @@ mod clones_containers;
 mod containers;
 pub mod core_folder;
 mod data;
+mod equality;
 pub mod foldable;
 pub mod folder;
 mod handles;
@@ -33,6 +39,7 @@ pub mod type_replacer;
 mod types_once;
 mod walk;
 
+pub use equality::equal_steps_are_same;
 pub use foldable::{TypeFoldable, TypeSuperFoldable};
 pub use folder::{FallibleTypeFolder, Step, TypeFolder};
 pub use memory::{Memory, look_up};

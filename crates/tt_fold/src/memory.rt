@@ -89,8 +89,8 @@ fn map_of(alloc: Global, notes: &[Note]) -> Result<IndexMap<Place, Ty>, Refusal>
     Ok(entries)
 }
 
-// Remembers a result in a map, and first moves notes that are kept in place into one. It isn't inlined, so that `note`
-// doesn't clear the room for a map each time.
+// Remembers a result in a map, and first moves notes that are kept in place into a new map. This function isn't
+// inlined, so that `note` doesn't clear the room for a map each time.
 #[inline(never)]
 fn note_in_map(notes: &mut Notes, place: Place, after: Ty) -> Result<(), Refusal>
     requires notes { AreNotes notes.old }
@@ -143,8 +143,8 @@ impl Memory {
         }
     }
 
-    /// Remembers the result of a type under `under` binders, in place of an earlier one. Refused only for want of
-    /// memory; then nothing changes. Never refused while fewer than eight places are remembered.
+    /// Remembers the result of a type under `under` binders, in place of an earlier one. Refused with `Memory` alone,
+    /// and then nothing changes. While fewer than eight places are remembered, the call is never refused.
     #[inline(always)]
     pub fn note(&mut self, before: Ty, under: u32, after: Ty) -> Result<(), Refusal>
         ensures ok { OnOk result (self.new ≡ insert_entry same_place self.old (place_of before under) after) }
@@ -173,8 +173,8 @@ impl Memory {
     }
 }
 
-/// Returns the result of the type under `under` binders, if it is remembered. Equal trees have equal handles, so if
-/// none is found for the type, none is remembered for its tree.
+/// Returns the result of the type under `under` binders, if it is remembered. Equal trees have equal handles, so if no
+/// result is found for the handle, none is remembered for its tree.
 #[inline(always)]
 pub fn look_up(cx: &Interner, memory: &Memory, ty: Ty, under: u32) -> Option<Ty>
     requires ty { IsPartOf cx.now.rows (ty_shape ty) }

@@ -1,4 +1,4 @@
-//! The terms and lists that a fold builds of the results of their children.
+//! The terms and lists that a fold builds from the results of their children.
 
 ghost use Rattle.std.specs.Prelude.{
   ◌≡◌,
@@ -52,7 +52,7 @@ pub(crate) fn rebuild<M, F: Core<M>>(
     }
 }
 
-// Builds any term or list by a call. The argument and the result are copied, as where a child is begun.
+// Builds a term or a list of any table, by a call. The argument and the result are copied, as in `begin_by_call`.
 #[inline(always)]
 fn rebuild_by_call<M, F: Core<M>>(
     cx: &mut Interner,

@@ -26,11 +26,12 @@ use tt_kinds::{
 };
 use tt_visit::TypeVisitableExt;
 
-/// Calls a closure at each region that the value doesn't bind itself, with the number of enclosing binders, and
-/// replaces the region by the result, unshifted.
+/// A folder that puts a closure's results, unshifted, in place of the regions that the folded value doesn't bind
+/// itself.
 ///
-/// The closure is called at erased regions too, but not at variables of a canonical query. It is called at every place,
-/// even if a handle occurs at several. A result bound by one of the enclosing binders stays bound by it.
+/// The closure is called with the region and the number of the value's binders around it: at erased regions too, but
+/// not at variables of a canonical query. If a handle occurs at several places, the closure is called at each of them.
+/// A result that is bound by one of the binders around its place stays bound by this binder.
 #[derive(Drop)]
 pub struct RegionFolder<F> {
     f: F,
@@ -53,7 +54,7 @@ fn meets(region: Region, current_index: DebruijnIndex) -> bool
 }
 
 impl<F: FnMut(Region, DebruijnIndex) -> Region> RegionFolder<F> {
-    /// Returns the folder that calls this closure, outside of each binder.
+    /// Returns a folder that calls this closure and has entered no binder.
     pub fn new(f: F) -> RegionFolder<F>
         ensures closure { result.f ≡ f }
         ensures innermost { result.current_index ≡ 0 }
@@ -182,17 +183,23 @@ impl<F: FnMut(Region, DebruijnIndex) -> Region> TypeFolder for RegionFolder<F> {
 }
 
 /// Returns the value with each region that it doesn't bind itself replaced by the closure's result. A result is not
-/// shifted, so a bound region whose index is below the number of enclosing binders is bound by one of them afterwards.
+/// shifted, so a bound region whose index is below the number of binders around its place is bound by one of them.
 ///
-/// The closure is called at every such region in order, with the number of binders of the value that enclose it: at
-/// erased and static regions and regions of errors too, but at no variable of a canonical query. It is called at every
-/// place, even if one handle occurs at several. Its results have to be regions of this interner.
+/// The closure is called at each of these regions in order, with the number of the value's binders around the region:
+/// at erased and static regions and regions of errors too, but at no variable of a canonical query. If a handle occurs
+/// at several places, the closure is called at each of them. Its results have to be regions of this interner. If there
+/// is no region to replace, the value itself is returned, the closure is not called, and nothing is built.
 ///
-/// Refused with `Memory` if the memory for something new is refused, with `TableFull` if a term or a list of the result
-/// is not stored yet and its table has as many rows as it may have, and with `GreatestIndex` if more binders than the
-/// greatest index counts are nested. If there is no such region, the value itself is returned, the closure is not
-/// called, and nothing is built. The function follows the compiler's `fold_regions`. To use the closure again, or to
-/// read what it recorded, lend it to [`fold_regions_with`].
+/// The closure is dropped, so the contract doesn't exclude further calls of it. To exclude them, to use the closure
+/// again, or to read what it recorded, lend it to [`fold_regions_with`].
+///
+/// Refused with:
+///
+/// - `TableFull` if a term or a list with the closure's results so far is new and its table is full;
+/// - `GreatestIndex` if more binders are nested than an index can count;
+/// - `Memory` if the memory for the result or for the fold itself is refused.
+///
+/// The function follows the compiler's `fold_regions`.
 pub fn fold_regions<T: TypeFoldable, F: FnMut(Region, DebruijnIndex) -> Region + Drop>(
     cx: &mut Interner,
     value: T,
@@ -222,9 +229,11 @@ pub fn fold_regions<T: TypeFoldable, F: FnMut(Region, DebruijnIndex) -> Region +
     fold_regions_with(cx, value, &mut f)
 }
 
-/// Does what [`fold_regions`] does, with a closure that is lent. So the caller has the closure afterwards, in the state
-/// that the calls left, also after a refusal: then it was called at the first of the regions. If there is no region to
-/// replace, the closure is as it was.
+/// Does what [`fold_regions`] does, with a closure that the caller keeps.
+///
+/// Afterwards the closure is in the state to which calls at exactly the replaced regions, in order, lead. After a
+/// refusal these are calls at exactly the first of the regions. If there is no region to replace, the closure is as it
+/// was.
 pub fn fold_regions_with<T: TypeFoldable, F: FnMut(Region, DebruijnIndex) -> Region>(
     cx: &mut Interner,
     value: T,
@@ -260,7 +269,7 @@ pub fn fold_regions_with<T: TypeFoldable, F: FnMut(Region, DebruijnIndex) -> Reg
     fold_met_regions(cx, value, f)
 }
 
-// Does the same, and walks the value even if there is no region to replace.
+// Does what `fold_regions_with` does, but walks the value even if there is no region to replace.
 fn fold_met_regions<T: TypeFoldable, F: FnMut(Region, DebruijnIndex) -> Region>(
     cx: &mut Interner,
     value: T,
@@ -287,7 +296,8 @@ fn fold_met_regions<T: TypeFoldable, F: FnMut(Region, DebruijnIndex) -> Region>(
     // The closure afterwards:
     ensures callable { F.IsAlwaysCallable f.new }
 {
-    // Each stored list of clauses holds clauses alone, so none with regions replaced is refused for an item.
+    // Stored lists of clauses hold clauses alone, and a clause stays one when its regions are replaced. So no list is
+    // refused with `NotAClause`.
     cx.are_rows();
     let lent = |region: Region, depth: DebruijnIndex|
         requires callable { F.IsAlwaysCallable f.now }

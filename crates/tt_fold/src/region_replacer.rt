@@ -17,10 +17,12 @@ use tt_index::Refusal;
 use tt_interner::Interner;
 use tt_kinds::{BoundVarKinds, Node, Region};
 
-/// A folder that replaces regions alone: it enters each term and each binder, so one method is enough.
+/// A folder that replaces regions alone: it enters each term and each binder, so one method is enough. The default
+/// `hooks` promise nothing about the method's results: state `hooks` if a proof has to know the regions that a fold
+/// puts in place of others.
 ///
-/// [`replace_regions`] folds a value with it. A folder that has to know the binders around a region is a
-/// [`TypeFolder`](crate::TypeFolder).
+/// [`replace_regions`] folds a value with such a folder. A folder that has to know the binders around a region
+/// implements [`TypeFolder`](crate::TypeFolder) instead.
 pub trait RegionReplacer {
     /// The error of the folder: [`Refusal`] if it has no errors of its own.
     type Error: From<Refusal> + Drop;
@@ -28,7 +30,7 @@ pub trait RegionReplacer {
     // The handles in a state; a folder that holds none keeps the default.
     ghost shape: { Self → Shape } = { λ s. no_handles };
 
-    // The relation that the hook keeps to, on the trees of the handles; the default promises nothing.
+    // What the hook promises, as relations on the trees of the handles; the default promises nothing.
     ghost hooks: { RegionHooks (Standing (Tree Depth)) Self.Error } = { no_region_promise };
 
     /// Called at each region: returns its replacement.

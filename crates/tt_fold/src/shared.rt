@@ -1,4 +1,4 @@
-//! Values whose copies have their trees, and the fold of shared values, which may copy them.
+//! Values whose copies have the same tree, and the fold of shared values, which may copy the value.
 
 ghost use Rattle.std.specs.Prelude.{◌≡◌, IfErr, IfOk};
 ghost use Rattle.tt_index.specs.declared.refusal.Refusal.TheVariants.{Memory};
@@ -13,8 +13,8 @@ use tt_visit::TypeVisitable;
 
 /// A value whose copies have its tree, in every interner.
 ///
-/// The law `keeps` says so of the type's `clone`. For a type that derives `Clone`, its proof is mostly found:
-/// `ghost keeps = { Prim.search copies };`, with `copies` of specs/Copies.
+/// The law `keeps` states this of the type's `clone`. If the type derives `Clone`, the prover mostly finds the proof:
+/// write `ghost keeps = { Prim.search copies };`, with `copies` of specs/Copies.
 pub trait ClonesTree: TypeVisitable + Clone {
     // A copy has the value's shape.
     ghost keeps: { (value copy : Self) → Self.Clone.is_clone value copy
@@ -34,7 +34,7 @@ impl<T: TypeFoldable + ClonesTree> TypeFoldable for Rc<T> {
     }
 }
 
-// Returns the value if it has no other owner, and else a copy.
+// Returns the value if it has no other owner, and otherwise a copy.
 fn taken<T: ClonesTree>(this: Rc<T>) -> Result<T, Refusal>
     ensures ok { IfOk result (λ value. T.shape value ≡ T.shape this.value) }
     ensures memory { IfErr result (λ e. e ≡ Memory) }
@@ -48,7 +48,7 @@ fn taken<T: ClonesTree>(this: Rc<T>) -> Result<T, Refusal>
     }
 }
 
-// Returns the value as a shared one with one owner.
+// Returns the value as a shared value with one owner.
 fn shared<T: Drop>(alloc: Global, value: T) -> Result<Rc<T>, Refusal>
     ensures ok { IfOk result (λ shared. shared.value ≡ value) }
     ensures memory { IfErr result (λ e. e ≡ Memory) }

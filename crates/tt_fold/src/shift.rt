@@ -1,4 +1,5 @@
-//! Shifting: a value moved into new binders, so that its variables that are bound outside of it keep their binders.
+//! Shifting: moving a value under more binders, where each variable that is bound outside of the value keeps its
+//! binder.
 
 ghost use Rattle.std.specs.Prelude.{◌≡◌, ◌+◌, ◌<◌, ◌≤◌, ◌↔◌, ◌⊎◌, IfOk, IfErr, IsTrue, MatchResult};
 ghost use Rattle.tt_kinds.specs.RegionKind.{IsShallow};
@@ -43,7 +44,7 @@ use tt_kinds::{
 };
 use tt_visit::TypeVisitableExt;
 
-// Moves a value into new binders. Each type is taken apart once under each number of binders, and the result is
+// Shifts a value by `amount` binders. Each type is taken apart once under each number of binders, and its result is
 // remembered.
 #[derive(Drop)]
 struct Shifter {
@@ -53,7 +54,7 @@ struct Shifter {
     memory: Memory,
 }
 
-// Returns the index moved past `amount` new binders, if its binder is none of the first `current_index`.
+// Returns the index of a variable under `current_index` binders, with `amount` added if its binder is none of these.
 fn shift_index(
     index: BoundVarIndexKind,
     current_index: DebruijnIndex,
@@ -78,7 +79,7 @@ fn shift_index(
     }
 }
 
-// Returns the region under `current_index` binders, moved past new binders around them.
+// Returns a region under `current_index` binders, shifted past `amount` more binders around these.
 fn shift_region_under(
     region: Region,
     current_index: DebruijnIndex,
@@ -99,7 +100,7 @@ fn shift_region_under(
     }
 }
 
-/// Returns the region moved into `amount` new binders: the index of a bound region grows by the amount. Refused with
+/// Returns the region shifted by `amount` binders: the index of a bound region grows by the amount. Refused with
 /// `GreatestIndex` if the index would be the greatest or above, and never otherwise.
 pub fn shift_region(region: Region, amount: u32) -> Result<Region, Refusal>
     ensures ok { (f : Meaning) → IfOk result (IsShiftedRegion f amount region) }
@@ -111,7 +112,7 @@ pub fn shift_region(region: Region, amount: u32) -> Result<Region, Refusal>
     shift_region_under(region, DebruijnIndex::INNERMOST, amount)
 }
 
-/// Returns the bound variable, if the type is one.
+/// Returns the index and the variable, if the kind is a bound type.
 pub fn bound_ty(kind: &Kind) -> Option<(BoundVarIndexKind, BoundTy)>
     ensures { result ≡ bound_ty_of kind.now }
 {
@@ -124,7 +125,7 @@ pub fn bound_ty(kind: &Kind) -> Option<(BoundVarIndexKind, BoundTy)>
     }
 }
 
-/// Returns the bound variable, if the constant is one.
+/// Returns the index and the variable, if the kind is a bound constant.
 pub fn bound_const(kind: &Kind) -> Option<(BoundVarIndexKind, BoundConst)>
     ensures { result ≡ bound_const_of kind.now }
 {
@@ -145,7 +146,7 @@ impl Shifter {
         outer_exclusive_binder > self.current_index
     }
 
-    // Returns the type of a bound variable, moved.
+    // Returns a bound type, shifted.
     fn shift_bound_ty(
         &self,
         cx: &mut Interner,
@@ -168,7 +169,7 @@ impl Shifter {
         }
     }
 
-    // Returns the constant of a bound variable, moved.
+    // Returns a bound constant, shifted.
     fn shift_bound_const(
         &self,
         cx: &mut Interner,
@@ -325,18 +326,21 @@ impl TypeFolder for Shifter {
     ghost still_means = { λ old new s g h. shift_state-still s.amount s.current_index old new s.memory g.grows h };
 }
 
-/// Returns the value moved into `amount` new binders: each variable that is bound outside of the value keeps its
-/// binder.
+/// Returns the value shifted by `amount` binders: under that many more binders, each variable that is bound outside of
+/// the value keeps its binder.
 ///
-/// Refused with `GreatestIndex` if such a variable's index would be the greatest or above, or if more binders than the
-/// greatest index counts enclose one; with `TableFull` if a term or a list of the moved value is not stored yet and its
-/// table has as many rows as it may have; and with `Memory` if the memory for a new one is refused, or the memory for
-/// the results of types, which are remembered until the call ends and of which the first eight need none. If no such
-/// variable occurs in the value, or the amount is 0, the value itself is returned, nothing is built, and no memory is
-/// allocated.
+/// If no such variable occurs in the value, or the amount is 0, the value itself is returned, nothing is built, and no
+/// memory is allocated. Otherwise the call may be refused with:
 ///
-/// A type that has such a variable is taken apart once for each number of binders around its places, which adds one to
-/// the interner's count of the shifter's descents; the count saturates at its greatest number. The other count stays.
+/// - `GreatestIndex` if such a variable's index would be the greatest or above, or if more binders enclose such a
+///   variable than an index can count;
+/// - `TableFull` if a term or a list of the shifted value is new and its table is full;
+/// - `Memory` if memory is refused for the result, for the fold itself, or for the results of types, which are
+///   remembered until the call ends. The first eight of these need no memory.
+///
+/// A type that has such a variable is taken apart at most once for each number of binders around its places. Each time
+/// adds one to the interner's count of the shifter's descents, which saturates at its greatest number. The other count
+/// stays.
 pub fn shift_vars<T: TypeFoldable>(cx: &mut Interner, value: T, amount: u32) -> Result<T, Refusal>
     requires { IsPartBy T.shape cx.old.rows value }
     // In each case:
@@ -361,7 +365,7 @@ pub fn shift_vars<T: TypeFoldable>(cx: &mut Interner, value: T, amount: u32) -> 
     // Where there is nothing to shift:
     ensures same { (amount ≡ 0) ⊎ (outer_binder (tree_by T.shape cx.old.rows value) ≡ 0)
         → (result ≡ Ok value) × (cx.new ≡ cx.old) }
-    // What it counts:
+    // The counts of descents:
     ensures descents { cx.new.counters.descents ≡ cx.old.counters.descents }
     ensures shift_descents { cx.old.counters.shift_descents ≤ cx.new.counters.shift_descents }
     ensures positions { cx.new.counters.shift_descents
@@ -374,7 +378,8 @@ pub fn shift_vars<T: TypeFoldable>(cx: &mut Interner, value: T, amount: u32) -> 
     if amount == 0 || !value.has_escaping_bound_vars(cx) {
         return Ok(value);
     }
-    // Each stored list of clauses holds clauses alone, so no moved one is refused for an item.
+    // Stored lists of clauses hold clauses alone, and a shifted clause is a clause. So no list is refused with
+    // `NotAClause`.
     cx.are_rows();
     let mut shifter = Shifter {
         amount,

@@ -1,4 +1,5 @@
-//! The walk of the contents of a term or a list. Its stack is on the heap, so that terms may be of any depth.
+//! The walk of the contents of a term or a list, by a loop. Its stack is on the heap, so a term may be as deep as
+//! memory allows.
 
 ghost use Rattle.std.specs.Prelude.{
   ◌≡◌,
@@ -70,7 +71,7 @@ use tt_kinds::{BoundVarKinds, Child, List, Node, Parts};
 // A term or a list whose children are walked.
 #[derive(Clone, Copy)]
 pub(crate) struct Frame {
-    // The term or the list. Its children are read in its row.
+    // The term or the list. Its children are read from its row.
     pub(crate) item: Child,
     // The number of children that are walked.
     pub(crate) count: usize,
@@ -123,9 +124,9 @@ pub(crate) fn begin<M, F: Core<M>>(
     }
 }
 
-// Begins any term or list by a call. The argument and the result are copied, so that neither needs a place in memory in
-// the loop's other arms. It is a function of its own, since an inlined function clears its places in memory when it is
-// entered, also those of arms that aren't taken.
+// Begins a term or a list of any table, by a call. The argument and the result are copied, so that neither needs a
+// place in memory in the loop's other arms. The called function isn't inlined: an inlined function clears its places in
+// memory when it is entered, even the places of arms that aren't taken.
 #[inline(always)]
 fn begin_by_call<M, F: Core<M>>(
     cx: &mut Interner,
@@ -195,7 +196,7 @@ fn begin_item<M, F: Core<M>>(
     }
 }
 
-// Calls the hook of a term or a list. Without a hook, its children are next.
+// Calls the hook of a term or a list. If there is none, the answer is `Descend`.
 #[inline(always)]
 fn ask<M, F: Core<M>>(
     cx: &mut Interner,
@@ -224,7 +225,8 @@ fn ask<M, F: Core<M>>(
     }
 }
 
-// Begins the children of a term or a list. A term without children has none.
+// Enters the binder of a term, if it has one, and returns the frame of a term or a list, before its first child. A term
+// without children and binder has no frame.
 #[inline(always)]
 pub(crate) fn open<M, F: Core<M>>(
     cx: &mut Interner,
@@ -245,7 +247,7 @@ pub(crate) fn open<M, F: Core<M>>(
     }
 }
 
-// Returns the frame of a list, before its children.
+// Returns the frame of a list, before its first child.
 #[inline(always)]
 fn list_frame(cx: &Interner, item: &Child, list: List) -> Frame
     requires item { ArePartsOf cx.now.rows (child_shapes item.now) }
@@ -260,7 +262,7 @@ fn list_frame(cx: &Interner, item: &Child, list: List) -> Frame
     }
 }
 
-// Begins the children of a term.
+// Does what `open` does, for a term.
 #[inline(always)]
 fn open_term<M, F: Core<M>>(
     cx: &mut Interner,
@@ -350,8 +352,8 @@ fn finish<M, F: Core<M>>(
     }
 }
 
-// Calls the hook of any term or list after its contents, by a call. The argument and the result are copied, as where a
-// child is begun.
+// Calls the hook after the contents of a term or a list of any table, by a call. The argument and the result are
+// copied, as in `begin_by_call`.
 #[inline(always)]
 pub(crate) fn finish_by_call<M, F: Core<M>>(
     cx: &mut Interner,
@@ -371,7 +373,7 @@ pub(crate) fn finish_by_call<M, F: Core<M>>(
     Ok(finished)
 }
 
-// Calls the hook of any term or list after its contents, outside of the loop.
+// Calls the hook after the contents of a term or a list of any table, outside of the loop.
 #[inline(never)]
 fn finish_other<M, F: Core<M>>(
     cx: &mut Interner,
@@ -389,7 +391,7 @@ fn finish_other<M, F: Core<M>>(
     finish_item::<M, F>(cx, folder, before, rebuilt)
 }
 
-// Calls the hook of any term or list after its contents.
+// Calls the hook after the contents of a term or a list of any table.
 #[inline(always)]
 fn finish_item<M, F: Core<M>>(
     cx: &mut Interner,
@@ -413,7 +415,7 @@ fn finish_item<M, F: Core<M>>(
     }
 }
 
-// Walks the children of a term or a list, and returns what is built of their results.
+// Walks the children of a term or a list, and returns the term or the list that is built from their results.
 #[inline(never)]
 pub(crate) fn fold_frames<M, F: Core<M>>(
     cx: &mut Interner,
@@ -483,8 +485,8 @@ fn next_child(cx: &Interner, frame: &Frame) -> Child
     }
 }
 
-// Returns the child of any term or list that is begun next, by a call. The result is copied, so that the call's place
-// in memory isn't the one of the other arms' results too.
+// Returns the child that is begun next, of a term or a list of any table, by a call. The result is copied, so that it
+// doesn't share a place in memory with the results of the other arms.
 #[inline(always)]
 fn child_by_call(cx: &Interner, frame: &Frame) -> Child
     requires frame { IsFoldFrame cx.now.rows frame.now }
@@ -512,8 +514,8 @@ fn term_child(cx: &Interner, frame: &Frame, node: Node) -> Child
     }
 }
 
-// Returns the child that is begun next, of any term or list. It is no part of the loop, which would otherwise find the
-// rows of each table at each child.
+// Returns the child that is begun next, of a term or a list of any table. If this function were inlined, the loop would
+// find the rows of each table at each child.
 #[inline(never)]
 fn other_child(cx: &Interner, frame: &Frame) -> Child
     requires frame { IsFoldFrame cx.now.rows frame.now }
@@ -569,7 +571,8 @@ fn keep(cx: &Interner, frame: &Frame, values: &mut Values, value: Child) -> Resu
     ensures failed { IfErr result
         (IsNotKept (wanted_by (outline_of cx.now.rows frame.now.item)) (child_trees cx.now.rows value)) }
 {
-    // Only predicates are items of lists of clauses. What the value is, is mostly known where this is inlined.
+    // Only predicates are items of lists of clauses. Where this function is inlined, the sort of the value is mostly
+    // known.
     if is_predicate(&value) {
         if let Some(list) = list_in(&frame.item) {
             check_item(cx, list.sort(), &value)?;

@@ -19,10 +19,11 @@ use tt_interner::Interner;
 use tt_kinds::{BoundVarKinds, Node, Region, Ty};
 
 /// A folder that replaces types alone: it keeps regions, and enters each other term and each binder, so one method is
-/// enough.
+/// enough. The default `hooks` promise nothing about the method's results: state `hooks` if a proof has to know the
+/// types that a fold puts in place of others.
 ///
-/// [`replace_types`] folds a value with it. A folder that has to know the binders around a type, or the rebuilt type,
-/// is a [`TypeFolder`](crate::TypeFolder).
+/// [`replace_types`] folds a value with such a folder. A folder that has to know the binders around a type, or the
+/// rebuilt type, implements [`TypeFolder`](crate::TypeFolder) instead.
 pub trait TypeReplacer {
     /// The error of the folder: [`Refusal`] if it has no errors of its own.
     type Error: From<Refusal> + Drop;
@@ -30,10 +31,10 @@ pub trait TypeReplacer {
     // The handles in a state; a folder that holds none keeps the default.
     ghost shape: { Self → Shape } = { λ s. no_handles };
 
-    // The relation that the hook keeps to, on the trees of the handles; the default promises nothing.
+    // What the hook promises, as relations on the trees of the handles; the default promises nothing.
     ghost hooks: { TypeHooks (Standing (Tree Depth)) Self.Error } = { no_type_promise };
 
-    /// Called at each type, before its contents: returns what to do there.
+    /// Called at each type, before its contents: returns whether to replace, keep or enter it.
     fn replace_ty(&mut self, cx: &mut Interner, ty: Ty) -> Result<Step<Ty>, Self::Error>
         requires owned { IsPartOf cx.old.rows (shape self.old) }
         requires ty { IsPartOf cx.old.rows (ty_shape ty) }

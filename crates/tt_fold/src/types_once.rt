@@ -103,13 +103,13 @@ impl<F: TypeReplacer> Core<Once> for Recalling<F> {
 }
 
 /// Returns the value with its types replaced by the folder's results, as [`replace_types`](crate::replace_types) does.
-/// The folder's result has to depend on the type alone: its state has to mean the same after each call. The state of a
-/// folder without handles always does; one with handles says so in its `hooks`.
+/// The folder's result has to depend on the type alone: the folder's state has to mean the same after each call. This
+/// always holds for a folder without handles. A folder with handles has to state it in its `hooks`.
 ///
-/// The result of a type that the folder has taken apart is remembered until the call ends. So the folder answers
-/// `Descend` at most once at a type, at however many places it is, and the contents of the type are visited once. The
-/// resulting tree is one that a fold without memory gives. The errors are the errors of a fold without memory, and
-/// `Memory` also if the memory for the results of more than eight types is refused.
+/// The result of a type that was taken apart is remembered until the call ends. So the folder answers `Descend` at most
+/// once at each type, and the contents of the type are visited once, however many places the type has. The resulting
+/// tree is one that a fold without memory gives. The errors are the errors of a fold without memory. `Memory` is also
+/// returned if the memory for the results of more than eight types is refused.
 pub fn replace_types_once<T: TypeFoldable, F: TypeReplacer + Drop>(
     cx: &mut Interner,
     value: T,
@@ -136,7 +136,7 @@ pub fn replace_types_once<T: TypeFoldable, F: TypeReplacer + Drop>(
         (tree_by T.shape cx.old.rows value)
         e
         tt) }
-    // How often the replacer is called:
+    // Which types are taken apart:
     ensures once { IfOk result (λ replaced. CallsOnce
         F.hooks
         (tree_by F.shape cx.old.rows folder)

@@ -1,6 +1,6 @@
-//! The walk of stored terms: what every fold comes down to.
+//! The walk of stored terms, which every fold uses.
 //!
-//! It goes over the parts of kinds, so that it has no line for any kind.
+//! The walk reads the parts of kinds, so it has no code for any single kind.
 
 ghost use Rattle.std.specs.Prelude.{Some};
 ghost use Rattle.tt_kinds.specs.Kinds.{child_shapes, list_shape, node_shape, parts_shapes};
@@ -40,7 +40,7 @@ use crate::stack::{fold_frames, open};
 use tt_interner::Interner;
 use tt_kinds::{BoundVarKinds, Child, List, Node, Parts};
 
-// Walks a stored term. It is inlined in its callers, so that a term whose hook answers at once costs no call.
+// Walks a stored term. This function is inlined, so that a type whose hook replaces or keeps it costs no call.
 #[inline(always)]
 pub(crate) fn fold_node<M, F: Core<M>>(
     cx: &mut Interner,

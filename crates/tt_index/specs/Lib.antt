@@ -4,3 +4,4 @@ pub mod Greatest
 pub mod Text
 pub mod Variance
 pub mod Equality
+pub mod Order

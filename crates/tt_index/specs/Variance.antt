@@ -2,7 +2,7 @@
 use Rattle.tt_index.specs.declared.variance.Variance.{Variance}
 use Rattle.tt_index.specs.declared.variance.Variance.TheVariants.{Covariant, Invariant, Contravariant, Bivariant}
 
--- the variance with the direction of subtyping turned round
+-- the variance with the direction of subtyping reversed
 abbrev pub reversed : Variance → Variance
 reversed Covariant = Contravariant
 reversed Contravariant = Covariant

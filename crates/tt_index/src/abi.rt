@@ -3,24 +3,24 @@
 ghost use Rattle.std.specs.Prelude.{◌≡◌, ◌≤◌};
 ghost use Rattle.tt_index.specs.Abi.{abi_number, abi_of};
 
-/// The calling convention of a function: the text in `extern "C"`.
+/// The calling convention of a function, as `extern "C"` names it.
 #[derive(Clone, Copy, Debug, PartialEq, Eq, PartialOrd, Ord, Hash)]
 pub enum ExternAbi {
-    /// Rust's own.
+    /// Rust's own convention.
     Rust,
-    /// The platform's convention of C.
+    /// The platform's C convention.
     C {
-        /// Whether a panic may leave the call: `extern "C-unwind"`.
+        /// Whether a panic may unwind out of the call: `extern "C-unwind"`.
         unwind: bool,
     },
-    /// The convention of the platform's system calls.
+    /// The convention of the operating system's functions.
     System {
-        /// Whether a panic may leave the call: `extern "system-unwind"`.
+        /// Whether a panic may unwind out of the call: `extern "system-unwind"`.
         unwind: bool,
     },
-    /// Rust's own, with the arguments in a tuple, as the closure traits pass them.
+    /// Rust's own convention with the arguments in a tuple, as the closure traits pass them.
     RustCall,
-    /// The convention of intrinsics before the platform's adjustments.
+    /// The convention of intrinsics without the platform's adjustments.
     Unadjusted,
 }
 
@@ -42,7 +42,7 @@ impl ExternAbi {
         }
     }
 
-    /// Returns the convention that has this number. Its test is the comparison: the number is at most 6.
+    /// Returns the convention that has this number. The number has to be at most 6; a comparison tests it.
     pub fn from_packed(packed: u8) -> ExternAbi
         requires { packed ≤ 6 }
         ensures abi { result ≡ abi_of packed }

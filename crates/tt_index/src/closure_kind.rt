@@ -3,7 +3,7 @@
 ghost use Rattle.std.specs.Prelude.{◌≡◌, ◌≤◌, ◌↔◌, IsTrue};
 ghost use Rattle.tt_index.specs.ClosureKind.{demand, trait_name};
 
-/// A closure trait: how the trait's call takes the closure's environment.
+/// A closure trait, which says how a call takes the closure's environment.
 #[derive(Clone, Copy, Debug, PartialEq, Eq, Hash)]
 pub enum ClosureKind {
     /// By shared reference.
@@ -42,7 +42,7 @@ impl ClosureKind {
     }
 }
 
-/// The bottom of the lattice extends every kind.
+/// [`ClosureKind::LATTICE_BOTTOM`] extends every kind. The function does nothing: its contract is a law.
 pub fn lattice_bottom_extends(kind: ClosureKind)
     ensures { demand ClosureKind.LATTICE_BOTTOM ≤ demand kind }
 {}

@@ -1,4 +1,4 @@
-//! The law of the equality of indices and tags.
+//! The law of `==` on indices and tags.
 
 ghost use Rattle.tt_index.specs.Equality.{IsSameness};
 
@@ -10,8 +10,8 @@ use crate::qualifier::{Mutability, Safety};
 use crate::refusal::Refusal;
 use crate::variance::Variance;
 
-/// `==` holds of two indices of one type, or of two tags of one type, exactly if they are the same. Does nothing: the
-/// contract is a law.
+/// `==` holds for two indices of one type, or for two tags of one type, exactly if they are the same. The function does
+/// nothing: its contract is a law.
 pub fn equal_values_are_same<S>()
     ensures closure_kind { IsSameness ⟦<ClosureKind as PartialEq>⟧.eq }
     ensures extern_abi { IsSameness ⟦<ExternAbi as PartialEq>⟧.eq }

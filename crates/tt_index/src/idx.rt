@@ -3,7 +3,7 @@
 ghost use Rattle.std.specs.Prelude.{◌≡◌, ◌≤◌, ℕ};
 ghost use Rattle.tt_index.specs.Greatest.{greatest};
 
-/// A type of indices: values for the numbers from 0 to [`GREATEST_INDEX`](crate::GREATEST_INDEX).
+/// A type of indices, with a value for each number from 0 to [`GREATEST_INDEX`](crate::GREATEST_INDEX).
 pub trait Idx: Copy {
     ghost number: { Self → ℕ };
 

@@ -47,7 +47,7 @@ impl<Ix: Idx, T> Model for IndexVec<Ix, T> {
 }
 
 impl<Ix: Idx, T> IndexVec<Ix, T> {
-    /// Returns the empty list, which allocates nothing.
+    /// Returns an empty list, without allocating memory.
     pub fn new(alloc: Global) -> IndexVec<Ix, T>
         ensures { result ≡ [] }
     {
@@ -57,8 +57,8 @@ impl<Ix: Idx, T> IndexVec<Ix, T> {
         }
     }
 
-    /// Returns the list of these items, in order. There may be more items than indices; the items past the greatest
-    /// index have none.
+    /// Returns the list of these items, in order. There may be more items than indices: an item past the greatest index
+    /// has no index.
     pub fn from_raw(raw: Vec<T>) -> IndexVec<Ix, T>
         ensures { result ≡ raw.items }
     {

@@ -1,4 +1,4 @@
-//! Indices, tags and refusals of the layer of type terms.
+//! Indices, tags and refusals, which the other crates of the library use.
 #![tactic(auto)]
 
 pub mod abi;
@@ -11,6 +11,7 @@ pub mod idx;
 pub mod index;
 pub mod index_vec;
 pub mod numeric;
+pub mod order;
 pub mod qualifier;
 pub mod refusal;
 pub mod universe;
@@ -32,5 +33,5 @@ pub use universe::UniverseIndex;
 pub use variance::Variance;
 pub use vid::{ConstVid, FloatVid, IntVid, RegionVid, TyVid};
 
-/// The greatest number that an index may have. No index has one of the 255 numbers above it in a `u32`.
+/// The greatest number that an index may have. No index has one of the 255 greater numbers of a `u32`.
 pub const GREATEST_INDEX: u32 = 4_294_967_040;

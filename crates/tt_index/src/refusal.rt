@@ -10,21 +10,22 @@ use thiserror::Error;
 /// Why a call was refused. A refused call leaves the meaning of every handle unchanged. If a call could be refused for
 /// several causes, it returns one of them.
 ///
-/// A refused call that adds one row at most, such as `mk_ty` or `declare_trait`, adds nothing, and neither does
-/// `mk_existentials`. Any other call that builds may leave rows that no result names: `mk_tuple` the list of types,
-/// `mk_param` the name, and a fold the terms that it built before it was refused.
+/// A call that adds at most one row, such as `mk_ty` or `declare_trait`, adds nothing if it is refused, and neither
+/// does `mk_existentials`. Any other call that builds may leave rows that no result names: `mk_tuple` the list of
+/// types, `mk_param` the name, and a fold the terms that it built before it was refused.
 #[derive(Clone, Copy, Debug, PartialEq, Eq, Drop, Error)]
 pub enum Refusal {
-    /// A list or a table could not grow: the allocator refused memory during the call. A call that first collects more
-    /// than eight items, as `mk_existentials` does, needs memory for them even if all that it would add is there.
+    /// The allocator refused memory during the call, so a list or a table could not grow. A call that first collects
+    /// more than eight items, as `mk_existentials` does, needs memory for them even if everything that it would add is
+    /// stored already.
     #[error("memory was refused during the call: free some, and call again")]
     Memory,
     /// The term or declaration is new, and its table already holds as many rows as its limit allows.
     #[error("the term or declaration is new, and its table is full: give the interner a higher limit")]
     TableFull,
-    /// The result would need a bound variable whose index is the greatest one or above, so that no index is left for
-    /// the binder just outside; or one of the layer's own folders would pass more binders than the greatest index
-    /// counts.
+    /// The result would need a bound variable whose index is the greatest index or above, so that no index is left for
+    /// the binder just outside. Or one of the library's own folders would enter more nested binders than the greatest
+    /// index counts.
     #[error("the result would need a bound variable above the greatest index: nest fewer binders")]
     GreatestIndex,
     /// The list of arguments is empty, and the value has a parameter to replace.
@@ -43,7 +44,7 @@ pub enum Refusal {
         index: u32,
     },
     /// The list of arguments has items, and this region inference variable occurs in the value where the walk reaches
-    /// it: outside every type, predicate and list of clauses that has no parameter.
+    /// it. The walk doesn't enter a type, a predicate or a list of clauses without parameters.
     #[error("the region variable {0} occurs in the value: resolve it before the value is instantiated")]
     RegionVariable(RegionVid),
     /// A folder returned a predicate that is not a clause where a clause is required.

@@ -11,9 +11,9 @@ use std::marker::PhantomData;
 /// Marks the place of a universe.
 pub enum Universe {}
 
-/// The place of a universe in the order in which each extends the one before. The root universe has the names that are
-/// always visible. Each further one adds the names of a `for<..>` binder that was entered: a placeholder belongs to the
-/// universe that was made for its binder.
+/// The place of a universe in the order in which each universe extends the one before. The root universe has the names
+/// that are always visible. Each further universe adds the names of a `for<..>` binder that was entered. A placeholder
+/// belongs to the universe that was made for its binder.
 ///
 /// The number is at most [`GREATEST_INDEX`].
 pub type UniverseIndex = Index<Universe>;
@@ -32,7 +32,7 @@ impl UniverseIndex {
         self.value < GREATEST_INDEX
     }
 
-    /// Returns the universe that is entered with a further `for<..>` binder; it extends this one and all before.
+    /// Returns the universe that is entered with a further `for<..>` binder. It extends this universe and all before.
     /// [`UniverseIndex::has_next`] tests the condition.
     pub fn next_universe(self) -> UniverseIndex
         requires { self < greatest }

@@ -4,14 +4,14 @@ ghost use Rattle.std.specs.Prelude.{◌≡◌};
 ghost use Rattle.tt_index.specs.Variance.{xform_of};
 ghost use Rattle.tt_index.specs.declared.variance.Variance.TheVariants.{Covariant};
 
-/// How the generic type `T<A>` varies with its argument `A`, where `<:` reads 'is a subtype of'.
+/// How the generic type `T<A>` varies with its argument `A`. Here `A <: B` means that `A` is a subtype of `B`.
 #[derive(Clone, Copy, Debug, PartialEq, Eq, Hash)]
 pub enum Variance {
-    /// `T<A> <: T<B>` exactly where `A <: B`, as for the result of a function.
+    /// `T<A> <: T<B>` exactly if `A <: B`, as for the result of a function.
     Covariant,
-    /// `T<A> <: T<B>` exactly where `A` and `B` are the same, as for what a mutable cell holds.
+    /// `T<A> <: T<B>` exactly if `A` and `B` are the same, as for what a mutable cell holds.
     Invariant,
-    /// `T<A> <: T<B>` exactly where `B <: A`, as for a parameter of a function.
+    /// `T<A> <: T<B>` exactly if `B <: A`, as for a parameter of a function.
     Contravariant,
     /// `T<A> <: T<B>` always, as for an argument that the type doesn't use.
     Bivariant,
@@ -40,12 +40,14 @@ impl Variance {
     }
 }
 
-/// Three nested contexts give the same variance however they are joined.
+/// Three nested contexts give the same variance however they are grouped. The function does nothing: its contract is a
+/// law.
 pub fn xform_is_associative(outer: Variance, middle: Variance, inner: Variance)
     ensures { xform_of (xform_of outer middle) inner ≡ xform_of outer (xform_of middle inner) }
 {}
 
-/// A covariant context changes nothing, and a covariant position takes the variance of its context.
+/// A covariant context changes nothing, and a covariant position takes the variance of its context. The function does
+/// nothing: its contract is a law.
 pub fn covariant_is_identity(variance: Variance)
     ensures outside { xform_of Covariant variance ≡ variance }
     ensures inside { xform_of variance Covariant ≡ variance }

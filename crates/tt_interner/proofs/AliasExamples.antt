@@ -20,7 +20,7 @@ static = arg.Lifetime ReStatic
 abbrev own_region : GenericArgKind
 own_region = arg.Lifetime (ReEarlyParam (record { index = 1; name = handle 0 }))
 
--- the first argument is the self type if it is a type
+-- the first argument is the self type if it is a type, and without arguments there is none
 self_types : (first_type (arg.«Type» parameter ∷ static ∷ []) ≡ Some parameter) × (first_type (static ∷ []) ≡ None) × (first_type [] ≡ None)
 self_types = (refl, refl, refl)
 
@@ -28,16 +28,18 @@ self_types = (refl, refl, refl)
 replaced : with_self_ty byte (arg.«Type» parameter ∷ static ∷ []) ≡ arg.«Type» byte ∷ static ∷ []
 replaced = refl
 
--- without arguments the type is the only one
+-- without arguments the new self type is the only argument
 replaced_none : with_self_ty byte [] ≡ arg.«Type» byte ∷ []
 replaced_none = refl
 
--- of `[T, 'p]` and a trait of one parameter, the trait has `[T]`, and `['p]` is the associated type's own
+-- `[T, 'p]`, and a trait of one parameter
 abbrev both : List GenericArgKind
 both = arg.«Type» parameter ∷ own_region ∷ []
 
+-- the trait has the first argument, `[T]`
 trait_part : take 1 both ≡ arg.«Type» parameter ∷ []
 trait_part = refl
 
+-- the associated type's own arguments are the others, `['p]`
 own_part : viewed both (record { args = handle 0; start = 1; len = 1 }) ≡ own_region ∷ []
 own_part = refl

@@ -66,12 +66,12 @@ environment n = record { caller_bounds = handle n }
 abbrev types : ℕ → List Ty
 types n = clause_types rows (placeholder 0) (environment n)
 
--- without a clause, or with one on another constant, it gives no type
+-- without a clause, or with one on another constant, an environment gives no type
 no_types : (types 0 ≡ []) × (types 1 ≡ [])
 unfolding clause_types table
 no_types = (refl, refl)
 
--- a clause on this constant gives its type
+-- a clause on the constant gives its type
 one_type : types 2 ≡ usize ∷ []
 unfolding clause_types table
 one_type = refl
@@ -81,11 +81,12 @@ two_types : (types 3 ≡ usize ∷ usize ∷ []) × (types 4 ≡ usize ∷ truth
 unfolding clause_types table
 two_types = (refl, refl)
 
--- no variable escapes a constant or its type, and one does where the type is bound outside
+-- no variable escapes the constants and the types of bounds
 closed_bounds : AreBoundsClosed rows (environment 4)
 unfolding AreBoundsClosed table meaning fill
 closed_bounds = ((refl, refl), ((refl, refl), tt))
 
+-- a variable escapes from a type that is bound outside
 open_bounds : AreBoundsClosed rows (environment 5) → ⊥
 unfolding AreBoundsClosed table meaning fill
 open_bounds h = let never : ◌≡◌ {A = ℕ} 1 0 = h.0.1 in omega arith

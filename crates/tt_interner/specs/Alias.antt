@@ -21,7 +21,7 @@ use Rattle.tt_interner.specs.Stored.{Terms, IsAt}
 use Rattle.tt_interner.specs.Collect.{BuildsCollected}
 use Rattle.tt_interner.specs.Declarations.{declared_at, IsOfSort}
 
--- the type that is the first of the arguments, if there is one and it is a type
+-- the first of the arguments, if there is one and it is a type
 abbrev pub first_type : List GenericArgKind → Option Ty
 first_type [] = None
 first_type (a ∷ others) = type_of a
@@ -47,7 +47,7 @@ pub record ReplacesSelfTy {H : Type 0} (result : Result H Refusal) (number : H �
   pub stored : IsAt old.rows (args_row items) args.number
   pub builds : BuildsCollected result number old new (args_row (with_self_ty ty items))
 
--- the alias is a projection, and its id is the one of a declared associated type
+-- the alias is a projection, and its id names a declared associated type
 abbrev pub HasTraitDefId : List Row → AliasTyKind → Type 0
 HasTraitDefId rows kind = (alias_sort kind ≡ sort.AssocTy) × IsOfSort rows sort.AssocTy (alias_number kind)
 
@@ -56,14 +56,14 @@ abbrev pub IsInTrait : List Row → AliasTyKind → Id Trait → Type 0
 IsInTrait rows kind parent = (declared_at rows (record { number = alias_number kind })).kind
     ≡ declaration.AssocTy parent
 
--- the id is the one of a trait that is declared with so many parameters
+-- the id names a trait that is declared with this number of parameters
 abbrev pub HasParams : List Row → Id Trait → ℕ → Type 0
 HasParams rows parent params =
     (parent.number < size rows Declarations) × ((declared_at rows (record { number = parent.number })).kind
     ≡ declaration.Trait params)
 
--- the alias is a projection of the trait, which is declared with so many parameters; the items are the alias's
--- arguments, one for each parameter and no more than can be counted
+-- the alias is a projection of the trait, which is declared with this number of parameters; the items are the alias's
+-- arguments, at least one for each parameter and at most `u32::MAX`
 pub record TraitArgs (rows : List Row) (alias : AliasTy) (parent : Id Trait) (params : ℕ) (items : List GenericArgKind)
     : Type 0 where
   pub projection : HasTraitDefId rows alias.kind
@@ -85,7 +85,7 @@ pub record IsOwnArgs (rows : List Row) (alias : AliasTy) (parent : Id Trait) (ow
   pub args : TraitArgs rows alias parent params items
   pub is : own ≡ record { args = alias.args; start = params; len = length items - params }
 
--- the result is the alias's trait with as many of the alias's arguments as it has parameters, or a refusal
+-- the result is the alias's trait with the first of the alias's arguments, one for each parameter, or a refusal
 pub record BuildsTraitRef {H : Type 0} (result : Result H Refusal) (trait_ref : H → TraitRef) (old new : Terms)
     (alias : AliasTy) : Type 0 where
   pub parent : Id Trait
@@ -95,18 +95,18 @@ pub record BuildsTraitRef {H : Type 0} (result : Result H Refusal) (trait_ref : 
   pub of_trait : IfOk result (λ h. (trait_ref h).def_id ≡ parent)
   pub builds : BuildsCollected result (λ h. (trait_ref h).args.number) old new (args_row (take params items))
 
--- the view's arguments, of the arguments of its list
+-- the arguments at the view's places, from the arguments of its list
 abbrev pub viewed : List GenericArgKind → GenericArgsSlice → List GenericArgKind
 viewed items view = take view.len (drop view.start items)
 
--- the lists of a trait reference and of the alias have these items, and those of the first and the view's are all of
--- the second
+-- the stored arguments of the trait reference, followed by the arguments at the view's places in the alias's list, are
+-- all of the alias's stored arguments
 abbrev pub AreJoined : List Row → AliasTy → TraitRef → GenericArgsSlice → Type 0
 AreJoined rows alias trait_ref own =
     (firsts items : List GenericArgKind) → IsAt rows (args_row firsts) trait_ref.args.number
     → IsAt rows (args_row items) alias.args.number → firsts ++ viewed items own ≡ items
 
--- the arguments of an alias's trait reference and then its own arguments are the alias's arguments
+-- the arguments that `trait_ref_and_own_args` returns, joined, are the alias's arguments
 abbrev pub JoinsTraitArgs : Type 0
 JoinsTraitArgs = (old new : Terms) (alias : AliasTy) (result : Result (TraitRef × GenericArgsSlice) Refusal)
     → BuildsTraitRef result (λ both. both.0) old new alias

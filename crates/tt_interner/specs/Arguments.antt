@@ -1,4 +1,4 @@
--- The arguments of an instantiation, as an interner's rows have them.
+-- The arguments of an instantiation, with the trees that an interner's rows give them.
 use Rattle.std.specs.Prelude.{List, [], map, Option, Some, None, slice_get}
 use Rattle.tt_kinds.specs.Label.{Sort, region_sort, type_sort, const_sort}
 use Rattle.tt_kinds.specs.Tree.{Depth}
@@ -30,7 +30,7 @@ arguments rows args = map (argument_of rows) args
 abbrev pub AreArguments : List Row → List GenericArgKind → Type 0
 AreArguments rows args = AreParts (size rows) (item_shapes arg_shape args)
 
--- the arguments in a row
+-- the arguments of the list in a row; other rows have none
 abbrev pub row_args : Option Row → List GenericArgKind
 row_args None = []
 row_args (Some (args_row args)) = args

@@ -34,7 +34,7 @@ pat_child p = child.Node (node.Pat p)
 abbrev pub existential_child : PolyExistentialPredicate → Child
 existential_child p = child.Node (node.Existential p)
 
--- a clause, as a child: it is there as a predicate
+-- a clause, as a child, which is its predicate
 abbrev pub clause_child : Clause → Child
 clause_child c = child.Node (node.Predicate (handle c.number))
 
@@ -44,7 +44,7 @@ arg_child (arg.Lifetime r) = child.Region r
 arg_child (arg.«Type» t) = ty_child t
 arg_child (arg.Const c) = const_child c
 
--- the children of the list of this row
+-- the children of the list in a row; other rows have none
 abbrev pub children_of : Row → List Child
 children_of (clauses_row clauses) = map clause_child clauses
 children_of (tys_row tys) = map ty_child tys

@@ -22,7 +22,7 @@ abbrev pub is_clause_tree : {I : Type 0} → Tree I → Bool
 is_clause_tree (term predicate_label ts) = is_clause_inside ts
 is_clause_tree _ = false
 
--- one of the trees is no clause
+-- one of the trees is not a clause
 abbrev pub HasOther : {I : Type 0} → Forest I → Type 0
 HasOther none = ⊥
 HasOther (also t ts) = IsTrue (not (is_clause_tree t)) ⊎ HasOther ts

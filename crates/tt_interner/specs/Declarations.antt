@@ -27,7 +27,7 @@ declaration_of _ = record { kind = kind.Param; name = handle 0 }
 unfoldable pub declared_at : List Row → DefId → Declaration
 declared_at rows id = declaration_of (row_at rows Declarations id.number)
 
--- a declaration has this number, and is of this sort
+-- there is a declaration of this number, and it is of this sort
 abbrev pub IsOfSort : List Row → DeclarationSort → ℕ → Type 0
 IsOfSort rows sort number = (number < size rows Declarations)
     × (sort_of (declared_at rows (record { number = number })).kind ≡ sort)
@@ -35,7 +35,7 @@ IsOfSort rows sort number = (number < size rows Declarations)
 -- a declaration of this kind and name is added, or refused
 pub record Declares {H : Type 0} (result : Result H Refusal) (number : H → ℕ) (old new : Terms) (kind : DeclarationKind)
     (name : Symbol) : Type 0 where
-  -- its number is the number of declarations before it, so none of them has it
+  -- the new number is how many declarations there were, so none of them has this number
   pub adds : Adds result number old new (declared_row (size old.rows Declarations)
       (record { kind = kind; name = name }))
   -- what was there stays
@@ -47,14 +47,14 @@ pub record Declares {H : Type 0} (result : Result H Refusal) (number : H → ℕ
 unfoldable pub is_anonymous : List Row → Symbol → Bool
 is_anonymous rows name = bytes_eq (name_of (meaning rows) name.number) anonymous_text
 
--- the name of a bound region: its declaration's, unless that is `'_`, or the name that it is printed by
+-- the name of a bound region: its declaration's name, unless that is `'_`, or the name that the region is printed by
 abbrev pub title : List Row → BoundRegionKind → Option Symbol
 title rows (region.Named id) = if is_anonymous rows (declared_at rows id).name then None else Some
     (declared_at rows id).name
 title rows (region.NamedForPrinting name) = Some name
 title rows _ = None
 
--- if the bound region is declared, its declaration is there
+-- the bound region has no declaration, or one among the rows
 abbrev pub IsDeclaredRegion : List Row → BoundRegionKind → Type 0
 IsDeclaredRegion rows (region.Named id) = id.number < size rows Declarations
 IsDeclaredRegion rows _ = ⊤

@@ -14,7 +14,7 @@ use Rattle.tt_kinds.specs.declared.table.Table.TheVariants.{Definitions, Symbols
 use Rattle.tt_interner.specs.Rows.{Row, defined_row, table, size}
 use Rattle.tt_interner.specs.Stored.{Terms, Extends}
 
--- the variants, if the row defines the data type of the number
+-- the variants in the row, if it defines the data type of the number
 abbrev pub variants_in : ℕ → Row → Option (List Variant)
 variants_in n (defined_row m vs) = if n == m then Some vs else None
 variants_in n _ = None

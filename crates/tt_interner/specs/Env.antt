@@ -42,12 +42,12 @@ abbrev pub bound_of_predicate : PredicateKind → Option (Const × Ty)
 bound_of_predicate (predicate.Clause k) = bound_of_clause k
 bound_of_predicate _ = None
 
--- the constant and the type of such a stored predicate, without its binder
+-- the constant and the type of a stored predicate that gives a constant its type, without the predicate's binder
 abbrev pub bound_of_row : Row → Option (Const × Ty)
 bound_of_row (predicate_row b) = bound_of_predicate b.value
 bound_of_row _ = None
 
--- the constant and the type of such a clause, by its handle
+-- the constant and the type of the clause of a handle, if it gives a constant its type
 abbrev pub bound_at : List Row → Clause → Option (Const × Ty)
 bound_at rows c = bound_of_row (row_at rows Predicates c.number)
 
@@ -74,7 +74,7 @@ env_clauses rows env = clauses_of (row_at rows ClauseLists env.caller_bounds.num
 unfoldable pub clause_types : List Row → Placeholder BoundConst → ParamEnv → List Ty
 clause_types rows p env = types_of rows p (env_clauses rows env)
 
--- why these types are not exactly one: there is none, or there are two or more
+-- why the types aren't exactly one: there is none, or there are two or more
 abbrev pub IsFault : List Ty → ConstTyFault → Type 0
 IsFault types fault.Missing = types ≡ []
 IsFault types fault.Duplicate = 2 ≤ length types

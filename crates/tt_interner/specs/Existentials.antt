@@ -34,7 +34,7 @@ AreStored rows [] [] = ⊤
 AreStored rows (p ∷ ps) (h ∷ hs) = IsAt rows (existential_row p) h.number × AreStored rows ps hs
 AreStored rows _ _ = ⊥
 
--- r was stored under the number, or is now the newest row, and its table had room for it
+-- r was stored under the number, or is now the newest row, for which its table had room
 pub record StoresWithin (limit : ℕ) (old new : List Row) (r : Row) (n : ℕ) : Type 0 where
   pub stores : Stores old new r n
   pub room : IsNew r old → size old (row_table r) < limit
@@ -47,12 +47,12 @@ StoresEach limit old new (p ∷ ps) (h ∷ hs) = (between : List Row)
     × StoresWithin limit old between (existential_row p) h.number × StoresEach limit between new ps hs
 StoresEach limit old new _ _ = ⊥
 
--- the row that is stored after the handles: the first of the predicates that are left, or the list
+-- the row that is stored next: the first of the predicates that are left, or the list of the handles
 abbrev pub next_row : List PolyExistentialPredicate → List (Binder ExistentialPredicate) → Row
 next_row hs [] = existentials_row hs
 next_row hs (p ∷ ps) = existential_row p
 
--- after those that are done, the next row is new, and its table holds its limit
+-- after the predicates that are done, the next row is new, and its table holds the limit
 pub record NextLacksRoom (limit : ℕ) (rows : List Row) (ps done : List (Binder ExistentialPredicate))
     (hs : List PolyExistentialPredicate) : Type 0 where
   pub left : List (Binder ExistentialPredicate)
@@ -81,8 +81,8 @@ pub record StoresAll (limit : ℕ) (old new : List Row) (ps : List (Binder Exist
   pub each : StoresEach limit old between ps handles
   pub list : StoresWithin limit between new (existentials_row handles) n
 
--- the result is the list of the predicates, and each of them is added if it is new, as the list is; or it is refused,
--- and nothing was added
+-- the result is the list of the predicates, where the list and each predicate are added if they are new; or the call is
+-- refused, and nothing is added
 pub record BuildsAll (result : Result BoundExistentialPredicates Refusal) (old new : Terms)
     (ps : List (Binder ExistentialPredicate)) : Type 0 where
   pub in_range : IfOk result (λ l. l.number < size new.rows ExistentialLists)
@@ -96,12 +96,12 @@ pub record BuildsAll (result : Result BoundExistentialPredicates Refusal) (old n
   pub found : (hs : List PolyExistentialPredicate) (n : ℕ) → AreStored old.rows ps hs
       → IsAt old.rows (existentials_row hs) n
       → (((l : BoundExistentialPredicates) × (result ≡ Ok l) × (l.number ≡ n)) × (new ≡ old)) ⊎ LacksItems result ps
-  -- if the first row that isn't there has no room, no memory is requested for it
+  -- if the first row that isn't there has no room, the refusal is `TableFull`, or `Memory` for more than eight handles
   pub full : (done : List (Binder ExistentialPredicate)) (hs : List PolyExistentialPredicate)
       → AreStored old.rows done hs → NextLacksRoom old.limit old.rows ps done hs
       → (result ≡ Err TableFull) ⊎ LacksItems result ps
 
--- some of the predicates were stored, and the result is returned by the last call, which stores the next row
+-- some of the predicates were stored, and the result comes from the last call, which stores the next row
 pub record PutsEach (result : Result BoundExistentialPredicates Refusal) (old new : Terms)
     (ps : List (Binder ExistentialPredicate)) : Type 0 where
   pub done : List (Binder ExistentialPredicate)

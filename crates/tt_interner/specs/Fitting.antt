@@ -1,4 +1,4 @@
--- Which values of an interner fit: laws of all rows, which exclude a refusal with the greatest index.
+-- Which values of an interner fit: laws of all rows, which exclude the refusal `GreatestIndex`.
 use Rattle.std.specs.Prelude.{ℕ, ◌+◌, ◌*◌, ◌≤◌, List}
 use Rattle.tt_index.specs.Greatest.{greatest}
 use Rattle.tt_kinds.specs.Reading.{read, Fits}

@@ -8,7 +8,7 @@ use Rattle.tt_interner.specs.Stored.{Terms}
 use Rattle.tt_interner.specs.Tables.{Tables, no_info, entries_by, declared_entries, defined_entries, rows_in_order}
 use Rattle.tt_interner.specs.Tables.{Keeps}
 
--- the tables
+-- the interner's tables, with their entries
 abbrev pub tables : Inside → Tables
 tables i = record {
   types = entries_by type_row (λ v. v) i.types.entries;

@@ -18,21 +18,21 @@ AreInterned rows = (t : Table) (n m : ℕ) → n < size rows t → m < size rows
 abbrev pub EqualTrees : Type 0
 EqualTrees = (rows : List Row) → AreRows rows → AreInterned rows
 
--- handles in range stay in range and keep their trees, whatever rows come
+-- handles in range stay in range and keep their trees, whatever rows are added
 abbrev pub KeepsTrees : Type 0
 KeepsTrees = (old new : List Row) → Grows old new → (t : Table) (n : ℕ) → n < size old t → (n < size new t)
     × (meaning new t n ≡ meaning old t n)
 
--- a row that is stored under a number is stored under that number, whatever rows come
+-- a row stays stored under its number, whatever rows are added
 abbrev pub KeepsRows : Type 0
 KeepsRows = (old new : List Row) → Grows old new → (r : Row) (n : ℕ) → IsAt old r n → IsAt new r n
 
--- the declaration of an id stays, whatever rows come
+-- the declaration of an id stays, whatever rows are added
 abbrev pub KeepsDeclarations : Type 0
 KeepsDeclarations = (old new : List Row) → Grows old new → (id : DefId) → id.number < size old Declarations
     → (id.number < size new Declarations) × (declared_at new id ≡ declared_at old id)
 
--- the variants of a data type stay, whatever rows come
+-- the variants of a data type stay, whatever rows are added
 abbrev pub KeepsDefinitions : Type 0
 KeepsDefinitions = (old new : List Row) → Grows old new → (n : ℕ) (vs : List Variant) → variants_of old n ≡ Some vs
     → variants_of new n ≡ Some vs

@@ -12,7 +12,7 @@ use Rattle.tt_interner.specs.Rows.{Row, type_row, const_row, pat_row, predicate_
 use Rattle.tt_interner.specs.Rows.{kind_row, table}
 use Rattle.tt_interner.specs.Stored.{Terms, Builds}
 
--- the kind of a row, which is never a list or a text
+-- the kind of a row that has one; lists and texts have none
 abbrev pub row_kind : Row → Kind
 row_kind (type_row k) = kind.Ty k
 row_kind (const_row k) = kind.Const k
@@ -25,7 +25,7 @@ row_kind _ = kind.Ty ty.Never
 unfoldable pub stored_kind : List Row → Node → Kind
 stored_kind rows n = row_kind (get_or (table (node_table n) rows) (node_number n) (text_row []))
 
--- the result is the term like n with these children, which is added if it is new
+-- the result is the term that has these children and is otherwise like n, which is added if it is new
 pub record BuildsLike (result : Result Node Refusal) (old new : Terms) (n : Node) (p : Parts) : Type 0 where
   pub kind : Kind
   pub table : kind_table kind ≡ node_table n

@@ -6,7 +6,7 @@ use Rattle.tt_kinds.specs.Handle.{BoundVarKinds}
 use Rattle.tt_kinds.specs.declared.table.Table.TheVariants.{VarLists, Symbols}
 use Rattle.tt_kinds.specs.Kinds.{Form, param, bound, plain, under}
 
--- the names in a kind of this form itself are in the table of symbols
+-- the names in a kind of this form, outside of its contents, are in the table of symbols
 abbrev pub IsNamedForm : Sizes → Form (Label ℕ) → Type 0
 IsNamedForm size (param i name) = name < size Symbols
 IsNamedForm size (bound d e) = IsNamedKind size e.kind

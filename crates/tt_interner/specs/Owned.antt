@@ -1,4 +1,4 @@
--- Short names for what contracts say of values by their shapes: that they are of this interner, and their trees.
+-- Short names for what contracts say of values: that their handles are of an interner, and what their trees are.
 use Rattle.std.specs.Prelude.{List}
 use Rattle.tt_kinds.specs.Tree.{Depth, Tree}
 use Rattle.tt_kinds.specs.Shape.{Shape, IsPart, AreParts, fill, item_shapes}
@@ -17,7 +17,7 @@ AreOwned shape terms xs = AreParts (size terms.rows) (item_shapes shape xs)
 abbrev pub IsPartOf : List Row → Shape → Type 0
 IsPartOf rows s = IsPart (size rows) s
 
--- the tree of the shape among the rows
+-- the tree of the shape, where the rows give the trees of handles
 abbrev pub tree_in : List Row → Shape → Tree Depth
 tree_in rows s = fill (meaning rows) s
 
@@ -25,6 +25,6 @@ tree_in rows s = fill (meaning rows) s
 abbrev pub IsPartBy : {T : Type 0} → (T → Shape) → List Row → T → Type 0
 IsPartBy shape rows x = IsPartOf rows (shape x)
 
--- the tree of a value's shape among the rows
+-- the tree of the value, where the rows give the trees of handles
 abbrev pub tree_by : {T : Type 0} → (T → Shape) → List Row → T → Tree Depth
 tree_by shape rows x = tree_in rows (shape x)

@@ -134,7 +134,7 @@ table t (r ∷ rows) = if is_in t r then table t rows ++ r ∷ [] else table t r
 abbrev pub size : List Row → Sizes
 size rows t = length (table t rows)
 
--- the tree of a handle: its row's shape filled, whose handles mean what they meant before the row came
+-- the tree of a handle: the shape of its row, filled with the trees that handles had before the row was added
 unfoldable pub meaning : List Row → Meaning
 meaning [] t n = tree.node (text_label []) tree.none
 meaning (r ∷ rows) t n = if is_in t r && (n == length (table t rows)) then fill (meaning rows)
@@ -166,13 +166,13 @@ IsWellFormed rows (clauses_row cs) = AreClauses rows cs
 IsWellFormed rows (defined_row n vs) = HasIndices vs
 IsWellFormed rows _ = ⊤
 
--- each row is stored once, names only rows before it, has no index of the greatest or above, and is well-formed
+-- each row is stored once, names only rows before it, has only indices below the greatest, and is well-formed
 unfoldable pub AreRows : List Row → Type 0
 AreRows [] = ⊤
 AreRows (r ∷ rows) = HasParts (size rows) (row_shape r) × IsNew r rows × IndicesFitIn (row_shape r)
     × IsWellFormed rows r × AreRows rows
 
--- the handles in a shape came before so many rows
+-- each handle in a shape names one of the a oldest rows
 abbrev mutual
   pub IsOlder : List Row → ℕ → Shape → Type 0
   IsOlder rows a (param s i name) = ⊤
@@ -184,7 +184,7 @@ abbrev mutual
   IsOlder rows a (stored t n) = age rows t n < a
   IsOlder rows a (part_of t n e) = age rows t n < a
 
-  -- the handles in each of the shapes came before so many rows
+  -- the same for each of the shapes
   pub AreOlder : List Row → ℕ → Shapes → Type 0
   AreOlder rows a none = ⊤
   AreOlder rows a (also s ss) = IsOlder rows a s × AreOlder rows a ss

@@ -21,7 +21,7 @@ use Rattle.tt_interner.specs.Rows.{Row, clauses_row, tys_row, consts_row, args_r
 use Rattle.tt_interner.specs.Rows.{existentials_row, assumptions_row, text_row, row_table, row_shape, table, size}
 use Rattle.tt_interner.specs.Rows.{meaning, IsNew, Grows}
 
--- how often a folder took a type apart: the argument folder, and the shifter
+-- how often the argument folder and the shifter have taken a type apart
 pub record Counters : Type 0 where
   pub descents : ℕ
   pub shift_descents : ℕ
@@ -41,7 +41,7 @@ pub record Extends (old new : Terms) : Type 0 where
 abbrev pub most_descents : ℕ
 most_descents = 18446744073709551615
 
--- one more, which is not counted at the end
+-- one more than the count, or the count itself if it is the greatest
 abbrev pub counted : ℕ → ℕ
 counted n = cond (nat_lt n most_descents) (n + 1) n
 
@@ -64,7 +64,7 @@ first_rows =
     text_row anonymous_text ∷ assumptions_row [] ∷ existentials_row [] ∷ clauses_row [] ∷ pats_row [] ∷ consts_row []
     ∷ vars_row [] ∷ args_row [] ∷ tys_row [] ∷ []
 
--- the rows that the defaults of the handles name
+-- the rows that the defaults of lists and of symbols name
 pub record HasFirst (rows : List Row) : Type 0 where
   pub types : IsAt rows (tys_row []) 0
   pub args : IsAt rows (args_row []) 0
@@ -121,12 +121,12 @@ pub record Builds {H : Type 0} (result : Result H Refusal) (number : H → ℕ) 
   pub full : IsNew r old.rows → (IsTooDeep (row_shape r) → ⊥) → old.limit ≤ size old.rows (row_table r)
       → result ≡ Err TableFull
 
--- the tree is a list of clauses with an item that is no clause
+-- the tree is a list of clauses with an item that is not a clause
 abbrev pub IsNoClauseList : Tree Depth → Type 0
 IsNoClauseList (tree.term clause_list_label ts) = HasOther ts
 IsNoClauseList _ = ⊥
 
--- a row for the tree is new though its handles are in range, and its table holds its limit
+-- a row for the tree would be new, with handles in range, and its table holds the limit
 pub record HasNoRoom (terms : Terms) (u : Tree Depth) : Type 0 where
   pub row : Row
   pub fills : fill (meaning terms.rows) (row_shape row) ≡ u
@@ -134,7 +134,7 @@ pub record HasNoRoom (terms : Terms) (u : Tree Depth) : Type 0 where
   pub new : IsNew row terms.rows
   pub full : terms.limit ≤ size terms.rows (row_table row)
 
--- why the term of this tree was not stored: no memory, no room in its table, or a list of clauses with another item
+-- why the tree was not stored: no memory, no room in its table, or a list of clauses with an item that is not a clause
 abbrev pub IsUnbuilt : Terms → Tree Depth → Refusal → Type 0
 IsUnbuilt terms u Memory = ⊤
 IsUnbuilt terms u TableFull = HasNoRoom terms u
@@ -145,7 +145,7 @@ IsUnbuilt terms u _ = ⊥
 abbrev pub children_tree : List Row → ListSort → List Child → Tree Depth
 children_tree rows sort items = items_tree sort (fill_all (meaning rows) (children_shapes items))
 
--- how many items of a list are collected without memory
+-- how many items of a list are collected without allocation
 abbrev pub most_in_place : ℕ
 most_in_place = 8
 
@@ -163,11 +163,11 @@ pub record StoresList (result : Result StoredList Refusal) (old new : Terms) (so
   pub counters : new.counters ≡ old.counters
   pub err : OnErr result (new ≡ old)
   pub cause : IfErr result (IsUnbuilt old (items_tree sort (fill_all (meaning old.rows) (children_shapes items))))
-  -- a list of clauses with another item is never stored
+  -- a list of clauses with an item that is not a clause is never stored
   pub refused : OnOk result (IsNoClauseList (items_tree sort (fill_all (meaning old.rows) (children_shapes items))) → ⊥)
   pub of_sort : IfOk result (λ l. list_sort l ≡ sort)
   pub stored : IfOk result (λ l. Stores old.rows new.rows (items_row sort items) (list_number l))
-  -- a row that is there is found; a new one is refused if its table is full, as a list of clauses with another item is
+  -- a stored row is found; a new list is refused if its table is full, or if an item that has to be a clause isn't one
   pub found : (n : ℕ) → IsAt old.rows (items_row sort items) n
       → (((l : StoredList) × (result ≡ Ok l) × (list_number l ≡ n)) × (new ≡ old)) ⊎ LacksItems result items
   pub full : IsNew (items_row sort items) old.rows → (IsNoClauseList (children_tree old.rows sort items) → ⊥)

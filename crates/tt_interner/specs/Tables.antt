@@ -38,7 +38,7 @@ pub record TableEntry : Type 0 where
   pub row : Row
   pub info : FlagComputation
 
--- the information of a term without flags
+-- the information of a term without flags and without escaping variables
 abbrev pub no_info : FlagComputation
 no_info = computed 0 0
 
@@ -99,7 +99,7 @@ with_entries ts Symbols es = record ts { symbols = es }
 with_entries ts Declarations es = record ts { declarations = es }
 with_entries ts Definitions es = record ts { definitions = es }
 
--- the tables with one entry more
+-- the tables with one more entry in one of them
 abbrev pub push : Table → TableEntry → Tables → Tables
 push t e ts = with_entries ts t (table_entries ts t ++ e ∷ [])
 
@@ -142,12 +142,12 @@ abbrev pub older : List TableEntry → List TableEntry
 older [] = []
 older (e ∷ es) = es
 
--- the rows of all tables in the order that is given, newest first
+-- the rows of all tables in the given order, where the order and the tables are newest first
 unfoldable pub merged : List Table → Tables → List Row
 merged [] ts = []
 merged (t ∷ order) ts = newest (table_entries ts t) ∷ merged order (with_entries ts t (older (table_entries ts t)))
 
--- the rows of tables and of an order that are kept oldest first
+-- the same for an order and tables that are kept oldest first
 unfoldable pub rows_in_order : List Table → Tables → List Row
 rows_in_order order ts = merged (reverse order) (reversed_tables ts)
 
@@ -173,7 +173,7 @@ pub record AreInfos (rows : List Row) (t : Table) (infos : List FlagComputation)
   pub as_many : length infos ≡ size rows t
   pub each : (n : ℕ) (info : FlagComputation) → slice_get infos n ≡ Some info → IsInfo info (meaning rows t n)
 
--- the tables have the rows and their trees' infos, and no table has more than its limit
+-- the tables have these rows, with the information of their trees, and no table has more rows than the limit
 pub record AreTables (rows : List Row) (ts : Tables) (limit : ℕ) : Type 0 where
   pub are : AreRows rows
   pub has : (t : Table) → table t rows ≡ rows_of ts t
@@ -181,7 +181,7 @@ pub record AreTables (rows : List Row) (ts : Tables) (limit : ℕ) : Type 0 wher
   pub within : (t : Table) → size rows t ≤ limit
   pub small : limit ≤ greatest
 
--- the tables are the ones that the order makes, and their first rows are the rows of a new interner
+-- the tables have the rows that the order makes of them, and the first of these are the rows of a new interner
 pub record Keeps (order : List Table) (ts : Tables) (limit : ℕ) : Type 0 where
   pub tables : AreTables (rows_in_order order ts) ts limit
   pub first : (added : List Row) × (rows_in_order order ts ≡ added ++ first_rows)

@@ -8,7 +8,7 @@ use Rattle.tt_kinds.specs.declared.table.Table.TheVariants.{Types}
 use Rattle.tt_interner.specs.Rows.{Row, tys_row, args_row, size}
 use Rattle.tt_interner.specs.Stored.{IsAt}
 
--- the view's list is stored, and has a last type
+-- the view's list is stored, and is not empty
 abbrev pub AreInputs : List Row → FnInputTys → Type 0
 AreInputs rows view = (items : List Ty) × IsAt rows (tys_row items) view.inputs_and_output.number × (0 < length items)
 

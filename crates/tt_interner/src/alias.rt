@@ -52,7 +52,7 @@ pub trait InternedAlias: Sized {
     ghost alias: { Self → AliasTy };
 
     /// Returns the alias of this kind whose arguments are all items of the iterator, in order. The iterator has to end,
-    /// and its items have to be of this interner.
+    /// and its items have to be of this interner; [`Interner::owns_arg`] tests an item.
     ///
     /// Refused as [`Interner::mk_args_from_iter`] is, which makes the list of the arguments.
     fn new<I: Iterator<Item = GenericArg> + Drop>(
@@ -89,7 +89,8 @@ pub trait InternedAlias: Sized {
     /// [`Interner::owns_ty`] test it.
     ///
     /// Refused with `TableFull` if the list of the arguments is new and the table has as many rows as it may have, and
-    /// with `Memory`, also if there is none for the arguments, which are collected before their list is looked up.
+    /// with `Memory`. The arguments are collected in a vector before their list is looked up, so `Memory` is possible
+    /// even for a list that is stored already.
     fn with_replaced_self_ty(self, cx: &mut Interner, self_ty: Ty) -> Result<Self, Refusal>
         requires args { (alias self).args.number < size cx.old.rows ArgLists }
         requires self_ty { self_ty.number < size cx.old.rows Types }
@@ -114,8 +115,8 @@ pub trait InternedAlias: Sized {
         ensures { IsInTrait cx.now.rows (alias self).kind result };
 
     /// Returns whether the alias is a projection that has an argument for each parameter of its trait: the associated
-    /// type and the trait are declared in this interner, and the arguments are a list of it, with at most `u32::MAX`
-    /// items.
+    /// type and the trait are declared in this interner, and the arguments are one of its lists, with at most
+    /// `u32::MAX` items.
     fn has_trait_args(&self, cx: &Interner) -> bool
         ensures { IsTrue result ↔ HasTraitArgs cx.now.rows (alias self.now) };
 
@@ -173,7 +174,8 @@ fn first_args(alloc: Global, all: &[GenericArg], count: u32) -> Result<Vec<Gener
     Ok(items)
 }
 
-// Returns the trait that the alias's associated type is declared in, if it is a projection and declared.
+// Returns the trait that the alias's associated type is declared in, if the alias is a projection and the type is
+// declared.
 fn parent_of(cx: &Interner, kind: AliasTyKind) -> Option<TraitId>
     ensures { MatchOption result (HasTraitDefId cx.now.rows kind → ⊥) (λ parent. HasTraitDefId cx.now.rows kind
         × IsInTrait cx.now.rows kind parent) }
@@ -190,7 +192,7 @@ fn parent_of(cx: &Interner, kind: AliasTyKind) -> Option<TraitId>
     }
 }
 
-// Returns the number of the trait's parameters, if it is declared.
+// Returns the number of the trait's parameters, if the trait is declared.
 fn params_of(cx: &Interner, parent: TraitId) -> Option<u32>
     ensures { MatchOption result ((params : ℕ) → HasParams cx.now.rows parent params → ⊥) (λ params. HasParams
         cx.now.rows

@@ -56,7 +56,7 @@ pub(crate) trait ListItem: Copy + Drop {
         ensures { as_child result ≡ child.now };
 }
 
-/// The number of items of a list that are collected without allocation.
+/// The greatest number of items of a list that are collected without allocation.
 pub(crate) const MOST_IN_PLACE: usize = 8;
 
 /// An item of a list of one sort, with the calls that store such a list.
@@ -69,7 +69,8 @@ pub(crate) trait StoredItem: ListItem {
         requires few { length children.now ≤ most_in_place }
         ensures { StoresList result cx.old cx.new Self.sort children.now };
 
-    /// Returns the stored list of these items; a new list keeps the vector. The items have to be of the interner.
+    /// Returns the stored list of these items, which have to be of the interner. A new list keeps the vector, unless it
+    /// is a list of types.
     fn store(cx: &mut Interner, items: Vec<Self>) -> Result<List, Refusal>
         requires { AreParts (size cx.old.rows) (children_shapes (map Self.as_child items.items)) }
         ensures { StoresList result cx.old cx.new Self.sort (map Self.as_child items.items) };
@@ -256,7 +257,7 @@ impl StoredItem for Clause {
     ghost use Rattle.tt_kinds.specs.declared.parts.ListSort.TheVariants.{Clauses};
     ghost use Rattle.tt_interner.specs.Children.{clause_child};
 
-    // Children are predicates of any kind, so each is looked at.
+    // The children may be any predicates, so each is tested.
     fn store_few(cx: &mut Interner, children: &[Child]) -> Result<List, Refusal>
         requires parts { AreParts (size cx.old.rows) (children_shapes children.now) }
         requires fit { All (λ c. IsItem Clauses (child_sort c)) children.now }
@@ -330,7 +331,7 @@ impl StoredItem for GenericArg {
     }
 }
 
-// Writes the items that these children are to the first places.
+// Converts the children to items, and writes these to the first places.
 fn put_items<T: ListItem>(places: &mut [T], children: &[Child])
     requires fit { All (λ c. IsItem T.sort (child_sort c)) children.now }
     requires room { length children.now ≤ length places.old }
@@ -353,8 +354,8 @@ pub(crate) fn collect<T: ListItem>(alloc: Global, children: &[Child]) -> Result<
     Ok(items)
 }
 
-/// Returns the stored list of the items that these children are. More than [`MOST_IN_PLACE`] are collected in a vector,
-/// which a new list keeps, with one look-up.
+/// Returns the stored list of the items that these children are. More than [`MOST_IN_PLACE`] items are collected in a
+/// vector.
 pub(crate) fn store_items<T: StoredItem>(
     cx: &mut Interner,
     children: &[Child],

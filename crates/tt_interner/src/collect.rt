@@ -25,11 +25,11 @@ use std::alloc::Global;
 use std::mem::size_of_val;
 use tt_index::Refusal;
 
-// The size in bytes up to which [`MOST_IN_PLACE`] values fit into memory side by side.
+// The size of a value, in bytes, up to which [`MOST_IN_PLACE`] values fit into memory side by side.
 const MOST_BYTES: usize = isize::MAX as usize / MOST_IN_PLACE;
 
-// Puts items into the places until these are full or no item is left. Returns how many places are filled, and the item
-// after the last place, if there is one.
+// Puts items into the places until these are full or no item is left. Returns how many places are filled, and the first
+// item that found no place, if there is one.
 pub(crate) fn fill<T: Copy + Drop, I: Iterator<Item = T>>(
     places: &mut [T],
     iter: &mut I,
@@ -73,8 +73,8 @@ pub(crate) fn collected<T: Copy + Drop, I: Iterator<Item = T> + Drop>(
 /// closure has to accept its items.
 ///
 /// Up to eight items are collected without allocation. Refused with `Memory` if there are more and the memory for them
-/// is refused, and then the closure isn't called. An item so large that eight of them don't fit into memory needs an
-/// allocation too; the Rust compiler accepts no type of that size in an array.
+/// is refused; then the closure isn't called. Items so large that eight of them don't fit into memory need an
+/// allocation too, but the Rust compiler accepts no array of such items.
 pub fn collect_and_apply<T: Drop, R, I: Iterator<Item = T> + Drop, F: FnOnce(&[T]) -> R + Drop>(
     alloc: Global,
     iter: I,
@@ -91,11 +91,11 @@ pub fn collect_and_apply<T: Drop, R, I: Iterator<Item = T> + Drop, F: FnOnce(&[T
 }
 
 /// Returns the closure's answer to the slice of all values of the iterator, in order, or the first error among its
-/// items; the closure isn't called at an error, and no item after it is taken. The iterator has to end, and the closure
+/// items. At an error the closure isn't called, and no later item is taken. The iterator has to end, and the closure
 /// has to accept its values.
 ///
-/// Up to eight values are collected without allocation. Refused with what the error type makes of `Memory` if there are
-/// more and the memory for them is refused, as by [`collect_and_apply`].
+/// Up to eight values are collected without allocation. If there are more and the memory for them is refused, returns
+/// the error that `E` makes of `Memory`. Large values are treated as by [`collect_and_apply`].
 pub fn try_collect_and_apply<
     T: Drop,
     E: From<Refusal>,
@@ -115,8 +115,8 @@ pub fn try_collect_and_apply<
     let Some(t0) = next_value(&mut iter)? else {
         return Ok(f(&[]));
     };
-    // Never true of a type that the Rust compiler accepts, and known when it compiles. It tells the proof that an array
-    // of the values fits into memory.
+    // The Rust compiler accepts no values of such a size in an array, and decides this test when it compiles. The proof
+    // learns from the test that an array of the values fits into memory.
     if size_of_val(&t0) > MOST_BYTES {
         return apply_all(Vec::new(alloc), t0, iter, f);
     }

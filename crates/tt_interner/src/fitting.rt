@@ -1,22 +1,23 @@
-//! Laws of which values of an interner fit, which exclude a refusal with the greatest index.
+//! Laws by which an interner's values fit, so that a caller can exclude the refusal `GreatestIndex`.
 
 ghost use Rattle.tt_interner.specs.Fitting.{StoredIndicesFit, StoredFit, FewRowsFit};
 
 /// Does nothing. The contract gives callers the fact that each index in the tree of an interner's value is below the
-/// greatest. Only a value that has regions or indices of its own, beside its handles, has to have them in range.
+/// greatest, if the indices that the value has beside its handles are. Handles have none, but a region may have one.
 pub fn stored_indices_fit()
     ensures { StoredIndicesFit }
 {}
 
-/// Does nothing. The contract gives callers the fact that an interner's value fits if no more binders than the greatest
-/// index counts are nested in it.
+/// Does nothing. The contract gives callers the fact that an interner's value fits, if the indices that it has beside
+/// its handles are below the greatest and no more binders than the greatest index counts are nested in it.
 pub fn stored_values_fit()
     ensures { StoredFit }
 {}
 
-/// Does nothing. The contract gives callers the fact that an interner whose tables have few rows nests few binders: at
-/// most three times as many as a table may have rows. [`Interner::are_rows`](crate::Interner::are_rows) says that no
-/// table has more rows than the limit.
+/// Does nothing. The contract gives callers the fact that a value's binders aren't nested too deep if three times the
+/// limit of rows, with the value's own binders and those around it, is at most the greatest index.
+/// [`Interner::are_rows`](crate::Interner::are_rows) says that no table has more rows than the limit. The limit of
+/// [`Interner::new`](crate::Interner::new) is too great for this law.
 pub fn few_rows_fit()
     ensures { FewRowsFit }
 {}

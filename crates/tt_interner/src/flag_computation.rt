@@ -53,7 +53,9 @@ use tt_kinds::{
     Parts, PredicateKind, Region, TyKind,
 };
 
-/// Computes the information of terms that aren't stored yet. Every handle and name in them has to be the interner's.
+/// Computes the information of terms that aren't stored yet. Every handle and name in them has to be the interner's;
+/// [`Interner::owns_kind`], [`Interner::owns_const_kind`], [`Interner::owns_predicate_kind`] and
+/// [`Interner::are_clauses`] test it.
 pub trait ForKind {
     /// Returns the flags and the outer exclusive binder of a type of this kind. The outer exclusive binder of a bound
     /// variable with the greatest index is that index, since there is none above it.
@@ -64,7 +66,8 @@ pub trait ForKind {
             → IsInfo result (fill (meaning cx.now.rows) (ty_kind_shape kind.now)) }
         ensures deepest { IsTooDeep (ty_kind_shape kind.now) → result.outer_exclusive_binder ≡ greatest };
 
-    /// Returns the flags and the outer exclusive binder of a constant of this kind.
+    /// Returns the flags and the outer exclusive binder of a constant of this kind. A bound variable with the greatest
+    /// index is treated as by [`ForKind::for_kind`].
     fn for_const_kind(cx: &Interner, kind: &ConstKind) -> FlagComputation
         requires { HasParts (size cx.now.rows) (const_kind_shape kind.now) }
         ensures flags { result.flags.bits ≡ scan (fill (meaning cx.now.rows) (const_kind_shape kind.now)) }
@@ -141,7 +144,7 @@ pub(crate) fn ty_kind_info(cx: &Interner, kind: &TyKind) -> FlagComputation
     contents_info(cx, own, kind.bound_vars(), &kind.parts())
 }
 
-// Returns the information of a term with this information of its own, of its parts and of their binder.
+// Returns the information of a term, from its own information, its parts and their binder.
 #[inline(always)]
 fn contents_info(
     cx: &Interner,
@@ -161,7 +164,7 @@ fn contents_info(
 {
     cx.are_rows();
     let inside = parts_info(cx, parts);
-    // A region's index is below the greatest, since the number that the parts reach is an index too.
+    // The parts' outer exclusive binder is an index, so at most the greatest, and each region's index is below it.
     let _fits = inside.outer_exclusive_binder.as_u32();
     match bound_vars {
         Some(vars) => own.joined(inside.under_binder(cx.info(vars).flags)),

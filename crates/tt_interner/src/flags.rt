@@ -19,7 +19,7 @@ use tt_kinds::handle::{
 use tt_kinds::{GenericArg, GenericArgKind, Handle, IsStored, OutlivesPredicate, Region};
 
 /// A value whose flags and outer exclusive binder are known without a walk. Every handle and name in it has to be the
-/// interner's.
+/// interner's; [`Interner::owns_ty`], [`Interner::owns_arg`] and the other tests by name test it.
 pub trait Flags {
     // The contents of the value.
     ghost flags_shape: { Self → Shape };

@@ -1,5 +1,6 @@
-//! Access to the rows that handles name. A handle has to be of the interner: [`Interner::owns_ty`],
-//! [`Interner::owns_clause`] and the other tests by name test it, and [`Interner::owns`] does in generic code.
+//! Access to the rows that handles name. A handle has to be of the interner. [`Interner::owns_ty`],
+//! [`Interner::owns_clause`] and the other tests by name test it, and [`Interner::owns`] in generic code. A handle from
+//! `Ty::default` or `Handle::from_number` may name no row.
 
 ghost use Rattle.std.specs.Prelude.{◌≡◌, ◌<◌, ℕ, List, MatchOption};
 ghost use Rattle.tt_kinds.specs.declared.table.Table.{Table};
@@ -24,7 +25,8 @@ pub trait InternedKind: Sized {
     // The row of a kind.
     ghost row_of: { Self.Kind → Row };
 
-    /// Returns the term's kind, borrowed from the interner. The handles in it are this interner's too.
+    /// Returns the term's kind, borrowed from the interner. The handle has to be of this interner; [`Interner::owns`]
+    /// tests it. The handles in the kind are this interner's too.
     fn kind<'a>(self, cx: &'a Interner) -> &'a Self::Kind
         requires { handle_number self < size cx.now.rows handle_table }
         ensures { Reads cx.now.rows handle_table (handle_number self) (row_of result.now) };
@@ -42,7 +44,8 @@ pub trait InternedList: Sized {
     // The row of a list.
     ghost row_of_items: { List Self.Item → Row };
 
-    /// Returns the items in order, borrowed from the interner. The handles in them are this interner's too.
+    /// Returns the items in order, borrowed from the interner. The handle has to be of this interner;
+    /// [`Interner::owns`] tests it. The handles in the items are this interner's too.
     fn as_slice<'a>(self, cx: &'a Interner) -> &'a [Self::Item]
         requires { list_number self < size cx.now.rows list_table }
         ensures { Reads cx.now.rows list_table (list_number self) (row_of_items result.now) };
@@ -53,22 +56,24 @@ pub trait AsPredicate: Sized {
     // The number of the handle.
     ghost clause_number: { Self → ℕ };
 
-    /// Returns the predicate that the clause is.
+    /// Returns the clause as a predicate.
     fn as_predicate(self) -> Predicate
         ensures { result.number ≡ clause_number self };
 
-    /// Returns the clause's kind, under its binder. The handles in it are this interner's too.
+    /// Returns the clause's kind, under its binder. The clause has to be of this interner; [`Interner::owns_clause`]
+    /// tests it. The handles in the kind are this interner's too.
     fn kind(self, cx: &Interner) -> Binder<ClauseKind>
         requires { IsClause cx.now.rows (clause_number self) }
         ensures { Reads cx.now.rows Predicates (clause_number self) (predicate_row (clause_predicate result)) };
 }
 
-/// A predicate, which may be a clause. It has to be of the interner.
+/// A predicate, which may be a clause.
 pub trait AsClause: Sized {
     // The number of the handle.
     ghost predicate_number: { Self → ℕ };
 
-    /// Returns the clause, or `None` if the predicate is not a clause.
+    /// Returns the predicate as a clause, or `None` if it isn't one. The predicate has to be of this interner;
+    /// [`Interner::owns_predicate`] tests it.
     fn as_clause(self, cx: &Interner) -> Option<Clause>
         requires { predicate_number self < size cx.now.rows Predicates }
         ensures { MatchOption result (IsClause cx.now.rows (predicate_number self) → ⊥) (λ clause. (clause.number
@@ -94,7 +99,8 @@ pub trait InternedText: Sized {
     // The number of the handle.
     ghost text_number: { Self → ℕ };
 
-    /// Returns the text, borrowed from the interner.
+    /// Returns the text, borrowed from the interner. The handle has to be of this interner; [`Interner::owns_symbol`]
+    /// tests it.
     fn as_str<'a>(self, cx: &'a Interner) -> &'a str
         requires { text_number self < size cx.now.rows Symbols }
         ensures { IsAt cx.now.rows (text_row result.now) (text_number self) };

@@ -64,11 +64,11 @@ pub struct Interner {
     symbols: IndexMap<String, ()>,
     // an id's number is its declaration's place
     declarations: Vec<Declaration>,
-    // the variants of each data type that has some
+    // the variants of each defined data type
     definitions: IndexMap<AdtId, Vec<VariantDef>>,
-    // the table of each row, in the order in which rows came
+    // the table of each row, in the order in which rows were added
     order: Vec<Table>,
-    // a list of types that is too long for a key in place, while it is looked up
+    // a copy of a list of types that is looked up and is too long for a key in place
     long_list: TyList,
     limit: u32,
     descents: u64,
@@ -88,8 +88,8 @@ impl Model for Interner {
 }
 
 impl Interner {
-    /// Returns an interner with the empty lists and the symbol `'_`, whose tables may have as many rows as handles can
-    /// name.
+    /// Creates an interner with the empty lists and the symbol `'_`, whose tables may have at most [`GREATEST_INDEX`]
+    /// rows each. Refused with `Memory` alone.
     pub fn new(alloc: Global) -> Result<Interner, Refusal>
         ensures rows { IfOk result (λ cx. cx.rows ≡ first_rows) }
         ensures limit { IfOk result (λ cx. cx.limit ≡ greatest) }
@@ -99,8 +99,11 @@ impl Interner {
         Interner::with_limit(alloc, GREATEST_INDEX)
     }
 
-    /// Returns an interner with the empty lists and the symbol `'_`, with at most `limit` rows in a table. A limit of 0
-    /// is refused with `TableFull`: it leaves no room for these first rows.
+    /// Creates an interner with the empty lists and the symbol `'_`, whose tables may have at most `limit` rows each. A
+    /// limit above [`GREATEST_INDEX`] counts as [`GREATEST_INDEX`].
+    ///
+    /// A limit of 0 is refused with `TableFull`, since it leaves no room for these first rows. Any other limit is
+    /// refused with `Memory` alone.
     pub fn with_limit(alloc: Global, limit: u32) -> Result<Interner, Refusal>
         ensures rows { IfOk result (λ cx. cx.rows ≡ first_rows) }
         ensures limit { IfOk result (λ cx. cx.limit ≡ min limit greatest) }
@@ -140,8 +143,8 @@ impl Interner {
         })
     }
 
-    /// Does nothing. The contract gives callers the facts that hold for all rows. No table has more rows than
-    /// [`Interner::limit`].
+    /// Does nothing. The contract gives callers the facts that hold for all rows. One of them is that no table has more
+    /// rows than [`Interner::limit`].
     pub fn are_rows(&self)
         ensures are { AreRows self.now.rows }
         ensures first { HasFirst self.now.rows }
@@ -158,7 +161,7 @@ impl Interner {
         self.are_rows();
     }
 
-    /// Returns how many rows each table may have at most.
+    /// Returns the greatest number of rows that a table may have.
     pub fn limit(&self) -> u32
         ensures { result ≡ self.now.limit }
     {
@@ -170,14 +173,14 @@ impl Interner {
         *self.types.allocator()
     }
 
-    /// Returns how often an argument folder has taken a type apart. The count saturates at its greatest number.
+    /// Returns how often an argument folder has taken a type apart. The count stops at `u64::MAX`.
     pub fn descents(&self) -> u64
         ensures { result ≡ self.now.counters.descents }
     {
         self.descents
     }
 
-    /// Returns how often a shifter has taken a type apart. The count saturates at its greatest number.
+    /// Returns how often a shifter has taken a type apart. The count stops at `u64::MAX`.
     pub fn shift_descents(&self) -> u64
         ensures { result ≡ self.now.counters.shift_descents }
     {

@@ -9,7 +9,7 @@ ghost use Rattle.tt_interner.specs.Laws.{
   KeepsDefinitions,
 };
 
-/// Two handles of one table have equal trees exactly when they are equal.
+/// Two handles of one table are equal exactly when their trees are.
 pub fn equal_handles_for_equal_trees()
     ensures { EqualTrees }
 {}
@@ -34,7 +34,7 @@ pub fn growth_keeps_definitions()
     ensures { KeepsDefinitions }
 {}
 
-/// The arguments of an alias's trait reference, and then the alias's own arguments, are all of the alias's arguments:
+/// The arguments of an alias's trait reference, followed by the alias's own arguments, are the alias's arguments,
 /// whenever [`InternedAlias::trait_ref_and_own_args`](crate::InternedAlias::trait_ref_and_own_args) is not refused.
 pub fn alias_args_are_joined()
     ensures { JoinsTraitArgs }

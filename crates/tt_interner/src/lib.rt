@@ -1,10 +1,12 @@
-//! The interner: each type, list and text is stored once, together with its flags.
+//! The interner, which stores each term, list and text once, and caches the flags and outer exclusive binders of terms
+//! and lists.
 #![tactic(auto)]
 
 mod alias;
 mod children;
 mod collect;
 pub mod env;
+mod equality;
 mod fitting;
 pub mod flag_computation;
 pub mod flags;
@@ -19,6 +21,7 @@ pub mod ty_info;
 pub use alias::InternedAlias;
 pub use collect::{collect_and_apply, try_collect_and_apply};
 pub use env::{ConstBounds, ConstTyFault, FindConstTy};
+pub use equality::equal_contents_are_same;
 pub use fitting::{few_rows_fit, stored_indices_fit, stored_values_fit};
 pub use flag_computation::ForKind;
 pub use flags::Flags;

@@ -73,8 +73,8 @@ pub struct Contents {
 }
 
 impl Interner {
-    /// Returns a stored term's kind. The term has to be of this interner and not a list of clauses, whose items
-    /// [`Interner::list_child`] reads.
+    /// Returns a stored term's kind. The term has to be of this interner, which [`Interner::owns_node`] tests, and not
+    /// a list of clauses, whose items [`Interner::list_child`] reads.
     #[inline(always)]
     pub fn node_kind(&self, node: Node) -> Kind
         requires owned { node_number node < size self.now.rows (node_table node) }
@@ -173,7 +173,8 @@ impl Interner {
         }
     }
 
-    /// Returns the number of children of a stored list. The list has to be of this interner.
+    /// Returns the number of children of a stored list. The list has to be of this interner; [`Interner::owns_list`]
+    /// tests it.
     #[inline(always)]
     pub fn list_len(&self, list: List) -> usize
         requires { list_number list < size self.now.rows (list_table list) }
@@ -207,8 +208,8 @@ impl Interner {
         }
     }
 
-    /// Returns the child at this place of a stored list. The list has to be of this interner, and `index` below its
-    /// [`Interner::list_len`].
+    /// Returns the child at this place of a stored list. The list has to be of this interner, which
+    /// [`Interner::owns_list`] tests, and `index` below its [`Interner::list_len`].
     #[inline(always)]
     pub fn list_child(&self, list: List, index: usize) -> Child
         requires owned { list_number list < size self.now.rows (list_table list) }
@@ -228,8 +229,8 @@ impl Interner {
         }
     }
 
-    /// Returns the stored term of this kind. Every handle and name in the kind has to be this interner's. Refused as
-    /// [`Interner::mk_ty`] is.
+    /// Returns the stored term of this kind. Every handle and name in the kind has to be this interner's;
+    /// [`Interner::owns_kind`] and the tests of the other kinds test it. Refused as [`Interner::mk_ty`] is.
     #[inline(always)]
     pub fn store(&mut self, kind: Kind) -> Result<Node, Refusal>
         requires { HasParts (size self.old.rows) (kind_shape kind) }
@@ -245,9 +246,10 @@ impl Interner {
         }
     }
 
-    /// Returns the stored term like this one, with other children in the places of its own. They have to be of this
-    /// interner, and of the same sorts; [`Parts::are_like`] tests the sorts. [`Interner::node_kind`] states the
-    /// conditions on the term. Refused as [`Interner::mk_ty`] is.
+    /// Returns the stored term that has these children in the places of the term's own, and is otherwise like it. The
+    /// children have to be of this interner, which [`Interner::owns_child`] tests, and of the same sorts, which
+    /// [`Parts::are_like`] tests. [`Interner::node_kind`] states the conditions on the term. Refused as
+    /// [`Interner::mk_ty`] is.
     #[inline(always)]
     pub fn store_like(&mut self, node: Node, parts: Parts) -> Result<Node, Refusal>
         requires owned { node_number node < size self.old.rows (node_table node) }
@@ -266,7 +268,7 @@ impl Interner {
         }
     }
 
-    // Stores the term in the table of `node`, which may be any.
+    // Returns the same as [`Interner::store_like`], for a term of any table.
     #[inline(never)]
     fn store_any_like(&mut self, node: Node, parts: Parts) -> Result<Node, Refusal>
         requires owned { node_number node < size self.old.rows (node_table node) }
@@ -280,10 +282,10 @@ impl Interner {
         self.store(kind)
     }
 
-    /// Returns the stored list of these children. They have to be of this interner, and of the sort of the list's
-    /// items. Refused as [`Interner::mk_tys`] is, and with `NotAClause` if a child in a list of clauses is not a
-    /// clause. More than eight children are collected in a vector before the list is looked up, so `Memory` is possible
-    /// even for a list that is stored already.
+    /// Returns the stored list of these children. They have to be of this interner, which [`Interner::owns_child`]
+    /// tests, and of the sort of the list's items. Refused as [`Interner::mk_tys`] is, and with `NotAClause` if a child
+    /// in a list of clauses is not a clause. More than eight children are collected in a vector before the list is
+    /// looked up, so `Memory` is possible even for a list that is stored already.
     pub fn store_list(&mut self, sort: ListSort, items: &[Child]) -> Result<List, Refusal>
         requires parts { AreParts (size self.old.rows) (children_shapes items.now) }
         requires fit { All (λ c. IsItem sort (child_sort c)) items.now }

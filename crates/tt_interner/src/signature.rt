@@ -49,7 +49,7 @@ fn output_of(cx: &Interner, inputs: FnInputTys) -> Ty
     }
 }
 
-// Returns whether the view's list is of this interner and has one more type than the index and those before it.
+// Returns whether the view's list is of this interner and has a type at the index, which is not the last.
 fn has_input_at(cx: &Interner, inputs: FnInputTys, index: usize) -> bool
     ensures { IsTrue result ↔ HasInput cx.now.rows inputs index }
 {

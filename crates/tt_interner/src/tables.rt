@@ -34,14 +34,14 @@ use tt_flags::FlagComputation;
 use tt_index::Refusal;
 use tt_kinds::{Table, Ty};
 
-// The number of types of a short list, which are kept in the list's row.
+// The greatest number of types of a short list, which its row keeps in place.
 const MOST_IN_ROW: usize = 4;
 
 /// The types of a list. Up to four of them are kept in place, so a short list takes no memory of its own.
 pub(crate) type TyList = SmallVec<Ty, MOST_IN_ROW>;
 
-/// Adds a new entry to a table that has less than `limit` entries, records the table in the order, and returns the
-/// entry's number. If refused, it changes neither.
+/// Adds a new entry to a table that has fewer than `limit` entries, records the table in the order, and returns the
+/// entry's number. A refused call changes neither the table nor the order.
 pub(crate) fn add<K: Eq + Hash + Drop, V: Drop>(
     order: &mut Vec<Table>,
     limit: u32,
@@ -81,8 +81,9 @@ pub(crate) fn add<K: Eq + Hash + Drop, V: Drop>(
     }
 }
 
-/// Finds a key in a table that has at most `limit` entries, or adds it as `add` does, with one look-up if there is
-/// room, and returns the entry's number. A key that is there has the same information, and is found without growth.
+/// Finds a key in a table that has at most `limit` entries, or adds it as `add` does, and returns the entry's number.
+/// If there is room, this takes one look-up. A key that is there has to have the same information, and is found without
+/// growth.
 pub(crate) fn find_or_insert<K: Eq + Hash + Drop>(
     order: &mut Vec<Table>,
     limit: u32,
@@ -116,7 +117,7 @@ pub(crate) fn find_or_insert<K: Eq + Hash + Drop>(
     if entries.len() >= limit as usize {
         return find_or(entries, &key, Refusal::TableFull);
     }
-    // A key that is there takes no room, so it is looked up first if there is none to spare.
+    // A key that is there needs no room in the order, so it is looked up before the order grows.
     if order.len() >= order.capacity() {
         match find_or(entries, &key, Refusal::Memory) {
             Ok(number) => return Ok(number),
@@ -140,7 +141,7 @@ pub(crate) fn find_or_insert<K: Eq + Hash + Drop>(
     }
 }
 
-/// Finds or adds a kind in a table of kinds, as `find_or_insert`.
+/// Finds or adds a kind in a table of kinds, as `find_or_insert` does.
 #[inline(always)]
 pub(crate) fn find_or_add<K: Copy + Eq + Hash + Drop>(
     order: &mut Vec<Table>,
@@ -193,7 +194,7 @@ fn find_or<K: Eq + Hash + Drop>(
     }
 }
 
-/// Adds a new list to a table of lists, as `add`.
+/// Adds a new list to a table of lists, as `add` does.
 pub(crate) fn add_list<T: Copy + Eq + Hash + Drop>(
     order: &mut Vec<Table>,
     limit: u32,
@@ -263,7 +264,7 @@ pub(crate) fn find_or_add_list<T: Copy + Eq + Hash + Drop>(
 }
 
 /// Finds a list of types, or adds it as `find_or_add_list` does. A short list is found or added with one look-up. A
-/// longer one is looked up by a copy in `spare`. That keeps its room from call to call, so a list that is there is found
+/// longer one is looked up by a copy in `spare`, whose room is kept from call to call, so a list that is there is found
 /// without allocation.
 pub(crate) fn find_or_add_tys(
     order: &mut Vec<Table>,
@@ -308,7 +309,7 @@ pub(crate) fn find_or_add_tys(
     find_or_insert(order, limit, table, entries, key, info)
 }
 
-// Returns the key of a short list. It takes no memory of its own.
+// Returns the key of a short list, which takes no memory of its own.
 #[inline(always)]
 fn short_key(alloc: Global, items: &[Ty]) -> TyList
     requires { length items.now ≤ 4 }
@@ -321,7 +322,7 @@ fn short_key(alloc: Global, items: &[Ty]) -> TyList
     key
 }
 
-// Adds a new list of types, as `add`.
+// Adds a new list of types, as `add` does.
 fn add_tys(
     order: &mut Vec<Table>,
     limit: u32,
@@ -353,7 +354,8 @@ fn add_tys(
     }
 }
 
-// Returns the number of a list if it is there, found by a copy, or without one if there is no memory for it.
+// Returns the number of a list, if it is there. The list is looked up by a copy, or without one if there is no memory
+// for the copy.
 fn find_long(
     entries: &IndexMap<TyList, FlagComputation>,
     spare: &mut TyList,
@@ -369,7 +371,7 @@ fn find_long(
     }
 }
 
-// Returns the number of a list if it is there, found without a key.
+// Returns the number of a list, if it is there, by a comparison with each key in turn.
 #[cold]
 #[inline(never)]
 fn find_in_turn<T: Eq + Hash>(
@@ -386,7 +388,7 @@ fn find_in_turn<T: Eq + Hash>(
     )
 }
 
-/// Adds a new text to the table of texts, as `add`.
+/// Adds a new text to the table of texts, as `add` does.
 pub(crate) fn add_text(
     order: &mut Vec<Table>,
     limit: u32,
@@ -417,7 +419,7 @@ pub(crate) fn add_text(
     }
 }
 
-/// Returns a table of the empty list alone.
+/// Returns a table of the empty list alone, and records it in the order.
 pub(crate) fn first_list<T: Copy + Eq + Hash + Drop>(
     alloc: Global,
     order: &mut Vec<Table>,
@@ -435,7 +437,7 @@ pub(crate) fn first_list<T: Copy + Eq + Hash + Drop>(
     }
 }
 
-/// Returns a table of the empty list of types alone, as `first_list`.
+/// Returns a table of the empty list of types alone, as `first_list` does.
 pub(crate) fn first_ty_list(
     alloc: Global,
     order: &mut Vec<Table>,
@@ -459,7 +461,7 @@ pub(crate) fn first_ty_list(
     }
 }
 
-/// Returns the table of the text `'_` alone.
+/// Returns the table of the text `'_` alone, and records it in the order.
 pub(crate) fn first_text(
     alloc: Global,
     order: &mut Vec<Table>,

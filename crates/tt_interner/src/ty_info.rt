@@ -11,8 +11,8 @@ use std::ops::Deref;
 use tt_flags::TypeFlags;
 use tt_index::DebruijnIndex;
 
-/// A value with its flags and its outer exclusive binder. Equality, order and hash use the value alone, since equal
-/// values have equal flags.
+/// A value with its flags and its outer exclusive binder. Equality, order and hash use the value alone, so equal values
+/// should have equal information.
 #[derive(Clone, Copy, Debug)]
 pub struct WithCachedTypeInfo<T> {
     /// The value.

@@ -23,7 +23,7 @@ first_comes : GivesUnderBinder gives_list (under 3 (7 ∷ 8 ∷ [])) (Some (item
     × GivesUnderBinder gives_list (under 3 []) None (under 3 [])
 first_comes = ((refl, refl, refl), ((refl, refl), refl, tt))
 
--- it comes under no other variables, and these don't change
+-- an item comes under no other variables than the iterator's, and these don't change
 variables_stay : (GivesUnderBinder gives_list (under 3 (7 ∷ [])) (Some (item_under 4 7)) (under 3 []) → ⊥)
     × (GivesUnderBinder gives_list (under 3 (7 ∷ [])) (Some (item_under 3 7)) (under 4 []) → ⊥)
 variables_stay = (λ h. differ (ap (λ vars. vars.number) h.2), λ h. differ (ap (λ vars. vars.number) h.1)) where
@@ -41,7 +41,7 @@ Copies pairs n rest =
     GivesCopied {A = ℕ × ℕ} gives_list (λ pair second. second ≡ pair.1)
     (record { it = pairs }) (option_map (λ second. record { value = second }) n) (record { it = rest })
 
--- that number comes, and not the first one
+-- of a pair the number comes that the pair dereferences to, and not the other one
 copied_come : Copies ((6, 7) ∷ []) (Some 7) [] × (Copies ((6, 7) ∷ []) (Some 6) [] → ⊥)
 copied_come = (((6, 7), refl, refl), λ h. refused h.0 h.1 h.2) where
   refused : (pair : ℕ × ℕ) → ◌≡◌ {A = List (ℕ × ℕ)} ((6, 7) ∷ []) (pair ∷ []) → 6 ≡ pair.1 → ⊥

@@ -143,7 +143,7 @@ a_const = record { var = 1 }
 abbrev pub placeholder : {T : Type 0} → T → Placeholder T
 placeholder x = record { universe = 3; bound = x }
 
--- types without children
+-- types without children: the flags that each has by itself
 type_leaves : Agree kind.Ty (
     (ty.Bool, plain no_parts)
     ∷ (ty.Char, plain no_parts)
@@ -165,14 +165,14 @@ type_leaves : Agree kind.Ty (
     ∷ [])
 type_leaves = refl
 
--- a bound type reaches one binder further than its index, and a canonical one has a flag more
+-- a bound type reaches one binder further than its index, and a canonical one has a flag more and points to no binder
 bound_types : Agree kind.Ty (
     (ty.Bound (Bound 2) a_type, (0x80000, 3, None, no_parts))
     ∷ (ty.Bound Canonical a_type, flagged 0x4080000)
     ∷ [])
 bound_types = refl
 
--- types with children
+-- types with children, in order: of these a coroutine alone has a flag of its own
 type_nodes : Agree kind.Ty (
     (ty.Adt (id_of 0) args, plain (one_part the_args))
     ∷ (ty.FnDef (id_of 0) args, plain (one_part the_args))
@@ -190,10 +190,11 @@ type_nodes : Agree kind.Ty (
     ∷ [])
 type_nodes = refl
 
--- aliases, each of which has a flag of its own
+-- an alias of this kind
 abbrev pub alias_of : AliasTyKind → TyKind
 alias_of k = ty.Alias (record { args = args; kind = k })
 
+-- each kind of alias has a flag of its own
 alias_nodes : Agree kind.Ty (
     (alias_of (alias.Projection (id_of 0)), around 0x400 (one_part the_args))
     ∷ (alias_of (alias.Free (id_of 0)), around 0x800 (one_part the_args))
@@ -202,7 +203,7 @@ alias_nodes : Agree kind.Ty (
     ∷ [])
 alias_nodes = refl
 
--- types with a binder
+-- pointers to functions and unsafe binders have their children under their binder
 type_binders : Agree kind.Ty (
     (ty.FnPtr (bound (record { inputs_and_output = tys })) (record { fn_sig_kind = record { flags = 0; splat = 65535 } }), under vars (one_part the_tys))
     ∷ (ty.UnsafeBinder (record { 0 = bound t }), under vars (one_part (the_type t)))
@@ -213,7 +214,7 @@ type_binders = refl
 abbrev pub value_of : ValTreeKind → ConstKind
 value_of k = const.Value (record { ty = t; valtree = record { kind = k } })
 
--- constants
+-- each kind of constant: its own flags, how far it reaches by itself, and its children
 const_kinds : Agree kind.Const (
     (const.Param (record { index = 0; name = handle 0 }), flagged 0x4)
     ∷ (const.Infer (infer_const.Var 0), flagged 0x20)
@@ -229,7 +230,7 @@ const_kinds : Agree kind.Const (
     ∷ [])
 const_kinds = refl
 
--- patterns
+-- patterns have no flag of their own: their children in order
 pattern_kinds : Agree kind.Pat (
     (pattern.Range c d, plain (two_parts (the_const c) (the_const d)))
     ∷ (pattern.Or pats, plain (one_part (child.List (list.Pats pats))))
@@ -269,7 +270,7 @@ clause_kinds : Agree of_clause (
     ∷ [])
 clause_kinds = refl
 
--- predicates that are no clauses
+-- predicates that are no clauses have their children under the binder too, and no flag of their own
 predicate_kinds : Agree of_predicate (
     (predicate.DynCompatible (id_of 0), under vars no_parts)
     ∷ (predicate.Ambiguous, under vars no_parts)
@@ -281,7 +282,7 @@ predicate_kinds : Agree of_predicate (
     ∷ [])
 predicate_kinds = refl
 
--- existential predicates
+-- existential predicates have their children under their own binder, and no flag of their own
 existential_kinds : Agree of_existential (
     (existential.Trait (record { def_id = id_of 0; args = args }), under vars (one_part the_args))
     ∷ (existential.Projection (record { def_id = record { number = 0 }; args = args; term = type_term t }), under vars (two_parts the_args (the_type t)))

@@ -122,7 +122,7 @@ AreRows of_table = Agree (λ k. kind_shape (of_table k))
 abbrev a_region : BoundRegion
 a_region = record { var = 0; kind = bound_region.Anon }
 
--- regions
+-- the flags of each kind of region, and how far it reaches
 regions : Agree region_shape (
     (ReEarlyParam (record { index = 0; name = handle 0 }), 0x20202, 0)
     ∷ (ReBound (Bound 4) a_region, 0x40000, 5)
@@ -137,7 +137,7 @@ regions : Agree region_shape (
 unfolding fill
 regions = refl
 
--- the parameter, and bound types and constants
+-- a type and a constant that are parameters, bound, or canonical: their flags, and how far they reach
 leaves : (AreRows kind.Ty (
     (ty.Param (record { index = 0; name = handle 0 }), 0x1, 0)
     ∷ (ty.Bound (Bound 2) a_type, 0x80000, 3)
@@ -161,7 +161,7 @@ no_vars = handle 1
 abbrev under_none : {T : Type 0} → T → Binder T
 under_none x = record { value = x; bound_vars = no_vars }
 
--- types with their contents
+-- types with their contents: their flags, and how far they reach
 types : AreRows kind.Ty (
     (ty.Adt (id_of 0) args, 0x40008, 7)
     ∷ (ty.FnDef (id_of 0) args, 0x40008, 7)
@@ -233,11 +233,12 @@ predicates : AreRows of_predicate (
 unfolding fill
 predicates = refl
 
--- a predicate under a binder of no variables, and a list of clauses: the flags of all, and the greatest of their outer
--- binders
+-- a predicate under a binder of no variables
 abbrev unbound : PredicateKind → Kind
 unbound k = kind.Predicate (under_none k)
 
+-- under a binder of no variables there is no flag of a binder; a list of clauses has the flags of all, and the greatest
+-- of their outer binders
 clause_lists : (AreRows unbound ((predicate.Clause (clause.ConstEvaluatable c), 0x100000, 4) ∷ []))
     × (Agree clauses_row_shape ((handle 0 ∷ handle 1 ∷ [], 0x1100001, 4) ∷ []))
 unfolding fill

@@ -27,7 +27,7 @@ splat_said i j e =
     let headers : ◌≡◌ {A = FnHeader} (record { fn_sig_kind = packed Rust Safe false i }) (record { fn_sig_kind = packed Rust Safe false j }) = cc in
     ap (λ h. h.fn_sig_kind.splat) headers
 
--- with another one it is another pointer
+-- pointers that differ in the splatted argument alone are three
 splatted_differ : (splatted None ≢ splatted (Some 0)) × (splatted (Some 0) ≢ splatted (Some 65534)) × (splatted None ≢ splatted (Some 65534))
 splatted_differ = (λ e. differ (splat_said None (Some 0) e), λ e. differ' (splat_said (Some 0) (Some 65534) e), λ e. differ'' (splat_said None (Some 65534) e)) where
   differ : ◌≡◌ {A = ℕ} 65535 0 → ⊥
@@ -39,6 +39,6 @@ splatted_differ = (λ e. differ (splat_said None (Some 0) e), λ e. differ' (spl
   differ'' : ◌≡◌ {A = ℕ} 65535 65534 → ⊥
   differ'' e = omega arith
 
--- none of them has a flag
+-- a splatted argument adds no flag
 splatted_flags : (scan (splatted None) ≡ 0) × (scan (splatted (Some 0)) ≡ 0) × (scan (splatted (Some 65534)) ≡ 0)
 splatted_flags = (refl, refl, refl)

@@ -13,7 +13,7 @@ alias_sort (Inherent d) = sort.Inherent
 alias_sort (Opaque d) = sort.Opaque
 alias_sort (Free d) = sort.Free
 
--- what an alias is called in messages, in bytes
+-- the name of a kind of alias in messages, in bytes
 abbrev pub alias_name : AliasTyKind → List ℕ
 alias_name (Projection d) = codes "associated type"
 alias_name (Inherent d) = codes "inherent associated type"
@@ -27,7 +27,7 @@ alias_number (Inherent d) = d.number
 alias_number (Opaque d) = d.number
 alias_number (Free d) = d.number
 
--- the kind of alias that a declaration of this sort is, with its number, if it is an alias
+-- the kind of the alias whose declaration has this sort and number, if the sort is an alias's
 abbrev pub alias_of : DeclarationSort → ℕ → Option AliasTyKind
 alias_of sort.AssocTy number = Some (Projection (id_of number))
 alias_of sort.Inherent number = Some (Inherent (id_of number))

@@ -1,4 +1,4 @@
--- Kinds of types, constants and patterns that aren't stored, and tokens of errors by themselves.
+-- The shapes of kinds of types, constants and patterns that aren't stored, and of the tokens of errors.
 use Rattle.std.specs.Prelude.{ℕ, Option, Some, None}
 use Rattle.tt_kinds.specs.Label.{Sort, type_sort, const_sort, RecordLabel, bare_param_record, bare_bound_record}
 use Rattle.tt_kinds.specs.Label.{bare_type_record, bare_const_record, bare_pattern_record, record_label, error_label}
@@ -29,13 +29,13 @@ abbrev pub token_shapes : Option ℕ → Shapes
 token_shapes None = shape.none
 token_shapes (Some e) = shape.also (token_shape e) shape.none
 
--- the index of a variable, or None for a canonical one
+-- the index of a variable, or None for a canonical variable
 abbrev pub index_of : Depth → Option ℕ
 index_of (at d) = Some d
 index_of canonical = None
 
 module _ {L : Type 0} (s : Sort) (record_of : L → RecordLabel ℕ) (token_of : L → Option ℕ) where
-  -- a plain node: no parameter, no variable and no stored term; the token of its error, if any, comes first
+  -- the kind as a node: the label has a parameter or a variable as data, and the token of an error is the first child
   abbrev pub bare_shape : Form L → Shape
   bare_shape (param i name) = shape.node (record_label (bare_param_record s i name)) shape.none
   bare_shape (bound d e) = shape.node (record_label (bare_bound_record s (index_of d) e)) shape.none

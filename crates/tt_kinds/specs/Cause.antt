@@ -40,7 +40,7 @@ IsUntouched t = (holds_param t ≡ false) × HidesRegionVars t
 abbrev pub HasOtherSort : {I : Type 0} → List (Argument I) → Sort → ℕ → Type 0
 HasOtherSort args s i = IsSomeAnd (slice_get args i) (λ a. IsTrue (not (same_sort s a.sort)))
 
--- the refusal's reason is in the tree and the arguments
+-- the refusal's cause is in the tree and the arguments
 abbrev pub Cause : Tree Depth → List (Argument Depth) → Refusal → Type 0
 Cause t args NoArguments = (args ≡ []) × IsGeneric t
 Cause t args (ArgOutOfRange index) = (args ≢ []) × HasParam (λ s i. i ≡ index) t × (length args ≤ index)

@@ -1,4 +1,4 @@
--- The places of a tree that the walks have to take apart.
+-- The places of a tree with types that a walk has to enter.
 use Rattle.std.specs.Prelude.{ℕ, suc, List, [], ◌∷◌, ◌++◌, length, nat_lt, if◌then◌else◌, Bool, true, false, ◌&&◌}
 use Rattle.tt_kinds.specs.Label.{Sort, type_sort, is_type}
 use Rattle.tt_kinds.specs.Tree.{Depth, Tree, param, bound, region, term, node, binder, Forest, none, also}
@@ -10,12 +10,12 @@ pub record TypeAt : Type 0 where
   pub standing : Tree Depth
   pub under : ℕ
 
--- a tree under k binders, if the test is passed
+-- the tree under k binders if the test holds, and nothing otherwise
 abbrev pub type_if : Bool → Tree Depth → ℕ → List TypeAt
 type_if b t k = if b then record { standing = t; under = k } ∷ [] else []
 
 abbrev mutual
-  -- each place of a tree under k binders where a type occurs that holds a parameter and is none
+  -- each place, in a tree under k binders, of a type that holds a parameter but isn't a parameter itself
   pub generic_types : ℕ → Tree Depth → List TypeAt
   generic_types k (param s i name) = []
   generic_types k (bound s d e) = []
@@ -28,7 +28,7 @@ abbrev mutual
   generic_types_among k none = []
   generic_types_among k (also t ts) = generic_types k t ++ generic_types_among k ts
 
--- how many places there are
+-- how many places a tree has with types that hold a parameter but aren't parameters themselves
 abbrev pub place_count : Tree Depth → ℕ
 place_count t = length (generic_types 0 t)
 
@@ -38,7 +38,7 @@ is_type_sort type_sort = true
 is_type_sort _ = false
 
 abbrev mutual
-  -- each place of a tree under k binders where a type occurs that has a variable still to be shifted there
+  -- each place, in a tree under k binders, of a type with a variable bound outside of all binders above the type
   pub moving_types : ℕ → Tree Depth → List TypeAt
   moving_types k (param s i name) = []
   moving_types k (bound s d e) = type_if (is_type_sort s && nat_lt k (outer_binder (bound s d e))) (bound s d e) k

@@ -7,7 +7,7 @@ use Rattle.tt_kinds.specs.Argument.{Argument, put, readings}
 use Rattle.tt_kinds.specs.Range.{IndicesFit}
 
 abbrev mutual
-  -- under k binders no more binders than the greatest index counts are nested
+  -- above each binder of the tree, which is under k binders, there are fewer binders than the greatest index
   pub BindersFit : ℕ → Tree Depth → Type 0
   BindersFit k (param s i name) = ⊤
   BindersFit k (bound s d e) = ⊤
@@ -24,22 +24,22 @@ abbrev mutual
 abbrev pub TreesFit : Type 0
 TreesFit = (k : ℕ) (t : Tree Depth) → IndicesFit t → BindersFit k t → FitsUnder k (read k t)
 
--- A tree that reaches at most m fits when it is moved by n, if its binders fit under n + m more.
+-- a tree whose outer exclusive binder is at most m fits when it is moved by n, if its binders fit under n + m binders
 abbrev pub MovedFit : Type 0
 MovedFit = (n m : ℕ) (t : Tree Depth) → outer_binder t ≤ m → n + m ≤ greatest → BindersFit (n + m) t
     → Fits (move n (read 0 t))
 
--- wherever there is room for b, there is room for the tree: for what it reaches and for its binders
+-- the tree has room in b: where b binders fit, its outer exclusive binder and, beyond it, its own nested binders fit
 pub record HasRoom (b : ℕ) (t : Tree Depth) : Type 0 where
   pub reaches : outer_binder t ≤ b
   pub binders : (k : ℕ) → k + b ≤ greatest → BindersFit (k + outer_binder t) t
 
--- wherever there is room for b, there is room for each of the arguments
+-- each of the arguments has room in b
 abbrev pub HaveRoom : ℕ → List (Argument Depth) → Type 0
 HaveRoom b [] = ⊤
 HaveRoom b (a ∷ args) = HasRoom b a.value × HaveRoom b args
 
--- A tree fits when its parameters are replaced by arguments that have room in b, if its binders fit under b more.
+-- a tree in range fits with its parameters replaced by arguments with room in b, if its binders fit under b binders
 abbrev pub InstancesFit : Type 0
 InstancesFit = (b : ℕ) (args : List (Argument Depth)) (t : Tree Depth) → IndicesFit t → BindersFit b t → b ≤ greatest
     → HaveRoom b args → Fits (put (readings args) (read 0 t))

@@ -1,4 +1,4 @@
--- What a signature keeps beside its types: a byte, and the index of a splatted argument.
+-- What a signature keeps besides its types: a byte, and the index of a splatted argument.
 use Rattle.std.specs.Prelude.{◌≡◌, ℕ, ◌+◌, ◌%◌, ◌<◌, ◌==◌, nat_le, Bool, true, false, Option, Some, None, unwrap_or}
 use Rattle.std.specs.Prelude.{if◌then◌else◌, ⊤}
 use Rattle.tt_index.specs.Abi.{abi_number, abi_of}
@@ -12,12 +12,12 @@ use Rattle.tt_kinds.specs.declared.fn_sig.FnSig.{FnSig}
 use Rattle.tt_kinds.specs.declared.fn_sig.FnSigKind.{FnSigKind}
 use Rattle.tt_kinds.specs.declared.fn_sig.FnSigTys.{FnSigTys}
 
--- bit 6, where the function is safe
+-- bit 6, which is set for a safe function
 abbrev pub safety_bits : Safety → ℕ
 safety_bits Safe = 64
 safety_bits Unsafe = 0
 
--- bit 7, where it is variadic
+-- bit 7, which is set for a variadic function
 abbrev pub variadic_bits : Bool → ℕ
 variadic_bits true = 128
 variadic_bits false = 0
@@ -42,7 +42,7 @@ is_safe_in k = nat_le 64 (k.flags % 128)
 abbrev pub safety_in : FnSigKind → Safety
 safety_in k = if is_safe_in k then Safe else Unsafe
 
--- whether it is variadic
+-- whether the function is variadic
 abbrev pub is_variadic_in : FnSigKind → Bool
 is_variadic_in k = nat_le 128 k.flags
 
@@ -50,7 +50,7 @@ is_variadic_in k = nat_le 128 k.flags
 abbrev pub splat_in : FnSigKind → Option ℕ
 splat_in k = if k.splat == 65535 then None else Some k.splat
 
--- the index is none, or can be kept
+-- there is no index, or it can be kept
 abbrev pub FitsSplat : Option ℕ → Type 0
 FitsSplat None = ⊤
 FitsSplat (Some n) = n < 65535

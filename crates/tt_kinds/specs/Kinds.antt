@@ -78,7 +78,7 @@ use Rattle.tt_kinds.specs.declared.parts.Parts.{Parts}
 use Rattle.tt_kinds.specs.declared.parts.Kind.{Kind}
 use Rattle.tt_kinds.specs.declared.parts.Kind.TheVariants as kind
 
--- a kind by its label and its parts; L is the labels of its table
+-- a kind by its label and its parts; L is the type of its table's labels
 pub data Form (L : Type 0) : Type 0 where
   -- a parameter: its index, and its name's number
   param : ℕ → ℕ → Form L
@@ -95,7 +95,7 @@ form_parts (bound d e) = no_parts
 form_parts (plain l p) = p
 form_parts (under l vars m p) = p
 
--- the form with other children in their places
+-- the form with other children in the places of its own
 abbrev pub refilled : {L : Type 0} → Parts → Form L → Form L
 refilled q (param i name) = param i name
 refilled q (bound d e) = bound d e
@@ -109,7 +109,7 @@ form_binder (bound d e) = None
 form_binder (plain l p) = None
 form_binder (under l vars m p) = Some vars
 
--- the form with a label of all tables
+-- the form with its label as a label of all tables
 abbrev pub relabelled : {L K : Type 0} → (L → K) → Form L → Form K
 relabelled f (param i name) = param i name
 relabelled f (bound d e) = bound d e
@@ -166,7 +166,7 @@ const_form (const.Value v) = value_form v.ty v.valtree.kind
 const_form (const.Error e) = plain (error_const e.0) no_parts
 const_form (const.Expr e) = plain (expr_const e.tag) (one_part (child.List (list.Args e.args)))
 
--- a label with its children, where nothing is a parameter or bound; L is the labels
+-- a label with its children, for kinds that are neither parameters nor bound variables; L is the type of the labels
 pub record Labelled (L : Type 0) : Type 0 where
   pub label : L
   pub parts : Parts
@@ -175,7 +175,7 @@ pub record Labelled (L : Type 0) : Type 0 where
 abbrev pub labelled : {L : Type 0} → L → Parts → Labelled L
 labelled l p = record { label = l; parts = p }
 
--- the form with other children in their places
+-- the form with other children in the places of its own
 abbrev pub replenished : {L : Type 0} → Parts → Labelled L → Labelled L
 replenished q f = record { label = f.label; parts = q }
 
@@ -252,7 +252,7 @@ kind_table (kind.Pat k) = Patterns
 kind_table (kind.Predicate b) = Predicates
 kind_table (kind.Existential b) = Existentials
 
--- the sort of a parameter or a bound variable of a table's terms; patterns and predicates are neither
+-- the sort of a kind that is a parameter or a bound variable; without meaning for patterns and predicates
 abbrev pub kind_sort : Kind → Sort
 kind_sort (kind.Ty k) = type_sort
 kind_sort (kind.Const k) = const_sort
@@ -358,7 +358,7 @@ abbrev pub children_shapes : List Child → Shapes
 children_shapes [] = shape.none
 children_shapes (c ∷ cs) = append (child_shapes c) (children_shapes cs)
 
--- what a form's row is
+-- the shape of a form's row
 abbrev pub form_shape : Sort → Form (Label ℕ) → Shape
 form_shape s (param i name) = shape.param s i name
 form_shape s (bound d e) = shape.bound s d e
@@ -366,32 +366,32 @@ form_shape s (plain l p) = shape.term l (parts_shapes p)
 form_shape s (under l vars m p) = shape.term l (shape.also
     (shape.binder vars.number (shape.node (record_label m) (parts_shapes p))) shape.none)
 
--- what a kind's row is
+-- the shape of a kind's row
 abbrev pub kind_shape : Kind → Shape
 kind_shape k = form_shape (kind_sort k) (kind_form k)
 
--- what a type's row is
+-- the shape of a type's row
 abbrev pub ty_kind_shape : TyKind → Shape
 ty_kind_shape k = form_shape type_sort (relabelled type_label (ty_form k))
 
--- what a constant's row is
+-- the shape of a constant's row
 abbrev pub const_kind_shape : ConstKind → Shape
 const_kind_shape k = form_shape const_sort (relabelled const_label (const_form k))
 
--- what a pattern's row is
+-- the shape of a pattern's row
 abbrev pub pattern_kind_shape : PatternKind → Shape
 pattern_kind_shape k = shape.term (pattern_label (pattern_form k).label) (parts_shapes (pattern_form k).parts)
 
--- what is under a predicate's binder
+-- the shape of what is under a predicate's binder
 abbrev pub record_shape : RecordForm → Shape
 record_shape f = shape.node (record_label f.label) (parts_shapes f.parts)
 
--- what a predicate's row is
+-- the shape of a predicate's row
 abbrev pub predicate_kind_shape : Binder PredicateKind → Shape
 predicate_kind_shape b = shape.term predicate_label (shape.also
     (shape.binder b.bound_vars.number (record_shape (predicate_form b.value))) shape.none)
 
--- what an existential predicate's row is
+-- the shape of an existential predicate's row
 abbrev pub existential_kind_shape : Binder ExistentialPredicate → Shape
 existential_kind_shape b = shape.term existential_label
     (shape.also (shape.binder b.bound_vars.number (record_shape (existential_form b.value))) shape.none)
@@ -404,31 +404,31 @@ fn_sig_tys_shape s = shape.node (record_label fn_sig_tys_record) (shape.also (ty
 abbrev pub binder_shape : {T : Type 0} → (T → Shape) → Binder T → Shape
 binder_shape of_value b = shape.binder b.bound_vars.number (of_value b.value)
 
--- what the row of a list of types is
+-- the shape of the row of a list of types
 abbrev pub tys_row_shape : List Ty → Shape
 tys_row_shape ts = shape.node (list_label TypeLists) (item_shapes ty_shape ts)
 
--- what the row of a list of arguments is
+-- the shape of the row of a list of arguments
 abbrev pub args_row_shape : List GenericArgKind → Shape
 args_row_shape args = shape.node (list_label ArgLists) (item_shapes arg_shape args)
 
--- what the row of a list of constants is
+-- the shape of the row of a list of constants
 abbrev pub consts_row_shape : List Const → Shape
 consts_row_shape cs = shape.node (list_label ConstLists) (item_shapes const_shape cs)
 
--- what the row of a list of patterns is
+-- the shape of the row of a list of patterns
 abbrev pub pats_row_shape : List Pat → Shape
 pats_row_shape ps = shape.node (list_label PatternLists) (item_shapes pat_shape ps)
 
--- what the row of a list of existential predicates is
+-- the shape of the row of a list of existential predicates
 abbrev pub existentials_row_shape : List PolyExistentialPredicate → Shape
 existentials_row_shape ps = shape.node (list_label ExistentialLists) (item_shapes existential_shape ps)
 
--- what the row of a list of clauses is
+-- the shape of the row of a list of clauses
 abbrev pub clauses_row_shape : List Clause → Shape
 clauses_row_shape cs = shape.term clause_list_label (item_shapes clause_shape cs)
 
--- the label of a list of a sort
+-- the label of a list, by the sort of its items
 abbrev pub items_label : {N : Type 0} → ListSort → Label N
 items_label sort.Tys = list_label TypeLists
 items_label sort.Consts = list_label ConstLists
@@ -437,7 +437,7 @@ items_label sort.Pats = list_label PatternLists
 items_label sort.Existentials = list_label ExistentialLists
 items_label sort.Clauses = clause_list_label
 
--- what the row of a list of a sort is
+-- the shape of a list's row, by the sort of its items
 abbrev pub items_shape : ListSort → Shapes → Shape
 items_shape sort.Tys ss = shape.node (list_label TypeLists) ss
 items_shape sort.Consts ss = shape.node (list_label ConstLists) ss
@@ -446,7 +446,7 @@ items_shape sort.Pats ss = shape.node (list_label PatternLists) ss
 items_shape sort.Existentials ss = shape.node (list_label ExistentialLists) ss
 items_shape sort.Clauses ss = shape.term clause_list_label ss
 
--- the tree of a list of a sort
+-- the tree of a list, by the sort of its items
 abbrev pub items_tree : {I : Type 0} → ListSort → Forest I → Tree I
 items_tree sort.Tys ts = tree.node (list_label TypeLists) ts
 items_tree sort.Consts ts = tree.node (list_label ConstLists) ts
@@ -455,10 +455,10 @@ items_tree sort.Pats ts = tree.node (list_label PatternLists) ts
 items_tree sort.Existentials ts = tree.node (list_label ExistentialLists) ts
 items_tree sort.Clauses ts = tree.term clause_list_label ts
 
--- what the row of a binder's list of variables is
+-- the shape of the row of a binder's list of variables
 abbrev pub vars_row_shape : List BoundVariableKind → Shape
 vars_row_shape vs = shape.node (var_list_label (map var_kind vs)) shape.none
 
--- what the row of a text is
+-- the shape of a text's row
 abbrev pub text_row_shape : List ℕ → Shape
 text_row_shape bytes = shape.node (text_label bytes) shape.none

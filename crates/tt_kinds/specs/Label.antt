@@ -1,5 +1,5 @@
--- The data of nodes and leaves. No law on trees looks into a label: only the questions at the end do.
--- N names a symbol: by its text in trees, and by its number in stored terms.
+-- The data of nodes and leaves. No law on trees looks into a label: only the functions at the end do.
+-- N is the type of names: a symbol's text in trees, and its number in stored terms.
 use Rattle.std.specs.Prelude.{ℕ, List, [], ◌∷◌, Bool, true, false, Option, Some, None}
 use Rattle.tt_flags.specs.TypeFlags.{has_ty_infer, has_ct_infer, has_ty_placeholder, has_ct_placeholder}
 use Rattle.tt_flags.specs.TypeFlags.{has_ty_projection, has_ty_free_alias, has_ty_opaque, has_ty_inherent}
@@ -34,7 +34,7 @@ use Rattle.tt_kinds.specs.declared.table.Table.TheVariants.{ClauseLists, VarList
 abbrev pub Name : Type 0
 Name = List ℕ
 
--- what a parameter, a variable or an argument represents
+-- what a parameter, a variable or an argument represents: a region, a type or a constant
 pub data Sort : Type 0 where
   region_sort type_sort const_sort : Sort
 
@@ -100,7 +100,7 @@ pub data ConstLabel : Type 0 where
   infer_const : InferConst → ConstLabel
   placeholder_const : Placeholder BoundConst → ConstLabel
   unevaluated_const : ℕ → ConstLabel
-  -- its bits, and how many bytes it has
+  -- the bits, and the number of bytes
   leaf_const : ℕ → ℕ → ConstLabel
   branch_const : ConstLabel
   error_const : ℕ → ConstLabel
@@ -152,8 +152,8 @@ pub data RecordLabel (N : Type 0) : Type 0 where
   fn_sig_record : FnSigKind → RecordLabel N
   param_env_record : RecordLabel N
   witness_types_record : RecordLabel N
-  -- kinds of types and constants that aren't stored: a parameter's, a bound variable's, whose index is none where it is
-  -- canonical, and others
+  -- kinds that aren't stored: of a parameter, of a bound variable (without an index if it is canonical), and of other
+  -- types, constants and patterns
   bare_param_record : Sort → ℕ → N → RecordLabel N
   bare_bound_record : Sort → Option ℕ → Entry N → RecordLabel N
   bare_type_record : TypeLabel → RecordLabel N
@@ -168,7 +168,7 @@ pub data ItemLabel : Type 0 where
   assoc_ty_item : ℕ → ItemLabel
   -- its implementation
   inherent_item : ℕ → ItemLabel
-  -- what its signature has beside types
+  -- what its signature has besides types
   fn_item : FnSigKind → ItemLabel
   -- an item of another sort
   plain_item : DeclarationSort → ItemLabel
@@ -187,7 +187,7 @@ pub data Label (N : Type 0) : Type 0 where
   text_label : List ℕ → Label N
   -- its place among the declarations, what is declared, and its name
   declaration_label : ℕ → ItemLabel → N → Label N
-  -- the id of a data type, and its variants as they are: no term holds a definition
+  -- the id of a data type, and its variants with their handles: no term holds a definition
   definition_label : ℕ → List Variant → Label N
   record_label : RecordLabel N → Label N
   -- the token of an error that belongs to no stored term
@@ -207,7 +207,7 @@ is_type_or_clause predicate_label = true
 is_type_or_clause clause_list_label = true
 is_type_or_clause _ = false
 
--- the record is what a clause says
+-- the record is a clause's
 abbrev pub is_clause_record : {N : Type 0} → RecordLabel N → Bool
 is_clause_record (trait_record d) = true
 is_clause_record (host_effect_record d c) = true
@@ -258,7 +258,7 @@ flags_of_const (unevaluated_const d) = has_ct_projection
 flags_of_const (error_const e) = has_non_region_error
 flags_of_const _ = 0
 
--- the flags of a binder's list of variables: one where it isn't empty
+-- the flags of a binder's list of variables: one flag if the list isn't empty
 abbrev pub list_flags : {N : Type 0} → List (VarKind N) → ℕ
 list_flags [] = 0
 list_flags (v ∷ vs) = has_binder_vars
@@ -280,17 +280,17 @@ flags_of_label (record_label l) = 0
 flags_of_label (error_label e) = has_error
 flags_of_label clause_label = 0
 
--- the token of the error of a type's label, if it is an error
+-- the token of the error, if the type is an error
 abbrev pub error_of_type : TypeLabel → Option ℕ
 error_of_type (error_type e) = Some e
 error_of_type _ = None
 
--- the token of the error of a constant's label, if it is an error
+-- the token of the error, if the constant is an error
 abbrev pub error_of_const : ConstLabel → Option ℕ
 error_of_const (error_const e) = Some e
 error_of_const _ = None
 
--- the table that terms of the label are stored in
+-- the table that terms of the label are stored in, if they are stored
 abbrev pub label_table : {N : Type 0} → Label N → Option Table
 label_table (type_label l) = Some Types
 label_table (const_label l) = Some Consts

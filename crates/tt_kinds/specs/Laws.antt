@@ -15,17 +15,17 @@ use Rattle.tt_kinds.specs.Plain.{shift_tree, inst_tree}
 use Rattle.tt_kinds.specs.Matched.{MatchedUnder, ArgumentsMatched}
 use Rattle.tt_kinds.specs.Met.{met, placed}
 
--- if each parameter has an argument, two replacements are one, by the first arguments with the second made in them
+-- if each parameter has an argument, two replacements are one, by the first arguments with the later one made in them
 abbrev pub PutsCompose : Type 0
 PutsCompose = (later args : List (Argument Place)) (r : Tree Place) → IsAnswered args r
     → put later (put args r) ≡ put (change_values (put later) args) r
 
--- a replacement and then a move is the move and then the replacement by moved arguments
+-- a replacement followed by a move is the same as the move followed by a replacement by the moved arguments
 abbrev pub MovesCommute : Type 0
 MovesCommute = (n : ℕ) (args : List (Argument Place)) (r : Tree Place)
     → move n (put args r) ≡ put (change_values (move n) args) (move n r)
 
--- moves in turn are one move by the sum
+-- two moves in turn are one move by the sum
 abbrev pub MovesAddUp : Type 0
 MovesAddUp = (m n : ℕ) (r : Tree Place) → move m (move n r) ≡ move (m + n) r
 
@@ -33,13 +33,13 @@ MovesAddUp = (m n : ℕ) (r : Tree Place) → move m (move n r) ≡ move (m + n)
 abbrev pub MovesTellReadings : Type 0
 MovesTellReadings = (n : ℕ) (r q : Tree Place) → move n r ≡ move n q → r ≡ q
 
--- a reading whose own variables match their binders' lists does so after a replacement by arguments that do
+-- if the own variables of a reading and of the arguments match their binders' lists, so do those after the replacement
 abbrev pub PutKeepsMatched : Type 0
 PutKeepsMatched = (args : List (Argument Place)) → ArgumentsMatched args
     → (lists : List (List (VarKind Name))) (r : Tree Place) →
     MatchedUnder lists r → MatchedUnder lists (put args r)
 
--- a reading whose own variables match their binders' lists does so after a move
+-- if the own variables of a reading match their binders' lists, so do those after a move
 abbrev pub MoveKeepsMatched : Type 0
 MoveKeepsMatched = (n : ℕ) (lists : List (List (VarKind Name))) (r : Tree Place) → MatchedUnder lists r
     → MatchedUnder lists (move n r)
@@ -49,7 +49,7 @@ abbrev pub PutLeavesNone : Type 0
 PutLeavesNone = (args : List (Argument Place)) (r : Tree Place) → IsAnswered args r → ArgumentsHoldNone args
     → holds_param (put args r) ≡ false
 
--- trees of equal readings are equal
+-- trees with equal readings are equal
 abbrev pub ReadingsTellTrees : Type 0
 ReadingsTellTrees = (k : ℕ) (t u : Tree Depth) → read k t ≡ read k u → t ≡ u
 

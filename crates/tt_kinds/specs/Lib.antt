@@ -33,3 +33,4 @@ pub mod BinderIter
 pub mod EarlyBinderIter
 pub mod Id
 pub mod OwnFlags
+pub mod Order

@@ -9,7 +9,7 @@ use Rattle.tt_kinds.specs.Tree.{also}
 abbrev pub IsEntryOf : List (VarKind Name) → Entry Name → Type 0
 IsEntryOf vs e = slice_get vs e.var ≡ Some e.kind
 
--- an own variable's entry is in the list of its binder, the innermost binder being first
+-- an own variable's entry is in its binder's list; the first list is the innermost binder's
 abbrev pub MatchesAt : List (List (VarKind Name)) → Place → Entry Name → Type 0
 MatchesAt lists (own d) e = IsSomeAnd (slice_get lists d) (λ vs. IsEntryOf vs e)
 MatchesAt lists (outer j) e = ⊤

@@ -9,12 +9,12 @@ pub record Met : Type 0 where
   pub standing : Tree Depth
   pub under : ℕ
 
--- the leaf under k binders is met, as it is a region
+-- the leaf under k binders is met if it is a region
 abbrev pub met_leaf : Sort → Tree Depth → ℕ → List Met
 met_leaf region_sort t k = record { standing = t; under = k } ∷ []
 met_leaf _ t k = []
 
--- the bound leaf is met, unless it is bound in the tree or canonical
+-- the bound leaf under k binders is met if it is a region that none of them binds and that isn't canonical
 abbrev pub met_bound : Sort → Depth → Tree Depth → ℕ → List Met
 met_bound s (at d) t k = if nat_lt d k then [] else met_leaf s t k
 met_bound s canonical t k = []
@@ -33,7 +33,7 @@ abbrev mutual
   met_all k none = []
   met_all k (also t ts) = met k t ++ met_all k ts
 
--- the first answer if the leaf is met, and else the leaf
+-- the first answer if the leaf is met and there is an answer, and otherwise the leaf
 abbrev pub placed_leaf : List Met → Tree Depth → List (Tree Depth) → Tree Depth
 placed_leaf [] t answers = t
 placed_leaf (m ∷ ms) t [] = t

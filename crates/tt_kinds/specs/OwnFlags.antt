@@ -1,4 +1,4 @@
--- The flags and the reach of a kind itself, without its contents.
+-- The flags and the outer exclusive binder of a kind itself, without its contents.
 use Rattle.std.specs.Prelude.{ℕ, bit_or}
 use Rattle.tt_kinds.specs.Label.{Sort, Label, flags_of_label}
 use Rattle.tt_kinds.specs.Reading.{place, reach}
@@ -12,7 +12,7 @@ own_flags s (bound d e) = bit_or (bound_flags s) (index_flags d)
 own_flags s (plain l p) = flags_of_label l
 own_flags s (under l vars m p) = flags_of_label l
 
--- one more than the index of a bound variable, and else 0
+-- one more than the index of a bound variable, and 0 for a canonical variable and for every other kind
 abbrev pub own_reach : Form (Label ℕ) → ℕ
 own_reach (bound d e) = reach (place 0 d)
 own_reach _ = 0

@@ -131,7 +131,7 @@ IsTermSort a_region = ⊥
 IsTermSort (a_node t) = (t ≡ Types) ⊎ (t ≡ Consts)
 IsTermSort (a_list s) = ⊥
 
--- what a term is, as a child
+-- the kind of a term, as a child
 abbrev pub term_kind_child : TermKind → Child
 term_kind_child (term.Ty t) = child.Node (node.Ty t)
 term_kind_child (term.Const c) = child.Node (node.Const c)

@@ -1,4 +1,4 @@
--- What the code computes, on trees: shifting and instantiating by the indices as they are written.
+-- What the code computes, on trees: shifting and instantiation on the indices as they are written.
 use Rattle.std.specs.Prelude.{ℕ, List, ◌+◌, nat_lt, if◌then◌else◌, Option, Some, None}
 use Rattle.tt_kinds.specs.Label.{Name, Sort}
 use Rattle.tt_kinds.specs.Tree.{Depth, at, canonical, Tree, param, Forest, rebuild, rebuild_all}
@@ -14,11 +14,12 @@ shifted n k canonical = canonical
 abbrev pub shift_tree : ℕ → ℕ → Tree Depth → Tree Depth
 shift_tree k n t = rebuild (shifted n) keep k t
 
--- the argument as it is under k binders, or the parameter
+-- the argument shifted into k binders, or the parameter if there is no argument
 abbrev pub shifted_or : Option (Tree Depth) → ℕ → Sort → ℕ → Name → Tree Depth
 shifted_or None k s i name = param s i name
 shifted_or (Some t) k s i name = shift_tree 0 k t
 
+-- a parameter's argument shifted into k binders, or the parameter if it has none
 abbrev pub given_under : List (Argument Depth) → ℕ → Sort → ℕ → Name → Tree Depth
 given_under args k s i name = shifted_or (argument args s i) k s i name
 

@@ -9,7 +9,7 @@ abbrev pub is_clause_kind : PredicateKind → Bool
 is_clause_kind (AClause c) = true
 is_clause_kind _ = false
 
--- the clause that a predicate is
+-- the clause, if the predicate is a clause
 abbrev pub clause_of : PredicateKind → Option ClauseKind
 clause_of (AClause c) = Some c
 clause_of _ = None

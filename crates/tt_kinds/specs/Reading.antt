@@ -78,6 +78,6 @@ abbrev mutual
   FitsUnder_all k none = ⊤
   FitsUnder_all k (also r rs) = FitsUnder k r × FitsUnder_all k rs
 
--- the reading is outside of each binder, and its indices and binders are in range
+-- the reading is under no binder, and its indices and binders are in range
 abbrev pub Fits : Tree Place → Type 0
 Fits r = FitsUnder 0 r

@@ -1,4 +1,4 @@
--- Types whose form is known, and variables whose value is.
+-- Types whose form is known, and inference variables whose value is known.
 use Rattle.std.specs.Prelude.{⊤}
 use Rattle.tt_kinds.specs.declared.ty_kind.TyKind.{TyKind}
 use Rattle.tt_kinds.specs.declared.ty_kind.TyKind.TheVariants as ty
@@ -7,7 +7,7 @@ use Rattle.tt_kinds.specs.declared.ty_kind.IntVarValue.TheVariants as int
 use Rattle.tt_kinds.specs.declared.ty_kind.FloatVarValue.{FloatVarValue}
 use Rattle.tt_kinds.specs.declared.ty_kind.FloatVarValue.TheVariants as float
 
--- the type is no error, no variable, no alias and no parameter
+-- the type is no alias, no parameter, no placeholder, no error, and no bound or inference variable
 abbrev pub IsRigid : TyKind → Type 0
 IsRigid (ty.Alias a) = ⊥
 IsRigid (ty.Param p) = ⊥
@@ -17,12 +17,12 @@ IsRigid (ty.Infer i) = ⊥
 IsRigid (ty.Error e) = ⊥
 IsRigid _ = ⊤
 
--- it is known which type of integers the variable represents
+-- the variable's integer type is known
 abbrev pub IsKnownInt : IntVarValue → Type 0
 IsKnownInt int.Unknown = ⊥
 IsKnownInt _ = ⊤
 
--- it is known which type of floating point the variable represents
+-- the variable's floating point type is known
 abbrev pub IsKnownFloat : FloatVarValue → Type 0
 IsKnownFloat float.Unknown = ⊥
 IsKnownFloat (float.Known f) = ⊤

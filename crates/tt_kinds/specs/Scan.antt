@@ -20,7 +20,7 @@ bound_flags region_sort = has_re_bound
 bound_flags type_sort = has_ty_bound
 bound_flags const_sort = has_ct_bound
 
--- a canonical variable has a flag more
+-- the further flag of a canonical variable
 abbrev pub index_flags : Depth → ℕ
 index_flags (at d) = 0
 index_flags canonical = has_canonical_bound

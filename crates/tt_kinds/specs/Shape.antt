@@ -26,7 +26,7 @@ use Rattle.tt_kinds.specs.declared.table.Table.TheVariants.{Types, Consts, VarLi
 -- which items of a list a view holds
 pub data Extent : Type 0 where
   all_but_last : Extent
-  -- from this place on, so many
+  -- the place of the first item, and the number of items
   span : ℕ → ℕ → Extent
 
 mutual
@@ -50,7 +50,7 @@ mutual
     none : Shapes
     also : Shape → Shapes → Shapes
 
--- the trees of the handles
+-- the tree of each handle, by its table and its number
 abbrev pub Meaning : Type 0
 Meaning = Table → ℕ → Tree Depth
 
@@ -74,7 +74,7 @@ abbrev pub first_item : Extent → ℕ
 first_item all_but_last = 0
 first_item (span start len) = start
 
--- how many items a part of a list of n items has, where that many are there
+-- how many items a part of a list of n items has, if the list has that many
 abbrev pub item_count : Extent → ℕ → ℕ
 item_count all_but_last n = n - 1
 item_count (span start len) n = len
@@ -252,7 +252,7 @@ sort_table region_sort = None
 sort_table type_sort = Some Types
 sort_table const_sort = Some Consts
 
--- a shape that is no row: what is stored is in it as handles in range
+-- the shape isn't a row's: its stored terms are handles, and its handles and names are in range
 abbrev mutual
   pub IsPart : Sizes → Shape → Type 0
   IsPart size (param s i name) = (sort_table s ≡ None) × (name < size Symbols)
@@ -264,7 +264,7 @@ abbrev mutual
   IsPart size (stored t n) = n < size t
   IsPart size (part_of t n e) = n < size t
 
-  -- shapes in order, none of which is a row: each stored term in them is a handle in range
+  -- none of the shapes is a row's: the stored terms are handles, and the handles and names are in range
   pub AreParts : Sizes → Shapes → Type 0
   AreParts size none = ⊤
   AreParts size (also s ss) = IsPart size s × AreParts size ss
@@ -280,12 +280,12 @@ HasParts size (binder n s) = ⊥
 HasParts size (stored t n) = ⊥
 HasParts size (part_of t n e) = ⊥
 
--- no bound variable may have the index
+-- the index is the greatest or above, which no bound variable may have
 abbrev pub IsGreatest : Depth → Type 0
 IsGreatest (at d) = greatest ≤ d
 IsGreatest canonical = ⊥
 
--- the row is a bound variable whose index is the greatest
+-- the row is a bound variable whose index is the greatest or above
 abbrev pub IsTooDeep : Shape → Type 0
 IsTooDeep (bound s d e) = IsGreatest d
 IsTooDeep _ = ⊥

@@ -2,12 +2,12 @@
 use Rattle.std.specs.Prelude.{ℕ, zero, suc, List, ⊤}
 use Rattle.tt_kinds.specs.Label.{Name, Sort, VarKind, Entry, FreeRegion, Label}
 
--- the index of a variable as it is written: how many binders are between it and its own
+-- the index of a variable as it is written: the number of binders between the variable and its own binder
 pub data Depth : Type 0 where
   at : ℕ → Depth
   canonical : Depth
 
--- the index of a variable as it is read: the binder is the term's own, or one outside of it
+-- the index of a variable as it is read: its binder is the term's own or outside of the term, or a canonical query's
 pub data Place : Type 0 where
   own : ℕ → Place
   outer : ℕ → Place
@@ -63,7 +63,7 @@ module _ {I J : Type 0} (index : ℕ → I → J) (parameter : ℕ → Sort → 
 
 module _ {I J : Type 0} (index : I → J) (parameter : Sort → ℕ → Name → Tree J) where
   abbrev mutual
-    -- the tree with each index and each parameter replaced, however deep it is
+    -- the tree with each index and each parameter replaced, in the same way at every depth
     pub replace : Tree I → Tree J
     replace (param s i name) = parameter s i name
     replace (bound s d e) = bound s (index d) e

@@ -1,4 +1,4 @@
--- Values that have no row of their own: records, and their contents.
+-- The shapes of values that have no row of their own: of records and their contents.
 use Rattle.std.specs.Prelude.{ℕ, Option, Some, None, Result, Ok, Err, List}
 use Rattle.tt_kinds.specs.Label.{RecordLabel, trait_ref_record, alias_term_record, alias_ty_record, outlives_record}
 use Rattle.tt_kinds.specs.Label.{type_and_mut_record, fn_sig_record, param_env_record, witness_types_record}
@@ -91,7 +91,7 @@ sequence_shape of_item xs = shape.node (record_label sequence_record) (item_shap
 abbrev pub input_tys_shape : FnInputTys → Shape
 input_tys_shape v = shape.part_of TypeLists v.inputs_and_output.number all_but_last
 
--- some arguments in a row of a list
+-- consecutive arguments of a list
 abbrev pub args_slice_shape : GenericArgsSlice → Shape
 args_slice_shape v = shape.part_of ArgLists v.args.number (span v.start v.len)
 
@@ -119,7 +119,7 @@ assumptions_shape a = shape.stored AssumptionLists a.number
 abbrev pub assumption_shape : OutlivesPredicate GenericArgKind → Shape
 assumption_shape p = outlives_shape arg_shape p
 
--- what the row of a list of assumptions is
+-- the shape of the row of a list of assumptions
 abbrev pub assumptions_row_shape : List (OutlivesPredicate GenericArgKind) → Shape
 assumptions_row_shape ps = shape.node (list_label AssumptionLists) (item_shapes assumption_shape ps)
 
@@ -145,7 +145,7 @@ declared_shapes (kind.Fn sig) = shape.also (shape.stored VarLists sig.value.boun
     (shape.also (tys_shape sig.value.value.inputs_and_output) shape.none)
 declared_shapes _ = shape.none
 
--- what the row of a declaration is, with its place among the declarations
+-- the shape of a declaration's row, with its place among the declarations
 abbrev pub declaration_row_shape : ℕ → Declaration → Shape
 declaration_row_shape n d = shape.node (declaration_label n (item_label d.kind) d.name.number) (declared_shapes d.kind)
 
@@ -161,7 +161,7 @@ field_def_shape f = two_record pair_record (symbol_shape f.name) (ty_shape f.ty)
 abbrev pub variant_shape : Variant → Shape
 variant_shape v = two_record pair_record (option_shape symbol_shape v.name) (sequence_shape field_def_shape v.fields)
 
--- what the row of a definition is, with the number of the data type's id
+-- the shape of a definition's row, with the number of the data type's id
 abbrev pub definition_row_shape : ℕ → List Variant → Shape
 definition_row_shape n vs = shape.node (definition_label n vs) (item_shapes variant_shape vs)
 
@@ -173,7 +173,7 @@ param_env_shape e = one_record param_env_record (clauses_shape e.caller_bounds)
 abbrev pub trait_predicate_shape : TraitPredicate → Shape
 trait_predicate_shape p = one_record (trait_record p.trait_ref.def_id.number) (args_shape p.trait_ref.args)
 
--- a type implements a trait, in constants
+-- a type implements a trait, and constants can use the implementation
 abbrev pub host_effect_shape : HostEffectPredicate → Shape
 host_effect_shape p = one_record (host_effect_record p.trait_ref.def_id.number p.constness)
     (args_shape p.trait_ref.args)
@@ -196,11 +196,11 @@ subtype_shape p = two_record (subtype_record p.a_is_expected) (ty_shape p.a) (ty
 abbrev pub coerce_shape : CoercePredicate → Shape
 coerce_shape p = two_record coerce_record (ty_shape p.a) (ty_shape p.b)
 
--- a trait with the arguments behind the hidden type
+-- a trait with its own arguments, without the hidden type
 abbrev pub existential_trait_ref_shape : ExistentialTraitRef → Shape
 existential_trait_ref_shape t = one_record (existential_trait_record t.def_id.number) (args_shape t.args)
 
--- the value of an associated type or constant of the hidden type
+-- the value of an associated item of the hidden type
 abbrev pub existential_projection_shape : ExistentialProjection → Shape
 existential_projection_shape p = two_record (existential_projection_record p.def_id.number) (args_shape p.args)
     (term_shape p.term)

@@ -21,7 +21,7 @@ abbrev pub IsConstVariable : BoundVariableKind → Type 0
 IsConstVariable variable.Const = ⊤
 IsConstVariable _ = ⊥
 
--- the declaration of a bound region that is declared
+-- the declaration of a bound region, if it has one
 abbrev pub region_id : BoundRegionKind → Option DefId
 region_id (Named d) = Some d
 region_id _ = None

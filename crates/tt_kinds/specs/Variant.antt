@@ -11,10 +11,10 @@ pub record Variant : Type 0 where
   pub name : Option Symbol
   pub fields : List FieldDef
 
--- the variant that is defined
+-- the variant, with its fields as a list
 abbrev pub variant_of : VariantDef → Variant
 variant_of v = record { name = v.name; fields = v.fields.items }
 
--- there are no more variants, and no more fields in any of them, than indices can number
+-- there are at most as many variants, and fields in each of them, as the greatest index counts
 abbrev pub HasIndices : List Variant → Type 0
 HasIndices vs = (length vs ≤ greatest) × All (λ v. length v.fields ≤ greatest) vs

@@ -11,7 +11,7 @@ use crate::id::{DefId, FreeTyAliasId, InherentAssocTyId, OpaqueTyId, TraitAssocT
 /// The kind of an alias, with its declaration.
 #[derive(Clone, Copy, Debug, PartialEq, Eq, Hash)]
 pub enum AliasTyKind {
-    /// An associated type of a trait, which an implementation gives.
+    /// An associated type of a trait, which an implementation defines.
     Projection {
         /// The associated type.
         def_id: TraitAssocTyId,
@@ -89,14 +89,14 @@ impl AliasTy {
         AliasTy { args, kind }
     }
 
-    /// Returns whether it is an opaque type.
+    /// Returns whether the alias is an opaque type.
     pub fn is_opaque(self) -> bool
         ensures { IsTrue result ↔ (alias_sort self.kind ≡ sort.Opaque) }
     {
         matches!(self.kind, AliasTyKind::Opaque { .. })
     }
 
-    /// Returns whether it is an associated type of a trait.
+    /// Returns whether the alias is an associated type of a trait.
     pub fn is_projection(self) -> bool
         ensures { IsTrue result ↔ (alias_sort self.kind ≡ sort.AssocTy) }
     {

@@ -6,7 +6,7 @@ ghost use Rattle.std.specs.Prelude.{◌≡◌, MatchOption, MatchResult};
 use crate::handle::BoundVarKinds;
 use std::ops::AsDeref;
 
-/// A value under a binder: the variables that it binds have the index 0 directly inside.
+/// A value under a binder, whose variables have the index 0 directly inside of it.
 ///
 /// Binding checks nothing: the caller ensures that the value's variables match the list.
 #[derive(Clone, Copy, Debug, PartialEq, Eq, Hash)]
@@ -40,7 +40,7 @@ impl<T> Binder<T> {
         Binder::bind_with_vars(&self.value, self.bound_vars)
     }
 
-    /// Returns a reference to what the value dereferences to, under the same binder: of a vector its slice, of a
+    /// Returns a reference to what the value dereferences to, under the same binder: for a vector its slice, for a
     /// `String` its text.
     pub fn as_deref<'a>(&'a self) -> Binder<T::Shown>
     where
@@ -58,7 +58,7 @@ impl<T> Binder<T> {
         self.bound_vars
     }
 
-    /// Returns what `f` makes of the value, under the same binder.
+    /// Returns what `f` returns for the value, under the same binder.
     pub fn map_bound<F: FnOnce(T) -> U, U>(self, f: F) -> Binder<U>
         requires { F.pre f self.value }
         ensures value { F.post f self.value result.value }
@@ -68,7 +68,7 @@ impl<T> Binder<T> {
         Binder::bind_with_vars(f(value), bound_vars)
     }
 
-    /// Returns what `f` makes of a reference to the value, under the same binder.
+    /// Returns what `f` returns for a reference to the value, under the same binder.
     pub fn map_bound_ref<F: FnOnce(&T) -> U, U>(&self, f: F) -> Binder<U>
         requires { FnOnceTakesAt F.FnOnce f self.now.value }
         ensures value { FnOnceReturnsAt F.FnOnce f self.now.value result.value }
@@ -77,7 +77,7 @@ impl<T> Binder<T> {
         self.as_ref().map_bound(f)
     }
 
-    /// Returns what `f` makes of the value, under the same binder.
+    /// Returns what `f` returns for the value, under the same binder.
     ///
     /// # Errors
     ///
@@ -94,7 +94,8 @@ impl<T> Binder<T> {
         Ok(Binder::bind_with_vars(mapped, bound_vars))
     }
 
-    /// Returns another value under the same binder. It may use fewer of the binder's variables, and no other ones.
+    /// Returns another value under the same binder. The new value may leave variables of the binder unused, but should
+    /// use no others.
     pub fn rebind<U>(&self, value: U) -> Binder<U>
         ensures { result ≡ record { value = value; bound_vars = self.now.bound_vars } }
     {
@@ -103,7 +104,7 @@ impl<T> Binder<T> {
 }
 
 impl<T> Binder<Option<T>> {
-    /// Returns the value that is there, under the same binder, or `None`.
+    /// Returns the value under the same binder, or `None` if there is no value.
     pub fn transpose(self) -> Option<Binder<T>>
         ensures { MatchOption
             self.value
@@ -115,7 +116,7 @@ impl<T> Binder<Option<T>> {
     }
 }
 
-/// A value in an item's declaration, with the item's generic parameters. They have to be replaced by arguments before
+/// A value from an item's declaration, with the item's generic parameters. They have to be replaced by arguments before
 /// the value is used elsewhere.
 #[derive(Clone, Copy, Debug, PartialEq, Eq, PartialOrd, Ord, Hash)]
 pub struct EarlyBinder<T> {
@@ -145,7 +146,7 @@ impl<T> EarlyBinder<T> {
         EarlyBinder::bind(&self.value)
     }
 
-    /// Returns what `f` makes of the value, with its parameters still to be replaced.
+    /// Returns what `f` returns for the value, with its parameters still to be replaced.
     pub fn map_bound<F: FnOnce(T) -> U, U>(self, f: F) -> EarlyBinder<U>
         requires { F.pre f self.value }
         ensures { F.post f self.value result.value }
@@ -154,7 +155,7 @@ impl<T> EarlyBinder<T> {
         EarlyBinder::bind(f(value))
     }
 
-    /// Returns what `f` makes of a reference to the value, with its parameters still to be replaced.
+    /// Returns what `f` returns for a reference to the value, with its parameters still to be replaced.
     pub fn map_bound_ref<F: FnOnce(&T) -> U, U>(&self, f: F) -> EarlyBinder<U>
         requires { FnOnceTakesAt F.FnOnce f self.now.value }
         ensures { FnOnceReturnsAt F.FnOnce f self.now.value result.value }
@@ -163,7 +164,7 @@ impl<T> EarlyBinder<T> {
         lent.map_bound(f)
     }
 
-    /// Returns what `f` makes of the value, with its parameters still to be replaced.
+    /// Returns what `f` returns for the value, with its parameters still to be replaced.
     ///
     /// # Errors
     ///
@@ -192,7 +193,7 @@ impl<T> EarlyBinder<T> {
 
     /// Returns the value with each parameter replaced by itself, which is the value as it is declared.
     ///
-    /// Inside of the item its parameters stand for themselves.
+    /// Inside of the item, each of its parameters means itself.
     pub fn instantiate_identity(self) -> Unnormalized<T>
         ensures { result ≡ record { value = self.value } }
     {
@@ -201,7 +202,7 @@ impl<T> EarlyBinder<T> {
 }
 
 impl<T> EarlyBinder<Option<T>> {
-    /// Returns the value that is there, with its parameters still to be replaced, or `None`.
+    /// Returns the value with its parameters still to be replaced, or `None` if there is no value.
     pub fn transpose(self) -> Option<EarlyBinder<T>>
         ensures { MatchOption self.value (result ≡ None) (λ value. result ≡ Some (record { value = value })) }
     {

@@ -1,4 +1,4 @@
-//! The iterator of a binder's items.
+//! The iterator over a binder's items.
 
 ghost use Rattle.std.specs.Prelude.{◌≡◌};
 ghost use Rattle.tt_kinds.specs.BinderIter.{GivesUnderBinder, RunsUnderBinder};
@@ -6,7 +6,7 @@ ghost use Rattle.tt_kinds.specs.BinderIter.{GivesUnderBinder, RunsUnderBinder};
 use crate::binder::Binder;
 use crate::handle::BoundVarKinds;
 
-/// An iterator of a value's items, each under the value's binder. [`Binder::iter`] makes it.
+/// An iterator over a value's items, each under the value's binder. [`Binder::iter`] returns it.
 #[derive(Drop)]
 pub struct BinderIter<I> {
     iter: I,
@@ -14,7 +14,7 @@ pub struct BinderIter<I> {
 }
 
 impl<T: IntoIterator> Binder<T> {
-    /// Returns an iterator of the value's items, each under the same binder.
+    /// Returns an iterator over the value's items, each under the same binder.
     pub fn iter(self) -> BinderIter<T::IntoIter>
         ensures iter { T.into_iter_gives self.value result.iter }
         ensures bound_vars { result.bound_vars ≡ self.bound_vars }

@@ -13,21 +13,21 @@ use tt_index::{BoundVar, DebruijnIndex};
 /// Which binder a bound variable belongs to.
 #[derive(Clone, Copy, Debug, PartialEq, Eq, Hash)]
 pub enum BoundVarIndexKind {
-    /// The binder at this distance, counted from the inside.
+    /// The binder of this index, counted from the inside.
     Bound(DebruijnIndex),
-    /// The list of variables of a canonical query, which is outside of every term. Shifting does not move such a
-    /// variable, and it escapes no binder.
+    /// A canonical query's list of variables, which is outside of every term. Shifting doesn't change a variable of
+    /// this list, and the variable escapes no binder.
     Canonical,
 }
 
 /// The name of a bound region.
 #[derive(Clone, Copy, Debug, PartialEq, Eq, Hash)]
 pub enum BoundRegionKind {
-    /// It has no name, such as the region of `fn(&u32)`.
+    /// The region has no name, like the region in `fn(&u32)`.
     Anon,
-    /// It has no declaration, and is printed by this name.
+    /// The region has no declaration, and is printed by this name.
     NamedForPrinting(Symbol),
-    /// It is declared.
+    /// The region has this declaration.
     Named(DefId),
     /// The region of a closure's own environment.
     ClosureEnv,
@@ -36,9 +36,9 @@ pub enum BoundRegionKind {
 /// The name of a bound type.
 #[derive(Clone, Copy, Debug, PartialEq, Eq, Hash)]
 pub enum BoundTyKind {
-    /// It has no name.
+    /// The type has no name.
     Anon,
-    /// It is declared.
+    /// The type has this declaration.
     Param(DefId),
 }
 
@@ -54,7 +54,7 @@ pub enum BoundVariableKind {
 }
 
 impl BoundRegionKind {
-    /// Returns the declaration of a region that is declared, and `None` for every other variable.
+    /// Returns the region's declaration, or `None` if it has none.
     pub fn get_id(self) -> Option<DefId>
         ensures { result ≡ region_id self }
     {
@@ -142,7 +142,7 @@ pub struct BoundConst {
 }
 
 impl BoundRegion {
-    /// Returns its place in the binder's list of variables.
+    /// Returns the variable's place in its binder's list of variables.
     pub fn var(self) -> BoundVar
         ensures { result ≡ self.var }
     {
@@ -150,8 +150,8 @@ impl BoundRegion {
         var
     }
 
-    /// Returns whether the list's entry agrees with the variable: whether it has the same kind and the same name, if
-    /// any.
+    /// Returns whether this entry of the binder's list agrees with the variable: whether the entry is a region with the
+    /// same name, if any.
     pub fn agrees(self, entry: BoundVariableKind) -> bool
         ensures { IsTrue result ↔ (entry ≡ variable.Region self.kind) }
     {
@@ -169,7 +169,7 @@ impl BoundRegion {
 }
 
 impl BoundTy {
-    /// Returns its place in the binder's list of variables.
+    /// Returns the variable's place in its binder's list of variables.
     pub fn var(self) -> BoundVar
         ensures { result ≡ self.var }
     {
@@ -177,8 +177,8 @@ impl BoundTy {
         var
     }
 
-    /// Returns whether the list's entry agrees with the variable: whether it has the same kind and the same name, if
-    /// any.
+    /// Returns whether this entry of the binder's list agrees with the variable: whether the entry is a type with the
+    /// same name, if any.
     pub fn agrees(self, entry: BoundVariableKind) -> bool
         ensures { IsTrue result ↔ (entry ≡ variable.Ty self.kind) }
     {
@@ -203,7 +203,7 @@ impl BoundConst {
         BoundConst { var }
     }
 
-    /// Returns its place in the binder's list of variables.
+    /// Returns the variable's place in its binder's list of variables.
     pub fn var(self) -> BoundVar
         ensures { result ≡ self.var }
     {
@@ -211,8 +211,7 @@ impl BoundConst {
         var
     }
 
-    /// Returns whether the list's entry agrees with the variable: whether it has the same kind and the same name, if
-    /// any.
+    /// Returns whether this entry of the binder's list agrees with the variable: whether the entry is a constant.
     pub fn agrees(self, entry: BoundVariableKind) -> bool
         ensures { IsTrue result ↔ (entry ≡ variable.Const) }
     {
@@ -227,7 +226,8 @@ impl BoundConst {
 }
 
 impl BoundVarIndexKind {
-    /// Returns whether the index is below the greatest, so that one more than it is an index too.
+    /// Returns whether the index is below the greatest, so that the index plus one is an index too. Returns `true` for
+    /// a canonical query.
     pub fn is_shallow(self) -> bool
         ensures { IsTrue result ↔ IsBelowGreatest (depth self) }
     {
@@ -237,7 +237,7 @@ impl BoundVarIndexKind {
         }
     }
 
-    /// Returns one more than the index of a binder, and 0 for a variable of a canonical query.
+    /// Returns one more than the binder's index, or 0 for a canonical query.
     /// [`BoundVarIndexKind::is_shallow`] tests the condition.
     pub fn outer_exclusive_binder(self) -> DebruijnIndex
         requires { IsBelowGreatest (depth self) }

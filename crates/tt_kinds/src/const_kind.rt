@@ -25,7 +25,7 @@ pub struct ParamConst {
 pub enum InferConst {
     /// A variable for any constant.
     Var(ConstVid),
-    /// A number in place of a `Var`, by which constants are told apart in caches.
+    /// A number that replaces a `Var`, by which caches tell constants apart.
     Fresh(u32),
 }
 
@@ -50,9 +50,9 @@ impl UnevaluatedConst {
 /// The bits of an integer, a `bool` or a `char`.
 #[derive(Clone, Copy, Debug, PartialEq, Eq, Hash)]
 pub struct ScalarInt {
-    /// Its bits, from the lowest.
+    /// The value's bits as a number.
     pub bits: u128,
-    /// Its size in bytes.
+    /// The value's size in bytes.
     pub size: u8,
 }
 
@@ -66,7 +66,7 @@ pub enum ValTreeKind {
 }
 
 impl ValTreeKind {
-    /// Returns the bits. It has to be a leaf; [`ValTreeKind::try_to_leaf`] tests it.
+    /// Returns the bits of a leaf. The value has to be a leaf; [`ValTreeKind::try_to_leaf`] tests it.
     pub fn to_leaf(self) -> ScalarInt
         requires { IsLeaf self }
         ensures { self ≡ tree.Leaf result }
@@ -77,7 +77,7 @@ impl ValTreeKind {
         }
     }
 
-    /// Returns the values inside. It has to be a branch; [`ValTreeKind::try_to_branch`] tests it.
+    /// Returns the values inside a branch. The value has to be a branch; [`ValTreeKind::try_to_branch`] tests it.
     pub fn to_branch(self) -> Consts
         requires { IsBranch self }
         ensures { self ≡ tree.Branch result }
@@ -146,7 +146,7 @@ pub struct ValueConst {
 pub struct ExprConst {
     /// Which expression it is: a number that the front end chooses.
     pub tag: u32,
-    /// Its contents.
+    /// The expression's parts, as generic arguments.
     pub args: GenericArgs,
 }
 
@@ -174,11 +174,11 @@ pub enum ConstKind {
 /// How an anonymous constant was written.
 #[derive(Clone, Copy, Debug, PartialEq, Eq, Hash)]
 pub enum AnonConstKind {
-    /// An expression over generic parameters, where that is allowed.
+    /// An expression that may use every generic parameter in scope.
     GCE,
-    /// An expression that may name a generic parameter alone.
+    /// An expression that may use no generic parameter.
     MCG,
-    /// An argument that is a path or a literal over generic parameters.
+    /// An expression that may use the generic parameters that it names.
     GCA,
     /// The length of an array that repeats one value.
     RepeatExprCount,

@@ -1,32 +1,32 @@
-//! The iterators of an early binder's items.
+//! The iterators over an early binder's items.
 
 ghost use Rattle.tt_kinds.specs.EarlyBinderIter.{GivesCopied, GivesEarly, GivesMarked, RunsCopied, RunsEarly, RunsMarked};
 
 use crate::binder::{EarlyBinder, Unnormalized};
 use std::ops::Deref;
 
-/// An iterator of a declared value's items, each with its parameters still to be replaced.
-/// [`EarlyBinder::transpose_iter`] makes it.
+/// An iterator over a declared value's items, each with its parameters still to be replaced.
+/// [`EarlyBinder::transpose_iter`] returns it.
 #[derive(Drop)]
 pub struct EarlyBinderIter<T> {
     t: T,
 }
 
-/// An iterator of a declared value's items, each as it is declared. [`EarlyBinder::iter_identity`] makes it.
+/// An iterator over a declared value's items, each as it is declared. [`EarlyBinder::iter_identity`] returns it.
 #[derive(Drop)]
 pub struct IterIdentity<I> {
     iter: I,
 }
 
-/// An iterator of what a declared value's items dereference to, each as it is declared.
-/// [`EarlyBinder::iter_identity_copied`] makes it.
+/// An iterator over what a declared value's items dereference to, each as it is declared.
+/// [`EarlyBinder::iter_identity_copied`] returns it.
 #[derive(Drop)]
 pub struct IterIdentityCopied<I> {
     it: I,
 }
 
 impl<T: IntoIterator> EarlyBinder<T> {
-    /// Returns an iterator of the value's items, each with its parameters still to be replaced.
+    /// Returns an iterator over the value's items, each with its parameters still to be replaced.
     pub fn transpose_iter(self) -> EarlyBinderIter<T::IntoIter>
         ensures t { T.into_iter_gives self.value result.t }
         ensures runs { RunsEarly T.IntoIter.next_gives result }
@@ -36,7 +36,7 @@ impl<T: IntoIterator> EarlyBinder<T> {
         }
     }
 
-    /// Returns an iterator of the value's items, each with its parameters replaced by themselves.
+    /// Returns an iterator over the value's items, each with its parameters replaced by themselves.
     pub fn iter_identity(self) -> IterIdentity<T::IntoIter>
         ensures iter { T.into_iter_gives self.value result.iter }
         ensures runs { RunsMarked T.IntoIter.next_gives result }
@@ -46,7 +46,7 @@ impl<T: IntoIterator> EarlyBinder<T> {
         }
     }
 
-    /// Returns an iterator of what the value's items dereference to, each with its parameters replaced by themselves.
+    /// Returns an iterator over what the value's items dereference to, each with its parameters replaced by themselves.
     pub fn iter_identity_copied(self) -> IterIdentityCopied<T::IntoIter>
     where
         T::Item: Deref,

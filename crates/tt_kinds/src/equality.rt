@@ -1,4 +1,4 @@
-//! Laws of the equality of records and kinds. The functions do nothing: each contract is a law.
+//! Laws of `==` on records and kinds. The functions do nothing: each contract is a law.
 
 ghost use Rattle.tt_index.specs.Equality.{IsSameness};
 
@@ -34,10 +34,11 @@ use crate::term::{Term, TermKind};
 use crate::ty_kind::{
     FloatVarValue, InferTy, IntVarValue, ParamTy, TyKind, TypeAndMut, UnsafeBinderInner,
 };
+use crate::variant::FieldDef;
 use crate::view::{FnInputTys, GenericArgsSlice};
 
-/// `==` holds of two records of one type exactly if they are the same. `T` is the type of what a record holds, if it
-/// may be any type, and `M` the mark of a handle or an id.
+/// `==` holds for two records of one type exactly if they are the same; a record that holds a `T` has this property if
+/// `T` has it. `M` is the mark of a handle or an id.
 pub fn equal_records_are_same<T: PartialEq, M>()
     ensures alias_term { IsSameness ⟦<AliasTerm as PartialEq>⟧.eq }
     ensures alias_ty { IsSameness ⟦<AliasTy as PartialEq>⟧.eq }
@@ -57,6 +58,7 @@ pub fn equal_records_are_same<T: PartialEq, M>()
     ensures error_guaranteed { IsSameness ⟦<ErrorGuaranteed as PartialEq>⟧.eq }
     ensures existential_projection { IsSameness ⟦<ExistentialProjection as PartialEq>⟧.eq }
     ensures existential_trait_ref { IsSameness ⟦<ExistentialTraitRef as PartialEq>⟧.eq }
+    ensures field_def { IsSameness ⟦<FieldDef as PartialEq>⟧.eq }
     ensures field_info { IsSameness ⟦<FieldInfo as PartialEq>⟧.eq }
     ensures coroutine_witness_types { IsSameness ⟦<CoroutineWitnessTypes as PartialEq>⟧.eq }
     ensures fn_header { IsSameness ⟦<FnHeader as PartialEq>⟧.eq }
@@ -89,7 +91,7 @@ pub fn equal_records_are_same<T: PartialEq, M>()
     ensures parts { IsSameness ⟦<Parts as PartialEq>⟧.eq }
 {}
 
-/// `==` holds of two kinds of one type exactly if they are the same.
+/// `==` holds for two kinds of one type exactly if they are the same.
 pub fn equal_kinds_are_same()
     ensures alias_ty_kind { IsSameness ⟦<AliasTyKind as PartialEq>⟧.eq }
     ensures bound_region_kind { IsSameness ⟦<BoundRegionKind as PartialEq>⟧.eq }

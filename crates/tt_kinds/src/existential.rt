@@ -27,10 +27,10 @@ pub struct ExistentialProjection {
 /// A predicate of a trait object on the type that it hides.
 #[derive(Clone, Copy, Debug, PartialEq, Eq, Hash)]
 pub enum ExistentialPredicate {
-    /// It implements a trait.
+    /// The hidden type implements a trait.
     Trait(ExistentialTraitRef),
-    /// An associated item of its trait is equal to a term.
+    /// An associated item of the hidden type is equal to a term.
     Projection(ExistentialProjection),
-    /// It implements an auto trait.
+    /// The hidden type implements an auto trait.
     AutoTrait(TraitId),
 }

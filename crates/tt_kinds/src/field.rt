@@ -10,7 +10,7 @@ pub struct FieldInfo {
     pub base: Ty,
     /// The field's own type.
     pub ty: Ty,
-    /// The name of its variant, where `base` is an enum.
+    /// The name of its variant, if `base` is an enum.
     pub variant: Option<Symbol>,
     /// The position of its variant.
     pub variant_idx: VariantIdx,

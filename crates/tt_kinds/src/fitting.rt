@@ -1,21 +1,22 @@
-//! Laws of which trees fit, which exclude a refusal with the greatest index. The functions do nothing: each contract is
-//! a law.
+//! Laws of the trees that fit, by which a caller can exclude `GreatestIndex`. The functions do nothing: each contract
+//! is a law.
 
 ghost use Rattle.tt_kinds.specs.Fitting.{TreesFit, MovedFit, InstancesFit};
 
-/// A tree whose indices are below the greatest fits, if no more binders than the greatest index counts are nested in it.
+/// A tree fits if its indices are below the greatest, and its binders are nested at most
+/// [`GREATEST_INDEX`](tt_index::GREATEST_INDEX) deep. If the tree is under binders, they count as well.
 pub fn trees_fit()
     ensures { TreesFit }
 {}
 
-/// A tree with this outer exclusive binder, or a smaller one, fits when it is moved into new binders, if there is room
-/// for all of them: for the new binders, for the outer exclusive binder and for the binders that are nested in the tree.
+/// A tree fits when it is moved into `n` new binders, if the sum of `n`, its outer exclusive binder and the depth of
+/// its nested binders is at most the greatest index.
 pub fn moved_trees_fit()
     ensures { MovedFit }
 {}
 
-/// A tree fits when its parameters are replaced, if there is room for the binders that are nested in it and for what
-/// the arguments reach and nest.
+/// A tree whose indices are below the greatest fits when its parameters are replaced, if there is room for the binders
+/// nested in it and, under them, for the outer exclusive binder and the nested binders of each argument.
 pub fn instances_fit()
     ensures { InstancesFit }
 {}

@@ -22,7 +22,7 @@ use crate::handle::{RegionAssumptions, Tys};
 use crate::view::FnInputTys;
 use tt_index::{ExternAbi, Safety};
 
-/// The types of a signature: its inputs, and last its output.
+/// The types of a signature: its inputs, then its output.
 #[derive(Clone, Copy, Debug, PartialEq, Eq, Hash)]
 pub struct FnSigTys {
     /// The types of the inputs in order, then the output's.
@@ -30,7 +30,7 @@ pub struct FnSigTys {
 }
 
 impl FnSigTys {
-    /// Returns the inputs. The list must not be empty where the view is read.
+    /// Returns a view of the inputs. Reading the view requires that the list isn't empty.
     pub fn inputs(self) -> FnInputTys
         ensures { result ≡ record { inputs_and_output = self.inputs_and_output } }
     {
@@ -58,8 +58,8 @@ impl FnSigKind {
         FnSigKind::new(ExternAbi::Rust, Safety::Unsafe, false)
     }
 
-    /// Returns these parts: the calling convention, whether it is safe, and whether it is variadic. No argument is
-    /// splatted.
+    /// Returns these parts: the calling convention, whether the function is safe, and whether it is variadic. No
+    /// argument is splatted.
     pub fn new(abi: ExternAbi, safety: Safety, c_variadic: bool) -> FnSigKind
         ensures { result ≡ packed abi safety c_variadic None }
     {
@@ -100,7 +100,7 @@ impl FnSigKind {
         self.flags % 128 >= 64
     }
 
-    /// Returns whether the function is safe, as a tag.
+    /// Returns whether the function is safe, as a [`Safety`].
     pub fn safety(self) -> Safety
         ensures { result ≡ safety_in self }
     {
@@ -118,7 +118,8 @@ impl FnSigKind {
         self.flags >= 128
     }
 
-    /// Returns the index of the splatted argument, if there is one. [`FnSigKind::set_splat`] takes it as it is.
+    /// Returns the index of the splatted argument, if there is one. The result meets the condition of
+    /// [`FnSigKind::set_splat`].
     pub fn splat(self) -> Option<u16>
         ensures is { result ≡ splat_in self }
         ensures fits { FitsSplat result }
@@ -151,7 +152,7 @@ impl FnSigKind {
         FnSigKind::pack(self.abi(), self.safety(), c_variadic, self.splat())
     }
 
-    /// Returns whether the index of a splatted argument can be kept: there is none, or it is at most 65534.
+    /// Returns whether this index of a splatted argument can be kept: whether it is `None` or at most 65534.
     pub fn fits_splat(index: Option<u16>) -> bool
         ensures { IsTrue result ↔ FitsSplat index }
     {
@@ -218,7 +219,7 @@ impl FnHeader {
     }
 }
 
-/// A signature.
+/// The signature of a function.
 #[derive(Clone, Copy, Debug, PartialEq, Eq, Hash)]
 pub struct FnSig {
     /// The types of the inputs in order, then the output's.
@@ -228,7 +229,7 @@ pub struct FnSig {
 }
 
 impl FnSig {
-    /// Returns the inputs. The list must not be empty where the view is read.
+    /// Returns a view of the inputs. Reading the view requires that the list isn't empty.
     pub fn inputs(self) -> FnInputTys
         ensures { result ≡ record { inputs_and_output = self.inputs_and_output } }
     {
@@ -272,8 +273,8 @@ impl FnSig {
         fn_sig_kind.splat()
     }
 
-    /// Returns whether a function of this signature can be called as the closure traits call it: it is safe, of Rust's
-    /// convention, and not variadic.
+    /// Returns whether a function of this signature can be called as the closure traits call it: whether it is safe, of
+    /// Rust's convention, and not variadic.
     pub fn is_fn_trait_compatible(self) -> bool
         ensures { IsTrue result ↔ IsCompatible self.fn_sig_kind }
     {
@@ -295,7 +296,7 @@ impl FnSig {
         }
     }
 
-    /// Returns the signature of no types, with the parts of [`FnHeader::dummy`].
+    /// Returns a signature with the empty list of types, and with the other parts of [`FnHeader::dummy`].
     pub fn dummy() -> FnSig
         ensures types { result.inputs_and_output ≡ handle 0 }
         ensures kind { result.fn_sig_kind ≡ plain_header.fn_sig_kind }
@@ -386,7 +387,7 @@ impl Binder<FnSig> {
 }
 
 impl Binder<FnSigTys> {
-    /// Returns the signature of these types and these other parts. It undoes [`Binder::split`].
+    /// Returns the signature of these types and these other parts. This undoes [`Binder::split`].
     pub fn with(self, header: FnHeader) -> Binder<FnSig>
         ensures { result ≡ joined self header }
     {

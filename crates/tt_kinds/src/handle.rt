@@ -12,7 +12,8 @@ use crate::table::Table;
 use std::default::Default;
 use std::marker::PhantomData;
 
-/// The name of a row. The mark `K` says what the row holds, so that a type can't be taken for a constant.
+/// A handle: the number of a row in an interner's table. The mark `K` says what the row holds, so that a type can't be
+/// taken for a constant.
 #[derive_where(Clone, Copy, Debug, PartialEq, Eq, Hash)]
 pub struct Handle<K> {
     number: u32,
@@ -40,7 +41,7 @@ impl<K> Handle<K> {
     }
 }
 
-/// The trait of marks, which gives the table of their rows. Clauses are rows of the table of predicates.
+/// A mark of handles. It gives the table of their rows. Clauses are rows of the table of predicates.
 pub trait IsStored {
     ghost TABLE: { Table };
 
@@ -48,8 +49,8 @@ pub trait IsStored {
     const TABLE: Table;
 }
 
-/// The trait of the marks of lists and texts. Their tables have a first row in every interner from the start: the empty
-/// list, or the anonymous name.
+/// A mark of handles whose table has a first row in every interner from the start: the empty list, or the anonymous
+/// name. These are the marks of lists and texts.
 pub trait HasFirst {}
 
 /// The first row: the empty list, or the anonymous name `'_`.
@@ -70,11 +71,11 @@ impl IsStored for TypeRow {
     const TABLE: Table = Table::Types;
 }
 
-/// A type: the name of a stored [`TyKind`](crate::TyKind).
+/// A type: the handle of a stored [`TyKind`](crate::TyKind).
 pub type Ty = Handle<TypeRow>;
 
-/// A type for a place that holds none yet, such as an unused one of a small vector. It names the first row, which an
-/// interner need not have.
+/// A type for places that hold no type yet, such as the unused places of a small vector. It names the first row of the
+/// types, which an interner need not have.
 impl Default for Ty {
     ghost is_default = { λ first. first ≡ handle 0 };
 
@@ -140,7 +141,7 @@ impl IsStored for ExistentialRow {
     const TABLE: Table = Table::Existentials;
 }
 
-/// A predicate of a trait object on the type that it hides, under its own binder: the name of a stored
+/// A predicate of a trait object on the type that it hides, under its own binder: the handle of a stored
 /// [`ExistentialPredicate`](crate::ExistentialPredicate).
 pub type PolyExistentialPredicate = Handle<ExistentialRow>;
 

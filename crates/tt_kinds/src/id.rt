@@ -45,7 +45,7 @@ impl fmt::Display for DefId {
     }
 }
 
-/// The id of a declaration whose sort the mark `S` tells.
+/// The id of a declaration whose sort the mark `S` gives.
 #[derive_where(Clone, Copy, Debug, PartialEq, Eq, Hash)]
 pub struct Id<S> {
     number: u32,
@@ -90,7 +90,7 @@ impl<S> From<Id<S>> for DefId {
     }
 }
 
-/// The trait of marks whose ids name declarations of one sort.
+/// A mark of ids, which all name declarations of one sort.
 pub trait IsDeclared {
     ghost SORT: { DeclarationSort };
 
@@ -254,7 +254,8 @@ impl IsDeclared for FreeTyAlias {
 /// A type alias whose bounds are checked, and which can always be normalized away.
 pub type FreeTyAliasId = Id<FreeTyAlias>;
 
-/// Does nothing. The contract is a law: it says by name which sort of declaration the ids of each mark name.
+/// Each mark of ids has its sort of declarations: [`DataType`] has `Adt`, [`Function`] has `Fn`, and so on. The
+/// function does nothing: its contract is a law.
 pub fn marks_name_their_sorts()
     ensures adt_id { ⟦<DataType as IsDeclared>⟧.SORT ≡ sort.Adt }
     ensures function_id { ⟦<Function as IsDeclared>⟧.SORT ≡ sort.Fn }

@@ -1,5 +1,5 @@
-//! Laws of all trees and readings, for code that is built on top of terms. The functions do nothing: each contract is a
-//! law.
+//! Laws of all trees and readings, and of signatures, for code that is built on top of terms. The functions do nothing:
+//! each contract is a law.
 
 ghost use Rattle.tt_kinds.specs.Laws.{
   PutsCompose,
@@ -19,13 +19,13 @@ ghost use Rattle.tt_kinds.specs.Laws.{
   SplitIsJoined,
 };
 
-/// If each parameter has an argument, two replacements in turn are one, by the first one's arguments with the second
-/// replacement made in them.
+/// If each parameter has an argument, two replacements in turn are one replacement, by the first arguments with the
+/// second replacement made in them.
 pub fn replacements_compose()
     ensures { PutsCompose }
 {}
 
-/// A replacement and then a move are the move and then the replacement by moved arguments.
+/// A replacement followed by a move is the same as the move followed by a replacement by the moved arguments.
 pub fn moves_commute_with_replacement()
     ensures { MovesCommute }
 {}
@@ -40,12 +40,13 @@ pub fn moves_tell_readings()
     ensures { MovesTellReadings }
 {}
 
-/// Variables that match their binders' lists still do after parameters are replaced by arguments whose variables do.
+/// If the variables of a reading and of the arguments match their binders' lists, so do the variables after the
+/// replacement.
 pub fn replacement_keeps_matched()
     ensures { PutKeepsMatched }
 {}
 
-/// Variables that match their binders' lists still do after a move.
+/// If the variables of a reading match their binders' lists, so do the variables after a move.
 pub fn move_keeps_matched()
     ensures { MoveKeepsMatched }
 {}
@@ -75,7 +76,7 @@ pub fn shifts_read_as_moved()
     ensures { ShiftsRead }
 {}
 
-/// A shift under some binders keeps a tree that reaches no further than they do.
+/// A shift under some binders keeps a tree that reaches no further than these binders.
 pub fn shift_keeps_low_trees()
     ensures { ShiftKeepsLow }
 {}
@@ -85,7 +86,7 @@ pub fn shift_by_zero_keeps_trees()
     ensures { ShiftByZero }
 {}
 
-/// Each part of a signature's kind that was packed is what its call reads.
+/// Each part of a packed [`FnSigKind`](crate::FnSigKind) is read as it was packed.
 pub fn packed_parts_are_read()
     ensures { PackedPartsAreRead }
 {}

@@ -18,6 +18,7 @@ pub mod generic_arg;
 pub mod handle;
 pub mod id;
 pub mod laws;
+pub mod order;
 pub mod own_flags;
 pub mod parts;
 pub mod pattern;

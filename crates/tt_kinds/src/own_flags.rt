@@ -1,4 +1,4 @@
-//! The flags and the reach of kinds themselves, without their contents.
+//! The flags and the outer exclusive binder of a kind itself, without its contents.
 
 ghost use Rattle.std.specs.Prelude.{◌≡◌, ◌↔◌, ℕ, IsTrue};
 ghost use Rattle.tt_kinds.specs.Label.{Sort, type_sort, const_sort, Label, type_label, const_label};
@@ -13,13 +13,13 @@ use crate::ty_kind::{InferTy, TyKind};
 use tt_flags::TypeFlags;
 use tt_index::DebruijnIndex;
 
-/// The flags and the reach of a kind itself, without its contents.
+/// The flags and the outer exclusive binder of a kind itself, without its contents.
 pub trait OwnFlags {
     ghost form: { Self → Form (Label ℕ) };
 
     ghost sort: { Sort };
 
-    /// Returns whether the kind is a bound variable with the greatest index; no term of such a kind is built.
+    /// Returns whether the kind is a bound variable with the greatest index. No term of this kind is built.
     fn is_too_deep(&self) -> bool
         ensures { IsTrue result ↔ IsTooDeep (form_shape sort (form self.now)) };
 
@@ -27,8 +27,8 @@ pub trait OwnFlags {
     fn own_flags(&self) -> TypeFlags
         ensures { result.bits ≡ own_flags sort (form self.now) };
 
-    /// Returns one more than the index of a bound variable, and 0 for every other kind. [`OwnFlags::is_too_deep`] tests
-    /// the condition.
+    /// Returns one more than the index of a bound variable, and 0 for every other kind and for a variable of a
+    /// canonical query. [`OwnFlags::is_too_deep`] tests the condition.
     fn own_outer_exclusive_binder(&self) -> DebruijnIndex
         requires { IsTooDeep (form_shape sort (form self.now)) → ⊥ }
         ensures { result ≡ own_reach (form self.now) };

@@ -1,7 +1,7 @@
 //! The parts of a kind in order, and the kind with other parts in their places.
 //!
 //! A kind has at most two children (regions, stored terms or stored lists), perhaps under one binder. So a walk goes
-//! over a pair of parts and needn't tell one kind from another. Flags, hooks and the tests of a kind's contents do.
+//! over a pair of parts and needs no `match` on the kind. Flags, hooks and the tests of a kind's contents need one.
 
 ghost use Rattle.std.specs.Prelude.{◌≡◌, ◌↔◌, IsTrue};
 ghost use Rattle.tt_kinds.specs.Parts.{AreLike, node_table, list_sort, no_parts, one_part, two_parts};
@@ -27,7 +27,7 @@ use crate::region_kind::Region;
 use crate::table::Table;
 use crate::ty_kind::TyKind;
 
-/// A stored term at which a walk can stop: a term that has a kind, or a list of clauses.
+/// A stored term that walks can visit: a term that has a kind, or a list of clauses.
 #[derive(Clone, Copy, Debug, PartialEq, Eq)]
 pub enum Node {
     /// A type.
@@ -172,7 +172,7 @@ impl Node {
     }
 }
 
-// Each method is for a node of that table; a `match` tests it.
+// Each method is for nodes of one table; a `match` tests the condition.
 impl Node {
     /// Returns the type.
     pub fn ty(self) -> Ty
@@ -258,7 +258,7 @@ impl List {
     }
 }
 
-// Each method is for a list of that sort; a `match` tests it.
+// Each method is for lists of one sort; a `match` tests the condition.
 impl List {
     /// Returns the list of types.
     pub fn tys(self) -> Tys

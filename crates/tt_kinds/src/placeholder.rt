@@ -7,10 +7,10 @@ ghost use Rattle.tt_kinds.specs.declared.bound.BoundTyKind.TheVariants as ty_kin
 use crate::bound::{BoundConst, BoundRegion, BoundRegionKind, BoundTy, BoundTyKind};
 use tt_index::{BoundVar, UniverseIndex};
 
-/// A bound variable whose binder has been entered, as a constant of a universe.
+/// A placeholder, which replaces a bound variable whose binder has been entered.
 #[derive(Clone, Copy, Debug, PartialEq, Eq, PartialOrd, Ord, Hash)]
 pub struct Placeholder<T> {
-    /// The universe in which it can be named.
+    /// The universe that it belongs to.
     pub universe: UniverseIndex,
     /// The bound variable that it replaces.
     pub bound: T,
@@ -24,7 +24,7 @@ impl<T> Placeholder<T> {
         Placeholder { universe, bound }
     }
 
-    /// Returns the same variable in another universe.
+    /// Returns the placeholder of another universe for the same variable.
     pub fn with_updated_universe(self, universe: UniverseIndex) -> Placeholder<T>
         ensures { result ≡ record { universe = universe; bound = self.bound } }
     {
@@ -36,7 +36,7 @@ impl<T> Placeholder<T> {
 }
 
 impl<T: Drop> Placeholder<T> {
-    /// Returns the universe in which it can be named.
+    /// Returns the universe that the placeholder belongs to.
     pub fn universe(self) -> UniverseIndex
         ensures { result ≡ self.universe }
     {
@@ -54,7 +54,7 @@ pub type PlaceholderType = Placeholder<BoundTy>;
 pub type PlaceholderConst = Placeholder<BoundConst>;
 
 impl Placeholder<BoundRegion> {
-    /// Returns the place of its variable in the binder's list.
+    /// Returns the variable's place in its binder's list of variables.
     pub fn var(self) -> BoundVar
         ensures { result ≡ self.bound.var }
     {
@@ -62,7 +62,7 @@ impl Placeholder<BoundRegion> {
         var
     }
 
-    /// Returns the placeholder of this universe for the region at this place, which has no name.
+    /// Returns the placeholder of this universe for the anonymous region at this place.
     pub fn new_anon(universe: UniverseIndex, var: BoundVar) -> PlaceholderRegion
         ensures { result ≡ record { universe = universe; bound = record { var = var; kind = region_kind.Anon } } }
     {
@@ -77,7 +77,7 @@ impl Placeholder<BoundRegion> {
 }
 
 impl Placeholder<BoundTy> {
-    /// Returns the place of its variable in the binder's list.
+    /// Returns the variable's place in its binder's list of variables.
     pub fn var(self) -> BoundVar
         ensures { result ≡ self.bound.var }
     {
@@ -85,7 +85,7 @@ impl Placeholder<BoundTy> {
         var
     }
 
-    /// Returns the placeholder of this universe for the type at this place, which has no name.
+    /// Returns the placeholder of this universe for the anonymous type at this place.
     pub fn new_anon(universe: UniverseIndex, var: BoundVar) -> PlaceholderType
         ensures { result ≡ record { universe = universe; bound = record { var = var; kind = ty_kind.Anon } } }
     {
@@ -100,7 +100,7 @@ impl Placeholder<BoundTy> {
 }
 
 impl Placeholder<BoundConst> {
-    /// Returns the place of its variable in the binder's list.
+    /// Returns the variable's place in its binder's list of variables.
     pub fn var(self) -> BoundVar
         ensures { result ≡ self.bound.var }
     {
@@ -108,7 +108,7 @@ impl Placeholder<BoundConst> {
         var
     }
 
-    /// Returns the placeholder of this universe for the constant at this place, which has no name.
+    /// Returns the placeholder of this universe for the constant at this place.
     pub fn new_anon(universe: UniverseIndex, var: BoundVar) -> PlaceholderConst
         ensures { result ≡ record { universe = universe; bound = record { var = var } } }
     {

@@ -22,7 +22,7 @@ pub struct TraitPredicate {
     pub trait_ref: TraitRef,
 }
 
-/// How far an implementation has to be usable in constants.
+/// In which constants an implementation has to be usable.
 #[derive(Clone, Copy, Debug, PartialEq, Eq, Hash)]
 pub enum BoundConstness {
     /// In every constant.
@@ -31,12 +31,12 @@ pub enum BoundConstness {
     Maybe,
 }
 
-/// A type implements a trait so that it can be used in constants.
+/// A type implements a trait, and constants can use the implementation.
 #[derive(Clone, Copy, Debug, PartialEq, Eq, Hash)]
 pub struct HostEffectPredicate {
     /// The trait and the type.
     pub trait_ref: TraitRef,
-    /// In which constants.
+    /// Which constants can use the implementation.
     pub constness: BoundConstness,
 }
 
@@ -65,11 +65,11 @@ pub struct NormalizesTo {
 /// The type `a` is a subtype of the type `b`.
 #[derive(Clone, Copy, Debug, PartialEq, Eq, Hash)]
 pub struct SubtypePredicate {
-    /// Whether `a` is what was expected, for messages.
+    /// Whether `a` is the expected type, for messages.
     pub a_is_expected: bool,
     /// The subtype.
     pub a: Ty,
-    /// The other type.
+    /// The supertype.
     pub b: Ty,
 }
 

@@ -29,7 +29,7 @@ pub enum ClauseKind {
     WellFormed(Term),
     /// A constant can be computed.
     ConstEvaluatable(Const),
-    /// A type implements a trait so that it can be used in constants.
+    /// A type implements a trait, and constants can use the implementation.
     HostEffect(HostEffectPredicate),
     /// The unstable feature of this name is enabled.
     UnstableFeature(Symbol),
@@ -66,7 +66,7 @@ pub enum PredicateKind {
 }
 
 impl PredicateKind {
-    /// Returns whether it may be in a list of assumptions.
+    /// Returns whether the predicate is a clause, so that it may be in a list of assumptions.
     pub fn is_clause(&self) -> bool
         ensures { result ≡ is_clause_kind self.now }
     {

@@ -53,7 +53,7 @@ pub enum RegionKind {
 }
 
 impl RegionKind {
-    // Returns whether the region is not a bound one with the greatest index.
+    // Returns whether the index of a bound region is below the greatest, and `true` for every other region.
     fn is_shallow(&self) -> bool
         ensures { IsTrue result ↔ IsShallow self.now }
     {
@@ -66,7 +66,7 @@ impl RegionKind {
 
 /// A region. Unlike types, regions are small, so they are kept by value.
 ///
-/// A bound region's index is below [`GREATEST_INDEX`](tt_index::GREATEST_INDEX), so that one more than it is an index
+/// A bound region's index is below [`GREATEST_INDEX`](tt_index::GREATEST_INDEX), so that the index plus one is an index
 /// too.
 #[derive(Clone, Copy, Debug, PartialEq, Eq, Hash)]
 pub struct Region {
@@ -152,8 +152,7 @@ impl Region {
         self.kind
     }
 
-    /// Returns `true`. Every region can be built: a bound region's index is below the greatest, and the numbers lie in
-    /// the ranges of their types. The contract gives callers this fact.
+    /// Returns `true`: a bound region's index is below the greatest. The contract gives callers this fact.
     pub fn in_range(self) -> bool
         ensures holds { IsTrue result }
         ensures shallow { IsShallow self }
@@ -162,7 +161,7 @@ impl Region {
         self.kind.is_shallow()
     }
 
-    /// Returns the flags of the region: its kind's flags, and one more for a variable of a canonical query.
+    /// Returns the flags of the region. A variable of a canonical query has one flag more than other bound regions.
     #[tactic(auto, unfolding(crate::specs::Shape::fill))]
     pub fn flags(self) -> TypeFlags
         ensures { (f : Meaning) → result.bits ≡ scan (fill f (region_shape self)) }
@@ -182,8 +181,8 @@ impl Region {
         }
     }
 
-    /// Returns one more than the index of a region that is bound by the binder at that index, and 0 for every other
-    /// region.
+    /// Returns one more than the index of a bound region, and 0 for every other region and for a variable of a
+    /// canonical query.
     #[tactic(auto, unfolding(crate::specs::Shape::fill))]
     pub fn outer_exclusive_binder(self) -> DebruijnIndex
         ensures { (f : Meaning) → result ≡ outer_binder (fill f (region_shape self)) }

@@ -37,11 +37,11 @@ pub enum InferTy {
     IntVar(IntVid),
     /// A variable for a floating point type.
     FloatVar(FloatVid),
-    /// A number in place of a `TyVar`, by which types are told apart in caches.
+    /// A number that replaces a `TyVar`, by which caches tell types apart.
     FreshTy(u32),
-    /// A number in place of an `IntVar`.
+    /// A number that replaces an `IntVar`.
     FreshIntTy(u32),
-    /// A number in place of a `FloatVar`.
+    /// A number that replaces a `FloatVar`.
     FreshFloatTy(u32),
 }
 
@@ -50,7 +50,7 @@ pub enum InferTy {
 pub struct TypeAndMut {
     /// The type.
     pub ty: Ty,
-    /// Whether it may be written.
+    /// Whether a value of the type may be written.
     pub mutbl: Mutability,
 }
 
@@ -174,7 +174,8 @@ pub enum TyKind {
 }
 
 impl TyKind {
-    /// Returns whether the type's form is known: it is no error, no variable, no alias and no parameter.
+    /// Returns whether the type's form is known: whether it is no alias, no parameter, no placeholder, no error, and no
+    /// bound or inference variable.
     pub fn is_known_rigid(&self) -> bool
         ensures { IsTrue result ↔ IsRigid self.now }
     {
@@ -193,7 +194,7 @@ impl TyKind {
 /// The value of an `IntVar`, as far as it is known.
 #[derive(Clone, Copy, Debug, PartialEq, Eq, Hash)]
 pub enum IntVarValue {
-    /// Nothing.
+    /// The value is unknown.
     Unknown,
     /// This signed integer type.
     IntType(IntTy),
@@ -223,7 +224,7 @@ impl IntVarValue {
 /// The value of a `FloatVar`, as far as it is known.
 #[derive(Clone, Copy, Debug, PartialEq, Eq, Hash)]
 pub enum FloatVarValue {
-    /// Nothing.
+    /// The value is unknown.
     Unknown,
     /// This floating point type.
     Known(FloatTy),

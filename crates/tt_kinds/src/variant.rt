@@ -11,7 +11,7 @@ pub struct FieldDef {
     pub ty: Ty,
 }
 
-/// A variant of a data type. A struct has one, which has no name.
+/// A variant of a data type. A struct has one variant, without a name.
 #[derive(Drop)]
 pub struct VariantDef {
     /// Its name, if it has one.

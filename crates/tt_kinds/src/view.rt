@@ -13,7 +13,7 @@ pub struct FnInputTys {
 }
 
 impl FnInputTys {
-    /// Returns the view of all types of this list but the last. The list must not be empty.
+    /// Returns the view of all types of this list but the last. Reading the view requires that the list isn't empty.
     pub fn from_parts(inputs_and_output: Tys) -> FnInputTys
         ensures { result ≡ record { inputs_and_output = inputs_and_output } }
     {
@@ -37,8 +37,8 @@ pub struct GenericArgsSlice {
 }
 
 impl GenericArgsSlice {
-    /// Returns the view of `len` arguments of the list, from the place `start` on, counted from 0. They have to lie in
-    /// the list.
+    /// Returns the view of `len` arguments of the list, from the place `start` on, counted from 0. Reading the view
+    /// requires that the list has all of these places.
     pub fn from_parts(args: GenericArgs, start: u32, len: u32) -> GenericArgsSlice
         ensures { result ≡ record { args = args; start = start; len = len } }
     {

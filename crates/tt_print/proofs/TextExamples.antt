@@ -115,6 +115,7 @@ static = region static_region
 abbrev number : ℕ → Tree Depth
 number n = constant (leaf_const n 8) (one usize)
 
+-- types without parts
 plain_types : AreWritten (
     (ty bool_type none, codes "bool")
     ∷ (ty char_type none, codes "char")
@@ -129,7 +130,7 @@ plain_types : AreWritten (
     ∷ [])
 plain_types = refl
 
--- variables that represent types
+-- variables that represent types: parameters by name, the others by their numbers
 type_variables : AreWritten (
     (parameter, codes "T")
     ∷ (bound type_sort (at 2) (record { var = 1; kind = type_variable bound_ty.Anon }), codes "^2.1")
@@ -154,6 +155,7 @@ by_themselves = refl
 abbrev near : Tree Depth
 near = bound region_sort (at 0) (record { var = 0; kind = region_variable anonymous })
 
+-- references with their regions, and raw pointers
 pointers : AreWritten (
     (ty (ref_type mutability.«Not») (two near u32), codes "&'^0.0 u32")
     ∷ (ty (ref_type mutability.«Mut») (two static u32), codes "&'static mut u32")
@@ -164,6 +166,7 @@ pointers : AreWritten (
 unfolding digits
 pointers = refl
 
+-- slices, arrays with their lengths, and tuples, of which one of a single type has a comma
 lists : AreWritten (
     (ty slice_type (one parameter), codes "[T]")
     ∷ (ty array_type (two u32 (number 4)), codes "[u32; 4:8_usize]")
@@ -183,6 +186,7 @@ made convention safety variadic = packed convention safety variadic None
 abbrev pointer : List (VarKind Name) → FnSigKind → Forest Depth → Tree Depth
 pointer vs kind ts = ty (fn_ptr_type (record { fn_sig_kind = kind })) (one (binder vs (value_of fn_sig_tys_record (one (types ts)))))
 
+-- pointers to functions: their conventions, their safety, splatted and variadic arguments
 functions : AreWritten (
     (pointer [] (made abi.Rust Safe false) (two parameter (ty tuple_type (one (types (two u32 parameter))))), codes "fn(T) -> (u32, T)")
     ∷ (pointer [] (made abi.Rust Safe false) (three parameter u32 never), codes "fn(T, u32) -> !")
@@ -204,7 +208,7 @@ splatted_apart = refl
 abbrev quantified : List (VarKind Name) → Tree Depth
 quantified vs = pointer vs (made abi.Rust Safe false) (two u32 usize)
 
--- binders of different variables
+-- the variables of binders: each by its index, with its name where it has one
 variables : AreWritten (
     (quantified [], codes "fn(u32) -> usize")
     ∷ (quantified (region_variable anonymous ∷ type_variable bound_ty.Anon ∷ const_variable ∷ []), codes "for<'^0, ^1, ^2c> fn(u32) -> usize")
@@ -216,10 +220,12 @@ variables : AreWritten (
 unfolding digits
 variables = refl
 
+-- binders of a type and of a constant
 variables_apart : AreToldApart (quantified (type_variable bound_ty.Anon ∷ [])) (quantified (const_variable ∷ []))
 unfolding digits
 variables_apart = refl
 
+-- data types, functions and aliases by name with their arguments; closures and coroutines in braces
 items : AreWritten (
     (ty (adt_type 0) (one (args none)), codes "Vec")
     ∷ (ty (fn_def_type 0) (one (args (one parameter))), codes "Vec<T>")
@@ -250,10 +256,12 @@ constants : AreWritten (
 unfolding digits
 constants = refl
 
+-- a canonical type and a canonical constant
 bound_apart : AreToldApart (bound type_sort canonical (record { var = 1; kind = type_variable bound_ty.Anon })) (bound const_sort canonical (record { var = 1; kind = const_variable }))
 unfolding digits
 bound_apart = refl
 
+-- placeholders of a type and of a constant
 placeholders_apart : AreToldApart
     (ty (placeholder_type (record { universe = 3; bound = record { var = 1; kind = bound_ty.Anon } })) none)
     (constant (placeholder_const (record { universe = 3; bound = record { var = 1 } })) none)
@@ -264,6 +272,7 @@ placeholders_apart = refl
 abbrev branch : Tree Depth → Forest Depth → Tree Depth
 branch t cs = constant branch_const (two t (node (list_label ConstLists) cs))
 
+-- values: their bits, their size and their type; or their type and their parts
 values : AreWritten (
     (constant (leaf_const 1 1) (one (ty bool_type none)), codes "1:1_bool")
     ∷ (constant (leaf_const 340282366920938463463374607431768211455 16) (one (ty bool_type none)), codes "340282366920938463463374607431768211455:16_bool")
@@ -285,6 +294,7 @@ not_null = term (pattern_label not_null_pattern) none
 abbrev either : Tree Depth → Tree Depth → Tree Depth
 either p q = term (pattern_label or_pattern) (one (node (list_label PatternLists) (two p q)))
 
+-- patterns: all but null, ranges, and alternatives in parentheses
 patterns : AreWritten (
     (not_null, codes "!null")
     ∷ (term (pattern_label range_pattern) (two (number 1) (number 9)), codes "1:8_usize..=9:8_usize")
@@ -305,6 +315,7 @@ reference t = ty (ref_type mutability.«Not») (two static t)
 abbrev restricted : Tree Depth → Tree Depth → Tree Depth
 restricted t p = ty pat_type (two t p)
 
+-- types restricted to a pattern, and types under a binder
 restricted_types : AreWritten (
     (reference (restricted u32 not_null), codes "&'static pattern_type!(u32 is !null)")
     ∷ (restricted (reference u32) not_null, codes "pattern_type!(&'static u32 is !null)")
@@ -317,6 +328,7 @@ restricted_types = refl
 restricted_apart : AreToldApart (reference (restricted u32 not_null)) (restricted (reference u32) not_null)
 restricted_apart = refl
 
+-- each kind of region: by its name, its number or its index
 regions : AreWritten (
     (static, codes "'static")
     ∷ (region erased_region, codes "'{erased}")
@@ -344,6 +356,7 @@ existential vs l ts = term existential_label (one (binder vs (value_of l ts)))
 abbrev object : Forest Depth → Tree Depth
 object ps = ty dynamic_type (two (node (list_label ExistentialLists) ps) static)
 
+-- trait objects: their predicates, with their binders, and their region
 trait_objects : AreWritten ((
   object (two
       (existential [] (existential_trait_record 1) (one (args (one u32))))
@@ -360,6 +373,7 @@ trait_objects = refl
 abbrev predicate : RecordLabel Name → Forest Depth → Tree Depth
 predicate l ts = term predicate_label (one (binder [] (value_of l ts)))
 
+-- each kind of clause, with its parts
 clauses : AreWritten (
     (predicate (trait_record 1) (one (args (one parameter))), codes "TraitPredicate(Iterator<T>)")
     ∷ (predicate (host_effect_record 1 constness.Const) (one (args (one parameter))), codes "HostEffectPredicate(const Iterator<T>)")
@@ -375,6 +389,7 @@ clauses : AreWritten (
 unfolding digits
 clauses = refl
 
+-- each kind of predicate that is no clause, with its parts
 predicates : AreWritten (
     (predicate (dyn_compatible_record 1) none, codes "DynCompatible(Iterator)")
     ∷ (predicate (subtype_record true) (two parameter u32), codes "SubtypePredicate(a_is_expected: true, T, u32)")
@@ -388,7 +403,7 @@ predicates : AreWritten (
 unfolding digits
 predicates = refl
 
--- which type is the expected one
+-- which of two types is the expected one
 expected_apart : AreToldApart (predicate (subtype_record true) (two u32 usize)) (predicate (subtype_record false) (two u32 usize))
 expected_apart = refl
 

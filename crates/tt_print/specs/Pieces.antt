@@ -41,7 +41,7 @@ module _ (rows : List Row) where
   piece_text p = place_text p.style p.place ++ child_text (names rows) [] p.style
       (fill_all (meaning rows) (child_shapes p.child))
 
-  -- the texts of pieces, the last of which comes first
+  -- the texts of pieces, from the last piece to the first
   abbrev pub pieces_text : List Piece → List ℕ
   pieces_text [] = []
   pieces_text (p ∷ ps) = pieces_text ps ++ piece_text p
@@ -62,7 +62,7 @@ module _ (rows : List Row) where
     pub low : pieces_work new ≤ work + pieces_work old
     pub parts : ArePieces old → ArePieces new
 
-  -- the text was begun: what was written of it, and the pieces that were added, are the text
+  -- the whole text was begun: what was written, and then the texts of the added pieces, are the whole text
   pub record Opened (a b : List ℕ) (old new : List Piece) (whole : List ℕ) (work : ℕ) : Type 0 where
     pub text : b ++ pieces_text new ≡ a ++ (whole ++ pieces_text old)
     pub low : pieces_work new ≤ work + pieces_work old
@@ -74,7 +74,7 @@ module _ (rows : List Row) where
     pub opened : OnOk result (Opened a b old new whole work)
     pub kept : BeginsText a b
 
-  -- what was written, and the pieces that are left, are the whole text behind the old one
+  -- what was written, and then the texts of the pieces that are left, are the whole text after the old text
   pub record Left (a b : List ℕ) (ps : List Piece) (whole : List ℕ) : Type 0 where
     pub text : b ++ pieces_text ps ≡ a ++ whole
     pub kept : BeginsText a b

@@ -32,7 +32,7 @@ subject_of (spelled.Called s) = called s.number
 abbrev pub head_of : Spelling → Head ℕ
 head_of s = record { before = s.before.now; subject = subject_of s.subject; after = s.after.now }
 
--- the head of a form, where a variable represents something of the sort
+-- the head of a form, where a parameter or a bound variable is of the sort
 abbrev pub form_head : Sort → Form (Label ℕ) → Head ℕ
 form_head s (param i name) = with_word [] (called name)
 form_head s (bound d e) = bound_head s d e.var
@@ -54,7 +54,7 @@ region_head (shape.region r) = free_head r
 region_head _ = no_head
 
 module _ {N M : Type 0} (name : N → M) where
-  -- the same part of the data with a name replaced
+  -- the same part of the data with its name replaced
   abbrev pub rename_subject : Subject N → Subject M
   rename_subject nothing = nothing
   rename_subject (words w) = words w
@@ -69,17 +69,17 @@ module _ {N M : Type 0} (name : N → M) where
   abbrev pub rename_head : Head N → Head M
   rename_head h = record { before = h.before; subject = rename_subject h.subject; after = h.after }
 
--- the name is in the table of symbols
+-- if the part of the data is a name, the name is in the table of symbols
 abbrev pub IsNamedSubject : Sizes → Subject ℕ → Type 0
 IsNamedSubject size (called n) = n < size Symbols
 IsNamedSubject size _ = Unit {0}
 
--- the variables of a binder, if there is one
+-- the text of a binder's variables, if there is a binder
 abbrev pub binder_text : (ℕ → Name) → Meaning → Option BoundVarKinds → List ℕ
 binder_text item_name f None = []
 binder_text item_name f (Some vars) = variables_text item_name 0 (vars_of (f VarLists vars.number))
 
--- the text of what is spelled so, around its children
+-- the text of a spelling, with these children
 abbrev pub spelled_text : (ℕ → Name) → Meaning → Spelling → Forest Depth → List ℕ
 spelled_text item_name f s ts = head_text item_name (rename_head (name_of f) (head_of s))
     ++ (texts item_name s.style true ts ++ closing s.style (count_trees ts))

@@ -56,7 +56,7 @@ use Rattle.tt_interner.specs.Declarations.{declared_at}
 use Rattle.tt_print.specs.declared.ir_print.layout.Style.{Style}
 use Rattle.tt_print.specs.declared.ir_print.layout.Style.TheVariants as style
 
--- the part of a node's data that is written: N names a symbol
+-- the part of a node's data that is written, where N is the type of names
 pub data Subject (N : Type 0) : Type 0 where
   nothing : Subject N
   words : List ℕ → Subject N
@@ -78,7 +78,7 @@ pub record Head (N : Type 0) : Type 0 where
   pub after : List ℕ
 
 module _ {N : Type 0} where
-  -- nothing in front
+  -- no text in front of the children
   abbrev pub no_head : Head N
   no_head = record { before = []; subject = nothing; after = [] }
 
@@ -86,7 +86,7 @@ module _ {N : Type 0} where
   abbrev pub word : List ℕ → Head N
   word w = record { before = w; subject = nothing; after = [] }
 
-  -- a word and what follows it
+  -- a word, and a part of the data after it
   abbrev pub with_word : List ℕ → Subject N → Head N
   with_word w s = record { before = w; subject = s; after = [] }
 
@@ -108,19 +108,19 @@ uint_name uint.U32 = codes "u32"
 uint_name uint.U64 = codes "u64"
 uint_name uint.U128 = codes "u128"
 
--- the floating point types
+-- the names of the floating point types
 abbrev pub float_name : FloatTy → List ℕ
 float_name float.F16 = codes "f16"
 float_name float.F32 = codes "f32"
 float_name float.F64 = codes "f64"
 float_name float.F128 = codes "f128"
 
--- the word of a function that isn't safe
+-- the word in front of an unsafe function, and nothing for a safe function
 abbrev pub safety_word : Safety → List ℕ
 safety_word Safe = []
 safety_word Unsafe = codes "unsafe "
 
--- the words of a calling convention; Rust's own has none
+-- the words of a calling convention; Rust's own convention has none
 abbrev pub abi_words : ExternAbi → List ℕ
 abi_words Rust = []
 abi_words (C false) = codes "extern \"C\" "
@@ -302,7 +302,7 @@ module _ {N : Type 0} where
   variable_title (type_variable k) = ty_title k
   variable_title const_variable = no_head
 
-  -- a region that is neither an early parameter nor bound
+  -- the head of a region that is neither an early parameter nor bound
   abbrev pub free_head : FreeRegion N → Head N
   free_head static_region = word (codes "'static")
   free_head erased_region = word (codes "'{erased}")
@@ -348,7 +348,7 @@ abbrev pub relation_style : AliasRelationDirection → Style
 relation_style direction.Equate = style.Equated
 relation_style direction.Subtype = style.Subtyped
 
--- the style of a record's members, in a term of the first style
+-- the style of a record's members, in a term of this style
 abbrev pub record_style : {N : Type 0} → Style → RecordLabel N → Style
 record_style s fn_sig_tys_record = s
 record_style s (trait_record d) = style.Record
@@ -387,7 +387,7 @@ list_style style.OneOf = style.Alternatives
 list_style style.Branch = style.Values
 list_style _ = style.Listed
 
--- the style of a label's children, in a term of the first style
+-- the style of a label's children, in a term of this style
 abbrev pub style_in : {N : Type 0} → Style → Label N → Style
 style_in s (type_label l) = type_style l
 style_in s (const_label l) = const_style l
@@ -437,7 +437,7 @@ abbrev pub before_child : Style → Bool → Bool → List ℕ
 before_child s true last = opening_text s last
 before_child s false last = separator s last
 
--- the text after so many children
+-- the text after this number of children
 abbrev pub closing : Style → ℕ → List ℕ
 closing style.Square n = codes "]"
 closing style.Restricted n = codes ")"
@@ -459,12 +459,12 @@ closing style.Bounds zero = []
 closing style.Bounds (suc n) = codes " + "
 closing _ n = []
 
--- the text in front of the variable of this place in a binder's list
+-- the text in front of the variable at this place in a binder's list
 abbrev pub before_variable : ℕ → List ℕ
 before_variable zero = codes "for<"
 before_variable (suc n) = codes ", "
 
--- the text after so many variables of a binder
+-- the text after this number of variables of a binder
 abbrev pub after_variables : ℕ → List ℕ
 after_variables zero = []
 after_variables (suc n) = codes "> "
@@ -475,7 +475,7 @@ are_none none = true
 are_none (also t ts) = false
 
 module _ (item_name : ℕ → Name) where
-  -- a part of a node's data
+  -- the text of a part of a node's data
   abbrev pub subject_text : Subject Name → List ℕ
   subject_text nothing = []
   subject_text (words w) = w
@@ -490,11 +490,11 @@ module _ (item_name : ℕ → Name) where
   abbrev pub head_text : Head Name → List ℕ
   head_text h = h.before ++ (subject_text h.subject ++ h.after)
 
-  -- the variable of this place in a binder's list
+  -- the text of the variable at this place in a binder's list
   abbrev pub variable_text : ℕ → VarKind Name → List ℕ
   variable_text n v = head_text (variable_head n v) ++ head_text (variable_title v)
 
-  -- the variables of a binder from this place on
+  -- the text of a binder's variables from this place on
   abbrev pub variables_text : ℕ → List (VarKind Name) → List ℕ
   variables_text n [] = after_variables n
   variables_text n (v ∷ vs) = before_variable n ++ (variable_text n v ++ variables_text (suc n) vs)
@@ -525,27 +525,27 @@ module _ (item_name : ℕ → Name) where
   abbrev pub text : Tree Depth → List ℕ
   text t = text_in style.Joined t
 
--- the own name of the declaration of a number, or the number if there is none
+-- the own name of the declaration of a number, or `#` and the number if there is none
 abbrev pub own_name : List Row → ℕ → Name
 own_name rows d = if nat_lt d (size rows Declarations) then name_of (meaning rows)
     (declared_at rows (record { number = d })).name.number else 35 ∷ decimal d
 
--- what is in front of the name of what is declared: the trait or the implementation that it belongs to
+-- the text in front of the name of a declaration of this kind: its trait or its implementation, if it has one
 abbrev pub owner_of : List Row → DeclarationKind → Name
 owner_of rows (declaration.AssocTy t) = own_name rows t.number ++ codes "::"
 owner_of rows (declaration.Inherent i) = own_name rows i.number ++ codes "::"
 owner_of rows _ = []
 
--- what is in front of the name of the declaration of a number
+-- the text in front of the name of the declaration of a number
 abbrev pub owner_name : List Row → ℕ → Name
 owner_name rows d = if nat_lt d (size rows Declarations) then owner_of rows
     (declared_at rows (record { number = d })).kind else []
 
--- the name of the declaration of a number
+-- the whole name of the declaration of a number
 abbrev pub names : List Row → ℕ → Name
 names rows d = owner_name rows d ++ own_name rows d
 
--- bytes were added, or none
+-- the new text begins with the old text
 pub record BeginsText (old new : List ℕ) : Type 0 where
   pub rest : List ℕ
   pub is : new ≡ old ++ rest

@@ -1,4 +1,4 @@
-//! The texts of terms, spelled like the compiler's debug output or nearly so.
+//! The texts of terms, which are close to the compiler's debug output.
 
 ghost use Rattle.std.specs.Prelude.{
   ◌≡◌,
@@ -144,7 +144,7 @@ fn write_symbol(cx: &Interner, out: &mut String, name: Symbol) -> Result<(), All
     write_text(out, name.as_str(cx))
 }
 
-// Appends the own name of a declaration, or its number if the interner has none of this id.
+// Appends a declaration's own name, or `#` and the id's number if the interner has no declaration of this id.
 fn write_own_name(cx: &Interner, out: &mut String, id: DefId) -> Result<(), AllocError>
     ensures { Writes result (string_bytes out.old) (string_bytes out.new) (own_name cx.now.rows id.number) }
 {
@@ -163,7 +163,7 @@ fn write_sized(out: &mut String, bits: u128, size: u8) -> Result<(), AllocError>
     write_marked(out, ":", size as u32)
 }
 
-// Appends the name of a trait or an implementation, in front of an item that belongs to it.
+// Appends the name of a trait or an implementation and `::`, in front of the name of an item that belongs to it.
 fn write_path(cx: &Interner, out: &mut String, id: DefId) -> Result<(), AllocError>
     ensures { Writes result (string_bytes out.old) (string_bytes out.new)
         (own_name cx.now.rows id.number ++ codes "::") }
@@ -172,7 +172,7 @@ fn write_path(cx: &Interner, out: &mut String, id: DefId) -> Result<(), AllocErr
     write_text(out, "::")
 }
 
-// Appends the trait or the implementation that a declaration of this kind belongs to, if there is one.
+// Appends the name of the trait or the implementation that a declaration of this kind belongs to, if there is one.
 fn write_owner_of(cx: &Interner, out: &mut String, kind: &DeclarationKind) -> Result<(), AllocError>
     ensures { Writes result (string_bytes out.old) (string_bytes out.new) (owner_of cx.now.rows kind.now) }
 {
@@ -183,7 +183,8 @@ fn write_owner_of(cx: &Interner, out: &mut String, kind: &DeclarationKind) -> Re
     }
 }
 
-// Appends the trait or the implementation that a declaration belongs to, if the interner has it and there is one.
+// Appends the name of the trait or the implementation that a declaration belongs to, if there is one and the interner
+// has the declaration.
 fn write_owner(cx: &Interner, out: &mut String, id: DefId) -> Result<(), AllocError>
     ensures { Writes result (string_bytes out.old) (string_bytes out.new) (owner_name cx.now.rows id.number) }
 {
@@ -194,7 +195,8 @@ fn write_owner(cx: &Interner, out: &mut String, id: DefId) -> Result<(), AllocEr
     }
 }
 
-// Appends the name of a declaration, behind the trait or the implementation that it belongs to.
+// Appends the name of a declaration, after the name of the trait or the implementation that it belongs to, if there is
+// one.
 fn write_item(cx: &Interner, out: &mut String, id: DefId) -> Result<(), AllocError>
     ensures { Writes result (string_bytes out.old) (string_bytes out.new) (names cx.now.rows id.number) }
 {
@@ -234,7 +236,7 @@ fn write_head(cx: &Interner, out: &mut String, spelling: &Spelling) -> Result<()
     write_text(out, spelling.after)
 }
 
-// Appends a binder's variable of this place in its list.
+// Appends the variable at this place in a binder's list.
 fn write_variable(
     cx: &Interner,
     out: &mut String,
@@ -325,7 +327,7 @@ fn write_node(
     }
 }
 
-// Begins the term of this kind.
+// Begins the term of this kind: appends its binder and its head, and adds the pieces after them.
 fn write_kind(
     cx: &Interner,
     out: &mut String,
@@ -350,7 +352,7 @@ fn write_kind(
     push_parts(pieces, spelling.style, &parts)
 }
 
-// Begins a piece.
+// Appends the text at the place of a piece, and begins its child.
 fn write_piece(
     cx: &Interner,
     out: &mut String,
@@ -377,7 +379,7 @@ fn write_piece(
     }
 }
 
-// Appends the pieces, and what they begin.
+// Appends the texts of all pieces.
 fn write_pieces(cx: &Interner, out: &mut String, pieces: &mut Pieces) -> Result<(), AllocError>
     requires { ArePieces cx.now.rows pieces.old.items }
     ensures { Writes result (string_bytes out.old) (string_bytes out.new) (pieces_text cx.now.rows pieces.old.items) }
@@ -390,7 +392,7 @@ fn write_pieces(cx: &Interner, out: &mut String, pieces: &mut Pieces) -> Result<
     }
 }
 
-// Appends what is spelled so, and its parts.
+// Appends the head of this spelling, and the parts after it.
 fn write_record(
     cx: &Interner,
     out: &mut String,
@@ -412,7 +414,7 @@ fn write_record(
     write_pieces(cx, out, &mut pieces)
 }
 
-// Appends what is spelled so, and its parts, or nothing if memory for it is refused.
+// Appends the head of this spelling and the parts after it, or nothing if memory for them is refused.
 fn print_record(
     cx: &Interner,
     out: &mut String,
@@ -458,16 +460,22 @@ fn print_child(cx: &Interner, out: &mut String, child: &Child) -> Result<(), All
 
 /// A value whose text can be written.
 ///
-/// The text is close to the compiler's debug output: `&'^0.0 u32`, `fn(T) -> (u32, T)`, `dyn Iterator + 'static`. The
-/// result of a function pointer is always written, even `()`. A binder's variables are numbered, a constant has a `c`
-/// at its end, and a name comes after its number: `for<'^0, ^1 T, ^2c> fn(^0.1) -> ()`. A binder without variables
-/// isn't written. An associated type comes behind its trait: `Iterator::Item<T>`. A value is its bits, its size in
-/// bytes and its type: `4:8_usize`.
+/// The text is close to the compiler's debug output: `&'^0.0 u32`, `fn(T) -> (u32, T)`, `dyn Iterator + 'static`.
+///
+/// - The result of a function pointer is always written, even `()`.
+/// - A binder's variables are numbered. A constant's number has a `c` at its end, and a name comes after its number:
+///   `for<'^0, ^1 T, ^2c> fn(^0.1) -> ()`. A binder without variables isn't written.
+/// - An associated type comes after its trait: `Iterator::Item<T>`.
+/// - A value is its bits, its size in bytes and its type: `4:8_usize`.
 ///
 /// Texts are made to tell terms apart, but no contract promises that different terms have different texts. Names are
-/// written as they are, so different items or parameters of one name have the same text, and so have a trait object's
-/// auto trait and the same trait without arguments. What isn't written: a parameter's index, the item of a region
-/// parameter seen from inside it, the name of a bound variable or of a placeholder, and the token of an error.
+/// written as they are, so different items or parameters of one name have the same text. An auto trait of a trait
+/// object has the same text as the same trait without arguments. These parts of terms aren't written:
+///
+/// - a parameter's index;
+/// - the item of a late region parameter;
+/// - the name of a bound variable or of a placeholder;
+/// - the token of an error.
 pub trait IrPrint: TypeVisitable {
     /// Appends the value's text to `out`. The value's handles have to be of this interner;
     /// [`Owned::is_owned`](tt_visit::Owned::is_owned) tests it. An id that names no declaration of this interner is

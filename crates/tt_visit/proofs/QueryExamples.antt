@@ -20,10 +20,11 @@ use Rattle.tt_visit.specs.HasError.{first_error}
 abbrev Row : Type 0
 Row = List ℕ × ℕ × List ℕ
 
--- each mask is the union of its flags
+-- the mask of each row is the union of its flags
 abbrev AreMasks : List Row → Type 0
 AreMasks rows = map (λ (r : Row). r.1) rows ≡ map (λ (r : Row). union_of r.2) rows
 
+-- the mask of each query is the union of the flags that it asks for
 masks : AreMasks (
     (codes "has_aliases", 0x7C00, has_ty_projection ∷ has_ty_free_alias ∷ has_ty_opaque ∷ has_ty_inherent ∷ has_ct_projection ∷ [])
     ∷ (codes "has_opaque_types", 0x1000, has_ty_opaque ∷ [])
@@ -76,11 +77,11 @@ an_error = term (type_label (error_type 3)) none
 abbrev pair : Tree Depth → Tree Depth → Tree Depth
 pair t s = node (record_label pair_record) (also t (also s none))
 
--- the first error of a pair is a region's, and the flag of other errors is set too
+-- the first error of a pair is its region's, and the flag of other errors is set too
 first_of_pair : (first_error (pair of_an_error an_error) ≡ Some 7) × (bit_and 0x8000 (scan (pair of_an_error an_error)) ≡ 0x8000)
 first_of_pair = (refl, refl)
 
--- in the region's error alone it isn't
+-- of the reference alone the first error is its region's, and the flag of other errors is not set
 first_of_reference : (first_error of_an_error ≡ Some 7) × (bit_and 0x8000 (scan of_an_error) ≡ 0)
 first_of_reference = (refl, refl)
 
@@ -88,13 +89,15 @@ first_of_reference = (refl, refl)
 first_of_token : (first_error (node (error_label 3) none) ≡ Some 3) × (scan (node (error_label 3) none) ≡ 0x18000) × (first_error u32 ≡ None)
 first_of_token = (refl, refl, refl)
 
--- a region bound three binders out: under one more binder, two
+-- a reference whose region is bound three binders out
 abbrev far_reference : Tree Depth
 far_reference = reference (bound region_sort (at 2) (record { var = 0; kind = region_variable anonymous }))
 
+-- a reference whose region is bound three binders out reaches three, and with a binder around it two; `u32` reaches
+-- none
 reaches : (outer_binder far_reference ≡ 3) × (outer_binder (binder [] far_reference) ≡ 2) × (outer_binder u32 ≡ 0)
 reaches = (refl, refl, refl)
 
--- the flag of a binder that binds something
+-- a binder that binds something has a flag, and one of no variables none
 binder_flags : (scan (binder (region_variable anonymous ∷ []) u32) ≡ 0x1000000) × (scan (binder [] u32) ≡ 0)
 binder_flags = (refl, refl)

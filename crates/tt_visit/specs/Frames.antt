@@ -39,7 +39,7 @@ rest_children rows (rest.Node n vars) = child.Node n ∷ []
 rest_children rows (rest.List l vars) = child.List l ∷ []
 rest_children rows (rest.Items l index len) = drop index (children_at rows l)
 
--- the binder that is to be left after them
+-- the binder that the visit leaves after the children
 abbrev pub rest_binder : Remaining → Option BoundVarKinds
 rest_binder (rest.Nothing vars) = vars
 rest_binder (rest.Region r vars) = vars
@@ -51,7 +51,7 @@ rest_binder (rest.Items l index len) = None
 abbrev pub frame_children : List Row → Frame → List Child
 frame_children rows f = option_to_list f.first ++ rest_children rows f.rest
 
--- the list is stored, and has so many items
+-- the list is stored, and has this number of items
 abbrev pub HasItems : List Row → StoredList → ℕ → Type 0
 HasItems rows l len = IsPart (size rows) (list_shape l) × (len ≡ length (children_at rows l))
 
@@ -63,7 +63,7 @@ IsWithin (rest.Node n vars) = ⊤
 IsWithin (rest.List l vars) = ⊤
 IsWithin (rest.Items l index len) = index < len
 
--- a list of which items are left is stored, and has those items
+-- if items of a list are left, the list is stored and has them
 abbrev pub IsRest : List Row → Remaining → Type 0
 IsRest rows (rest.Nothing vars) = ⊤
 IsRest rows (rest.Region r vars) = ⊤
@@ -83,7 +83,7 @@ node_age rows n = age rows (node_table n) (node_number n)
 abbrev pub list_age : List Row → StoredList → ℕ
 list_age rows l = age rows (list_table l) (list_number l)
 
--- how many rows there have to be for a child
+-- how many rows there have to be at least for a child
 abbrev pub child_height : List Row → Child → ℕ
 child_height rows child.Absent = 0
 child_height rows (child.Region r) = 0
@@ -131,7 +131,7 @@ pub record Todo : Type 0 where
   pub children : List Child
   pub binder : Option BoundVarKinds
 
--- what a frame leaves to do
+-- what is left in a frame
 abbrev pub frame_todo : List Row → Frame → Todo
 frame_todo rows f = record { children = frame_children rows f; binder = rest_binder f.rest }
 
@@ -158,13 +158,13 @@ pub record IsFrame (rows : List Row) (f : Frame) : Type 0 where
   pub rest : IsRest rows f.rest
   pub todo : IsTodo rows (frame_todo rows f)
 
--- what is left of terms is stored, and no child is higher
+-- what is left of terms is stored, and no child needs more rows than the height
 abbrev pub AreRests : List Row → ℕ → List Remaining → Type 0
 AreRests rows h [] = ⊤
 AreRests rows h (r ∷ rs) = IsRest rows r × IsTodo rows (rest_todo rows r)
     × (children_height rows (rest_children rows r) ≤ h) × AreRests rows h rs
 
--- the binders that are to be left are stored
+-- the binders that the visit leaves are stored
 abbrev pub AreBinders : Sizes → List Remaining → Type 0
 AreBinders size [] = ⊤
 AreBinders size (r ∷ rs) = AreVarsStored size (rest_binder r) × AreBinders size rs
@@ -176,7 +176,7 @@ pub record HoldsParts (parts : Parts) (vars : Option BoundVarKinds) (f : Frame) 
   pub binder : rest_binder f.rest ≡ vars
 
 module _ {M B : Type 0} (V : Visits M B) (rows : List Row) where
-  -- the binder of a term is left, if it has one
+  -- the visitor leaves the binder of a term, if there is one
   abbrev pub VisitorLeaves : M → Option BoundVarKinds → M → Type 0
   VisitorLeaves s None s' = s' ≡ s
   VisitorLeaves s (Some vars) s' = V.leave s (vars_of (meaning rows VarLists vars.number)) s'
@@ -198,12 +198,12 @@ module _ {M B : Type 0} (V : Visits M B) (rows : List Row) where
   StackGoes s [] s' = s' ≡ s
   StackGoes s (r ∷ rs) s' = (s1 : M) × GoesOn s (rest_todo rows r) s1 × StackGoes s1 rs s'
 
-  -- the binders of the terms are left, the innermost first
+  -- the visitor leaves the binders of the terms, the innermost first
   abbrev pub StackLeaves : M → List Remaining → M → Type 0
   StackLeaves s [] s' = s' ≡ s
   StackLeaves s (r ∷ rs) s' = (s1 : M) × VisitorLeaves s (rest_binder r) s1 × StackLeaves s1 rs s'
 
-  -- the visit of what is left of the terms breaks, and leaves the binders around
+  -- the visit of what is left of the terms breaks, and the visitor leaves the binders around the break
   abbrev pub StackBreaks : M → List Remaining → B → M → Type 0
   StackBreaks s [] b s' = ⊥
   StackBreaks s (r ∷ rs) b s' =
@@ -211,8 +211,8 @@ module _ {M B : Type 0} (V : Visits M B) (rows : List Row) where
       ⊎ ((s1 : M) × GoesOn s (rest_todo rows r) s1 × StackBreaks s1 rs b s')
 
   module _ (goes : M → Type 0) (breaks : B → M → Type 0) (height work : ℕ) where
-    -- A visit that was begun has come to a state with this frame left, whose children are below the height and are less
-    -- work: what comes of it makes the whole.
+    -- A visit that was begun has come to a state with this frame left. Its children need fewer rows than the height and
+    -- less work, and when the frame is visited, so is the whole.
     pub record Inside (f : Frame) (s : M) : Type 0 where
       pub is_frame : IsFrame rows f
       pub low : children_height rows (frame_children rows f) < height
@@ -220,20 +220,20 @@ module _ {M B : Type 0} (V : Visits M B) (rows : List Row) where
       pub ends : (s' : M) → GoesOn s (frame_todo rows f) s' → goes s'
       pub fails : (b : B) (s' : M) → BreaksOn s (frame_todo rows f) b s' → breaks b s'
 
-    -- the same where nothing may be left
+    -- the same, where perhaps nothing is left
     abbrev pub Begun : Option Frame → M → Type 0
     Begun None s = goes s
     Begun (Some f) s = Inside f s
 
--- the frame that a call left is stored
+-- the frame that a call returned, if any, is stored
 abbrev pub HasFrame : {B : Type 0} → List Row → ControlFlow B (Option Frame) → Type 0
 HasFrame rows (Continue (Some f)) = IsFrame rows f
 HasFrame rows (Continue None) = ⊤
 HasFrame rows (Break b) = ⊤
 
 module _ {M B S : Type 0} (means : List Row → S → M) (V : Visits M B) where
-  -- A call began the visit of x in the visitor's state s, and answered r: what it says of a visit that breaks, of one
-  -- that is done, and of one that leaves a frame.
+  -- A call began the visit of x in the visitor's state s, and returned r: the visit broke, or it is done, or r has the
+  -- frame that is left of it.
   abbrev pub BeginsVisit : {X : Type 0} → (M → X → M → Type 0) → (M → X → B → M → Type 0) → ℕ → ℕ → List Row → S → X
       → ControlFlow B (Option Frame) → S → Type 0
   BeginsVisit goes breaks height work rows s x r s' = MatchControlFlow r
@@ -241,7 +241,7 @@ module _ {M B S : Type 0} (means : List Row → S → M) (V : Visits M B) where
       (λ b. breaks (means rows s) x b (means rows s'))
 
 module _ {M B : Type 0} (V : Visits M B) (rows : List Row) where
-  -- a call took a visit that was begun to its end
+  -- a call finished a visit that was begun
   abbrev pub FinishesVisit : M → ControlFlow B (Option Frame) → ControlFlow B (Unit {0}) → M → Type 0
   FinishesVisit s (Break b) r s' = (r ≡ Break b) × (s' ≡ s)
   FinishesVisit s (Continue None) r s' = (r ≡ Continue (tt {0})) × (s' ≡ s)

@@ -31,7 +31,7 @@ abbrev mutual
   first_error_among none = None
   first_error_among (also t ts) = option_or (first_error t) (first_error_among ts)
 
--- a token breaks, and terms without an error flag are skipped
+-- a token breaks the visit, and only terms without an error flag are skipped
 abbrev pub error_hooks : Visits ⊤ ErrorGuaranteed
 error_hooks = record {
   on_region = λ s t s'. first_error t ≡ None;

@@ -1,4 +1,4 @@
--- The hooks of the visitors that look how far out variables are bound.
+-- The hooks of the visitors that look at how far out variables are bound.
 use Rattle.std.specs.Prelude.{◌≡◌, ℕ, ◌+◌, ◌-◌, ◌<◌, ◌≤◌, Bool, true, ⊤}
 use Rattle.tt_index.specs.Greatest.{greatest}
 use Rattle.tt_kinds.specs.Tree.{Depth, Tree, Forest, param, bound, region, term, node, binder, none, also}
@@ -9,7 +9,7 @@ use Rattle.tt_visit.specs.declared.visitor.Next.{Next}
 use Rattle.tt_visit.specs.declared.visitor.Next.TheVariants.{Skip, Descend}
 use Rattle.tt_visit.specs.declared.has_escaping_vars.FoundEscapingVars.{FoundEscapingVars}
 
--- a search for variables of the binder of this index, or further out: where it is, and whether it passed over a value
+-- a search for variables bound by the binder of this index or further out, and whether it skipped a binder's value
 pub record Search : Type 0 where
   pub outer_index : ℕ
   pub skipped : Bool
@@ -19,7 +19,7 @@ abbrev pub SearchEnters : Search → Next → Search → Type 0
 SearchEnters s Descend s' = s' ≡ record { outer_index = s.outer_index + 1; skipped = s.skipped }
 SearchEnters s Skip s' = (greatest ≤ s.outer_index) × (s' ≡ record { outer_index = s.outer_index; skipped = true })
 
--- a value that reaches far enough out breaks, and no term with a hook is entered
+-- a value that reaches far enough out breaks the visit, and no term with a hook is entered
 abbrev pub search_hooks : Visits Search FoundEscapingVars
 search_hooks = record {
   on_region = λ s t s'. (s' ≡ s) × (outer_binder t ≤ s.outer_index);

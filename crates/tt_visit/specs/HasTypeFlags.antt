@@ -15,7 +15,7 @@ Misses mask flags = bit_and mask flags ≡ 0
 abbrev pub Meets : ℕ → ℕ → Type 0
 Meets mask flags = bit_and mask flags ≢ 0
 
--- a value with a flag of the mask breaks, and no term with a hook is entered
+-- a value with a flag of the mask breaks the visit, and no term with a hook is entered
 abbrev pub flag_hooks : Visits ℕ FoundFlags
 flag_hooks = record {
   on_region = λ s t s'. (s' ≡ s) × Misses s (scan t);

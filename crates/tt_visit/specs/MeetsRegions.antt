@@ -20,12 +20,12 @@ MeetsNone k t = met k t ≡ []
 abbrev pub MeetsSome : ℕ → Tree Depth → Type 0
 MeetsSome k t = met k t ≢ []
 
--- where the search is: under how many binders of the value, and whether it passed over a binder's value
+-- where the search is: under how many binders of the value, and whether it skipped a binder's value
 pub record RegionSearch : Type 0 where
   pub depth : ℕ
   pub skipped : Bool
 
--- a term that meets no region is skipped; it is entered if its regions are all bound and it reaches past k binders
+-- a term is skipped only if no region is met in it, and entered only if its regions are bound and it reaches past k
 abbrev pub RegionSearchLooks : ℕ → Tree Depth → Next → Type 0
 RegionSearchLooks k t Skip = MeetsNone k t
 RegionSearchLooks k t Descend = Misses 0x220000 (scan t) × Meets 0x40000 (scan t) × (k < outer_binder t)
@@ -35,7 +35,7 @@ abbrev pub RegionSearchEnters : RegionSearch → Next → RegionSearch → Type 
 RegionSearchEnters s Descend s' = s' ≡ record { depth = s.depth + 1; skipped = s.skipped }
 RegionSearchEnters s Skip s' = (greatest ≤ s.depth) × (s' ≡ record { depth = s.depth; skipped = true })
 
--- a term in which a region is met breaks, unless only the walk of its bound regions decides that
+-- a term in which a region is met breaks the visit, or is entered if only a walk of its bound regions decides that
 abbrev pub meets_hooks : Visits RegionSearch MetRegion
 meets_hooks = record {
   on_region = λ s t s'. (s' ≡ s) × MeetsNone s.depth t;

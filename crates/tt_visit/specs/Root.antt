@@ -8,7 +8,7 @@ use Rattle.tt_kinds.specs.declared.table.Table.TheVariants.{Types, Consts, Patte
 use Rattle.tt_kinds.specs.declared.table.Table.TheVariants.{ClauseLists, VarLists, Symbols, Declarations, Definitions}
 use Rattle.tt_kinds.specs.Tree.{Tree, param, bound, region, term, node, binder}
 
--- a region; a stored term with a hook of its own, or without one; a value with such parts; or none of these
+-- a region; a stored term with a hook of its own, or without one; a list, a record or a binder; or none of these
 pub data Root : Type 0 where
   a_region hooked unhooked a_part no_term : Root
 

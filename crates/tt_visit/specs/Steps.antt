@@ -56,7 +56,7 @@ module _ {M B : Type 0} (V : Visits M B) (f : Meaning) where
   BreaksUnder s (Some vars) ts b s' = (m : RecordLabel Name)
       → Breaks V s (binder (vars_of (f VarLists vars.number)) (node (record_label m) ts)) b s'
 
--- the break value of a visit is owned among the rows
+-- the break value of a visit, if there is one, is owned in an interner with these rows
 abbrev pub OwnsBreak : {B U : Type 0} → (List Row → B → Type 0) → List Row → ControlFlow B U → Type 0
 OwnsBreak owned rows r = MatchControlFlow r (λ _. ⊤) (owned rows)
 

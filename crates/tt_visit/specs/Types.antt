@@ -9,7 +9,7 @@ use Rattle.tt_visit.specs.declared.visitor.Next.TheVariants.{Descend}
 
 -- what the one hook of such a visitor may do: M is the meaning of its state, and B the type of its break value
 pub record TypeVisits (M B : Type 0) : Type 1 where
-  -- state, type, answer, state
+  -- the state before, the type, the answer, the state after
   pub on_type : M → Tree Depth → Next → M → Type 0
   pub type_breaks : M → Tree Depth → B → M → Type 0
 

@@ -8,16 +8,16 @@ use Rattle.tt_visit.specs.declared.visitor.Next.TheVariants.{Skip, Descend}
 
 -- what a visitor's hooks may do: M is the meaning of its state, and B the type of its break value
 pub record Visits (M B : Type 0) : Type 1 where
-  -- state, region, state
+  -- the state before, the region, the state after
   pub on_region : M → Tree Depth → M → Type 0
   pub region_breaks : M → Tree Depth → B → M → Type 0
-  -- state, the error's number, state
+  -- the state before, the error's number, the state after
   pub on_error : M → ℕ → M → Type 0
   pub error_breaks : M → ℕ → B → M → Type 0
-  -- state, term, answer, state
+  -- the state before, the term, the answer, the state after
   pub on_term : M → Tree Depth → Next → M → Type 0
   pub term_breaks : M → Tree Depth → B → M → Type 0
-  -- state, the binder's variables, answer, state
+  -- the state before, the binder's variables, the answer, the state after
   pub enter : M → List (VarKind Name) → Next → M → Type 0
   pub enter_breaks : M → List (VarKind Name) → B → M → Type 0
   pub leave : M → List (VarKind Name) → M → Type 0
@@ -34,7 +34,7 @@ module _ {M B : Type 0} (V : Visits M B) where
   TellingBreaks s (Some e) b s' = V.error_breaks s e b s'
 
   mutual
-    -- from a state the visitor visits a tree, and ends in a state
+    -- the visitor goes from one state to another by a visit of a tree to its end
     pub data GoesOver : M → Tree Depth → M → Type 0 where
       region_seen : {s s' : M} {t : Tree Depth} → root t ≡ a_region → V.on_region s t s' → GoesOver s t s'
       skipped : {s s' : M} {t : Tree Depth} → root t ≡ hooked → V.on_term s t Skip s' → GoesOver s t s'
@@ -68,7 +68,7 @@ module _ {M B : Type 0} (V : Visits M B) where
           → GoesOverAll s (also t ts) s'
 
   mutual
-    -- the visit of a tree breaks, and ends in a state
+    -- the visitor goes from one state to another by a visit of a tree that breaks
     pub data Breaks : M → Tree Depth → B → M → Type 0 where
       region_broke : {s s' : M} {t : Tree Depth} {b : B} → root t ≡ a_region → V.region_breaks s t b s'
           → Breaks s t b s'

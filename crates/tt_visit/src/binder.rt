@@ -11,7 +11,7 @@ use crate::visitable::TypeVisitable;
 use tt_interner::Interner;
 use tt_kinds::{Binder, BoundVarKinds, EarlyBinder};
 
-/// Calls of a value under a binder that look at the value's variables.
+/// Calls on a value under a binder that look at the value's variables.
 pub trait BinderExt<T: TypeVisitable>: Sized {
     // The value under the binder.
     ghost bound: { Self → T };
@@ -19,15 +19,17 @@ pub trait BinderExt<T: TypeVisitable>: Sized {
     // The value under a binder of no variables.
     ghost unbound: { T → Self };
 
-    /// Returns the value under a binder of no variables. No variable may escape the value, since the new binder would
-    /// capture it; [`TypeVisitableExt::has_escaping_bound_vars`] tests it.
+    /// Returns the value under a binder of no variables. The value's handles have to be of this interner;
+    /// [`Owned::is_owned`](crate::Owned::is_owned) tests it. No variable may escape the value, since the new binder
+    /// would capture it; [`TypeVisitableExt::has_escaping_bound_vars`] tests it.
     fn dummy(cx: &Interner, value: T) -> Self
         requires value { IsPartBy T.shape cx.now.rows value }
         requires closed { outer_binder (tree_by T.shape cx.now.rows value) ≡ 0 }
         ensures { result ≡ unbound value };
 
     /// Returns the value without its binder, if no variable escapes it: none of this binder's, and none of a binder
-    /// further out. The value's handles have to be of this interner.
+    /// further out. The value's handles have to be of this interner; [`Owned::is_owned`](crate::Owned::is_owned) tests
+    /// it.
     fn no_bound_vars(self, cx: &Interner) -> Option<T>
         requires { IsPartBy T.shape cx.now.rows (bound self) }
         ensures closed { outer_binder (tree_by T.shape cx.now.rows (bound self)) ≡ 0 → result ≡ Some (bound self) }
@@ -52,13 +54,13 @@ impl<T: TypeVisitable + Drop> BinderExt<T> for Binder<T> {
     }
 }
 
-/// Calls of a value in an item's declaration that look at the value's parameters.
+/// Calls on a value in an item's declaration that look at the value's parameters.
 pub trait EarlyBinderExt<T: TypeVisitable>: Sized {
     // The value in the declaration.
     ghost declared: { Self → T };
 
     /// Returns the value as it is declared, if no parameter occurs in it. The value's handles have to be of this
-    /// interner.
+    /// interner; [`Owned::is_owned`](crate::Owned::is_owned) tests it.
     fn no_bound_vars(self, cx: &Interner) -> Option<T>
         requires { IsPartBy T.shape cx.now.rows (declared self) }
         ensures none { holds_param (tree_by T.shape cx.now.rows (declared self)) ≡ false → result ≡ Some (declared self) }

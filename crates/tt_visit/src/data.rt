@@ -17,7 +17,7 @@ use tt_kinds::{
     AliasRelationDirection, BoundVarIndexKind, PlaceholderConst, PlaceholderRegion, PlaceholderType,
 };
 
-// Visits such a value, whatever its data are.
+// Visits a value without terms, whatever its data are.
 fn visit_data<V: TypeVisitor>(_cx: &Interner, _visitor: &mut V) -> ControlFlow<V::Break, ()>
     requires owned { V.owned _cx.now.rows _visitor.old }
     ensures owned { V.owned _cx.now.rows _visitor.new }

@@ -1,4 +1,4 @@
-//! The rests of terms and lists whose visit was begun.
+//! What is left of terms and lists whose visit was begun.
 
 ghost use Rattle.std.specs.Prelude.{◌≡◌, List as Items, [], ◌∷◌, drop, IsTrue, IsFalse, MatchOption, None};
 ghost use Rattle.tt_kinds.specs.Kinds.{parts_shapes};
@@ -21,8 +21,8 @@ use smallvec::SmallVec;
 use tt_interner::Interner;
 use tt_kinds::{BoundVarKinds, Child, List, Node, Parts, Region};
 
-/// What is left of a term or a list after its first child: one more child, or items. The binder that the children are
-/// under is left after them.
+/// What is left of a term or a list after its first child: one more child, or items. After these, the visit leaves the
+/// binder that they are under.
 #[derive(Clone, Copy)]
 pub(crate) enum Remaining {
     /// No child.
@@ -86,7 +86,7 @@ impl Remaining {
         }
     }
 
-    /// Returns the binder that is to be left.
+    /// Returns the binder that the visit leaves at the end, if there is one.
     pub(crate) fn binder(&self) -> Option<BoundVarKinds>
         ensures { result ≡ rest_binder self.now }
     {
@@ -192,7 +192,7 @@ impl Frame {
     }
 }
 
-/// Pushes what is left of a term, and returns whether there was room for it. If nothing is left, none is needed.
+/// Pushes what is left of a term, and returns whether there was room for it. If nothing is left, no room is needed.
 pub(crate) fn push_rest(frames: &mut Frames, rest: &Remaining) -> bool
     ensures kept { IsTrue result → IsKept frames.old.items rest.now frames.new.items }
     ensures refused { IsFalse result → frames.new.items ≡ frames.old.items }

@@ -1,4 +1,4 @@
-//! The visitor that looks for variables that are bound far out.
+//! The visitor that looks for variables bound by a given binder or further out.
 
 ghost use Rattle.std.specs.Prelude.{IsTrue, false, ◌<◌, ◌≤◌, ◌≡◌, ◌↔◌};
 ghost use Rattle.tt_index.specs.Greatest.{greatest};
@@ -20,7 +20,7 @@ pub struct FoundEscapingVars;
 
 /// Breaks at the first region, type, constant, predicate or list of clauses that holds a variable bound by the binder
 /// `outer_index` or further out, where that index is counted from outside the visited value. None of these terms is
-/// taken apart: its outer exclusive binder is cached.
+/// taken apart, since their outer exclusive binders are cached.
 ///
 /// Under more binders than an index can count, no variable reaches so far out, since each has an index below the
 /// greatest. So such a binder's value is skipped, and the visitor remembers that it was.
@@ -49,7 +49,7 @@ impl HasEscapingVarsVisitor {
         self.skipped
     }
 
-    // Returns whether a term with this outer exclusive binder holds such a variable.
+    // Returns whether a term with this outer exclusive binder holds a variable that the visitor looks for.
     fn found(self, outer_exclusive_binder: DebruijnIndex) -> bool
         ensures { IsTrue result ↔ (self.outer_index < outer_exclusive_binder) }
     {

@@ -17,7 +17,7 @@ use tt_kinds::{BoundVarKinds, Clauses, Const, ErrorGuaranteed, Predicate, Region
 pub struct FoundFlags;
 
 /// Breaks at the first region, type, constant, predicate, list of clauses or binder that has a flag of the mask. None
-/// of these terms is taken apart: its flags are cached.
+/// of these terms is taken apart, since their flags are cached.
 #[derive(Clone, Copy, Debug)]
 pub struct HasTypeFlagsVisitor {
     flags: TypeFlags,

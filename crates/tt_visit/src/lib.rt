@@ -1,15 +1,16 @@
 //! Visitors, which walk a term without changing it, and the queries of terms that use them.
 //!
-//! A visit of the type `&'a [T]` calls `visit_ty` at the reference. If that returns `Descend`, it calls `visit_region` at
-//! `'a` and `visit_ty` at the slice; if it returns `Skip`, the visit is at its end. At the slice, `Descend` leads to
-//! `visit_ty` at `T`. The first call that returns `Break` ends the visit with its value, and no hook is called after it
-//! but `leave_binder`, once for each binder that the visit is in.
+//! A visit of the type `&'a [T]` calls `visit_ty` at the reference. If this call returns `Skip`, the visit is at its
+//! end. If it returns `Descend`, the visit calls `visit_region` at `'a` and `visit_ty` at the slice, where `Descend`
+//! leads to `visit_ty` at `T`. The first call that returns `Break` ends the visit with its value. After it only
+//! `leave_binder` is called, once for each binder that the visit is in.
 #![tactic(auto)]
 
 mod bare;
 pub mod binder;
 mod containers;
 mod data;
+mod equality;
 mod frame;
 pub mod handles;
 mod has_error;
@@ -26,6 +27,7 @@ pub mod visitable;
 pub mod visitor;
 
 pub use binder::{BinderExt, EarlyBinderExt};
+pub use equality::equal_outcomes_are_same;
 pub use handles::{HasHook, IsWalked};
 pub use has_error::HasErrorVisitor;
 pub use has_escaping_vars::{FoundEscapingVars, HasEscapingVarsVisitor};

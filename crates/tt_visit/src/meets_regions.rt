@@ -23,14 +23,14 @@ use tt_kinds::{BoundVarKinds, Clauses, Const, ErrorGuaranteed, Predicate, Region
 #[derive(Clone, Copy, Debug, PartialEq, Eq)]
 pub struct MetRegion;
 
-/// Breaks at the first region, type, constant, predicate or list of clauses that holds a region that the visited value
-/// doesn't bind itself and that is not a variable of a canonical query.
+/// Looks for a region that the visited value doesn't bind itself and that is not a variable of a canonical query.
+/// Breaks at the first region, type, constant, predicate or list of clauses that is known to be one or to hold one.
 ///
 /// A term is taken apart only if its flags and its outer exclusive binder leave open whether it holds such a region: if
 /// all its regions are bound, and some variable is bound outside of the visited value.
 ///
 /// Under more binders than an index can count, each bound region is bound in the value. So such a binder's value is
-/// skipped, and the visitor remembers that it was: it may still hold a region that isn't bound.
+/// skipped. The visitor remembers that it was, since the value may still hold a region that isn't bound.
 #[derive(Clone, Copy, Debug)]
 pub struct MeetsRegionsVisitor {
     // the innermost binder outside of the visited value, as counted from where the visit is
@@ -39,7 +39,7 @@ pub struct MeetsRegionsVisitor {
 }
 
 impl MeetsRegionsVisitor {
-    /// Returns the visitor outside each binder of the value.
+    /// Returns a visitor that is outside of all binders of the value.
     pub fn new() -> MeetsRegionsVisitor
         ensures { result ≡ record { outer_index = 0; skipped = false } }
     {
@@ -64,7 +64,8 @@ impl MeetsRegionsVisitor {
         outer_exclusive_binder > self.outer_index
     }
 
-    // Decides by these flags and this outer exclusive binder whether a term holds such a region.
+    // Decides by these flags and this outer exclusive binder whether a term holds a region that the visitor looks for,
+    // or has to be taken apart.
     fn meets_by_info(
         self,
         flags: TypeFlags,
@@ -220,8 +221,8 @@ impl TypeVisitor for RegionsInRangeVisitor {
     fn leave_binder(&mut self, _cx: &Interner, _vars: BoundVarKinds) {}
 }
 
-// Returns what comes next at a term with these flags: its contents if a bound region occurs in it, and else the next
-// term.
+// Returns what comes next at a term with these flags: the term's contents if a bound region occurs in it, and otherwise
+// the next term.
 fn next_at(flags: TypeFlags) -> Next
     ensures { result ≡ Skip → Misses 0x40000 flags.bits }
 {

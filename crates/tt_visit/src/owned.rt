@@ -39,7 +39,7 @@ pub trait Owned: TypeVisitable {
         ensures { IsTrue result ↔ IsPartBy Self.shape cx.now.rows self.now };
 }
 
-/// Returns whether all of the values are this interner's.
+/// Returns whether each handle and each name in the values is of this interner.
 pub fn are_owned<T: Owned>(cx: &Interner, values: &[T]) -> bool
     ensures { IsTrue result ↔ AreParts (size cx.now.rows) (item_shapes T.shape values.now) }
 {

@@ -63,8 +63,11 @@ use tt_kinds::ErrorGuaranteed;
 
 /// Queries of any value that a visitor can visit.
 ///
-/// Each result comes from the cached information of the value's terms: no type, constant, predicate or list of clauses
-/// is taken apart. The value's handles have to be of this interner.
+/// The results come from the cached information of the value's terms. Only [`TypeVisitableExt::meets_regions`],
+/// [`TypeVisitableExt::error_reported`] and [`TypeVisitableExt::non_region_error_reported`] may take a type, a
+/// constant, a predicate or a list of clauses apart.
+///
+/// The value's handles have to be of this interner; [`Owned::is_owned`](crate::Owned::is_owned) tests it.
 pub trait TypeVisitableExt: TypeVisitable {
     /// Returns whether a flag of the mask is set anywhere in the value.
     final fn has_type_flags(&self, cx: &Interner, mask: TypeFlags) -> bool
@@ -78,7 +81,7 @@ pub trait TypeVisitableExt: TypeVisitable {
         }
     }
 
-    /// Returns whether a parameter occurs anywhere in the value, so that instantiating it can change it.
+    /// Returns whether a parameter occurs anywhere in the value, so that instantiating the value can change it.
     final fn has_param(&self, cx: &Interner) -> bool
         requires { IsPartBy Self.shape cx.now.rows self.now }
         ensures { IsTrue result ↔ (holds_param (tree_by Self.shape cx.now.rows self.now) ≡ true) }
@@ -86,8 +89,8 @@ pub trait TypeVisitableExt: TypeVisitable {
         self.has_type_flags(cx, TypeFlags::HAS_PARAM)
     }
 
-    /// Returns whether an alias occurs in the value, of a type or a constant: a projection, an inherent, an opaque or a
-    /// free alias. The term that an alias would normalize to isn't looked at.
+    /// Returns whether an unevaluated constant or an alias of a type occurs in the value: a projection, or an inherent,
+    /// an opaque or a free alias. The term that an alias would normalize to isn't looked at.
     final fn has_aliases(&self, cx: &Interner) -> bool
         requires { IsPartBy Self.shape cx.now.rows self.now }
         ensures { IsTrue result ↔ Meets has_alias (scan (tree_by Self.shape cx.now.rows self.now)) }
@@ -221,7 +224,9 @@ pub trait TypeVisitableExt: TypeVisitable {
     /// canonical query: a region at which a fold of regions calls its closure. Erased regions, `'static` and regions of
     /// errors are included.
     ///
-    /// A term is taken apart only if its regions are all bound, and some variable in it is bound outside of the value.
+    /// A type, a constant, a predicate or a list of clauses is taken apart only if its regions are all bound, and some
+    /// variable in it is bound outside of the value. If more binders are nested in the value than an index can count,
+    /// each that holds a bound region may be taken apart.
     final fn meets_regions(&self, cx: &Interner) -> bool
         requires { IsPartBy Self.shape cx.now.rows self.now }
         ensures { IsTrue result ↔ (met 0 (tree_by Self.shape cx.now.rows self.now) ≢ []) }
@@ -272,7 +277,8 @@ pub trait TypeVisitableExt: TypeVisitable {
     }
 
     /// Returns `Err` with the first token of an error that occurs in the value, of a type, a constant or a region, and
-    /// `Ok` if there is none. The order is the order of a visit: children come from front to back.
+    /// `Ok` if there is none. The order is the order of a visit: children come from front to back. A type, a constant,
+    /// a predicate or a list of clauses is taken apart only if the token of an error occurs in it.
     final fn error_reported(&self, cx: &Interner) -> Result<(), ErrorGuaranteed>
         requires { IsPartBy Self.shape cx.now.rows self.now }
         ensures ok { IfOk result (λ _. Misses has_error (scan (tree_by Self.shape cx.now.rows self.now))) }
@@ -287,8 +293,8 @@ pub trait TypeVisitableExt: TypeVisitable {
         }
     }
 
-    /// Returns the same as `error_reported` if the token of an error of a type or a constant occurs in the value, and
-    /// `Ok` otherwise. So the returned token is a region's if that comes first.
+    /// Returns the same as [`TypeVisitableExt::error_reported`] if the token of an error of a type or a constant occurs
+    /// in the value, and `Ok` otherwise. So the returned token is a region's if that comes first.
     final fn non_region_error_reported(&self, cx: &Interner) -> Result<(), ErrorGuaranteed>
         requires { IsPartBy Self.shape cx.now.rows self.now }
         ensures ok { IfOk result (λ _. Misses has_non_region_error (scan (tree_by Self.shape cx.now.rows self.now))) }
@@ -332,8 +338,8 @@ pub trait TypeVisitableExt: TypeVisitable {
         }
     }
 
-    /// Returns whether a variable occurs in the value that is bound further out than by the binder of this index. It is
-    /// `false` for the greatest index.
+    /// Returns whether a variable occurs in the value that is bound further out than by the binder of this index.
+    /// Returns `false` for the greatest index.
     final fn has_vars_bound_above(&self, cx: &Interner, binder: DebruijnIndex) -> bool
         requires { IsPartBy Self.shape cx.now.rows self.now }
         ensures { IsTrue result ↔ (binder + 1 < outer_binder (tree_by Self.shape cx.now.rows self.now)) }

@@ -1,8 +1,8 @@
 //! The visit of stored terms and lists.
 //!
-//! The visit of a term begins with its hooks, and leaves a frame: the children that are left, and their binder. One loop
-//! visits a frame, with its stack on the heap, so that a deep term doesn't exhaust the machine's stack. A term's last
-//! child needs room there only under a binder.
+//! The visit of a term begins with its hooks, and makes a frame of what is left: the children, and their binder. One
+//! loop visits a frame, with its stack on the heap, so that a deep term doesn't exhaust the machine's stack. A term's
+//! last child needs room on this stack only under a binder.
 
 ghost use Rattle.std.specs.Prelude.{None, Some, ◌<◌, ◌≡◌, ◌+◌};
 ghost use Rattle.tt_kinds.specs.Shape.{AreParts, HasParts, fill_all};
@@ -74,8 +74,8 @@ use std::ops::ControlFlow;
 use tt_interner::Interner;
 use tt_kinds::{BoundVarKinds, Child, ConstKind, Kind, List, Node, Parts, TyKind};
 
-/// Visits a stored term. Its hook, if it has one, is called first, and its children are then visited in order, unless
-/// the hook skips them or breaks.
+/// Visits a stored term. The term's hook, if it has one, is called first. Then its children are visited in order,
+/// unless the hook skips them or breaks. The term has to be of this interner; [`Interner::owns_node`] tests it.
 pub fn visit_node<V: TypeVisitor>(
     cx: &Interner,
     visitor: &mut V,
@@ -109,7 +109,8 @@ pub(crate) fn visit_inside<V: TypeVisitor>(
     finish(cx, visitor, begun)
 }
 
-/// Visits the children of a kind, in order. The error hook is called first, if the kind holds an error.
+/// Visits the children of a kind, in order. The error hook is called first, if the kind holds an error. Every handle
+/// and name in the kind has to be this interner's; [`Interner::owns_kind`] and the tests of the other kinds test it.
 pub fn visit_kind<V: TypeVisitor>(
     cx: &Interner,
     visitor: &mut V,
@@ -163,7 +164,8 @@ pub(crate) fn visit_parts<V: TypeVisitor>(
     visit_frame(cx, visitor, Frame::of_parts(parts, None))
 }
 
-/// Visits the items of a stored list, in order. A list of clauses has a hook of its own.
+/// Visits the items of a stored list, in order. A list of clauses has a hook of its own, which is called first. The
+/// list has to be of this interner; [`Interner::owns_list`] tests it.
 pub fn visit_list<V: TypeVisitor>(
     cx: &Interner,
     visitor: &mut V,
@@ -180,7 +182,7 @@ pub fn visit_list<V: TypeVisitor>(
     finish(cx, visitor, begun)
 }
 
-// Takes a visit that was begun to its end.
+// Finishes a visit that was begun.
 fn finish<V: TypeVisitor>(
     cx: &Interner,
     visitor: &mut V,
@@ -201,8 +203,8 @@ fn finish<V: TypeVisitor>(
     }
 }
 
-// Visits what is left of a term or a list. If memory for the stack is refused, a term is visited by a call of
-// this function, on the machine's stack: the visit is the same, and there is no refusal that it could answer.
+// Visits what is left of a term or a list. If memory for the stack is refused, a term is visited by a call of this
+// function, on the machine's stack: the visit is the same, and a visit has no refusal to return.
 fn visit_frame<V: TypeVisitor>(
     cx: &Interner,
     visitor: &mut V,

@@ -16,11 +16,11 @@ use std::ops::ControlFlow;
 use tt_interner::Interner;
 use tt_kinds::{BoundVarKinds, Clauses, Const, ErrorGuaranteed, Predicate, Region, Ty};
 
-/// A visitor that looks at types alone: it ignores regions and tokens of errors, and enters each other term and each
+/// A visitor that looks at types alone. It ignores regions and tokens of errors, and enters each other term and each
 /// binder, so one method is enough.
 ///
-/// It is a [`TypeVisitor`], and [`inspect_types`] visits a value with it. A visitor that has to know the binders around
-/// a type implements [`TypeVisitor`] itself.
+/// Each inspector is a [`TypeVisitor`]; [`inspect_types`] visits a value with an inspector. A visitor that has to know
+/// the binders around a type implements [`TypeVisitor`] itself.
 pub trait TypeInspector {
     /// The value that a visit returns when it breaks.
     type Break;
@@ -100,7 +100,7 @@ impl<F: TypeInspector> TypeVisitor for F {
 }
 
 /// Visits a value with an inspector, which is called at the value's types in order, each before its contents, until it
-/// breaks.
+/// breaks. The value's handles have to be of this interner; [`Owned::is_owned`](crate::Owned::is_owned) tests it.
 pub fn inspect_types<T: TypeVisitable, F: TypeInspector>(
     cx: &Interner,
     value: &T,

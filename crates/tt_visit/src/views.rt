@@ -23,7 +23,8 @@ pub trait InternedView: Sized {
     // These are the view's items.
     ghost holds: { List Row → Self → List Self.Item → Type 0 };
 
-    /// Returns the items in order, borrowed from the interner.
+    /// Returns the items in order, borrowed from the interner. The view has to lie in a list of this interner;
+    /// [`Interner::owns_input_tys`] and [`Interner::owns_args_slice`] test it.
     fn as_slice<'a>(self, cx: &'a Interner) -> &'a [Self::Item]
         requires { lies_in cx.now.rows self }
         ensures items { holds cx.now.rows self result.now }
@@ -107,7 +108,7 @@ fn all_but_last<T>(items: &[T]) -> &[T]
     &items[..end]
 }
 
-// Returns `len` items from this place on, or as many as are there.
+// Returns `len` items from `start` on, or as many as are there.
 fn span<T>(items: &[T], start: usize, len: usize) -> &[T]
     ensures { result.now ≡ take len (drop start items.now) }
 {

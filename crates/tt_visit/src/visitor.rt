@@ -13,7 +13,7 @@ use std::ops::ControlFlow;
 use tt_interner::Interner;
 use tt_kinds::{BoundVarKinds, Clauses, Const, ErrorGuaranteed, Predicate, Region, Ty};
 
-/// The answer of a hook before the contents of a term or a binder.
+/// The answer of a hook that is called before the contents of a term or a binder.
 #[derive(Clone, Copy, Debug, PartialEq, Eq)]
 pub enum Next {
     /// The visit skips the contents.
@@ -28,8 +28,8 @@ pub enum Next {
 /// Patterns, existential predicates, other lists and records have no hook: the visit enters them. A hook that returns
 /// `Break` ends the visit with that value.
 ///
-/// A visitor may hold handles, and break with one: `owned` and `break_owned` say so, and they hold again after each
-/// hook and each visit, even after a break.
+/// A visitor may hold handles, and break with one. `owned` and `break_owned` state that these are of the interner, and
+/// hold again after each hook and each visit, even after a break.
 pub trait TypeVisitor {
     /// The value that a visit returns when it breaks.
     type Break;
@@ -58,8 +58,9 @@ pub trait TypeVisitor {
         ensures result { Ends meaning hooks.on_region hooks.region_breaks
             cx.now.rows self.old (tree_by region_shape cx.now.rows region) result self.new };
 
-    /// Called at the error token of a type or a constant, after the hook of that term returned `Descend`, and at a
-    /// token in a kind that isn't stored, or by itself.
+    /// Called at the error token of a type or a constant, and at an error token by itself.
+    ///
+    /// For a stored type or constant, this is after its hook returned `Descend`. A kind that isn't stored has no hook.
     fn visit_error(&mut self, cx: &Interner, error: ErrorGuaranteed) -> ControlFlow<Self::Break, ()>
         requires owned { owned cx.now.rows self.old }
         ensures owned { owned cx.now.rows self.new }

@@ -20,7 +20,7 @@ abbrev pub parameter_sort : Parameter → Sort
 parameter_sort (parameter.«Type» i) = type_sort
 parameter_sort (parameter.Const i) = const_sort
 
--- its index
+-- the index of a parameter
 abbrev pub parameter_index : Parameter → ℕ
 parameter_index (parameter.«Type» i) = i
 parameter_index (parameter.Const i) = i
@@ -36,7 +36,7 @@ pub record IsArgumentAt (earlier : List Answer) (args : List ArgCall) (p : Param
   pub given : slice_get args (parameter_index p) ≡ Some (term_arg p position)
   pub at : IsAnswerAt earlier position a
 
--- the parameter has no such argument: none of its sort is there, or the argument names no term
+-- the parameter has no argument: none of its sort is at its index, or the one there names no term
 pub data LacksArgument (earlier : List Answer) (args : List ArgCall) (p : Parameter) (r : Refusal) : Type 0 where
   none_given : ((e : List Told) (name : Name) → Cause (param (parameter_sort p) (parameter_index p) name)
       (told_arguments e args) r) → LacksArgument earlier args p r

@@ -1,4 +1,4 @@
--- The answers to calls, as an interner gives them one after another.
+-- The answers to calls that are answered one after another.
 use Rattle.std.specs.Prelude.{◌≡◌, List, [], ◌∷◌, ◌++◌}
 use Rattle.tt_interner.specs.Stored.{Terms, Extends}
 use Rattle.tt_calls.specs.declared.answer.Answer.{Answer}
@@ -6,7 +6,7 @@ use Rattle.tt_calls.specs.declared.call.Call.{Call}
 use Rattle.tt_calls.specs.Told.{told, told_all, setting, IsOwnedAnswer}
 use Rattle.tt_calls.specs.Means.{IsAllowed}
 
--- the answers have one more, which may be the call's answer
+-- the answers are the ones before and one more, which the call may have
 pub record AddsAnswer (old new : Terms) (before : List Answer) (call : Call) (after : List Answer) : Type 0 where
   pub answer : Answer
   pub added : after ≡ before ++ answer ∷ []

@@ -1,5 +1,6 @@
-//! The traits whose methods users call, the traits that they implement, and the commonest types and functions, for
-//! `use type_terms::prelude::*;`.
+//! The commonest types, traits and functions, for `use type_terms::prelude::*;`: to build, declare, read, instantiate,
+//! shift, visit, fold and print terms. Others, such as `RegionName`, `FindConstTy` and `RegionReplacer`, are in
+//! [`type_terms`](crate) itself.
 
 pub use tt_binder::{DataTypes, Instantiate, IterInstantiate, TypeSignature, instantiate_binder};
 pub use tt_fold::{

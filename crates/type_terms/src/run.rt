@@ -1,4 +1,4 @@
-//! Lists of calls, and scripts of them.
+//! Running lists of calls, and scripts.
 
 mod answers;
 pub mod runner;

@@ -2,13 +2,20 @@
 
 mod binders;
 mod deep;
+mod indices;
 mod lists;
 mod messages;
+mod nodes;
 mod orders;
+mod owned;
+mod parts;
 mod prelude;
+mod queries;
 mod readme;
 mod reads;
+mod signatures;
 mod text;
+mod variables;
 
 use std::alloc::Global;
 use std::process::Abort;

@@ -43,7 +43,7 @@ pub record IsTable (terms : Terms) (entries : List (Option Ty)) : Type 0 where
   pub owned : IsOwned table_shape terms entries
   pub idempotent : IsIdempotent (substitution terms entries)
 
--- The later table has the bindings of the earlier one with further variables replaced, and perhaps more.
+-- the later entries are a table that has the earlier bindings, with further variables replaced, and perhaps others
 pub record IsRefined (terms : Terms) (entries : List (Option Ty)) (later : Terms) (refined : List (Option Ty))
     : Type 0 where
   pub table : IsTable later refined

@@ -21,7 +21,7 @@ use Rattle.unify.specs.declared.pairs.Pair.{Pair}
 abbrev pub pair_shape : Pair → Shape
 pair_shape p = shape.node (record_label pair_record) (append (child_shapes p.left) (child_shapes p.right))
 
--- the child is no list, of clauses neither: if it is a stored term, it has a kind
+-- the child is no list, nor a list of clauses: if it is a stored term, it has a kind
 abbrev pub IsNoList : Child → Type 0
 IsNoList (child.List l) = ⊥
 IsNoList (child.Node n) = node_table n ≢ ClauseLists

@@ -1,4 +1,4 @@
--- What a folder answers that applies a substitution.
+-- The answers of a folder that applies a substitution.
 use Rattle.std.specs.Prelude.{◌≡◌, ℕ, Option, Some, None}
 use Rattle.tt_kinds.specs.declared.ty_kind.TyKind.{TyKind}
 use Rattle.tt_kinds.specs.declared.ty_kind.TyKind.TheVariants.{Infer}
@@ -18,7 +18,7 @@ abbrev pub binding : Substitution → Tree Depth → Option (Tree Depth)
 binding σ (term l ts) = bound_to σ l
 binding σ _ = None
 
--- It replaces a bound variable by its binding, keeps a tree that stays as it is, and enters a tree that isn't bound.
+-- the folder may replace a bound variable by its binding, keep an unchanged tree, and enter a tree that isn't bound
 pub data Resolves (table t : Tree Depth) : Answer → Type 0 where
   put : {r : Tree Depth} → binding (read table) t ≡ Some r → Resolves table t (replace r)
   kept : apply (read table) t ≡ t → Resolves table t keep

@@ -1,4 +1,4 @@
--- Substitution of types for inference variables, on plain trees.
+-- Substitution of types for inference variables, on plain trees. A bound variable is one that has a binding.
 use Rattle.std.specs.Prelude.{◌≡◌, ◌≤◌, ℕ, Option, Some, None, ⊤, IsTrue}
 use Rattle.tt_kinds.specs.Label.{Name, Label, type_label, infer_type, type_sort, is_type}
 use Rattle.tt_kinds.specs.declared.ty_kind.InferTy.TheVariants.{TyVar}
@@ -68,7 +68,7 @@ IsResolved σ t = (v : ℕ) (r : Tree Depth) → σ v ≡ Some r → IsWithout v
 abbrev pub IsIdempotent : Substitution → Type 0
 IsIdempotent σ = (v : ℕ) (r : Tree Depth) → σ v ≡ Some r → IsResolved σ r
 
--- what a variable is bound to stays so, with the new bindings put in: bindings only grow
+-- a bound variable stays bound, to its old binding with the new bindings put in: bindings only grow
 abbrev pub Refines : Substitution → Substitution → Type 0
 Refines σ σ' = (v : ℕ) (r : Tree Depth) → σ v ≡ Some r → σ' v ≡ Some (apply σ' r)
 
@@ -82,7 +82,7 @@ abbrev pub then : Option (Tree Depth) → Substitution → ℕ → Option (Tree 
 then (Some b) τ v = Some (apply τ b)
 then None τ v = τ v
 
--- first σ, then τ
+-- σ' applies first σ, then τ
 abbrev pub IsComposition : Substitution → Substitution → Substitution → Type 0
 IsComposition σ τ σ' = (v : ℕ) → σ' v ≡ then (σ v) τ v
 

@@ -18,10 +18,10 @@ use type_terms::{Idx, InferTy, Interner, Refusal, Ty, TyKind, TyVid};
 // The greatest number that a variable may have.
 const GREATEST: usize = 4_294_967_040;
 
-/// What each inference variable is bound to.
+/// A table of what each inference variable is bound to.
 ///
-/// Variables are numbered from 0 in the order in which [`Bindings::new_variable`] makes them. What a variable is bound
-/// to has no bound variable itself, so that one replacement resolves a type.
+/// Variables are numbered from 0 in the order in which [`Bindings::new_variable`] makes them. No binding holds a
+/// variable that has a binding itself, so one replacement resolves a type.
 #[derive(Drop)]
 pub struct Bindings {
     pub(crate) entries: Vec<Option<Ty>>,
@@ -37,7 +37,7 @@ impl Model for Bindings {
 }
 
 impl Bindings {
-    /// Returns a table without variables. It allocates nothing.
+    /// Returns a table without variables. Allocates nothing.
     pub fn new(alloc: Global) -> Bindings
         ensures { result ≡ [] }
     {
@@ -53,8 +53,8 @@ impl Bindings {
         self.entries.len()
     }
 
-    /// Returns a new variable, which is not bound. Refused for want of memory, or where a table is full or no number is
-    /// left, with `TableFull`.
+    /// Adds an unbound variable, and returns it as a type. Refused with `Memory`, or with `TableFull` if a table is
+    /// full or no number is left.
     pub fn new_variable(&mut self, cx: &mut Interner) -> Result<Ty, Fault>
         requires { IsTable cx.old self.old }
         ensures extends { Extends cx.old cx.new }
@@ -75,8 +75,8 @@ impl Bindings {
         Ok(ty)
     }
 
-    /// Returns the type with each bound variable replaced by its binding. Refused for want of memory, or where a table
-    /// is full, with `TableFull`.
+    /// Returns the type with each bound variable replaced by its binding. Refused with `Memory`, or with `TableFull` if
+    /// a table is full.
     pub fn resolve(&self, cx: &mut Interner, ty: Ty) -> Result<Ty, Refusal>
         requires table { IsTable cx.old self.now }
         requires ty { IsOwned ty_shape cx.old ty }

@@ -1,4 +1,4 @@
-//! The bindings of a table that aren't ground: they hold inference variables themselves. Only they change where a
+//! The bindings of a table that aren't ground: these hold inference variables themselves. Only these change when a
 //! variable is replaced.
 
 ghost use Rattle.std.specs.Prelude.{◌≡◌, ◌⊎◌, Contains, ℕ, IfErr, IfOk, OnOk};
@@ -49,8 +49,8 @@ pub fn nonground_variables(cx: &Interner, entries: &[Option<Ty>]) -> Result<Vec<
     Ok(nonground)
 }
 
-/// Returns the entries with the variable replaced by the type `put`. An entry that isn't listed is ground, and stays as
-/// it is. Since `put` doesn't hold the variable, a number that is listed twice does no harm.
+/// Returns the entries with the variable replaced by the type `put`. An entry that isn't listed in `nonground` is
+/// ground, and stays as it is. Since `put` doesn't hold the variable, a number may be listed twice.
 #[tactic(auto, using(crate::proofs::BindingsLaws::extends_further))]
 pub fn replaced_in(
     cx: &mut Interner,

@@ -5,6 +5,7 @@
 #![tactic(auto)]
 
 pub mod bindings;
+mod equality;
 pub mod fault;
 mod ground;
 mod pairs;
@@ -12,5 +13,6 @@ mod resolver;
 mod unifier;
 
 pub use bindings::Bindings;
+pub use equality::equal_faults_are_same;
 pub use fault::Fault;
 pub use unifier::unify;

@@ -1,4 +1,4 @@
-//! Pairs of children that are to be made equal, and the pairs that their parts are.
+//! Pairs of children that are to be made equal, and the pairs of their parts.
 
 ghost use Rattle.std.specs.Prelude.{◌≢◌, ◌<◌, ◌≡◌, IfErr, MatchOption, OnOk};
 ghost use Rattle.tt_kinds.specs.declared.table.Table.TheVariants as table;
@@ -26,8 +26,8 @@ pub struct Pair {
     pub right: Child,
 }
 
-/// Pushes the pairs of the parts of two terms, which have kinds. Fails with [`Fault::Mismatch`] if the terms differ in
-/// more than their parts.
+/// Pushes the pairs of the parts of two terms, neither of which is a list of clauses. Fails with [`Fault::Mismatch`] if
+/// the terms differ in more than their parts.
 pub fn push_parts(
     cx: &Interner,
     pairs: &mut Vec<Pair>,
@@ -67,8 +67,8 @@ pub fn push_parts(
     Ok(())
 }
 
-/// Pushes the pairs of the items of two lists. Fails with [`Fault::Mismatch`] if they don't have as many items, or items
-/// of other sorts.
+/// Pushes the pairs of the items of two lists. Fails with [`Fault::Mismatch`] if the lists differ in length or in the
+/// sort of their items.
 pub fn push_items(
     cx: &Interner,
     pairs: &mut Vec<Pair>,
@@ -100,7 +100,7 @@ pub fn push_items(
     Ok(())
 }
 
-/// Returns the list that the child is, if it is one.
+/// Returns the list that the child is, if it is one. A list of clauses counts as a list.
 pub fn as_list(child: Child) -> Option<List>
     ensures { MatchOption result (IsNoList child) (λ list. child_shapes child ≡ also (list_shape list) none) }
 {

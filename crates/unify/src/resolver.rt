@@ -41,7 +41,7 @@ pub fn is_variable(cx: &Interner, ty: Ty, variable: TyVid) -> bool
     variable_of(cx, ty) == Some(variable)
 }
 
-/// Returns what the type is bound to, if it is a bound variable of the table.
+/// Returns the binding of the type, if the type is a bound variable of the table.
 pub fn binding_of(cx: &Interner, entries: &[Option<Ty>], ty: Ty) -> Option<Ty>
     requires entries { IsOwned table_shape cx.now entries.now }
     requires ty { IsOwned ty_shape cx.now ty }
@@ -61,7 +61,7 @@ pub fn binding_of(cx: &Interner, entries: &[Option<Ty>], ty: Ty) -> Option<Ty>
     }
 }
 
-// Replaces each variable of a table by its binding.
+// Replaces each bound variable of a table by its binding.
 #[derive(Drop)]
 struct Resolver<'a> {
     entries: &'a [Option<Ty>],
@@ -85,7 +85,7 @@ impl<'a> TypeReplacer for Resolver<'a> {
     }
 }
 
-/// Returns the type with each variable of the table replaced by its binding.
+/// Returns the type with each bound variable of the table replaced by its binding.
 pub fn resolved(cx: &mut Interner, entries: &[Option<Ty>], ty: Ty) -> Result<Ty, Refusal>
     requires entries { IsOwned table_shape cx.old entries.now }
     requires ty { IsOwned ty_shape cx.old ty }
@@ -150,7 +150,7 @@ pub fn occurs_in(cx: &mut Interner, variable: TyVid, ty: Ty) -> Result<bool, Ref
     if is_variable(cx, ty, variable) {
         return Ok(true);
     }
-    // A type without the variable stays as it is where something else is put in the variable's place.
+    // Puts the type itself in the variable's place: the result is another type exactly if the variable occurs.
     let other = replaced(cx, ty, variable, ty)?;
     cx.are_interned();
     Ok(other != ty)

@@ -1,4 +1,4 @@
-//! Unification: a stack of pairs that are to be made equal, and the bindings that make the pairs before them equal.
+//! Unification by a stack of pairs that are still to be made equal, with the bindings that were found so far.
 
 ghost use Rattle.std.specs.Prelude.{◌≡◌, ◌≢◌, ◌<◌, ◌≤◌, ℕ, None, Some, IfErr, IfNone, IfOk, IfSome, OnErr, OnOk};
 ghost use Rattle.std.specs.Prelude.{get_or, length};
@@ -23,17 +23,17 @@ use crate::resolver::{binding_of, is_variable, occurs_in, resolved, variable_of}
 use indexmap::IndexMap;
 use type_terms::{Child, Interner, Node, Refusal, Ty, TyVid, TypeVisitableExt};
 
-// How many pairs one call compares at most.
+// The greatest number of pairs that a call compares.
 const MOST_PAIRS: u32 = u32::MAX;
 
-// Two types that were compared.
+// Two types that were compared already.
 #[derive(Clone, Copy, PartialEq, Eq, Hash)]
 struct Compared {
     left: Ty,
     right: Ty,
 }
 
-// Returns the type's binding, if it is a bound variable, and otherwise the type.
+// Returns the type's binding, if the type is a bound variable, and otherwise the type.
 fn looked_up(cx: &Interner, entries: &[Option<Ty>], ty: Ty) -> Ty
     requires entries { IsOwned table_shape cx.now entries.now }
     requires ty { IsOwned ty_shape cx.now ty }
@@ -45,7 +45,7 @@ fn looked_up(cx: &Interner, entries: &[Option<Ty>], ty: Ty) -> Ty
     binding_of(cx, entries, ty).unwrap_or(ty)
 }
 
-// Returns the variable that the type is, if it is a variable of the table and not bound.
+// Returns the variable that the type is, if it is an unbound variable of the table.
 fn unbound_variable(cx: &Interner, entries: &[Option<Ty>], ty: Ty) -> Option<TyVid>
     requires { IsOwned ty_shape cx.now ty }
     ensures unbound { IfSome result (λ v. (v < length entries.now) × (get_or entries.now v None ≡ None)) }
@@ -109,7 +109,7 @@ fn bound(
     Ok(entries)
 }
 
-// Makes two types equal, or pushes the pairs of their parts.
+// Makes two types equal, or pushes the pairs of their parts if the two weren't compared before.
 #[tactic(auto, using(crate::proofs::BindingsLaws::extends_further))]
 fn unify_types(
     cx: &mut Interner,
@@ -243,7 +243,7 @@ fn unify_pair(
     }
 }
 
-// Returns the table with as few more variables bound as make the two types equal.
+// Returns the table with further variables bound to make the two types equal, by the most general bindings.
 #[tactic(auto, using(crate::proofs::BindingsLaws::extends_further))]
 fn unified(
     cx: &mut Interner,
@@ -289,7 +289,7 @@ fn unified(
     Err(Fault::Refused(Refusal::TableFull))
 }
 
-// Returns the table that makes the two types equal.
+// Returns the table that makes the two types equal, by the most general bindings.
 #[tactic(auto, using(crate::proofs::BindingsLaws::extends_further))]
 fn solution(cx: &mut Interner, bindings: &Bindings, left: Ty, right: Ty) -> Result<Bindings, Fault>
     requires table { IsTable cx.old bindings.now }
@@ -317,8 +317,8 @@ fn solution(cx: &mut Interner, bindings: &Bindings, left: Ty, right: Ty) -> Resu
 {
     let entries = unified(cx, bindings.copied(cx)?, left, right)?;
     let solution = Bindings { entries };
-    // The solution is checked, so the proof needs only that whatever makes the types equal makes the pairs equal, and
-    // not that the bindings do.
+    // The solution is checked here. So the proof needs only that whatever makes the types equal makes the pairs equal,
+    // and not that the bindings make the pairs equal.
     let resolved_left = solution.resolve(cx, left)?;
     let resolved_right = solution.resolve(cx, right)?;
     if resolved_left != resolved_right {
@@ -327,19 +327,21 @@ fn solution(cx: &mut Interner, bindings: &Bindings, left: Ty, right: Ty) -> Resu
     Ok(solution)
 }
 
-/// Makes two types equal by binding variables of the table. Types, constants, patterns and lists are compared by their
-/// parts, and regions by equality. Two types are compared once. The bindings are the most general ones: whatever solves
-/// the old bindings and makes the two types equal solves the new ones.
+/// Makes two types equal by binding variables of the table. Types, constants, patterns, lists and the predicates of
+/// trait objects are compared by their parts, and regions by equality. Two types are compared once. The bindings are
+/// the most general ones: whatever solves the old bindings and makes the two types equal solves the new ones.
 ///
 /// # Errors
 ///
 /// If a call fails, the bindings are as before.
 ///
-/// - [`Fault::Mismatch`] if the types differ where neither is a variable that is unbound; then no types in place of the
-///   table's variables make the two types equal
-/// - [`Fault::Occurs`] if a variable would be bound to a type that it occurs in; then nothing makes the two types equal
+/// - [`Fault::Mismatch`] if the types differ where neither is an unbound variable; then no types in place of the
+///   table's unbound variables make the two types equal
+/// - [`Fault::Occurs`] if a variable would be bound to a type that it occurs in; then nothing that solves the bindings
+///   makes the two types equal
 /// - [`Fault::Escapes`] if a variable would be bound to a type that holds a bound variable of a binder around it
-/// - [`Fault::Refused`] if the library refuses a call
+/// - [`Fault::Unsolved`] if the bindings that were found don't make the two types equal; no input is known for this
+/// - [`Fault::Refused`] if the library refuses a call, or if more than `u32::MAX` pairs would be compared
 #[tactic(auto, using(crate::proofs::BindingsLaws::extends_further))]
 pub fn unify(cx: &mut Interner, bindings: &mut Bindings, left: Ty, right: Ty) -> Result<(), Fault>
     requires table { IsTable cx.old bindings.old }

@@ -35,7 +35,7 @@ fn alias_args(cx: &mut Interner, items: &[GenericArg]) -> Result<GenericArgs, Re
     }
 }
 
-/// The same of generic arguments, whose order counts, and of an alias's.
+/// The list of an iterator's generic arguments is the list of their slice, whose order counts, and so are an alias's.
 pub fn arguments_of_an_iterator(cx: &mut Interner) -> Result<bool, Refusal> {
     let number = GenericArg::from(u32_ty(cx)?);
     let region = GenericArg::from(Region::new_static());

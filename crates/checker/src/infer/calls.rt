@@ -54,7 +54,7 @@ fn fresh_data_type(
     data_type_of(cx, id, variables.as_slice())
 }
 
-// Makes the types of the operands equal to those that are expected, in order.
+// Makes the types of the operands equal to the expected types, in order.
 #[tactic(auto, using(crate::proofs::ClientLaws::growth_laws))]
 fn equate_each(
     cx: &mut Interner,
@@ -79,7 +79,8 @@ fn equate_each(
     Ok(())
 }
 
-/// Infers the type of a call, and the type arguments of the function, and returns the type of the function at these.
+/// Infers the type of a call and the type arguments of the function, and returns the type of the function at these
+/// arguments.
 #[tactic(auto, using(crate::proofs::ClientLaws::growth_laws))]
 pub fn infer_call(
     cx: &mut Interner,
@@ -146,7 +147,7 @@ fn inputs_of(cx: &Interner, sig: FnSig) -> Result<Vec<Ty>, Failure>
     Ok(inputs)
 }
 
-/// Infers the type of a data type expression, and the type arguments of the data type.
+/// Infers the type of a data type expression and the type arguments of the data type.
 #[tactic(auto, using(crate::proofs::ClientLaws::growth_laws))]
 pub fn infer_data(
     cx: &mut Interner,

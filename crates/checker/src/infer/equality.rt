@@ -1,4 +1,4 @@
-//! Types of expressions made equal.
+//! Making the types of expressions equal.
 
 ghost use Rattle.std.specs.Prelude.{IfOk};
 ghost use Rattle.tt_kinds.specs.Kinds.{ty_shape};
@@ -48,7 +48,7 @@ pub fn fresh_variables(
     Ok(variables)
 }
 
-/// Makes the type that was found at a place equal to the one that is expected there.
+/// Makes the type that was found at a place equal to the type that is expected there.
 #[tactic(auto, using(crate::proofs::ClientLaws::growth_laws))]
 pub fn equate(
     cx: &mut Interner,

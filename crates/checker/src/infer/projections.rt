@@ -18,7 +18,7 @@ use crate::wording::{no_field, no_item, unknown_type};
 use type_terms::prelude::*;
 use unify::Bindings;
 
-// Returns the type of the operand as far as it is known, out of references.
+// Returns the type of the operand as far as the type is known, without the references around it.
 #[tactic(auto, using(crate::proofs::ClientLaws::growth_laws))]
 fn known(
     cx: &mut Interner,
@@ -57,7 +57,7 @@ fn field_named(cx: &mut Interner, ty: Ty, name: Symbol) -> Result<Option<Ty>, Fa
     Ok(None)
 }
 
-// Returns whether the type is a variable, so that nothing is known of it.
+// Returns whether the type is an inference variable: then nothing is known of it.
 fn is_unknown(cx: &Interner, ty: Ty) -> bool
     requires { IsOwned ty_shape cx.now ty }
 {

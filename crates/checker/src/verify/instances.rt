@@ -1,4 +1,4 @@
-//! Types that are compared with instances of written ones.
+//! Comparing types with instances of written types.
 
 ghost use Rattle.std.specs.Prelude.{◌≡◌, IfOk, IfSome, IsTrue, OnOk, Some, map, slice_get};
 ghost use Rattle.tt_interner.specs.Arguments.{AreArguments, args_at};
@@ -20,7 +20,7 @@ use crate::verify::same;
 use checker_syntax::program::{DataType, Span};
 use type_terms::prelude::*;
 
-// Returns the written type of this number at the arguments.
+// Returns the written type of this number, instantiated with the arguments.
 #[tactic(auto, using(crate::proofs::ScopeLaws::verify_laws))]
 fn instance(
     cx: &mut Interner,
@@ -41,7 +41,7 @@ fn instance(
     Ok(instance.skip_norm_wip())
 }
 
-// Compares the type with the written one at the arguments.
+// Compares the type with the written type of this number, instantiated with the arguments.
 #[tactic(auto, using(crate::proofs::ScopeLaws::verify_laws))]
 fn verify_instance(
     cx: &mut Interner,
@@ -61,7 +61,7 @@ fn verify_instance(
     same(instance(cx, scope, number, args)?, ty)
 }
 
-// Compares the types of operands with the written ones at the arguments.
+// Compares the types of the operands with the declared written types, instantiated with the arguments.
 #[tactic(auto, using(crate::proofs::ScopeLaws::verify_laws))]
 fn verify_each(
     cx: &mut Interner,
@@ -128,7 +128,7 @@ pub fn verify_call(
     verify_instance(cx, scope, item.output, args, ty)
 }
 
-// Returns the arguments of the data type of this number and item, if the type is that one.
+// Returns the arguments of the type, if the type is the data type of this number, which is `item`.
 fn arguments_of(
     cx: &Interner,
     scope: Scope<'_>,
@@ -161,7 +161,7 @@ fn arguments_of(
     }
 }
 
-// Returns whether the two ids are one.
+// Returns whether the two ids are the same.
 fn is_same(left: AdtId, right: AdtId) -> bool
     ensures { IsTrue result → left ≡ right }
 {

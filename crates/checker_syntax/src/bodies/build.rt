@@ -1,4 +1,4 @@
-//! Expressions of parts that are read.
+//! Expressions, built from parts that were read.
 
 ghost use Rattle.std.specs.Prelude.{◌≤◌};
 ghost use Rattle.checker_syntax.specs.Tokens.{tokens_left};
@@ -77,7 +77,7 @@ impl<'a> BodyReader<'a> {
         self.push(Expression::Call(function, span), place)
     }
 
-    // Adds the value of the data type, whose name is this token, with these fields.
+    // Adds the value of the data type with these fields. The token is the data type's name.
     pub(super) fn data_value(
         &mut self,
         data: DataName,
@@ -91,7 +91,7 @@ impl<'a> BodyReader<'a> {
         self.push(Expression::Data(data.number, span), token.place)
     }
 
-    // Returns the values of the data type's fields. It is an error if one isn't given.
+    // Returns the values of the data type's fields in the order of their declaration. A missing field is an error.
     fn in_declared_order(
         &self,
         data: DataName,
@@ -163,7 +163,7 @@ impl<'a> BodyReader<'a> {
         }
     }
 
-    // Returns an error if the data type hasn't this field, or if it is given already.
+    // Returns an error if the data type doesn't have this field, or if the field is given already.
     pub(super) fn check_field(
         &self,
         data: DataName,
@@ -196,7 +196,7 @@ impl<'a> BodyReader<'a> {
         })
     }
 
-    // Returns the number of an item, which is written without `_` and without a zero before it.
+    // Returns the number of an item, which is written without `_` and without leading zeros.
     fn item_number(&self, token: Token) -> Result<usize, SyntaxError> {
         let text = self.types.tokens.text(token);
         let is_plain = text == "0" || !text.starts_with('0');
@@ -243,7 +243,7 @@ impl<'a> BodyReader<'a> {
         )
     }
 
-    // Returns the error that there is no such thing of the name.
+    // Returns the error that no `what` has the token's name.
     fn unknown(&self, what: &str, token: Token) -> SyntaxError {
         let name = self.types.tokens.text(token);
         wrong(

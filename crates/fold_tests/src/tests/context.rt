@@ -41,6 +41,7 @@ impl Context {
     }
 }
 
+// A slice of a variable stays as it is until the variable is bound.
 fn variables_are_resolved_holds(context: &mut Context) -> Result<bool, Refusal> {
     let first = variable(&mut context.cx, 0)?;
     let slice = ty(&mut context.cx, TyKind::Slice(first))?;

@@ -47,6 +47,7 @@ fn with_region<T: Owned + TypeFoldable>(
     }
 }
 
+// Each region is replaced, at any depth, under a binder and by itself.
 fn regions_are_replaced_holds(cx: &mut Interner) -> Result<bool, Refusal> {
     let number = u32_ty(cx)?;
     let region = bound_region(0)?;
@@ -150,6 +151,7 @@ fn with_type<T: Owned + TypeFoldable>(
     }
 }
 
+// One type is replaced at any depth and under a binder, and each region stays.
 fn types_alone_are_replaced_holds(cx: &mut Interner) -> Result<bool, Refusal> {
     let number = u32_ty(cx)?;
     let truth = ty(cx, TyKind::Bool)?;
@@ -229,6 +231,7 @@ fn with_bytes<T: Owned + TypeFoldable>(cx: &mut Interner, value: T) -> Result<T,
     }
 }
 
+// A folder that promises nothing of its hook takes the type of 2^64 places too.
 fn a_folder_without_promises_remembers_holds(cx: &mut Interner) -> Result<bool, Refusal> {
     let truth = ty(cx, TyKind::Bool)?;
     let byte = ty(cx, TyKind::Uint(UintTy::U8))?;

@@ -29,7 +29,8 @@ fn twice_and_under(cx: &mut Interner, item: Ty, item_under: Ty) -> Result<Ty, Re
     tuple(cx, &[first, first, function])
 }
 
-// A type that occurs again under as many binders is taken apart once, so of 2^64 places 65 types are.
+// A type that occurs again under as many binders is taken apart once: of `(P, P, fn(P))` four types are, and of 2^64
+// places 65.
 fn shared_types_are_taken_apart_once_holds(cx: &mut Interner) -> Result<bool, Refusal> {
     let parameter = param_ty(cx, 0)?;
     let (near, far) = (bound_ref(cx, 0)?, bound_ref(cx, 1)?);

@@ -146,6 +146,7 @@ fn regions_in_rows(
     Ok(counted(outcome, &visitor))
 }
 
+// In values, lists, kinds and rows, under binders, and without the value's own hook, each region is counted.
 fn regions_are_counted_holds(cx: &mut Interner) -> Result<bool, Refusal> {
     let number = u32_ty(cx)?;
     let region = bound_region(0)?;
@@ -623,6 +624,7 @@ impl ClonesTree for Loan {
     ghost keeps = { Prim.search copies };
 }
 
+// A value of a user's own type with two fields is shifted, instantiated, visited and folded as its parts are.
 fn a_loan_is_shifted_and_instantiated_holds(cx: &mut Interner) -> Result<bool, Refusal> {
     let inner = Loan {
         region: bound_region(0)?,

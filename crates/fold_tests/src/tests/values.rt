@@ -241,6 +241,7 @@ fn options(parts: Leaves) -> (Option<Ty>, Result<Ty, Region>, Result<Ty, Region>
     (Some(parts.near), Ok(parts.near), Err(parts.region))
 }
 
+// Records of aliases, signatures, predicates and constants, kinds that are not stored, options and results.
 fn records_are_moved_holds(cx: &mut Interner) -> Result<bool, Refusal> {
     // Without a name for these types here, the prover doesn't find their modules.
     let _index: Option<BoundVarIndexKind> = None;
@@ -308,6 +309,7 @@ fn environment(cx: &mut Interner, item: Clause) -> Result<(Clauses, ParamEnv), R
     Ok((caller_bounds, ParamEnv { caller_bounds }))
 }
 
+// Stored patterns, constants and existential predicates, and lists of them.
 fn handles_are_moved_holds(cx: &mut Interner) -> Result<bool, Refusal> {
     let old = leaves_at(cx, 1)?;
     let new = leaves_at(cx, 2)?;
@@ -326,6 +328,7 @@ fn handles_are_moved(rt: HostRuntime) {
     holds_anew(&rt, rt.alloc(), handles_are_moved_holds);
 }
 
+// A clause by itself, in a vector, under one more binder, in a list, and in an environment.
 fn clauses_are_moved_holds(cx: &mut Interner) -> Result<bool, Refusal> {
     let old = leaves_at(cx, 2)?;
     let new = leaves_at(cx, 3)?;

@@ -5,6 +5,7 @@ use checker_syntax::program::{Expression, Literal, Program};
 use checker_syntax::read;
 use std::test::Fail;
 
+// A tuple comes after its items, at the place of its parenthesis. One item in parentheses without a comma is no tuple.
 #[test]
 fn literals_and_tuples(rt: HostRuntime) -> Result<(), Fail> {
     let body = last_body(
@@ -30,6 +31,8 @@ fn literals_and_tuples(rt: HostRuntime) -> Result<(), Fail> {
     Ok(())
 }
 
+// A name refers to the last `let` before it in scope, or else to an argument. Without a last expression a body ends in
+// `()`.
 #[test]
 fn variables_and_shadowing(rt: HostRuntime) -> Result<(), Fail> {
     let source = "fn f(a: i32, b: i32) {\n a; let a: bool = a;\n { let b = a; b };\n b; a; }";
@@ -54,6 +57,7 @@ fn variables_and_shadowing(rt: HostRuntime) -> Result<(), Fail> {
     Ok(())
 }
 
+// A dot binds tighter than `&` and `*`, and `.0.1` is two items.
 #[test]
 fn references_and_selections(rt: HostRuntime) -> Result<(), Fail> {
     let body = last_body(rt.alloc(), "fn f(a: i32) { *&a.0.1 .x; (&a).y; 1.a }")?;
@@ -79,6 +83,7 @@ fn references_and_selections(rt: HostRuntime) -> Result<(), Fail> {
     Ok(())
 }
 
+// Arguments come before their call. Fields are in the order of the declaration, in whichever order they are written.
 #[test]
 fn calls_and_structs(rt: HostRuntime) -> Result<(), Fail> {
     let source = "struct P<T> { x: T, y: T } fn g(a: i32);
@@ -106,8 +111,8 @@ fn f(a: i32, y: i32) { P { y, x: g(f(a, 1,)), }; g(); P { x: 1, y: a }.x }";
     Ok(())
 }
 
-/// A program with most of the language.
-pub const EXAMPLE: &str = "
+// A program with most of the language.
+const EXAMPLE: &str = "
     struct Pair<A, B> { first: A, second: B }
     struct Vec<T> { item: T }
     fn swap<A, B>(pair: Pair<A, B>) -> Pair<B, A> {
@@ -122,6 +127,7 @@ pub const EXAMPLE: &str = "
     }
 ";
 
+// The program with most of the language has two data types, three functions and a body of 18 expressions.
 #[test]
 fn the_example(rt: HostRuntime) -> Result<(), Fail> {
     let program: Program = read(rt.alloc(), EXAMPLE)?;

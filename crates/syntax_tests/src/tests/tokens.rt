@@ -1,23 +1,11 @@
 //! The tokens of a source, by what is read of them.
 
-use super::{at, has_names, is_body, is_refused, last_body, span};
+use super::{at, has_names, is_body, last_body, span};
 use checker_syntax::program::{Expression, Literal};
 use checker_syntax::read;
 use std::test::Fail;
 
-#[test]
-fn marks_and_keywords(rt: HostRuntime) -> Result<(), Fail> {
-    for mark in [
-        "(", ")", "{", "}", "<", ">", ",", ";", ":", "=", ".", "&", "*", "->", "struct", "fn",
-        "let", "true", "false",
-    ] {
-        let source = format!(in rt.alloc(); "fn {mark}")?;
-        let text = format!(in rt.alloc(); "expected a name, found `{mark}`")?;
-        is_refused(&rt, rt.alloc(), source.as_str(), at(1, 4), text.as_str());
-    }
-    Ok(())
-}
-
+// A name goes on as far as letters do: `lets` is no keyword.
 #[test]
 fn marks_need_no_space(rt: HostRuntime) -> Result<(), Fail> {
     let source = "struct lets<A>{a:&A}fn f(b:lets<(i32,)>)->i32{let c=(true,false);*b.a.0}";
@@ -43,6 +31,7 @@ fn marks_need_no_space(rt: HostRuntime) -> Result<(), Fail> {
     Ok(())
 }
 
+// A letter of two bytes is one column, in literals and comments too. A text may go over lines.
 #[test]
 fn places_count_characters(rt: HostRuntime) -> Result<(), Fail> {
     let source = "fn f(ab: i32) { 'é'; // comment é\n\"é\\\"\n\"; ab; 1_0.2;\n ab.ba }";
@@ -67,45 +56,7 @@ fn places_count_characters(rt: HostRuntime) -> Result<(), Fail> {
     Ok(())
 }
 
-// Messages and the numbers of items take a token's text from its range.
-#[test]
-fn ranges_count_bytes(rt: HostRuntime) {
-    for (source, place, text) in [
-        (
-            "fn f() { 'é' ab; }",
-            at(1, 14),
-            "expected `;` or `}`, found `ab`",
-        ),
-        (
-            "fn f() { // comment é\n\"é\\\"\n\" ab 1_0.2;\n ba",
-            at(3, 3),
-            "expected `;` or `}`, found `ab`",
-        ),
-        (
-            "fn f() { // comment é\n\"é\\\"\n\" 1_0.2;\n ba",
-            at(3, 3),
-            "expected `;` or `}`, found `1_0`",
-        ),
-        (
-            "fn f() { 'é'; // comment é\n\"é\\\"\n\".1_0;\n ba",
-            at(3, 3),
-            "`1_0` isn't the number of an item",
-        ),
-        (
-            "fn f() { 'é'; // comment é\n\"é\\\"\n\"; 1_0.2;\n ba",
-            at(4, 2),
-            "unknown value `ba`",
-        ),
-        (
-            "fn f(ba: i32) { 'é'; // comment é\n\"é\\\"\n\"; 1_0.2;\n ba",
-            at(4, 4),
-            "expected `;` or `}`, found the end of the program",
-        ),
-    ] {
-        is_refused(&rt, rt.alloc(), source, place, text);
-    }
-}
-
+// Each escape is one character, in a literal of a character and of a text.
 #[test]
 fn literals_have_escapes(rt: HostRuntime) -> Result<(), Fail> {
     let body = last_body(

@@ -12,6 +12,7 @@ fn has_types(rt: &impl Abort, program: &Program, types: &[WrittenType], parts: &
     assert_eq!(rt; program.parts.as_slice(), parts);
 }
 
+// A reference and a tuple come after their parts. A function without a result returns `()`.
 #[test]
 fn each_kind_of_type(rt: HostRuntime) -> Result<(), Fail> {
     let source =
@@ -50,6 +51,7 @@ fn each_kind_of_type(rt: HostRuntime) -> Result<(), Fail> {
     Ok(())
 }
 
+// Each has the number of its declaration, its place, its parameters and its fields.
 #[test]
 fn structs_may_come_after_their_uses(rt: HostRuntime) -> Result<(), Fail> {
     let source =
@@ -90,6 +92,7 @@ fn structs_may_come_after_their_uses(rt: HostRuntime) -> Result<(), Fail> {
     Ok(())
 }
 
+// In its own function alone.
 #[test]
 fn a_type_parameter_hides_a_data_type(rt: HostRuntime) -> Result<(), Fail> {
     let program = read(

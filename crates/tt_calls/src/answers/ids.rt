@@ -1,7 +1,7 @@
 //! Ids, by the positions of the calls that declared them.
 //!
-//! Below, a call or a part of one is declared if each position in it that has to name a declaration names one of the
-//! right sort: all its declarations are there, and its terms may be absent.
+//! In this file, a call or a part of a call is declared if each of its positions that has to name a declaration names
+//! one of the wanted sort. The positions of terms aren't looked at.
 
 ghost use Rattle.std.specs.Prelude.{◌≡◌, ◌↔◌, ◌++◌, IsTrue, None, List, MatchOption};
 ghost use Rattle.tt_interner.specs.Rows.{Row};
@@ -57,8 +57,8 @@ fn id_at(earlier: &[Answer], position: u32) -> Option<(DeclarationSort, DefId)>
     }
 }
 
-/// Returns the number of the id at the position. The 0 of an absent one is never stored: a call is only answered if
-/// [`call_is_declared`] has found an id of the right sort at each such position.
+/// Returns the number of the id at the position, or 0 if there is no id. This 0 is never stored: terms are built only
+/// after [`call_is_declared`] has found the ids that they need.
 pub fn number_at(earlier: &[Answer], position: u32) -> u32
     ensures { (rows : List Row) → result ≡ number_at (told_all rows earlier.now) position }
 {
@@ -68,21 +68,22 @@ pub fn number_at(earlier: &[Answer], position: u32) -> u32
     }
 }
 
-/// Returns the trait of that number.
+/// Returns the trait with the number that [`number_at`] returns.
 pub fn trait_at(earlier: &[Answer], position: u32) -> TraitId
     ensures { (rows : List Row) → result.number ≡ number_at (told_all rows earlier.now) position }
 {
     TraitId::from_number(number_at(earlier, position))
 }
 
-/// Returns the declaration of that number.
+/// Returns the declaration with the number that [`number_at`] returns.
 pub fn def_at(earlier: &[Answer], position: u32) -> DefId
     ensures { (rows : List Row) → result.number ≡ number_at (told_all rows earlier.now) position }
 {
     DefId::from_number(number_at(earlier, position))
 }
 
-/// Returns whether each position of the call that has to name a declaration names one of the right sort.
+/// Returns whether each position of the call that has to name a declaration names one of the wanted sort. The trait or
+/// the implementation that a [`Call::Declare`] names is tested when the declaration is made.
 pub fn call_is_declared(earlier: &[Answer], call: &Call) -> bool
     ensures { (rows : List Row) → IsTrue result ↔ AreTerms (told_all rows earlier.now) (id_positions call.now) }
 {
@@ -97,8 +98,8 @@ pub fn call_is_declared(earlier: &[Answer], call: &Call) -> bool
     }
 }
 
-// Returns whether the declarations that the variables of a function's signature name are there. Other declarations have
-// no such variables.
+// Returns whether the declarations that the variables of a function's signature name are there. Other items have no
+// signature.
 fn signature_is_declared(earlier: &[Answer], call: &DeclarationKindCall) -> bool
     ensures { (rows : List Row) → IsTrue result ↔ AreTerms (told_all rows earlier.now) (declared_ids call.now) }
 {
@@ -213,7 +214,7 @@ fn late_parameter_is_declared(earlier: &[Answer], scope: u32, name: &RegionNameC
     is_any_id(earlier, scope) && region_name_is_declared(earlier, name)
 }
 
-// Returns whether the declarations that both regions name are there.
+// Returns whether the declarations that the two regions name are there.
 fn regions_are_declared(earlier: &[Answer], first: &RegionCall, second: &RegionCall) -> bool
     ensures { (rows : List Row) → IsTrue result
         ↔ AreTerms (told_all rows earlier.now) (region_ids first.now ++ region_ids second.now) }

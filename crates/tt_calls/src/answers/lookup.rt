@@ -60,8 +60,8 @@ fn id_of_sort(answer: &Answer, sort: DeclarationSort) -> Option<DefId>
     }
 }
 
-/// Returns the handle at the position. Refused with `NoSuchAnswer` if the answer there is absent or not a handle of its
-/// table.
+/// Returns the handle at the position. Refused with `NoSuchAnswer` if the answer there is absent or not a handle of
+/// `T`'s table.
 pub fn handle_at<T: TermHandle>(earlier: &[Answer], position: u32) -> Result<T, Refusal>
     ensures cause { IfErr result (λ e. e ≡ NoSuchAnswer) }
     ensures part { (terms : Terms) → AreOwnedAnswers terms.rows earlier.now
@@ -78,7 +78,7 @@ pub fn handle_at<T: TermHandle>(earlier: &[Answer], position: u32) -> Result<T, 
     }
 }
 
-/// Returns the handles at two positions.
+/// Returns the handles at two positions. Refused as [`handle_at`] is.
 pub fn handle_pair<A: TermHandle, B: TermHandle>(
     earlier: &[Answer],
     first: u32,
@@ -119,7 +119,7 @@ pub fn fill_handles<T: TermHandle>(
     Ok(())
 }
 
-/// Returns the handles at the positions.
+/// Returns the handles at the positions. Refused as [`handle_at`] is, and with `Memory`.
 pub fn handles_at<T: TermHandle>(
     alloc: Global,
     earlier: &[Answer],

@@ -13,8 +13,8 @@ use crate::answers::term_handle::{TermHandle, number_of, table_of};
 use tt_index::Refusal;
 use tt_interner::Interner;
 
-/// Returns whether the terms at two positions are the same. Refused with `NoSuchAnswer` if there are no terms of one
-/// table there.
+/// Returns whether the terms at two positions are the same, as an answer. Refused with `NoSuchAnswer` unless two terms
+/// of the same table are there.
 pub fn equal_at(cx: &Interner, earlier: &[Answer], first: u32, second: u32) -> Answer
     requires { AreOwnedAnswers cx.now.rows earlier.now }
     ensures { IsAllowed
@@ -36,7 +36,7 @@ pub fn equal_at(cx: &Interner, earlier: &[Answer], first: u32, second: u32) -> A
     Answer::Truth(number_of(first) == number_of(second))
 }
 
-// Returns whether both are handles of the same table.
+// Returns whether both answers are handles of the same table.
 fn are_alike(first: &Answer, second: &Answer) -> bool
     ensures { IsTrue result ↔ AreOfOneTable first.now second.now }
 {
@@ -46,8 +46,8 @@ fn are_alike(first: &Answer, second: &Answer) -> bool
     }
 }
 
-/// Returns the flags and the outer exclusive binder of the term at the position. Refused with `NoSuchAnswer` if there
-/// is none; a list of generic arguments is not a term here.
+/// Returns the flags and the outer exclusive binder of the term at the position, as an answer. Refused with
+/// `NoSuchAnswer` if there is no term, or a list of generic arguments.
 pub fn info_at(cx: &Interner, earlier: &[Answer], position: u32) -> Answer
     requires { AreOwnedAnswers cx.now.rows earlier.now }
     ensures { IsAllowed

@@ -12,7 +12,7 @@ use tt_kinds::{Clauses, Const, GenericArgs, Pat, Predicate, Table, Ty};
 
 /// A handle that an answer can hold.
 pub trait TermHandle: Flags + Copy {
-    // Its table, and its number there.
+    // The handle's table, and its number in this table.
     ghost table: { Table };
 
     ghost number: { Self → ℕ };
@@ -25,7 +25,7 @@ pub trait TermHandle: Flags + Copy {
     fn into_answer(self) -> Answer
         ensures { IsHandle result table (number self) };
 
-    // It names a stored row.
+    // The trait `Flags` reads the row that the handle names.
     ghost is_flagged: { (handle : Self) → Self.flags_shape handle ≡ stored table (number handle) };
 }
 
@@ -161,7 +161,7 @@ impl TermHandle for GenericArgs {
     ghost is_flagged = { λ handle. refl };
 }
 
-/// Returns the table of the answer's handle, if the answer is one.
+/// Returns the table of the answer's handle, or `None` if the answer is not a handle.
 pub fn table_of(answer: &Answer) -> Option<Table>
     ensures { result ≡ handle_table answer.now }
 {

@@ -1,4 +1,4 @@
-//! The building of lists of clauses.
+//! Building lists of clauses.
 
 ghost use Rattle.std.specs.Prelude.{◌≡◌, ◌≤◌, ℕ, take, length, IfOk, IfErr, OnOk};
 ghost use Rattle.std.specs.declared.alloc.Global.{Global};
@@ -43,7 +43,7 @@ pub fn build_clauses(
     match clause_list(cx, earlier, positions) {
         Ok(list) => Ok(Answer::Clauses(list)),
         Err(refusal) => {
-            // Each row is added once, so a list that is there is found.
+            // Each row is added once, so a list that is stored is found.
             cx.are_rows();
             Err(refusal)
         }

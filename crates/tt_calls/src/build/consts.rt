@@ -1,4 +1,4 @@
-//! The building of constants and of lists of generic arguments.
+//! Building constants and lists of generic arguments.
 
 ghost use Rattle.std.specs.declared.alloc.Global.{Global};
 ghost use Rattle.std.specs.declared.vec.Vec.{Vec};
@@ -39,7 +39,8 @@ use tt_kinds::{
     ValTree, ValTreeKind, ValueConst,
 };
 
-/// Returns the constant that the call names, over the earlier answers. The ids that it names have to be there.
+/// Builds the constant of the call from the earlier answers. The ids that the call names have to be there;
+/// [`call_is_declared`](crate::answers::ids::call_is_declared) tests this.
 pub fn build_const(
     cx: &mut Interner,
     earlier: &[Answer],
@@ -52,7 +53,7 @@ pub fn build_const(
 {
     match const_kind(cx, earlier, call) {
         Ok(kind) => {
-            // Each row is added once, so a constant that is there is found.
+            // Each row is added once, so a constant that is stored is found.
             cx.are_rows();
             let constant = cx.mk_const(kind)?;
             Ok(Answer::Const(constant))
@@ -64,8 +65,8 @@ pub fn build_const(
     }
 }
 
-/// Returns the list of the generic arguments that the call names, over the earlier answers. The ids that it names have
-/// to be there.
+/// Builds the list of generic arguments of the call from the earlier answers. The ids that the call names have to be
+/// there; [`call_is_declared`](crate::answers::ids::call_is_declared) tests this.
 pub fn build_args_answer(
     cx: &mut Interner,
     earlier: &[Answer],
@@ -80,7 +81,7 @@ pub fn build_args_answer(
     match build_arg_list(cx, earlier, args) {
         Ok(args) => Ok(Answer::Args(args)),
         Err(refusal) => {
-            // Each row is added once, so a list that is there is found.
+            // Each row is added once, so a list that is stored is found.
             cx.are_rows();
             Err(refusal)
         }
@@ -156,7 +157,7 @@ fn value_kind(
     }
 }
 
-// Returns the kind of a value of bits.
+// Returns the kind of a leaf: a value of these bits.
 fn leaf_kind(
     cx: &Interner,
     earlier: &[Answer],
@@ -176,7 +177,7 @@ fn leaf_kind(
     Ok(ConstKind::Value(ValueConst { ty, valtree }))
 }
 
-// Returns the kind of a value with values inside.
+// Returns the kind of a branch: a value made of the values at these positions.
 fn branch_kind(
     cx: &mut Interner,
     earlier: &[Answer],

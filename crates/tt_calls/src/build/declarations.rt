@@ -1,4 +1,4 @@
-//! The making of declarations.
+//! Making declarations.
 
 ghost use Rattle.std.specs.Prelude.{◌≡◌, IfOk, IfErr, List};
 ghost use Rattle.tt_index.specs.declared.refusal.Refusal.TheVariants.{NoSuchAnswer};
@@ -30,7 +30,8 @@ use tt_kinds::{
     Binder, DeclarationKind, DeclarationSort, EarlyBinder, FnSig, FnSigKind, ImplId, TraitId,
 };
 
-/// Returns the id of the declaration that the call makes, over the earlier answers.
+/// Makes the declaration of the call from the earlier answers, and returns its id. The ids that the variables of a
+/// function's signature name have to be there; [`call_is_declared`](crate::answers::ids::call_is_declared) tests this.
 pub fn declare_at(
     cx: &mut Interner,
     earlier: &[Answer],
@@ -47,7 +48,7 @@ pub fn declare_at(
     Ok(Answer::Id(kind.sort(), id))
 }
 
-// Returns what is declared.
+// Returns what the call declares.
 fn declared_kind(
     cx: &mut Interner,
     earlier: &[Answer],
@@ -104,7 +105,7 @@ fn declared_sig(
     Ok(EarlyBinder::bind(Binder::bind_with_vars(sig, vars)))
 }
 
-// Returns what is declared, if it has no terms.
+// Returns what the call declares, which has no terms.
 fn item_kind(earlier: &[Answer], call: &DeclarationKindCall) -> Result<DeclarationKind, Refusal>
     requires { HasNoTerms call.now }
     ensures sort { IfOk result (λ kind. sort_of kind ≡ declared_sort call.now) }

@@ -1,4 +1,4 @@
-//! The building of trait objects.
+//! Building trait objects.
 
 ghost use Rattle.std.specs.Prelude.{◌≤◌, map, take, length, IfErr};
 ghost use Rattle.tt_kinds.specs.Shape.{item_shapes};

@@ -36,7 +36,7 @@ use tt_kinds::{
     PatList, Region, RegionKind, Table, Ty, Tys,
 };
 
-/// The number of items of a list that are collected without allocation.
+/// The greatest number of items of a list that are collected without an allocation.
 pub const MOST_IN_PLACE: usize = 8;
 
 /// Returns the list of the types at the positions.
@@ -197,8 +197,9 @@ fn build_arg(cx: &mut Interner, earlier: &[Answer], arg: &ArgCall) -> Result<Gen
     }
 }
 
-/// Checks that the arguments that a call names can be built, without building them. Refused with `NoSuchAnswer` if a
-/// position names no term of the argument's table, and with `GreatestIndex` if a bound region has that index.
+/// Checks the positions and the indices of the arguments that a call names, without building the arguments. Refused
+/// with `NoSuchAnswer` if a position names no term of the argument's table, and with `GreatestIndex` if a bound region
+/// has that index.
 pub fn check_args(cx: &Interner, earlier: &[Answer], args: &[ArgCall]) -> Result<(), Refusal>
     requires { AreOwnedAnswers cx.now.rows earlier.now }
     ensures ok { OnOk
@@ -220,7 +221,7 @@ pub fn check_args(cx: &Interner, earlier: &[Answer], args: &[ArgCall]) -> Result
     Ok(())
 }
 
-// Checks that the argument can be built.
+// Checks the argument's position, or the index of its region.
 fn check_arg(cx: &Interner, earlier: &[Answer], arg: &ArgCall) -> Result<(), Refusal>
     requires { AreOwnedAnswers cx.now.rows earlier.now }
     ensures ok { OnOk
@@ -243,7 +244,7 @@ fn check_arg(cx: &Interner, earlier: &[Answer], arg: &ArgCall) -> Result<(), Ref
     }
 }
 
-// Checks that a handle of the table is at the position.
+// Checks that a handle of `T`'s table is at the position.
 fn check_handle<T: TermHandle>(
     cx: &Interner,
     earlier: &[Answer],
@@ -267,7 +268,7 @@ fn check_handle<T: TermHandle>(
     Ok(())
 }
 
-// Checks that the region's index is below the greatest.
+// Checks that the region's index, if the region is bound, is below the greatest.
 fn check_region(region: &RegionCall) -> Result<(), Refusal>
     ensures ok { OnOk result (IsRegionTooDeep region.now → ⊥) }
     ensures err { IfErr result (λ e. (e ≡ GreatestIndex) × IsRegionTooDeep region.now) }

@@ -1,4 +1,4 @@
-//! The building of patterns.
+//! Building patterns.
 
 ghost use Rattle.std.specs.Prelude.{IfErr};
 ghost use Rattle.tt_kinds.specs.Kinds.{pattern_kind_shape};
@@ -17,7 +17,7 @@ use tt_index::Refusal;
 use tt_interner::Interner;
 use tt_kinds::{Const, PatternKind};
 
-/// Returns the pattern that the call names, over the earlier answers.
+/// Builds the pattern of the call from the earlier answers.
 pub fn build_pat(cx: &mut Interner, earlier: &[Answer], call: &PatCall) -> Result<Answer, Refusal>
     requires { AreOwnedAnswers cx.old.rows earlier.now }
     ensures extends { Extends cx.old cx.new }
@@ -25,7 +25,7 @@ pub fn build_pat(cx: &mut Interner, earlier: &[Answer], call: &PatCall) -> Resul
 {
     match pattern_kind(cx, earlier, call) {
         Ok(kind) => {
-            // Each row is added once, so a pattern that is there is found.
+            // Each row is added once, so a pattern that is stored is found.
             cx.are_rows();
             let pat = cx.mk_pat(kind)?;
             Ok(Answer::Pat(pat))

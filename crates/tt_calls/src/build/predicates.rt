@@ -1,4 +1,4 @@
-//! The building of predicates.
+//! Building predicates.
 
 ghost use Rattle.std.specs.Prelude.{◌≡◌, [], ◌∷◌, List, IfErr};
 ghost use Rattle.tt_index.specs.declared.refusal.Refusal.TheVariants.{NoSuchAnswer};
@@ -50,7 +50,8 @@ use tt_kinds::{
     SubtypePredicate, Table, Term, TraitPredicate, TraitRef, Ty,
 };
 
-/// Returns the predicate that the call names, over the earlier answers. The ids that it names have to be there.
+/// Builds the predicate of the call from the earlier answers. The ids that the call names have to be there;
+/// [`call_is_declared`](crate::answers::ids::call_is_declared) tests this.
 pub fn build_predicate(
     cx: &mut Interner,
     earlier: &[Answer],
@@ -63,7 +64,7 @@ pub fn build_predicate(
 {
     match bound_kind(cx, earlier, call) {
         Ok(kind) => {
-            // Each row is added once, so a predicate that is there is found.
+            // Each row is added once, so a predicate that is stored is found.
             cx.are_rows();
             let predicate = cx.mk_predicate(kind)?;
             Ok(Answer::Predicate(predicate))
@@ -272,7 +273,7 @@ fn clause_kind(
     }
 }
 
-// Returns the clause that a type implements a trait, in constants.
+// Returns the clause that a type implements a trait for use in constants.
 fn host_effect(
     cx: &mut Interner,
     earlier: &[Answer],
@@ -413,7 +414,7 @@ fn term_at(earlier: &[Answer], call: TermCall) -> Result<Term, Refusal>
     }
 }
 
-// Returns the types or the constants that a call names.
+// Returns the two terms that a call names, each a type or a constant.
 fn term_pair(earlier: &[Answer], a: TermCall, b: TermCall) -> Result<(Term, Term), Refusal>
     ensures cause { IfErr result (λ e. e ≡ NoSuchAnswer) }
     ensures parts { (terms : Terms) → AreOwnedAnswers terms.rows earlier.now

@@ -1,4 +1,4 @@
-//! The building of regions and of binders' variables.
+//! Building regions and binders' variables.
 
 ghost use Rattle.std.specs.Prelude.{◌≡◌, ◌≤◌, IfErr, map, take, length, List, OnErr};
 ghost use Rattle.tt_kinds.specs.Tree as tree;

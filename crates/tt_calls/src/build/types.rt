@@ -1,4 +1,4 @@
-//! The building of types.
+//! Building types.
 
 ghost use Rattle.std.specs.Prelude.{◌≡◌, IfErr, map, length, [], ◌∷◌, List, OnErr};
 ghost use Rattle.tt_index.specs.declared.refusal.Refusal.TheVariants.{NoSuchAnswer};
@@ -68,7 +68,8 @@ use tt_kinds::{
     RegionKind, Table, TraitAssocTyId, Ty, TyKind, UnsafeBinderInner,
 };
 
-/// Returns the type that the call names, over the earlier answers. The ids that it names have to be there.
+/// Builds the type of the call from the earlier answers. The ids that the call names have to be there;
+/// [`call_is_declared`](crate::answers::ids::call_is_declared) tests this.
 pub fn build_ty(cx: &mut Interner, earlier: &[Answer], call: &TyCall) -> Result<Answer, Refusal>
     requires { AreOwnedAnswers cx.old.rows earlier.now }
     ensures extends { Extends cx.old cx.new }
@@ -77,7 +78,7 @@ pub fn build_ty(cx: &mut Interner, earlier: &[Answer], call: &TyCall) -> Result<
 {
     match ty_kind(cx, earlier, call) {
         Ok(kind) => {
-            // Each row is added once, so a type that is there is found.
+            // Each row is added once, so a type that is stored is found.
             cx.are_rows();
             let ty = cx.mk_ty(kind)?;
             Ok(Answer::Ty(ty))
@@ -305,7 +306,7 @@ fn item_kind(
     Ok(type_of_item(earlier, item, args))
 }
 
-// Returns the type of an item with these arguments.
+// Returns the kind of an item's type with these arguments.
 fn type_of_item(earlier: &[Answer], item: ItemCall, args: GenericArgs) -> TyKind
     ensures { (rows : List Row) → ty_kind_shape result
         ≡ shape.term

@@ -10,10 +10,10 @@ use crate::script::words::Words;
 use smallvec::SmallVec;
 use std::alloc::{AllocError, AllocFailed, Global};
 
-/// Why a line gave no call.
+/// Why no call could be read from a line.
 #[derive(Clone, Copy, Debug, PartialEq, Eq)]
 pub enum LineError {
-    /// It is not a call.
+    /// The line is not a call.
     Bad,
     /// Memory was refused.
     Memory,
@@ -31,7 +31,8 @@ impl<T: Drop> From<AllocFailed<T>> for LineError {
     }
 }
 
-/// Returns the call of the line, which has no line feed. A line without a word gives `None` and isn't counted.
+/// Returns the call on a line, which is given without its line feed. A line without words gives `None` and isn't
+/// counted, and a line that is not a call gives [`Call::Bad`].
 pub fn parse_line(alloc: Global, line: &[u8]) -> Result<Option<Call>, AllocError> {
     let mut words = Words::new(line);
     let Some(first) = words.next_word() else {
@@ -57,7 +58,7 @@ fn parse_call(alloc: Global, first: &[u8], words: &mut Words) -> Result<Call, Li
     };
     match words.next_word() {
         Some(_) => {
-            // Dropped by this call: otherwise the places in memory for its parts would be cleared for each line.
+            // An explicit drop: with an implicit one, the memory for the call's parts would be cleared at each line.
             drop(call);
             Err(LineError::Bad)
         }
@@ -65,7 +66,7 @@ fn parse_call(alloc: Global, first: &[u8], words: &mut Words) -> Result<Call, Li
     }
 }
 
-/// Returns the number of the next word, at most `limit`.
+/// Reads the next word as a number, which may be at most `limit`.
 pub fn number(words: &mut Words, limit: u32) -> Result<u32, LineError>
     ensures { IfOk result (λ n. n ≤ limit) }
 {
@@ -73,13 +74,13 @@ pub fn number(words: &mut Words, limit: u32) -> Result<u32, LineError>
     parse_number(word, limit).ok_or(LineError::Bad)
 }
 
-/// Returns the position of the next word.
+/// Reads the next word as a position.
 #[inline(always)]
 pub fn position(words: &mut Words) -> Result<u32, LineError> {
     parse_position(words.next_word().ok_or(LineError::Bad)?)
 }
 
-/// Returns the positions of all further words.
+/// Reads all further words as positions.
 #[inline(always)]
 pub fn positions(alloc: Global, words: &mut Words) -> Result<Positions, LineError> {
     let mut positions = SmallVec::new(alloc);
@@ -95,7 +96,7 @@ fn parse_position(word: &[u8]) -> Result<u32, LineError> {
     parse_number(digits, u32::MAX).ok_or(LineError::Bad)
 }
 
-// Returns the arguments of all further words.
+// Reads all further words as arguments.
 fn arguments(alloc: Global, words: &mut Words) -> Result<Vec<ArgCall>, LineError> {
     let mut arguments = Vec::new(alloc);
     while let Some(word) = words.next_word() {
@@ -104,7 +105,7 @@ fn arguments(alloc: Global, words: &mut Words) -> Result<Vec<ArgCall>, LineError
     Ok(arguments)
 }
 
-// Returns the argument of a word: a position or a region.
+// Returns the argument that a word names: a position or a region.
 fn parse_argument(alloc: Global, word: &[u8]) -> Result<ArgCall, LineError> {
     match word {
         [b'%', ..] => Ok(ArgCall::Type(parse_position(word)?)),

@@ -3,8 +3,8 @@
 ghost use Rattle.std.specs.Prelude.{◌≡◌};
 ghost use Rattle.tt_calls.specs.Number.{number_within};
 
-/// Returns the word's decimal number, leading zeros allowed, if it is at most `limit`. A word without a digit, or with
-/// anything but digits, has none.
+/// Returns the number that the word writes in decimal, if the number is at most `limit`. Leading zeros are allowed. An
+/// empty word, or one with anything but digits, writes no number.
 pub fn parse_number(word: &[u8], limit: u32) -> Option<u32>
     ensures { result ≡ number_within limit word.now }
 {

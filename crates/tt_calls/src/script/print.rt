@@ -1,11 +1,11 @@
-//! The lines that are printed.
+//! The printed lines of answers.
 
 use crate::answer::Answer;
 use itoa::Buffer;
 use std::alloc::AllocError;
 use tt_index::Refusal;
 
-/// Appends the line of the answer to the call of this number.
+/// Appends the line of an answer, which begins with the number of the answered call.
 pub fn print_answer(output: &mut String, number: usize, answer: &Answer) -> Result<(), AllocError> {
     // The formatter would take as long as all other work on a short line.
     output.push_str(Buffer::new().format(number))?;

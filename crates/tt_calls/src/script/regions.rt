@@ -10,7 +10,7 @@ use std::alloc::{AllocError, Global};
 use tt_index::{BoundVar, DebruijnIndex, GREATEST_INDEX, RegionVid};
 use tt_kinds::{BoundVarIndexKind, ErrorGuaranteed};
 
-/// Returns the region of a word.
+/// Returns the region that a word names.
 #[inline(always)]
 pub fn parse_region(alloc: Global, word: &[u8]) -> Result<RegionCall, LineError> {
     match word {
@@ -35,12 +35,12 @@ pub fn parse_region(alloc: Global, word: &[u8]) -> Result<RegionCall, LineError>
     }
 }
 
-/// Returns the anonymous name of a parameter.
+/// Returns `'_`, the name of each parameter in a script.
 pub fn anonymous(alloc: Global) -> Result<String, AllocError> {
     String::from_str(alloc, "'_")
 }
 
-/// Returns the number of an index.
+/// Returns the index that the digits write, at most [`GREATEST_INDEX`].
 pub fn index(digits: &[u8]) -> Result<u32, LineError>
     ensures { IfOk result (λ n. n ≤ greatest) }
 {

@@ -11,7 +11,7 @@ use tt_index::{
 };
 use tt_kinds::{BoundVarIndexKind, ErrorGuaranteed, FnHeader, FnSigKind, InferTy};
 
-/// Returns the type of this first word and the further words of its line, as many of them as it takes.
+/// Returns the type of this first word and of as many further words of its line as the type needs.
 pub fn parse_ty(alloc: Global, first: &[u8], words: &mut Words) -> Result<TyCall, LineError> {
     match first {
         b"param" => Ok(TyCall::Param {
@@ -54,7 +54,7 @@ fn parse_leaf(first: &[u8], words: &mut Words) -> Result<TyCall, LineError> {
     }
 }
 
-// Returns the type that a word names alone.
+// Returns the type that a word names by itself.
 fn parse_name(word: &[u8]) -> Option<TyCall> {
     match word {
         b"bool" => Some(TyCall::Bool),
@@ -77,7 +77,7 @@ fn parse_name(word: &[u8]) -> Option<TyCall> {
     }
 }
 
-// Returns a reference of the region and the type that the next two words name.
+// Reads the region and the target of a reference from the next two words.
 #[inline(always)]
 fn reference(
     alloc: Global,
@@ -93,8 +93,8 @@ fn variable(words: &mut Words) -> Result<BoundVar, LineError> {
     Ok(BoundVar::from_u32(number(words, GREATEST_INDEX)?))
 }
 
-// Returns a safe function pointer of Rust's convention: the number of its binder's regions, and its types, at least
-// one.
+// Reads a safe function pointer of Rust's calling convention: the number of its binder's regions, and then its types,
+// at least one.
 fn fn_ptr(alloc: Global, words: &mut Words) -> Result<TyCall, LineError> {
     let count = number(words, 255)?;
     let inputs_and_output = positions(alloc, words)?;

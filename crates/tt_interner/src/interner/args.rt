@@ -27,7 +27,7 @@ impl Interner {
         ensures { Builds result (λ list. list.number) self.old self.new (args_row items.now) }
     {
         let info = items_info(self, items);
-        // A region's index is below the greatest, since the number that the items reach is an index too.
+        // The items' outer exclusive binder is an index, so at most the greatest, and each region's index is below it.
         let _fits = info.outer_exclusive_binder.as_u32();
         let number = find_or_add_list(
             &mut self.order,
@@ -41,11 +41,11 @@ impl Interner {
     }
 
     /// Returns the list of all items of the iterator, in order, as [`Interner::mk_args`] does for a slice. The iterator
-    /// has to end, and its items have to be of this interner.
+    /// has to end, and its items have to be of this interner; [`Interner::owns_arg`] tests an item.
     ///
     /// Up to eight items are collected in place, so a list of them that is stored already is found without allocation.
-    /// Refused with `Memory` also if there are more and no memory for them, since they are collected before the list is
-    /// looked up.
+    /// More are collected in a vector before the list is looked up, so `Memory` is possible even for a list that is
+    /// stored already.
     pub fn mk_args_from_iter<I: Iterator<Item = GenericArg> + Drop>(
         &mut self,
         mut iter: I,

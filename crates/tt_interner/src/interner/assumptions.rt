@@ -26,7 +26,7 @@ impl Interner {
         ensures { Builds result (λ list. list.number) self.old self.new (assumptions_row items.now) }
     {
         let info = items_info(self, items);
-        // A region's index is below the greatest, since the number that the items reach is an index too.
+        // The items' outer exclusive binder is an index, so at most the greatest, and each region's index is below it.
         let _fits = info.outer_exclusive_binder.as_u32();
         let number = find_or_add_list(
             &mut self.order,

@@ -1,7 +1,7 @@
-//! The counting of types that are taken apart.
+//! The counts of types that are taken apart.
 //!
-//! The folders of the crates above call these methods, which change no row. A caller who counts too makes
-//! [`Interner::descents`] and [`Interner::shift_descents`] tell more than those folders did, and changes nothing else.
+//! The folders of the crates above call these methods, which change no row. If you call them too,
+//! [`Interner::descents`] and [`Interner::shift_descents`] include your calls, and nothing else changes.
 
 ghost use Rattle.std.specs.Prelude.{◌≡◌};
 ghost use Rattle.tt_interner.specs.Stored.{counted};
@@ -9,8 +9,8 @@ ghost use Rattle.tt_interner.specs.Stored.{counted};
 use super::Interner;
 
 impl Interner {
-    /// Adds one to [`Interner::descents`], unless that is the greatest number. The argument folder calls it where it
-    /// takes a type apart.
+    /// Adds one to [`Interner::descents`], unless the count is `u64::MAX`. The argument folder calls this method where
+    /// it takes a type apart.
     pub fn count_descent(&mut self)
         ensures rows { self.new.rows ≡ self.old.rows }
         ensures limit { self.new.limit ≡ self.old.limit }
@@ -20,7 +20,7 @@ impl Interner {
         self.descents = self.descents.saturating_add(1);
     }
 
-    /// Adds one to [`Interner::shift_descents`], unless that is the greatest number. The shifter calls it where it
+    /// Adds one to [`Interner::shift_descents`], unless the count is `u64::MAX`. The shifter calls this method where it
     /// takes a type apart.
     pub fn count_shift_descent(&mut self)
         ensures rows { self.new.rows ≡ self.old.rows }

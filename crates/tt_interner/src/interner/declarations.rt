@@ -46,8 +46,8 @@ use tt_kinds::{
     TraitAssocTyId, TraitId, UnevaluatedConstId,
 };
 
-// Adds a declaration to a table that has less than `limit` rows, records it in the order, and returns its number. If
-// refused, it changes neither.
+// Adds a declaration to a table that has fewer than `limit` rows, records it in the order, and returns its number. A
+// refused call changes neither the table nor the order.
 fn add_declaration(
     order: &mut Vec<Table>,
     limit: u32,
@@ -247,7 +247,7 @@ impl Interner {
         (id.number() as usize) < self.declarations.len()
     }
 
-    /// Returns whether the declaration of a bound region is of this interner, if the region is declared.
+    /// Returns whether a bound region has no declaration, or one of this interner.
     pub fn owns_region_item(&self, kind: &BoundRegionKind) -> bool
         ensures { IsTrue result ↔ IsDeclaredRegion self.now.rows kind.now }
     {
@@ -346,8 +346,8 @@ pub trait RegionName: Sized {
     // The region's kind.
     ghost region_kind: { Self → BoundRegionKind };
 
-    /// Returns the name of the region's declaration, unless that is `'_`; the name that the region is printed by, if it
-    /// has no declaration; and `None` if it has neither.
+    /// Returns the name of the region's declaration or, without a declaration, the name that the region is printed by.
+    /// Returns `None` if the region has neither, or if its declaration has the name `'_`.
     fn get_name(self, cx: &Interner) -> Option<Symbol>
         requires { IsDeclaredRegion cx.now.rows (region_kind self) }
         ensures { result ≡ title cx.now.rows (region_kind self) };

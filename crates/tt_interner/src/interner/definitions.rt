@@ -20,8 +20,8 @@ use tt_index::{GREATEST_INDEX, Refusal};
 use tt_kinds::{AdtId, EarlyBinder, FieldDef, Table, VariantDef};
 
 impl Interner {
-    /// Gives a data type its variants. Until then it has none, so that the type of a field may name the data type
-    /// itself. Equality of types never depends on the variants.
+    /// Gives a data type its variants. You may use a data type before you define it, so the types of its fields may
+    /// name it. Equality of types never depends on the variants.
     ///
     /// The data type has to be of this interner ([`Interner::owns_adt_id`]) and not be defined yet
     /// ([`Interner::is_defined`]). The variants and their fields have to be few enough to be numbered
@@ -39,7 +39,8 @@ impl Interner {
         requires own { All (IsOwnVariant self.old.rows) variants.value.items }
         ensures { Defines result self.old self.new id.number (map variant_of variants.value.items) }
     {
-        // Each data type is defined once, and declared before that, so there is room whenever memory suffices.
+        // Each data type is declared before it is defined, and defined once, so the table has room whenever memory
+        // suffices.
         match add(
             &mut self.order,
             self.limit,
@@ -54,15 +55,15 @@ impl Interner {
         Ok(())
     }
 
-    /// Returns whether the data type has variants.
+    /// Returns whether the data type is defined: whether [`Interner::define_adt`] gave it variants, perhaps none.
     pub fn is_defined(&self, id: AdtId) -> bool
         ensures { IsTrue result ↔ IsDefined self.now.rows id.number }
     {
         self.definitions.get(&id).is_some()
     }
 
-    /// Returns the variants of a data type, borrowed from the interner. It has to be defined; [`Interner::is_defined`]
-    /// tests it.
+    /// Returns the variants of a data type, borrowed from the interner. The data type has to be defined;
+    /// [`Interner::is_defined`] tests it.
     pub fn adt_variants(&self, id: AdtId) -> EarlyBinder<&[VariantDef]>
         requires { IsDefined self.now.rows id.number }
         ensures is { variants_of self.now.rows id.number ≡ Some (map variant_of result.value.now) }
@@ -75,8 +76,8 @@ impl Interner {
         }
     }
 
-    /// Returns whether the variants, and the fields of each, are at most [`GREATEST_INDEX`] many, so that each has an
-    /// index.
+    /// Returns whether there are at most [`GREATEST_INDEX`] variants, and at most as many fields in each, so that each
+    /// has an index.
     pub fn fits_declaration(variants: &[VariantDef]) -> bool
         ensures { IsTrue result ↔ FitsDeclaration variants.now }
     {

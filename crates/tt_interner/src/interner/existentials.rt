@@ -94,9 +94,9 @@ impl Interner {
     /// name in them has to be this interner's; [`Interner::owns_existential_kinds`] tests it.
     ///
     /// Refused with `TableFull` if one of them or the list is new and its table has as many rows as it may have, and
-    /// with `Memory`. If refused, none of them is added, not even those before the one that had no room.
+    /// with `Memory`. A refused call adds none of them, not even those before the one that had no room.
     ///
-    /// Up to eight predicates that are stored already, as their list is, are found without growth. The handles of more
+    /// Up to eight predicates are found without growth, if they and their list are stored already. The handles of more
     /// than eight are collected in a vector first, so the call may be refused with `Memory` even if all of them and
     /// their list are stored already.
     pub fn mk_existentials(

@@ -1,4 +1,5 @@
-//! Tests of whether handles are of an interner, as its calls require. Handles of other interners can't be told apart.
+//! Tests of whether handles are of an interner, as its calls require. Handles of different interners can't be told
+//! apart.
 
 ghost use Rattle.std.specs.Prelude.{◌≡◌, ◌<◌, ◌↔◌, IsTrue};
 ghost use Rattle.tt_kinds.specs.Bound.{region_name, var_kind};
@@ -43,16 +44,16 @@ impl Interner {
     /// Returns whether `handle` names a row of this interner, for generic code. If you know what the handle is of, use
     /// the test by name, such as [`Interner::owns_ty`], whose contract names the table.
     ///
-    /// Of a [`Clause`] this tests only that there is such a predicate. Calls that take a clause also require that it is
-    /// one, which [`Interner::owns_clause`] tests.
+    /// For a [`Clause`], this tests only that there is a predicate of its number. Calls that take a clause also require
+    /// that the predicate is a clause, which [`Interner::owns_clause`] tests.
     pub fn owns<K: IsStored>(&self, handle: Handle<K>) -> bool
         ensures { IsTrue result ↔ (handle.number < size self.now.rows K.TABLE) }
     {
         (handle.number() as usize) < self.table_len(K::TABLE)
     }
 
-    /// Returns whether `clause` is a predicate of this interner, and a clause: the whole condition of calls that take
-    /// one.
+    /// Returns whether `clause` is a predicate of this interner, and a clause. This is the whole condition of calls
+    /// that take a clause.
     pub fn owns_clause(&self, clause: Clause) -> bool
         ensures { IsTrue result ↔ IsClause self.now.rows clause.number }
     {

@@ -1,5 +1,5 @@
-//! Tests of whether ids are of an interner: whether they name a declaration of their sort. Ids of other interners can't
-//! be told apart.
+//! Tests of whether ids are of an interner: whether they name a declaration of their sort. Ids of different interners
+//! can't be told apart.
 
 ghost use Rattle.std.specs.Prelude.{◌↔◌, IsTrue};
 ghost use Rattle.tt_kinds.specs.declared.declaration.DeclarationSort.TheVariants as sort;
@@ -60,7 +60,8 @@ impl Interner {
         self.owns_id(closure_id)
     }
 
-    /// Returns whether `coroutine_closure_id` names a closure that returns a coroutine that this interner has declared.
+    /// Returns whether `coroutine_closure_id` names a closure that this interner has declared and that returns a
+    /// coroutine.
     pub fn owns_coroutine_closure_id(&self, coroutine_closure_id: CoroutineClosureId) -> bool
         ensures { IsTrue result ↔ IsOfSort self.now.rows sort.CoroutineClosure coroutine_closure_id.number }
     {
@@ -88,7 +89,8 @@ impl Interner {
         self.owns_id(impl_id)
     }
 
-    /// Returns whether `const_id` names a constant whose value is computed on demand that this interner has declared.
+    /// Returns whether `const_id` names a constant that this interner has declared and whose value is computed on
+    /// demand.
     pub fn owns_unevaluated_const_id(&self, const_id: UnevaluatedConstId) -> bool
         ensures { IsTrue result ↔ IsOfSort self.now.rows sort.Const const_id.number }
     {
@@ -117,7 +119,7 @@ impl Interner {
         self.owns_id(opaque_id)
     }
 
-    /// Returns whether `free_id` names a type alias whose bounds are checked that this interner has declared.
+    /// Returns whether `free_id` names a type alias that this interner has declared and whose bounds are checked.
     pub fn owns_free_ty_alias_id(&self, free_id: FreeTyAliasId) -> bool
         ensures { IsTrue result ↔ IsOfSort self.now.rows sort.Free free_id.number }
     {

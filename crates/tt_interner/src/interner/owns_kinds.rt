@@ -121,8 +121,8 @@ impl Interner {
         self.owns(sig.skip_binder().inputs_and_output) && self.owns(sig.bound_vars())
     }
 
-    /// Returns whether every handle and name in the kind of a type is this interner's: the kind can be stored, and it
-    /// can be used by itself.
+    /// Returns whether every handle and name in the kind of a type is this interner's. This is the condition of calls
+    /// that store the kind, and of those that use it by itself.
     pub fn owns_kind(&self, kind: &TyKind) -> bool
         ensures stored { IsTrue result ↔ HasParts (size self.now.rows) (ty_kind_shape kind.now) }
         ensures bare { IsTrue result ↔ IsPart (size self.now.rows) (bare_ty_shape kind.now) }
@@ -130,8 +130,8 @@ impl Interner {
         self.owns_contents(&Kind::Ty(*kind))
     }
 
-    /// Returns whether every handle and name in the kind of a constant is this interner's: the kind can be stored,
-    /// and it can be used by itself.
+    /// Returns whether every handle and name in the kind of a constant is this interner's, as [`Interner::owns_kind`]
+    /// does for a type's.
     pub fn owns_const_kind(&self, kind: &ConstKind) -> bool
         ensures stored { IsTrue result ↔ HasParts (size self.now.rows) (const_kind_shape kind.now) }
         ensures bare { IsTrue result ↔ IsPart (size self.now.rows) (bare_const_shape kind.now) }
@@ -139,8 +139,8 @@ impl Interner {
         self.owns_contents(&Kind::Const(*kind))
     }
 
-    /// Returns whether every handle and name in the kind of a pattern is this interner's: the kind can be stored, and
-    /// it can be used by itself.
+    /// Returns whether every handle and name in the kind of a pattern is this interner's, as [`Interner::owns_kind`]
+    /// does for a type's.
     pub fn owns_pattern_kind(&self, kind: &PatternKind) -> bool
         ensures bare { IsTrue result ↔ IsPart (size self.now.rows) (bare_pattern_shape kind.now) }
         ensures stored { IsTrue result ↔ HasParts (size self.now.rows) (pattern_kind_shape kind.now) }

@@ -129,7 +129,7 @@ impl AsPredicate for Clause {
     }
 
     fn kind(self, cx: &Interner) -> Binder<ClauseKind> {
-        // The facts about rows tell from a predicate's tree that it is a clause.
+        // By the facts about rows, a predicate whose tree is a clause's has the kind of a clause.
         cx.are_rows();
         let predicate = self.as_predicate().kind(cx);
         match predicate.as_ref().skip_binder() {

@@ -71,7 +71,7 @@ impl Interner {
 
     /// Returns the tuple of these types, in order, as [`Interner::mk_tys`] and then [`Interner::mk_ty`] do. The types
     /// have to be of this interner; [`Interner::owns_ty`] tests it. If the tuple is refused, the list of its types may
-    /// stay as a row that no result names; what was there keeps its meaning.
+    /// stay stored. What was stored before keeps its meaning.
     pub fn mk_tuple(&mut self, items: &[Ty]) -> Result<Ty, Refusal>
         requires { AreParts (size self.old.rows) (item_shapes ty_shape items.now) }
         ensures builds { BuildsOf
@@ -88,7 +88,7 @@ impl Interner {
     }
 
     /// Returns the type parameter of this index and name, as [`Interner::symbol`] and then [`Interner::mk_ty`] do. If
-    /// the parameter is refused, the name may stay as a row that no result names; what was there keeps its meaning.
+    /// the parameter is refused, the name may stay stored. What was stored before keeps its meaning.
     pub fn mk_param(&mut self, index: u32, name: &str) -> Result<Ty, Refusal>
         ensures builds { BuildsOf
             (λ symbol. symbol.number)
@@ -127,11 +127,11 @@ impl Interner {
     }
 
     /// Returns the list of all items of the iterator, in order, as [`Interner::mk_tys`] does for a slice. The iterator
-    /// has to end, and its items have to be of this interner.
+    /// has to end, and its items have to be of this interner; [`Interner::owns_ty`] tests an item.
     ///
     /// Up to eight items are collected in place, so a list of them that is stored already is found without allocation.
-    /// Refused with `Memory` also if there are more and no memory for them, since they are collected before the list is
-    /// looked up.
+    /// More are collected in a vector before the list is looked up, so `Memory` is possible even for a list that is
+    /// stored already.
     pub fn mk_type_list_from_iter<I: Iterator<Item = Ty> + Drop>(
         &mut self,
         mut iter: I,

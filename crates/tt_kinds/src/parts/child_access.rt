@@ -30,7 +30,7 @@ impl Child {
     }
 }
 
-// Each method is for a child of that sort; a `match` tests it.
+// Each method is for children of one sort; a `match` tests the condition.
 impl Child {
     /// Returns the region.
     #[inline(always)]

@@ -18,7 +18,7 @@ use crate::parts::{Child, List, Node, Parts};
 use crate::pattern::PatternKind;
 
 impl ConstKind {
-    /// Returns the variables of the binder around the parts: no constant has one.
+    /// Returns `None`: no constant has a binder around its parts.
     pub fn bound_vars(&self) -> Option<BoundVarKinds>
         ensures { result ≡ form_binder (const_form self.now) }
     {
@@ -68,7 +68,7 @@ impl ConstKind {
 }
 
 impl ValueConst {
-    // No value has a binder.
+    // Returns `None`: no value has a binder around its parts.
     fn bound_vars(&self) -> Option<BoundVarKinds>
         ensures { result ≡ form_binder (value_form self.now.ty self.now.valtree.kind) }
     {
@@ -77,7 +77,7 @@ impl ValueConst {
         }
     }
 
-    /// Returns the children in order: its type, and the values of a branch.
+    /// Returns the children in order: the value's type, and the values inside a branch.
     pub fn parts(&self) -> Parts
         ensures { result ≡ form_parts (value_form self.now.ty self.now.valtree.kind) }
     {

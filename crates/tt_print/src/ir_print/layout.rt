@@ -37,7 +37,7 @@ pub(crate) enum Style {
     Generic,
     /// A name, its arguments and perhaps its value, in braces.
     Braced,
-    /// A value of its type: `T(A, B)`.
+    /// A branch of values, after its type: `T(A, B)`.
     Branch,
     /// `A..=B`.
     Range,
@@ -63,7 +63,7 @@ pub(crate) enum Style {
     Bounds,
     /// The list of patterns: `A | B`.
     Alternatives,
-    /// The list of a value's values: `(A, B)`.
+    /// The list of a branch's values: `(A, B)`.
     Values,
 }
 
@@ -185,7 +185,7 @@ impl Style {
     }
 }
 
-/// Returns the text in front of the variable of this place in a binder's list.
+/// Returns the text in front of the variable at this place in a binder's list.
 pub(crate) fn before_variable(place: usize) -> &'static str
     ensures { result.now ≡ before_variable place }
 {

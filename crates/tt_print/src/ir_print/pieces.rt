@@ -18,14 +18,14 @@ use std::alloc::AllocError;
 use tt_interner::Interner;
 use tt_kinds::{Child, List, Parts};
 
-/// The text at a place of a term, and the child that comes then, if there is one.
+/// The text at a place of a term, and the child after this text, if there is one.
 #[derive(Clone, Copy)]
 pub(crate) struct Piece {
     /// The style of the term.
     pub(crate) style: Style,
-    /// The place.
+    /// The place in the text of the term's children.
     pub(crate) place: Place,
-    /// The child.
+    /// The child after the text at the place, or `Absent`.
     pub(crate) child: Child,
 }
 
@@ -149,7 +149,7 @@ fn items_style(style: Style, list: List) -> Style
     }
 }
 
-// Returns whether there is no child.
+// Returns whether the child is absent.
 #[tactic(auto, unfolding(tt_kinds::specs::Shape::fill_all))]
 fn is_absent(child: &Child) -> bool
     ensures { (f : Meaning) → result ≡ are_none (fill_all f (child_shapes child.now)) }
@@ -172,7 +172,7 @@ fn child_count(child: &Child) -> usize
     }
 }
 
-// Returns the number of parts.
+// Returns the number of parts that aren't absent.
 fn part_count(parts: &Parts) -> usize
     ensures { (f : Meaning) → result ≡ count_trees (fill_all f (parts_shapes parts.now)) }
 {

@@ -85,13 +85,13 @@ pub(crate) struct Spelling {
     pub(crate) before: &'static str,
     /// The part of the term's data that is written.
     pub(crate) subject: Subject,
-    /// The text after it, in front of the children.
+    /// The text after the subject, in front of the children.
     pub(crate) after: &'static str,
     /// The style of the children.
     pub(crate) style: Style,
 }
 
-// Returns the spelling by a word alone.
+// Returns the spelling that is a word alone.
 fn alone(before: &'static str) -> Spelling
     ensures head { head_of result ≡ word before.now }
     ensures style { result.style ≡ Style.Joined }
@@ -99,7 +99,7 @@ fn alone(before: &'static str) -> Spelling
     worded(before, Style::Joined)
 }
 
-/// Returns the spelling by a word, and children in the style.
+/// Returns the spelling with a word, and children in the style.
 pub(crate) fn worded(before: &'static str, style: Style) -> Spelling
     ensures head { head_of result ≡ word before.now }
     ensures style { result.style ≡ style }
@@ -107,7 +107,7 @@ pub(crate) fn worded(before: &'static str, style: Style) -> Spelling
     followed(before, Subject::Nothing, style)
 }
 
-// Returns the spelling by a word, the subject after it, and children in the style.
+// Returns the spelling with a word, the subject after the word, and children in the style.
 fn followed(before: &'static str, subject: Subject, style: Style) -> Spelling
     ensures head { head_of result ≡ with_word before.now (subject_of subject) }
     ensures style { result.style ≡ style }
@@ -120,7 +120,7 @@ fn followed(before: &'static str, subject: Subject, style: Style) -> Spelling
     }
 }
 
-/// Returns the spelling by a word, the name of the declaration of this number, and children in the style.
+/// Returns the spelling with a word, the name of the declaration of this number, and children in the style.
 pub(crate) fn declared(before: &'static str, number: u32, style: Style) -> Spelling
     ensures head { head_of result ≡ with_word before.now (item number) }
     ensures style { result.style ≡ style }
@@ -128,7 +128,7 @@ pub(crate) fn declared(before: &'static str, number: u32, style: Style) -> Spell
     followed(before, Subject::Item(DefId::from_number(number)), style)
 }
 
-// Returns the spelling by a word, the name of the declaration of this number, and children in braces.
+// Returns the spelling with a word, the name of the declaration of this number, and children in braces.
 fn braced(before: &'static str, number: u32) -> Spelling
     ensures head { head_of result ≡ with_word before.now (item number) }
     ensures style { result.style ≡ Style.Braced }
@@ -136,7 +136,7 @@ fn braced(before: &'static str, number: u32) -> Spelling
     declared(before, number, Style::Braced)
 }
 
-// Returns the spelling by a name.
+// Returns the spelling that is a name alone.
 fn named(name: Symbol) -> Spelling
     ensures head { head_of result ≡ with_word [] (called name.number) }
     ensures style { result.style ≡ Style.Joined }
@@ -144,7 +144,7 @@ fn named(name: Symbol) -> Spelling
     followed("", Subject::Called(name), Style::Joined)
 }
 
-// Returns the spelling by a number between two words.
+// Returns the spelling that is a number between two words.
 fn enclosed(before: &'static str, number: u32, after: &'static str) -> Spelling
     ensures head { head_of result ≡ record { before = before.now; subject = numbered number; after = after.now } }
     ensures style { result.style ≡ Style.Joined }
@@ -157,7 +157,7 @@ fn enclosed(before: &'static str, number: u32, after: &'static str) -> Spelling
     }
 }
 
-// Returns the spelling by a mark, and two numbers with a dot between them.
+// Returns the spelling that is a mark and two numbers, with a dot between the numbers.
 fn marked(mark: &'static str, first: u32, second: u32) -> Spelling
     ensures head { head_of result ≡ with_word mark.now (paired first second) }
     ensures style { result.style ≡ Style.Joined }
@@ -217,7 +217,7 @@ fn infer_spelling(var: InferTy) -> Spelling
     }
 }
 
-// Returns the spelling by a mark, and two numbers with a dot between them, of a constant.
+// Returns the spelling of a constant, which is a mark, two numbers with a dot between them, and a `c`.
 fn marked_const(mark: &'static str, first: u32, second: u32) -> Spelling
     ensures head { head_of result ≡ record { before = mark.now; subject = paired first second; after = codes "c" } }
     ensures style { result.style ≡ Style.Joined }
@@ -459,7 +459,7 @@ pub(crate) fn kind_spelling(kind: &Kind) -> Spelling
     }
 }
 
-// Returns how a region that has a name is spelled.
+// Returns how a region is spelled by its name.
 fn region_name_spelling(kind: BoundRegionKind) -> Spelling
     ensures head { head_of result ≡ region_name_head (region_name kind) }
     ensures style { result.style ≡ Style.Joined }
@@ -488,7 +488,7 @@ pub(crate) fn region_spelling(kind: &RegionKind) -> Spelling
     }
 }
 
-/// Returns how the variable of this place in a binder's list is spelled, without its name.
+/// Returns how the variable at this place in a binder's list is spelled, without its name.
 pub(crate) fn variable_spelling(place: usize, kind: &BoundVariableKind) -> Spelling
     ensures { head_of result ≡ variable_head place (var_kind kind.now) }
 {

@@ -83,7 +83,7 @@ fn print_bound<T: IrPrint>(
     }
 }
 
-/// The variables in front of the value: `for<'^0> Clone<&'^0.0 T>`.
+/// The binder's variables are in front of the value: `for<'^0> Clone<&'^0.0 T>`.
 impl<T: IrPrint> IrPrint for Binder<T> {
     fn print(&self, cx: &Interner, out: &mut String) -> Result<(), AllocError> {
         print_bound(cx, out, self)

@@ -45,7 +45,7 @@ pub(crate) fn float_name(ty: FloatTy) -> &'static str
     }
 }
 
-/// Returns the word of a function that isn't safe.
+/// Returns the word in front of an unsafe function, or the empty text for a safe function.
 pub(crate) fn safety_word(safety: Safety) -> &'static str
     ensures { result.now ≡ safety_word safety }
 {
@@ -55,7 +55,7 @@ pub(crate) fn safety_word(safety: Safety) -> &'static str
     }
 }
 
-/// Returns the words of a calling convention. Rust's own has none.
+/// Returns the words of a calling convention. Rust's own convention has none.
 pub(crate) fn abi_words(abi: ExternAbi) -> &'static str
     ensures { result.now ≡ abi_words abi }
 {

@@ -1,4 +1,4 @@
-//! Running of calls.
+//! Running calls.
 
 ghost use Rattle.std.specs.Prelude.{◌≡◌, ◌<◌, ◌∷◌, ◌++◌, IsOk, IfOk, IfErr, OnOk, OnErr, MatchResult, List, []};
 ghost use Rattle.std.specs.Vec.{vec_len, vec_capacity};
@@ -21,20 +21,22 @@ use tt_calls::{Answer, Call};
 use tt_index::Refusal;
 use tt_interner::Interner;
 
-/// Answers each call in order. A call's positions name the answers before it.
+/// Answers each call in order. The positions in a call name answers to earlier calls.
 ///
-/// The run is refused with `Memory` if there is no memory for the list of answers, and never otherwise. If a call is
-/// refused, the calls after it are answered all the same.
+/// Refused with `Memory` if there is no memory for the list of answers, and never otherwise. If a call is refused, the
+/// calls after it are still answered.
 ///
-/// Each answer is one that its call may have in the interner as the calls before it left it. In particular, these calls
+/// Each answer is one that its call may have in the interner as the earlier calls left it. In particular, these calls
 /// are refused with neither `Memory` nor `TableFull`:
 ///
-/// - one that builds a term that is stored by then, even if it was stored as a part of another term and no answer is
-///   it. A term with a list of more than eight items (terms, arguments, existential predicates or variables of a binder) is
-///   excepted: its items are collected in memory before the list is looked up;
-/// - a shift by 0, or of a term that no variable escapes; an erasing of a term in which no region is met;
-/// - an instantiation of a type or a constant that is itself a parameter, of a term without parameters if there are no
-///   arguments, and of one in which no region variable is exposed either, whatever the arguments are;
+/// - a call that builds a term which is stored already, even if only as a part of another term, unless the term has a
+///   list of more than eight items (terms, arguments, existential predicates or variables of a binder). Such a list is
+///   collected in memory before it is looked up;
+/// - a shift by 0, or of a term that no variable escapes;
+/// - an erasing of the regions of a term in which each region is canonical or bound by one of the term's own binders;
+/// - an instantiation of a type or a constant that is itself a parameter;
+/// - an instantiation of a term without parameters, if there are no arguments, or if no region variable occurs in the
+///   term outside of types, predicates and lists of clauses;
 /// - `Equal`, `Info` and `Bad`.
 pub fn run_calls(cx: &mut Interner, calls: &[Call]) -> Result<Vec<Answer>, Refusal>
     ensures extends { Extends cx.old cx.new }
@@ -54,11 +56,11 @@ pub fn run_calls(cx: &mut Interner, calls: &[Call]) -> Result<Vec<Answer>, Refus
     Ok(answers)
 }
 
-/// Answers a call after these answers, and appends its answer to them. So calls can be answered one at a time: if the
-/// answers belong to the calls before this one, they are then the answers to all of the calls.
+/// Answers a call that comes after these answers, and appends its answer to them. With it you can answer calls one at a
+/// time: if `answers` has the answers to the calls before this one, it then has the answers to all of the calls.
 ///
 /// Refused with `Memory` if the list of answers is full and cannot grow, and never otherwise. Then the answers are
-/// unchanged. The appended answer is a refusal for want of memory only if it may be one in [`run_calls`].
+/// unchanged. The appended answer itself is a refusal with `Memory` only where an answer of [`run_calls`] may be one.
 pub fn answer_next(cx: &mut Interner, answers: &mut Vec<Answer>, call: &Call) -> Result<(), Refusal>
     requires { AreOwnedAnswers cx.old.rows answers.old.items }
     // In each case:
@@ -98,7 +100,7 @@ fn answer_call(cx: &mut Interner, earlier: &[Answer], call: &Call) -> Answer
     }
 }
 
-// Returns the answer to a call whose ids are there.
+// Returns the answer to a call if the ids that it names are there.
 #[inline(always)]
 fn answer_named(cx: &mut Interner, earlier: &[Answer], call: &Call) -> Answer
     requires owned { AreOwnedAnswers cx.old.rows earlier.now }
@@ -137,7 +139,7 @@ fn answer_named(cx: &mut Interner, earlier: &[Answer], call: &Call) -> Answer
     }
 }
 
-// Returns the answer to a call that gives a term.
+// Returns the outcome of a call that builds, declares or folds, as its answer.
 fn outcome_answer(outcome: Result<Answer, Refusal>) -> Answer
     ensures { MatchResult outcome (λ answer. result ≡ answer) (λ e. result ≡ Answer.Refused e) }
 {

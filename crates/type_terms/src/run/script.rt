@@ -10,8 +10,8 @@ pub use tt_calls::script::{fault, line};
 use tt_calls::{Answer, Fault, parse_line};
 use tt_interner::Interner;
 
-/// Runs a script: reads `input` to its end, then makes an interner and runs the calls on it, then writes a line for
-/// each answer to `output`.
+/// Runs a script: reads `input` to its end, runs the calls on a new interner, and then writes a line for each answer to
+/// `output`.
 pub fn run_script<R: Read + Drop, W: Write + Drop>(
     alloc: Global,
     mut input: R,
@@ -42,10 +42,11 @@ const LINE: usize = 12;
 // The number of bytes that are read at once.
 const BLOCK: usize = 65536;
 
-// A piece of the script that has so many bytes ends with the last line that is whole.
+// Once a piece of the script has this many bytes, it ends with the last line that the next block ends.
 const PIECE: usize = 2 * BLOCK;
 
-// Returns the input up to its end, in pieces of whole lines, so that each can be let go once its calls are answered.
+// Returns the input up to its end, in pieces of whole lines, so that each piece can be freed once its calls are
+// answered.
 fn read_script<R: Read>(alloc: Global, input: &mut R) -> Result<Vec<Vec<u8>>, Fault> {
     let mut pieces = Vec::new(alloc);
     let mut piece = Vec::new(alloc);
@@ -67,7 +68,8 @@ fn read_script<R: Read>(alloc: Global, input: &mut R) -> Result<Vec<Vec<u8>>, Fa
     Err(Fault::Input)
 }
 
-// Adds a block that was read to the piece, or to a new one after its last whole line if the piece is long.
+// Adds a block to the piece. If the piece is long, it ends with the last line that the block ends, and the rest begins
+// a new piece.
 fn keep_block(
     pieces: &mut Vec<Vec<u8>>,
     piece: &mut Vec<u8>,
@@ -85,8 +87,7 @@ fn keep_block(
     piece.extend_from_slice(rest)
 }
 
-// Returns the answers to the calls of the lines, on a new interner. Each call is answered as it is read, so none is
-// kept.
+// Returns the answers to the calls of the lines. Each call is answered as soon as it is read, so no call is kept.
 fn answer_lines(cx: &mut Interner, pieces: Vec<Vec<u8>>) -> Result<Vec<Answer>, Fault> {
     let alloc = cx.allocator();
     let mut answers = Vec::new(alloc);

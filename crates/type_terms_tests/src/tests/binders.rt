@@ -2,7 +2,7 @@
 
 ghost use Rattle.std.specs.Prelude.{IfOk, map, ◌≡◌};
 
-use super::holds_anew;
+use super::{holds, holds_anew};
 use std::alloc::{AllocError, Global};
 use test_terms::{
     NOT_OWNED, bound_region, bound_ty, one_region, param_ty, pointer, ref_ty, u32_ty,
@@ -12,7 +12,7 @@ use type_terms::{
     Refusal, Region, Ty, TypeVisitableExt, Unnormalized, are_owned, instantiate_binder,
 };
 
-// What calls of a binder make of the value inside stays under the same variables.
+// What calls of a binder make of the value inside stays under the same variables. An error of the closure comes back.
 #[test]
 fn values_under_a_binder(rt: HostRuntime) {
     let vars = BoundVarKinds::from_number(3);
@@ -43,6 +43,28 @@ fn values_under_a_binder(rt: HostRuntime) {
     assert_eq!(rt; Binder::bind_with_vars(none, vars).transpose(), None);
 }
 
+// Returns whether a bound text is lent as its letters, and a bound vector as its items.
+fn shown_holds(alloc: Global) -> Result<bool, Refusal> {
+    let vars = BoundVarKinds::from_number(3);
+    let text = Binder::bind_with_vars(String::from_str(alloc, "ab")?, vars);
+    let list = Binder::bind_with_vars(vec![in alloc; 5_u32, 6]?, vars);
+    let (letters, items) = (text.as_deref(), list.as_deref());
+    let is_shown = letters.skip_binder() == "ab"
+        && letters.bound_vars() == vars
+        && items.skip_binder() == [5, 6].as_slice()
+        && items.bound_vars() == vars;
+    let _text = text.skip_binder();
+    let _list = list.skip_binder();
+    Ok(is_shown)
+}
+
+// A binder lends the value that its own value derefs to.
+#[test]
+fn values_are_lent(rt: HostRuntime) {
+    holds(&rt, shown_holds(rt.alloc()));
+}
+
+// What the same calls of an early binder make of the value inside stays as declared. An error of the closure comes back.
 #[test]
 fn values_as_declared(rt: HostRuntime) {
     let declared = EarlyBinder::bind(7_u32);
@@ -68,7 +90,8 @@ fn declared_items(
     declared.transpose_iter().collect(alloc)
 }
 
-// The iterators of the items are those of the standard library, so its adapters and `for` take them.
+// The items in order, from the back, mapped, in a loop, and their number. The iterators are those of the standard
+// library.
 #[test]
 fn items_under_a_binder(rt: HostRuntime) {
     let vars = BoundVarKinds::from_number(3);
@@ -87,6 +110,7 @@ fn items_under_a_binder(rt: HostRuntime) {
     assert_eq!(rt; bound.iter().map(|item| item.skip_binder()).next(), Some(5));
 }
 
+// The items of a declared list, from the front and from the back, each as declared, or with its parameters as they are.
 #[test]
 fn items_as_declared(rt: HostRuntime) {
     let items = [5_u32, 6, 7];

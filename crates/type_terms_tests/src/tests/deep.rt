@@ -134,6 +134,7 @@ fn script(alloc: Global) -> Result<String, AllocError> {
     Ok(script)
 }
 
+// A script instantiates one chain and shifts another, and both are equal to chains that it builds.
 #[test]
 fn a_script_folds_chains(rt: HostRuntime) -> Result<(), Fail> {
     let script = script(rt.alloc())?;

@@ -70,11 +70,16 @@ fn pushed(list: &mut IndexVec<VariantIdx, u32>, item: u32) -> Result<VariantIdx,
     }
 }
 
+// A list by index takes a next item, finds each by its index and none past its end, and gives back its vector.
 fn index_vec_holds(alloc: Global) -> Result<bool, Refusal> {
     let mut raw = Vec::new(alloc);
     raw.push(7)?;
     let mut list = IndexVec::<VariantIdx, u32>::from_raw(raw);
-    let second = pushed(&mut list, 9)?;
+    let second = pushed(&mut list, 8)?;
+    if second.as_usize() >= list.len() {
+        return Ok(false);
+    }
+    list.set(second, 9);
     Ok(
         second.as_u32() == 1
             && list.len() == 2

@@ -59,6 +59,7 @@ fn are_messages(alloc: Global) -> Result<bool, Refusal> {
     )
 }
 
+// Each id and variable has its number in its text, and each message the error's data.
 #[test]
 fn texts_and_messages(rt: HostRuntime) {
     holds(&rt, are_numbers(rt.alloc()));

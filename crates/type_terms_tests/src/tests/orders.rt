@@ -33,6 +33,7 @@ fn are_in_order<T: Ord>(items: &[T]) -> bool {
     true
 }
 
+// Inference variables and directions are ordered by variant, and then by number.
 #[test]
 fn orders_of_variants(rt: HostRuntime) {
     assert!(rt;

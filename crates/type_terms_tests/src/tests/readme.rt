@@ -13,6 +13,7 @@ pub fn replaced(cx: &mut Interner) -> Result<Ty, Refusal> {
     Ok(answer.skip_norm_wip())
 }
 
+// `T` with `bool` for `T` is `bool`.
 fn is_bool_in_place_of_t(cx: &mut Interner) -> Result<bool, Refusal> {
     let answer = replaced(cx)?;
     Ok(answer == ty(cx, TyKind::Bool)?)

@@ -2,108 +2,18 @@
 
 use super::holds_anew;
 use test_terms::{
-    NOT_OWNED, args, binder_index, bound_region, bound_ty, clause, clauses, constant, info,
-    one_region, param_ty, predicate, region_variable, ty, tys, u32_ty,
+    NOT_OWNED, args, bound_ty, clause, clauses, constant, info, one_region, predicate, ty, tys,
+    u32_ty,
 };
 use type_terms::{
     AliasOfId, AliasTy, AliasTyKind, AsPredicate, Binder, BoundRegionKind, BoundVar, BoundVarKinds,
-    BoundVariableKind, Clause, ClauseKind, ConstBounds, ConstKind, ConstTyFault, CoroutineId,
-    EarlyBinder, ErrorGuaranteed, FindConstTy, FlagComputation, FnHeader, FnInputTys, FnSig,
-    FnSigTys, ForKind, FunctionId, GREATEST_INDEX, GenericArg, GenericArgs, GenericArgsSlice,
-    InferTy, InternedAlias, InternedKind, InternedList, InternedText, InternedView, Interner,
-    OpaqueTyId, Owned, ParamEnv, PlaceholderConst, PlaceholderType, PredicateKind, Refusal, Region,
-    RegionKind, Safety, SignatureTys, SliceLike, Term, TyKind, TyVid, TypeFlags, TypeVisitableExt,
-    UintTy, UniverseIndex,
+    BoundVariableKind, Clause, ClauseKind, ConstBounds, ConstKind, ConstTyFault, EarlyBinder,
+    ErrorGuaranteed, FindConstTy, FlagComputation, FnHeader, FnInputTys, FnSig, FnSigTys, ForKind,
+    FunctionId, GenericArg, GenericArgsSlice, InternedAlias, InternedKind, InternedList,
+    InternedText, InternedView, Interner, Owned, ParamEnv, PlaceholderConst, PredicateKind,
+    Refusal, Region, Safety, SignatureTys, SliceLike, Term, TyKind, TypeVisitableExt, UintTy,
+    UniverseIndex,
 };
-
-// Returns whether each query on the value has this result, but `is_global`, which has the opposite one.
-fn all_say<T: Owned>(cx: &Interner, value: &T, wanted: bool) -> bool {
-    value.is_owned(cx)
-        && value.has_type_flags(cx, TypeFlags::HAS_INFER) == wanted
-        && value.has_param(cx) == wanted
-        && value.has_aliases(cx) == wanted
-        && value.has_opaque_types(cx) == wanted
-        && value.has_coroutines(cx) == wanted
-        && value.references_error(cx) == wanted
-        && value.has_non_region_error(cx) == wanted
-        && value.has_non_region_param(cx) == wanted
-        && value.has_infer_regions(cx) == wanted
-        && value.has_infer_types(cx) == wanted
-        && value.has_non_region_infer(cx) == wanted
-        && value.has_infer(cx) == wanted
-        && value.has_placeholders(cx) == wanted
-        && value.has_non_region_placeholders(cx) == wanted
-        && value.has_regions(cx) == wanted
-        && value.has_free_regions(cx) == wanted
-        && value.has_erased_regions(cx) == wanted
-        && value.has_erasable_regions(cx) == wanted
-        && value.meets_regions(cx) == wanted
-        && value.has_bound_regions(cx) == wanted
-        && value.has_non_region_bound_vars(cx) == wanted
-        && value.has_bound_vars(cx) == wanted
-        && value.still_further_specializable(cx) == wanted
-        && value.has_escaping_bound_vars(cx) == wanted
-        && value.is_global(cx) != wanted
-}
-
-// Returns types of which each has something that a query looks for.
-fn types_for_queries(cx: &mut Interner) -> Result<[GenericArg; 7], Refusal> {
-    let none = GenericArgs::default();
-    let def_id = OpaqueTyId::from_number(0);
-    let alias = AliasTy {
-        args: none,
-        kind: AliasTyKind::Opaque { def_id },
-    };
-    let anon = PlaceholderType::new_anon(UniverseIndex::from_u32(1), BoundVar::from_u32(0));
-    Ok([
-        GenericArg::from(ty(cx, TyKind::Error(ErrorGuaranteed(3)))?),
-        GenericArg::from(ty(cx, TyKind::Alias(alias))?),
-        GenericArg::from(ty(cx, TyKind::Coroutine(CoroutineId::from_number(0), none))?),
-        GenericArg::from(ty(cx, TyKind::Placeholder(anon))?),
-        GenericArg::from(ty(cx, TyKind::Infer(InferTy::TyVar(TyVid::from_u32(0))))?),
-        GenericArg::from(param_ty(cx, 0)?),
-        GenericArg::from(bound_ty(cx, 2)?),
-    ])
-}
-
-// Returns regions of which each has something that a query looks for, the region of an error first.
-fn regions_for_queries() -> Result<[GenericArg; 4], Refusal> {
-    Ok([
-        GenericArg::from(Region::new(RegionKind::ReError(ErrorGuaranteed(7)))?),
-        GenericArg::from(region_variable()?),
-        GenericArg::from(Region::new(RegionKind::ReErased)?),
-        GenericArg::from(bound_region(0)?),
-    ])
-}
-
-// The first error is the region's. A variable is bound by the binder of index 2, and none further out.
-fn queries_holds(cx: &mut Interner) -> Result<bool, Refusal> {
-    let types = types_for_queries(cx)?;
-    let types = args(cx, types.as_slice())?;
-    let regions = args(cx, regions_for_queries()?.as_slice())?;
-    let value = (regions, types);
-    let plain = [GenericArg::from(u32_ty(cx)?)];
-    let plain = (args(cx, plain.as_slice())?, GenericArgs::default());
-    let so_far = all_say(cx, &value, true) && all_say(cx, &plain, false);
-    if !value.is_owned(cx) || !plain.is_owned(cx) {
-        return Err(NOT_OWNED);
-    }
-    let first = Err(ErrorGuaranteed(7));
-    let near = binder_index(1)?;
-    let far = binder_index(2)?;
-    let farthest = binder_index(GREATEST_INDEX)?;
-    Ok(
-        so_far
-            && value.error_reported(cx) == first
-            && value.non_region_error_reported(cx) == first
-            && plain.error_reported(cx) == Ok(())
-            && plain.non_region_error_reported(cx) == Ok(())
-            && value.has_vars_bound_at_or_above(cx, far)
-            && value.has_vars_bound_above(cx, near)
-            && !value.has_vars_bound_above(cx, far)
-            && !value.has_vars_bound_above(cx, farthest),
-    )
-}
 
 // The inputs are the types but the last, and the arguments of a slice the ones at its places: a variable escapes from
 // what isn't there alone.
@@ -198,7 +108,8 @@ fn function(cx: &mut Interner, sig: Binder<FnSig>) -> Result<FunctionId, Refusal
     cx.declare_function(name, EarlyBinder::bind(sig))
 }
 
-// The signature of a function is read back, with its inputs and its output.
+// The signature of a function is read back, with its inputs and its output, and one without types has no output. The
+// closure traits call a safe function, and no unsafe one.
 fn signatures_holds(cx: &mut Interner) -> Result<bool, Refusal> {
     let (number, variable) = (u32_ty(cx)?, bound_ty(cx, 0)?);
     let types = FnSigTys {
@@ -294,7 +205,6 @@ fn flags_holds(cx: &mut Interner) -> Result<bool, Refusal> {
 
 #[test]
 fn calls_that_read(rt: HostRuntime) {
-    holds_anew(&rt, rt.alloc(), queries_holds);
     holds_anew(&rt, rt.alloc(), views_holds);
     holds_anew(&rt, rt.alloc(), environments_holds);
     holds_anew(&rt, rt.alloc(), handles_holds);

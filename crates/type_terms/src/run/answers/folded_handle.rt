@@ -1,4 +1,4 @@
-//! The handles that answers hold, as values that are folded.
+//! The handles that answers hold, as values that can be folded.
 
 ghost use Rattle.std.specs.Prelude.{◌≡◌};
 ghost use Rattle.tt_kinds.specs.Shape.{stored};
@@ -7,9 +7,9 @@ use tt_calls::answers::term_handle::TermHandle;
 use tt_fold::TypeFoldable;
 use tt_kinds::{Clauses, Const, GenericArgs, Pat, Predicate, Ty};
 
-/// A handle that an answer can hold, whose term is folded.
+/// A handle that an answer can hold, and whose term can be folded.
 pub trait FoldedHandle: TermHandle + TypeFoldable {
-    // It names a stored row.
+    // What is folded is the row that the handle names.
     ghost is_stored: { (handle : Self) → Self.shape handle ≡ stored Self.table (Self.number handle) };
 }
 

@@ -93,9 +93,9 @@ fn erased<T: FoldedHandle>(cx: &mut Interner, term: T) -> Result<Answer, Refusal
     Ok(erased.into_answer())
 }
 
-/// Returns the term at the position, instantiated. The ids that the arguments name have to be there. For a term that is
-/// itself a parameter, the term that its argument names is returned; an untouched term, in which no parameter
-/// occurs and no region variable is exposed, is returned as it is. In both cases no argument is built.
+/// Returns the term at the position, instantiated. The ids that the arguments name have to be there. If the term is
+/// itself a parameter, returns the term that the parameter's argument names. If the term is untouched (no parameter
+/// occurs in it, and no region variable is exposed), returns it unchanged. In both cases no argument is built.
 pub fn instantiate_at(
     cx: &mut Interner,
     earlier: &[Answer],

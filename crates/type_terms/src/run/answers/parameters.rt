@@ -16,14 +16,14 @@ use tt_index::Refusal;
 use tt_interner::{InternedKind, Interner};
 use tt_kinds::{Const, ConstKind, Ty, TyKind};
 
-/// A parameter of a type or a constant, by its index.
+/// A type parameter or a constant parameter, by its index.
 #[derive(Clone, Copy, Drop)]
 pub enum Parameter {
     Type(u32),
     Const(u32),
 }
 
-/// Returns the parameter that the answer is, if it is one.
+/// Returns the parameter that the answer's term is, if it is one.
 pub fn parameter_of(cx: &Interner, answer: &Answer) -> Option<Parameter>
     requires { IsOwnedAnswer cx.now.rows answer.now }
     ensures { MatchOption
@@ -74,8 +74,8 @@ fn const_parameter(cx: &Interner, constant: Const) -> Option<Parameter>
 
 /// Returns the term that the arguments give for the parameter.
 ///
-/// Refused with `NoArguments`, `ArgOutOfRange` or `ArgKind` if there is no such argument, and with `NoSuchAnswer` if
-/// it names an absent answer.
+/// Refused with `NoArguments`, `ArgOutOfRange` or `ArgKind` if the arguments have none for the parameter, and with
+/// `NoSuchAnswer` if the argument names an absent answer.
 pub fn argument_for(
     earlier: &[Answer],
     args: &[ArgCall],

@@ -1,5 +1,0 @@
-//! The tests of the checker, each by a whole program.
-#![tactic(auto)]
-
-#[cfg(test)]
-mod tests;

@@ -1,0 +1,46 @@
+"""Reads files of small programs, each with what the checker prints for it. bin/programs says how they are written."""
+
+import collections
+import glob
+import os
+import re
+import sys
+
+from edits import TOP
+
+REPEATED = re.compile(r"«(\d+) ([^»]*)»")
+
+# A program: the line in its file where it begins, its source, and what is printed for it
+Program = collections.namedtuple("Program", "line source printed")
+
+
+def files():
+    """Returns the paths of the files of programs."""
+    return sorted(glob.glob(f"{TOP}/examples/checker/programs/*.txt"))
+
+
+def repeated(text):
+    """Returns the text with each «COUNT TEXT» written out."""
+    return REPEATED.sub(lambda it: int(it[1]) * it[2], text)
+
+
+def program(path, number, lines):
+    """Returns the program of these lines of a file, of which the first has this number."""
+    if lines.count("---") != 1:
+        sys.exit(f"{os.path.relpath(path, TOP)}:{number}: this program has not one line '---'")
+    end = lines.index("---")
+    printed = "\n".join(lines[end + 1 :]).rstrip("\n") + "\n"
+    return Program(number, repeated("\n".join(lines[:end])), repeated(printed))
+
+
+def programs_of(path):
+    """Returns the programs of a file, in order."""
+    with open(path, encoding="utf-8", newline="") as it:
+        lines = it.read().split("\n")
+    begins = [at for at, line in enumerate(lines) if line == "===" or line.startswith("=== ")]
+    return [program(path, at + 2, lines[at + 1 : end]) for at, end in zip(begins, begins[1:] + [len(lines)])]
+
+
+def is_wanted(printed, wanted):
+    """Whether a program printed what is wanted."""
+    return re.fullmatch(".*".join(re.escape(it) for it in wanted.split("…")), printed, re.DOTALL) is not None
