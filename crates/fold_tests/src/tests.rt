@@ -3,10 +3,13 @@
 mod bindings;
 mod canonicalizer;
 mod context;
+mod deep;
 mod fitting;
 mod guide;
 mod normalizer;
 mod own_arguments;
+mod prelude;
+mod readme;
 mod recorded;
 mod regions;
 mod replacers;

@@ -1,4 +1,4 @@
-//! The tests of terms and of queries, in a crate that uses the library as a user's crate does.
+//! The tests of terms and of queries.
 #![tactic(auto)]
 
 #[cfg(test)]

@@ -1,7 +1,6 @@
 //! Tests of building terms and of queries, and that calls succeed with ample memory.
 
 mod binders;
-mod deep;
 mod indices;
 mod lists;
 mod messages;
@@ -9,9 +8,7 @@ mod nodes;
 mod orders;
 mod owned;
 mod parts;
-mod prelude;
 mod queries;
-mod readme;
 mod reads;
 mod signatures;
 mod text;
