@@ -1,8 +1,10 @@
 //! Tests of building terms and of queries, and that calls succeed with ample memory.
 
 mod binders;
+mod declarations;
 mod deep;
 mod indices;
+mod iterators;
 mod lists;
 mod messages;
 mod nodes;
@@ -13,6 +15,7 @@ mod prelude;
 mod queries;
 mod readme;
 mod reads;
+mod region_folder;
 mod signatures;
 mod text;
 mod variables;
