@@ -61,7 +61,7 @@ build() {
     mapfile -t crates < <(crates_below; echo "$crate")
     say "the program isn't built for these sources: ${#crates[@]} crates are proved first"
     say "from nothing that takes an hour or more of processor time (CONTRIBUTING.md, Times), and less where little changed"
-    say "bin/$name --unproved takes about a minute, without proofs"
+    say "bin/$name --unproved takes a minute or two, without proofs"
     for proved in "${crates[@]}"; do
         number=$((number + 1))
         start=$SECONDS
@@ -88,7 +88,7 @@ run_program() {
     case "$#:${1-}" in
     0:) ;;
     1:--unproved)
-        say "nothing is proved: rt try builds the program without proofs, in about a minute"
+        say "nothing is proved: rt try builds the program without proofs, in a minute or two"
         cd "$top/crates/$crate" || exit 2
         exec rt try
         ;;

@@ -1,6 +1,7 @@
 //! Tests of building terms and of queries, and that calls succeed with ample memory.
 
 mod binders;
+mod declarations;
 mod indices;
 mod lists;
 mod messages;
