@@ -19,7 +19,6 @@ mod resolver;
 mod sharing;
 mod taken_apart;
 mod users;
-mod values;
 mod visitors;
 
 use std::alloc::Global;

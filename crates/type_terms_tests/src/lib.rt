@@ -1,4 +1,4 @@
-//! The tests of terms and of queries.
+//! The tests of terms, queries and folded values.
 #![tactic(auto)]
 
 #[cfg(test)]

@@ -1,4 +1,4 @@
-//! Tests of building terms and of queries, and that calls succeed with ample memory.
+//! Tests of building terms, of queries and of folds of values, and that calls succeed with ample memory.
 
 mod binders;
 mod declarations;
@@ -13,6 +13,7 @@ mod queries;
 mod reads;
 mod signatures;
 mod text;
+mod values;
 mod variables;
 
 use std::alloc::Global;
