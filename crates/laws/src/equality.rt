@@ -1,20 +1,21 @@
 //! Values that are compared with `==`: true means that they are the same value.
 
 ghost use Rattle.std.specs.Prelude.{◌≡◌, ◌↔◌, IsTrue};
+ghost use Rattle.tt_index.specs.Equality.{IsSameness};
 ghost use Rattle.tt_kinds.specs.Kinds.{ty_shape};
 ghost use Rattle.tt_kinds.specs.Scan.{scan};
 ghost use Rattle.tt_interner.specs.Owned.{IsOwned, tree_in};
 
 use tt_kinds::handle::TypeRow;
 use type_terms::{
-    Answer, Binder, Contents, Flags, IntTy, InternedKind, Interner, Next, Step, TraitRef, Ty,
+    Answer, Contents, Flags, InternedKind, Interner, Next, OutlivesPredicate, Refusal, Step, Ty,
     WrongBoundVar, equal_answers_are_same, equal_breaks_are_same, equal_contents_are_same,
     equal_flags_are_same, equal_handles_for_equal_trees, equal_kinds_are_same,
     equal_outcomes_are_same, equal_records_are_same, equal_steps_are_same, equal_values_are_same,
 };
 
-/// Returns whether the two integer types are one.
-pub fn is_same_int_ty(one: IntTy, other: IntTy) -> bool
+/// Returns whether two calls were refused for one reason.
+pub fn is_same_refusal(one: Refusal, other: Refusal) -> bool
     ensures { IsTrue result ↔ (one ≡ other) }
 {
     equal_values_are_same::<()>();
@@ -32,12 +33,25 @@ pub fn have_same_flags(cx: &Interner, one: Ty, other: Ty) -> bool
     one.flags(cx) == other.flags(cx)
 }
 
-/// Returns whether two trait references under binders are one.
-pub fn is_same_trait_ref(one: Binder<TraitRef>, other: Binder<TraitRef>) -> bool
+/// Returns whether two predicates of what outlives a region are one. The `==` of what outlives it has to tell values apart,
+/// which no call tests; the library's laws say so of its own types.
+pub fn is_same_outlives<T: PartialEq>(
+    one: &OutlivesPredicate<T>,
+    other: &OutlivesPredicate<T>,
+) -> bool
+    requires { IsSameness T.eq }
+    ensures { IsTrue result ↔ (one.now ≡ other.now) }
+{
+    equal_records_are_same::<T, ()>();
+    one == other
+}
+
+/// Returns whether two predicates say of one type that it outlives one region.
+pub fn is_same_type_outlives(one: OutlivesPredicate<Ty>, other: OutlivesPredicate<Ty>) -> bool
     ensures { IsTrue result ↔ (one ≡ other) }
 {
-    equal_records_are_same::<TraitRef, ()>();
-    one == other
+    equal_records_are_same::<Ty, TypeRow>();
+    is_same_outlives(&one, &other)
 }
 
 /// Returns whether two types are one, by their kinds. Both have to be the interner's.

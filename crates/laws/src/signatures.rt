@@ -1,6 +1,6 @@
 //! The parts of signatures.
 
-ghost use Rattle.std.specs.Prelude.{◌≡◌, None};
+ghost use Rattle.std.specs.Prelude.{◌≡◌, ◌<◌};
 
 use type_terms::{
     Binder, ExternAbi, FnSig, FnSigKind, Safety, packed_parts_are_read, split_signatures_are_joined,

@@ -1,0 +1,2 @@
+-- What the users of the laws show before a law applies.
+pub mod AnsweredLaws
