@@ -7,7 +7,7 @@ ghost use Rattle.tt_interner.specs.Owned.{tree_in};
 
 use crate::NOT_OWNED;
 use type_terms::{
-    Binder, Interner, Owned, Refusal, Ty, TyKind, few_rows_fit, stored_indices_fit,
+    Binder, Interner, Refusal, Ty, TyKind, few_rows_fit, stored_indices_fit,
     stored_values_fit, trees_fit,
 };
 
@@ -18,7 +18,7 @@ pub const MOST_ROWS: u32 = 100_000_000;
 pub fn fitting_slice(cx: &mut Interner, ty: Ty) -> Result<Ty, Refusal>
     ensures { IfOk result (λ slice. Fits (read 0 (tree_in cx.new.rows (ty_shape slice)))) }
 {
-    if !ty.is_owned(cx) || cx.limit() > MOST_ROWS {
+    if !cx.owns_ty(ty) || cx.limit() > MOST_ROWS {
         return Err(NOT_OWNED);
     }
     let slice = cx.mk_ty(TyKind::Slice(ty))?;
@@ -32,12 +32,13 @@ pub fn fitting_slice(cx: &mut Interner, ty: Ty) -> Result<Ty, Refusal>
 pub fn fitting_contents(cx: &Interner, binder: Binder<Ty>) -> Result<Ty, Refusal>
     ensures { IfOk result (λ contents. FitsUnder 1 (read 1 (tree_in cx.now.rows (ty_shape contents)))) }
 {
-    if !binder.is_owned(cx) || cx.limit() > MOST_ROWS {
+    let contents = binder.skip_binder();
+    if !cx.owns_ty(contents) || cx.limit() > MOST_ROWS {
         return Err(NOT_OWNED);
     }
     cx.are_rows();
     few_rows_fit();
     stored_indices_fit();
     trees_fit();
-    Ok(binder.skip_binder())
+    Ok(contents)
 }

@@ -31,7 +31,7 @@ pub fn shifted_times(
     shift_by_zero_keeps_trees();
     shifts_add_up();
     let mut shifted = ty;
-    for _round in 0..times {
+    for _ in 0..times {
         shifted = shift_vars(cx, shifted, amount)?;
     }
     Ok(shifted)
