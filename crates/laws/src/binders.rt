@@ -1,8 +1,7 @@
 //! Variables and the lists of their binders.
 
-ghost use Rattle.std.specs.Prelude.{◌≡◌, ◌↔◌, IsTrue};
+ghost use Rattle.std.specs.Prelude.{◌≡◌, ◌↔◌, IfSome, IsTrue};
 ghost use Rattle.tt_kinds.specs.Kinds.{ty_shape};
-ghost use Rattle.tt_kinds.specs.declared.bound.BoundVariableKind.{BoundVariableKind};
 ghost use Rattle.tt_kinds.specs.declared.bound.BoundVariableKind.TheVariants as variable;
 ghost use Rattle.tt_interner.specs.Owned.{tree_in};
 ghost use Rattle.tt_binder.specs.Validate.{Agrees, vars_at};

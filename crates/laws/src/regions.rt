@@ -1,6 +1,6 @@
 //! Folds of regions.
 
-ghost use Rattle.std.specs.Prelude.{◌≡◌, IfOk, IfErr};
+ghost use Rattle.std.specs.Prelude.{◌≡◌, IfOk};
 ghost use Rattle.tt_kinds.specs.declared.table.Table.{Table};
 ghost use Rattle.tt_interner.specs.Owned.{IsPartBy, tree_by};
 ghost use Rattle.tt_interner.specs.Rows.{size};
@@ -18,7 +18,7 @@ pub fn with_same_regions<T: Owned + TypeFoldable>(
     cx: &mut Interner,
     value: T,
 ) -> Result<T, Refusal>
-    ensures { IfOk result (λ same. tree_by T.TypeVisitable.shape cx.new.rows same ≡ tree_by T.TypeVisitable.shape cx.old.rows value) }
+    ensures { IfOk result (λ same. tree_by T.shape cx.new.rows same ≡ tree_by T.shape cx.old.rows value) }
 {
     if !value.is_owned(cx) {
         return Err(NOT_OWNED);

@@ -1,9 +1,8 @@
 //! Types whose parameters are replaced more than once, or shifted as well.
 
-ghost use Rattle.std.specs.Prelude.{◌≡◌, ◌∷◌, [], IfOk, OnOk, IsTrue, true, false};
-ghost use Rattle.tt_kinds.specs.Argument.{Argument, change_values, put, readings};
+ghost use Rattle.std.specs.Prelude.{◌≡◌, [], IfOk, OnOk, false};
+ghost use Rattle.tt_kinds.specs.Argument.{change_values, put, readings};
 ghost use Rattle.tt_kinds.specs.Kinds.{ty_shape};
-ghost use Rattle.tt_kinds.specs.Label.{type_sort};
 ghost use Rattle.tt_kinds.specs.Matched.{ArgumentsMatched, MatchedUnder};
 ghost use Rattle.tt_kinds.specs.Param.{holds_param};
 ghost use Rattle.tt_kinds.specs.Plain.{inst_tree};
@@ -37,6 +36,7 @@ pub fn instance(cx: &mut Interner, ty: Ty, args: &[GenericArg]) -> Result<Ty, Re
 
 /// Returns the type with its parameters replaced twice: by the arguments, and in the result by the later ones. It reads as
 /// after one replacement, by the arguments in which the later ones were replaced.
+#[tactic(auto, using(tt_interner::proofs::OwnedLaws::owned_laws))]
 pub fn instance_twice(
     cx: &mut Interner,
     ty: Ty,
@@ -106,7 +106,10 @@ pub fn matched_instance(cx: &mut Interner, ty: Ty, args: &[GenericArg]) -> Resul
 pub fn closed_instance(cx: &mut Interner, ty: Ty, argument: Ty) -> Result<Ty, Refusal>
     ensures { IfOk result (λ made. holds_param (read 0 (tree_in cx.new.rows (ty_shape made))) ≡ false) }
 {
-    if !(ty.is_owned(cx) && argument.is_owned(cx)) || argument.has_param(cx) {
+    if !(ty.is_owned(cx) && argument.is_owned(cx)) {
+        return Err(NOT_OWNED);
+    }
+    if argument.has_param(cx) {
         return Err(NOT_OWNED);
     }
     replacement_leaves_no_parameter();

@@ -1,6 +1,6 @@
 //! Types that are shifted more than once, and binders that are shifted.
 
-ghost use Rattle.std.specs.Prelude.{◌≡◌, ◌+◌, ◌*◌, IfOk, IsTrue, []};
+ghost use Rattle.std.specs.Prelude.{◌≡◌, ◌+◌, ◌*◌, IfOk, IfSome, IsTrue, []};
 ghost use Rattle.tt_kinds.specs.Kinds.{ty_shape};
 ghost use Rattle.tt_kinds.specs.Matched.{MatchedUnder};
 ghost use Rattle.tt_kinds.specs.Plain.{shift_tree};
@@ -9,6 +9,7 @@ ghost use Rattle.tt_interner.specs.Owned.{IsOwned, tree_in};
 ghost use Rattle.tt_interner.specs.Stored.{Extends};
 
 use crate::NOT_OWNED;
+use crate::equality::is_same_tree;
 use type_terms::{
     Binder, Flags, Interner, Owned, Refusal, Ty, move_keeps_matched, moves_add_up,
     moves_tell_readings, readings_tell_trees, shift_by_zero_keeps_trees, shift_keeps_low_trees,
@@ -55,6 +56,7 @@ pub fn read_after_shifts(
 }
 
 /// Returns whether two types become one when both are shifted so many times: then they were one before.
+#[tactic(auto, using(tt_interner::proofs::OwnedLaws::owned_laws))]
 pub fn become_one(
     cx: &mut Interner,
     one: Ty,
@@ -71,7 +73,7 @@ pub fn become_one(
     shifts_keep_apart();
     let first = shifted_times(cx, one, amount, times)?;
     let second = shifted_times(cx, other, amount, times)?;
-    Ok(first == second)
+    Ok(is_same_tree(cx, first, second))
 }
 
 /// Returns the type, shifted by two amounts in turn: it reads as moved by the sum.
@@ -88,6 +90,7 @@ pub fn moved_twice(cx: &mut Interner, ty: Ty, first: u32, second: u32) -> Result
 }
 
 /// Returns whether two types become one when both are shifted by two amounts in turn: then they were one before.
+#[tactic(auto, using(tt_interner::proofs::OwnedLaws::owned_laws))]
 pub fn were_one(
     cx: &mut Interner,
     one: Ty,
@@ -105,7 +108,7 @@ pub fn were_one(
     readings_tell_trees();
     let moved_one = moved_twice(cx, one, first, second)?;
     let moved_other = moved_twice(cx, other, first, second)?;
-    Ok(moved_one == moved_other)
+    Ok(is_same_tree(cx, moved_one, moved_other))
 }
 
 /// Returns the type, shifted by two amounts in turn: its variables match the lists of its binders if they did before,
