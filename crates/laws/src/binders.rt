@@ -35,7 +35,8 @@ pub fn agrees(cx: &Interner, binder: Binder<Ty>) -> Option<bool>
 pub fn is_entry_of_region(region: BoundRegion, entry: BoundVariableKind) -> bool
     ensures { IsTrue result ↔ (entry ≡ variable.Region region.kind) }
 {
-    if !region.agrees(entry) {
+    let (same, listed) = (region, entry);
+    if !same.agrees(listed) {
         return false;
     }
     region.assert_eq(entry);
@@ -46,7 +47,8 @@ pub fn is_entry_of_region(region: BoundRegion, entry: BoundVariableKind) -> bool
 pub fn is_entry_of_ty(ty: BoundTy, entry: BoundVariableKind) -> bool
     ensures { IsTrue result ↔ (entry ≡ variable.Ty ty.kind) }
 {
-    if !ty.agrees(entry) {
+    let (same, listed) = (ty, entry);
+    if !same.agrees(listed) {
         return false;
     }
     ty.assert_eq(entry);
@@ -57,10 +59,12 @@ pub fn is_entry_of_ty(ty: BoundTy, entry: BoundVariableKind) -> bool
 pub fn is_entry_of_const(constant: BoundConst, entry: BoundVariableKind) -> bool
     ensures { IsTrue result ↔ (entry ≡ variable.Const) }
 {
-    if !constant.agrees(entry) {
+    let (same, listed) = (constant, entry);
+    if !same.agrees(listed) {
         return false;
     }
-    constant.assert_eq(entry);
+    let checked = entry;
+    constant.assert_eq(checked);
     entry.expect_const();
     true
 }

@@ -67,7 +67,10 @@ pub fn become_one(
     ensures { IfOk result (λ is_one. IsTrue is_one
         → tree_in cx.old.rows (ty_shape one) ≡ tree_in cx.old.rows (ty_shape other)) }
 {
-    if !(one.is_owned(cx) && other.is_owned(cx)) {
+    if !one.is_owned(cx) {
+        return Err(NOT_OWNED);
+    }
+    if !other.is_owned(cx) {
         return Err(NOT_OWNED);
     }
     shifts_keep_apart();
@@ -101,7 +104,10 @@ pub fn were_one(
     ensures { IfOk result (λ is_one. IsTrue is_one
         → tree_in cx.old.rows (ty_shape one) ≡ tree_in cx.old.rows (ty_shape other)) }
 {
-    if !(one.is_owned(cx) && other.is_owned(cx)) {
+    if !one.is_owned(cx) {
+        return Err(NOT_OWNED);
+    }
+    if !other.is_owned(cx) {
         return Err(NOT_OWNED);
     }
     moves_tell_readings();

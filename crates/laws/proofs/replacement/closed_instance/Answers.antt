@@ -1,5 +1,6 @@
 -- each parameter has an argument, and the only argument has no parameter, so the law applies
-use Rattle.std.proofs.Common.{◌≡◌, List, [], ◌∷◌, Bool, true, false, ap, ◌∙◌, rules}
+use Rattle.std.proofs.Common.{◌≡◌, List, [], ◌∷◌, Bool, true, false, refl, ap, sym, ◌∙◌, rules}
+use Rattle.std.proofs.lemmas.Bool.{false≢true}
 use Rattle.std.specs.Prelude.{◌↔◌, IsTrue, Result, Ok, Err, IfOk, OnOk}
 use Rattle.tt_index.specs.declared.refusal.Refusal.{Refusal}
 use Rattle.tt_kinds.specs.Argument.{readings}
@@ -21,8 +22,8 @@ use Rattle.laws.proofs.AnsweredLaws.{IsAnswered-no_cause, ArgumentsHoldNone-one,
 use Rattle.laws.proofs.replacement.closed_instance.Goals as goal
 
 none_by_test : (b r : Bool) → IsTrue r ↔ (b ≡ true) → r ≡ false → b ≡ false
-none_by_test true r exact no = cc
-none_by_test false r exact no = cc
+none_by_test true r exact is_not = absurd (false≢true (sym is_not ∙ exact.1 refl))
+none_by_test false r exact is_not = refl
 
 only : (rows : List Row) (argument : Ty) (slice : List GenericArgKind) → slice ≡ TypeArg argument ∷ [] → holds_param (tree_in rows (ty_shape argument)) ≡ false
     → ArgumentsHoldNone (arguments rows slice)

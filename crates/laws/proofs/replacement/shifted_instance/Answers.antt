@@ -7,6 +7,9 @@ use Rattle.tt_kinds.specs.Laws.{MovesCommute}
 use Rattle.tt_kinds.specs.Reading.{read, move}
 use Rattle.tt_kinds.specs.Tree.{Depth, Tree}
 use Rattle.tt_binder.specs.Instance.{IsPlain}
+use Rattle.tt_kinds.specs.Kinds.{ty_shape}
+use Rattle.tt_interner.specs.Arguments.{arguments}
+use Rattle.tt_interner.specs.Owned.{tree_in}
 use Rattle.laws.proofs.replacement.shifted_instance.Goals as goal
 
 commutes : {T : Type 0} → MovesCommute → (result : Result T Refusal) (u : T → Tree Depth) (args : List (Argument Depth)) (t s : Tree Depth) (n : ℕ)
@@ -16,4 +19,4 @@ commutes law (Ok r) u args t s n first second = second ∙ ap (move n) first ∙
 commutes law (Err e) u args t s n first second = tt
 
 pub returns : goal.returns
-returns c = commutes c.moves_commute_with_replacement.ensures c.shift_vars.result _ _ _ _ _ c.in_ok-made.ensures.plain c.shift_vars.ensures.plain
+returns c = commutes c.moves_commute_with_replacement.ensures c.shift_vars.result (λ r. tree_in c.shift_vars.new.cx.rows (ty_shape r)) (arguments c.args.cx.now.rows c.args.args.now) (tree_in c.args.cx.now.rows (ty_shape c.args.ty)) _ c.args.amount c.in_ok-made.ensures.plain c.shift_vars.ensures.plain

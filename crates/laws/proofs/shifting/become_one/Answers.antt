@@ -15,5 +15,5 @@ returns c = λ same.
     were c.shifts_keep_apart.ensures _ _ _ _ _ _ _ c.in_ok-first.ensures.tree
     (fill-grows _ _ c.shifted_times-2.ensures.extends.rows (ty_shape c.in_ok-first.first) c.in_ok-first.ensures.owned)
     c.in_ok-second.ensures.tree
-    (fill-grows _ _ c.shifted_times.ensures.extends.rows (ty_shape c.args.other) (search owned_here))
+    (fill-grows _ _ c.shifted_times.ensures.extends.rows (ty_shape c.args.other) (c.is_owned-2.ensures.0 c.if-not-is_owned-2.false))
     (c.is_same_tree.ensures.0 same)

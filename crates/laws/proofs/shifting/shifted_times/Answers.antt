@@ -32,3 +32,6 @@ loop-preserved c = record {
   owned = c.in_ok-shifted.ensures.in_range;
   tree = once_more c.shifts_add_up.ensures c.loop.counter c.args.amount _ _ _ c.loop.invariant.tree c.in_ok-shifted.ensures.tree;
 }
+
+pub returns-in_err-shifted-clause-extends : goal.returns-in_err-shifted-clause-extends
+returns-in_err-shifted-clause-extends c = Extends-trans c.loop.invariant.extends c.shift_vars.ensures.extends

@@ -16,5 +16,5 @@ returns c = λ same.
     were c.moves_tell_readings.ensures c.readings_tell_trees.ensures _ _ _ _ _ _ _ c.in_ok-moved_one.ensures.reading
     (fill-grows _ _ c.moved_twice-2.ensures.extends.rows (ty_shape c.in_ok-moved_one.moved_one) c.in_ok-moved_one.ensures.owned)
     c.in_ok-moved_other.ensures.reading
-    (fill-grows _ _ c.moved_twice.ensures.extends.rows (ty_shape c.args.other) (search owned_here))
+    (fill-grows _ _ c.moved_twice.ensures.extends.rows (ty_shape c.args.other) (c.is_owned-2.ensures.0 c.if-not-is_owned-2.false))
     (c.is_same_tree.ensures.0 same)
