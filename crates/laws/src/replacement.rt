@@ -47,7 +47,10 @@ pub fn instance_twice(
         ≡ put (change_values (put (readings (arguments cx.old.rows later.now))) (readings (arguments cx.old.rows args.now)))
         (read 0 (tree_in cx.old.rows (ty_shape ty)))) }
 {
-    if !(ty.is_owned(cx) && are_owned(cx, args)) {
+    if !ty.is_owned(cx) {
+        return Err(NOT_OWNED);
+    }
+    if !are_owned(cx, args) {
         return Err(NOT_OWNED);
     }
     if !are_owned(cx, later) {

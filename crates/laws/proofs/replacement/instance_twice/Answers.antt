@@ -23,5 +23,5 @@ composed law (Err e) u args later later' t s no_cause same first second = tt
 pub returns : goal.returns
 returns c =
     composed c.replacements_compose.ensures c.instance-2.result _ _ _ _ _ _ c.in_ok-made.ensures.no_cause
-    (arguments-still c.args.cx.now.rows c.instance.new.cx.rows c.args.later.now c.args.later.now c.instance.ensures.extends.rows refl (c.are_owned-2.ensures.0 c.if-not-are_owned.false))
+    (arguments-still c.args.cx.now.rows c.instance.new.cx.rows c.args.later.now c.args.later.now c.instance.ensures.extends.rows refl (c.are_owned-2.ensures.0 c.if-not-are_owned-2.false))
     c.in_ok-made.ensures.plain c.instance-2.ensures.plain
