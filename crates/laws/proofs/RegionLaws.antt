@@ -43,6 +43,6 @@ module _ {F : Type 0} (step : F → RegionKind → ℕ → RegionKind → F → 
   folder-places law (Ok r) f g k t u s' owns fails is_f is_0 h = (
     s'.state.closure,
     law names f counters t (u r) s'
-    (subst (λ m. Walks (keeps_counters (region_hooks step)) (from f m) t (u r) s') is_0 (subst (λ q. Walks (keeps_counters (region_hooks step)) (from q k) t (u r) s') is_f h.1)),
+        (subst (λ m. Walks (keeps_counters (region_hooks step)) (from f m) t (u r) s') is_0 (subst (λ q. Walks (keeps_counters (region_hooks step)) (from q k) t (u r) s') is_f h.1)),
   )
   folder-places law (Err e) f g k t u s' owns fails is_f is_0 h = tt

@@ -7,8 +7,8 @@ ghost use Rattle.tt_interner.specs.Owned.{tree_in};
 
 use crate::NOT_OWNED;
 use type_terms::{
-    Binder, Interner, Refusal, Ty, TyKind, few_rows_fit, stored_indices_fit,
-    stored_values_fit, trees_fit,
+    Binder, Interner, Refusal, Ty, TyKind, few_rows_fit, stored_indices_fit, stored_values_fit,
+    trees_fit,
 };
 
 /// An interner whose tables have at most this many rows nests no binder too deep.

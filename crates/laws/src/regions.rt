@@ -8,16 +8,13 @@ ghost use Rattle.tt_fold.specs.RegionFolder.{AnswersRegions, Places, names_in};
 
 use crate::NOT_OWNED;
 use type_terms::{
-    DebruijnIndex, Interner, Owned, Refusal, Region, RegionFolder, TypeFoldable,
-    fold_regions_with, met_regions_placed_again, region_folders_place,
+    DebruijnIndex, Interner, Owned, Refusal, Region, RegionFolder, TypeFoldable, fold_regions_with,
+    met_regions_placed_again, region_folders_place,
 };
 
 /// Returns the value, folded by a closure that returns each region as it is: its tree stays.
 #[tactic(auto, using(tt_fold::proofs::RegionAnswers::region_answers))]
-pub fn with_same_regions<T: Owned + TypeFoldable>(
-    cx: &mut Interner,
-    value: T,
-) -> Result<T, Refusal>
+pub fn with_same_regions<T: Owned + TypeFoldable>(cx: &mut Interner, value: T) -> Result<T, Refusal>
     ensures { IfOk result (λ same. tree_by T.shape cx.new.rows same ≡ tree_by T.shape cx.old.rows value) }
 {
     if !value.is_owned(cx) {

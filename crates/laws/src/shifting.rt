@@ -17,12 +17,7 @@ use type_terms::{
 };
 
 /// Returns the type, shifted so many times by one amount: its tree is the one of a single shift by the product.
-pub fn shifted_times(
-    cx: &mut Interner,
-    ty: Ty,
-    amount: u32,
-    times: u32,
-) -> Result<Ty, Refusal>
+pub fn shifted_times(cx: &mut Interner, ty: Ty, amount: u32, times: u32) -> Result<Ty, Refusal>
     requires { IsOwned ty_shape cx.old ty }
     ensures extends { Extends cx.old cx.new }
     ensures owned { IfOk result (λ shifted. IsOwned ty_shape cx.new shifted) }
@@ -39,12 +34,7 @@ pub fn shifted_times(
 }
 
 /// Returns the type, shifted so many times by one amount: it reads as moved once by the product.
-pub fn read_after_shifts(
-    cx: &mut Interner,
-    ty: Ty,
-    amount: u32,
-    times: u32,
-) -> Result<Ty, Refusal>
+pub fn read_after_shifts(cx: &mut Interner, ty: Ty, amount: u32, times: u32) -> Result<Ty, Refusal>
     ensures { IfOk result (λ shifted. read 0 (tree_in cx.new.rows (ty_shape shifted))
         ≡ move (times * amount) (read 0 (tree_in cx.old.rows (ty_shape ty)))) }
 {

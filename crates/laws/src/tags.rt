@@ -24,7 +24,9 @@ pub fn variance_of_results(variance: Variance) -> Variance
     ensures { result ≡ variance }
 {
     covariant_is_identity(variance);
-    Variance::Covariant.xform(variance).xform(Variance::Covariant)
+    Variance::Covariant
+        .xform(variance)
+        .xform(Variance::Covariant)
 }
 
 /// Returns whether what inference starts with allows this closure trait, which it always does.
