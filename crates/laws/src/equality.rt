@@ -22,19 +22,20 @@ pub fn is_same_refusal(one: Refusal, other: Refusal) -> bool
     one == other
 }
 
-/// Returns whether two types have the same flags, so that a scan of the one finds what a scan of the other does. Both have
-/// to be the interner's.
+/// Returns whether two types have the same flags, so that a scan of the one finds what a scan of the other does. Both
+/// have to be the interner's.
 pub fn have_same_flags(cx: &Interner, one: Ty, other: Ty) -> bool
     requires one { IsOwned ty_shape cx.now one }
     requires other { IsOwned ty_shape cx.now other }
-    ensures { IsTrue result ↔ (scan (tree_in cx.now.rows (ty_shape one)) ≡ scan (tree_in cx.now.rows (ty_shape other))) }
+    ensures { IsTrue result
+        ↔ (scan (tree_in cx.now.rows (ty_shape one)) ≡ scan (tree_in cx.now.rows (ty_shape other))) }
 {
     equal_flags_are_same();
     one.flags(cx) == other.flags(cx)
 }
 
-/// Returns whether two predicates of what outlives a region are one. The `==` of what outlives it has to tell values apart,
-/// which no call tests; the library's laws say so of its own types.
+/// Returns whether two predicates of what outlives a region are one. The `==` of what outlives it has to tell values
+/// apart, which no call tests; the library's laws say so of its own types.
 pub fn is_same_outlives<T: PartialEq>(
     one: &OutlivesPredicate<T>,
     other: &OutlivesPredicate<T>,

@@ -28,7 +28,8 @@ pub fn fitting_slice(cx: &mut Interner, ty: Ty) -> Result<Ty, Refusal>
     Ok(slice)
 }
 
-/// Returns the contents of a binder, which fit under it. Refused with [`NOT_OWNED`] if the interner may have too many rows.
+/// Returns the contents of a binder, which fit under it. Refused with [`NOT_OWNED`] if the interner may have too many
+/// rows.
 pub fn fitting_contents(cx: &Interner, binder: Binder<Ty>) -> Result<Ty, Refusal>
     ensures { IfOk result (λ contents. FitsUnder 1 (read 1 (tree_in cx.now.rows (ty_shape contents)))) }
 {

@@ -1,8 +1,9 @@
-//! A user's function for each law of the library that no other crate calls: it makes ordinary calls, and its contract says
-//! of their results what the law says of all terms. So the premises of the laws can be met, and their conclusions used.
+//! A user's function for each law of the library that no other crate calls: it makes ordinary calls, and its contract
+//! says of their results what the law says of all terms. So the premises of the laws can be met, and their conclusions
+//! used.
 //!
-//! A function tests what a test can tell: handles of another interner are refused with [`NOT_OWNED`]. What no test can tell
-//! is required, and the function's comment says so.
+//! A function tests what a test can tell: handles of another interner are refused with [`NOT_OWNED`]. What no test can
+//! tell is required, and the function's comment says so.
 #![tactic(auto)]
 
 pub mod binders;

@@ -27,8 +27,8 @@ pub fn with_same_regions<T: Owned + TypeFoldable>(cx: &mut Interner, value: T) -
     fold_regions_with(cx, value, &mut same)
 }
 
-/// Returns the value, folded by a folder of regions: the closure's results are in the places of the regions that the value
-/// doesn't bind, as after `fold_regions`.
+/// Returns the value, folded by a folder of regions: the closure's results are in the places of the regions that the
+/// value doesn't bind, as after `fold_regions`.
 pub fn folded_by_folder<T: TypeFoldable, F: FnMut(Region, DebruijnIndex) -> Region + Drop>(
     cx: &mut Interner,
     value: T,

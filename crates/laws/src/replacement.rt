@@ -34,8 +34,8 @@ pub fn instance(cx: &mut Interner, ty: Ty, args: &[GenericArg]) -> Result<Ty, Re
     Ok(made.skip_norm_wip())
 }
 
-/// Returns the type with its parameters replaced twice: by the arguments, and in the result by the later ones. It reads as
-/// after one replacement, by the arguments in which the later ones were replaced.
+/// Returns the type with its parameters replaced twice: by the arguments, and in the result by the later ones. It reads
+/// as after one replacement, by the arguments in which the later replacement was made.
 #[tactic(auto, using(tt_interner::proofs::OwnedLaws::owned_laws))]
 pub fn instance_twice(
     cx: &mut Interner,
@@ -44,7 +44,8 @@ pub fn instance_twice(
     later: &[GenericArg],
 ) -> Result<Ty, Refusal>
     ensures { IfOk result (λ made. read 0 (tree_in cx.new.rows (ty_shape made))
-        ≡ put (change_values (put (readings (arguments cx.old.rows later.now))) (readings (arguments cx.old.rows args.now)))
+        ≡ put
+        (change_values (put (readings (arguments cx.old.rows later.now))) (readings (arguments cx.old.rows args.now)))
         (read 0 (tree_in cx.old.rows (ty_shape ty)))) }
 {
     if !ty.is_owned(cx) {
@@ -93,8 +94,8 @@ pub fn instance_tree(cx: &mut Interner, ty: Ty, args: &[GenericArg]) -> Result<T
     instance(cx, ty, args)
 }
 
-/// Returns the type with its parameters replaced: its variables match the lists of its binders, if they did in the type and
-/// in the arguments, which no call tests.
+/// Returns the type with its parameters replaced: its variables match the lists of its binders, if they did in the type
+/// and in the arguments, which no call tests.
 pub fn matched_instance(cx: &mut Interner, ty: Ty, args: &[GenericArg]) -> Result<Ty, Refusal>
     requires ty { MatchedUnder [] (read 0 (tree_in cx.old.rows (ty_shape ty))) }
     requires args { ArgumentsMatched (readings (arguments cx.old.rows args.now)) }

@@ -26,7 +26,7 @@ pub fn reread(abi: ExternAbi, safety: Safety, is_variadic: bool) -> (ExternAbi, 
     (kind.abi(), kind.safety(), kind.c_variadic())
 }
 
-/// Returns the index of the splatted argument as it is read after it was set. Refused with `None` if it can't be kept.
+/// Returns the index of the splatted argument as it is read after it was set, or `None` if it can't be kept.
 pub fn resplatted(abi: ExternAbi, safety: Safety, index: u16) -> Option<u16>
     ensures { index < 65535 → result ≡ Some index }
 {

@@ -10,8 +10,8 @@ use type_terms::{
     marks_name_their_sorts, xform_is_associative,
 };
 
-/// Returns the variance of an argument in three nested contexts: the two inner ones are joined first, and the result is
-/// what a walk from the outside finds.
+/// Returns the variance of an argument in three nested contexts: the two inner ones are joined first, and the result
+/// is what a walk from the outside finds.
 pub fn nested_variance(outer: Variance, middle: Variance, inner: Variance) -> Variance
     ensures { result ≡ xform_of (xform_of outer middle) inner }
 {
@@ -19,7 +19,7 @@ pub fn nested_variance(outer: Variance, middle: Variance, inner: Variance) -> Va
     outer.xform(middle.xform(inner))
 }
 
-/// Returns the variance of a position in a covariant context that is in a covariant context of this variance: the same.
+/// Returns the variance of a covariant position in a context of this variance, in a covariant context: the same.
 pub fn variance_of_results(variance: Variance) -> Variance
     ensures { result ≡ variance }
 {
