@@ -1,7 +1,7 @@
 -- Where no cause of a refusal holds, each parameter has an argument of its sort; and what has no parameter has none in its
 -- reading.
 use Rattle.std.proofs.Common.{◌≡◌, ℕ, suc, ◌≤◌, List, [], ◌∷◌, length, Bool, true, false, refl, inl, inr, ap, sym, ◌∙◌}
-use Rattle.std.specs.Prelude.{◌≢◌, ◌||◌, Option, Some, None, option_map, slice_get, IsSome, if◌then◌else◌}
+use Rattle.std.specs.Prelude.{◌||◌, Option, Some, None, option_map, slice_get, IsSome, if◌then◌else◌}
 use Rattle.std.proofs.lemmas.Option.{slice_get_cases}
 use Rattle.tt_index.specs.declared.refusal.Refusal.{Refusal}
 use Rattle.tt_index.specs.declared.refusal.Refusal.TheVariants.{NoArguments, ArgOutOfRange, ArgKind}

@@ -1,6 +1,6 @@
 //! Iterators that instantiate their items.
 
-ghost use Rattle.std.specs.Prelude.{◌≡◌, ◌≤◌, length};
+ghost use Rattle.std.specs.Prelude.{◌≤◌, length};
 
 use type_terms::{
     EarlyBinder, GenericArg, GenericArgs, IterInstantiate, IterInstantiated,

@@ -34,8 +34,8 @@ pub fn instance(cx: &mut Interner, ty: Ty, args: &[GenericArg]) -> Result<Ty, Re
     Ok(made.skip_norm_wip())
 }
 
-/// Returns the type with its parameters replaced twice: by the arguments, and in the result by the later ones. It reads
-/// as after one replacement, by the arguments in which the later replacement was made.
+/// Returns the type with its parameters replaced twice: by the arguments, and in the result by the later ones. It
+/// reads as after one replacement, by the arguments in which the later replacement was made.
 #[tactic(auto, using(tt_interner::proofs::OwnedLaws::owned_laws))]
 pub fn instance_twice(
     cx: &mut Interner,
@@ -94,8 +94,8 @@ pub fn instance_tree(cx: &mut Interner, ty: Ty, args: &[GenericArg]) -> Result<T
     instance(cx, ty, args)
 }
 
-/// Returns the type with its parameters replaced: its variables match the lists of its binders, if they did in the type
-/// and in the arguments, which no call tests.
+/// Returns the type with its parameters replaced: its variables match the lists of its binders, if they did in the
+/// type and in the arguments, which no call tests.
 pub fn matched_instance(cx: &mut Interner, ty: Ty, args: &[GenericArg]) -> Result<Ty, Refusal>
     requires ty { MatchedUnder [] (read 0 (tree_in cx.old.rows (ty_shape ty))) }
     requires args { ArgumentsMatched (readings (arguments cx.old.rows args.now)) }

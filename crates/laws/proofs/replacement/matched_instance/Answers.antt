@@ -1,5 +1,5 @@
 -- a replacement keeps variables matched, by the law
-use Rattle.std.proofs.Common.{◌≡◌, List, [], sym, subst}
+use Rattle.std.proofs.Common.{List, [], sym, subst}
 use Rattle.std.specs.Prelude.{Result, Ok, Err, IfOk}
 use Rattle.tt_index.specs.declared.refusal.Refusal.{Refusal}
 use Rattle.tt_kinds.specs.Argument.{Argument, readings}
