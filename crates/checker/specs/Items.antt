@@ -38,7 +38,7 @@ abbrev pub FunctionId : Type 0
 FunctionId = Id FunctionMark
 
 -- ids, as numbers
-abbrev pub numbers : List AdtId → List ℕ
+abbrev pub numbers : {S : Type 0} → List (Id S) → List ℕ
 numbers ids = map (λ id. id.number) ids
 
 -- the ids of the declared data types, as numbers
@@ -111,11 +111,12 @@ pub record AreFunctions (terms : Terms) (program : Program) (written : List Ty) 
       → slice_get program.functions.items f ≡ Some item
       → HasSignature terms program written item id
 
--- what is declared is what the program says: each data type has an id of its own, each written type is declared as what
--- it denotes, and each function has the name and the types that are written for it
+-- what is declared is what the program says: each data type and each function has an id of its own, each written type
+-- is declared as what it denotes, and each function has the name and the types that are written for it
 pub record IsDeclared (terms : Terms) (program : Program) (d : Declared) : Type 0 where
   pub counted : length d.data_types.items ≡ length program.«data».items
   pub distinct : AreDistinct (ids_of d)
+  pub distinct_functions : AreDistinct (numbers d.functions.items)
   pub written : AreWrittenTypes terms program (ids_of d) d.written.items (length program.types.items)
   pub functions : AreFunctions terms program d.written.items d.functions.items (length program.functions.items)
 

@@ -236,6 +236,7 @@ fn functions(
         written.now
         ids.items
         (length program.now.functions.items)) }
+    ensures distinct { IfOk result (λ ids. AreDistinct (numbers ids.items)) }
 {
     let mut ids = Vec::new(cx.allocator());
     for number in 0..program.functions.len() {
@@ -246,7 +247,7 @@ fn functions(
     Ok(ids)
 }
 
-// Declares a function.
+// Declares a function. Its id is above the ids of all earlier declarations.
 #[tactic(auto, using(crate::proofs::ClientLaws::growth_laws))]
 fn function(
     cx: &mut Interner,
@@ -256,6 +257,7 @@ fn function(
 ) -> Result<FunctionId, Failure>
     requires { AreOwned ty_shape cx.old written.now }
     ensures extends { Extends cx.old cx.new }
+    ensures after { IfOk result (λ id. size cx.old.rows Declarations ≤ id.number) }
     ensures declared { IfOk result (λ id. HasSignature cx.new program.now written.now item.now id) }
 {
     let list = signature_list(cx, item, written)?;
@@ -292,6 +294,7 @@ fn declared_fn(cx: &mut Interner, name: Symbol, types: Tys) -> Result<FunctionId
     requires name { name.number < size cx.old.rows Symbols }
     requires types { IsOwned tys_shape cx.old types }
     ensures extends { Extends cx.old cx.new }
+    ensures next { IfOk result (λ id. id.number ≡ size cx.old.rows Declarations) }
     ensures before { IfOk result (λ id. id.number < size cx.new.rows Declarations) }
     ensures declared { IfOk result (λ id. IsFunctionOf cx.new.rows name types id) }
 {

@@ -1,11 +1,19 @@
+use Rattle.std.proofs.Common.{arith}
+use Rattle.tt_kinds.specs.declared.table.Table.TheVariants.{Declarations}
 use Rattle.tt_interner.proofs.Growth.{Extends-trans}
-use Rattle.checker.proofs.BuiltLaws.{for_ok_both}
+use Rattle.checker.proofs.BuiltLaws.{for_ok, for_ok_both}
 use Rattle.checker.proofs.SignatureLaws.{list_stays, name_stays}
 use Rattle.checker.proofs.declared.function.Goals as goal
 
 pub returns-clause-extends : goal.returns-clause-extends
 returns-clause-extends c =
     Extends-trans c.signature_list.ensures.extends (Extends-trans c.symbol_of.ensures.extends c.declared_fn.ensures.extends)
+
+pub returns-clause-after : goal.returns-clause-after
+returns-clause-after c =
+    let listed = c.signature_list.ensures.extends.rows.in_range Declarations in
+    let named = c.symbol_of.ensures.extends.rows.in_range Declarations in
+    for_ok c.declared_fn.result (λ id next. omega (arith, listed, named, next)) c.declared_fn.ensures.next
 
 pub returns-clause-declared : goal.returns-clause-declared
 returns-clause-declared c =
