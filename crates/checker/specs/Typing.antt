@@ -76,6 +76,10 @@ module _ (A : Around) where
   abbrev pub Operands : ℕ → List ℕ → List (Tree Depth) → Type 0
   Operands i ns ts = AllBefore A.types i ns ts
 
+  -- the expression of this number is a `let`
+  abbrev pub IsLet : ℕ → Type 0
+  IsLet n = (value : ℕ) × (a : Option ℕ) × (slice_get A.body.expressions.items n ≡ Some (of.Let value a))
+
   -- the operand's type is the instance of the written type at these arguments
   abbrev pub Fits : ℕ → List (Argument Depth) → ℕ → ℕ → Type 0
   Fits i args w n = (d : Tree Depth) × (t : Tree Depth) × Writes w d × Operand i n t × IsPlain args d t
@@ -108,7 +112,8 @@ module _ (A : Around) where
     literal : {l : Literal} → t ≡ literal_type l → IsTyped i t (of.Literal l)
     argument : {k w : ℕ} → slice_get A.function.inputs.items k ≡ Some w → Writes w t → IsTyped i t (of.Argument k)
     binding : {n : ℕ} {a : Option ℕ} → Operand i n t → IfSome a (λ w. Writes w t) → IsTyped i t (of.Let n a)
-    variable : {n : ℕ} → Operand i n t → IsTyped i t (of.Local n)
+    -- a use of the variable of a `let` before it
+    variable : {n : ℕ} → IsLet n → Operand i n t → IsTyped i t (of.Local n)
     tuple : {s : Span} {ts : List (Tree Depth)} → Operands i (part A.body.operands.items s) ts → t ≡ tuple_of ts
         → IsTyped i t (of.Tuple s)
     reference : {n : ℕ} {u : Tree Depth} → Operand i n u → t ≡ reference_to u → IsTyped i t (of.Reference n)
