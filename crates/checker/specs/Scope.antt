@@ -1,5 +1,5 @@
 -- What is known around the expressions of a body, with types as trees.
-use Rattle.std.specs.Prelude.{◌≡◌, ◌<◌, ℕ, List, Some, length, map, slice_get, IfSome}
+use Rattle.std.specs.Prelude.{◌≡◌, ◌<◌, ℕ, List, [], Some, length, map, slice_get, MatchOption}
 use Rattle.tt_kinds.specs.Argument.{Argument}
 use Rattle.tt_kinds.specs.Handle.{Ty, GenericArgs}
 use Rattle.tt_kinds.specs.Kinds.{ty_shape}
@@ -43,9 +43,9 @@ abbrev pub around : Terms → Scope → Around
 around terms scope = body_around terms scope.program.now
     (ids_of scope.declared.now) scope.function.now scope.body.now scope.types.now
 
--- if the function has a body, the expressions have these types by the rules
+-- if the function has a body, its expressions have these types by the rules; otherwise there are no types
 abbrev pub IsTypedFunction : Terms → Program → List ℕ → Function → List Ty → Type 0
-IsTypedFunction terms program ids function types = IfSome function.body
+IsTypedFunction terms program ids function types = MatchOption function.body (types ≡ [])
     (λ body. IsTypedBody (body_around terms program ids function body types))
 
 -- there are this many lists of types, and each of the first functions has the types in its place by the rules

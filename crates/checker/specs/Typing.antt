@@ -141,8 +141,10 @@ module _ (A : Around) where
     pub there : slice_get A.types i ≡ Some type
     pub typed : IsTyped i type e
 
-  -- each expression of the body has its type by a rule, and the result has the written output type
+  -- there are as many types as expressions, each expression of the body has its type by a rule, and the result has the
+  -- written output type
   pub record IsTypedBody : Type 0 where
+    pub counted : length A.types ≡ length A.body.expressions.items
     pub each : (i : ℕ) (e : Expression) → slice_get A.body.expressions.items i ≡ Some e → HasType i e
     pub result : Tree Depth
     pub returned : slice_get A.types A.body.result ≡ Some result

@@ -29,6 +29,9 @@ pub fn verify(cx: &mut Interner, scope: Scope<'_>, subjects: &[Ty]) -> Result<()
     ensures extends { Extends cx.old cx.new }
     ensures typed { OnOk result (IsTypedBody (around cx.old scope.entry)) }
 {
+    if scope.types.len() != scope.body.expressions.len() {
+        return Err(Failure::Unverified);
+    }
     for number in 0..scope.body.expressions.len() {
         let expression = at(scope.body.expressions.as_slice(), number)?;
         let subject = type_at(cx, subjects, number)?;

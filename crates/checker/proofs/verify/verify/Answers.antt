@@ -44,7 +44,8 @@ returns-clause-typed c =
     let expressions = c.args.scope.body.now.expressions in
     let all : length expressions.items ≤ c.loop-number.number =
     omega (arith, c.loop-number-test.false, c.len-number-end.ensures, expressions.ok.0) in
+    let counted = c.if-scope-len.false ∙ (c.len.ensures ∙ expressions.ok.0) in
     on_ok c.same.result (λ same.
     body_typed c.args.cx.now c.loop-number.cx c.args.scope c.loop-number.number c.in_ok-output.output c.in_ok-result.result
-    c.loop-number.invariant.extends c.requires.scope all c.loop-number.invariant.typed
+    c.loop-number.invariant.extends c.requires.scope counted all c.loop-number.invariant.typed
     c.in_ok-output.ensures.is c.in_ok-result.ensures.is same) c.same.ensures
