@@ -1,9 +1,12 @@
 -- The typing rules of the language, on plain trees of types.
 use Rattle.std.specs.Prelude.{◌≡◌, ◌<◌, ℕ, List, length, Option, Some, map, slice_get, IfSome}
+use Rattle.tt_flags.specs.TypeFlags.{has_infer}
 use Rattle.tt_index.specs.declared.numeric.IntTy.TheVariants.{I32}
 use Rattle.tt_kinds.specs.Label.{type_sort, int_type, bool_type, char_type, str_type}
+use Rattle.tt_kinds.specs.Scan.{scan}
 use Rattle.tt_kinds.specs.Tree.{Depth, Tree}
 use Rattle.tt_kinds.specs.Argument.{Argument}
+use Rattle.tt_visit.specs.HasTypeFlags.{Misses}
 use Rattle.tt_binder.specs.Instance.{IsPlain}
 use Rattle.checker_syntax.specs.declared.program.Program.{Program}
 use Rattle.checker_syntax.specs.declared.program.Function.{Function}
@@ -44,10 +47,15 @@ pub record AllBefore (types : List (Tree Depth)) (i : ℕ) (ns : List ℕ) (ts :
   pub counted : length ns ≡ length ts
   pub each : (k n : ℕ) → slice_get ns k ≡ Some n → (t : Tree Depth) × (slice_get ts k ≡ Some t) × Before types i n t
 
--- there are this many arguments, and each is a type
+-- no inference variable occurs in the type
+abbrev pub IsKnown : Tree Depth → Type 0
+IsKnown t = Misses has_infer (scan t)
+
+-- there are this many arguments, and each is a known type
 pub record AreTypeArguments (args : List (Argument Depth)) (count : ℕ) : Type 0 where
   pub counted : length args ≡ count
   pub types : (i : ℕ) (a : Argument Depth) → slice_get args i ≡ Some a → a.sort ≡ type_sort
+  pub known : (i : ℕ) (a : Argument Depth) → slice_get args i ≡ Some a → IsKnown a.value
 
 -- the trees of arguments
 abbrev pub values : List (Argument Depth) → List (Tree Depth)
@@ -135,14 +143,15 @@ module _ (A : Around) where
     item : {n k : ℕ} {u whole : Tree Depth} → Operand i n u → Reaches u whole → IsItemOf k whole t
         → IsTyped i t (of.Item n k)
 
-  -- the expression of number i has its type by a rule
+  -- the expression of number i has its type by a rule, and the type is known
   pub record HasType (i : ℕ) (e : Expression) : Type 0 where
     pub type : Tree Depth
     pub there : slice_get A.types i ≡ Some type
+    pub known : IsKnown type
     pub typed : IsTyped i type e
 
-  -- there are as many types as expressions, each expression of the body has its type by a rule, and the result has the
-  -- written output type
+  -- there are as many types as expressions, each expression of the body has a known type by a rule, and the result has
+  -- the written output type
   pub record IsTypedBody : Type 0 where
     pub counted : length A.types ≡ length A.body.expressions.items
     pub each : (i : ℕ) (e : Expression) → slice_get A.body.expressions.items i ≡ Some e → HasType i e

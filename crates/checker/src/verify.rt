@@ -9,7 +9,7 @@ ghost use Rattle.tt_interner.specs.Stored.{Extends};
 ghost use Rattle.tt_kinds.specs.Kinds.{ty_shape};
 ghost use Rattle.checker_syntax.specs.declared.program.Expression.TheVariants as of;
 ghost use Rattle.checker.specs.Scope.{around, IsScope};
-ghost use Rattle.checker.specs.Typing.{HasType, IsTyped, IsTypedBody};
+ghost use Rattle.checker.specs.Typing.{HasType, IsKnown, IsTyped, IsTypedBody};
 
 use crate::built::built;
 use crate::failure::Failure;
@@ -53,7 +53,19 @@ fn same(left: Ty, right: Ty) -> Result<(), Failure>
     }
 }
 
-// Compares the type of the expression of this number with its rule.
+// Succeeds if no inference variable occurs in the type.
+fn known(cx: &Interner, ty: Ty) -> Result<(), Failure>
+    requires { IsOwned ty_shape cx.now ty }
+    ensures { OnOk result (IsKnown (tree_in cx.now.rows (ty_shape ty))) }
+{
+    if ty.has_infer(cx) {
+        Err(Failure::Unverified)
+    } else {
+        Ok(())
+    }
+}
+
+// Compares the type of the expression of this number with its rule. The type has to be known.
 #[tactic(auto, using(crate::proofs::ScopeLaws::verify_laws))]
 fn verify_expression(
     cx: &mut Interner,
@@ -68,6 +80,7 @@ fn verify_expression(
     ensures typed { OnOk result (HasType (around cx.old scope.entry) number expression) }
 {
     let ty = type_of(cx, scope, number)?;
+    known(cx, ty)?;
     match expression {
         Expression::Let(init, annotation) => verify_let(cx, scope, number, ty, init, annotation),
         Expression::Dereference(value) => verify_dereference(cx, scope, number, ty, value),
