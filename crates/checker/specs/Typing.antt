@@ -18,6 +18,7 @@ use Rattle.checker_syntax.specs.declared.program.Literal.{Literal}
 use Rattle.checker_syntax.specs.declared.program.Literal.TheVariants as literal_of
 use Rattle.checker_syntax.specs.declared.program.Expression.{Expression}
 use Rattle.checker_syntax.specs.declared.program.Expression.TheVariants as of
+use Rattle.checker.specs.Formed as formed
 use Rattle.checker.specs.TypeTrees.{data_type_of, reference_by, reference_to, simple, tuple_of}
 use Rattle.checker.specs.Written as written
 use Rattle.checker.specs.Written.{part}
@@ -76,6 +77,14 @@ module _ (A : Around) where
   abbrev pub Writes : ℕ → Tree Depth → Type 0
   Writes w t = written.Writes A.program A.ids w t
 
+  -- the type is well formed within the function
+  abbrev pub IsFormed : Tree Depth → Type 0
+  IsFormed t = formed.IsFormed A.program A.ids A.function t
+
+  -- each of the types is
+  abbrev pub AreFormed : List (Tree Depth) → Type 0
+  AreFormed ts = formed.AreFormed A.program A.ids A.function ts
+
   -- the operand comes before the expression, and has this type
   abbrev pub Operand : ℕ → ℕ → Tree Depth → Type 0
   Operand i n t = Before A.types i n t
@@ -129,7 +138,7 @@ module _ (A : Around) where
     -- a call: the arguments' types are instances of the written inputs, and the call's is the written output's
     call : {f : ℕ} {s : Span} {item : Function} {args : List (Argument Depth)} {d : Tree Depth}
         → slice_get A.program.functions.items f ≡ Some item → AreTypeArguments args (length item.params.items)
-        → Fit i args item.inputs.items (part A.body.operands.items s)
+        → AreFormed (values args) → Fit i args item.inputs.items (part A.body.operands.items s)
         → Writes item.output d → IsPlain args d t → IsTyped i t (of.Call f s)
     -- a data type expression: the values' types are instances of the written fields
     data_type : {k : ℕ} {s : Span} {item : DataType} {args : List (Argument Depth)}
@@ -143,15 +152,16 @@ module _ (A : Around) where
     item : {n k : ℕ} {u whole : Tree Depth} → Operand i n u → Reaches u whole → IsItemOf k whole t
         → IsTyped i t (of.Item n k)
 
-  -- the expression of number i has its type by a rule, and the type is known
+  -- the expression of number i has its type by a rule, and the type is known and well formed
   pub record HasType (i : ℕ) (e : Expression) : Type 0 where
     pub type : Tree Depth
     pub there : slice_get A.types i ≡ Some type
     pub known : IsKnown type
+    pub formed : IsFormed type
     pub typed : IsTyped i type e
 
-  -- there are as many types as expressions, each expression of the body has a known type by a rule, and the result has
-  -- the written output type
+  -- there are as many types as expressions, each expression of the body has a known and well-formed type by a rule, and
+  -- the result has the written output type
   pub record IsTypedBody : Type 0 where
     pub counted : length A.types ≡ length A.body.expressions.items
     pub each : (i : ℕ) (e : Expression) → slice_get A.body.expressions.items i ≡ Some e → HasType i e
