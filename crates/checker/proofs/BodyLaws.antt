@@ -10,20 +10,22 @@ use Rattle.tt_fold.specs.Steps.{tree_in}
 use Rattle.checker.specs.Scope.{IsScope, around}
 use Rattle.checker.specs.Typing.{IsTypedBody, Writes}
 use Rattle.checker.specs.declared.scope.Scope.{Scope}
+use Rattle.checker.proofs.ListLaws.{length_mapped}
 use Rattle.checker.proofs.TreeLaws.{tree_at, tree_stays}
 use Rattle.checker.proofs.TypingLaws.{AreTypedBelow}
 
 -- a body whose expressions and result have their types
 pub body_typed : (old new : Terms) (scope : Scope) (count : ℕ) (output result : Ty) → Extends old new → IsScope old scope
-    → length scope.body.now.expressions.items ≤ count
+    → length scope.types.now ≡ length scope.body.now.expressions.items → length scope.body.now.expressions.items ≤ count
     → AreTypedBelow (around old scope) scope.body.now.expressions.items count
     → Writes (around new scope) scope.function.now.output (tree_in new.rows (ty_shape output))
     → slice_get scope.types.now scope.body.now.result ≡ Some result
     → output ≡ result → IsTypedBody (around old scope)
-body_typed old new scope count output result extends h all below written there same =
+body_typed old new scope count output result extends h counted all below written there same =
     let mine = found_owned ty_shape old scope.types.now scope.body.now.result result there h.types in
     let stays = ap (λ x. tree_in new.rows (ty_shape x)) same ∙ tree_stays old new result extends mine in
     record {
+      counted = length_mapped (λ (ty : Ty). tree_in old.rows (ty_shape ty)) scope.types.now ∙ counted;
       each = λ i e at. below i e (let within = slice_get_within scope.body.now.expressions.items i e at in omega (arith, within, all)) at;
       result = tree_in old.rows (ty_shape result);
       returned = tree_at old scope.types.now scope.body.now.result result there;

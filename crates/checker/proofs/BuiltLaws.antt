@@ -23,7 +23,7 @@ use Rattle.checker_syntax.specs.declared.program.Expression.TheVariants as of
 use Rattle.checker.specs.Items.{AreTypesBefore}
 use Rattle.checker.specs.Scope.{around, trees}
 use Rattle.checker.specs.TypeTrees.{reference_by, reference_to, tuple_of}
-use Rattle.checker.specs.Typing.{AllBefore, Around, IsItemOf, IsTyped, Reaches, Writes, literal, literal_type, itself}
+use Rattle.checker.specs.Typing.{AllBefore, Around, IsItemOf, IsLet, IsTyped, Reaches, Writes, literal, literal_type, itself}
 use Rattle.checker.specs.Typing.{through, argument, variable, tuple, reference}
 use Rattle.checker.specs.Written.{part}
 use Rattle.checker.specs.declared.scope.Scope.{Scope}
@@ -94,9 +94,9 @@ pub argument_typed : (terms : Terms) (scope : Scope) (number k w : ℕ) (ty : Ty
 argument_typed terms scope number k w ty there written = argument there written
 
 -- a use of a variable has the variable's type
-pub variable_typed : (terms : Terms) (scope : Scope) (number n : ℕ) (ty : Ty) → n < number → slice_get scope.types.now n ≡ Some ty
-    → IsTyped (around terms scope) number (tree_in terms.rows (ty_shape ty)) (of.Local n)
-variable_typed terms scope number n ty before there = variable (before, tree_at terms scope.types.now n ty there)
+pub variable_typed : (terms : Terms) (scope : Scope) (number n : ℕ) (ty : Ty) → IsLet (around terms scope) n → n < number
+    → slice_get scope.types.now n ≡ Some ty → IsTyped (around terms scope) number (tree_in terms.rows (ty_shape ty)) (of.Local n)
+variable_typed terms scope number n ty is before there = variable is (before, tree_at terms scope.types.now n ty there)
 
 -- a tuple has the tuple of its items' types
 pub tuple_typed : (old new : Terms) (scope : Scope) (number : ℕ) (s : Span) (numbers : List ℕ) (items : List Ty) (ty : Ty)

@@ -13,7 +13,8 @@ use Rattle.checker_syntax.specs.declared.program.Function.{Function}
 use Rattle.checker_syntax.specs.declared.program.Span.{Span}
 use Rattle.checker_syntax.specs.declared.program.Expression.TheVariants as of
 use Rattle.checker.specs.Scope.{IsScope, argument_trees, around}
-use Rattle.checker.specs.Typing.{AreTypeArguments, Fit, HasField, IsInstance, IsTyped, Reaches, call, data_type, field}
+use Rattle.checker.specs.Typing.{AreFormed, AreTypeArguments, Fit, HasField, IsInstance, IsTyped, Reaches, call, data_type}
+use Rattle.checker.specs.Typing.{field, values}
 use Rattle.checker.specs.Written.{part}
 use Rattle.checker.specs.declared.scope.Scope.{Scope}
 use Rattle.checker.proofs.InstanceLaws.{IsInstanceOf, instance_stays}
@@ -24,12 +25,12 @@ pub call_typed : (old new : Terms) (scope : Scope) (args : GenericArgs) → Exte
     → IsOwned args_shape old args → AreArguments old.rows (args_at old.rows args)
     → (number f : ℕ) (s : Span) (item : Function) (ty : Ty) (numbers : List ℕ)
     → slice_get scope.program.now.functions.items f ≡ Some item → AreTypeArguments (argument_trees old args) (length item.params.items)
-    → numbers ≡ part scope.body.now.operands.items s → Fit (around old scope) number (argument_trees old args) item.inputs.items numbers
+    → AreFormed (around old scope) (values (argument_trees old args)) → numbers ≡ part scope.body.now.operands.items s → Fit (around old scope) number (argument_trees old args) item.inputs.items numbers
     → IsOwned ty_shape old ty → IsInstanceOf new scope args item.output ty
     → IsTyped (around old scope) number (tree_in old.rows (ty_shape ty)) (of.Call f s)
-call_typed old new scope args extends h owned are number f s item ty numbers there counted same fit mine is =
+call_typed old new scope args extends h owned are number f s item ty numbers there counted formed same fit mine is =
     let stays = instance_stays old new scope args extends h owned are item.output ty mine is in
-    call there counted
+    call there counted formed
     (subst (λ ns. Fit (around old scope) number (argument_trees old args) item.inputs.items ns) same fit) stays.1 stays.2
 
 -- a data type expression has the data type

@@ -3,6 +3,7 @@ pub mod BodyLaws
 pub mod BuiltLaws
 pub mod CallLaws
 pub mod ClientLaws
+pub mod FormedLaws
 pub mod InstanceLaws
 pub mod ListLaws
 pub mod LookupLaws

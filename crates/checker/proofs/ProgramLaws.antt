@@ -1,7 +1,7 @@
 -- The bodies of a program, typed in turn.
 use Rattle.std.proofs.Common.{◌≡◌, ℕ, zero, suc, List, [], ◌∷◌, ◌++◌, Option, Some, None, sym, subst, ap, ◌∙◌, arith}
 use Rattle.std.proofs.Common.{inl, inr}
-use Rattle.std.specs.Prelude.{slice_get, IfSome}
+use Rattle.std.specs.Prelude.{slice_get, MatchOption}
 use Rattle.std.proofs.lemmas.List.Elements.{All-append}
 use Rattle.std.proofs.lemmas.Option.{get_or_from_slice_get, slice_get_within}
 use Rattle.std.specs.declared.alloc.Global.{Global}
@@ -31,9 +31,9 @@ body_stays old new program ids function body types extends owned =
 -- and so does its typing
 option_stays : (old new : Terms) (program : Program) (ids : List ℕ) (function : Function) (o : Option Body) (types : List Ty)
     → Extends old new
-    → AreOwned ty_shape old types → IfSome o (λ body. IsTypedBody (body_around old program ids function body types))
-    → IfSome o (λ body. IsTypedBody (body_around new program ids function body types))
-option_stays old new program ids function None types extends owned typed = tt
+    → AreOwned ty_shape old types → MatchOption o (types ≡ []) (λ body. IsTypedBody (body_around old program ids function body types))
+    → MatchOption o (types ≡ []) (λ body. IsTypedBody (body_around new program ids function body types))
+option_stays old new program ids function None types extends owned typed = typed
 option_stays old new program ids function (Some body) types extends owned typed =
     subst IsTypedBody (sym (body_stays old new program ids function body types extends owned)) typed
 
@@ -50,7 +50,7 @@ pub function_typed : (old new : Terms) (program : Program) (ids : List ℕ) (fun
     → IsTypedFunction new program ids function types
 function_typed old new program ids function body types lent extends owned is same typed =
     let found = subst (λ x. IsTypedBody (body_around old program ids function body x)) same typed in
-    subst (λ o. IfSome o (λ b. IsTypedBody (body_around new program ids function b types))) (sym is)
+    subst (λ o. MatchOption o (types ≡ []) (λ b. IsTypedBody (body_around new program ids function b types))) (sym is)
     (subst IsTypedBody (sym (body_stays old new program ids function body types extends owned)) found)
 
 -- the types of a body among those of all

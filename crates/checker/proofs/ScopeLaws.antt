@@ -23,6 +23,7 @@ pub declared_stay : (old new : Terms) (program : Program) (d : Declared) → Ext
 declared_stay old new program d extends h = record {
   counted = h.counted;
   distinct = h.distinct;
+  distinct_functions = h.distinct_functions;
   written = written_stay old new program (ids_of d) d.written.items (length program.types.items) extends h.written;
   functions = functions_stay old new program d.written.items d.functions.items (length program.functions.items) extends h.functions;
 }

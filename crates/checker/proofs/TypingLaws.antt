@@ -10,7 +10,7 @@ use Rattle.checker_syntax.specs.declared.program.Expression.{Expression}
 use Rattle.checker_syntax.specs.declared.program.Expression.TheVariants as of
 use Rattle.checker.specs.Scope.{IsScope, around}
 use Rattle.checker.specs.TypeTrees.{reference_to}
-use Rattle.checker.specs.Typing.{Around, HasType, IsItemOf, IsTyped, Reaches, Writes, binding, dereference, item}
+use Rattle.checker.specs.Typing.{Around, HasType, IsFormed, IsItemOf, IsKnown, IsTyped, Reaches, Writes, binding, dereference, item}
 use Rattle.checker.specs.declared.scope.Scope.{Scope}
 use Rattle.checker.proofs.ListLaws.{below_next}
 use Rattle.checker.proofs.ScopeLaws.{around_stays}
@@ -25,10 +25,13 @@ same_typed A old new number e expected ty extends owned same typed =
 
 -- the type of an expression, by its rule
 pub has_type : (terms : Terms) (scope : Scope) (number : ℕ) (e : Expression) (ty : Ty) → slice_get scope.types.now number ≡ Some ty
-    → IsTyped (around terms scope) number (tree_in terms.rows (ty_shape ty)) e → HasType (around terms scope) number e
-has_type terms scope number e ty there typed = record {
+    → IsKnown (tree_in terms.rows (ty_shape ty)) → IsFormed (around terms scope) (tree_in terms.rows (ty_shape ty)) → IsTyped (around terms scope) number (tree_in terms.rows (ty_shape ty)) e
+    → HasType (around terms scope) number e
+has_type terms scope number e ty there known formed typed = record {
   type = tree_in terms.rows (ty_shape ty);
   there = tree_at terms scope.types.now number ty there;
+  known = known;
+  formed = formed;
   typed = typed;
 }
 

@@ -8,6 +8,7 @@ use Rattle.std.specs.declared.alloc.Global.{Global}
 use Rattle.std.specs.declared.string.String.{String}
 use Rattle.tt_kinds.specs.Handle.{Ty}
 use Rattle.tt_kinds.specs.Kinds.{ty_shape}
+use Rattle.tt_kinds.specs.declared.id.Id.{Id}
 use Rattle.tt_kinds.specs.Tree.{Depth, Tree}
 use Rattle.tt_interner.specs.Owned.{IsOwned}
 use Rattle.tt_interner.specs.Stored.{Terms, Extends}
@@ -49,10 +50,10 @@ distinct_pushed ns n bound distinct below above j k m first second =
     ]
 
 -- so are ids with one that was declared after them
-pub distinct_next : (ids : List AdtId) (id : AdtId) (bound : ℕ) → AreDistinct (numbers ids) → AreBelow (numbers ids) bound
+pub distinct_next : {S : Type 0} (ids : List (Id S)) (id : Id S) (bound : ℕ) → AreDistinct (numbers ids) → AreBelow (numbers ids) bound
     → bound ≤ id.number → AreDistinct (numbers (ids ++ id ∷ []))
-distinct_next ids id bound distinct below above =
-    subst AreDistinct (sym (mapped_pushed (λ (i : AdtId). i.number) ids id)) (distinct_pushed (numbers ids) id.number bound distinct below above)
+distinct_next {S} ids id bound distinct below above =
+    subst AreDistinct (sym (mapped_pushed (λ (i : Id S). i.number) ids id)) (distinct_pushed (numbers ids) id.number bound distinct below above)
 
 -- and all are below the next bound
 below_pushed : (ns : List ℕ) (n bound further : ℕ) → AreBelow ns bound → bound ≤ n → n < further → AreBelow (ns ++ n ∷ []) further
@@ -62,10 +63,10 @@ below_pushed ns n bound further below above less k m found =
       | inr newest ↦ subst (λ x. x < further) newest.1 less
     ]
 
-pub below_next_id : (ids : List AdtId) (id : AdtId) (bound further : ℕ) → AreBelow (numbers ids) bound → bound ≤ id.number → id.number < further
+pub below_next_id : {S : Type 0} (ids : List (Id S)) (id : Id S) (bound further : ℕ) → AreBelow (numbers ids) bound → bound ≤ id.number → id.number < further
     → AreBelow (numbers (ids ++ id ∷ [])) further
-below_next_id ids id bound further below above less =
-    subst (λ ns. AreBelow ns further) (sym (mapped_pushed (λ (i : AdtId). i.number) ids id))
+below_next_id {S} ids id bound further below above less =
+    subst (λ ns. AreBelow ns further) (sym (mapped_pushed (λ (i : Id S). i.number) ids id))
     (below_pushed (numbers ids) id.number bound further below above less)
 
 module _ (terms : Terms) (program : Program) (ids : List ℕ) (types : List Ty) where

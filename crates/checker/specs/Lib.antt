@@ -1,3 +1,4 @@
+pub mod Formed
 pub mod Items
 pub mod Scope
 pub mod TypeTrees

@@ -1,16 +1,17 @@
 -- What is known around the expressions of a body, with types as trees.
-use Rattle.std.specs.Prelude.{◌≡◌, ◌<◌, ℕ, List, Some, length, map, slice_get, IfSome}
+use Rattle.std.specs.Prelude.{◌≡◌, ◌<◌, ℕ, Bool, true, List, [], Some, length, map, slice_get, MatchOption}
 use Rattle.tt_kinds.specs.Argument.{Argument}
 use Rattle.tt_kinds.specs.Handle.{Ty, GenericArgs}
 use Rattle.tt_kinds.specs.Kinds.{ty_shape}
 use Rattle.tt_kinds.specs.Tree.{Depth, Tree}
-use Rattle.tt_interner.specs.Owned.{AreOwned}
+use Rattle.tt_interner.specs.Owned.{AreOwned, IsOwned}
 use Rattle.tt_interner.specs.Rows.{Row}
 use Rattle.tt_interner.specs.Stored.{Terms}
 use Rattle.tt_fold.specs.Steps.{tree_in}
 use Rattle.tt_interner.specs.Arguments.{arguments, args_at}
+use Rattle.checker.specs.Formed.{IsParameter}
 use Rattle.checker.specs.Items.{IsDeclared, ids_of}
-use Rattle.checker.specs.Typing.{Around, IsTypedBody}
+use Rattle.checker.specs.Typing.{Around, IsFormed, IsTypedBody}
 use Rattle.checker.specs.Written.{AreDistinct}
 use Rattle.checker_syntax.specs.declared.program.Body.{Body}
 use Rattle.checker_syntax.specs.declared.program.Function.{Function}
@@ -43,9 +44,24 @@ abbrev pub around : Terms → Scope → Around
 around terms scope = body_around terms scope.program.now
     (ids_of scope.declared.now) scope.function.now scope.body.now scope.types.now
 
--- if the function has a body, the expressions have these types by the rules
+-- the types are the function's first type parameters in order
+pub record AreParameters (terms : Terms) (program : Program) (function : Function) (types : List Ty) : Type 0 where
+  pub owned : AreOwned ty_shape terms types
+  pub each : (k : ℕ) (ty : Ty) → slice_get types k ≡ Some ty
+      → IsParameter program function k (tree_in terms.rows (ty_shape ty))
+
+-- the type's number is marked
+abbrev pub IsMarked : List Bool → Ty → Type 0
+IsMarked marks ty = slice_get marks ty.number ≡ Some true
+
+-- each type whose number is marked is the interner's, and well formed within the scope's function
+pub record AreMarked (terms : Terms) (scope : Scope) (marks : List Bool) : Type 0 where
+  pub each : (ty : Ty) → IsMarked marks ty
+      → IsOwned ty_shape terms ty × IsFormed (around terms scope) (tree_in terms.rows (ty_shape ty))
+
+-- if the function has a body, its expressions have these types by the rules; otherwise there are no types
 abbrev pub IsTypedFunction : Terms → Program → List ℕ → Function → List Ty → Type 0
-IsTypedFunction terms program ids function types = IfSome function.body
+IsTypedFunction terms program ids function types = MatchOption function.body (types ≡ [])
     (λ body. IsTypedBody (body_around terms program ids function body types))
 
 -- there are this many lists of types, and each of the first functions has the types in its place by the rules

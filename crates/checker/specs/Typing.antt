@@ -1,9 +1,12 @@
 -- The typing rules of the language, on plain trees of types.
 use Rattle.std.specs.Prelude.{◌≡◌, ◌<◌, ℕ, List, length, Option, Some, map, slice_get, IfSome}
+use Rattle.tt_flags.specs.TypeFlags.{has_infer}
 use Rattle.tt_index.specs.declared.numeric.IntTy.TheVariants.{I32}
 use Rattle.tt_kinds.specs.Label.{type_sort, int_type, bool_type, char_type, str_type}
+use Rattle.tt_kinds.specs.Scan.{scan}
 use Rattle.tt_kinds.specs.Tree.{Depth, Tree}
 use Rattle.tt_kinds.specs.Argument.{Argument}
+use Rattle.tt_visit.specs.HasTypeFlags.{Misses}
 use Rattle.tt_binder.specs.Instance.{IsPlain}
 use Rattle.checker_syntax.specs.declared.program.Program.{Program}
 use Rattle.checker_syntax.specs.declared.program.Function.{Function}
@@ -15,6 +18,7 @@ use Rattle.checker_syntax.specs.declared.program.Literal.{Literal}
 use Rattle.checker_syntax.specs.declared.program.Literal.TheVariants as literal_of
 use Rattle.checker_syntax.specs.declared.program.Expression.{Expression}
 use Rattle.checker_syntax.specs.declared.program.Expression.TheVariants as of
+use Rattle.checker.specs.Formed as formed
 use Rattle.checker.specs.TypeTrees.{data_type_of, reference_by, reference_to, simple, tuple_of}
 use Rattle.checker.specs.Written as written
 use Rattle.checker.specs.Written.{part}
@@ -44,10 +48,15 @@ pub record AllBefore (types : List (Tree Depth)) (i : ℕ) (ns : List ℕ) (ts :
   pub counted : length ns ≡ length ts
   pub each : (k n : ℕ) → slice_get ns k ≡ Some n → (t : Tree Depth) × (slice_get ts k ≡ Some t) × Before types i n t
 
--- there are this many arguments, and each is a type
+-- no inference variable occurs in the type
+abbrev pub IsKnown : Tree Depth → Type 0
+IsKnown t = Misses has_infer (scan t)
+
+-- there are this many arguments, and each is a known type
 pub record AreTypeArguments (args : List (Argument Depth)) (count : ℕ) : Type 0 where
   pub counted : length args ≡ count
   pub types : (i : ℕ) (a : Argument Depth) → slice_get args i ≡ Some a → a.sort ≡ type_sort
+  pub known : (i : ℕ) (a : Argument Depth) → slice_get args i ≡ Some a → IsKnown a.value
 
 -- the trees of arguments
 abbrev pub values : List (Argument Depth) → List (Tree Depth)
@@ -68,6 +77,14 @@ module _ (A : Around) where
   abbrev pub Writes : ℕ → Tree Depth → Type 0
   Writes w t = written.Writes A.program A.ids w t
 
+  -- the type is well formed within the function
+  abbrev pub IsFormed : Tree Depth → Type 0
+  IsFormed t = formed.IsFormed A.program A.ids A.function t
+
+  -- each of the types is
+  abbrev pub AreFormed : List (Tree Depth) → Type 0
+  AreFormed ts = formed.AreFormed A.program A.ids A.function ts
+
   -- the operand comes before the expression, and has this type
   abbrev pub Operand : ℕ → ℕ → Tree Depth → Type 0
   Operand i n t = Before A.types i n t
@@ -75,6 +92,10 @@ module _ (A : Around) where
   -- each operand comes before the expression, and has the type in its place
   abbrev pub Operands : ℕ → List ℕ → List (Tree Depth) → Type 0
   Operands i ns ts = AllBefore A.types i ns ts
+
+  -- the expression of this number is a `let`
+  abbrev pub IsLet : ℕ → Type 0
+  IsLet n = (value : ℕ) × (a : Option ℕ) × (slice_get A.body.expressions.items n ≡ Some (of.Let value a))
 
   -- the operand's type is the instance of the written type at these arguments
   abbrev pub Fits : ℕ → List (Argument Depth) → ℕ → ℕ → Type 0
@@ -108,7 +129,8 @@ module _ (A : Around) where
     literal : {l : Literal} → t ≡ literal_type l → IsTyped i t (of.Literal l)
     argument : {k w : ℕ} → slice_get A.function.inputs.items k ≡ Some w → Writes w t → IsTyped i t (of.Argument k)
     binding : {n : ℕ} {a : Option ℕ} → Operand i n t → IfSome a (λ w. Writes w t) → IsTyped i t (of.Let n a)
-    variable : {n : ℕ} → Operand i n t → IsTyped i t (of.Local n)
+    -- a use of the variable of a `let` before it
+    variable : {n : ℕ} → IsLet n → Operand i n t → IsTyped i t (of.Local n)
     tuple : {s : Span} {ts : List (Tree Depth)} → Operands i (part A.body.operands.items s) ts → t ≡ tuple_of ts
         → IsTyped i t (of.Tuple s)
     reference : {n : ℕ} {u : Tree Depth} → Operand i n u → t ≡ reference_to u → IsTyped i t (of.Reference n)
@@ -116,7 +138,7 @@ module _ (A : Around) where
     -- a call: the arguments' types are instances of the written inputs, and the call's is the written output's
     call : {f : ℕ} {s : Span} {item : Function} {args : List (Argument Depth)} {d : Tree Depth}
         → slice_get A.program.functions.items f ≡ Some item → AreTypeArguments args (length item.params.items)
-        → Fit i args item.inputs.items (part A.body.operands.items s)
+        → AreFormed (values args) → Fit i args item.inputs.items (part A.body.operands.items s)
         → Writes item.output d → IsPlain args d t → IsTyped i t (of.Call f s)
     -- a data type expression: the values' types are instances of the written fields
     data_type : {k : ℕ} {s : Span} {item : DataType} {args : List (Argument Depth)}
@@ -130,14 +152,18 @@ module _ (A : Around) where
     item : {n k : ℕ} {u whole : Tree Depth} → Operand i n u → Reaches u whole → IsItemOf k whole t
         → IsTyped i t (of.Item n k)
 
-  -- the expression of number i has its type by a rule
+  -- the expression of number i has its type by a rule, and the type is known and well formed
   pub record HasType (i : ℕ) (e : Expression) : Type 0 where
     pub type : Tree Depth
     pub there : slice_get A.types i ≡ Some type
+    pub known : IsKnown type
+    pub formed : IsFormed type
     pub typed : IsTyped i type e
 
-  -- each expression of the body has its type by a rule, and the result has the written output type
+  -- there are as many types as expressions, each expression of the body has a known and well-formed type by a rule, and
+  -- the result has the written output type
   pub record IsTypedBody : Type 0 where
+    pub counted : length A.types ≡ length A.body.expressions.items
     pub each : (i : ℕ) (e : Expression) → slice_get A.body.expressions.items i ≡ Some e → HasType i e
     pub result : Tree Depth
     pub returned : slice_get A.types A.body.result ≡ Some result

@@ -40,7 +40,13 @@ pub fn built(
             let input = at(scope.function.inputs.as_slice(), argument)?;
             written(cx, scope, input)
         }
-        Expression::Local(binding) => operand(cx, scope, number, binding),
+        Expression::Local(binding) => {
+            let declared = at(scope.body.expressions.as_slice(), binding)?;
+            let Expression::Let(_, _) = declared else {
+                return Err(Failure::Malformed);
+            };
+            operand(cx, scope, number, binding)
+        }
         Expression::Tuple(items) => {
             let numbers = part_of(scope.body.operands.as_slice(), items)?;
             let items = operands(cx, scope, number, numbers)?;

@@ -14,6 +14,7 @@ ghost use Rattle.checker.specs.Items.{
   HasSignature,
   IsDeclared,
   IsFunctionOf,
+  IsNameOf,
   ListsSignature,
   numbers,
 };
@@ -57,6 +58,7 @@ pub fn declare(cx: &mut Interner, program: &Program) -> Result<Declared, Failure
 pub fn symbol_of(cx: &mut Interner, program: &Program, number: usize) -> Result<Symbol, Failure>
     ensures extends { Extends cx.old cx.new }
     ensures owned { IfOk result (λ symbol. symbol.number < size cx.new.rows Symbols) }
+    ensures named { IfOk result (λ symbol. IsNameOf cx.new program.now number symbol) }
 {
     Ok(cx.symbol(name_of(program, number)?)?)
 }
@@ -234,6 +236,7 @@ fn functions(
         written.now
         ids.items
         (length program.now.functions.items)) }
+    ensures distinct { IfOk result (λ ids. AreDistinct (numbers ids.items)) }
 {
     let mut ids = Vec::new(cx.allocator());
     for number in 0..program.functions.len() {
@@ -244,7 +247,7 @@ fn functions(
     Ok(ids)
 }
 
-// Declares a function.
+// Declares a function. Its id is above the ids of all earlier declarations.
 #[tactic(auto, using(crate::proofs::ClientLaws::growth_laws))]
 fn function(
     cx: &mut Interner,
@@ -254,7 +257,8 @@ fn function(
 ) -> Result<FunctionId, Failure>
     requires { AreOwned ty_shape cx.old written.now }
     ensures extends { Extends cx.old cx.new }
-    ensures declared { IfOk result (λ id. HasSignature cx.new written.now item.now id) }
+    ensures after { IfOk result (λ id. size cx.old.rows Declarations ≤ id.number) }
+    ensures declared { IfOk result (λ id. HasSignature cx.new program.now written.now item.now id) }
 {
     let list = signature_list(cx, item, written)?;
     let name = symbol_of(cx, program, item.name)?;
@@ -285,19 +289,24 @@ fn signature_types(cx: &Interner, item: &Function, written: &[Ty]) -> Result<Vec
     Ok(types)
 }
 
-// Declares a function of this name, with the types in the list.
+// Declares a function of this name, with the types in the list and without bound variables.
 fn declared_fn(cx: &mut Interner, name: Symbol, types: Tys) -> Result<FunctionId, Failure>
     requires name { name.number < size cx.old.rows Symbols }
     requires types { IsOwned tys_shape cx.old types }
     ensures extends { Extends cx.old cx.new }
+    ensures next { IfOk result (λ id. id.number ≡ size cx.old.rows Declarations) }
     ensures before { IfOk result (λ id. id.number < size cx.new.rows Declarations) }
-    ensures declared { IfOk result (λ id. IsFunctionOf cx.new.rows types id) }
+    ensures declared { IfOk result (λ id. IsFunctionOf cx.new.rows name types id) }
 {
+    // The default list of bound variables is the empty one.
+    cx.are_rows();
+    let vars = BoundVarKinds::default();
+    let kind = FnSigKind::new(ExternAbi::Rust, Safety::Safe, false);
     let sig = FnSig {
         inputs_and_output: types,
-        fn_sig_kind: FnSigKind::new(ExternAbi::Rust, Safety::Safe, false),
+        fn_sig_kind: kind,
     };
-    let sig = Binder::bind_with_vars(sig, BoundVarKinds::default());
+    let sig = Binder::bind_with_vars(sig, vars);
     if !cx.owns_signature(&sig) {
         return Err(Failure::Malformed);
     }

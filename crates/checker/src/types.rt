@@ -98,7 +98,7 @@ fn as_arguments(cx: &Interner, types: &[Ty]) -> Result<Vec<GenericArg>, Failure>
     Ok(args)
 }
 
-/// Returns whether there are this many arguments, and each is a type.
+/// Returns whether there are this many arguments, and each is a type without inference variables.
 pub fn are_type_arguments(cx: &Interner, args: GenericArgs, count: usize) -> bool
     requires { IsOwned args_shape cx.now args }
     ensures are { AreArguments cx.now.rows (args_at cx.now.rows args) }
@@ -107,6 +107,9 @@ pub fn are_type_arguments(cx: &Interner, args: GenericArgs, count: usize) -> boo
     ensures types { IsTrue result → AreTypeArguments (argument_trees cx.now args) count }
 {
     let items = args.as_slice(cx);
+    if args.has_infer(cx) {
+        return false;
+    }
     for index in 0..items.len() {
         if items[index].as_type().is_none() {
             return false;

@@ -9,13 +9,14 @@ ghost use Rattle.tt_interner.specs.Stored.{Extends};
 ghost use Rattle.tt_kinds.specs.Kinds.{args_shape, ty_shape};
 ghost use Rattle.tt_kinds.specs.Tree.{Depth, Tree};
 ghost use Rattle.checker_syntax.specs.declared.program.Expression.TheVariants as of;
-ghost use Rattle.checker.specs.Scope.{around, argument_trees, IsScope};
+ghost use Rattle.checker.specs.Scope.{AreMarked, around, argument_trees, IsScope};
 ghost use Rattle.checker.specs.Typing.{Fit, HasField, IsInstance, IsTyped, Writes};
 
 use crate::failure::Failure;
 use crate::lookup::{at, part_of};
 use crate::scope::{Scope, operand, written};
 use crate::types::{are_type_arguments, without_references};
+use crate::verify::formed::are_arguments_marked;
 use crate::verify::same;
 use checker_syntax::program::{DataType, Span};
 use type_terms::prelude::*;
@@ -98,6 +99,7 @@ fn verify_each(
 pub fn verify_call(
     cx: &mut Interner,
     scope: Scope<'_>,
+    marks: &[bool],
     number: usize,
     ty: Ty,
     function: usize,
@@ -105,6 +107,7 @@ pub fn verify_call(
     subject: Ty,
 ) -> Result<(), Failure>
     requires scope { IsScope cx.old scope }
+    requires marks { AreMarked cx.old scope marks.now }
     requires ty { IsOwned ty_shape cx.old ty }
     requires subject { IsOwned ty_shape cx.old subject }
     ensures extends { Extends cx.old cx.new }
@@ -123,13 +126,16 @@ pub fn verify_call(
     if !are_type_arguments(cx, args, item.params.len()) {
         return Err(Failure::Unverified);
     }
+    if !are_arguments_marked(cx, scope, marks, args) {
+        return Err(Failure::Unverified);
+    }
     let operands = part_of(scope.body.operands.as_slice(), operands)?;
     verify_each(cx, scope, number, args, item.inputs.as_slice(), operands)?;
     verify_instance(cx, scope, item.output, args, ty)
 }
 
-// Returns the arguments of the type, if the type is the data type of this number, which is `item`.
-fn arguments_of(
+/// Returns the arguments of the type, if the type is the data type of this number, which is `item`.
+pub fn arguments_of(
     cx: &Interner,
     scope: Scope<'_>,
     data: usize,

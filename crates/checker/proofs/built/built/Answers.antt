@@ -1,4 +1,4 @@
-use Rattle.std.proofs.Common.{ap, sym, ◌∙◌}
+use Rattle.std.proofs.Common.{Some, ap, sym, ◌∙◌}
 use Rattle.std.specs.Prelude.{slice_get}
 use Rattle.tt_kinds.specs.Kinds.{ty_shape}
 use Rattle.tt_fold.specs.Steps.{tree_in}
@@ -24,10 +24,14 @@ returns-in_ok-input-in-Argument-clause-typed c =
     there written)
     c.written.ensures.is)
 
-pub returns-in-Local-clause-typed : goal.returns-in-Local-clause-typed
-returns-in-Local-clause-typed c =
+pub returns-in-Let-clause-typed : goal.returns-in-Let-clause-typed
+returns-in-Let-clause-typed c =
+    let n = c.in-Local.binding in
+    let declared = c.in_ok-declared-in-Local in
+    let there = sym (ap (λ xs. slice_get xs n) c.as_slice-in-Local.ensures.value) ∙ declared.ensures ∙ ap Some c.in-Let.is in
     rw c.in-Local.is (for_ok_both c.operand.result
-    (λ ty before there. variable_typed c.args.cx.now c.args.scope c.args.number c.in-Local.binding ty before there)
+    (λ ty before found. variable_typed c.args.cx.now c.args.scope c.args.number n ty
+    (c.in-Let.field-0, c.in-Let.field-1, there) before found)
     c.operand.ensures.before c.operand.ensures.is)
 
 pub returns-in_ok-items-in-Tuple-clause-typed : goal.returns-in_ok-items-in-Tuple-clause-typed

@@ -1,8 +1,8 @@
-use Rattle.std.proofs.Common.{suc, length, ap, add-one, sym, subst, ◌∙◌}
+use Rattle.std.proofs.Common.{List, suc, length, ap, add-one, sym, subst, ◌∙◌}
 use Rattle.tt_kinds.specs.declared.table.Table.TheVariants.{Declarations}
 use Rattle.tt_interner.specs.Rows.{size}
 use Rattle.tt_interner.proofs.Growth.{Extends-trans}
-use Rattle.checker.specs.Items.{numbers}
+use Rattle.checker.specs.Items.{AdtId, numbers}
 use Rattle.checker.specs.Written.{AreDistinct}
 use Rattle.checker.proofs.ListLaws.{length_pushed}
 use Rattle.checker.proofs.WrittenLaws.{AreBelow, below_next_id, distinct_next}
@@ -19,9 +19,9 @@ loop-number-preserved c =
     record {
       extends = Extends-trans inv.extends c.data_type.ensures.extends;
       counted = ap length pushed ∙ length_pushed ids id ∙ ap suc inv.counted ∙ sym (add-one c.loop-number.number);
-      distinct = subst (λ xs. AreDistinct (numbers xs)) (sym pushed)
+      distinct = subst (λ (xs : List AdtId). AreDistinct (numbers xs)) (sym pushed)
           (distinct_next ids id before inv.distinct inv.below c.in_ok-id.ensures.after);
-      below = subst (λ xs. AreBelow (numbers xs) after) (sym pushed)
+      below = subst (λ (xs : List AdtId). AreBelow (numbers xs) after) (sym pushed)
           (below_next_id ids id before after inv.below c.in_ok-id.ensures.after c.in_ok-id.ensures.before);
     }
 

@@ -1,9 +1,9 @@
-use Rattle.std.proofs.Common.{length, sym, subst}
+use Rattle.std.proofs.Common.{List, length, sym, subst}
 use Rattle.tt_kinds.specs.Kinds.{ty_shape}
 use Rattle.tt_interner.specs.Owned.{AreOwned}
 use Rattle.tt_interner.proofs.Growth.{Extends-trans}
 use Rattle.tt_interner.proofs.OwnedLaws.{list_still_owned}
-use Rattle.checker.specs.Items.{AreFunctions, AreWrittenTypes, numbers}
+use Rattle.checker.specs.Items.{AdtId, AreFunctions, AreWrittenTypes, numbers}
 use Rattle.checker.proofs.WrittenLaws.{written_stay}
 use Rattle.checker.proofs.declared.declare.Goals as goal
 
@@ -36,11 +36,12 @@ returns-clause-declared c =
     let types = c.in_ok-written.written.items in
     let between = c.written_types.new.cx in
     let count = length program.types.items in
-    let written = subst (λ xs. AreWrittenTypes between program (numbers xs) types count) c.as_slice.ensures.value
+    let written = subst (λ (xs : List AdtId). AreWrittenTypes between program (numbers xs) types count) c.as_slice.ensures.value
     c.in_ok-written.ensures.written in
     record {
       counted = c.in_ok-data_types.ensures.counted;
       distinct = c.in_ok-data_types.ensures.distinct;
+      distinct_functions = c.in_ok-functions.ensures.distinct;
       written = written_stay between c.functions.new.cx program (numbers ids) types count
           (Extends-trans c.define_all.ensures c.functions.ensures.extends) written;
       functions = subst (λ xs. AreFunctions c.functions.new.cx program xs c.in_ok-functions.functions.items (length program.functions.items))

@@ -2,7 +2,9 @@ use Rattle.std.proofs.Common.{◌≡◌, length, true, ap, refl, sym, subst, add
 use Rattle.std.specs.Prelude.{is_some}
 use Rattle.std.proofs.lemmas.Bool.{eqb-true}
 use Rattle.std.proofs.lemmas.Option.{slice_get_read}
-use Rattle.checker.proofs.ArgumentLaws.{AreTypesBelow, are_types, arguments_listed, types_next}
+use Rattle.tt_kinds.specs.Kinds.{args_shape}
+use Rattle.tt_fold.specs.Steps.{tree_in}
+use Rattle.checker.proofs.ArgumentLaws.{AreTypesBelow, are_types, arguments_listed, types_next, unflagged_known}
 use Rattle.checker.proofs.types.are_type_arguments.Goals as goal
 
 pub loop-index-preserved : goal.loop-index-preserved
@@ -15,6 +17,10 @@ loop-index-preserved c =
     let next = types_next items i x c.loop-index.invariant there (ap is_some (sym c.as_type.ensures) ∙ known) in
     subst (AreTypesBelow items) (sym (add-one i)) next
 
+pub returns-then-has_infer-clause-listed : goal.returns-then-has_infer-clause-listed
+returns-then-has_infer-clause-listed c =
+    arguments_listed c.args.cx.now c.args.args c.as_slice-items.result.now c.as_slice-items.ensures
+
 pub returns-then-is_none-clause-listed : goal.returns-then-is_none-clause-listed
 returns-then-is_none-clause-listed c =
     arguments_listed c.args.cx.now c.args.args c.as_slice-items.result.now c.as_slice-items.ensures
@@ -25,4 +31,4 @@ returns-clause-listed c = arguments_listed c.args.cx.now c.args.args c.as_slice-
 pub returns-clause-types : goal.returns-clause-types
 returns-clause-types c = λ same.
     are_types c.args.cx.now c.args.args c.as_slice-items.result.now c.as_slice-items.ensures c.loop-index.index c.args.count
-    c.loop-index.invariant c.loop-index-test.false (eqb-true (length c.as_slice-items.result.now) c.args.count same)
+    (unflagged_known (tree_in c.args.cx.now.rows (args_shape c.args.args)) _ c.has_infer.ensures c.if-has_infer.false) c.loop-index.invariant c.loop-index-test.false (eqb-true (length c.as_slice-items.result.now) c.args.count same)

@@ -28,9 +28,11 @@ returns-clause-typed c =
     let there = sym (ap (λ xs. slice_get xs f) c.deref.ensures.value) ∙ read in
     let are : IsTrue c.are_type_arguments.result = search rules in
     let counted = subst (AreTypeArguments (argument_trees old args)) (c.len.ensures ∙ item.params.ok.0) (c.are_type_arguments.ensures.types are) in
+    let marked : IsTrue c.are_arguments_marked.result = search rules in
+    let formed = c.are_arguments_marked.ensures marked in
     let same = c.in_ok-operands.ensures ∙ ap (λ xs. part xs c.args.operands) c.as_slice.ensures.value in
     let fit = subst (λ ws. Fit (around old c.args.scope) c.args.number (argument_trees old args) ws numbers) c.as_slice-2.ensures.value
     c.in_ok-verify_each.ensures.fit in
     on_ok c.verify_instance.result (λ is.
     call_typed old c.verify_each.new.cx c.args.scope args c.in_ok-verify_each.ensures.extends c.requires.scope owned c.are_type_arguments.ensures.are
-    c.args.number f c.args.operands item c.args.ty numbers there counted same fit c.requires.ty is) c.verify_instance.ensures.plain
+    c.args.number f c.args.operands item c.args.ty numbers there counted formed same fit c.requires.ty is) c.verify_instance.ensures.plain

@@ -1,7 +1,7 @@
 use Rattle.tt_interner.specs.Stored.{Extends}
 use Rattle.checker.specs.Scope.{around}
 use Rattle.checker.proofs.TypingLaws.{AreTypedBelow}
-use Rattle.checker.proofs.verify.verify.Given as goal
+use Rattle.checker.proofs.verify.verify_all.Given as goal
 
 -- the first expressions have their types
 abbrev pub invariant-loop-number : goal.invariant-loop-number
